@@ -16,6 +16,7 @@ pub mod Fresh
 pub mod Line
 pub mod LookupMoves
 pub mod UdpMoves
+pub mod StreamMoves
 pub mod Moves
 pub mod Asked
 pub mod LookupAsks
@@ -23,6 +24,7 @@ pub mod Marks
 pub mod UdpAsks
 pub mod DatagramAsks
 pub mod UdpMarks
+pub mod ErrorMarks
 pub mod UdpGoesOn
 pub mod GoesOn
 pub mod Runs
@@ -33,3 +35,4 @@ pub mod BacklogRows
 pub mod Refused
 pub mod UdpRows
 pub mod DatagramRows
+pub mod StreamRows

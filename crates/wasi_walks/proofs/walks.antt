@@ -1,13 +1,20 @@
 -- What a line does, said once as moves; what a law of runs is; and that each step is made of moves.
 pub mod Moves
 pub mod Writes
+pub mod Failures
 pub mod Law
 pub mod Told
 pub mod OnBase
+pub mod Begins
 pub mod UdpLaw
 pub mod Sockets
+pub mod Pipes
 pub mod Streams
 pub mod States
+pub mod Calls
+pub mod Splices
+pub mod Blocking
+pub mod Cancels
 pub mod Udp
 pub mod Datagrams
 pub mod Sends

@@ -1,5 +1,5 @@
 -- How a step was answered, where its answer comes from, and what is left after a refusal.
-use Rattle.std.specs.Prelude.{◌≡◌, ◌⊎◌, ⊤, ℕ, ◌<◌, Bool, true, false, not, ◌&&◌, min, List, [], ◌∷◌, ◌++◌, Option, Some, None, Ok, IsSomeAnd, IfSome}
+use Rattle.std.specs.Prelude.{◌≡◌, ⊤, ℕ, ◌<◌, Bool, true, false, not, ◌&&◌, min, List, [], ◌∷◌, ◌++◌, Option, Some, None, Ok, IsSomeAnd, IfSome}
 use Rattle.wasi_addr.specs.declared.address.IpSocketAddress.{IpSocketAddress}
 use Rattle.wasi_addr.specs.declared.address.SocketAddressFamily.{SocketAddressFamily}
 use Rattle.wasi_addr.specs.declared.address.ShutdownType.TheVariants.{Receive, Send}
@@ -35,7 +35,7 @@ use Rattle.wasi_tcp.specs.Connect.{IsConnect}
 use Rattle.wasi_tcp.specs.Connecting.{with_state, is_connectable}
 use Rattle.wasi_tcp.specs.Addresses.{usable_side}
 use Rattle.wasi_tcp.specs.Writer.{error_of_code, collected}
-use Rattle.wasi_host.specs.Records.{tcp2_at, udp2_at, open_at, lookup_at}
+use Rattle.wasi_host.specs.Records.{tcp2_at, open_at, lookup_at}
 use Rattle.wasi_host.specs.declared.machine.Machine.{Machine}
 use Rattle.wasi_steps.specs.declared.reply.CodeWord.{CodeWord}
 use Rattle.wasi_steps.specs.declared.reply.CodeWord.TheVariants as word
@@ -46,23 +46,15 @@ use Rattle.wasi_host.specs.declared.udp.OpenUdp.{OpenUdp}
 use Rattle.wasi_steps.specs.declared.step.Step.{Step}
 use Rattle.wasi_steps.specs.declared.step.Step.TheVariants as step
 use Rattle.wasi_host.specs.declared.kind.Kind.TheVariants as kind
-use Rattle.wasi_host.specs.declared.kind.Watched.{Watched}
-use Rattle.wasi_host.specs.declared.kind.Watched.TheVariants as watched
-use Rattle.wasi_host.specs.Kinds.{watched_by, watch_of, place_in}
-use Rattle.wasi_host.specs.declared.store.StandingCall.{StandingCall}
-use Rattle.wasi_host.specs.declared.store.StandingCall.TheVariants as standing
 use Rattle.wasi_steps.specs.Reply.{word_of_p2}
-use Rattle.wasi_steps.specs.Steps.{Kind, HandleOf, ALine, ANetwork, ASocket, ADatagramSocket, AnInput, AnOutput, AnIncoming, AnOutgoing, ALookup, AnError, Watchable, APollable, Anything, Value, Values, signature}
-use Rattle.wasi_host.specs.Kinds.{kind_at, udp_of, with_handle}
+use Rattle.wasi_host.specs.Kinds.{with_handle}
 use Rattle.wasi_host.specs.Binding.{left_of}
 use Rattle.wasi_host.specs.InProgress.{is_nothing, is_bind, is_connect}
-use Rattle.wasi_host.specs.Standing.{call_of}
 use Rattle.wasi_host.specs.Store.{with_inner, with_reader, with_writer, with_socket, idle}
 use Rattle.wasi_host.specs.declared.datagrams.Incoming.{Incoming}
 use Rattle.wasi_host.specs.declared.datagrams.Outgoing.{Outgoing}
 use Rattle.wasi_host.specs.declared.name_lookup.Lookup.{Lookup}
-use Rattle.wasi_host.specs.Machine.{socket_at, udp_socket_at, input_at, output_at, incoming_at, outgoing_at, lookup_number}
-use Rattle.wasi_host.specs.Kinds.{is_network, is_error}
+use Rattle.wasi_host.specs.Machine.{socket_at, udp_socket_at, input_at, output_at, incoming_at, outgoing_at}
 use Rattle.wasi_machine.specs.Machine.{machine_asks}
 use Rattle.wasi_walks.specs.Licence.{Has, entry}
 
@@ -152,87 +144,6 @@ outgoing_in m h = outgoing_of_open (open_in m (outgoing_at m h))
 abbrev pub lookup_in : Machine → Option ℕ → Option Lookup
 lookup_in m None = None
 lookup_in m (Some place) = lookup_at m.store.records place
-
--- == what a pollable watches
--- what is watched isn't there
-abbrev pub MissesRecord : Watched → Option Tcp2Socket → Type 0
-MissesRecord (watched.Socket place) found = found ≡ None
-MissesRecord (watched.Input place) found = streams_in found ≡ None
-MissesRecord (watched.Output place) found = streams_in found ≡ None
-MissesRecord (watched.Udp place) found = ⊥
-MissesRecord (watched.Incoming place) found = ⊥
-MissesRecord (watched.Outgoing place) found = ⊥
-MissesRecord (watched.Lookup place) found = ⊥
-
-abbrev pub MissesWatched : Machine → Option Watched → Type 0
-MissesWatched m None = ⊤
-MissesWatched m (Some (watched.Incoming place)) = open_at m.store.records place ≡ None
-MissesWatched m (Some w) = MissesRecord w (tcp2_at m.store.records (place_in w))
-
--- the call is a bind, a listen, a create or a connect of no socket
-abbrev pub IsOnNothing : Machine → StandingCall → Type 0
-IsOnNothing m (standing.Bind place) = tcp2_at m.store.records place ≡ None
-IsOnNothing m (standing.Listen place) = tcp2_at m.store.records place ≡ None
-IsOnNothing m (standing.DropOutput place) = ⊥
-IsOnNothing m (standing.UdpCreate place) = udp2_at m.store.records place ≡ None
-IsOnNothing m (standing.UdpBind place) = open_at m.store.records place ≡ None
-IsOnNothing m (standing.UdpConnect place handle) = (open_at m.store.records place ≡ None) ⊎ (udp_of (kind_at m.table handle) ≡ None)
-IsOnNothing m (standing.DropOutgoing place) = ⊥
-
--- the pending call under this number is a bind, a listen, a create or a connect of no socket
-abbrev pub StandsOnNothing : Machine → ℕ → Type 0
-StandsOnNothing m n = IsSomeAnd (call_of m.store.standing n) (λ s. IsOnNothing m s.call)
-
--- == traps
--- an argument misses what it names: a handle that isn't live, or is of something else; or the call of a line that is on nothing
-abbrev pub MissesValue : Machine → (kind : Kind) → Value kind → Type 0
-MissesValue m (HandleOf ANetwork) h = is_network (kind_at m.table h) ≡ false
-MissesValue m (HandleOf ASocket) h = record_at m h ≡ None
-MissesValue m (HandleOf ADatagramSocket) h = open_udp_at m h ≡ None
-MissesValue m (HandleOf AnIncoming) h = incoming_in m h ≡ None
-MissesValue m (HandleOf AnOutgoing) h = outgoing_in m h ≡ None
-MissesValue m (HandleOf AnInput) h = input_streams m h ≡ None
-MissesValue m (HandleOf AnOutput) h = output_streams m h ≡ None
-MissesValue m (HandleOf ALookup) h = lookup_in m (lookup_number m h) ≡ None
-MissesValue m (HandleOf AnError) h = is_error (kind_at m.table h) ≡ false
-MissesValue m (HandleOf Watchable) h = watched_by (kind_at m.table h) ≡ None
-MissesValue m (HandleOf APollable) h = MissesWatched m (watch_of (kind_at m.table h))
-MissesValue m (HandleOf Anything) h = kind_at m.table h ≡ None
-MissesValue m ALine n = StandsOnNothing m n
-MissesValue m _ value = ⊥
-
-abbrev pub MissesFirst : Machine → (kinds : List Kind) → Values kinds → Type 0
-MissesFirst m [] values = ⊥
-MissesFirst m (kind ∷ kinds) values = MissesValue m kind values.0
-
--- a handle of the step isn't live, or is of another kind; it is the first argument, and that of a network beside it
-abbrev pub MissesHandle : Machine → Step → Type 0
-MissesHandle m (step.TcpStartBind ctx socket network a) = (is_network (kind_at m.table network) ≡ false) ⊎ (record_at m socket ≡ None)
-MissesHandle m (step.TcpStartConnect ctx socket network a) = (is_network (kind_at m.table network) ≡ false) ⊎ (record_at m socket ≡ None)
-MissesHandle m (step.UdpStartBind ctx socket network a) = (is_network (kind_at m.table network) ≡ false) ⊎ (open_udp_at m socket ≡ None)
-MissesHandle m s = MissesFirst m (signature s).written.kinds (signature s).written.values
-
--- the step makes a handle, the two of a connection's streams or of a UDP socket's, those of an accepted connection, or the one of a
--- stream's error or of a lookup; a poll makes that of a create, or those of datagram streams
-abbrev pub MakesHandle : Step → Type 0
-MakesHandle (step.Network ctx) = ⊤
-MakesHandle (step.TcpCreate ctx family) = ⊤
-MakesHandle (step.UdpCreate ctx family) = ⊤
-MakesHandle (step.UdpStream ctx socket remote) = ⊤
-MakesHandle (step.TcpFinishConnect ctx socket) = ⊤
-MakesHandle (step.TcpAccept ctx socket) = ⊤
-MakesHandle (step.Resolve ctx network name) = ⊤
-MakesHandle (step.Read ctx input len) = ⊤
-MakesHandle (step.CheckWrite ctx output) = ⊤
-MakesHandle (step.Write ctx output bytes) = ⊤
-MakesHandle (step.Flush ctx output) = ⊤
-MakesHandle (step.Subscribe ctx handle) = ⊤
-MakesHandle (step.Poll n) = ⊤
-MakesHandle _ = ⊥
-
-abbrev pub IsWrite : Step → Type 0
-IsWrite (step.Write ctx output bytes) = ⊤
-IsWrite _ = ⊥
 
 -- == pending calls
 -- The last of the entries is this operation's, and it was answered pending.

@@ -1,5 +1,6 @@
 pub mod Licence
 pub mod Answered
+pub mod Missing
 pub mod Listens
 pub mod Waiting
 pub mod Received

@@ -6,6 +6,7 @@ use Rattle.wasi_addr.specs.declared.address.SocketAddressFamily.{SocketAddressFa
 use Rattle.wasi_addr.specs.declared.address.SocketAddrUse.{SocketAddrUse}
 use Rattle.wasi_addr.specs.declared.address.SocketAddrUse.TheVariants.{TcpBind, TcpListen, TcpAccept, TcpConnect}
 use Rattle.wasi_addr.specs.declared.address.SocketAddrUse.TheVariants as use_of
+use Rattle.wasi_addr.specs.declared.code.ErrorCode.{ErrorCode}
 use Rattle.wasi_addr.specs.Address.{is_wildcard, same_address, wildcard}
 use Rattle.wasi_addr.specs.Clamp.{clamped_backlog}
 use Rattle.wasi_world.specs.declared.datagram.IncomingDatagram.{IncomingDatagram}
@@ -18,7 +19,7 @@ use Rattle.wasi_world.specs.declared.call.HandleKind.TheVariants as handle_kind
 use Rattle.wasi_world.specs.declared.call.HandleKind.TheVariants.{Network, Tcp2, Udp2, Input, Output, Pollable, ErrorValue, Incoming, Outgoing}
 use Rattle.wasi_world.specs.declared.call.Opt.{Opt}
 use Rattle.wasi_world.specs.declared.call.Told.{Told}
-use Rattle.wasi_world.specs.declared.call.Told.TheVariants.{Done, Yes, Addr, Arrived}
+use Rattle.wasi_world.specs.declared.call.Told.TheVariants.{Done, Yes, Addr, Arrived, Code}
 use Rattle.wasi_world.specs.declared.call.Entry.{Entry}
 use Rattle.wasi_world.specs.declared.outcome.WasiSocketsCtx.{WasiSocketsCtx}
 use Rattle.wasi_common.specs.Options.{value_set}
@@ -341,9 +342,45 @@ pub record IsStreamMark (before : List Entry) (op : OpId) (kind : HandleKind) (p
   pub told : Told
   pub marked : Has before (entry op (Made socket Tcp2 above sock) told)
 
--- what a mark says, by the step that makes the handle: a network has no network socket, a socket that was created has its own,
--- one that was accepted has what was handed over, a lookup has none, and the two streams of a connection or of a UDP socket, an error and
--- a pollable are of their parent's; no other step makes a handle
+-- a new input or output that is of no connection has no parent and no network socket
+abbrev pub IsPlainMark : HandleKind → HandleKind → Option ℕ → Option OpId → Type 0
+IsPlainMark name kind parent sock = (kind ≡ name) × (parent ≡ None) × (sock ≡ None)
+
+-- The handle was made as one of this kind.
+pub record IsMarkedAs (before : List Entry) (handle : ℕ) (kind : HandleKind) : Type 0 where
+  pub op : OpId
+  pub parent : Option ℕ
+  pub sock : Option OpId
+  pub told : Told
+  pub mark : Has before (entry op (Made handle kind parent sock) told)
+
+-- A read by this operation was answered with a code.
+pub record ReadFailed (before : List Entry) (op : OpId) : Type 0 where
+  pub side : OpId
+  pub size : ℕ
+  pub code : ErrorCode
+  pub told : Has before (entry op (Read side size) (Code code))
+
+-- A write to this network socket was answered with a code.
+pub record WriteFailed (before : List Entry) (side : OpId) : Type 0 where
+  pub op : OpId
+  pub offered : ℕ
+  pub code : ErrorCode
+  pub told : Has before (entry op (Write side offered) (Code code))
+
+-- a stream's call by this operation failed: the stream is an input, and a read was answered with a code, or it is an output, and a
+-- write to its network socket was
+pub data HasFailed (before : List Entry) (op : OpId) (stream : ℕ) (sock : Option OpId) : Type 0 where
+  InputFailed : IsMarkedAs before stream Input → ReadFailed before op → HasFailed before op stream sock
+  OutputFailed : (side : OpId) → IsMarkedAs before stream Output → sock ≡ Some side → WriteFailed before side → HasFailed before op stream sock
+
+-- a new error is of a stream that the step names, whose call failed
+abbrev pub IsErrorMark : List Entry → OpId → HandleKind → ℕ → Option ℕ → Option OpId → Type 0
+IsErrorMark before op kind stream parent sock = (kind ≡ ErrorValue) × IsOfParent before stream parent sock × HasFailed before op stream sock
+
+-- what a mark says, by the step that makes the handle: a network has no network socket, nor has a pipe, a sink or a closed stream; a
+-- socket that was created has its own, one that was accepted has what was handed over, a lookup has none, and the two streams of a
+-- connection or of a UDP socket, an error and a pollable are of their parent's; no other step makes a handle
 abbrev pub IsMarkOf : List Entry → OpId → HandleKind → Option ℕ → Option OpId → Step → Type 0
 IsMarkOf before op kind parent sock (step.Network ctx) = (kind ≡ Network) × (parent ≡ None) × (sock ≡ None)
 IsMarkOf before op kind parent sock (step.TcpCreate ctx family) =
@@ -353,10 +390,24 @@ IsMarkOf before op kind parent sock (step.UdpCreate ctx family) =
 IsMarkOf before op kind parent sock (step.TcpFinishConnect ctx socket) = ((kind ≡ Input) ⊎ (kind ≡ Output)) × IsOfParent before socket parent sock
 IsMarkOf before op kind parent sock (step.TcpAccept ctx socket) = IsAcceptedMark before op socket kind parent sock ⊎ IsStreamMark before op kind parent sock
 IsMarkOf before op kind parent sock (step.UdpStream ctx socket remote) = ((kind ≡ Incoming) ⊎ (kind ≡ Outgoing)) × IsOfParent before socket parent sock
-IsMarkOf before op kind parent sock (step.Read ctx input len) = (kind ≡ ErrorValue) × IsOfParent before input parent sock
-IsMarkOf before op kind parent sock (step.CheckWrite ctx output) = (kind ≡ ErrorValue) × IsOfParent before output parent sock
-IsMarkOf before op kind parent sock (step.Write ctx output bytes) = (kind ≡ ErrorValue) × IsOfParent before output parent sock
-IsMarkOf before op kind parent sock (step.Flush ctx output) = (kind ≡ ErrorValue) × IsOfParent before output parent sock
+IsMarkOf before op kind parent sock (step.PipeIn ctx bytes) = IsPlainMark Input kind parent sock
+IsMarkOf before op kind parent sock (step.PipeOut ctx capacity) = IsPlainMark Output kind parent sock
+IsMarkOf before op kind parent sock (step.Sink ctx) = IsPlainMark Output kind parent sock
+IsMarkOf before op kind parent sock (step.ClosedIn ctx) = IsPlainMark Input kind parent sock
+IsMarkOf before op kind parent sock (step.ClosedOut ctx) = IsPlainMark Output kind parent sock
+IsMarkOf before op kind parent sock (step.Read ctx input len) = IsErrorMark before op kind input parent sock
+IsMarkOf before op kind parent sock (step.Skip ctx input len) = IsErrorMark before op kind input parent sock
+IsMarkOf before op kind parent sock (step.BlockingRead ctx input len) = IsErrorMark before op kind input parent sock
+IsMarkOf before op kind parent sock (step.BlockingSkip ctx input len) = IsErrorMark before op kind input parent sock
+IsMarkOf before op kind parent sock (step.CheckWrite ctx output) = IsErrorMark before op kind output parent sock
+IsMarkOf before op kind parent sock (step.Write ctx output bytes) = IsErrorMark before op kind output parent sock
+IsMarkOf before op kind parent sock (step.WriteZeroes ctx output len) = IsErrorMark before op kind output parent sock
+IsMarkOf before op kind parent sock (step.Flush ctx output) = IsErrorMark before op kind output parent sock
+IsMarkOf before op kind parent sock (step.BlockingWrite ctx output bytes) = IsErrorMark before op kind output parent sock
+IsMarkOf before op kind parent sock (step.BlockingZeroes ctx output len) = IsErrorMark before op kind output parent sock
+IsMarkOf before op kind parent sock (step.BlockingFlush ctx output) = IsErrorMark before op kind output parent sock
+IsMarkOf before op kind parent sock (step.Splice ctx output input len) = IsErrorMark before op kind output parent sock ⊎ IsErrorMark before op kind input parent sock
+IsMarkOf before op kind parent sock (step.BlockingSplice ctx output input len) = IsErrorMark before op kind output parent sock ⊎ IsErrorMark before op kind input parent sock
 IsMarkOf before op kind parent sock (step.Resolve ctx network name) = (kind ≡ handle_kind.Lookup) × (parent ≡ Some network) × (sock ≡ None)
 IsMarkOf before op kind parent sock (step.Subscribe ctx handle) = (kind ≡ Pollable) × IsOfParent before handle parent sock
 IsMarkOf before op kind parent sock _ = ⊥

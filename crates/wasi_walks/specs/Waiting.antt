@@ -126,7 +126,8 @@ IsPoll (step.Poll n) = ⊤
 IsPoll _ = ⊥
 
 -- the step may be pending under this number: the start of a bind, that of a listen, a create of a UDP socket, that of its streams,
--- and the drop of an output or of an outgoing datagram stream under their line's, and a poll under the one that it polls
+-- the drop of an output or of an outgoing datagram stream, and a call of a stream that blocks under their line's, and a poll under the
+-- one that it polls
 abbrev pub MayStand : Machine → ℕ → Step → ℕ → Type 0
 MayStand m line (step.TcpStartBind ctx socket network a) n = n ≡ line
 MayStand m line (step.TcpStartListen ctx socket) n = n ≡ line
@@ -134,6 +135,12 @@ MayStand m line (step.UdpCreate ctx family) n = n ≡ line
 MayStand m line (step.UdpStartBind ctx socket network a) n = n ≡ line
 MayStand m line (step.UdpStream ctx socket remote) n = n ≡ line
 MayStand m line (step.Drop ctx handle) n = (IsSome (output_at m handle) ⊎ IsSome (outgoing_at m handle)) × (n ≡ line)
+MayStand m line (step.BlockingRead ctx input len) n = n ≡ line
+MayStand m line (step.BlockingSkip ctx input len) n = n ≡ line
+MayStand m line (step.BlockingWrite ctx output bytes) n = n ≡ line
+MayStand m line (step.BlockingZeroes ctx output len) n = n ≡ line
+MayStand m line (step.BlockingFlush ctx output) n = n ≡ line
+MayStand m line (step.BlockingSplice ctx to from len) n = n ≡ line
 MayStand m line (step.Poll call) n = n ≡ call
 MayStand m line _ n = ⊥
 
@@ -209,6 +216,7 @@ HoldsCall m (standing.UdpCreate place) = IfSome (udp2_at m.store.records place) 
 HoldsCall m (standing.UdpBind place) = IfSome (open_at m.store.records place) (λ o. IsUdpBinding o.in_progress)
 HoldsCall m (standing.UdpConnect place handle) = IfSome (open_at m.store.records place) (λ o. IsUdpConnecting o.connecting)
 HoldsCall m (standing.DropOutgoing place) = ⊤
+HoldsCall m (standing.Blocking call) = ⊤
 
 -- where a bind, a listen, a create or a connect is pending, its record has one in progress
 abbrev pub PendingCallsFit : Machine → Type 0
@@ -248,6 +256,7 @@ CallWaits m own entries (standing.UdpCreate place) = IsSomeAnd (udp2_at m.store.
 CallWaits m own entries (standing.UdpBind place) = IsSomeAnd (open_at m.store.records place) (λ o. UdpBindWaits o.in_progress entries)
 CallWaits m own entries (standing.UdpConnect place handle) = IsSomeAnd (open_at m.store.records place) (λ o. UdpConnectWaits o.connecting entries)
 CallWaits m own entries (standing.DropOutgoing place) = IsSomeAnd (open_at m.store.records place) (λ o. (sends o.outgoing ≡ true) × (entries ≡ []))
+CallWaits m own entries (standing.Blocking call) = ⊤
 CallWaits m own entries (standing.DropOutput place) = OutputWaits m own (Some place) entries
 
 -- the pending call waits

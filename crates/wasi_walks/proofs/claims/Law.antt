@@ -7,15 +7,16 @@ use Rattle.wasi_walks.proofs.Words.{accept_ended, after_create, allows_if, allow
 use Rattle.wasi_walks.proofs.Words.{connect_ended, create_asks, created_asks, give_up_asks, gone, inl, inr, length, make_asks, new_asks, new_record}
 use Rattle.wasi_walks.proofs.Words.{own_of, poll_asks, refl, side_in, side_of, subst, sym, told_addr, told_done, turn_asks}
 use Rattle.wasi_walks.proofs.Words.{with_inner, with_listening, with_progress, with_state, with_writer, ℕ, ⊤, ◌+◌, ◌<◌, ◌∙◌, ◌≡◌, ◌≤◌, ◌⊎◌}
+use Rattle.wasi_walks.proofs.walks.Begins.{BeginsAbove, begins_stand}
 use Rattle.wasi_walks.proofs.walks.OnBase.{both, Above, stand}
 use Rattle.wasi_walks.proofs.licence.State.{name_in, accept_name}
 use Rattle.wasi_walks.proofs.fits.Polls.{Anything}
 use Rattle.wasi_walks.proofs.fits.Records.{FitListening}
 use Rattle.wasi_walks.proofs.Lists.{split_place, get_set, get_split, set_there}
 use Rattle.wasi_walks.proofs.claims.Polls.{AllAskBut, ArePlain, GivesOwn, any_quiet, ended_name, ended_sides, none_of, own_poll}
-use Rattle.wasi_walks.proofs.walks.Moves.{closed_record, Own, Used, Unused, ToWrite, Here, put, Found, joined, second_of, new_accept, accepting_now, listen_after, beginning_listen, made_so, Held, BindsOn, Connects, Listens, Awaits, Move, Spends, Changes, ClosesReader, Writes, IsGone, Reconnects, Opens, BeginsConnect, BeginsBind, BeginsWrite, BeginsListen, BeginsAccept, Unlistens, Forgets, Joins}
-use Rattle.wasi_walks.proofs.walks.Law.{Law, Walks}
-use Rattle.wasi_walks.proofs.fits.Law.{Fit, told_same, whatever, fits, moves_fit, polls_fit, put_fit, created}
+use Rattle.wasi_walks.proofs.walks.Moves.{closed_record, Own, Used, Unused, ToWrite, Here, put, Found, joined, second_of, new_accept, accepting_now, listen_after, beginning_listen, made_so, Held, BindsOn, Connects, Listens, Awaits, Move, Spends, Changes, ClosesReader, Writes, IsGone, Reconnects, Opens, BeginsConnect, BeginsBind, BeginsWrite, CancelsBind, CancelsUdpBind, CancelsUdpConnect, BeginsListen, BeginsAccept, Unlistens, Forgets, Joins}
+use Rattle.wasi_walks.proofs.walks.Law.{BeginsWrites, Law, Walks}
+use Rattle.wasi_walks.proofs.fits.Law.{Fit, told_same, whatever, fits, moves_fit, polls_fit, put_fit, created, write_fit}
 use Rattle.wasi_walks.proofs.fits.UdpPolls.{create_side}
 use Rattle.wasi_walks.proofs.fits.UdpFits.{connected_side, learnt_side}
 use Rattle.wasi_tcp.specs.Accept as accept
@@ -27,7 +28,7 @@ use Rattle.wasi_host.specs.declared.name_lookup.LookupOp.{LookupOp}
 use Rattle.wasi_host.specs.declared.records.Record.{Record}
 use Rattle.wasi_host.specs.declared.udp.Udp2Socket.{Udp2Socket}
 use Rattle.wasi_host.specs.Udp.{udp_bind_progress, udp_create_left, udp_side, with_udp_progress}
-use Rattle.wasi_udp.specs.Create.{new_create, after_create as udp_after_create}
+use Rattle.wasi_udp.specs.Create.{create_cancel_asks, new_create, after_create as udp_after_create}
 use Rattle.wasi_walks.proofs.UdpLists.{tcp_of_put, tcp_of_push, udp_of_put, udp_of_push, udp_get_set, udp_split}
 use Rattle.wasi_walks.proofs.walks.Moves.{with_records, SameSockets, Finds, put_udp, FoundUdp, udp_begun, Names, UdpChanges, BeginsUdpBind, BeginsUdpConnect, BeginsSend, BeginsReceive, Counts, SpendsNames, UdpCreates, UdpBindsOn, UdpConnectsOn, SendsOn, ReceivesOn}
 
@@ -35,9 +36,10 @@ use Rattle.wasi_walks.proofs.walks.Moves.{with_records, SameSockets, Finds, put_
 abbrev pub Claims : OpId → Tcp2Socket → Type 0
 Claims x r = (r.side ≡ Some x) ⊎ (accept_name r.listening ≡ Some x)
 
--- the names of a line are new until its operation began something
+-- the names of a line are new until its operation began something, or may write: a write takes no name of a network socket
 abbrev pub next_of : ℕ → Own → ℕ
 next_of line Used = line + 1
+next_of line (ToWrite side bytes) = line + 1
 next_of line _ = line
 
 -- A UDP socket claims the network socket that it was made with.
@@ -305,7 +307,7 @@ module _ (contexts : List WasiSocketsCtx) (line : ℕ) (origin : Step) where
   moves_named _ _ (Opens h place r c d g e k) n = put_inner h place r _ g refl refl (λ x p. ap side_in e ∙ p) n
   moves_named _ _ (BeginsConnect h place r side a bound at g d to known idle own) n = put_spent h place r _ g refl refl (λ x p. ap side_in d ∙ p) n
   moves_named _ _ (BeginsBind h place r side a at g d to idle own) n = put_spent h place r _ g refl refl (λ x p. p) n
-  moves_named _ _ (BeginsWrite h place r s half permit bytes at g e w within own) n = put_spent h place r _ g refl refl (λ x p. p) n
+  moves_named _ _ (BeginsWrite h place number r s half permit bytes at g e w within own) n = put_spent h place r _ g refl refl (λ x p. p) n
   moves_named _ _ (BeginsListen h place r side at g d bound none to idle own) n =
       let now = beginning_listen (own_of line) side r in
       spends_named (put h place now) (put_named line h place r now g (record { side = refl; accepts = λ x e. absurd (cc); named = λ x e. absurd (cc); held = λ op e. (let s = n.named side place r g (ap side_in d) in let p : Begins _ ≡ Begins op = e in (its side op r e s, refl)) }) n)
@@ -330,6 +332,9 @@ module _ (contexts : List WasiSocketsCtx) (line : ℕ) (origin : Step) where
   moves_named _ _ (BeginsUdpConnect h place o a at g to bound own) n = put_udp_by line h place (Udp2Socket.Open o) (Udp2Socket.Open _) g refl n Used (by_line h.own)
   moves_named _ _ (BeginsSend h place part o out d bound at g e is known own) n = put_udp_by line h place (Udp2Socket.Open o) (Udp2Socket.Open _) g refl n (Names (part + 1)) (own_of_parts line h.own (Names part) own refl)
   moves_named _ _ (BeginsReceive h place part o inc bound at g e own) n = put_udp_by line h place (Udp2Socket.Open o) (Udp2Socket.Open _) g refl n (Names (part + 1)) (own_of_parts line h.own (Names part) own refl)
+  moves_named _ _ (CancelsBind h place r op q g e) n = put_inner h place r _ g refl refl (λ x p. p) n
+  moves_named _ _ (CancelsUdpBind h place o op q g e) n = put_udp_named line h place (Udp2Socket.Open o) (Udp2Socket.Open _) g refl n
+  moves_named _ _ (CancelsUdpConnect h place o q g) n = put_udp_named line h place (Udp2Socket.Open o) (Udp2Socket.Open _) g refl n
   moves_named _ _ (Finds h records s) n = records_named line h records s n
   moves_named _ _ _ n = record { one = n.one; apart = n.apart; older = n.older; named = n.named; held = n.held; udps = record { one = n.udps.one; apart = n.udps.apart; older = n.udps.older } }
 
@@ -426,12 +431,21 @@ module _ (contexts : List WasiSocketsCtx) (line : ℕ) (origin : Step) where
         udp_creates = λ es h ctx family c may a o m i. (tt, λ told k. ((f.udp_creates es h ctx family c may a o m i.0).1 told k, begun_named h ctx.name family (told_done told) o i.1));
         udp_marks = λ es h place u g i. marked es h _ i;
         stream_marks = λ es h place part handle kind m k e i. marked es h _ i;
+        error_marks = λ es h part handle place handles m k e f i. marked es h _ i;
+        udp_gives_up = λ es h place create q g i.
+            both Anything Anything (λ fs done. Named line (put_udp h place (Udp2Socket.Closed create.operation.who.side))) (λ fs done. Fit (put_udp h place (Udp2Socket.Closed create.operation.who.side))) es _
+            (whatever (λ done. Named line (put_udp h place (Udp2Socket.Closed create.operation.who.side))) (λ done. put_udp_named line h place (Udp2Socket.Creating create) (Udp2Socket.Closed create.operation.who.side) g refl i.1) es (create_cancel_asks create)) (f.udp_gives_up es h place create q g i.0);
         lookups = λ es h host l i. (tt, λ told k records s. ((f.lookups es h host l i.0).1 told k records s, records_named line h records s i.1));
         looks = λ es h place op g i. (tt, λ told k. i);
         gives_up = λ es h place r q g i.
             whatever (λ done. Base (put h place (with_listening r Not)))
             (λ done. let b = i.0.records place r g in (put_fit h place r _ g (inl q) (b.0, tt, b.2) i.0, put_named line h place r (with_listening r Not) g (listening_names h place r Not g (λ x p. absurd (cc)) (λ op p. absurd (cc)) i.1) i.1)) es (give_up_asks r.listening);
       }
+
+  -- a write that begins in a call of streams
+  pub begins_named : BeginsWrites names
+  unfolding names
+  begins_named = record { begins = λ es h place n r s half permit bytes at g e w within i. (write_fit contexts line origin h place r s _ Used g i.0, put_spent h place r _ g refl refl (λ x p. p) i.1) }
 
   -- the laws that rest on it
   pub on_names : Above contexts line origin (λ es h. Base h) → Law contexts line origin
@@ -443,6 +457,15 @@ module _ (contexts : List WasiSocketsCtx) (line : ℕ) (origin : Step) where
   pub on_two : (r : Above contexts line origin (λ es h. Base h)) → Above contexts line origin (λ es h. Base h × r.Inv es h) → Law contexts line origin
   unfolding on_names names stand
   on_two r a = stand (on_names r) a
+
+  -- a write that begins in a call of streams, in both
+  pub begins_on_names : (a : Above contexts line origin (λ es h. Base h)) → BeginsAbove a → BeginsWrites (on_names a)
+  unfolding on_names names
+  begins_on_names a k = begins_stand names a begins_named k
+
+  pub begins_on_two : (r : Above contexts line origin (λ es h. Base h)) (a : Above contexts line origin (λ es h. Base h × r.Inv es h)) → BeginsAbove r → BeginsAbove a → BeginsWrites (on_two r a)
+  unfolding on_two on_names names stand
+  begins_on_two r a j k = begins_stand (on_names r) a (begins_on_names r j) k
 
   pub on_two_along : (r : Above contexts line origin (λ es h. Base h)) (a : Above contexts line origin (λ es h. Base h × r.Inv es h)) {A : Type 0} {h : Here} {end : A → Here} {asks : Asks A} → Walks (on_two r a) h end asks → (es : List Entry) → Base h → r.Inv es h → a.Inv es h → Allows a.P (λ fs x. (Base (end x) × r.Inv fs (end x)) × a.Inv fs (end x)) es asks
   unfolding on_two on_names names stand

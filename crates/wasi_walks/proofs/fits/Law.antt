@@ -3,19 +3,19 @@
 use Rattle.wasi_walks.proofs.Words.{Accepting, Allows, Ask, AskWrite, Asks, Bool, End, Entry, Err, ErrorCode, Give, HoldsAccept}
 use Rattle.wasi_walks.proofs.Words.{HoldsConnect, InProgress, IpSocketAddress, IsAcceptOn, IsConnect, IsLeftOfBind, IsLeftOfConnect, IsLeftOfListen}
 use Rattle.wasi_walks.proofs.Words.{Item, List, None, Not, Ok, OpId, Operation, Result, Socket, SocketAddressFamily, Some}
-use Rattle.wasi_walks.proofs.Words.{Standing, StandingCall, Step, Tcp2, Tcp2Socket, TcpState, WasiSocketsCtx, accept_ended, after_create}
+use Rattle.wasi_walks.proofs.Words.{Standing, StandingCall, Step, Streams, Tcp2, Tcp2Socket, TcpState, WasiSocketsCtx, WriteState, accept_ended, after_create}
 use Rattle.wasi_walks.proofs.Words.{after_local, allows_if, allows_then, allows_weaker, ap, bind, bind_progress, call_place, connect_ended}
 use Rattle.wasi_walks.proofs.Words.{create_asks, created_asks, false, give_up_asks, if◌then◌else◌, inl, inr}
-use Rattle.wasi_walks.proofs.Words.{is_nothing, is_wildcard, length, make_asks, new_asks, new_record, own_of, poll_asks, refl, side_of}
+use Rattle.wasi_walks.proofs.Words.{is_nothing, is_wildcard, length, make_asks, new_asks, new_job, new_record, own_of, poll_asks, refl, side_of}
 use Rattle.wasi_walks.proofs.Words.{standing_as, subst, sym, told_addr, told_done, true, turn_asks, wildcard, with_inner, with_listening}
 use Rattle.wasi_walks.proofs.Words.{with_progress, with_state, with_writer, ℕ, ⊤, ◌+◌, ◌∙◌, ◌≡◌, ◌⊎◌}
 use Rattle.wasi_world.specs.declared.ids.Ids.{Ids}
 use Rattle.wasi_tcp.specs.Listen.{IsListen}
-use Rattle.wasi_walks.proofs.walks.Moves.{Names, Own, NoStart, NoStartIn, NoStartStands, IsSettled, KeepsBinding, HasBinding, HasListen, GoesOn, begun_bind, closed_record, Held, BindsOn, Connects, Used, Here, put, Move, Changes, ClosesReader, Writes, IsGone, Reconnects, Opens, BeginsConnect, BeginsBind, BeginsWrite, Stands, BeginsListen, BeginsAccept, Unlistens, Forgets, Joins, Unstands, Listens, Awaits, listen_after, accepting_now, beginning_listen, new_accept, joined, made_so, Found}
+use Rattle.wasi_walks.proofs.walks.Moves.{Names, Own, NoStart, NoStartIn, NoStartStands, IsSettled, KeepsBinding, HasBinding, HasListen, GoesOn, begun_bind, closed_record, Held, BindsOn, Connects, Used, Here, put, Move, Changes, ClosesReader, Writes, IsGone, Reconnects, Opens, BeginsConnect, BeginsBind, BeginsWrite, Stands, StandsBlocking, CancelsBind, CancelsUdpBind, CancelsUdpConnect, BeginsListen, BeginsAccept, Unlistens, Forgets, Joins, Unstands, Listens, Awaits, listen_after, accepting_now, beginning_listen, new_accept, joined, made_so, Found}
 use Rattle.wasi_walks.proofs.fits.Records.{FitListening, FitProgress, FitRecord, FitCall, FitUdp, FitUdpProgress, FitConnecting, UdpBindOn, UdpConnectOn, SendOn, ReceiveOn}
 use Rattle.wasi_walks.proofs.Lists.{get_set, get_split, set_get, tcp2_front}
 use Rattle.wasi_walks.proofs.fits.Polls.{Anything, bind_left, udp_bind_left, connect_left, listen_left, accept_left, AcceptLeaves}
-use Rattle.wasi_walks.proofs.walks.Law.{Law, Walks}
+use Rattle.wasi_walks.proofs.walks.Law.{BeginsWrites, Law, Walks}
 use Rattle.wasi_tcp.specs.Accept as accept
 use Rattle.wasi_tcp.specs.Listen as listen
 use Rattle.wasi_walks.specs.Waiting as binding
@@ -31,7 +31,7 @@ use Rattle.wasi_host.specs.Udp.{udp_bind_progress, udp_create_left, with_udp_inn
 use Rattle.wasi_udp.specs.Bind as udp
 use Rattle.wasi_udp.specs.Receive.{IsLeftOfReceive, receive_start, wanting}
 use Rattle.wasi_udp.specs.Send.{IsLeftOfSend, at_remote, send_start}
-use Rattle.wasi_udp.specs.Create.{new_create, after_create as udp_after_create}
+use Rattle.wasi_udp.specs.Create.{create_cancel_asks, new_create, after_create as udp_after_create}
 use Rattle.wasi_udp.specs.Shape.{Socket as UdpSocket}
 use Rattle.wasi_udp.specs.Socket.{after_peer}
 use Rattle.wasi_walks.proofs.UdpLists.{udp_of_put, udp_of_push, udp_in_put, udp_in_push, tcp_of_put, tcp_of_push, tcp_in_put, tcp_in_push, udp_set_get, udp_get_set, udp_split, udp_front}
@@ -80,6 +80,7 @@ module _ (h : Here) (place : ℕ) (r now : Tcp2Socket) (g : Found h place r) (k 
   call_put c e (StandingCall.UdpBind n) q b = record { was = b.was; at = udp_in_put h.machine.store.records place r now n (Udp2Socket.Open b.was) g b.at; op = b.op; goes = b.goes }
   call_put c e (StandingCall.UdpConnect n handle) q b = record { was = b.was; at = udp_in_put h.machine.store.records place r now n (Udp2Socket.Open b.was) g b.at; op = b.op; goes = b.goes }
   call_put c e (StandingCall.DropOutgoing n) q b = tt
+  call_put c e (StandingCall.Blocking call) q b = tt
 
   pub put_fit : FitRecord now → Fit h → Fit (put h place now)
   put_fit f i = record {
@@ -97,6 +98,7 @@ call_kept records now t u (StandingCall.UdpCreate n) b = record { was = b.was; a
 call_kept records now t u (StandingCall.UdpBind n) b = record { was = b.was; at = u n (Udp2Socket.Open b.was) b.at; op = b.op; goes = b.goes }
 call_kept records now t u (StandingCall.UdpConnect n handle) b = record { was = b.was; at = u n (Udp2Socket.Open b.was) b.at; op = b.op; goes = b.goes }
 call_kept records now t u (StandingCall.DropOutgoing n) b = tt
+call_kept records now t u (StandingCall.Blocking call) b = tt
 
 -- one joins them
 call_push : (records : List Record) (now : Tcp2Socket) (call : StandingCall) → FitCall records call → FitCall (tcp2_pushed records now) call
@@ -118,6 +120,7 @@ call_stands records (StandingCall.UdpCreate n) r g k = absurd k
 call_stands records (StandingCall.UdpBind n) r g k = absurd k
 call_stands records (StandingCall.UdpConnect n handle) r g k = absurd k
 call_stands records (StandingCall.DropOutgoing n) r g k = absurd k
+call_stands records (StandingCall.Blocking call) r g k = absurd k
 
 -- == a UDP socket changes
 module _ (h : Here) (place : ℕ) (u now : Udp2Socket) (g : FoundUdp h place u) (k : NoStart h ⊎ KeepsOpen u now) where
@@ -154,6 +157,7 @@ module _ (h : Here) (place : ℕ) (u now : Udp2Socket) (g : FoundUdp h place u) 
     ]
   ]
   udp_call_put c e (StandingCall.DropOutgoing n) q b = tt
+  udp_call_put c e (StandingCall.Blocking call) q b = tt
 
   pub put_udp_fit : FitUdp now → Fit h → Fit (put_udp h place now)
   put_udp_fit f i = record {
@@ -238,6 +242,10 @@ begun_udp_fit : (h : Here) (place : ℕ) (o now : OpenUdp) (own : Own) → Found
 begun_udp_fit h place o now own g k f i = owned_fit (put_udp h place (Udp2Socket.Open now)) own (put_udp_fit h place (Udp2Socket.Open o) (Udp2Socket.Open now) g (inr k) f i)
 
 module _ (contexts : List WasiSocketsCtx) (line : ℕ) (origin : Step) where
+  -- a write begins
+  pub write_fit : (h : Here) (place : ℕ) (r : Tcp2Socket) (s : Streams) (w : WriteState) (own : Own) → Found h place r → Fit h → Fit (record (put h place (with_writer r s w)) { own = own })
+  write_fit h place r s w own g i = owned_fit (put h place (with_writer r s w)) own (put_fit h place r (with_writer r s w) g (inr (λ b. b, λ l. l)) (i.records place r g) i)
+
   pub moves_fit : (h now : Here) → Move line origin h now → Fit h → Fit now
   moves_fit _ _ (Changes h place r now g p) i =
       let f = i.records place r g in
@@ -253,7 +261,7 @@ module _ (contexts : List WasiSocketsCtx) (line : ℕ) (origin : Step) where
   moves_fit _ _ (BeginsBind h place r side a at g d to idle own) i =
       let f = i.records place r g in
       let k = put_fit h place r (with_progress r (InProgress.Binding (begun_bind (own_of line) side r a))) g (inr (λ b. tt, λ l. l)) (f.0, f.1, (d, record { last = refl; left = binding.Unchecked a })) i in record { records = k.records; udps = k.udps; stands = k.stands }
-  moves_fit _ _ (BeginsWrite h place r s half permit bytes at g e w within own) i = let k = put_fit h place r _ g (inr (λ b. b, λ l. l)) (i.records place r g) i in record { records = k.records; udps = k.udps; stands = k.stands }
+  moves_fit _ _ (BeginsWrite h place n r s half permit bytes at g e w within own) i = write_fit h place r s (WriteState.Writing (new_job (own_of n) half.side bytes)) Used g i
   moves_fit _ _ (BeginsListen h place r side at g d bound none to idle own) i =
       let k = put_fit h place r (beginning_listen (own_of line) side r) g (inr (λ b. b, λ l. absurd (subst HasListen none l))) (tt, record { last = refl; left = listen.BoundBefore r.inner.backlog }, idle_binding r.in_progress idle _) i in record { records = k.records; udps = k.udps; stands = k.stands }
   moves_fit _ _ (BeginsAccept h place r l at g e a own) i =
@@ -294,6 +302,10 @@ module _ (contexts : List WasiSocketsCtx) (line : ℕ) (origin : Step) where
       let f = i.udps place (Udp2Socket.Open o) g in
       let now = receiving_now o inc (receive_start (part_of line n) o.inner bound) in
       begun_udp_fit h place o now (Names (n + 1)) g (stays_open o now refl refl) (f.0, f.1, f.2, begun_receive (part_of line n) o.inner bound) i
+  moves_fit _ _ (StandsBlocking h ids call handles m its) i = stood_fit h ids (StandingCall.Blocking call) tt i
+  moves_fit _ _ (CancelsBind h place r op q g e) i = let f = i.records place r g in put_fit h place r _ g (inl q) (f.0, f.1, tt) i
+  moves_fit _ _ (CancelsUdpBind h place o op q g e) i = let f = i.udps place (Udp2Socket.Open o) g in put_udp_fit h place (Udp2Socket.Open o) _ g (inl q) (tt, f.1, f.2, f.3) i
+  moves_fit _ _ (CancelsUdpConnect h place o q g) i = let f = i.udps place (Udp2Socket.Open o) g in put_udp_fit h place (Udp2Socket.Open o) _ g (inl q) (f.0, tt, f.2, f.3) i
   moves_fit _ _ (Finds h records s) i = records_fit h records s i
   moves_fit _ _ _ i = record { records = i.records; udps = i.udps; stands = i.stands }
 
@@ -396,10 +408,17 @@ module _ (contexts : List WasiSocketsCtx) (line : ℕ) (origin : Step) where
     udp_creates = λ es h ctx family c may a o m i. (tt, λ told fits. begun_fits h (own_of line) ctx.name family (told_done told) i);
     udp_marks = λ es h place u g i. marked_fit es h _ i;
     stream_marks = λ es h place n handle kind m k e i. marked_fit es h _ i;
+    error_marks = λ es h n handle place handles m k e f i. marked_fit es h _ i;
+    udp_gives_up = λ es h place create q g i. whatever (λ done. Fit (put_udp h place (Udp2Socket.Closed create.operation.who.side))) (λ done. put_udp_fit h place (Udp2Socket.Creating create) (Udp2Socket.Closed create.operation.who.side) g (inl q) tt i) es (create_cancel_asks create);
     lookups = λ es h host l i. (tt, λ told fits records s. records_fit h records s i);
     looks = λ es h place op g i. (tt, λ told fits. i);
     gives_up = λ es h place r q g i. whatever (λ done. Fit (put h place (with_listening r Not))) (λ done. let f = i.records place r g in put_fit h place r _ g (inl q) (f.0, tt, f.2) i) es (give_up_asks r.listening);
   }
+
+  -- a write that begins in a call of streams
+  pub begins_fit : BeginsWrites fits
+  unfolding fits
+  begins_fit = record { begins = λ es h place n r s half permit bytes at g e w within i. write_fit h place r s (WriteState.Writing (new_job (own_of n) half.side bytes)) Used g i }
 
   -- what it says of a tree
   pub fits_along : {A : Type 0} {h : Here} {end : A → Here} {asks : Asks A} → Walks fits h end asks → (es : List Entry) → Fit h → Allows Anything (λ fs a. Fit (end a)) es asks

@@ -119,3 +119,4 @@ FitCall records (StandingCall.UdpCreate place) = UdpCreateGoesOn records place
 FitCall records (StandingCall.UdpBind place) = UdpBindGoesOn records place
 FitCall records (StandingCall.UdpConnect place handle) = UdpConnectGoesOn records place
 FitCall records (StandingCall.DropOutgoing place) = ⊤
+FitCall records (StandingCall.Blocking call) = ⊤

@@ -44,7 +44,7 @@ module _ (contexts : List WasiSocketsCtx) (steps : List Step) (line : ℕ) (orig
     unmade = λ e a s is. made_more es op (own_of line) c told z (i.unmade e a s is);
     joined = λ p e. (let j = i.joined p e in joined_on es h (entry op c told) p j (unmarked_unless es op c told j.new j.fresh z));
     marked = λ handle p e r g. (let k = i.marked handle p e r g in record { above = k.above; told = k.told; mark = has_front es _ _ k.mark });
-    streaming = i.streaming;
+    making = i.making;
   }
 
   no_mark : (c : Call) → NoMark c → marked_by c ≡ 0

@@ -1,6 +1,6 @@
 -- What is known of the accepts, the operations and the records, under one more entry, and where a record changes.
 use Rattle.wasi_walks.proofs.Words.{Accepting, Accepts, Arrived, BeganBy, Call, Connection, Created, Entry, Hand, Handed, HandedNone}
-use Rattle.wasi_walks.proofs.Words.{HasWildcardYes, InProgress, IpSocketAddress, IsBoundSide, IsMaker, IsMarkedWith, IsSide, Item, Job, List}
+use Rattle.wasi_walks.proofs.Words.{HandleKind, HasWildcardYes, InProgress, IpSocketAddress, IsBoundSide, IsMaker, IsMarkedWith, IsSide, Item, Job, List}
 use Rattle.wasi_walks.proofs.Words.{Listening, Listens, Made, MarksNoSocket, MayGoOut, NamesSide, None, Not, OpId, Operation, Option, Socket}
 use Rattle.wasi_walks.proofs.Words.{SocketAddrUse, SocketAddressFamily, Some, Step, Streams, Tcp2Socket, Told, WriteState, [], ap}
 use Rattle.wasi_walks.proofs.Words.{append_assoc, arith, entry, inl, inr, marked_by, refl, side_of}
@@ -11,8 +11,10 @@ use Rattle.wasi_host.specs.Records.{tcp2_at, tcp2_put, tcp2_pushed}
 use Rattle.wasi_host.specs.declared.records.Record.{Record}
 use Rattle.wasi_tcp.specs.declared.socket.TcpState.TheVariants.{Connected}
 use Rattle.wasi_walks.proofs.Lists.{has_front, get_split, get_set, set_get, has_split}
-use Rattle.wasi_walks.specs.Licence.{MakesTcp}
-use Rattle.wasi_walks.proofs.licence.State.{NamesRecord, KnowsMaker, BindLeft, Whole, Checked, Over, ConnectLeft, Unbound, Unchecked, Allowed, ToClose, Ended, Names, WorksOn, BindIsFine, ConnectIsFine, JobIsFine, WritesOn, IsConnectedOn, StreamsAreFine, ListeningStands, accept_name, AcceptIsFine, AcceptingIsFine, ListeningIsFine, ProgressIsFine, SocketIsFine, RecordIsFine, LastAccept, AcceptLeft, Unarrived, ToCheck, AcceptingStands, name_in, OneHolds}
+use Rattle.wasi_walks.specs.Licence.{IsMarkedAs, MakesTcp, WriteFailed}
+use Rattle.wasi_tcp.specs.declared.writer.WriteError.{WriteError}
+use Rattle.wasi_world.specs.Operation.{End, Refused}
+use Rattle.wasi_walks.proofs.licence.State.{NamesRecord, EndTold, ErrorTold, KnowsMaker, BindLeft, Whole, Checked, Over, ConnectLeft, Unbound, Unchecked, Allowed, ToClose, Ended, Names, WorksOn, BindIsFine, ConnectIsFine, JobIsFine, WritesOn, IsConnectedOn, StreamsAreFine, ListeningStands, accept_name, AcceptIsFine, AcceptingIsFine, ListeningIsFine, ProgressIsFine, SocketIsFine, RecordIsFine, LastAccept, AcceptLeft, Unarrived, ToCheck, AcceptingStands, name_in, OneHolds}
 use Rattle.wasi_walks.proofs.walks.Moves.{KeepsBinding}
 use Rattle.wasi_world.specs.declared.call.HandleKind.TheVariants.{Tcp2}
 use Rattle.wasi_walks.specs.Licence.{UdpCreated}
@@ -158,6 +160,9 @@ side_more es fs handle side h = record { op = h.op; kind = h.kind; parent = h.pa
 pub marked_more : (es fs : List Entry) (handle : ℕ) (sock : Option OpId) → IsMarkedWith es handle sock → IsMarkedWith (es ++ fs) handle sock
 marked_more es fs handle sock h = record { op = h.op; kind = h.kind; parent = h.parent; told = h.told; mark = has_front es fs _ h.mark }
 
+pub marked_as_more : (es fs : List Entry) (handle : ℕ) (kind : HandleKind) → IsMarkedAs es handle kind → IsMarkedAs (es ++ fs) handle kind
+marked_as_more es fs handle kind h = record { op = h.op; parent = h.parent; sock = h.sock; told = h.told; mark = has_front es fs _ h.mark }
+
 pub names_more : (es fs : List Entry) (side : OpId) (s : Step) → NamesSide es side s → NamesSide (es ++ fs) side s
 names_more es fs side s h = record { handle = h.handle; named = h.named; is = side_more es fs h.handle side h.is }
 
@@ -196,6 +201,17 @@ connect_left_more es fs op side maker addr items (Unchecked h) = Unchecked (out_
 connect_left_more es fs op side maker addr items (Allowed h y) = Allowed (out_more es fs op side h) (has_front es fs _ y)
 connect_left_more es fs op side maker addr items (ToClose c) = ToClose c
 connect_left_more es fs op side maker addr items Ended = Ended
+
+pub failed_more : (es fs : List Entry) (side : OpId) → WriteFailed es side → WriteFailed (es ++ fs) side
+failed_more es fs side h = record { op = h.op; offered = h.offered; code = h.code; told = has_front es fs _ h.told }
+
+pub end_more : (es fs : List Entry) (side : OpId) (e : End) → EndTold es side e → EndTold (es ++ fs) side e
+end_more es fs side (Refused c given) h = failed_more es fs side h
+end_more es fs side _ h = tt
+
+error_more : (es fs : List Entry) (side : OpId) (e : WriteError) → ErrorTold es side e → ErrorTold (es ++ fs) side e
+error_more es fs side (WriteError.LastOperationFailed c) h = failed_more es fs side h
+error_more es fs side WriteError.Closed h = tt
 
 -- == marks, accepts and what is handed over are calls of their own
 -- any call but these
@@ -280,13 +296,13 @@ module _ {steps now : List Step} (goes : Goes steps now) where
   }
 
   pub job_more : (es fs : List Entry) (side : OpId) (job : Job) → JobIsFine steps es side job → JobIsFine now (es ++ fs) side job
-  job_more es fs side job h = record { named = names_on es fs job.write.who.id side h.named; on = h.on; last = h.last; left = h.left }
+  job_more es fs side job h = record { named = names_on es fs job.write.who.id side h.named; on = h.on; last = h.last; left = h.left; ended = end_more es fs side job.end h.ended }
 
   pub writes_more : (es fs : List Entry) (side : OpId) (w : WriteState) → WritesOn steps es side w → WritesOn now (es ++ fs) side w
   writes_more es fs side (WriteState.Ready half permit) h = h
   writes_more es fs side (WriteState.Writing job) h = job_more es fs side job h
   writes_more es fs side (WriteState.Closing job) h = job_more es fs side job h
-  writes_more es fs side (WriteState.Closed e) h = tt
+  writes_more es fs side (WriteState.Closed e) h = error_more es fs side e h
 
   pub accept_more : (es fs : List Entry) (side : OpId) (maker : ℕ) (op : Operation) → AcceptIsFine steps es side maker op → AcceptIsFine now (es ++ fs) side maker op
   accept_more es fs side maker op h = record { named = names_on es fs op.who.id side h.named; on = h.on; asks = h.asks; last = h.last }

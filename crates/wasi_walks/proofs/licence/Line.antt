@@ -4,11 +4,11 @@ use Rattle.wasi_walks.proofs.Words.{OpId, Operation, Option, SocketAddressFamily
 use Rattle.wasi_walks.proofs.Words.{own_of, refl, side_in, subst, sym, with_socket, ℕ, ⊤, ◌∙◌, ◌≡◌, ◌⊎◌}
 use Rattle.wasi_walks.proofs.licence.ListenAsks.{ListenIsFine}
 use Rattle.wasi_walks.proofs.licence.Fresh.{NoMadeBy}
-use Rattle.wasi_walks.proofs.walks.Moves.{Own, Used, Unused, ToStream, Here, put, put_udp, Found, FoundUdp, record_of, udp_record_of, Plain, Made, Unmade, Joined, Marked, second_of}
+use Rattle.wasi_walks.proofs.walks.Moves.{Own, Used, Unused, ToStream, Calls, Past, Here, put, put_udp, Found, FoundUdp, record_of, udp_record_of, Plain, Made, Unmade, Joined, Marked, second_of}
 use Rattle.wasi_walks.proofs.Lists.{get_set, tcp2_seam}
 use Rattle.wasi_walks.proofs.UdpLists.{udp_get_set, udp_of_put, tcp_of_put}
 use Rattle.wasi_walks.specs.Licence.{MakesTcp}
-use Rattle.wasi_walks.proofs.licence.State.{NamesIf, NamesRecord, NamesUdp, NamesUdpIf, HandleIsFine, Names, RecordIsFine, UdpIsFine, StateIsFine, IsHanded, MakesStreams}
+use Rattle.wasi_walks.proofs.licence.State.{NamesIf, NamesRecord, NamesUdp, NamesUdpIf, HandleIsFine, Names, RecordIsFine, UdpIsFine, StateIsFine, IsHanded, MakesStreams, MakesCalls}
 use Rattle.wasi_walks.proofs.licence.Frames.{KeepsListening, KeepsRecord, same_record}
 use Rattle.wasi_walks.proofs.licence.States.{state_put, state_put_udp}
 use Rattle.wasi_world.specs.declared.call.HandleKind.TheVariants as name
@@ -74,6 +74,24 @@ NotMarked Unmade = ⊤
 NotMarked (Joined place) = ⊤
 NotMarked _ = ⊥
 
+-- it is nothing of an accept
+abbrev pub NoAccept : Made → Type 0
+NoAccept (ToStream line handle) = ⊤
+NoAccept (Calls line handles) = ⊤
+NoAccept Past = ⊤
+NoAccept _ = ⊥
+
+no_mark : (made : Made) → NoAccept made → NotMarked made → ⊥
+no_mark Unmade q u = q
+no_mark (Joined place) q u = q
+no_mark _ q u = u
+
+-- where streams are made, or called, for a line, its step says so
+abbrev pub MakingStands : List Step → Made → Type 0
+MakingStands steps (ToStream line handle) = MakesStreams steps line handle
+MakingStands steps (Calls line handles) = MakesCalls steps line handles
+MakingStands steps _ = ⊤
+
 -- a line's operation names a handle of the network socket that the record was made with
 abbrev pub NamesMade : List Step → ℕ → List Entry → Tcp2Socket → Type 0
 NamesMade steps n es r = (side : OpId) → r.side ≡ Some side → Names steps es (own_of n) side
@@ -114,7 +132,7 @@ pub record Licensed (contexts : List WasiSocketsCtx) (steps : List Step) (line :
   pub unmade : (h.own ≡ Unused) ⊎ NotMarked h.made → (c s : ℕ) → origin ≡ Step.TcpAccept c s → NoMadeBy es (own_of line)
   pub joined : (place : ℕ) → h.made ≡ Joined place → JoinedIsFine origin es h place
   pub marked : (handle place : ℕ) → h.made ≡ Marked handle place → (r : Tcp2Socket) → Found h place r → MadeSocket line es handle r.side
-  pub streaming : (n handle : ℕ) → h.made ≡ ToStream n handle → MakesStreams steps n handle
+  pub making : MakingStands steps h.made
 
 -- == a record changes
 -- == moves
@@ -149,7 +167,7 @@ module _ {contexts : List WasiSocketsCtx} {steps : List Step} {line : ℕ} {orig
       unmade = i.unmade;
       joined = λ p e. joined_put p (i.joined p e);
       marked = λ handle p e q d. by_side (λ (o : Option OpId). MadeSocket line es handle o) h place r now g s p (λ x u. i.marked handle p e x u) q d;
-      streaming = i.streaming;
+      making = i.making;
     }
 
   pub put_fine : (es : List Entry) (h : Here) (place : ℕ) (r now : Tcp2Socket) → Found h place r → now.side ≡ r.side → KeepsListening r.listening now.listening → KeepsListen r now → RecordIsFine steps es now → Licensed contexts steps line origin es h → Licensed contexts steps line origin es (put h place now)
@@ -171,7 +189,7 @@ module _ {contexts : List WasiSocketsCtx} {steps : List Step} {line : ℕ} {orig
         unmade = i.unmade;
         joined = λ p e. (let j = i.joined p e in record { new = j.new; on = j.on; peer = j.peer; context = j.context; listener = j.listener; by = j.by; side = λ r d. j.side r (old p r d); of_listener = j.of_listener; handed = j.handed; fresh = j.fresh });
         marked = λ handle p e r d. i.marked handle p e r (old p r d);
-        streaming = i.streaming;
+        making = i.making;
       }
 
   -- its own operation began something, or its names are counted
@@ -185,11 +203,25 @@ module _ {contexts : List WasiSocketsCtx} {steps : List Step} {line : ℕ} {orig
     unmade = λ e c s is. i.unmade (elim e [ inl u ↦ absurd (used u) | inr u ↦ inr u ]) c s is;
     joined = λ p e. (let j = i.joined p e in record { new = j.new; on = j.on; peer = j.peer; context = j.context; listener = j.listener; by = j.by; side = j.side; of_listener = j.of_listener; handed = j.handed; fresh = j.fresh });
     marked = i.marked;
-    streaming = i.streaming;
+    making = i.making;
   }
 
   pub spent : (es : List Entry) (h : Here) → Licensed contexts steps line origin es h → Licensed contexts steps line origin es (record h { own = Used })
   spent es h i = owned es h Used (λ e. absurd (cc)) i
+
+  -- the line makes, or calls, something else
+  pub remade : (es : List Entry) (h : Here) (made : Made) → NoAccept made → MakingStands steps made → Licensed contexts steps line origin es h → Licensed contexts steps line origin es (record h { made = made })
+  remade es h made q k i = record {
+    fine = i.fine;
+    names = i.names;
+    udp_names = i.udp_names;
+    listens = i.listens;
+    new = i.new;
+    unmade = λ e c s is. i.unmade (elim e [ inl u ↦ inl u | inr u ↦ absurd (no_mark made q u) ]) c s is;
+    joined = λ p e. absurd (subst NoAccept e q);
+    marked = λ a p e. absurd (subst NoAccept e q);
+    making = k;
+  }
 
   -- what it works on is other
   pub elsewhere : (es : List Entry) (h now : Here) → now.machine.store.records ≡ h.machine.store.records → now.own ≡ h.own → now.made ≡ h.made → Licensed contexts steps line origin es h → StateIsFine contexts steps es now.machine → NamesTcpHere steps es now → NamesUdpHere steps es now → Licensed contexts steps line origin es now
@@ -202,7 +234,7 @@ module _ {contexts : List WasiSocketsCtx} {steps : List Step} {line : ℕ} {orig
     unmade = λ e c t is. i.unmade (elim e [ inl x ↦ inl (sym o ∙ x) | inr x ↦ inr (subst NotMarked m x) ]) c t is;
     joined = λ p e. (let j = i.joined p (sym m ∙ e) in record { new = j.new; on = j.on; peer = j.peer; context = j.context; listener = j.listener; by = j.by; side = λ r g. j.side r (there h now s p r g); of_listener = j.of_listener; handed = j.handed; fresh = j.fresh });
     marked = λ handle p e r g. i.marked handle p (sym m ∙ e) r (there h now s p r g);
-    streaming = λ n k e. i.streaming n k (sym m ∙ e);
+    making = subst (MakingStands steps) (sym m) i.making;
   }
     where
       there : (h now : Here) → now.machine.store.records ≡ h.machine.store.records → (k : ℕ) (r : Tcp2Socket) → Found now k r → Found h k r

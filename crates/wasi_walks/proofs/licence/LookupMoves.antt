@@ -44,5 +44,5 @@ module _ {contexts : List WasiSocketsCtx} {steps : List Step} (new : LookupOp �
         unmade = i.unmade;
         joined = λ p e. (let j = i.joined p e in record { new = j.new; on = j.on; peer = j.peer; context = j.context; listener = j.listener; by = j.by; side = λ r d. j.side r (tcp p r d); of_listener = j.of_listener; handed = j.handed; fresh = j.fresh });
         marked = λ handle p e r d. i.marked handle p e r (tcp p r d);
-        streaming = i.streaming;
+        making = i.making;
       }

@@ -1,5 +1,5 @@
 -- What is known of lookups: the line of one that is in progress named its host, and its context may look names up; and the mark of
--- its handle says no network socket.
+-- its handle says no network socket. So do those of the handles of pipes, sinks and closed streams.
 use Rattle.wasi_walks.proofs.Words.{BeganBy, Entry, IsMarkedWith, Kind, List, None, Pollable, Some, Step, Watched, WasiSocketsCtx, [], slice_set}
 use Rattle.wasi_walks.proofs.Words.{inl, inr, suc, zero, ℕ, ⊤, ◌++◌, ◌∷◌, ◌≡◌}
 use Rattle.wasi_host.specs.Records.{lookup_at, lookup_of}
@@ -9,10 +9,14 @@ use Rattle.wasi_host.specs.declared.records.Record.{Record}
 use Rattle.wasi_walks.specs.Licence.{IsLookupOf}
 use Rattle.wasi_walks.proofs.walks.Moves.{SameSockets}
 
--- the mark of a lookup's handle says no network socket, and so does that of a pollable of one
+-- the mark of a lookup's handle says no network socket, nor does that of a stream of no connection, or that of a pollable of one of
+-- these
 abbrev pub NamesNone : List Entry → ℕ → Kind → Type 0
 NamesNone es handle (Kind.Lookup place) = IsMarkedWith es handle None
+NamesNone es handle (Kind.PlainInput plain) = IsMarkedWith es handle None
+NamesNone es handle (Kind.PlainOutput plain) = IsMarkedWith es handle None
 NamesNone es handle (Pollable (Watched.Lookup place)) = IsMarkedWith es handle None
+NamesNone es handle (Pollable Watched.Plain) = IsMarkedWith es handle None
 NamesNone es handle _ = ⊤
 
 -- the line of the lookup named its host, and its context may look names up

@@ -1,24 +1,27 @@
 -- A create is licensed, and so are the marks of handles; and what they make fits.
-use Rattle.wasi_walks.proofs.Words.{Allows, BeganBy, Call, Created, Entry, Err, ErrorCode, ErrorValue, HandleKind, Has, Input, IsDoneOrCode, IsMaker}
+use Rattle.wasi_walks.proofs.Words.{Allows, BeganBy, Call, Created, Entry, Err, ErrorCode, HandleKind, Has, Input, IsDoneOrCode, IsMaker}
 use Rattle.wasi_walks.proofs.Words.{IsMarkOf, IsMarkedWith, IsSide, IsTcpCreate, Kind, List, MarksNoSocket, MayAsk, MayUseTcp, Network, None, Ok}
 use Rattle.wasi_walks.proofs.Words.{OpId, Option, Output, Pollable, Result, Socket, SocketAddressFamily, Some, Step, Tcp2, Tcp2Socket, TcpState, Told}
 use Rattle.wasi_walks.proofs.Words.{WasiSocketsCtx, [], after_create, allows_if, allows_then, ap, bind, context_in, create_handle, created_asks}
 use Rattle.wasi_walks.proofs.Words.{entry, inl, inr, is_full, kind_at, length, make_asks, name_of, new_asks, new_record, new_socket, own_of, place_in}
 use Rattle.wasi_walks.proofs.Words.{refl, side_at, side_in, slice_get, step_at, subst, sym, told_done, true, with_record, ℕ, ⊤, ◌++◌, ◌∙◌, ◌∷◌, ◌≡◌, ◌⊎◌}
 use Rattle.wasi_walks.proofs.claims.Law.{Named, fresh}
-use Rattle.wasi_walks.proofs.walks.Moves.{ToStream, Used, Unused, Marks, ANetwork, AStream, ALookup, ALookupPollable, AnError, Here, Found, MarksError, Joined, Marked, made_so, APollable, AUdpPollable, tcp_place, udp_place, FoundUdp, AnAcceptedStream, second_of, Creates, Past}
+use Rattle.wasi_walks.proofs.walks.Moves.{Used, Unused, Marks, ANetwork, AStream, ALookup, ALookupPollable, APlain, APlainPollable, MakesPlain, Here, Found, Joined, Marked, made_so, APollable, AUdpPollable, tcp_place, udp_place, FoundUdp, AnAcceptedStream, second_of, Creates, Past}
 use Rattle.wasi_walks.proofs.Lists.{has_last, has_split, has_front, get_split, tcp2_seam}
 use Rattle.wasi_walks.specs.Licence.{MakesTcp}
-use Rattle.wasi_walks.proofs.licence.State.{accept_name, NamesRecord, NamesUdp, HandleIsFine, SocketIsFine}
+use Rattle.wasi_walks.proofs.licence.State.{accept_name, NamesRecord, NamesUdp, HandleIsFine, NamesItsOwn, SocketIsFine}
 use Rattle.wasi_walks.proofs.licence.Frames.{Touches, Spared, handed_unless, stay, same_record, names_on}
 use Rattle.wasi_walks.proofs.licence.States.{state_made, state_push}
-use Rattle.wasi_walks.proofs.licence.Line.{names_record, names_udp, NotMarked, MadeSocket, Licensed, elsewhere, some_same, no_listen, spent}
+use Rattle.wasi_walks.proofs.licence.Line.{names_record, names_udp, NotMarked, MakingStands, MadeSocket, Licensed, elsewhere, some_same, no_listen, spent}
 use Rattle.wasi_walks.proofs.licence.Asked.{listens_on, joined_on}
 use Rattle.wasi_walks.proofs.licence.Binds.{MayQuietly}
 use Rattle.wasi_world.specs.declared.call.HandleKind.TheVariants as name
 use Rattle.wasi_host.specs.Records.{tcp2_at, udp2_at}
 use Rattle.wasi_host.specs.Udp.{udp_side}
 use Rattle.wasi_host.specs.UdpCreates.{udp_side_at}
+use Rattle.wasi_host.specs.declared.kind.PlainInput.TheVariants as plain_input
+use Rattle.wasi_host.specs.declared.kind.PlainOutput.TheVariants as plain_output
+use Rattle.wasi_host.specs.Kinds.{watched_by}
 use Rattle.wasi_host.specs.declared.kind.Watched.{Watched}
 use Rattle.wasi_host.specs.declared.udp.Udp2Socket.{Udp2Socket}
 use Rattle.wasi_host.specs.declared.records.Record.{Record}
@@ -27,13 +30,6 @@ not_used : Used ≡ Unused → ⊥
 not_used e = absurd (cc)
 
 module _ (contexts : List WasiSocketsCtx) (steps : List Step) (line : ℕ) (origin : Step) (is_line : step_at steps line ≡ Some origin) where
-  error_mark : (es : List Entry) (op : OpId) (handle : ℕ) (sock : Option OpId) (s : Step) → MarksError handle s → IsMarkedWith es handle sock → IsMarkOf es op name.ErrorValue (Some handle) sock s
-  error_mark es op handle sock (Step.Read ctx input len) m w = (refl, (ap (λ (n : ℕ). Some n) m, subst (λ (n : ℕ). IsMarkedWith es n sock) m w))
-  error_mark es op handle sock (Step.CheckWrite ctx output) m w = (refl, (ap (λ (n : ℕ). Some n) m, subst (λ (n : ℕ). IsMarkedWith es n sock) m w))
-  error_mark es op handle sock (Step.Write ctx output bytes) m w = (refl, (ap (λ (n : ℕ). Some n) m, subst (λ (n : ℕ). IsMarkedWith es n sock) m w))
-  error_mark es op handle sock (Step.Flush ctx output) m w = (refl, (ap (λ (n : ℕ). Some n) m, subst (λ (n : ℕ). IsMarkedWith es n sock) m w))
-  error_mark es op handle sock _ m w = absurd m
-
   -- == marks
   pub unmarked_made : (es : List Entry) (op : OpId) (n : ℕ) (k : HandleKind) (parent : Option ℕ) (sock : Option OpId) (t : Told) (x : OpId) → MarksNoSocket es x → (k ≡ name.Tcp2 → sock ≡ Some x → ⊥) → MarksNoSocket (es ++ entry op (Call.Made n k parent sock) t ∷ []) x
   unmarked_made es op n k parent sock t x m f o handle above u i = elim (has_split es (entry op (Call.Made n k parent sock) t) (entry o (Call.Made handle name.Tcp2 above (Some x)) u) i) [
@@ -46,7 +42,7 @@ module _ (contexts : List WasiSocketsCtx) (steps : List Step) (line : ℕ) (orig
       → Spared h.machine.store.records (own_of line) (Call.Made h.machine.table.next (name_of kind) parent sock)
       → ((c s : ℕ) → origin ≡ Step.TcpAccept c s → (h.own ≡ Unused) ⊎ NotMarked h.made → ⊥)
       → ((x : OpId) → ((h.own ≡ Unused) × (x ≡ second_of line)) ⊎ ((p : ℕ) × (h.made ≡ Joined p)) → name_of kind ≡ name.Tcp2 → sock ≡ Some x → ⊥)
-      → ((t : Told) → HandleIsFine (es ++ entry (own_of line) (Call.Made h.machine.table.next (name_of kind) parent sock) t ∷ []) h.machine.store.records h.machine.table.next kind) → Licensed contexts steps line origin es h
+      → ((t : Told) → NamesItsOwn (es ++ entry (own_of line) (Call.Made h.machine.table.next (name_of kind) parent sock) t ∷ []) h.machine.store.records h.machine.table.next kind) → Licensed contexts steps line origin es h
       → Allows (MayAsk contexts steps) (λ fs made. Licensed contexts steps line origin fs (record h { machine = record h.machine { table = made.1 } })) es (make_asks h.machine.table (own_of line) kind parent sock)
   unfolding bind
   made_fine es h kind parent sock o sp un ms f i =
@@ -57,7 +53,7 @@ module _ (contexts : List WasiSocketsCtx) (steps : List Step) (line : ℕ) (orig
             let c = Call.Made h.machine.table.next (name_of kind) parent sock in
             let e = entry (own_of line) c told in
             record {
-              fine = state_made contexts steps es h.machine (own_of line) (name_of kind) parent sock told kind sp (f told) i.fine;
+              fine = state_made contexts steps es h.machine (own_of line) parent sock told kind sp (f told) i.fine;
               names = λ k n r a g side d. names_on (stay steps) es _ (own_of n) side (i.names k n r a g side d);
               udp_names = λ k n u a g. names_on (stay steps) es _ (own_of n) (udp_side u) (i.udp_names k n u a g);
               listens = listens_on contexts steps line origin is_line es h (own_of line) c told (λ k q op g d p. absurd (cc)) i;
@@ -65,7 +61,7 @@ module _ (contexts : List WasiSocketsCtx) (steps : List Step) (line : ℕ) (orig
               unmade = λ d a s is. absurd (un a s is d);
               joined = λ p d. (let j = i.joined p d in let k = joined_on contexts steps line origin is_line es h e p j (unmarked_made es (own_of line) h.machine.table.next (name_of kind) parent sock told j.new j.fresh (ms j.new (inr (p, d)))) in record { new = k.new; on = k.on; peer = k.peer; context = k.context; listener = k.listener; by = k.by; side = k.side; of_listener = k.of_listener; handed = k.handed; fresh = k.fresh });
               marked = λ handle p d r g. (let k = i.marked handle p d r g in record { above = k.above; told = k.told; mark = has_front es _ _ k.mark });
-              streaming = i.streaming;
+              making = i.making;
             },
       ))
 
@@ -77,7 +73,7 @@ module _ (contexts : List WasiSocketsCtx) (steps : List Step) (line : ℕ) (orig
   -- of a handle that is no socket's
   other_fine : (es : List Entry) (h : Here) (kind : Kind) (parent : Option ℕ) (sock : Option OpId) → BeganBy steps (own_of line) (IsMarkOf es (own_of line) (name_of kind) parent sock) → (name_of kind ≡ name.Tcp2 → ⊥)
       → ((c s : ℕ) → origin ≡ Step.TcpAccept c s → (h.own ≡ Unused) ⊎ NotMarked h.made → ⊥)
-      → ((t : Told) → HandleIsFine (es ++ entry (own_of line) (Call.Made h.machine.table.next (name_of kind) parent sock) t ∷ []) h.machine.store.records h.machine.table.next kind) → Licensed contexts steps line origin es h
+      → ((t : Told) → NamesItsOwn (es ++ entry (own_of line) (Call.Made h.machine.table.next (name_of kind) parent sock) t ∷ []) h.machine.store.records h.machine.table.next kind) → Licensed contexts steps line origin es h
       → Allows (MayAsk contexts steps) (λ fs made. Licensed contexts steps line origin fs (record h { machine = record h.machine { table = made.1 } })) es (make_asks h.machine.table (own_of line) kind parent sock)
   other_fine es h kind parent sock o none un f i = made_fine es h kind parent sock o (λ k r x e n t. none (socket_touch (own_of line) x h.machine.table.next (name_of kind) parent sock t)) un (λ x p a. absurd (none a)) f i
 
@@ -92,9 +88,9 @@ module _ (contexts : List WasiSocketsCtx) (steps : List Step) (line : ℕ) (orig
   no_socket k (inl e) p = absurd (cc)
   no_socket k (inr e) p = absurd (cc)
 
-  stream_handle : (fs : List Entry) (records : List Record) (handle place : ℕ) (kind : Kind) → OneOfTwo kind place → NamesRecord fs records handle place → HandleIsFine fs records handle kind
-  stream_handle fs records handle place kind (inl e) n = subst (HandleIsFine fs records handle) (sym e) (n, tt, tt)
-  stream_handle fs records handle place kind (inr e) n = subst (HandleIsFine fs records handle) (sym e) (n, tt, tt)
+  stream_handle : (fs : List Entry) (records : List Record) (handle place : ℕ) (kind : Kind) → OneOfTwo kind place → NamesRecord fs records handle place → NamesItsOwn fs records handle kind
+  stream_handle fs records handle place kind (inl e) n = subst (NamesItsOwn fs records handle) (sym e) (n, tt, tt)
+  stream_handle fs records handle place kind (inr e) n = subst (NamesItsOwn fs records handle) (sym e) (n, tt, tt)
 
   -- the new handle names the record
   new_names : (es : List Entry) (h : Here) (n place : ℕ) (kind : HandleKind) (parent : Option ℕ) (r : Tcp2Socket) (t : Told) → Found h place r → (let sock = side_at (tcp2_at h.machine.store.records place) in NamesRecord (es ++ entry (own_of line) (Call.Made n kind parent sock) t ∷ []) h.machine.store.records n place)
@@ -111,16 +107,17 @@ module _ (contexts : List WasiSocketsCtx) (steps : List Step) (line : ℕ) (orig
       let e = entry (own_of line) (Call.Made n kind parent sock) t in
       record { found = u; at = g; marked = record { op = own_of line; kind = kind; parent = parent; told = t; mark = subst (λ (o : Option OpId). Has (es ++ e ∷ []) (entry (own_of line) (Call.Made n kind parent o) t)) (ap udp_side_at g) (has_last es e) } }
 
-  pollable_handle : (fs : List Entry) (records : List Record) (handle : ℕ) (w : Watched) → tcp_place w ≡ Some (place_in w) → NamesRecord fs records handle (place_in w) → HandleIsFine fs records handle (Pollable w)
+  pollable_handle : (fs : List Entry) (records : List Record) (handle : ℕ) (w : Watched) → tcp_place w ≡ Some (place_in w) → NamesRecord fs records handle (place_in w) → NamesItsOwn fs records handle (Pollable w)
   pollable_handle fs records handle (Watched.Udp place) p n = absurd (cc)
   pollable_handle fs records handle (Watched.Incoming place) p n = absurd (cc)
   pollable_handle fs records handle (Watched.Outgoing place) p n = absurd (cc)
   pollable_handle fs records handle (Watched.Lookup place) p n = absurd (cc)
+  pollable_handle fs records handle Watched.Plain p n = absurd (cc)
   pollable_handle fs records handle (Watched.Socket place) p n = (n, tt, tt)
   pollable_handle fs records handle (Watched.Input place) p n = (n, tt, tt)
   pollable_handle fs records handle (Watched.Output place) p n = (n, tt, tt)
 
-  udp_pollable_handle : (fs : List Entry) (records : List Record) (handle : ℕ) (w : Watched) → udp_place w ≡ Some (place_in w) → NamesUdp fs records handle (place_in w) → HandleIsFine fs records handle (Pollable w)
+  udp_pollable_handle : (fs : List Entry) (records : List Record) (handle : ℕ) (w : Watched) → udp_place w ≡ Some (place_in w) → NamesUdp fs records handle (place_in w) → NamesItsOwn fs records handle (Pollable w)
   udp_pollable_handle fs records handle (Watched.Udp place) p n = (tt, n, tt)
   udp_pollable_handle fs records handle (Watched.Incoming place) p n = (tt, n, tt)
   udp_pollable_handle fs records handle (Watched.Outgoing place) p n = (tt, n, tt)
@@ -128,6 +125,7 @@ module _ (contexts : List WasiSocketsCtx) (steps : List Step) (line : ℕ) (orig
   udp_pollable_handle fs records handle (Watched.Input place) p n = absurd (cc)
   udp_pollable_handle fs records handle (Watched.Output place) p n = absurd (cc)
   udp_pollable_handle fs records handle (Watched.Lookup place) p n = absurd (cc)
+  udp_pollable_handle fs records handle Watched.Plain p n = absurd (cc)
 
   -- the new handle is of no network socket
   marks_none : (es : List Entry) (n : ℕ) (kind : HandleKind) (parent : Option ℕ) (t : Told) → IsMarkedWith (es ++ entry (own_of line) (Call.Made n kind parent None) t ∷ []) n None
@@ -136,8 +134,42 @@ module _ (contexts : List WasiSocketsCtx) (steps : List Step) (line : ℕ) (orig
   not_accept : (s : Step) → ((c k : ℕ) → s ≡ Step.TcpAccept c k → ⊥) → origin ≡ s → (c k : ℕ) → origin ≡ Step.TcpAccept c k → (h : Here) → (h.own ≡ Unused) ⊎ NotMarked h.made → ⊥
   not_accept s n e c k is h u = n c k (sym e ∙ is)
 
-  error_line : (handle : ℕ) (s : Step) → MarksError handle s → (c k : ℕ) → s ≡ Step.TcpAccept c k → ⊥
-  error_line handle s m c k e = subst (MarksError handle) e m
+  -- an input or an output of no connection
+  abbrev IsPlain : Kind → Type 0
+  IsPlain (Kind.PlainInput plain) = ⊤
+  IsPlain (Kind.PlainOutput plain) = ⊤
+  IsPlain _ = ⊥
+
+  plain_made : (s : Step) (kind : Kind) → MakesPlain s kind → IsPlain kind
+  plain_made (Step.PipeIn c bytes) (Kind.PlainInput (plain_input.Pipe place)) m = tt
+  plain_made (Step.PipeOut c capacity) (Kind.PlainOutput (plain_output.Pipe place)) m = tt
+  plain_made (Step.Sink c) (Kind.PlainOutput plain_output.Sink) m = tt
+  plain_made (Step.ClosedIn c) (Kind.PlainInput plain_input.Closed) m = tt
+  plain_made (Step.ClosedOut c) (Kind.PlainOutput plain_output.Closed) m = tt
+  plain_made _ _ m = absurd m
+
+  plain_mark : (es : List Entry) (op : OpId) (s : Step) (kind : Kind) → MakesPlain s kind → IsMarkOf es op (name_of kind) None None s
+  plain_mark es op (Step.PipeIn c bytes) (Kind.PlainInput (plain_input.Pipe place)) m = (refl, refl, refl)
+  plain_mark es op (Step.PipeOut c capacity) (Kind.PlainOutput (plain_output.Pipe place)) m = (refl, refl, refl)
+  plain_mark es op (Step.Sink c) (Kind.PlainOutput plain_output.Sink) m = (refl, refl, refl)
+  plain_mark es op (Step.ClosedIn c) (Kind.PlainInput plain_input.Closed) m = (refl, refl, refl)
+  plain_mark es op (Step.ClosedOut c) (Kind.PlainOutput plain_output.Closed) m = (refl, refl, refl)
+  plain_mark es op _ _ m = absurd m
+
+  plain_name : (kind : Kind) → IsPlain kind → name_of kind ≡ name.Tcp2 → ⊥
+  plain_name (Kind.PlainInput plain) m e = absurd (cc)
+  plain_name (Kind.PlainOutput plain) m e = absurd (cc)
+  plain_name _ m e = m
+
+  plain_handle : (fs : List Entry) (records : List Record) (handle : ℕ) (kind : Kind) → IsPlain kind → IsMarkedWith fs handle None → NamesItsOwn fs records handle kind
+  plain_handle fs records handle (Kind.PlainInput plain) m w = (tt, tt, w)
+  plain_handle fs records handle (Kind.PlainOutput plain) m w = (tt, tt, w)
+  plain_handle fs records handle _ m w = absurd m
+
+  plain_named : (es : List Entry) (records : List Record) (handle : ℕ) (k : Option Kind) → watched_by k ≡ Some Watched.Plain → ((kind : Kind) → k ≡ Some kind → HandleIsFine es records handle kind) → IsMarkedWith es handle None
+  plain_named es records handle (Some (Kind.PlainInput plain)) e f = (f (Kind.PlainInput plain) refl).2
+  plain_named es records handle (Some (Kind.PlainOutput plain)) e f = (f (Kind.PlainOutput plain) refl).2
+  plain_named es records handle _ e f = absurd (cc)
 
   used_marked : (h : Here) (handle place : ℕ) → h.own ≡ Used → h.made ≡ Marked handle place → (h.own ≡ Unused) ⊎ NotMarked h.made → ⊥
   used_marked h handle place o m (inl u) = absurd (let p : Used ≡ Unused = sym o ∙ u in cc)
@@ -183,11 +215,14 @@ module _ (contexts : List WasiSocketsCtx) (steps : List Step) (line : ℕ) (orig
       let k : IsMarkedWith es handle None = (i.fine.handles handle (Kind.Lookup place) e).2 in
       other_fine es h (Pollable (Watched.Lookup place)) (Some handle) None (record { origin = origin; at = is_line; holds = subst (IsMarkOf es (own_of line) name.Pollable (Some handle) None) (sym is) (refl, (refl, k)) }) (λ p. absurd (cc)) (λ a s p. not_accept (Step.Subscribe c handle) (λ a s p. absurd (cc)) is a s p h)
       (λ t. (tt, tt, marks_none es h.machine.table.next name.Pollable (Some handle) t)) i
-  marked_fine es h _ _ _ (AnError handle place m e) i =
-      let sock = side_at (tcp2_at h.machine.store.records place) in
-      let n = names_record es h.machine.store.records handle place (kind_at h.machine.table handle) e (i.fine.handles handle) in
-      let w : IsMarkedWith es handle sock = subst (IsMarkedWith es handle) (sym (ap side_at n.at)) n.marked in
-      other_fine es h ErrorValue (Some handle) sock (record { origin = origin; at = is_line; holds = error_mark es (own_of line) handle sock origin m w }) (λ p. absurd (cc)) (λ a s p u. error_line handle origin m a s p) (λ t. (tt, tt, tt)) i
+  marked_fine es h kind _ _ (APlain _ m) i =
+      let p = plain_made origin kind m in
+      other_fine es h kind None None (record { origin = origin; at = is_line; holds = plain_mark es (own_of line) origin kind m }) (plain_name kind p) (λ a s is u. subst (λ (x : Step). MakesPlain x kind) is m)
+      (λ t. plain_handle _ h.machine.store.records h.machine.table.next kind p (marks_none es h.machine.table.next (name_of kind) None t)) i
+  marked_fine es h _ _ _ (APlainPollable c handle is e) i =
+      let k : IsMarkedWith es handle None = plain_named es h.machine.store.records handle (kind_at h.machine.table handle) e (i.fine.handles handle) in
+      other_fine es h (Pollable Watched.Plain) (Some handle) None (record { origin = origin; at = is_line; holds = subst (IsMarkOf es (own_of line) name.Pollable (Some handle) None) (sym is) (refl, (refl, k)) }) (λ p. absurd (cc)) (λ a s p. not_accept (Step.Subscribe c handle) (λ a s p. absurd (cc)) is a s p h)
+      (λ t. (tt, tt, marks_none es h.machine.table.next name.Pollable (Some handle) t)) i
 
   -- the mark of what was accepted
   pub accepted_fine : (es : List Entry) (h : Here) (c s place : ℕ) (r : Tcp2Socket) → origin ≡ Step.TcpAccept c s → h.made ≡ Joined place → h.own ≡ Used → Found h place r → Named line h → Licensed contexts steps line origin es h
@@ -201,13 +236,13 @@ module _ (contexts : List WasiSocketsCtx) (steps : List Step) (line : ℕ) (orig
       let same : j.listener ≡ s = same_listener j.context j.listener c s (sym j.by ∙ is) in
       let past : Used ≡ h.own = sym o in
       allows_if (MayAsk contexts steps) (λ fs made. Licensed contexts steps line origin fs (record h { machine = record h.machine { table = made.1 }; made = made_so place made.0 })) es (is_full h.machine.table) _ _
-      (λ full. record { fine = i.fine; names = i.names; udp_names = i.udp_names; listens = i.listens; new = i.new; unmade = λ u. absurd (elim u [ inl p ↦ not_used (past ∙ p) | inr p ↦ p ]); joined = λ p d. absurd (cc); marked = λ a p d. absurd (cc); streaming = λ m k d. absurd (cc) })
+      (λ full. record { fine = i.fine; names = i.names; udp_names = i.udp_names; listens = i.listens; new = i.new; unmade = λ u. absurd (elim u [ inl p ↦ not_used (past ∙ p) | inr p ↦ p ]); joined = λ p d. absurd (cc); marked = λ a p d. absurd (cc); making = tt })
       (λ room. (
         (i.fine.count, record { origin = origin; at = is_line; holds = subst (IsMarkOf es (own_of line) name.Tcp2 (Some s) sock) (sym is) (inl (record { first = i.unmade (inr (subst NotMarked (sym e) tt)) c s is; socket = refl; under = refl; accept = j.new; side = its; on = j.on; of_listener = subst (λ (x : ℕ). IsSide es x j.on) same j.of_listener; peer = j.peer; told = j.handed.told; handed = j.handed.hand; fresh = j.fresh })) }),
         λ told fits.
             let k = Call.Made n name.Tcp2 (Some s) sock in
             record {
-              fine = state_made contexts steps es h.machine (own_of line) name.Tcp2 (Some s) sock told (Tcp2 place)
+              fine = state_made contexts steps es h.machine (own_of line) (Some s) sock told (Tcp2 place)
                   (λ p q x d m t. apart_there j.new p q x d m (subst (λ (y : Option OpId). Touches (own_of line) (Call.Made n name.Tcp2 (Some s) y) x) its t) (j.side r g)) (new_names es h n place name.Tcp2 (Some s) r told g, tt, tt) i.fine;
               names = λ p m q a d side x. names_on (stay steps) es _ (own_of m) side (i.names p m q a d side x);
               udp_names = λ p m u a d. names_on (stay steps) es _ (own_of m) (udp_side u) (i.udp_names p m u a d);
@@ -216,7 +251,7 @@ module _ (contexts : List WasiSocketsCtx) (steps : List Step) (line : ℕ) (orig
               unmade = λ u. absurd (elim u [ inl p ↦ not_used (past ∙ p) | inr p ↦ p ]);
               joined = λ p d. absurd (cc);
               marked = λ a p d q m. made_there told a p q d m;
-              streaming = λ m k d. absurd (cc);
+              making = tt;
             },
       ))
     where
@@ -301,7 +336,7 @@ module _ (contexts : List WasiSocketsCtx) (steps : List Step) (line : ℕ) (orig
         unmade = λ e d s is. absurd (creates_only ctx family c d s is);
         joined = λ p e. absurd (not_joined p (sym past ∙ e));
         marked = λ a p e q d. elim (get_split h.machine.store.records (new_record now) p q d) [ inl v ↦ i.marked a p e q v | inr v ↦ absurd (not_marked a p (sym past ∙ e)) ];
-        streaming = λ n k e. absurd (let p : Past ≡ ToStream n k = sym past ∙ e in cc);
+        making = subst (MakingStands steps) (sym past) tt;
       } in
       subst (λ (s : Socket). Allows (MayAsk contexts steps) (λ fs done. Licensed contexts steps line origin fs (record h { machine = done.1; own = Used })) es (create_handle h.machine own s)) (sym k.1)
       (allows_then (MayAsk contexts steps) (λ fs made. Licensed contexts steps line origin fs (record next { machine = record next.machine { table = made.1 } })) (λ fs done. Licensed contexts steps line origin fs (record h { machine = done.1; own = Used })) es

@@ -1,23 +1,27 @@
 -- Each move keeps that the state fits the log.
-use Rattle.wasi_walks.proofs.Words.{Accepting, Accepts, Bool, Connection, Done, End, Entry, Handed, Has, InProgress, IpSocketAddress, IsMaker}
-use Rattle.wasi_walks.proofs.Words.{IsMarkedWith, IsSide, Job, List, Listener, MarksNoSocket, MayGoOut, Not, OpId, Option, ReadState, Refused, Socket}
-use Rattle.wasi_walks.proofs.Words.{SocketAddressFamily, Some, StandingCall, Step, Streams, Tcp2Socket, TcpState, Waits, WasiSocketsCtx, WriteState}
-use Rattle.wasi_walks.proofs.Words.{accepted_socket, ap, call_place, closed_by, connect_first, connect_operation, false, gone, handles_of, inl, inr}
-use Rattle.wasi_walks.proofs.Words.{kind_at, new_job, new_streams, own_of, refl, side_in, side_of, standing_as, step_at, subst}
-use Rattle.wasi_walks.proofs.Words.{sym, true, wildcard, with_inner, with_listening, with_progress, with_state, written_by, ℕ, ◌∙◌, ◌≡◌}
+use Rattle.wasi_walks.proofs.Words.{Accepting, Accepts, Bool, Connection, Done, End, Entry, Handed, InProgress, IpSocketAddress, IsMaker}
+use Rattle.wasi_walks.proofs.Words.{Job, List, Listener, MarksNoSocket, MayGoOut, None, Not, OpId, ReadState, Refused, Socket}
+use Rattle.wasi_walks.proofs.Words.{SocketAddressFamily, Some, StandingCall, Step, Streams, TcpSendStream, Tcp2Socket, TcpState, Waits, WasiSocketsCtx, WriteState}
+use Rattle.wasi_walks.proofs.Words.{accepted_socket, ap, call_place, closed_by, connect_first, connect_operation, false, gone, inl, inr}
+use Rattle.wasi_walks.proofs.Words.{new_job, new_streams, own_of, refl, side_in, side_of, standing_as, step_at, subst}
+use Rattle.wasi_walks.proofs.Words.{sym, true, wildcard, with_inner, with_listening, with_progress, with_state, with_writer, written_by, ℕ, ◌∙◌, ◌≡◌}
 use Rattle.wasi_walks.proofs.licence.ListenAsks.{Whole as WholeListen}
 use Rattle.wasi_walks.proofs.claims.Law.{Base, same_begun, fresh}
-use Rattle.wasi_walks.proofs.walks.Moves.{Own, GoesOn, RemembersStreams, RecallsStreams, BeginsUdpConnect, StandsUdpConnect, StandsDropOutgoing, Counts, SpendsNames, BeginsSend, BeginsReceive, closed_record, Here, put, Found, record_of, WriterMoves, Collects, LastsAfter, Closes, Plain, Move, Reaches, ReachesUdp, Leaves, Spends, Changes, ClosesReader, Writes, IsGone, opened_by, Reconnects, Opens, BeginsConnect, BeginsBind, BeginsWrite, begun_bind, Stands, Resumes, Unstands, UdpChanges, BeginsUdpBind, StandsUdpBind, StandsUdpCreate, Finds, Lists, Takes, BeginsListen, BeginsAccept, Unlistens, Forgets, Watches, Joins, accepting_now, begun_listen, beginning_listen, new_accept, joined, second_of}
+use Rattle.wasi_walks.proofs.walks.Moves.{Own, Past, ToStream, Used, CallsStreams, RecallsStreamCall, ReachesStream, StandsBlocking, CancelsBind, CancelsUdpBind, CancelsUdpConnect, GoesOn, RemembersStreams, RecallsStreams, BeginsUdpConnect, StandsUdpConnect, StandsDropOutgoing, Counts, SpendsNames, BeginsSend, BeginsReceive, closed_record, Here, put, Found, WriterMoves, Collects, LastsAfter, Closes, Plain, Move, Reaches, ReachesUdp, Leaves, Spends, Changes, ClosesReader, Writes, IsGone, opened_by, Reconnects, Opens, BeginsConnect, BeginsBind, BeginsWrite, begun_bind, Stands, Resumes, Unstands, UdpChanges, BeginsUdpBind, StandsUdpBind, StandsUdpCreate, Finds, Lists, Takes, BeginsListen, BeginsAccept, Unlistens, Forgets, Watches, Joins, accepting_now, begun_listen, beginning_listen, new_accept, joined, second_of}
 use Rattle.wasi_walks.proofs.Lists.{get_split}
-use Rattle.wasi_walks.proofs.licence.State.{ConnectIsFine, ConnectLeft, Unbound, Unchecked, ReadsOn, Whole, ToWrite, Names, BindIsFine, JobIsFine, WritesOn, StreamsAreFine, AcceptingIsFine, ListeningIsFine, SocketIsFine, RecordIsFine, IsHanded, Unarrived, AcceptingStands, ListeningStands, ListenerIsFine, OfTcp, OfUdp, StreamsStand, name_in}
-use Rattle.wasi_walks.proofs.licence.Frames.{same_listening, listening_kept, listening_gone, Only, KeepsSide, same_record, record_kept}
+use Rattle.wasi_walks.proofs.licence.State.{ConnectIsFine, ConnectLeft, Unbound, Unchecked, ReadsOn, Whole, ToWrite, Names, BindIsFine, EndTold, ErrorTold, JobIsFine, WritesOn, StreamsAreFine, AcceptingIsFine, ListeningIsFine, SocketIsFine, RecordIsFine, IsHanded, Unarrived, AcceptingStands, ListeningStands, ListenerIsFine, MakesStreams, OfTcp, OfUdp, StreamsStand, name_in}
+use Rattle.wasi_walks.proofs.licence.Frames.{same_listening, listening_kept, listening_gone, Only, KeepsSide, record_kept}
 use Rattle.wasi_walks.proofs.licence.States.{state_taken, state_put, state_stands, state_unstands, state_jobs, state_renewed, state_joined}
 use Rattle.wasi_walks.proofs.licence.WriteJobs.{shut_after}
-use Rattle.wasi_walks.proofs.licence.Line.{put_with, names_record, keeps_plain, seam, pair_first, pair_second, no_listen, second_names, ListenGoesOn, NotMarked, NamesMade, Licensed, KeepsListen, put_fine, owned, spent, elsewhere}
+use Rattle.wasi_walks.proofs.licence.Line.{put_with, keeps_plain, seam, no_listen, second_names, ListenGoesOn, NotMarked, NamesMade, Licensed, MakingStands, KeepsListen, put_fine, owned, remade, spent, elsewhere}
 use Rattle.wasi_walks.proofs.licence.LookupMoves.{records_fine}
-use Rattle.wasi_walks.proofs.licence.UdpMoves.{begins_receive, begins_send, begins_udp_connect, recalls_streams, remembers_streams, tcp_alone, reaches_udp, resumes, udp_changes, begins_udp_bind}
-use Rattle.wasi_host.specs.Records.{tcp2_at, tcp2_put}
+use Rattle.wasi_walks.proofs.licence.UdpMoves.{begins_receive, begins_send, begins_udp_connect, recalls_streams, remembers_streams, reaches_udp, resumes, udp_changes, begins_udp_bind, cancels_udp_bind, cancels_udp_connect}
+use Rattle.wasi_walks.proofs.licence.StreamMoves.{calls_streams, is_side, reaches, reaches_stream, recalls_call, stands_blocking}
+use Rattle.wasi_host.specs.Records.{tcp2_put}
 use Rattle.wasi_host.specs.declared.udp.Udp2Socket.{Udp2Socket}
+use Rattle.wasi_addr.specs.declared.code.ErrorCode.{ErrorCode}
+use Rattle.wasi_tcp.specs.Writer.{error_of_code}
+use Rattle.wasi_walks.specs.Licence.{WriteFailed}
 
 module _ (contexts : List WasiSocketsCtx) (steps : List Step) (line : ℕ) (origin : Step) (is_line : step_at steps line ≡ Some origin) where
   plain_socket : (es : List Entry) (r now : Tcp2Socket) → Plain r now → SocketIsFine steps es r.inner → SocketIsFine steps es now.inner
@@ -45,20 +49,25 @@ module _ (contexts : List WasiSocketsCtx) (steps : List Step) (line : ℕ) (orig
       put_fine es h place r _ g refl (same_listening r.listening) (λ op p. (p, (refl, refl)))
       (record { socket = x.socket; named = x.named; streams = λ others p. let q : now ≡ others = cc in subst (StreamsAreFine steps es r.inner) q it; listening = x.listening; progress = x.progress }) i
 
-  written_on : (es : List Entry) (side : OpId) (job : Job) (e : End) → JobIsFine steps es side job → WritesOn steps es side (written_by job e)
-  written_on es side job Waits h = h
-  written_on es side job (Done given) h = h.on
-  written_on es side job (Refused c given) h = tt
+  kept_error : (es : List Entry) (side : OpId) (c : ErrorCode) → WriteFailed es side → ErrorTold es side (error_of_code c)
+  kept_error es side ErrorCode.ConnectionBroken f = tt
+  kept_error es side _ f = f
 
-  closed_on : (es : List Entry) (side : OpId) (job : Job) (e : End) → JobIsFine steps es side job → WritesOn steps es side (closed_by job e)
-  closed_on es side job Waits h = h
-  closed_on es side job _ h = tt
+  written_on : (es : List Entry) (side : OpId) (job : Job) (e : End) → JobIsFine steps es side job → EndTold es side e → WritesOn steps es side (written_by job e)
+  written_on es side job Waits h t = h
+  written_on es side job (Done given) h t = h.on
+  written_on es side job (Refused c given) h t = kept_error es side c t
+
+  closed_on : (es : List Entry) (side : OpId) (job : Job) (e : End) → JobIsFine steps es side job → EndTold es side e → WritesOn steps es side (closed_by job e)
+  closed_on es side job Waits h t = h
+  closed_on es side job (Done given) h t = tt
+  closed_on es side job (Refused c given) h t = kept_error es side c t
 
   writes_on : (es : List Entry) (side : OpId) (w now : WriteState) → WriterMoves w now → WritesOn steps es side w → WritesOn steps es side now
-  writes_on es side _ _ (Collects (WriteState.Writing job)) on = written_on es side job job.end on
-  writes_on es side _ _ (Collects (WriteState.Closing job)) on = closed_on es side job job.end on
-  writes_on es side _ _ (LastsAfter job) on = record { named = on.named; on = on.on; last = on.last; left = shut_after contexts steps job.write.left on.left }
-  writes_on es side _ _ (Closes w e) on = tt
+  writes_on es side _ _ (Collects (WriteState.Writing job)) on = written_on es side job job.end on on.ended
+  writes_on es side _ _ (Collects (WriteState.Closing job)) on = closed_on es side job job.end on on.ended
+  writes_on es side _ _ (LastsAfter job) on = record { named = on.named; on = on.on; last = on.last; left = shut_after contexts steps job.write.left on.left; ended = on.ended }
+  writes_on es side _ _ (Closes w) on = tt
   writes_on es side _ _ _ on = on
 
   pub closed_fine : (es : List Entry) (r : Tcp2Socket) → RecordIsFine steps es (closed_record r)
@@ -73,8 +82,15 @@ module _ (contexts : List WasiSocketsCtx) (steps : List Step) (line : ℕ) (orig
   pub held_side : (es : List Entry) (r : Tcp2Socket) (s : Streams) (f : StreamsAreFine steps es r.inner s) → side_of r.inner ≡ Some f.side
   held_side es r s f = ap side_in f.connected.state ∙ ap (λ (x : OpId). Some x) f.connected.same
 
-  names_streams : (es : List Entry) (r : Tcp2Socket) (s : Streams) → NamesMade steps line es r → RecordIsFine steps es r → (f : StreamsAreFine steps es r.inner s) → Names steps es (own_of line) f.side
-  names_streams es r s n h f = n f.side (h.named f.side (held_side es r s f))
+  names_streams : (es : List Entry) (n : ℕ) (r : Tcp2Socket) (s : Streams) → NamesMade steps n es r → RecordIsFine steps es r → (f : StreamsAreFine steps es r.inner s) → Names steps es (own_of n) f.side
+  names_streams es n r s names h f = names f.side (h.named f.side (held_side es r s f))
+
+  -- a write begins, by the operation of a line that names the stream
+  pub begins_write : (es : List Entry) (h : Here) (place n : ℕ) (r : Tcp2Socket) (s : Streams) (half : TcpSendStream) (permit : ℕ) (bytes : List ℕ) → h.at ≡ Some (place, n) → Found h place r → r.streams ≡ Some s → s.writer ≡ WriteState.Ready half permit → Licensed contexts steps line origin es h
+      → Licensed contexts steps line origin es (record (put h place (with_writer r s (WriteState.Writing (new_job (own_of n) half.side bytes)))) { own = Used })
+  begins_write es h place n r s half permit bytes at g e w i =
+      spent es _ (streams_fine es h place r s (record s { writer = WriteState.Writing (new_job (own_of n) half.side bytes) }) g e
+      (λ f. (f.reads, record { named = names_streams es n r s (i.names place n r at g) (i.fine.records place r g) f; on = subst (WritesOn steps es f.side) w f.writes; last = refl; left = ToWrite bytes; ended = tt })) i)
 
   -- another connection of the same network socket
   still_connected : (r : Tcp2Socket) (c now : Connection) → r.inner.state ≡ TcpState.Connected c → now.side ≡ c.side → KeepsSide r.inner (with_state r.inner (TcpState.Connected now))
@@ -111,20 +127,6 @@ module _ (contexts : List WasiSocketsCtx) (steps : List Step) (line : ℕ) (orig
   no_streams : (es : List Entry) (r : Tcp2Socket) (side : OpId) (s : Streams) → r.inner.state ≡ TcpState.Default side → RecordIsFine steps es r → r.streams ≡ Some s → ⊥
   no_streams es r side s d f e = not_default side (f.streams s e).connected.connection (sym d ∙ (f.streams s e).connected.state)
 
-  names_at : (es : List Entry) (h : Here) (handle place : ℕ) → Has (handles_of origin) handle → record_of (kind_at h.machine.table handle) ≡ Some place → Licensed contexts steps line origin es h → (r : Tcp2Socket) → Found h place r → NamesMade steps line es r
-  names_at es h handle place named e i r g side m =
-      let n = names_record es h.machine.store.records handle place (kind_at h.machine.table handle) e (i.fine.handles handle) in
-      let same : n.found.side ≡ r.side = ap (λ (x : Tcp2Socket). x.side) (same_record n.found r (sym n.at ∙ g)) in
-      let w = subst (IsMarkedWith es handle) (same ∙ m) n.marked in
-      record { origin = origin; at = is_line; holds = record { handle = handle; named = named; is = record { op = w.op; kind = w.kind; parent = w.parent; told = w.told; mark = w.mark } } }
-
-  -- the network socket of a record that a handle of the line is of
-  is_side : (es : List Entry) (h : Here) (handle place : ℕ) → record_of (kind_at h.machine.table handle) ≡ Some place → Licensed contexts steps line origin es h → (r : Tcp2Socket) → Found h place r → (side : OpId) → r.side ≡ Some side → IsSide es handle side
-  is_side es h handle place e i r g side m =
-      let n = names_record es h.machine.store.records handle place (kind_at h.machine.table handle) e (i.fine.handles handle) in
-      let same : n.found.side ≡ r.side = ap (λ (x : Tcp2Socket). x.side) (same_record n.found r (sym n.at ∙ g)) in
-      let w = subst (IsMarkedWith es handle) (same ∙ m) n.marked in record { op = w.op; kind = w.kind; parent = w.parent; told = w.told; mark = w.mark }
-
   pub listener_fine : (es : List Entry) (r : Tcp2Socket) (l : Listener) → r.listening ≡ Accepts l → RecordIsFine steps es r → ListenerIsFine steps es r.side l
   listener_fine es r l e f = subst (ListeningIsFine steps es r.side) e f.listening
 
@@ -153,15 +155,17 @@ module _ (contexts : List WasiSocketsCtx) (steps : List Step) (line : ℕ) (orig
   -- a call of a TCP socket makes no datagram streams
   no_streams_stand : (r : Tcp2Socket) (n : ℕ) (call : StandingCall) → GoesOn call r → StreamsStand steps n call
   no_streams_stand r n (StandingCall.UdpConnect place handle) k = absurd k
+  no_streams_stand r n (StandingCall.Blocking call) k = absurd k
   no_streams_stand r n _ k = tt
 
+  -- datagram streams are made for a line whose step says so
+  streams_of : (es : List Entry) (h : Here) (n handle : ℕ) → h.made ≡ ToStream n handle → Licensed contexts steps line origin es h → MakesStreams steps n handle
+  streams_of es h n handle m i = subst (MakingStands steps) m i.making
+
   pub moves_fine : (es : List Entry) (h now : Here) → Move line origin h now → Base contexts line origin h → Licensed contexts steps line origin es h → Licensed contexts steps line origin es now
-  moves_fine es _ _ (Reaches h handle place named e) b i = elsewhere es h _ refl refl refl i i.fine (λ k n r a g. by_place h k n place r a g (names_at es h handle place named e i)) (tcp_alone contexts steps line origin is_line es h handle place e i)
-    where
-      by_place : (h : Here) (k n place : ℕ) (r : Tcp2Socket) → (let x : Option (ℕ × ℕ) = Some (place, line) in let y : Option (ℕ × ℕ) = Some (k, n) in x ≡ y) → Found h k r → ((q : Tcp2Socket) → Found h place q → NamesMade steps line es q) → NamesMade steps n es r
-      by_place h k n place r a g f = let p = pair_first place line k n a in let q = pair_second place line k n a in subst (λ (x : ℕ). NamesMade steps x es r) q (f r (ap (tcp2_at h.machine.store.records) p ∙ g))
+  moves_fine es _ _ (Reaches h handle place named e) b i = reaches contexts steps line origin is_line es h line handle place (record { origin = origin; at = is_line; holds = named }) e i
   moves_fine es _ _ (ReachesUdp h handle place named e) b i = reaches_udp contexts steps line origin is_line es h handle place named e i
-  moves_fine es _ _ (Leaves h) b i = record { fine = i.fine; names = λ k n r a g. absurd (cc); udp_names = λ k n u a g. absurd (cc); listens = i.listens; new = i.new; unmade = λ e c s is. i.unmade (elim e [ inl u ↦ inl u | inr u ↦ absurd u ]) c s is; joined = λ p e. absurd (cc); marked = λ handle p e. absurd (cc); streaming = λ n k e. absurd (cc) }
+  moves_fine es _ _ (Leaves h) b i = elsewhere es (record h { made = Past }) (record h { at = None; made = Past }) refl refl refl (remade es h Past tt tt i) i.fine (λ k n r a g. absurd (cc)) (λ k n u a g. absurd (cc))
   moves_fine es _ _ (Spends h e) b i = spent es h i
   moves_fine es _ _ (Changes h place r now g p) b i = plain_fine es h place r now g p i
   moves_fine es _ _ (ClosesReader h place r s g e) b i = streams_fine es h place r s (record s { reader = ReadState.Closed }) g e (λ f. (tt, f.writes)) i
@@ -211,9 +215,7 @@ module _ (contexts : List WasiSocketsCtx) (steps : List Step) (line : ℕ) (orig
       } in
       let now = with_progress r (InProgress.Binding (begun_bind (own_of line) side r a)) in
       spent es _ (put_fine es h place r now g refl (same_listening r.listening) (same_listen r now refl refl refl) (record { socket = f.socket; named = f.named; streams = f.streams; listening = f.listening; progress = begun }) i)
-  moves_fine es _ _ (BeginsWrite h place r s half permit bytes at g e w within o) b i =
-      spent es _ (streams_fine es h place r s (record s { writer = WriteState.Writing (new_job (own_of line) half.side bytes) }) g e
-      (λ f. (f.reads, record { named = names_streams es r s (i.names place line r at g) (i.fine.records place r g) f; on = subst (WritesOn steps es f.side) w f.writes; last = refl; left = ToWrite bytes })) i)
+  moves_fine es _ _ (BeginsWrite h place n r s half permit bytes at g e w within o) b i = begins_write es h place n r s half permit bytes at g e w i
   moves_fine es _ _ (BeginsListen h place r side at g d bound none to idle o) b i =
       let f = i.fine.records place r g in
       let e : side_of r.inner ≡ Some side = ap side_in d in
@@ -239,7 +241,7 @@ module _ (contexts : List WasiSocketsCtx) (steps : List Step) (line : ℕ) (orig
   moves_fine es _ _ (Unlistens h place r op q g e c o) b i =
       let f = i.fine.records place r g in put_fine es h place r (with_listening r Not) g refl (listening_gone r.listening) (λ op p. absurd (cc)) (record { socket = f.socket; named = f.named; streams = f.streams; listening = tt; progress = f.progress }) i
   moves_fine es _ _ (Forgets h place r l c g e a) b i = renewed_fine es h place r l Accepting.Idle g e tt tt (λ x p. absurd (cc)) i
-  moves_fine es _ _ (Watches h o) b i = record { fine = i.fine; names = i.names; udp_names = i.udp_names; listens = i.listens; new = i.new; unmade = λ e c s is. i.unmade (inl o) c s is; joined = λ p e. absurd (cc); marked = λ handle p e. absurd (cc); streaming = λ n k e. absurd (cc) }
+  moves_fine es _ _ (Watches h o) b i = record { fine = i.fine; names = i.names; udp_names = i.udp_names; listens = i.listens; new = i.new; unmade = λ e c s is. i.unmade (inl o) c s is; joined = λ p e. absurd (cc); marked = λ handle p e. absurd (cc); making = tt }
   moves_fine es _ _ (Joins h c handle place r l new peer is of u g e a) b i =
       let idle = accepting_now r l Accepting.Idle in
       let records = tcp2_put h.machine.store.records place idle in
@@ -262,12 +264,12 @@ module _ (contexts : List WasiSocketsCtx) (steps : List Step) (line : ℕ) (orig
           listener = handle;
           by = is;
           side = λ q d. ap (λ (y : Tcp2Socket). y.side) (sym (seam records (joined l new peer) p q m d));
-          of_listener = is_side es h handle place of i r g l.side lf.side;
+          of_listener = is_side contexts steps line origin is_line es h handle place of i r g l.side lf.side;
           handed = handed;
           fresh = free;
         };
         marked = λ s p m. absurd (cc);
-        streaming = λ n k e. absurd (cc);
+        making = tt;
       }
   moves_fine es _ _ (Stands h ids call r at g k) b i = elsewhere es h _ refl refl refl i (state_stands contexts steps es h.machine (standing_as ids call) (λ o. OfTcp r g (i.names (call_place call) ids.line r at g), no_streams_stand r ids.line call k) i.fine) i.names i.udp_names
   moves_fine es _ _ (Resumes h s e o) b i = resumes contexts steps line origin is_line es h s e o i
@@ -281,13 +283,22 @@ module _ (contexts : List WasiSocketsCtx) (steps : List Step) (line : ℕ) (orig
   moves_fine es _ _ (RecallsStreams h ids place handle e) b i = recalls_streams contexts steps line origin is_line es h ids place handle e i
   moves_fine es _ _ (BeginsUdpConnect h place o a at g to bound u) b i = begins_udp_connect contexts steps line origin is_line es h place o a at g to bound i
   moves_fine es _ _ (StandsUdpConnect h ids place handle o op at m g e) b i =
-      elsewhere es h _ refl refl refl i (state_stands contexts steps es h.machine (standing_as ids (StandingCall.UdpConnect place handle)) (λ c. OfUdp (Udp2Socket.Open o) g (i.udp_names place ids.line (Udp2Socket.Open o) at g), i.streaming ids.line handle m) i.fine) i.names i.udp_names
+      elsewhere es h _ refl refl refl i (state_stands contexts steps es h.machine (standing_as ids (StandingCall.UdpConnect place handle)) (λ c. OfUdp (Udp2Socket.Open o) g (i.udp_names place ids.line (Udp2Socket.Open o) at g), streams_of es h ids.line handle m i) i.fine) i.names i.udp_names
   moves_fine es _ _ (StandsDropOutgoing h ids place o at g e) b i =
       elsewhere es h _ refl refl refl i (state_stands contexts steps es h.machine (standing_as ids (StandingCall.DropOutgoing place)) (λ c. OfUdp (Udp2Socket.Open o) g (i.udp_names place ids.line (Udp2Socket.Open o) at g), tt) i.fine) i.names i.udp_names
   moves_fine es _ _ (Counts h u) b i = owned es h (Own.Names 1) (λ e. absurd (cc)) i
   moves_fine es _ _ (SpendsNames h n u) b i = spent es h i
   moves_fine es _ _ (BeginsSend h place n o out d bound at g e is known u) b i = begins_send contexts steps line origin is_line es h place n o out d bound at g is known i
   moves_fine es _ _ (BeginsReceive h place n o inc bound at g e u) b i = begins_receive contexts steps line origin is_line es h place n o inc bound at g i
+  moves_fine es _ _ (CallsStreams h c) b i = calls_streams contexts steps line origin is_line es h c i
+  moves_fine es _ _ (RecallsStreamCall h ids call e) b i = recalls_call contexts steps line origin is_line es h ids call e i
+  moves_fine es _ _ (ReachesStream h n handle place handles m k e) b i = reaches_stream contexts steps line origin is_line es h n handle place handles m k e i
+  moves_fine es _ _ (StandsBlocking h ids call handles m k) b i = stands_blocking contexts steps line origin is_line es h ids call handles m k i
+  moves_fine es _ _ (CancelsBind h place r op q g e) b i =
+      let f = i.fine.records place r g in let now = with_progress r InProgress.Nothing in
+      put_fine es h place r now g refl (same_listening r.listening) (same_listen r now refl refl refl) (record { socket = f.socket; named = f.named; streams = f.streams; listening = f.listening; progress = tt }) i
+  moves_fine es _ _ (CancelsUdpBind h place o op q g e) b i = cancels_udp_bind contexts steps line origin is_line es h place o g i
+  moves_fine es _ _ (CancelsUdpConnect h place o q g) b i = cancels_udp_connect contexts steps line origin is_line es h place o g i
   moves_fine es _ _ (Finds h records s) b i = records_fine (λ op. ⊥) (λ op e. absurd e) es h records s i
   moves_fine es _ _ (Lists h jobs) b i = elsewhere es h _ refl refl refl i (state_jobs contexts steps es h.machine jobs i.fine) i.names i.udp_names
   moves_fine es _ _ (Takes h handle) b i = elsewhere es h _ refl refl refl i (state_taken contexts steps es h.machine handle i.fine) i.names i.udp_names

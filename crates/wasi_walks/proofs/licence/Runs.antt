@@ -18,16 +18,18 @@ use Rattle.wasi_walks.proofs.licence.Line.{ListenGoesOn, Licensed, put_fine}
 use Rattle.wasi_walks.proofs.walks.Steps.{may_while, machine_walks}
 use Rattle.wasi_walks.proofs.claims.Lines.{BaseBetween, first_base, base_starts, base_over}
 use Rattle.wasi_walks.proofs.walks.OnBase.{Above}
-use Rattle.wasi_walks.proofs.claims.Law.{Base, on_two, on_two_along}
+use Rattle.wasi_walks.proofs.claims.Law.{Base, begins_on_two, on_two, on_two_along}
 use Rattle.wasi_walks.proofs.remotes.State.{Keeps, first_keeps}
-use Rattle.wasi_walks.proofs.remotes.Law.{remotes}
+use Rattle.wasi_walks.proofs.remotes.Law.{begins_kept, remotes}
 use Rattle.wasi_walks.proofs.walks.Moves.{closed_record, Used, Here, put, OfSocket}
 use Rattle.wasi_walks.proofs.licence.Frames.{listening_gone}
-use Rattle.wasi_walks.proofs.walks.Law.{Law, Walks}
-use Rattle.wasi_walks.proofs.licence.Moves.{closed_fine, gone_maker, moves_fine}
+use Rattle.wasi_walks.proofs.walks.Law.{BeginsWrites, Law, Walks}
+use Rattle.wasi_walks.proofs.licence.Moves.{begins_write, closed_fine, gone_maker, moves_fine}
 use Rattle.wasi_walks.proofs.licence.Asked.{spares, asked_fine, on_side, names_on_side, not_held, question_local, question_may, learned_fine, kept}
 use Rattle.wasi_walks.proofs.licence.Marks.{marked_fine, accepted_fine, CreatedIsFine, new_fine, joins}
 use Rattle.wasi_walks.proofs.licence.UdpMarks.{stream_marked, udp_asked, udp_learned, udp_peered, udp_closed, udp_creates, udp_marked}
+use Rattle.wasi_walks.proofs.licence.ErrorMarks.{error_marked}
+use Rattle.wasi_walks.proofs.licence.UdpGoesOn.{udp_given_up}
 use Rattle.wasi_walks.proofs.licence.LookupAsks.{looked_up, looked_on}
 use Rattle.wasi_walks.proofs.licence.GoesOn.{taken_out, turned_fine, given_up, polls_fine}
 use Rattle.wasi_host.specs.Records.{tcp2_at}
@@ -69,6 +71,8 @@ module _ (contexts : List WasiSocketsCtx) (steps : List Step) (line : ℕ) (orig
     udp_creates = λ es h ctx family c may a o past b i. udp_creates contexts steps line origin is_line es h ctx family c may a past i;
     udp_marks = λ es h place u g b i. udp_marked contexts steps line origin is_line es h place u g i;
     stream_marks = λ es h place n handle kind m which e b i. stream_marked contexts steps line origin is_line es h place n handle kind m which e i;
+    error_marks = λ es h n handle place handles m k e f b i. error_marked contexts steps line origin is_line es h n handle place handles m k e f i;
+    udp_gives_up = λ es h place create q g b i. udp_given_up contexts steps line origin is_line es h place create g i;
     lookups = λ es h host l b i. (let a = looked_up contexts steps line origin is_line es h host l i in (a.0, λ told fits. a.1 told));
     looks = λ es h place op g b i. (let a = looked_on contexts steps line origin is_line es h place op g i in (a.0, λ told fits. a.1 told));
   }
@@ -76,6 +80,13 @@ module _ (contexts : List WasiSocketsCtx) (steps : List Step) (line : ℕ) (orig
   pub licence : Law contexts line origin
   unfolding remotes
   licence = on_two contexts line origin (remotes contexts line origin) licences
+
+  -- and so is each write that begins in a call of streams
+  pub begins_licence : BeginsWrites licence
+  unfolding licence licences remotes
+  begins_licence =
+      begins_on_two contexts line origin (remotes contexts line origin) licences (begins_kept contexts line origin)
+      (record { begins = λ es h place n r s half permit bytes at g e w within b i. begins_write contexts steps line origin is_line es h place n r s half permit bytes at g e w i })
 
   -- what it says of a tree
   pub licence_along : {A : Type 0} {h : Here} {end : A → Here} {asks : Asks A} → Walks licence h end asks → (es : List Entry) → Base contexts line origin h → Keeps es h.machine.store.records → Licensed contexts steps line origin es h
@@ -119,7 +130,7 @@ module _ (contexts : List WasiSocketsCtx) where
       let o = may_while m s m.store.standing in
       allows_weaker (MayAsk contexts steps) _ (λ fs done. Fine contexts steps (line + 1) fs done.1)
       (λ fs done k. record { base = base_over contexts line s done.1 k.0.0; keeps = k.0.1; fine = k.1.fine; listens = k.1.listens }) es (machine_asks contexts m line s)
-      (licence_along contexts steps line s l (machine_walks line s m m.store.standing refl) es
+      (licence_along contexts steps line s l (machine_walks line s (begins_licence contexts steps line s l) m m.store.standing refl) es
       (base_starts contexts line s m o i.base) i.keeps
       (record {
         fine = i.fine;
@@ -130,7 +141,7 @@ module _ (contexts : List WasiSocketsCtx) where
         unmade = λ u c t is. n.made (own_of line) refl;
         joined = λ p e. absurd (cc);
         marked = λ a p e. absurd (cc);
-        streaming = λ n k e. absurd (cc);
+        making = tt;
       }))
 
   -- and its reply hands out only what was received

@@ -6,9 +6,13 @@ use Rattle.wasi_walks.proofs.Words.{NamesSide, None, Nothing, NothingLast, OpId,
 use Rattle.wasi_walks.proofs.Words.{SocketAddressFamily, Some, Standing, Step, Streams, Tcp2Socket, TcpBind, TcpConnect, TcpState, Told, WasiSocketsCtx, Write}
 use Rattle.wasi_walks.proofs.Words.{WriteState, Yes, [], call_place, entry, kind_at, marks_in, own_of, side_of, true, wildcard, ℕ, ⊤, ◌++◌}
 use Rattle.wasi_walks.proofs.Words.{◌+◌, ◌∷◌, ◌≡◌}
-use Rattle.wasi_walks.proofs.walks.Moves.{record_of, udp_record_of, sending_in, receiving_in, IsOfHandle}
+use Rattle.wasi_walks.proofs.walks.Moves.{record_of, udp_record_of, sending_in, receiving_in, IsOfHandle, IsStreamCall}
 use Rattle.wasi_walks.proofs.licence.Lookups.{LookupsAreFine, NamesNone}
-use Rattle.wasi_walks.specs.Licence.{IsRemote, IsSendOf, IsStreamOf, IsUdpBindTo, IsUdpConnectTo, MakesTcp, MakesUdp, MaySendOut, WasDisconnected}
+use Rattle.wasi_host.specs.Blocking.{blocking_handles}
+use Rattle.wasi_host.specs.Kinds.{name_of}
+use Rattle.wasi_tcp.specs.declared.writer.WriteError.{WriteError}
+use Rattle.wasi_world.specs.Operation.{End, Refused}
+use Rattle.wasi_walks.specs.Licence.{handles_of, IsMarkedAs, WriteFailed, IsRemote, IsSendOf, IsStreamOf, IsUdpBindTo, IsUdpConnectTo, MakesTcp, MakesUdp, MaySendOut, WasDisconnected}
 use Rattle.std.specs.Prelude.{Bool, ◌⊎◌}
 use Rattle.wasi_world.specs.declared.datagram.OutgoingDatagram.{OutgoingDatagram}
 use Rattle.wasi_host.specs.declared.store.StandingCall.{StandingCall}
@@ -43,8 +47,14 @@ abbrev pub NamesUdpIf : List Entry → List Record → ℕ → Option ℕ → Ty
 NamesUdpIf es records handle (Some place) = NamesUdp es records handle place
 NamesUdpIf es records handle None = ⊤
 
+-- what the mark of a handle of this kind says of its network socket
+abbrev pub NamesItsOwn : List Entry → List Record → ℕ → Kind → Type 0
+NamesItsOwn es records handle kind = NamesIf es records handle (record_of (Some kind)) × NamesUdpIf es records handle (udp_record_of (Some kind)) × NamesNone es handle kind
+
+-- and its mark says which kind it is
 abbrev pub HandleIsFine : List Entry → List Record → ℕ → Kind → Type 0
-HandleIsFine es records handle kind = NamesIf es records handle (record_of (Some kind)) × NamesUdpIf es records handle (udp_record_of (Some kind)) × NamesNone es handle kind
+HandleIsFine es records handle kind =
+    NamesIf es records handle (record_of (Some kind)) × NamesUdpIf es records handle (udp_record_of (Some kind)) × NamesNone es handle kind × IsMarkedAs es handle (name_of kind)
 
 -- The socket knows the creator of its network socket, and the network socket's family.
 pub record KnowsMaker (es : List Entry) (socket : Socket) : Type 0 where
@@ -112,8 +122,17 @@ pub data WriteLeft : List Item → Type 0 where
   ToWrite : (rest : List ℕ) → WriteLeft (Write rest ∷ [])
   ToWriteAndShut : (rest : List ℕ) → WriteLeft (Write rest ∷ ShutdownSend ∷ [])
   ToShut : WriteLeft (ShutdownSend ∷ [])
-  ToRefuse : (c : ErrorCode) → WriteLeft (Last c Nothing ∷ [])
   Written : WriteLeft []
+
+-- one that ended with a code was told one
+abbrev pub EndTold : List Entry → OpId → End → Type 0
+EndTold es side (Refused c given) = WriteFailed es side
+EndTold es side _ = ⊤
+
+-- and so was the writer that keeps one
+abbrev pub ErrorTold : List Entry → OpId → WriteError → Type 0
+ErrorTold es side (WriteError.LastOperationFailed c) = WriteFailed es side
+ErrorTold es side WriteError.Closed = ⊤
 
 -- == an accept
 -- The operation's last `accept` on the listener reported this peer.
@@ -203,13 +222,14 @@ module _ (steps : List Step) where
     pub on : job.write.who.side ≡ side
     pub last : job.write.who.last ≡ ShutdownLast
     pub left : WriteLeft job.write.left
+    pub ended : EndTold es side job.end
 
   -- the half, while there is one, is of this network socket, and a write in progress may be polled
   abbrev pub WritesOn : List Entry → OpId → WriteState → Type 0
   WritesOn es side (WriteState.Ready half permit) = half.side ≡ side
   WritesOn es side (WriteState.Writing job) = JobIsFine es side job
   WritesOn es side (WriteState.Closing job) = JobIsFine es side job
-  WritesOn es side (WriteState.Closed e) = ⊤
+  WritesOn es side (WriteState.Closed e) = ErrorTold es side e
 
   -- The streams are of the socket's connection.
   pub record StreamsAreFine (es : List Entry) (socket : Socket) (streams : Streams) : Type 0 where
@@ -354,11 +374,16 @@ module _ (steps : List Step) where
   abbrev pub MakesStreams : ℕ → ℕ → Type 0
   MakesStreams line handle = BeganBy steps (own_of line) (IsStreamOf handle)
 
+  -- where calls of streams are done for this line on these handles, its step is such a call, and names them
+  abbrev pub MakesCalls : ℕ → List ℕ → Type 0
+  MakesCalls line handles = BeganBy steps (own_of line) (λ s. IsStreamCall s × (handles_of s ≡ handles))
+
   abbrev pub StreamsStand : ℕ → StandingCall → Type 0
   StreamsStand line (StandingCall.UdpConnect place handle) = MakesStreams line handle
+  StreamsStand line (StandingCall.Blocking call) = MakesCalls line (blocking_handles call)
   StreamsStand line _ = ⊤
 
-  -- a create that is pending names none
+  -- a create that is pending names none, and a call of streams is on handles
   abbrev pub StandingIsFine : List Entry → List Record → Standing → Type 0
   StandingIsFine es records s = (IsOfHandle s.call → LineNames es records s.ids.line (call_place s.call)) × StreamsStand s.ids.line s.call
 

@@ -1,18 +1,20 @@
 -- That the state fits the log, under one more entry, and where the state changes.
-use Rattle.wasi_walks.proofs.Words.{Call, Entry, HandleKind, Kind, List, Machine, Made, None, OpId, Option, Socket, Some, Standing, Step, Tcp2Socket}
+use Rattle.wasi_walks.proofs.Words.{Call, Entry, Kind, List, Machine, Made, None, OpId, Option, Socket, Some, Standing, Step, Tcp2Socket}
 use Rattle.wasi_walks.proofs.Words.{Told, WasiSocketsCtx, [], arith, entry, inl, inr, marked_by, new_record, refl, subst, table_parent, with_handle}
 use Rattle.wasi_walks.proofs.Words.{with_record, with_socket, without_handle, ℕ, ◌++◌, ◌∷◌, ◌≡◌}
 use Rattle.wasi_streams.proofs.Tables.{value_without}
 use Rattle.wasi_host.specs.Records.{tcp2_at, tcp2_pushed, udp2_at, udp2_pushed}
+use Rattle.wasi_host.specs.Kinds.{name_of}
 use Rattle.wasi_host.specs.Udp.{udp_side}
+use Rattle.wasi_walks.specs.Licence.{IsMarkedAs}
 use Rattle.wasi_host.specs.UdpCalls.{with_udp}
 use Rattle.wasi_host.specs.declared.jobs.HostJob.{HostJob}
 use Rattle.wasi_host.specs.declared.records.Record.TheVariants.{Tcp2, Udp2}
 use Rattle.wasi_host.specs.declared.udp.Udp2Socket.{Udp2Socket}
-use Rattle.wasi_walks.proofs.Lists.{marks_in-push, get_split, get_set, value_split}
+use Rattle.wasi_walks.proofs.Lists.{has_last, marks_in-push, get_split, get_set, value_split}
 use Rattle.wasi_walks.proofs.UdpLists.{udp_get_set, udp_split, udp_of_put, udp_of_push, tcp_of_put, tcp_of_push}
 use Rattle.wasi_walks.proofs.licence.Lookups.{lookups_put, lookups_push}
-use Rattle.wasi_walks.proofs.licence.State.{HandleIsFine, ListeningStands, accept_name, SocketIsFine, RecordIsFine, UdpIsFine, StandingIsFine, StateIsFine}
+use Rattle.wasi_walks.proofs.licence.State.{HandleIsFine, NamesItsOwn, ListeningStands, accept_name, SocketIsFine, RecordIsFine, UdpIsFine, StandingIsFine, StateIsFine}
 use Rattle.wasi_walks.proofs.licence.Frames.{Spared, stands_more, KeepsListening, Only, stands_put, one_put, stands_push, one_push, stay, record_more}
 use Rattle.wasi_walks.proofs.licence.UdpFrames.{sides_put, sides_push, sides_put_udp, sides_push_udp, handle_more, handle_kept, standing_more, standing_kept, udp_more}
 
@@ -32,14 +34,18 @@ module _ (contexts : List WasiSocketsCtx) (steps : List Step) where
   }
 
   -- a mark, and the handle that it makes
-  pub state_made : (es : List Entry) (m : Machine) (op : OpId) (name : HandleKind) (parent : Option ℕ) (sock : Option OpId) (told : Told) (kind : Kind) → Spared m.store.records op (Made m.table.next name parent sock)
-      → HandleIsFine (es ++ entry op (Made m.table.next name parent sock) told ∷ []) m.store.records m.table.next kind
-      → StateIsFine contexts steps es m → StateIsFine contexts steps (es ++ entry op (Made m.table.next name parent sock) told ∷ []) (record m { table = with_handle m.table kind parent })
-  state_made es m op name parent sock told kind q f h = record {
-    count = let p = marks_in-push es (entry op (Made m.table.next name parent sock) told) in let k = h.count in omega arith;
+  pub state_made : (es : List Entry) (m : Machine) (op : OpId) (parent : Option ℕ) (sock : Option OpId) (told : Told) (kind : Kind) → Spared m.store.records op (Made m.table.next (name_of kind) parent sock)
+      → NamesItsOwn (es ++ entry op (Made m.table.next (name_of kind) parent sock) told ∷ []) m.store.records m.table.next kind
+      → StateIsFine contexts steps es m → StateIsFine contexts steps (es ++ entry op (Made m.table.next (name_of kind) parent sock) told ∷ []) (record m { table = with_handle m.table kind parent })
+  state_made es m op parent sock told kind q f h = record {
+    count = let p = marks_in-push es (entry op (Made m.table.next (name_of kind) parent sock) told) in let k = h.count in omega arith;
     handles = λ handle x e. elim (value_split m.table.live (record { handle = m.table.next; value = kind; parent = table_parent kind parent }) handle x e) [
       | inl g ↦ handle_more es _ m.store.records handle x (h.handles handle x g)
-      | inr g ↦ (let fs = es ++ entry op (Made m.table.next name parent sock) told ∷ [] in subst (HandleIsFine fs m.store.records handle) g.1 (subst (λ (n : ℕ). HandleIsFine fs m.store.records n kind) g.0 f))
+      | inr g ↦ (
+          let e = entry op (Made m.table.next (name_of kind) parent sock) told in
+          let fs = es ++ e ∷ [] in
+          let marked : IsMarkedAs fs m.table.next (name_of kind) = record { op = op; parent = parent; sock = sock; told = told; mark = has_last es e } in
+          subst (HandleIsFine fs m.store.records handle) g.1 (subst (λ (n : ℕ). HandleIsFine fs m.store.records n kind) g.0 (f.0, f.1, f.2, marked)))
     ];
     records = λ place r e. record_more (stay steps) es _ r (h.records place r e);
     udp = λ place u e. udp_more (stay steps) es _ u (h.udp place u e);

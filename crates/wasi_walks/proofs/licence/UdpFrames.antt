@@ -9,8 +9,9 @@ use Rattle.wasi_walks.proofs.licence.Lookups.{NamesNone}
 use Rattle.wasi_walks.proofs.licence.State.{NamesIf, NamesUdp, NamesUdpIf, HandleIsFine, UdpBindLeft, UdpUnchecked, UdpChecked, UdpOver, Names, UdpMade, UdpBindIsFine, UdpProgressIsFine, UdpIsFine, LineNames, OfTcp, OfUdp, IfOp, StreamsStand, StandingIsFine}
 use Rattle.wasi_walks.proofs.licence.DatagramFrames.{free_more, udp_connect_more, send_more, receive_more}
 use Rattle.wasi_host.specs.declared.store.StandingCall.{StandingCall}
-use Rattle.wasi_walks.proofs.licence.Frames.{Goes, began_more, marked_more, names_on, works_more, IsMadeWith, made_put, names_record_more}
+use Rattle.wasi_walks.proofs.licence.Frames.{Goes, began_more, marked_as_more, marked_more, names_on, works_more, IsMadeWith, made_put, names_record_more}
 use Rattle.wasi_host.specs.Records.{tcp2_at, tcp2_put, tcp2_pushed, udp2_at, udp2_put, udp2_pushed}
+use Rattle.wasi_host.specs.Kinds.{name_of}
 use Rattle.wasi_host.specs.Udp.{udp_side}
 use Rattle.wasi_host.specs.declared.records.Record.{Record}
 use Rattle.wasi_host.specs.declared.udp.Udp2Socket.{Udp2Socket}
@@ -79,11 +80,14 @@ udp_if_more es fs records handle None h = tt
 
 none_more : (es fs : List Entry) (handle : ℕ) (kind : Kind) → NamesNone es handle kind → NamesNone (es ++ fs) handle kind
 none_more es fs handle (Kind.Lookup place) h = marked_more es fs handle None h
+none_more es fs handle (Kind.PlainInput plain) h = marked_more es fs handle None h
+none_more es fs handle (Kind.PlainOutput plain) h = marked_more es fs handle None h
 none_more es fs handle (Pollable (Watched.Lookup place)) h = marked_more es fs handle None h
+none_more es fs handle (Pollable Watched.Plain) h = marked_more es fs handle None h
 none_more es fs handle _ h = tt
 
 pub handle_more : (es fs : List Entry) (records : List Record) (handle : ℕ) (kind : Kind) → HandleIsFine es records handle kind → HandleIsFine (es ++ fs) records handle kind
-handle_more es fs records handle kind h = (tcp_more es fs records handle (record_of (Some kind)) h.0, udp_if_more es fs records handle (udp_record_of (Some kind)) h.1, none_more es fs handle kind h.2)
+handle_more es fs records handle kind h = (tcp_more es fs records handle (record_of (Some kind)) h.0, udp_if_more es fs records handle (udp_record_of (Some kind)) h.1, none_more es fs handle kind h.2, marked_as_more es fs handle (name_of kind) h.3)
 
 module _ (es : List Entry) (old now : List Record) (k : KeepsSides old now) where
   tcp_kept : (handle : ℕ) (o : Option ℕ) → NamesIf es old handle o → NamesIf es now handle o
@@ -95,7 +99,7 @@ module _ (es : List Entry) (old now : List Record) (k : KeepsSides old now) wher
   udp_kept handle None h = tt
 
   pub handle_kept : (handle : ℕ) (kind : Kind) → HandleIsFine es old handle kind → HandleIsFine es now handle kind
-  handle_kept handle kind h = (tcp_kept handle (record_of (Some kind)) h.0, udp_kept handle (udp_record_of (Some kind)) h.1, h.2)
+  handle_kept handle kind h = (tcp_kept handle (record_of (Some kind)) h.0, udp_kept handle (udp_record_of (Some kind)) h.1, h.2, h.3)
 
 -- == the pending call
 module _ {steps : List Step} (es : List Entry) (old now : List Record) (k : KeepsSides old now) where
@@ -113,6 +117,7 @@ module _ {steps now : List Step} (goes : Goes steps now) where
 
   streams_more : (line : ℕ) (call : StandingCall) → StreamsStand steps line call → StreamsStand now line call
   streams_more line (StandingCall.UdpConnect place handle) h = began_more goes (own_of line) _ h
+  streams_more line (StandingCall.Blocking call) h = began_more goes (own_of line) _ h
   streams_more line _ h = tt
 
   pub standing_more : (es fs : List Entry) (records : List Record) (s : Standing) → StandingIsFine steps es records s → StandingIsFine now (es ++ fs) records s

@@ -19,7 +19,8 @@ use Rattle.wasi_udp.specs.Send.{at_remote}
 use Rattle.wasi_udp.specs.Receive.{wanting}
 use Rattle.wasi_udp.specs.Shape.{Socket}
 use Rattle.wasi_world.specs.Operation.{Given}
-use Rattle.std.specs.Prelude.{◌⊎◌, true}
+use Rattle.std.specs.Prelude.{◌⊎◌, ⊤, Bool, true, false, if◌then◌else◌}
+use Rattle.wasi_walks.proofs.Words.{Give, ask_close, bind}
 use Rattle.wasi_walks.proofs.licence.Line.{Licensed, put_udp_fine}
 use Rattle.wasi_walks.proofs.licence.Asked.{asked_fine, kept, spares}
 use Rattle.wasi_walks.proofs.licence.UdpAsks.{AsksAgain, fine_poll_create, fine_poll_udp_bind}
@@ -28,7 +29,8 @@ use Rattle.wasi_host.specs.Udp.{udp_bind_progress, udp_create_left, udp_side, wi
 use Rattle.wasi_host.specs.declared.udp.OpenUdp.{OpenUdp}
 use Rattle.wasi_host.specs.declared.udp.Udp2Socket.{Udp2Socket}
 use Rattle.wasi_host.specs.declared.udp.UdpInProgress.{UdpInProgress}
-use Rattle.wasi_udp.specs.Create.{Create}
+use Rattle.wasi_common.specs.Rounds.{is_going}
+use Rattle.wasi_udp.specs.Create.{Create, create_cancel_asks}
 
 module _ (contexts : List WasiSocketsCtx) (steps : List Step) (line : ℕ) (origin : Step) (is_line : step_at steps line ≡ Some origin) where
   -- == a create
@@ -49,6 +51,20 @@ module _ (contexts : List WasiSocketsCtx) (steps : List Step) (line : ℕ) (orig
       allows_weaker (MayAsk contexts steps) (λ fs ended. Licensed contexts steps line origin fs h × AsksAgain ended) (λ fs ended. Licensed contexts steps line origin fs (put_udp h place (udp_create_left create ended)))
       (λ fs ended k. put_udp_fine fs h place (Udp2Socket.Creating create) (udp_create_left create ended) g (left_side create ended) (created_after fs create ended (k.0.fine.udp place (Udp2Socket.Creating create) g) k.1) k.0) es (poll_asks create.operation)
       (kept contexts steps line origin is_line h (λ fs ended. AsksAgain ended) es (poll_asks create.operation) i (fine_poll_create contexts steps create.operation es f.own f.last f.left))
+
+  -- one that is given up
+  gives_up : (es : List Entry) (create : Create) (going : Bool) → Allows (MayQuietly contexts steps) (λ fs done. ⊤) es (if going then ask_close create.operation.who.id create.operation.who.side else Give tt)
+  unfolding bind
+  gives_up es create true = (((tt, tt), tt), λ t fits. tt)
+  gives_up es create false = tt
+
+  pub udp_given_up : (es : List Entry) (h : Here) (place : ℕ) (create : Create) → FoundUdp h place (Udp2Socket.Creating create) → Licensed contexts steps line origin es h
+      → Allows (MayAsk contexts steps) (λ fs done. Licensed contexts steps line origin fs (put_udp h place (Udp2Socket.Closed create.operation.who.side))) es (create_cancel_asks create)
+  udp_given_up es h place create g i =
+      allows_weaker (MayAsk contexts steps) (λ fs done. Licensed contexts steps line origin fs h × ⊤) (λ fs done. Licensed contexts steps line origin fs (put_udp h place (Udp2Socket.Closed create.operation.who.side)))
+      (λ fs done k. let f : CreateIsFine steps fs create = k.0.fine.udp place (Udp2Socket.Creating create) g in
+      put_udp_fine fs h place (Udp2Socket.Creating create) (Udp2Socket.Closed create.operation.who.side) g refl (record { maker = create.operation.who.context; family = create.family; made = f.made }) k.0) es (create_cancel_asks create)
+      (kept contexts steps line origin is_line h (λ fs done. ⊤) es (create_cancel_asks create) i (gives_up es create (is_going create.operation)))
 
   -- == a bind
   bound_after : (fs : List Entry) (op : Operation) (ended : End × List Item) → UdpBindIsFine steps fs (left_of op ended.1) → UdpProgressIsFine steps fs (udp_bind_progress op ended)

@@ -8,11 +8,11 @@ use Rattle.wasi_walks.proofs.walks.Moves.{Here, put_udp, FoundUdp, CreatesUdp, u
 use Rattle.wasi_walks.proofs.Lists.{has_front, has_last, has_split}
 use Rattle.wasi_walks.proofs.UdpLists.{tcp_of_push}
 use Rattle.wasi_walks.specs.Licence.{MakesTcp, MakesUdp}
-use Rattle.wasi_walks.proofs.licence.State.{HandleIsFine, MakesStreams, Names, NamesUdp, UdpMade, UdpIsFine, OpenIsFine}
+use Rattle.wasi_walks.proofs.licence.State.{NamesItsOwn, MakesStreams, Names, NamesUdp, UdpMade, UdpIsFine, OpenIsFine}
 use Rattle.wasi_walks.proofs.licence.Frames.{NoMark, handed_unless, stay, names_on}
 use Rattle.wasi_walks.proofs.licence.States.{state_made, state_joined_udp}
 use Rattle.wasi_walks.proofs.licence.Fresh.{NoMadeBy}
-use Rattle.wasi_walks.proofs.licence.Line.{Licensed, names_udp, elsewhere, put_udp_fine, spent}
+use Rattle.wasi_walks.proofs.licence.Line.{Licensed, MakingStands, names_udp, elsewhere, put_udp_fine, spent}
 use Rattle.wasi_walks.proofs.licence.Asked.{Spares, spares, asked_fine, listens_on, joined_on, own_line}
 use Rattle.wasi_walks.proofs.licence.Marks.{socket_touch, unmarked_made}
 use Rattle.wasi_walks.proofs.licence.UdpMoves.{names_part, open_at_place}
@@ -153,7 +153,7 @@ module _ (contexts : List WasiSocketsCtx) (steps : List Step) (line : ℕ) (orig
         unmade = λ e d s is. absurd (creates_only ctx family c d s is);
         joined = λ p e. absurd (not_joined p (sym past ∙ e));
         marked = λ a p e q d. absurd (not_marked a p (sym past ∙ e));
-        streaming = λ n k e. absurd (let p : Past ≡ ToStream n k = sym past ∙ e in cc);
+        making = subst (MakingStands steps) (sym past) tt;
       }
     where
       no_place : (p n : ℕ) → (let x : Option (ℕ × ℕ) = Some (p, n) in None ≡ x) → ⊥
@@ -211,8 +211,8 @@ module _ (contexts : List WasiSocketsCtx) (steps : List Step) (line : ℕ) (orig
   is_made es (Udp2Socket.Closed side) f = record { maker = f.maker; family = f.family; made = f.made }
 
   -- a mark by an operation that isn't the own one of an accept, of no TCP socket's handle
-  mark_fine : (es : List Entry) (h : Here) (op : OpId) (kind : Kind) (parent : Option ℕ) (sock : Option OpId) → BeganBy steps op (IsMarkOf es op (name_of kind) parent sock) → ((c s : ℕ) → origin ≡ Step.TcpAccept c s → op ≡ own_of line → ⊥) → (name_of kind ≡ name.Tcp2 → ⊥)
-      → ((t : Told) → HandleIsFine (es ++ entry op (Call.Made h.machine.table.next (name_of kind) parent sock) t ∷ []) h.machine.store.records h.machine.table.next kind) → Licensed contexts steps line origin es h
+  pub mark_fine : (es : List Entry) (h : Here) (op : OpId) (kind : Kind) (parent : Option ℕ) (sock : Option OpId) → BeganBy steps op (IsMarkOf es op (name_of kind) parent sock) → ((c s : ℕ) → origin ≡ Step.TcpAccept c s → op ≡ own_of line → ⊥) → (name_of kind ≡ name.Tcp2 → ⊥)
+      → ((t : Told) → NamesItsOwn (es ++ entry op (Call.Made h.machine.table.next (name_of kind) parent sock) t ∷ []) h.machine.store.records h.machine.table.next kind) → Licensed contexts steps line origin es h
       → Allows (MayAsk contexts steps) (λ fs made. Licensed contexts steps line origin fs (record h { machine = record h.machine { table = made.1 } })) es (make_asks h.machine.table op kind parent sock)
   unfolding bind
   mark_fine es h op kind parent sock may other none new i =
@@ -222,7 +222,7 @@ module _ (contexts : List WasiSocketsCtx) (steps : List Step) (line : ℕ) (orig
       (λ room. (
         (i.fine.count, may),
         λ told fits. record {
-          fine = state_made contexts steps es h.machine op (name_of kind) parent sock told kind (λ p q x d y t. none (socket_touch contexts steps line origin is_line op x h.machine.table.next (name_of kind) parent sock t)) (new told) i.fine;
+          fine = state_made contexts steps es h.machine op parent sock told kind (λ p q x d y t. none (socket_touch contexts steps line origin is_line op x h.machine.table.next (name_of kind) parent sock t)) (new told) i.fine;
           names = λ p k r a d s x. names_on (stay steps) es _ (own_of k) s (i.names p k r a d s x);
           udp_names = λ p k v a d. names_on (stay steps) es _ (own_of k) (udp_side v) (i.udp_names p k v a d);
           listens = listens_on contexts steps line origin is_line es h op c told (λ p q o d x y. absurd (cc)) i;
@@ -230,7 +230,7 @@ module _ (contexts : List WasiSocketsCtx) (steps : List Step) (line : ℕ) (orig
           unmade = λ d a s is. unmade_more es op (own_of line) c told (other a s is) (i.unmade d a s is);
           joined = λ p d. (let j = i.joined p d in let k = joined_on contexts steps line origin is_line es h (entry op c told) p j (unmarked told j.new j.fresh) in record { new = k.new; on = k.on; peer = k.peer; context = k.context; listener = k.listener; by = k.by; side = k.side; of_listener = k.of_listener; handed = k.handed; fresh = k.fresh });
           marked = λ handle p d r a. (let k = i.marked handle p d r a in record { above = k.above; told = k.told; mark = has_front es _ _ k.mark });
-          streaming = i.streaming;
+          making = i.making;
         },
       ))
 
@@ -254,9 +254,9 @@ module _ (contexts : List WasiSocketsCtx) (steps : List Step) (line : ℕ) (orig
   no_tcp kind place (inl e) p = absurd (let q : name.Incoming ≡ name.Tcp2 = sym (ap name_of e) ∙ p in cc)
   no_tcp kind place (inr e) p = absurd (let q : name.Outgoing ≡ name.Tcp2 = sym (ap name_of e) ∙ p in cc)
 
-  stream_handle : (fs : List Entry) (records : List Record) (handle place : ℕ) (kind : Kind) → OneStream kind place → NamesUdp fs records handle place → HandleIsFine fs records handle kind
-  stream_handle fs records handle place kind (inl e) n = subst (HandleIsFine fs records handle) (sym e) (tt, n, tt)
-  stream_handle fs records handle place kind (inr e) n = subst (HandleIsFine fs records handle) (sym e) (tt, n, tt)
+  stream_handle : (fs : List Entry) (records : List Record) (handle place : ℕ) (kind : Kind) → OneStream kind place → NamesUdp fs records handle place → NamesItsOwn fs records handle kind
+  stream_handle fs records handle place kind (inl e) n = subst (NamesItsOwn fs records handle) (sym e) (tt, n, tt)
+  stream_handle fs records handle place kind (inr e) n = subst (NamesItsOwn fs records handle) (sym e) (tt, n, tt)
 
   stream_mark : (es : List Entry) (op : OpId) (handle : ℕ) (kind : HandleKind) (sock : Option OpId) → (kind ≡ name.Incoming) ⊎ (kind ≡ name.Outgoing) → IsMarkedWith es handle sock → (s : Step) → IsStreamOf handle s → IsMarkOf es op kind (Some handle) sock s
   stream_mark es op handle kind sock which w (Step.UdpStream c socket remote) e = (which, (ap (λ (n : ℕ). Some n) (sym e), subst (λ (n : ℕ). IsMarkedWith es n sock) (sym e) w))
@@ -272,7 +272,7 @@ module _ (contexts : List WasiSocketsCtx) (steps : List Step) (line : ℕ) (orig
       → Allows (MayAsk contexts steps) (λ fs made. Licensed contexts steps line origin fs (record h { machine = record h.machine { table = made.1 } })) es (make_asks h.machine.table (own_of n) kind (Some handle) (udp_side_at (udp2_at h.machine.store.records place)))
   stream_marked es h place n handle kind m which e i =
       let sock = udp_side_at (udp2_at h.machine.store.records place) in
-      let b = i.streaming n handle m in
+      let b : MakesStreams steps n handle = subst (MakingStands steps) m i.making in
       let k = names_udp es h.machine.store.records handle place (kind_at h.machine.table handle) (of_udp (kind_at h.machine.table handle) place e) (i.fine.handles handle) in
       let w : IsMarkedWith es handle sock = subst (IsMarkedWith es handle) (sym (ap udp_side_at k.at)) k.marked in
       mark_fine es h (own_of n) kind (Some handle) sock (record { origin = b.origin; at = b.at; holds = stream_mark es (own_of n) handle (name_of kind) sock (stream_name kind place which) w b.origin b.holds }) (no_stream n handle b) (no_tcp kind place which)

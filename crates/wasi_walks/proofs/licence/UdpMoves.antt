@@ -3,11 +3,11 @@ use Rattle.wasi_walks.proofs.Words.{Entry, Has, IpSocketAddress, IsMarkedWith, L
 use Rattle.wasi_walks.proofs.Words.{call_place, handles_of, inl, inr, kind_at, own_of, refl, slice_get, step_at, subst, sym, ℕ, ◌∙◌, ◌≡◌, ◌⊎◌}
 use Rattle.wasi_walks.specs.Licence.{IsBoundSide, IsSendOf, IsStreamOf, IsUdpBindTo, IsUdpConnectTo, UdpCreated, WasDisconnected}
 use Rattle.wasi_walks.proofs.walks.Moves.{Own, ToStream, part_of, begun_udp_connect, sending_now, receiving_now, sending_in, receiving_in, Here, put_udp, FoundUdp, record_of, udp_record_of, UdpPlain, IsUdpSettled, begun_udp_bind, Used, IsOfHandle}
-use Rattle.wasi_walks.proofs.licence.State.{Names, UdpUnchecked, UdpBindIsFine, UdpProgressIsFine, OpenIsFine, LineNames, OfTcp, OfUdp, IfOp, MakesStreams, ConnectWhole, UdpConnectIsFine, IsFor, SendLeft, SendRefused, SendUnbound, SendUnchecked, SendIsFine, ReceiveIsFine}
+use Rattle.wasi_walks.proofs.licence.State.{Names, UdpUnchecked, UdpBindIsFine, UdpProgressIsFine, OpenIsFine, LineNames, OfTcp, OfUdp, IfOp, ConnectWhole, UdpConnectIsFine, IsFor, SendLeft, SendRefused, SendUnbound, SendUnchecked, SendIsFine, ReceiveIsFine}
 use Rattle.wasi_walks.proofs.licence.Frames.{same_record}
 use Rattle.wasi_walks.proofs.fits.UdpFits.{kept_op}
 use Rattle.wasi_walks.proofs.licence.UdpFrames.{same_udp}
-use Rattle.wasi_walks.proofs.licence.Line.{names_record, names_udp, pair_first, pair_second, NamesMade, NamesTcpHere, NamesUdpHere, Licensed, put_udp_fine, owned, spent, elsewhere}
+use Rattle.wasi_walks.proofs.licence.Line.{names_record, names_udp, pair_first, pair_second, NamesMade, NamesTcpHere, NamesUdpHere, Licensed, put_udp_fine, owned, remade, spent, elsewhere}
 use Rattle.wasi_addr.specs.declared.code.ErrorCode.TheVariants.{DatagramTooLarge, InvalidArgument, InvalidState}
 use Rattle.wasi_udp.specs.declared.send.Destination.{Destination}
 use Rattle.wasi_host.specs.declared.datagrams.Incoming.{Incoming as IncomingStream}
@@ -75,10 +75,10 @@ module _ (contexts : List WasiSocketsCtx) (steps : List Step) (line : ℕ) (orig
       record { origin = origin; at = is_line; holds = record { handle = handle; named = named; is = record { op = w.op; kind = w.kind; parent = w.parent; told = w.told; mark = w.mark } } }
 
   -- a handle of a TCP socket is of no UDP socket, and the other way round
-  pub tcp_alone : (es : List Entry) (h : Here) (handle place : ℕ) → record_of (kind_at h.machine.table handle) ≡ Some place → Licensed contexts steps line origin es h → NamesUdpHere steps es (record h { at = Some (place, line) })
-  tcp_alone es h handle place e i k n u a g =
+  pub tcp_alone : (es : List Entry) (h : Here) (by handle place : ℕ) → record_of (kind_at h.machine.table handle) ≡ Some place → Licensed contexts steps line origin es h → NamesUdpHere steps es (record h { at = Some (place, by) })
+  tcp_alone es h by handle place e i k n u a g =
       let x = names_record es h.machine.store.records handle place (kind_at h.machine.table handle) e (i.fine.handles handle) in
-      absurd (not_both h.machine.store.records place x.found u x.at (ap (udp2_at h.machine.store.records) (pair_first place line k n a) ∙ g))
+      absurd (not_both h.machine.store.records place x.found u x.at (ap (udp2_at h.machine.store.records) (pair_first place by k n a) ∙ g))
 
   pub reaches_udp : (es : List Entry) (h : Here) (handle place : ℕ) → Has (handles_of origin) handle → udp_record_of (kind_at h.machine.table handle) ≡ Some place → Licensed contexts steps line origin es h → Licensed contexts steps line origin es (record h { at = Some (place, line) })
   reaches_udp es h handle place named e i = elsewhere es h (record h { at = Some (place, line) }) refl refl refl i i.fine tcp udp
@@ -144,28 +144,11 @@ module _ (contexts : List WasiSocketsCtx) (steps : List Step) (line : ℕ) (orig
       spent es _ (put_udp_fine es h place (Udp2Socket.Open o) (Udp2Socket.Open now) g refl (record { made = f.made; bound = f.bound; progress = begun; connecting = f.connecting; sending = f.sending; receiving = f.receiving }) i)
 
   -- == datagram streams
-  same_streams : (a b : ℕ) → MakesStreams steps a b → (n k : ℕ) → ToStream a b ≡ ToStream n k → MakesStreams steps n k
-  same_streams a b m n k e = let p : a ≡ n = cc in let q : b ≡ k = cc in subst (λ (x : ℕ). MakesStreams steps x k) p (subst (MakesStreams steps a) q m)
-
-  -- streams are made by the line of this number, under this handle
-  streams_to : (es : List Entry) (h : Here) (n handle : ℕ) → MakesStreams steps n handle → Licensed contexts steps line origin es h → Licensed contexts steps line origin es (record h { made = ToStream n handle })
-  streams_to es h n handle m i = record {
-    fine = i.fine;
-    names = i.names;
-    udp_names = i.udp_names;
-    listens = i.listens;
-    new = i.new;
-    unmade = λ e c s is. i.unmade (elim e [ inl u ↦ inl u | inr u ↦ absurd u ]) c s is;
-    joined = λ p e. absurd (cc);
-    marked = λ a p e. absurd (cc);
-    streaming = same_streams n handle m;
-  }
-
   pub remembers_streams : (es : List Entry) (h : Here) (c handle : ℕ) (remote : Option IpSocketAddress) → origin ≡ Step.UdpStream c handle remote → Licensed contexts steps line origin es h → Licensed contexts steps line origin es (record h { made = ToStream line handle })
-  remembers_streams es h c handle remote is i = streams_to es h line handle (record { origin = origin; at = is_line; holds = subst (IsStreamOf handle) (sym is) refl }) i
+  remembers_streams es h c handle remote is i = remade es h (ToStream line handle) tt (record { origin = origin; at = is_line; holds = subst (IsStreamOf handle) (sym is) refl }) i
 
   pub recalls_streams : (es : List Entry) (h : Here) (ids : Ids) (place handle : ℕ) → h.machine.store.standing ≡ Some (standing_as ids (StandingCall.UdpConnect place handle)) → Licensed contexts steps line origin es h → Licensed contexts steps line origin es (record h { made = ToStream ids.line handle })
-  recalls_streams es h ids place handle e i = streams_to es h ids.line handle (i.fine.standing (standing_as ids (StandingCall.UdpConnect place handle)) e).1 i
+  recalls_streams es h ids place handle e i = remade es h (ToStream ids.line handle) tt (i.fine.standing (standing_as ids (StandingCall.UdpConnect place handle)) e).1 i
 
   -- an operation of the line names a handle of the network socket
   pub names_part : (es : List Entry) (n : ℕ) (side : OpId) → Names steps es (own_of line) side → Names steps es (part_of line n) side
@@ -230,3 +213,14 @@ module _ (contexts : List WasiSocketsCtx) (steps : List Step) (line : ℕ) (orig
         left = received_first bound;
       } in
       owned es _ (Own.Names (n + 1)) (λ e. absurd (cc)) (put_udp_fine es h place (Udp2Socket.Open o) (Udp2Socket.Open (receiving_now o inc op)) g refl (record { made = f.made; bound = f.bound; progress = f.progress; connecting = f.connecting; sending = f.sending; receiving = begun }) i)
+
+  -- == a pending call is given up
+  pub cancels_udp_bind : (es : List Entry) (h : Here) (place : ℕ) (o : OpenUdp) → FoundUdp h place (Udp2Socket.Open o) → Licensed contexts steps line origin es h → Licensed contexts steps line origin es (put_udp h place (Udp2Socket.Open (with_udp_progress o UdpInProgress.Nothing)))
+  cancels_udp_bind es h place o g i =
+      let f = open_at_place es h place o g i in
+      put_udp_fine es h place (Udp2Socket.Open o) (Udp2Socket.Open (with_udp_progress o UdpInProgress.Nothing)) g refl (record { made = f.made; bound = f.bound; progress = tt; connecting = f.connecting; sending = f.sending; receiving = f.receiving }) i
+
+  pub cancels_udp_connect : (es : List Entry) (h : Here) (place : ℕ) (o : OpenUdp) → FoundUdp h place (Udp2Socket.Open o) → Licensed contexts steps line origin es h → Licensed contexts steps line origin es (put_udp h place (Udp2Socket.Open (record o { connecting = None })))
+  cancels_udp_connect es h place o g i =
+      let f = open_at_place es h place o g i in
+      put_udp_fine es h place (Udp2Socket.Open o) (Udp2Socket.Open (record o { connecting = None })) g refl (record { made = f.made; bound = f.bound; progress = f.progress; connecting = tt; sending = f.sending; receiving = f.receiving }) i

@@ -1,10 +1,10 @@
 -- The law that what the incoming stream of a network socket holds was received from a place of the log on.
-use Rattle.wasi_walks.proofs.Words.{refl, Option, HoldsAccept, HoldsConnect, IsAcceptOn, Job, Handles, Kind, Streams, WriteState, allows_keep, arith, inl, inr, ⊤, ◌⊎◌, ◌≤◌, Allows, Asks, Call, Done, End, Entry, Err, ErrorCode, IsDoneOrCode, Item, List, Machine}
+use Rattle.wasi_walks.proofs.Words.{refl, Option, HoldsAccept, HoldsConnect, IsAcceptOn, Job, Handles, Kind, Streams, WriteState, allows_keep, arith, inl, inr, ⊤, ◌⊎◌, ◌≤◌, Allows, Asks, Call, Done, End, Entry, Err, ErrorCode, ErrorValue, IsDoneOrCode, Item, List, Machine}
 use Rattle.wasi_walks.proofs.Words.{None, Not, Ok, OpId, Operation, Refused, Result, Socket, SocketAddressFamily, Some, Step, Tcp2, Tcp2Socket, Told, Waits}
 use Rattle.wasi_walks.proofs.Words.{WasiSocketsCtx, [], allows_then, allows_weaker, ap, bind_progress, connect_ended, accept_ended, create_asks, created_asks, entry, give_up_asks, length, make_asks}
 use Rattle.wasi_walks.proofs.Words.{new_asks, new_record, own_of, poll_asks, side_of, subst, sym, told_addr, told_done, turn_asks}
 use Rattle.wasi_walks.proofs.Words.{with_inner, with_listening, with_progress, with_state, with_writer, Bool, true, false, ℕ, ◌++◌, ◌∙◌, ◌∷◌, ◌≡◌}
-use Rattle.wasi_udp.specs.Create.{Create, new_create, after_create as udp_after_create}
+use Rattle.wasi_udp.specs.Create.{Create, create_cancel_asks, new_create, after_create as udp_after_create}
 use Rattle.wasi_udp.specs.Connect.{with_given}
 use Rattle.wasi_udp.specs.Receive.{receive_first, receive_left as left_of_receive, wanting}
 use Rattle.wasi_udp.specs.Send.{at_remote}
@@ -19,21 +19,21 @@ use Rattle.wasi_host.specs.declared.records.Record.{Record}
 use Rattle.wasi_host.specs.declared.udp.OpenUdp.{OpenUdp}
 use Rattle.wasi_host.specs.declared.udp.Udp2Socket.{Udp2Socket}
 use Rattle.wasi_world.specs.Operation.{Given, Remote}
-use Rattle.wasi_walks.proofs.claims.Law.{Named, Base, on_two, on_two_along}
+use Rattle.wasi_walks.proofs.claims.Law.{begins_on_two, Named, Base, on_two, on_two_along}
 use Rattle.wasi_walks.proofs.fits.Polls.{Anything}
 use Rattle.wasi_walks.proofs.fits.Records.{FitProgress, FitListening, FitUdpProgress, FitConnecting, FitSending, UdpBindOn, UdpConnectOn, SendOn, FitReceiving, ReceiveOn}
 use Rattle.wasi_walks.proofs.fits.UdpFits.{learnt_side}
-use Rattle.wasi_walks.proofs.walks.Law.{Law, Walks}
+use Rattle.wasi_walks.proofs.walks.Law.{BeginsWrites, Law, Walks}
 use Rattle.wasi_walks.proofs.walks.OnBase.{Above}
 use Rattle.wasi_walks.proofs.walks.Moves as walk
 use Rattle.wasi_walks.proofs.walks.Moves.{IsQuestionOf, IsUdpQuestionOf, Found, send_op, sending_in, FoundUdp, Held, Here, Move, Used, accepting_now, closed_record, joined, listen_after, opened_by, part_of, receive_op, receiving_in, udp_begun}
-use Rattle.wasi_walks.proofs.remotes.Law.{remotes}
+use Rattle.wasi_walks.proofs.remotes.Law.{begins_kept, remotes}
 use Rattle.wasi_walks.proofs.remotes.State.{WritesBy, Keeps, OpenKeeps, ReceivesFor, maker_of}
 use Rattle.wasi_walks.proofs.order.Late.{NoRecvOf, OnlyOf, long_more, only_other, InHandLate, IncomingLate, ReceivingLate, poll_late}
 use Rattle.wasi_tcp.specs.Connect as connect
 use Rattle.wasi_tcp.specs.Listen.{IsListen}
 use Rattle.wasi_walks.proofs.order.Polls.{AreSilent, Elsewhere, silent_poll}
-use Rattle.wasi_walks.proofs.order.Silent.{IsApart, accept_silent, bind_silent, connect_silent, given_up_silent, listen_silent, made_silent, new_silent, send_silent, turn_silent, udp_bind_silent, udp_connect_silent}
+use Rattle.wasi_walks.proofs.order.Silent.{IsApart, accept_silent, bind_silent, cancelled_silent, connect_silent, given_up_silent, listen_silent, made_silent, new_silent, send_silent, turn_silent, udp_bind_silent, udp_connect_silent}
 use Rattle.wasi_walks.proofs.order.State.{IsHeld, Late, OneEach, UdpLate, late_along, one_late, plain_late, put_later, push_tcp, push_udps, put_tcp, put_udps, same_late, same_or_not}
 
 -- a receive that begins has nothing in hand
@@ -156,7 +156,7 @@ module _ (side : OpId) (from : ℕ) where
     moves_late es _ _ (walk.Opens h place r c d g e k) i = put_tcp side from es _ place _ i
     moves_late es _ _ (walk.BeginsConnect h place r x a bound at g d to known idle own) i = put_tcp side from es _ place _ i
     moves_late es _ _ (walk.BeginsBind h place r x a at g d to idle own) i = put_tcp side from es _ place _ i
-    moves_late es _ _ (walk.BeginsWrite h place r s half permit bytes at g e w within own) i = put_tcp side from es _ place _ i
+    moves_late es _ _ (walk.BeginsWrite h place n r s half permit bytes at g e w within own) i = put_tcp side from es _ place _ i
     moves_late es _ _ (walk.BeginsListen h place r x at g d bound none to idle own) i = put_tcp side from es _ place _ i
     moves_late es _ _ (walk.BeginsAccept h place r l at g e a own) i = put_tcp side from es _ place _ i
     moves_late es _ _ (walk.Unlistens h place r op q g e c o) i = put_tcp side from es _ place _ i
@@ -167,6 +167,9 @@ module _ (side : OpId) (from : ℕ) where
     moves_late es _ _ (walk.BeginsUdpConnect h place o a at g to bound own) i = put_udps side from es _ place (Udp2Socket.Open _) (i.udps place (Udp2Socket.Open o) g) i
     moves_late es _ _ (walk.BeginsSend h place n o out d bound at g e is known own) i = put_udps side from es _ place (Udp2Socket.Open _) (i.udps place (Udp2Socket.Open o) g) i
     moves_late es _ _ (walk.BeginsReceive h place n o inc bound at g e own) i = put_udps side from es _ place (Udp2Socket.Open _) (λ q. begun_empty from es (part_of line n) side bound) i
+    moves_late es _ _ (walk.CancelsBind h place r op q g e) i = put_tcp side from es _ place _ i
+    moves_late es _ _ (walk.CancelsUdpBind h place o op q g e) i = put_udps side from es _ place (Udp2Socket.Open _) (i.udps place (Udp2Socket.Open o) g) i
+    moves_late es _ _ (walk.CancelsUdpConnect h place o q g) i = put_udps side from es _ place (Udp2Socket.Open _) (i.udps place (Udp2Socket.Open o) g) i
     moves_late es _ _ (walk.Finds h records s) i = same_late side from es h.machine.store.records records s i
     moves_late es _ _ _ i = i
 
@@ -216,6 +219,8 @@ module _ (side : OpId) (from : ℕ) where
       udp_creates = λ es h ctx family c may a o m b i. (tt, λ told f. begun_late es h (own_of line) ctx.name family told f i);
       udp_marks = λ es h place u g b i. marks_late _ es h.machine.table (udp_side u) (Udp2 place) None (Some (udp_side u)) i;
       stream_marks = λ es h place n handle kind m k e b i. marks_late _ es h.machine.table (own_of n) kind (Some handle) _ i;
+      error_marks = λ es h n handle place handles m k e f b i. marks_late _ es h.machine.table (own_of n) ErrorValue (Some handle) _ i;
+      udp_gives_up = λ es h place create q g b i. allows_weaker Anything (λ fs done. It fs h.machine.store.records) (λ fs done. It fs (udp2_put h.machine.store.records place (Udp2Socket.Closed create.operation.who.side))) (λ fs done k. put_udps side from fs _ place (Udp2Socket.Closed create.operation.who.side) tt k) es (create_cancel_asks create) (along _ es (create_cancel_asks create) i (cancelled_silent side (IsHeld side h.machine.store.records) es create));
       lookups = λ es h host l b i. (tt, λ told f records s. same_late side from _ _ records s (one_late side from es (own_of line) (Call.Lookup host) told _ (λ y. tt) i));
       looks = λ es h place op g b i. (tt, λ told f. one_late side from es op.id (Call.Lookup op.host) told _ (λ y. tt) i);
     }
@@ -223,6 +228,11 @@ module _ (side : OpId) (from : ℕ) where
     pub later : Law contexts line origin
     unfolding remotes
     later = on_two contexts line origin (remotes contexts line origin) lates
+
+    -- a write that begins in a call of streams
+    pub begins_later : BeginsWrites later
+    unfolding later lates remotes
+    begins_later = begins_on_two contexts line origin (remotes contexts line origin) lates (begins_kept contexts line origin) (record { begins = λ es h place n r s half permit bytes at g e w within b i. put_tcp side from es _ place _ i })
 
     -- what it says of a tree
     pub later_along : {A : Type 0} {h : Here} {end : A → Here} {asks : Asks A} → Walks later h end asks → (es : List Entry) → Base contexts line origin h → Keeps es h.machine.store.records → It es h.machine.store.records

@@ -32,7 +32,7 @@ use Rattle.wasi_walks.proofs.walks.Udp.{open_is}
 use Rattle.wasi_walks.proofs.order.Late.{OnlyOf, only_other, IncomingLate}
 use Rattle.wasi_walks.proofs.order.State.{OneEach, one_late, put_later, Late, put_udps, same_or_not}
 use Rattle.wasi_walks.proofs.order.Handed.{GivesUpto, Leaves, receives}
-use Rattle.wasi_walks.proofs.order.Law.{later_along}
+use Rattle.wasi_walks.proofs.order.Law.{begins_later, later_along}
 
 one_each : (line : ℕ) (m : Machine) → BaseBetween line m → OneEach m.store.records
 one_each line m b i k o p e f s = b.named.udps.one p.inner.side i k (Udp2Socket.Open o) (Udp2Socket.Open p) e f s refl
@@ -116,7 +116,7 @@ module _ (side : OpId) (from : ℕ) where
   line_later : (contexts : List WasiSocketsCtx) (line : ℕ) (s : Step) (m : Machine) (es : List Entry) → BaseBetween line m → Keeps es m.store.records → Late side from es m.store.records → Allows Anything (λ fs done. Late side from fs done.1.store.records) es (machine_asks contexts m line s)
   line_later contexts line s m es b k late =
       allows_weaker Anything _ (λ fs done. Late side from fs done.1.store.records) (λ fs done x. x.1) es (machine_asks contexts m line s)
-      (later_along side from contexts line s (machine_walks line s m m.store.standing refl) es (base_starts contexts line s m (may_while m s m.store.standing) b) k late)
+      (later_along side from contexts line s (machine_walks line s (begins_later side from contexts line s) m m.store.standing refl) es (base_starts contexts line s m (may_while m s m.store.standing) b) k late)
 
   -- the reply to a step
   pub step_takes : (contexts : List WasiSocketsCtx) (steps : List Step) (line : ℕ) (s : Step) (m : Machine) (es : List Entry) → StateIsFine contexts steps es m → BaseBetween line m → Keeps es m.store.records → Late side from es m.store.records → Allows Anything (λ fs done. Takes fs s done) es (machine_asks contexts m line s)

@@ -6,6 +6,8 @@ use Rattle.wasi_tcp.specs.Accept as accept
 use Rattle.wasi_tcp.specs.Connect as connect
 use Rattle.wasi_tcp.specs.Listen as listen
 use Rattle.wasi_udp.specs.Bind as udp_bind
+use Rattle.wasi_common.specs.Rounds.{is_going}
+use Rattle.wasi_udp.specs.Create.{Create, create_cancel_asks}
 use Rattle.wasi_udp.specs.Send as send
 use Rattle.wasi_world.specs.Operation as item
 use Rattle.wasi_walks.specs.Waiting as binding
@@ -81,6 +83,11 @@ module _ (side : OpId) (Held : Type 0) where
   pub new_silent : (es : List Entry) (own : OpId) (ctx : WasiSocketsCtx) (family : SocketAddressFamily) → Allows (Elsewhere side Held) (λ fs made. ⊤) es (new_asks own ctx family)
   unfolding bind
   new_silent es own ctx family = allows_if (Elsewhere side Held) (λ fs made. ⊤) es ctx.tcp _ _ (λ may. ((λ x. tt), λ told f. tt)) (λ other. tt)
+
+  -- a create that is given up
+  pub cancelled_silent : (es : List Entry) (create : Create) → Allows (Elsewhere side Held) (λ fs done. ⊤) es (create_cancel_asks create)
+  unfolding bind
+  cancelled_silent es create = allows_if (Elsewhere side Held) (λ fs done. ⊤) es (is_going create.operation) _ _ (λ going. ((λ x. tt), λ told f. tt)) (λ over. tt)
 
   -- what is released
   pub given_up_silent : (es : List Entry) (l : Listening) → Allows (Elsewhere side Held) (λ fs done. ⊤) es (give_up_asks l)

@@ -1,17 +1,18 @@
 -- The law that the remote address that an open UDP socket keeps is what the network reported last.
 use Rattle.wasi_walks.proofs.Words.{Accepting, Accepts, Allows, Begins, Bool, Call, Done, End, Entry, Err, ErrorCode, Give, Handles}
-use Rattle.wasi_walks.proofs.Words.{IpSocketAddress, IsDoneOrCode, Job, Kind, List, Listening, Machine, None, Not, Ok, OpId, Option}
-use Rattle.wasi_walks.proofs.Words.{ReadState, Refused, Result, Socket, SocketAddressFamily, Some, Step, Streams, Tcp2, Tcp2Socket, Told, Unclosed}
+use Rattle.wasi_walks.proofs.Words.{ErrorValue, IpSocketAddress, IsDoneOrCode, Job, Kind, List, Listening, Machine, None, Not, Ok, OpId, Option}
+use Rattle.wasi_walks.proofs.Words.{ReadState, Refused, Result, Socket, SocketAddressFamily, Some, Step, Streams, Tcp2, Tcp2Socket, TcpSendStream, Told, Unclosed}
 use Rattle.wasi_walks.proofs.Words.{Waits, WasiSocketsCtx, Who, WriteState, [], allows_if, allows_then, allows_weaker, ap, ask_close, bind}
 use Rattle.wasi_walks.proofs.Words.{closing_side, create_asks, created_asks, entry, false, give_up_asks, give_up_in, gone, if◌then◌else◌, in_hand}
 use Rattle.wasi_walks.proofs.Words.{inl, is_full, is_over, is_wildcard, job_asks, job_in, length, make_asks, new_asks, new_job, new_record}
 use Rattle.wasi_walks.proofs.Words.{own_of, poll_asks, refl, refuse_in, side_in, side_of, subst, told_addr, told_done, true, turn_asks}
 use Rattle.wasi_walks.proofs.Words.{with_listening, with_reader, with_writer, writer_side, writing_side, ℕ, ⊤, ◌++◌, ◌∙◌, ◌∷◌, ◌≡◌}
-use Rattle.wasi_udp.specs.Create.{new_create, after_create as udp_after_create}
+use Rattle.wasi_common.specs.Rounds.{is_going}
+use Rattle.wasi_udp.specs.Create.{Create, create_cancel_asks, new_create, after_create as udp_after_create}
 use Rattle.wasi_udp.specs.Receive.{receive_first, receive_left}
 use Rattle.wasi_udp.specs.Shape.{Socket as UdpSocket}
 use Rattle.wasi_udp.specs.Socket.{after_local as udp_after_local}
-use Rattle.wasi_host.specs.Records.{tcp2_put}
+use Rattle.wasi_host.specs.Records.{tcp2_put, udp2_put}
 use Rattle.wasi_host.specs.declared.kind.Kind.TheVariants.{Udp2}
 use Rattle.wasi_host.specs.Udp.{udp_side, with_udp_inner}
 use Rattle.wasi_host.specs.declared.records.Record.{Record}
@@ -21,6 +22,7 @@ use Rattle.wasi_walks.proofs.Lists.{has_last}
 use Rattle.wasi_walks.proofs.claims.Law.{Named, Base}
 use Rattle.wasi_walks.proofs.fits.Polls.{Anything}
 use Rattle.wasi_walks.proofs.fits.UdpFits.{kept_op}
+use Rattle.wasi_walks.proofs.walks.Begins.{BeginsAbove}
 use Rattle.wasi_walks.proofs.walks.OnBase.{Above}
 use Rattle.wasi_walks.proofs.walks.Moves as walk
 use Rattle.wasi_walks.proofs.walks.Moves.{closed_record, udp_begun, opened_by, part_of, Found, Here, IsOn, IsQuestionOf, IsUdpQuestionOf, Move, OfReader, OfSocket, OfWriter, UdpPlain, joined, receiving_in}
@@ -170,6 +172,19 @@ begun_empty : (es : List Entry) (own side : OpId) (bound : Bool) → InHand es o
 begun_empty es own side true = tt
 begun_empty es own side false = tt
 
+-- a write that begins is on the network socket, and asks for no remote address
+pub write_keeps : (es : List Entry) (h : Here) (place n : ℕ) (r : Tcp2Socket) (s : Streams) (half : TcpSendStream) (permit : ℕ) (bytes : List ℕ) → Found h place r → r.streams ≡ Some s → s.writer ≡ WriteState.Ready half permit → Keeps es h.machine.store.records
+    → Keeps es (tcp2_put h.machine.store.records place (with_writer r s (WriteState.Writing (new_job (own_of n) half.side bytes))))
+write_keeps es h place n r s half permit bytes g e w i =
+    let k = i.tcps place r g s e in
+    let made : r.side ≡ Some half.side = subst (WritesBy r.side) w k.1 in
+    put_tcp es _ place _ (with_these (with_writer r s (WriteState.Writing (new_job (own_of n) half.side bytes))) _ refl (k.0, (made, (tt, tt)))) i
+
+-- a create that is given up asks for no remote address
+pub cancelled_quiet : (es : List Entry) (create : Create) → Allows Unpeered (λ fs done. ⊤) es (create_cancel_asks create)
+unfolding bind
+cancelled_quiet es create = allows_if Unpeered (λ fs done. ⊤) es (is_going create.operation) _ _ (λ going. (tt, λ told f. tt)) (λ over. tt)
+
 module _ (contexts : List WasiSocketsCtx) (line : ℕ) (origin : Step) where
   -- each move keeps what is known of the records
   pub moves_keep : (es : List Entry) (h now : Here) → Move line origin h now → Base contexts line origin h → Keeps es h.machine.store.records → Keeps es now.machine.store.records
@@ -181,10 +196,7 @@ module _ (contexts : List WasiSocketsCtx) (line : ℕ) (origin : Step) where
   moves_keep es _ _ (walk.Opens h place r c d g e k) b i = let made : r.side ≡ Some c.side = b.1.named c.side place r g (ap side_in e) in put_tcp es _ place _ (with_these (opened_by r c) _ refl (made, made)) i
   moves_keep es _ _ (walk.BeginsConnect h place r side a bound at g d to known idle own) b i = put_tcp es _ place _ (i.tcps place r g) i
   moves_keep es _ _ (walk.BeginsBind h place r side a at g d to idle own) b i = put_tcp es _ place _ (i.tcps place r g) i
-  moves_keep es _ _ (walk.BeginsWrite h place r s half permit bytes at g e w within own) b i =
-      let k = i.tcps place r g s e in
-      let made : r.side ≡ Some half.side = subst (WritesBy r.side) w k.1 in
-      put_tcp es _ place _ (with_these (with_writer r s (WriteState.Writing (new_job (own_of line) half.side bytes))) _ refl (k.0, (made, (tt, tt)))) i
+  moves_keep es _ _ (walk.BeginsWrite h place n r s half permit bytes at g e w within own) b i = write_keeps es h place n r s half permit bytes g e w i
   moves_keep es _ _ (walk.BeginsListen h place r side at g d bound none to idle own) b i = put_tcp es _ place _ (i.tcps place r g) i
   moves_keep es _ _ (walk.BeginsAccept h place r l at g e a own) b i = put_tcp es _ place _ (i.tcps place r g) i
   moves_keep es _ _ (walk.Unlistens h place r op q g e c o) b i = put_tcp es _ place _ (i.tcps place r g) i
@@ -197,6 +209,9 @@ module _ (contexts : List WasiSocketsCtx) (line : ℕ) (origin : Step) where
   moves_keep es _ _ (walk.BeginsReceive h place n o inc bound at g e own) b i =
       let k = i.udps place (Udp2Socket.Open o) g in
       put_udps es _ place (Udp2Socket.Open _) (record { created = k.created; remote = k.remote; connects = k.connects; receives = begun_empty es (part_of line n) o.inner.side bound; receiver = refl }) i
+  moves_keep es _ _ (walk.CancelsBind h place r op q g e) b i = put_tcp es _ place _ (i.tcps place r g) i
+  moves_keep es _ _ (walk.CancelsUdpBind h place o op q g e) b i = let k = i.udps place (Udp2Socket.Open o) g in put_udps es _ place (Udp2Socket.Open _) (record { created = k.created; remote = k.remote; connects = k.connects; receives = k.receives; receiver = k.receiver }) i
+  moves_keep es _ _ (walk.CancelsUdpConnect h place o q g) b i = let k = i.udps place (Udp2Socket.Open o) g in put_udps es _ place (Udp2Socket.Open _) (record { created = k.created; remote = k.remote; connects = tt; receives = k.receives; receiver = k.receiver }) i
   moves_keep es _ _ (walk.Finds h records s) b i = records_keep es h.machine.store.records records s i
   moves_keep es _ _ _ b i = i
 
@@ -225,6 +240,15 @@ module _ (contexts : List WasiSocketsCtx) (line : ℕ) (origin : Step) where
     udp_creates = λ es h ctx family c may a o m b i. (tt, λ told f. begun_keeps es h (own_of line) ctx.name family told f i);
     udp_marks = λ es h place u g b i. marks_keep es _ h.machine.table (udp_side u) (Udp2 place) None (Some (udp_side u)) i;
     stream_marks = λ es h place n handle kind m k e b i. marks_keep es _ h.machine.table (own_of n) kind (Some handle) _ i;
+    error_marks = λ es h n handle place handles m k e f b i. marks_keep es _ h.machine.table (own_of n) ErrorValue (Some handle) _ i;
+    udp_gives_up = λ es h place create q g b i.
+        allows_weaker Anything (λ fs done. Keeps fs h.machine.store.records × ⊤) (λ fs done. Keeps fs (udp2_put h.machine.store.records place (Udp2Socket.Closed create.operation.who.side)))
+        (λ fs done k. put_udps fs _ place (Udp2Socket.Closed create.operation.who.side) tt k.0) es _ (kept h.machine.store.records (λ fs done. ⊤) es (create_cancel_asks create) i (cancelled_quiet es create));
     lookups = λ es h host l b i. (tt, λ told f records s. records_keep _ _ records s (asked es _ (own_of line) _ told (quiet _ _ tt) i));
     looks = λ es h place op g b i. (tt, λ told f. asked es _ op.id _ told (quiet _ _ tt) i);
   }
+
+  -- a write that begins in a call of streams
+  pub begins_kept : BeginsAbove remotes
+  unfolding remotes
+  begins_kept = record { begins = λ es h place n r s half permit bytes at g e w within b i. write_keeps es h place n r s half permit bytes g e w i }

@@ -329,4 +329,4 @@ writer_moves made _ _ (Collects w) k = collects made w k
 writer_moves made _ _ (Permits half old) k = k
 writer_moves made _ _ (Lasts job) k = k
 writer_moves made _ _ (LastsAfter job) k = (k.0, closing job.write.left k.1)
-writer_moves made _ _ (Closes w e) k = tt
+writer_moves made _ _ (Closes w) k = tt

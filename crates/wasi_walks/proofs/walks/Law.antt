@@ -5,7 +5,8 @@ use Rattle.wasi_walks.proofs.Words.{Streams, Tcp2, Tcp2Socket, TcpState, Told, W
 use Rattle.wasi_walks.proofs.Words.{allows_weaker, ap, bind, bind_progress, connect_ended, create_asks, entry, false, give_up_asks, if◌then◌else◌}
 use Rattle.wasi_walks.proofs.Words.{make_asks, own_of, poll_asks, told_done, refl, side_at, side_of, subst, sym, told_addr, true}
 use Rattle.wasi_walks.proofs.Words.{turn_asks, with_inner, with_listening, with_progress, with_state, with_writer, ℕ, ◌++◌, ◌∷◌, ◌≡◌}
-use Rattle.wasi_walks.proofs.walks.Moves.{Here, LooksUp, SameSockets, with_records, put, put_udp, Found, FoundUdp, CreatesUdp, udp_begun, ToStream, part_of, IsUdpQuestionOf, NoStart, closed_record, Past, Joined, made_so, listen_after, accepting_now, Held, BindsOn, Connects, Listens, Awaits, IsQuestionOf, IsOn, Move, Marks, Creates, Used, Unused}
+use Rattle.wasi_walks.proofs.walks.Moves.{Here, Calls, record_of, LooksUp, SameSockets, with_records, put, put_udp, Found, FoundUdp, CreatesUdp, udp_begun, ToStream, part_of, IsUdpQuestionOf, NoStart, closed_record, Past, Joined, made_so, listen_after, accepting_now, Held, BindsOn, Connects, Listens, Awaits, IsQuestionOf, IsOn, Move, Marks, Creates, Used, Unused}
+use Rattle.wasi_walks.proofs.walks.Failures.{Fails}
 use Rattle.wasi_walks.proofs.Lists.{set_there, set_set, set_same}
 use Rattle.std.specs.Prelude.{◌⊎◌}
 use Rattle.wasi_host.specs.Kinds.{kind_at, udp_of}
@@ -17,7 +18,8 @@ use Rattle.wasi_host.specs.declared.kind.Kind.TheVariants.{Udp2, Incoming, Outgo
 use Rattle.wasi_host.specs.declared.udp.OpenUdp.{OpenUdp}
 use Rattle.wasi_host.specs.declared.udp.Udp2Socket.{Udp2Socket}
 use Rattle.wasi_host.specs.Udp.{udp_side, with_udp_inner}
-use Rattle.wasi_udp.specs.Create.{after_create as udp_after_create}
+use Rattle.wasi_udp.specs.Create.{Create, create_cancel_asks, after_create as udp_after_create}
+use Rattle.wasi_walks.proofs.Words.{ErrorValue, Has, TcpSendStream, WriteState, length, nat_lt, new_job}
 use Rattle.wasi_udp.specs.Socket.{after_local as udp_after_local, after_peer}
 use Rattle.wasi_host.specs.declared.records.Record.{Record}
 
@@ -59,11 +61,23 @@ pub record Law (contexts : List WasiSocketsCtx) (line : ℕ) (origin : Step) : T
       → Allows P (λ fs made. Inv fs (record h { machine = record h.machine { table = made.1 } })) es (make_asks h.machine.table (udp_side u) (Udp2 place) None (Some (udp_side u)))
   pub stream_marks : (es : List Entry) (h : Here) (place n handle : ℕ) (kind : Kind) → h.made ≡ ToStream n handle → (kind ≡ Incoming place) ⊎ (kind ≡ Outgoing place) → udp_of (kind_at h.machine.table handle) ≡ Some place → Inv es h
       → Allows P (λ fs made. Inv fs (record h { machine = record h.machine { table = made.1 } })) es (make_asks h.machine.table (own_of n) kind (Some handle) (udp_side_at (udp2_at h.machine.store.records place)))
+  -- the errors of calls of streams that failed
+  pub error_marks : (es : List Entry) (h : Here) (n handle place : ℕ) (handles : List ℕ) → h.made ≡ Calls n handles → Has handles handle → record_of (kind_at h.machine.table handle) ≡ Some place → Fails es h.machine n handle place → Inv es h
+      → Allows P (λ fs made. Inv fs (record h { machine = record h.machine { table = made.1 } })) es (make_asks h.machine.table (own_of n) ErrorValue (Some handle) (side_at (tcp2_at h.machine.store.records place)))
+  -- a create that is given up
+  pub udp_gives_up : (es : List Entry) (h : Here) (place : ℕ) (create : Create) → NoStart h → FoundUdp h place (Udp2Socket.Creating create) → Inv es h
+      → Allows P (λ fs done. Inv fs (put_udp h place (Udp2Socket.Closed create.operation.who.side))) es (create_cancel_asks create)
   -- lookups
   pub lookups : (es : List Entry) (h : Here) (host : List ℕ) → LooksUp contexts host origin → Inv es h
       → P es (own_of line) (Call.Lookup host) × ((told : Told) → Fits (Call.Lookup host) told → (records : List Record) → SameSockets (λ op. op ≡ record { id = own_of line; host = host }) h.machine.store.records records → Inv (es ++ entry (own_of line) (Call.Lookup host) told ∷ []) (with_records h records))
   pub looks : (es : List Entry) (h : Here) (place : ℕ) (op : LookupOp) → lookup_at h.machine.store.records place ≡ Some (lookup.InProgress op) → Inv es h
       → P es op.id (Call.Lookup op.host) × ((told : Told) → Fits (Call.Lookup op.host) told → Inv (es ++ entry op.id (Call.Lookup op.host) told ∷ []) h)
+
+-- What a law says of a write that begins in a call of streams, of which a line may make more than one. The law of what is
+-- permitted, which counts the bytes of a line's one write, says nothing of it.
+pub record BeginsWrites {contexts : List WasiSocketsCtx} {line : ℕ} {origin : Step} (law : Law contexts line origin) : Type 0 where
+  pub begins : (es : List Entry) (h : Here) (place n : ℕ) (r : Tcp2Socket) (s : Streams) (half : TcpSendStream) (permit : ℕ) (bytes : List ℕ) → h.at ≡ Some (place, n) → Found h place r → r.streams ≡ Some s → s.writer ≡ WriteState.Ready half permit → nat_lt permit (length bytes) ≡ false → law.Inv es h
+      → law.Inv es (record (put h place (with_writer r s (WriteState.Writing (new_job (own_of n) half.side bytes)))) { own = Used })
 
 -- A place that has a record.
 pub record HasRecord (h : Here) (place : ℕ) : Type 0 where

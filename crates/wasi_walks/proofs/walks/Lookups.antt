@@ -1,5 +1,6 @@
 -- Lookups of host names, as moves: one begins, a turn asks about it, its addresses are handed out, and it is dropped.
-use Rattle.std.specs.Prelude.{◌≡◌, ℕ, Bool, true, false, if◌then◌else◌, List, [], ◌∷◌, ◌++◌, Option, Some, None, Result, Ok, Err}
+use Rattle.std.specs.Prelude.{◌≡◌, ℕ, Bool, true, false, if◌then◌else◌, List, [], ◌∷◌, ◌++◌, Option, Some, None, is_some, Result, Ok, Err}
+use Rattle.wasi_memory.specs.Plain.{Contents}
 use Rattle.wasi_addr.specs.declared.address.IpAddress.{IpAddress}
 use Rattle.wasi_addr.specs.declared.lookup.ErrorCode.{ErrorCode}
 use Rattle.wasi_addr.specs.declared.lookup.ErrorCode.TheVariants.{PermanentResolverFailure}
@@ -19,14 +20,14 @@ use Rattle.wasi_host.specs.declared.name_lookup.Lookup.TheVariants.{InProgress, 
 use Rattle.wasi_host.specs.declared.name_lookup.LookupOp.{LookupOp}
 use Rattle.wasi_host.specs.declared.records.Record.{Record}
 use Rattle.wasi_p2.specs.Lookup.{next_address_on, resolve_asks, resolved_host}
-use Rattle.wasi_walks.proofs.LookupLists.{lookup_front, lookup_get_set, lookup_last, lookup_split, lookup_stays, tcp_lookup_push, tcp_lookup_put, udp_lookup_push, udp_lookup_put}
+use Rattle.wasi_walks.proofs.LookupLists.{input_lookup_push, input_lookup_put, lookup_front, lookup_get_set, lookup_last, lookup_split, lookup_stays, output_lookup_push, output_lookup_put, tcp_lookup_push, tcp_lookup_put, udp_lookup_push, udp_lookup_put}
 use Rattle.wasi_walks.proofs.walks.Moves.{ALookup, Finds, Here, Lists, LooksUp, SameSockets, Spends, Unused, with_records}
 use Rattle.wasi_walks.proofs.walks.Law.{Law, Walks, and_then, by_if, give, gives, mark, move}
 use Rattle.wasi_walks.proofs.walks.States.{Over, OverWith, Sets, Starts}
 
 -- == the sockets are the same
 same_sockets : {new : LookupOp → Type 0} (xs : List Record) → SameSockets new xs xs
-same_sockets xs = record { tcp = λ k. refl; udp = λ k. refl; stays = λ k e. e; looks = λ k op e. inl e }
+same_sockets xs = record { tcp = λ k. refl; udp = λ k. refl; stays = λ k e. e; inputs = λ k e. e; outputs = λ k e. e; looks = λ k op e. inl e }
 
 -- a lookup joins the records
 same_by_push : {new : LookupOp → Type 0} (xs : List Record) (l : Lookup) → ((op : LookupOp) → l ≡ InProgress op → new op) → SameSockets new xs (lookup_pushed xs l)
@@ -34,6 +35,8 @@ same_by_push xs l n = record {
   tcp = tcp_lookup_push xs l;
   udp = udp_lookup_push xs l;
   stays = lookup_front xs l;
+  inputs = λ k e. ap (λ (o : Option (List ℕ)). is_some o) (input_lookup_push xs l k) ∙ e;
+  outputs = λ k e. ap (λ (o : Option Contents). is_some o) (output_lookup_push xs l k) ∙ e;
   looks = λ k op e. elim (lookup_split xs l k (InProgress op) e) [ inl p ↦ inl p | inr p ↦ inr (n op p.1) ];
 }
 
@@ -43,6 +46,8 @@ same_by_put xs i old l at n = record {
   tcp = λ k. tcp_lookup_put xs i old l k at;
   udp = λ k. udp_lookup_put xs i old l k at;
   stays = lookup_stays xs i l;
+  inputs = λ k e. ap (λ (o : Option (List ℕ)). is_some o) (input_lookup_put xs i old l k at) ∙ e;
+  outputs = λ k e. ap (λ (o : Option Contents). is_some o) (output_lookup_put xs i old l k at) ∙ e;
   looks = λ k op e. elim (lookup_get_set xs i l k (InProgress op) e) [ inl p ↦ inl (ap (lookup_at xs) p.0 ∙ (at ∙ ap (λ (x : Lookup). Some x) (n op p.1))) | inr p ↦ inl p ];
 }
 

@@ -1,6 +1,6 @@
 -- What a line does, as moves: the state that it works on, what it may ask of the record that it works on, and how the state may
 -- move where nothing is asked.
-use Rattle.wasi_walks.proofs.Words.{Accepting, Accepts, Begins, Bool, Call, Connection, End, Err, ErrorCode, ErrorValue, Has, InProgress, Input}
+use Rattle.wasi_walks.proofs.Words.{Accepting, Accepts, Begins, Bool, Call, Connection, End, Err, ErrorCode, Has, InProgress, Input}
 use Rattle.wasi_walks.proofs.Words.{IpSocketAddress, IsBindTo, IsConnectTo, IsListenStep, Item, Job, Kind, List, Listener, Listening, Machine, Network, None, Not}
 use Rattle.wasi_walks.proofs.Words.{Ok, OpId, Operation, Option, Other, Output, Pollable, ReadState, Result, SocketAddressFamily, Some, Standing}
 use Rattle.wasi_walks.proofs.Words.{StandingCall, Step, Stop, Streams, Tcp2, Tcp2Socket, TcpReceiveStream, TcpSendStream, TcpState, WasiSocketsCtx}
@@ -12,7 +12,7 @@ use Rattle.wasi_walks.proofs.Words.{side_at, side_of, standing_as, true, wildcar
 use Rattle.wasi_walks.proofs.Words.{with_progress, with_reader, with_socket, with_state, with_writer, without_handle, writer_side, ℕ, ⊤}
 use Rattle.wasi_walks.proofs.Words.{◌≡◌, ◌⊎◌}
 use Rattle.wasi_world.specs.declared.ids.Ids.{Ids}
-use Rattle.wasi_host.specs.Records.{tcp2_at, tcp2_put, tcp2_pushed, udp2_at, lookup_at}
+use Rattle.wasi_host.specs.Records.{tcp2_at, tcp2_put, tcp2_pushed, udp2_at, lookup_at, input_pipe_at, output_pipe_at}
 use Rattle.wasi_host.specs.declared.name_lookup.Lookup.TheVariants as lookup
 use Rattle.wasi_host.specs.declared.name_lookup.LookupOp.{LookupOp}
 use Rattle.std.specs.Prelude.{◌+◌, is_some}
@@ -28,7 +28,12 @@ use Rattle.wasi_host.specs.declared.datagrams.Incoming.{Incoming as IncomingStre
 use Rattle.wasi_host.specs.declared.datagrams.Outgoing.{Outgoing as OutgoingStream}
 use Rattle.wasi_host.specs.declared.datagrams.Receiving.{Receiving}
 use Rattle.wasi_host.specs.declared.datagrams.Sending.{Sending}
-use Rattle.wasi_host.specs.declared.kind.Kind.TheVariants.{Udp2, Incoming, Outgoing, Lookup}
+use Rattle.wasi_host.specs.declared.blocking.BlockingCall.{BlockingCall}
+use Rattle.wasi_host.specs.declared.kind.Kind.TheVariants.{Udp2, PlainInput, PlainOutput, Incoming, Outgoing, Lookup}
+use Rattle.wasi_host.specs.declared.kind.PlainInput.TheVariants as plain_input
+use Rattle.wasi_host.specs.declared.kind.PlainOutput.TheVariants as plain_output
+use Rattle.wasi_host.specs.Blocking.{blocking_handles}
+use Rattle.wasi_host.specs.Kinds.{watched_by}
 use Rattle.wasi_udp.specs.Connect.{connect_start}
 use Rattle.wasi_udp.specs.Receive.{receive_start, wanting}
 use Rattle.wasi_udp.specs.Send.{at_remote, send_start}
@@ -59,9 +64,11 @@ pub data Own : Type 0 where
   ToWrite : OpId → List ℕ → Own
 
 -- what an accept has made so far: nothing, the record of what it took, or its handle too; the line whose call makes datagram
--- streams, and the handle that they are made under; else nothing is said of it
+-- streams, and the handle that they are made under; the line whose call of streams is done, and the handles that it named; else
+-- nothing is said of it
 pub data Made : Type 0 where
   ToStream : ℕ → ℕ → Made
+  Calls : ℕ → List ℕ → Made
   Past : Made
   Unmade : Made
   Joined : ℕ → Made
@@ -91,17 +98,21 @@ FoundUdp h place u = udp2_at h.machine.store.records place ≡ Some u
 abbrev pub with_records : Here → List Record → Here
 with_records h records = record h { machine = record h.machine { store = record h.machine.store { records = records } } }
 
--- The sockets are as they were, and a lookup stays one. It is in progress only where it was, or is one of these.
+-- The sockets are as they were, and a lookup stays one, and so does a pipe. A lookup is in progress only where it was, or is one of
+-- these.
 pub record SameSockets (new : LookupOp → Type 0) (old now : List Record) : Type 0 where
   pub tcp : (k : ℕ) → tcp2_at now k ≡ tcp2_at old k
   pub udp : (k : ℕ) → udp2_at now k ≡ udp2_at old k
   pub stays : (k : ℕ) → is_some (lookup_at old k) ≡ true → is_some (lookup_at now k) ≡ true
+  pub inputs : (k : ℕ) → is_some (input_pipe_at old k) ≡ true → is_some (input_pipe_at now k) ≡ true
+  pub outputs : (k : ℕ) → is_some (output_pipe_at old k) ≡ true → is_some (output_pipe_at now k) ≡ true
   pub looks : (k : ℕ) (op : LookupOp) → lookup_at now k ≡ Some (lookup.InProgress op) → (lookup_at old k ≡ Some (lookup.InProgress op)) ⊎ new op
 
 -- no bind, listen, create or connect is pending
 abbrev pub NoStartIn : StandingCall → Type 0
 NoStartIn (StandingCall.DropOutput place) = ⊤
 NoStartIn (StandingCall.DropOutgoing place) = ⊤
+NoStartIn (StandingCall.Blocking call) = ⊤
 NoStartIn _ = ⊥
 
 abbrev pub NoStartStands : Option Standing → Type 0
@@ -136,9 +147,10 @@ GoesOn (StandingCall.Listen place) r = HasListen r.listening
 GoesOn (StandingCall.DropOutput place) r = ⊤
 GoesOn _ r = ⊥
 
--- the pending call was made of a handle of its record: any but a create
+-- the pending call was made of a handle of its record: any but a create, and but one of streams, which is on handles
 abbrev pub IsOfHandle : StandingCall → Type 0
 IsOfHandle (StandingCall.UdpCreate place) = ⊥
+IsOfHandle (StandingCall.Blocking call) = ⊥
 IsOfHandle _ = ⊤
 
 -- == what may be asked of a record's network socket by the line that works on it
@@ -197,7 +209,7 @@ pub data WriterMoves : WriteState → WriteState → Type 0 where
   Permits : (half : TcpSendStream) (old : ℕ) → WriterMoves (WriteState.Ready half old) (WriteState.Ready half 65536)
   Lasts : (job : Job) → WriterMoves (WriteState.Writing job) (WriteState.Closing job)
   LastsAfter : (job : Job) → WriterMoves (WriteState.Writing job) (WriteState.Closing (closing_job job))
-  Closes : (w : WriteState) (e : WriteError) → WriterMoves w (WriteState.Closed e)
+  Closes : (w : WriteState) → WriterMoves w (WriteState.Closed WriteError.Closed)
 
 -- the TCP socket that is watched
 abbrev pub tcp_place : Watched → Option ℕ
@@ -205,6 +217,7 @@ tcp_place (Watched.Udp place) = None
 tcp_place (Watched.Incoming place) = None
 tcp_place (Watched.Outgoing place) = None
 tcp_place (Watched.Lookup place) = None
+tcp_place Watched.Plain = None
 tcp_place w = Some (place_in w)
 
 -- the UDP socket that is watched
@@ -230,13 +243,31 @@ udp_record_of (Some (Outgoing place)) = Some place
 udp_record_of (Some (Pollable w)) = udp_place w
 udp_record_of _ = None
 
--- the line may make an error of the stream of this handle
-abbrev pub MarksError : ℕ → Step → Type 0
-MarksError handle (Step.Read ctx input len) = handle ≡ input
-MarksError handle (Step.CheckWrite ctx output) = handle ≡ output
-MarksError handle (Step.Write ctx output bytes) = handle ≡ output
-MarksError handle (Step.Flush ctx output) = handle ≡ output
-MarksError handle _ = ⊥
+-- the step makes such an input or output of no connection
+abbrev pub MakesPlain : Step → Kind → Type 0
+MakesPlain (Step.PipeIn ctx bytes) (PlainInput (plain_input.Pipe place)) = ⊤
+MakesPlain (Step.PipeOut ctx capacity) (PlainOutput (plain_output.Pipe place)) = ⊤
+MakesPlain (Step.Sink ctx) (PlainOutput plain_output.Sink) = ⊤
+MakesPlain (Step.ClosedIn ctx) (PlainInput plain_input.Closed) = ⊤
+MakesPlain (Step.ClosedOut ctx) (PlainOutput plain_output.Closed) = ⊤
+MakesPlain _ _ = ⊥
+
+-- a call of streams
+abbrev pub IsStreamCall : Step → Type 0
+IsStreamCall (Step.Read ctx input len) = ⊤
+IsStreamCall (Step.Skip ctx input len) = ⊤
+IsStreamCall (Step.CheckWrite ctx output) = ⊤
+IsStreamCall (Step.Write ctx output bytes) = ⊤
+IsStreamCall (Step.WriteZeroes ctx output len) = ⊤
+IsStreamCall (Step.Flush ctx output) = ⊤
+IsStreamCall (Step.Splice ctx output input len) = ⊤
+IsStreamCall (Step.BlockingRead ctx input len) = ⊤
+IsStreamCall (Step.BlockingSkip ctx input len) = ⊤
+IsStreamCall (Step.BlockingWrite ctx output bytes) = ⊤
+IsStreamCall (Step.BlockingZeroes ctx output len) = ⊤
+IsStreamCall (Step.BlockingFlush ctx output) = ⊤
+IsStreamCall (Step.BlockingSplice ctx output input len) = ⊤
+IsStreamCall _ = ⊥
 
 -- a create of this family, by this context
 abbrev pub Creates : List WasiSocketsCtx → WasiSocketsCtx → SocketAddressFamily → Step → Type 0
@@ -262,7 +293,8 @@ pub data Marks (origin : Step) (h : Here) : Kind → Option ℕ → Option OpId 
   AUdpPollable : (c handle : ℕ) (w : Watched) → origin ≡ Step.Subscribe c handle → udp_place w ≡ Some (place_in w) → udp_record_of (kind_at h.machine.table handle) ≡ Some (place_in w) → Marks origin h (Pollable w) (Some handle) (udp_side_at (udp2_at h.machine.store.records (place_in w)))
   ALookup : (c network place : ℕ) (name : List ℕ) → origin ≡ Step.Resolve c network name → is_some (lookup_at h.machine.store.records place) ≡ true → Marks origin h (Lookup place) (Some network) None
   ALookupPollable : (c handle place : ℕ) → origin ≡ Step.Subscribe c handle → kind_at h.machine.table handle ≡ Some (Lookup place) → Marks origin h (Pollable (Watched.Lookup place)) (Some handle) None
-  AnError : (handle place : ℕ) → MarksError handle origin → record_of (kind_at h.machine.table handle) ≡ Some place → Marks origin h ErrorValue (Some handle) (side_at (tcp2_at h.machine.store.records place))
+  APlain : (kind : Kind) → MakesPlain origin kind → Marks origin h kind None None
+  APlainPollable : (c handle : ℕ) → origin ≡ Step.Subscribe c handle → watched_by (kind_at h.machine.table handle) ≡ Some Watched.Plain → Marks origin h (Pollable Watched.Plain) (Some handle) None
 
 -- == records of a bind
 abbrev pub begun_bind : OpId → OpId → Tcp2Socket → IpSocketAddress → Operation
@@ -416,8 +448,8 @@ pub data Move (line : ℕ) (origin : Step) : Here → Here → Type 0 where
       → Move line origin h (record (put h place (with_inner r (with_state r.inner (TcpState.Connecting (connect_operation (record { op = own_of line; side = side; maker = r.inner.maker }) (wildcard r.inner.family) a (connect_first bound)))))) { own = Used })
   BeginsBind : (h : Here) (place : ℕ) (r : Tcp2Socket) (side : OpId) (a : IpSocketAddress) → h.at ≡ Some (place, line) → Found h place r → r.inner.state ≡ TcpState.Default side → IsBindTo a origin → is_nothing r.in_progress ≡ true → h.own ≡ Unused
       → Move line origin h (record (put h place (with_progress r (InProgress.Binding (begun_bind (own_of line) side r a)))) { own = Used })
-  BeginsWrite : (h : Here) (place : ℕ) (r : Tcp2Socket) (s : Streams) (half : TcpSendStream) (permit : ℕ) (bytes : List ℕ) → h.at ≡ Some (place, line) → Found h place r → r.streams ≡ Some s → s.writer ≡ WriteState.Ready half permit → nat_lt permit (length bytes) ≡ false → h.own ≡ ToWrite half.side bytes
-      → Move line origin h (record (put h place (with_writer r s (WriteState.Writing (new_job (own_of line) half.side bytes)))) { own = Used })
+  BeginsWrite : (h : Here) (place n : ℕ) (r : Tcp2Socket) (s : Streams) (half : TcpSendStream) (permit : ℕ) (bytes : List ℕ) → h.at ≡ Some (place, n) → Found h place r → r.streams ≡ Some s → s.writer ≡ WriteState.Ready half permit → nat_lt permit (length bytes) ≡ false → h.own ≡ ToWrite half.side bytes
+      → Move line origin h (record (put h place (with_writer r s (WriteState.Writing (new_job (own_of n) half.side bytes)))) { own = Used })
   BeginsListen : (h : Here) (place : ℕ) (r : Tcp2Socket) (side : OpId) → h.at ≡ Some (place, line) → Found h place r → r.inner.state ≡ TcpState.Default side → r.inner.bound ≡ true → r.listening ≡ Not → IsListenStep origin → is_nothing r.in_progress ≡ true → h.own ≡ Unused
       → Move line origin h (record (put h place (beginning_listen (own_of line) side r)) { own = Used })
   BeginsAccept : (h : Here) (place : ℕ) (r : Tcp2Socket) (l : Listener) → h.at ≡ Some (place, line) → Found h place r → r.listening ≡ Accepts l → l.accept ≡ Accepting.Idle → h.own ≡ Unused
@@ -453,7 +485,16 @@ pub data Move (line : ℕ) (origin : Step) : Here → Here → Type 0 where
       → Move line origin h (record (put_udp h place (Udp2Socket.Open (sending_now o out (send_start (part_of line n) o.inner d.bytes d.remote_address bound)))) { own = Names (n + 1) })
   BeginsReceive : (h : Here) (place n : ℕ) (o : OpenUdp) (inc : IncomingStream) (bound : Bool) → h.at ≡ Some (place, line) → FoundUdp h place (Udp2Socket.Open o) → o.incoming ≡ Some inc → h.own ≡ Names n
       → Move line origin h (record (put_udp h place (Udp2Socket.Open (receiving_now o inc (receive_start (part_of line n) o.inner bound)))) { own = Names (n + 1) })
-  -- lookups: what was found, and what is handed out
+  -- calls of streams: those of the line, or the one that is pending, and the record of one of its handles; it is pending then
+  CallsStreams : (h : Here) → IsStreamCall origin → Move line origin h (record h { made = Calls line (handles_of origin) })
+  RecallsStreamCall : (h : Here) (ids : Ids) (call : BlockingCall) → h.machine.store.standing ≡ Some (standing_as ids (StandingCall.Blocking call)) → Move line origin h (record h { made = Calls ids.line (blocking_handles call) })
+  ReachesStream : (h : Here) (n handle place : ℕ) (handles : List ℕ) → h.made ≡ Calls n handles → Has handles handle → record_of (kind_at h.machine.table handle) ≡ Some place → Move line origin h (record h { at = Some (place, n) })
+  StandsBlocking : (h : Here) (ids : Ids) (call : BlockingCall) (handles : List ℕ) → h.made ≡ Calls ids.line handles → blocking_handles call ≡ handles → Move line origin h (record h { machine = record h.machine { store = record h.machine.store { standing = Some (standing_as ids (StandingCall.Blocking call)) } } })
+  -- a pending call is given up
+  CancelsBind : (h : Here) (place : ℕ) (r : Tcp2Socket) (op : Operation) → NoStart h → Found h place r → r.in_progress ≡ InProgress.Binding op → Move line origin h (put h place (with_progress r InProgress.Nothing))
+  CancelsUdpBind : (h : Here) (place : ℕ) (o : OpenUdp) (op : Operation) → NoStart h → FoundUdp h place (Udp2Socket.Open o) → o.in_progress ≡ UdpInProgress.Binding op → Move line origin h (put_udp h place (Udp2Socket.Open (with_udp_progress o UdpInProgress.Nothing)))
+  CancelsUdpConnect : (h : Here) (place : ℕ) (o : OpenUdp) → NoStart h → FoundUdp h place (Udp2Socket.Open o) → Move line origin h (put_udp h place (Udp2Socket.Open (record o { connecting = None })))
+  -- lookups and pipes: what was found, and what is handed out
   Finds : (h : Here) (records : List Record) → SameSockets (λ op. ⊥) h.machine.store.records records → Move line origin h (with_records h records)
   -- the rest
   Lists : (h : Here) (jobs : List HostJob) → Move line origin h (record h { machine = record h.machine { store = record h.machine.store { jobs = jobs } } })

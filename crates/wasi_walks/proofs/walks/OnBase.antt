@@ -3,7 +3,8 @@ use Rattle.wasi_walks.proofs.Words.{Allows, Ask, AskWrite, Asks, Call, End, Entr
 use Rattle.wasi_walks.proofs.Words.{Operation, Option, SocketAddressFamily, Some, Step, Streams, Tcp2, Tcp2Socket, TcpState, Told, WasiSocketsCtx, []}
 use Rattle.wasi_walks.proofs.Words.{after_local, create_asks, entry, give_up_asks, make_asks, own_of, poll_asks, side_at, side_of}
 use Rattle.wasi_walks.proofs.Words.{told_addr, told_done, true, turn_asks, with_inner, with_listening, with_writer, ℕ, ◌++◌, ◌∷◌, ◌≡◌}
-use Rattle.wasi_walks.proofs.walks.Moves.{Here, LooksUp, SameSockets, with_records, put, put_udp, Found, FoundUdp, CreatesUdp, udp_begun, ToStream, part_of, NoStart, closed_record, Past, Joined, made_so, Held, IsQuestionOf, IsUdpQuestionOf, IsOn, Move, Marks, Creates, Used, Unused}
+use Rattle.wasi_walks.proofs.walks.Moves.{Here, Calls, record_of, LooksUp, SameSockets, with_records, put, put_udp, Found, FoundUdp, CreatesUdp, udp_begun, ToStream, part_of, NoStart, closed_record, Past, Joined, made_so, Held, IsQuestionOf, IsUdpQuestionOf, IsOn, Move, Marks, Creates, Used, Unused}
+use Rattle.wasi_walks.proofs.walks.Failures.{Fails}
 use Rattle.wasi_walks.proofs.walks.Law.{Law}
 use Rattle.std.specs.Prelude.{◌⊎◌}
 use Rattle.wasi_host.specs.Kinds.{kind_at, udp_of}
@@ -16,7 +17,8 @@ use Rattle.wasi_host.specs.declared.kind.Kind.TheVariants.{Udp2, Incoming, Outgo
 use Rattle.wasi_host.specs.declared.udp.OpenUdp.{OpenUdp}
 use Rattle.wasi_host.specs.declared.udp.Udp2Socket.{Udp2Socket}
 use Rattle.wasi_host.specs.Udp.{udp_side, with_udp_inner}
-use Rattle.wasi_udp.specs.Create.{after_create as udp_after_create}
+use Rattle.wasi_udp.specs.Create.{Create, create_cancel_asks, after_create as udp_after_create}
+use Rattle.wasi_walks.proofs.Words.{ErrorValue, Has}
 use Rattle.wasi_udp.specs.Socket.{after_local as udp_after_local, after_peer}
 
 -- what two say of a tree
@@ -61,6 +63,10 @@ pub record Above (contexts : List WasiSocketsCtx) (line : ℕ) (origin : Step) (
       → Allows P (λ fs made. Inv fs (record h { machine = record h.machine { table = made.1 } })) es (make_asks h.machine.table (udp_side u) (Udp2 place) None (Some (udp_side u)))
   pub stream_marks : (es : List Entry) (h : Here) (place n handle : ℕ) (kind : Kind) → h.made ≡ ToStream n handle → (kind ≡ Incoming place) ⊎ (kind ≡ Outgoing place) → udp_of (kind_at h.machine.table handle) ≡ Some place → B es h → Inv es h
       → Allows P (λ fs made. Inv fs (record h { machine = record h.machine { table = made.1 } })) es (make_asks h.machine.table (own_of n) kind (Some handle) (udp_side_at (udp2_at h.machine.store.records place)))
+  pub error_marks : (es : List Entry) (h : Here) (n handle place : ℕ) (handles : List ℕ) → h.made ≡ Calls n handles → Has handles handle → record_of (kind_at h.machine.table handle) ≡ Some place → Fails es h.machine n handle place → B es h → Inv es h
+      → Allows P (λ fs made. Inv fs (record h { machine = record h.machine { table = made.1 } })) es (make_asks h.machine.table (own_of n) ErrorValue (Some handle) (side_at (tcp2_at h.machine.store.records place)))
+  pub udp_gives_up : (es : List Entry) (h : Here) (place : ℕ) (create : Create) → NoStart h → FoundUdp h place (Udp2Socket.Creating create) → B es h → Inv es h
+      → Allows P (λ fs done. Inv fs (put_udp h place (Udp2Socket.Closed create.operation.who.side))) es (create_cancel_asks create)
   -- lookups
   pub lookups : (es : List Entry) (h : Here) (host : List ℕ) → LooksUp contexts host origin → B es h → Inv es h
       → P es (own_of line) (Call.Lookup host) × ((told : Told) → Fits (Call.Lookup host) told → (records : List Record) → SameSockets (λ op. op ≡ record { id = own_of line; host = host }) h.machine.store.records records → Inv (es ++ entry (own_of line) (Call.Lookup host) told ∷ []) (with_records h records))
@@ -90,6 +96,8 @@ stand base a = record {
   udp_creates = λ es h ctx family c may t o m i. let x = base.udp_creates es h ctx family c may t o m i.0 in let y = a.udp_creates es h ctx family c may t o m i.0 i.1 in (y.0, λ told f. (x.1 told f, y.1 told f));
   stream_marks = λ es h place n handle kind m k e i. both a.P base.P _ _ es _ (a.stream_marks es h place n handle kind m k e i.0 i.1) (base.stream_marks es h place n handle kind m k e i.0);
   udp_marks = λ es h place u g i. both a.P base.P _ _ es _ (a.udp_marks es h place u g i.0 i.1) (base.udp_marks es h place u g i.0);
+  error_marks = λ es h n handle place handles m k e f i. both a.P base.P _ _ es _ (a.error_marks es h n handle place handles m k e f i.0 i.1) (base.error_marks es h n handle place handles m k e f i.0);
+  udp_gives_up = λ es h place create q g i. both a.P base.P _ _ es _ (a.udp_gives_up es h place create q g i.0 i.1) (base.udp_gives_up es h place create q g i.0);
   lookups = λ es h host l i. let x = base.lookups es h host l i.0 in let y = a.lookups es h host l i.0 i.1 in (y.0, λ told f records s. (x.1 told f records s, y.1 told f records s));
   looks = λ es h place op g i. let x = base.looks es h place op g i.0 in let y = a.looks es h place op g i.0 i.1 in (y.0, λ told f. (x.1 told f, y.1 told f));
 }

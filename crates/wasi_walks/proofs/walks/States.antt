@@ -7,7 +7,7 @@ use Rattle.wasi_walks.proofs.Words.{name_of, output_of, place_of, refl, sym, tab
 use Rattle.wasi_walks.proofs.Words.{watch_of, watched_by, with_handle, with_records, ℕ, ⊤, ◌==◌, ◌∙◌, ◌≡◌}
 use Rattle.wasi_world.specs.declared.ids.Ids.{Ids}
 use Rattle.wasi_walks.proofs.walks.Moves.{Own, Used, Here, put, Found, record_of, udp_record_of, tcp_place, udp_place, Made, Past, Unmade, Joined}
-use Rattle.wasi_host.specs.declared.kind.Kind.TheVariants.{Udp2, Incoming, Outgoing, Lookup}
+use Rattle.wasi_host.specs.declared.kind.Kind.TheVariants.{Udp2, PlainInput, PlainOutput, Incoming, Outgoing, Lookup}
 use Rattle.wasi_host.specs.Kinds.{udp_of, incoming_of, outgoing_of}
 use Rattle.wasi_walks.proofs.Lists.{value_front, tcp2_seam}
 use Rattle.wasi_walks.proofs.walks.Law.{HasRecord, Given, given_then}
@@ -95,6 +95,8 @@ watched_record (Some (Output n)) w e = let p : Watched.Output n ≡ w = cc in ap
 watched_record (Some (Incoming n)) w e = let p : Watched.Incoming n ≡ w = cc in ap tcp_place p
 watched_record (Some (Outgoing n)) w e = let p : Watched.Outgoing n ≡ w = cc in ap tcp_place p
 watched_record (Some (Lookup n)) w e = let p : Watched.Lookup n ≡ w = cc in ap tcp_place p
+watched_record (Some (PlainInput i)) w e = let p : Watched.Plain ≡ w = cc in ap tcp_place p
+watched_record (Some (PlainOutput o)) w e = let p : Watched.Plain ≡ w = cc in ap tcp_place p
 watched_record _ w e = absurd (cc)
 
 pub watch_record : (k : Option Kind) (w : Watched) → watch_of k ≡ Some w → record_of k ≡ tcp_place w
@@ -122,6 +124,8 @@ watched_udp (Some (Output n)) w e = let p : Watched.Output n ≡ w = cc in ap ud
 watched_udp (Some (Incoming n)) w e = let p : Watched.Incoming n ≡ w = cc in ap udp_place p
 watched_udp (Some (Outgoing n)) w e = let p : Watched.Outgoing n ≡ w = cc in ap udp_place p
 watched_udp (Some (Lookup n)) w e = let p : Watched.Lookup n ≡ w = cc in ap udp_place p
+watched_udp (Some (PlainInput i)) w e = let p : Watched.Plain ≡ w = cc in ap udp_place p
+watched_udp (Some (PlainOutput o)) w e = let p : Watched.Plain ≡ w = cc in ap udp_place p
 watched_udp _ w e = absurd (cc)
 
 -- a lookup

@@ -1,23 +1,23 @@
 -- A pending call continues; each step is made of moves, and so is a line while a call is pending.
 use Rattle.wasi_walks.proofs.Words.{Answer, Err, Give, InProgress, IsBacklogSet, List, Machine, None, Ok, Option, Records, Result, Some, Standing}
 use Rattle.wasi_walks.proofs.Words.{StandingCall, Step, Stop, Tcp2Socket, TcpSetting, TheBacklog, WasiSocketsCtx, asks_while, call_of, call_place}
-use Rattle.wasi_walks.proofs.Words.{check_write_asks, chosen, context_at, false, flush_asks, get_option_asks, go_on, inl, input_at, is_bind}
-use Rattle.wasi_walks.proofs.Words.{is_guest_call, is_listen, kind_at, output_at, own_of, read_state_asks, reader_asks, rebind_at, refl, relisten_at}
+use Rattle.wasi_walks.proofs.Words.{chosen, context_at, false, get_option_asks, go_on, inl, is_bind}
+use Rattle.wasi_walks.proofs.Words.{is_guest_call, is_listen, kind_at, own_of, rebind_at, refl, relisten_at}
 use Rattle.wasi_walks.proofs.Words.{resume_call, resumed, socket_at, step_asks, subst, sym, true, unstood, watch_of}
-use Rattle.wasi_walks.proofs.Words.{watched_by, with_store, writer_asks, ℕ, ◌≡◌}
+use Rattle.wasi_walks.proofs.Words.{watched_by, with_store, ℕ, ◌≡◌}
 use Rattle.wasi_world.specs.declared.ids.Ids.{Ids}
 use Rattle.wasi_addr.specs.Clamp.{clamped_backlog}
 use Rattle.wasi_world.specs.declared.call.Opt.{Opt}
 use Rattle.wasi_common.specs.Options.{value_set}
 use Rattle.wasi_steps.specs.Settings.{AnOption}
 use Rattle.wasi_walks.specs.Licence.{IsSetTo, SetsOption, SetsBacklog}
-use Rattle.std.specs.Prelude.{⊤}
-use Rattle.wasi_walks.proofs.walks.Writes.{may}
-use Rattle.wasi_walks.proofs.walks.Moves.{NoStartStands, IsSettled, Own, Unused, ANetwork, Spends, Used, Leaves, RecallsStreams, Resumes, Unstands}
-use Rattle.wasi_walks.proofs.walks.Law.{Law, Walks, give, and_then, and_given, by_if, move, gives, mark, create, put_same, from}
+use Rattle.std.specs.Prelude.{⊤, ◌⊎◌}
+use Rattle.wasi_walks.proofs.walks.Writes.{may, AsLet}
+use Rattle.wasi_walks.proofs.walks.Moves.{CallsStreams, Here, IsStreamCall, NoStartStands, RecallsStreamCall, IsSettled, Own, Unused, ANetwork, Spends, Used, Leaves, RecallsStreams, Resumes, Unstands}
+use Rattle.wasi_walks.proofs.walks.Law.{BeginsWrites, Law, Walks, give, and_then, and_given, by_if, move, gives, mark, create, put_same, from}
 use Rattle.wasi_walks.proofs.walks.Sockets.{WaitsSo, get_walks, listen_given, poll_bind_walks, poll_listen_walks, polled_given}
-use Rattle.wasi_walks.proofs.walks.Streams.{read_walks, check_walks, subscribe_walks, writer_walks, drop_walks, turn_walks, ready_walks, reader_walks, write_on_walks, stream_walks as stream_call_walks, drop_output_walks}
-use Rattle.wasi_walks.proofs.walks.States.{At, Over, OverWith, udp_record, Put, Starts, input_record, output_record, socket_record, stands_so, there}
+use Rattle.wasi_walks.proofs.walks.Streams.{subscribe_walks, drop_walks, turn_walks, ready_walks, drop_output_walks}
+use Rattle.wasi_walks.proofs.walks.States.{At, Over, OverWith, udp_record, Put, Starts, socket_record, stands_so, there}
 use Rattle.wasi_walks.proofs.walks.SocketSteps.{finish_started_walks, local_at_walks, shutdown_at_walks, start_connect_walks, start_bind_walks, looked_walks, set_chosen_walks, remote_at_walks, on_socket, finish_on_walks, as_left, answered_walks}
 use Rattle.wasi_walks.proofs.walks.ListenSteps.{accept_on_walks, start_listen_at_walks}
 use Rattle.wasi_host.specs.Records.{tcp2_at, open_at}
@@ -31,12 +31,52 @@ use Rattle.wasi_walks.proofs.walks.Receives.{receive_walks}
 use Rattle.wasi_walks.proofs.walks.Lookups.{next_address_walks, resolve_walks}
 use Rattle.wasi_walks.proofs.walks.Sends.{check_send_walks, drop_outgoing_walks, send_walks}
 use Rattle.wasi_walks.proofs.walks.Udp.{on_udp, udp_local_at_walks, udp_get_at_walks, udp_set_at_walks, start_udp_bind_walks, finish_udp_bind_walks, rebind_udp_walks, create_on_walks, create_udp_walks}
+use Rattle.wasi_walks.proofs.Words.{Asks, first_ids, handles_of, inr}
+use Rattle.wasi_streams.specs.Streams.{zeros}
+use Rattle.wasi_host.specs.declared.kind.Kind.TheVariants.{PlainInput, PlainOutput}
+use Rattle.wasi_host.specs.declared.kind.PlainInput.TheVariants as plain_input
+use Rattle.wasi_host.specs.declared.kind.PlainOutput.TheVariants as plain_output
+use Rattle.wasi_walks.proofs.walks.Blocking.{WritesNone, blocking_flush_walks, blocking_read_walks, blocking_skip_walks, blocking_splice_walks, blocking_write_walks, blocking_zeroes_walks, unblock_walks}
+use Rattle.wasi_walks.proofs.walks.Calls.{Calling, calls_over, check_asks_walks, flushed_asks_walks, read_asks_walks, skip_asks_walks, write_asks_walks}
+use Rattle.wasi_walks.proofs.walks.Cancels.{cancel_walks}
+use Rattle.wasi_walks.proofs.walks.Pipes.{input_pipe_walks, output_pipe_walks, plain_walks}
+use Rattle.wasi_walks.proofs.walks.Splices.{splice_walks}
 
 -- it makes no handle
 abbrev MakesNoHandle : StandingCall → Type 0
 MakesNoHandle (StandingCall.UdpCreate place) = ⊥
 MakesNoHandle (StandingCall.UdpConnect place handle) = ⊥
+MakesNoHandle (StandingCall.Blocking call) = ⊥
 MakesNoHandle _ = ⊤
+
+-- the pending call writes nothing after it asked
+abbrev ContinuesSimply : StandingCall → Type 0
+ContinuesSimply (StandingCall.Blocking call) = WritesNone call
+ContinuesSimply _ = ⊤
+
+abbrev ResumesSimply : Option Standing → Type 0
+ResumesSimply None = ⊤
+ResumesSimply (Some s) = ContinuesSimply s.call
+
+-- nor does the step, which is done beside this pending call
+abbrev IsSimpleAt : Option Standing → Step → Type 0
+IsSimpleAt o (Step.Splice ctx output input len) = ⊥
+IsSimpleAt o (Step.BlockingWrite ctx output bytes) = ⊥
+IsSimpleAt o (Step.BlockingZeroes ctx output len) = ⊥
+IsSimpleAt o (Step.BlockingSplice ctx output input len) = ⊥
+IsSimpleAt o (Step.Poll n) = ResumesSimply o
+IsSimpleAt o _ = ⊤
+
+-- The line writes nothing after it asked: it is no splice, no write that blocks, and no poll of one. While a call is pending every
+-- guest call is busy.
+abbrev pub IsSimple : Option Standing → Step → Type 0
+IsSimple None s = IsSimpleAt None s
+IsSimple (Some c) (Step.Poll n) = ContinuesSimply c.call
+IsSimple (Some c) _ = ⊤
+
+-- what writes after it asked needs a law that lets it
+abbrev MayContinue : {contexts : List WasiSocketsCtx} {line : ℕ} {origin : Step} → Law contexts line origin → StandingCall → Type 0
+MayContinue law call = BeginsWrites law ⊎ ContinuesSimply call
 
 -- what a drop leaves is the machine's store
 dropped_so : (m : Machine) (done : Answer (Unit {0}) × Records) → (gone_on (with_store m (allowed_answer done))).1 ≡ record m { store = done.1 }
@@ -75,6 +115,7 @@ module _ {contexts : List WasiSocketsCtx} {line : ℕ} {origin : Step} {law : La
     go_on_walks (StandingCall.DropOutgoing place) k = drop_outgoing_walks ids m place (λ done. gone_on (with_store m (allowed_answer done))) (dropped_so m)
     go_on_walks (StandingCall.UdpCreate place) k = absurd k
     go_on_walks (StandingCall.UdpConnect place handle) k = absurd k
+    go_on_walks (StandingCall.Blocking call) k = absurd k
 
     streamed_walks : (done : Result (Answer (ℕ × ℕ)) Stop × Machine) → Walks law (Over done.1) OverWith (Give (streams_on done))
     streamed_walks (Ok answer, m) = give _
@@ -91,18 +132,29 @@ module _ {contexts : List WasiSocketsCtx} {line : ℕ} {origin : Step} {law : La
   resumed_walks (Err why, m) = give _
 
   -- the call is taken out, and continues
-  taken_walks : (m : Machine) (ids : Ids) (call : StandingCall) → m.store.standing ≡ Some (standing_as ids call) → Walks law (Starts m Unused) OverWith (go_on (record m { store = unstood m.store }) ids call)
-  taken_walks m ids (StandingCall.UdpCreate place) e = move (Unstands _) (move (Spends _ refl) (create_goes_on ids (record m { store = unstood m.store }) tt place))
-  taken_walks m ids (StandingCall.UdpConnect place handle) e = move (Resumes _ (standing_as ids (StandingCall.UdpConnect place handle)) e tt) (move (RecallsStreams _ ids place handle e) (move (Unstands _) (move (Spends _ refl) (streams_go_on ids (record m { store = unstood m.store }) tt place handle))))
-  taken_walks m ids (StandingCall.DropOutgoing place) e = move (Resumes _ (standing_as ids (StandingCall.DropOutgoing place)) e tt) (move (Unstands _) (move (Spends _ refl) (go_on_walks ids (record m { store = unstood m.store }) tt (StandingCall.DropOutgoing place) tt)))
-  taken_walks m ids (StandingCall.Bind place) e = move (Resumes _ (standing_as ids (StandingCall.Bind place)) e tt) (move (Unstands _) (move (Spends _ refl) (go_on_walks ids (record m { store = unstood m.store }) tt (StandingCall.Bind place) tt)))
-  taken_walks m ids (StandingCall.Listen place) e = move (Resumes _ (standing_as ids (StandingCall.Listen place)) e tt) (move (Unstands _) (move (Spends _ refl) (go_on_walks ids (record m { store = unstood m.store }) tt (StandingCall.Listen place) tt)))
-  taken_walks m ids (StandingCall.DropOutput place) e = move (Resumes _ (standing_as ids (StandingCall.DropOutput place)) e tt) (move (Unstands _) (move (Spends _ refl) (go_on_walks ids (record m { store = unstood m.store }) tt (StandingCall.DropOutput place) tt)))
-  taken_walks m ids (StandingCall.UdpBind place) e = move (Resumes _ (standing_as ids (StandingCall.UdpBind place)) e tt) (move (Unstands _) (move (Spends _ refl) (go_on_walks ids (record m { store = unstood m.store }) tt (StandingCall.UdpBind place) tt)))
+  taken_walks : (m : Machine) (ids : Ids) (call : StandingCall) → MayContinue law call → m.store.standing ≡ Some (standing_as ids call) → Walks law (Starts m Unused) OverWith (go_on (record m { store = unstood m.store }) ids call)
+  taken_walks m ids (StandingCall.UdpCreate place) lets e = move (Unstands _) (move (Spends _ refl) (create_goes_on ids (record m { store = unstood m.store }) tt place))
+  taken_walks m ids (StandingCall.Blocking call) lets e = move (RecallsStreamCall _ ids call e) (move (Unstands _) (move (Spends _ refl) (unblock_walks ids (record m { store = unstood m.store }) call lets)))
+  taken_walks m ids (StandingCall.UdpConnect place handle) lets e = move (Resumes _ (standing_as ids (StandingCall.UdpConnect place handle)) e tt) (move (RecallsStreams _ ids place handle e) (move (Unstands _) (move (Spends _ refl) (streams_go_on ids (record m { store = unstood m.store }) tt place handle))))
+  taken_walks m ids (StandingCall.DropOutgoing place) lets e = move (Resumes _ (standing_as ids (StandingCall.DropOutgoing place)) e tt) (move (Unstands _) (move (Spends _ refl) (go_on_walks ids (record m { store = unstood m.store }) tt (StandingCall.DropOutgoing place) tt)))
+  taken_walks m ids (StandingCall.Bind place) lets e = move (Resumes _ (standing_as ids (StandingCall.Bind place)) e tt) (move (Unstands _) (move (Spends _ refl) (go_on_walks ids (record m { store = unstood m.store }) tt (StandingCall.Bind place) tt)))
+  taken_walks m ids (StandingCall.Listen place) lets e = move (Resumes _ (standing_as ids (StandingCall.Listen place)) e tt) (move (Unstands _) (move (Spends _ refl) (go_on_walks ids (record m { store = unstood m.store }) tt (StandingCall.Listen place) tt)))
+  taken_walks m ids (StandingCall.DropOutput place) lets e = move (Resumes _ (standing_as ids (StandingCall.DropOutput place)) e tt) (move (Unstands _) (move (Spends _ refl) (go_on_walks ids (record m { store = unstood m.store }) tt (StandingCall.DropOutput place) tt)))
+  taken_walks m ids (StandingCall.UdpBind place) lets e = move (Resumes _ (standing_as ids (StandingCall.UdpBind place)) e tt) (move (Unstands _) (move (Spends _ refl) (go_on_walks ids (record m { store = unstood m.store }) tt (StandingCall.UdpBind place) tt)))
 
-  pub resume_walks : (m : Machine) (n : ℕ) (o : Option Standing) → call_of m.store.standing n ≡ o → Walks law (Starts m Unused) OverWith (resume_call m o)
-  resume_walks m n None e = gives _ (Spends _ refl)
-  resume_walks m n (Some s) e = and_then (taken_walks m s.ids s.call (stands_so m.store.standing n s e).0) resumed_walks
+  pub resume_walks : (m : Machine) (n : ℕ) (o : Option Standing) → call_of m.store.standing n ≡ o → BeginsWrites law ⊎ ResumesSimply m.store.standing → Walks law (Starts m Unused) OverWith (resume_call m o)
+  resume_walks m n None e lets = gives _ (Spends _ refl)
+  resume_walks m n (Some s) e lets =
+      let stands = (stands_so m.store.standing n s e).0 in
+      and_then (taken_walks m s.ids s.call (elim lets [ inl begins ↦ inl begins | inr simple ↦ inr (subst ResumesSimply stands simple) ]) stands) resumed_walks
+
+  -- == the calls of streams of a line
+  -- the line's own handles, where nothing is written, or where that was begun
+  pub calls : {A : Type 0} {own : Own} {m : Machine} {end : A → Here} {asks : Asks A} → IsStreamCall origin → Walks law (Calling line (handles_of origin) None own m) end asks → Walks law (Starts m own) end asks
+  calls is w = move (CallsStreams _ is) w
+
+  pub begun_calls : {A : Type 0} {m : Machine} {end : A → Here} {asks : Asks A} → IsStreamCall origin → Walks law (Calling line (handles_of origin) None Used m) end asks → Walks law (Starts m Unused) end asks
+  begun_calls is w = calls is (move (Spends _ refl) w)
 
 -- what a set sets, by what its setting chooses
 option_set : (c s : ℕ) (setting : TcpSetting) (option : Opt) (value : ℕ) → chosen setting ≡ AnOption option value → IsSetTo option (value_set option value) (Step.TcpSet c s setting)
@@ -124,58 +176,88 @@ none_stands : {o : Option Standing} → o ≡ None → NoStartStands o
 none_stands e = subst NoStartStands (sym e) tt
 
 -- each step is made of moves; where a guest calls, nothing is pending
-pub step_walks : {contexts : List WasiSocketsCtx} (line : ℕ) (s : Step) {law : Law contexts line s} (m : Machine) → (is_guest_call s ≡ true → m.store.standing ≡ None) → Walks law (Starts m (may m s)) OverWith (step_asks contexts m line s)
-step_walks line (Step.Network c) m f = move (Spends _ refl) (and_then (and_then (mark (ANetwork c refl)) (λ made. give _)) (λ done. give _))
-step_walks {contexts} line (Step.TcpCreate c family) m f = and_then (create (context_at contexts c) family (refl, refl) refl refl refl) (λ done. give _)
-step_walks line (Step.TcpStartBind c s n a) m f = and_then (start_bind_walks m s n a (inl refl) refl (none_stands (f refl))) (λ done. give _)
-step_walks line (Step.TcpFinishBind c s) m f = as_left (finish_started_walks m is_bind bind_settles (socket_at m s))
-step_walks line (Step.TcpStartConnect c s n a) m f = and_then (start_connect_walks m s n a (inl refl) refl) (λ done. give _)
-step_walks line (Step.TcpFinishConnect c s) m f = and_then (finish_on_walks c s m (socket_at m s) refl (inl refl) refl) (λ done. give _)
-step_walks line (Step.TcpStartListen c s) m f = and_then (on_socket m s (socket_at m s) (inl refl) (socket_record (kind_at m.table s)) (λ place. start_listen_at_walks m place (tcp2_at m.store.records place) refl tt (none_stands (f refl)))) (λ done. give _)
-step_walks line (Step.TcpFinishListen c s) m f = as_left (finish_started_walks m is_listen listen_settles (socket_at m s))
-step_walks line (Step.TcpAccept c s) m f = and_then (accept_on_walks c s m (socket_at m s) refl (inl refl) refl) (λ done. give _)
-step_walks line (Step.TcpLocalAddress c s) m f = and_then (on_socket m s (socket_at m s) (inl refl) (socket_record (kind_at m.table s)) (λ place. local_at_walks m place (tcp2_at m.store.records place) refl)) (λ done. give _)
-step_walks line (Step.TcpRemoteAddress c s) m f = and_then (on_socket m s (socket_at m s) (inl refl) (socket_record (kind_at m.table s)) (λ place. remote_at_walks m place (tcp2_at m.store.records place) refl)) (λ done. give _)
-step_walks line (Step.TcpIsListening c s) m f = gives _ (Spends _ refl)
-step_walks line (Step.TcpAddressFamily c s) m f = gives _ (Spends _ refl)
-step_walks line (Step.TcpGet c s option) m f = and_then (on_socket m s (socket_at m s) (inl refl) (socket_record (kind_at m.table s)) (λ place. looked_walks m place (λ x. get_option_asks (own_of line) x option) (tcp2_at m.store.records place) refl (λ r here. get_walks here refl r option refl refl))) (λ done. give _)
-step_walks line (Step.TcpSet c s setting) m f = and_then (set_chosen_walks m s (socket_at m s) (chosen setting) (inl refl) (socket_record (kind_at m.table s)) (option_set c s setting) (backlog_set c s setting)) (λ done. give _)
-step_walks line (Step.TcpShutdown c s how) m f = and_then (on_socket m s (socket_at m s) (inl refl) (socket_record (kind_at m.table s)) (λ place. shutdown_at_walks m place how (tcp2_at m.store.records place) refl)) (λ done. give _)
-step_walks {contexts} line (Step.UdpCreate c family) m f = and_then (create_udp_walks m (context_at contexts c) family (refl, refl) (none_stands (f refl))) (λ done. give _)
-step_walks line (Step.UdpStartBind c s n a) m f = and_then (start_udp_bind_walks m s n a (inl refl) refl (none_stands (f refl))) (λ done. give _)
-step_walks line (Step.UdpFinishBind c s) m f = as_left (finish_udp_bind_walks m (udp_socket_at m s))
-step_walks line (Step.UdpLocalAddress c s) m f = and_then (on_udp m s (udp_socket_at m s) (inl refl) (udp_record (kind_at m.table s)) (λ place. udp_local_at_walks m place (open_at m.store.records place) refl)) (λ done. give _)
-step_walks line (Step.UdpRemoteAddress c s) m f = gives _ (Spends _ refl)
-step_walks line (Step.UdpAddressFamily c s) m f = gives _ (Spends _ refl)
-step_walks line (Step.UdpGet c s option) m f = and_then (on_udp m s (udp_socket_at m s) (inl refl) (udp_record (kind_at m.table s)) (λ place. udp_get_at_walks m place (udp_opt option) refl (open_at m.store.records place) refl)) (λ done. give _)
-step_walks line (Step.UdpSet c s setting) m f = and_then (on_udp m s (udp_socket_at m s) (inl refl) (udp_record (kind_at m.table s)) (λ place. udp_set_at_walks m place (udp_chosen setting).0 (udp_chosen setting).1 (refl, refl) (open_at m.store.records place) refl)) (λ done. give _)
-step_walks line (Step.UdpStream c s remote) m f = and_then (stream_walks m c s remote (udp_socket_at m s) refl refl (inl refl) (none_stands (f refl))) (λ done. give _)
-step_walks line (Step.UdpReceive c incoming most) m f = and_then (receive_walks m incoming most (inl refl)) (λ done. give _)
-step_walks line (Step.UdpCheckSend c outgoing) m f = as_left (check_send_walks m (outgoing_at m outgoing))
-step_walks line (Step.UdpSend c outgoing ds) m f = and_then (send_walks m c outgoing ds refl (inl refl)) (λ done. give _)
-step_walks line (Step.Resolve c network name) m f = and_then (resolve_walks m c network name refl) (λ done. give _)
-step_walks line (Step.ResolveNext c lookup) m f = as_left (next_address_walks m (lookup_number m lookup))
-step_walks line (Step.NetworkErrorCode c e) m f = gives _ (Spends _ refl)
-step_walks line (Step.Read c input len) m f = and_then (stream_call_walks m input (reader_asks (λ r. read_state_asks (own_of line) r len)) (input_at m input) (inl refl) refl (input_record (kind_at m.table input)) (λ place r here. reader_walks here r (λ w. read_state_asks (own_of line) w len) r.streams refl (λ s w. read_walks here refl r s w len))) (λ done. give _)
-step_walks line (Step.CheckWrite c output) m f = and_then (stream_call_walks m output (writer_asks (check_write_asks (own_of line))) (output_at m output) (inl refl) refl (output_record (kind_at m.table output)) (λ place r here. writer_walks here r (check_write_asks (own_of line)) r.streams refl (check_walks here refl r))) (λ done. give _)
-step_walks line (Step.Write c output bytes) m f = and_then (write_on_walks m output bytes (output_at m output) (inl refl) refl (output_record (kind_at m.table output))) (λ done. give _)
-step_walks line (Step.Flush c output) m f = and_then (stream_call_walks m output (writer_asks flush_asks) (output_at m output) (inl refl) refl (output_record (kind_at m.table output)) (λ place r here. writer_walks here r flush_asks r.streams refl (λ s w. give _))) (λ done. give _)
-step_walks line (Step.Subscribe c s) m f = and_then (subscribe_walks c s m (watched_by (kind_at m.table s)) refl refl) (λ done. give _)
-step_walks line (Step.Ready c p) m f = and_then (ready_walks m p (watch_of (kind_at m.table p)) refl (inl refl)) (λ done. give _)
-step_walks line (Step.Drop c this) m f = and_then (drop_walks m this (kind_at m.table this) (inl refl) refl (none_stands (f refl))) (λ done. give _)
-step_walks line Step.Turn m f = and_then (turn_walks m) (λ done. give _)
-step_walks line (Step.Poll n) m f = and_then (resume_walks m n (call_of m.store.standing n) refl) (λ done. give _)
+pub step_walks : {contexts : List WasiSocketsCtx} (line : ℕ) (s : Step) {law : Law contexts line s} → (m : Machine) → BeginsWrites law ⊎ IsSimpleAt m.store.standing s → (is_guest_call s ≡ true → m.store.standing ≡ None) → Walks law (Starts m (may m s)) OverWith (step_asks contexts m line s)
+step_walks line (Step.Network c) m b f = move (Spends _ refl) (and_then (and_then (mark (ANetwork c refl)) (λ made. give _)) (λ done. give _))
+step_walks {contexts} line (Step.TcpCreate c family) m b f = and_then (create (context_at contexts c) family (refl, refl) refl refl refl) (λ done. give _)
+step_walks line (Step.TcpStartBind c s n a) m b f = and_then (start_bind_walks m s n a (inl refl) refl (none_stands (f refl))) (λ done. give _)
+step_walks line (Step.TcpFinishBind c s) m b f = as_left (finish_started_walks m is_bind bind_settles (socket_at m s))
+step_walks line (Step.TcpStartConnect c s n a) m b f = and_then (start_connect_walks m s n a (inl refl) refl) (λ done. give _)
+step_walks line (Step.TcpFinishConnect c s) m b f = and_then (finish_on_walks c s m (socket_at m s) refl (inl refl) refl) (λ done. give _)
+step_walks line (Step.TcpStartListen c s) m b f = and_then (on_socket m s (socket_at m s) (inl refl) (socket_record (kind_at m.table s)) (λ place. start_listen_at_walks m place (tcp2_at m.store.records place) refl tt (none_stands (f refl)))) (λ done. give _)
+step_walks line (Step.TcpFinishListen c s) m b f = as_left (finish_started_walks m is_listen listen_settles (socket_at m s))
+step_walks line (Step.TcpAccept c s) m b f = and_then (accept_on_walks c s m (socket_at m s) refl (inl refl) refl) (λ done. give _)
+step_walks line (Step.TcpLocalAddress c s) m b f = and_then (on_socket m s (socket_at m s) (inl refl) (socket_record (kind_at m.table s)) (λ place. local_at_walks m place (tcp2_at m.store.records place) refl)) (λ done. give _)
+step_walks line (Step.TcpRemoteAddress c s) m b f = and_then (on_socket m s (socket_at m s) (inl refl) (socket_record (kind_at m.table s)) (λ place. remote_at_walks m place (tcp2_at m.store.records place) refl)) (λ done. give _)
+step_walks line (Step.TcpIsListening c s) m b f = gives _ (Spends _ refl)
+step_walks line (Step.TcpAddressFamily c s) m b f = gives _ (Spends _ refl)
+step_walks line (Step.TcpGet c s option) m b f = and_then (on_socket m s (socket_at m s) (inl refl) (socket_record (kind_at m.table s)) (λ place. looked_walks m place (λ x. get_option_asks (own_of line) x option) (tcp2_at m.store.records place) refl (λ r here. get_walks here refl r option refl refl))) (λ done. give _)
+step_walks line (Step.TcpSet c s setting) m b f = and_then (set_chosen_walks m s (socket_at m s) (chosen setting) (inl refl) (socket_record (kind_at m.table s)) (option_set c s setting) (backlog_set c s setting)) (λ done. give _)
+step_walks line (Step.TcpShutdown c s how) m b f = and_then (on_socket m s (socket_at m s) (inl refl) (socket_record (kind_at m.table s)) (λ place. shutdown_at_walks m place how (tcp2_at m.store.records place) refl)) (λ done. give _)
+step_walks {contexts} line (Step.UdpCreate c family) m b f = and_then (create_udp_walks m (context_at contexts c) family (refl, refl) (none_stands (f refl))) (λ done. give _)
+step_walks line (Step.UdpStartBind c s n a) m b f = and_then (start_udp_bind_walks m s n a (inl refl) refl (none_stands (f refl))) (λ done. give _)
+step_walks line (Step.UdpFinishBind c s) m b f = as_left (finish_udp_bind_walks m (udp_socket_at m s))
+step_walks line (Step.UdpLocalAddress c s) m b f = and_then (on_udp m s (udp_socket_at m s) (inl refl) (udp_record (kind_at m.table s)) (λ place. udp_local_at_walks m place (open_at m.store.records place) refl)) (λ done. give _)
+step_walks line (Step.UdpRemoteAddress c s) m b f = gives _ (Spends _ refl)
+step_walks line (Step.UdpAddressFamily c s) m b f = gives _ (Spends _ refl)
+step_walks line (Step.UdpGet c s option) m b f = and_then (on_udp m s (udp_socket_at m s) (inl refl) (udp_record (kind_at m.table s)) (λ place. udp_get_at_walks m place (udp_opt option) refl (open_at m.store.records place) refl)) (λ done. give _)
+step_walks line (Step.UdpSet c s setting) m b f = and_then (on_udp m s (udp_socket_at m s) (inl refl) (udp_record (kind_at m.table s)) (λ place. udp_set_at_walks m place (udp_chosen setting).0 (udp_chosen setting).1 (refl, refl) (open_at m.store.records place) refl)) (λ done. give _)
+step_walks line (Step.UdpStream c s remote) m b f = and_then (stream_walks m c s remote (udp_socket_at m s) refl refl (inl refl) (none_stands (f refl))) (λ done. give _)
+step_walks line (Step.UdpReceive c incoming most) m b f = and_then (receive_walks m incoming most (inl refl)) (λ done. give _)
+step_walks line (Step.UdpCheckSend c outgoing) m b f = as_left (check_send_walks m (outgoing_at m outgoing))
+step_walks line (Step.UdpSend c outgoing ds) m b f = and_then (send_walks m c outgoing ds refl (inl refl)) (λ done. give _)
+step_walks line (Step.Resolve c network name) m b f = and_then (resolve_walks m c network name refl) (λ done. give _)
+step_walks line (Step.ResolveNext c lookup) m b f = as_left (next_address_walks m (lookup_number m lookup))
+step_walks line (Step.NetworkErrorCode c e) m b f = gives _ (Spends _ refl)
+step_walks line (Step.Read c input len) m b f = and_then (begun_calls tt (calls_over (read_asks_walks m input (inl refl) len))) (λ done. give _)
+step_walks line (Step.CheckWrite c output) m b f = and_then (begun_calls tt (calls_over (check_asks_walks m output (inl refl)))) (λ done. give _)
+step_walks line (Step.Write c output bytes) m b f = and_then (calls tt (calls_over (write_asks_walks m output (inl refl) bytes (AsLet refl)))) (λ done. give _)
+step_walks line (Step.Flush c output) m b f = and_then (begun_calls tt (calls_over (flushed_asks_walks m output (inl refl)))) (λ done. give _)
+step_walks line (Step.Subscribe c s) m b f = and_then (subscribe_walks c s m (watched_by (kind_at m.table s)) refl refl) (λ done. give _)
+step_walks line (Step.Ready c p) m b f = and_then (ready_walks m p (watch_of (kind_at m.table p)) refl (inl refl)) (λ done. give _)
+step_walks line (Step.Drop c this) m b f = and_then (drop_walks m this (kind_at m.table this) (inl refl) refl (none_stands (f refl))) (λ done. give _)
+step_walks line (Step.PipeIn c bytes) m b f = and_then (input_pipe_walks m bytes tt) (λ done. give _)
+step_walks line (Step.PipeOut c capacity) m b f = and_then (output_pipe_walks m capacity tt) (λ done. give _)
+step_walks line (Step.PipeContents c output) m b f = gives _ (Spends _ refl)
+step_walks line (Step.Sink c) m b f = and_then (plain_walks m (PlainOutput plain_output.Sink) tt) (λ done. give _)
+step_walks line (Step.ClosedIn c) m b f = and_then (plain_walks m (PlainInput plain_input.Closed) tt) (λ done. give _)
+step_walks line (Step.ClosedOut c) m b f = and_then (plain_walks m (PlainOutput plain_output.Closed) tt) (λ done. give _)
+step_walks line (Step.Skip c input len) m b f = and_then (begun_calls tt (calls_over (skip_asks_walks m input (inl refl) len))) (λ done. give _)
+step_walks line (Step.WriteZeroes c output len) m b f = and_then (calls tt (calls_over (write_asks_walks m output (inl refl) (zeros len) (AsLet refl)))) (λ done. give _)
+step_walks line (Step.Splice c output input len) m (inl begins) f = and_then (begun_calls tt (splice_walks begins output input (inl refl) (inr (inl refl)) m len)) (λ done. give _)
+step_walks line (Step.Splice c output input len) m (inr none) f = absurd none
+step_walks line (Step.BlockingRead c input len) m b f = and_then (begun_calls tt (blocking_read_walks (first_ids line) input len m)) (λ done. give _)
+step_walks line (Step.BlockingSkip c input len) m b f = and_then (begun_calls tt (blocking_skip_walks (first_ids line) input len m)) (λ done. give _)
+step_walks line (Step.BlockingWrite c output bytes) m (inl begins) f = and_then (begun_calls tt (blocking_write_walks (first_ids line) output begins m bytes)) (λ done. give _)
+step_walks line (Step.BlockingWrite c output bytes) m (inr none) f = absurd none
+step_walks line (Step.BlockingZeroes c output len) m (inl begins) f = and_then (begun_calls tt (blocking_zeroes_walks (first_ids line) output begins m len)) (λ done. give _)
+step_walks line (Step.BlockingZeroes c output len) m (inr none) f = absurd none
+step_walks line (Step.BlockingFlush c output) m b f = and_then (begun_calls tt (blocking_flush_walks (first_ids line) output m)) (λ done. give _)
+step_walks line (Step.BlockingSplice c output input len) m (inl begins) f = and_then (begun_calls tt (blocking_splice_walks (first_ids line) begins output input len m)) (λ done. give _)
+step_walks line (Step.BlockingSplice c output input len) m (inr none) f = absurd none
+step_walks line (Step.Cancel n) m b f = and_then (cancel_walks m (call_of m.store.standing n)) (λ done. give _)
+step_walks line Step.Turn m b f = and_then (turn_walks m) (λ done. give _)
+step_walks line (Step.Poll n) m b f = and_then (resume_walks m n (call_of m.store.standing n) refl b) (λ done. give _)
 
 -- what a line may begin to write: nothing, while a call is pending
 abbrev pub may_while : Machine → Step → Option Standing → Own
 may_while m s None = may m s
 may_while m s (Some c) = Unused
 
-goes_on : {contexts : List WasiSocketsCtx} (line : ℕ) (s : Step) {law : Law contexts line s} (m : Machine) → is_guest_call s ≡ false → Walks law (Starts m Unused) OverWith (step_asks contexts m line s)
-goes_on line Step.Turn m g = step_walks line Step.Turn m (λ c. absurd (cc))
-goes_on line (Step.Poll n) m g = step_walks line (Step.Poll n) m (λ c. absurd (cc))
-goes_on line _ m g = absurd (cc)
+-- what is done while a call is pending
+goes_on : {contexts : List WasiSocketsCtx} (line : ℕ) (s : Step) {law : Law contexts line s} (m : Machine) (c : Standing) → m.store.standing ≡ Some c → BeginsWrites law ⊎ IsSimple (Some c) s → is_guest_call s ≡ false → Walks law (Starts m Unused) OverWith (step_asks contexts m line s)
+goes_on line Step.Turn m c e b g = step_walks line Step.Turn m (inr tt) (λ guest. absurd (cc))
+goes_on line (Step.Cancel n) m c e b g = step_walks line (Step.Cancel n) m (inr tt) (λ guest. absurd (cc))
+goes_on line (Step.Poll n) m c e b g = step_walks line (Step.Poll n) m (elim b [ inl begins ↦ inl begins | inr simple ↦ inr (subst ResumesSimply (sym e) simple) ]) (λ guest. absurd (cc))
+goes_on line _ m c e b g = absurd (cc)
 
-pub machine_walks : {contexts : List WasiSocketsCtx} (line : ℕ) (s : Step) {law : Law contexts line s} (m : Machine) (standing : Option Standing) → m.store.standing ≡ standing → Walks law (Starts m (may_while m s standing)) OverWith (asks_while contexts m line s standing)
-machine_walks line s m None e = step_walks line s m (λ guest. e)
-machine_walks line s m (Some c) e = by_if (is_guest_call s) (λ busy. gives _ (Spends _ refl)) (λ other. goes_on line s m other)
+line_walks : {contexts : List WasiSocketsCtx} (line : ℕ) (s : Step) {law : Law contexts line s} (m : Machine) (standing : Option Standing) → BeginsWrites law ⊎ IsSimple standing s → m.store.standing ≡ standing → Walks law (Starts m (may_while m s standing)) OverWith (asks_while contexts m line s standing)
+line_walks line s m None b e = step_walks line s m (elim b [ inl begins ↦ inl begins | inr simple ↦ inr (subst (λ (o : Option Standing). IsSimpleAt o s) (sym e) simple) ]) (λ guest. e)
+line_walks line s m (Some c) b e = by_if (is_guest_call s) (λ busy. gives _ (Spends _ refl)) (λ other. goes_on line s m c e b other)
+
+-- a line, under a law that lets writes begin
+pub machine_walks : {contexts : List WasiSocketsCtx} (line : ℕ) (s : Step) {law : Law contexts line s} → BeginsWrites law → (m : Machine) (standing : Option Standing) → m.store.standing ≡ standing → Walks law (Starts m (may_while m s standing)) OverWith (asks_while contexts m line s standing)
+machine_walks line s begins m standing e = line_walks line s m standing (inl begins) e
+
+-- and one that writes nothing after it asked, under any law
+pub simple_walks : {contexts : List WasiSocketsCtx} (line : ℕ) (s : Step) {law : Law contexts line s} (m : Machine) (standing : Option Standing) → IsSimple standing s → m.store.standing ≡ standing → Walks law (Starts m (may_while m s standing)) OverWith (asks_while contexts m line s standing)
+simple_walks line s m standing simple e = line_walks line s m standing (inr simple) e

@@ -2,15 +2,15 @@
 -- and turns.
 use Rattle.wasi_walks.proofs.Words.{◌∙◌, Accepts, Answer, Asks, Bool, Done, End, Err, ErrorCode, ErrorValue, Give, Has, HasChildren, Input, Job, Kind}
 use Rattle.wasi_walks.proofs.Words.{List, Listening, Machine, Network, None, Not, NotPermitted, Ok, OpId, Option, Output, Pending, Pollable}
-use Rattle.wasi_walks.proofs.Words.{ReadState, Ready, Records, Refused, Result, ShutdownType, Some, StandingCall, Step, StreamStop, Streams, Tcp2}
+use Rattle.wasi_walks.proofs.Words.{ReadState, Ready, Refused, Result, ShutdownType, Some, StandingCall, Step, StreamStop, Streams, Tcp2}
 use Rattle.wasi_walks.proofs.Words.{Tcp2Socket, TcpReceiveStream, TcpSendStream, Trap, Waits, WasiSocketsCtx, Watched, WriteState, [], after_read}
 use Rattle.wasi_walks.proofs.Words.{allows_weaker, ap, ask_read, begun, bind, check_write_asks, collected, drop_output_at, drop_taken, drop_waits}
 use Rattle.wasi_walks.proofs.Words.{false, first_ids, give_streams_up, gone, handles_of, has_no_child, if◌then◌else◌, is_connect, is_nothing, kind_at}
 use Rattle.wasi_walks.proofs.Words.{length, look_asks, look_in, min, nat_lt, new_job, own_of, permitted, place_in, polled_answer, read_state_asks}
 use Rattle.wasi_walks.proofs.Words.{reader_of, reader_ready_asks, reader_shutdown_asks, ready_end, ready_on, refl, release_asks, release_at}
-use Rattle.wasi_walks.proofs.Words.{shut_streams, side_of, side_up_asks, stream_at, subscribe_on, sym, taken_out, true, turn_machine_asks}
+use Rattle.wasi_walks.proofs.Words.{shut_streams, side_of, side_up_asks, subscribe_on, sym, taken_out, true, turn_machine_asks}
 use Rattle.wasi_walks.proofs.Words.{wait_put, wait_writer, watch_of, watched_by, with_listening, with_permit, with_reader, with_store, with_writer}
-use Rattle.wasi_walks.proofs.Words.{without_handle, write_on_asks, write_state_asks, writer_asks, writer_give_up_asks, writer_of}
+use Rattle.wasi_walks.proofs.Words.{without_handle, write_on_asks, write_state_asks, writer_give_up_asks, writer_of}
 use Rattle.wasi_walks.proofs.Words.{writer_shutdown_asks, writer_side, writing_side, ℕ, ◌==◌, ◌∷◌, ◌≡◌}
 use Rattle.wasi_world.specs.declared.ids.Ids.{Ids}
 use Rattle.wasi_addr.specs.declared.address.ShutdownType.TheVariants.{Receive, Send, Both}
@@ -21,18 +21,18 @@ use Rattle.wasi_host.specs.declared.jobs.HostJob.{HostJob}
 use Rattle.wasi_host.specs.declared.jobs.HostJob.TheVariants.{Write, Datagram}
 use Rattle.wasi_host.specs.declared.jobs.HostJob.TheVariants as jobs
 use Rattle.wasi_host.specs.Shutdowns.{with_streams}
-use Rattle.wasi_walks.proofs.walks.Writes.{may_begin, may_of, may_in, may_at, may}
-use Rattle.wasi_walks.proofs.walks.Moves.{Own, Used, Unused, ToWrite, Here, put, OfReader, OfWriter, Collects, Permits, Lasts, LastsAfter, Closes, Spends, ClosesReader, Writes, BeginsWrite, NoStart, NoStartStands, record_of, MarksError, AnError, Reaches, Leaves, IsGone, Lists, Takes, Past, Stands, APollable, AUdpPollable, ALookupPollable, ReachesUdp, udp_record_of, tcp_place}
+use Rattle.wasi_walks.proofs.walks.Writes.{may_begin, MayWrite, AsLet, AsNone, AsAny}
+use Rattle.wasi_walks.proofs.walks.Moves.{Own, Used, Unused, ToWrite, Here, put, OfReader, OfWriter, Collects, Permits, Lasts, LastsAfter, Closes, Spends, ClosesReader, Writes, BeginsWrite, NoStart, NoStartStands, record_of, APlainPollable, Reaches, Leaves, IsGone, Lists, Takes, Stands, APollable, AUdpPollable, ALookupPollable, ReachesUdp, udp_record_of, tcp_place}
 use Rattle.wasi_walks.proofs.walks.Law.{Law, HasRecord, spent, put_put, Walks, give, and_then, by_if, move, gives, from, found, on, ask, turn, put_same, ends, close, mark, give_up, and_so}
 use Rattle.wasi_tcp.specs.Closing.{close_in}
 use Rattle.wasi_host.specs.Readiness.{ready_listening, ready_idle, ready_socket_by, ready_reader, ready_writer, ready_record, ready_at}
-use Rattle.wasi_host.specs.Jobs.{with_job, begins_job, turned, turn_at, turn_job, turn_jobs}
-use Rattle.wasi_host.specs.StreamCalls.{converted, stream_on, write_on}
+use Rattle.wasi_host.specs.Jobs.{turned, turn_at, turn_job, turn_jobs}
 use Rattle.wasi_walks.proofs.walks.Sockets.{listener_walks, finish_walks}
 use Rattle.wasi_walks.proofs.walks.States.{watched_record, OverWith, At, Starts, watch_record, streams_are, Put, there, Sets, watched_udp, watch_udp, watched_lookup}
+use Rattle.wasi_walks.proofs.walks.Pipes.{drop_input_walks, drop_output_walks as drop_plain_output_walks}
 use Rattle.wasi_walks.proofs.walks.Udp.{release_udp_walks}
 use Rattle.wasi_walks.proofs.walks.Lookups.{drop_lookup_walks, turn_lookup_walks}
-use Rattle.wasi_host.specs.declared.kind.Kind.TheVariants.{Udp2, Incoming, Outgoing, Lookup}
+use Rattle.wasi_host.specs.declared.kind.Kind.TheVariants.{Udp2, PlainInput, PlainOutput, Incoming, Outgoing, Lookup}
 use Rattle.wasi_host.specs.Machine.{answered}
 use Rattle.wasi_walks.proofs.walks.Receives.{drop_incoming_walks, ready_incoming_walks, turn_receive_walks}
 use Rattle.wasi_walks.proofs.walks.Sends.{drop_outgoing_walks, turn_datagram_walks}
@@ -113,7 +113,7 @@ module _ {contexts : List WasiSocketsCtx} {line : ℕ} {origin : Step} {law : La
   writer_shut_walks : (r : Tcp2Socket) (s : Streams) (w : WriteState) → Walks law (put h place (with_writer r s w)) (Writing h place r s) (writer_shutdown_asks (own_of n) w)
   unfolding bind
   writer_shut_walks r s (WriteState.Ready half permit) =
-      let old = with_writer r s (WriteState.Ready half permit) in ask here old at (OfWriter _ refl refl) refl (λ told fits. on here old _ (Writes _ _ _ _ _ (found here old) refl (Closes _ _)) (give _))
+      let old = with_writer r s (WriteState.Ready half permit) in ask here old at (OfWriter _ refl refl) refl (λ told fits. on here old _ (Writes _ _ _ _ _ (found here old) refl (Closes _)) (give _))
   writer_shut_walks r s (WriteState.Writing job) = and_then (finish_in_job r s job job.end refl) (λ done. give _)
   writer_shut_walks r s _ = give _
 
@@ -139,20 +139,37 @@ module _ {contexts : List WasiSocketsCtx} {line : ℕ} {origin : Step} {law : La
 abbrev pub Wrote : {A : Type 0} → Here → ℕ → Tcp2Socket → Streams → A × WriteState → Here
 Wrote h place r s done = record (put h place (with_writer r s done.1)) { own = Used }
 
-module _ {contexts : List WasiSocketsCtx} {line : ℕ} {origin : Step} {law : Law contexts line origin} {h : Here} {place : ℕ} (here : HasRecord h place) (at : h.at ≡ Some (place, line)) where
-  within_walks : (r : Tcp2Socket) (s : Streams) (half : TcpSendStream) (permit b : ℕ) (bytes : List ℕ) (past : Bool) → nat_lt permit (length (b ∷ bytes)) ≡ past → (let may : Own = if past then Unused else ToWrite half.side (b ∷ bytes) in h.own ≡ may)
-      → Walks law (put h place (with_writer r s (WriteState.Ready half permit))) (Wrote h place r s) (if past then Give (Err (stop.Trap NotPermitted), WriteState.Ready half permit) else write_on_asks (own_of line) (WriteState.Writing (new_job (own_of line) half.side (b ∷ bytes))))
-  within_walks r s half permit b bytes true t free = gives _ (Spends _ free)
-  within_walks r s half permit b bytes false t free =
-      let old : Tcp2Socket = with_writer r s (WriteState.Ready half permit) in
-      let begun : Tcp2Socket = with_writer r s (WriteState.Writing (new_job (own_of line) half.side (b ∷ bytes))) in
-      move (BeginsWrite (put h place old) place old (record s { writer = WriteState.Ready half permit }) half permit (b ∷ bytes) at (found here old) refl refl t free)
-      (from (ap (λ (x : Here). record x { own = Used }) (sym (put_put h place old begun))) (going_walks (spent here) at r s (WriteState.Writing (new_job (own_of line) half.side (b ∷ bytes)))))
+module _ {contexts : List WasiSocketsCtx} {line : ℕ} {origin : Step} {law : Law contexts line origin} where
+  -- it begins none
+  pub begins_none : {A : Type 0} {h : Here} {end : A → Here} {asks : Asks A} → MayWrite law h.own Unused → Walks law (record h { own = Used }) end asks → Walks law h end asks
+  begins_none (AsLet free) w = move (Spends _ free) w
+  begins_none {h} (AsNone used none) w = from (ap (λ (own : Own). record h { own = own }) (sym used)) w
+  begins_none {h} (AsAny used begins) w = from (ap (λ (own : Own). record h { own = own }) (sym used)) w
 
-  pub write_walks : (r : Tcp2Socket) (s : Streams) (w : WriteState) (bytes : List ℕ) → h.own ≡ may_begin w bytes → Walks law (put h place (with_writer r s w)) (Wrote h place r s) (write_state_asks (own_of line) w bytes)
-  write_walks r s (WriteState.Ready half permit) [] free = gives _ (Spends _ free)
-  write_walks r s (WriteState.Ready half permit) (b ∷ bytes) free = within_walks r s half permit b bytes (nat_lt permit (length (b ∷ bytes))) refl free
-  write_walks r s _ bytes free = gives _ (Spends _ free)
+module _ {contexts : List WasiSocketsCtx} {line : ℕ} {origin : Step} {law : Law contexts line origin} {h : Here} {place n : ℕ} (here : HasRecord h place) (at : h.at ≡ Some (place, n)) where
+  job_walks : (r : Tcp2Socket) (s : Streams) (half : TcpSendStream) (permit : ℕ) (bytes : List ℕ) → nat_lt permit (length bytes) ≡ false → MayWrite law h.own (ToWrite half.side bytes)
+      → Walks law (record (put h place (with_writer r s (WriteState.Writing (new_job (own_of n) half.side bytes)))) { own = Used }) (Wrote h place r s) (write_on_asks (own_of n) (WriteState.Writing (new_job (own_of n) half.side bytes)))
+      → Walks law (put h place (with_writer r s (WriteState.Ready half permit))) (Wrote h place r s) (write_on_asks (own_of n) (WriteState.Writing (new_job (own_of n) half.side bytes)))
+  job_walks r s half permit bytes t may w =
+      let old : Tcp2Socket = with_writer r s (WriteState.Ready half permit) in
+      let was : Streams = record s { writer = WriteState.Ready half permit } in
+      let begun : Tcp2Socket = with_writer r s (WriteState.Writing (new_job (own_of n) half.side bytes)) in
+      let goes = from (ap (λ (x : Here). record x { own = Used }) (sym (put_put h place old begun))) w in
+      elim may [
+        | AsLet free ↦ move (BeginsWrite (put h place old) place n old was half permit bytes at (found here old) refl refl t free) goes
+        | AsNone used none ↦ absurd (cc)
+        | AsAny used law_begins ↦ record { along = λ es i. goes.along es (law_begins.begins es (put h place old) place n old was half permit bytes at (found here old) refl refl t i) }
+      ]
+
+  within_walks : (r : Tcp2Socket) (s : Streams) (half : TcpSendStream) (permit b : ℕ) (bytes : List ℕ) (past : Bool) → nat_lt permit (length (b ∷ bytes)) ≡ past → (let own : Own = if past then Unused else ToWrite half.side (b ∷ bytes) in MayWrite law h.own own)
+      → Walks law (put h place (with_writer r s (WriteState.Ready half permit))) (Wrote h place r s) (if past then Give (Err (stop.Trap NotPermitted), WriteState.Ready half permit) else write_on_asks (own_of n) (WriteState.Writing (new_job (own_of n) half.side (b ∷ bytes))))
+  within_walks r s half permit b bytes true t may = begins_none may (give _)
+  within_walks r s half permit b bytes false t may = job_walks r s half permit (b ∷ bytes) t may (going_walks (spent here) at r s (WriteState.Writing (new_job (own_of n) half.side (b ∷ bytes))))
+
+  pub write_walks : (r : Tcp2Socket) (s : Streams) (w : WriteState) (bytes : List ℕ) → MayWrite law h.own (may_begin w bytes) → Walks law (put h place (with_writer r s w)) (Wrote h place r s) (write_state_asks (own_of n) w bytes)
+  write_walks r s (WriteState.Ready half permit) [] may = begins_none may (give _)
+  write_walks r s (WriteState.Ready half permit) (b ∷ bytes) may = within_walks r s half permit b bytes (nat_lt permit (length (b ∷ bytes))) refl may
+  write_walks r s _ bytes may = begins_none may (give _)
 
 module _ {contexts : List WasiSocketsCtx} {line : ℕ} {origin : Step} {law : Law contexts line origin} where
   -- == the streams
@@ -166,47 +183,6 @@ module _ {contexts : List WasiSocketsCtx} {line : ℕ} {origin : Step} {law : La
         → ((s : Streams) (w : WriteState) → Walks law (put h place (with_writer r s w)) (Writing h place r s) (write w)) → Walks law (put h place r) (λ done. put h place done.1) (writer_of r write o)
     writer_walks r write None e k = give _
     writer_walks r write (Some s) e k = from (streams_are h place r s e) (and_then (k s s.writer) (λ done. give _))
-
-  -- an error gets its handle
-  converted_walks : {T : Type 0} (m : Machine) (handle place : ℕ) (done : Result T StreamStop × Records) → MarksError handle origin → record_of (kind_at m.table handle) ≡ Some place
-      → Walks law (Put line m place done) OverWith (converted (own_of line) handle place (with_store m done))
-  unfolding bind
-  converted_walks m handle place (Err (stop.Failed c), store) marks e = and_then {mid = λ c. record { machine = c.1; at = Some (place, line); made = Past; own = Used }} (and_then (mark (AnError handle place marks e)) (λ made. give _)) (λ c. gives _ (Leaves _))
-  converted_walks m handle place _ marks e = gives _ (Leaves _)
-
-  stream_at_walks : {T : Type 0} (m : Machine) (place : ℕ) (may : Option Tcp2Socket → Own) (call : Tcp2Socket → Asks (Result T StreamStop × Tcp2Socket)) (o : Option Tcp2Socket) → tcp2_at m.store.records place ≡ o → may None ≡ Unused
-      → ((r : Tcp2Socket) → let h = At line m place (may (Some r)) in HasRecord h place → Walks law (put h place r) (λ done. record (put h place done.1) { own = Used }) (call r)) → Walks law (At line m place (may o)) (Put line m place) (stream_at m.store place call o)
-  stream_at_walks m place may call None g none k = gives _ (Spends _ none)
-  stream_at_walks m place may call (Some r) g none k = let h = At line m place (may (Some r)) in from (put_same h place r g) (and_then (k r (there g)) (λ done. give _))
-
-  spends : {T : Type 0} (m : Machine) (place : ℕ) (r : Tcp2Socket) (call : Tcp2Socket → Asks (Result T StreamStop × Tcp2Socket)) → Walks law (put (At line m place Unused) place r) (λ done. put (At line m place Unused) place done.1) (call r) → Walks law (put (At line m place Unused) place r) (λ done. record (put (At line m place Unused) place done.1) { own = Used }) (call r)
-  spends m place r call w = record { along = λ es i. allows_weaker law.P _ _ (λ fs done k. law.moves fs _ _ (Spends _ refl) k) es (call r) (w.along es i) }
-
-  pub stream_walks : {T : Type 0} (m : Machine) (handle : ℕ) (call : Tcp2Socket → Asks (Result T StreamStop × Tcp2Socket)) (o : Option ℕ) → Has (handles_of origin) handle → MarksError handle origin → ((place : ℕ) → o ≡ Some place → record_of (kind_at m.table handle) ≡ Some place)
-      → ((place : ℕ) (r : Tcp2Socket) → HasRecord (At line m place Unused) place → Walks law (put (At line m place Unused) place r) (λ done. put (At line m place Unused) place done.1) (call r)) → Walks law (Starts m Unused) OverWith (stream_on m (own_of line) handle call o)
-  stream_walks m handle call None named marks k c = gives _ (Spends _ refl)
-  stream_walks m handle call (Some place) named marks k c =
-      move (Reaches _ handle place named (k place refl))
-      (and_then (stream_at_walks m place (λ o. Unused) call (tcp2_at m.store.records place) refl refl (λ r here. spends m place r call (c place r here))) (λ done. converted_walks m handle place done marks (k place refl)))
-
-  -- == a write, which may become a job
-  write_record_walks : {h : Here} {place : ℕ} (here : HasRecord h place) (at : h.at ≡ Some (place, line)) (bytes : List ℕ) (r : Tcp2Socket) (o : Option Streams) → r.streams ≡ o → h.own ≡ may_of o bytes
-      → Walks law (put h place r) (λ done. record (put h place done.1) { own = Used }) (writer_of r (λ w. write_state_asks (own_of line) w bytes) o)
-  write_record_walks here at bytes r None e free = gives _ (Spends _ free)
-  write_record_walks {h} {place} here at bytes r (Some s) e free = from (streams_are h place r s e) (and_then (write_walks here at r s s.writer bytes free) (λ done. give _))
-
-  noted_walks : {T : Type 0} (m : Machine) (place : ℕ) (done : Result T StreamStop × Records) (begins : Bool) → Walks law (Put line m place done) (Put line m place) (Give (done.0, with_job done.1 (Write place) begins))
-  noted_walks m place done true = gives _ (Lists _ _)
-  noted_walks m place done false = give _
-
-  pub write_on_walks : (m : Machine) (handle : ℕ) (bytes : List ℕ) (o : Option ℕ) → Has (handles_of origin) handle → MarksError handle origin → ((place : ℕ) → o ≡ Some place → record_of (kind_at m.table handle) ≡ Some place)
-      → Walks law (Starts m (may_at m bytes o)) OverWith (write_on m (own_of line) handle (writer_asks (λ w. write_state_asks (own_of line) w bytes)) o)
-  write_on_walks m handle bytes None named marks k = gives _ (Spends _ refl)
-  write_on_walks m handle bytes (Some place) named marks k =
-      let o = tcp2_at m.store.records place in
-      move (Reaches _ handle place named (k place refl))
-      (and_then (and_then (stream_at_walks m place (λ o. may_in o bytes) (writer_asks (λ w. write_state_asks (own_of line) w bytes)) o refl refl (λ r here. write_record_walks here refl bytes r r.streams refl refl))
-      (λ done. noted_walks m place done (begins_job o (tcp2_at done.1.records place)))) (λ done. converted_walks m handle place done marks (k place refl)))
 
   -- == a drop
   module _ {h : Here} {place : ℕ} (here : HasRecord h place) (at : h.at ≡ Some (place, line)) (quiet : NoStart h) where
@@ -261,6 +237,8 @@ module _ {contexts : List WasiSocketsCtx} {line : ℕ} {origin : Step} {law : La
   dropped_walks m this (Lookup place) true named e q =
       let now : Machine = record m { table = without_handle m.table this } in
       move (Takes _ this) (drop_lookup_walks now place (lookup_at m.store.records place) refl)
+  dropped_walks m this (PlainInput plain) true named e q = move (Takes _ this) (move (Spends _ refl) (drop_input_walks (Ok (Ready tt)) plain))
+  dropped_walks m this (PlainOutput plain) true named e q = move (Takes _ this) (move (Spends _ refl) (drop_plain_output_walks (Ok (Ready tt)) plain))
   dropped_walks m this Network true named e q = move (Takes _ this) (gives _ (Spends _ refl))
   dropped_walks m this (Input place) true named e q = move (Takes _ this) (gives _ (Spends _ refl))
   dropped_walks m this (Output place) true named e q =
@@ -302,11 +280,26 @@ module _ {contexts : List WasiSocketsCtx} {line : ℕ} {origin : Step} {law : La
   subscribe_walks c s m (Some (Watched.Incoming place)) e is = move (Spends _ refl) (and_then (mark (AUdpPollable c s (Watched.Incoming place) is refl (watched_udp (kind_at m.table s) _ e))) (λ made. give _))
   subscribe_walks c s m (Some (Watched.Outgoing place)) e is = move (Spends _ refl) (and_then (mark (AUdpPollable c s (Watched.Outgoing place) is refl (watched_udp (kind_at m.table s) _ e))) (λ made. give _))
   subscribe_walks c s m (Some (Watched.Lookup place)) e is = move (Spends _ refl) (and_then (mark (ALookupPollable c s place is (watched_lookup (kind_at m.table s) place e))) (λ made. give _))
+  subscribe_walks c s m (Some Watched.Plain) e is = move (Spends _ refl) (and_then (mark (APlainPollable c s is e)) (λ made. give _))
   subscribe_walks c s m (Some (Watched.Socket place)) e is = move (Spends _ refl) (and_then (mark (APollable c s (Watched.Socket place) is refl (watched_record (kind_at m.table s) _ e))) (λ made. give _))
   subscribe_walks c s m (Some (Watched.Input place)) e is = move (Spends _ refl) (and_then (mark (APollable c s (Watched.Input place) is refl (watched_record (kind_at m.table s) _ e))) (λ made. give _))
   subscribe_walks c s m (Some (Watched.Output place)) e is = move (Spends _ refl) (and_then (mark (APollable c s (Watched.Output place) is refl (watched_record (kind_at m.table s) _ e))) (λ made. give _))
 
+  -- == whether a stream is ready
+  module _ {h : Here} {place n : ℕ} (here : HasRecord h place) (at : h.at ≡ Some (place, n)) where
+    pub ready_reader_walks : (r : Tcp2Socket) (o : Option Streams) → r.streams ≡ o → Walks law (put h place r) (λ done. put h place done.1) (ready_reader (own_of n) r o)
+    ready_reader_walks r None e = give _
+    ready_reader_walks r (Some s) e = from (streams_are h place r s e) (and_then (reader_ready_walks here at r s s.reader) (λ done. give _))
+
+    ready_writer_walks : (r : Tcp2Socket) (o : Option Streams) → r.streams ≡ o → Walks law (put h place r) (λ done. put h place done.1) (ready_writer (own_of n) r o)
+    ready_writer_walks r None e = give _
+    ready_writer_walks r (Some s) e = from (streams_are h place r s e) (and_then (look_walks here at r s s.writer) (λ done. give _))
+
   module _ {h : Here} {place : ℕ} (here : HasRecord h place) (at : h.at ≡ Some (place, line)) (free : h.own ≡ Unused) where
+    -- the line's operation has begun then
+    spends_after : {A : Type 0} {now : Here} {asks : Asks (A × Tcp2Socket)} → Walks law now (λ done. put h place done.1) asks → Walks law now (λ done. record (put h place done.1) { own = Used }) asks
+    spends_after {asks = asks} w = record { along = λ es i. allows_weaker law.P _ _ (λ fs done k. law.moves fs _ _ (Spends _ free) k) es asks (w.along es i) }
+
     ready_listening_walks : (r : Tcp2Socket) (l : Listening) → r.listening ≡ l → Walks law (put h place r) (λ done. record (put h place done.1) { own = Used }) (ready_listening (first_ids line) r l)
     ready_listening_walks r (Accepts l) e = and_then {mid = λ done. record (put h place (with_listening r (Accepts done.1))) { own = Used }} (listener_walks here at r l (ready_end l) l.accept e refl free (λ now. give _)) (λ done. give _)
     ready_listening_walks r _ e = gives _ (Spends _ free)
@@ -319,18 +312,16 @@ module _ {contexts : List WasiSocketsCtx} {line : ℕ} {origin : Step} {law : La
     ready_socket_walks r true = and_then (finish_walks here r) (λ done. gives _ (Spends _ free))
     ready_socket_walks r false = ready_idle_walks r (is_nothing r.in_progress)
 
-    ready_reader_walks : (r : Tcp2Socket) (o : Option Streams) → r.streams ≡ o → Walks law (put h place r) (λ done. record (put h place done.1) { own = Used }) (ready_reader (own_of line) r o)
-    ready_reader_walks r None e = gives _ (Spends _ free)
-    ready_reader_walks r (Some s) e = from (streams_are h place r s e) (and_then (reader_ready_walks here at r s s.reader) (λ done. gives _ (Spends _ free)))
+    ready_input_walks : (r : Tcp2Socket) → Walks law (put h place r) (λ done. record (put h place done.1) { own = Used }) (ready_reader (own_of line) r r.streams)
+    ready_input_walks r = spends_after (ready_reader_walks here at r r.streams refl)
 
-    ready_writer_walks : (r : Tcp2Socket) (o : Option Streams) → r.streams ≡ o → Walks law (put h place r) (λ done. record (put h place done.1) { own = Used }) (ready_writer (own_of line) r o)
-    ready_writer_walks r None e = gives _ (Spends _ free)
-    ready_writer_walks r (Some s) e = from (streams_are h place r s e) (and_then (look_walks here at r s s.writer) (λ done. gives _ (Spends _ free)))
+    ready_output_walks : (r : Tcp2Socket) → Walks law (put h place r) (λ done. record (put h place done.1) { own = Used }) (ready_writer (own_of line) r r.streams)
+    ready_output_walks r = spends_after (ready_writer_walks here at r r.streams refl)
 
     ready_record_walks : (w : Watched) (r : Tcp2Socket) → Walks law (put h place r) (λ done. record (put h place done.1) { own = Used }) (ready_record (own_of line) (first_ids line) w r)
     ready_record_walks (Watched.Socket n) r = ready_socket_walks r (is_connect r.in_progress)
-    ready_record_walks (Watched.Input n) r = ready_reader_walks r r.streams refl
-    ready_record_walks (Watched.Output n) r = ready_writer_walks r r.streams refl
+    ready_record_walks (Watched.Input n) r = ready_input_walks r
+    ready_record_walks (Watched.Output n) r = ready_output_walks r
     ready_record_walks _ r = gives _ (Spends _ free)
 
   ready_at_walks : (m : Machine) (place : ℕ) (w : Watched) (o : Option Tcp2Socket) → tcp2_at m.store.records place ≡ o → Walks law (At line m place Unused) (Put line m place) (ready_at m.store (own_of line) (first_ids line) w place o)
@@ -344,6 +335,7 @@ module _ {contexts : List WasiSocketsCtx} {line : ℕ} {origin : Step} {law : La
   pub ready_walks : (m : Machine) (p : ℕ) (o : Option Watched) → watch_of (kind_at m.table p) ≡ o → Has (handles_of origin) p → Walks law (Starts m Unused) OverWith (ready_on m (first_ids line) o)
   ready_walks m p None e named = gives _ (Spends _ refl)
   ready_walks m p (Some (Watched.Udp place)) e named = gives _ (Spends _ refl)
+  ready_walks m p (Some Watched.Plain) e named = gives _ (Spends _ refl)
   ready_walks m p (Some (Watched.Outgoing place)) e named = gives _ (Spends _ refl)
   ready_walks m p (Some (Watched.Lookup place)) e named = gives _ (Spends _ refl)
   ready_walks m p (Some (Watched.Incoming place)) e named = move (ReachesUdp _ p place named (watch_udp (kind_at m.table p) (Watched.Incoming place) e)) (and_then (ready_incoming_walks m place (open_at m.store.records place) refl) (λ done. gives _ (Leaves _)))

@@ -1,8 +1,11 @@
--- What a step may begin to write.
+-- What a step may begin to write, and how a call of streams may begin a write.
 use Rattle.wasi_walks.proofs.Words.{List, Machine, None, OpId, Option, Some, Step, Streams, Tcp2Socket, WriteState, [], if◌then◌else◌, length, nat_lt}
 use Rattle.wasi_walks.proofs.Words.{output_at, ℕ, ◌∷◌}
 use Rattle.wasi_world.specs.Sides.{is_same}
-use Rattle.wasi_walks.proofs.walks.Moves.{Own, Unused, ToWrite}
+use Rattle.wasi_walks.proofs.Words.{WasiSocketsCtx, ◌≡◌}
+use Rattle.wasi_streams.specs.Streams.{zeros}
+use Rattle.wasi_walks.proofs.walks.Moves.{Own, Used, Unused, ToWrite}
+use Rattle.wasi_walks.proofs.walks.Law.{Law, BeginsWrites}
 use Rattle.wasi_host.specs.Records.{tcp2_at}
 
 -- what the writer lets a write begin
@@ -27,9 +30,17 @@ may_at m bytes (Some place) = may_in (tcp2_at m.store.records place) bytes
 -- the bytes that a step may begin to write
 abbrev pub may : Machine → Step → Own
 may m (Step.Write ctx output bytes) = may_at m bytes (output_at m output)
+may m (Step.WriteZeroes ctx output len) = may_at m (zeros len) (output_at m output)
 may m _ = Unused
 
 -- the bytes that a step is let write to a network socket
 abbrev pub let_write : OpId → Own → List ℕ
 let_write side (ToWrite at bytes) = if is_same at side then bytes else []
 let_write side _ = []
+
+-- A call of streams may begin a write, where the operations that were begun are these: its line was let write it, or nothing is
+-- written. One that comes after others begins nothing, or the law holds of any write.
+pub data MayWrite {contexts : List WasiSocketsCtx} {line : ℕ} {origin : Step} (law : Law contexts line origin) (own write : Own) : Type 0 where
+  AsLet : own ≡ write → MayWrite law own write
+  AsNone : own ≡ Used → write ≡ Unused → MayWrite law own write
+  AsAny : own ≡ Used → BeginsWrites law → MayWrite law own write

@@ -1,0 +1,168 @@
+-- What the calls of a step may miss: a handle that isn't live, or is of something else, or whose record isn't there; and which steps
+-- make handles and write.
+use Rattle.std.specs.Prelude.{◌≡◌, ◌⊎◌, ⊤, ℕ, false, List, [], ◌∷◌, Option, Some, None, IsSomeAnd}
+use Rattle.wasi_memory.specs.Plain.{Contents}
+use Rattle.wasi_host.specs.declared.blocking.BlockingCall.{BlockingCall}
+use Rattle.wasi_host.specs.declared.blocking.BlockingCall.TheVariants as blocking
+use Rattle.wasi_host.specs.declared.kind.PlainInput.{PlainInput}
+use Rattle.wasi_host.specs.declared.kind.PlainInput.TheVariants as plain_input
+use Rattle.wasi_host.specs.declared.kind.PlainOutput.{PlainOutput}
+use Rattle.wasi_host.specs.declared.kind.PlainOutput.TheVariants as plain_output
+use Rattle.wasi_host.specs.declared.kind.Watched.{Watched}
+use Rattle.wasi_host.specs.declared.kind.Watched.TheVariants as watched
+use Rattle.wasi_host.specs.declared.machine.Machine.{Machine}
+use Rattle.wasi_host.specs.declared.socket.Tcp2Socket.{Tcp2Socket}
+use Rattle.wasi_host.specs.declared.store.StandingCall.{StandingCall}
+use Rattle.wasi_host.specs.declared.store.StandingCall.TheVariants as standing
+use Rattle.wasi_host.specs.Kinds.{kind_at, is_network, is_error, udp_of, watched_by, watch_of, place_in}
+use Rattle.wasi_host.specs.Machine.{lookup_number}
+use Rattle.wasi_host.specs.Records.{tcp2_at, udp2_at, open_at, input_pipe_at, output_pipe_at}
+use Rattle.wasi_host.specs.Standing.{call_of}
+use Rattle.wasi_host.specs.StreamCalls.{plain_input_at, plain_output_at}
+use Rattle.wasi_steps.specs.Steps.{Kind, HandleOf, ALine, ANetwork, ASocket, ADatagramSocket, AnInput, AnOutput, AnIncoming, AnOutgoing, ALookup, AnError, Watchable, APollable, Anything, Value, Values, signature}
+use Rattle.wasi_steps.specs.declared.step.Step.{Step}
+use Rattle.wasi_steps.specs.declared.step.Step.TheVariants as step
+use Rattle.wasi_walks.specs.Answered.{record_at, open_udp_at, incoming_in, outgoing_in, lookup_in, streams_in, input_streams, output_streams}
+
+-- == inputs and outputs
+-- the pipe that an input reads, which isn't there; others have none
+abbrev pub MissesInputPipe : Machine → Option PlainInput → Type 0
+MissesInputPipe m (Some (plain_input.Pipe place)) = input_pipe_at m.store.records place ≡ None
+MissesInputPipe m (Some plain_input.Closed) = ⊥
+MissesInputPipe m None = ⊤
+
+-- the pipe that an output writes to
+abbrev pub pipe_of : Machine → Option PlainOutput → Option Contents
+pipe_of m (Some (plain_output.Pipe place)) = output_pipe_at m.store.records place
+pipe_of m _ = None
+
+-- it isn't there
+abbrev pub MissesOutputPipe : Machine → Option PlainOutput → Type 0
+MissesOutputPipe m (Some (plain_output.Pipe place)) = output_pipe_at m.store.records place ≡ None
+MissesOutputPipe m (Some plain_output.Sink) = ⊥
+MissesOutputPipe m (Some plain_output.Closed) = ⊥
+MissesOutputPipe m None = ⊤
+
+-- it is no input, or what it reads from isn't there: a connection's streams, or a pipe
+abbrev pub MissesInput : Machine → ℕ → Type 0
+MissesInput m h = (input_streams m h ≡ None) × MissesInputPipe m (plain_input_at m h)
+
+abbrev pub MissesOutput : Machine → ℕ → Type 0
+MissesOutput m h = (output_streams m h ≡ None) × MissesOutputPipe m (plain_output_at m h)
+
+-- one of the two of a splice
+abbrev pub MissesEither : Machine → ℕ → ℕ → Type 0
+MissesEither m to from = MissesOutput m to ⊎ MissesInput m from
+
+-- the call misses a handle that it is on
+abbrev pub MissesStream : Machine → BlockingCall → Type 0
+MissesStream m (blocking.Read input len) = MissesInput m input
+MissesStream m (blocking.Skip input len) = MissesInput m input
+MissesStream m (blocking.Write output rest) = MissesOutput m output
+MissesStream m (blocking.Finish output) = MissesOutput m output
+MissesStream m (blocking.Flush output) = MissesOutput m output
+MissesStream m (blocking.Splice to from len) = MissesEither m to from
+
+-- == what a pollable watches
+-- what is watched isn't there
+abbrev pub MissesRecord : Watched → Option Tcp2Socket → Type 0
+MissesRecord (watched.Socket place) found = found ≡ None
+MissesRecord (watched.Input place) found = streams_in found ≡ None
+MissesRecord (watched.Output place) found = streams_in found ≡ None
+MissesRecord (watched.Udp place) found = ⊥
+MissesRecord (watched.Incoming place) found = ⊥
+MissesRecord (watched.Outgoing place) found = ⊥
+MissesRecord (watched.Lookup place) found = ⊥
+MissesRecord watched.Plain found = ⊥
+
+abbrev pub MissesWatched : Machine → Option Watched → Type 0
+MissesWatched m None = ⊤
+MissesWatched m (Some (watched.Incoming place)) = open_at m.store.records place ≡ None
+MissesWatched m (Some w) = MissesRecord w (tcp2_at m.store.records (place_in w))
+
+-- == pending calls
+-- the call is a bind, a listen, a create or a connect of no socket, or a call of a stream that isn't there
+abbrev pub IsOnNothing : Machine → StandingCall → Type 0
+IsOnNothing m (standing.Bind place) = tcp2_at m.store.records place ≡ None
+IsOnNothing m (standing.Listen place) = tcp2_at m.store.records place ≡ None
+IsOnNothing m (standing.DropOutput place) = ⊥
+IsOnNothing m (standing.UdpCreate place) = udp2_at m.store.records place ≡ None
+IsOnNothing m (standing.UdpBind place) = open_at m.store.records place ≡ None
+IsOnNothing m (standing.UdpConnect place handle) = (open_at m.store.records place ≡ None) ⊎ (udp_of (kind_at m.table handle) ≡ None)
+IsOnNothing m (standing.DropOutgoing place) = ⊥
+IsOnNothing m (standing.Blocking call) = MissesStream m call
+
+-- the pending call under this number is a bind, a listen, a create or a connect of no socket, or a call of no stream
+abbrev pub StandsOnNothing : Machine → ℕ → Type 0
+StandsOnNothing m n = IsSomeAnd (call_of m.store.standing n) (λ s. IsOnNothing m s.call)
+
+-- == traps
+-- an argument misses what it names: a handle that isn't live, or is of something else; or the call of a line that is on nothing
+abbrev pub MissesValue : Machine → (kind : Kind) → Value kind → Type 0
+MissesValue m (HandleOf ANetwork) h = is_network (kind_at m.table h) ≡ false
+MissesValue m (HandleOf ASocket) h = record_at m h ≡ None
+MissesValue m (HandleOf ADatagramSocket) h = open_udp_at m h ≡ None
+MissesValue m (HandleOf AnIncoming) h = incoming_in m h ≡ None
+MissesValue m (HandleOf AnOutgoing) h = outgoing_in m h ≡ None
+MissesValue m (HandleOf AnInput) h = MissesInput m h
+MissesValue m (HandleOf AnOutput) h = MissesOutput m h
+MissesValue m (HandleOf ALookup) h = lookup_in m (lookup_number m h) ≡ None
+MissesValue m (HandleOf AnError) h = is_error (kind_at m.table h) ≡ false
+MissesValue m (HandleOf Watchable) h = watched_by (kind_at m.table h) ≡ None
+MissesValue m (HandleOf APollable) h = MissesWatched m (watch_of (kind_at m.table h))
+MissesValue m (HandleOf Anything) h = kind_at m.table h ≡ None
+MissesValue m ALine n = StandsOnNothing m n
+MissesValue m _ value = ⊥
+
+abbrev pub MissesFirst : Machine → (kinds : List Kind) → Values kinds → Type 0
+MissesFirst m [] values = ⊥
+MissesFirst m (kind ∷ kinds) values = MissesValue m kind values.0
+
+-- a handle of the step isn't live, or is of another kind; it is the first argument, and that of a network or of an input beside it; a
+-- pipe's contents are told of a pipe alone; and a cancel asks for no handle
+abbrev pub MissesHandle : Machine → Step → Type 0
+MissesHandle m (step.TcpStartBind ctx socket network a) = (is_network (kind_at m.table network) ≡ false) ⊎ (record_at m socket ≡ None)
+MissesHandle m (step.TcpStartConnect ctx socket network a) = (is_network (kind_at m.table network) ≡ false) ⊎ (record_at m socket ≡ None)
+MissesHandle m (step.UdpStartBind ctx socket network a) = (is_network (kind_at m.table network) ≡ false) ⊎ (open_udp_at m socket ≡ None)
+MissesHandle m (step.Splice ctx to from len) = MissesEither m to from
+MissesHandle m (step.BlockingSplice ctx to from len) = MissesEither m to from
+MissesHandle m (step.PipeContents ctx output) = pipe_of m (plain_output_at m output) ≡ None
+MissesHandle m (step.Cancel n) = ⊥
+MissesHandle m s = MissesFirst m (signature s).written.kinds (signature s).written.values
+
+-- the step makes a handle, the two of a connection's streams or of a UDP socket's, those of an accepted connection, or the one of a
+-- stream's error or of a lookup; a poll makes that of a create or of a stream's error, or those of datagram streams
+abbrev pub MakesHandle : Step → Type 0
+MakesHandle (step.Network ctx) = ⊤
+MakesHandle (step.TcpCreate ctx family) = ⊤
+MakesHandle (step.UdpCreate ctx family) = ⊤
+MakesHandle (step.UdpStream ctx socket remote) = ⊤
+MakesHandle (step.TcpFinishConnect ctx socket) = ⊤
+MakesHandle (step.TcpAccept ctx socket) = ⊤
+MakesHandle (step.Resolve ctx network name) = ⊤
+MakesHandle (step.PipeIn ctx bytes) = ⊤
+MakesHandle (step.PipeOut ctx capacity) = ⊤
+MakesHandle (step.Sink ctx) = ⊤
+MakesHandle (step.ClosedIn ctx) = ⊤
+MakesHandle (step.ClosedOut ctx) = ⊤
+MakesHandle (step.Read ctx input len) = ⊤
+MakesHandle (step.Skip ctx input len) = ⊤
+MakesHandle (step.CheckWrite ctx output) = ⊤
+MakesHandle (step.Write ctx output bytes) = ⊤
+MakesHandle (step.WriteZeroes ctx output len) = ⊤
+MakesHandle (step.Flush ctx output) = ⊤
+MakesHandle (step.Splice ctx to from len) = ⊤
+MakesHandle (step.BlockingRead ctx input len) = ⊤
+MakesHandle (step.BlockingSkip ctx input len) = ⊤
+MakesHandle (step.BlockingWrite ctx output bytes) = ⊤
+MakesHandle (step.BlockingZeroes ctx output len) = ⊤
+MakesHandle (step.BlockingFlush ctx output) = ⊤
+MakesHandle (step.BlockingSplice ctx to from len) = ⊤
+MakesHandle (step.Subscribe ctx handle) = ⊤
+MakesHandle (step.Poll n) = ⊤
+MakesHandle _ = ⊥
+
+abbrev pub IsWrite : Step → Type 0
+IsWrite (step.Write ctx output bytes) = ⊤
+IsWrite (step.WriteZeroes ctx output len) = ⊤
+IsWrite _ = ⊥
