@@ -41,7 +41,7 @@ pub use Rattle.wasi_walks.proofs.claims.Polls.{ArePlain, NoWrite, Quiet, none_ta
 pub use Rattle.wasi_walks.proofs.fits.Law.{Fit, told_same, whatever}
 pub use Rattle.wasi_walks.proofs.fits.Records.{FitListening, FitProgress}
 pub use Rattle.wasi_walks.proofs.licence.State.{accept_name, name_in}
-pub use Rattle.wasi_walks.proofs.walks.Law.{Law, Walks}
+pub use Rattle.wasi_walks.proofs.walks.Law.{BeginsWrites, Law, Walks}
 pub use Rattle.wasi_walks.proofs.walks.Moves.{Awaits, BeginsAccept, BeginsBind, BeginsConnect, BeginsListen, BeginsWrite, BindsOn, Changes, Closes}
 pub use Rattle.wasi_walks.proofs.walks.Moves.{ClosesReader, Collects, Connects, Forgets, Found, Held, Here, IsGone, IsOn, IsQuestionOf, Joins}
 pub use Rattle.wasi_walks.proofs.walks.Moves.{KeepsBinding, Lasts, LastsAfter, Listens, Made, Move, OfReader, OfSocket, OfWriter, Opens, Own, Permits}
@@ -55,4 +55,5 @@ pub use Rattle.wasi_walks.specs.Answered.{Answered, record_in}
 pub use Rattle.wasi_machine.specs.Machine.{permit_reply}
 pub use Rattle.wasi_laws.specs.Opened.{AsksOpenSockets, Created, HandedOver, IsAskedOpen, IsClosed, IsMade, IsOpen, socket_of}
 pub use Rattle.wasi_laws.specs.Order.{Binds, ChecksFirst, ChecksNone, GoesOut, HasGone, IsCheck, IsOutward, NoCheckLeft, asked_by, operation_polled}
-pub use Rattle.wasi_laws.specs.Permitted.{Begun, Did, IsOfSteps, Then, WritesTo, let_begin, permitted_by, permitted_in, writer_in, writer_of_record}
+pub use Rattle.wasi_laws.specs.Permitted.{Begun, Did, IsOfSteps, Then, permitted_by, permitted_in, permitted_when}
+pub use Rattle.wasi_laws.specs.Writes.{WritesTo, let_begin, writer_in, writer_of_record}

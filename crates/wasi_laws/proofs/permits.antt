@@ -2,5 +2,11 @@
 pub mod Agreeing
 pub mod Taken
 pub mod Law
+pub mod Lets
+pub mod Calls
+pub mod Splices
+pub mod Blocking
+pub mod Checked
+pub mod Lines
 pub mod Steps
 pub mod Runs

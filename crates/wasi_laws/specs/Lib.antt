@@ -1,3 +1,4 @@
 pub mod Order
+pub mod Writes
 pub mod Permitted
 pub mod Opened

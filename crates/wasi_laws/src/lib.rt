@@ -22,7 +22,8 @@ ghost use Rattle.wasi_host.specs.Machine.{first_state};
 ghost use Rattle.wasi_machine.specs.Machine.{machine_asks, run};
 ghost use Rattle.wasi_laws.specs.Opened.{socket_of, AsksOpenSockets};
 ghost use Rattle.wasi_laws.specs.Order.{IsOutward, ChecksFirst, HasGone, NoCheckLeft, operation_polled, asked_by};
-ghost use Rattle.wasi_laws.specs.Permitted.{WritesTo, permitted_by, Did, IsOfSteps};
+ghost use Rattle.wasi_laws.specs.Permitted.{permitted_by, Did, IsOfSteps};
+ghost use Rattle.wasi_laws.specs.Writes.{WritesTo};
 ghost use Rattle.wasi_steps.specs.Reply.{number_fields};
 
 /// The log of a run, at every point of it, is that of the steps that were done and of a prefix of the next.
@@ -41,7 +42,7 @@ pub fn taken_is_permitted()
         (s : Step) (entries : List Entry) (rest : Asks (Reply × Machine))
         → Did contexts side first_state 1 steps log permitted after
         → Left (machine_asks contexts after (1 + length steps) s) entries rest
-        → IsFrontOf (taken_in side (log ++ entries)) (permitted ++ permitted_by after side s entries) }
+        → IsFrontOf (taken_in side (log ++ entries)) (permitted ++ permitted_by after side (1 + length steps) s entries) }
 {}
 
 /// Where a check-write on an output of a network socket answers a permit, the network socket took all that the machine let the

@@ -2,16 +2,20 @@
 -- shape of records.
 use Rattle.wasi_world.specs.declared.call.Call.TheVariants as call
 use Rattle.wasi_world.specs.declared.call.Told.TheVariants as told
+use Rattle.wasi_tcp.specs.declared.halves.TcpSendStream.{TcpSendStream}
 use Rattle.wasi_tcp.specs.declared.listener.Accepting.TheVariants as accepting
 use Rattle.wasi_tcp.specs.declared.socket.TcpState.TheVariants as state
+use Rattle.wasi_tcp.specs.declared.writer.WriteState.TheVariants as writing
+use Rattle.wasi_common.specs.Rounds.{is_going, some_left}
+use Rattle.wasi_walks.proofs.claims.Law.{begins_on_names}
 use Rattle.wasi_walks.proofs.walks.Runs.{each_entry}
 use Rattle.wasi_walks.proofs.fits.Polls.{Anything}
-use Rattle.wasi_laws.proofs.Words.{Above, Accepts, Allows, Asks, Base, BaseBetween, Begins, Call, End, Entry, Err, ErrorCode, FitListening, Found, Handles, Held, Here, HoldsAccept, IpSocketAddress, IsAcceptOn, IsDoneOrCode, Item, Job, Kind, Law, Left, List, Listener, Machine, Made, Move, None, Not, Ok, OpId, Operation, Option, Over, Own, Reply, Result, Socket, SocketAddressFamily, Some, Spends, Starts, Step, Streams, Tcp2, Tcp2Socket, Told, Unused, Used, Walks, WasiSocketsCtx, WriteState, [], after_create, allows_if, allows_then, allows_weaker, ap, base_over, base_starts, bind, both, closed_record, created_asks, entry, first_base, first_state, job_after, length, machine_asks, machine_walks, made_so, make_asks, may_while, new_asks, new_socket, on_along, on_names, own_of, poll_asks, put, refl, run, side_at, side_in, side_of, socket_of, subst, sym, told_addr, told_done, told_same, true, with_listening, with_record, with_writer, ℕ, ◌++◌, ◌+◌, ◌∙◌, ◌∷◌, ◌≡◌}
+use Rattle.wasi_laws.proofs.Words.{false, nat_lt, new_job, ErrorValue, BeginsWrites, Above, Accepts, Allows, Asks, Base, BaseBetween, Begins, Call, End, Entry, Err, ErrorCode, FitListening, Found, Handles, Held, Here, HoldsAccept, IpSocketAddress, IsAcceptOn, IsDoneOrCode, Item, Job, Kind, Law, Left, List, Listener, Machine, Made, Move, None, Not, Ok, OpId, Operation, Option, Over, Own, Reply, Result, Socket, SocketAddressFamily, Some, Spends, Starts, Step, Streams, Tcp2, Tcp2Socket, Told, Unused, Used, Walks, WasiSocketsCtx, WriteState, [], after_create, allows_if, allows_then, allows_weaker, ap, base_over, base_starts, bind, both, closed_record, created_asks, entry, first_base, first_state, job_after, length, machine_asks, machine_walks, made_so, make_asks, may_while, new_asks, new_socket, on_along, on_names, own_of, poll_asks, put, refl, run, side_at, side_in, side_of, socket_of, subst, sym, told_addr, told_done, told_same, true, with_listening, with_record, with_writer, ℕ, ◌++◌, ◌+◌, ◌∙◌, ◌∷◌, ◌≡◌}
 use Rattle.wasi_laws.proofs.asks.Fronts.{is_calm, CalmOn, question_calm, udp_question_calm}
 use Rattle.wasi_laws.proofs.asks.Trees as tree
 use Rattle.wasi_laws.proofs.asks.Trees.{GoesOn, Undoes, Then, makes_by, turns_by, gives_up_by}
-use Rattle.wasi_laws.proofs.shapes.Shape.{ListenerShape, on_socket, Same, SocketsStay, sockets_stay}
-use Rattle.wasi_laws.proofs.shapes.Law.{Shaped, udp_shape, begun_shape, put_shape, lookup_shape, moves_shape, polls_shape, turns_shape, created_shape}
+use Rattle.wasi_laws.proofs.shapes.Shape.{ListenerShape, on_socket, Same, SocketsStay, sockets_stay, UdpLives}
+use Rattle.wasi_laws.proofs.shapes.Law.{Shaped, udp_shape, begun_shape, put_shape, lookup_shape, write_shape, moves_shape, polls_shape, turns_shape, created_shape}
 use Rattle.wasi_host.specs.Records.{tcp2_at, udp2_at}
 use Rattle.wasi_host.specs.declared.kind.Kind.TheVariants.{Udp2}
 use Rattle.wasi_host.specs.declared.records.Record.{Record}
@@ -19,7 +23,7 @@ use Rattle.wasi_host.specs.declared.udp.OpenUdp.{OpenUdp}
 use Rattle.wasi_host.specs.declared.udp.Udp2Socket.{Udp2Socket}
 use Rattle.wasi_host.specs.Udp.{udp_side, with_udp_inner}
 use Rattle.wasi_host.specs.UdpCreates.{udp_side_at}
-use Rattle.wasi_udp.specs.Create.{new_create, after_create as udp_after_create}
+use Rattle.wasi_udp.specs.Create.{Create, create_cancel_asks, new_create, after_create as udp_after_create}
 use Rattle.wasi_udp.specs.Shape.{Socket as UdpShape}
 use Rattle.wasi_udp.specs.Socket.{after_local as udp_after_local, after_peer}
 use Rattle.wasi_walks.proofs.fits.UdpFits.{learnt_side}
@@ -59,13 +63,18 @@ module _ (contexts : List WasiSocketsCtx) (line : ℕ) (origin : Step) where
     -- a UDP socket: one that is in the middle of what it was, with the same network socket; a create that is answered done; a close
     pub udp_same : (es : List Entry) (h : Here) (place : ℕ) (o now : OpenUdp) → FoundUdp h place (Udp2Socket.Open o) → now.inner.side ≡ o.inner.side → now ≡ with_udp_inner o now.inner → Inv es h → Inv es (put_udp h place (Udp2Socket.Open now))
     pub udp_creates : (es : List Entry) (h : Here) (ctx : WasiSocketsCtx) (family : SocketAddressFamily) → h.own ≡ Unused → Grounds h → Inv es h → Inv (es ++ entry (own_of line) (call.UdpCreate ctx.name family) told.Done ∷ []) (udp_begun h (Ok (new_create (own_of line) ctx.name family)))
-    pub udp_closes : (es : List Entry) (h : Here) (place : ℕ) (o : OpenUdp) (op : OpId) → FoundUdp h place (Udp2Socket.Open o) → Grounds h → Inv es h → Then P (λ fs. Inv fs (put_udp h place (Udp2Socket.Closed o.inner.side))) es op (call.Close o.inner.side)
+    pub udp_closes : (es : List Entry) (h : Here) (place : ℕ) (u : Udp2Socket) (op : OpId) → FoundUdp h place u → UdpLives u → Grounds h → Inv es h → Then P (λ fs. Inv fs (put_udp h place (Udp2Socket.Closed (udp_side u)))) es op (call.Close (udp_side u))
     -- a lookup changes: other records, with the same sockets among them
     pub lookups : (es : List Entry) (h : Here) (records : List Record) → SocketsStay h.machine.store.records records → Inv es h → Inv es (with_records h records)
     -- what is in progress: an operation, and a write
     pub polls : (es : List Entry) (h : Here) (op : Operation) (after : End × List Item → Here) → Held h op after → Grounds h → Inv es h → Allows P (λ fs ended. Inv fs (after ended)) es (poll_asks op)
     pub turns : (es : List Entry) (h : Here) (place : ℕ) (r : Tcp2Socket) (s : Streams) (job : Job) (now : Job → WriteState) → Found h place r → r.streams ≡ Some s → GoesOn s.writer job now → Grounds h → Inv es h
         → Allows P (λ fs ended. Inv fs (put h place (with_writer r s (now (job_after job.write.who ended))))) es (poll_asks job.write)
+
+  -- it is kept where a write begins in a call of streams, of whatever line
+  abbrev pub KeepsWrites : (List Entry → Here → Type 0) → Type 0
+  KeepsWrites Inv = (es : List Entry) (h : Here) (place n : ℕ) (r : Tcp2Socket) (s : Streams) (half : TcpSendStream) (permit : ℕ) (bytes : List ℕ) → h.at ≡ Some (place, n) → Found h place r → r.streams ≡ Some s → s.writer ≡ writing.Ready half permit → nat_lt permit (length bytes) ≡ false → Grounds h → Inv es h
+      → Inv es (record (put h place (with_writer r s (writing.Writing (new_job (own_of n) half.side bytes)))) { own = Used })
 
   module _ {P : List Entry → OpId → Call → Type 0} {Inv : List Entry → Here → Type 0} (a : Single P Inv) where
     -- a calm call on a record
@@ -124,6 +133,14 @@ module _ (contexts : List WasiSocketsCtx) (line : ℕ) (origin : Step) where
         (x.0, λ told. a.stops _ h place r g (x.1 told))
     undoes es h place r _ _ g (tree.ClosesArrived l new peer e d) b i = a.closes es h place r _ new new g (ClosesArrived l new peer e d) b i
 
+    -- a create that is given up waits for its network socket, and closes it
+    udp_gone : (es : List Entry) (h : Here) (place : ℕ) (create : Create) → FoundUdp h place (Udp2Socket.Creating create) → Grounds h → Inv es h → Allows P (λ fs done. Inv fs (put_udp h place (Udp2Socket.Closed create.operation.who.side))) es (create_cancel_asks create)
+    unfolding bind
+    udp_gone es h place create g b i =
+        let x = a.udp_closes es h place (Udp2Socket.Creating create) create.operation.who.id g tt b i in
+        let goes : is_going create.operation ≡ true = ap some_left (b.0.0.udps place (Udp2Socket.Creating create) g).1 in
+        allows_if P (λ fs done. Inv fs (put_udp h place (Udp2Socket.Closed create.operation.who.side))) es (is_going create.operation) _ _ (λ going. (x.0, λ told fits. x.1 told)) (λ over. absurd (let z : true ≡ false = sym goes ∙ over in cc))
+
     -- the law, and with it that the records have their shape
     single : Above contexts line origin (λ es h. Base contexts line origin h)
     single = record {
@@ -140,10 +157,12 @@ module _ (contexts : List WasiSocketsCtx) (line : ℕ) (origin : Step) where
       udp_learns = λ es h place part o at g b i.
           let x = udp_told es h place o (part_of line part) (call.Local o.inner.side) (λ told. (udp_after_local o.inner (told_addr told)).1) refl refl (λ told. learnt_side o.inner (told_addr told)) g (b, i.0) i.1 in (x.0, λ told f. (udp_shape h place _ i.0, x.1 told));
       udp_peers = λ es h place o at g b i. let x = udp_told es h place o (own_of line) (call.Peer o.inner.side) (λ told. after_peer o.inner (told_addr told)) refl refl (λ told. refl) g (b, i.0) i.1 in (x.0, λ told f. (udp_shape h place _ i.0, x.1 told));
-      udp_closes = λ es h place o q g b i. let x = a.udp_closes es h place o (own_of line) g (b, i.0) i.1 in (x.0, λ told f. (udp_shape h place _ i.0, x.1 told));
+      udp_closes = λ es h place o q g b i. let x = a.udp_closes es h place (Udp2Socket.Open o) (own_of line) g tt (b, i.0) i.1 in (x.0, λ told f. (udp_shape h place _ i.0, x.1 told));
       udp_creates = λ es h ctx family c may at u m b i. ((a.asks es h (own_of line) (call.UdpCreate ctx.name family) refl (OnNone refl) i.1).0, λ told f. (begun_shape h _ i.0, udp_created es h ctx family u (b, i.0) i.1 told f));
       udp_marks = λ es h place u g b i. allows_weaker P (λ fs made. Inv fs h) (λ fs made. Shaped h × Inv fs (record h { machine = record h.machine { table = made.1 } })) (λ fs made k. (i.0, a.tables fs h made.1 h.made k)) es _ (marked_by es h (udp_side u) (Udp2 place) None (Some (udp_side u)) i.1);
       stream_marks = λ es h place n handle kind m k e b i. allows_weaker P (λ fs made. Inv fs h) (λ fs made. Shaped h × Inv fs (record h { machine = record h.machine { table = made.1 } })) (λ fs made k. (i.0, a.tables fs h made.1 h.made k)) es _ (marked_by es h (own_of n) kind (Some handle) (udp_side_at (udp2_at h.machine.store.records place)) i.1);
+      error_marks = λ es h n handle place handles m k e f b i. allows_weaker P (λ fs made. Inv fs h) (λ fs made. Shaped h × Inv fs (record h { machine = record h.machine { table = made.1 } })) (λ fs made k. (i.0, a.tables fs h made.1 h.made k)) es _ (marked_by es h (own_of n) ErrorValue (Some handle) (side_at (tcp2_at h.machine.store.records place)) i.1);
+      udp_gives_up = λ es h place create q g b i. allows_weaker P (λ fs done. Inv fs (put_udp h place (Udp2Socket.Closed create.operation.who.side))) (λ fs done. Shaped (put_udp h place (Udp2Socket.Closed create.operation.who.side)) × Inv fs (put_udp h place (Udp2Socket.Closed create.operation.who.side))) (λ fs done k. (udp_shape h place _ i.0, k)) es _ (udp_gone es h place create g (b, i.0) i.1);
       lookups = λ es h host l b i. let x = a.asks es h (own_of line) (call.Lookup host) refl (OnNone refl) i.1 in (x.0, λ told f records s. (lookup_shape h records (sockets_stay s) i.0, a.lookups _ h records (sockets_stay s) (x.1 told)));
       looks = λ es h place op g b i. let x = a.asks es h op.id (call.Lookup op.host) refl (OnNone refl) i.1 in (x.0, λ told f. (i.0, x.1 told));
       marks = λ es h kind parent sock m b i. allows_weaker P (λ fs made. Inv fs h) (λ fs made. Shaped h × Inv fs (record h { machine = record h.machine { table = made.1 } })) (λ fs made k. (i.0, a.tables fs h made.1 h.made k)) es _ (marked es h kind parent sock i.1);
@@ -165,11 +184,16 @@ module _ (contexts : List WasiSocketsCtx) (line : ℕ) (origin : Step) where
     pub single_law : Law contexts line origin
     single_law = on_names contexts line origin single
 
+    -- what begins a write keeps it
+    pub single_begins : KeepsWrites Inv → BeginsWrites single_law
+    unfolding single_law single
+    single_begins k = begins_on_names contexts line origin single (record { begins = λ es h place n r s half permit bytes at g e w within b i. (write_shape contexts line origin h place n r s half permit bytes g e w i.0, k es h place n r s half permit bytes at g e w within (b, i.0) i.1) })
+
     pub single_along : {A : Type 0} {h : Here} {end : A → Here} {asks : Asks A} → Walks single_law h end asks → (es : List Entry) → Base contexts line origin h → Shaped h → Inv es h → Allows P (λ fs x. Base contexts line origin (end x) × (Shaped (end x) × Inv fs (end x))) es asks
     unfolding single_law single
     single_along w es b s i = on_along contexts line origin single w es b (s, i)
 
-module _ (contexts : List WasiSocketsCtx) {P : List Entry → OpId → Call → Type 0} (Inv : ℕ → List Entry → Here → Type 0) (law : (line : ℕ) (origin : Step) → Single contexts line origin P (Inv line)) where
+module _ (contexts : List WasiSocketsCtx) {P : List Entry → OpId → Call → Type 0} (Inv : ℕ → List Entry → Here → Type 0) (law : (line : ℕ) (origin : Step) → Single contexts line origin P (Inv line)) (writes : (line : ℕ) (origin : Step) → KeepsWrites contexts line origin (Inv line)) where
   -- Before the line of this number.
   record Between (line : ℕ) (es : List Entry) (m : Machine) : Type 0 where
     pub base : BaseBetween line m
@@ -181,7 +205,7 @@ module _ (contexts : List WasiSocketsCtx) {P : List Entry → OpId → Call → 
     line_kept line s m es i =
         let own = may_while m s m.store.standing in
         allows_weaker P _ (λ fs done. Between (line + 1) fs done.1) (λ fs done k. record { base = base_over contexts line s done.1 k.0; shaped = k.1.0; kept = next line fs done.1 k.1.1 }) es (machine_asks contexts m line s)
-        (single_along contexts line s (law line s) (machine_walks line s m m.store.standing refl) es (base_starts contexts line s m own i.base) i.shaped (starts line es m own i.kept))
+        (single_along contexts line s (law line s) (machine_walks line s (single_begins contexts line s (law line s) (writes line s)) m m.store.standing refl) es (base_starts contexts line s m own i.base) i.shaped (starts line es m own i.kept))
 
     pub each_ask : Inv 1 [] (Starts first_state Unused) → (steps : List Step) (log : List Entry) (rest : Asks (List Reply × Machine)) → Left (run contexts [] first_state 1 steps) log rest → (before : List Entry) (e : Entry) (after : List Entry) → log ≡ before ++ e ∷ after → P before e.op e.call
     each_ask first steps log rest w before e after cut = each_entry contexts P Between line_kept (record { base = first_base; shaped = λ place r e. absurd (cc); kept = first }) steps log rest w before e after cut

@@ -2,6 +2,7 @@
 use Rattle.wasi_addr.specs.Address.{wildcard}
 use Rattle.wasi_world.specs.declared.call.Call.TheVariants as call
 use Rattle.wasi_world.specs.declared.call.Told.TheVariants as told
+use Rattle.wasi_tcp.specs.declared.halves.TcpSendStream.{TcpSendStream}
 use Rattle.wasi_tcp.specs.declared.listener.Accepting.TheVariants as accepting
 use Rattle.wasi_tcp.specs.declared.writer.WriteState.TheVariants as writing
 use Rattle.wasi_tcp.specs.declared.accept.AcceptStage.TheVariants as accept
@@ -11,11 +12,11 @@ use Rattle.wasi_host.specs.declared.records.Record.{Record}
 use Rattle.wasi_host.specs.declared.udp.OpenUdp.{OpenUdp}
 use Rattle.wasi_host.specs.declared.udp.Udp2Socket.{Udp2Socket}
 use Rattle.wasi_host.specs.declared.udp.UdpInProgress.{UdpInProgress}
-use Rattle.wasi_host.specs.Udp.{udp_bind_progress, udp_create_left, with_udp_progress}
+use Rattle.wasi_host.specs.Udp.{udp_bind_progress, udp_create_left, udp_side, with_udp_progress}
 use Rattle.wasi_host.specs.UdpCreates.{with_create}
 use Rattle.wasi_udp.specs.Create.{Create, new_create}
 use Rattle.wasi_walks.proofs.walks.Moves.{put_udp, with_records, Finds, FoundUdp, udp_begun, begun_udp_bind, begun_udp_connect, sending_now, receiving_now, part_of, Names, IsUdpSettled, KeepsOp, SettlesSend, UdpPlain, receive_op, receiving_in, send_op, sending_in}
-use Rattle.wasi_walks.proofs.walks.Moves.{UdpChanges, BeginsUdpBind, BeginsUdpConnect, Counts, SpendsNames, BeginsSend, BeginsReceive, UdpCreates, UdpBindsOn, UdpConnectsOn, SendsOn, ReceivesOn}
+use Rattle.wasi_walks.proofs.walks.Moves.{CancelsBind, CancelsUdpBind, CancelsUdpConnect, UdpChanges, BeginsUdpBind, BeginsUdpConnect, Counts, SpendsNames, BeginsSend, BeginsReceive, UdpCreates, UdpBindsOn, UdpConnectsOn, SendsOn, ReceivesOn}
 use Rattle.wasi_world.specs.Operation.{Datagram}
 use Rattle.wasi_host.specs.Datagrams.{udp_connect_left, with_sending}
 use Rattle.wasi_host.specs.Receiving.{receive_left, with_receiving}
@@ -26,14 +27,15 @@ use Rattle.wasi_host.specs.declared.datagrams.Sending.{Sending}
 use Rattle.wasi_udp.specs.Receive.{receive_start, wanted_in, wanting}
 use Rattle.wasi_udp.specs.Send.{at_remote, send_start, send_to}
 use Rattle.wasi_host.specs.declared.binding.InProgress.TheVariants as progress
-use Rattle.wasi_laws.proofs.Words.{Accepting, Allows, Asks, Awaits, BeginsAccept, BeginsBind, BeginsConnect, BeginsListen, BeginsWrite, BindsOn, Bool, Call, Changes, ChecksFirst, Closes, ClosesReader, Collects, Connection, Connects, Done, End, Entry, Forgets, Found, Given, Held, Here, InProgress, IpSocketAddress, IsGone, Item, Job, Joins, KeepsBinding, Lasts, LastsAfter, Left, List, Listening, Listens, Machine, Move, OpId, Opens, Operation, Option, Own, Permits, Plain, Reconnects, Refused, Reply, Some, Spends, Starts, Step, Streams, Tcp2Socket, TcpState, ToWrite, Told, Unlistens, Unused, Used, Waits, WasiSocketsCtx, Write, WriteState, WriterMoves, Writes, [], accept_ended, accept_operation, accepting_now, allows_weaker, ap, arith, arrived, asked_by, beginning_listen, begun_bind, begun_listen, bind_progress, closed_by, connect_ended, connect_first, connect_left, connect_operation, entry, false, first_state, inl, inr, is_same, job_after, joined, joining, listen_after, new_accept, new_job, new_record, new_socket, own_of, poll_asks, put, refl, run, second_of, subst, sym, then_closed, true, with_inner, with_progress, with_state, with_writer, written_by, ℕ, ◌++◌, ◌+◌, ◌∙◌, ◌∷◌, ◌≡◌, ◌≤◌, Ok, ◌⊎◌}
-use Rattle.wasi_laws.proofs.asks.Single.{each_ask, Single, Closing, ClosesSocket, ClosesListen, ClosesArrived, creating}
-use Rattle.wasi_laws.proofs.asks.Trees.{GoesOn, InWriting, InClosing}
-use Rattle.wasi_laws.proofs.shapes.Shape.{Same, SocketsStay, sockets_stay}
+use Rattle.wasi_laws.proofs.Words.{Accepting, Allows, Asks, Awaits, BeginsAccept, BeginsBind, BeginsConnect, BeginsListen, BeginsWrite, BindsOn, Bool, Call, Changes, ChecksFirst, ClosesReader, Connection, Connects, Done, End, Entry, Forgets, Found, Given, Held, Here, InProgress, IpSocketAddress, IsGone, Item, Job, Joins, KeepsBinding, Left, List, Listening, Listens, Machine, Move, OpId, Opens, Operation, Option, Own, Plain, Reconnects, Refused, Reply, Some, Spends, Starts, Step, Streams, Tcp2Socket, TcpState, ToWrite, Told, Unlistens, Unused, Used, Waits, WasiSocketsCtx, WriteState, Writes, [], accept_ended, accept_operation, accepting_now, allows_weaker, ap, arith, arrived, asked_by, beginning_listen, begun_bind, begun_listen, bind_progress, connect_ended, connect_first, connect_left, connect_operation, entry, false, first_state, inl, inr, is_same, job_after, joined, joining, listen_after, new_accept, new_job, new_record, new_socket, own_of, poll_asks, put, refl, run, second_of, subst, sym, true, with_inner, with_progress, with_state, with_writer, ℕ, ◌++◌, ◌+◌, ◌∙◌, ◌∷◌, ◌≡◌, ◌≤◌, Ok, ◌⊎◌}
+use Rattle.wasi_laws.proofs.asks.Single.{each_ask, KeepsWrites, Single, Closing, ClosesSocket, ClosesListen, ClosesArrived, creating}
+use Rattle.wasi_laws.proofs.asks.Trees.{GoesOn}
+use Rattle.wasi_laws.proofs.shapes.Shape.{HasStreams, Same, SocketsStay, StreamsShape, sockets_stay}
+use Rattle.wasi_laws.proofs.shapes.Law.{job_of}
 use Rattle.wasi_laws.proofs.order.Ordered.{Asked, gone_after, gone_along, gone_push, calm_may, asked_first, asked_one}
 use Rattle.wasi_laws.proofs.order.Rooms.{future_small, less_room, names_within, room_of, takes_line, takes_part}
-use Rattle.wasi_laws.proofs.order.Weights.{send_begins, receive_begins, wanted_checks, checks_of, if_ours, op_weight, state_ops, accept_ops, listening_ops, writer_ops, streams_ops, progress_ops, udp_progress_ops, op_in, total, half, record_weight, udp_weight, sockets_same, sockets_push, udps_push, beside, beside_udp, weight}
-use Rattle.wasi_laws.proofs.order.Polls.{Within, poll_kept}
+use Rattle.wasi_laws.proofs.order.Weights.{send_begins, receive_begins, wanted_checks, checks_of, if_ours, op_weight, state_ops, accept_ops, listening_ops, progress_ops, udp_progress_ops, op_in, total, half, record_weight, udp_weight, sockets_same, sockets_push, udps_push, beside, beside_udp, weight}
+use Rattle.wasi_laws.proofs.order.Polls.{Within, poll_kept, write_asks_calmly}
 
 module _ (it : OpId) where
   abbrev ours : OpId → Bool
@@ -109,40 +111,13 @@ module _ (it : OpId) where
     same_weight r now s i =
         let x : total ours (state_ops now.inner.state) i ≡ total ours (state_ops r.inner.state) i = ap (λ (t : TcpState). total ours (state_ops t) i) s.does in
         let y : total ours (listening_ops now.listening) i ≡ total ours (listening_ops r.listening) i = ap (λ (t : Listening). total ours (listening_ops t) i) s.listening in
-        let z : total ours (streams_ops now.streams) i ≡ total ours (streams_ops r.streams) i = ap (λ (t : Option Streams). total ours (streams_ops t) i) s.streams in
         let w : total ours (progress_ops now.in_progress) i ≡ total ours (progress_ops r.in_progress) i = ap (λ (t : InProgress). total ours (progress_ops t) i) s.doing in
-        omega (arith, x, y, z, w)
+        omega (arith, x, y, w)
 
-    written_less : (job : Job) (e : End) (i : Bool) → total ours (writer_ops (written_by job e)) i ≤ total ours (job.write ∷ []) i
-    written_less job Waits i = omega arith
-    written_less job _ i = omega arith
-
-    closed_less : (job : Job) (e : End) (i : Bool) → total ours (writer_ops (closed_by job e)) i ≤ total ours (job.write ∷ []) i
-    closed_less job Waits i = omega arith
-    closed_less job _ i = omega arith
-
-    closing_less : (id : OpId) (items : List Item) (i : Bool) → op_weight ours id (then_closed items) i ≤ op_weight ours id items i
-    closing_less id [] i = omega arith
-    closing_less id (item ∷ items) false = omega arith
-    closing_less id (Write rest ∷ items) true = by_mine (ours id) (checks_of items)
-      where
-        by_mine : (mine : Bool) (n : ℕ) → if_ours mine 0 ≤ if_ours mine n
-        by_mine true n = omega arith
-        by_mine false n = omega arith
-    closing_less id (_ ∷ items) true = omega arith
-
-    writer_less : (w now : WriteState) → WriterMoves w now → (i : Bool) → total ours (writer_ops now) i ≤ total ours (writer_ops w) i
-    writer_less _ _ (Collects (writing.Ready half permit)) i = omega arith
-    writer_less _ _ (Collects (writing.Writing job)) i = written_less job job.end i
-    writer_less _ _ (Collects (writing.Closing job)) i = closed_less job job.end i
-    writer_less _ _ (Collects (writing.Closed e)) i = omega arith
-    writer_less _ _ (Permits half old) i = omega arith
-    writer_less _ _ (Lasts job) i = omega arith
-    writer_less _ _ (LastsAfter job) i = let k = closing_less job.write.who.id job.write.left i in omega (arith, k)
-    writer_less w _ (Closes _ e) i = omega arith
-
-    streams_are : (r : Tcp2Socket) (s : Streams) (i : Bool) → r.streams ≡ Some s → total ours (streams_ops r.streams) i ≡ total ours (writer_ops s.writer) i
-    streams_are r s i e = ap (λ (t : Option Streams). total ours (streams_ops t) i) e
+    -- a write begins, of whatever line
+    write_begins : (es : List Entry) (h : Here) (place n : ℕ) (r : Tcp2Socket) (s : Streams) (half : TcpSendStream) (bytes : List ℕ) → Found h place r → Kept line es h → Kept line es (record (put h place (with_writer r s (writing.Writing (new_job (own_of n) half.side bytes)))) { own = Used })
+    write_begins es h place n r s half bytes g k =
+        let now = put h place (with_writer r s (writing.Writing (new_job (own_of n) half.side bytes))) in lighter es now (record now { own = Used }) (λ i. omega arith) (less_room it line h.own) (put_kept es h place r _ g (λ i. omega arith) k)
 
     begun_connect : (any a : IpSocketAddress) (bound : Bool) → checks_of (connect_left any a (connect_first bound)) ≤ 1
     begun_connect any a true = omega arith
@@ -159,17 +134,16 @@ module _ (it : OpId) where
     changed_less r now p i =
         let x : total ours (state_ops now.inner.state) i ≡ total ours (state_ops r.inner.state) i = ap (λ (t : TcpState). total ours (state_ops t) i) p.does in
         let y : total ours (listening_ops now.listening) i ≡ total ours (listening_ops r.listening) i = ap (λ (t : Listening). total ours (listening_ops t) i) p.listening in
-        let z : total ours (streams_ops now.streams) i ≡ total ours (streams_ops r.streams) i = ap (λ (t : Option Streams). total ours (streams_ops t) i) p.streams in
         let w = kept_ops r.in_progress now.in_progress p.binds i in
-        omega (arith, x, y, z, w)
+        omega (arith, x, y, w)
 
     -- == moves
     module _ {origin : Step} where
       moves : (es : List Entry) (h now : Here) → Move line origin h now → Kept line es h → Kept line es now
       moves es _ _ (Spends h e) k = lighter es h (record h { own = Used }) (λ i. omega arith) (less_room it line h.own) k
       moves es _ _ (Changes h place r now g p) k = put_kept es h place r now g (changed_less r now p) k
-      moves es _ _ (ClosesReader h place r s g e) k = put_kept es h place r _ g (λ i. let x = streams_are r s i e in omega (arith, x)) k
-      moves es _ _ (Writes h place r s w g e m) k = put_kept es h place r _ g (λ i. let x = streams_are r s i e in let y = writer_less s.writer w m i in omega (arith, x, y)) k
+      moves es _ _ (ClosesReader h place r s g e) k = put_kept es h place r _ g (λ i. omega arith) k
+      moves es _ _ (Writes h place r s w g e m) k = put_kept es h place r _ g (λ i. omega arith) k
       moves es _ _ (IsGone h place r q g e) k = put_kept es h place r _ g (λ i. omega arith) k
       moves es _ _ (Reconnects h place r c now g e s t u) k = put_kept es h place r _ g (λ i. omega arith) k
       moves es _ _ (Opens h place r c d g e n) k = put_kept es h place r _ g (λ i. omega arith) k
@@ -178,8 +152,7 @@ module _ (it : OpId) where
           put_begins es h place r (with_inner r (with_state r.inner (state.Connecting op))) op g (ap (room line) own) refl (begun_connect (wildcard r.inner.family) a bound) (λ i. omega arith) k
       moves es _ _ (BeginsBind h place r side a at g d to idle own) k =
           let op = begun_bind (own_of line) side r a in put_begins es h place r (with_progress r (progress.Binding op)) op g (ap (room line) own) refl (omega arith) (λ i. omega arith) k
-      moves es _ _ (BeginsWrite h place r s ready permit bytes at g e w within own) k =
-          let job = new_job (own_of line) ready.side bytes in put_begins es h place r (with_writer r s (writing.Writing job)) job.write g (ap (room line) own) refl (omega arith) (λ i. omega arith) k
+      moves es _ _ (BeginsWrite h place n r s half permit bytes at g e w within own) k = write_begins es h place n r s half bytes g k
       moves es _ _ (BeginsListen h place r side at g d bound none to idle own) k = put_begins es h place r (beginning_listen (own_of line) side r) (begun_listen (own_of line) side r) g (ap (room line) own) refl (omega arith) (λ i. omega arith) k
       moves es _ _ (BeginsAccept h place r l at g e a own) k =
           let op = accept_operation (record { op = second_of line; side = l.side; maker = l.maker }) accept.Accept in
@@ -206,6 +179,9 @@ module _ (it : OpId) where
       moves es _ _ (BeginsReceive h place n o inc bound at g e own) k =
           let op = receive_start (part_of line n) o.inner bound in
           put_udp_begins es h place (Udp2Socket.Open o) (Udp2Socket.Open (receiving_now o inc op)) op (Names (n + 1)) g (takes_part it line n h.own op.left own (receive_begins bound)) (receiving_less o inc op) k
+      moves es _ _ (CancelsBind h place r op q g e) k = put_kept es h place r _ g (λ i. omega arith) k
+      moves es _ _ (CancelsUdpBind h place o op q g e) k = put_udp_kept es h place (Udp2Socket.Open o) (Udp2Socket.Open _) g (λ i. omega arith) k
+      moves es _ _ (CancelsUdpConnect h place o q g) k = put_udp_kept es h place (Udp2Socket.Open o) (Udp2Socket.Open _) g (λ i. omega arith) k
       moves es _ _ (Finds h records s) k = looked es h records (sockets_stay s) k
       -- the others leave all that is looked at
       moves es _ _ _ k = k
@@ -220,13 +196,13 @@ module _ (it : OpId) where
         (poll_kept ours others half (room line h.own) op es (omega (arith, x, u), omega (arith, y, v)))
 
     -- of a record, beside these other parts of it
-    polled : (es : List Entry) (h : Here) (place : ℕ) (r : Tcp2Socket) (op : Operation) (now : End × List Item → Tcp2Socket) (a b c : List Operation) → Found h place r
-        → ((i : Bool) → record_weight ours r i ≡ total ours a i + total ours b i + total ours c i + op_weight ours op.who.id op.left i)
-        → ((ended : End × List Item) (i : Bool) → record_weight ours (now ended) i ≤ total ours a i + total ours b i + total ours c i + op_weight ours op.who.id ended.1 i) → Kept line es h
+    polled : (es : List Entry) (h : Here) (place : ℕ) (r : Tcp2Socket) (op : Operation) (now : End × List Item → Tcp2Socket) (a b : List Operation) → Found h place r
+        → ((i : Bool) → record_weight ours r i ≡ total ours a i + total ours b i + op_weight ours op.who.id op.left i)
+        → ((ended : End × List Item) (i : Bool) → record_weight ours (now ended) i ≤ total ours a i + total ours b i + op_weight ours op.who.id ended.1 i) → Kept line es h
         → Allows (Asked ours) (λ fs ended. Kept line fs (put h place (now ended))) es (poll_asks op)
-    polled es h place r op now a b c g was less k =
+    polled es h place r op now a b g was less k =
         let e = beside ours h.machine.store.records place r g in
-        held es h op (λ ended. put h place (now ended)) (λ i. e.others i + (total ours a i + total ours b i + total ours c i)) (let w = e.halved in let x = half ours a in let y = half ours b in let z = half ours c in omega (arith, w, x, y, z))
+        held es h op (λ ended. put h place (now ended)) (λ i. e.others i + (total ours a i + total ours b i)) (let w = e.halved in let x = half ours a in let y = half ours b in omega (arith, w, x, y))
         (λ i. let x = e.was i in let y = was i in omega (arith, x, y)) (λ ended i. let x = e.now (now ended) i in let y = less ended i in omega (arith, x, y)) (λ ended. refl) k
 
     -- the same of a UDP socket
@@ -283,7 +259,7 @@ module _ (it : OpId) where
     bound_weighs op (Done given, items) i = omega arith
     bound_weighs op (Refused c given, items) i = omega arith
 
-    listened_weighs : (op : Operation) (r : Tcp2Socket) (end : End × List Item) (i : Bool) → record_weight ours (listen_after op r end) i ≤ total ours (state_ops r.inner.state) i + total ours (streams_ops r.streams) i + total ours (progress_ops r.in_progress) i + op_weight ours op.who.id end.1 i
+    listened_weighs : (op : Operation) (r : Tcp2Socket) (end : End × List Item) (i : Bool) → record_weight ours (listen_after op r end) i ≤ total ours (state_ops r.inner.state) i + total ours (progress_ops r.in_progress) i + op_weight ours op.who.id end.1 i
     listened_weighs op r (Waits, items) i = omega arith
     listened_weighs op r (_, items) i = omega arith
 
@@ -297,15 +273,15 @@ module _ (it : OpId) where
 
     polls : (es : List Entry) (h : Here) (op : Operation) (after : End × List Item → Here) → Held h op after → Kept line es h → Allows (Asked ours) (λ fs ended. Kept line fs (after ended)) es (poll_asks op)
     polls es h _ _ (BindsOn place r op q g e) k =
-        polled es h place r op (λ ended. with_progress r (bind_progress op ended)) (state_ops r.inner.state) (listening_ops r.listening) (streams_ops r.streams) g
+        polled es h place r op (λ ended. with_progress r (bind_progress op ended)) (state_ops r.inner.state) (listening_ops r.listening) g
         (λ i. let z : total ours (progress_ops r.in_progress) i ≡ total ours (op ∷ []) i = ap (λ (t : InProgress). total ours (progress_ops t) i) e in omega (arith, z)) (λ ended i. let l = bound_weighs op ended i in omega (arith, l)) k
     polls es h _ _ (Connects place r op g e) k =
-        polled es h place r op _ (listening_ops r.listening) (streams_ops r.streams) (progress_ops r.in_progress) g (λ i. let z : total ours (state_ops r.inner.state) i ≡ total ours (op ∷ []) i = ap (λ (t : TcpState). total ours (state_ops t) i) e in omega (arith, z))
+        polled es h place r op _ (listening_ops r.listening) (progress_ops r.in_progress) g (λ i. let z : total ours (state_ops r.inner.state) i ≡ total ours (op ∷ []) i = ap (λ (t : TcpState). total ours (state_ops t) i) e in omega (arith, z))
         (λ ended i. let l = ended_weighs op ended i in omega (arith, l)) k
     polls es h _ _ (Listens place r op q g e c) k =
-        polled es h place r op _ (state_ops r.inner.state) (streams_ops r.streams) (progress_ops r.in_progress) g (λ i. let z : total ours (listening_ops r.listening) i ≡ total ours (op ∷ []) i = ap (λ (t : Listening). total ours (listening_ops t) i) e in omega (arith, z)) (listened_weighs op r) k
+        polled es h place r op _ (state_ops r.inner.state) (progress_ops r.in_progress) g (λ i. let z : total ours (listening_ops r.listening) i ≡ total ours (op ∷ []) i = ap (λ (t : Listening). total ours (listening_ops t) i) e in omega (arith, z)) (listened_weighs op r) k
     polls es h _ _ (Awaits place r l op g e a) k =
-        polled es h place r op _ (state_ops r.inner.state) (streams_ops r.streams) (progress_ops r.in_progress) g
+        polled es h place r op _ (state_ops r.inner.state) (progress_ops r.in_progress) g
         (λ i. let z : total ours (listening_ops r.listening) i ≡ total ours (op ∷ []) i = ap (λ (t : Listening). total ours (listening_ops t) i) e ∙ ap (λ (t : Accepting). total ours (accept_ops t) i) a in omega (arith, z)) (λ ended i. let l = awaited_weighs op ended i in omega (arith, l)) k
     polls es h _ _ (UdpCreates place create q g) k = udp_polled es h place (Udp2Socket.Creating create) create.operation (udp_create_left create) [] [] [] g (λ i. omega arith) (λ ended i. let l = create_weighs create ended i in omega (arith, l)) k
     polls es h _ _ (UdpBindsOn place o op q g e) k =
@@ -322,9 +298,16 @@ module _ (it : OpId) where
         (λ i. let w = wanting_weighs inc.remote op i in let z : total ours (op_in (receiving_in o.incoming)) i ≡ total ours (op ∷ []) i = ap (λ (t : Option Incoming). total ours (op_in (receiving_in t)) i) e ∙ ap (λ (t : Receiving). total ours (op_in (receive_op t)) i) f in omega (arith, w, z))
         (λ ended i. let l = received_weighs op ended i in omega (arith, l)) k
 
-    writes : (w : WriteState) (job : Job) (now : Job → WriteState) → GoesOn w job now → (i : Bool) → (total ours (writer_ops w) i ≡ op_weight ours job.write.who.id job.write.left i) × ((ended : End × List Item) → total ours (writer_ops (now (job_after job.write.who ended))) i ≡ op_weight ours job.write.who.id ended.1 i)
-    writes _ _ _ (InWriting job e) i = (omega arith, λ ended. omega arith)
-    writes _ _ _ (InClosing job e) i = (omega arith, λ ended. omega arith)
+    -- a write asks no checks
+    turns : (es : List Entry) (h : Here) (place : ℕ) (r : Tcp2Socket) (s : Streams) (job : Job) (now : Job → WriteState) → Found h place r → HasStreams r.inner.state s → GoesOn s.writer job now → Kept line es h
+        → Allows (Asked ours) (λ fs ended. Kept line fs (put h place (with_writer r s (now (job_after job.write.who ended))))) es (poll_asks job.write)
+    turns es h place r s job now g o on k =
+        allows_weaker (Asked ours) (λ fs ended. gone_along ours 0 fs ≡ gone_along ours 0 es) (λ fs ended. Kept line fs (put h place (with_writer r s (now (job_after job.write.who ended)))))
+        (λ fs ended e. subst (λ (n : ℕ). Within (λ i. 0) (room line h.own) n (weight ours (put h place (with_writer r s (now (job_after job.write.who ended)))))) (sym e) (put_kept es h place r _ g (λ i. omega arith) k)) es (poll_asks job.write)
+        (write_asks_calmly ours job.write es (job_of s.writer job now on o.writer).0.left)
+
+    write_kept : (contexts : List WasiSocketsCtx) (origin : Step) → KeepsWrites contexts line origin (Kept line)
+    write_kept contexts origin es h place n r s half permit bytes at g e w within b k = write_begins es h place n r s half bytes g k
 
     order : (contexts : List WasiSocketsCtx) (origin : Step) → Single contexts line origin (Asked ours) (Kept line)
     order contexts origin = record {
@@ -343,12 +326,10 @@ module _ (it : OpId) where
           let now = udp_begun h (Ok create) in
           after es now (own_of line) (call.UdpCreate ctx.name family) told.Done refl
           (begins es h (record h { machine = with_create h.machine create }) create.operation Used (takes_line it line h.own (own_of line) create.operation.left (ap (room line) u) refl (omega arith)) (λ i. let x = udps_push ours h.machine.store.records (Udp2Socket.Creating create) i in omega (arith, x)) k);
-      udp_closes = λ es h place o op g b k. (tt, λ told. after es (put_udp h place (Udp2Socket.Closed o.inner.side)) op (call.Close o.inner.side) told refl (put_udp_kept es h place (Udp2Socket.Open o) (Udp2Socket.Closed o.inner.side) g (λ i. omega arith) k));
+      udp_closes = λ es h place u op g l b k. (tt, λ told. after es (put_udp h place (Udp2Socket.Closed (udp_side u))) op (call.Close (udp_side u)) told refl (put_udp_kept es h place u (Udp2Socket.Closed (udp_side u)) g (λ i. omega arith) k));
       lookups = looked;
       polls = λ es h op now x b k. polls es h op now x k;
-      turns = λ es h place r s job now g e on b k.
-          polled es h place r job.write (λ ended. with_writer r s (now (job_after job.write.who ended))) (state_ops r.inner.state) (listening_ops r.listening) (progress_ops r.in_progress) g (λ i. let x = streams_are r s i e in let y = (writes s.writer job now on i).0 in omega (arith, x, y))
-          (λ ended i. let y = (writes s.writer job now on i).1 ended in omega (arith, y)) k;
+      turns = λ es h place r s job now g e on b k. turns es h place r s job now g (subst (StreamsShape r.inner.state) e (b.1 place r g).0) on k;
     }
       where
         after : (es : List Entry) (h : Here) (op : OpId) (c : Call) (told : Told) → gone_after ours (gone_along ours 0 es) op c ≡ gone_along ours 0 es → Kept line es h → Kept line (es ++ entry op c told ∷ []) h
@@ -361,7 +342,7 @@ module _ (it : OpId) where
 
   pub runs_ordered : (contexts : List WasiSocketsCtx) (steps : List Step) (log : List Entry) (rest : Asks (List Reply × Machine)) → Left (run contexts [] first_state 1 steps) log rest → ChecksFirst (asked_by it log)
   runs_ordered contexts steps log rest w =
-      subst (λ (es : List Entry). ChecksFirst es) (asked_one it log) (asked_first ours log (each_ask contexts Kept (λ line origin. order line contexts origin) starts (λ line es m k. k) (let f = future_small it.step 1 in omega (arith, f), let f = future_small it.step 1 in omega (arith, f)) steps log rest w))
+      subst (λ (es : List Entry). ChecksFirst es) (asked_one it log) (asked_first ours log (each_ask contexts Kept (λ line origin. order line contexts origin) (λ line origin. write_kept line contexts origin) starts (λ line es m k. k) (let f = future_small it.step 1 in omega (arith, f), let f = future_small it.step 1 in omega (arith, f)) steps log rest w))
     where
       starts : (line : ℕ) (es : List Entry) (m : Machine) (own : Own) → Kept line es (Starts m Unused) → Kept line es (Starts m own)
       starts line es m Used k = lighter line es (Starts m Unused) (Starts m Used) (λ i. omega arith) (less_room it line Unused) k

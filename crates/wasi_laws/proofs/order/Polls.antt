@@ -10,7 +10,9 @@ use Rattle.wasi_udp.specs.Bind as udp
 use Rattle.wasi_udp.specs.Connect as udp_connect
 use Rattle.wasi_udp.specs.Send as send
 use Rattle.wasi_laws.specs.Order.{Sends, UdpBinds, UdpConnects}
-use Rattle.wasi_laws.proofs.asks.Fronts.{IsToCheck, IsToGo, AsksBy, Checks, Goes, Calmly, Becomes, IsAdmitted, PollLaw, polls_by, IsConnected}
+use Rattle.wasi_laws.proofs.asks.Fronts.{is_calm, IsToCheck, IsToGo, AsksBy, Checks, Goes, Calmly, Becomes, IsAdmitted, PollLaw, polls_by, IsConnected}
+use Rattle.wasi_laws.proofs.shapes.Shape.{AreOfWrite, IsOfWrite, end_write}
+use Rattle.wasi_laws.proofs.shapes.Law.{never}
 use Rattle.wasi_laws.proofs.order.Ordered.{out_by, gone_after, gone_along, gone_push, Asked, calm_may, out_may, asked_all, asked_first, gone_out}
 use Rattle.wasi_laws.proofs.order.Weights.{Kind, ToCheck, ToGo, kind_of, and_then, checks_of, drop_weighs, if_ours, op_weight, Plain}
 use Rattle.wasi_laws.specs.Order.{Connects, Listens}
@@ -105,6 +107,54 @@ module _ (ours : OpId → Bool) (others : Bool → ℕ) (below : others true ≤
   -- the poll keeps to its room
   pub poll_kept : (op : Operation) (es : List Entry) → Within others room (gone_along ours 0 es) (op_weight ours op.who.id op.left) → Allows (Asked ours) (λ fs ended. Within others room (gone_along ours 0 fs) (op_weight ours op.who.id ended.1)) es (poll_asks op)
   poll_kept op es k = polls_by (poll_law op.who) op.left es k
+
+-- a write asks no checks, and doesn't go out
+no_check : (i : Item) → IsToCheck i → IsOfWrite i → ⊥
+no_check (Check a usage) t k = k
+no_check (CheckArrival peer) t k = k
+no_check (CheckPeer wanted bytes a) t k = k
+no_check _ t k = t
+
+stays_in : (i : Item) → IsToGo i → IsOfWrite i → ⊥
+stays_in (Bind a) t k = k
+stays_in (Connect a) t k = k
+stays_in (Listen backlog) t k = k
+stays_in (UdpBind a) t k = k
+stays_in (UdpConnect family a) t k = k
+stays_in (Send kept a bytes) t k = k
+stays_in _ t k = t
+
+write_calm : (who : Who) (i : Item) (c : Call) → AsksBy who i c → IsOfWrite i → is_calm c ≡ true
+write_calm who i _ (Checks a usage t) k = absurd (no_check i t k)
+write_calm who i _ (Goes c t o s) k = absurd (stays_in i t k)
+write_calm who i _ (Calmly c e s) k = e
+
+module _ (ours : OpId → Bool) (who : Who) (g : ℕ) where
+  abbrev AsMany : List Entry → Type 0
+  AsMany es = gone_along ours 0 es ≡ g
+
+  as_many : (es : List Entry) (c : Call) (told : Told) → gone_after ours (gone_along ours 0 es) who.id c ≡ gone_along ours 0 es → AsMany es → AsMany (es ++ entry who.id c told ∷ [])
+  as_many es c told e k = gone_push ours 0 es (entry who.id c told) ∙ (e ∙ k)
+
+  write_last : (es : List Entry) (a : LastAsk) (c : ErrorCode) (given : Given) → AsMany es → Allows (Asked ours) (λ fs ended. AsMany fs) es (last_ask who a c given)
+  unfolding bind
+  write_last es NothingLast c given k = k
+  write_last es CloseLast c given k = (tt, λ told fits. as_many es _ told refl k)
+  write_last es ShutdownLast c given k = (tt, λ told fits. as_many es _ told refl k)
+
+  write_law : PollLaw (Asked ours) who (λ es items. AreOfWrite items × AsMany es) (λ es ended. AsMany es)
+  write_law = record {
+    asks = λ es i items c a k. let m = calm_may ours (gone_along ours 0 es) who.id c (write_calm who i c a k.0.0) in (m.0, λ told fits. (k.0, as_many es c told m.1 k.1));
+    writes = λ es b bytes items k. (tt, λ told fits front. (k.0, as_many es (call.Write who.side (length (b ∷ bytes))) told refl k.1));
+    becomes = λ es i j items b k. absurd (never i j b k.0.0);
+    drops = λ es i items s k. (end_write items k.0.1, k.1);
+    ends = λ es i items c given k. write_last es who.last c given k.1;
+    waits = λ es items k. k.1;
+    done = λ es given m k. k.1;
+  }
+
+pub write_asks_calmly : (ours : OpId → Bool) (op : Operation) (es : List Entry) → AreOfWrite op.left → Allows (Asked ours) (λ fs ended. gone_along ours 0 fs ≡ gone_along ours 0 es) es (poll_asks op)
+write_asks_calmly ours op es k = polls_by (write_law ours op.who (gone_along ours 0 es)) op.left es (k, refl)
 
 -- its checks are the first that is left
 begins : (op : Operation) → IsOutward op → checks_of op.left ≤ 1

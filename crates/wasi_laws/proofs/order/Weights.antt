@@ -1,7 +1,6 @@
 -- What operations weigh: whether each is ours, and what it has left to check.
 use Rattle.wasi_tcp.specs.declared.socket.TcpState.TheVariants as state
 use Rattle.wasi_tcp.specs.declared.listener.Accepting.TheVariants as accepting
-use Rattle.wasi_tcp.specs.declared.writer.WriteState.TheVariants as writing
 use Rattle.wasi_world.specs.Operation.{UdpBind, UdpConnect, Send}
 use Rattle.wasi_host.specs.declared.udp.Udp2Socket.{Udp2Socket}
 use Rattle.wasi_host.specs.declared.udp.UdpInProgress.{UdpInProgress}
@@ -19,7 +18,7 @@ use Rattle.wasi_udp.specs.Receive.{receive_first, wanted_in}
 use Rattle.wasi_udp.specs.Send.{send_first, send_left}
 use Rattle.wasi_udp.specs.declared.send.Destination.{Destination}
 use Rattle.wasi_walks.proofs.walks.Moves.{receiving_in, sending_in}
-use Rattle.wasi_laws.proofs.Words.{Accept, Accepting, Bind, Bool, Check, CheckArrival, CheckLocal, CheckPeer, Connect, Err, Here, IpSocketAddress, Item, List, Listen, Listening, None, Ok, OpId, Operation, Option, Receive, Refuse, Result, Some, Streams, Tcp2Socket, TcpState, WriteState, [], ap, arith, false, refl, suc, sym, true, zero, ℕ, ◌+◌, ◌∙◌, ◌∷◌, ◌≡◌, ◌≤◌}
+use Rattle.wasi_laws.proofs.Words.{Accept, Accepting, Bind, Bool, Check, CheckArrival, CheckLocal, CheckPeer, Connect, Err, Here, IpSocketAddress, Item, List, Listen, Listening, None, Ok, OpId, Operation, Option, Receive, Refuse, Result, Some, Tcp2Socket, TcpState, [], ap, arith, false, refl, suc, sym, true, zero, ℕ, ◌+◌, ◌∙◌, ◌∷◌, ◌≡◌, ◌≤◌}
 
 -- == the checks that are left
 -- what an item is to the checks of an operation: one, what they come before, or nothing
@@ -117,15 +116,6 @@ listening_ops (listening.Begins op) = op ∷ []
 listening_ops (listening.Accepts l) = accept_ops l.accept
 listening_ops _ = []
 
-abbrev pub writer_ops : WriteState → List Operation
-writer_ops (writing.Writing job) = job.write ∷ []
-writer_ops (writing.Closing job) = job.write ∷ []
-writer_ops _ = []
-
-abbrev pub streams_ops : Option Streams → List Operation
-streams_ops None = []
-streams_ops (Some s) = writer_ops s.writer
-
 abbrev pub progress_ops : InProgress → List Operation
 progress_ops (progress.Binding op) = op ∷ []
 progress_ops _ = []
@@ -149,8 +139,9 @@ module _ (ours : OpId → Bool) where
   half [] = omega arith
   half (op ∷ ops) = let a = half_if (ours op.who.id) op.left in let b = half ops in omega (arith, a, b)
 
+  -- what it writes asks for nothing that is checked, and so weighs nothing
   abbrev pub record_weight : Tcp2Socket → Bool → ℕ
-  record_weight r i = total (state_ops r.inner.state) i + (total (listening_ops r.listening) i + (total (streams_ops r.streams) i + total (progress_ops r.in_progress) i))
+  record_weight r i = total (state_ops r.inner.state) i + (total (listening_ops r.listening) i + total (progress_ops r.in_progress) i)
 
   -- of one that is open: what is in progress, the connect, the datagram that is sent, and the receive
   abbrev pub udp_weight : Udp2Socket → Bool → ℕ
@@ -164,7 +155,7 @@ module _ (ours : OpId → Bool) where
   half_udp (Udp2Socket.Open o) = let a = half (udp_progress_ops o.in_progress) in let b = half (op_in o.connecting) in let c = half (op_in (sending_in o.outgoing)) in let d = half (op_in (receiving_in o.incoming)) in omega (arith, a, b, c, d)
   half_udp (Udp2Socket.Closed side) = omega arith
 
-  -- by the socket that a record is; a lookup weighs nothing
+  -- by the socket that a record is; a lookup weighs nothing, nor does a pipe
   abbrev weight_in : Option Tcp2Socket → Option Udp2Socket → Bool → ℕ
   weight_in (Some r) u i = record_weight r i
   weight_in None (Some u) i = udp_weight u i
@@ -192,9 +183,11 @@ module _ (ours : OpId → Bool) where
 
   pub half_sockets : (rs : List Record) → sockets_weight rs true ≤ sockets_weight rs false + sockets_weight rs false
   half_sockets [] = omega arith
-  half_sockets (rec.Tcp2 r ∷ rs) = let a = half (state_ops r.inner.state) in let b = half (listening_ops r.listening) in let c = half (streams_ops r.streams) in let p = half (progress_ops r.in_progress) in let d = half_sockets rs in omega (arith, a, b, c, p, d)
+  half_sockets (rec.Tcp2 r ∷ rs) = let a = half (state_ops r.inner.state) in let b = half (listening_ops r.listening) in let p = half (progress_ops r.in_progress) in let d = half_sockets rs in omega (arith, a, b, p, d)
   half_sockets (rec.Udp2 u ∷ rs) = let a = half_udp u in let d = half_sockets rs in omega (arith, a, d)
   half_sockets (rec.Lookup l ∷ rs) = let d = half_sockets rs in omega (arith, d)
+  half_sockets (rec.InputPipe bytes ∷ rs) = let d = half_sockets rs in omega (arith, d)
+  half_sockets (rec.OutputPipe pipe ∷ rs) = let d = half_sockets rs in omega (arith, d)
 
   pub sockets_push : (rs : List Record) (r : Tcp2Socket) (i : Bool) → sockets_weight (tcp2_pushed rs r) i ≡ sockets_weight rs i + record_weight r i
   sockets_push [] r i = omega arith
@@ -236,6 +229,8 @@ module _ (ours : OpId → Bool) where
   beside_udp (rec.Tcp2 x ∷ rs) zero u g = absurd (cc)
   beside_udp (rec.Udp2 x ∷ rs) zero u g = record { others = sockets_weight rs; halved = half_sockets rs; was = λ i. (let e : x ≡ u = cc in let s : udp_weight x i ≡ udp_weight u i = ap (λ (y : Udp2Socket). udp_weight y i) e in omega (arith, s)); now = λ q i. omega arith }
   beside_udp (rec.Lookup l ∷ rs) zero u g = absurd (cc)
+  beside_udp (rec.InputPipe bytes ∷ rs) zero u g = absurd (cc)
+  beside_udp (rec.OutputPipe pipe ∷ rs) zero u g = absurd (cc)
   beside_udp (x ∷ rs) (suc place) u g =
       let k = beside_udp rs place u g in
       record {

@@ -2,7 +2,7 @@
 use Rattle.wasi_tcp.specs.declared.writer.WriteState.TheVariants as writing
 use Rattle.wasi_world.specs.declared.outcome.Answer.{Answer}
 use Rattle.wasi_world.specs.declared.outcome.Answer.TheVariants.{Ready, Pending}
-use Rattle.wasi_laws.proofs.Words.{◌≡◌, ◌⊎◌, inl, inr, ℕ, List, [], ◌∷◌, ◌++◌, Option, Some, None, sym, ap, subst, ◌∙◌, ◌<◌, Ok, Err, Result, refl, arith, ⊤, OpId, Item, End, Waits, Done, Refused, WriteState, IsFrontOf, bytes_left, Streams, Tcp2Socket, get_set, get_split, set_get, set_there, Entry, bind, told_ready, Write, StreamStop, Job, then_closed, written_by, closed_by, collected, look_in, look_asks, permitted, check_write_asks, Quiet, quiet_then, WriterMoves, Collects, Permits, Lasts, LastsAfter, Closes}
+use Rattle.wasi_laws.proofs.Words.{◌≡◌, ◌⊎◌, inl, inr, ℕ, List, [], ◌∷◌, ◌++◌, Option, Some, None, sym, ap, subst, ◌∙◌, ◌<◌, Ok, Err, Result, refl, arith, ⊤, OpId, Item, End, Waits, Done, Refused, WriteState, IsFrontOf, bytes_left, Streams, Tcp2Socket, get_set, get_split, set_get, set_there, Entry, bind, told_ready, Write, StreamStop, Job, then_closed, written_by, closed_by, collected, look_in, look_asks, permitted, check_write_asks, Quiet, quiet_then, WriterMoves, Collects, Permits, Lasts, LastsAfter}
 use Rattle.wasi_laws.proofs.shapes.Shape.{some_same, Lives}
 use Rattle.wasi_host.specs.Records.{tcp2_at, tcp2_put, tcp2_pushed}
 use Rattle.wasi_host.specs.declared.records.Record.{Record}
@@ -117,7 +117,7 @@ module _ (taken bytes : List ℕ) where
   writer_agrees _ _ (Permits half old) h = h
   writer_agrees _ _ (Lasts job) h = h
   writer_agrees _ _ (LastsAfter job) h = same_bytes job.write.left (then_closed job.write.left) job.end (bytes_closed job.write.left) h
-  writer_agrees w _ (Closes _ e) h = tt
+  writer_agrees w _ _ h = tt
 
   -- == a look: where it is ready all was taken
   abbrev SaysReady : Result (Answer (Unit {0})) StreamStop → Type 0

@@ -13,13 +13,13 @@ use Rattle.wasi_udp.specs.Bind as udp
 use Rattle.wasi_udp.specs.Create.{new_create}
 use Rattle.wasi_udp.specs.Receive.{wanted_in}
 use Rattle.wasi_host.specs.declared.udp.Udp2Socket.{Udp2Socket}
-use Rattle.wasi_host.specs.Udp.{udp_create_left}
+use Rattle.wasi_host.specs.Udp.{udp_create_left, udp_side}
 use Rattle.wasi_walks.proofs.UdpLists.{tcp_of_put, tcp_of_push, tcp_in_put, tcp_in_push}
 use Rattle.wasi_walks.proofs.claims.Polls.{send_plain, receive_plain, udp_connect_plain}
 use Rattle.wasi_walks.proofs.fits.DatagramPolls.{wanted_left}
 use Rattle.wasi_walks.proofs.fits.Records.{FitConnecting, FitUdpProgress, ReceiveOn, SendOn, UdpBindOn, UdpConnectOn}
 use Rattle.wasi_walks.proofs.fits.UdpFits.{receives_on, sends_on}
-use Rattle.wasi_walks.proofs.walks.Moves.{Names, put_udp, with_records, Finds, FoundUdp, UdpChanges, BeginsUdpBind, BeginsUdpConnect, Counts, SpendsNames, BeginsSend, BeginsReceive, UdpCreates, UdpBindsOn, UdpConnectsOn, SendsOn, ReceivesOn}
+use Rattle.wasi_walks.proofs.walks.Moves.{CancelsBind, CancelsUdpBind, CancelsUdpConnect, Names, put_udp, with_records, Finds, FoundUdp, UdpChanges, BeginsUdpBind, BeginsUdpConnect, Counts, SpendsNames, BeginsSend, BeginsReceive, UdpCreates, UdpBindsOn, UdpConnectsOn, SendsOn, ReceivesOn}
 use Rattle.wasi_walks.specs.Waiting.{IsLeftOfBind}
 use Rattle.wasi_walks.specs.Waiting as binding
 use Rattle.wasi_laws.proofs.Words.{Allows, ArePlain, Asks, Awaits, Begins, BeginsAccept, BeginsBind, BeginsConnect, BeginsListen, BeginsWrite, BindsOn, Bool, Call, Changes, ClosesReader, Connects, Done, End, Entry, Fit, FitListening, FitProgress, Forgets, Found, Held, Here, HoldsAccept, HoldsConnect, IsAcceptOn, IsConnect, IsFrontOf, IsGone, IsLeftOfConnect, IsLeftOfListen, IsListen, Item, Job, Joins, List, Listens, Move, Named, NoWrite, None, Not, OpId, Opens, Operation, Option, Own, Quiet, Reconnects, Refused, SocketAddressFamily, Some, Spends, Step, Streams, Tcp2Socket, TcpState, ToWrite, Told, Unlistens, Unused, Used, Waits, WasiSocketsCtx, WriteState, Writes, [], accept_ended, accept_name, accept_plain, accepting_now, allows_keep, allows_weaker, ap, append-nil, append_assoc, bytes_left, closed_record, connect_ended, entry, false, fresh, if◌then◌else◌, inl, inr, is_same, job_after, joined, name_in, new_accept, new_job, new_record, new_socket, none_taken, opened_by, own_of, plain_poll, poll_asks, put, refl, rules, side_in, side_of, subst, sym, taken_fresh, taken_in, true, with_inner, with_listening, with_reader, with_state, with_writer, ℕ, ⊤, ◌+◌, ◌++◌, ◌∙◌, ◌∷◌, ◌≡◌}
@@ -150,9 +150,9 @@ module _ (side : OpId) (given : List ℕ) where
 
   module _ (line : ℕ) where
     -- a write begins: its network socket is the connection's
-    module _ (es : List Entry) (h : Here) (place : ℕ) (r : Tcp2Socket) (s : Streams) (half : TcpSendStream) (permit : ℕ) (bytes : List ℕ) (g : Found h place r) (e : r.streams ≡ Some s) (w : s.writer ≡ writing.Ready half permit) (o : HasStreams r.inner.state s) (n : Named line h) (k : Kept es h) where
+    module _ (es : List Entry) (h : Here) (place number : ℕ) (r : Tcp2Socket) (s : Streams) (half : TcpSendStream) (permit : ℕ) (bytes : List ℕ) (g : Found h place r) (e : r.streams ≡ Some s) (w : s.writer ≡ writing.Ready half permit) (o : HasStreams r.inner.state s) (n : Named line h) (k : Kept es h) where
       abbrev begun : Tcp2Socket
-      begun = with_writer r s (writing.Writing (new_job (own_of line) half.side bytes))
+      begun = with_writer r s (writing.Writing (new_job (own_of number) half.side bytes))
 
       its_side : side_of r.inner ≡ Some half.side
       its_side = let same : half.side ≡ o.connection.side = subst (WriterIs o.connection.side) w o.writer in ap side_in o.is ∙ ap (λ (x : OpId). Some x) (sym same)
@@ -192,8 +192,8 @@ module _ (side : OpId) (given : List ℕ) where
           (λ held v a. opens_agree es held c r.streams f (subst (λ (t : TcpState). StreamsShape t r.streams) e (b.1 place r g).0) a) k
       moves es _ _ (BeginsConnect h place r x a bound at g d to known idle o) b k = spends es _ h.own o (put_same es h place r _ g (follows_state r _ refl refl (λ x p. ap side_in d ∙ p)) refl k)
       moves es _ _ (BeginsBind h place r x a at g d to idle o) b k = spends es _ h.own o (put_same es h place r _ g (record { side = refl; lives = λ x v. v }) refl k)
-      moves es _ _ (BeginsWrite h place r s half permit bytes at g e w within o) b k =
-          record { held = given; stands = begins es h place r s half permit bytes g e w (subst (StreamsShape r.inner.state) e (b.1 place r g).0) b.0.1 k (is_same half.side side) refl (subst (λ (x : Own). Owes x k.held) o k.owes); owes = refl }
+      moves es _ _ (BeginsWrite h place number r s half permit bytes at g e w within o) b k =
+          record { held = given; stands = begins es h place number r s half permit bytes g e w (subst (StreamsShape r.inner.state) e (b.1 place r g).0) b.0.1 k (is_same half.side side) refl (subst (λ (x : Own). Owes x k.held) o k.owes); owes = refl }
       moves es _ _ (BeginsListen h place r x p g d bound none to idle o) b k = spends es _ h.own o (put_same es h place r _ g (follows_begun line h place r x g d b.0.1) refl k)
       moves es _ _ (BeginsAccept h place r l p g e a o) b k = spends es _ h.own o (put_same es h place r _ g (follows_quiet r (accepting_now r l (new_accept line l)) refl refl (λ b. b)) refl k)
       moves es _ _ (Unlistens h place r op q g e c o) b k = put_same es h place r _ g (follows_quiet r _ refl refl (λ b. b)) refl k
@@ -211,6 +211,9 @@ module _ (side : OpId) (given : List ℕ) where
       moves es _ _ (BeginsUdpConnect h place o a at g to bound own) b k = spends es _ h.own own (put_udp_kept es h place (Udp2Socket.Open o) (Udp2Socket.Open _) g k)
       moves es _ _ (BeginsSend h place part o out d bound at g e is known own) b k = owns es _ h.own (Names part) (Names (part + 1)) own (λ held p. p) (put_udp_kept es h place (Udp2Socket.Open o) (Udp2Socket.Open _) g k)
       moves es _ _ (BeginsReceive h place part o inc bound at g e own) b k = owns es _ h.own (Names part) (Names (part + 1)) own (λ held p. p) (put_udp_kept es h place (Udp2Socket.Open o) (Udp2Socket.Open _) g k)
+      moves es _ _ (CancelsBind h place r op q g e) b k = put_same es h place r _ g (record { side = refl; lives = λ x v. v }) refl k
+      moves es _ _ (CancelsUdpBind h place o op q g e) b k = put_udp_kept es h place (Udp2Socket.Open o) (Udp2Socket.Open _) g k
+      moves es _ _ (CancelsUdpConnect h place o q g) b k = put_udp_kept es h place (Udp2Socket.Open o) (Udp2Socket.Open _) g k
       moves es _ _ (Finds h records s) b k = looked es h records (sockets_stay s) k
       -- the others leave all that is looked at
       moves es _ _ _ b k = k
@@ -286,7 +289,7 @@ module _ (side : OpId) (given : List ℕ) where
         udp_creates = λ es h ctx family u b k.
             let m = asked es h (own_of line) (call.UdpCreate ctx.name family) told.Done tt k in
             spends _ _ h.own u (push_udp_kept _ h.machine.store.records (Udp2Socket.Creating (new_create (own_of line) ctx.name family)) h.own m);
-        udp_closes = λ es h place o op g b k. (front es h k, λ told. asked es (put_udp h place (Udp2Socket.Closed o.inner.side)) op (call.Close o.inner.side) told tt (put_udp_kept es h place (Udp2Socket.Open o) (Udp2Socket.Closed o.inner.side) g k));
+        udp_closes = λ es h place u op g l b k. (front es h k, λ told. asked es (put_udp h place (Udp2Socket.Closed (udp_side u))) op (call.Close (udp_side u)) told tt (put_udp_kept es h place u (Udp2Socket.Closed (udp_side u)) g k));
         lookups = looked;
         polls = λ es h op after x b k. allows_weaker (Fronts side given) (λ fs ended. Kept fs h × ArePlain ended.1) (λ fs ended. Kept fs (after ended)) (λ fs ended y. ended_kept fs h op after ended x b.0.1 y.0) es (poll_asks op)
             (quiet_kept (λ ended. ArePlain ended.1) es h (poll_asks op) k (plain_poll op es (held_plain h op after x b.0.0)));

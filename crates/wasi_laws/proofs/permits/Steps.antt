@@ -47,7 +47,7 @@ module _ (contexts : List WasiSocketsCtx) (side : OpId) where
         left = q.left;
         front = fs ++ q.front;
         entries = q.entries;
-        permitted = permitted_by m side s fs ++ q.permitted;
+        permitted = permitted_by m side line s fs ++ q.permitted;
         after = q.after;
         all = ap (λ more. s ∷ more) q.all;
         whole = p ∙ (ap (λ more. fs ++ more) q.whole ∙ sym (append_assoc fs q.front q.entries));

@@ -1,9 +1,11 @@
 -- The law that each record has its shape.
+use Rattle.wasi_tcp.specs.declared.halves.TcpSendStream.{TcpSendStream}
 use Rattle.wasi_tcp.specs.declared.reader.ReadState.TheVariants as reading
 use Rattle.wasi_tcp.specs.declared.socket.Connection.{Connection}
 use Rattle.wasi_tcp.specs.declared.socket.TcpState.TheVariants as state
+use Rattle.wasi_tcp.specs.declared.writer.WriteState.TheVariants as writing
 use Rattle.wasi_walks.proofs.fits.Polls.{Anything}
-use Rattle.wasi_laws.proofs.Words.{Accepts, Allows, Awaits, BeginsAccept, BeginsBind, BeginsConnect, BeginsListen, BeginsWrite, BindsOn, Changes, CloseLast, ClosesReader, Connects, Done, End, Entry, Err, ErrorCode, Forgets, Found, Given, Held, Here, IsGone, Item, Job, Joins, LastAsk, List, Listener, Listening, Listens, Move, None, NothingLast, Ok, OpId, Opens, Operation, Option, Reconnects, Result, ShutdownLast, Socket, SocketAddressFamily, Some, Step, Streams, Tcp2, Tcp2Socket, TcpState, Unclosed, Unlistens, Used, WasiSocketsCtx, Who, WriteState, Writes, accepting_now, allows_then, allows_weaker, ap, bind, bind_progress, connect_ended, create_asks, created_asks, get_set, get_split, inl, inr, job_after, joined, last_ask, length, listen_after, make_asks, new_asks, new_record, opened_by, own_of, poll_asks, put, refl, side_of, subst, sym, true, turn_asks, whatever, with_inner, with_progress, with_reader, with_state, with_writer, ℕ, ⊤, ◌∙◌, ◌≡◌}
+use Rattle.wasi_laws.proofs.Words.{Accepts, Allows, Awaits, BeginsAccept, BeginsBind, BeginsConnect, BeginsListen, BeginsWrite, BindsOn, Changes, CloseLast, ClosesReader, Connects, Done, End, Entry, Err, ErrorCode, Forgets, Found, Given, Held, Here, IsGone, Item, Job, Joins, LastAsk, List, Listener, Listening, Listens, Move, None, NothingLast, Ok, OpId, Opens, Operation, Option, Reconnects, Result, ShutdownLast, Socket, SocketAddressFamily, Some, Step, Streams, Tcp2, Tcp2Socket, TcpState, Unclosed, Unlistens, Used, WasiSocketsCtx, Who, WriteState, Writes, accepting_now, allows_then, allows_weaker, ap, bind, bind_progress, connect_ended, create_asks, created_asks, get_set, get_split, inl, inr, job_after, joined, last_ask, length, listen_after, make_asks, new_asks, new_job, new_record, opened_by, own_of, poll_asks, put, refl, side_of, subst, sym, true, turn_asks, whatever, with_inner, with_progress, with_reader, with_state, with_writer, ℕ, ⊤, ◌∙◌, ◌≡◌}
 use Rattle.wasi_laws.proofs.asks.Fronts.{Becomes, ToldAddress, PollLaw, polls_by}
 use Rattle.wasi_laws.proofs.asks.Trees.{GoesOn, InWriting, InClosing, turns_by}
 use Rattle.wasi_laws.proofs.shapes.Shape.{IsOfWrite, AreOfWrite, end_write, JobIs, WriterIs, writer_moves, HasStreams, StreamsShape, ListenerShape, RecordShape, Unconnected, bare, sideless, restated, SocketsStay, sockets_stay}
@@ -12,7 +14,7 @@ use Rattle.wasi_host.specs.declared.udp.Udp2Socket.{Udp2Socket}
 use Rattle.wasi_host.specs.Udp.{udp_create_left}
 use Rattle.wasi_udp.specs.Create.{Create}
 use Rattle.wasi_walks.proofs.UdpLists.{tcp_of_put, tcp_of_push}
-use Rattle.wasi_walks.proofs.walks.Moves.{put_udp, udp_begun, with_records, Finds, UdpChanges, BeginsUdpBind, BeginsUdpConnect, BeginsSend, BeginsReceive, UdpCreates, UdpBindsOn, UdpConnectsOn, SendsOn, ReceivesOn}
+use Rattle.wasi_walks.proofs.walks.Moves.{CancelsBind, CancelsUdpBind, CancelsUdpConnect, put_udp, udp_begun, with_records, Finds, UdpChanges, BeginsUdpBind, BeginsUdpConnect, BeginsSend, BeginsReceive, UdpCreates, UdpBindsOn, UdpConnectsOn, SendsOn, ReceivesOn}
 use Rattle.wasi_host.specs.declared.records.Record.{Record}
 
 -- what is left of a write takes no other form
@@ -114,6 +116,11 @@ push_shape : (records : List Record) (now : Tcp2Socket) → RecordShape now → 
 push_shape records now k i place r e = elim (get_split records now place r e) [ inl p ↦ i place r p | inr p ↦ subst RecordShape p k ]
 
 module _ (contexts : List WasiSocketsCtx) (line : ℕ) (origin : Step) where
+  -- a write begins, of whatever line
+  pub write_shape : (h : Here) (place n : ℕ) (r : Tcp2Socket) (s : Streams) (half : TcpSendStream) (permit : ℕ) (bytes : List ℕ) → Found h place r → r.streams ≡ Some s → s.writer ≡ writing.Ready half permit → Shaped h → Shaped (put h place (with_writer r s (writing.Writing (new_job (own_of n) half.side bytes))))
+  write_shape h place n r s half permit bytes g e w i =
+      let k = i place r g in put_shape h place _ (writes_on r s _ e k (record { side = subst (WriterIs _) w (has_streams r s e k).writer; last = refl; left = (tt, tt) })) i
+
   pub moves_shape : (h now : Here) → Move line origin h now → Shaped h → Shaped now
   moves_shape _ _ (Changes h place r now g p) i = put_shape h place now (rw (p.does, p.streams, p.listening) (i place r g)) i
   moves_shape _ _ (ClosesReader h place r s g e) i =
@@ -128,8 +135,7 @@ module _ (contexts : List WasiSocketsCtx) (line : ℕ) (origin : Step) where
       put_shape h place (opened_by r c) (record { connection = now; is = refl; taken = refl; reader = λ half d. (let q : record { side = c.side } ≡ half = cc in ap (λ y. y.side) (sym q)); writer = refl }, k.1) i
   moves_shape _ _ (BeginsConnect h place r side a bound at g d to known idle own) i = put_shape h place _ (restates r _ (λ c e. let p : state.Default side ≡ state.Connected c = sym d ∙ e in absurd (cc)) (λ x e. let p : state.Default side ≡ state.Listening x = sym d ∙ e in absurd (cc)) (i place r g)) i
   moves_shape _ _ (BeginsBind h place r side a at g d to idle own) i = put_shape h place _ (i place r g) i
-  moves_shape _ _ (BeginsWrite h place r s half permit bytes at g e w within own) i =
-      let k = i place r g in put_shape h place _ (writes_on r s _ e k (record { side = subst (WriterIs _) w (has_streams r s e k).writer; last = refl; left = (tt, tt) })) i
+  moves_shape _ _ (BeginsWrite h place part r s half permit bytes at g e w within own) i = write_shape h place part r s half permit bytes g e w i
   moves_shape _ _ (BeginsListen h place r side at g d bound none to idle own) i =
       let k = restates r (state.Closed _) (λ c e. let p : state.Default side ≡ state.Connected c = sym d ∙ e in absurd (cc)) (λ x e. let p : state.Default side ≡ state.Listening x = sym d ∙ e in absurd (cc)) (i place r g) in put_shape h place _ (k.0, tt) i
   moves_shape _ _ (BeginsAccept h place r l at g e a own) i = let k = i place r g in put_shape h place _ (k.0, accepts_shape r l e k) i
@@ -144,6 +150,9 @@ module _ (contexts : List WasiSocketsCtx) (line : ℕ) (origin : Step) where
   moves_shape _ _ (BeginsUdpConnect h place o a at g to bound own) i = udp_shape h place _ i
   moves_shape _ _ (BeginsSend h place part o out d bound at g e is known own) i = udp_shape h place _ i
   moves_shape _ _ (BeginsReceive h place part o inc bound at g e own) i = udp_shape h place _ i
+  moves_shape _ _ (CancelsBind h place r op q g e) i = put_shape h place _ (i place r g) i
+  moves_shape _ _ (CancelsUdpBind h place o op q g e) i = udp_shape h place _ i
+  moves_shape _ _ (CancelsUdpConnect h place o q g) i = udp_shape h place _ i
   moves_shape _ _ (Finds h records s) i = lookup_shape h records (sockets_stay s) i
   -- the others leave all that is looked at
   moves_shape _ _ _ i = i

@@ -4,13 +4,14 @@ use Rattle.std.proofs.lemmas.Bool.{eqb-true}
 use Rattle.wasi_host.specs.Records.{tcp2_at, udp2_at}
 use Rattle.wasi_host.specs.declared.name_lookup.LookupOp.{LookupOp}
 use Rattle.wasi_host.specs.declared.records.Record.{Record}
+use Rattle.wasi_host.specs.declared.udp.Udp2Socket.{Udp2Socket}
 use Rattle.wasi_tcp.specs.declared.halves.TcpReceiveStream.{TcpReceiveStream}
 use Rattle.wasi_tcp.specs.declared.reader.ReadState.TheVariants as reading
 use Rattle.wasi_tcp.specs.declared.socket.Connection.{Connection}
 use Rattle.wasi_tcp.specs.declared.socket.TcpState.TheVariants as state
 use Rattle.wasi_tcp.specs.declared.writer.WriteState.TheVariants as writing
 use Rattle.wasi_walks.proofs.walks.Moves.{SameSockets}
-use Rattle.wasi_laws.proofs.Words.{Accepts, Begins, Bool, Closes, Collects, Done, End, Found, Here, IsOn, Item, Job, Last, Lasts, LastsAfter, List, Listening, Named, None, OfReader, OfSocket, OfWriter, OpId, Option, Permits, Plain, Refused, ShutdownLast, ShutdownSend, Some, Streams, Tcp2Socket, TcpState, Unclosed, Waits, Write, WriteState, WriterMoves, [], ap, arith, beginning_listen, closed_by, closing_side, false, inl, inr, is_same, no_some, own_of, refl, side_in, side_of, subst, sym, then_closed, true, writer_side, writing_side, written_by, ℕ, ⊤, ◌&&◌, ◌==◌, ◌∙◌, ◌∷◌, ◌≡◌, ◌⊎◌}
+use Rattle.wasi_laws.proofs.Words.{Accepts, Begins, Bool, Collects, Done, End, Found, Here, IsOn, Item, Job, Last, Lasts, LastsAfter, List, Listening, Named, None, OfReader, OfSocket, OfWriter, OpId, Option, Permits, Plain, Refused, ShutdownLast, ShutdownSend, Some, Streams, Tcp2Socket, TcpState, Unclosed, Waits, Write, WriteState, WriterMoves, [], ap, arith, beginning_listen, closed_by, closing_side, false, inl, inr, is_same, no_some, own_of, refl, side_in, side_of, subst, sym, then_closed, true, writer_side, writing_side, written_by, ℕ, ⊤, ◌&&◌, ◌==◌, ◌∙◌, ◌∷◌, ◌≡◌, ◌⊎◌}
 
 pub some_same : {A : Type 0} (a b : A) → Some a ≡ Some b → a ≡ b
 some_same a b e = cc
@@ -95,7 +96,7 @@ writer_moves at _ _ (Collects (writing.Closed e)) k = k
 writer_moves at _ _ (Permits half old) k = k
 writer_moves at _ _ (Lasts job) k = k
 writer_moves at _ _ (LastsAfter job) k = record { side = k.side; last = k.last; left = left_closed job.write.left k.left }
-writer_moves at _ _ (Closes w e) k = tt
+writer_moves at _ _ _ k = tt
 
 -- a writer that has a network socket has that one
 module _ (at x : OpId) where
@@ -213,3 +214,9 @@ pub record SocketsStay (old now : List Record) : Type 0 where
 
 pub sockets_stay : {new : LookupOp → Type 0} {old now : List Record} → SameSockets new old now → SocketsStay old now
 sockets_stay s = record { tcp = s.tcp; udp = s.udp }
+
+-- == where a UDP socket is closed
+-- it wasn't closed yet
+abbrev pub UdpLives : Udp2Socket → Type 0
+UdpLives (Udp2Socket.Closed side) = ⊥
+UdpLives u = ⊤

@@ -1,24 +1,26 @@
 -- The law that what is asked of a socket is asked while it is open.
 use Rattle.wasi_world.specs.declared.call.Call.TheVariants as call
 use Rattle.wasi_world.specs.declared.call.Told.TheVariants as told
+use Rattle.wasi_tcp.specs.declared.halves.TcpSendStream.{TcpSendStream}
 use Rattle.wasi_tcp.specs.declared.listener.Accepting.TheVariants as accepting
 use Rattle.wasi_tcp.specs.declared.socket.TcpState.TheVariants as state
+use Rattle.wasi_tcp.specs.declared.writer.WriteState.TheVariants as writing
 use Rattle.wasi_walks.proofs.claims.Law.{own_of_parts}
-use Rattle.wasi_laws.proofs.Words.{Accepting, Accepts, Allows, Asks, AsksOpenSockets, Awaits, Begins, BeginsAccept, BeginsBind, BeginsConnect, BeginsListen, BeginsWrite, BindsOn, Call, Changes, CloseLast, ClosesReader, Connection, Connects, Created, Done, End, Entry, Fit, FitListening, FitProgress, Forgets, Found, Given, Has, Held, Here, HoldsAccept, IpSocketAddress, IsAcceptOn, IsAskedOpen, IsGone, IsMade, IsOpen, Item, Job, Joins, Left, List, Listener, Listening, Listens, Machine, Move, Named, None, Not, NothingLast, OpId, Opens, Operation, Own, Reconnects, Refused, Reply, ShutdownLast, SocketAddressFamily, Some, Spends, Starts, Step, Streams, Tcp2Socket, ToWrite, Told, Unlistens, Unused, Used, Waits, WasiSocketsCtx, WriteState, Writes, [], accept_ended, accept_name, accepting_now, ap, append_assoc, arith, arrived, closed_record, connect_ended, cut_of, entry, first_state, has_back, has_last, inl, inr, job_after, joined, listen_after, name_in, new_accept, new_record, new_socket, next_of, no_some, own_of, poll_asks, put, refl, run, second_of, side_in, side_of, socket_of, subst, sym, true, with_inner, with_listening, with_state, with_writer, ℕ, ◌++◌, ◌+◌, ◌∙◌, ◌∷◌, ◌≡◌, ◌≤◌, ◌⊎◌, Ok}
+use Rattle.wasi_laws.proofs.Words.{Accepting, Accepts, Allows, Asks, AsksOpenSockets, Awaits, Begins, BeginsAccept, BeginsBind, BeginsConnect, BeginsListen, BeginsWrite, BindsOn, Call, Changes, CloseLast, ClosesReader, Connection, Connects, Created, Done, End, Entry, Fit, FitListening, FitProgress, Forgets, Found, Given, Has, Held, Here, HoldsAccept, IpSocketAddress, IsAcceptOn, IsAskedOpen, IsGone, IsMade, IsOpen, Item, Job, Joins, Left, List, Listener, Listening, Listens, Machine, Move, Named, None, Not, NothingLast, OpId, Opens, Operation, Own, Reconnects, Refused, Reply, ShutdownLast, SocketAddressFamily, Some, Spends, Starts, Step, Streams, Tcp2Socket, ToWrite, Told, Unlistens, Unused, Used, Waits, WasiSocketsCtx, WriteState, Writes, [], accept_ended, accept_name, accepting_now, ap, append_assoc, arith, arrived, closed_record, connect_ended, cut_of, entry, first_state, has_back, has_last, inl, inr, job_after, joined, listen_after, name_in, new_accept, new_job, new_record, new_socket, next_of, no_some, own_of, poll_asks, put, refl, run, second_of, side_in, side_of, socket_of, subst, sym, true, with_inner, with_listening, with_state, with_writer, ℕ, ◌++◌, ◌+◌, ◌∙◌, ◌∷◌, ◌≡◌, ◌≤◌, ◌⊎◌, Ok}
 use Rattle.wasi_laws.proofs.asks.Fronts.{is_calm, IsGivenMade}
-use Rattle.wasi_laws.proofs.asks.Single.{each_ask, OnUdp, Single, Closing, ClosesSocket, ClosesListen, ClosesArrived, IsAskedOn, OnNone, OnSide, creating}
+use Rattle.wasi_laws.proofs.asks.Single.{each_ask, KeepsWrites, OnUdp, Single, Closing, ClosesSocket, ClosesListen, ClosesArrived, IsAskedOn, OnNone, OnSide, creating}
 use Rattle.wasi_laws.proofs.asks.Trees.{GoesOn}
 use Rattle.wasi_laws.proofs.shapes.Shape.{some_same, WriterIs, HasStreams, StreamsShape, ListenerShape, IsBegun, Follows, follows_plain, follows_same, follows_state, follows_quiet, follows_begun, gone_lacks, follows_gone, sockets_stay}
 use Rattle.wasi_laws.proofs.shapes.Law.{job_of}
 use Rattle.wasi_host.specs.declared.udp.OpenUdp.{OpenUdp}
 use Rattle.wasi_host.specs.declared.udp.Udp2Socket.{Udp2Socket}
-use Rattle.wasi_host.specs.Udp.{udp_create_left}
+use Rattle.wasi_host.specs.Udp.{udp_create_left, udp_side}
 use Rattle.wasi_udp.specs.Create.{Create, new_create}
 use Rattle.wasi_walks.proofs.fits.Records.{FitConnecting, FitUdpProgress, ReceiveOn, SendOn, UdpBindOn, UdpConnectOn}
 use Rattle.wasi_walks.proofs.fits.UdpFits.{connected_side, receives_on, sends_on}
 use Rattle.wasi_laws.specs.Opened.{UdpCreated}
-use Rattle.wasi_walks.proofs.walks.Moves.{Names, put_udp, FoundUdp, Finds, udp_begun, UdpChanges, BeginsUdpBind, BeginsUdpConnect, Counts, SpendsNames, BeginsSend, BeginsReceive, UdpCreates, UdpBindsOn, UdpConnectsOn, SendsOn, ReceivesOn}
-use Rattle.wasi_laws.proofs.sockets.Opened.{put_udp_open, push_udp_open, looked_open, udp_closed_put, Grows, grows_none, grows_entry, RecordOpen, name_of, changed, HasIt, one_more, opened_more, put_open, push_open, later, Kept, closed_put}
+use Rattle.wasi_walks.proofs.walks.Moves.{CancelsBind, CancelsUdpBind, CancelsUdpConnect, Names, put_udp, FoundUdp, Finds, udp_begun, UdpChanges, BeginsUdpBind, BeginsUdpConnect, Counts, SpendsNames, BeginsSend, BeginsReceive, UdpCreates, UdpBindsOn, UdpConnectsOn, SendsOn, ReceivesOn}
+use Rattle.wasi_laws.proofs.sockets.Opened.{lives_open, put_udp_open, push_udp_open, looked_open, udp_closed_put, Grows, grows_none, grows_entry, RecordOpen, name_of, changed, HasIt, one_more, opened_more, put_open, push_open, later, Kept, closed_put}
 use Rattle.wasi_laws.proofs.sockets.Polls.{ClosesAt, AskedOpen, calm_closes, PollLeaves, polled, calm_end}
 
 abbrev accept_of : Listening → Accepting
@@ -49,6 +51,17 @@ module _ (line : ℕ) where
   by_own (Names part) = omega arith
   by_own (ToWrite at bytes) = omega arith
 
+  -- a write begins, of whatever line
+  begins : (es : List Entry) (h : Here) (place n : ℕ) (r : Tcp2Socket) (s : Streams) (half : TcpSendStream) (bytes : List ℕ) → Found h place r → Kept line es h → Kept line es (record (put h place (with_writer r s (writing.Writing (new_job (own_of n) half.side bytes)))) { own = Used })
+  begins es h place n r s half bytes g i = later es (line + 1) (by_own h.own) (put_kept es h place r _ g (record { side = refl; lives = λ x v. v }) (inl refl) i)
+
+  -- what began nothing has no more names than what did
+  no_less : (o : Own) → next_of line Unused ≤ next_of line o
+  no_less Used = omega arith
+  no_less Unused = omega arith
+  no_less (Names part) = omega arith
+  no_less (ToWrite at bytes) = omega arith
+
   module _ {origin : Step} where
     moves : (es : List Entry) (h now : Here) → Move line origin h now → Named line h → Kept line es h → Kept line es now
     moves es _ _ (Spends h e) n i = later es (line + 1) (by_own h.own) i
@@ -62,7 +75,7 @@ module _ (line : ℕ) where
     moves es _ _ (Opens h place r c d g e k) n i = put_kept es h place r _ g (follows_state r _ refl refl (λ x p. ap side_in e ∙ p)) (inl refl) i
     moves es _ _ (BeginsConnect h place r side a bound at g d to known idle own) n i = later es (line + 1) (by_own h.own) (put_kept es h place r _ g (follows_state r _ refl refl (λ x p. ap side_in d ∙ p)) (inl refl) i)
     moves es _ _ (BeginsBind h place r side a at g d to idle own) n i = later es (line + 1) (by_own h.own) (put_kept es h place r _ g (record { side = refl; lives = λ x v. v }) (inl refl) i)
-    moves es _ _ (BeginsWrite h place r s half permit bytes at g e w within own) n i = later es (line + 1) (by_own h.own) (put_kept es h place r _ g (record { side = refl; lives = λ x v. v }) (inl refl) i)
+    moves es _ _ (BeginsWrite h place part r s half permit bytes at g e w within own) n i = begins es h place part r s half bytes g i
     moves es _ _ (BeginsListen h place r side at g d bound none to idle own) n i = later es (line + 1) (by_own h.own) (put_kept es h place r _ g (follows_begun line h place r side g d n) (inr refl) i)
     moves es _ _ (BeginsAccept h place r l at g e a own) n i =
         let k = i.records place r g in
@@ -82,6 +95,10 @@ module _ (line : ℕ) where
     moves es _ _ (BeginsUdpConnect h place o a at g to bound own) n i = later es (line + 1) (by_own h.own) (put_udp_open es place (Udp2Socket.Open _) (i.udps place (Udp2Socket.Open o) g) i)
     moves es _ _ (BeginsSend h place part o out d bound at g e is known own) n i = later es line (own_of_parts line h.own (Names part) own refl) (put_udp_open es place (Udp2Socket.Open _) (i.udps place (Udp2Socket.Open o) g) i)
     moves es _ _ (BeginsReceive h place part o inc bound at g e own) n i = later es line (own_of_parts line h.own (Names part) own refl) (put_udp_open es place (Udp2Socket.Open _) (i.udps place (Udp2Socket.Open o) g) i)
+    -- what is given up is open still
+    moves es _ _ (CancelsBind h place r op q g e) n i = put_kept es h place r _ g (record { side = refl; lives = λ x v. v }) (inl refl) i
+    moves es _ _ (CancelsUdpBind h place o op q g e) n i = put_udp_open es place (Udp2Socket.Open _) (i.udps place (Udp2Socket.Open o) g) i
+    moves es _ _ (CancelsUdpConnect h place o q g) n i = put_udp_open es place (Udp2Socket.Open _) (i.udps place (Udp2Socket.Open o) g) i
     moves es _ _ (Finds h records s) n i = looked_open es records (sockets_stay s) i
     -- the others leave all that is looked at
     moves es _ _ _ n i = i
@@ -221,6 +238,9 @@ module _ (line : ℕ) where
         let o : IsOpen _ own = (record { made = UdpCreated ctx.name family (has_last es _); unclosed = λ c. (let x = k.older own c in let z : next_of line h.own ≡ line = ap (next_of line) u in omega (arith, x, z)) }) in
         later _ (line + 1) (by_own h.own) (push_udp_open _ (Udp2Socket.Creating (new_create own ctx.name family)) o k)
 
+    pub write_kept : KeepsWrites contexts line origin (Kept line)
+    write_kept es h place n r s half permit bytes at g e w within b i = begins es h place n r s half bytes g i
+
     pub sockets : Single contexts line origin AskedOpen (Kept line)
     sockets = record {
       moves = λ es h now m b i. moves es h now m b.0.1 i;
@@ -232,7 +252,7 @@ module _ (line : ℕ) where
       closes = λ es h place r now op side g c b i. closes es h place r now op side g c b.0.1 i;
       udp_same = λ es h place o now g s e i. put_udp_open es place (Udp2Socket.Open now) (subst (IsOpen es) (sym s) (i.udps place (Udp2Socket.Open o) g)) i;
       udp_creates = λ es h ctx family u b i. udp_created es h ctx family u i;
-      udp_closes = λ es h place o op g b i. (i.udps place (Udp2Socket.Open o) g, λ told. udp_closed_put line (λ x. o.inner.side ≡ x) es _ h place (Udp2Socket.Open o) g (λ x d. d) (one_close es op o.inner.side told) b.0.1 i);
+      udp_closes = λ es h place u op g l b i. (lives_open es u l (i.udps place u g), λ told. udp_closed_put line (λ x. udp_side u ≡ x) es _ h place u g (λ x d. d) (one_close es op (udp_side u) told) b.0.1 i);
       lookups = λ es h records s i. looked_open es records s i;
       polls = λ es h op after k b i. polls es h op after k b.0.0 (λ place r g. (b.1 place r g).1) b.0.1 i;
       turns = λ es h place r s job now g e on b i. turns es h place r s s.writer job now g (subst (StreamsShape r.inner.state) e (b.1 place r g).0) refl on b.0.1 i;
@@ -240,13 +260,10 @@ module _ (line : ℕ) where
 
 module _ (contexts : List WasiSocketsCtx) where
   pub runs_open : (steps : List Step) (log : List Entry) (rest : Asks (List Reply × Machine)) → Left (run contexts [] first_state 1 steps) log rest → AsksOpenSockets log
-  runs_open steps log rest w = record { each = each_ask contexts Kept (λ line origin. sockets line contexts origin) starts (λ line es m i. i) (record { records = λ place r e. absurd (cc); udps = λ place u e. absurd (cc); older = λ x c. absurd c.closed }) steps log rest w }
+  runs_open steps log rest w = record { each = each_ask contexts Kept (λ line origin. sockets line contexts origin) (λ line origin. write_kept line contexts origin) starts (λ line es m i. i) (record { records = λ place r e. absurd (cc); udps = λ place u e. absurd (cc); older = λ x c. absurd c.closed }) steps log rest w }
     where
       starts : (line : ℕ) (es : List Entry) (m : Machine) (own : Own) → Kept line es (Starts m Unused) → Kept line es (Starts m own)
-      starts line es m Used i = later es (line + 1) (by_own line Unused) i
-      starts line es m Unused i = i
-      starts line es m (Names part) i = i
-      starts line es m (ToWrite at bytes) i = i
+      starts line es m own i = later es (next_of line own) (no_less line own) i
 
 -- after a close of a socket nothing is asked of it
 pub nothing_follows : (log : List Entry) → AsksOpenSockets log → (before : List Entry) (op side : OpId) (told : Told) (after : List Entry) (e : Entry) → log ≡ before ++ entry op (call.Close side) told ∷ after → Has after e → socket_of e.call ≡ Some side → ⊥

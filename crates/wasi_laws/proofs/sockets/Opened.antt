@@ -3,7 +3,7 @@
 use Rattle.wasi_world.specs.declared.call.Call.TheVariants as call
 use Rattle.wasi_tcp.specs.declared.listener.Accepting.TheVariants as accepting
 use Rattle.wasi_laws.proofs.Words.{Accepts, Call, Claims, Created, Entry, Found, HandedOver, Here, IpSocketAddress, IsClosed, IsMade, IsOpen, List, Listener, Named, None, OpId, Some, Tcp2Socket, Told, [], accept_name, ap, arith, entry, get_set, get_split, has_front, has_split, inl, inr, name_in, next_of, no_some, put, refl, set_there, subst, sym, ℕ, ◌++◌, ◌<◌, ◌∙◌, ◌∷◌, ◌≡◌, ◌≤◌, ◌⊎◌, ⊤}
-use Rattle.wasi_laws.proofs.shapes.Shape.{some_same, Lives, Follows, SocketsStay}
+use Rattle.wasi_laws.proofs.shapes.Shape.{some_same, Lives, Follows, SocketsStay, UdpLives}
 use Rattle.wasi_host.specs.Records.{tcp2_at, tcp2_put, tcp2_pushed, udp2_at, udp2_put, udp2_pushed}
 use Rattle.wasi_host.specs.declared.udp.Udp2Socket.{Udp2Socket}
 use Rattle.wasi_host.specs.Udp.{udp_side}
@@ -84,16 +84,17 @@ record_more C es fs r g n i = record {
   arrived = λ l new peer e a. g.made new (i.arrived l new peer e a);
 }
 
--- it wasn't closed
-abbrev pub UdpLives : Udp2Socket → Type 0
-UdpLives (Udp2Socket.Closed side) = ⊥
-UdpLives u = ⊤
-
 -- the network socket of a UDP socket is open, until it is closed
 abbrev pub UdpOpen : List Entry → Udp2Socket → Type 0
 UdpOpen es (Udp2Socket.Creating create) = IsOpen es create.operation.who.side
 UdpOpen es (Udp2Socket.Open o) = IsOpen es o.inner.side
 UdpOpen es (Udp2Socket.Closed side) = ⊤
+
+-- so one that wasn't closed yet has it open
+pub lives_open : (es : List Entry) (u : Udp2Socket) → UdpLives u → UdpOpen es u → IsOpen es (udp_side u)
+lives_open es (Udp2Socket.Creating create) l o = o
+lives_open es (Udp2Socket.Open s) l o = o
+lives_open es (Udp2Socket.Closed side) l o = absurd l
 
 udp_more : (C : OpId → Type 0) (es fs : List Entry) (u : Udp2Socket) → Grows C es fs → (UdpLives u → C (udp_side u) → ⊥) → UdpOpen es u → UdpOpen fs u
 udp_more C es fs (Udp2Socket.Creating create) g n o = open_more C es fs _ g (n tt) o
