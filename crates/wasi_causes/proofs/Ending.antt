@@ -1,7 +1,7 @@
 -- What is released: by a shutdown, by a drop of a handle, and what a drop leaves.
 use Rattle.wasi_causes.proofs.Words.{◌≡◌, Bool, true, false, if◌then◌else◌, List, [], ◌∷◌, ◌++◌, Option, Some, None, refl, sym, ap, ◌∙◌, ⊤, ◌⊎◌, append-nil, append_assoc, ℕ, Result, inl, inr, Ok, Err, subst, ◌≢◌, IsSome, IpSocketAddress, ShutdownType, Receive, Send, Both, give_streams_up, gone, release_asks, released, release_at, Stop, Trap, is_on, other_jobs, kind_at, output_of, has_no_child, without_handle, taken_out, place_of, give_up_asks, socket_at, own_of, with_store, answered, at_once, drop_kind, drop_taken, drop_asks, shut_streams, shut_record, shutdown_at, Records, Kind, Tcp2, Output, Listening, Machine, Streams, Tcp2Socket, shutdown_on, set_there, record_at, putting, record_in, OfRecord, Has, done_reply, answer_reply, Each, no_fields, OutputWaits, WritesOn, ToldToWait, WriterWaits, Field, Reply, in_hand, refuse_in, Job, is_over, held_side, give_up_in, reader_shutdown_asks, Socket, side_of, writer_side, writer_shutdown_asks, side_up_asks, Accepting, ReadState, WriteState, Give, bind, End, Done, Who, Operation, ask_close, Entry, OpId, Answer, Ready, Pending, HasChildren, NoSuchHandle, Full, NotPermitted, WasiSocketsCtx}
 use Rattle.wasi_machine.specs.Machine.{first_ids}
-use Rattle.wasi_host.specs.Records.{tcp2_at, udp2_at, open_at, lookup_at}
+use Rattle.wasi_host.specs.Records.{tcp2_at, udp2_at, open_at, lookup_at, input_pipe_at, output_pipe_at}
 use Rattle.wasi_host.specs.NameLookupCalls.{drop_lookup_at}
 use Rattle.wasi_host.specs.declared.name_lookup.Lookup.{Lookup}
 use Rattle.wasi_host.specs.declared.kind.Kind.TheVariants as kinds
@@ -34,7 +34,11 @@ use Rattle.wasi_tcp.specs.declared.reader.ReadState.TheVariants as reading
 use Rattle.wasi_tcp.specs.declared.writer.WriteState.TheVariants as writing
 use Rattle.wasi_world.specs.declared.call.Call.TheVariants as call
 use Rattle.wasi_world.specs.declared.call.Told.TheVariants as told
-use Rattle.wasi_world.specs.declared.outcome.TrapKind.TheVariants.{StreamsAlive}
+use Rattle.wasi_world.specs.declared.outcome.TrapKind.TheVariants.{Capacity, StreamsAlive, TooLong}
+use Rattle.wasi_memory.specs.Plain.{Contents}
+use Rattle.wasi_host.specs.declared.kind.PlainInput.TheVariants as plain_input
+use Rattle.wasi_host.specs.declared.kind.PlainOutput.TheVariants as plain_output
+use Rattle.wasi_host.specs.PlainStreams.{empty_input_at, empty_output_at}
 
 abbrev Adds : {A : Type 0} → List Entry → List Entry → Rows A
 Adds es more fs done = fs ≡ es ++ more
@@ -59,7 +63,7 @@ unfolding bind
 cancels op true e = ends (rw e refl)
 cancels op false e = asks (λ t fits. ends (rw e (told_so op.who.id [] (call.Close op.who.side) t fits)))
 
-listening_up : (l : Listening) → Meets (λ es done. es ≡ listening_given_up l) [] (give_up_asks l)
+pub listening_up : (l : Listening) → Meets (λ es done. es ≡ listening_given_up l) [] (give_up_asks l)
 unfolding bind
 listening_up listening.Not = ends refl
 listening_up (listening.Begins op) = cancels op (is_over op) refl
@@ -271,6 +275,15 @@ module _ (contexts : List WasiSocketsCtx) (m : Machine) (line c handle : ℕ) wh
     lookup_left place is None at = ((apart (λ e. cc) no_children, asks_none (kind_at m.table handle)), (tt, (refl, rw is (λ l there. absurd (cc)))))
     lookup_left place is (Some l) at = ((apart (λ e. cc) no_children, asks_none (kind_at m.table handle)), (tt, (refl, rw is (λ q there. record { quiet = refl; left = refl; job = no_job place m.store.jobs }))))
 
+    -- == of a pipe
+    input_pipe_left : (place : ℕ) → IsKind (kinds.PlainInput (plain_input.Pipe place)) → (o : Option (List ℕ)) → input_pipe_at m.store.records place ≡ o → DropRow [] (Ok (Ready tt), record (without m handle) { store = empty_input_at m.store place o })
+    input_pipe_left place is None at = ((apart (λ e. cc) no_children, asks_none (kind_at m.table handle)), (tt, (refl, rw is (λ bytes there. absurd (cc)))))
+    input_pipe_left place is (Some bytes) at = ((apart (λ e. cc) no_children, asks_none (kind_at m.table handle)), (tt, (refl, rw is (λ its there. refl))))
+
+    output_pipe_left : (place : ℕ) → IsKind (kinds.PlainOutput (plain_output.Pipe place)) → (o : Option Contents) → output_pipe_at m.store.records place ≡ o → DropRow [] (Ok (Ready tt), record (without m handle) { store = empty_output_at m.store place o })
+    output_pipe_left place is None at = ((apart (λ e. cc) no_children, asks_none (kind_at m.table handle)), (tt, (refl, rw is (λ pipe there. absurd (cc)))))
+    output_pipe_left place is (Some pipe) at = ((apart (λ e. cc) no_children, asks_none (kind_at m.table handle)), (tt, (refl, rw is (λ its there. refl))))
+
     by_kind : (kind : Kind) → IsKind kind → Meets DropRow [] (drop_kind (without m handle) (first_ids line) kind)
     by_kind (Tcp2 place) is = onto _ (by_record place is (tcp2_at m.store.records place) refl)
     by_kind (Udp2 place) is = onto _ (udp_by_record place is (udp2_at m.store.records place) refl)
@@ -278,6 +291,11 @@ module _ (contexts : List WasiSocketsCtx) (m : Machine) (line c handle : ℕ) wh
     by_kind (Incoming place) is = ends (incoming_left place is (open_at m.store.records place) refl)
     by_kind (Outgoing place) is = ends (outgoing_by place is (open_at m.store.records place) refl)
     by_kind (kinds.Lookup place) is = ends (lookup_left place is (lookup_at m.store.records place) refl)
+    by_kind (kinds.PlainInput (plain_input.Pipe place)) is = ends (input_pipe_left place is (input_pipe_at m.store.records place) refl)
+    by_kind (kinds.PlainInput plain_input.Closed) is = ends ((apart (λ e. cc) no_children, asks_none (kind_at m.table handle)), (tt, (refl, rw is refl)))
+    by_kind (kinds.PlainOutput (plain_output.Pipe place)) is = ends (output_pipe_left place is (output_pipe_at m.store.records place) refl)
+    by_kind (kinds.PlainOutput plain_output.Sink) is = ends ((apart (λ e. cc) no_children, asks_none (kind_at m.table handle)), (tt, (refl, rw is refl)))
+    by_kind (kinds.PlainOutput plain_output.Closed) is = ends ((apart (λ e. cc) no_children, asks_none (kind_at m.table handle)), (tt, (refl, rw is refl)))
     by_kind _ is = ends ((apart (λ e. cc) no_children, asks_none (kind_at m.table handle)), (tt, (refl, rw is refl)))
 
   by_children : (kind : Kind) → IsKind kind → (b : Bool) → has_no_child m.table handle ≡ b → Meets DropRow [] (drop_taken m (first_ids line) (if b then (Ok kind, without_handle m.table handle) else (Err (Trap HasChildren), m.table)))
@@ -308,10 +326,12 @@ module _ (contexts : List WasiSocketsCtx) (m : Machine) (line c handle : ℕ) wh
   done_ok kind is other free es (reply.Trap Full) after row = absurd row.1.0
   done_ok kind is other free es (reply.Trap NotPermitted) after row = elim row.1.0 [ inl w ↦ absurd w | inr s ↦ absurd s ]
   done_ok kind is other free es (reply.Trap StreamsAlive) after row = absurd row.1.0
+  done_ok kind is other free es (reply.Trap Capacity) after row = absurd row.1.0
+  done_ok kind is other free es (reply.Trap TooLong) after row = absurd row.1.0
   done_ok kind is other free es (reply.Err w) after row = absurd row.1.0
   done_ok kind is other free es reply.Closed after row = absurd row.1.0
   done_ok kind is other free es (reply.Failed w h) after row = absurd row.1.0.0
-  done_ok kind is other free es reply.NoSuchCall after row = absurd row.1.0
+  done_ok kind is other free es reply.NoSuchCall after row = elim row.1.0 [ inl p ↦ absurd p | inr c ↦ absurd c ]
   done_ok kind is other free es _ after row = absurd row.1
 
   -- neither an output nor an outgoing datagram stream
@@ -347,6 +367,8 @@ module _ (contexts : List WasiSocketsCtx) (m : Machine) (line c handle : ℕ) wh
   asks_nothing (Incoming place) plain es h = absurd plain
   asks_nothing (Outgoing place) plain es h = absurd plain
   asks_nothing (kinds.Lookup place) plain es h = absurd plain
+  asks_nothing (kinds.PlainInput (plain_input.Pipe place)) plain es h = absurd plain
+  asks_nothing (kinds.PlainOutput (plain_output.Pipe place)) plain es h = absurd plain
   asks_nothing _ plain es h = h
 
   plain_left : (kind : Kind) → GoesAtOnce kind → (es : List Entry) (after : Machine) → Gone m line handle (Some kind) es after → after ≡ without m handle
@@ -356,6 +378,8 @@ module _ (contexts : List WasiSocketsCtx) (m : Machine) (line c handle : ℕ) wh
   plain_left (Incoming place) plain es after h = absurd plain
   plain_left (Outgoing place) plain es after h = absurd plain
   plain_left (kinds.Lookup place) plain es after h = absurd plain
+  plain_left (kinds.PlainInput (plain_input.Pipe place)) plain es after h = absurd plain
+  plain_left (kinds.PlainOutput (plain_output.Pipe place)) plain es after h = absurd plain
   plain_left _ plain es after h = h
 
   no_out : (kind : Kind) → GoesAtOnce kind → IsNoOut kind

@@ -1,4 +1,5 @@
 pub mod Words
+pub mod PipeLists
 pub mod tables
 pub mod operations
 pub mod udp_streams
@@ -10,4 +11,5 @@ pub mod Machine
 pub mod Resumes
 pub mod Steady
 pub mod Pending
+pub mod PipeHandles
 pub mod Runs

@@ -1,4 +1,5 @@
 -- A subscription, and a look at a pollable.
+use Rattle.wasi_causes.specs.Plain.{WatchesPlain}
 use Rattle.wasi_host.specs.Records.{tcp2_at, open_at, lookup_at}
 use Rattle.wasi_host.specs.NameLookup.{looks_on}
 use Rattle.wasi_host.specs.NameLookupCalls.{lookup_ready}
@@ -44,7 +45,8 @@ use Rattle.wasi_tcp.specs.declared.reader.ReadState.TheVariants as reading
 use Rattle.wasi_tcp.specs.declared.socket.TcpState.TheVariants as state
 use Rattle.wasi_world.specs.declared.call.Call.TheVariants as call
 use Rattle.wasi_world.specs.declared.call.Told.TheVariants as told
-use Rattle.wasi_walks.specs.Answered.{ConnectsOn, MissesWatched}
+use Rattle.wasi_walks.specs.Answered.{ConnectsOn}
+use Rattle.wasi_walks.specs.Missing.{MissesWatched}
 use Rattle.wasi_world.specs.declared.outcome.Answer.TheVariants as answer
 
 -- == a subscription
@@ -64,6 +66,7 @@ IsOfTcp (watched.Udp place) = ⊥
 IsOfTcp (watched.Incoming place) = ⊥
 IsOfTcp (watched.Outgoing place) = ⊥
 IsOfTcp (watched.Lookup place) = ⊥
+IsOfTcp watched.Plain = ⊥
 IsOfTcp _ = ⊤
 
 -- == a look at what is watched, in its record
@@ -169,6 +172,7 @@ module _ (line : ℕ) (r : Tcp2Socket) where
   looks_at (watched.Incoming place) tcp = absurd tcp
   looks_at (watched.Outgoing place) tcp = absurd tcp
   looks_at (watched.Lookup place) tcp = absurd tcp
+  looks_at watched.Plain tcp = absurd tcp
   looks_at (watched.Socket place) tcp = by_progress place (is_connect r.in_progress) refl
   looks_at (watched.Input place) tcp = by_input place r.streams refl
   looks_at (watched.Output place) tcp = by_output place r.streams refl
@@ -187,6 +191,7 @@ module _ (contexts : List WasiSocketsCtx) (m : Machine) (line c pollable : ℕ) 
     none_there (watched.Incoming place) of = absurd of
     none_there (watched.Outgoing place) of = absurd of
     none_there (watched.Lookup place) of = absurd of
+    none_there watched.Plain of = absurd of
     none_there (watched.Socket place) of = refl
     none_there (watched.Input place) of = refl
     none_there (watched.Output place) of = refl
@@ -197,12 +202,16 @@ module _ (contexts : List WasiSocketsCtx) (m : Machine) (line c pollable : ℕ) 
     misses_so (watched.Incoming place) of none = absurd of
     misses_so (watched.Outgoing place) of none = absurd of
     misses_so (watched.Lookup place) of none = absurd of
+    misses_so watched.Plain of none = absurd of
     misses_so (watched.Socket place) of none = none
     misses_so (watched.Input place) of none = none
     misses_so (watched.Output place) of none = none
 
     not_udp : WatchesUdp m pollable → ⊥
     not_udp (place, at) = let same : w ≡ watched.Udp place = cc in subst IsOfTcp same tcp
+
+    not_plain : WatchesPlain m pollable → ⊥
+    not_plain at = let same : w ≡ watched.Plain = cc in subst IsOfTcp same tcp
 
     -- nor of datagram streams
     no_streams : (place : ℕ) → (watch_of (kind_at m.table pollable) ≡ Some (watched.Outgoing place)) ⊎ (watch_of (kind_at m.table pollable) ≡ Some (watched.Incoming place)) → ⊥
@@ -215,7 +224,7 @@ module _ (contexts : List WasiSocketsCtx) (m : Machine) (line c pollable : ℕ) 
 
     -- so of what isn't a TCP socket's nothing is said
     said_of_none : (es : List Entry) (r : Reply) (after : Machine) → (WatchesIdle m pollable → ReadyAtOnce m es r after) → Always contexts m line (step.Ready c pollable) es r after
-    said_of_none es r after idle = (idle, λ at. absurd (not_udp at), λ place at. absurd (no_streams place (inl at)), λ place at. absurd (no_streams place (inr at)), λ place at. absurd (not_lookup place at))
+    said_of_none es r after idle = (idle, λ at. absurd (not_udp at), λ at. absurd (not_plain at), λ place at. absurd (no_streams place (inl at)), λ place at. absurd (no_streams place (inr at)), λ place at. absurd (not_lookup place at))
 
     the_record : {P : Watched → Tcp2Socket → Type 0} (on : OfWatched m pollable P) → tcp2_at m.store.records (place_in w) ≡ Some on.found
     the_record on = let p = on.watches in let same : on.watch ≡ w = cc in rw (sym same) on.at
@@ -267,13 +276,16 @@ module _ (contexts : List WasiSocketsCtx) (m : Machine) (line c pollable : ℕ) 
     no_udp_too : WatchesUdp m pollable → ⊥
     no_udp_too (place, at) = let same : w ≡ watched.Udp place = cc in subst (λ (u : Watched). IsOfDatagrams (Some u)) same of
 
+    no_plain_too : WatchesPlain m pollable → ⊥
+    no_plain_too at = let same : w ≡ watched.Plain = cc in subst (λ (u : Watched). IsOfDatagrams (Some u)) same of
+
     no_lookup_too : (place : ℕ) → WatchesLookup m pollable place → ⊥
     no_lookup_too place at = let same : w ≡ watched.Lookup place = cc in subst (λ (u : Watched). IsOfDatagrams (Some u)) same of
 
     -- of the others nothing is said
     said_of_streams : (es : List Entry) (r : Reply) (after : Machine) → ((place : ℕ) → WatchesOutgoing m pollable place → (r ≡ reply.Ok (truth_fields (outgoing_ready (open_at m.store.records place)))) × Quiet m es after)
         → ((place : ℕ) → WatchesIncoming m pollable place → r ≡ reply.Ok (truth_fields false) → IsReceiving (open_at after.store.records place)) → Always contexts m line (step.Ready c pollable) es r after
-    said_of_streams es r after outgoing incoming = (λ idle. absurd (not_idle_too idle), λ at. absurd (no_udp_too at), outgoing, incoming, λ place at. absurd (no_lookup_too place at))
+    said_of_streams es r after outgoing incoming = (λ idle. absurd (not_idle_too idle), λ at. absurd (no_udp_too at), λ at. absurd (no_plain_too at), outgoing, incoming, λ place at. absurd (no_lookup_too place at))
 
     looked_datagrams : (es : List Entry) (b : Bool) (after : Machine) → Always contexts m line (step.Ready c pollable) es (reply.Ok (truth_fields b)) after → ReadyRow es (Ok b, after)
     looked_datagrams es true after always = (always, ((tt, tt), tt))
@@ -321,6 +333,7 @@ module _ (contexts : List WasiSocketsCtx) (m : Machine) (line c pollable : ℕ) 
     said_of_lookup b e = (
       λ idle. absurd (not_idle_lookup idle),
       λ at. absurd (no_udp_lookup at),
+      λ at. absurd (cc),
       λ p at. absurd (cc),
       λ p at. absurd (cc),
       λ p at. (ap (λ (on : Bool). reply.Ok (truth_fields (not on))) (sym e) ∙ ap (λ (k : ℕ). reply.Ok (truth_fields (lookup_ready (lookup_at m.store.records k)))) (its_lookup p at), (refl, refl)),
@@ -331,8 +344,9 @@ module _ (contexts : List WasiSocketsCtx) (m : Machine) (line c pollable : ℕ) 
     by_progress_of false e = (said_of_lookup false e, ((tt, tt), tt))
 
   by_watch : (o : Option Watched) → watch_of (kind_at m.table pollable) ≡ o → Meets ReadyRow [] (ready_on m (first_ids line) o)
-  by_watch None is = ends ((λ idle. let some = idle.watches in absurd (cc), λ at. let some = at.1 in absurd (cc), λ place at. absurd (cc), λ place at. absurd (cc), λ place at. absurd (cc)), (rw is tt, (refl, refl)))
-  by_watch (Some (watched.Udp place)) is = ends ((λ idle. (refl, (refl, refl)), λ at. (refl, (refl, refl)), λ place at. absurd (cc), λ place at. absurd (cc), λ place at. absurd (cc)), ((tt, tt), tt))
+  by_watch None is = ends ((λ idle. let some = idle.watches in absurd (cc), λ at. let some = at.1 in absurd (cc), λ at. absurd (cc), λ place at. absurd (cc), λ place at. absurd (cc), λ place at. absurd (cc)), (rw is tt, (refl, refl)))
+  by_watch (Some watched.Plain) is = ends ((λ idle. (refl, (refl, refl)), λ at. (refl, (refl, refl)), λ at. (refl, (refl, refl)), λ place at. absurd (cc), λ place at. absurd (cc), λ place at. absurd (cc)), ((tt, tt), tt))
+  by_watch (Some (watched.Udp place)) is = ends ((λ idle. (refl, (refl, refl)), λ at. (refl, (refl, refl)), λ at. (refl, (refl, refl)), λ place at. absurd (cc), λ place at. absurd (cc), λ place at. absurd (cc)), ((tt, tt), tt))
   by_watch (Some (watched.Incoming place)) is = onto _ (by_incoming place is (open_at m.store.records place) refl)
   by_watch (Some (watched.Outgoing place)) is = ends (by_outgoing place is)
   by_watch (Some (watched.Lookup place)) is = ends (by_progress_of place is (looks_on (lookup_at m.store.records place)) refl)

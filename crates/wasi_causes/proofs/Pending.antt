@@ -1,29 +1,45 @@
--- In a run the handle of pending datagram streams is live: a step makes no such call pending but the one that asks for the streams, and
--- while it is, nothing takes its handle away.
-use Rattle.wasi_causes.proofs.Words.{Allows, End, Entry, Err, ErrorCode, Give, IfSome, IsSome, Item, Left, List, Machine, None, Ok, OpId, Operation, Option, Reply, Result, Some}
-use Rattle.wasi_causes.proofs.Words.{Socket, Standing, StandingCall, Step, Stop, Tcp2Socket, WasiSocketsCtx, [], allows_then, created_asks, first_state, gives_more, machine_asks}
-use Rattle.wasi_causes.proofs.Words.{make_asks, new_asks, own_of, poll_asks, refl, run, subst, sym, told_done, turn_asks, give_up_asks, side_of, stands_as, true, false, Bool, Tcp2, ℕ, ⊤, inl, inr, length, ◌≡◌, ◌⊎◌}
+-- In a run what is pending is on handles that are live and on streams that are there, but for the input of a splice: a step makes
+-- datagram streams or a call of a stream pending only where it asks for the one or is the other, and while such a call is pending,
+-- nothing takes its handle away.
+use Rattle.wasi_causes.proofs.Words.{Allows, Answered, End, Entry, Err, ErrorCode, Give, IfSome, IsSome, IsSomeAnd, Item, Left, List, Machine, None, Ok, OpId, Operation, Option, Reply, Result, Some}
+use Rattle.wasi_causes.proofs.Words.{Socket, Standing, StandingCall, Step, Stop, Tcp2Socket, WasiSocketsCtx, [], allows_then, ap, arith, created_asks, eqb-true, first_ids, first_state, gives_more, is_some, kind_at, length, machine_asks, nothing_stands}
+use Rattle.wasi_causes.proofs.Words.{make_asks, new_asks, own_of, poll_asks, refl, run, subst, sym, told_done, turn_asks, give_up_asks, side_of, standing_as, stands_as, true, false, Bool, Tcp2, ℕ, ⊤, inl, inr, ◌≡◌, ◌⊎◌, ◌==◌, ◌∙◌}
+use Rattle.std.specs.Prelude.{◌≤◌, min}
+use Rattle.std.proofs.Math.Nat.{min-le_left}
+use Rattle.std.proofs.lemmas.List.{length-replicate}
+use Rattle.wasi_world.specs.declared.ids.Ids.{Ids}
+use Rattle.wasi_streams.specs.Streams.{zeros}
+use Rattle.wasi_host.specs.declared.blocking.BlockingCall.{BlockingCall}
+use Rattle.wasi_host.specs.declared.blocking.BlockingCall.TheVariants as blocking
+use Rattle.wasi_host.specs.Kinds.{udp_of}
 use Rattle.wasi_host.specs.Udp.{udp_side}
 use Rattle.wasi_host.specs.declared.kind.Kind.TheVariants.{Udp2}
-use Rattle.wasi_udp.specs.Create.{Create, after_create as udp_after_create}
+use Rattle.wasi_udp.specs.Create.{Create, after_create as udp_after_create, create_cancel_asks}
 use Rattle.wasi_walks.proofs.fits.Law.{whatever}
 use Rattle.wasi_walks.proofs.fits.Polls.{Anything}
-use Rattle.wasi_walks.proofs.walks.Law.{Law}
-use Rattle.wasi_walks.proofs.walks.Moves.{GoesOn, Held, Here, Joins, Leaves, Made, Move, RecallsStreams, RemembersStreams, Stands, StandsDropOutgoing, StandsUdpBind, StandsUdpConnect, StandsUdpCreate, Unstands, Watches, made_so, udp_begun}
+use Rattle.wasi_walks.proofs.walks.Law.{BeginsWrites, Law}
+use Rattle.wasi_walks.proofs.walks.Moves.{CallsStreams, GoesOn, Held, Here, IsStreamCall, Joins, Leaves, Made, Move, RecallsStreamCall, RecallsStreams, RemembersStreams, Stands, StandsBlocking, StandsDropOutgoing, StandsUdpBind, StandsUdpConnect, StandsUdpCreate, Unstands, Watches, made_so, udp_begun}
 use Rattle.wasi_walks.proofs.walks.Moves.{Awaits, BindsOn, Connects, Listens, ReceivesOn, SendsOn, UdpBindsOn, UdpConnectsOn, UdpCreates}
 use Rattle.wasi_walks.proofs.walks.Runs.{run_ends}
 use Rattle.wasi_walks.proofs.walks.Steps.{machine_walks}
 use Rattle.wasi_steps.specs.Steps.{context_of}
 use Rattle.wasi_steps.specs.declared.reply.Reply.TheVariants as reply
 use Rattle.wasi_steps.specs.declared.step.Step.TheVariants as step
-use Rattle.wasi_causes.proofs.tables.Meets.{Meets, both, granted, shifted, widen}
-use Rattle.wasi_causes.proofs.tables.Steps.{Answers, IsBusy, IsHeldUp, IsItsOwn, by_standing}
+use Rattle.wasi_causes.proofs.streams.Kept.{PartsThere}
+use Rattle.wasi_causes.proofs.streams.Live.{IsWellOn, StandsWell, begun_live, blocked_live, check_free, flush_free, free_well, read_free, skip_free, splice_free, write_free}
+use Rattle.wasi_causes.proofs.streams.Missing.{missed_input, missed_output}
+use Rattle.wasi_causes.proofs.tables.Meets.{Meets, met, shifted, widen}
+use Rattle.wasi_causes.proofs.tables.Parts.{by_left}
+use Rattle.wasi_causes.proofs.tables.Steps.{Answers, IsBusy, IsHeldUp, IsItsOwn, answers}
+use Rattle.wasi_causes.specs.Blocking.{IsOfStream, IsShort, StreamCallStands}
 use Rattle.wasi_causes.specs.Datagrams.{HasItsHandle, IsUdpStream, PendingHandleIsLive}
 use Rattle.wasi_causes.specs.Outcomes.{Outcome}
+use Rattle.wasi_causes.specs.Reached.{LacksInput, SpliceLacksInput}
 
--- == no datagram streams are pending
+-- == no datagram streams, and no call of a stream, are pending
 abbrev NoStreamsIn : StandingCall → Type 0
 NoStreamsIn (StandingCall.UdpConnect place handle) = ⊥
+NoStreamsIn (StandingCall.Blocking call) = ⊥
 NoStreamsIn _ = ⊤
 
 -- the same of what is pending, if anything is
@@ -34,15 +50,21 @@ NoStreamsStand (Some s) = NoStreamsIn s.call
 -- and the line makes none
 abbrev MakesNone : Made → Type 0
 MakesNone (Made.ToStream n handle) = ⊥
+MakesNone (Made.Calls n handles) = ⊥
 MakesNone _ = ⊤
 
 -- both
 abbrev NoStreams : Here → Type 0
 NoStreams h = NoStreamsStand h.machine.store.standing × MakesNone h.made
 
+-- the line is one of datagram streams, or a call of a stream
+abbrev MayPend : Step → Type 0
+MayPend s = IsUdpStream s ⊎ IsStreamCall s
+
 -- what goes on in a TCP record makes no streams
 goes_none : (call : StandingCall) (r : Tcp2Socket) → GoesOn call r → NoStreamsIn call
 goes_none (StandingCall.UdpConnect place handle) r k = k
+goes_none (StandingCall.Blocking call) r k = k
 goes_none _ r k = tt
 
 -- nor does a handle of an accept
@@ -55,7 +77,7 @@ begun_none : (h : Here) (made : Result Create ErrorCode) → NoStreams h → NoS
 begun_none h (Ok create) i = i
 begun_none h (Err c) i = i
 
-module _ (contexts : List WasiSocketsCtx) (line : ℕ) (origin : Step) (plain : IsUdpStream origin → ⊥) where
+module _ (contexts : List WasiSocketsCtx) (line : ℕ) (origin : Step) (plain : MayPend origin → ⊥) where
   -- each move of another line than that of streams leaves none pending
   moves_none : (h now : Here) → Move line origin h now → NoStreams h → NoStreams now
   moves_none _ _ (Leaves h) i = (i.0, tt)
@@ -66,9 +88,12 @@ module _ (contexts : List WasiSocketsCtx) (line : ℕ) (origin : Step) (plain : 
   moves_none _ _ (StandsUdpBind h ids place o op at g e) i = (tt, i.1)
   moves_none _ _ (StandsUdpCreate h ids place create g) i = (tt, i.1)
   moves_none _ _ (StandsDropOutgoing h ids place o at g e) i = (tt, i.1)
-  moves_none _ _ (RemembersStreams h c handle remote is) i = absurd (plain (subst IsUdpStream (sym is) tt))
+  moves_none _ _ (RemembersStreams h c handle remote is) i = absurd (plain (inl (subst IsUdpStream (sym is) tt)))
   moves_none _ _ (RecallsStreams h ids place handle e) i = absurd (subst NoStreamsStand e i.0)
   moves_none _ _ (StandsUdpConnect h ids place handle o op at made g e) i = absurd (subst MakesNone made i.1)
+  moves_none _ _ (CallsStreams h calls) i = absurd (plain (inr calls))
+  moves_none _ _ (RecallsStreamCall h ids call e) i = absurd (subst NoStreamsStand e i.0)
+  moves_none _ _ (StandsBlocking h ids call handles made its) i = absurd (subst MakesNone made i.1)
   moves_none _ _ _ i = i
 
   -- and each poll
@@ -113,77 +138,218 @@ module _ (contexts : List WasiSocketsCtx) (line : ℕ) (origin : Step) (plain : 
     udp_creates = λ es h ctx family c may t o m i. (tt, λ told fits. begun_none h (udp_after_create (own_of line) ctx.name family (told_done told)) i);
     udp_marks = λ es h place u g i. whatever (λ made. NoStreams h) (λ made. i) es (make_asks h.machine.table (udp_side u) (Udp2 place) None (Some (udp_side u)));
     stream_marks = λ es h place n handle kind made its of i. whatever (λ made. NoStreams h) (λ made. i) es (make_asks h.machine.table (own_of n) kind (Some handle) _);
+    error_marks = λ es h n handle place handles made k e f i. absurd (subst MakesNone made i.1);
+    udp_gives_up = λ es h place create q g i. whatever (λ done. NoStreams h) (λ done. i) es (create_cancel_asks create);
     lookups = λ es h host l i. (tt, λ told fits records same. i);
     looks = λ es h place op at i. (tt, λ told fits. i);
   }
 
+  -- a write that begins in a call of streams
+  none_begins : BeginsWrites none_pending
+  unfolding none_pending
+  none_begins = record { begins = λ es h place n r s half permit bytes at g e w within i. i }
+
   -- so it holds of what the line leaves
   stays_none : (m : Machine) → NoStreamsStand m.store.standing → Allows Anything (λ fs done. NoStreamsStand done.1.store.standing) [] (machine_asks contexts m line origin)
   unfolding none_pending
-  stays_none m i = gives_more (λ fs done. NoStreamsStand done.1.store.standing × ⊤) (λ fs done. NoStreamsStand done.1.store.standing) (λ fs done k. k.0) [] (machine_asks contexts m line origin) ((machine_walks line origin {law = none_pending} m m.store.standing refl).along [] (i, tt))
+  stays_none m i = gives_more (λ fs done. NoStreamsStand done.1.store.standing × ⊤) (λ fs done. NoStreamsStand done.1.store.standing) (λ fs done k. k.0) [] (machine_asks contexts m line origin) ((machine_walks line origin {law = none_pending} none_begins m m.store.standing refl).along [] (i, tt))
 
 -- == of a step
-of_none : (m : Machine) (o : Option Standing) → NoStreamsStand o → IfSome o (λ s. HasItsHandle m s.call)
+of_none : (m : Machine) (o : Option Standing) → NoStreamsStand o → IfSome o (λ s. IsWellOn m s.call)
 of_none m None i = tt
 of_none m (Some s) i = by_call s.call i
   where
-    by_call : (call : StandingCall) → NoStreamsIn call → HasItsHandle m call
+    by_call : (call : StandingCall) → NoStreamsIn call → IsWellOn m call
     by_call (StandingCall.UdpConnect place handle) i = absurd i
+    by_call (StandingCall.Blocking call) i = absurd i
     by_call _ i = tt
 
--- the same handles, and the same call that is pending
-same_live : (m after : Machine) → after.table ≡ m.table → after.store.standing ≡ m.store.standing → PendingHandleIsLive m → PendingHandleIsLive after
-same_live m after table standing live =
-    let at_table : IfSome m.store.standing (λ s. HasItsHandle after s.call) = subst (λ t. let now : Machine = record { table = t; store = after.store } in IfSome m.store.standing (λ s. HasItsHandle now s.call)) (sym table) live in
-    subst (λ (o : Option Standing). IfSome o (λ s. HasItsHandle after s.call)) (sym standing) at_table
+-- what is on its streams is so where these are still there
+module _ (m after : Machine) (table : after.table ≡ m.table) (there : PartsThere m.store.records after.store.records) where
+  still_there : (call : BlockingCall) → IsWellOn m (StandingCall.Blocking call) → IsWellOn after (StandingCall.Blocking call)
+  still_there (blocking.Read input len) k = (λ missing. k.0 (missed_input m after table there input missing), tt)
+  still_there (blocking.Skip input len) k = (λ missing. k.0 (missed_input m after table there input missing), tt)
+  still_there (blocking.Write output rest) k = (λ missing. k.0 (missed_output m after table there output missing), k.1)
+  still_there (blocking.Finish output) k = (λ missing. k.0 (missed_output m after table there output missing), tt)
+  still_there (blocking.Flush output) k = (λ missing. k.0 (missed_output m after table there output missing), tt)
+  still_there (blocking.Splice to from len) k = λ missing. k (missed_output m after table there to missing)
 
--- nothing is pending
-free_live : (after : Machine) → after.store.standing ≡ None → PendingHandleIsLive after
-free_live after free = subst (λ (o : Option Standing). IfSome o (λ s. HasItsHandle after s.call)) (sym free) tt
+  still_on : (call : StandingCall) → IsWellOn m call → IsWellOn after call
+  still_on (StandingCall.UdpConnect place handle) k = subst (λ t. udp_of (kind_at t handle) ≡ Some place) (sym table) k
+  still_on (StandingCall.Blocking call) k = still_there call k
+  still_on _ k = tt
+
+  of_same : (o : Option Standing) → IfSome o (λ s. IsWellOn m s.call) → IfSome o (λ s. IsWellOn after s.call)
+  of_same None k = tt
+  of_same (Some s) k = still_on s.call k
+
+  same_well : after.store.standing ≡ m.store.standing → StandsWell m → StandsWell after
+  same_well standing well = subst (λ (o : Option Standing). IfSome o (λ s. IsWellOn after s.call)) (sym standing) (of_same m.store.standing well)
+
+same_quiet : (m after : Machine) → after ≡ m → StandsWell m → StandsWell after
+same_quiet m after same well = subst StandsWell (sym same) well
+
+-- datagram streams that are pending have their handle
+pending_well : (m : Machine) → PendingHandleIsLive m → StandsWell m
+pending_well m live = by_standing m.store.standing live
+  where
+    by_call : (call : StandingCall) → HasItsHandle m call → IsWellOn m call
+    by_call (StandingCall.Blocking (blocking.Splice to from len)) k = λ missing. k.0 (inl missing)
+    by_call (StandingCall.Blocking (blocking.Read input len)) k = k
+    by_call (StandingCall.Blocking (blocking.Skip input len)) k = k
+    by_call (StandingCall.Blocking (blocking.Write output rest)) k = k
+    by_call (StandingCall.Blocking (blocking.Finish output)) k = k
+    by_call (StandingCall.Blocking (blocking.Flush output)) k = k
+    by_call (StandingCall.UdpConnect place handle) k = k
+    by_call _ k = tt
+
+    by_standing : (o : Option Standing) → IfSome o (λ s. HasItsHandle m s.call) → IfSome o (λ s. IsWellOn m s.call)
+    by_standing None k = tt
+    by_standing (Some s) k = by_call s.call k
+
+few_zeros : (len : ℕ) → len ≤ 4096 → length (zeros len) ≤ 4096
+few_zeros len few = let k = length-replicate {A = ℕ} (min len 65537) 0 in let l = min-le_left len 65537 in omega (arith, k, l, few)
 
 module _ (contexts : List WasiSocketsCtx) (m : Machine) (line : ℕ) where
   -- none are pending afterwards, where none were and the step asks for none
   abbrev KeepsNone : Step → Machine → Type 0
-  KeepsNone s after = (IsUdpStream s → ⊥) × NoStreamsStand m.store.standing → NoStreamsStand after.store.standing
+  KeepsNone s after = (MayPend s → ⊥) × NoStreamsStand m.store.standing → NoStreamsStand after.store.standing
 
   -- a guest's call is its own only where nothing is pending
   nothing_pending : (s : Step) → IsSome (context_of s) → (IsHeldUp contexts m line s → ⊥) → (o : Option Standing) → m.store.standing ≡ o → m.store.standing ≡ None
   nothing_pending s guest free None e = e
   nothing_pending s guest free (Some c) e = absurd (free (rw e refl, guest))
 
-  -- then a call of a guest leaves the handle live
-  by_guest : (s : Step) (after : Machine) → IsSome (context_of s) → (IsUdpStream s → ⊥) → (IsHeldUp contexts m line s → ⊥) → KeepsNone s after → PendingHandleIsLive after
+  -- then a call of a guest leaves it well
+  by_guest : (s : Step) (after : Machine) → IsSome (context_of s) → (MayPend s → ⊥) → (IsHeldUp contexts m line s → ⊥) → KeepsNone s after → StandsWell after
   by_guest s after guest plain free none = of_none after after.store.standing (none (plain, subst NoStreamsStand (sym (nothing_pending s guest free m.store.standing refl)) tt))
 
-  -- a poll leaves it pending, or nothing
-  polled_live : (n : ℕ) (es : List Entry) (r : Reply) (after : Machine) → Outcome contexts m line (step.Poll n) es r after → PendingHandleIsLive m → PendingHandleIsLive after
-  polled_live n es r after row live = by_stands (stands_as m.store.standing n) refl
-    where
-      by_reply : (r ≡ reply.Pending n) ⊎ (after.store.standing ≡ None) → PendingHandleIsLive after
-      by_reply (inl is) = let k = subst (λ (x : Reply). Outcome contexts m line (step.Poll n) es x after) is row in same_live m after k.1.1.1 k.1.1.2 live
-      by_reply (inr free) = free_live after free
+  -- a call of a stream is continued by a poll
+  module _ (n : ℕ) (es : List Entry) (r : Reply) (after : Machine) (row : Outcome contexts m line (step.Poll n) es r after) where
+    polled_stream : (ids : Ids) (call : BlockingCall) → m.store.standing ≡ Some (standing_as ids (StandingCall.Blocking call)) → ids.line ≡ n → IsShort call → StandsWell after
+    polled_stream ids call stands same short = blocked_live contexts 0 ids (nothing_stands m) call es r after refl short (row.0.2 0 ids call stands same short)
 
-      by_stands : (b : Bool) → stands_as m.store.standing n ≡ b → PendingHandleIsLive after
-      by_stands true e = by_reply (row.0.1 e)
-      by_stands false e = let k = subst (λ (x : Reply). Outcome contexts m line (step.Poll n) es x after) (row.0.0.1 e) row in subst PendingHandleIsLive (sym k.1.1.1) live
+    -- another call is still pending
+    polled_pending : r ≡ reply.Pending n → (StreamCallStands m → ⊥) → StandsWell m → StandsWell after
+    polled_pending is other well =
+        let k = subst (λ (x : Reply). Outcome contexts m line (step.Poll n) es x after) is row in
+        subst (λ (o : Option Standing). IfSome o (λ s. IsWellOn after s.call)) (sym (k.1.1.2 other)) (by_standing m.store.standing other well k.1.1.1)
+      where
+        by_call : (call : StandingCall) → (IsOfStream call → ⊥) → IsWellOn m call → after.table ≡ m.table → IsWellOn after call
+        by_call (StandingCall.UdpConnect place handle) none k table = subst (λ t. udp_of (kind_at t handle) ≡ Some place) (sym table) k
+        by_call (StandingCall.Blocking call) none k table = absurd (none tt)
+        by_call _ none k table = tt
+
+        by_standing : (o : Option Standing) → (IsSomeAnd o (λ s. IsOfStream s.call) → ⊥) → IfSome o (λ s. IsWellOn m s.call) → after.table ≡ m.table → IfSome o (λ s. IsWellOn after s.call)
+        by_standing None none k table = tt
+        by_standing (Some s) none k table = by_call s.call none k table
+
+    polled_other : (StreamCallStands m → ⊥) → stands_as m.store.standing n ≡ true → StandsWell m → StandsWell after
+    polled_other other stands well = elim (row.0.1 stands) [ inl is ↦ polled_pending is other well | inr free ↦ free_well after free ]
+
+    by_line : (s : Standing) → m.store.standing ≡ Some s → stands_as m.store.standing n ≡ true → s.ids.line ≡ n
+    by_line s e stands = let same : (s.ids.line == n) ≡ true = ap (λ (o : Option Standing). stands_as o n) (sym e) ∙ stands in eqb-true s.ids.line n same
+
+    its_short : (call : BlockingCall) → IsWellOn m (StandingCall.Blocking call) → IsShort call
+    its_short (blocking.Splice to from len) k = tt
+    its_short (blocking.Read input len) k = k.1
+    its_short (blocking.Skip input len) k = k.1
+    its_short (blocking.Write output rest) k = k.1
+    its_short (blocking.Finish output) k = k.1
+    its_short (blocking.Flush output) k = k.1
+
+    polled_as : (o : Option Standing) → m.store.standing ≡ o → stands_as m.store.standing n ≡ true → StandsWell m → StandsWell after
+    polled_as None e stands well = let same : stands_as None n ≡ true = ap (λ (o : Option Standing). stands_as o n) (sym e) ∙ stands in absurd (cc)
+    polled_as (Some s) e stands well = by_call s.call refl
+      where
+        no_stream : (call : StandingCall) → s.call ≡ call → (IsOfStream call → ⊥) → StreamCallStands m → ⊥
+        no_stream call is none stands = none (subst IsOfStream is (subst (λ (o : Option Standing). IsSomeAnd o (λ s. IsOfStream s.call)) e stands))
+
+        by_call : (call : StandingCall) → s.call ≡ call → StandsWell after
+        by_call (StandingCall.Blocking call) is =
+            let its : m.store.standing ≡ Some (standing_as s.ids (StandingCall.Blocking call)) = e ∙ ap (λ (c : StandingCall). Some (standing_as s.ids c)) is in
+            let on : IsWellOn m (StandingCall.Blocking call) = subst (λ (o : Option Standing). IfSome o (λ s. IsWellOn m s.call)) its well in
+            polled_stream s.ids call its (by_line s e stands) (its_short call on)
+        by_call (StandingCall.Bind place) is = polled_other (no_stream (StandingCall.Bind place) is (λ k. k)) stands well
+        by_call (StandingCall.Listen place) is = polled_other (no_stream (StandingCall.Listen place) is (λ k. k)) stands well
+        by_call (StandingCall.DropOutput place) is = polled_other (no_stream (StandingCall.DropOutput place) is (λ k. k)) stands well
+        by_call (StandingCall.UdpCreate place) is = polled_other (no_stream (StandingCall.UdpCreate place) is (λ k. k)) stands well
+        by_call (StandingCall.UdpBind place) is = polled_other (no_stream (StandingCall.UdpBind place) is (λ k. k)) stands well
+        by_call (StandingCall.UdpConnect place handle) is = polled_other (no_stream (StandingCall.UdpConnect place handle) is (λ k. k)) stands well
+        by_call (StandingCall.DropOutgoing place) is = polled_other (no_stream (StandingCall.DropOutgoing place) is (λ k. k)) stands well
+
+    polled_well : StandsWell m → StandsWell after
+    polled_well well = by_stands (stands_as m.store.standing n) refl
+      where
+        by_stands : (b : Bool) → stands_as m.store.standing n ≡ b → StandsWell after
+        by_stands true e = polled_as m.store.standing refl e well
+        by_stands false e = let k = subst (λ (x : Reply). Outcome contexts m line (step.Poll n) es x after) (row.0.0.1 e) row in same_quiet m after k.1.1.1 well
+
+  -- a cancel leaves nothing pending, or all as it was
+  cancelled_well : (n : ℕ) (es : List Entry) (r : Reply) (after : Machine) → Outcome contexts m line (step.Cancel n) es r after → StandsWell m → StandsWell after
+  cancelled_well n es r after row well = by_stands (stands_as m.store.standing n) refl
+    where
+      by_stands : (b : Bool) → stands_as m.store.standing n ≡ b → StandsWell after
+      by_stands true e = let k = subst (λ (x : Reply). Outcome contexts m line (step.Cancel n) es x after) (row.0.1.1 e) row in free_well after k.1.1.1
+      by_stands false e = let k = subst (λ (x : Reply). Outcome contexts m line (step.Cancel n) es x after) (row.0.0.1 e) row in same_quiet m after k.1.1.1 well
 
   -- and so does each step
-  live_after : (s : Step) (es : List Entry) (r : Reply) (after : Machine) → (IsHeldUp contexts m line s → ⊥) → Outcome contexts m line s es r after → KeepsNone s after → PendingHandleIsLive m → PendingHandleIsLive after
-  live_after step.Turn es r after free row none live = same_live m after row.0.handles row.0.pending live
-  live_after (step.Poll n) es r after free row none live = polled_live n es r after row live
-  live_after (step.UdpStream c s remote) es r after free row none live = row.0.1 (nothing_pending (step.UdpStream c s remote) refl free m.store.standing refl)
-  live_after s es r after free row none live = by_guest s after refl (λ h. h) free none
+  module _ (es : List Entry) (r : Reply) (after : Machine) where
+    abbrev WellAfter : Step → Type 0
+    WellAfter s = (IsHeldUp contexts m line s → ⊥) → Outcome contexts m line s es r after → StandsWell after
+
+    abbrev FreeAfter : Step → Type 0
+    FreeAfter s = (IsHeldUp contexts m line s → ⊥) → Answered contexts m line s es r after → after.store.standing ≡ None
+
+    well_after : (s : Step) → (IsHeldUp contexts m line s → ⊥) → Answered contexts m line s es r after → Outcome contexts m line s es r after → KeepsNone s after → StandsWell m → StandsWell after
+    well_after step.Turn free w row none well =
+        same_well m after row.0.handles (record { streams = row.0.streams; inputs = λ k h. ap (λ o. is_some o) (row.0.pipes k).0 ∙ h; outputs = λ k h. ap (λ o. is_some o) (row.0.pipes k).1 ∙ h }) row.0.pending well
+    well_after (step.Poll n) free w row none well = polled_well n es r after row well
+    well_after (step.Cancel n) free w row none well = cancelled_well n es r after row well
+    well_after (step.UdpStream c s remote) free w row none well = pending_well after (row.0.1 (nothing_pending (step.UdpStream c s remote) refl free m.store.standing refl))
+    well_after (step.Read c input len) free w row none well = free_well after (read_free contexts m (nothing_pending (step.Read c input len) refl free m.store.standing refl) line c es r after input len w)
+    well_after (step.CheckWrite c output) free w row none well = free_well after (check_free contexts m (nothing_pending (step.CheckWrite c output) refl free m.store.standing refl) line c es r after output w)
+    well_after (step.Write c output bytes) free w row none well = free_well after (write_free contexts m (nothing_pending (step.Write c output bytes) refl free m.store.standing refl) line c es r after output bytes w)
+    well_after (step.Flush c output) free w row none well = free_well after (flush_free contexts m (nothing_pending (step.Flush c output) refl free m.store.standing refl) line c es r after output w)
+    well_after (step.Skip c input len) free w row none well = let none = nothing_pending (step.Skip c input len) refl free m.store.standing refl in free_well after (skip_free contexts m none line c input len es r after (row.0 none))
+    well_after (step.WriteZeroes c output len) free w row none well = let none = nothing_pending (step.WriteZeroes c output len) refl free m.store.standing refl in free_well after (write_free contexts m none line c es r after output (zeros len) (row.0 none))
+    well_after (step.Splice c to from len) free w row none well = let none = nothing_pending (step.Splice c to from len) refl free m.store.standing refl in free_well after (splice_free contexts m line c to from len es r after none (row.0 none))
+    well_after (step.BlockingRead c input len) free w row none well = let none = nothing_pending (step.BlockingRead c input len) refl free m.store.standing refl in blocked_live contexts c (first_ids line) m (blocking.Read input len) es r after none tt (row.0 none)
+    well_after (step.BlockingSkip c input len) free w row none well = let none = nothing_pending (step.BlockingSkip c input len) refl free m.store.standing refl in blocked_live contexts c (first_ids line) m (blocking.Skip input len) es r after none tt (row.0 none)
+    well_after (step.BlockingWrite c output bytes) free w row none well = let none = nothing_pending (step.BlockingWrite c output bytes) refl free m.store.standing refl in begun_live contexts c (first_ids line) m output (length bytes) bytes es r after none (λ few. few) (row.0 none)
+    well_after (step.BlockingZeroes c output len) free w row none well = let none = nothing_pending (step.BlockingZeroes c output len) refl free m.store.standing refl in begun_live contexts c (first_ids line) m output len (zeros len) es r after none (few_zeros len) (row.0 none)
+    well_after (step.BlockingFlush c output) free w row none well = let none = nothing_pending (step.BlockingFlush c output) refl free m.store.standing refl in blocked_live contexts c (first_ids line) m (blocking.Flush output) es r after none tt (row.0 none)
+    well_after (step.BlockingSplice c to from len) free w row none well = let none = nothing_pending (step.BlockingSplice c to from len) refl free m.store.standing refl in blocked_live contexts c (first_ids line) m (blocking.Splice to from len) es r after none tt (row.0 none)
+    well_after s free w row none well = by_guest s after refl (λ h. elim h [ inl k ↦ k | inr k ↦ k ]) free none
 
   -- whatever it is answered
-  by_answer : (s : Step) (es : List Entry) (r : Reply) (after : Machine) → Answers contexts m line s es r after → KeepsNone s after → PendingHandleIsLive m → PendingHandleIsLive after
-  by_answer s _ _ _ (IsBusy held) none live = live
-  by_answer s _ _ _ (IsItsOwn es r after free row) none live = live_after s es r after free row none live
+  by_answer : (s : Step) (es : List Entry) (r : Reply) (after : Machine) → Answered contexts m line s es r after → Answers contexts m line s es r after → KeepsNone s after → StandsWell m → StandsWell after
+  by_answer s _ _ _ w (IsBusy held) none well = well
+  by_answer s _ _ _ w (IsItsOwn es r after free row) none well = well_after es r after s free w row none well
 
   -- and whatever is told
-  lasts : (s : Step) → Meets (λ es done. PendingHandleIsLive m → PendingHandleIsLive done.1) [] (machine_asks contexts m line s)
-  lasts s = widen (λ es done k. by_answer s es done.0 done.1 k.0 k.1) (both (by_standing contexts m line s m.store.standing refl) (granted (λ p. record { along = stays_none contexts line s p.0 m p.1 })))
+  lasts : (s : Step) → Meets (λ es done. StandsWell m → StandsWell done.1) [] (machine_asks contexts m line s)
+  lasts s = by_left (machine_asks contexts m line s) (λ es done w. by_answer s es done.0 done.1 w (answers contexts m line s es done.0 done.1 w) (λ p. met {a = done} (record { along = stays_none contexts line s p.0 m p.1 }) w))
 
 -- == of a run
-pub runs_keep_handles : (contexts : List WasiSocketsCtx) (steps : List Step) (es : List Entry) (replies : List Reply) (m : Machine) → Left (run contexts [] first_state 1 steps) es (Give (replies, m)) → PendingHandleIsLive m
-runs_keep_handles contexts steps es replies m w =
-    (run_ends contexts Anything (λ line fs now. PendingHandleIsLive now) (λ line s now fs live. (widen (λ gs done k. k.row live) (shifted fs (lasts contexts now line s))).along) tt steps es replies m w).1
+pub runs_stand_well : (contexts : List WasiSocketsCtx) (steps : List Step) (es : List Entry) (replies : List Reply) (m : Machine) → Left (run contexts [] first_state 1 steps) es (Give (replies, m)) → StandsWell m
+runs_stand_well contexts steps es replies m w =
+    (run_ends contexts Anything (λ line fs now. StandsWell now) (λ line s now fs well. (widen (λ gs done k. k.row well) (shifted fs (lasts contexts now line s))).along) tt steps es replies m w).1
+
+-- so its handle is live, but where it is a splice whose input isn't there
+pub runs_keep_handles : (m : Machine) → StandsWell m → (SpliceLacksInput m → ⊥) → PendingHandleIsLive m
+runs_keep_handles m well lacks = by_standing m.store.standing well lacks
+  where
+    by_call : (call : StandingCall) → IsWellOn m call → (LacksInput m call → ⊥) → HasItsHandle m call
+    by_call (StandingCall.Blocking (blocking.Splice to from len)) k none = (λ missing. elim missing [ inl at ↦ k at | inr at ↦ none at ], tt)
+    by_call (StandingCall.Blocking (blocking.Read input len)) k none = k
+    by_call (StandingCall.Blocking (blocking.Skip input len)) k none = k
+    by_call (StandingCall.Blocking (blocking.Write output rest)) k none = k
+    by_call (StandingCall.Blocking (blocking.Finish output)) k none = k
+    by_call (StandingCall.Blocking (blocking.Flush output)) k none = k
+    by_call (StandingCall.UdpConnect place handle) k none = k
+    by_call _ k none = tt
+
+    by_standing : (o : Option Standing) → IfSome o (λ s. IsWellOn m s.call) → (IsSomeAnd o (λ s. LacksInput m s.call) → ⊥) → IfSome o (λ s. HasItsHandle m s.call)
+    by_standing None k none = tt
+    by_standing (Some s) k none = by_call s.call k none

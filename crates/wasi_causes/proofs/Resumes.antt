@@ -1,4 +1,8 @@
 -- A poll of the pending call.
+use Rattle.wasi_host.specs.declared.blocking.BlockingCall.{BlockingCall}
+use Rattle.wasi_causes.proofs.streams.Polls.{stream_goes_on}
+use Rattle.wasi_causes.specs.Blocking.{IsOfStream}
+use Rattle.wasi_causes.specs.Outcomes.{StreamGoesOn}
 use Rattle.wasi_host.specs.Records.{tcp2_at, udp2_at, open_at, open_of}
 use Rattle.wasi_host.specs.declared.binding.InProgress.TheVariants.{Binding}
 use Rattle.wasi_walks.proofs.walks.States.{stands_so as stands_under}
@@ -54,11 +58,13 @@ use Rattle.wasi_world.specs.declared.call.Told.TheVariants as told
 abbrev pub IsOfNoCreate : StandingCall → Type 0
 IsOfNoCreate (StandingCall.UdpCreate place) = ⊥
 IsOfNoCreate (StandingCall.UdpConnect place handle) = ⊥
+IsOfNoCreate (StandingCall.Blocking call) = ⊥
 IsOfNoCreate _ = ⊤
 
 pub gives_none : (m after : Machine) (call : StandingCall) → IsOfNoCreate call → after.table ≡ m.table → GivesBy m no_fields after call
 gives_none m after (StandingCall.UdpCreate place) plain same = absurd plain
 gives_none m after (StandingCall.UdpConnect place handle) plain same = absurd plain
+gives_none m after (StandingCall.Blocking call) plain same = absurd plain
 gives_none m after (StandingCall.DropOutgoing place) plain same = (refl, same)
 gives_none m after (Bind place) plain same = (refl, same)
 gives_none m after (Listen place) plain same = (refl, same)
@@ -68,11 +74,15 @@ gives_none m after (StandingCall.UdpBind place) plain same = (refl, same)
 pub closes_none : (after : Machine) (call : StandingCall) → IsOfNoCreate call → ClosesBy after call
 closes_none after (StandingCall.UdpCreate place) plain = absurd plain
 closes_none after (StandingCall.UdpConnect place handle) plain = tt
+closes_none after (StandingCall.Blocking call) plain = absurd plain
 closes_none after (StandingCall.DropOutgoing place) plain = tt
 closes_none after (Bind place) plain = tt
 closes_none after (Listen place) plain = tt
 closes_none after (DropOutput place) plain = tt
 closes_none after (StandingCall.UdpBind place) plain = tt
+
+the_same : {x y : Standing} → Some x ≡ Some y → x ≡ y
+the_same e = cc
 
 module _ (contexts : List WasiSocketsCtx) (m : Machine) (line : ℕ) (ids : Ids) where
   -- its number
@@ -99,12 +109,16 @@ module _ (contexts : List WasiSocketsCtx) (m : Machine) (line : ℕ) (ids : Ids)
   free = unstood m.store
 
   -- == a call is pending
-  module _ (call : StandingCall) (stands : Under call) where
+  module _ (call : StandingCall) (stands : Under call) (other_call : IsOfStream call → ⊥) where
     pub stands_so : stands_as m.store.standing n ≡ false → ⊥
     stands_so none = let same : stands_as m.store.standing n ≡ true = ap (λ (o : Option Standing). stands_as o n) stands ∙ eq-eqb n n refl in cc
 
+    -- it is no call of a stream
+    no_stream : (es : List Entry) (r : Reply) (after : Machine) → StreamGoesOn contexts m n es r after
+    no_stream es r after c other its on same short = let is : call ≡ StandingCall.Blocking its = ap (λ (s : Standing). s.call) (the_same (sym stands ∙ on)) in absurd (other_call (subst IsOfStream (sym is) tt))
+
     pub it_ends : (es : List Entry) (r : Reply) (after : Machine) → r ≢ reply.NoSuchCall → after.store.standing ≡ None → Always contexts m line (step.Poll n) es r after
-    it_ends es r after other none = (apart other stands_so, λ same. inr none)
+    it_ends es r after other none = (apart other stands_so, λ same. inr none, no_stream es r after)
 
     pub done : (es : List Entry) (after : Machine) → after.store.standing ≡ None → GivesBy m no_fields after call → Row es (reply.Ok no_fields, after)
     done es after none gives = (it_ends es (reply.Ok no_fields) after (λ e. cc) none, (inl tt, subst (λ (o : Option Standing). IsSomeAnd o (λ s. GivesBy m no_fields after s.call)) (sym stands) gives))
@@ -122,7 +136,7 @@ module _ (contexts : List WasiSocketsCtx) (m : Machine) (line : ℕ) (ids : Ids)
     )
 
     pub waits : (es : List Entry) (after : Machine) → after.table ≡ m.table → after.store.standing ≡ Some (standing_as ids call) → (PendingCallsFit m → CallWaits m (own_of n) es call) → Row es (reply.Pending n, after)
-    waits es after same on cause = ((apart (λ e. cc) stands_so, λ same. inl refl), ((refl, rw on refl), (λ binds. subst (λ (o : Option Standing). IsSomeAnd o (λ s. CallWaits m (own_of n) es s.call)) (sym stands) (cause binds), same, on ∙ sym stands)))
+    waits es after same on cause = ((apart (λ e. cc) stands_so, λ same. inl refl, no_stream es (reply.Pending n) after), ((refl, rw on refl), (λ binds. subst (λ (o : Option Standing). IsSomeAnd o (λ s. CallWaits m (own_of n) es s.call)) (sym stands) (cause binds), same, λ other. on ∙ sym stands)))
 
     -- what is due for an answer
     abbrev pub Due : List Entry → Result (Answer (Unit {0})) ErrorCode → Type 0
@@ -140,8 +154,8 @@ module _ (contexts : List WasiSocketsCtx) (m : Machine) (line : ℕ) (ids : Ids)
 
   -- == of a drop
   of_output : (place : ℕ) → Under (DropOutput place) → (es : List Entry) (done : Answer (Unit {0}) × Records) → OutputRow free ids place es done → CallRow es (allowed_answer done)
-  of_output place stands es (Ready given, store) k = done (DropOutput place) stands es (record m { store = store }) k.1 (refl, refl)
-  of_output place stands es (Pending, store) k = waits (DropOutput place) stands es (record m { store = store }) refl k.1 (λ binds. k.0 m refl)
+  of_output place stands es (Ready given, store) k = done (DropOutput place) stands (λ k. k) es (record m { store = store }) k.1 (refl, refl)
+  of_output place stands es (Pending, store) k = waits (DropOutput place) stands (λ k. k) es (record m { store = store }) refl k.1 (λ binds. k.0 m refl)
 
   -- == of a listen
   module _ (place : ℕ) (stands : Under (Listen place)) where
@@ -154,7 +168,7 @@ module _ (contexts : List WasiSocketsCtx) (m : Machine) (line : ℕ) (ids : Ids)
 
       -- a pending listen is in progress
       unheld : {l : Listening} → r.listening ≡ l → (IsListening r.inner.state l → ⊥) → ListenRow [] (Err InvalidState, r)
-      unheld is none = answered_so (Listen place) stands tt [] (Err InvalidState, r) (λ binds. absurd (none (subst (IsListening r.inner.state) is (listens_on binds))))
+      unheld is none = answered_so (Listen place) stands (λ k. k) tt [] (Err InvalidState, r) (λ binds. absurd (none (subst (IsListening r.inner.state) is (listens_on binds))))
 
       module _ (op : Operation) (is : r.listening ≡ listening.Begins op) where
         is_listen : PendingCallsFit m → IsListening r.inner.state (listening.Begins op)
@@ -164,13 +178,13 @@ module _ (contexts : List WasiSocketsCtx) (m : Machine) (line : ℕ) (ids : Ids)
         listen_waits es h = let k : ListenWaits r.listening es = rw is h in rw at k
 
         listen_ends : (es : List Entry) (end : End × List Item) → (IsListening r.inner.state (listening.Begins op) → EndsFor op (ListenEnds op) es end) → ListenRow es (listen_polled r (listen_ended op.who r.inner end))
-        listen_ends es (Waits, items) h = answered_so (Listen place) stands tt es (listen_polled r (listen_ended op.who r.inner (Waits, items))) (λ binds. listen_waits es (h (is_listen binds)))
-        listen_ends es (Done given, items) h = answered_so (Listen place) stands tt es (listen_polled r (listen_ended op.who r.inner (Done given, items))) tt
-        listen_ends es (Refused code given, items) h = answered_so (Listen place) stands tt es (listen_polled r (listen_ended op.who r.inner (Refused code given, items))) (λ binds. ListenFailed place r op code at is (h (is_listen binds)))
+        listen_ends es (Waits, items) h = answered_so (Listen place) stands (λ k. k) tt es (listen_polled r (listen_ended op.who r.inner (Waits, items))) (λ binds. listen_waits es (h (is_listen binds)))
+        listen_ends es (Done given, items) h = answered_so (Listen place) stands (λ k. k) tt es (listen_polled r (listen_ended op.who r.inner (Done given, items))) tt
+        listen_ends es (Refused code given, items) h = answered_so (Listen place) stands (λ k. k) tt es (listen_polled r (listen_ended op.who r.inner (Refused code given, items))) (λ binds. ListenFailed place r op code at is (h (is_listen binds)))
 
         begun : Meets ListenRow [] (poll_begun r op)
         begun =
-            onto _ (branch (listen_over op) (λ over. ends (answered_so (Listen place) stands tt [] (listen_polled r (Err InvalidState, (op, r.inner))) (λ binds. let going = (is_listen binds).2 in absurd (cc))))
+            onto _ (branch (listen_over op) (λ over. ends (answered_so (Listen place) stands (λ k. k) tt [] (listen_polled r (Err InvalidState, (op, r.inner))) (λ binds. let going = (is_listen binds).2 in absurd (cc))))
             (λ on. onto _ (widen listen_ends (granted (λ k. listen_polls op (k.0, k.1))))))
 
       relists_by : (l : Listening) → r.listening ≡ l → Meets ListenRow [] (poll_listening r l)
@@ -179,7 +193,7 @@ module _ (contexts : List WasiSocketsCtx) (m : Machine) (line : ℕ) (ids : Ids)
 
       -- a listen that was begun has taken the network socket
       by_other : (of : OpId) → side_of r.inner ≡ Some of → (l : Listening) → r.listening ≡ l → ListenRow [] (Err InvalidState, r)
-      by_other of side (listening.Begins op) is = answered_so (Listen place) stands tt [] (Err InvalidState, r) (λ binds. let none = (is_listen op is binds).3 in absurd (cc))
+      by_other of side (listening.Begins op) is = answered_so (Listen place) stands (λ k. k) tt [] (Err InvalidState, r) (λ binds. let none = (is_listen op is binds).3 in absurd (cc))
       by_other of side _ is = unheld is (λ k. k)
 
       by_side : (o : Option OpId) → side_of r.inner ≡ o → Meets ListenRow [] (closed_listening r o)
@@ -187,7 +201,7 @@ module _ (contexts : List WasiSocketsCtx) (m : Machine) (line : ℕ) (ids : Ids)
       by_side (Some of) side = ends (by_other of side r.listening refl)
 
     relists : (o : Option Tcp2Socket) → tcp2_at m.store.records place ≡ o → Meets CallRow [] (relisten_at free ids place o)
-    relists None at = ends (missing (Listen place) stands at)
+    relists None at = ends (missing (Listen place) stands (λ k. k) at)
     relists (Some r) at = onto _ (by_side r at (side_of r.inner) refl)
 
   -- == of a bind
@@ -207,16 +221,16 @@ module _ (contexts : List WasiSocketsCtx) (m : Machine) (line : ℕ) (ids : Ids)
         bind_waits es h = let k : BindWaits r.in_progress es = rw is h in rw at k
 
         bind_ends : (es : List Entry) (end : End × List Item) → (IsRestOfBind op → EndsFor op (BindFails op) es end) → BindRow es (bind_ended op r end)
-        bind_ends es (Waits, items) h = answered_so (Bind place) stands tt es (bind_ended op r (Waits, items)) (λ binds. bind_waits es (h (is_bind binds)))
-        bind_ends es (Done given, items) h = answered_so (Bind place) stands tt es (bind_ended op r (Done given, items)) tt
-        bind_ends es (Refused code given, items) h = answered_so (Bind place) stands tt es (bind_ended op r (Refused code given, items)) (λ binds. BindFailed place r op code at is (h (is_bind binds)))
+        bind_ends es (Waits, items) h = answered_so (Bind place) stands (λ k. k) tt es (bind_ended op r (Waits, items)) (λ binds. bind_waits es (h (is_bind binds)))
+        bind_ends es (Done given, items) h = answered_so (Bind place) stands (λ k. k) tt es (bind_ended op r (Done given, items)) tt
+        bind_ends es (Refused code given, items) h = answered_so (Bind place) stands (λ k. k) tt es (bind_ended op r (Refused code given, items)) (λ binds. BindFailed place r op code at is (h (is_bind binds)))
 
       rebinds_by : (doing : InProgress) → r.in_progress ≡ doing → Meets BindRow [] (poll_binding r doing)
       rebinds_by (Binding op) is = onto _ (widen (bind_ends op is) (granted (bind_polls op)))
-      rebinds_by _ is = ends (answered_so (Bind place) stands tt [] (Err InvalidState, r) (λ binds. let k = goes_on binds in absurd (rw is at k)))
+      rebinds_by _ is = ends (answered_so (Bind place) stands (λ k. k) tt [] (Err InvalidState, r) (λ binds. let k = goes_on binds in absurd (rw is at k)))
 
     rebinds : (o : Option Tcp2Socket) → tcp2_at m.store.records place ≡ o → Meets CallRow [] (rebind_at free ids place o)
-    rebinds None at = ends (missing (Bind place) stands at)
+    rebinds None at = ends (missing (Bind place) stands (λ k. k) at)
     rebinds (Some r) at = onto _ (rebinds_by r at r.in_progress refl)
 
   -- == of a create of a UDP socket
@@ -233,7 +247,7 @@ module _ (contexts : List WasiSocketsCtx) (m : Machine) (line : ℕ) (ids : Ids)
 
       -- a pending create is in progress
       uncreated : (IsCreating u → ⊥) → MadeRow [] (create_answered free place (Err InvalidState, u))
-      uncreated none = ends (fails (StandingCall.UdpCreate place) stands [] (record m { store = with_udp free place u }) InvalidState refl refl (λ fits. absurd (none (creates_on fits))))
+      uncreated none = ends (fails (StandingCall.UdpCreate place) stands (λ k. k) [] (record m { store = with_udp free place u }) InvalidState refl refl (λ fits. absurd (none (creates_on fits))))
 
     module _ (create : Create) (at : udp2_at m.store.records place ≡ Some (udp.Creating create)) where
       -- the socket is there
@@ -256,13 +270,13 @@ module _ (contexts : List WasiSocketsCtx) (m : Machine) (line : ℕ) (ids : Ids)
 
       create_ended : (es : List Entry) (end : End × List Item) → (marks_in es ≡ 0) × (PendingCallsFit m → EndsFor create.operation (CreateFails create.operation) es end) → MadeRow es (create_answered free place (udp_create_ended create end))
       create_ended es (Waits, items) k =
-          ends (waits (StandingCall.UdpCreate place) stands es (record m { store = record (with_udp free place (udp.Creating (with_left create items))) { standing = Some (standing_as ids (StandingCall.UdpCreate place)) } }) refl refl
+          ends (waits (StandingCall.UdpCreate place) stands (λ k. k) es (record m { store = record (with_udp free place (udp.Creating (with_left create items))) { standing = Some (standing_as ids (StandingCall.UdpCreate place)) } }) refl refl
           (λ fits. subst (λ (o : Option Udp2Socket). IsSomeAnd o (λ u. CreateWaits u es)) (sym at) (k.1 fits)))
       create_ended es (Done given, items) k =
           marks_udp made_so place (opened_udp (made_by create)) there
-          (λ full. (it_ends (StandingCall.UdpCreate place) stands es (reply.Trap Full) made_so (λ e. cc) refl, (tt, full_so m made_so es full refl k.0, inl (full, is_create))))
-          (it_ends (StandingCall.UdpCreate place) stands (es ++ mark ∷ []) (reply.Ok (number_fields m.table.next)) (record made_so { table = with_handle m.table (Udp2 place) None }) (λ e. cc) refl, (inr (inl (tt, tt)), gives_handle))
-      create_ended es (Refused code given, items) k = ends (fails (StandingCall.UdpCreate place) stands es (record m { store = with_udp free place (udp.Closed create.operation.who.side) }) code refl refl (λ fits. (CreateFailed place create code at (k.1 fits), (create.operation.who.side, udp_set_there m.store.records place (udp.Creating create) (udp.Closed create.operation.who.side) at))))
+          (λ full. (it_ends (StandingCall.UdpCreate place) stands (λ k. k) es (reply.Trap Full) made_so (λ e. cc) refl, (tt, full_so m made_so es full refl k.0, inl (full, is_create))))
+          (it_ends (StandingCall.UdpCreate place) stands (λ k. k) (es ++ mark ∷ []) (reply.Ok (number_fields m.table.next)) (record made_so { table = with_handle m.table (Udp2 place) None }) (λ e. cc) refl, (inr (inl (tt, tt)), gives_handle))
+      create_ended es (Refused code given, items) k = ends (fails (StandingCall.UdpCreate place) stands (λ k. k) es (record m { store = with_udp free place (udp.Closed create.operation.who.side) }) code refl refl (λ fits. (CreateFailed place create code at (k.1 fits), (create.operation.who.side, udp_set_there m.store.records place (udp.Creating create) (udp.Closed create.operation.who.side) at))))
 
     recreates_by : (u : Udp2Socket) → udp2_at m.store.records place ≡ Some u → Meets (λ es done. MadeRow es (create_answered free place done)) [] (poll_create_asks u)
     recreates_by (udp.Creating create) at = onto _ (widen (create_ended create at) (both (record { along = poll_marks_none create.operation }) (granted (λ fits. create_ends create.operation (creates_on (udp.Creating create) at fits)))))
@@ -270,7 +284,7 @@ module _ (contexts : List WasiSocketsCtx) (m : Machine) (line : ℕ) (ids : Ids)
     recreates_by (udp.Closed side) at = ends (uncreated (udp.Closed side) at (λ k. k))
 
     recreates_at : (o : Option Udp2Socket) → udp2_at m.store.records place ≡ o → Meets MadeRow [] (poll_create_at free place o)
-    recreates_at None at = ends (ends (missing (StandingCall.UdpCreate place) stands at))
+    recreates_at None at = ends (ends (missing (StandingCall.UdpCreate place) stands (λ k. k) at))
     recreates_at (Some u) at = onto _ (recreates_by u at)
 
     recreates : Meets CreatedRow [] (create_on (nothing_stands m) ids place)
@@ -282,10 +296,10 @@ module _ (contexts : List WasiSocketsCtx) (m : Machine) (line : ℕ) (ids : Ids)
       abbrev UdpBindRow : Rows (Result (Answer (Unit {0})) ErrorCode × OpenUdp)
       UdpBindRow es begun = CallRow es (udp_call_answered free ids (StandingCall.UdpBind place) begun)
 
-      udp_answered_so : (es : List Entry) (begun : Result (Answer (Unit {0})) ErrorCode × OpenUdp) → Due (StandingCall.UdpBind place) stands es begun.0 → UdpBindRow es begun
-      udp_answered_so es (Ok Pending, now) h = waits (StandingCall.UdpBind place) stands es (record m { store = record (with_open_udp free place now) { standing = Some (standing_as ids (StandingCall.UdpBind place)) } }) refl refl h
-      udp_answered_so es (Ok (Ready given), now) h = done (StandingCall.UdpBind place) stands es (record m { store = with_open_udp free place now }) refl (refl, refl)
-      udp_answered_so es (Err code, now) h = fails (StandingCall.UdpBind place) stands es (record m { store = with_open_udp free place now }) code refl refl (λ fits. (h fits, tt))
+      udp_answered_so : (es : List Entry) (begun : Result (Answer (Unit {0})) ErrorCode × OpenUdp) → Due (StandingCall.UdpBind place) stands (λ k. k) es begun.0 → UdpBindRow es begun
+      udp_answered_so es (Ok Pending, now) h = waits (StandingCall.UdpBind place) stands (λ k. k) es (record m { store = record (with_open_udp free place now) { standing = Some (standing_as ids (StandingCall.UdpBind place)) } }) refl refl h
+      udp_answered_so es (Ok (Ready given), now) h = done (StandingCall.UdpBind place) stands (λ k. k) es (record m { store = with_open_udp free place now }) refl (refl, refl)
+      udp_answered_so es (Err code, now) h = fails (StandingCall.UdpBind place) stands (λ k. k) es (record m { store = with_open_udp free place now }) code refl refl (λ fits. (h fits, tt))
 
       udp_goes_on : PendingCallsFit m → IsUdpBinding o.in_progress
       udp_goes_on fits = let k : IfSome (open_at m.store.records place) (λ q. IsUdpBinding q.in_progress) = rw stands at fits in rw at at k
@@ -307,7 +321,7 @@ module _ (contexts : List WasiSocketsCtx) (m : Machine) (line : ℕ) (ids : Ids)
       udp_rebinds_by _ is = ends (udp_answered_so [] (Err InvalidState, o) (λ fits. let k = udp_goes_on fits in absurd (rw is at k)))
 
     udp_rebinds : (o : Option OpenUdp) → open_at m.store.records place ≡ o → Meets CallRow [] (rebind_udp_at free ids place o)
-    udp_rebinds None at = ends (missing (StandingCall.UdpBind place) stands at)
+    udp_rebinds None at = ends (missing (StandingCall.UdpBind place) stands (λ k. k) at)
     udp_rebinds (Some o) at = onto _ (udp_rebinds_by o at o.in_progress refl)
 
   -- == of datagram streams
@@ -329,12 +343,12 @@ module _ (contexts : List WasiSocketsCtx) (m : Machine) (line : ℕ) (ids : Ids)
     marked : (es : List Entry) (store : Records) → store.standing ≡ None → marks_in es ≡ 0 → (its : Option ℕ) → udp_socket_at m handle ≡ its → Meets PairRow es (mark_streams (record m { store = store }) (own_of n) handle)
     marked es store over unmarked None names =
         subst (λ (o : Option ℕ). Meets PairRow es (mark_streams_of (record m { store = store }) (own_of n) handle o)) (sym names)
-        (ends (it_ends the_call stands es (reply.Trap NoSuchHandle) (record m { store = store }) (λ e. cc) over, (rw (stands, eq-eqb n n refl) (inr names), λ live. absurd (lost_handle names live))))
+        (ends (it_ends the_call stands (λ k. k) es (reply.Trap NoSuchHandle) (record m { store = store }) (λ e. cc) over, (rw (stands, eq-eqb n n refl) (inr names), λ live. absurd (lost_handle names live))))
     marked es store over unmarked (Some its) names =
         let now : Machine = record m { store = store } in
         makes_both now (own_of n) handle its es names unmarked
-        (λ fs table full next lacks. (it_ends the_call stands fs (reply.Trap Full) (record now { table = table }) (λ e. cc) over, (tt, (full, next), inr (subst (λ (o : Option Standing). IsSomeAnd o (λ s. LacksRoomForStreams m s.call)) (sym stands) (rw names lacks))))) (
-          it_ends the_call stands (marks_of now (own_of n) handle its es) (reply.Ok (pair_fields m.table.next (m.table.next + 1))) (record now { table = with_both m.table its handle }) (λ e. cc) over,
+        (λ fs table full next lacks. (it_ends the_call stands (λ k. k) fs (reply.Trap Full) (record now { table = table }) (λ e. cc) over, (tt, (full, next), inr (inl (subst (λ (o : Option Standing). IsSomeAnd o (λ s. LacksRoomForStreams m s.call)) (sym stands) (rw names lacks)))))) (
+          it_ends the_call stands (λ k. k) (marks_of now (own_of n) handle its es) (reply.Ok (pair_fields m.table.next (m.table.next + 1))) (record now { table = with_both m.table its handle }) (λ e. cc) over,
           (inr (inr (inl (tt, (tt, tt)))), subst (λ (o : Option Standing). IsSomeAnd o (λ s. GivesBy m (pair_fields m.table.next (m.table.next + 1)) (record now { table = with_both m.table its handle }) s.call)) (sym stands) (refl, rw names refl)),
         )
 
@@ -351,17 +365,17 @@ module _ (contexts : List WasiSocketsCtx) (m : Machine) (line : ℕ) (ids : Ids)
 
         connect_ended : (es : List Entry) (end : End × List Item) → (marks_in es ≡ 0) × (PendingCallsFit m → EndsFor op (UdpConnectFails op) es end) → ConnectedRow es (udp_call_answered free ids the_call (udp_connect_ended op o end))
         connect_ended es (Waits, items) k =
-            ends (waits the_call stands es (record m { store = record (with_open_udp free place (udp_connect_left op o (Waits, items))) { standing = Some (standing_as ids the_call) } }) refl refl (λ fits. connect_waits es (k.1 fits)))
+            ends (waits the_call stands (λ k. k) es (record m { store = record (with_open_udp free place (udp_connect_left op o (Waits, items))) { standing = Some (standing_as ids the_call) } }) refl refl (λ fits. connect_waits es (k.1 fits)))
         connect_ended es (Done given, items) k = marked es (with_open_udp free place (udp_connect_left op o (Done given, items))) refl k.0 (udp_socket_at m handle) refl
         connect_ended es (Refused code given, items) k =
-            ends (fails the_call stands es (record m { store = with_open_udp free place (udp_connect_left op o (Refused code given, items)) }) code refl refl (λ fits. (UdpConnectFailed place handle o op code at is (k.1 fits), tt)))
+            ends (fails the_call stands (λ k. k) es (record m { store = with_open_udp free place (udp_connect_left op o (Refused code given, items)) }) code refl refl (λ fits. (UdpConnectFailed place handle o op code at is (k.1 fits), tt)))
 
       reconnects_by : (doing : Option Operation) → o.connecting ≡ doing → Meets (λ es done. ConnectedRow es (udp_call_answered free ids the_call done)) [] (poll_udp_connecting o doing)
       reconnects_by (Some op) is = onto _ (widen (connect_ended op is) (both (record { along = poll_marks_none op }) (granted (λ fits. udp_connect_ends op (is_connect op is fits) []))))
-      reconnects_by None is = ends (ends (fails the_call stands [] (record m { store = with_open_udp free place o }) InvalidState refl refl (λ fits. let k = connects_on fits in absurd (rw is at k))))
+      reconnects_by None is = ends (ends (fails the_call stands (λ k. k) [] (record m { store = with_open_udp free place o }) InvalidState refl refl (λ fits. let k = connects_on fits in absurd (rw is at k))))
 
     reconnects : (o : Option OpenUdp) → open_at m.store.records place ≡ o → Meets ConnectedRow [] (reconnect_udp_at free ids place handle o)
-    reconnects None at = ends (ends (missing the_call stands (inl at)))
+    reconnects None at = ends (ends (missing the_call stands (λ k. k) (inl at)))
     reconnects (Some o) at = onto _ (reconnects_by o at o.connecting refl)
 
     remakes : Meets PairRow [] (remake_streams_asks (nothing_stands m) ids place handle)
@@ -370,11 +384,11 @@ module _ (contexts : List WasiSocketsCtx) (m : Machine) (line : ℕ) (ids : Ids)
   -- == of the drop of an outgoing datagram stream
   module _ (place : ℕ) (stands : Under (StandingCall.DropOutgoing place)) where
     goes_by : (o : OpenUdp) → open_at m.store.records place ≡ Some o → (b : Bool) → sends o.outgoing ≡ b → CallRow [] (allowed_answer (drop_outgoing_by free ids place o b))
-    goes_by o at true e = waits (StandingCall.DropOutgoing place) stands [] (record m { store = record free { standing = Some (standing_as ids (StandingCall.DropOutgoing place)) } }) refl refl (λ fits. rw at (e, refl))
-    goes_by o at false e = done (StandingCall.DropOutgoing place) stands [] (record m { store = with_open_udp free place (record o { outgoing = None }) }) refl (refl, refl)
+    goes_by o at true e = waits (StandingCall.DropOutgoing place) stands (λ k. k) [] (record m { store = record free { standing = Some (standing_as ids (StandingCall.DropOutgoing place)) } }) refl refl (λ fits. rw at (e, refl))
+    goes_by o at false e = done (StandingCall.DropOutgoing place) stands (λ k. k) [] (record m { store = with_open_udp free place (record o { outgoing = None }) }) refl (refl, refl)
 
     goes : (o : Option OpenUdp) → open_at m.store.records place ≡ o → CallRow [] (allowed_answer (drop_outgoing_at free ids place o))
-    goes None at = done (StandingCall.DropOutgoing place) stands [] (record m { store = free }) refl (refl, refl)
+    goes None at = done (StandingCall.DropOutgoing place) stands (λ k. k) [] (record m { store = free }) refl (refl, refl)
     goes (Some o) at = goes_by o at (sends o.outgoing) refl
 
   -- == by what is pending
@@ -385,6 +399,7 @@ module _ (contexts : List WasiSocketsCtx) (m : Machine) (line : ℕ) (ids : Ids)
   goes_on_as (StandingCall.UdpBind place) stands = onto _ (udp_rebinds place stands (open_at m.store.records place) refl)
   goes_on_as (StandingCall.UdpConnect place handle) stands = onto _ (remakes place handle stands)
   goes_on_as (StandingCall.DropOutgoing place) stands = ends (goes place stands (open_at m.store.records place) refl)
+  goes_on_as (StandingCall.Blocking call) stands = stream_goes_on contexts m line ids call stands
   goes_on_as (DropOutput place) stands = onto _ (widen (of_output place stands) (outputs free ids place (tcp2_at m.store.records place) refl))
 
 module _ (contexts : List WasiSocketsCtx) (m : Machine) (line n : ℕ) where
@@ -396,11 +411,15 @@ module _ (contexts : List WasiSocketsCtx) (m : Machine) (line n : ℕ) where
       by_line true k = absurd (cc)
       by_line false k = refl
 
+  -- so it is no call of a stream
+  by_none : stands_as m.store.standing n ≡ false → {other : Ids} {its : BlockingCall} → m.store.standing ≡ Some (standing_as other (StandingCall.Blocking its)) → other.line ≡ n → ⊥
+  by_none none {other} on same = let k : stands_as m.store.standing n ≡ true = ap (λ (o : Option Standing). stands_as o n) on ∙ eq-eqb other.line n same in cc
+
   abbrev PolledRow : ℕ → Rows (Result (Option (Answer Given)) Stop × Machine)
   PolledRow k es done = Outcome contexts m line (step.Poll k) es (resumed_reply k done.0) done.1
 
   by_call : (o : Option Standing) → call_of m.store.standing n ≡ o → Meets (PolledRow n) [] (resume_call m o)
-  by_call None e = let none = none_so m.store.standing e in ends (((λ same. none, λ k. refl), λ same. absurd (cc)), (tt, (refl, refl)))
+  by_call None e = let none = none_so m.store.standing e in ends (((λ same. none, λ k. refl), λ same. absurd (cc), λ c other its on same short. absurd (by_none none on same)), (inl tt, (refl, refl)))
   by_call (Some s) e = let k = stands_under m.store.standing n s e in subst (λ (l : ℕ). Meets (PolledRow l) [] (resume_call m (Some s))) k.1 (onto _ (goes_on_as contexts m line s.ids s.call k.0))
 
   abbrev Polled : Rows (Reply × Machine)

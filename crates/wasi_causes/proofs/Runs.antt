@@ -31,10 +31,10 @@ use Rattle.wasi_causes.proofs.Words.{watch_of, watched_in}
 use Rattle.wasi_causes.proofs.Words.{ℕ, ◌==◌, ◌≡◌, ◌⊎◌}
 use Rattle.wasi_causes.proofs.tables.Steps.{its_own}
 use Rattle.wasi_causes.specs.Outcomes.{Traps}
-use Rattle.wasi_causes.specs.Reached.{Finishes, MayFinish, ListensLate, HasRecord, HasUdpRecord, OfItsRecord}
+use Rattle.wasi_causes.specs.Reached.{Finishes, MayFinish, ListensLate, HasRecord, HasUdpRecord, LacksInput, OfItsRecord, SpliceLacksInput}
 use Rattle.wasi_host.specs.declared.listening.Listening.TheVariants as listening
 use Rattle.wasi_host.specs.declared.store.StandingCall.TheVariants as standing
-use Rattle.wasi_walks.proofs.fits.Law.{Fit, fits_along}
+use Rattle.wasi_walks.proofs.fits.Law.{Fit, begins_fit, fits_along}
 use Rattle.wasi_walks.proofs.fits.Lines.{first_fit, starts_fit}
 use Rattle.wasi_walks.proofs.fits.Polls.{Anything}
 use Rattle.wasi_walks.proofs.fits.Records.{FitListening, FitProgress, FitRecord, FitCall, FitUdpProgress}
@@ -50,11 +50,17 @@ use Rattle.wasi_causes.proofs.Words.{HoldsConnect, wildcard}
 use Rattle.wasi_steps.specs.declared.reply.Reply.TheVariants as reply
 use Rattle.wasi_steps.specs.declared.step.Step.TheVariants as step
 use Rattle.wasi_tcp.specs.declared.socket.TcpState.TheVariants as state
-use Rattle.wasi_causes.proofs.Pending.{runs_keep_handles}
+use Rattle.wasi_causes.proofs.Pending.{runs_keep_handles, runs_stand_well}
+use Rattle.wasi_causes.proofs.PipeHandles.{HasPipes, pipe_in_of, pipe_out_of, runs_have_pipes}
+use Rattle.wasi_causes.proofs.streams.Live.{IsWellOn, StandsWell}
+use Rattle.wasi_causes.specs.Blocking.{StreamCallStands}
+use Rattle.wasi_host.specs.declared.blocking.BlockingCall.TheVariants as blocking
+use Rattle.wasi_host.specs.declared.kind.PlainInput.TheVariants as plain_input
+use Rattle.wasi_host.specs.declared.kind.PlainOutput.TheVariants as plain_output
 use Rattle.wasi_causes.proofs.Steady.{AsksToConnect, AsksToListen, IsThere, IsUdpThere, Steady, lookup_record_of, runs_are_steady}
-use Rattle.wasi_causes.specs.Datagrams.{HasItsHandle, LacksRoomForStreams, PendingHandleIsLive}
-use Rattle.wasi_host.specs.declared.kind.Kind.TheVariants.{Incoming, Outgoing}
-use Rattle.wasi_world.specs.declared.outcome.TrapKind.TheVariants.{StreamsAlive}
+use Rattle.wasi_causes.specs.Datagrams.{LacksRoomForStreams, PendingHandleIsLive}
+use Rattle.wasi_host.specs.declared.kind.Kind.TheVariants.{Incoming, Outgoing, PlainInput, PlainOutput, Network, ErrorValue}
+use Rattle.wasi_world.specs.declared.outcome.TrapKind.TheVariants.{Capacity, StreamsAlive, TooLong}
 use Rattle.wasi_walks.proofs.fits.Records.{FitConnecting}
 use Rattle.wasi_walks.specs.Waiting.{IsUdpConnecting}
 
@@ -114,12 +120,13 @@ module _ (m : Machine) (f : Fit (Over m)) (i : Steady m) where
       let connect : IsUdpConnecting (Some h.op) = (subst (FitConnecting h.was.inner.side) h.goes (f.udps place (Udp2Socket.Open h.was) h.at).1).connect in
       subst (λ (o : Option OpenUdp). IfSome o (λ q. IsUdpConnecting q.connecting)) (sym (ap open_of h.at)) (subst IsUdpConnecting (sym h.goes) connect)
   by_call (standing.DropOutgoing place) h = tt
+  by_call (standing.Blocking call) h = tt
 
   stands_by : (o : Option Standing) → ((s : Standing) → o ≡ Some s → FitCall m.store.records s.call) → IfSome o (λ s. HoldsCall m s.call)
   stands_by None h = tt
   stands_by (Some s) h = by_call s.call (h s refl)
 
-module _ (m : Machine) (i : Steady m) where
+module _ (m : Machine) (i : Steady m) (pipes : HasPipes m) where
   has_record : (place : ℕ) → IsThere m.store.records place → HasRecord m place
   has_record place (r, g) = subst IsSome (sym g) refl
 
@@ -141,8 +148,16 @@ module _ (m : Machine) (i : Steady m) where
   of_its_record handle (Pollable (Watched.Socket place)) e = has_record place (i.handles handle place (ap record_of e))
   of_its_record handle (Pollable (Watched.Input place)) e = has_record place (i.handles handle place (ap record_of e))
   of_its_record handle (Pollable (Watched.Output place)) e = has_record place (i.handles handle place (ap record_of e))
-  of_its_record handle _ e = tt
+  of_its_record handle (PlainInput (plain_input.Pipe place)) e = pipes.inputs handle place (ap pipe_in_of e)
+  of_its_record handle (PlainOutput (plain_output.Pipe place)) e = pipes.outputs handle place (ap pipe_out_of e)
+  of_its_record handle (PlainInput plain_input.Closed) e = tt
+  of_its_record handle (PlainOutput plain_output.Sink) e = tt
+  of_its_record handle (PlainOutput plain_output.Closed) e = tt
+  of_its_record handle (Pollable Watched.Plain) e = tt
+  of_its_record handle Network e = tt
+  of_its_record handle ErrorValue e = tt
 
+module _ (m : Machine) (i : Steady m) where
   not_none : (place : ℕ) → IsThere m.store.records place → tcp2_at m.store.records place ≡ None → ⊥
   not_none place (r, g) e = absurd (cc)
 
@@ -165,9 +180,9 @@ module _ (m : Machine) (i : Steady m) where
       by_place None q k = refl
       by_place (Some place) q k = let there : is_some (lookup_at m.store.records place) ≡ true = i.lookups handle place (its_record (kind_at m.table handle) place q) in let gone : is_some (lookup_at m.store.records place) ≡ false = ap (λ (o : Option NameLookup). is_some o) k in absurd (cc)
 
--- a pending call is in progress in its record, if it is of one
-module _ (m : Machine) (f : Fit (Over m)) (live : PendingHandleIsLive m) where
-  on_nothing : (call : StandingCall) → FitCall m.store.records call → HasItsHandle m call → IsOnNothing m call → ⊥
+-- a pending call is in progress in its record, if it is of one, and on its streams, but for the input of a splice
+module _ (m : Machine) (f : Fit (Over m)) (well : StandsWell m) where
+  on_nothing : (call : StandingCall) → FitCall m.store.records call → IsWellOn m call → IsOnNothing m call → LacksInput m call
   on_nothing (standing.Bind place) h its none = let at = h.at in cc
   on_nothing (standing.Listen place) h its none = let at = h.at in cc
   on_nothing (standing.DropOutput place) h its none = none
@@ -176,34 +191,47 @@ module _ (m : Machine) (f : Fit (Over m)) (live : PendingHandleIsLive m) where
   on_nothing (standing.UdpConnect place handle) h its (inl none) = let at : open_at m.store.records place ≡ Some h.was = ap open_of h.at in cc
   on_nothing (standing.UdpConnect place handle) h its (inr none) = cc
   on_nothing (standing.DropOutgoing place) h its none = none
+  on_nothing (standing.Blocking (blocking.Read input len)) h its none = its.0 none
+  on_nothing (standing.Blocking (blocking.Skip input len)) h its none = its.0 none
+  on_nothing (standing.Blocking (blocking.Write output rest)) h its none = its.0 none
+  on_nothing (standing.Blocking (blocking.Finish output)) h its none = its.0 none
+  on_nothing (standing.Blocking (blocking.Flush output)) h its none = its.0 none
+  on_nothing (standing.Blocking (blocking.Splice to from len)) h its (inl none) = absurd (its none)
+  on_nothing (standing.Blocking (blocking.Splice to from len)) h its (inr none) = none
 
-  stands_on : (n : ℕ) → StandsOnNothing m n → ⊥
+  stands_on : (n : ℕ) → StandsOnNothing m n → SpliceLacksInput m
   stands_on n k = by_standing m.store.standing refl k
     where
-      by_standing : (o : Option Standing) → m.store.standing ≡ o → IsSomeAnd (call_of o n) (λ s. IsOnNothing m s.call) → ⊥
-      by_standing None e none = none
+      by_standing : (o : Option Standing) → m.store.standing ≡ o → IsSomeAnd (call_of o n) (λ s. IsOnNothing m s.call) → SpliceLacksInput m
+      by_standing None e none = absurd none
       by_standing (Some s) e none = by_line (s.ids.line == n) none
         where
-          its_handle : m.store.standing ≡ Some s → HasItsHandle m s.call
-          its_handle stands = subst (λ (o : Option Standing). IfSome o (λ s. HasItsHandle m s.call)) stands live
+          its_call : IsWellOn m s.call
+          its_call = subst (λ (o : Option Standing). IfSome o (λ s. IsWellOn m s.call)) e well
 
-          by_line : (same : Bool) → IsSomeAnd (if same then Some s else None) (λ c. IsOnNothing m c.call) → ⊥
-          by_line true on = on_nothing s.call (f.stands s e) (its_handle e) on
-          by_line false on = on
+          by_line : (same : Bool) → IsSomeAnd (if same then Some s else None) (λ c. IsOnNothing m c.call) → SpliceLacksInput m
+          by_line true on = subst (λ (o : Option Standing). IsSomeAnd o (λ s. LacksInput m s.call)) (sym e) (on_nothing s.call (f.stands s e) its_call on)
+          by_line false on = absurd on
 
 -- == of a run
 abbrev pub Between : ℕ → List Entry → Machine → Type 0
 Between line es m = Fit (Over m)
 
 pub line_fits : (contexts : List WasiSocketsCtx) (line : ℕ) (s : Step) (m : Machine) (es : List Entry) → Fit (Over m) → Allows Anything (λ fs done. Fit (Over done.1)) es (machine_asks contexts m line s)
-line_fits contexts line s m es f = fits_along contexts line s (machine_walks line s m m.store.standing refl) es (starts_fit m (may_while m s m.store.standing) f)
+line_fits contexts line s m es f = fits_along contexts line s (machine_walks line s (begins_fit contexts line s) m m.store.standing refl) es (starts_fit m (may_while m s m.store.standing) f)
 
 module _ (contexts : List WasiSocketsCtx) (steps : List Step) (es : List Entry) (replies : List Reply) (m : Machine) (w : Left (run contexts [] first_state 1 steps) es (Give (replies, m))) where
   pub fits : Fit (Over m)
   fits = (run_ends contexts Anything Between (line_fits contexts) first_fit steps es replies m w).1
 
-  pub run_live : PendingHandleIsLive m
-  run_live = runs_keep_handles contexts steps es replies m w
+  run_well : StandsWell m
+  run_well = runs_stand_well contexts steps es replies m w
+
+  pub run_live : (SpliceLacksInput m → ⊥) → PendingHandleIsLive m
+  run_live = runs_keep_handles m run_well
+
+  run_pipes : HasPipes m
+  run_pipes = runs_have_pipes contexts steps es replies m w
 
   run_steady : Steady m
   run_steady = runs_are_steady contexts steps es replies m w
@@ -230,7 +258,7 @@ module _ (contexts : List WasiSocketsCtx) (steps : List Step) (es : List Entry) 
   runs_bind = stands_by m fits run_steady m.store.standing fits.stands
 
   pub runs_have_records : (handle : ℕ) (kind : Kind) → kind_at m.table handle ≡ Some kind → OfItsRecord m kind
-  runs_have_records = of_its_record m run_steady
+  runs_have_records = of_its_record m run_steady run_pipes
 
   pub runs_miss_no_record : (handle : ℕ) → record_at m handle ≡ None → socket_at m handle ≡ None
   runs_miss_no_record = is_no_socket m run_steady
@@ -238,8 +266,8 @@ module _ (contexts : List WasiSocketsCtx) (steps : List Step) (es : List Entry) 
   pub runs_miss_no_lookup : (handle : ℕ) → found_lookup m handle ≡ None → lookup_number m handle ≡ None
   runs_miss_no_lookup = no_lookup_missing m run_steady
 
-  pub runs_stand_on_records : (n : ℕ) → StandsOnNothing m n → ⊥
-  runs_stand_on_records = stands_on m fits run_live
+  pub runs_stand_on_records : (n : ℕ) → StandsOnNothing m n → SpliceLacksInput m
+  runs_stand_on_records = stands_on m fits run_well
 
   pub runs_may_finish : (place : ℕ) (r : Tcp2Socket) → tcp2_at m.store.records place ≡ Some r → is_connect r.in_progress ≡ true → MayFinish r.inner.state
   runs_may_finish place r g = (run_steady.records place r g).0
@@ -254,14 +282,21 @@ module _ (contexts : List WasiSocketsCtx) (steps : List Step) (es : List Entry) 
   pub listens_refused_in_runs : (line ctx handle : ℕ) (entries : List Entry) (word : CodeWord) (after : Machine) → Answered contexts m line (step.TcpStartListen ctx handle) entries (reply.Err word) after → RefusedListen m (own_of line) handle entries word after
   listens_refused_in_runs line ctx handle entries word after a = (its_own contexts m line (step.TcpStartListen ctx handle) entries (reply.Err word) after a (λ e. cc)).1.1.0 (of_record m ListensLate runs_listen_late (socket_at m handle))
 
-  full_alone : (line n : ℕ) (entries : List Entry) (kind : TrapKind) (after : Machine) → Traps contexts m line (step.Poll n) entries kind after → (kind ≡ Full) × (((is_full m.table ≡ true) × IsSomeAnd m.store.standing (λ s. IsPendingCreate s.call)) ⊎ IsSomeAnd m.store.standing (λ s. LacksRoomForStreams m s.call))
-  full_alone line n entries NoSuchHandle after h = absurd (stands_on m fits run_live n h.0)
+  -- why a poll traps
+  abbrev PollTraps : TrapKind → Type 0
+  PollTraps kind = ((kind ≡ Full) × (((is_full m.table ≡ true) × IsSomeAnd m.store.standing (λ s. IsPendingCreate s.call)) ⊎ (IsSomeAnd m.store.standing (λ s. LacksRoomForStreams m s.call) ⊎ StreamCallStands m))) ⊎ ((kind ≡ NoSuchHandle) × SpliceLacksInput m)
+
+  full_alone : (line n : ℕ) (entries : List Entry) (kind : TrapKind) (after : Machine) → Traps contexts m line (step.Poll n) entries kind after → PollTraps kind
+  full_alone line n entries NoSuchHandle after h = inr (refl, stands_on m fits run_well n h.0)
   full_alone line n entries HasChildren after h = absurd h.0
-  full_alone line n entries Full after h = (refl, h.2)
+  full_alone line n entries Full after h = inl (refl, h.2)
   full_alone line n entries NotPermitted after h = elim h.0 [ inl w ↦ absurd w | inr s ↦ absurd s ]
   full_alone line n entries StreamsAlive after h = absurd h.0
+  full_alone line n entries Capacity after h = absurd h.0
+  full_alone line n entries TooLong after h = absurd h.0
   full_alone line n entries _ after h = absurd h
 
-  -- a poll traps only where there is no room for the handle of a create or for those of datagram streams
-  pub polls_trap : (line n : ℕ) (entries : List Entry) (kind : TrapKind) (after : Machine) → Answered contexts m line (step.Poll n) entries (reply.Trap kind) after → (kind ≡ Full) × (((is_full m.table ≡ true) × IsSomeAnd m.store.standing (λ s. IsPendingCreate s.call)) ⊎ IsSomeAnd m.store.standing (λ s. LacksRoomForStreams m s.call))
+  -- a poll traps only where there is no room for the handle of a create, for those of datagram streams or for that of a stream's
+  -- error, or where the input of a splice isn't there
+  pub polls_trap : (line n : ℕ) (entries : List Entry) (kind : TrapKind) (after : Machine) → Answered contexts m line (step.Poll n) entries (reply.Trap kind) after → PollTraps kind
   polls_trap line n entries kind after a = full_alone line n entries kind after (its_own contexts m line (step.Poll n) entries (reply.Trap kind) after a (λ e. cc)).1

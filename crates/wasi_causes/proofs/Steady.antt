@@ -1,11 +1,11 @@
 -- Of the machines that runs lead to: each live handle is of a record that is there, of a connect and of a listen in progress only asks
 -- are left, a connect in progress may be finished, and a socket that does nothing yet doesn't listen.
 use Rattle.wasi_host.specs.Records.{tcp2_at, tcp2_put, tcp2_pushed, udp2_at, udp2_put, lookup_at}
-use Rattle.wasi_host.specs.declared.kind.Kind.TheVariants.{Udp2, Lookup}
+use Rattle.wasi_host.specs.declared.kind.Kind.TheVariants.{Udp2, Lookup, ErrorValue, PlainInput, PlainOutput}
 use Rattle.wasi_host.specs.declared.udp.Udp2Socket.{Udp2Socket}
 use Rattle.wasi_host.specs.Udp.{udp_side, udp_bind_progress, udp_create_left, with_udp_progress}
 use Rattle.wasi_host.specs.UdpCreates.{with_create}
-use Rattle.wasi_udp.specs.Create.{Create, after_create as udp_after_create}
+use Rattle.wasi_udp.specs.Create.{Create, after_create as udp_after_create, create_cancel_asks}
 use Rattle.wasi_walks.proofs.UdpLists.{udp_set_get, udp_front, udp_in_put, udp_in_push, tcp_of_put, tcp_of_push, tcp_in_put, tcp_in_push}
 use Rattle.wasi_walks.proofs.walks.Moves.{put_udp, FoundUdp, udp_begun, udp_record_of, tcp_place, UdpChanges, BeginsUdpBind, StandsUdpBind, StandsUdpCreate, UdpCreates, UdpBindsOn, AUdpPollable}
 use Rattle.wasi_causes.proofs.Words.{Handles}
@@ -30,8 +30,8 @@ use Rattle.wasi_host.specs.declared.store.StandingCall.TheVariants as standing
 use Rattle.wasi_walks.proofs.Lists.{tcp2_front, tcp2_seam}
 use Rattle.wasi_walks.proofs.fits.Law.{told_same, whatever}
 use Rattle.wasi_walks.proofs.fits.Polls.{Anything}
-use Rattle.wasi_walks.proofs.walks.Law.{Law}
-use Rattle.wasi_walks.proofs.walks.Moves.{closed_record, Held, BindsOn, Connects, Here, put, Move, Changes, ClosesReader, Writes, IsGone, Reconnects, Opens, BeginsBind, BeginsConnect, BeginsWrite, Stands, Lists, Takes, BeginsListen, BeginsAccept, Unlistens, Forgets, Joins, Unstands, Listens, Awaits, listen_after, accepting_now, joined, IsConnecting, Marks, AStream, AnAcceptedStream, APollable, record_of}
+use Rattle.wasi_walks.proofs.walks.Law.{Law, BeginsWrites}
+use Rattle.wasi_walks.proofs.walks.Moves.{closed_record, Held, BindsOn, Connects, Here, put, Move, Changes, ClosesReader, Writes, IsGone, Reconnects, Opens, BeginsBind, BeginsConnect, BeginsWrite, StandsBlocking, CancelsBind, CancelsUdpBind, CancelsUdpConnect, Stands, Lists, Takes, BeginsListen, BeginsAccept, Unlistens, Forgets, Joins, Unstands, Listens, Awaits, listen_after, accepting_now, joined, IsConnecting, MakesPlain, Marks, APlain, AStream, AnAcceptedStream, APollable, record_of}
 use Rattle.wasi_walks.proofs.walks.Runs.{run_ends}
 use Rattle.wasi_walks.proofs.walks.Steps.{machine_walks}
 use Rattle.wasi_causes.proofs.operations.Polls.{Keeps, connect_leaves, listen_leaves}
@@ -154,7 +154,7 @@ stand_steady m o i = record { records = i.records; handles = i.handles; udps = i
 
 -- the records that handles are of, by one reading of them
 module _ (of : Option Kind → Option ℕ) (none : of None ≡ None) (There : ℕ → Type 0) (t : Handles) (live : (handle place : ℕ) → of (kind_at t handle) ≡ Some place → There place) where
-  where_made : (kind : Kind) (parent : Option ℕ) → ((place : ℕ) → of (Some kind) ≡ Some place → There place) → (handle place : ℕ) → of (kind_at (with_handle t kind parent) handle) ≡ Some place → There place
+  pub where_made : (kind : Kind) (parent : Option ℕ) → ((place : ℕ) → of (Some kind) ≡ Some place → There place) → (handle place : ℕ) → of (kind_at (with_handle t kind parent) handle) ≡ Some place → There place
   where_made kind parent new handle place e = by_kind (kind_at (with_handle t kind parent) handle) refl e
     where
       by_kind : (k : Option Kind) → kind_at (with_handle t kind parent) handle ≡ k → of k ≡ Some place → There place
@@ -164,7 +164,7 @@ module _ (of : Option Kind → Option ℕ) (none : of None ≡ None) (There : �
         | inr g ↦ new place (ap (λ (y : Kind). of (Some y)) g.1 ∙ e)
       ]
 
-  where_taken : (gone handle place : ℕ) → of (kind_at (without_handle t gone) handle) ≡ Some place → There place
+  pub where_taken : (gone handle place : ℕ) → of (kind_at (without_handle t gone) handle) ≡ Some place → There place
   where_taken gone handle place e = by_kind (kind_at (without_handle t gone) handle) refl e
     where
       by_kind : (k : Option Kind) → kind_at (without_handle t gone) handle ≡ k → of k ≡ Some place → There place
@@ -230,7 +230,7 @@ module _ (contexts : List WasiSocketsCtx) (line : ℕ) (origin : Step) where
   moves_steady _ _ (Opens h place r c d g e n) i = put_steady h place r g _ (λ k. absurd (cc), λ side d. absurd (cc), (tt, no_listen r.inner.state (state.Connected (record c { send_taken = true })) r.listening c.side (ap side_in e) (i.records place r g).2.1)) i
   moves_steady _ _ (BeginsConnect h place r side a bound at g d to known idle own) i = put_steady h place r g _ (λ k. tt, λ s e. absurd (cc), (asks_first a _ bound, no_listen r.inner.state (state.Connecting (connect_operation (record { op = own_of line; side = side; maker = r.inner.maker }) (wildcard r.inner.family) a (connect_first bound))) r.listening side (ap side_in d) (i.records place r g).2.1)) i
   moves_steady _ _ (BeginsBind h place r side a at g d to idle own) i = put_steady h place r g _ (λ c. absurd (cc), (i.records place r g).1, (i.records place r g).2) i
-  moves_steady _ _ (BeginsWrite h place r s half permit bytes at g e w within own) i = put_steady h place r g _ (i.records place r g) i
+  moves_steady _ _ (BeginsWrite h place n r s half permit bytes at g e w within own) i = put_steady h place r g _ (i.records place r g) i
   moves_steady _ _ (BeginsListen h place r side at g d bound none to idle own) i = put_steady h place r g _ (λ k. tt, λ s e. absurd (cc), (tt, ((tt, (tt, tt)), refl, refl))) i
   moves_steady _ _ (BeginsAccept h place r l at g e a own) i = put_steady h place r g _ (listens_on r l _ e (i.records place r g)) i
   moves_steady _ _ (Unlistens h place r op q g e c o) i = put_steady h place r g _ ((i.records place r g).0, λ side d. refl, ((i.records place r g).2.0, tt)) i
@@ -248,6 +248,10 @@ module _ (contexts : List WasiSocketsCtx) (line : ℕ) (origin : Step) where
   moves_steady _ _ (StandsDropOutgoing h ids place o at g e) i = stand_steady h.machine (Some (standing_as ids (standing.DropOutgoing place))) i
   moves_steady _ _ (BeginsSend h place n o out d bound at g e item known own) i = put_udp_steady h place (Udp2Socket.Open o) g _ i
   moves_steady _ _ (BeginsReceive h place n o inc bound at g e own) i = put_udp_steady h place (Udp2Socket.Open o) g _ i
+  moves_steady _ _ (StandsBlocking h ids call handles made its) i = stand_steady h.machine (Some (standing_as ids (standing.Blocking call))) i
+  moves_steady _ _ (CancelsBind h place r op q g e) i = put_steady h place r g _ (λ c. absurd (cc), (i.records place r g).1, (i.records place r g).2) i
+  moves_steady _ _ (CancelsUdpBind h place o op q g e) i = put_udp_steady h place (Udp2Socket.Open o) g _ i
+  moves_steady _ _ (CancelsUdpConnect h place o q g) i = put_udp_steady h place (Udp2Socket.Open o) g _ i
   moves_steady _ _ (Finds h records same) i = found_steady h records same i
   moves_steady _ _ (Lists h jobs) i = record { records = i.records; handles = i.handles; udps = i.udps; lookups = i.lookups }
   moves_steady _ _ (Takes h handle) i = record {
@@ -271,12 +275,25 @@ module _ (contexts : List WasiSocketsCtx) (line : ℕ) (origin : Step) where
   never_tcp (Watched.Socket n) place udp e = cc
   never_tcp (Watched.Input n) place udp e = cc
   never_tcp (Watched.Output n) place udp e = cc
+  never_tcp Watched.Plain place udp e = cc
+
+  -- what is of no connection is of no socket and of no lookup
+  no_place : (s : Step) (kind : Kind) → MakesPlain s kind → (record_of (Some kind) ≡ None) × (udp_record_of (Some kind) ≡ None) × (lookup_record_of (Some kind) ≡ None)
+  no_place s (PlainInput i) h = (refl, refl, refl)
+  no_place s (PlainOutput o) h = (refl, refl, refl)
+  no_place (Step.PipeIn c bytes) _ h = absurd h
+  no_place (Step.PipeOut c capacity) _ h = absurd h
+  no_place (Step.Sink c) _ h = absurd h
+  no_place (Step.ClosedIn c) _ h = absurd h
+  no_place (Step.ClosedOut c) _ h = absurd h
+  no_place _ _ h = absurd h
 
   marks_there : (h : Here) (kind : Kind) (parent : Option ℕ) (sock : Option OpId) → Marks origin h kind parent sock → Steady h.machine → (place : ℕ) → record_of (Some kind) ≡ Some place → IsThere h.machine.store.records place
   marks_there h kind _ _ (AStream c handle its _ is two of) i place e = i.handles handle place (of ∙ ap (λ (x : ℕ). Some x) (one_of_two kind its place two e))
   marks_there h kind _ _ (AnAcceptedStream c listener handle its _ r is two made own g) i place e = subst (IsThere h.machine.store.records) (one_of_two kind its place two e) (r, g)
   marks_there h _ _ _ (APollable c handle w is tcp of) i place e = i.handles handle place (of ∙ (sym tcp ∙ e))
   marks_there h _ _ _ (AUdpPollable c handle w is udp of) i place e = absurd (never_tcp w place udp e)
+  marks_there h _ _ _ (APlain kind makes) i place e = let none = (no_place origin kind makes).0 in absurd (cc)
   marks_there h _ _ _ _ i place e = absurd (cc)
 
   -- of a stream, or of a pollable of a TCP socket, nothing is said of UDP sockets
@@ -292,12 +309,14 @@ module _ (contexts : List WasiSocketsCtx) (line : ℕ) (origin : Step) where
   no_udp_watch (Watched.Socket n) place tcp e = cc
   no_udp_watch (Watched.Input n) place tcp e = cc
   no_udp_watch (Watched.Output n) place tcp e = cc
+  no_udp_watch Watched.Plain place tcp e = cc
 
   udp_marks_there : (h : Here) (kind : Kind) (parent : Option ℕ) (sock : Option OpId) → Marks origin h kind parent sock → Steady h.machine → (place : ℕ) → udp_record_of (Some kind) ≡ Some place → IsUdpThere h.machine.store.records place
   udp_marks_there h kind _ _ (AStream c handle its _ is two of) i place e = absurd (no_udp kind its place two e)
   udp_marks_there h kind _ _ (AnAcceptedStream c listener handle its _ r is two made own g) i place e = absurd (no_udp kind its place two e)
   udp_marks_there h _ _ _ (APollable c handle w is tcp of) i place e = absurd (no_udp_watch w place tcp e)
   udp_marks_there h _ _ _ (AUdpPollable c handle w is udp of) i place e = i.udps handle place (of ∙ (sym udp ∙ e))
+  udp_marks_there h _ _ _ (APlain kind makes) i place e = let none = (no_place origin kind makes).1 in absurd (cc)
   udp_marks_there h _ _ _ _ i place e = absurd (cc)
 
   -- of a stream, or of a pollable of a socket, nothing is said of lookups
@@ -317,6 +336,7 @@ module _ (contexts : List WasiSocketsCtx) (line : ℕ) (origin : Step) where
   lookup_marks_there h _ _ _ (AUdpPollable c handle w is udp of) i place e = absurd (no_lookup_watch w place (inr udp) e)
   lookup_marks_there h _ _ _ (ALookup c network its name is there) i place e = let same : its ≡ place = cc in subst (IsLookupThere h.machine.store.records) same there
   lookup_marks_there h _ _ _ (ALookupPollable c handle its is of) i place e = i.lookups handle place (ap lookup_record_of of ∙ e)
+  lookup_marks_there h _ _ _ (APlain kind makes) i place e = let none = (no_place origin kind makes).2 in absurd (cc)
   lookup_marks_there h _ _ _ _ i place e = absurd (cc)
 
   -- a socket that is created doesn't connect
@@ -391,13 +411,20 @@ module _ (contexts : List WasiSocketsCtx) (line : ℕ) (origin : Step) where
     udp_closes = λ es h place o q g i. (tt, λ told fits. put_udp_steady h place (Udp2Socket.Open o) g _ i);
     udp_creates = λ es h ctx family c may t o m i. (tt, λ told fits. begun_steady h (udp_after_create (own_of line) ctx.name family (told_done told)) i);
     udp_marks = λ es h place u g i. made_steady es h.machine (udp_side u) (Udp2 place) None (Some (udp_side u)) (λ k p. absurd (cc)) (λ k p. let q : place ≡ k = cc in subst (IsUdpThere h.machine.store.records) q (u, g)) (λ k p. absurd (cc)) i;
+    error_marks = λ es h n handle place handles m k e f i. made_steady es h.machine (own_of n) ErrorValue (Some handle) (side_at (tcp2_at h.machine.store.records place)) (λ k p. absurd (cc)) (λ k p. absurd (cc)) (λ k p. absurd (cc)) i;
+    udp_gives_up = λ es h place create q g i. whatever (λ done. Steady (put_udp h place (Udp2Socket.Closed create.operation.who.side)).machine) (λ done. put_udp_steady h place (Udp2Socket.Creating create) g _ i) es (create_cancel_asks create);
     lookups = λ es h host l i. (tt, λ told fits records same. found_steady h records same i);
     looks = λ es h place op at i. (tt, λ told fits. i);
   }
 
+  -- a write that begins in a call of streams
+  begins_steady : BeginsWrites steady
+  unfolding steady
+  begins_steady = record { begins = λ es h place n r s half permit bytes at g e w within i. put_steady h place r g _ (i.records place r g) i }
+
   line_steady : (m : Machine) (es : List Entry) → Steady m → Allows Anything (λ fs done. Steady done.1) es (machine_asks contexts m line origin)
   unfolding steady
-  line_steady m es i = (machine_walks line origin {law = steady} m m.store.standing refl).along es i
+  line_steady m es i = (machine_walks line origin {law = steady} begins_steady m m.store.standing refl).along es i
 
 pub runs_are_steady : (contexts : List WasiSocketsCtx) (steps : List Step) (es : List Entry) (replies : List Reply) (m : Machine) → Left (run contexts [] first_state 1 steps) es (Give (replies, m)) → Steady m
 runs_are_steady contexts steps es replies m w =

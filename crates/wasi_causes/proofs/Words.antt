@@ -76,11 +76,14 @@ pub use Rattle.wasi_walks.proofs.Lists.{get_front, get_seam, get_set, get_split,
 pub use Rattle.wasi_walks.specs.Answered.{AlreadyBound, AlreadyClosed, Answered, Begins, BindRefusal, BoundElsewhere, CheckFails, ClosedBy, Closes}
 pub use Rattle.wasi_walks.specs.Answered.{CodeTold, ConnectRefusal, Connects, ConnectsAt, CreateRefusal, Denied, Elsewhere, EndsClosing, EndsPending}
 pub use Rattle.wasi_walks.specs.Answered.{ErrorKept, Failed, FailsWith, FinishRefusal, HasNoConnectInProgress, IsBound, IsFoundUnbound}
-pub use Rattle.wasi_walks.specs.Answered.{IsOnNothing, IsPastDefault, IsQuiet, IsUnpermitted, Known, KnowsBound, LengthZero}
-pub use Rattle.wasi_walks.specs.Answered.{LocalClosed, LocalRefusal, MissesHandle, MissesRecord, NoConnect, NotAllowed, NotDefault}
+pub use Rattle.wasi_walks.specs.Answered.{IsPastDefault, IsQuiet, IsUnpermitted, Known, KnowsBound, LengthZero}
+pub use Rattle.wasi_walks.specs.Missing.{IsOnNothing}
+pub use Rattle.wasi_walks.specs.Answered.{LocalClosed, LocalRefusal, NoConnect, NotAllowed, NotDefault}
+pub use Rattle.wasi_walks.specs.Missing.{MissesHandle, MissesRecord}
 pub use Rattle.wasi_walks.specs.Answered.{NotReady, OfRecord, OfStreams, PastDefault, Permits, ReadFails, ReadsEnd, ReadsNone, ReadsTold}
 pub use Rattle.wasi_walks.specs.Answered.{RefusedOf, RemoteClosed, RemoteConnecting, RemoteDefault, RemoteListening, RemoteRefusal}
-pub use Rattle.wasi_walks.specs.Answered.{RemoteTold, StandsOnNothing, ToldBound, ToldCode, ToldNone, WriteFails, WrongAddress}
+pub use Rattle.wasi_walks.specs.Answered.{RemoteTold, ToldBound, ToldCode, ToldNone, WriteFails, WrongAddress}
+pub use Rattle.wasi_walks.specs.Missing.{StandsOnNothing}
 pub use Rattle.wasi_walks.specs.Answered.{closing_writer, knowing_bound, may_bind_to, output_streams, putting, read_entry, record_at, record_in}
 pub use Rattle.wasi_walks.specs.Answered.{streams_in, with_error, word_of_code}
 pub use Rattle.wasi_walks.specs.Listens.{AcceptFailed, AcceptFails, AcceptGives, AcceptWaits, AcceptsAt, AcceptsIn, HasNoListener, IsHanded}

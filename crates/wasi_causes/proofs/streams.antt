@@ -1,4 +1,24 @@
--- The calls of streams, and turns.
-pub mod Halves
+-- Streams: how a call finds its stream, the halves of connections, inputs and outputs of no connection, and turns.
 pub mod Routes
+pub mod Pipes
+pub mod Plain
+pub mod Halves
+pub mod Stays
+pub mod Kept
+pub mod Permits
+pub mod Makes
+pub mod Cancels
+pub mod Composed
+pub mod Facts
+pub mod Missing
+pub mod Looks
+pub mod Blocks
+pub mod BlockedWrites
+pub mod BlockedSplices
+pub mod Settles
+pub mod BlockingSteps
+pub mod Polls
+pub mod Read
+pub mod Splices
 pub mod Turns
+pub mod Live

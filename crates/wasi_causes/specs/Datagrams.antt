@@ -1,4 +1,5 @@
 -- How the steps of datagram streams are answered: where each answer comes from, and what is left afterwards.
+use Rattle.wasi_causes.specs.Blocking.{HasItsStreams, IsShort}
 use Rattle.std.specs.Prelude.{◌≡◌, ◌⊎◌, ⊤, ℕ, ◌+◌, true, false, List, [], Option, Some, None, IsSomeAnd, IfSome}
 use Rattle.wasi_world.specs.declared.call.Entry.{Entry}
 use Rattle.wasi_host.specs.declared.datagrams.Incoming.{Incoming}
@@ -81,9 +82,11 @@ abbrev pub LacksRoomForStreams : Machine → StandingCall → Type 0
 LacksRoomForStreams m (standing.UdpConnect place handle) = IsSomeAnd (udp_socket_at m handle) (λ its. LacksRoomForBoth m.table its handle)
 LacksRoomForStreams m _ = ⊥
 
--- where datagram streams are pending, the handle that they were asked of is that of their socket
+-- where datagram streams are pending, the handle that they were asked of is that of their socket; and where a call of a stream is, it
+-- is on streams that are there, and what isn't written yet is no more than one call may write
 abbrev pub HasItsHandle : Machine → StandingCall → Type 0
 HasItsHandle m (standing.UdpConnect place handle) = udp_socket_at m handle ≡ Some place
+HasItsHandle m (standing.Blocking call) = HasItsStreams m call × IsShort call
 HasItsHandle m _ = ⊤
 
 abbrev pub PendingHandleIsLive : Machine → Type 0

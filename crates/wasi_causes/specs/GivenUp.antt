@@ -1,4 +1,6 @@
 -- What a drop and a shutdown release: what is asked then, and what is left afterwards.
+use Rattle.wasi_host.specs.declared.kind.PlainInput.TheVariants as plain_input
+use Rattle.wasi_host.specs.declared.kind.PlainOutput.TheVariants as plain_output
 use Rattle.std.specs.Prelude.{◌≡◌, ◌≢◌, ⊤, ℕ, true, List, [], ◌∷◌, ◌++◌, Option, Some, None, IsSome, IsSomeAnd}
 use Rattle.wasi_addr.specs.declared.address.IpSocketAddress.{IpSocketAddress}
 use Rattle.wasi_addr.specs.declared.address.ShutdownType.{ShutdownType}
@@ -72,7 +74,8 @@ IsDropped _ = ⊥
 abbrev pub without : Machine → ℕ → Machine
 without m handle = record m { table = without_handle m.table handle }
 
--- all but a socket, an output, a datagram stream and a lookup: nothing is asked where it is dropped, and nothing else goes
+-- all but a socket, an output of a connection, a datagram stream, a lookup and a pipe: nothing is asked where it is dropped, and nothing
+-- else goes
 abbrev pub GoesAtOnce : Kind → Type 0
 GoesAtOnce (kind.Tcp2 place) = ⊥
 GoesAtOnce (kind.Udp2 place) = ⊥
@@ -80,6 +83,8 @@ GoesAtOnce (kind.Output place) = ⊥
 GoesAtOnce (kind.Incoming place) = ⊥
 GoesAtOnce (kind.Outgoing place) = ⊥
 GoesAtOnce (kind.Lookup place) = ⊥
+GoesAtOnce (kind.PlainInput (plain_input.Pipe place)) = ⊥
+GoesAtOnce (kind.PlainOutput (plain_output.Pipe place)) = ⊥
 GoesAtOnce _ = ⊤
 
 -- the open halves of the streams, the receiving one first

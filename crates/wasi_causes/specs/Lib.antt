@@ -9,3 +9,8 @@ pub mod Udp
 pub mod Datagrams
 pub mod StreamCauses
 pub mod SendCauses
+pub mod Plain
+pub mod Parts
+pub mod Blocking
+pub mod Cancelled
+pub mod MayAnswer

@@ -1,9 +1,35 @@
 -- How each step is answered: which replies it may give; and by the kind of its reply, where that comes from, and what is left
 -- afterwards.
+pub use Rattle.wasi_causes.specs.MayAnswer.{AreLike, EachMayAnswer, IsBlockingWrite, IsCodeWord, IsStreamCall, MayMiss, MayRefuse, MayTrap, MayWait, may_answer}
+pub use Rattle.wasi_causes.specs.Plain.{Quiet}
+use Rattle.wasi_host.specs.Records.{input_pipe_at, output_pipe_at}
+use Rattle.std.specs.Prelude.{IsSome}
+use Rattle.wasi_walks.specs.Answered.{streams_in}
+use Rattle.std.specs.Prelude.{IfSome}
+use Rattle.wasi_world.specs.declared.ids.Ids.{Ids}
+use Rattle.wasi_memory.specs.Plain.{no_contents}
+use Rattle.wasi_streams.specs.Streams.{zeros}
+use Rattle.wasi_host.specs.declared.blocking.BlockingCall.{BlockingCall}
+use Rattle.wasi_host.specs.declared.blocking.BlockingCall.TheVariants as blocking
+use Rattle.wasi_host.specs.declared.kind.PlainInput.TheVariants as input
+use Rattle.wasi_host.specs.declared.kind.PlainOutput.TheVariants as output
+use Rattle.wasi_host.specs.declared.records.Record.TheVariants.{InputPipe, OutputPipe}
+use Rattle.wasi_host.specs.declared.store.StandingCall.TheVariants as standing
+use Rattle.wasi_host.specs.Kinds.{is_readable}
+use Rattle.wasi_host.specs.PlainStreams.{with_record_more}
+use Rattle.wasi_host.specs.Standing.{standing_as}
+use Rattle.wasi_host.specs.StreamCalls.{plain_output_at}
+use Rattle.wasi_steps.specs.Reply.{bytes_fields}
+use Rattle.wasi_walks.specs.Answered.{Answered}
+use Rattle.wasi_walks.specs.Missing.{MissesInput, MissesHandle, MakesHandle, IsWrite}
+use Rattle.wasi_walks.specs.Waiting.{nothing_stands}
+use Rattle.wasi_causes.specs.Blocking.{BeginsToWrite, BlocksAs, IsShort, StreamCallStands}
+use Rattle.wasi_causes.specs.Cancelled.{CancelsBy, IsCancel}
+use Rattle.wasi_causes.specs.MayAnswer.{AreLike, IsBlockingWrite, IsCodeWord, IsStreamCall, MayRefuse}
+use Rattle.wasi_causes.specs.Parts.{Skips, Splices}
+use Rattle.wasi_causes.specs.Plain.{EndsCheck, EndsOutput, EndsPlain, InputPipeGone, MakesPlain, OfOutputPipe, OutputPipeGone, PastCapacity, PermitsPlain, PlainCheck, PlainFlush, PlainRead, PlainWrite, TakesFront, TakesNothing, WatchesPlain, WritesPlain}
+use Rattle.wasi_world.specs.declared.outcome.TrapKind.TheVariants.{Capacity, TooLong}
 use Rattle.std.specs.Prelude.{◌≡◌, ◌⊎◌, ⊤, ℕ, ◌+◌, ◌<◌, Bool, true, List, [], ◌∷◌, ◌↔◌, false, length, Option, Some, None, IsSomeAnd}
-use Rattle.wasi_addr.specs.declared.address.IpAddress.{IpAddress}
-use Rattle.wasi_addr.specs.declared.address.IpSocketAddress.{IpSocketAddress}
-use Rattle.wasi_addr.specs.declared.code.ErrorCode.{ErrorCode}
 use Rattle.wasi_world.specs.declared.outcome.TrapKind.{TrapKind}
 use Rattle.wasi_world.specs.declared.outcome.TrapKind.TheVariants.{NoSuchHandle, HasChildren, Full, NotPermitted, StreamsAlive}
 use Rattle.wasi_steps.specs.declared.reply.CodeWord.{CodeWord}
@@ -14,10 +40,10 @@ use Rattle.wasi_steps.specs.declared.reply.Reply.{Reply}
 use Rattle.wasi_steps.specs.declared.reply.Reply.TheVariants as reply
 use Rattle.wasi_steps.specs.declared.step.Step.{Step}
 use Rattle.wasi_steps.specs.declared.step.Step.TheVariants as step
-use Rattle.wasi_walks.specs.Answered.{open_udp_at, outgoing_in, word_of_code, MakesHandle, IsWrite, CheckFails, closing_reader, closing_writer, ConnectsAt, CreateRefusal, EndsPending, FailsWith, FinishRefusal, HasNoBindInProgress, HasNoConnectInProgress, HasOperationInProgress, KnowsBound, IsGivenUp, IsUnpermitted, LocalRefusal, MissesHandle, OfRecord, OfStreams, output_streams, Permits, putting, ReadFails, ReadsEnd, ReadsNone, ReadsTold, record_at, RefusedBind, RefusedConnect, RefusedOf, RemoteRefusal, WasClosedWith, with_error, WriteFails}
-use Rattle.wasi_machine.specs.Machine.{first_ids, is_guest_call, context_at}
-use Rattle.wasi_steps.specs.Replies.{FieldKind, ANumber, SomeBytes, Truth, Nothing, FieldKinds, Each, AnAddress, AnIpOrNone, ADatagramList, OneOf, kinds_of}
-use Rattle.wasi_steps.specs.Reply.{address_values, datagram_values, family_fields, found_values, no_fields, number_fields, triple_fields, truth_fields}
+use Rattle.wasi_walks.specs.Answered.{open_udp_at, outgoing_in, CheckFails, closing_reader, closing_writer, ConnectsAt, CreateRefusal, EndsPending, FailsWith, FinishRefusal, HasNoBindInProgress, HasNoConnectInProgress, HasOperationInProgress, KnowsBound, IsGivenUp, IsUnpermitted, LocalRefusal, OfRecord, OfStreams, output_streams, Permits, putting, ReadFails, ReadsEnd, ReadsNone, ReadsTold, record_at, RefusedBind, RefusedConnect, RefusedOf, RemoteRefusal, WasClosedWith, with_error, WriteFails}
+use Rattle.wasi_machine.specs.Machine.{first_ids, context_at}
+use Rattle.wasi_steps.specs.Replies.{kinds_of}
+use Rattle.wasi_steps.specs.Reply.{family_fields, no_fields, number_fields, triple_fields, truth_fields}
 use Rattle.wasi_walks.specs.Waiting.{IsPoll, IsUnready, left_missing, MayStand, OfWatched, OutputWaits, pollable_mark, StandingFails, StandingWaits, PendingCallsFit, WatchesAccept, WatchesConnect, WatchesIdle}
 use Rattle.wasi_causes.specs.GivenUp.{IsDrop, HasLiveChildren, HasNoStreams, IsGone, LooksOnce, shut_down, shutdown_entries, socket_given_up, without}
 use Rattle.wasi_world.specs.declared.call.Call.TheVariants as call
@@ -54,131 +80,9 @@ use Rattle.wasi_host.specs.Names.{next_name}
 use Rattle.wasi_causes.specs.SendCauses.{ReceivesSome, SendsSome, UdpReceiveRefusal, UdpSendRefusal}
 use Rattle.wasi_causes.specs.StreamCauses.{HasNewStreams, UdpStreamRefusal, StreamsStand}
 use Rattle.wasi_causes.specs.Datagrams.{IsUdpSend, IsUdpStream, HasUdpStreams, IsSpent, OfIncoming, OfOutgoing, LacksRoomForBoth, MadeBoth, PermitsSend, PendingHandleIsLive, LacksRoomForStreams, IsReceiving, WatchesDatagrams, WatchesIncoming, WatchesOutgoing, OutgoingWaits, IncomingGone, OutgoingGone}
-use Rattle.wasi_world.specs.declared.datagram.IncomingDatagram.{IncomingDatagram}
 use Rattle.wasi_causes.specs.Udp.{OfUdp, RefusedOfUdp, HasUdpInProgress, HasNoUdpBind, KeepsNoRemote, WatchesUdp, udp_create_entry, writable_entry, with_udp_record, new_udp, UdpCreateRefusal, CreatesUdp, CreateStands, KnowsUdpBound, UdpBindRefusal, BindsUdp, UdpBindStands, FinishesUdpBind, UdpLocalRefusal, TellsUdpLocal, TellsUdpRemote, UdpGetRefusal, GetsUdpOption, UdpSetRefusal, SetsUdpOption, udp_given_up, udp_shut, GivesBy, ClosesBy, IsPendingCreate}
 
--- == the fields of a reply that is done
-abbrev pub IsLike : FieldKind → Field → Type 0
-IsLike ANumber (field.Number n) = ⊤
-IsLike SomeBytes (field.Bytes bytes) = ⊤
-IsLike Truth field.True = ⊤
-IsLike Truth field.False = ⊤
-IsLike Nothing field.Absent = ⊤
-IsLike _ _ = ⊥
-
-abbrev pub EachLike : List FieldKind → List Field → Type 0
-EachLike [] [] = ⊤
-EachLike (kind ∷ kinds) (f ∷ fields) = IsLike kind f × EachLike kinds fields
-EachLike _ _ = ⊥
-
-abbrev pub LikeOneOf : List (List FieldKind) → List Field → Type 0
-LikeOneOf [] fields = ⊥
-LikeOneOf (kinds ∷ lists) fields = EachLike kinds fields ⊎ LikeOneOf lists fields
-
--- one of each of these kinds, or the numbers of an address, or those of one with no port, or none, or the fields of datagrams, or those
--- of one of these lists; nothing is said of widths
-abbrev pub AreLike : FieldKinds → List Field → Type 0
-AreLike (Each kinds) fields = EachLike kinds fields
-AreLike AnAddress fields = (a : IpSocketAddress) × (fields ≡ address_values a)
-AreLike AnIpOrNone fields = (found : Option IpAddress) × (fields ≡ found_values found)
-AreLike ADatagramList fields = (ds : List IncomingDatagram) × (fields ≡ datagram_values ds)
-AreLike (OneOf lists) fields = LikeOneOf lists fields
-
--- == the words of refusals
--- The word of a code that the network may tell, or a test of the host's own answers.
-pub record IsCodeWord (w : CodeWord) : Type 0 where
-  pub code : ErrorCode
-  pub is : w ≡ word_of_code code
-
--- by which word a step may be refused; beside codes the host has three words of its own, and lookups have theirs
-abbrev pub MayRefuse : Step → CodeWord → Type 0
-MayRefuse (step.TcpCreate ctx family) w = IsCodeWord w
-MayRefuse (step.TcpStartBind ctx socket network a) w = (w ≡ word.ConcurrencyConflict) ⊎ IsCodeWord w
-MayRefuse (step.TcpFinishBind ctx socket) w = w ≡ word.NotInProgress
-MayRefuse (step.TcpStartConnect ctx socket network a) w = (w ≡ word.ConcurrencyConflict) ⊎ IsCodeWord w
-MayRefuse (step.TcpFinishConnect ctx socket) w = (w ≡ word.NotInProgress) ⊎ ((w ≡ word.WouldBlock) ⊎ IsCodeWord w)
-MayRefuse (step.TcpStartListen ctx socket) w = (w ≡ word.ConcurrencyConflict) ⊎ IsCodeWord w
-MayRefuse (step.TcpFinishListen ctx socket) w = w ≡ word.NotInProgress
-MayRefuse (step.TcpAccept ctx socket) w = (w ≡ word.WouldBlock) ⊎ IsCodeWord w
-MayRefuse (step.TcpLocalAddress ctx socket) w = IsCodeWord w
-MayRefuse (step.TcpRemoteAddress ctx socket) w = IsCodeWord w
-MayRefuse (step.TcpGet ctx socket option) w = IsCodeWord w
-MayRefuse (step.TcpSet ctx socket setting) w = IsCodeWord w
-MayRefuse (step.TcpShutdown ctx socket how) w = w ≡ word.InvalidState
-MayRefuse (step.UdpCreate ctx family) w = IsCodeWord w
-MayRefuse (step.UdpStartBind ctx socket network a) w = (w ≡ word.ConcurrencyConflict) ⊎ IsCodeWord w
-MayRefuse (step.UdpFinishBind ctx socket) w = w ≡ word.NotInProgress
-MayRefuse (step.UdpLocalAddress ctx socket) w = IsCodeWord w
-MayRefuse (step.UdpRemoteAddress ctx socket) w = w ≡ word.InvalidState
-MayRefuse (step.UdpGet ctx socket option) w = IsCodeWord w
-MayRefuse (step.UdpSet ctx socket setting) w = IsCodeWord w
-MayRefuse (step.UdpStream ctx socket remote) w = IsCodeWord w
-MayRefuse (step.UdpReceive ctx incoming most) w = IsCodeWord w
-MayRefuse (step.UdpSend ctx outgoing datagrams) w = IsCodeWord w
-MayRefuse (step.Resolve ctx network name) w = (w ≡ word.PermanentResolverFailure) ⊎ ((w ≡ word.InvalidArgument) ⊎ (w ≡ word.NameUnresolvable))
-MayRefuse (step.ResolveNext ctx lookup) w = (w ≡ word.WouldBlock) ⊎ (w ≡ word.NameUnresolvable)
-MayRefuse (step.Poll n) w = IsCodeWord w
-MayRefuse _ w = ⊥
-
--- == the other replies
--- a call of a stream, which may end, or fail and hand an error out
-abbrev pub IsStreamCall : Step → Type 0
-IsStreamCall (step.Read ctx input len) = ⊤
-IsStreamCall (step.CheckWrite ctx output) = ⊤
-IsStreamCall (step.Write ctx output bytes) = ⊤
-IsStreamCall (step.Flush ctx output) = ⊤
-IsStreamCall _ = ⊥
-
--- a step that names no handle misses none
-abbrev pub MayMiss : Step → Type 0
-MayMiss (step.Network ctx) = ⊥
-MayMiss (step.TcpCreate ctx family) = ⊥
-MayMiss (step.UdpCreate ctx family) = ⊥
-MayMiss step.Turn = ⊥
-MayMiss _ = ⊤
-
-abbrev pub MayTrap : Step → TrapKind → Type 0
-MayTrap s NoSuchHandle = MayMiss s
-MayTrap s HasChildren = IsDrop s
-MayTrap s Full = MakesHandle s
-MayTrap s NotPermitted = IsWrite s ⊎ IsUdpSend s
-MayTrap s StreamsAlive = IsUdpStream s
-MayTrap s _ = ⊥
-
--- under which number it may be pending
-abbrev pub MayWait : ℕ → Step → ℕ → Type 0
-MayWait line (step.TcpStartBind ctx socket network a) n = n ≡ line
-MayWait line (step.TcpStartListen ctx socket) n = n ≡ line
-MayWait line (step.UdpCreate ctx family) n = n ≡ line
-MayWait line (step.UdpStartBind ctx socket network a) n = n ≡ line
-MayWait line (step.UdpStream ctx socket remote) n = n ≡ line
-MayWait line (step.Drop ctx handle) n = n ≡ line
-MayWait line (step.Poll call) n = n ≡ call
-MayWait line _ n = ⊥
-
--- what the step of this line may reply
-abbrev pub may_answer : ℕ → Step → Reply → Type 0
-may_answer line s (reply.Ok fields) = AreLike (kinds_of s) fields
-may_answer line s (reply.Err w) = MayRefuse s w
-may_answer line s reply.Closed = IsStreamCall s
-may_answer line s (reply.Failed w handle) = IsStreamCall s × IsCodeWord w
-may_answer line s (reply.Trap kind) = MayTrap s kind
-may_answer line s (reply.Pending n) = MayWait line s n
-may_answer line s reply.Busy = is_guest_call s ≡ true
-may_answer line s reply.NoSuchCall = IsPoll s
-may_answer line s _ = ⊥
-
--- these are replies of the first of these steps, one each, from this line on
-abbrev pub EachMayAnswer : ℕ → List Step → List Reply → Type 0
-EachMayAnswer line steps [] = ⊤
-EachMayAnswer line (s ∷ steps) (r ∷ replies) = may_answer line s r × EachMayAnswer (line + 1) steps replies
-EachMayAnswer line [] (r ∷ replies) = ⊥
-
 -- == what holds whatever the reply is
--- nothing was asked, and the machine is as it was
-abbrev pub Quiet : Machine → List Entry → Machine → Type 0
-Quiet m es after = (es ≡ []) × (after ≡ m)
-
 -- a start is refused so exactly where an operation is in progress
 abbrev pub Conflicts : Machine → ℕ → Reply → Type 0
 Conflicts m handle r = (r ≡ reply.Err word.ConcurrencyConflict) ↔ HasOperationInProgress (record_at m handle)
@@ -202,13 +106,24 @@ AsksOnce line (Some (kind.Udp2 place)) es = ⊤
 AsksOnce line (Some (kind.Output place)) es = LooksOnce (own_of line) es
 AsksOnce line _ es = es ≡ []
 
--- What a turn leaves: the handles and the pending call as they were, and each lookup as it was or as it was told; and who asks in it.
+-- What a turn leaves: the handles and the pending call as they were, each lookup as it was or as it was told, each pipe as it was, and
+-- the streams of each connection that has them; and who asks in it.
 pub record Turns (m : Machine) (es : List Entry) (r : Reply) (after : Machine) : Type 0 where
   pub ok : r ≡ reply.Ok no_fields
   pub asked : (e : Entry) → Has es e → IsOfJob m e.op
   pub handles : after.table ≡ m.table
   pub pending : after.store.standing ≡ m.store.standing
   pub lookups : (place : ℕ) (l : Lookup) → lookup_at after.store.records place ≡ Some l → LookedOn m place es l
+  pub streams : (place : ℕ) → IsSome (streams_in (tcp2_at m.store.records place)) → IsSome (streams_in (tcp2_at after.store.records place))
+  pub pipes : (place : ℕ) → (input_pipe_at after.store.records place ≡ input_pipe_at m.store.records place) × (output_pipe_at after.store.records place ≡ output_pipe_at m.store.records place)
+
+-- a poll of a call of a stream that blocks continues it
+abbrev pub StreamGoesOn : List WasiSocketsCtx → Machine → ℕ → List Entry → Reply → Machine → Type 0
+StreamGoesOn contexts m n es r after = (c : ℕ) (ids : Ids) (call : BlockingCall) → m.store.standing ≡ Some (standing_as ids (standing.Blocking call)) → ids.line ≡ n → IsShort call → BlocksAs contexts (nothing_stands m) c ids call es r after
+
+-- a cancel finds no call exactly where none is pending under its number, and is done exactly where one is
+abbrev pub Cancels : Machine → ℕ → Reply → Type 0
+Cancels m n r = ((r ≡ reply.NoSuchCall) ↔ (stands_as m.store.standing n ≡ false)) × ((r ≡ reply.Ok no_fields) ↔ (stands_as m.store.standing n ≡ true))
 
 -- one reply comes of this and of nothing else; or some of these things stay
 abbrev pub Always : List WasiSocketsCtx → Machine → ℕ → Step → List Entry → Reply → Machine → Type 0
@@ -222,8 +137,22 @@ Always contexts m line (step.TcpFinishListen c s) es r after = (es ≡ []) × ((
 Always contexts m line (step.TcpIsListening c s) es r after = Quiet m es after
 Always contexts m line (step.TcpAddressFamily c s) es r after = Quiet m es after
 Always contexts m line (step.TcpGet c s option) es r after = after ≡ m
-Always contexts m line (step.Write c output bytes) es r after = (r ≡ reply.Trap NotPermitted) ↔ IsSomeAnd (output_streams m output) (λ s. IsUnpermitted s.writer (length bytes))
-Always contexts m line (step.Ready c p) es r after = (WatchesIdle m p → ReadyAtOnce m es r after) × (WatchesUdp m p → ReadyAtOnce m es r after) × ((place : ℕ) → WatchesOutgoing m p place → (r ≡ reply.Ok (truth_fields (outgoing_ready (open_at m.store.records place)))) × Quiet m es after) × ((place : ℕ) → WatchesIncoming m p place → r ≡ reply.Ok (truth_fields false) → IsReceiving (open_at after.store.records place)) × ((place : ℕ) → WatchesLookup m p place → (r ≡ reply.Ok (truth_fields (lookup_ready (lookup_at m.store.records place)))) × Quiet m es after)
+Always contexts m line (step.PipeContents c output) es r after = Quiet m es after
+Always contexts m line (step.Read c input len) es r after = PlainRead m input es r
+Always contexts m line (step.Skip c input len) es r after = m.store.standing ≡ None → Skips contexts m line c input len es r after
+Always contexts m line (step.CheckWrite c output) es r after = PlainCheck m output es r after
+Always contexts m line (step.Write c output bytes) es r after = ((r ≡ reply.Trap NotPermitted) ↔ IsSomeAnd (output_streams m output) (λ s. IsUnpermitted s.writer (length bytes))) × PastCapacity m output (length bytes) r × PlainWrite m output es r
+Always contexts m line (step.WriteZeroes c output len) es r after = m.store.standing ≡ None → Answered contexts m line (step.Write c output (zeros len)) es r after
+Always contexts m line (step.Flush c output) es r after = PlainFlush m output es r after
+Always contexts m line (step.Splice c to from len) es r after = m.store.standing ≡ None → Splices contexts m line c to from len es r after
+Always contexts m line (step.BlockingRead c input len) es r after = m.store.standing ≡ None → BlocksAs contexts m c (first_ids line) (blocking.Read input len) es r after
+Always contexts m line (step.BlockingSkip c input len) es r after = m.store.standing ≡ None → BlocksAs contexts m c (first_ids line) (blocking.Skip input len) es r after
+Always contexts m line (step.BlockingWrite c output bytes) es r after = m.store.standing ≡ None → BeginsToWrite contexts m c (first_ids line) output (length bytes) bytes es r after
+Always contexts m line (step.BlockingZeroes c output len) es r after = m.store.standing ≡ None → BeginsToWrite contexts m c (first_ids line) output len (zeros len) es r after
+Always contexts m line (step.BlockingFlush c output) es r after = m.store.standing ≡ None → BlocksAs contexts m c (first_ids line) (blocking.Flush output) es r after
+Always contexts m line (step.BlockingSplice c to from len) es r after = m.store.standing ≡ None → BlocksAs contexts m c (first_ids line) (blocking.Splice to from len) es r after
+Always contexts m line (step.Cancel n) es r after = Cancels m n r
+Always contexts m line (step.Ready c p) es r after = (WatchesIdle m p → ReadyAtOnce m es r after) × (WatchesUdp m p → ReadyAtOnce m es r after) × (WatchesPlain m p → ReadyAtOnce m es r after) × ((place : ℕ) → WatchesOutgoing m p place → (r ≡ reply.Ok (truth_fields (outgoing_ready (open_at m.store.records place)))) × Quiet m es after) × ((place : ℕ) → WatchesIncoming m p place → r ≡ reply.Ok (truth_fields false) → IsReceiving (open_at after.store.records place)) × ((place : ℕ) → WatchesLookup m p place → (r ≡ reply.Ok (truth_fields (lookup_ready (lookup_at m.store.records place)))) × Quiet m es after)
 Always contexts m line (step.Drop c h) es r after = ((r ≡ reply.Trap HasChildren) ↔ HasLiveChildren m h) × AsksOnce line (kind_at m.table h) es
 Always contexts m line (step.TcpShutdown c s how) es r after = (r ≡ reply.Err word.InvalidState) ↔ HasNoStreams (record_at m s)
 Always contexts m line (step.UdpCreate c family) es r after = OnlyWhere (context_at contexts c).udp m es after
@@ -240,7 +169,7 @@ Always contexts m line (step.Resolve c n name) es r after = OnlyWhere (context_a
 Always contexts m line (step.ResolveNext c h) es r after = TellsNext (found_lookup m h) es r
 Always contexts m line (step.NetworkErrorCode c e) es r after = Quiet m es after
 Always contexts m line step.Turn es r after = Turns m es r after
-Always contexts m line (step.Poll n) es r after = ((r ≡ reply.NoSuchCall) ↔ (stands_as m.store.standing n ≡ false)) × (stands_as m.store.standing n ≡ true → (r ≡ reply.Pending n) ⊎ (after.store.standing ≡ None))
+Always contexts m line (step.Poll n) es r after = ((r ≡ reply.NoSuchCall) ↔ (stands_as m.store.standing n ≡ false)) × (stands_as m.store.standing n ≡ true → (r ≡ reply.Pending n) ⊎ (after.store.standing ≡ None)) × StreamGoesOn contexts m n es r after
 Always contexts m line _ es r after = ⊤
 
 -- == done
@@ -249,15 +178,15 @@ pub record Accepts (m : Machine) (line handle : ℕ) (es : List Entry) (fields :
   pub numbers : fields ≡ triple_fields m.table.next (m.table.next + 1) (m.table.next + 2)
   pub takes : AcceptsAt m handle → OfRecord m handle (λ place r. AcceptTakes m (own_of line) line handle place r es after)
 
--- bytes were read, or none, and the machine is as it was
+-- bytes were read, or none; the machine is as it was, but that a pipe has given what was read of it
 abbrev pub Reads : Machine → ℕ → ℕ → ℕ → List Entry → List Field → Machine → Type 0
-Reads m line input len es (field.Bytes [] ∷ []) after = OfStreams m (input_at m input) (λ place r s. ReadsNone (own_of line) len s.reader es) × (after ≡ m)
-Reads m line input len es (field.Bytes (b ∷ bytes) ∷ []) after = OfStreams m (input_at m input) (λ place r s. ReadsTold (own_of line) len s.reader (b ∷ bytes) es) × (after ≡ m)
+Reads m line input len es (field.Bytes [] ∷ []) after = (OfStreams m (input_at m input) (λ place r s. ReadsNone (own_of line) len s.reader es) × (after ≡ m)) ⊎ TakesNothing m input len es after
+Reads m line input len es (field.Bytes (b ∷ bytes) ∷ []) after = (OfStreams m (input_at m input) (λ place r s. ReadsTold (own_of line) len s.reader (b ∷ bytes) es) × (after ≡ m)) ⊎ TakesFront m input len (b ∷ bytes) es after
 Reads m line input len es _ after = ⊥
 
 -- so many bytes may be written
 abbrev pub Permitted : Machine → ℕ → ℕ → List Entry → List Field → Type 0
-Permitted m line output es (field.Number n ∷ []) = OfStreams m (output_at m output) (λ place r s. Permits (own_of line) s.writer n es)
+Permitted m line output es (field.Number n ∷ []) = OfStreams m (output_at m output) (λ place r s. Permits (own_of line) s.writer n es) ⊎ IsSomeAnd (plain_output_at m output) (λ o. PermitsPlain m o n)
 Permitted m line output es _ = ⊥
 
 -- A pollable is made, with the next number, and was marked.
@@ -280,6 +209,8 @@ Gone m line handle (Some (kind.Output place)) es after = ⊤
 Gone m line handle (Some (kind.Incoming place)) es after = (o : OpenUdp) → open_at m.store.records place ≡ Some o → IncomingGone m handle place o es after
 Gone m line handle (Some (kind.Outgoing place)) es after = (o : OpenUdp) → open_at m.store.records place ≡ Some o → OutgoingGone m handle place o es after
 Gone m line handle (Some (kind.Lookup place)) es after = (l : Lookup) → lookup_at m.store.records place ≡ Some l → LookupGone m handle place es after
+Gone m line handle (Some (kind.PlainInput (input.Pipe place))) es after = InputPipeGone m handle place (without m handle) after
+Gone m line handle (Some (kind.PlainOutput (output.Pipe place))) es after = OutputPipeGone m handle place (without m handle) after
 Gone m line handle _ es after = after ≡ without m handle
 
 abbrev pub Done : List WasiSocketsCtx → Machine → ℕ → Step → List Entry → List Field → Machine → Type 0
@@ -288,7 +219,15 @@ Done contexts m line (step.TcpGet c s option) es fields after = OfRecord m s (λ
 Done contexts m line (step.TcpSet c s setting) es fields after = (fields ≡ no_fields) × OfRecord m s (λ place r. SetsChosen m (own_of line) (chosen setting) place r es after)
 Done contexts m line (step.Read c input len) es fields after = Reads m line input len es fields after
 Done contexts m line (step.CheckWrite c output) es fields after = Permitted m line output es fields
+Done contexts m line (step.Write c output bytes) es fields after = IfSome (plain_output_at m output) (λ o. WritesPlain m o bytes after)
 Done contexts m line (step.Flush c output) es fields after = Quiet m es after
+Done contexts m line (step.PipeIn c bytes) es fields after = MakesPlain m line (kind.PlainInput (input.Pipe (length m.store.records))) (with_record_more m.store (InputPipe bytes)) es fields after
+Done contexts m line (step.PipeOut c capacity) es fields after = MakesPlain m line (kind.PlainOutput (output.Pipe (length m.store.records))) (with_record_more m.store (OutputPipe (no_contents capacity))) es fields after
+Done contexts m line (step.Sink c) es fields after = MakesPlain m line (kind.PlainOutput output.Sink) m.store es fields after
+Done contexts m line (step.ClosedIn c) es fields after = MakesPlain m line (kind.PlainInput input.Closed) m.store es fields after
+Done contexts m line (step.ClosedOut c) es fields after = MakesPlain m line (kind.PlainOutput output.Closed) m.store es fields after
+Done contexts m line (step.PipeContents c output) es fields after = OfOutputPipe m output (λ place pipe. fields ≡ bytes_fields pipe.held)
+Done contexts m line (step.Cancel n) es fields after = IsSomeAnd m.store.standing (λ s. CancelsBy m es after s.call) × (after.store.standing ≡ None) × (after.table ≡ m.table)
 Done contexts m line (step.Subscribe c h) es fields after = Subscribes m line h es fields after
 Done contexts m line (step.Ready c p) es fields after = Looks m line p es fields
 Done contexts m line (step.Drop c h) es fields after = (after.table ≡ without_handle m.table h) × Gone m line h (kind_at m.table h) es after
@@ -347,10 +286,11 @@ Refused contexts m line s es w after = ⊤
 
 -- == the ends of a stream's call
 abbrev pub Ends : Machine → ℕ → Step → List Entry → Machine → Type 0
-Ends m line (step.Read c input len) es after = OfStreams m (input_at m input) (λ place r s. ReadsEnd (own_of line) len s.reader es × (after ≡ closing_reader m place r s))
-Ends m line (step.CheckWrite c output) es after = OfStreams m (output_at m output) (λ place r s. CheckFails error.Closed s.writer es × (after ≡ closing_writer m place r s error.Closed))
-Ends m line (step.Write c output bytes) es after = OfStreams m (output_at m output) (λ place r s. WriteFails (own_of line) error.Closed s.writer es × (after ≡ closing_writer m place r s error.Closed))
-Ends m line (step.Flush c output) es after = OfStreams m (output_at m output) (λ place r s. IsGivenUp s.writer) × Quiet m es after
+Ends m line (step.Read c input len) es after = OfStreams m (input_at m input) (λ place r s. ReadsEnd (own_of line) len s.reader es × (after ≡ closing_reader m place r s)) ⊎ EndsPlain m input es after
+Ends m line (step.CheckWrite c output) es after = OfStreams m (output_at m output) (λ place r s. CheckFails error.Closed s.writer es × (after ≡ closing_writer m place r s error.Closed)) ⊎ EndsCheck m output es after
+Ends m line (step.Write c output bytes) es after = OfStreams m (output_at m output) (λ place r s. WriteFails (own_of line) error.Closed s.writer es × (after ≡ closing_writer m place r s error.Closed)) ⊎ EndsOutput m output es after
+Ends m line (step.Flush c output) es after = (OfStreams m (output_at m output) (λ place r s. IsGivenUp s.writer) × Quiet m es after) ⊎ EndsOutput m output es after
+Ends m line (step.Poll n) es after = StreamCallStands m
 Ends m line s es after = ⊤
 
 abbrev pub Fails : Machine → ℕ → Step → List Entry → CodeWord → ℕ → Machine → Type 0
@@ -360,6 +300,7 @@ Fails m line (step.CheckWrite c output) es w handle after =
 Fails m line (step.Write c output bytes) es w handle after =
     OfStreams m (output_at m output) (λ place r s. FailsWith m (own_of line) output (λ c before. WriteFails (own_of line) (error.LastOperationFailed c) s.writer before × (after ≡ with_error (closing_writer m place r s (error.LastOperationFailed c)))) es w handle)
 Fails m line (step.Flush c output) es w handle after = OfStreams m (output_at m output) (λ place r s. FailsWith m (own_of line) output (WasClosedWith s.writer) es w handle) × (after ≡ with_error m)
+Fails m line (step.Poll n) es w handle after = StreamCallStands m
 Fails m line s es w handle after = ⊤
 
 -- == pending
@@ -370,7 +311,7 @@ Pends contexts m line (step.Drop c h) es after = (after.table ≡ without_handle
 Pends contexts m line (step.UdpCreate c family) es after = CreateStands m line (own_of line) (context_at contexts c) family es after
 Pends contexts m line (step.UdpStartBind c s n a) es after = OfUdp m s (λ place o. UdpBindStands m line (own_of line) place o a es after)
 Pends contexts m line (step.UdpStream c s remote) es after = (after.table ≡ m.table) × OfUdp m s (λ place o. StreamsStand m line s place o remote es after)
-Pends contexts m line (step.Poll n) es after = (PendingCallsFit m → StandingWaits m (own_of n) es) × (after.table ≡ m.table) × (after.store.standing ≡ m.store.standing)
+Pends contexts m line (step.Poll n) es after = (PendingCallsFit m → StandingWaits m (own_of n) es) × (after.table ≡ m.table) × ((StreamCallStands m → ⊥) → after.store.standing ≡ m.store.standing)
 Pends contexts m line s es after = ⊤
 
 -- == traps
@@ -387,13 +328,29 @@ LeftFull contexts m line (step.UdpCreate c family) es after =
     (is_full m.table ≡ true) × (es ≡ udp_create_entry (own_of line) its family told.Done ∷ writable_entry (own_of line) told.Done ∷ []) × (after ≡ with_udp_record m (new_udp (own_of line) its family))
 LeftFull contexts m line (step.UdpStream c s remote) es after = IsSomeAnd (udp_socket_at m s) (λ place. LacksRoomForBoth m.table place s)
 LeftFull contexts m line (step.Resolve c n name) es after = LeavesLookup m (own_of line) name es after
-LeftFull contexts m line (step.Poll n) es after = ((is_full m.table ≡ true) × IsSomeAnd m.store.standing (λ s. IsPendingCreate s.call)) ⊎ IsSomeAnd m.store.standing (λ s. LacksRoomForStreams m s.call)
+LeftFull contexts m line (step.PipeIn c bytes) es after = Quiet m es after
+LeftFull contexts m line (step.PipeOut c capacity) es after = Quiet m es after
+LeftFull contexts m line (step.Sink c) es after = Quiet m es after
+LeftFull contexts m line (step.ClosedIn c) es after = Quiet m es after
+LeftFull contexts m line (step.ClosedOut c) es after = Quiet m es after
+LeftFull contexts m line (step.Poll n) es after = ((is_full m.table ≡ true) × IsSomeAnd m.store.standing (λ s. IsPendingCreate s.call)) ⊎ (IsSomeAnd m.store.standing (λ s. LacksRoomForStreams m s.call) ⊎ StreamCallStands m)
 LeftFull contexts m line s es after = ⊤
 
 -- where a handle is missed nothing was asked, and the machine is as it was; a poll leaves nothing pending: that is said where the
--- handle of pending datagram streams is live
+-- handle of pending datagram streams is live; and of a splice it is said where its input, if it is one, is there, since the look at
+-- its output comes before
+abbrev pub InputIsThere : Machine → ℕ → Type 0
+InputIsThere m from = is_readable (kind_at m.table from) ≡ true → MissesInput m from → ⊥
+
+abbrev pub InputOfSpliceIsThere : Machine → Step → Type 0
+InputOfSpliceIsThere m (step.Splice c to from len) = InputIsThere m from
+InputOfSpliceIsThere m (step.BlockingSplice c to from len) = InputIsThere m from
+InputOfSpliceIsThere m s = ⊤
+
 abbrev pub LeavesMissing : Machine → Step → List Entry → Machine → Type 0
 LeavesMissing m (step.Poll n) es after = PendingHandleIsLive m → (es ≡ []) × (after ≡ left_missing m (step.Poll n))
+LeavesMissing m (step.Splice c to from len) es after = InputIsThere m from → Quiet m es after
+LeavesMissing m (step.BlockingSplice c to from len) es after = InputIsThere m from → Quiet m es after
 LeavesMissing m s es after = (es ≡ []) × (after ≡ left_missing m s)
 
 abbrev pub Traps : List WasiSocketsCtx → Machine → ℕ → Step → List Entry → TrapKind → Machine → Type 0
@@ -402,6 +359,8 @@ Traps contexts m line s es HasChildren after = IsDrop s × Quiet m es after
 Traps contexts m line s es Full after = MakesHandle s × FullAfter m es after × LeftFull contexts m line s es after
 Traps contexts m line s es NotPermitted after = (IsWrite s ⊎ IsUdpSend s) × Quiet m es after
 Traps contexts m line s es StreamsAlive after = IsUdpStream s × Quiet m es after
+Traps contexts m line s es Capacity after = IsWrite s × Quiet m es after
+Traps contexts m line s es TooLong after = IsBlockingWrite s × Quiet m es after
 Traps contexts m line s es _ after = ⊥
 
 -- == the table: what the step of this line was answered, what it replies, and the machine afterwards
@@ -412,7 +371,7 @@ Replies contexts m line s es reply.Closed after = IsStreamCall s × Ends m line 
 Replies contexts m line s es (reply.Failed w handle) after = (IsStreamCall s × IsCodeWord w) × Fails m line s es w handle after
 Replies contexts m line s es (reply.Trap kind) after = Traps contexts m line s es kind after
 Replies contexts m line s es (reply.Pending n) after = (MayStand m line s n × IsSomeAnd after.store.standing (λ call. call.ids.line ≡ n)) × Pends contexts m line s es after
-Replies contexts m line s es reply.NoSuchCall after = IsPoll s × Quiet m es after
+Replies contexts m line s es reply.NoSuchCall after = (IsPoll s ⊎ IsCancel s) × Quiet m es after
 Replies contexts m line s es _ after = ⊥
 
 abbrev pub Outcome : List WasiSocketsCtx → Machine → ℕ → Step → List Entry → Reply → Machine → Type 0

@@ -1,18 +1,24 @@
 -- What holds of every machine that the lines of a script lead to.
-use Rattle.std.specs.Prelude.{◌≡◌, ⊤, ℕ, true, false, IfSome, IsSome}
+use Rattle.std.specs.Prelude.{◌≡◌, ⊤, ℕ, true, false, IfSome, IsSome, IsSomeAnd}
 use Rattle.wasi_world.specs.declared.ids.OpId.{OpId}
 use Rattle.wasi_tcp.specs.declared.socket.TcpState.{TcpState}
 use Rattle.wasi_tcp.specs.declared.socket.TcpState.TheVariants as state
-use Rattle.wasi_host.specs.Records.{tcp2_at, udp2_at, lookup_at}
+use Rattle.wasi_host.specs.Records.{tcp2_at, udp2_at, lookup_at, input_pipe_at, output_pipe_at}
+use Rattle.wasi_host.specs.declared.kind.PlainInput.TheVariants as plain_input
+use Rattle.wasi_host.specs.declared.kind.PlainOutput.TheVariants as plain_output
 use Rattle.wasi_host.specs.declared.kind.Kind.{Kind}
-use Rattle.wasi_host.specs.declared.kind.Kind.TheVariants.{Network, Tcp2, Udp2, Input, Output, Incoming, Outgoing, Pollable, Lookup, ErrorValue}
+use Rattle.wasi_host.specs.declared.kind.Kind.TheVariants.{Network, Tcp2, Udp2, Input, Output, PlainInput, PlainOutput, Incoming, Outgoing, Pollable, Lookup, ErrorValue}
 use Rattle.wasi_host.specs.declared.kind.Watched.TheVariants as watched
 use Rattle.wasi_host.specs.declared.listening.Listening.TheVariants as listening
 use Rattle.wasi_host.specs.declared.machine.Machine.{Machine}
 use Rattle.wasi_host.specs.declared.socket.Tcp2Socket.{Tcp2Socket}
 use Rattle.wasi_host.specs.Kinds.{place_in}
 use Rattle.wasi_host.specs.InProgress.{is_connect}
+use Rattle.wasi_host.specs.declared.blocking.BlockingCall.TheVariants as blocking
+use Rattle.wasi_host.specs.declared.store.StandingCall.{StandingCall}
+use Rattle.wasi_host.specs.declared.store.StandingCall.TheVariants as standing
 use Rattle.wasi_walks.specs.Answered.{record_at}
+use Rattle.wasi_walks.specs.Missing.{MissesInput}
 
 -- == records
 abbrev pub HasRecord : Machine → ℕ → Type 0
@@ -26,19 +32,32 @@ HasUdpRecord m place = IsSome (udp2_at m.store.records place)
 abbrev pub HasLookupRecord : Machine → ℕ → Type 0
 HasLookupRecord m place = IsSome (lookup_at m.store.records place)
 
--- a handle of a socket, a stream, a pollable or a lookup is of a record that is there
+-- and of a pipe
+abbrev pub HasInputPipe : Machine → ℕ → Type 0
+HasInputPipe m place = IsSome (input_pipe_at m.store.records place)
+
+abbrev pub HasOutputPipe : Machine → ℕ → Type 0
+HasOutputPipe m place = IsSome (output_pipe_at m.store.records place)
+
+-- a handle of a socket, a stream, a pipe, a pollable or a lookup is of a record that is there
 abbrev pub OfItsRecord : Machine → Kind → Type 0
 OfItsRecord m Network = ⊤
 OfItsRecord m (Tcp2 place) = HasRecord m place
 OfItsRecord m (Udp2 place) = HasUdpRecord m place
 OfItsRecord m (Input place) = HasRecord m place
 OfItsRecord m (Output place) = HasRecord m place
+OfItsRecord m (PlainInput (plain_input.Pipe place)) = HasInputPipe m place
+OfItsRecord m (PlainInput plain_input.Closed) = ⊤
+OfItsRecord m (PlainOutput (plain_output.Pipe place)) = HasOutputPipe m place
+OfItsRecord m (PlainOutput plain_output.Sink) = ⊤
+OfItsRecord m (PlainOutput plain_output.Closed) = ⊤
 OfItsRecord m (Incoming place) = HasUdpRecord m place
 OfItsRecord m (Outgoing place) = HasUdpRecord m place
 OfItsRecord m (Pollable (watched.Udp place)) = HasUdpRecord m place
 OfItsRecord m (Pollable (watched.Incoming place)) = HasUdpRecord m place
 OfItsRecord m (Pollable (watched.Outgoing place)) = HasUdpRecord m place
 OfItsRecord m (Pollable (watched.Lookup place)) = HasLookupRecord m place
+OfItsRecord m (Pollable watched.Plain) = ⊤
 OfItsRecord m (Pollable w) = HasRecord m (place_in w)
 OfItsRecord m (Lookup place) = HasLookupRecord m place
 OfItsRecord m ErrorValue = ⊤
@@ -65,3 +84,12 @@ ListensLate r = (side : OpId) → r.inner.state ≡ state.Default side → r.lis
 
 abbrev pub ListensLateAt : Machine → ℕ → Type 0
 ListensLateAt m handle = IfSome (record_at m handle) ListensLate
+
+-- == a splice that is pending
+-- its input isn't there: neither a pipe nor streams of a connection
+abbrev pub LacksInput : Machine → StandingCall → Type 0
+LacksInput m (standing.Blocking (blocking.Splice to from len)) = MissesInput m from
+LacksInput m _ = ⊥
+
+abbrev pub SpliceLacksInput : Machine → Type 0
+SpliceLacksInput m = IsSomeAnd m.store.standing (λ s. LacksInput m s.call)

@@ -1,4 +1,5 @@
 -- How the steps of UDP sockets are answered: where each answer comes from, and what is left afterwards.
+use Rattle.wasi_causes.specs.Blocking.{GivesOf}
 use Rattle.std.specs.Prelude.{◌≡◌, ℕ, ◌<◌, ◌≤◌, true, false, length, List, [], ◌∷◌, ◌++◌, Option, Some, None, IsSome, IsSomeAnd}
 use Rattle.wasi_addr.specs.declared.address.IpSocketAddress.{IpSocketAddress}
 use Rattle.wasi_addr.specs.declared.address.SocketAddressFamily.{SocketAddressFamily}
@@ -251,10 +252,11 @@ udp_shut u = u
 
 -- == a poll of the pending call
 -- a create that is done gives the next handle, which is of its record, and the socket is there; datagram streams give the next two,
--- under the handle that they were asked of; the others give nothing, and make none
+-- under the handle that they were asked of; a call of a stream gives what it is for; the others give nothing; and none of these makes one
 abbrev pub GivesBy : Machine → List Field → Machine → StandingCall → Type 0
 GivesBy m fields after (standing.UdpCreate place) = (fields ≡ number_fields m.table.next) × (after.table ≡ with_handle m.table (kind.Udp2 place) None) × IsSome (open_at after.store.records place)
 GivesBy m fields after (standing.UdpConnect place handle) = MadeBoth m handle fields after
+GivesBy m fields after (standing.Blocking call) = GivesOf call fields × (after.table ≡ m.table)
 GivesBy m fields after _ = (fields ≡ no_fields) × (after.table ≡ m.table)
 
 -- of a create that is refused only the name of its network socket is left

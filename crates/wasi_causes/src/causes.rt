@@ -1,6 +1,7 @@
 //! Laws over the definitions of specs/ that say where each answer of a step comes from, and what is left after a refusal:
 //! each is a function that does nothing, whose contract is the law. A socket is a TCP socket here, where nothing else is said;
-//! the steps of UDP sockets are in `udp`, those of their datagram streams in `datagrams`, and those of lookups in `lookups`.
+//! the calls of streams are in `stream_calls` and `blocking`, the steps of UDP sockets in `udp`, those of their datagram streams in
+//! `datagrams`, and those of lookups in `lookups`.
 
 ghost use Rattle.std.specs.Prelude.{◌≡◌, ◌↔◌, ◌⊎◌, ℕ, ◌+◌, true, false, List, [], ◌∷◌, length, IsSome, IsSomeAnd, Some, None, slice_get};
 ghost use Rattle.wasi_addr.specs.declared.address.IpSocketAddress.{IpSocketAddress};
@@ -12,27 +13,33 @@ ghost use Rattle.wasi_world.specs.declared.call.Told.{Told};
 ghost use Rattle.wasi_world.specs.declared.outcome.TrapKind.{TrapKind};
 ghost use Rattle.wasi_world.specs.declared.outcome.WasiSocketsCtx.{WasiSocketsCtx};
 ghost use Rattle.wasi_world.specs.Asks.{Give, Left};
-ghost use Rattle.wasi_tcp.specs.declared.writer.WriteError.{WriteError};
+ghost use Rattle.wasi_memory.specs.Plain.{Contents, no_contents};
 ghost use Rattle.wasi_tcp.specs.Socket.{new_socket};
 ghost use Rattle.wasi_host.specs.declared.kind.Kind.{Kind};
+ghost use Rattle.wasi_host.specs.declared.kind.PlainInput.{PlainInput};
+ghost use Rattle.wasi_host.specs.declared.kind.PlainOutput.{PlainOutput};
 ghost use Rattle.wasi_host.specs.declared.machine.Machine.{Machine};
 ghost use Rattle.wasi_host.specs.declared.socket.Tcp2Socket.{Tcp2Socket};
 ghost use Rattle.wasi_steps.specs.declared.reply.CodeWord.{CodeWord};
 ghost use Rattle.wasi_steps.specs.declared.reply.Field.{Field};
 ghost use Rattle.wasi_steps.specs.declared.reply.Reply.{Reply};
 ghost use Rattle.wasi_steps.specs.declared.step.Step.{Step};
-ghost use Rattle.wasi_walks.specs.Answered.{Answered, CheckFails, closing_reader, closing_writer, ConnectsAt, CreateRefusal, EndsPending, FailsWith, FinishRefusal, HasNoBindInProgress, HasNoConnectInProgress, HasOperationInProgress, IsGivenUp, IsQuiet, IsUnpermitted, IsWrite, KnowsBound, LocalRefusal, MakesHandle, MissesHandle, OfRecord, OfStreams, output_streams, Permits, putting, ReadFails, ReadsEnd, ReadsNone, ReadsTold, record_at, RefusedBind, RefusedConnect, RefusedOf, RemoteRefusal, StandsOnNothing, WasClosedWith, with_error, WriteFails};
-ghost use Rattle.wasi_causes.specs.Outcomes.{may_answer, EachMayAnswer, Outcome};
+ghost use Rattle.wasi_walks.specs.Answered.{Answered, ConnectsAt, CreateRefusal, EndsPending, FinishRefusal, HasNoBindInProgress, HasNoConnectInProgress, HasOperationInProgress, IsQuiet, KnowsBound, LocalRefusal, OfRecord, OfStreams, putting, record_at, RefusedBind, RefusedConnect, RefusedOf, RemoteRefusal, streams_in};
+ghost use Rattle.wasi_walks.specs.Missing.{IsWrite, MakesHandle, MissesHandle, StandsOnNothing};
+ghost use Rattle.wasi_causes.specs.Blocking.{StreamCallStands};
+ghost use Rattle.wasi_causes.specs.Cancelled.{IsCancel};
+ghost use Rattle.wasi_causes.specs.Outcomes.{may_answer, EachMayAnswer, InputOfSpliceIsThere, IsBlockingWrite, Outcome};
+ghost use Rattle.wasi_causes.specs.Plain.{containing, leaving, WatchesPlain};
 ghost use Rattle.wasi_causes.specs.Udp.{IsPendingCreate};
 ghost use Rattle.wasi_causes.specs.Datagrams.{IsUdpSend, IsUdpStream, LacksRoomForStreams, OutgoingWaits, PendingHandleIsLive, WatchesDatagrams};
-ghost use Rattle.wasi_causes.specs.Reached.{FinishesAt, ListensLate, MayFinish, OfItsRecord};
+ghost use Rattle.wasi_causes.specs.Reached.{FinishesAt, ListensLate, MayFinish, OfItsRecord, SpliceLacksInput};
 ghost use Rattle.wasi_causes.specs.GivenUp.{GoesAtOnce, HasLiveChildren, HasNoStreams, IsDrop, IsDropped, IsGone, LooksOnce, shut_down, shutdown_entries, socket_given_up, without};
 ghost use Rattle.wasi_walks.specs.Licence.{entry, Has, marks_in};
 ghost use Rattle.wasi_machine.specs.Machine.{context_at, run};
 ghost use Rattle.wasi_steps.specs.Steps.{context_of};
 ghost use Rattle.wasi_host.specs.Machine.{first_state, input_at, outgoing_at, output_at, own_of, socket_at};
 ghost use Rattle.wasi_host.specs.declared.name_lookup.Lookup.{Lookup};
-ghost use Rattle.wasi_host.specs.Records.{lookup_at, tcp2_at};
+ghost use Rattle.wasi_host.specs.Records.{input_pipe_at, lookup_at, output_pipe_at, tcp2_at};
 ghost use Rattle.wasi_host.specs.Shutdowns.{with_streams};
 ghost use Rattle.wasi_host.specs.Kinds.{is_network, kind_at, watched_by, with_handle, without_handle};
 ghost use Rattle.wasi_host.specs.Standing.{stands_as};
@@ -46,7 +53,7 @@ ghost use Rattle.wasi_streams.specs.Table.{children_of, is_full};
 
 /// Each reply that a step may get is one that the table of replies names for it, and so is each of a run: fields of the step's kinds, a
 /// word that the step may be refused with, an end or a failure for a call of a stream, a trap that the step may end by, pending under its
-/// own number, busy for a guest call, `no-such-call` for a poll. No step replies anything else.
+/// own number, busy for a guest call, `no-such-call` for a poll and a cancel. No step replies anything else.
 pub fn replies_are_of_the_step()
     ensures next { (contexts : List WasiSocketsCtx) (m : Machine) (line : ℕ) (s : Step) (entries : List Entry) (reply : Reply) (after : Machine)
         → Answered contexts m line s entries reply after → may_answer line s reply }
@@ -85,18 +92,20 @@ pub fn finish_bind_refusals()
 {}
 
 /// A step traps because a handle of it isn't live or is of another kind, and asks nothing then and leaves the machine as it
-/// was, but that a poll leaves nothing pending, which is said where the handle of pending datagram streams is live, as it is after
-/// any lines; or because a handle is dropped under which others are live, and asks nothing
+/// was, but that a poll leaves nothing pending, which is said where the handle of pending datagram streams is live and the streams of a
+/// pending call are there, as they are after any lines, but for the input of a splice; and of a splice where its input, if it is one,
+/// is there; or because a handle is dropped under which others are live, and asks nothing
 /// then and leaves the machine; or because the table is full, where it is to make a handle: that was the last of the step, and
 /// the marks are those of the handles that were made before it; or because a write or a send of datagrams isn't permitted; or
-/// because datagram streams are asked for of a socket of which one is live, and asks nothing then and leaves the machine.
+/// because datagram streams are asked for of a socket of which one is live; or because a write is of more bytes than its pipe has
+/// room for; or because a write that blocks is of too many bytes; and asks nothing then and leaves the machine.
 pub fn traps_have_causes()
     ensures kinds { (contexts : List WasiSocketsCtx) (m : Machine) (line : ℕ) (s : Step) (entries : List Entry) (kind : TrapKind) (after : Machine)
-        → Answered contexts m line s entries (Reply.Trap kind) after → (kind ≡ TrapKind.NoSuchHandle) ⊎ ((kind ≡ TrapKind.HasChildren) ⊎ ((kind ≡ TrapKind.Full) ⊎ ((kind ≡ TrapKind.NotPermitted) ⊎ (kind ≡ TrapKind.StreamsAlive)))) }
+        → Answered contexts m line s entries (Reply.Trap kind) after → (kind ≡ TrapKind.NoSuchHandle) ⊎ ((kind ≡ TrapKind.HasChildren) ⊎ ((kind ≡ TrapKind.Full) ⊎ ((kind ≡ TrapKind.NotPermitted) ⊎ ((kind ≡ TrapKind.StreamsAlive) ⊎ ((kind ≡ TrapKind.Capacity) ⊎ (kind ≡ TrapKind.TooLong)))))) }
     ensures no_such_handle { (contexts : List WasiSocketsCtx) (m : Machine) (line : ℕ) (s : Step) (entries : List Entry) (after : Machine)
         → Answered contexts m line s entries (Reply.Trap TrapKind.NoSuchHandle) after → MissesHandle m s }
     ensures no_such_handle_stays { (contexts : List WasiSocketsCtx) (m : Machine) (line : ℕ) (s : Step) (entries : List Entry) (after : Machine)
-        → (IsPoll s → PendingHandleIsLive m) → Answered contexts m line s entries (Reply.Trap TrapKind.NoSuchHandle) after → (entries ≡ []) × (after ≡ left_missing m s) }
+        → (IsPoll s → PendingHandleIsLive m) → InputOfSpliceIsThere m s → Answered contexts m line s entries (Reply.Trap TrapKind.NoSuchHandle) after → (entries ≡ []) × (after ≡ left_missing m s) }
     ensures has_children { (contexts : List WasiSocketsCtx) (m : Machine) (line ctx handle : ℕ) (entries : List Entry) (reply : Reply) (after : Machine)
         → m.store.standing ≡ None → Answered contexts m line (Step.Drop ctx handle) entries reply after → (reply ≡ Reply.Trap TrapKind.HasChildren) ↔ HasLiveChildren m handle }
     ensures has_children_stays { (contexts : List WasiSocketsCtx) (m : Machine) (line : ℕ) (s : Step) (entries : List Entry) (after : Machine)
@@ -111,36 +120,41 @@ pub fn traps_have_causes()
         → Answered contexts m line s entries (Reply.Trap TrapKind.NotPermitted) after → IsWrite s ⊎ IsUdpSend s }
     ensures streams_alive { (contexts : List WasiSocketsCtx) (m : Machine) (line : ℕ) (s : Step) (entries : List Entry) (after : Machine)
         → Answered contexts m line s entries (Reply.Trap TrapKind.StreamsAlive) after → IsUdpStream s × (entries ≡ []) × (after ≡ m) }
+    ensures capacity { (contexts : List WasiSocketsCtx) (m : Machine) (line : ℕ) (s : Step) (entries : List Entry) (after : Machine)
+        → Answered contexts m line s entries (Reply.Trap TrapKind.Capacity) after → IsWrite s × (entries ≡ []) × (after ≡ m) }
+    ensures too_long { (contexts : List WasiSocketsCtx) (m : Machine) (line : ℕ) (s : Step) (entries : List Entry) (after : Machine)
+        → Answered contexts m line s entries (Reply.Trap TrapKind.TooLong) after → IsBlockingWrite s × (entries ≡ []) × (after ≡ m) }
 {}
 
 /// A poll finds no such call exactly where no call is pending under its number. It asks nothing then, and the machine stays as
-/// it was; no other step is answered so. A poll of a pending call leaves it pending, or leaves nothing pending. It is refused
+/// it was; no other step but a cancel is answered so. A poll of a pending call leaves it pending, or leaves nothing pending. It is refused
 /// with the word of the code by which the bind, the listen, the create or the connect of datagram streams failed: a check was
 /// answered no, or another of its asks was answered with the code, by its own operation, and a listen and a create closed their
 /// network socket last, and a connect that was answered asked for the remote address. That is said where what is pending as a bind
 /// is a bind, as a listen a listen, as a create a create, and as datagram streams a connect, as it is after any lines. In a run a
-/// poll traps only for lack of room for the handle of a create, or for the two of datagram streams.
+/// poll traps only for lack of room for the handle of a create, for the two of datagram streams, or for that of a stream's error; or
+/// because the input of a pending splice isn't there.
 pub fn polls_find_their_call()
     ensures exactly { (contexts : List WasiSocketsCtx) (m : Machine) (line n : ℕ) (entries : List Entry) (reply : Reply) (after : Machine)
         → Answered contexts m line (Step.Poll n) entries reply after → (reply ≡ Reply.NoSuchCall) ↔ (stands_as m.store.standing n ≡ false) }
     ensures stays { (contexts : List WasiSocketsCtx) (m : Machine) (line n : ℕ) (entries : List Entry) (after : Machine)
         → Answered contexts m line (Step.Poll n) entries Reply.NoSuchCall after → (entries ≡ []) × (after ≡ m) }
     ensures only_polls { (contexts : List WasiSocketsCtx) (m : Machine) (line : ℕ) (s : Step) (entries : List Entry) (after : Machine)
-        → Answered contexts m line s entries Reply.NoSuchCall after → IsPoll s }
+        → Answered contexts m line s entries Reply.NoSuchCall after → IsPoll s ⊎ IsCancel s }
     ensures ends { (contexts : List WasiSocketsCtx) (m : Machine) (line n : ℕ) (entries : List Entry) (reply : Reply) (after : Machine)
         → stands_as m.store.standing n ≡ true → Answered contexts m line (Step.Poll n) entries reply after → (reply ≡ Reply.Pending n) ⊎ (after.store.standing ≡ None) }
     ensures refused { (contexts : List WasiSocketsCtx) (m : Machine) (line n : ℕ) (entries : List Entry) (word : CodeWord) (after : Machine)
         → PendingCallsFit m → Answered contexts m line (Step.Poll n) entries (Reply.Err word) after → StandingFails m n entries word }
     ensures traps { (contexts : List WasiSocketsCtx) (steps : List Step) (log : List Entry) (replies : List Reply) (m : Machine) (line n : ℕ) (entries : List Entry) (kind : TrapKind) (after : Machine)
         → Left (run contexts [] first_state 1 steps) log (Give (replies, m)) → Answered contexts m line (Step.Poll n) entries (Reply.Trap kind) after
-        → (kind ≡ TrapKind.Full) × (((is_full m.table ≡ true) × IsSomeAnd m.store.standing (λ s. IsPendingCreate s.call)) ⊎ IsSomeAnd m.store.standing (λ s. LacksRoomForStreams m s.call)) }
+        → ((kind ≡ TrapKind.Full) × (((is_full m.table ≡ true) × IsSomeAnd m.store.standing (λ s. IsPendingCreate s.call)) ⊎ (IsSomeAnd m.store.standing (λ s. LacksRoomForStreams m s.call) ⊎ StreamCallStands m))) ⊎ ((kind ≡ TrapKind.NoSuchHandle) × SpliceLacksInput m) }
 {}
 
 /// The start of a bind, that of a listen, a create of a UDP socket, that of its datagram streams, the drop of an output or of an
-/// outgoing datagram stream and a poll may be pending: all but a poll under their line's number, and a poll under the number that
+/// outgoing datagram stream, a call of a stream that blocks and a poll may be pending: all but a poll under their line's number, and a poll under the number that
 /// it polls. A call is pending under that number then. The last ask of a bind and of a listen was answered pending; a drop waits
 /// where its output's write is in progress, or its one ask was answered pending, or where a datagram of its stream isn't sent yet,
-/// which asks nothing; and a poll waits as the call does that it polls. That is said where what is pending as a bind is a bind, as
+/// which asks nothing; and a poll waits as the call does that it polls, if it is none of a stream, of which `blocking` says it. That is said where what is pending as a bind is a bind, as
 /// a listen a listen, as a create a create, and as datagram streams a connect, as it is after any lines.
 pub fn pending_where_told()
     ensures step { (contexts : List WasiSocketsCtx) (m : Machine) (line : ℕ) (s : Step) (entries : List Entry) (number : ℕ) (after : Machine)
@@ -237,9 +251,10 @@ pub fn runs_connect_by_connects()
         → Left (run contexts [] first_state 1 steps) entries (Give (replies, m)) → (pollable : ℕ) → WatchesConnect m pollable }
 {}
 
-/// After the lines of any script: each live handle of a socket, a stream, a lookup or a pollable is of a record that is there, so a
-/// number of which no TCP socket is found isn't live or stands for something else; a pending call is of a socket that is there, and
-/// one that makes datagram streams is of a handle that is live;
+/// After the lines of any script: each live handle of a socket, a stream, a pipe, a lookup or a pollable is of a record that is there,
+/// so a number of which no TCP socket is found isn't live or stands for something else; a pending call is of a socket that is there, one
+/// that makes datagram streams is of a handle that is live, and a call of a stream is of streams that are there, but that this isn't
+/// said of the input of a splice;
 /// and where a connect is in progress, the socket connects, or was closed with a code, or is connected and neither half of it was
 /// taken; and a socket that does nothing yet has no listener, and none begins.
 pub fn runs_keep_their_records()
@@ -248,7 +263,7 @@ pub fn runs_keep_their_records()
     ensures missing { (contexts : List WasiSocketsCtx) (steps : List Step) (log : List Entry) (replies : List Reply) (m : Machine) (handle : ℕ)
         → Left (run contexts [] first_state 1 steps) log (Give (replies, m)) → record_at m handle ≡ None → socket_at m handle ≡ None }
     ensures stands { (contexts : List WasiSocketsCtx) (steps : List Step) (log : List Entry) (replies : List Reply) (m : Machine) (number : ℕ)
-        → Left (run contexts [] first_state 1 steps) log (Give (replies, m)) → StandsOnNothing m number → ⊥ }
+        → Left (run contexts [] first_state 1 steps) log (Give (replies, m)) → StandsOnNothing m number → SpliceLacksInput m }
     ensures connects { (contexts : List WasiSocketsCtx) (steps : List Step) (log : List Entry) (replies : List Reply) (m : Machine) (place : ℕ) (r : Tcp2Socket)
         → Left (run contexts [] first_state 1 steps) log (Give (replies, m)) → tcp2_at m.store.records place ≡ Some r → is_connect r.in_progress ≡ true → MayFinish r.inner.state }
     ensures listens { (contexts : List WasiSocketsCtx) (steps : List Step) (log : List Entry) (replies : List Reply) (m : Machine) (place : ℕ) (r : Tcp2Socket)
@@ -304,86 +319,11 @@ pub fn errors_have_no_network_code()
         → Answered contexts m line (Step.NetworkErrorCode ctx error) entries reply after → (entries ≡ []) × (after ≡ m) }
 {}
 
-/// Each read that hands out at least one byte hands out exactly what its one ask, a read of its open half, was answered; and
-/// with bytes or none the machine stays as it was.
-pub fn reads_hand_out_what_was_told()
-    ensures told { (contexts : List WasiSocketsCtx) (m : Machine) (line ctx input len b : ℕ) (bytes : List ℕ) (entries : List Entry) (after : Machine)
-        → Answered contexts m line (Step.Read ctx input len) entries (Reply.Ok (bytes_fields (b ∷ bytes))) after
-        → OfStreams m (input_at m input) (λ place r s. ReadsTold (own_of line) len s.reader (b ∷ bytes) entries) }
-    ensures none { (contexts : List WasiSocketsCtx) (m : Machine) (line ctx input len : ℕ) (entries : List Entry) (after : Machine)
-        → Answered contexts m line (Step.Read ctx input len) entries (Reply.Ok (bytes_fields [])) after
-        → OfStreams m (input_at m input) (λ place r s. ReadsNone (own_of line) len s.reader entries) }
-    ensures stays { (contexts : List WasiSocketsCtx) (m : Machine) (line ctx input len : ℕ) (fields : List Field) (entries : List Entry) (after : Machine)
-        → Answered contexts m line (Step.Read ctx input len) entries (Reply.Ok fields) after → after ≡ m }
-{}
-
-/// A read is `closed` where the reader is, or the read was answered with no bytes; it failed where the read was answered with
-/// that code, and the error's mark is the last then. The reader is closed then, and its half was released.
-pub fn reads_end()
-    ensures closed { (contexts : List WasiSocketsCtx) (m : Machine) (line ctx input len : ℕ) (entries : List Entry) (after : Machine)
-        → Answered contexts m line (Step.Read ctx input len) entries Reply.Closed after
-        → OfStreams m (input_at m input) (λ place r s. ReadsEnd (own_of line) len s.reader entries × (after ≡ closing_reader m place r s)) }
-    ensures failed { (contexts : List WasiSocketsCtx) (m : Machine) (line ctx input len : ℕ) (entries : List Entry) (word : CodeWord) (handle : ℕ) (after : Machine)
-        → Answered contexts m line (Step.Read ctx input len) entries (Reply.Failed word handle) after
-        → OfStreams m (input_at m input) (λ place r s. FailsWith m (own_of line) input (ReadFails (own_of line) len s.reader) entries word handle × (after ≡ with_error (closing_reader m place r s))) }
-{}
-
-/// What may be written comes of the writer and of what it was answered: nothing where a write isn't finished or the writer was
-/// answered pending, and else 65536 bytes.
-pub fn permits_have_causes()
-    ensures { (contexts : List WasiSocketsCtx) (m : Machine) (line ctx output n : ℕ) (entries : List Entry) (after : Machine)
-        → Answered contexts m line (Step.CheckWrite ctx output) entries (Reply.Ok (number_fields n)) after
-        → OfStreams m (output_at m output) (λ place r s. Permits (own_of line) s.writer n entries) }
-{}
-
-/// A write traps, as not permitted, exactly where its bytes are past the permit, or a write before it wasn't collected yet. It
-/// asks nothing then, and the machine stays as it was.
-pub fn writes_past_the_permit_trap()
-    ensures exactly { (contexts : List WasiSocketsCtx) (m : Machine) (line ctx output : ℕ) (bytes : List ℕ) (entries : List Entry) (reply : Reply) (after : Machine)
-        → m.store.standing ≡ None → Answered contexts m line (Step.Write ctx output bytes) entries reply after
-        → (reply ≡ Reply.Trap TrapKind.NotPermitted) ↔ IsSomeAnd (output_streams m output) (λ s. IsUnpermitted s.writer (length bytes)) }
-    ensures stays { (contexts : List WasiSocketsCtx) (m : Machine) (line ctx output : ℕ) (bytes : List ℕ) (entries : List Entry) (after : Machine)
-        → Answered contexts m line (Step.Write ctx output bytes) entries (Reply.Trap TrapKind.NotPermitted) after → (entries ≡ []) × (after ≡ m) }
-{}
-
-/// A flush only reports the error with which the writer is closed. It asks nothing but the mark of that error.
-pub fn flushes_tell_the_kept_error()
-    ensures done { (contexts : List WasiSocketsCtx) (m : Machine) (line ctx output : ℕ) (fields : List Field) (entries : List Entry) (after : Machine)
-        → Answered contexts m line (Step.Flush ctx output) entries (Reply.Ok fields) after → (entries ≡ []) × (after ≡ m) }
-    ensures closed { (contexts : List WasiSocketsCtx) (m : Machine) (line ctx output : ℕ) (entries : List Entry) (after : Machine)
-        → Answered contexts m line (Step.Flush ctx output) entries Reply.Closed after
-        → OfStreams m (output_at m output) (λ place r s. IsGivenUp s.writer) × (entries ≡ []) × (after ≡ m) }
-    ensures failed { (contexts : List WasiSocketsCtx) (m : Machine) (line ctx output : ℕ) (entries : List Entry) (word : CodeWord) (handle : ℕ) (after : Machine)
-        → Answered contexts m line (Step.Flush ctx output) entries (Reply.Failed word handle) after
-        → OfStreams m (output_at m output) (λ place r s. FailsWith m (own_of line) output (WasClosedWith s.writer) entries word handle) × (after ≡ with_error m) }
-{}
-
-/// A look at an output is `closed`, or fails, with the error that its writer is closed with, once a write that ended is
-/// collected. It asks nothing but the mark of that error.
-pub fn checks_tell_the_kept_error()
-    ensures closed { (contexts : List WasiSocketsCtx) (m : Machine) (line ctx output : ℕ) (entries : List Entry) (after : Machine)
-        → Answered contexts m line (Step.CheckWrite ctx output) entries Reply.Closed after
-        → OfStreams m (output_at m output) (λ place r s. CheckFails WriteError.Closed s.writer entries × (after ≡ closing_writer m place r s WriteError.Closed)) }
-    ensures failed { (contexts : List WasiSocketsCtx) (m : Machine) (line ctx output : ℕ) (entries : List Entry) (word : CodeWord) (handle : ℕ) (after : Machine)
-        → Answered contexts m line (Step.CheckWrite ctx output) entries (Reply.Failed word handle) after
-        → OfStreams m (output_at m output) (λ place r s. FailsWith m (own_of line) output (λ c before. CheckFails (WriteError.LastOperationFailed c) s.writer before × (after ≡ with_error (closing_writer m place r s (WriteError.LastOperationFailed c)))) entries word handle) }
-{}
-
-/// A write is `closed`, or fails, with the error that its writer is closed with; or because it was answered with a code itself,
-/// and then its last asks are that write and the shutdown of its half. The writer is closed with the error then.
-pub fn writes_tell_their_error()
-    ensures closed { (contexts : List WasiSocketsCtx) (m : Machine) (line ctx output : ℕ) (bytes : List ℕ) (entries : List Entry) (after : Machine)
-        → Answered contexts m line (Step.Write ctx output bytes) entries Reply.Closed after
-        → OfStreams m (output_at m output) (λ place r s. WriteFails (own_of line) WriteError.Closed s.writer entries × (after ≡ closing_writer m place r s WriteError.Closed)) }
-    ensures failed { (contexts : List WasiSocketsCtx) (m : Machine) (line ctx output : ℕ) (bytes : List ℕ) (entries : List Entry) (word : CodeWord) (handle : ℕ) (after : Machine)
-        → Answered contexts m line (Step.Write ctx output bytes) entries (Reply.Failed word handle) after
-        → OfStreams m (output_at m output) (λ place r s. FailsWith m (own_of line) output (λ c before. WriteFails (own_of line) (WriteError.LastOperationFailed c) s.writer before × (after ≡ with_error (closing_writer m place r s (WriteError.LastOperationFailed c)))) entries word handle) }
-{}
-
 /// A drop of a socket is done, unless it traps. It releases what is open: what it listens by, which refuses an arrival in hand
 /// and closes a connection that wasn't taken; the receiving half while that is open, then the sending half while there is one,
 /// and then the socket's network socket, each answered done; and nothing is left of the socket. A drop of a
-/// network, an input, a pollable or an error asks nothing and takes the handle out, and a drop of an output looks once at most.
+/// network, an input, a pollable, an error, a sink or a closed stream asks nothing and takes the handle out, that of a pipe's end
+/// gives back what the pipe holds besides, and a drop of an output of a connection looks once at most.
 /// Whatever was dropped, its handle is live no more.
 pub fn drops_give_up_what_is_open()
     ensures socket { (contexts : List WasiSocketsCtx) (m : Machine) (line ctx handle place : ℕ) (entries : List Entry) (reply : Reply) (after : Machine)
@@ -400,6 +340,12 @@ pub fn drops_give_up_what_is_open()
     ensures plain_leaves { (contexts : List WasiSocketsCtx) (m : Machine) (line ctx handle : ℕ) (kind : Kind) (entries : List Entry) (reply : Reply) (after : Machine)
         → kind_at m.table handle ≡ Some kind → GoesAtOnce kind → IsDropped reply → Answered contexts m line (Step.Drop ctx handle) entries reply after
         → after ≡ without m handle }
+    ensures input_pipe { (contexts : List WasiSocketsCtx) (m : Machine) (line ctx handle place : ℕ) (bytes : List ℕ) (fields : List Field) (entries : List Entry) (after : Machine)
+        → kind_at m.table handle ≡ Some (Kind.PlainInput (PlainInput.Pipe place)) → input_pipe_at m.store.records place ≡ Some bytes → Answered contexts m line (Step.Drop ctx handle) entries (Reply.Ok fields) after
+        → (entries ≡ []) × (after ≡ leaving (without m handle) place []) }
+    ensures output_pipe { (contexts : List WasiSocketsCtx) (m : Machine) (line ctx handle place : ℕ) (pipe : Contents) (fields : List Field) (entries : List Entry) (after : Machine)
+        → kind_at m.table handle ≡ Some (Kind.PlainOutput (PlainOutput.Pipe place)) → output_pipe_at m.store.records place ≡ Some pipe → Answered contexts m line (Step.Drop ctx handle) entries (Reply.Ok fields) after
+        → (entries ≡ []) × (after ≡ containing (without m handle) place (no_contents 0)) }
     ensures output { (contexts : List WasiSocketsCtx) (m : Machine) (line ctx handle place : ℕ) (entries : List Entry) (reply : Reply) (after : Machine)
         → kind_at m.table handle ≡ Some (Kind.Output place) → Answered contexts m line (Step.Drop ctx handle) entries reply after → LooksOnce (own_of line) entries }
     ensures table { (contexts : List WasiSocketsCtx) (m : Machine) (line ctx handle : ℕ) (entries : List Entry) (reply : Reply) (after : Machine)
@@ -430,7 +376,8 @@ pub fn shutdown_refusals()
 /// A pollable of another thing than a datagram stream isn't ready where the connect in progress was answered pending, or with
 /// nothing in progress the accept of a listener waits, or the input that is open was answered pending, or the output's write is in progress or its writer was
 /// answered pending, or the lookup is in progress, of which nothing is asked: that is said where a socket connects by a connect and accepts by an accept, as all do after any lines. A
-/// socket with no connect in progress, and with no listener unless another operation is in progress, is ready, which asks
+/// stream of no connection is always ready, and so is a
+/// socket with no connect in progress, and with no listener unless another operation is in progress; which asks
 /// nothing and leaves the machine as it was. A look never fails.
 pub fn readiness_has_causes()
     ensures values { (contexts : List WasiSocketsCtx) (m : Machine) (line ctx pollable : ℕ) (fields : List Field) (entries : List Entry) (after : Machine)
@@ -440,6 +387,9 @@ pub fn readiness_has_causes()
         → OfWatched m pollable (λ w r. IsUnready (own_of line) r entries w) ⊎ LookupWaits m pollable entries }
     ensures idle { (contexts : List WasiSocketsCtx) (m : Machine) (line ctx pollable : ℕ) (entries : List Entry) (reply : Reply) (after : Machine)
         → m.store.standing ≡ None → WatchesIdle m pollable → Answered contexts m line (Step.Ready ctx pollable) entries reply after
+        → (reply ≡ Reply.Ok (truth_fields true)) × (entries ≡ []) × (after ≡ m) }
+    ensures plain { (contexts : List WasiSocketsCtx) (m : Machine) (line ctx pollable : ℕ) (entries : List Entry) (reply : Reply) (after : Machine)
+        → m.store.standing ≡ None → WatchesPlain m pollable → Answered contexts m line (Step.Ready ctx pollable) entries reply after
         → (reply ≡ Reply.Ok (truth_fields true)) × (entries ≡ []) × (after ≡ m) }
     ensures never_fails { (contexts : List WasiSocketsCtx) (m : Machine) (line ctx pollable : ℕ) (entries : List Entry) (reply : Reply) (after : Machine)
         → Answered contexts m line (Step.Ready ctx pollable) entries reply after → IsFailure reply → ⊥ }
@@ -463,7 +413,8 @@ pub fn subscribe_makes_a_pollable()
 /// A turn is always ok, and leaves the handles as they were. Whatever it asks is asked by the operation of a job: of a background
 /// write of a record, of a datagram that is sent in the background or a receive in progress of a UDP socket, or of a lookup in
 /// progress. Each lookup is as it was afterwards; or it was in progress, and has found the names, or failed with a code, that its
-/// operation was told in the turn.
+/// operation was told in the turn. The call that is pending stays so, each socket that has streams has them still, and each pipe holds
+/// what it held.
 pub fn turns_are_ok()
     ensures ok { (contexts : List WasiSocketsCtx) (m : Machine) (line : ℕ) (entries : List Entry) (reply : Reply) (after : Machine)
         → Answered contexts m line Step.Turn entries reply after → reply ≡ Reply.Ok no_fields }
@@ -473,4 +424,10 @@ pub fn turns_are_ok()
         → Answered contexts m line Step.Turn entries reply after → after.table ≡ m.table }
     ensures lookups { (contexts : List WasiSocketsCtx) (m : Machine) (line place : ℕ) (l : Lookup) (entries : List Entry) (reply : Reply) (after : Machine)
         → Answered contexts m line Step.Turn entries reply after → lookup_at after.store.records place ≡ Some l → LookedOn m place entries l }
+    ensures pending { (contexts : List WasiSocketsCtx) (m : Machine) (line : ℕ) (entries : List Entry) (reply : Reply) (after : Machine)
+        → Answered contexts m line Step.Turn entries reply after → after.store.standing ≡ m.store.standing }
+    ensures streams { (contexts : List WasiSocketsCtx) (m : Machine) (line place : ℕ) (entries : List Entry) (reply : Reply) (after : Machine)
+        → Answered contexts m line Step.Turn entries reply after → IsSome (streams_in (tcp2_at m.store.records place)) → IsSome (streams_in (tcp2_at after.store.records place)) }
+    ensures pipes { (contexts : List WasiSocketsCtx) (m : Machine) (line place : ℕ) (entries : List Entry) (reply : Reply) (after : Machine)
+        → Answered contexts m line Step.Turn entries reply after → (input_pipe_at after.store.records place ≡ input_pipe_at m.store.records place) × (output_pipe_at after.store.records place ≡ output_pipe_at m.store.records place) }
 {}

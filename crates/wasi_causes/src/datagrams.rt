@@ -25,6 +25,7 @@ ghost use Rattle.wasi_steps.specs.declared.step.Step.{Step};
 ghost use Rattle.wasi_steps.specs.declared.step.Step.TheVariants as Step;
 ghost use Rattle.wasi_steps.specs.Reply.{pair_fields, truth_fields};
 ghost use Rattle.wasi_walks.specs.Answered.{Answered, open_udp_at, outgoing_in};
+ghost use Rattle.wasi_causes.specs.Reached.{SpliceLacksInput};
 ghost use Rattle.wasi_causes.specs.Datagrams.{HasUdpStreams, IncomingGone, IsReceiving, IsSpent, LacksRoomForBoth, OfIncoming, OfOutgoing, OutgoingGone, PendingHandleIsLive, PermitsSend, WatchesIncoming, WatchesOutgoing, with_both};
 ghost use Rattle.wasi_causes.specs.SendCauses.{ReceivesSome, SendsSome, UdpReceiveRefusal, UdpSendRefusal};
 ghost use Rattle.wasi_causes.specs.StreamCauses.{HasNewStreams, StreamsStand, UdpStreamRefusal};
@@ -68,7 +69,8 @@ pub fn udp_stream_refusals()
 
 /// Datagram streams are pending, under their line's number, only with an address that the socket may be connected to: the last
 /// ask, which was answered pending, was one of its connect. The handles stay as they were, and the call is pending for the
-/// handle of the socket. After the lines of any script that handle is live while it is pending.
+/// handle of the socket. After the lines of any script that handle is live while it is pending, and so are the streams there that a
+/// pending call of a stream is on, but that this isn't said where that is a splice whose input isn't there.
 pub fn udp_streams_wait_for_their_connect()
     ensures waits { (contexts : List WasiSocketsCtx) (m : Machine) (line ctx handle : ℕ) (remote : Option IpSocketAddress) (entries : List Entry) (number : ℕ) (after : Machine)
         → Answered contexts m line (Step.UdpStream ctx handle remote) entries (Reply.Pending number) after
@@ -77,7 +79,7 @@ pub fn udp_streams_wait_for_their_connect()
         → Answered contexts m line (Step.UdpStream ctx handle remote) entries (Reply.Pending number) after
         → after.table ≡ m.table }
     ensures live { (contexts : List WasiSocketsCtx) (steps : List Step) (log : List Entry) (replies : List Reply) (m : Machine)
-        → Left (run contexts [] first_state 1 steps) log (Give (replies, m)) → PendingHandleIsLive m }
+        → Left (run contexts [] first_state 1 steps) log (Give (replies, m)) → (SpliceLacksInput m → ⊥) → PendingHandleIsLive m }
 {}
 
 /// How many datagrams may be sent comes of the outgoing stream: none while one isn't sent yet, and else 16; and that is its

@@ -2,9 +2,11 @@
 //! the crates below: each is a function that does nothing, whose contract is the law.
 #![tactic(auto)]
 
+pub mod blocking;
 pub mod causes;
 pub mod datagrams;
 pub mod listens;
 pub mod lookups;
 pub mod options;
+pub mod stream_calls;
 pub mod udp;

@@ -14,6 +14,8 @@ lookup_tcp_put [] i r now k h = refl
 lookup_tcp_put (rec.Tcp2 x ∷ xs) zero r now zero h = refl
 lookup_tcp_put (rec.Udp2 x ∷ xs) zero r now zero h = absurd (cc)
 lookup_tcp_put (rec.Lookup x ∷ xs) zero r now zero h = absurd (cc)
+lookup_tcp_put (rec.InputPipe x ∷ xs) zero r now zero h = absurd (cc)
+lookup_tcp_put (rec.OutputPipe x ∷ xs) zero r now zero h = absurd (cc)
 lookup_tcp_put (z ∷ xs) zero r now (suc k) h = refl
 lookup_tcp_put (z ∷ xs) (suc i) r now zero h = refl
 lookup_tcp_put (z ∷ xs) (suc i) r now (suc k) h = lookup_tcp_put xs i r now k h
@@ -23,6 +25,8 @@ lookup_udp_put [] i u now k h = refl
 lookup_udp_put (rec.Udp2 x ∷ xs) zero u now zero h = refl
 lookup_udp_put (rec.Tcp2 x ∷ xs) zero u now zero h = absurd (cc)
 lookup_udp_put (rec.Lookup x ∷ xs) zero u now zero h = absurd (cc)
+lookup_udp_put (rec.InputPipe x ∷ xs) zero u now zero h = absurd (cc)
+lookup_udp_put (rec.OutputPipe x ∷ xs) zero u now zero h = absurd (cc)
 lookup_udp_put (z ∷ xs) zero u now (suc k) h = refl
 lookup_udp_put (z ∷ xs) (suc i) u now zero h = refl
 lookup_udp_put (z ∷ xs) (suc i) u now (suc k) h = lookup_udp_put xs i u now k h
@@ -44,6 +48,8 @@ lookup_same [] i l h = absurd (cc)
 lookup_same (rec.Lookup x ∷ xs) zero l h = cc
 lookup_same (rec.Tcp2 x ∷ xs) zero l h = absurd (cc)
 lookup_same (rec.Udp2 x ∷ xs) zero l h = absurd (cc)
+lookup_same (rec.InputPipe x ∷ xs) zero l h = absurd (cc)
+lookup_same (rec.OutputPipe x ∷ xs) zero l h = absurd (cc)
 lookup_same (z ∷ xs) (suc i) l h = ap (λ (rest : List Record). z ∷ rest) (lookup_same xs i l h)
 
 -- each other lookup stays

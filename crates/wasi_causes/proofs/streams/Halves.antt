@@ -1,5 +1,14 @@
 -- What the halves of a connection give: reads, and looks at what may be written, writes and flushes; and why an output waits
 -- that is dropped.
+use Rattle.wasi_causes.proofs.Words.{◌↔◌, ◌≢◌, Reply}
+use Rattle.wasi_causes.specs.Outcomes.{Always}
+use Rattle.wasi_host.specs.declared.kind.PlainInput.{PlainInput}
+use Rattle.wasi_host.specs.declared.kind.PlainOutput.{PlainOutput}
+use Rattle.wasi_host.specs.StreamCalls.{plain_input_at, plain_output_at, read_by, check_by, write_by, flush_by}
+use Rattle.wasi_causes.proofs.streams.Plain.{plain_reads, plain_checks, plain_writes, plain_flushes}
+use Rattle.wasi_causes.specs.Plain.{PastCapacity, PlainCheck, PlainFlush, PlainRead, PlainWrite}
+use Rattle.wasi_world.specs.declared.outcome.TrapKind.TheVariants.{Capacity}
+use Rattle.wasi_steps.specs.declared.reply.Reply.TheVariants as reply
 use Rattle.wasi_host.specs.Records.{tcp2_at}
 use Rattle.wasi_host.specs.declared.jobs.HostJob.TheVariants as HostJob
 use Rattle.wasi_host.specs.declared.records.Record.{Record}
@@ -125,13 +134,18 @@ module _ (own : OpId) (len : ℕ) where
     by_zero true e = ends (LengthZero half refl (eqb-true len 0 e), refl)
     by_zero false e = asks (λ t fits. told_read t fits)
 
-  reads : (reader : ReadState) → Meets (ReadRow reader) [] (read_state_asks own reader len)
+  pub reads : (reader : ReadState) → Meets (ReadRow reader) [] (read_state_asks own reader len)
   reads (reading.Open half) = by_zero half (len == 0) refl
   reads reading.Closed = ends (AlreadyClosed refl, refl)
 
 -- == a read
 module _ (contexts : List WasiSocketsCtx) (m : Machine) (line c input len : ℕ) where
-  module _ (place : ℕ) (r : Tcp2Socket) (s : Streams) (n : HasStreams m (input_at m input) place r s) where
+  -- of an input of a connection nothing is said of those of none
+  module _ (connected : plain_input_at m input ≡ None) where
+    not_plain : (es : List Entry) (said : Reply) → PlainRead m input es said
+    not_plain es said = rw connected tt
+
+  module _ (connected : plain_input_at m input ≡ None) (place : ℕ) (r : Tcp2Socket) (s : Streams) (n : HasStreams m (input_at m input) place r s) where
     abbrev left_reading : ReadState → Machine
     left_reading reader = putting m place (with_reader r s reader)
 
@@ -139,19 +153,26 @@ module _ (contexts : List WasiSocketsCtx) (m : Machine) (line c input len : ℕ)
     same_reading now e = ap left_reading e ∙ streams_same n
 
     told_as : (es : List Entry) (done : Result (List ℕ) StreamStop × ReadState) → ReadRow (own_of line) len s.reader es done → TellsStream m (own_of line) input (Replied contexts m line (step.Read c input len) bytes_reply) es done.0 (with_socket m.store place (with_reader r s done.1))
-    told_as es (Ok [], now) h = (tt, ((tt, tt), (of_streams n h.0, same_reading now h.1)))
-    told_as es (Ok (b ∷ bytes), now) h = (tt, ((tt, tt), (of_streams n h.0, same_reading now h.1)))
-    told_as es (Err Closed, now) h = (tt, (tt, of_streams n (h.0, ap left_reading h.1)))
+    told_as es (Ok [], now) h = (not_plain connected es _, ((tt, tt), inl (of_streams n h.0, same_reading now h.1)))
+    told_as es (Ok (b ∷ bytes), now) h = (not_plain connected es _, ((tt, tt), inl (of_streams n h.0, same_reading now h.1)))
+    told_as es (Err Closed, now) h = (not_plain connected es _, (tt, inl (of_streams n (h.0, ap left_reading h.1))))
     told_as es (Err (Failed code), now) h = (
-      λ full. (tt, (tt, full_so m m es full refl (ap marks_in h.0.asked), tt)),
-      λ side. (tt, ((tt, code_word code), of_streams n (failed_so code es side h.0, ap (λ (reader : ReadState). with_error (left_reading reader)) h.1))),
+      λ full. (not_plain connected es _, (tt, full_so m m es full refl (ap marks_in h.0.asked), tt)),
+      λ side. (not_plain connected _ _, ((tt, code_word code), of_streams n (failed_so code es side h.0, ap (λ (reader : ReadState). with_error (left_reading reader)) h.1))),
     )
     told_as es (Err (Trap kind), now) h = absurd h
 
+  by_input : (o : Option PlainInput) → plain_input_at m input ≡ o → Meets (Replied contexts m line (step.Read c input len) bytes_reply) [] (read_by m (own_of line) input len o)
+  by_input (Some plain) is = ends (plain_reads contexts m line c input len plain is)
+  by_input None connected =
+      on_stream m (own_of line) input (Replied contexts m line (step.Read c input len) bytes_reply) (λ s. s.reader) with_reader (input_at m input) (λ none. (not_plain connected [] _, ((none, rw connected tt), (refl, refl)))) (λ reader. read_state_asks (own_of line) reader len) (λ r o. reader_of r (λ reader. read_state_asks (own_of line) reader len) o) (λ r. refl) (λ r s. refl)
+      (λ place r s n. widen (told_as connected place r s n) (reads (own_of line) len s.reader)) (input_at m input) refl
+
+  pub read_rows : Meets (Replied contexts m line (step.Read c input len) bytes_reply) [] (read_asks m (own_of line) input len)
+  read_rows = by_input (plain_input_at m input) refl
+
   pub read : Meets (Says contexts m line (step.Read c input len)) [] (bind (read_asks m (own_of line) input len) (λ done. Give (bytes_reply done.0, done.1)))
-  read =
-      onto _ (on_stream m (own_of line) input (Replied contexts m line (step.Read c input len) bytes_reply) (λ s. s.reader) with_reader (input_at m input) (λ none. (tt, (none, (refl, refl)))) (λ reader. read_state_asks (own_of line) reader len) (λ r o. reader_of r (λ reader. read_state_asks (own_of line) reader len) o) (λ r. refl) (λ r s. refl)
-      (λ place r s n. widen (told_as place r s n) (reads (own_of line) len s.reader)) (input_at m input) refl)
+  read = onto _ read_rows
 
 module _ (own : OpId) where
   -- == a look at what may be written
@@ -298,25 +319,46 @@ module _ (contexts : List WasiSocketsCtx) (m : Machine) (line c output : ℕ) wh
     same : (now : WriteState) → now ≡ s.writer → left now ≡ m
     same now e = ap left e ∙ streams_same n
 
+  -- of an output of a connection nothing is said of those of none
+  module _ (connected : plain_output_at m output ≡ None) where
+    no_plain_check : (es : List Entry) (said : Reply) (after : Machine) → PlainCheck m output es said after
+    no_plain_check es said after = rw connected tt
+
+    no_plain_write : (es : List Entry) (said : Reply) → PlainWrite m output es said
+    no_plain_write es said = rw connected tt
+
+    no_plain_flush : (es : List Entry) (said : Reply) (after : Machine) → PlainFlush m output es said after
+    no_plain_flush es said after = rw connected tt
+
+    no_capacity : (n : ℕ) (said : Reply) → said ≢ reply.Trap Capacity → PastCapacity m output n said
+    no_capacity n said other = apart other (λ k. rw connected at k)
+
   -- == a look at what may be written
-  check_so : (place : ℕ) (r : Tcp2Socket) (s : Streams) → HasStreams m (output_at m output) place r s → (es : List Entry) (done : Result ℕ StreamStop × WriteState) → CheckRow own s.writer es done
+  check_so : (connected : plain_output_at m output ≡ None) (place : ℕ) (r : Tcp2Socket) (s : Streams) → HasStreams m (output_at m output) place r s → (es : List Entry) (done : Result ℕ StreamStop × WriteState) → CheckRow own s.writer es done
       → TellsStream m own output (Replied contexts m line (step.CheckWrite c output) permit_reply) es done.0 (with_socket m.store place (with_writer r s done.1))
-  check_so place r s n es (Ok k, now) h = (tt, ((tt, tt), of_streams n h))
-  check_so place r s n es (Err stop.Closed, now) h = (tt, (tt, of_streams n (h.0, ap (left place r s n) h.1)))
-  check_so place r s n es (Err (stop.Failed code), now) h = (
-    λ full. (tt, (tt, full_so m m es full refl (ap marks_in h.0.1), tt)),
-    λ side. (tt, ((tt, code_word code), of_streams n (failed_so code es side (h.0, ap (λ (writer : WriteState). with_error (left place r s n writer)) h.1)))),
+  check_so connected place r s n es (Ok k, now) h = (no_plain_check connected es _ _, ((tt, tt), inl (of_streams n h)))
+  check_so connected place r s n es (Err stop.Closed, now) h = (no_plain_check connected es _ _, (tt, inl (of_streams n (h.0, ap (left place r s n) h.1))))
+  check_so connected place r s n es (Err (stop.Failed code), now) h = (
+    λ full. (no_plain_check connected es _ _, (tt, full_so m m es full refl (ap marks_in h.0.1), tt)),
+    λ side. (no_plain_check connected _ _ _, ((tt, code_word code), of_streams n (failed_so code es side (h.0, ap (λ (writer : WriteState). with_error (left place r s n writer)) h.1)))),
   )
-  check_so place r s n es (Err (stop.Trap kind), now) h = absurd h
+  check_so connected place r s n es (Err (stop.Trap kind), now) h = absurd h
+
+  check_by_output : (o : Option PlainOutput) → plain_output_at m output ≡ o → Meets (Replied contexts m line (step.CheckWrite c output) permit_reply) [] (check_by m own output o)
+  check_by_output (Some plain) is = ends (plain_checks contexts m line c output plain is)
+  check_by_output None connected =
+      on_stream m own output (Replied contexts m line (step.CheckWrite c output) permit_reply) (λ s. s.writer) with_writer (output_at m output) (λ none. (no_plain_check connected [] _ _, ((none, rw connected tt), (refl, refl)))) (check_write_asks own) (λ r o. writer_of r (check_write_asks own) o) (λ r. refl) (λ r s. refl)
+      (λ place r s n. widen (check_so connected place r s n) (checks own s.writer)) (output_at m output) refl
+
+  pub check_rows : Meets (Replied contexts m line (step.CheckWrite c output) permit_reply) [] (check_asks m own output)
+  check_rows = check_by_output (plain_output_at m output) refl
 
   pub check_write : Meets (Says contexts m line (step.CheckWrite c output)) [] (bind (check_asks m own output) (λ done. Give (permit_reply done.0, done.1)))
-  check_write =
-      onto _ (on_stream m own output (Replied contexts m line (step.CheckWrite c output) permit_reply) (λ s. s.writer) with_writer (output_at m output) (λ none. (tt, (none, (refl, refl)))) (check_write_asks own) (λ r o. writer_of r (check_write_asks own) o) (λ r. refl) (λ r s. refl)
-      (λ place r s n. widen (check_so place r s n) (checks own s.writer)) (output_at m output) refl)
+  check_write = onto _ check_rows
 
   -- == a write
   module _ (bytes : List ℕ) where
-    module _ (place : ℕ) (r : Tcp2Socket) (s : Streams) (n : HasStreams m (output_at m output) place r s) where
+    module _ (connected : plain_output_at m output ≡ None) (place : ℕ) (r : Tcp2Socket) (s : Streams) (n : HasStreams m (output_at m output) place r s) where
       abbrev written : WriteState → Machine
       written now = record m { store = job_noted place (Some r) (with_socket m.store place (with_writer r s now)) }
 
@@ -341,36 +383,54 @@ module _ (contexts : List WasiSocketsCtx) (m : Machine) (line c output : ℕ) wh
       was_permitted : (IsUnpermitted s.writer (length bytes) → ⊥) → IsSomeAnd (output_streams m output) (λ s. IsUnpermitted s.writer (length bytes)) → ⊥
       was_permitted may u = let k : IsUnpermitted s.writer (length bytes) = rw (the_streams n) at u in may k
 
+      -- what comes of its permit, and of no pipe
+      always_so : (es : List Entry) (said : Reply) → said ≢ reply.Trap Capacity → (said ≡ reply.Trap NotPermitted) ↔ IsSomeAnd (output_streams m output) (λ s. IsUnpermitted s.writer (length bytes)) → Always contexts m line (step.Write c output bytes) es said m
+      always_so es said other permit = (permit, no_capacity connected (length bytes) said other, no_plain_write connected es said)
+
       write_so : (es : List Entry) (done : Result (Unit {0}) StreamStop × WriteState) → WriteRow own (length bytes) s.writer es done → TellsStream m own output (Replied contexts m line (step.Write c output bytes) taken_reply) es done.0 (job_noted place (Some r) (with_socket m.store place (with_writer r s done.1)))
-      write_so es (Ok done, now) h = (apart (λ e. cc) (was_permitted h.0), (tt, tt))
-      write_so es (Err stop.Closed, now) h = (apart (λ e. cc) (was_permitted h.0), (tt, of_streams n (h.2, written_closed now error.Closed h.3)))
+      write_so es (Ok done, now) h = (always_so es _ (λ e. cc) (apart (λ e. cc) (was_permitted h.0)), (tt, rw connected tt))
+      write_so es (Err stop.Closed, now) h = (always_so es _ (λ e. cc) (apart (λ e. cc) (was_permitted h.0)), (tt, inl (of_streams n (h.2, written_closed now error.Closed h.3))))
       write_so es (Err (stop.Failed code), now) h = (
-        λ full. (apart (λ e. cc) (was_permitted h.0), (tt, full_so m (written now) es full refl h.1, tt)),
-        λ side. (apart (λ e. cc) (was_permitted h.0), ((tt, code_word code), of_streams n (failed_so code es side (h.2, ap with_error (written_closed now (error.LastOperationFailed code) h.3))))),
+        λ full. (always_so es _ (λ e. cc) (apart (λ e. cc) (was_permitted h.0)), (tt, full_so m (written now) es full refl h.1, tt)),
+        λ side. (always_so _ _ (λ e. cc) (apart (λ e. cc) (was_permitted h.0)), ((tt, code_word code), of_streams n (failed_so code es side (h.2, ap with_error (written_closed now (error.LastOperationFailed code) h.3))))),
       )
-      write_so es (Err (stop.Trap NotPermitted), now) h = ((λ e. rw (the_streams n) h.0, λ u. refl), (inl tt, (h.1, written_same now h.2)))
+      write_so es (Err (stop.Trap NotPermitted), now) h = (always_so es _ (λ e. cc) (λ e. rw (the_streams n) h.0, λ u. refl), (inl tt, (h.1, written_same now h.2)))
       write_so es (Err (stop.Trap _), now) h = absurd h
 
     none_there : output_streams m output ≡ None → IsSomeAnd (output_streams m output) (λ s. IsUnpermitted s.writer (length bytes)) → ⊥
     none_there none = none_has _ (output_streams m output) none
 
+    write_by_output : (o : Option PlainOutput) → plain_output_at m output ≡ o → Meets (Replied contexts m line (step.Write c output bytes) taken_reply) [] (write_by m own output bytes o)
+    write_by_output (Some plain) is = ends (plain_writes contexts m line c output bytes plain is)
+    write_by_output None connected =
+        on_write m own output (Replied contexts m line (step.Write c output bytes) taken_reply) (λ s. s.writer) with_writer (output_at m output) (λ none. ((apart (λ e. cc) (none_there none), no_capacity connected (length bytes) _ (λ e. cc), no_plain_write connected [] _), ((none, rw connected tt), (refl, refl)))) (λ w. write_state_asks own w bytes) (λ r o. writer_of r (λ w. write_state_asks own w bytes) o) (λ r. refl) (λ r s. refl)
+        (λ place r s n. widen (write_so connected place r s n) (writes own bytes s.writer)) (output_at m output) refl
+
+    pub write_rows : Meets (Replied contexts m line (step.Write c output bytes) taken_reply) [] (write_asks m own output bytes)
+    write_rows = write_by_output (plain_output_at m output) refl
+
     pub write : Meets (Says contexts m line (step.Write c output bytes)) [] (bind (write_asks m own output bytes) (λ done. Give (taken_reply done.0, done.1)))
-    write =
-        onto _ (on_write m own output (Replied contexts m line (step.Write c output bytes) taken_reply) (λ s. s.writer) with_writer (output_at m output) (λ none. (apart (λ e. cc) (none_there none), (none, (refl, refl)))) (λ w. write_state_asks own w bytes) (λ r o. writer_of r (λ w. write_state_asks own w bytes) o) (λ r. refl) (λ r s. refl)
-        (λ place r s n. widen (write_so place r s n) (writes own bytes s.writer)) (output_at m output) refl)
+    write = onto _ write_rows
 
   -- == a flush
-  flush_so : (place : ℕ) (r : Tcp2Socket) (s : Streams) → HasStreams m (output_at m output) place r s → (es : List Entry) (done : Result (Unit {0}) StreamStop × WriteState) → FlushRow s.writer es done
+  flush_so : (connected : plain_output_at m output ≡ None) (place : ℕ) (r : Tcp2Socket) (s : Streams) → HasStreams m (output_at m output) place r s → (es : List Entry) (done : Result (Unit {0}) StreamStop × WriteState) → FlushRow s.writer es done
       → TellsStream m own output (Replied contexts m line (step.Flush c output) taken_reply) es done.0 (with_socket m.store place (with_writer r s done.1))
-  flush_so place r s n es (Ok done, now) h = (tt, (tt, (h.0, same place r s n now h.1)))
-  flush_so place r s n es (Err stop.Closed, now) h = (tt, (tt, (of_streams n h.2, (h.0, same place r s n now h.1))))
-  flush_so place r s n es (Err (stop.Failed code), now) h = (
-    λ full. (tt, (tt, full_so m m es full refl (ap marks_in h.0), tt)),
-    λ side. (tt, ((tt, code_word code), (of_streams n (failed_so code es side (h.2, h.0)), ap with_error (same place r s n now h.1)))),
+  flush_so connected place r s n es (Ok done, now) h = (no_plain_flush connected es _ _, (tt, (h.0, same place r s n now h.1)))
+  flush_so connected place r s n es (Err stop.Closed, now) h = (no_plain_flush connected es _ _, (tt, inl (of_streams n h.2, (h.0, same place r s n now h.1))))
+  flush_so connected place r s n es (Err (stop.Failed code), now) h = (
+    λ full. (no_plain_flush connected es _ _, (tt, full_so m m es full refl (ap marks_in h.0), tt)),
+    λ side. (no_plain_flush connected _ _ _, ((tt, code_word code), (of_streams n (failed_so code es side (h.2, h.0)), ap with_error (same place r s n now h.1)))),
   )
-  flush_so place r s n es (Err (stop.Trap kind), now) h = absurd h
+  flush_so connected place r s n es (Err (stop.Trap kind), now) h = absurd h
+
+  flush_by_output : (o : Option PlainOutput) → plain_output_at m output ≡ o → Meets (Replied contexts m line (step.Flush c output) taken_reply) [] (flush_by m own output o)
+  flush_by_output (Some plain) is = ends (plain_flushes contexts m line c output plain is)
+  flush_by_output None connected =
+      on_stream m own output (Replied contexts m line (step.Flush c output) taken_reply) (λ s. s.writer) with_writer (output_at m output) (λ none. (no_plain_flush connected [] _ _, ((none, rw connected tt), (refl, refl)))) flush_asks (λ r o. writer_of r flush_asks o) (λ r. refl) (λ r s. refl)
+      (λ place r s n. widen (flush_so connected place r s n) (flushes s.writer)) (output_at m output) refl
+
+  pub flush_rows : Meets (Replied contexts m line (step.Flush c output) taken_reply) [] (flushed_asks m own output)
+  flush_rows = flush_by_output (plain_output_at m output) refl
 
   pub flush : Meets (Says contexts m line (step.Flush c output)) [] (bind (flushed_asks m own output) (λ done. Give (taken_reply done.0, done.1)))
-  flush =
-      onto _ (on_stream m own output (Replied contexts m line (step.Flush c output) taken_reply) (λ s. s.writer) with_writer (output_at m output) (λ none. (tt, (none, (refl, refl)))) flush_asks (λ r o. writer_of r flush_asks o) (λ r. refl) (λ r s. refl)
-      (λ place r s n. widen (flush_so place r s n) (flushes s.writer)) (output_at m output) refl)
+  flush = onto _ flush_rows

@@ -1,4 +1,5 @@
 -- Who asks in a turn: the writes, the datagrams, the receives and the lookups of the jobs.
+use Rattle.wasi_causes.proofs.streams.Stays.{streams_turned}
 use Rattle.wasi_causes.proofs.Words.{⊤, ◌≡◌, ℕ, zero, suc, inl, inr, List, [], ◌∷◌, ◌++◌, Option, Some, None, refl, sym, ap, subst, ◌∙◌, OpId, Call, Entry, Told, WasiSocketsCtx, Fits, Give, bind, End, Waits, poll_asks, allows_keep, Allows, allows_then, WriteState, Job, job_in, job_asks, turn_asks, Machine, Streams, Tcp2Socket, turned, turn_record, turn_at, turn_job, turn_jobs, turn_store_asks, turn_machine_asks, Has, no_fields, has_split, allows_ask}
 use Rattle.wasi_causes.proofs.Words.{◌⊎◌, Done, Item, Operation, Records, Refused}
 use Rattle.wasi_world.specs.Operation.{Datagram as Received}
@@ -172,6 +173,8 @@ set_open [] i r y k h = refl
 set_open (Record.Tcp2 x ∷ xs) zero r y zero h = refl
 set_open (Record.Udp2 x ∷ xs) zero r y zero h = absurd (cc)
 set_open (Record.Lookup x ∷ xs) zero r y zero h = absurd (cc)
+set_open (Record.InputPipe x ∷ xs) zero r y zero h = absurd (cc)
+set_open (Record.OutputPipe x ∷ xs) zero r y zero h = absurd (cc)
 set_open (z ∷ xs) zero r y (suc k) h = refl
 set_open (z ∷ xs) (suc i) r y zero h = refl
 set_open (z ∷ xs) (suc i) r y (suc k) h = set_open xs i r y k h
@@ -182,6 +185,8 @@ set_tcp [] i o now k h = refl
 set_tcp (Record.Tcp2 x ∷ xs) zero o now zero h = absurd (cc)
 set_tcp (Record.Udp2 x ∷ xs) zero o now zero h = refl
 set_tcp (Record.Lookup x ∷ xs) zero o now zero h = absurd (cc)
+set_tcp (Record.InputPipe x ∷ xs) zero o now zero h = absurd (cc)
+set_tcp (Record.OutputPipe x ∷ xs) zero o now zero h = absurd (cc)
 set_tcp (z ∷ xs) zero o now (suc k) h = refl
 set_tcp (z ∷ xs) (suc i) o now zero h = refl
 set_tcp (z ∷ xs) (suc i) o now (suc k) h = set_tcp xs i o now k h
@@ -297,5 +302,5 @@ module _ (m : Machine) where
 
   pub turn : (contexts : List WasiSocketsCtx) (line : ℕ) → Meets (Says contexts m line step.Turn) [] (bind (turn_machine_asks m) (λ done. Give (reply.Ok no_fields, done.1)))
   turn contexts line =
-      onto _ (widen (λ es done k. (record { ok = refl; asked = k.0.0; handles = k.0.1.0; pending = k.0.1.1; lookups = k.1 }, (tt, tt)))
-      (both (record { along = allows_keep TurnAsks (λ es op call. ⊤) AllByJobs SameTable one_more (λ es op call its. tt) [] (turn_machine_asks m) (λ e has. absurd has) turn_by }) (lookups_turned m)))
+      onto _ (widen (λ es done k. (record { ok = refl; asked = k.0.0; handles = k.0.1.0; pending = k.0.1.1; lookups = k.1.0; streams = k.1.1.streams; pipes = λ place. (k.1.1.inputs place, k.1.1.outputs place) }, (tt, tt)))
+      (both (record { along = allows_keep TurnAsks (λ es op call. ⊤) AllByJobs SameTable one_more (λ es op call its. tt) [] (turn_machine_asks m) (λ e has. absurd has) turn_by }) (both (lookups_turned m) (streams_turned m))))

@@ -2,7 +2,7 @@
 use Rattle.wasi_causes.proofs.Words.{List, None, ◌≡◌, inl, inr, ℕ, [], ◌∷◌, IpSocketAddress, SocketAddressFamily, NoSuchHandle, HasChildren, Full, NotPermitted, Reply, Step}
 use Rattle.wasi_steps.specs.declared.reply.CodeWord.TheVariants as word
 use Rattle.wasi_world.specs.declared.datagram.OutgoingDatagram.{OutgoingDatagram}
-use Rattle.wasi_world.specs.declared.outcome.TrapKind.TheVariants.{StreamsAlive}
+use Rattle.wasi_world.specs.declared.outcome.TrapKind.TheVariants.{Capacity, StreamsAlive, TooLong}
 use Rattle.wasi_steps.specs.declared.reply.Field.TheVariants as field
 use Rattle.wasi_steps.specs.declared.reply.Reply.TheVariants as reply
 use Rattle.wasi_steps.specs.declared.step.Step.TheVariants as step
@@ -15,8 +15,18 @@ of_no_step : (line : ℕ) (s : Step) → Never line s reply.Cancelled × Never l
 of_no_step line s = (λ h. h, λ h. h)
 
 -- a poll answers for the call that it polls, and is no guest call
-of_no_poll : Never 7 (step.Poll 3) (reply.Pending 7) × Never 7 (step.Poll 3) reply.Busy × Never 7 (step.Poll 3) (reply.Ok (field.True ∷ [])) × Never 7 (step.Poll 3) reply.Closed
-of_no_poll = (λ h. absurd (let e : 7 ≡ 3 = h in cc), λ h. absurd (cc), λ h. elim h [ inl k ↦ k | inr k ↦ elim k [ inl j ↦ j.0 | inr j ↦ elim j [ inl i ↦ i.0 | inr i ↦ i ] ] ], λ h. h)
+of_no_poll : Never 7 (step.Poll 3) (reply.Pending 7) × Never 7 (step.Poll 3) reply.Busy × Never 7 (step.Poll 3) (reply.Ok (field.True ∷ [])) × Never 7 (step.Poll 3) (reply.Trap NotPermitted)
+of_no_poll = (λ h. absurd (let e : 7 ≡ 3 = h in cc), λ h. absurd (cc), λ h. elim h [ inl k ↦ k | inr k ↦ elim k [ inl j ↦ j.0 | inr j ↦ elim j [ inl i ↦ i.0 | inr i ↦ elim i [ inl l ↦ l.0 | inr l ↦ l ] ] ] ], λ h. elim h [ inl w ↦ w | inr s ↦ s ])
+
+-- a cancel is never pending, traps for nothing, gives nothing but that it is done, and ends no stream
+of_no_cancel : (n : ℕ) → Never 7 (step.Cancel 3) (reply.Pending n) × Never 7 (step.Cancel 3) (reply.Trap NoSuchHandle) × Never 7 (step.Cancel 3) (reply.Ok (field.Number n ∷ [])) × Never 7 (step.Cancel 3) reply.Closed
+of_no_cancel n = (λ h. h, λ h. h, λ h. h, λ h. h)
+
+-- a read isn't pending, one that blocks is so under its own line, is never refused and never past a permit, and gives bytes; only a
+-- write has too many bytes for a pipe, and only one that blocks too many for a call
+of_no_call : (c h len n : ℕ) (bytes : List ℕ) → Never 7 (step.Read c h len) (reply.Pending n) × Never 7 (step.BlockingRead c h len) (reply.Pending 6) × Never 7 (step.BlockingRead c h len) (reply.Err word.WouldBlock) × Never 7 (step.BlockingRead c h len) (reply.Ok (field.Number n ∷ []))
+    × Never 7 (step.BlockingWrite c h bytes) (reply.Trap Capacity) × Never 7 (step.Write c h bytes) (reply.Trap TooLong) × Never 7 (step.PipeIn c bytes) (reply.Trap NoSuchHandle)
+of_no_call c h len n bytes = (λ k. k, λ k. absurd (let e : 6 ≡ 7 = k in cc), λ k. k, λ k. k.0, λ k. k, λ k. k, λ k. k)
 
 -- a finish of a bind waits for nothing, a start of a connect isn't pending, and that of a bind is so under its own line
 of_no_start : (c s network n : ℕ) (a : IpSocketAddress) → Never 7 (step.TcpFinishBind c s) (reply.Err word.WouldBlock) × Never 7 (step.TcpStartConnect c s network a) (reply.Pending n) × Never 7 (step.TcpStartBind c s network a) (reply.Pending 6)

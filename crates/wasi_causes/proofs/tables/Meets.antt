@@ -37,6 +37,15 @@ both {One} {Two} {before} {first} t u = record { along = gives_both One Two befo
 pub granted : {A : Type 0} {P : Type 0} {Row : Rows A} {before : List Entry} {first : Asks A} → (P → Meets Row before first) → Meets (λ es a. P → Row es a) before first
 granted {P} {Row} {before} {first} t = record { along = gives_where P Row before first (λ p. (t p).along) }
 
+gives_each : {A P : Type 0} (Row : P → Rows A) (before : List Entry) (first : Asks A) → ((p : P) → Gives (Row p) before first) → Gives (λ es a. (p : P) → Row p es a) before first
+gives_each Row before (Give a) h = h
+gives_each Row before (Ask op c next) h = (tt, λ t fits. gives_each Row (before ++ entry op c t ∷ []) (next t) (λ p. (h p).1 t fits))
+gives_each Row before (AskWrite op sock bytes next) h = (tt, λ t fits taken. gives_each Row _ (next t) (λ p. (h p).1 t fits taken))
+
+-- for each of these
+pub granted_each : {A P : Type 0} {Row : P → Rows A} {before : List Entry} {first : Asks A} → ((p : P) → Meets (Row p) before first) → Meets (λ es a. (p : P) → Row p es a) before first
+granted_each {Row} {before} {first} t = record { along = gives_each Row before first (λ p. (t p).along) }
+
 pub met : {A : Type 0} {Row : Rows A} {first : Asks A} {es : List Entry} {a : A} → Meets Row [] first → Left first es (Give a) → Row es a
 met {Row} {first} {es} {a} t w = given Row first es a t.along w
 

@@ -16,9 +16,13 @@ use Rattle.wasi_causes.proofs.resolving.Begins.{resolve}
 use Rattle.wasi_causes.proofs.resolving.Hands.{network_error_code, resolve_next}
 use Rattle.wasi_causes.proofs.streams.Halves.{read, check_write, write, flush}
 use Rattle.wasi_causes.proofs.streams.Turns.{turn}
+use Rattle.wasi_causes.proofs.streams.Makes.{closed_in, closed_out, pipe_contents, pipe_in, pipe_out, sink}
+use Rattle.wasi_causes.proofs.streams.Cancels.{cancel}
+use Rattle.wasi_causes.proofs.streams.Splices.{skip, splice, write_zeroes}
+use Rattle.wasi_causes.proofs.streams.BlockingSteps.{blocking_flush, blocking_read, blocking_skip, blocking_splice, blocking_write, blocking_zeroes}
 use Rattle.wasi_causes.proofs.tables.Meets.{Meets, ends, widen, branch, met, chain, shifted}
 use Rattle.wasi_causes.proofs.tables.Routes.{Says}
-use Rattle.wasi_causes.specs.Outcomes.{Outcome, Quiet, IsStreamCall, MayRefuse, MayMiss, MayTrap, MayWait, may_answer, EachMayAnswer, LeavesMissing, Reads, Looks, Traps}
+use Rattle.wasi_causes.specs.Outcomes.{InputOfSpliceIsThere, Outcome, Quiet, IsStreamCall, MayRefuse, MayMiss, MayTrap, MayWait, may_answer, EachMayAnswer, LeavesMissing, Looks, Traps}
 use Rattle.wasi_causes.specs.Datagrams.{PendingHandleIsLive}
 use Rattle.wasi_walks.specs.Waiting.{IsPoll, left_missing}
 use Rattle.wasi_steps.specs.Steps.{context_of}
@@ -64,6 +68,22 @@ module _ (contexts : List WasiSocketsCtx) (m : Machine) (line : ℕ) where
   rows (step.CheckWrite c output) = check_write contexts m line c output
   rows (step.Write c output bytes) = write contexts m line c output bytes
   rows (step.Flush c output) = flush contexts m line c output
+  rows (step.PipeIn c bytes) = pipe_in contexts m line c bytes
+  rows (step.PipeOut c capacity) = pipe_out contexts m line c capacity
+  rows (step.PipeContents c output) = pipe_contents contexts m line c output
+  rows (step.Sink c) = sink contexts m line c
+  rows (step.ClosedIn c) = closed_in contexts m line c
+  rows (step.ClosedOut c) = closed_out contexts m line c
+  rows (step.Skip c input len) = skip contexts m line c input len
+  rows (step.WriteZeroes c output len) = write_zeroes contexts m line c output len
+  rows (step.Splice c to from len) = splice contexts m line c to from len
+  rows (step.BlockingRead c input len) = blocking_read contexts m line c input len
+  rows (step.BlockingSkip c input len) = blocking_skip contexts m line c input len
+  rows (step.BlockingWrite c output bytes) = blocking_write contexts m line c output bytes
+  rows (step.BlockingZeroes c output len) = blocking_zeroes contexts m line c output len
+  rows (step.BlockingFlush c output) = blocking_flush contexts m line c output
+  rows (step.BlockingSplice c to from len) = blocking_splice contexts m line c to from len
+  rows (step.Cancel n) = cancel contexts m line n
   rows (step.Subscribe c h) = subscribe contexts m line c h
   rows (step.Ready c p) = ready contexts m line c p
   rows (step.Drop c h) = drop contexts m line c h
@@ -126,6 +146,12 @@ misses : (m : Machine) (s : Step) → MissesHandle m s → MayMiss s
 misses m (step.Network ctx) h = h
 misses m (step.TcpCreate ctx _) h = h
 misses m (step.UdpCreate ctx _) h = h
+misses m (step.PipeIn ctx _) h = h
+misses m (step.PipeOut ctx _) h = h
+misses m (step.Sink ctx) h = h
+misses m (step.ClosedIn ctx) h = h
+misses m (step.ClosedOut ctx) h = h
+misses m (step.Cancel n) h = h
 misses m step.Turn h = h
 misses m _ h = tt
 
@@ -136,6 +162,12 @@ waits m line n (step.UdpCreate ctx _) h = h
 waits m line n (step.UdpStartBind ctx socket _ a) h = h
 waits m line n (step.UdpStream ctx socket remote) h = h
 waits m line n (step.Drop ctx handle) h = h.1
+waits m line n (step.BlockingRead ctx input len) h = h
+waits m line n (step.BlockingSkip ctx input len) h = h
+waits m line n (step.BlockingWrite ctx output bytes) h = h
+waits m line n (step.BlockingZeroes ctx output len) h = h
+waits m line n (step.BlockingFlush ctx output) h = h
+waits m line n (step.BlockingSplice ctx to from len) h = h
 waits m line n (step.Poll call) h = h
 waits m line n _ h = absurd h
 
@@ -150,6 +182,8 @@ module _ (contexts : List WasiSocketsCtx) (m : Machine) (line : ℕ) where
   traps s es trap.Full after h = h.0
   traps s es trap.NotPermitted after h = h.0
   traps s es trap.StreamsAlive after h = h.0
+  traps s es trap.Capacity after h = h.0
+  traps s es trap.TooLong after h = h.0
   traps s es _ after h = absurd h
 
   by_row : (s : Step) (es : List Entry) (r : Reply) (after : Machine) → Outcome contexts m line s es r after → may_answer line s r
@@ -189,17 +223,21 @@ no_failure line s words stream (reply.Failed w handle) h f = stream h.0
 no_failure line s words stream _ h f = f
 
 -- == what is read off for a reader
--- where a handle is missed; a poll's, where that of pending datagram streams is live
-pub missing_left : (m : Machine) (s : Step) (es : List Entry) (after : Machine) → (IsPoll s → PendingHandleIsLive m) → LeavesMissing m s es after → (es ≡ []) × (after ≡ left_missing m s)
-missing_left m (step.Poll n) es after live h = h (live tt)
-missing_left m _ es after live h = h
+-- where a handle is missed; a poll's, where that of pending datagram streams is live, and a splice's, where its input is there
+pub missing_left : (m : Machine) (s : Step) (es : List Entry) (after : Machine) → (IsPoll s → PendingHandleIsLive m) → InputOfSpliceIsThere m s → LeavesMissing m s es after → (es ≡ []) × (after ≡ left_missing m s)
+missing_left m (step.Poll n) es after live there h = h (live tt)
+missing_left m (step.Splice c to from len) es after live there h = h there
+missing_left m (step.BlockingSplice c to from len) es after live there h = h there
+missing_left m _ es after live there h = h
 
-pub trap_kinds : (contexts : List WasiSocketsCtx) (m : Machine) (line : ℕ) (s : Step) (es : List Entry) (kind : TrapKind) (after : Machine) → Traps contexts m line s es kind after → (kind ≡ trap.NoSuchHandle) ⊎ ((kind ≡ trap.HasChildren) ⊎ ((kind ≡ trap.Full) ⊎ ((kind ≡ trap.NotPermitted) ⊎ (kind ≡ trap.StreamsAlive))))
+pub trap_kinds : (contexts : List WasiSocketsCtx) (m : Machine) (line : ℕ) (s : Step) (es : List Entry) (kind : TrapKind) (after : Machine) → Traps contexts m line s es kind after → (kind ≡ trap.NoSuchHandle) ⊎ ((kind ≡ trap.HasChildren) ⊎ ((kind ≡ trap.Full) ⊎ ((kind ≡ trap.NotPermitted) ⊎ ((kind ≡ trap.StreamsAlive) ⊎ ((kind ≡ trap.Capacity) ⊎ (kind ≡ trap.TooLong))))))
 trap_kinds contexts m line s es trap.NoSuchHandle after h = inl refl
 trap_kinds contexts m line s es trap.HasChildren after h = inr (inl refl)
 trap_kinds contexts m line s es trap.Full after h = inr (inr (inl refl))
 trap_kinds contexts m line s es trap.NotPermitted after h = inr (inr (inr (inl refl)))
-trap_kinds contexts m line s es trap.StreamsAlive after h = inr (inr (inr (inr refl)))
+trap_kinds contexts m line s es trap.StreamsAlive after h = inr (inr (inr (inr (inl refl))))
+trap_kinds contexts m line s es trap.Capacity after h = inr (inr (inr (inr (inr (inl refl)))))
+trap_kinds contexts m line s es trap.TooLong after h = inr (inr (inr (inr (inr (inr refl)))))
 trap_kinds contexts m line s es _ after h = absurd h
 
 pub quiet_never : (contexts : List WasiSocketsCtx) (m : Machine) (line : ℕ) (s : Step) (es : List Entry) (w : CodeWord) (after : Machine) → IsQuiet s → Answered contexts m line s es (reply.Err w) after → ⊥
@@ -213,11 +251,6 @@ quiet_stays contexts m line (step.TcpIsListening c handle) es r after q = of_ans
 quiet_stays contexts m line (step.TcpAddressFamily c handle) es r after q = of_answer contexts m line (step.TcpAddressFamily c handle) (λ es r after. Quiet m es after) (refl, refl) (λ es r after row. row.0) es r after
 quiet_stays contexts m line (step.UdpAddressFamily c handle) es r after q = of_answer contexts m line (step.UdpAddressFamily c handle) (λ es r after. Quiet m es after) (refl, refl) (λ es r after row. row.0) es r after
 quiet_stays contexts m line _ es r after q = absurd q
-
-pub reads_stay : (m : Machine) (line input len : ℕ) (es : List Entry) (fields : List Field) (after : Machine) → Reads m line input len es fields after → after ≡ m
-reads_stay m line input len es (field.Bytes [] ∷ []) after h = h.1
-reads_stay m line input len es (field.Bytes (b ∷ bytes) ∷ []) after h = h.1
-reads_stay m line input len es _ after h = absurd h
 
 pub two_values : (m : Machine) (line pollable : ℕ) (es : List Entry) (fields : List Field) → Looks m line pollable es fields → (fields ≡ truth_fields true) ⊎ (fields ≡ truth_fields false)
 two_values m line pollable es (field.True ∷ []) h = inl refl

@@ -6,6 +6,6 @@ use Rattle.wasi_steps.specs.declared.step.Step.TheVariants as step
 
 pub returns : goal.returns
 returns c = record {
-  outgoing = λ contexts m line ctx pollable place entries reply after free at w. let h = (while_free contexts m line (step.Ready ctx pollable) free entries reply after w).0.2 place at in (h.0, h.1.0, h.1.1);
-  incoming = λ contexts m line ctx pollable place entries after at w. (its_own contexts m line (step.Ready ctx pollable) entries (reply.Ok (truth_fields false)) after w (λ e. cc)).0.3 place at refl;
+  outgoing = λ contexts m line ctx pollable place entries reply after free at w. let h = (while_free contexts m line (step.Ready ctx pollable) free entries reply after w).0.3 place at in (h.0, h.1.0, h.1.1);
+  incoming = λ contexts m line ctx pollable place entries after at w. (its_own contexts m line (step.Ready ctx pollable) entries (reply.Ok (truth_fields false)) after w (λ e. cc)).0.4 place at refl;
 }

@@ -7,6 +7,6 @@ use Rattle.wasi_causes.proofs.lookups.lookups_are_watched_and_dropped.Goals as g
 
 pub returns : goal.returns
 returns c = record {
-  watched = λ contexts m line ctx pollable place entries reply after free at w. let h = (while_free contexts m line (step.Ready ctx pollable) free entries reply after w).0.4 place at in (h.0, h.1.0, h.1.1);
+  watched = λ contexts m line ctx pollable place entries reply after free at w. let h = (while_free contexts m line (step.Ready ctx pollable) free entries reply after w).0.5 place at in (h.0, h.1.0, h.1.1);
   dropped = λ contexts m line ctx handle place l fields entries after is at w. subst (λ k. Gone m line handle k entries after) is (its_own contexts m line (step.Drop ctx handle) entries (reply.Ok fields) after w (λ e. cc)).1.1.1 l at;
 }

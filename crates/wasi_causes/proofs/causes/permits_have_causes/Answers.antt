@@ -1,8 +1,0 @@
-use Rattle.wasi_steps.specs.declared.step.Step.TheVariants as step
-use Rattle.wasi_steps.specs.declared.reply.Reply.TheVariants as reply
-use Rattle.wasi_steps.specs.Reply.{number_fields}
-use Rattle.wasi_causes.proofs.tables.Steps.{its_own}
-use Rattle.wasi_causes.proofs.causes.permits_have_causes.Goals as goal
-
-pub returns : goal.returns
-returns c = λ contexts m line ctx output n entries after w. (its_own contexts m line (step.CheckWrite ctx output) entries (reply.Ok (number_fields n)) after w (λ e. cc)).1.1

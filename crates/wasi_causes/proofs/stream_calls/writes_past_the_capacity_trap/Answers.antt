@@ -1,0 +1,11 @@
+use Rattle.wasi_steps.specs.declared.step.Step.TheVariants as step
+use Rattle.wasi_steps.specs.declared.reply.Reply.TheVariants as reply
+use Rattle.wasi_world.specs.declared.outcome.TrapKind.TheVariants.{Capacity}
+use Rattle.wasi_causes.proofs.tables.Steps.{its_own, while_free}
+use Rattle.wasi_causes.proofs.stream_calls.writes_past_the_capacity_trap.Goals as goal
+
+pub returns : goal.returns
+returns c = record {
+  exactly = λ contexts m line ctx output bytes entries reply after free w. (while_free contexts m line (step.Write ctx output bytes) free entries reply after w).0.1;
+  stays = λ contexts m line ctx output bytes entries after w. (its_own contexts m line (step.Write ctx output bytes) entries (reply.Trap Capacity) after w (λ e. cc)).1.1;
+}

@@ -1,0 +1,103 @@
+-- What a turn leaves of the streams of connections, and of pipes.
+use Rattle.wasi_causes.proofs.Words.{◌≡◌, ◌∙◌, ℕ, List, [], ◌∷◌, Option, Some, None, IsSome, inl, inr, refl, sym, subst, ap, Machine, Streams, Tcp2Socket, set_get, slice_get, streams_in, turn_asks, turn_at, turn_job, turn_jobs, turn_machine_asks, turned}
+use Rattle.wasi_host.specs.Datagrams.{turn_outgoing}
+use Rattle.wasi_host.specs.Jobs.{turn_datagram_at, turn_receive_at}
+use Rattle.wasi_host.specs.NameLookup.{turn_lookup, turn_lookup_at}
+use Rattle.wasi_host.specs.Receiving.{turn_incoming}
+use Rattle.wasi_host.specs.Records.{input_pipe_at, lookup_at, lookup_put, open_at, open_put, output_pipe_at, tcp2_at, tcp2_put, udp2_at}
+use Rattle.wasi_host.specs.declared.jobs.HostJob.{HostJob}
+use Rattle.wasi_host.specs.declared.jobs.HostJob.TheVariants as job
+use Rattle.wasi_host.specs.declared.name_lookup.Lookup.{Lookup}
+use Rattle.wasi_host.specs.declared.records.Record.{Record}
+use Rattle.wasi_host.specs.declared.udp.OpenUdp.{OpenUdp}
+use Rattle.wasi_host.specs.declared.udp.Udp2Socket.TheVariants.{Open}
+use Rattle.wasi_walks.proofs.LookupLists.{tcp_lookup_put}
+use Rattle.wasi_walks.proofs.UdpLists.{tcp_in_put}
+use Rattle.wasi_walks.proofs.walks.Udp.{open_is}
+use Rattle.wasi_causes.proofs.streams.Pipes.{input_set, lookup_no_pipe, output_set, tcp_no_pipe, udp_no_pipe}
+use Rattle.wasi_causes.proofs.tables.Meets.{Meets, chain, ends, onto, shifted, whatever, widen}
+
+-- The connections that have streams have them, and pipes are as they were.
+pub record StreamsStay (old now : List Record) : Type 0 where
+  pub streams : (k : ℕ) → IsSome (streams_in (tcp2_at old k)) → IsSome (streams_in (tcp2_at now k))
+  pub inputs : (k : ℕ) → input_pipe_at now k ≡ input_pipe_at old k
+  pub outputs : (k : ℕ) → output_pipe_at now k ≡ output_pipe_at old k
+
+stay_same : (xs : List Record) → StreamsStay xs xs
+stay_same xs = record { streams = λ k h. h; inputs = λ k. refl; outputs = λ k. refl }
+
+stay_then : (one two three : List Record) → StreamsStay one two → StreamsStay two three → StreamsStay one three
+stay_then one two three s t = record { streams = λ k h. t.streams k (s.streams k h); inputs = λ k. t.inputs k ∙ s.inputs k; outputs = λ k. t.outputs k ∙ s.outputs k }
+
+-- == one record changes
+abbrev KeepsStreams : Tcp2Socket → Tcp2Socket → Type 0
+KeepsStreams r now = IsSome r.streams → IsSome now.streams
+
+-- the streams of the record at a place, by what that is
+streams_by : (o : Option Tcp2Socket) → IsSome (streams_in o) → (r : Tcp2Socket) × (o ≡ Some r) × IsSome r.streams
+streams_by None h = absurd (cc)
+streams_by (Some r) h = (r, refl, h)
+
+tcp_put : (xs : List Record) (i : ℕ) (r now : Tcp2Socket) → tcp2_at xs i ≡ Some r → KeepsStreams r now → StreamsStay xs (tcp2_put xs i now)
+tcp_put xs i r now at keeps = record {
+  streams = λ k h.
+      let found = streams_by (tcp2_at xs k) h in
+      elim (set_get xs i now k found.0 found.1) [
+        | inl e ↦ subst (λ (o : Option Tcp2Socket). IsSome (streams_in o)) (sym e) found.2
+        | inr e ↦ let same : r ≡ found.0 = its (sym at ∙ (ap (tcp2_at xs) (sym e.0) ∙ found.1)) in subst (λ (o : Option Tcp2Socket). IsSome (streams_in o)) (sym e.1) (keeps (subst (λ (x : Tcp2Socket). IsSome x.streams) (sym same) found.2))
+      ];
+  inputs = λ k. input_set xs i (Record.Tcp2 now) k (tcp_no_pipe (slice_get xs i) r at).0 refl;
+  outputs = λ k. output_set xs i (Record.Tcp2 now) k (tcp_no_pipe (slice_get xs i) r at).1 refl;
+}
+  where
+    its : {x y : Tcp2Socket} → Some x ≡ Some y → x ≡ y
+    its e = cc
+
+udp_put : (xs : List Record) (i : ℕ) (o now : OpenUdp) → open_at xs i ≡ Some o → StreamsStay xs (open_put xs i now)
+udp_put xs i o now at = record {
+  streams = λ k h. let found = streams_by (tcp2_at xs k) h in subst (λ (x : Option Tcp2Socket). IsSome (streams_in x)) (sym (tcp_in_put xs i (Open o) (Open now) k found.0 (open_is (udp2_at xs i) o at) found.1)) found.2;
+  inputs = λ k. input_set xs i (Record.Udp2 (Open now)) k (udp_no_pipe (slice_get xs i) (Open o) (open_is (udp2_at xs i) o at)).0 refl;
+  outputs = λ k. output_set xs i (Record.Udp2 (Open now)) k (udp_no_pipe (slice_get xs i) (Open o) (open_is (udp2_at xs i) o at)).1 refl;
+}
+
+put_lookup : (xs : List Record) (i : ℕ) (l now : Lookup) → lookup_at xs i ≡ Some l → StreamsStay xs (lookup_put xs i now)
+put_lookup xs i l now at = record {
+  streams = λ k h. subst (λ (o : Option Tcp2Socket). IsSome (streams_in o)) (sym (tcp_lookup_put xs i l now k at)) h;
+  inputs = λ k. input_set xs i (Record.Lookup now) k (lookup_no_pipe (slice_get xs i) l at).0 refl;
+  outputs = λ k. output_set xs i (Record.Lookup now) k (lookup_no_pipe (slice_get xs i) l at).1 refl;
+}
+
+-- == a job
+record_stays : (r : Tcp2Socket) (o : Option Streams) → r.streams ≡ o → Meets (λ es now. KeepsStreams r now) [] (turned r o)
+record_stays r None has = ends (λ h. h)
+record_stays r (Some s) has = onto _ (widen (λ es done k. λ h. refl) (whatever (turn_asks s.writer)))
+
+write_stays : (xs : List Record) (place : ℕ) (o : Option Tcp2Socket) → tcp2_at xs place ≡ o → Meets (λ es now. StreamsStay xs now) [] (turn_at xs place o)
+write_stays xs place None at = ends (stay_same xs)
+write_stays xs place (Some r) at = onto _ (widen (λ es now k. tcp_put xs place r now at k) (record_stays r r.streams refl))
+
+datagram_stays : (xs : List Record) (place : ℕ) (o : Option OpenUdp) → open_at xs place ≡ o → Meets (λ es now. StreamsStay xs now) [] (turn_datagram_at xs place o)
+datagram_stays xs place None at = ends (stay_same xs)
+datagram_stays xs place (Some o) at = onto _ (widen (λ es now k. udp_put xs place o now at) (whatever (turn_outgoing o o.outgoing)))
+
+receive_stays : (xs : List Record) (place : ℕ) (o : Option OpenUdp) → open_at xs place ≡ o → Meets (λ es now. StreamsStay xs now) [] (turn_receive_at xs place o)
+receive_stays xs place None at = ends (stay_same xs)
+receive_stays xs place (Some o) at = onto _ (widen (λ es now k. udp_put xs place o now at) (whatever (turn_incoming o o.incoming)))
+
+lookup_stays : (xs : List Record) (place : ℕ) (o : Option Lookup) → lookup_at xs place ≡ o → Meets (λ es now. StreamsStay xs now) [] (turn_lookup_at xs place o)
+lookup_stays xs place None at = ends (stay_same xs)
+lookup_stays xs place (Some l) at = onto _ (widen (λ es now k. put_lookup xs place l now at) (whatever (turn_lookup l)))
+
+job_stays : (xs : List Record) (its : HostJob) → Meets (λ es now. StreamsStay xs now) [] (turn_job xs its)
+job_stays xs (job.Write place) = write_stays xs place (tcp2_at xs place) refl
+job_stays xs (job.Datagram place) = datagram_stays xs place (open_at xs place) refl
+job_stays xs (job.Receive place) = receive_stays xs place (open_at xs place) refl
+job_stays xs (job.Lookup place) = lookup_stays xs place (lookup_at xs place) refl
+
+-- == all of them
+jobs_stay : (jobs : List HostJob) (xs : List Record) → Meets (λ es now. StreamsStay xs now) [] (turn_jobs jobs xs)
+jobs_stay [] xs = ends (stay_same xs)
+jobs_stay (its ∷ jobs) xs = chain {Mid = λ es now. StreamsStay xs now} (job_stays xs its) (λ es now k. widen (λ fs done a. stay_then xs now done k a.row) (shifted es (jobs_stay jobs now)))
+
+pub streams_turned : (m : Machine) → Meets (λ es done. StreamsStay m.store.records done.1.store.records) [] (turn_machine_asks m)
+streams_turned m = onto _ (onto _ (jobs_stay m.store.jobs m.store.records))

@@ -1,0 +1,66 @@
+-- What is left of a pending call that is given up.
+use Rattle.std.specs.Prelude.{◌≡◌, ℕ, List, [], ◌∷◌, Some, None}
+use Rattle.wasi_world.specs.declared.call.Call.TheVariants as call
+use Rattle.wasi_world.specs.declared.call.Entry.{Entry}
+use Rattle.wasi_world.specs.declared.call.Told.TheVariants as told
+use Rattle.wasi_tcp.specs.Socket.{side_of}
+use Rattle.wasi_udp.specs.Create.{Create}
+use Rattle.wasi_host.specs.declared.binding.InProgress.TheVariants as doing
+use Rattle.wasi_host.specs.declared.jobs.HostJob.TheVariants.{Datagram}
+use Rattle.wasi_host.specs.declared.listening.Listening.TheVariants.{Not}
+use Rattle.wasi_host.specs.declared.machine.Machine.{Machine}
+use Rattle.wasi_host.specs.declared.socket.Tcp2Socket.{Tcp2Socket}
+use Rattle.wasi_host.specs.declared.store.StandingCall.{StandingCall}
+use Rattle.wasi_host.specs.declared.store.StandingCall.TheVariants.{Bind, Listen, DropOutput, UdpCreate, UdpBind, UdpConnect, DropOutgoing, Blocking}
+use Rattle.wasi_host.specs.declared.udp.OpenUdp.{OpenUdp}
+use Rattle.wasi_host.specs.declared.udp.Udp2Socket.TheVariants as udp
+use Rattle.wasi_host.specs.declared.udp.UdpInProgress.TheVariants as udp_doing
+use Rattle.wasi_host.specs.Cancel.{without_datagrams}
+use Rattle.wasi_host.specs.Listening.{with_listening}
+use Rattle.wasi_host.specs.Records.{tcp2_at, udp2_at, open_at}
+use Rattle.wasi_host.specs.Store.{with_progress}
+use Rattle.wasi_host.specs.Udp.{with_udp_progress}
+use Rattle.wasi_host.specs.UdpCalls.{with_open_udp, with_udp}
+use Rattle.wasi_steps.specs.declared.step.Step.{Step}
+use Rattle.wasi_steps.specs.declared.step.Step.TheVariants as step
+use Rattle.wasi_walks.specs.Answered.{putting}
+use Rattle.wasi_walks.specs.Licence.{Has, entry}
+use Rattle.wasi_walks.specs.Waiting.{PendingCallsFit, nothing_stands}
+use Rattle.wasi_causes.specs.GivenUp.{listening_given_up}
+use Rattle.wasi_causes.specs.Udp.{putting_udp}
+
+abbrev pub IsCancel : Step → Type 0
+IsCancel (step.Cancel n) = Unit {0}
+IsCancel _ = ⊥
+
+-- nothing was asked, and the machine is as it was, but that nothing is pending
+abbrev pub OnlyUnstands : Machine → List Entry → Machine → Type 0
+OnlyUnstands m es after = (es ≡ []) × (after ≡ nothing_stands m)
+
+-- What is left of a listen: its network socket was closed, and none is left of its socket, where that one had none any more.
+pub record ListenGivenUp (m : Machine) (place : ℕ) (r : Tcp2Socket) (es : List Entry) (after : Machine) : Type 0 where
+  pub asked : es ≡ listening_given_up r.listening
+  pub left : after ≡ putting (nothing_stands m) place (with_listening r Not)
+  pub closed : PendingCallsFit m → side_of r.inner ≡ None
+
+-- What is left of a create: its network socket was closed, where it is one, and of the record only the name of that is left.
+pub record CreateGivenUp (m : Machine) (place : ℕ) (create : Create) (es : List Entry) (after : Machine) : Type 0 where
+  pub asked : PendingCallsFit m → es ≡ entry create.operation.who.id (call.Close create.operation.who.side) told.Done ∷ []
+  pub left : after ≡ record m { store = with_udp (nothing_stands m).store place (udp.Closed create.operation.who.side) }
+
+-- What is left of the drop of an outgoing datagram stream: the stream is gone, and its datagram with it, which no turn sends any more.
+pub record OutgoingGivenUp (m : Machine) (place : ℕ) (o : OpenUdp) (es : List Entry) (after : Machine) : Type 0 where
+  pub quiet : es ≡ []
+  pub left : after ≡ record m { store = without_datagrams place (with_open_udp (nothing_stands m).store place (record o { outgoing = None })) }
+  pub job : Has after.store.jobs (Datagram place) → ⊥
+
+-- a bind and a connect leave nothing in progress; an output that waits stays as it is, and what a call of a stream has written
+abbrev pub CancelsBy : Machine → List Entry → Machine → StandingCall → Type 0
+CancelsBy m es after (Bind place) = (r : Tcp2Socket) → tcp2_at m.store.records place ≡ Some r → (es ≡ []) × (after ≡ putting (nothing_stands m) place (with_progress r doing.Nothing))
+CancelsBy m es after (Listen place) = (r : Tcp2Socket) → tcp2_at m.store.records place ≡ Some r → ListenGivenUp m place r es after
+CancelsBy m es after (DropOutput place) = OnlyUnstands m es after
+CancelsBy m es after (UdpCreate place) = (create : Create) → udp2_at m.store.records place ≡ Some (udp.Creating create) → CreateGivenUp m place create es after
+CancelsBy m es after (UdpBind place) = (o : OpenUdp) → open_at m.store.records place ≡ Some o → (es ≡ []) × (after ≡ putting_udp (nothing_stands m) place (with_udp_progress o udp_doing.Nothing))
+CancelsBy m es after (UdpConnect place handle) = (o : OpenUdp) → open_at m.store.records place ≡ Some o → (es ≡ []) × (after ≡ putting_udp (nothing_stands m) place (record o { connecting = None }))
+CancelsBy m es after (DropOutgoing place) = (o : OpenUdp) → open_at m.store.records place ≡ Some o → OutgoingGivenUp m place o es after
+CancelsBy m es after (Blocking call) = OnlyUnstands m es after

@@ -1,0 +1,173 @@
+-- What each step may reply: fields of its kinds, the words that may refuse it, an end or a failure of a stream, its traps, pending,
+-- busy, and `no-such-call`.
+use Rattle.std.specs.Prelude.{◌≡◌, ◌⊎◌, ⊤, ℕ, ◌+◌, true, List, [], ◌∷◌, Option}
+use Rattle.wasi_addr.specs.declared.address.IpAddress.{IpAddress}
+use Rattle.wasi_addr.specs.declared.address.IpSocketAddress.{IpSocketAddress}
+use Rattle.wasi_addr.specs.declared.code.ErrorCode.{ErrorCode}
+use Rattle.wasi_world.specs.declared.datagram.IncomingDatagram.{IncomingDatagram}
+use Rattle.wasi_world.specs.declared.outcome.TrapKind.{TrapKind}
+use Rattle.wasi_world.specs.declared.outcome.TrapKind.TheVariants.{NoSuchHandle, HasChildren, Full, NotPermitted, StreamsAlive, Capacity, TooLong}
+use Rattle.wasi_machine.specs.Machine.{is_guest_call}
+use Rattle.wasi_steps.specs.declared.reply.CodeWord.{CodeWord}
+use Rattle.wasi_steps.specs.declared.reply.CodeWord.TheVariants as word
+use Rattle.wasi_steps.specs.declared.reply.Field.{Field}
+use Rattle.wasi_steps.specs.declared.reply.Field.TheVariants as field
+use Rattle.wasi_steps.specs.declared.reply.Reply.{Reply}
+use Rattle.wasi_steps.specs.declared.reply.Reply.TheVariants as reply
+use Rattle.wasi_steps.specs.declared.step.Step.{Step}
+use Rattle.wasi_steps.specs.declared.step.Step.TheVariants as step
+use Rattle.wasi_steps.specs.Replies.{FieldKind, ANumber, SomeBytes, Truth, Nothing, FieldKinds, Each, AnAddress, AnIpOrNone, ADatagramList, OneOf, kinds_of}
+use Rattle.wasi_steps.specs.Reply.{address_values, datagram_values, found_values}
+use Rattle.wasi_walks.specs.Answered.{word_of_code}
+use Rattle.wasi_walks.specs.Missing.{IsWrite, MakesHandle}
+use Rattle.wasi_walks.specs.Waiting.{IsPoll}
+use Rattle.wasi_causes.specs.Cancelled.{IsCancel}
+use Rattle.wasi_causes.specs.Datagrams.{IsUdpSend, IsUdpStream}
+use Rattle.wasi_causes.specs.GivenUp.{IsDrop}
+
+-- == the fields of a reply that is done
+abbrev pub IsLike : FieldKind → Field → Type 0
+IsLike ANumber (field.Number n) = ⊤
+IsLike SomeBytes (field.Bytes bytes) = ⊤
+IsLike Truth field.True = ⊤
+IsLike Truth field.False = ⊤
+IsLike Nothing field.Absent = ⊤
+IsLike _ _ = ⊥
+
+abbrev pub EachLike : List FieldKind → List Field → Type 0
+EachLike [] [] = ⊤
+EachLike (kind ∷ kinds) (f ∷ fields) = IsLike kind f × EachLike kinds fields
+EachLike _ _ = ⊥
+
+abbrev pub LikeOneOf : List (List FieldKind) → List Field → Type 0
+LikeOneOf [] fields = ⊥
+LikeOneOf (kinds ∷ lists) fields = EachLike kinds fields ⊎ LikeOneOf lists fields
+
+-- one of each of these kinds, or the numbers of an address, or those of one with no port, or none, or the fields of datagrams, or those
+-- of one of these lists; nothing is said of widths
+abbrev pub AreLike : FieldKinds → List Field → Type 0
+AreLike (Each kinds) fields = EachLike kinds fields
+AreLike AnAddress fields = (a : IpSocketAddress) × (fields ≡ address_values a)
+AreLike AnIpOrNone fields = (found : Option IpAddress) × (fields ≡ found_values found)
+AreLike ADatagramList fields = (ds : List IncomingDatagram) × (fields ≡ datagram_values ds)
+AreLike (OneOf lists) fields = LikeOneOf lists fields
+
+-- == the words of refusals
+-- The word of a code that the network may tell, or a test of the host's own answers.
+pub record IsCodeWord (w : CodeWord) : Type 0 where
+  pub code : ErrorCode
+  pub is : w ≡ word_of_code code
+
+-- by which word a step may be refused; beside codes the host has three words of its own, and lookups have theirs
+abbrev pub MayRefuse : Step → CodeWord → Type 0
+MayRefuse (step.TcpCreate ctx family) w = IsCodeWord w
+MayRefuse (step.TcpStartBind ctx socket network a) w = (w ≡ word.ConcurrencyConflict) ⊎ IsCodeWord w
+MayRefuse (step.TcpFinishBind ctx socket) w = w ≡ word.NotInProgress
+MayRefuse (step.TcpStartConnect ctx socket network a) w = (w ≡ word.ConcurrencyConflict) ⊎ IsCodeWord w
+MayRefuse (step.TcpFinishConnect ctx socket) w = (w ≡ word.NotInProgress) ⊎ ((w ≡ word.WouldBlock) ⊎ IsCodeWord w)
+MayRefuse (step.TcpStartListen ctx socket) w = (w ≡ word.ConcurrencyConflict) ⊎ IsCodeWord w
+MayRefuse (step.TcpFinishListen ctx socket) w = w ≡ word.NotInProgress
+MayRefuse (step.TcpAccept ctx socket) w = (w ≡ word.WouldBlock) ⊎ IsCodeWord w
+MayRefuse (step.TcpLocalAddress ctx socket) w = IsCodeWord w
+MayRefuse (step.TcpRemoteAddress ctx socket) w = IsCodeWord w
+MayRefuse (step.TcpGet ctx socket option) w = IsCodeWord w
+MayRefuse (step.TcpSet ctx socket setting) w = IsCodeWord w
+MayRefuse (step.TcpShutdown ctx socket how) w = w ≡ word.InvalidState
+MayRefuse (step.UdpCreate ctx family) w = IsCodeWord w
+MayRefuse (step.UdpStartBind ctx socket network a) w = (w ≡ word.ConcurrencyConflict) ⊎ IsCodeWord w
+MayRefuse (step.UdpFinishBind ctx socket) w = w ≡ word.NotInProgress
+MayRefuse (step.UdpLocalAddress ctx socket) w = IsCodeWord w
+MayRefuse (step.UdpRemoteAddress ctx socket) w = w ≡ word.InvalidState
+MayRefuse (step.UdpGet ctx socket option) w = IsCodeWord w
+MayRefuse (step.UdpSet ctx socket setting) w = IsCodeWord w
+MayRefuse (step.UdpStream ctx socket remote) w = IsCodeWord w
+MayRefuse (step.UdpReceive ctx incoming most) w = IsCodeWord w
+MayRefuse (step.UdpSend ctx outgoing datagrams) w = IsCodeWord w
+MayRefuse (step.Resolve ctx network name) w = (w ≡ word.PermanentResolverFailure) ⊎ ((w ≡ word.InvalidArgument) ⊎ (w ≡ word.NameUnresolvable))
+MayRefuse (step.ResolveNext ctx lookup) w = (w ≡ word.WouldBlock) ⊎ (w ≡ word.NameUnresolvable)
+MayRefuse (step.Poll n) w = IsCodeWord w
+MayRefuse _ w = ⊥
+
+-- == the other replies
+-- a call of a stream, which may end, or fail and hand an error out; and a poll, of one that blocks
+abbrev pub IsStreamCall : Step → Type 0
+IsStreamCall (step.Read ctx input len) = ⊤
+IsStreamCall (step.Skip ctx input len) = ⊤
+IsStreamCall (step.CheckWrite ctx output) = ⊤
+IsStreamCall (step.Write ctx output bytes) = ⊤
+IsStreamCall (step.WriteZeroes ctx output len) = ⊤
+IsStreamCall (step.Flush ctx output) = ⊤
+IsStreamCall (step.Splice ctx to from len) = ⊤
+IsStreamCall (step.BlockingRead ctx input len) = ⊤
+IsStreamCall (step.BlockingSkip ctx input len) = ⊤
+IsStreamCall (step.BlockingWrite ctx output bytes) = ⊤
+IsStreamCall (step.BlockingZeroes ctx output len) = ⊤
+IsStreamCall (step.BlockingFlush ctx output) = ⊤
+IsStreamCall (step.BlockingSplice ctx to from len) = ⊤
+IsStreamCall (step.Poll n) = ⊤
+IsStreamCall _ = ⊥
+
+-- a step that names no handle misses none
+abbrev pub MayMiss : Step → Type 0
+MayMiss (step.Network ctx) = ⊥
+MayMiss (step.TcpCreate ctx family) = ⊥
+MayMiss (step.UdpCreate ctx family) = ⊥
+MayMiss (step.PipeIn ctx bytes) = ⊥
+MayMiss (step.PipeOut ctx capacity) = ⊥
+MayMiss (step.Sink ctx) = ⊥
+MayMiss (step.ClosedIn ctx) = ⊥
+MayMiss (step.ClosedOut ctx) = ⊥
+MayMiss step.Turn = ⊥
+MayMiss (step.Cancel n) = ⊥
+MayMiss _ = ⊤
+
+-- it may be of more bytes than one call may write
+abbrev pub IsBlockingWrite : Step → Type 0
+IsBlockingWrite (step.BlockingWrite ctx output bytes) = ⊤
+IsBlockingWrite (step.BlockingZeroes ctx output len) = ⊤
+IsBlockingWrite _ = ⊥
+
+abbrev pub MayTrap : Step → TrapKind → Type 0
+MayTrap s NoSuchHandle = MayMiss s
+MayTrap s HasChildren = IsDrop s
+MayTrap s Full = MakesHandle s
+MayTrap s NotPermitted = IsWrite s ⊎ IsUdpSend s
+MayTrap s StreamsAlive = IsUdpStream s
+MayTrap s Capacity = IsWrite s
+MayTrap s TooLong = IsBlockingWrite s
+MayTrap s _ = ⊥
+
+-- under which number it may be pending
+abbrev pub MayWait : ℕ → Step → ℕ → Type 0
+MayWait line (step.TcpStartBind ctx socket network a) n = n ≡ line
+MayWait line (step.TcpStartListen ctx socket) n = n ≡ line
+MayWait line (step.UdpCreate ctx family) n = n ≡ line
+MayWait line (step.UdpStartBind ctx socket network a) n = n ≡ line
+MayWait line (step.UdpStream ctx socket remote) n = n ≡ line
+MayWait line (step.Drop ctx handle) n = n ≡ line
+MayWait line (step.BlockingRead ctx input len) n = n ≡ line
+MayWait line (step.BlockingSkip ctx input len) n = n ≡ line
+MayWait line (step.BlockingWrite ctx output bytes) n = n ≡ line
+MayWait line (step.BlockingZeroes ctx output len) n = n ≡ line
+MayWait line (step.BlockingFlush ctx output) n = n ≡ line
+MayWait line (step.BlockingSplice ctx to from len) n = n ≡ line
+MayWait line (step.Poll call) n = n ≡ call
+MayWait line _ n = ⊥
+
+-- what the step of this line may reply
+abbrev pub may_answer : ℕ → Step → Reply → Type 0
+may_answer line s (reply.Ok fields) = AreLike (kinds_of s) fields
+may_answer line s (reply.Err w) = MayRefuse s w
+may_answer line s reply.Closed = IsStreamCall s
+may_answer line s (reply.Failed w handle) = IsStreamCall s × IsCodeWord w
+may_answer line s (reply.Trap kind) = MayTrap s kind
+may_answer line s (reply.Pending n) = MayWait line s n
+may_answer line s reply.Busy = is_guest_call s ≡ true
+may_answer line s reply.NoSuchCall = IsPoll s ⊎ IsCancel s
+may_answer line s _ = ⊥
+
+-- these are replies of the first of these steps, one each, from this line on
+abbrev pub EachMayAnswer : ℕ → List Step → List Reply → Type 0
+EachMayAnswer line steps [] = ⊤
+EachMayAnswer line (s ∷ steps) (r ∷ replies) = may_answer line s r × EachMayAnswer (line + 1) steps replies
+EachMayAnswer line [] (r ∷ replies) = ⊥
