@@ -15,3 +15,4 @@ mod Generated
 mod Newlines
 mod GeneratedSteps
 mod OwnErrors
+mod Contents

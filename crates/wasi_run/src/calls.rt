@@ -15,7 +15,9 @@ ghost use Rattle.wasi_steps.specs.Steps.{context_of};
 use std::alloc::{AllocError, Global};
 use wasi_addr::p2;
 use wasi_host::{Kind, Machine, SocketError, Store, WasiSocketsCtxView};
-use wasi_machine::replies::{answer_reply, reply_of, resumed_reply, stream_reply_of};
+use wasi_machine::replies::{
+    answer_reply, blocked_reply, cancelled_reply, reply_of, resumed_reply, stream_reply_of,
+};
 use wasi_p2::{ip_name_lookup, tcp, udp};
 use wasi_steps::{NoCode, Reply, Step, TcpSetting, UdpOption, UdpSetting};
 use wasi_streams::{Fault, Table};
@@ -261,6 +263,84 @@ fn call<W: World>(
             let flushed = wasi_host::flush(view, world, ids, output);
             stream_reply_of(alloc, flushed)
         }
+        Step::PipeIn { bytes, .. } => {
+            let made = wasi_host::make_input_pipe(view, world, ids, bytes);
+            reply_of(alloc, socket_result(made))
+        }
+        Step::PipeOut { capacity, .. } => {
+            let made = wasi_host::make_output_pipe(alloc, view, world, ids, capacity as usize);
+            reply_of(alloc, socket_result(made))
+        }
+        Step::PipeContents { output, .. } => {
+            let contents = wasi_host::pipe_contents(alloc, view, output);
+            reply_of(alloc, socket_result(contents))
+        }
+        Step::Sink { .. } => {
+            let made = wasi_host::make_sink(view, world, ids);
+            reply_of(alloc, socket_result(made))
+        }
+        Step::ClosedIn { .. } => {
+            let made = wasi_host::make_closed_input(view, world, ids);
+            reply_of(alloc, socket_result(made))
+        }
+        Step::ClosedOut { .. } => {
+            let made = wasi_host::make_closed_output(view, world, ids);
+            reply_of(alloc, socket_result(made))
+        }
+        Step::Skip { input, len, .. } => {
+            let skipped = wasi_host::skip(alloc, view, world, ids, input, len);
+            stream_reply_of(alloc, skipped)
+        }
+        Step::WriteZeroes { output, len, .. } => {
+            let written = wasi_host::write_zeroes(alloc, view, world, ids, output, len);
+            stream_reply_of(alloc, written)
+        }
+        Step::Splice {
+            output,
+            input,
+            len,
+            ..
+        } => {
+            let spliced = wasi_host::splice(alloc, view, world, ids, output, input, len);
+            stream_reply_of(alloc, spliced)
+        }
+        Step::BlockingRead { input, len, .. } => {
+            let read = wasi_host::blocking_read(alloc, view, world, ids, input, len);
+            blocked_reply(alloc, ids.line, read)
+        }
+        Step::BlockingSkip { input, len, .. } => {
+            let skipped = wasi_host::blocking_skip(alloc, view, world, ids, input, len);
+            blocked_reply(alloc, ids.line, skipped)
+        }
+        Step::BlockingWrite { output, bytes, .. } => {
+            let written = wasi_host::blocking_write_and_flush(
+                alloc, view, world, ids, output, bytes,
+            );
+            blocked_reply(alloc, ids.line, written)
+        }
+        Step::BlockingZeroes { output, len, .. } => {
+            let written = wasi_host::blocking_write_zeroes_and_flush(
+                alloc, view, world, ids, output, len,
+            );
+            blocked_reply(alloc, ids.line, written)
+        }
+        Step::BlockingFlush { output, .. } => {
+            let flushed = wasi_host::blocking_flush(view, world, ids, output);
+            blocked_reply(alloc, ids.line, flushed)
+        }
+        Step::BlockingSplice {
+            output,
+            input,
+            len,
+            ..
+        } => {
+            let spliced = wasi_host::blocking_splice(alloc, view, world, ids, output, input, len);
+            blocked_reply(alloc, ids.line, spliced)
+        }
+        Step::Cancel { call } => {
+            let cancelled = wasi_host::cancel(view, world, call)?;
+            Ok(cancelled_reply(alloc, cancelled))
+        }
         Step::Subscribe { handle, .. } => {
             let made = wasi_host::subscribe(view, world, ids, handle);
             reply_of(alloc, socket_result(made))
@@ -278,7 +358,7 @@ fn call<W: World>(
             Ok(Reply::done(alloc))
         }
         Step::Poll { call } => {
-            let resumed = wasi_host::resume(view, world, call);
+            let resumed = wasi_host::resume(alloc, view, world, call);
             resumed_reply(alloc, call, resumed)
         }
     }

@@ -5,8 +5,10 @@ use Rattle.std.proofs.Common.{sym}
 use Rattle.wasi_steps.specs.Reply.{absent_values, found_values}
 use Rattle.wasi_world.specs.declared.ids.Ids.{Ids}
 use Rattle.wasi_world.proofs.Walks.{asks_at}
+use Rattle.wasi_machine.specs.Machine.{blocked_reply_of}
 use Rattle.wasi_host.specs.Machine.{drop_asks}
 use Rattle.wasi_host.specs.Views.{state_of}
+use Rattle.wasi_run.proofs.Contents.{given_if}
 use Rattle.wasi_run.proofs.calls.call.Goals as goal
 
 pub returns-in-Network-clause-asked : goal.returns-in-Network-clause-asked
@@ -115,7 +117,7 @@ pub returns-in-Flush-clause-asked : goal.returns-in-Flush-clause-asked
 returns-in-Flush-clause-asked g c = rw c.in-Flush.is (asks_answered (stream_reply_of no_values) _ _ c.flush-flushed.ensures.asked c.stream_reply_of-in-Flush.ensures)
 
 pub returns-in-Subscribe-clause-asked : goal.returns-in-Subscribe-clause-asked
-returns-in-Subscribe-clause-asked g c = rw c.in-Subscribe.is (asks_answered (reply_of number_fields) _ _ (rw (← c.socket_result.ensures) at c.subscribe-made.ensures.asked) c.reply_of-in-Subscribe.ensures)
+returns-in-Subscribe-clause-asked g c = rw c.in-Subscribe.is (asks_answered (reply_of number_fields) _ _ (rw (← c.socket_result-in-Subscribe.ensures) at c.subscribe-made.ensures.asked) c.reply_of-in-Subscribe.ensures)
 
 pub returns-in-Ready-clause-asked : goal.returns-in-Ready-clause-asked
 returns-in-Ready-clause-asked g c = rw c.in-Ready.is (asks_answered (reply_of truth_fields) _ _ (rw (← c.socket_result-in-Ready.ensures, c.requires.first) at c.ready-ready.ensures.asked) c.reply_of-in-Ready.ensures)
@@ -124,10 +126,61 @@ pub returns-in-Drop-clause-asked : goal.returns-in-Drop-clause-asked
 returns-in-Drop-clause-asked g c = rw c.in-Drop.is (asks_answered (answer_reply c.args.ids.now.line) _ _ (asks_at (λ (i : Ids). drop_asks (state_of c.args.view.now) i c.in-Drop.handle) (sym c.requires.first) (rw (← c.socket_result-in-Drop.ensures) at c.drop_handle-answer.ensures.asked)) (rw c.drop_handle-answer.ensures.ids at c.answer_reply-in-Drop.ensures))
 
 pub returns-in_err-turn-in-Turn-clause-asked : goal.returns-in_err-turn-in-Turn-clause-asked
-returns-in_err-turn-in-Turn-clause-asked g c = rw c.in-Turn.is (asks_exit _ _ c.from_residual.ensures.1 c.in_err-turn-in-Turn.ensures.asked.err)
+returns-in_err-turn-in-Turn-clause-asked g c = rw c.in-Turn.is (asks_exit _ _ c.from_residual-in_err-turn-in-Turn.ensures.1 c.in_err-turn-in-Turn.ensures.asked.err)
 
 pub returns-in_ok-turn-in-Turn-clause-asked : goal.returns-in_ok-turn-in-Turn-clause-asked
 returns-in_ok-turn-in-Turn-clause-asked g c = rw c.in-Turn.is (asks_end _ c.in_ok-turn-in-Turn.ensures.asked.ok (rw c.done.ensures refl))
 
 pub returns-in-Poll-clause-asked : goal.returns-in-Poll-clause-asked
 returns-in-Poll-clause-asked g c = rw c.in-Poll.is (asks_answered (resumed_reply c.in-Poll.call) _ _ c.resume-resumed.ensures.asked c.resumed_reply.ensures)
+
+pub returns-in-PipeIn-clause-asked : goal.returns-in-PipeIn-clause-asked
+returns-in-PipeIn-clause-asked g c = rw c.in-PipeIn.is (asks_answered (reply_of number_fields) _ _ (rw (← c.socket_result.ensures) at c.make_input_pipe-made.ensures.asked) c.reply_of-in-PipeIn.ensures)
+
+pub returns-in-PipeOut-clause-asked : goal.returns-in-PipeOut-clause-asked
+returns-in-PipeOut-clause-asked g c = rw c.in-PipeOut.is (asks_answered (reply_of number_fields) _ _ (rw (← c.socket_result-in-PipeOut.ensures) at c.make_output_pipe-made.ensures.asked) c.reply_of-in-PipeOut.ensures)
+
+pub returns-in-Sink-clause-asked : goal.returns-in-Sink-clause-asked
+returns-in-Sink-clause-asked g c = rw c.in-Sink.is (asks_answered (reply_of number_fields) _ _ (rw (← c.socket_result-in-Sink.ensures) at c.make_sink-made.ensures.asked) c.reply_of-in-Sink.ensures)
+
+pub returns-in-ClosedIn-clause-asked : goal.returns-in-ClosedIn-clause-asked
+returns-in-ClosedIn-clause-asked g c = rw c.in-ClosedIn.is (asks_answered (reply_of number_fields) _ _ (rw (← c.socket_result-in-ClosedIn.ensures) at c.make_closed_input-made.ensures.asked) c.reply_of-in-ClosedIn.ensures)
+
+pub returns-in-ClosedOut-clause-asked : goal.returns-in-ClosedOut-clause-asked
+returns-in-ClosedOut-clause-asked g c = rw c.in-ClosedOut.is (asks_answered (reply_of number_fields) _ _ (rw (← c.socket_result-in-ClosedOut.ensures) at c.make_closed_output-made.ensures.asked) c.reply_of-in-ClosedOut.ensures)
+
+pub returns-in-Skip-clause-asked : goal.returns-in-Skip-clause-asked
+returns-in-Skip-clause-asked g c = rw c.in-Skip.is (asks_answered (stream_reply_of number_fields) _ _ c.skip-skipped.ensures.asked c.stream_reply_of-in-Skip.ensures)
+
+pub returns-in-WriteZeroes-clause-asked : goal.returns-in-WriteZeroes-clause-asked
+returns-in-WriteZeroes-clause-asked g c = rw c.in-WriteZeroes.is (asks_answered (stream_reply_of no_values) _ _ c.write_zeroes-written.ensures.asked c.stream_reply_of-in-WriteZeroes.ensures)
+
+pub returns-in-Splice-clause-asked : goal.returns-in-Splice-clause-asked
+returns-in-Splice-clause-asked g c = rw c.in-Splice.is (asks_answered (stream_reply_of number_fields) _ _ c.splice-spliced.ensures.asked c.stream_reply_of-in-Splice.ensures)
+
+pub returns-in-BlockingRead-clause-asked : goal.returns-in-BlockingRead-clause-asked
+returns-in-BlockingRead-clause-asked g c = rw c.in-BlockingRead.is (asks_answered (blocked_reply_of bytes_fields c.args.ids.now.line) _ _ (rw c.requires.first at c.blocking_read-read.ensures.asked) (rw c.blocking_read-read.ensures.ids at c.blocked_reply.ensures))
+
+pub returns-in-BlockingSkip-clause-asked : goal.returns-in-BlockingSkip-clause-asked
+returns-in-BlockingSkip-clause-asked g c = rw c.in-BlockingSkip.is (asks_answered (blocked_reply_of number_fields c.args.ids.now.line) _ _ (rw c.requires.first at c.blocking_skip-skipped.ensures.asked) (rw c.blocking_skip-skipped.ensures.ids at c.blocked_reply-in-BlockingSkip.ensures))
+
+pub returns-in-BlockingWrite-clause-asked : goal.returns-in-BlockingWrite-clause-asked
+returns-in-BlockingWrite-clause-asked g c = rw c.in-BlockingWrite.is (asks_answered (blocked_reply_of no_values c.args.ids.now.line) _ _ (rw c.requires.first at c.blocking_write_and_flush-written.ensures.asked) (rw c.blocking_write_and_flush-written.ensures.ids at c.blocked_reply-in-BlockingWrite.ensures))
+
+pub returns-in-BlockingZeroes-clause-asked : goal.returns-in-BlockingZeroes-clause-asked
+returns-in-BlockingZeroes-clause-asked g c = rw c.in-BlockingZeroes.is (asks_answered (blocked_reply_of no_values c.args.ids.now.line) _ _ (rw c.requires.first at c.blocking_write_zeroes_and_flush-written.ensures.asked) (rw c.blocking_write_zeroes_and_flush-written.ensures.ids at c.blocked_reply-in-BlockingZeroes.ensures))
+
+pub returns-in-BlockingFlush-clause-asked : goal.returns-in-BlockingFlush-clause-asked
+returns-in-BlockingFlush-clause-asked g c = rw c.in-BlockingFlush.is (asks_answered (blocked_reply_of no_values c.args.ids.now.line) _ _ (rw c.requires.first at c.blocking_flush-flushed.ensures.asked) (rw c.blocking_flush-flushed.ensures.ids at c.blocked_reply-in-BlockingFlush.ensures))
+
+pub returns-in-BlockingSplice-clause-asked : goal.returns-in-BlockingSplice-clause-asked
+returns-in-BlockingSplice-clause-asked g c = rw c.in-BlockingSplice.is (asks_answered (blocked_reply_of number_fields c.args.ids.now.line) _ _ (rw c.requires.first at c.blocking_splice-spliced.ensures.asked) (rw c.blocking_splice-spliced.ensures.ids at c.blocked_reply-in-BlockingSplice.ensures))
+
+pub returns-in_err-cancelled-in-Cancel-clause-asked : goal.returns-in_err-cancelled-in-Cancel-clause-asked
+returns-in_err-cancelled-in-Cancel-clause-asked g c = rw c.in-Cancel.is (asks_exit _ _ c.from_residual.ensures.1 c.in_err-cancelled-in-Cancel.ensures.asked.err)
+
+pub returns-in_ok-cancelled-in-Cancel-clause-asked : goal.returns-in_ok-cancelled-in-Cancel-clause-asked
+returns-in_ok-cancelled-in-Cancel-clause-asked g c = rw c.in-Cancel.is (asks_end _ c.in_ok-cancelled-in-Cancel.ensures.asked.ok (rw c.cancelled_reply.ensures refl))
+
+pub returns-in-PipeContents-clause-asked : goal.returns-in-PipeContents-clause-asked
+returns-in-PipeContents-clause-asked g c = rw c.in-PipeContents.is (given_if (reply_of bytes_fields) _ _ _ (rw (← c.socket_result-in-PipeContents.ensures) at c.pipe_contents-contents.ensures) c.reply_of-in-PipeContents.ensures)
