@@ -6,6 +6,7 @@ ghost use Rattle.wasi_world.specs.Scripted.{seen_by};
 
 use crate::guest::{Guest, line, world};
 use crate::same::same;
+use std::alloc::Global;
 use std::test::Fail;
 use wasi_addr::{IpSocketAddress, Ipv4SocketAddress, SocketAddressFamily};
 use wasi_host::{Kind, Outcome, WasiSocketsCtxView, WasiSocketsView, Watched, handles};
@@ -22,8 +23,6 @@ const SIDE: Sock = OpId { step: 2, part: 0 };
 
 const DONE: Answer<()> = Answer::Ready(());
 
-const NOTHING: Option<Answer<Outcome>> = Some(Answer::Ready(Outcome::Nothing));
-
 /// Makes the network 1 and the socket 2.
 pub fn make_socket(view: &mut WasiSocketsCtxView<'_>, world: &mut ScriptedWorld) -> Result<(), Fail>
     requires { (seen_by world.old).ended ≡ false }
@@ -35,7 +34,10 @@ pub fn make_socket(view: &mut WasiSocketsCtxView<'_>, world: &mut ScriptedWorld)
 }
 
 /// Makes the network 1 and the socket 2, and connects it: the input is 3, the output 4.
-fn connect(view: &mut WasiSocketsCtxView<'_>, world: &mut ScriptedWorld) -> Result<(u32, u32), Fail>
+pub fn connect(
+    view: &mut WasiSocketsCtxView<'_>,
+    world: &mut ScriptedWorld,
+) -> Result<(u32, u32), Fail>
     requires { (seen_by world.old).ended ≡ false }
     ensures { (seen_by world.new).ended ≡ false }
 {
@@ -85,16 +87,26 @@ fn begin_bind(
     Ok(begun)
 }
 
-/// Polls the bind of line 3.
+/// Polls the bind of line 3, and tells whether it gave nothing; none where it wasn't pending.
 fn resume_bind(
+    alloc: Global,
     view: &mut WasiSocketsCtxView<'_>,
     world: &mut ScriptedWorld,
-) -> Result<Option<Answer<Outcome>>, Fail>
+) -> Result<Option<bool>, Fail>
     requires { (seen_by world.old).ended ≡ false }
     ensures { (seen_by world.new).ended ≡ false }
 {
-    let resumed = wasi_host::resume(view, world, 3)?;
-    Ok(resumed)
+    let resumed = wasi_host::resume(alloc, view, world, 3)?;
+    Ok(gave_nothing(resumed))
+}
+
+/// Whether a resumed call gave nothing; none where no call was pending.
+fn gave_nothing(resumed: Option<Answer<Outcome>>) -> Option<bool> {
+    match resumed {
+        Some(Answer::Ready(Outcome::Nothing)) => Some(true),
+        Some(_) => Some(false),
+        None => None,
+    }
 }
 
 /// Whether a call is pending, and whether it is under 3 and under 4.
@@ -108,14 +120,15 @@ fn standing(view: &WasiSocketsCtxView<'_>) -> (Option<u32>, bool, bool) {
 
 #[test]
 fn a_bind_waits_and_is_resumed(rt: HostRuntime) -> Result<(), Fail> {
-    let mut world = world(rt.alloc(), "check pending\n")?;
-    let mut guest = Guest::new(rt.alloc());
+    let alloc = rt.alloc();
+    let mut world = world(alloc, "check pending\n")?;
+    let mut guest = Guest::new(alloc);
     let mut view = guest.sockets();
     same(&rt, begin_bind(&mut view, &mut world)?, Answer::Pending);
     same(&rt, standing(&view), (Some(3), true, false));
-    same(&rt, resume_bind(&mut view, &mut world)?, NOTHING);
+    same(&rt, resume_bind(alloc, &mut view, &mut world)?, Some(true));
     same(&rt, standing(&view), (None, false, false));
-    same(&rt, resume_bind(&mut view, &mut world)?, None);
+    same(&rt, resume_bind(alloc, &mut view, &mut world)?, None);
     tcp::finish_bind(&mut view, 2)?;
     Ok(())
 }

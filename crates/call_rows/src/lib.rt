@@ -13,4 +13,6 @@ mod options;
 #[cfg(test)]
 mod same;
 #[cfg(test)]
+mod streams;
+#[cfg(test)]
 mod tables;
