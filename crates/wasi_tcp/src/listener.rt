@@ -2,7 +2,7 @@
 
 ghost use Rattle.std.specs.Prelude.{◌≡◌, ◌+◌, ◌<◌, ◌^◌, false, OnErr};
 ghost use Rattle.wasi_world.specs.Asks.{AsksFor};
-ghost use Rattle.wasi_tcp.specs.Listener.{with_accept, new_listener, begun, ids_after, readiness, ready_end, listener_ready_asks, accepted_socket, accepted_state, accepted, without_result, accept_end, listener_accept_asks, StandsAccept, untaken_side, listener_give_up_asks, HoldsAccept, IsListener, settled, memory_of, TurnFor};
+ghost use Rattle.wasi_tcp.specs.Listener.{with_accept, new_listener, begun, has_accept, ids_after, readiness, ready_end, listener_ready_asks, accepted_socket, accepted_state, accepted, without_result, accept_end, listener_accept_asks, StandsAccept, untaken_side, listener_give_up_asks, HoldsAccept, IsListener, settled, memory_of, TurnFor};
 
 use crate::accept::AcceptOp;
 use crate::socket::{Connection, TcpSocket, TcpState};
@@ -199,6 +199,18 @@ impl TcpListenStream {
     {
         turn(world, self.side, self.maker, ids, &mut self.accept)?;
         Ok(self.take())
+    }
+
+    /// Whether an accept was begun, and wasn't taken yet: one that is in progress, or has its result. Takes no memory.
+    pub fn has_accept(&self) -> bool
+        ensures { result ≡ has_accept self.now.accept }
+    {
+        match &self.accept {
+            Accepting::Idle => false,
+            Accepting::Asking(_) => true,
+            Accepting::Arrived(_, _) => true,
+            Accepting::Failed(_) => true,
+        }
     }
 
     /// Takes the result, where there is one.

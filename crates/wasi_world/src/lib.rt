@@ -30,7 +30,7 @@ pub use ids::{Handle, Ids, OpId, Sock};
 pub use io::{Failed, Sink, Source};
 pub use lists::Lists;
 pub use memory::{GrowingSink, MemorySink, MemorySource};
-pub use octets::{IpList, NameText, Octets};
+pub use octets::{IpList, NameText, NumberList, Octets};
 pub use outcome::{Answer, Refusal, TrapKind, WasiSocketsCtx};
 pub use plan::{Kind, Planned};
 pub use scenario::ScenarioError;

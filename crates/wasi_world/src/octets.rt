@@ -118,6 +118,52 @@ impl NameText {
     }
 }
 
+/// Numbers of 32 bits, in order: handles, or places in a list.
+#[derive(Drop)]
+pub struct NumberList {
+    numbers: Vec<u32>,
+}
+
+impl Model for NumberList {
+    ghost use Rattle.std.specs.Prelude.{List, ℕ};
+
+    ghost Value = { List ℕ };
+
+    ghost view = { λ list. list.numbers.items };
+}
+
+impl NumberList {
+    pub fn from_vec(numbers: Vec<u32>) -> NumberList
+        ensures { result ≡ numbers.items }
+    {
+        NumberList { numbers }
+    }
+
+    pub fn into_vec(self) -> Vec<u32>
+        ensures { result.items ≡ self }
+    {
+        self.numbers
+    }
+
+    pub fn as_slice(&self) -> &[u32]
+        ensures { result.now ≡ self.now }
+    {
+        self.numbers.as_slice()
+    }
+
+    pub fn len(&self) -> usize
+        ensures { result ≡ length self.now }
+    {
+        self.numbers.len()
+    }
+
+    pub fn is_empty(&self) -> bool
+        ensures { IsTrue result ↔ (self.now ≡ []) }
+    {
+        self.numbers.is_empty()
+    }
+}
+
 /// IP addresses, in order.
 #[derive(Drop)]
 pub struct IpList {
