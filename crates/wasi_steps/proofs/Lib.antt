@@ -2,6 +2,7 @@ pub mod StepWords
 pub mod LineEnds
 pub mod UpTo
 pub mod DatagramLaws
+pub mod HandleLaws
 pub mod Received
 pub mod SettingLaws
 pub mod NameLaws

@@ -1,5 +1,5 @@
 -- Each reply with fields of some kinds is read back from its text, so no two of them have one text.
-use Rattle.std.proofs.Common.{◌≡◌, ℕ, zero, suc, ◌==◌, false, if◌then◌else◌, List, [], ◌∷◌, ◌++◌, map, flat_map, length, codes, decimal, Option, Some, None, Contains, IsTrue, append-nil, ap, sym, ◌∙◌, refl, arith, inl, inr}
+use Rattle.std.proofs.Common.{◌≡◌, ℕ, zero, suc, ◌==◌, ◌<◌, ◌^◌, false, if◌then◌else◌, List, [], ◌∷◌, ◌++◌, map, flat_map, length, codes, decimal, Option, Some, None, Contains, IsTrue, append-nil, ap, sym, ◌∙◌, refl, arith, inl, inr}
 use Rattle.std.specs.List.{list_all, AllByRecursion}
 use Rattle.std.proofs.lemmas.List.{append_cancel_right, map-append}
 use Rattle.wasi_addr.specs.declared.address.IpAddress.{IpAddress}
@@ -20,8 +20,8 @@ use Rattle.wasi_steps.specs.declared.reply.Reply.{Reply}
 use Rattle.wasi_steps.specs.declared.reply.Reply.TheVariants as reply
 use Rattle.wasi_steps.specs.declared.step.Step.{Step}
 use Rattle.wasi_steps.specs.declared.step.Step.TheVariants as step
-use Rattle.wasi_steps.specs.Reply.{ip_values, address_values, received_values, datagram_values}
-use Rattle.wasi_steps.specs.Replies.{code_text, trap_text, field_text, fields_of_reply, text_of, FieldKind, ANumber, SomeBytes, Truth, Nothing, FieldKinds, Each, AnAddress, AnIpOrNone, ADatagramList, OneOf, kinds_of, IsOfKind, EachOfKind, AreOfKinds, FitsReceived, GivesAs, Gives, is_poll, polled_kinds}
+use Rattle.wasi_steps.specs.Reply.{ip_values, address_values, received_values, datagram_values, numbers_fields}
+use Rattle.wasi_steps.specs.Replies.{code_text, trap_text, field_text, fields_of_reply, text_of, FieldKind, ANumber, SomeBytes, Truth, Nothing, FieldKinds, Each, AnAddress, AnIpOrNone, ADatagramList, SomeNumbers, OfAPolledCall, kinds_of, IsOfKind, EachOfKind, AreOfKinds, AreNumbers, FitsReceived, GivesAs, Gives, is_poll, polled_fields}
 use Rattle.wasi_steps.proofs.LineEnds.{both_visible}
 
 code_words : List CodeWord
@@ -75,13 +75,23 @@ times_at (suc n) = received_at >>= λ d. times_at n >>= λ ds. give (d ∷ ds)
 ip_or_none : ℕ → Reader (List Field)
 ip_or_none n = if n == 2 then each_of_kind (Nothing ∷ []) else (ip_at >>= λ a. give (ip_values a))
 
--- the fields of a reply that has so many, with its word; none where it isn't known which of some lists they are as
+-- numbers up to the end of a reply that has so many fields, with its word
+so_many_numbers : ℕ → List FieldKind
+so_many_numbers zero = []
+so_many_numbers (suc n) = ANumber ∷ so_many_numbers n
+
+some_numbers : ℕ → Reader (List Field)
+some_numbers zero = give_some None
+some_numbers (suc n) = each_of_kind (so_many_numbers n)
+
+-- the fields of a reply that has so many, with its word; none where it isn't known which call was polled
 abbrev of_kinds : FieldKinds → ℕ → Reader (List Field)
 of_kinds (Each kinds) n = each_of_kind kinds
 of_kinds AnAddress n = address_at >>= λ a. give (address_values a)
 of_kinds AnIpOrNone n = ip_or_none n
 of_kinds ADatagramList n = number_at 18446744073709551615 >>= λ count. times_at count >>= λ ds. give (datagram_values ds)
-of_kinds (OneOf lists) n = give_some None
+of_kinds SomeNumbers n = some_numbers n
+of_kinds OfAPolledCall n = give_some None
 
 rows : FieldKinds → ℕ → List (Row Reply)
 rows kinds n =
@@ -154,9 +164,22 @@ all_times [] fits = all_give
 all_times (d ∷ ds) fits =
     rw (map-append field_text (received_values d) (flat_map received_values ds)) (all_both _ (all_received d fits.0) (all_end _ (all_times ds fits.1) all_give))
 
+-- each of some numbers is one
+each_number : (ns : List ℕ) → AllByRecursion (λ n. n < 2 ^ 64) ns → EachOfKind (so_many_numbers (length (map field_text (numbers_fields ns)))) (numbers_fields ns)
+unfolding so_many_numbers
+each_number [] fits = tt
+each_number (n ∷ ns) fits = (fits.0, each_number ns fits.1)
+
+are_numbers : (fields : List Field) → AreNumbers fields → EachOfKind (so_many_numbers (length (map field_text fields))) fields
+are_numbers fields are = rw are.values (each_number (are.first ∷ are.others) are.fits)
+
+all_numbers : (fields : List Field) → AreNumbers fields → All (some_numbers (suc (length (map field_text fields)))) fields (map field_text fields)
+unfolding some_numbers
+all_numbers fields are = all_each (so_many_numbers (length (map field_text fields))) fields (are_numbers fields are)
+
 -- it is known which kinds the fields are of
 abbrev AreKnown : FieldKinds → Type 0
-AreKnown (OneOf lists) = ⊥
+AreKnown OfAPolledCall = ⊥
 AreKnown _ = Unit {0}
 
 are_known : (s : Step) → is_poll s ≡ false → AreKnown (kinds_of s)
@@ -170,7 +193,8 @@ all_of_kinds AnAddress fields known are =
 all_of_kinds AnIpOrNone fields known are = all_ip_or_none fields are
 all_of_kinds ADatagramList fields known are =
     rw are.values (all_then _ (number_exactly 18446744073709551615 (omega arith)) (let count = are.count in omega arith) (all_end _ (all_times are.datagrams are.fits) all_give))
-all_of_kinds (OneOf lists) fields known are = absurd known
+all_of_kinds SomeNumbers fields known are = all_numbers fields are
+all_of_kinds OfAPolledCall fields known are = absurd known
 
 code_all : (code : CodeWord) → All code_at code (code_text code ∷ [])
 unfolding code_at
@@ -238,7 +262,8 @@ fields_visible AnAddress fields known are =
     rw (are.numbers, number_texts (address_numbers are.address)) (address_visible are.address are.fits)
 fields_visible AnIpOrNone fields known are = ip_or_none_visible fields are
 fields_visible ADatagramList fields known are = rw are.values (number_visible (length are.datagrams) are.count, received_visible are.datagrams are.fits)
-fields_visible (OneOf lists) fields known are = absurd known
+fields_visible SomeNumbers fields known are = each_visible (so_many_numbers (length (map field_text fields))) fields (are_numbers fields are)
+fields_visible OfAPolledCall fields known are = absurd known
 
 reply_visible : (kinds : FieldKinds) (r : Reply) → AreKnown kinds → GivesAs kinds r → AreVisible (fields_of_reply r)
 reply_visible kinds (reply.Ok fields) known gives = (refl, fields_visible kinds fields known gives)
@@ -271,5 +296,10 @@ texts_differ kinds r q known hr hq same =
 pub step_replies_differ : (s : Step) (r q : Reply) → is_poll s ≡ false → Gives s r → Gives s q → text_of r ≡ text_of q → r ≡ q
 step_replies_differ s r q other hr hq same = texts_differ (kinds_of s) r q (are_known s other) hr hq same
 
-pub polled_replies_differ : (kinds : List FieldKind) (r q : Reply) → Contains polled_kinds kinds → GivesAs (Each kinds) r → GivesAs (Each kinds) q → text_of r ≡ text_of q → r ≡ q
-polled_replies_differ kinds r q among hr hq same = texts_differ (Each kinds) r q tt hr hq same
+-- it is known of the fields of each call that can be pending
+polled_known : (kinds : FieldKinds) → Contains polled_fields kinds → AreKnown kinds
+polled_known OfAPolledCall among = grind arith
+polled_known _ among = tt
+
+pub polled_replies_differ : (kinds : FieldKinds) (r q : Reply) → Contains polled_fields kinds → GivesAs kinds r → GivesAs kinds q → text_of r ≡ text_of q → r ≡ q
+polled_replies_differ kinds r q among hr hq same = texts_differ kinds r q (polled_known kinds among) hr hq same

@@ -16,11 +16,12 @@ use Rattle.wasi_addr.specs.declared.address.ShutdownType.{ShutdownType}
 use Rattle.wasi_addr.specs.declared.address.ShutdownType.TheVariants.{Receive, Send, Both}
 use Rattle.wasi_steps.specs.declared.step.Step.{Step}
 use Rattle.wasi_steps.specs.declared.step.Step.TheVariants as step
-use Rattle.wasi_steps.specs.Arguments.{Kind, ACount, ACapacity, AFamily, ASocketAddress, AnOption, ASetting, AUdpOption, AUdpSetting, AHalf, AllBytes, ARemote, SomeDatagrams, AName, Value, value_at, value_fields, FitsValue, Values, values_fields, FitsValues, shutdown_fields, shutdown_words, shutdown_at}
+use Rattle.wasi_steps.specs.Arguments.{Kind, ACount, ACapacity, AFamily, ASocketAddress, AnOption, ASetting, AUdpOption, AUdpSetting, AHalf, AllBytes, ARemote, SomeDatagrams, SomePollables, AName, Value, value_at, value_fields, FitsValue, Values, values_fields, FitsValues, shutdown_fields, shutdown_words, shutdown_at}
 use Rattle.wasi_steps.specs.Names.{IsText}
 use Rattle.wasi_steps.specs.Steps.{Takes, made, values_at, Written, fields_of_written, signature, context_fields, context_of, is_of_a_name, takes_a_name, fields_of_step, line_of, IsStep, row_of, rows_of, rows_by, is_read, steps, bare_steps, guest_call_at, after_first, step_reader, step_of}
 use Rattle.wasi_steps.proofs.LineEnds.{ReadsLast, Last, last_of, lastly, last_give, last_then, last_alone, only_next, both_visible}
 use Rattle.wasi_steps.proofs.DatagramLaws.{remote_last, remote_visible, datagrams_last, datagrams_visible}
+use Rattle.wasi_steps.proofs.HandleLaws.{handles_last, handles_visible}
 use Rattle.wasi_steps.proofs.NameLaws.{name_last, visible_text, name_text, text_both}
 use Rattle.wasi_steps.proofs.SettingLaws.{◌and◌, u64_exactly, option_exactly, option_visible, setting_exactly, setting_visible, udp_option_exactly, udp_option_visible, udp_setting_exactly, udp_setting_visible}
 
@@ -38,10 +39,11 @@ shutdown_exactly = exactly
     (λ how u. shutdown_all how)
 
 -- == arguments
--- whether more fields may follow an argument: none may follow an address or none, datagrams or a name, which end the line
+-- whether more fields may follow an argument: none may follow an address or none, datagrams, handles or a name, which end the line
 goes_on : Kind → Bool
 goes_on ARemote = false
 goes_on SomeDatagrams = false
+goes_on SomePollables = false
 goes_on AName = false
 goes_on _ = true
 
@@ -59,6 +61,7 @@ kind_exactly AHalf more = shutdown_exactly
 kind_exactly AllBytes more = bytes_exactly
 kind_exactly ARemote more = absurd (cc)
 kind_exactly SomeDatagrams more = absurd (cc)
+kind_exactly SomePollables more = absurd (cc)
 kind_exactly AName more = absurd (cc)
 kind_exactly _ more = u32_exactly
 
@@ -66,6 +69,7 @@ kind_last : (kind : Kind) → ReadsLast (value_at kind) (value_fields kind) (Fit
 unfolding goes_on
 kind_last ARemote = remote_last
 kind_last SomeDatagrams = datagrams_last
+kind_last SomePollables = handles_last
 kind_last AName = name_last
 kind_last ACount = last_of u64_exactly
 kind_last ACapacity = last_of (number_exactly 65536 (omega arith))
@@ -212,6 +216,7 @@ value_visible AHalf how other fits = shutdown_visible how
 value_visible AllBytes bytes other fits = bytes_visible bytes fits
 value_visible ARemote remote other fits = remote_visible remote fits
 value_visible SomeDatagrams datagrams other fits = datagrams_visible datagrams fits
+value_visible SomePollables handles other fits = handles_visible handles fits
 value_visible AName name other fits = absurd (cc)
 value_visible _ n other fits = number_visible n (omega arith) and tt
 

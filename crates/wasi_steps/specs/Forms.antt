@@ -2,7 +2,7 @@
 use Rattle.std.specs.Prelude.{ℕ, Bool, true, false, ◌==◌, List, [], ◌∷◌, ◌++◌, map, codes, Option, Some, None}
 use Rattle.wasi_world.specs.Fields.{line_with}
 use Rattle.wasi_steps.specs.declared.step.Step.{Step}
-use Rattle.wasi_steps.specs.Arguments.{Target, ANetwork, ASocket, ADatagramSocket, AnInput, AnOutput, AnIncoming, AnOutgoing, ALookup, AnError, Watchable, APollable, Anything, Kind, HandleOf, ALine, ACount, ACapacity, AFamily, ASocketAddress, AnOption, ASetting, AUdpOption, AUdpSetting, AHalf, AllBytes, ARemote, SomeDatagrams, AName}
+use Rattle.wasi_steps.specs.Arguments.{Target, ANetwork, ASocket, ADatagramSocket, AnInput, AnOutput, AnIncoming, AnOutgoing, ALookup, AnError, Watchable, APollable, Anything, Kind, HandleOf, ALine, ACount, ACapacity, AFamily, ASocketAddress, AnOption, ASetting, AUdpOption, AUdpSetting, AHalf, AllBytes, ARemote, SomeDatagrams, SomePollables, AName}
 use Rattle.wasi_steps.specs.Steps.{signature}
 
 -- the letters for a handle, and for an argument
@@ -35,6 +35,7 @@ letters AHalf = codes "HOW"
 letters AllBytes = codes "BYTES"
 letters ARemote = codes "[4 a b c d port]"
 letters SomeDatagrams = codes "DATAGRAM.."
+letters SomePollables = codes "P.."
 letters AName = codes "NAME"
 
 -- the number of a context in front, where one makes the call

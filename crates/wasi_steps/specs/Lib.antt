@@ -2,6 +2,7 @@ pub mod Reply
 pub mod Settings
 pub mod Datagrams
 pub mod Names
+pub mod HandleLists
 pub mod Arguments
 pub mod Steps
 pub mod Forms

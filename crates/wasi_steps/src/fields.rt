@@ -8,7 +8,7 @@ use std::alloc::{AllocError, Global};
 use wasi_addr::{
     IpAddress, IpSocketAddress, Ipv4SocketAddress, Ipv6SocketAddress, SocketAddressFamily,
 };
-use wasi_world::{IncomingDatagram, IncomingDatagrams, Octets};
+use wasi_world::{IncomingDatagram, IncomingDatagrams, NumberList, Octets};
 
 /// A value that the fields of an `ok` reply tell.
 pub trait IntoFields {
@@ -53,6 +53,21 @@ impl IntoFields for u64 {
 
     fn into_fields(self, alloc: Global) -> Result<ReplyFields, AllocError> {
         let fields = vec![in alloc; Field::Number(self)]?;
+        Ok(ReplyFields::from_vec(fields))
+    }
+}
+
+/// Numbers: the places of pollables.
+impl IntoFields for NumberList {
+    ghost use Rattle.wasi_steps.specs.Reply.{numbers_fields};
+
+    ghost fields = { numbers_fields };
+
+    fn into_fields(self, alloc: Global) -> Result<ReplyFields, AllocError> {
+        let mut fields = Vec::new(alloc);
+        for number in self.as_slice() {
+            fields.push(Field::Number(u64::from(*number)))?;
+        }
         Ok(ReplyFields::from_vec(fields))
     }
 }

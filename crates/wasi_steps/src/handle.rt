@@ -26,6 +26,10 @@ fn other_handle_step(context: u32, word: &str, handle: u32) -> Option<Step>
             context,
             pollable: handle,
         }),
+        "block" => Some(Block {
+            context,
+            pollable: handle,
+        }),
         "drop" => Some(Drop { context, handle }),
         _ => None,
     }

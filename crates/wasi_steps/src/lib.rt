@@ -4,6 +4,7 @@
 mod datagram;
 pub mod fields;
 mod handle;
+mod handle_list;
 mod memory;
 mod name;
 pub mod parse;

@@ -1,10 +1,11 @@
-//! Reads the arguments of the steps whose bytes, datagrams or name take memory.
+//! Reads the arguments of the steps whose bytes, datagrams, handles or name take memory.
 
 ghost use Rattle.std.specs.Prelude.{IfOk};
 ghost use Rattle.wasi_world.specs.Fields.{Reads};
-ghost use Rattle.wasi_steps.specs.Steps.{pipe_step, write_step, blocking_write_step, send_step, resolve_step, row_of};
+ghost use Rattle.wasi_steps.specs.Steps.{pipe_step, write_step, blocking_write_step, send_step, poll_list_step, resolve_step, row_of};
 
 use crate::datagram::datagrams;
+use crate::handle_list::pollables;
 use crate::name::name;
 use crate::step::Step;
 use std::alloc::{AllocError, Global};
@@ -89,6 +90,21 @@ pub(crate) fn send_arguments(
         outgoing,
         datagrams,
     }))
+}
+
+/// Takes the handles of a poll-list, up to the end of the line.
+#[tactic(auto, unfolding(wasi_world::specs::Fields::read_then, wasi_world::specs::Fields::give, wasi_world::specs::Fields::give_some))]
+pub(crate) fn poll_list_arguments(
+    alloc: Global,
+    fields: &mut Fields<'_>,
+    context: u32,
+) -> Result<Option<Step>, AllocError>
+    ensures { IfOk result (λ step. Reads (row_of (poll_list_step context)).reads fields.old step fields.new) }
+{
+    let Some(pollables) = pollables(alloc, fields)? else {
+        return Ok(None);
+    };
+    Ok(Some(Step::PollList { context, pollables }))
 }
 
 /// Takes the arguments of a resolve.

@@ -11,7 +11,8 @@ ghost use Rattle.wasi_steps.specs.Steps.{line_of, IsStep, steps, plain_steps, va
 
 use crate::datagram::remote;
 use crate::memory::{
-    blocking_write_arguments, pipe_arguments, resolve_arguments, send_arguments, write_arguments,
+    blocking_write_arguments, pipe_arguments, poll_list_arguments, resolve_arguments,
+    send_arguments, write_arguments,
 };
 use crate::setting::{TcpSetting, UdpOption, UdpSetting};
 use crate::step::Step;
@@ -241,6 +242,7 @@ fn arguments(
         "write" => write_arguments(alloc, fields, context),
         "blocking-write" => blocking_write_arguments(alloc, fields, context),
         "udp-send" => send_arguments(alloc, fields, context),
+        "poll-list" => poll_list_arguments(alloc, fields, context),
         "resolve" => resolve_arguments(alloc, fields, context),
         _ => Ok(plain_arguments(fields, context, word)),
     }

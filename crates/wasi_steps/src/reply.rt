@@ -4,7 +4,7 @@ ghost use Rattle.std.specs.Prelude.{◌≡◌, false, List, IfOk, OnOk, Contains
 ghost use Rattle.wasi_world.specs.Fields.{line_with};
 ghost use Rattle.wasi_steps.specs.declared.reply.Reply.{Reply};
 ghost use Rattle.wasi_steps.specs.declared.step.Step.{Step};
-ghost use Rattle.wasi_steps.specs.Replies.{FieldKind, Each, polled_kinds, GivesAs, Gives, is_poll, code_text, trap_text, field_text, fields_of_reply, text_of};
+ghost use Rattle.wasi_steps.specs.Replies.{FieldKinds, polled_fields, GivesAs, Gives, is_poll, code_text, trap_text, field_text, fields_of_reply, text_of};
 ghost use Rattle.wasi_steps.specs.Reply.{word_of_p2, is_trap, no_fields};
 
 use std::alloc::{AllocError, Global};
@@ -264,9 +264,9 @@ pub fn reply_text(alloc: Global, reply: &Reply) -> Result<Octets, AllocError>
 }
 
 /// Two different replies of one step have different texts, unless the step is a poll. That may poll any call that can be pending,
-/// and `ok 10` tells a number of one call and a byte of another. But the replies of one call all have fields of the same list of
-/// kinds, which is one of `polled_kinds` where the call can be pending, and two different replies of one list have different texts.
+/// and `ok 10` tells a number of one call and a byte of another. But the replies of one call all have fields of the same
+/// kinds, which are one of `polled_fields` where the call can be pending, and two different replies of these have different texts.
 pub fn replies_are_told_apart()
     ensures of_a_step { (s : Step) (r q : Reply) → is_poll s ≡ false → Gives s r → Gives s q → text_of r ≡ text_of q → r ≡ q }
-    ensures of_a_polled_call { (kinds : List FieldKind) (r q : Reply) → Contains polled_kinds kinds → GivesAs (Each kinds) r → GivesAs (Each kinds) q → text_of r ≡ text_of q → r ≡ q }
+    ensures of_a_polled_call { (kinds : FieldKinds) (r q : Reply) → Contains polled_fields kinds → GivesAs kinds r → GivesAs kinds q → text_of r ≡ text_of q → r ≡ q }
 {}

@@ -8,7 +8,7 @@ ghost use Rattle.wasi_steps.specs.Steps.{steps, bare_steps, context_of};
 
 use crate::setting::{TcpSetting, UdpOption, UdpSetting};
 use wasi_addr::{IpSocketAddress, ShutdownType, SocketAddressFamily};
-use wasi_world::{Handle, NameText, Octets, Opt, OutgoingDatagrams};
+use wasi_world::{Handle, NameText, NumberList, Octets, Opt, OutgoingDatagrams};
 
 /// One step of a script: a guest call with the number of the context that makes it, or a step that no context makes.
 #[derive(Drop)]
@@ -286,6 +286,16 @@ pub enum Step {
         input: Handle,
         len: u64,
     },
+    /// Waits until what the pollable watches is ready (`pollable.block`).
+    Block {
+        context: u32,
+        pollable: Handle,
+    },
+    /// Waits until what one of the pollables watches is ready (`poll`).
+    PollList {
+        context: u32,
+        pollables: NumberList,
+    },
     /// Which error of the network an error of a stream is; none of them is one (`network-error-code`).
     NetworkErrorCode {
         context: u32,
@@ -374,6 +384,8 @@ impl Step {
             | Step::BlockingZeroes { context, .. }
             | Step::BlockingFlush { context, .. }
             | Step::BlockingSplice { context, .. }
+            | Step::Block { context, .. }
+            | Step::PollList { context, .. }
             | Step::NetworkErrorCode { context, .. }
             | Step::Subscribe { context, .. }
             | Step::Ready { context, .. }
@@ -434,6 +446,8 @@ pub const STEP_FORMS: &str = "    0 network                               makes 
     0 blocking-zeroes OUT L                 writes L zeroes, at most 4096, and flushes
     0 blocking-flush OUT                    flushes, until it may be written again
     0 blocking-splice OUT IN L              splices once there is room and are bytes: ok M
+    0 block P                               waits until what it watches is ready
+    0 poll-list P..                         waits until one of them is ready: ok and the places of those that are
     0 network-error-code E                  of an error of a stream: ok none
     0 subscribe H                           makes a pollable of a socket or of a stream
     0 ready P                               whether what it watches is ready: ok true or ok false
