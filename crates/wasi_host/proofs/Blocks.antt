@@ -1,5 +1,5 @@
 -- The trees of calls of streams, where a number or the bytes are known to be none or some.
-use Rattle.std.specs.Prelude.{◌≡◌, ℕ, zero, suc, ◌-◌, ◌==◌, min, Bool, true, false, List, [], ◌∷◌, length, take, drop, Option, Some, None, Result, Ok, Err, IsErrAnd, refl}
+use Rattle.std.specs.Prelude.{◌≡◌, ℕ, zero, suc, ◌-◌, min, Bool, true, false, List, [], ◌∷◌, length, take, drop, Result, Ok, Err, IsErrAnd, refl}
 use Rattle.std.specs.declared.alloc.AllocError.{AllocError}
 use Rattle.std.proofs.Common.{ap, sym, subst, arith}
 use Rattle.std.proofs.lemmas.Bool.{ne_eqb}
@@ -10,12 +10,12 @@ use Rattle.wasi_world.specs.declared.outcome.Answer.TheVariants.{Ready, Pending}
 use Rattle.wasi_world.specs.Asks.{Asks, Give, bind, AsksFor}
 use Rattle.wasi_world.specs.Seen.{Seen}
 use Rattle.wasi_world.proofs.Walks.{reaches_all, reaches_in, asks_end}
-use Rattle.wasi_host.specs.declared.blocking.BlockingCall.TheVariants.{Read, Skip, Write, Finish, Flush, Splice}
+use Rattle.wasi_host.specs.declared.blocking.BlockingCall.TheVariants.{Read, Skip}
 use Rattle.wasi_host.specs.declared.error.CallError.{CallError}
 use Rattle.wasi_host.specs.declared.error.CallError.TheVariants as call
 use Rattle.wasi_host.specs.declared.machine.Machine.{Machine}
 use Rattle.wasi_host.specs.declared.pending.Outcome.{Outcome}
-use Rattle.wasi_host.specs.Blocking.{Blocked, Again, waits_as, looked, look_asks, read_answer, skip_answer, flush_checked, last_checked, write_ended, finish_write_asks, write_rounds, round_checked, round_written, splice_count, splice_looked, splice_given, splice_written, splice_permitted}
+use Rattle.wasi_host.specs.Blocking.{Blocked, Again, waits_as, looked, look_asks, read_answer, skip_answer, flush_checked, last_checked, write_ended, write_rounds, round_checked, round_written, splice_count, splice_looked, splice_given, splice_written, splice_permitted}
 use Rattle.wasi_streams.specs.declared.fault.Fault.{Fault}
 use Rattle.wasi_streams.specs.declared.fault.Fault.TheVariants as fault
 use Rattle.wasi_host.specs.Host.{Stop, CallStop, Closed, Failed, Traps, call_outcome, call_fault, fault_outcome}

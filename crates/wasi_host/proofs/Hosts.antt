@@ -77,6 +77,19 @@ fault_memory : {T : Type 0} {d : AllocError} (r : Result T Fault) → IsErrAnd r
 fault_memory (Ok x) h = absurd h
 fault_memory (Err x) h = ap (λ (y : Fault). fault_outcome (Err y)) h
 
+-- an error that is passed on by a `?`
+pub fault_passed : {A B T U : Type 0} {asks : Asks A} (f : A → Asks B) {s t : Seen} {view : Result T Stop → A} {shown : Result U Stop → B} (x : Fault) (r : Result U Fault) → IsErrAnd r (λ y. y ≡ x) → AsksFor asks s t view (fault_outcome {T = T} (Err x)) → ((stop : Stop) → f (view (Err stop)) ≡ Give (shown (Err stop))) → AsksFor (bind asks f) s t shown (fault_outcome r)
+fault_passed f x (Ok y) h k e = absurd h
+fault_passed {asks} f {s} {t} {view} {shown} (fault.Trap kind) (Err y) h k e =
+    let P : Fault → Type 0 = λ z. AsksFor (bind asks f) s t shown (fault_outcome (Err z)) in subst P (sym h) (asks_end f k.ok (e (host.Trap kind)))
+fault_passed {asks} f {s} {t} {view} {shown} (fault.Memory d) (Err y) h k e =
+    let P : Fault → Type 0 = λ z. AsksFor (bind asks f) s t shown (fault_outcome (Err z)) in
+    subst P (sym h) (record { ok = tt; err = record { rest = bind k.err.rest f; reached = reaches_in f k.err.reached } })
+
+-- out of memory after these asks
+pub fault_wants : {A T : Type 0} {asks rest : Asks A} {s t : Seen} {view : Result T Stop → A} {d : AllocError} (r : Result T Fault) → IsErrAnd r (λ x. x ≡ fault.Memory d) → Reaches asks rest s t → AsksFor asks s t view (fault_outcome r)
+fault_wants {rest = rest} r h k = rw (fault_memory r h) (record { ok = tt; err = record { rest = rest; reached = k } })
+
 -- out of memory before the first ask
 pub fault_none : {A T : Type 0} {asks : Asks A} {s t : Seen} {view : Result T Stop → A} {d : AllocError} (r : Result T Fault) → IsErrAnd r (λ x. x ≡ fault.Memory d) → t ≡ s → AsksFor asks s t view (fault_outcome r)
 fault_none {asks} {s} {t} r h e = rw (fault_memory r h) (record { ok = tt; err = record { rest = asks; reached = rw e (reaches_all asks s) } })

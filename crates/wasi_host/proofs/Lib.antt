@@ -36,3 +36,4 @@ pub mod Receives
 pub mod Pipes
 pub mod Blocks
 pub mod Cancels
+pub mod PollLists

@@ -12,7 +12,7 @@ use Rattle.wasi_host.specs.declared.kind.PlainInput.{PlainInput}
 use Rattle.wasi_host.specs.declared.machine.Machine.{Machine}
 use Rattle.wasi_host.specs.declared.socket.Tcp2Socket.{Tcp2Socket}
 use Rattle.wasi_host.specs.declared.blocking.BlockingCall.{BlockingCall}
-use Rattle.wasi_host.specs.declared.blocking.BlockingCall.TheVariants.{Read, Skip, Write, Finish, Flush, Splice}
+use Rattle.wasi_host.specs.declared.blocking.BlockingCall.TheVariants.{Read, Skip, Write, Finish, Flush, Splice, Block, Poll}
 use Rattle.wasi_host.specs.declared.store.StandingCall.TheVariants.{Blocking}
 use Rattle.wasi_host.specs.Host.{Stop, Code, Trap, CallStop, Closed, Failed, Traps}
 use Rattle.wasi_host.specs.Kinds.{kind_at, is_readable, is_writable}
@@ -32,6 +32,8 @@ blocking_handles (Write output rest) = output ∷ []
 blocking_handles (Finish output) = output ∷ []
 blocking_handles (Flush output) = output ∷ []
 blocking_handles (Splice to from len) = to ∷ from ∷ []
+blocking_handles (Block pollable) = pollable ∷ []
+blocking_handles (Poll pollables) = pollables
 
 -- what a call gives, or why it doesn't, or that it is pending
 abbrev pub Blocked : Type 0 → Type 0

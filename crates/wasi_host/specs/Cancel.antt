@@ -1,7 +1,7 @@
 -- How a pending call is given up.
 use Rattle.std.specs.Prelude.{ℕ, ◌==◌, Bool, true, false, if◌then◌else◌, List, [], ◌∷◌, Option, Some, None}
 use Rattle.wasi_world.specs.Asks.{Asks, Give, bind}
-use Rattle.wasi_udp.specs.Create.{Create, create_cancel_asks}
+use Rattle.wasi_udp.specs.Create.{create_cancel_asks}
 use Rattle.wasi_host.specs.declared.binding.InProgress.TheVariants as doing
 use Rattle.wasi_host.specs.declared.jobs.HostJob.{HostJob}
 use Rattle.wasi_host.specs.declared.jobs.HostJob.TheVariants.{Datagram}
@@ -16,7 +16,6 @@ use Rattle.wasi_host.specs.declared.udp.Udp2Socket.{Udp2Socket}
 use Rattle.wasi_host.specs.declared.udp.Udp2Socket.TheVariants as udp
 use Rattle.wasi_host.specs.declared.udp.UdpInProgress.TheVariants.{Nothing}
 use Rattle.wasi_host.specs.Listening.{give_up_asks, with_listening}
-use Rattle.wasi_host.specs.Machine.{with_store}
 use Rattle.wasi_host.specs.Records.{tcp2_at, udp2_at, open_at}
 use Rattle.wasi_host.specs.Standing.{call_of, unstood}
 use Rattle.wasi_host.specs.Store.{Records, with_socket, with_progress}

@@ -19,6 +19,7 @@ pub mod Machine
 pub mod PlainStreams
 pub mod StreamCalls
 pub mod Blocking
+pub mod Polling
 pub mod Cancel
 pub mod Pending
 pub mod Udp

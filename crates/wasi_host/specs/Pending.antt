@@ -1,5 +1,5 @@
 -- How a pending call continues.
-use Rattle.std.specs.Prelude.{ℕ, Option, Some, None, Result, Ok, Err}
+use Rattle.std.specs.Prelude.{ℕ, List, Option, Some, None, Result, Ok, Err}
 use Rattle.wasi_world.specs.declared.ids.Ids.{Ids}
 use Rattle.wasi_world.specs.declared.outcome.Answer.{Answer}
 use Rattle.wasi_world.specs.declared.outcome.Answer.TheVariants.{Ready, Pending}
@@ -8,7 +8,7 @@ use Rattle.wasi_world.specs.Asks.{Asks, Give, bind}
 use Rattle.wasi_host.specs.Records.{tcp2_at, open_at}
 use Rattle.wasi_host.specs.declared.machine.Machine.{Machine}
 use Rattle.wasi_host.specs.declared.pending.Outcome.{Outcome}
-use Rattle.wasi_host.specs.declared.pending.Outcome.TheVariants.{Nothing, One, Two, Count, Bytes}
+use Rattle.wasi_host.specs.declared.pending.Outcome.TheVariants.{Nothing, One, Two, Count, Bytes, Places}
 use Rattle.wasi_host.specs.declared.pending.Outcome.TheVariants as outcome
 use Rattle.wasi_host.specs.declared.socket.Tcp2Socket.{Tcp2Socket}
 use Rattle.wasi_host.specs.declared.store.Standing.{Standing}
@@ -24,11 +24,14 @@ use Rattle.wasi_host.specs.Standing.{allowed_answer, call_answered, call_of, uns
 use Rattle.wasi_host.specs.Binding.{poll_bind_asks}
 use Rattle.wasi_host.specs.Blocking.{Blocked, blocking_read_asks, blocking_skip_asks, blocking_flush_asks, blocking_splice_asks, write_rest_asks, last_check_asks}
 use Rattle.wasi_host.specs.declared.blocking.BlockingCall.{BlockingCall}
-use Rattle.wasi_host.specs.declared.blocking.BlockingCall.TheVariants.{Read, Skip, Write, Finish, Flush, Splice}
+use Rattle.wasi_host.specs.declared.blocking.BlockingCall.TheVariants.{Read, Skip, Write, Finish, Flush, Splice, Block, Poll}
 use Rattle.wasi_host.specs.DatagramCalls.{remake_streams_asks, drop_outgoing_at}
 use Rattle.wasi_host.specs.Dropping.{drop_output_at}
 use Rattle.wasi_host.specs.Listening.{poll_listen_asks}
 use Rattle.wasi_host.specs.Machine.{with_store}
+use Rattle.wasi_host.specs.Names.{first_ids}
+use Rattle.wasi_host.specs.Polling.{block_by, poll_by}
+use Rattle.wasi_host.specs.declared.polling.Look.TheVariants.{Later}
 use Rattle.wasi_host.specs.UdpCalls.{rebind_udp_at}
 use Rattle.wasi_host.specs.UdpCreates.{create_on}
 
@@ -46,6 +49,11 @@ handle_outcome Pending = Pending
 abbrev pub pair_outcome : Answer (ℕ × ℕ) → Answer Outcome
 pair_outcome (Ready (a, b)) = Ready (Two a b)
 pair_outcome Pending = Pending
+
+-- and one that gives places of pollables
+abbrev pub places_outcome : Answer (List ℕ) → Answer Outcome
+places_outcome (Ready places) = Ready (Places places)
+places_outcome Pending = Pending
 
 abbrev pub rebind_at : Records → Ids → ℕ → Option Tcp2Socket → Asks (Result (Answer (Unit {0})) Stop × Records)
 rebind_at store ids place None = Give (Err (Trap NoSuchHandle), store)
@@ -69,6 +77,11 @@ created_on (Err stop, m) = (Err stop, m)
 abbrev pub streams_on : Result (Answer (ℕ × ℕ)) Stop × Machine → Result (Answer Outcome) Stop × Machine
 streams_on (Ok answer, m) = (Ok (pair_outcome answer), m)
 streams_on (Err stop, m) = (Err stop, m)
+
+-- and a call for pollables
+abbrev pub places_on : Result (Answer (List ℕ)) Stop × Machine → Result (Answer Outcome) Stop × Machine
+places_on (Ok answer, m) = (Ok (places_outcome answer), m)
+places_on (Err stop, m) = (Err stop, m)
 
 -- == a call of a stream that blocks
 -- its error is an outcome too, but for a trap
@@ -104,7 +117,7 @@ write_told (call.Memory e) = Err e
 abbrev pub nothing_given : Unit {0} → Outcome
 nothing_given done = Nothing
 
--- it is done again, and a write continues with what isn't written yet
+-- it is done again, and a write continues with what isn't written yet; a call for pollables looks again
 abbrev pub unblock_asks : Machine → Ids → BlockingCall → Asks (Result (Answer Outcome) Stop × Machine)
 unblock_asks m ids (Read input len) = bind (blocking_read_asks m ids input len) (λ done. Give (blocked_outcome Bytes done))
 unblock_asks m ids (Skip input len) = bind (blocking_skip_asks m ids input len) (λ done. Give (blocked_outcome Count done))
@@ -112,6 +125,8 @@ unblock_asks m ids (Write output rest) = bind (write_rest_asks m ids output rest
 unblock_asks m ids (Finish output) = bind (last_check_asks m ids output) (λ done. Give (blocked_outcome nothing_given done))
 unblock_asks m ids (Flush output) = bind (blocking_flush_asks m ids output) (λ done. Give (blocked_outcome nothing_given done))
 unblock_asks m ids (Splice to from len) = bind (blocking_splice_asks m ids to from len) (λ done. Give (blocked_outcome Count done))
+unblock_asks m ids (Block pollable) = bind (block_by Later m (first_ids ids.line) pollable) (λ done. Give (gone_on done))
+unblock_asks m ids (Poll pollables) = bind (poll_by Later m (first_ids ids.line) pollables) (λ done. Give (places_on done))
 
 -- a bind, a listen and a connect are polled again, a drop looks again, and a create waits on for its network socket, by the names of
 -- its line; pending, it stays pending

@@ -5,32 +5,31 @@ ghost use Rattle.wasi_world.specs.declared.outcome.Answer.TheVariants.{Pending};
 ghost use Rattle.wasi_world.specs.Asks.{AsksFor};
 ghost use Rattle.wasi_world.specs.Seen.{Seen};
 ghost use Rattle.wasi_host.specs.Blocking.{look_at, look_on, look_asks, blocking_read_asks, blocking_skip_asks, blocking_flush_asks, last_check_asks, finish_write_asks, write_rounds, blocking_write_asks, blocking_zeroes_asks, blocking_splice_asks};
-ghost use Rattle.wasi_host.specs.Host.{host_outcome, fault_outcome, call_outcome};
+ghost use Rattle.wasi_host.specs.Host.{fault_outcome, call_outcome};
 ghost use Rattle.wasi_host.specs.Machine.{own_of, input_at};
-ghost use Rattle.wasi_host.specs.Pending.{blocked_told, stop_told, write_told, nothing_given, unblock_asks};
+ghost use Rattle.wasi_host.specs.Pending.{write_told};
 ghost use Rattle.wasi_host.specs.Records.{tcp2_at};
 ghost use Rattle.wasi_host.specs.Sides.{KnowsSides};
 ghost use Rattle.wasi_host.specs.Standing.{standing_as};
 ghost use Rattle.wasi_host.specs.Views.{SameView, state_of};
 
-use crate::error::{CallError, SocketError};
+use crate::error::CallError;
 use crate::handles;
-use crate::pending::Outcome;
 use crate::records::tcp2_mut;
 use crate::store::{Standing, StandingCall, Store};
 use crate::streams::{check_write, flush, read, skip, write, zeros};
 use crate::view::WasiSocketsCtxView;
 use std::alloc::{AllocError, Global};
 use wasi_streams::Fault;
-use wasi_world::{Answer, Handle, Ids, Octets, OpId, TrapKind, World};
+use wasi_world::{Answer, Handle, Ids, NumberList, Octets, OpId, TrapKind, World};
 
 /// A blocking write has at most so many bytes.
 const MOST_BYTES: u64 = 4096;
 
 /// It writes at most so often each time that it is polled: a byte at least each time.
-const MOST_ROUNDS: u32 = 4096;
+pub(crate) const MOST_ROUNDS: u32 = 4096;
 
-/// A call of a stream that blocks, as it continues while it is pending.
+/// A call that blocks, as it continues while it is pending: of a stream, or of pollables.
 #[derive(Drop)]
 pub enum BlockingCall {
     /// Reads at most so many bytes.
@@ -62,6 +61,14 @@ pub enum BlockingCall {
         input: Handle,
         len: u64,
     },
+    /// Waits until a pollable is ready.
+    Block {
+        pollable: Handle,
+    },
+    /// Waits until one of these pollables is ready.
+    Poll {
+        pollables: NumberList,
+    },
 }
 
 impl Store {
@@ -84,7 +91,7 @@ impl Store {
     }
 
     /// The call is pending under its line's number, and continues so.
-    fn block_as<T>(&mut self, ids: Ids, call: BlockingCall) -> Answer<T>
+    pub(crate) fn block_as<T>(&mut self, ids: Ids, call: BlockingCall) -> Answer<T>
         ensures answer { result ≡ Pending }
         ensures state { self.new ≡ record self.old { standing = Some (standing_as ids (StandingCall.Blocking call)) } }
         ensures sides { (s : Seen) → KnowsSides s self.old → KnowsSides s self.new }
@@ -245,7 +252,7 @@ pub fn blocking_flush<W: World>(
 }
 
 /// Waits until what was written is flushed.
-fn last_check<W: World>(
+pub(crate) fn last_check<W: World>(
     view: &mut WasiSocketsCtxView<'_>,
     world: &mut W,
     ids: &mut Ids,
@@ -289,7 +296,7 @@ fn finish_write<W: World>(
 }
 
 /// Writes the bytes, as many each time as are permitted and so often at most, and then flushes.
-fn write_rounds<W: World>(
+pub(crate) fn write_rounds<W: World>(
     alloc: Global,
     view: &mut WasiSocketsCtxView<'_>,
     world: &mut W,
@@ -413,88 +420,4 @@ pub fn blocking_splice<W: World>(
     let count = bytes.len() as u64;
     write(view, world, ids, output, bytes)?;
     Ok(Answer::Ready(count))
-}
-
-/// The error of a call of a stream as an outcome; a trap and out of memory are none.
-fn of_stop(error: CallError) -> Result<Answer<Outcome>, SocketError>
-    ensures { host_outcome result ≡ stop_told error }
-{
-    match error {
-        CallError::Failed(code, handle) => Ok(Answer::Ready(Outcome::Failed(code, handle))),
-        CallError::Closed => Ok(Answer::Ready(Outcome::Closed)),
-        CallError::Trap(kind) => Err(SocketError::Trap(kind)),
-        CallError::Memory(e) => Err(SocketError::Memory(e)),
-    }
-}
-
-/// The outcome of a call that gives bytes.
-fn of_bytes(answer: Result<Answer<Octets>, CallError>) -> Result<Answer<Outcome>, SocketError>
-    ensures { host_outcome result ≡ blocked_told Outcome.Bytes answer }
-{
-    match answer {
-        Ok(Answer::Ready(bytes)) => Ok(Answer::Ready(Outcome::Bytes(bytes))),
-        Ok(Answer::Pending) => Ok(Answer::Pending),
-        Err(error) => of_stop(error),
-    }
-}
-
-/// The outcome of a call that gives how many they were.
-fn of_count(answer: Result<Answer<u64>, CallError>) -> Result<Answer<Outcome>, SocketError>
-    ensures { host_outcome result ≡ blocked_told Outcome.Count answer }
-{
-    match answer {
-        Ok(Answer::Ready(count)) => Ok(Answer::Ready(Outcome::Count(count))),
-        Ok(Answer::Pending) => Ok(Answer::Pending),
-        Err(error) => of_stop(error),
-    }
-}
-
-/// The outcome of a call that gives nothing.
-fn of_nothing(answer: Result<Answer<()>, CallError>) -> Result<Answer<Outcome>, SocketError>
-    ensures { host_outcome result ≡ blocked_told nothing_given answer }
-{
-    match answer {
-        Ok(Answer::Ready(())) => Ok(Answer::Ready(Outcome::Nothing)),
-        Ok(Answer::Pending) => Ok(Answer::Pending),
-        Err(error) => of_stop(error),
-    }
-}
-
-/// Continues a call that was pending, by these names.
-pub(crate) fn unblock<W: World>(
-    alloc: Global,
-    view: &mut WasiSocketsCtxView<'_>,
-    world: &mut W,
-    ids: Ids,
-    call: BlockingCall,
-) -> Result<Answer<Outcome>, SocketError>
-    requires { (W.seen world.old).ended ≡ false }
-    ensures asked { AsksFor (unblock_asks (state_of view.old) ids call) (W.seen world.old) (W.seen world.new) (λ answer. (answer, state_of view.new)) (host_outcome result) }
-    ensures sides { KnowsSides (W.seen world.old) view.old.store.now → KnowsSides (W.seen world.new) view.new.store.now }
-    ensures view { SameView view.old view.new }
-    ensures open { (W.seen world.new).ended ≡ false }
-{
-    let mut ids = ids;
-    match call {
-        BlockingCall::Read { input, len } => {
-            of_bytes(blocking_read(alloc, view, world, &mut ids, input, len))
-        }
-        BlockingCall::Skip { input, len } => {
-            of_count(blocking_skip(alloc, view, world, &mut ids, input, len))
-        }
-        BlockingCall::Write { output, rest } => of_nothing(write_rounds(
-            alloc,
-            view,
-            world,
-            &mut ids,
-            output,
-            rest,
-            MOST_ROUNDS,
-        )),
-        BlockingCall::Finish { output } => of_nothing(last_check(view, world, &mut ids, output)),
-        BlockingCall::Flush { output } => of_nothing(blocking_flush(view, world, &mut ids, output)),
-        BlockingCall::Splice { output, input, len } => of_count(blocking_splice(
-            alloc, view, world, &mut ids, output, input, len,
-        )),
-    }
 }

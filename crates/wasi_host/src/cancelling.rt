@@ -129,7 +129,7 @@ impl Store {
 
 /// Gives the pending call under this number up; false exactly where none is. A bind or a connect leaves its socket as it was; a
 /// listen closes its network socket, and the socket stays closed; a create closes its network socket; the drop of an outgoing
-/// datagram stream loses its datagram; the drop of an output, and a call of a stream, leave all as it is.
+/// datagram stream loses its datagram; the drop of an output, and a call that blocks, leave all as it is.
 pub fn cancel<W: World>(
     view: &mut WasiSocketsCtxView<'_>,
     world: &mut W,

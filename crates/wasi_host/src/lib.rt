@@ -21,6 +21,7 @@ mod options;
 pub mod pending;
 mod plain_streams;
 mod pollables;
+pub mod polling;
 mod readiness;
 mod receiving;
 pub mod records;
@@ -53,6 +54,7 @@ pub use plain_streams::{
     pipe_contents,
 };
 pub use pollables::{ready, subscribe};
+pub use polling::{Look, block, poll};
 pub use records::Record;
 pub use socket::{Streams, Tcp2Socket};
 pub use store::{Standing, StandingCall, Store};

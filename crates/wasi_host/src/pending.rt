@@ -4,19 +4,23 @@ ghost use Rattle.std.specs.Prelude.{◌≡◌, IfNone, IsSome, false};
 ghost use Rattle.wasi_world.specs.Asks.{AsksFor};
 ghost use Rattle.wasi_host.specs.Records.{tcp2_at};
 ghost use Rattle.wasi_host.specs.Host.{host_outcome};
-ghost use Rattle.wasi_host.specs.Pending.{outcome_of, handle_outcome, pair_outcome, rebind_at, relisten_at, go_on, resume_asks};
+ghost use Rattle.wasi_host.specs.Pending.{outcome_of, handle_outcome, pair_outcome, places_outcome, rebind_at, relisten_at, stop_told, blocked_told, nothing_given, unblock_asks, go_on, resume_asks};
 ghost use Rattle.wasi_host.specs.Sides.{KnowsSides};
 ghost use Rattle.wasi_host.specs.Standing.{call_of, unstood};
 ghost use Rattle.wasi_host.specs.Views.{SameView, state_of};
 
-use crate::blocking::unblock;
-use crate::error::SocketError;
+use crate::blocking::{
+    BlockingCall, MOST_ROUNDS, blocking_flush, blocking_read, blocking_skip, blocking_splice,
+    last_check, write_rounds,
+};
+use crate::error::{CallError, SocketError};
+use crate::polling::{Look, block_by, poll_by};
 use crate::records::tcp2_mut;
 use crate::store::{Standing, StandingCall, Store};
 use crate::view::WasiSocketsCtxView;
 use std::alloc::Global;
 use wasi_addr::ErrorCode;
-use wasi_world::{Answer, Handle, Ids, Octets, TrapKind, World};
+use wasi_world::{Answer, Handle, Ids, NumberList, Octets, TrapKind, World};
 
 /// What a resumed call answers: what it gives, and of a call of a stream also why it gives nothing.
 #[derive(Drop)]
@@ -35,6 +39,8 @@ pub enum Outcome {
     Failed(ErrorCode, Handle),
     /// The stream is at its end, or closed.
     Closed,
+    /// It gives the places of the pollables that are ready, counted from 0 and rising.
+    Places(NumberList),
 }
 
 impl Outcome {
@@ -64,6 +70,16 @@ impl Outcome {
     {
         match answer {
             Answer::Ready((first, second)) => Answer::Ready(Outcome::Two(first, second)),
+            Answer::Pending => Answer::Pending,
+        }
+    }
+
+    /// The outcome of a call that gives places of pollables.
+    fn of_places(answer: Answer<NumberList>) -> Answer<Outcome>
+        ensures { result ≡ places_outcome answer }
+    {
+        match answer {
+            Answer::Ready(places) => Answer::Ready(Outcome::Places(places)),
             Answer::Pending => Answer::Pending,
         }
     }
@@ -121,8 +137,105 @@ impl Store {
     }
 }
 
+/// The error of a call of a stream as an outcome; a trap and out of memory are none.
+fn of_stop(error: CallError) -> Result<Answer<Outcome>, SocketError>
+    ensures { host_outcome result ≡ stop_told error }
+{
+    match error {
+        CallError::Failed(code, handle) => Ok(Answer::Ready(Outcome::Failed(code, handle))),
+        CallError::Closed => Ok(Answer::Ready(Outcome::Closed)),
+        CallError::Trap(kind) => Err(SocketError::Trap(kind)),
+        CallError::Memory(e) => Err(SocketError::Memory(e)),
+    }
+}
+
+/// The outcome of a call that gives bytes.
+fn of_bytes(answer: Result<Answer<Octets>, CallError>) -> Result<Answer<Outcome>, SocketError>
+    ensures { host_outcome result ≡ blocked_told Outcome.Bytes answer }
+{
+    match answer {
+        Ok(Answer::Ready(bytes)) => Ok(Answer::Ready(Outcome::Bytes(bytes))),
+        Ok(Answer::Pending) => Ok(Answer::Pending),
+        Err(error) => of_stop(error),
+    }
+}
+
+/// The outcome of a call that gives how many they were.
+fn of_count(answer: Result<Answer<u64>, CallError>) -> Result<Answer<Outcome>, SocketError>
+    ensures { host_outcome result ≡ blocked_told Outcome.Count answer }
+{
+    match answer {
+        Ok(Answer::Ready(count)) => Ok(Answer::Ready(Outcome::Count(count))),
+        Ok(Answer::Pending) => Ok(Answer::Pending),
+        Err(error) => of_stop(error),
+    }
+}
+
+/// The outcome of a call that gives nothing.
+fn of_nothing(answer: Result<Answer<()>, CallError>) -> Result<Answer<Outcome>, SocketError>
+    ensures { host_outcome result ≡ blocked_told nothing_given answer }
+{
+    match answer {
+        Ok(Answer::Ready(())) => Ok(Answer::Ready(Outcome::Nothing)),
+        Ok(Answer::Pending) => Ok(Answer::Pending),
+        Err(error) => of_stop(error),
+    }
+}
+
+/// Continues a call that blocks, by the names of its line; one of pollables looks again.
+fn unblock<W: World>(
+    alloc: Global,
+    view: &mut WasiSocketsCtxView<'_>,
+    world: &mut W,
+    ids: Ids,
+    call: BlockingCall,
+) -> Result<Answer<Outcome>, SocketError>
+    requires { (W.seen world.old).ended ≡ false }
+    ensures asked { AsksFor (unblock_asks (state_of view.old) ids call) (W.seen world.old) (W.seen world.new) (λ answer. (answer, state_of view.new)) (host_outcome result) }
+    ensures sides { KnowsSides (W.seen world.old) view.old.store.now → KnowsSides (W.seen world.new) view.new.store.now }
+    ensures view { SameView view.old view.new }
+    ensures open { (W.seen world.new).ended ≡ false }
+{
+    let mut ids = ids;
+    let mut again = Ids {
+        line: ids.line,
+        next_part: 1,
+    };
+    match call {
+        BlockingCall::Read { input, len } => {
+            of_bytes(blocking_read(alloc, view, world, &mut ids, input, len))
+        }
+        BlockingCall::Skip { input, len } => {
+            of_count(blocking_skip(alloc, view, world, &mut ids, input, len))
+        }
+        BlockingCall::Write { output, rest } => of_nothing(write_rounds(
+            alloc,
+            view,
+            world,
+            &mut ids,
+            output,
+            rest,
+            MOST_ROUNDS,
+        )),
+        BlockingCall::Finish { output } => of_nothing(last_check(view, world, &mut ids, output)),
+        BlockingCall::Flush { output } => of_nothing(blocking_flush(view, world, &mut ids, output)),
+        BlockingCall::Splice { output, input, len } => of_count(blocking_splice(
+            alloc, view, world, &mut ids, output, input, len,
+        )),
+        BlockingCall::Block { pollable } => {
+            let answer = block_by(view, world, &mut again, Look::Later, pollable)?;
+            Ok(Outcome::of_nothing(answer))
+        }
+        BlockingCall::Poll { pollables } => {
+            let answer = poll_by(alloc, view, world, &mut again, Look::Later, pollables)?;
+            Ok(Outcome::of_places(answer))
+        }
+    }
+}
+
 /// Makes a call that was pending go on, by these names: a bind, a listen and a connect are polled again, the drop of a stream looks
-/// again whether that is done, and a create waits on for its network socket. Pending, it stays pending.
+/// again whether that is done, a create waits on for its network socket, and a call that blocks is done again. Pending, it stays
+/// pending.
 fn go_on<W: World>(
     alloc: Global,
     view: &mut WasiSocketsCtxView<'_>,
@@ -171,7 +284,7 @@ fn go_on<W: World>(
     }
 }
 
-/// Polls the pending call under this number, by the names that were left to it; none exactly where none is. A call that is
+/// Polls the pending call under this number, by the names of its line; none exactly where none is. A call that is
 /// pending stays so. A code is that of a bind, of a listen, of a create or of a connect; the error of a call of a stream is an
 /// outcome.
 pub fn resume<W: World>(

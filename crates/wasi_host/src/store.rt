@@ -46,15 +46,15 @@ pub enum StandingCall {
     UdpConnect { socket: usize, handle: Handle },
     /// Drops the outgoing datagram stream of the UDP socket of this number, and waits until its datagram is sent or failed.
     DropOutgoing { socket: usize },
-    /// A call of a stream that blocks.
+    /// A call that blocks, of a stream or of pollables.
     Blocking(BlockingCall),
 }
 
 /// A pending call: while it does, every other guest call is busy.
 #[derive(Drop)]
 pub struct Standing {
-    /// The line that began it, and the next of the names that its operations take: what begins while it is polled again takes
-    /// them from here.
+    /// The line that began it, whose own name the call's asks carry also when it is polled again. It begins no operation then, so
+    /// the next part of the line isn't taken.
     pub ids: Ids,
     pub call: StandingCall,
 }

@@ -1,4 +1,4 @@
-use Rattle.std.proofs.Common.{◌≡◌, ℕ, false, length, nat_lt, arith}
+use Rattle.std.proofs.Common.{◌≡◌, false, length, nat_lt, arith}
 use Rattle.wasi_host.proofs.blocking.blocking_write_and_flush.Goals as goal
 
 pub returns-clause-asked : goal.returns-clause-asked

@@ -1,4 +1,4 @@
-use Rattle.std.proofs.Common.{◌≡◌, ◌≤◌, ℕ, false, nat_lt, arith, refl}
+use Rattle.std.proofs.Common.{◌≡◌, ◌≤◌, false, nat_lt, arith, refl}
 use Rattle.wasi_host.proofs.Blocks.{call_none}
 use Rattle.wasi_host.proofs.blocking.blocking_write_zeroes_and_flush.Goals as goal
 

@@ -1,8 +1,11 @@
+use Rattle.std.proofs.Common.{refl}
 use Rattle.wasi_host.specs.declared.pending.Outcome.TheVariants.{Bytes, Count}
 use Rattle.wasi_host.specs.Pending.{nothing_given}
 use Rattle.wasi_host.specs.Views.{state_of}
+use Rattle.wasi_world.proofs.Walks.{asks_end}
 use Rattle.wasi_host.proofs.Blocks.{call_outcome_of}
-use Rattle.wasi_host.proofs.blocking.unblock.Goals as goal
+use Rattle.wasi_host.proofs.Hosts.{host_fault}
+use Rattle.wasi_host.proofs.pending.unblock.Goals as goal
 
 pub returns-in-Read-clause-asked : goal.returns-in-Read-clause-asked
 returns-in-Read-clause-asked g c = rw c.in-Read.is (call_outcome_of Bytes (state_of c.blocking_read.new.view) c.blocking_read.result c.of_bytes.ensures c.blocking_read.ensures.asked)
@@ -21,3 +24,15 @@ returns-in-Flush-clause-asked g c = rw c.in-Flush.is (call_outcome_of nothing_gi
 
 pub returns-in-Splice-clause-asked : goal.returns-in-Splice-clause-asked
 returns-in-Splice-clause-asked g c = rw c.in-Splice.is (call_outcome_of Count (state_of c.blocking_splice.new.view) c.blocking_splice.result c.of_count-in-Splice.ensures c.blocking_splice.ensures.asked)
+
+pub returns-in_err-answer-in-Block-clause-asked : goal.returns-in_err-answer-in-Block-clause-asked
+returns-in_err-answer-in-Block-clause-asked g c = rw c.in-Block.is (host_fault _ _ c.from_residual.result c.from_residual.ensures.1 c.in_err-answer-in-Block.ensures.asked (λ stop. refl))
+
+pub returns-in_ok-answer-in-Block-clause-asked : goal.returns-in_ok-answer-in-Block-clause-asked
+returns-in_ok-answer-in-Block-clause-asked g c = rw c.in-Block.is (asks_end _ c.in_ok-answer-in-Block.ensures.asked.ok (rw c.of_nothing-in-Block.ensures refl))
+
+pub returns-in_err-answer-in-Poll-clause-asked : goal.returns-in_err-answer-in-Poll-clause-asked
+returns-in_err-answer-in-Poll-clause-asked g c = rw c.in-Poll.is (host_fault _ _ c.from_residual-in_err-answer-in-Poll.result c.from_residual-in_err-answer-in-Poll.ensures.1 c.in_err-answer-in-Poll.ensures.asked (λ stop. refl))
+
+pub returns-in_ok-answer-in-Poll-clause-asked : goal.returns-in_ok-answer-in-Poll-clause-asked
+returns-in_ok-answer-in-Poll-clause-asked g c = rw c.in-Poll.is (asks_end _ c.in_ok-answer-in-Poll.ensures.asked.ok (rw c.of_places.ensures refl))

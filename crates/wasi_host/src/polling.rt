@@ -1,0 +1,349 @@
+//! Waiting for pollables (`wasi:io/poll`): a call that finds none of them ready is pending, and looks again when it is
+//! [resumed](crate::resume).
+
+ghost use Rattle.std.specs.Prelude.{◌≡◌, ◌+◌, ◌<◌, ◌^◌, false, true, length, IfOk, OnOk, OnErr, [], ◌∷◌, ◌++◌};
+ghost use Rattle.wasi_world.specs.Asks.{AsksFor};
+ghost use Rattle.wasi_world.specs.Seen.{Seen};
+ghost use Rattle.wasi_host.specs.Host.{fault_outcome};
+ghost use Rattle.wasi_host.specs.Kinds.{kind_at, watch_of};
+ghost use Rattle.wasi_host.specs.Listening.{TakesOne};
+ghost use Rattle.wasi_host.specs.Polling.{begins_accept, socket_begins, has_none, begins_receive, begins_on, look_at_pollable, ids_after_look, found_of, is_ready, look_each, ready_places, poll_by, pollables_in, poll_asks, block_by, blocked_answer, blocked_store};
+ghost use Rattle.wasi_host.specs.Records.{tcp2_at, open_at};
+ghost use Rattle.wasi_host.specs.Sides.{KnowsSides};
+ghost use Rattle.wasi_host.specs.Views.{SameView, state_of};
+
+use crate::blocking::BlockingCall;
+use crate::datagrams::Receiving;
+use crate::handles;
+use crate::kind::{Kind, Watched};
+use crate::listening::Listening;
+use crate::pollables::ready;
+use crate::records::{open_udp, tcp2};
+use crate::socket::Tcp2Socket;
+use crate::store::Store;
+use crate::udp::OpenUdp;
+use crate::view::WasiSocketsCtxView;
+use std::alloc::{AllocError, Global};
+use std::marker::Model;
+use wasi_streams::{Fault, Table, TrapKind};
+use wasi_world::{Answer, Handle, Ids, NumberList, World};
+
+/// Which of a call's looks at its pollables it is.
+#[derive(Clone, Copy)]
+pub enum Look {
+    /// The one of the line that makes the call. It begins an accept or a receive where none was begun.
+    First,
+    /// One of a line that polls the call. It begins nothing: where something would have to begin, what was waited for was taken
+    /// by another call, and the guest may see for itself.
+    Later,
+}
+
+/// What looks found: each pollable that was looked at, and whether it was ready, in the order of the looks.
+#[derive(Drop)]
+pub struct Found {
+    looks: Vec<(Handle, bool)>,
+}
+
+impl Model for Found {
+    ghost use Rattle.std.specs.Prelude.{List, ℕ, Bool};
+
+    ghost Value = { List (ℕ × Bool) };
+
+    ghost view = { λ found. found.looks.items };
+}
+
+impl Found {
+    fn new(alloc: Global) -> Found
+        ensures { result ≡ [] }
+    {
+        Found {
+            looks: Vec::new(alloc),
+        }
+    }
+
+    /// Whether a pollable was found ready; none where it wasn't looked at.
+    fn of(&self, pollable: Handle) -> Option<bool>
+        ensures { result ≡ found_of self.now pollable }
+    {
+        for (handle, ready) in self.looks.iter() {
+            if *handle == pollable {
+                return Some(*ready);
+            }
+        }
+        None
+    }
+
+    /// Takes memory for one look more.
+    fn push(&mut self, pollable: Handle, ready: bool) -> Result<(), AllocError>
+        ensures ok { OnOk result (self.new ≡ self.old ++ (pollable, ready) ∷ []) }
+        ensures err { OnErr result (self.new ≡ self.old) }
+    {
+        self.looks.push((pollable, ready))?;
+        Ok(())
+    }
+
+    /// Whether a pollable was looked at and found ready.
+    fn is_ready(&self, pollable: Handle) -> bool
+        ensures { result ≡ is_ready (found_of self.now pollable) }
+    {
+        matches!(self.of(pollable), Some(true))
+    }
+
+    /// The places of those that were found ready, among these.
+    fn ready_places(&self, alloc: Global, pollables: &[Handle]) -> Result<NumberList, AllocError>
+        requires { length pollables.now < 2 ^ 32 }
+        ensures { IfOk result (λ places. places ≡ ready_places self.now 0 pollables.now) }
+    {
+        let mut places = Vec::new(alloc);
+        for (place, pollable) in pollables.iter().enumerate() {
+            if self.is_ready(*pollable) {
+                places.push(place as u32)?;
+            }
+        }
+        Ok(NumberList::from_vec(places))
+    }
+}
+
+impl Tcp2Socket {
+    /// Whether a look at it would begin an accept: it is a listener in the middle of nothing, and no accept was begun.
+    fn would_accept(&self) -> bool
+        ensures { result ≡ socket_begins self.now }
+    {
+        if !self.in_progress.is_nothing() {
+            return false;
+        }
+        match &self.listening {
+            Listening::Accepts(listener) => !listener.has_accept(),
+            Listening::Not => false,
+            Listening::Begins(_) => false,
+            Listening::Unclosed(_) => false,
+        }
+    }
+}
+
+impl OpenUdp {
+    /// Whether a look at its incoming stream would begin a receive.
+    fn would_receive(&self) -> bool
+        ensures { result ≡ begins_receive self.now.incoming }
+    {
+        match &self.incoming {
+            Some(incoming) => matches!(incoming.receiving, Receiving::Nothing),
+            None => false,
+        }
+    }
+}
+
+impl Store {
+    /// Whether a look at what is watched would begin an accept or a receive.
+    fn would_begin(&self, watched: Watched) -> bool
+        ensures { result ≡ begins_on self.now (Some watched) }
+    {
+        match watched {
+            Watched::Socket(place) => match tcp2(self.records.as_slice(), place) {
+                Some(record) => record.would_accept(),
+                None => false,
+            },
+            Watched::Incoming(place) => match open_udp(self.records.as_slice(), place) {
+                Some(socket) => socket.would_receive(),
+                None => false,
+            },
+            Watched::Input(_)
+            | Watched::Output(_)
+            | Watched::Udp(_)
+            | Watched::Outgoing(_)
+            | Watched::Lookup(_)
+            | Watched::Plain => false,
+        }
+    }
+
+    /// What a call for one pollable answers after a look at it.
+    fn block_unless(&mut self, ids: Ids, pollable: Handle, ready: bool) -> Answer<()>
+        ensures answer { result ≡ blocked_answer ready }
+        ensures state { self.new ≡ blocked_store self.old ids pollable ready }
+        ensures sides { (s : Seen) → KnowsSides s self.old → KnowsSides s self.new }
+    {
+        if ready {
+            return Answer::Ready(());
+        }
+        self.block_as(ids, BlockingCall::Block { pollable })
+    }
+}
+
+/// A look of a line that polls a call.
+fn look_again<W: World>(
+    view: &mut WasiSocketsCtxView<'_>,
+    world: &mut W,
+    ids: Ids,
+    pollable: Handle,
+) -> Result<bool, Fault>
+    requires open { (W.seen world.old).ended ≡ false }
+    requires names { ids.next_part + 1 < 2 ^ 64 }
+    ensures asked { AsksFor (look_at_pollable Look.Later (state_of view.old) ids pollable) (W.seen world.old) (W.seen world.new) (λ ready. (ready, state_of view.new)) (fault_outcome result) }
+    ensures sides { KnowsSides (W.seen world.old) view.old.store.now → KnowsSides (W.seen world.new) view.new.store.now }
+    ensures view { SameView view.old view.new }
+    ensures open { (W.seen world.new).ended ≡ false }
+{
+    let watched = handles::watch(view.table, pollable)?;
+    if view.store.would_begin(watched) {
+        return Ok(true);
+    }
+    let mut ids = ids;
+    ready(view, world, &mut ids, pollable)
+}
+
+/// One look at a pollable.
+fn look_at<W: World>(
+    view: &mut WasiSocketsCtxView<'_>,
+    world: &mut W,
+    ids: &mut Ids,
+    look: Look,
+    pollable: Handle,
+) -> Result<bool, Fault>
+    requires open { (W.seen world.old).ended ≡ false }
+    requires names { ids.old.next_part + 1 < 2 ^ 64 }
+    ensures asked { AsksFor (look_at_pollable look (state_of view.old) ids.old pollable) (W.seen world.old) (W.seen world.new) (λ ready. (ready, state_of view.new)) (fault_outcome result) }
+    ensures sides { KnowsSides (W.seen world.old) view.old.store.now → KnowsSides (W.seen world.new) view.new.store.now }
+    ensures view { SameView view.old view.new }
+    ensures taken { TakesOne ids.old ids.new }
+    ensures names { IfOk (fault_outcome result) (λ ready. ids.new ≡ ids_after_look look (state_of view.old) ids.old pollable) }
+    ensures open { (W.seen world.new).ended ≡ false }
+{
+    match look {
+        Look::First => ready(view, world, ids, pollable),
+        Look::Later => look_again(view, world, *ids, pollable),
+    }
+}
+
+/// One look at each of the pollables, in the order of their first places.
+fn look_each<W: World>(
+    alloc: Global,
+    view: &mut WasiSocketsCtxView<'_>,
+    world: &mut W,
+    ids: &mut Ids,
+    look: Look,
+    pollables: &[Handle],
+) -> Result<Found, Fault>
+    requires open { (W.seen world.old).ended ≡ false }
+    requires names { ids.old.next_part + length pollables.now < 2 ^ 64 }
+    ensures asked { AsksFor (look_each look pollables.now (state_of view.old) ids.old []) (W.seen world.old) (W.seen world.new) (λ found. (found, state_of view.new)) (fault_outcome result) }
+    ensures sides { KnowsSides (W.seen world.old) view.old.store.now → KnowsSides (W.seen world.new) view.new.store.now }
+    ensures view { SameView view.old view.new }
+    ensures line { ids.new.line ≡ ids.old.line }
+    ensures open { (W.seen world.new).ended ≡ false }
+{
+    let mut found = Found::new(alloc);
+    for pollable in pollables {
+        if found.of(*pollable).is_none() {
+            let ready = look_at(view, world, ids, look, *pollable)?;
+            found.push(*pollable, ready)?;
+        }
+    }
+    Ok(found)
+}
+
+/// That each of the handles is a pollable's.
+fn test_pollables(table: &Table<Kind>, pollables: &[Handle]) -> Result<(), Fault>
+    ensures ok { OnOk result (pollables_in table.now pollables.now ≡ true) }
+    ensures err { OnErr result ((pollables_in table.now pollables.now ≡ false) × (result ≡ Err (Fault.Trap TrapKind.NoSuchHandle))) }
+{
+    for pollable in pollables {
+        handles::watch(table, *pollable)?;
+    }
+    Ok(())
+}
+
+/// One look at each, and the places of those that are ready; where none is, the call is pending.
+pub(crate) fn poll_by<W: World>(
+    alloc: Global,
+    view: &mut WasiSocketsCtxView<'_>,
+    world: &mut W,
+    ids: &mut Ids,
+    look: Look,
+    pollables: NumberList,
+) -> Result<Answer<NumberList>, Fault>
+    requires open { (W.seen world.old).ended ≡ false }
+    requires names { ids.old.next_part + 2 ^ 32 < 2 ^ 64 }
+    ensures asked { AsksFor (poll_by look (state_of view.old) ids.old pollables) (W.seen world.old) (W.seen world.new) (λ answer. (answer, state_of view.new)) (fault_outcome result) }
+    ensures sides { KnowsSides (W.seen world.old) view.old.store.now → KnowsSides (W.seen world.new) view.new.store.now }
+    ensures view { SameView view.old view.new }
+    ensures line { ids.new.line ≡ ids.old.line }
+    ensures open { (W.seen world.new).ended ≡ false }
+{
+    if pollables.len() > u32::MAX as usize {
+        return Err(Fault::Memory(AllocError));
+    }
+    let names = *ids;
+    let found = look_each(alloc, view, world, ids, look, pollables.as_slice())?;
+    let places = found.ready_places(alloc, pollables.as_slice())?;
+    if places.is_empty() {
+        let call = BlockingCall::Poll { pollables };
+        return Ok(view.store.block_as(names, call));
+    }
+    Ok(Answer::Ready(places))
+}
+
+/// One look at a pollable; where it isn't ready the call is pending.
+pub(crate) fn block_by<W: World>(
+    view: &mut WasiSocketsCtxView<'_>,
+    world: &mut W,
+    ids: &mut Ids,
+    look: Look,
+    pollable: Handle,
+) -> Result<Answer<()>, Fault>
+    requires open { (W.seen world.old).ended ≡ false }
+    requires names { ids.old.next_part + 1 < 2 ^ 64 }
+    ensures asked { AsksFor (block_by look (state_of view.old) ids.old pollable) (W.seen world.old) (W.seen world.new) (λ answer. (answer, state_of view.new)) (fault_outcome result) }
+    ensures sides { KnowsSides (W.seen world.old) view.old.store.now → KnowsSides (W.seen world.new) view.new.store.now }
+    ensures view { SameView view.old view.new }
+    ensures line { ids.new.line ≡ ids.old.line }
+    ensures open { (W.seen world.new).ended ≡ false }
+{
+    let names = *ids;
+    let ready = look_at(view, world, ids, look, pollable)?;
+    Ok(view.store.block_unless(names, pollable, ready))
+}
+
+/// Waits until a pollable is ready (`pollable.block`): one look at it as [`ready`](crate::ready) has, and pending where it isn't
+/// ready. An accept or a receive that began by the look goes on, whatever becomes of the call.
+pub fn block<W: World>(
+    view: &mut WasiSocketsCtxView<'_>,
+    world: &mut W,
+    ids: &mut Ids,
+    pollable: Handle,
+) -> Result<Answer<()>, Fault>
+    requires open { (W.seen world.old).ended ≡ false }
+    requires names { ids.old.next_part + 1 < 2 ^ 64 }
+    ensures asked { AsksFor (block_by Look.First (state_of view.old) ids.old pollable) (W.seen world.old) (W.seen world.new) (λ answer. (answer, state_of view.new)) (fault_outcome result) }
+    ensures sides { KnowsSides (W.seen world.old) view.old.store.now → KnowsSides (W.seen world.new) view.new.store.now }
+    ensures view { SameView view.old view.new }
+    ensures line { ids.new.line ≡ ids.old.line }
+    ensures open { (W.seen world.new).ended ≡ false }
+{
+    block_by(view, world, ids, Look::First, pollable)
+}
+
+/// Waits until one of the pollables is ready (`poll`), and returns the places of those that are, counted from 0 and rising. Each
+/// pollable is looked at once, though it may stand in the list more than once. It is pending where none is ready. An empty list is
+/// `Trap(EmptyList)`; every handle is tested before anything is asked. Takes memory for what is found, and for the places; a list
+/// of 4,294,967,296 or more is out of memory.
+pub fn poll<W: World>(
+    alloc: Global,
+    view: &mut WasiSocketsCtxView<'_>,
+    world: &mut W,
+    ids: &mut Ids,
+    pollables: NumberList,
+) -> Result<Answer<NumberList>, Fault>
+    requires open { (W.seen world.old).ended ≡ false }
+    requires names { ids.old.next_part + 2 ^ 32 < 2 ^ 64 }
+    ensures asked { AsksFor (poll_asks (state_of view.old) ids.old pollables) (W.seen world.old) (W.seen world.new) (λ answer. (answer, state_of view.new)) (fault_outcome result) }
+    ensures sides { KnowsSides (W.seen world.old) view.old.store.now → KnowsSides (W.seen world.new) view.new.store.now }
+    ensures view { SameView view.old view.new }
+    ensures line { ids.new.line ≡ ids.old.line }
+    ensures open { (W.seen world.new).ended ≡ false }
+{
+    if pollables.is_empty() {
+        return Err(Fault::Trap(TrapKind::EmptyList));
+    }
+    test_pollables(view.table, pollables.as_slice())?;
+    poll_by(alloc, view, world, ids, Look::First, pollables)
+}
