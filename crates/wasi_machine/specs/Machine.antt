@@ -4,7 +4,6 @@ use Rattle.wasi_addr.specs.declared.address.IpSocketAddress.{IpSocketAddress}
 use Rattle.wasi_addr.specs.declared.address.SocketAddressFamily.{SocketAddressFamily}
 use Rattle.wasi_addr.specs.declared.p2.ErrorCode.{ErrorCode as P2Code}
 use Rattle.wasi_addr.specs.Code.{p2_of_code}
-use Rattle.wasi_world.specs.declared.ids.Ids.{Ids}
 use Rattle.wasi_world.specs.declared.ids.OpId.{OpId}
 use Rattle.wasi_world.specs.declared.outcome.Answer.{Answer}
 use Rattle.wasi_world.specs.declared.outcome.Answer.TheVariants.{Ready, Pending}
@@ -13,7 +12,7 @@ use Rattle.wasi_world.specs.declared.call.Entry.{Entry}
 use Rattle.wasi_world.specs.Asks.{Asks, Give, bind, Left}
 use Rattle.wasi_host.specs.declared.machine.Machine.{Machine}
 use Rattle.wasi_host.specs.declared.pending.Outcome.{Outcome}
-use Rattle.wasi_host.specs.declared.pending.Outcome.TheVariants.{Nothing, One, Two, Count, Bytes}
+use Rattle.wasi_host.specs.declared.pending.Outcome.TheVariants.{Nothing, One, Two, Count, Bytes, Places}
 use Rattle.wasi_host.specs.declared.pending.Outcome.TheVariants as outcome
 use Rattle.wasi_host.specs.declared.store.Standing.{Standing}
 use Rattle.wasi_host.specs.Host.{Stop, Code, Trap, CallStop, Failed, Closed, Traps}
@@ -25,8 +24,11 @@ use Rattle.wasi_host.specs.PlainStreams.{input_pipe_asks, output_pipe_asks, plai
 use Rattle.wasi_host.specs.StreamCalls.{read_asks, skip_asks, check_asks, write_asks, write_zeroes_asks, flushed_asks, splice_asks}
 use Rattle.wasi_host.specs.Blocking.{blocking_read_asks, blocking_skip_asks, blocking_write_asks, blocking_zeroes_asks, blocking_flush_asks, blocking_splice_asks}
 use Rattle.wasi_host.specs.Cancel.{cancel_asks}
+pub use Rattle.wasi_host.specs.Names.{first_ids}
 use Rattle.wasi_host.specs.InProgress.{is_bind, is_listen}
 use Rattle.wasi_host.specs.Pending.{resume_asks}
+use Rattle.wasi_host.specs.Polling.{block_by, poll_asks}
+use Rattle.wasi_host.specs.declared.polling.Look.TheVariants.{First}
 use Rattle.wasi_host.specs.UdpCreates.{create_udp_asks}
 use Rattle.wasi_p2.specs.Tcp.{network_asks, start_bind_asks, finish_on, start_connect_asks, finish_connect_asks, local_address_on, remote_address_on, is_listening_on, address_family_on, shutdown_on, start_listen_on, accept_asks}
 use Rattle.wasi_p2.specs.Options.{get_option_on, set_option_on, set_backlog_on}
@@ -38,7 +40,7 @@ use Rattle.wasi_steps.specs.declared.reply.Reply.{Reply}
 use Rattle.wasi_steps.specs.declared.reply.Reply.TheVariants as reply
 use Rattle.wasi_steps.specs.declared.step.Step.{Step}
 use Rattle.wasi_steps.specs.declared.step.Step.TheVariants as step
-use Rattle.wasi_steps.specs.Reply.{word_of_p2, is_trap, no_fields, no_values, number_fields, pair_fields, pair_values, datagram_values, triple_values, bytes_fields, truth_fields, family_fields, address_values, found_values, absent_values}
+use Rattle.wasi_steps.specs.Reply.{word_of_p2, is_trap, no_fields, no_values, number_fields, numbers_fields, pair_fields, pair_values, datagram_values, triple_values, bytes_fields, truth_fields, family_fields, address_values, found_values, absent_values}
 use Rattle.wasi_steps.specs.Settings.{Chosen, AnOption, TheBacklog, chosen, udp_opt, udp_chosen}
 use Rattle.wasi_steps.specs.Steps.{context_of}
 
@@ -124,6 +126,7 @@ outcome_reply line (Ready (Count n)) = reply.Ok (number_fields n)
 outcome_reply line (Ready (Bytes bytes)) = reply.Ok (bytes_fields bytes)
 outcome_reply line (Ready (outcome.Failed c e)) = call_stop_reply (Failed c e)
 outcome_reply line (Ready outcome.Closed) = reply.Closed
+outcome_reply line (Ready (Places places)) = reply.Ok (numbers_fields places)
 outcome_reply line Pending = reply.Pending line
 
 abbrev pub resumed_reply : ℕ → Result (Option (Answer Outcome)) Stop → Reply
@@ -155,10 +158,6 @@ context_at contexts n = context_in (slice_get contexts n)
 abbrev pub context_for : List WasiSocketsCtx → Option ℕ → WasiSocketsCtx
 context_for contexts (Some n) = context_at contexts n
 context_for contexts None = context_in None
-
--- the names of a line, but its own operation's: none was taken yet
-abbrev pub first_ids : ℕ → Ids
-first_ids line = record { line = line; next_part = 1 }
 
 abbrev pub call_asks : WasiSocketsCtx → Machine → ℕ → Step → Asks (Reply × Machine)
 call_asks ctx m line (step.Network c) = bind (network_asks m (own_of line)) (λ done. Give (reply_of number_fields done.0, done.1))
@@ -197,6 +196,8 @@ call_asks ctx m line (step.Write c output bytes) = bind (write_asks m (own_of li
 call_asks ctx m line (step.Flush c output) = bind (flushed_asks m (own_of line) output) (λ done. Give (stream_reply_of no_values done.0, done.1))
 call_asks ctx m line (step.Subscribe c h) = bind (subscribe_asks m (own_of line) h) (λ done. Give (reply_of number_fields done.0, done.1))
 call_asks ctx m line (step.Ready c p) = bind (ready_asks m (first_ids line) p) (λ done. Give (reply_of truth_fields done.0, done.1))
+call_asks ctx m line (step.Block c p) = bind (block_by First m (first_ids line) p) (λ done. Give (answer_reply_of no_values line done.0, done.1))
+call_asks ctx m line (step.PollList c ps) = bind (poll_asks m (first_ids line) ps) (λ done. Give (answer_reply_of numbers_fields line done.0, done.1))
 call_asks ctx m line (step.Drop c h) = bind (drop_asks m (first_ids line) h) (λ done. Give (answer_reply_of no_values line done.0, done.1))
 call_asks ctx m line (step.TcpShutdown c s how) = bind (shutdown_on m (own_of line) how (socket_at m s)) (λ done. Give (reply_of no_values done.0, done.1))
 call_asks ctx m line (step.PipeIn c bytes) = bind (input_pipe_asks m (own_of line) bytes) (λ done. Give (reply_of number_fields done.0, done.1))

@@ -116,6 +116,7 @@ fn outcome_reply(alloc: Global, line: u32, answer: Answer<Outcome>) -> Result<Re
         Answer::Ready(Outcome::Bytes(bytes)) => ok(alloc, bytes),
         Answer::Ready(Outcome::Failed(code, handle)) => Ok(failed(code, handle)),
         Answer::Ready(Outcome::Closed) => Ok(Reply::Closed),
+        Answer::Ready(Outcome::Places(places)) => ok(alloc, places),
         Answer::Pending => Ok(Reply::Pending(line)),
     }
 }
