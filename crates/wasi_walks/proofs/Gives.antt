@@ -36,6 +36,12 @@ gives_both Q R before (Give a) h k = (h, k)
 gives_both Q R before (Ask op call next) h k = (tt, λ told fits. gives_both Q R _ (next told) (h.1 told fits) (k.1 told fits))
 gives_both Q R before (AskWrite op sock bytes next) h k = (tt, λ told fits front. gives_both Q R _ (next told) (h.1 told fits front) (k.1 told fits front))
 
+-- of each of these
+pub gives_all : {A B : Type 0} (Q : B → List Entry → A → Type 0) (before : List Entry) (asks : Asks A) → ((b : B) → Gives (Q b) before asks) → Gives (λ es a. (b : B) → Q b es a) before asks
+gives_all Q before (Give a) h = h
+gives_all Q before (Ask op call next) h = (tt, λ told fits. gives_all Q _ (next told) (λ b. (h b).1 told fits))
+gives_all Q before (AskWrite op sock bytes next) h = (tt, λ told fits front. gives_all Q _ (next told) (λ b. (h b).1 told fits front))
+
 -- what holds under a premise
 pub gives_where : {A : Type 0} (P : Type 0) (Q : List Entry → A → Type 0) (before : List Entry) (asks : Asks A) → (P → Gives Q before asks) → Gives (λ es a. P → Q es a) before asks
 gives_where P Q before (Give a) h = h

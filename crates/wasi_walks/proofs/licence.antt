@@ -36,3 +36,4 @@ pub mod Refused
 pub mod UdpRows
 pub mod DatagramRows
 pub mod StreamRows
+pub mod PollRows

@@ -1,4 +1,4 @@
--- The law of the order in which datagrams are handed out.
+-- The law of the order in which datagrams are handed out, and that a reply hands out only what was allowed.
 pub mod Late
 pub mod Polls
 pub mod Silent
@@ -7,4 +7,5 @@ pub mod Examples
 pub mod Law
 pub mod Handed
 pub mod Lines
+pub mod Replies
 pub mod Runs

@@ -1,4 +1,5 @@
 -- What a line does, said once as moves; what a law of runs is; and that each step is made of moves.
+pub mod Here
 pub mod Moves
 pub mod Writes
 pub mod Failures
@@ -19,6 +20,8 @@ pub mod Udp
 pub mod Datagrams
 pub mod Sends
 pub mod Receives
+pub mod Looks
+pub mod Polling
 pub mod Lookups
 pub mod SocketSteps
 pub mod ListenSteps

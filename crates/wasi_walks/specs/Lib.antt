@@ -1,3 +1,4 @@
+pub mod Allowed
 pub mod Licence
 pub mod Answered
 pub mod Missing

@@ -32,16 +32,10 @@ use Rattle.wasi_steps.specs.declared.step.Step.{Step}
 use Rattle.wasi_steps.specs.declared.step.Step.TheVariants as step
 use Rattle.wasi_steps.specs.Settings.{Chosen, AnOption, TheBacklog, chosen, udp_opt, udp_chosen}
 pub use Rattle.wasi_steps.specs.Steps.{handles_of}
+use Rattle.wasi_walks.specs.Allowed.{InOrder}
+pub use Rattle.wasi_walks.specs.Allowed.{Has, IsSide, IsMaker, Created, UdpCreated, Handed, entry}
 
 -- == entries
--- one of them is this
-abbrev pub Has : {A : Type 0} → List A → A → Type 0
-Has [] x = ⊥
-Has (y ∷ ys) x = (y ≡ x) ⊎ Has ys x
-
-abbrev pub entry : OpId → Call → Told → Entry
-entry op call told = record { op = op; call = call; answer = told }
-
 -- how many handles the entries mark
 abbrev pub marked_by : Call → ℕ
 marked_by (Made handle kind parent sock) = 1
@@ -64,14 +58,6 @@ pub record BeganBy (steps : List Step) (op : OpId) (P : Step → Type 0) : Type 
   pub holds : P origin
 
 -- == network sockets
--- The network socket of a handle is the one in its mark.
-pub record IsSide (before : List Entry) (handle : ℕ) (side : OpId) : Type 0 where
-  pub op : OpId
-  pub kind : HandleKind
-  pub parent : Option ℕ
-  pub told : Told
-  pub mark : Has before (entry op (Made handle kind parent (Some side)) told)
-
 -- The mark of a handle says this of its network socket.
 pub record IsMarkedWith (before : List Entry) (handle : ℕ) (sock : Option OpId) : Type 0 where
   pub op : OpId
@@ -89,12 +75,6 @@ pub record NamesSide (before : List Entry) (side : OpId) (origin : Step) : Type 
 -- an operation reaches the network sockets that its step names, and the network socket that it makes itself
 abbrev pub ReachesSide : List Step → List Entry → OpId → OpId → Type 0
 ReachesSide steps before op side = BeganBy steps op (NamesSide before side) ⊎ (op ≡ side)
-
--- The creator of a network socket and its family are those in its create, or where it was handed over those of the listener.
-pub data IsMaker (before : List Entry) (ctx : ℕ) (family : SocketAddressFamily) : OpId → Type 0 where
-  Created : (side : OpId) (told : Told) → Has before (entry side (TcpCreate ctx family) told) → IsMaker before ctx family side
-  UdpCreated : (side : OpId) (told : Told) → Has before (entry side (UdpCreate ctx family) told) → IsMaker before ctx family side
-  Handed : (side listener : OpId) (peer : IpSocketAddress) (told : Told) → Has before (entry side (Hand listener peer) told) → IsMaker before ctx family listener → IsMaker before ctx family side
 
 -- Among these entries the operation asked the network socket's creator about the address and its use, and was answered yes.
 pub record HasYes (before among : List Entry) (op side : OpId) (addr : IpSocketAddress) (usage : SocketAddrUse) : Type 0 where
@@ -244,6 +224,11 @@ IsUdpBindTo addr _ = ⊥
 abbrev pub IsUdpConnectTo : IpSocketAddress → Step → Type 0
 IsUdpConnectTo addr (step.UdpStream ctx socket remote) = remote ≡ Some addr
 IsUdpConnectTo addr _ = ⊥
+
+-- datagram streams that are made without an address: a socket that is connected is disconnected
+abbrev pub IsDisconnect : Step → Type 0
+IsDisconnect (step.UdpStream ctx socket None) = ⊤
+IsDisconnect _ = ⊥
 
 -- the datagram streams of the UDP socket of this handle are made
 abbrev pub IsStreamOf : ℕ → Step → Type 0
@@ -440,7 +425,7 @@ MayAsk contexts steps before op (ReadReady sock) = ReachesSide steps before op s
 MayAsk contexts steps before op (WriteReady sock) = ReachesSide steps before op sock
 MayAsk contexts steps before op (Write sock offered) = ReachesSide steps before op sock
 MayAsk contexts steps before op (Shutdown sock how) = ReachesSide steps before op sock
-MayAsk contexts steps before op (UdpDisconnect sock) = ReachesSide steps before op sock
+MayAsk contexts steps before op (UdpDisconnect sock) = ReachesSide steps before op sock × BeganBy steps op IsDisconnect
 MayAsk contexts steps before op (Send sock addr bytes) =
     ReachesSide steps before op sock × BeganBy steps op (SendsItem before op sock addr bytes) × HasYes before before op sock addr use_of.UdpSend × MaySendOut before op sock × BeganBy steps sock MakesUdp
 MayAsk contexts steps before op (Recv sock) = ReachesSide steps before op sock
@@ -450,21 +435,15 @@ MayAsk contexts steps before op (Close sock) = ⊤
 MayAsk contexts steps before op (Made handle kind parent sock) = (handle ≡ marks_in before + 1) × BeganBy steps op (IsMarkOf before op kind parent sock)
 
 -- == which reply a log may go with
--- An operation received this datagram on the network socket, and was answered yes about its sender afterwards.
-pub record IsReceived (log : List Entry) (side : OpId) (datagram : IncomingDatagram) : Type 0 where
-  pub op : OpId
-  pub front : List Entry
-  pub back : List Entry
-  pub cut : log ≡ front ++ entry op (Recv side) (Told.Datagram datagram.bytes datagram.remote_address) ∷ back
-  pub yes : HasYes log back op side datagram.remote_address use_of.UdpReceive
-
--- What a receive on the stream of this handle hands out: datagrams that were received on its network socket.
+-- What a receive on the stream of this handle hands out: datagrams that were received on its network socket and allowed, in order,
+-- each at its own place in the log.
 pub record HandsOut (log : List Entry) (handle : ℕ) (fields : List Field) : Type 0 where
   pub side : OpId
   pub of_handle : IsSide log handle side
   pub datagrams : List IncomingDatagram
   pub values : fields ≡ datagram_values datagrams
-  pub received : (d : IncomingDatagram) → Has datagrams d → IsReceived log side d
+  pub upto : ℕ
+  pub order : InOrder log side 0 datagrams upto
 
 abbrev pub MayReply : List Entry → Step → Reply → Type 0
 MayReply log (step.UdpReceive ctx handle most) (Reply.Ok fields) = HandsOut log handle fields
@@ -476,7 +455,7 @@ EachMayReply log steps [] = ⊤
 EachMayReply log [] (reply ∷ replies) = ⊥
 EachMayReply log (s ∷ steps) (reply ∷ replies) = MayReply log s reply × EachMayReply log steps replies
 
--- Each entry may come after those before it, and each reply is to the step of its line, and hands out nothing that wasn't received.
+-- Each entry may come after those before it, and each reply is to the step of its line, and hands out only what was allowed.
 pub record IsLicensed (contexts : List WasiSocketsCtx) (steps : List Step) (log : List Entry) (replies : List Reply) : Type 0 where
   pub each : (before : List Entry) (e : Entry) (after : List Entry) → log ≡ before ++ e ∷ after → MayAsk contexts steps before e.op e.call
   pub replied : EachMayReply log steps replies

@@ -19,7 +19,7 @@ use Rattle.wasi_host.specs.Machine.{lookup_number}
 use Rattle.wasi_host.specs.Records.{tcp2_at, udp2_at, open_at, input_pipe_at, output_pipe_at}
 use Rattle.wasi_host.specs.Standing.{call_of}
 use Rattle.wasi_host.specs.StreamCalls.{plain_input_at, plain_output_at}
-use Rattle.wasi_steps.specs.Steps.{Kind, HandleOf, ALine, ANetwork, ASocket, ADatagramSocket, AnInput, AnOutput, AnIncoming, AnOutgoing, ALookup, AnError, Watchable, APollable, Anything, Value, Values, signature}
+use Rattle.wasi_steps.specs.Steps.{Kind, HandleOf, ALine, ANetwork, ASocket, ADatagramSocket, AnInput, AnOutput, AnIncoming, AnOutgoing, ALookup, AnError, Watchable, APollable, Anything, SomePollables, Value, Values, signature}
 use Rattle.wasi_steps.specs.declared.step.Step.{Step}
 use Rattle.wasi_steps.specs.declared.step.Step.TheVariants as step
 use Rattle.wasi_walks.specs.Answered.{record_at, open_udp_at, incoming_in, outgoing_in, lookup_in, streams_in, input_streams, output_streams}
@@ -54,15 +54,6 @@ MissesOutput m h = (output_streams m h ≡ None) × MissesOutputPipe m (plain_ou
 abbrev pub MissesEither : Machine → ℕ → ℕ → Type 0
 MissesEither m to from = MissesOutput m to ⊎ MissesInput m from
 
--- the call misses a handle that it is on
-abbrev pub MissesStream : Machine → BlockingCall → Type 0
-MissesStream m (blocking.Read input len) = MissesInput m input
-MissesStream m (blocking.Skip input len) = MissesInput m input
-MissesStream m (blocking.Write output rest) = MissesOutput m output
-MissesStream m (blocking.Finish output) = MissesOutput m output
-MissesStream m (blocking.Flush output) = MissesOutput m output
-MissesStream m (blocking.Splice to from len) = MissesEither m to from
-
 -- == what a pollable watches
 -- what is watched isn't there
 abbrev pub MissesRecord : Watched → Option Tcp2Socket → Type 0
@@ -80,8 +71,24 @@ MissesWatched m None = ⊤
 MissesWatched m (Some (watched.Incoming place)) = open_at m.store.records place ≡ None
 MissesWatched m (Some w) = MissesRecord w (tcp2_at m.store.records (place_in w))
 
+-- one of these is no pollable's handle, or what it watches isn't there
+abbrev pub MissesOneOf : Machine → List ℕ → Type 0
+MissesOneOf m [] = ⊥
+MissesOneOf m (pollable ∷ pollables) = MissesWatched m (watch_of (kind_at m.table pollable)) ⊎ MissesOneOf m pollables
+
 -- == pending calls
--- the call is a bind, a listen, a create or a connect of no socket, or a call of a stream that isn't there
+-- the call misses a handle that it is on
+abbrev pub MissesStream : Machine → BlockingCall → Type 0
+MissesStream m (blocking.Read input len) = MissesInput m input
+MissesStream m (blocking.Skip input len) = MissesInput m input
+MissesStream m (blocking.Write output rest) = MissesOutput m output
+MissesStream m (blocking.Finish output) = MissesOutput m output
+MissesStream m (blocking.Flush output) = MissesOutput m output
+MissesStream m (blocking.Splice to from len) = MissesEither m to from
+MissesStream m (blocking.Block pollable) = MissesWatched m (watch_of (kind_at m.table pollable))
+MissesStream m (blocking.Poll pollables) = MissesOneOf m pollables
+
+-- the call is a bind, a listen, a create or a connect of no socket, or a call on a stream or a pollable that isn't there
 abbrev pub IsOnNothing : Machine → StandingCall → Type 0
 IsOnNothing m (standing.Bind place) = tcp2_at m.store.records place ≡ None
 IsOnNothing m (standing.Listen place) = tcp2_at m.store.records place ≡ None
@@ -92,7 +99,7 @@ IsOnNothing m (standing.UdpConnect place handle) = (open_at m.store.records plac
 IsOnNothing m (standing.DropOutgoing place) = ⊥
 IsOnNothing m (standing.Blocking call) = MissesStream m call
 
--- the pending call under this number is a bind, a listen, a create or a connect of no socket, or a call of no stream
+-- the pending call under this number is a bind, a listen, a create or a connect of no socket, or a call on no stream or no pollable
 abbrev pub StandsOnNothing : Machine → ℕ → Type 0
 StandsOnNothing m n = IsSomeAnd (call_of m.store.standing n) (λ s. IsOnNothing m s.call)
 
@@ -111,6 +118,7 @@ MissesValue m (HandleOf AnError) h = is_error (kind_at m.table h) ≡ false
 MissesValue m (HandleOf Watchable) h = watched_by (kind_at m.table h) ≡ None
 MissesValue m (HandleOf APollable) h = MissesWatched m (watch_of (kind_at m.table h))
 MissesValue m (HandleOf Anything) h = kind_at m.table h ≡ None
+MissesValue m SomePollables handles = MissesOneOf m handles
 MissesValue m ALine n = StandsOnNothing m n
 MissesValue m _ value = ⊥
 
@@ -118,8 +126,8 @@ abbrev pub MissesFirst : Machine → (kinds : List Kind) → Values kinds → Ty
 MissesFirst m [] values = ⊥
 MissesFirst m (kind ∷ kinds) values = MissesValue m kind values.0
 
--- a handle of the step isn't live, or is of another kind; it is the first argument, and that of a network or of an input beside it; a
--- pipe's contents are told of a pipe alone; and a cancel asks for no handle
+-- a handle of the step isn't live, or is of another kind; it is the first argument, or one of several pollables, and that of a network
+-- or of an input beside it; a pipe's contents are told of a pipe alone; and a cancel asks for no handle
 abbrev pub MissesHandle : Machine → Step → Type 0
 MissesHandle m (step.TcpStartBind ctx socket network a) = (is_network (kind_at m.table network) ≡ false) ⊎ (record_at m socket ≡ None)
 MissesHandle m (step.TcpStartConnect ctx socket network a) = (is_network (kind_at m.table network) ≡ false) ⊎ (record_at m socket ≡ None)

@@ -1,44 +1,15 @@
 -- In which order the replies of a run hand out what was received on a network socket: in that of the log, and each datagram once.
-use Rattle.std.specs.Prelude.{◌≡◌, ℕ, ◌+◌, ◌≤◌, ◌⊎◌, ⊤, List, [], ◌∷◌, ◌++◌, length}
-use Rattle.wasi_addr.specs.declared.address.SocketAddressFamily.{SocketAddressFamily}
-use Rattle.wasi_addr.specs.declared.address.SocketAddrUse.TheVariants.{UdpReceive}
+use Rattle.std.specs.Prelude.{◌≡◌, ℕ, ◌⊎◌, List, [], ◌∷◌}
 use Rattle.wasi_world.specs.declared.datagram.IncomingDatagram.{IncomingDatagram}
 use Rattle.wasi_world.specs.declared.ids.OpId.{OpId}
-use Rattle.wasi_world.specs.declared.call.Call.TheVariants.{Check, Recv}
-use Rattle.wasi_world.specs.declared.call.Told.{Told}
-use Rattle.wasi_world.specs.declared.call.Told.TheVariants.{Yes}
 use Rattle.wasi_world.specs.declared.call.Entry.{Entry}
 use Rattle.wasi_steps.specs.declared.reply.Field.{Field}
 use Rattle.wasi_steps.specs.declared.reply.Reply.{Reply}
 use Rattle.wasi_steps.specs.declared.step.Step.{Step}
 use Rattle.wasi_steps.specs.declared.step.Step.TheVariants as step
 use Rattle.wasi_steps.specs.Reply.{datagram_values}
-use Rattle.wasi_walks.specs.Licence.{IsMaker, IsSide, entry}
-
--- none of these entries asks the network socket for a datagram
-abbrev pub ReceivesNone : OpId → List Entry → Type 0
-ReceivesNone side [] = ⊤
-ReceivesNone side (e ∷ es) = (e.call ≡ Recv side → ⊥) × ReceivesNone side es
-
--- Between the two places of the log the network socket received the datagram, and the same operation was answered yes about its
--- sender afterwards, by the creator of the network socket, before anything else was asked for there.
-pub record IsAllowed (log : List Entry) (side : OpId) (from upto : ℕ) (datagram : IncomingDatagram) : Type 0 where
-  pub op : OpId
-  pub ctx : ℕ
-  pub family : SocketAddressFamily
-  pub maker : IsMaker log ctx family side
-  pub front : List Entry
-  pub between : List Entry
-  pub back : List Entry
-  pub cut : log ≡ front ++ entry op (Recv side) (Told.Datagram datagram.bytes datagram.remote_address) ∷ (between ++ entry op (Check ctx datagram.remote_address UdpReceive) Yes ∷ back)
-  pub alone : ReceivesNone side between
-  pub late : from ≤ length front
-  pub past : length front + length between + 2 ≤ upto
-
--- So it was with these datagrams one after another, each past the one before it and its yes.
-pub data InOrder (log : List Entry) (side : OpId) : ℕ → List IncomingDatagram → ℕ → Type 0 where
-  NoMore : (from : ℕ) → InOrder log side from [] from
-  OneMore : (from mid upto : ℕ) (d : IncomingDatagram) (ds : List IncomingDatagram) → IsAllowed log side from mid d → InOrder log side mid ds upto → InOrder log side from (d ∷ ds) upto
+use Rattle.wasi_walks.specs.Allowed.{IsSide}
+pub use Rattle.wasi_walks.specs.Allowed.{ReceivesNone, IsAllowed, InOrder, NoMore, OneMore}
 
 -- What a receive on the stream of this handle hands out: of this network socket datagrams in order, from the one place to the other;
 -- of another one nothing is said here.

@@ -126,8 +126,8 @@ IsPoll (step.Poll n) = ⊤
 IsPoll _ = ⊥
 
 -- the step may be pending under this number: the start of a bind, that of a listen, a create of a UDP socket, that of its streams,
--- the drop of an output or of an outgoing datagram stream, and a call of a stream that blocks under their line's, and a poll under the
--- one that it polls
+-- the drop of an output or of an outgoing datagram stream, and a call that blocks, of a stream or for pollables, under their line's, and
+-- a poll under the one that it polls
 abbrev pub MayStand : Machine → ℕ → Step → ℕ → Type 0
 MayStand m line (step.TcpStartBind ctx socket network a) n = n ≡ line
 MayStand m line (step.TcpStartListen ctx socket) n = n ≡ line
@@ -141,6 +141,8 @@ MayStand m line (step.BlockingWrite ctx output bytes) n = n ≡ line
 MayStand m line (step.BlockingZeroes ctx output len) n = n ≡ line
 MayStand m line (step.BlockingFlush ctx output) n = n ≡ line
 MayStand m line (step.BlockingSplice ctx to from len) n = n ≡ line
+MayStand m line (step.Block ctx pollable) n = n ≡ line
+MayStand m line (step.PollList ctx pollables) n = n ≡ line
 MayStand m line (step.Poll call) n = n ≡ call
 MayStand m line _ n = ⊥
 

@@ -6,15 +6,17 @@ use Rattle.wasi_walks.proofs.Words.{Refused, Result, Socket, SocketAddressFamily
 use Rattle.wasi_walks.proofs.Words.{accept_ended, after_create, allows_if, allows_then, allows_weaker, ap, arith, bind, bind_progress}
 use Rattle.wasi_walks.proofs.Words.{connect_ended, create_asks, created_asks, give_up_asks, gone, inl, inr, length, make_asks, new_asks, new_record}
 use Rattle.wasi_walks.proofs.Words.{own_of, poll_asks, refl, side_in, side_of, subst, sym, told_addr, told_done, turn_asks}
-use Rattle.wasi_walks.proofs.Words.{with_inner, with_listening, with_progress, with_state, with_writer, ℕ, ⊤, ◌+◌, ◌<◌, ◌∙◌, ◌≡◌, ◌≤◌, ◌⊎◌}
+use Rattle.wasi_walks.proofs.Words.{with_inner, with_listening, with_progress, with_state, with_writer, ℕ, ⊤, ◌+◌, ◌∙◌, ◌≡◌, ◌⊎◌}
 use Rattle.wasi_walks.proofs.walks.Begins.{BeginsAbove, begins_stand}
 use Rattle.wasi_walks.proofs.walks.OnBase.{both, Above, stand}
+use Rattle.wasi_walks.proofs.walks.Here.{Grows, IsOlder, IsToCome, grows_to, next_given, next_grows, next_to_come, not_given, older_unused, older_used, own_not_given}
 use Rattle.wasi_walks.proofs.licence.State.{name_in, accept_name}
 use Rattle.wasi_walks.proofs.fits.Polls.{Anything}
 use Rattle.wasi_walks.proofs.fits.Records.{FitListening}
 use Rattle.wasi_walks.proofs.Lists.{split_place, get_set, get_split, set_there}
 use Rattle.wasi_walks.proofs.claims.Polls.{AllAskBut, ArePlain, GivesOwn, any_quiet, ended_name, ended_sides, none_of, own_poll}
-use Rattle.wasi_walks.proofs.walks.Moves.{closed_record, Own, Used, Unused, ToWrite, Here, put, Found, joined, second_of, new_accept, accepting_now, listen_after, beginning_listen, made_so, Held, BindsOn, Connects, Listens, Awaits, Move, Spends, Changes, ClosesReader, Writes, IsGone, Reconnects, Opens, BeginsConnect, BeginsBind, BeginsWrite, CancelsBind, CancelsUdpBind, CancelsUdpConnect, BeginsListen, BeginsAccept, Unlistens, Forgets, Joins}
+use Rattle.wasi_walks.proofs.walks.Here.{Made, Past}
+use Rattle.wasi_walks.proofs.walks.Moves.{closed_record, Own, Used, Unused, Here, put, Found, joined, part_of, new_accept, accepting_now, listen_after, beginning_listen, made_so, Held, BindsOn, Connects, Listens, Awaits, Move, Spends, Changes, ClosesReader, Writes, IsGone, Reconnects, Opens, BeginsConnect, BeginsBind, BeginsWrite, CancelsBind, CancelsUdpBind, CancelsUdpConnect, BeginsListen, BeginsAccept, Unlistens, Forgets, Joins}
 use Rattle.wasi_walks.proofs.walks.Law.{BeginsWrites, Law, Walks}
 use Rattle.wasi_walks.proofs.fits.Law.{Fit, told_same, whatever, fits, moves_fit, polls_fit, put_fit, created, write_fit}
 use Rattle.wasi_walks.proofs.fits.UdpPolls.{create_side}
@@ -36,22 +38,16 @@ use Rattle.wasi_walks.proofs.walks.Moves.{with_records, SameSockets, Finds, put_
 abbrev pub Claims : OpId → Tcp2Socket → Type 0
 Claims x r = (r.side ≡ Some x) ⊎ (accept_name r.listening ≡ Some x)
 
--- the names of a line are new until its operation began something, or may write: a write takes no name of a network socket
-abbrev pub next_of : ℕ → Own → ℕ
-next_of line Used = line + 1
-next_of line (ToWrite side bytes) = line + 1
-next_of line _ = line
-
 -- A UDP socket claims the network socket that it was made with.
 pub record UdpNamed (line : ℕ) (h : Here) : Type 0 where
   pub one : (x : OpId) (i k : ℕ) (u v : Udp2Socket) → FoundUdp h i u → FoundUdp h k v → udp_side u ≡ x → udp_side v ≡ x → i ≡ k
   pub apart : (x : OpId) (i k : ℕ) (r : Tcp2Socket) (u : Udp2Socket) → Found h i r → FoundUdp h k u → Claims x r → udp_side u ≡ x → ⊥
-  pub older : (i : ℕ) (u : Udp2Socket) → FoundUdp h i u → (udp_side u).step < next_of line h.own
+  pub older : (i : ℕ) (u : Udp2Socket) → FoundUdp h i u → IsOlder line h.own (udp_side u)
 
 pub record Named (line : ℕ) (h : Here) : Type 0 where
   pub one : (x : OpId) (i k : ℕ) (r q : Tcp2Socket) → Found h i r → Found h k q → Claims x r → Claims x q → i ≡ k
   pub apart : (x : OpId) (i : ℕ) (r : Tcp2Socket) → Found h i r → r.side ≡ Some x → accept_name r.listening ≡ Some x → ⊥
-  pub older : (x : OpId) (i : ℕ) (r : Tcp2Socket) → Found h i r → Claims x r → x.step < next_of line h.own
+  pub older : (x : OpId) (i : ℕ) (r : Tcp2Socket) → Found h i r → Claims x r → IsOlder line h.own x
   pub named : (x : OpId) (i : ℕ) (r : Tcp2Socket) → Found h i r → side_of r.inner ≡ Some x → r.side ≡ Some x
   pub held : (op : Operation) (i : ℕ) (r : Tcp2Socket) → Found h i r → r.listening ≡ Begins op → (r.side ≡ Some op.who.side) × (side_of r.inner ≡ None)
   pub udps : UdpNamed line h
@@ -72,17 +68,17 @@ Fresh h x = (i : ℕ) (r : Tcp2Socket) → Found h i r → Claims x r → ⊥
 abbrev pub FreshUdp : Here → OpId → Type 0
 FreshUdp h x = (i : ℕ) (u : Udp2Socket) → FoundUdp h i u → udp_side u ≡ x → ⊥
 
--- How a record may change: what it claims it claimed, or it is fresh.
-pub record KeepsNames (h : Here) (bound : ℕ) (r now : Tcp2Socket) : Type 0 where
+-- How a record may change: what it claims it claimed, or it is fresh, and may be given.
+pub record KeepsNames (h : Here) (given : OpId → Type 0) (r now : Tcp2Socket) : Type 0 where
   pub side : now.side ≡ r.side
-  pub accepts : (x : OpId) → accept_name now.listening ≡ Some x → (accept_name r.listening ≡ Some x) ⊎ ((x.step < bound) × Fresh h x × FreshUdp h x)
+  pub accepts : (x : OpId) → accept_name now.listening ≡ Some x → (accept_name r.listening ≡ Some x) ⊎ (given x × Fresh h x × FreshUdp h x)
   pub named : (x : OpId) → side_of now.inner ≡ Some x → now.side ≡ Some x
   pub held : (op : Operation) → now.listening ≡ Begins op → (now.side ≡ Some op.who.side) × (side_of now.inner ≡ None)
 
 module _ (line : ℕ) where
   -- a record changes
-  module _ (h : Here) (place : ℕ) (r now : Tcp2Socket) (g : Found h place r) (bound : ℕ) (k : KeepsNames h bound r now) (n : Named line h) where
-    claimed : (x : OpId) → Claims x now → Claims x r ⊎ ((x.step < bound) × Fresh h x × FreshUdp h x)
+  module _ (h : Here) (place : ℕ) (r now : Tcp2Socket) (g : Found h place r) (given : OpId → Type 0) (k : KeepsNames h given r now) (n : Named line h) where
+    claimed : (x : OpId) → Claims x now → Claims x r ⊎ (given x × Fresh h x × FreshUdp h x)
     claimed x (inl e) = inl (inl (sym k.side ∙ e))
     claimed x (inr e) = elim (k.accepts x e) [ inl p ↦ inl (inr p) | inr p ↦ inr p ]
 
@@ -99,7 +95,7 @@ module _ (line : ℕ) where
     apart_now : (x : OpId) → now.side ≡ Some x → accept_name now.listening ≡ Some x → ⊥
     apart_now x s e = elim (k.accepts x e) [ inl p ↦ n.apart x place r g (sym k.side ∙ s) p | inr p ↦ p.1 place r g (inl (sym k.side ∙ s)) ]
 
-    udps_put : (own : Own) → next_of line h.own ≤ next_of line own → UdpNamed line (record (put h place now) { own = own })
+    udps_put : (own : Own) → Grows line h.own own → UdpNamed line (record (put h place now) { own = own })
     udps_put own l =
         let same : (i : ℕ) (u : Udp2Socket) → FoundUdp (put h place now) i u → FoundUdp h i u = udp_of_put h.machine.store.records place now in
         record {
@@ -108,16 +104,16 @@ module _ (line : ℕ) where
             | inl p ↦ elim (claimed x (subst (Claims x) (sym p.1) c)) [ inl y ↦ n.udps.apart x place j r u g (same j u f) y d | inr y ↦ y.2 j u (same j u f) d ]
             | inr p ↦ n.udps.apart x i j q u p (same j u f) c d
           ];
-          older = λ i u e. (let o = n.udps.older i u (same i u e) in omega (arith, o, l));
+          older = λ i u e. l (udp_side u) (n.udps.older i u (same i u e));
         }
 
-    pub put_by : (own : Own) → next_of line h.own ≤ next_of line own → bound ≤ next_of line own → Named line (record (put h place now) { own = own })
+    pub put_by : (own : Own) → Grows line h.own own → ((x : OpId) → given x → IsOlder line own x) → Named line (record (put h place now) { own = own })
     put_by own l b = record {
       one = one_put;
       apart = λ x i q e s a. elim (get_set h.machine.store.records place now i q e) [ inl p ↦ apart_now x (ap (λ (y : Tcp2Socket). y.side) p.1 ∙ s) (ap (λ (y : Tcp2Socket). accept_name y.listening) p.1 ∙ a) | inr p ↦ n.apart x i q p s a ];
       older = λ x i q e c. elim (get_set h.machine.store.records place now i q e) [
-        | inl p ↦ elim (claimed x (subst (Claims x) (sym p.1) c)) [ inl d ↦ (let o = n.older x place r g d in omega (arith, o, l)) | inr d ↦ (let o = d.0 in omega (arith, o, b)) ]
-        | inr p ↦ (let o = n.older x i q p c in omega (arith, o, l))
+        | inl p ↦ elim (claimed x (subst (Claims x) (sym p.1) c)) [ inl d ↦ l x (n.older x place r g d) | inr d ↦ b x d.0 ]
+        | inr p ↦ l x (n.older x i q p c)
       ];
       named = λ x i q e s. elim (get_set h.machine.store.records place now i q e) [ inl p ↦ subst (λ (y : Tcp2Socket). y.side ≡ Some x) p.1 (k.named x (ap (λ (y : Tcp2Socket). side_of y.inner) p.1 ∙ s)) | inr p ↦ n.named x i q p s ];
       held = λ op i q e s. elim (get_set h.machine.store.records place now i q e) [
@@ -127,22 +123,22 @@ module _ (line : ℕ) where
       udps = udps_put own l;
     }
 
-  pub put_named : (h : Here) (place : ℕ) (r now : Tcp2Socket) → Found h place r → KeepsNames h 0 r now → Named line h → Named line (put h place now)
-  put_named h place r now g k n = put_by h place r now g 0 k n h.own (omega arith) (omega arith)
+  pub put_named : (h : Here) (place : ℕ) (r now : Tcp2Socket) → Found h place r → KeepsNames h (λ x. ⊥) r now → Named line h → Named line (put h place now)
+  put_named h place r now g k n = put_by h place r now g (λ x. ⊥) k n h.own (λ x o. o) (λ x o. absurd o)
 
   -- a record more, whose network socket is fresh
-  pub push_named : (h : Here) (now : Tcp2Socket) (own : Own) → accept_name now.listening ≡ None → ((x : OpId) → now.side ≡ Some x → (x.step < next_of line own) × Fresh h x × FreshUdp h x) → ((x : OpId) → side_of now.inner ≡ Some x → now.side ≡ Some x) → ((op : Operation) → now.listening ≡ Begins op → ⊥) → next_of line h.own ≤ next_of line own
+  pub push_named : (h : Here) (now : Tcp2Socket) (own : Own) → accept_name now.listening ≡ None → ((x : OpId) → now.side ≡ Some x → IsOlder line own x × Fresh h x × FreshUdp h x) → ((x : OpId) → side_of now.inner ≡ Some x → now.side ≡ Some x) → ((op : Operation) → now.listening ≡ Begins op → ⊥) → Grows line h.own own
       → Named line h → Named line (record h { machine = record h.machine { store = record h.machine.store { records = tcp2_pushed h.machine.store.records now } }; own = own })
   push_named h now own none fresh named held l n = record {
     one = one;
     apart = λ x i q e s a. elim (get_split h.machine.store.records now i q e) [ inl p ↦ n.apart x i q p s a | inr p ↦ no_some x (sym none ∙ (ap (λ (y : Tcp2Socket). accept_name y.listening) p ∙ a)) ];
-    older = λ x i q e c. elim (get_split h.machine.store.records now i q e) [ inl p ↦ (let o = n.older x i q p c in omega (arith, o, l)) | inr p ↦ (fresh x (its x q p c)).0 ];
+    older = λ x i q e c. elim (get_split h.machine.store.records now i q e) [ inl p ↦ l x (n.older x i q p c) | inr p ↦ (fresh x (its x q p c)).0 ];
     named = λ x i q e s. elim (get_split h.machine.store.records now i q e) [ inl p ↦ n.named x i q p s | inr p ↦ subst (λ (y : Tcp2Socket). y.side ≡ Some x) p (named x (ap (λ (y : Tcp2Socket). side_of y.inner) p ∙ s)) ];
     held = λ op i q e s. elim (get_split h.machine.store.records now i q e) [ inl p ↦ n.held op i q p s | inr p ↦ absurd (held op (ap (λ (y : Tcp2Socket). y.listening) p ∙ s)) ];
     udps = record {
       one = λ x i k u v e f c d. n.udps.one x i k u v (same i u e) (same k v f) c d;
       apart = λ x i k q u e f c d. elim (get_split h.machine.store.records now i q e) [ inl p ↦ n.udps.apart x i k q u p (same k u f) c d | inr p ↦ (fresh x (its x q p c)).2 k u (same k u f) d ];
-      older = λ i u e. (let o = n.udps.older i u (same i u e) in omega (arith, o, l));
+      older = λ i u e. l (udp_side u) (n.udps.older i u (same i u e));
     };
   }
     where
@@ -168,32 +164,32 @@ module _ (line : ℕ) where
       | inr p ↦ (v, (p, refl))
     ]
 
-    pub put_udp_by : (own : Own) → next_of line h.own ≤ next_of line own → Named line (record (put_udp h place now) { own = own })
+    pub put_udp_by : (own : Own) → Grows line h.own own → Named line (record (put_udp h place now) { own = own })
     put_udp_by own l =
         let tcp : (i : ℕ) (r : Tcp2Socket) → Found (put_udp h place now) i r → Found h i r = tcp_of_put h.machine.store.records place now in
         record {
           one = λ x i k r q e f c d. n.one x i k r q (tcp i r e) (tcp k q f) c d;
           apart = λ x i r e a b. n.apart x i r (tcp i r e) a b;
-          older = λ x i r e c. (let o = n.older x i r (tcp i r e) c in omega (arith, o, l));
+          older = λ x i r e c. l x (n.older x i r (tcp i r e) c);
           named = λ x i r e a. n.named x i r (tcp i r e) a;
           held = λ op i r e a. n.held op i r (tcp i r e) a;
           udps = record {
             one = λ x i k v w e f c d. (let a = before i v e in let b = before k w f in n.udps.one x i k a.0 b.0 a.1.0 b.1.0 (a.1.1 ∙ c) (b.1.1 ∙ d));
             apart = λ x i k r v e f c d. (let b = before k v f in n.udps.apart x i k r b.0 (tcp i r e) b.1.0 c (b.1.1 ∙ d));
-            older = λ i v e. (let a = before i v e in let o = n.udps.older i a.0 a.1.0 in let z : (udp_side a.0).step ≡ (udp_side v).step = ap (λ (x : OpId). x.step) a.1.1 in omega (arith, o, z, l));
+            older = λ i v e. (let a = before i v e in l (udp_side v) (subst (IsOlder line h.own) a.1.1 (n.udps.older i a.0 a.1.0)));
           };
         }
 
     pub put_udp_named : Named line (put_udp h place now)
-    put_udp_named = put_udp_by h.own (omega arith)
+    put_udp_named = put_udp_by h.own (λ x o. o)
 
   -- a UDP socket more, whose network socket is fresh
-  pub push_udp_named : (h : Here) (now : Udp2Socket) (own : Own) → (udp_side now).step < next_of line own → Fresh h (udp_side now) → FreshUdp h (udp_side now) → next_of line h.own ≤ next_of line own
+  pub push_udp_named : (h : Here) (now : Udp2Socket) (own : Own) → IsOlder line own (udp_side now) → Fresh h (udp_side now) → FreshUdp h (udp_side now) → Grows line h.own own
       → Named line h → Named line (record h { machine = record h.machine { store = record h.machine.store { records = udp2_pushed h.machine.store.records now } }; own = own })
   push_udp_named h now own small fresh free l n = record {
     one = λ x i k r q e f c d. n.one x i k r q (tcp i r e) (tcp k q f) c d;
     apart = λ x i r e a b. n.apart x i r (tcp i r e) a b;
-    older = λ x i r e c. (let o = n.older x i r (tcp i r e) c in omega (arith, o, l));
+    older = λ x i r e c. l x (n.older x i r (tcp i r e) c);
     named = λ x i r e a. n.named x i r (tcp i r e) a;
     held = λ op i r e a. n.held op i r (tcp i r e) a;
     udps = record {
@@ -202,7 +198,7 @@ module _ (line : ℕ) where
         | inr p ↦ elim (udp_split h.machine.store.records now k v f) [ inl q ↦ absurd (free k v q (d ∙ (sym c ∙ sym (ap udp_side p.0)))) | inr q ↦ p.1 ∙ sym q.1 ]
       ];
       apart = λ x i k r u e f c d. elim (udp_split h.machine.store.records now k u f) [ inl p ↦ n.udps.apart x i k r u (tcp i r e) p c d | inr p ↦ fresh i r (tcp i r e) (subst (λ (y : OpId). Claims y r) (sym d ∙ sym (ap udp_side p.0)) c) ];
-      older = λ i u e. elim (udp_split h.machine.store.records now i u e) [ inl p ↦ (let o = n.udps.older i u p in omega (arith, o, l)) | inr p ↦ subst (λ (y : Udp2Socket). (udp_side y).step < next_of line own) p.0 small ];
+      older = λ i u e. elim (udp_split h.machine.store.records now i u e) [ inl p ↦ l (udp_side u) (n.udps.older i u p) | inr p ↦ subst (λ (y : Udp2Socket). IsOlder line own (udp_side y)) p.0 small ];
     };
   }
     where
@@ -237,13 +233,9 @@ accept_plain L _ (accept.Admitted peer) = (tt, tt)
 accept_plain L _ (accept.Unwanted peer) = (tt, tt)
 accept_plain L _ accept.Ended = tt
 
--- the names of parts are none of the line's own
-pub own_of_parts : (line : ℕ) (own now : Own) → own ≡ now → next_of line now ≡ line → next_of line own ≤ line
-own_of_parts line own now e l = let z : next_of line own ≡ line = ap (next_of line) e ∙ l in omega (arith, z)
-
 module _ (contexts : List WasiSocketsCtx) (line : ℕ) (origin : Step) where
   -- the socket changes
-  inner_names : (h : Here) (place : ℕ) (r now : Tcp2Socket) → Found h place r → now.side ≡ r.side → now.listening ≡ r.listening → ((x : OpId) → side_of now.inner ≡ Some x → side_of r.inner ≡ Some x) → Named line h → KeepsNames h 0 r now
+  inner_names : (h : Here) (place : ℕ) (r now : Tcp2Socket) → Found h place r → now.side ≡ r.side → now.listening ≡ r.listening → ((x : OpId) → side_of now.inner ≡ Some x → side_of r.inner ≡ Some x) → Named line h → KeepsNames h (λ x. ⊥) r now
   inner_names h place r now g s l k n = record {
     side = s;
     accepts = λ x e. inl (ap accept_name (sym l) ∙ e);
@@ -255,31 +247,36 @@ module _ (contexts : List WasiSocketsCtx) (line : ℕ) (origin : Step) where
   put_inner h place r now g s l k n = put_named line h place r now g (inner_names h place r now g s l k n) n
 
   -- the listening changes, and none begins
-  listening_names : (h : Here) (place : ℕ) (r : Tcp2Socket) (l : Listening) → Found h place r → ((x : OpId) → accept_name l ≡ Some x → accept_name r.listening ≡ Some x) → ((op : Operation) → l ≡ Begins op → ⊥) → Named line h → KeepsNames h 0 r (record r { listening = l })
+  listening_names : (h : Here) (place : ℕ) (r : Tcp2Socket) (l : Listening) → Found h place r → ((x : OpId) → accept_name l ≡ Some x → accept_name r.listening ≡ Some x) → ((op : Operation) → l ≡ Begins op → ⊥) → Named line h → KeepsNames h (λ x. ⊥) r (record r { listening = l })
   listening_names h place r l g k none n = record { side = refl; accepts = λ x e. inl (k x e); named = λ x e. n.named x place r g e; held = λ op e. absurd (none op e) }
 
   -- what the line has begun changes, and as many names are taken, or more
-  owns_named : (h : Here) (own : Own) → Named line h → next_of line h.own ≤ next_of line own → Named line (record h { own = own })
-  owns_named h own n l = record { one = n.one; apart = n.apart; older = λ x i r g c. let o = n.older x i r g c in omega (arith, o, l); named = n.named; held = n.held; udps = record { one = n.udps.one; apart = n.udps.apart; older = λ i u g. (let o = n.udps.older i u g in omega (arith, o, l)) } }
-
-  by_line : (own : Own) → next_of line own ≤ line + 1
-  by_line Used = omega arith
-  by_line Unused = omega arith
-  by_line (Names part) = omega arith
-  by_line (ToWrite side bytes) = omega arith
+  owns_named : (h : Here) (own : Own) → Named line h → Grows line h.own own → Named line (record h { own = own })
+  owns_named h own n l = record { one = n.one; apart = n.apart; older = λ x i r g c. l x (n.older x i r g c); named = n.named; held = n.held; udps = record { one = n.udps.one; apart = n.udps.apart; older = λ i u g. l (udp_side u) (n.udps.older i u g) } }
 
   spends_named : (h : Here) → Named line h → Named line (record h { own = Used })
-  spends_named h n = owns_named h Used n (by_line h.own)
+  spends_named h n = owns_named h Used n (older_used line h.own)
 
   put_spent : (h : Here) (place : ℕ) (r now : Tcp2Socket) → Found h place r → now.side ≡ r.side → now.listening ≡ r.listening → ((x : OpId) → side_of now.inner ≡ Some x → side_of r.inner ≡ Some x) → Named line h → Named line (record (put h place now) { own = Used })
   put_spent h place r now g s l k n = spends_named (put h place now) (put_inner h place r now g s l k n)
 
-  -- a name of the line is fresh
+  -- a name that isn't given yet is fresh
+  fresh_by : (h : Here) → Named line h → (x : OpId) → (IsOlder line h.own x → ⊥) → Fresh h x
+  fresh_by h n x new i r g c = new (n.older x i r g c)
+
+  fresh_udp_by : (h : Here) → Named line h → (x : OpId) → (IsOlder line h.own x → ⊥) → FreshUdp h x
+  fresh_udp_by h n x new i v g c = new (subst (IsOlder line h.own) c (n.udps.older i v g))
+
+  -- so is one of the line, where it has begun nothing
   pub fresh : (h : Here) → h.own ≡ Unused → Named line h → (x : OpId) → x.step ≡ line → Fresh h x
-  fresh h u n x e i r g c = let o = n.older x i r g c in let z : next_of line h.own ≡ line = ap (next_of line) u in absurd (omega (arith, o, z, e))
+  fresh h u n x e = fresh_by h n x (own_not_given line h.own x u e)
 
   pub fresh_udp : (h : Here) → h.own ≡ Unused → Named line h → (x : OpId) → x.step ≡ line → FreshUdp h x
-  fresh_udp h u n x e i v g c = let o = n.udps.older i v g in let z : next_of line h.own ≡ line = ap (next_of line) u in let y : (udp_side v).step ≡ x.step = ap (λ (a : OpId). a.step) c in absurd (omega (arith, o, z, e, y))
+  fresh_udp h u n x e = fresh_udp_by h n x (own_not_given line h.own x u e)
+
+  -- and one that is to come
+  pub fresh_to_come : (h : Here) → Named line h → (x : OpId) → IsToCome line h.own x → Fresh h x
+  fresh_to_come h n x t = fresh_by h n x (λ o. not_given line h.own x o t)
 
   -- the name of an accept is claimed by no record, once its record has it no more
   pub taken_fresh : (h : Here) (place : ℕ) (r now : Tcp2Socket) (new : OpId) → Found h place r → accept_name r.listening ≡ Some new → now.side ≡ r.side → accept_name now.listening ≡ None → Named line h → Fresh (put h place now) new
@@ -298,7 +295,7 @@ module _ (contexts : List WasiSocketsCtx) (line : ℕ) (origin : Step) where
   pub moves_named : (h now : Here) → Move line origin h now → Named line h → Named line now
   moves_named _ _ (Spends h e) n = spends_named h n
   moves_named _ _ (SpendsNames h part e) n = spends_named h n
-  moves_named _ _ (Counts h e) n = owns_named h (Names 1) n (own_of_parts line h.own Unused e refl)
+  moves_named _ _ (Counts h e) n = owns_named h (Names 1) n (grows_to line h.own Unused (Names 1) e (older_unused line (Names 1)))
   moves_named _ _ (Changes h place r now g p) n = put_inner h place r now g p.side p.listening (λ x e. sym (ap side_in p.does) ∙ e) n
   moves_named _ _ (ClosesReader h place r s g e) n = put_inner h place r _ g refl refl (λ x e. e) n
   moves_named _ _ (Writes h place r s w g e m) n = put_inner h place r _ g refl refl (λ x e. e) n
@@ -314,24 +311,28 @@ module _ (contexts : List WasiSocketsCtx) (line : ℕ) (origin : Step) where
     where
       its : (side : OpId) (op : Operation) (r : Tcp2Socket) → (beginning_listen (own_of line) side r).listening ≡ Begins op → r.side ≡ Some side → r.side ≡ Some op.who.side
       its side op r e s = s ∙ ap (λ (o : Operation). Some o.who.side) (same_begun _ op e)
-  moves_named _ _ (BeginsAccept h place r l at g e a own) n =
-      put_by line h place r (accepting_now r l (new_accept line l)) g (line + 1) (record { side = refl; accepts = λ x p. (let s = its x p in inr (omega (arith, s), fresh h own n x s, fresh_udp h own n x s)); named = λ x p. n.named x place r g p; held = λ op p. absurd (cc) }) n Used (by_line h.own) (omega arith)
+  moves_named _ _ (BeginsAccept h place part r l at g e a own) n =
+      let name : OpId = part_of line part in
+      let new : IsOlder line h.own name → ⊥ = λ o. not_given line h.own name o (next_to_come line part h.own own) in
+      put_by line h place r (accepting_now r l (new_accept name l)) g (λ x. name ≡ x)
+      (record { side = refl; accepts = λ x p. (let q : name ≡ x = some_name x p in inr (q, subst (Fresh h) q (fresh_by h n name new), subst (FreshUdp h) q (fresh_udp_by h n name new))); named = λ x p. n.named x place r g p; held = λ op p. absurd (cc) })
+      n (Names (part + 1)) (next_grows line part h.own own) (λ x q. subst (IsOlder line (Names (part + 1))) q (next_given line part))
     where
-      its : (x : OpId) → Some (second_of line) ≡ Some x → x.step ≡ line
-      its x p = let q : second_of line ≡ x = cc in ap (λ (o : OpId). o.step) (sym q)
+      some_name : (x : OpId) → Some (part_of line part) ≡ Some x → part_of line part ≡ x
+      some_name x p = cc
   moves_named _ _ (Unlistens h place r op q g e c o) n = put_named line h place r _ g (listening_names h place r Not g (λ x p. absurd (cc)) (λ op p. absurd (cc)) n) n
   moves_named _ _ (Forgets h place r l c g e a) n = put_named line h place r _ g (listening_names h place r _ g (λ x p. absurd (cc)) (λ op p. absurd (cc)) n) n
   moves_named _ _ (Joins h c handle place r l new peer is of u g e a) n =
       let mid = put h place (accepting_now r l Accepting.Idle) in
       let k = put_named line h place r (accepting_now r l Accepting.Idle) g (listening_names h place r _ g (λ x p. absurd (cc)) (λ op p. absurd (cc)) n) n in
       let name : accept_name r.listening ≡ Some new = ap accept_name e ∙ ap name_in a in
-      let j = push_named line mid (joined l new peer) h.own refl (λ x p. (let s : new ≡ x = cc in subst (λ (y : OpId). (y.step < next_of line h.own) × Fresh mid y × FreshUdp mid y) s (n.older new place r g (inr name), taken_fresh h place r (accepting_now r l Accepting.Idle) new g name refl refl n, λ i v f q. n.udps.apart new place i r v g (udp_of_put h.machine.store.records place (accepting_now r l Accepting.Idle) i v f) (inr name) q))) (λ x p. p) (λ op p. absurd (cc)) (omega arith) k in
+      let j = push_named line mid (joined l new peer) h.own refl (λ x p. (let s : new ≡ x = cc in subst (λ (y : OpId). IsOlder line h.own y × Fresh mid y × FreshUdp mid y) s (n.older new place r g (inr name), taken_fresh h place r (accepting_now r l Accepting.Idle) new g name refl refl n, λ i v f q. n.udps.apart new place i r v g (udp_of_put h.machine.store.records place (accepting_now r l Accepting.Idle) i v f) (inr name) q))) (λ x p. p) (λ op p. absurd (cc)) (λ x o. o) k in
       record { one = j.one; apart = j.apart; older = j.older; named = j.named; held = j.held; udps = record { one = j.udps.one; apart = j.udps.apart; older = j.udps.older } }
   moves_named _ _ (UdpChanges h place o now g p) n = put_udp_named line h place (Udp2Socket.Open o) (Udp2Socket.Open now) g p.side n
-  moves_named _ _ (BeginsUdpBind h place o a at g to idle own) n = put_udp_by line h place (Udp2Socket.Open o) (Udp2Socket.Open _) g refl n Used (by_line h.own)
-  moves_named _ _ (BeginsUdpConnect h place o a at g to bound own) n = put_udp_by line h place (Udp2Socket.Open o) (Udp2Socket.Open _) g refl n Used (by_line h.own)
-  moves_named _ _ (BeginsSend h place part o out d bound at g e is known own) n = put_udp_by line h place (Udp2Socket.Open o) (Udp2Socket.Open _) g refl n (Names (part + 1)) (own_of_parts line h.own (Names part) own refl)
-  moves_named _ _ (BeginsReceive h place part o inc bound at g e own) n = put_udp_by line h place (Udp2Socket.Open o) (Udp2Socket.Open _) g refl n (Names (part + 1)) (own_of_parts line h.own (Names part) own refl)
+  moves_named _ _ (BeginsUdpBind h place o a at g to idle own) n = put_udp_by line h place (Udp2Socket.Open o) (Udp2Socket.Open _) g refl n Used (older_used line h.own)
+  moves_named _ _ (BeginsUdpConnect h place o a at g to bound own) n = put_udp_by line h place (Udp2Socket.Open o) (Udp2Socket.Open _) g refl n Used (older_used line h.own)
+  moves_named _ _ (BeginsSend h place part o out d bound at g e is known own) n = put_udp_by line h place (Udp2Socket.Open o) (Udp2Socket.Open _) g refl n (Names (part + 1)) (next_grows line part h.own own)
+  moves_named _ _ (BeginsReceive h place part o inc bound at g e own) n = put_udp_by line h place (Udp2Socket.Open o) (Udp2Socket.Open _) g refl n (Names (part + 1)) (next_grows line part h.own own)
   moves_named _ _ (CancelsBind h place r op q g e) n = put_inner h place r _ g refl refl (λ x p. p) n
   moves_named _ _ (CancelsUdpBind h place o op q g e) n = put_udp_named line h place (Udp2Socket.Open o) (Udp2Socket.Open _) g refl n
   moves_named _ _ (CancelsUdpConnect h place o q g) n = put_udp_named line h place (Udp2Socket.Open o) (Udp2Socket.Open _) g refl n
@@ -339,7 +340,7 @@ module _ (contexts : List WasiSocketsCtx) (line : ℕ) (origin : Step) where
   moves_named _ _ _ n = record { one = n.one; apart = n.apart; older = n.older; named = n.named; held = n.held; udps = record { one = n.udps.one; apart = n.udps.apart; older = n.udps.older } }
 
   -- the record that a listen leaves
-  listened_names : (h : Here) (place : ℕ) (r : Tcp2Socket) (op : Operation) (end : End × List Item) → Found h place r → r.listening ≡ Begins op → Named line h → KeepsNames h 0 r (listen_after op r end)
+  listened_names : (h : Here) (place : ℕ) (r : Tcp2Socket) (op : Operation) (end : End × List Item) → Found h place r → r.listening ≡ Begins op → Named line h → KeepsNames h (λ x. ⊥) r (listen_after op r end)
   listened_names h place r op (Waits, items) g e n = record { side = refl; accepts = λ x p. absurd (cc); named = λ x p. n.named x place r g p; held = λ o p. (let d = n.held op place r g e in (let q : op.who.side ≡ o.who.side = cc in d.0 ∙ ap (λ (y : OpId). Some y) q, d.1)) }
   listened_names h place r op (Done given, items) g e n = record { side = refl; accepts = λ x p. absurd (cc); named = λ x p. (n.held op place r g e).0 ∙ p; held = λ o p. absurd (cc) }
   listened_names h place r op (Refused c given, items) g e n = record { side = refl; accepts = λ x p. absurd (cc); named = λ x p. n.named x place r g p; held = λ o p. absurd (cc) }
@@ -373,7 +374,7 @@ module _ (contexts : List WasiSocketsCtx) (line : ℕ) (origin : Step) where
 
   -- a UDP socket whose create begins has the line's own name
   begun_named : (h : Here) (maker : ℕ) (family : SocketAddressFamily) (r : Result (Unit {0}) ErrorCode) → h.own ≡ Unused → Named line h → Named line (udp_begun h (udp_after_create (own_of line) maker family r))
-  begun_named h maker family (Ok done) u n = push_udp_named line h (Udp2Socket.Creating (new_create (own_of line) maker family)) Used (omega arith) (fresh h u n (own_of line) refl) (fresh_udp h u n (own_of line) refl) (by_line h.own) n
+  begun_named h maker family (Ok done) u n = push_udp_named line h (Udp2Socket.Creating (new_create (own_of line) maker family)) Used (omega arith) (fresh h u n (own_of line) refl) (fresh_udp h u n (own_of line) refl) (older_used line h.own) n
   begun_named h maker family (Err c) u n = spends_named h n
 
   -- a socket that is created has the line's own name
@@ -399,12 +400,12 @@ module _ (contexts : List WasiSocketsCtx) (line : ℕ) (origin : Step) where
       joins fs (Err c) k = spends_named h n
       joins fs (Ok socket) k =
           allows_then Anything (λ fs made. ⊤) (λ fs done. Named line (record h { machine = done.1; own = Used })) fs (make_asks h.machine.table (own_of line) (Tcp2 (length h.machine.store.records)) None (side_of socket)) _ (whatever (λ made. ⊤) (λ made. tt) fs _)
-          (λ gs made t. let j = push_named line h (new_record socket) Used refl (λ x p. (let s : own_of line ≡ x = same socket x k p in let z : x.step ≡ line = ap (λ (o : OpId). o.step) (sym s) in (omega (arith, z), fresh h u n x z, fresh_udp h u n x z))) (λ x p. p) (λ op p. absurd (cc)) (by_line h.own) n in
+          (λ gs made t. let j = push_named line h (new_record socket) Used refl (λ x p. (let s : own_of line ≡ x = same socket x k p in let z : x.step ≡ line = ap (λ (o : OpId). o.step) (sym s) in (omega (arith, z), fresh h u n x z, fresh_udp h u n x z))) (λ x p. p) (λ op p. absurd (cc)) (older_used line h.own) n in
           record { one = j.one; apart = j.apart; older = j.older; named = j.named; held = j.held; udps = record { one = j.udps.one; apart = j.udps.apart; older = j.udps.older } })
 
   -- a handle is made
-  marked : {A : Type 0} (es : List Entry) (h : Here) (asks : Asks (A × Handles)) → Base h → Allows Anything (λ fs made. Base (record h { machine = record h.machine { table = made.1 } })) es asks
-  marked es h asks i = whatever (λ made. Base (record h { machine = record h.machine { table = made.1 } })) (λ made. let k = i.1 in (record { records = i.0.records; udps = i.0.udps; stands = i.0.stands }, record { one = k.one; apart = k.apart; older = k.older; named = k.named; held = k.held; udps = record { one = k.udps.one; apart = k.udps.apart; older = k.udps.older } })) es asks
+  marked : {A : Type 0} (es : List Entry) (h : Here) (so : Made) (asks : Asks (A × Handles)) → Base h → Allows Anything (λ fs made. Base (record h { machine = record h.machine { table = made.1 }; made = so })) es asks
+  marked es h so asks i = whatever (λ made. Base (record h { machine = record h.machine { table = made.1 }; made = so })) (λ made. let k = i.1 in (record { records = i.0.records; udps = i.0.udps; stands = i.0.stands }, record { one = k.one; apart = k.apart; older = k.older; named = k.named; held = k.held; udps = record { one = k.udps.one; apart = k.udps.apart; older = k.udps.older } })) es asks
 
   -- this and that the records fit, of which it takes that an accept is one
   pub names : Law contexts line origin
@@ -419,7 +420,7 @@ module _ (contexts : List WasiSocketsCtx) (line : ℕ) (origin : Step) where
         sets = λ es h place r side b at g s is i. (tt, λ told k. i);
         learns = λ es h place r side at g e i. (tt, λ told k. ((f.learns es h place r side at g e i.0).1 told k, put_inner h place r _ g refl refl (λ x p. sym (ap side_in (told_same r.inner (told_addr told))) ∙ p) i.1));
         closes = λ es h place r side q g e i. (tt, λ told k. ((f.closes es h place r side q g e i.0).1 told k, put_named line h place r (closed_record r) g (record { side = refl; accepts = λ x p. absurd (cc); named = λ x p. absurd (cc); held = λ op p. absurd (cc) }) i.1));
-        marks = λ es h kind parent sock m i. marked es h _ i;
+        marks = λ es h kind parent sock m i. marked es h h.made _ i;
         creates = λ es h ctx family c a o m i. both Anything Anything (λ fs done. Named line (record h { machine = done.1; own = Used })) (λ fs done. Fit (record h { machine = done.1; own = Used })) es _ (created_named es h ctx family o i.1) (created contexts line origin es h (own_of line) ctx family i.0);
         accepted = λ es h c s place r is e o g i. whatever (λ made. Base (record h { machine = record h.machine { table = made.1 }; made = made_so place made.0 })) (λ made. let k = i.1 in (record { records = i.0.records; udps = i.0.udps; stands = i.0.stands }, record { one = k.one; apart = k.apart; older = k.older; named = k.named; held = k.held; udps = record { one = k.udps.one; apart = k.udps.apart; older = k.udps.older } })) es _;
         polls = λ es h op after k i. both Anything Anything (λ fs ended. Named line (after ended)) (λ fs ended. Fit (after ended)) es _ (names_polled es h op after k i) (polls_fit contexts line origin es h op after k i.0);
@@ -429,9 +430,9 @@ module _ (contexts : List WasiSocketsCtx) (line : ℕ) (origin : Step) where
         udp_peers = λ es h place o at g i. (tt, λ told k. ((f.udp_peers es h place o at g i.0).1 told k, put_udp_named line h place (Udp2Socket.Open o) (Udp2Socket.Open _) g refl i.1));
         udp_closes = λ es h place o q g i. (tt, λ told k. ((f.udp_closes es h place o q g i.0).1 told k, put_udp_named line h place (Udp2Socket.Open o) (Udp2Socket.Closed o.inner.side) g refl i.1));
         udp_creates = λ es h ctx family c may a o m i. (tt, λ told k. ((f.udp_creates es h ctx family c may a o m i.0).1 told k, begun_named h ctx.name family (told_done told) o i.1));
-        udp_marks = λ es h place u g i. marked es h _ i;
-        stream_marks = λ es h place part handle kind m k e i. marked es h _ i;
-        error_marks = λ es h part handle place handles m k e f i. marked es h _ i;
+        udp_marks = λ es h place u g i. marked es h Past _ i;
+        stream_marks = λ es h place part handle kind m k e i. marked es h h.made _ i;
+        error_marks = λ es h part handle place handles m k e f i. marked es h h.made _ i;
         udp_gives_up = λ es h place create q g i.
             both Anything Anything (λ fs done. Named line (put_udp h place (Udp2Socket.Closed create.operation.who.side))) (λ fs done. Fit (put_udp h place (Udp2Socket.Closed create.operation.who.side))) es _
             (whatever (λ done. Named line (put_udp h place (Udp2Socket.Closed create.operation.who.side))) (λ done. put_udp_named line h place (Udp2Socket.Creating create) (Udp2Socket.Closed create.operation.who.side) g refl i.1) es (create_cancel_asks create)) (f.udp_gives_up es h place create q g i.0);

@@ -4,7 +4,9 @@ use Rattle.wasi_world.specs.declared.outcome.WasiSocketsCtx.{WasiSocketsCtx}
 use Rattle.wasi_host.specs.declared.machine.Machine.{Machine}
 use Rattle.wasi_host.specs.Machine.{first_state}
 use Rattle.wasi_steps.specs.declared.step.Step.{Step}
-use Rattle.wasi_walks.proofs.walks.Moves.{Own, ToWrite, Used, Unused}
+use Rattle.wasi_host.specs.Udp.{udp_side}
+use Rattle.wasi_walks.proofs.walks.Here.{older_unused}
+use Rattle.wasi_walks.proofs.walks.Moves.{Own, Unused}
 use Rattle.wasi_walks.proofs.walks.States.{Starts, Over}
 use Rattle.wasi_walks.proofs.fits.Law.{Fit}
 use Rattle.wasi_walks.proofs.fits.Lines.{first_fit, starts_fit}
@@ -22,9 +24,8 @@ first_base = record {
 }
 
 starts_named : (line : ℕ) (m : Machine) (own : Own) → Named line (Starts m Unused) → Named line (Starts m own)
-starts_named line m Used n = record { one = n.one; apart = n.apart; older = λ x i r g c. let k = n.older x i r g c in omega (arith, k); named = n.named; held = n.held; udps = record { one = n.udps.one; apart = n.udps.apart; older = λ i u g. (let k = n.udps.older i u g in omega (arith, k)) } }
-starts_named line m (ToWrite side bytes) n = record { one = n.one; apart = n.apart; older = λ x i r g c. let k = n.older x i r g c in omega (arith, k); named = n.named; held = n.held; udps = record { one = n.udps.one; apart = n.udps.apart; older = λ i u g. (let k = n.udps.older i u g in omega (arith, k)) } }
-starts_named line m _ n = record { one = n.one; apart = n.apart; older = n.older; named = n.named; held = n.held; udps = record { one = n.udps.one; apart = n.udps.apart; older = n.udps.older } }
+starts_named line m own n =
+    record { one = n.one; apart = n.apart; older = λ x i r g c. older_unused line own x (n.older x i r g c); named = n.named; held = n.held; udps = record { one = n.udps.one; apart = n.udps.apart; older = λ i u g. older_unused line own (udp_side u) (n.udps.older i u g) } }
 
 module _ (contexts : List WasiSocketsCtx) (line : ℕ) (origin : Step) (m : Machine) where
   -- the line begins

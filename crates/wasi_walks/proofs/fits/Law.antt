@@ -11,6 +11,7 @@ use Rattle.wasi_walks.proofs.Words.{standing_as, subst, sym, told_addr, told_don
 use Rattle.wasi_walks.proofs.Words.{with_progress, with_state, with_writer, ℕ, ⊤, ◌+◌, ◌∙◌, ◌≡◌, ◌⊎◌}
 use Rattle.wasi_world.specs.declared.ids.Ids.{Ids}
 use Rattle.wasi_tcp.specs.Listen.{IsListen}
+use Rattle.wasi_walks.proofs.walks.Here.{Made, Past}
 use Rattle.wasi_walks.proofs.walks.Moves.{Names, Own, NoStart, NoStartIn, NoStartStands, IsSettled, KeepsBinding, HasBinding, HasListen, GoesOn, begun_bind, closed_record, Held, BindsOn, Connects, Used, Here, put, Move, Changes, ClosesReader, Writes, IsGone, Reconnects, Opens, BeginsConnect, BeginsBind, BeginsWrite, Stands, StandsBlocking, CancelsBind, CancelsUdpBind, CancelsUdpConnect, BeginsListen, BeginsAccept, Unlistens, Forgets, Joins, Unstands, Listens, Awaits, listen_after, accepting_now, beginning_listen, new_accept, joined, made_so, Found}
 use Rattle.wasi_walks.proofs.fits.Records.{FitListening, FitProgress, FitRecord, FitCall, FitUdp, FitUdpProgress, FitConnecting, UdpBindOn, UdpConnectOn, SendOn, ReceiveOn}
 use Rattle.wasi_walks.proofs.Lists.{get_set, get_split, set_get, tcp2_front}
@@ -253,7 +254,7 @@ module _ (contexts : List WasiSocketsCtx) (line : ℕ) (origin : Step) where
       (subst HoldsConnect (sym p.does) f.0, subst FitListening (sym p.listening) f.1, same_progress now.in_progress p.does (kept_progress r.in_progress now.in_progress r.inner.state p.binds f.2)) i
   moves_fit _ _ (ClosesReader h place r s g e) i = put_fit h place r _ g (inr (λ b. b, λ l. l)) (i.records place r g) i
   moves_fit _ _ (Writes h place r s w g e m) i = put_fit h place r _ g (inr (λ b. b, λ l. l)) (i.records place r g) i
-  moves_fit _ _ (IsGone h place r q g e) i = put_fit h place r _ g (inl q) ((i.records place r g).0, tt, tt) i
+  moves_fit _ _ (IsGone h place r q g e) i = put_fit h place r _ g (inl q.0) ((i.records place r g).0, tt, tt) i
   moves_fit _ _ (Reconnects h place r c now g e s t u) i = let f = i.records place r g in put_fit h place r _ g (inr (λ b. b, λ l. l)) (tt, f.1, not_binding r.in_progress e (λ side d. absurd (cc)) f.2 _) i
   moves_fit _ _ (Opens h place r c k g e n) i = put_fit h place r _ g (inr (λ b. absurd (no_binding r.in_progress k b), λ l. l)) (tt, (i.records place r g).1, tt) i
   moves_fit _ _ (BeginsConnect h place r side a bound at g d to known idle own) i =
@@ -264,9 +265,9 @@ module _ (contexts : List WasiSocketsCtx) (line : ℕ) (origin : Step) where
   moves_fit _ _ (BeginsWrite h place n r s half permit bytes at g e w within own) i = write_fit h place r s (WriteState.Writing (new_job (own_of n) half.side bytes)) Used g i
   moves_fit _ _ (BeginsListen h place r side at g d bound none to idle own) i =
       let k = put_fit h place r (beginning_listen (own_of line) side r) g (inr (λ b. b, λ l. absurd (subst HasListen none l))) (tt, record { last = refl; left = listen.BoundBefore r.inner.backlog }, idle_binding r.in_progress idle _) i in record { records = k.records; udps = k.udps; stands = k.stands }
-  moves_fit _ _ (BeginsAccept h place r l at g e a own) i =
+  moves_fit _ _ (BeginsAccept h place part r l at g e a own) i =
       let f = i.records place r g in
-      let k = put_fit h place r (accepting_now r l (new_accept line l)) g (inr (λ b. b, λ k. absurd (subst HasListen e k))) (f.0, record { accept = record { last = refl; left = accept.Unarrived }; of_side = refl; of_maker = refl; going = refl }, f.2) i in record { records = k.records; udps = k.udps; stands = k.stands }
+      let k = put_fit h place r (accepting_now r l (new_accept (part_of line part) l)) g (inr (λ b. b, λ k. absurd (subst HasListen e k))) (f.0, record { accept = record { last = refl; left = accept.Unarrived }; of_side = refl; of_maker = refl; going = refl }, f.2) i in record { records = k.records; udps = k.udps; stands = k.stands }
   moves_fit _ _ (Unlistens h place r op q g e c o) i = let f = i.records place r g in put_fit h place r _ g (inl q) (f.0, tt, f.2) i
   moves_fit _ _ (Forgets h place r l c g e a) i = let f = i.records place r g in put_fit h place r _ g (inr (λ b. b, λ k. absurd (subst HasListen e k))) (f.0, tt, f.2) i
   moves_fit _ _ (Joins h c handle place r l new peer is of u g e a) i =
@@ -384,8 +385,8 @@ module _ (contexts : List WasiSocketsCtx) (line : ℕ) (origin : Step) where
   udp_inner_fit h place o socket g e i = put_udp_fit h place (Udp2Socket.Open o) _ g (inr (stays_open o (with_udp_inner o socket) refl refl)) (inner_fits o socket e (i.udps place (Udp2Socket.Open o) g)) i
 
   -- a handle is made
-  pub marked_fit : {A : Type 0} (es : List Entry) (h : Here) (asks : Asks (A × Handles)) → Fit h → Allows Anything (λ fs made. Fit (record h { machine = record h.machine { table = made.1 } })) es asks
-  marked_fit es h asks i = whatever (λ made. Fit (record h { machine = record h.machine { table = made.1 } })) (λ made. record { records = i.records; udps = i.udps; stands = i.stands }) es asks
+  pub marked_fit : {A : Type 0} (es : List Entry) (h : Here) (so : Made) (asks : Asks (A × Handles)) → Fit h → Allows Anything (λ fs made. Fit (record h { machine = record h.machine { table = made.1 }; made = so })) es asks
+  marked_fit es h so asks i = whatever (λ made. Fit (record h { machine = record h.machine { table = made.1 }; made = so })) (λ made. record { records = i.records; udps = i.udps; stands = i.stands }) es asks
 
   unfoldable pub fits : Law contexts line origin
   fits = record {
@@ -395,8 +396,8 @@ module _ (contexts : List WasiSocketsCtx) (line : ℕ) (origin : Step) where
     asks = λ es h place n r side c at g o q i. (tt, λ told fits. i);
     sets = λ es h place r side b at g s is i. (tt, λ told fits. i);
     learns = λ es h place r side at g e i. (tt, λ told fits. let f = i.records place r g in put_fit h place r _ g (inr (λ b. b, λ l. l)) (subst HoldsConnect (sym (told_same r.inner (told_addr told))) f.0, f.1, same_progress r.in_progress (told_same r.inner (told_addr told)) f.2) i);
-    closes = λ es h place r side q g e i. (tt, λ told fits. put_fit h place r (closed_record r) g (inl q) (tt, tt, tt) i);
-    marks = λ es h kind parent sock m i. marked_fit es h _ i;
+    closes = λ es h place r side q g e i. (tt, λ told fits. put_fit h place r (closed_record r) g (inl q.0) (tt, tt, tt) i);
+    marks = λ es h kind parent sock m i. marked_fit es h h.made _ i;
     creates = λ es h ctx family c a o m i. created es h (own_of line) ctx family i;
     accepted = λ es h c s place r is e o g i. whatever (λ made. Fit (record h { machine = record h.machine { table = made.1 }; made = made_so place made.0 })) (λ made. record { records = i.records; udps = i.udps; stands = i.stands }) es _;
     polls = polls_fit;
@@ -404,11 +405,11 @@ module _ (contexts : List WasiSocketsCtx) (line : ℕ) (origin : Step) where
     udp_asks = λ es h place n o c at g q i. (tt, λ told fits. i);
     udp_learns = λ es h place part o at g i. (tt, λ told fits. udp_inner_fit h place o _ g (learnt_side o.inner (told_addr told)) i);
     udp_peers = λ es h place o at g i. (tt, λ told fits. udp_inner_fit h place o (after_peer o.inner (told_addr told)) g refl i);
-    udp_closes = λ es h place o q g i. (tt, λ told fits. put_udp_fit h place (Udp2Socket.Open o) (Udp2Socket.Closed o.inner.side) g (inl q) tt i);
+    udp_closes = λ es h place o q g i. (tt, λ told fits. put_udp_fit h place (Udp2Socket.Open o) (Udp2Socket.Closed o.inner.side) g (inl q.0) tt i);
     udp_creates = λ es h ctx family c may a o m i. (tt, λ told fits. begun_fits h (own_of line) ctx.name family (told_done told) i);
-    udp_marks = λ es h place u g i. marked_fit es h _ i;
-    stream_marks = λ es h place n handle kind m k e i. marked_fit es h _ i;
-    error_marks = λ es h n handle place handles m k e f i. marked_fit es h _ i;
+    udp_marks = λ es h place u g i. marked_fit es h Past _ i;
+    stream_marks = λ es h place n handle kind m k e i. marked_fit es h h.made _ i;
+    error_marks = λ es h n handle place handles m k e f i. marked_fit es h h.made _ i;
     udp_gives_up = λ es h place create q g i. whatever (λ done. Fit (put_udp h place (Udp2Socket.Closed create.operation.who.side))) (λ done. put_udp_fit h place (Udp2Socket.Creating create) (Udp2Socket.Closed create.operation.who.side) g (inl q) tt i) es (create_cancel_asks create);
     lookups = λ es h host l i. (tt, λ told fits records s. records_fit h records s i);
     looks = λ es h place op g i. (tt, λ told fits. i);

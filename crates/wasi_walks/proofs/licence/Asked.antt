@@ -7,7 +7,8 @@ use Rattle.wasi_walks.specs.Licence.{BeganBy, IsGetOf, IsSetTo}
 use Rattle.wasi_walks.proofs.licence.Fresh.{made_more}
 use Rattle.wasi_walks.proofs.licence.ListenAsks.{listen_unless}
 use Rattle.wasi_walks.proofs.claims.Law.{Named, no_some}
-use Rattle.wasi_walks.proofs.walks.Moves.{Unused, Here, put, Found, IsQuestionOf, IsOn, OfSocket, OfReader, OfWriter, second_of}
+use Rattle.wasi_walks.proofs.walks.Moves.{Here, put, Found, IsQuestionOf, IsOn, OfSocket, OfReader, OfWriter}
+use Rattle.wasi_walks.proofs.walks.Here.{IsToCome}
 use Rattle.wasi_walks.proofs.Lists.{has_last, has_front}
 use Rattle.wasi_walks.proofs.licence.State.{ReadsOn, Names, WritesOn, RecordIsFine}
 use Rattle.wasi_walks.proofs.licence.Frames.{Touches, Spared, same_listening, unmarked_unless, handed_more, stay, NoMark, same_record, names_on, record_kept, maker_more, side_more, no_touch}
@@ -34,13 +35,13 @@ module _ (contexts : List WasiSocketsCtx) (steps : List Step) (line : ℕ) (orig
   joined_on es h e p j f = record { new = j.new; on = j.on; peer = j.peer; context = j.context; listener = j.listener; by = j.by; side = j.side; of_listener = side_more es _ j.listener j.on j.of_listener; handed = record { told = j.handed.told; hand = has_front es _ _ j.handed.hand }; fresh = f }
 
   -- a call that is no mark
-  pub asked_by : (es : List Entry) (h : Here) (op : OpId) (c : Call) (told : Told) → marked_by c ≡ 0 → Spared h.machine.store.records op c → (h.own ≡ Unused → Touches op c (second_of line) → ⊥) → Spares h c → Licensed contexts steps line origin es h → Licensed contexts steps line origin (es ++ entry op c told ∷ []) h
+  pub asked_by : (es : List Entry) (h : Here) (op : OpId) (c : Call) (told : Told) → marked_by c ≡ 0 → Spared h.machine.store.records op c → ((x : OpId) → IsToCome line h.own x → Touches op c x → ⊥) → Spares h c → Licensed contexts steps line origin es h → Licensed contexts steps line origin (es ++ entry op c told ∷ []) h
   asked_by es h op c told z sp u n i = record {
     fine = state_spared contexts steps es h.machine op c told z sp i.fine;
     names = λ k j r a g side m. names_on (stay steps) es _ (own_of j) side (i.names k j r a g side m);
     udp_names = λ k j u a g. names_on (stay steps) es _ (own_of j) (udp_side u) (i.udp_names k j u a g);
     listens = listens_on es h op c told n i;
-    new = λ o. (handed_more es op c told (second_of line) (i.new o).0 (u o), unmarked_unless es op c told (second_of line) (i.new o).1 z);
+    new = λ x t. (handed_more es op c told x (i.new x t).0 (u x t), unmarked_unless es op c told x (i.new x t).1 z);
     unmade = λ e a s is. made_more es op (own_of line) c told z (i.unmade e a s is);
     joined = λ p e. (let j = i.joined p e in joined_on es h (entry op c told) p j (unmarked_unless es op c told j.new j.fresh z));
     marked = λ handle p e r g. (let k = i.marked handle p e r g in record { above = k.above; told = k.told; mark = has_front es _ _ k.mark });
@@ -52,7 +53,7 @@ module _ (contexts : List WasiSocketsCtx) (steps : List Step) (line : ℕ) (orig
   no_mark _ h = refl
 
   pub asked_fine : (es : List Entry) (h : Here) (op : OpId) (c : Call) (told : Told) → NoMark c → Spares h c → Licensed contexts steps line origin es h → Licensed contexts steps line origin (es ++ entry op c told ∷ []) h
-  asked_fine es h op c told q n i = asked_by es h op c told (no_mark c q) (λ place r x e m. no_touch op c x q) (λ o. no_touch op c (second_of line) q) n i
+  asked_fine es h op c told q n i = asked_by es h op c told (no_mark c q) (λ place r x e m. no_touch op c x q) (λ x t. no_touch op c x q) n i
 
   writer_is : (es : List Entry) (side at : OpId) (w : WriteState) → WritesOn steps es side w → writer_side w ≡ Some at → at ≡ side
   writer_is es side at (WriteState.Ready half permit) on e = some_same at half.side e ∙ on

@@ -1,15 +1,16 @@
 -- The definitions on logs of datagrams that are not licensed.
 use Rattle.wasi_walks.proofs.Words.{Call, Entry, Has, IsLicensed, List, OpId, Reply, SocketAddrUse, SocketAddressFamily, Some, None, Step, Told}
-use Rattle.wasi_walks.proofs.Words.{[], ap, entry, inl, no_fields, number_fields, own_of, refl, subst, sym, ⊤, ◌++◌, ◌∙◌, ◌∷◌, ◌≡◌, ℕ}
+use Rattle.wasi_walks.proofs.Words.{[], ap, entry, inl, length, length-append, no_fields, number_fields, own_of, refl, subst, sym, ⊤, ◌++◌, ◌∙◌, ◌∷◌, ◌≡◌, ◌≤◌, ℕ}
 use Rattle.std.proofs.Common.{arith}
 use Rattle.wasi_world.specs.declared.call.HandleKind.TheVariants as kind
 use Rattle.wasi_world.specs.declared.datagram.IncomingDatagram.{IncomingDatagram}
 use Rattle.wasi_world.specs.declared.datagram.OutgoingDatagram.{OutgoingDatagram}
 use Rattle.wasi_steps.specs.Reply.{datagram_values, pair_fields}
 use Rattle.wasi_walks.specs.Licence.{HandsOut, SendsItem}
+use Rattle.wasi_walks.specs.Received.{InOrder, IsAllowed, NoMore, OneMore}
 use Rattle.wasi_walks.proofs.Lists.{has_back}
 use Rattle.wasi_walks.proofs.licence.Rows.{allowed, local_80}
-use Rattle.wasi_walks.proofs.licence.Refused.{NotYes, of_each, at_line, local_81}
+use Rattle.wasi_walks.proofs.licence.Refused.{Each, NotYes, of_each, at_line, local_81}
 use Rattle.wasi_walks.proofs.licence.UdpRows.{udp_log}
 
 -- a datagram of one byte
@@ -71,9 +72,13 @@ abbrev NoRecv : Call → Type 0
 NoRecv (Call.Recv side) = ⊥
 NoRecv _ = ⊤
 
-unreceived : (ds : List IncomingDatagram) → datagram_values (came ∷ []) ≡ datagram_values ds → ((d : IncomingDatagram) → Has ds d → ⊥) → ⊥
-unreceived [] e k = absurd (cc)
-unreceived (d ∷ ds) e k = k d (inl refl)
+-- none is allowed here
+none_allowed : (side : OpId) (from upto : ℕ) (d : IncomingDatagram) → IsAllowed streams side from upto d → ⊥
+none_allowed side from upto d a = of_each (λ e. NoRecv e.call) streams _ (tt, (tt, (tt, (tt, (tt, (tt, (tt, (tt, (tt, (tt, tt)))))))))) (subst (λ (es : List Entry). Has es (entry a.op (Call.Recv side) (Told.Datagram d.bytes d.remote_address))) (sym a.cut) (has_back a.front _ _ (inl refl)))
+
+unreceived : (side : OpId) (upto : ℕ) (ds : List IncomingDatagram) → datagram_values (came ∷ []) ≡ datagram_values ds → InOrder streams side 0 ds upto → ⊥
+unreceived side upto [] e k = absurd (cc)
+unreceived side _ _ e (OneMore from mid upto d ds a rest) = none_allowed side from mid d a
 
 abbrev replies : List Reply
 replies = Reply.Ok (number_fields 1) ∷ Reply.Ok (number_fields 2) ∷ Reply.Ok no_fields ∷ Reply.Ok no_fields ∷ Reply.Ok (pair_fields 3 4) ∷ Reply.Ok (number_fields 1) ∷ Reply.Ok (datagram_values (came ∷ [])) ∷ []
@@ -81,4 +86,38 @@ replies = Reply.Ok (number_fields 1) ∷ Reply.Ok (number_fields 2) ∷ Reply.Ok
 handed_unreceived : IsLicensed allowed datagram_script streams replies → ⊥
 handed_unreceived h =
     let hands : HandsOut streams 3 (datagram_values (came ∷ [])) = h.replied.1.1.1.1.1.1.0 in
-    unreceived hands.datagrams hands.values (λ d i. let r = hands.received d i in of_each (λ e. NoRecv e.call) streams _ (tt, (tt, (tt, (tt, (tt, (tt, (tt, (tt, (tt, (tt, tt)))))))))) (subst (λ (es : List Entry). Has es (entry r.op (Call.Recv hands.side) (Told.Datagram d.bytes d.remote_address))) (sym r.cut) (has_back r.front _ _ (inl refl))))
+    unreceived hands.side hands.upto hands.datagrams hands.values hands.order
+
+-- == a datagram that came once is handed out twice
+-- it came, and its sender was allowed
+abbrev asks : OpId
+asks = record { step = 7; part = 1 }
+
+abbrev once : List Entry
+once = streams ++ (entry asks (Call.Recv (own_of 2)) (Told.Datagram (1 ∷ []) local_81) ∷ entry asks (Call.Check 0 local_81 SocketAddrUse.UdpReceive) Told.Yes ∷ [])
+
+-- what is received comes after those that receive nothing
+after : (xs ys front back : List Entry) (x : Entry) → Each (λ e. NoRecv e.call) xs → (NoRecv x.call → ⊥) → xs ++ ys ≡ front ++ x ∷ back → length xs ≤ length front
+after [] ys front back x n k e = omega arith
+after (y ∷ xs) ys [] back x n k e = let p : y ≡ x = cc in absurd (k (subst (λ (z : Entry). NoRecv z.call) p n.0))
+after (y ∷ xs) ys (z ∷ front) back x n k e = let r = after xs ys front back x n.1 k (cc) in omega arith
+
+-- so there is no room for two
+one_place : (side : OpId) (from mid later upto : ℕ) (d x : IncomingDatagram) → mid ≤ later → IsAllowed once side from mid d → IsAllowed once side later upto x → ⊥
+one_place side from mid later upto d x l a b =
+    let first = after streams _ a.front _ _ (tt, (tt, (tt, (tt, (tt, (tt, (tt, (tt, (tt, (tt, tt)))))))))) (λ n. n) a.cut in
+    let whole = ap length b.cut in
+    omega (arith, a.past, b.late, length-append b.front (entry b.op (Call.Recv side) (Told.Datagram x.bytes x.remote_address) ∷ (b.between ++ entry b.op (Call.Check b.ctx x.remote_address SocketAddrUse.UdpReceive) Told.Yes ∷ b.back)))
+
+twice : (side : OpId) (upto : ℕ) (ds : List IncomingDatagram) → datagram_values (came ∷ came ∷ []) ≡ datagram_values ds → InOrder once side 0 ds upto → ⊥
+twice side upto [] e k = absurd (cc)
+twice side _ _ e (OneMore from mid upto d _ a (OneMore next later last x ds b rest)) = one_place side from mid next later d x (omega arith) a b
+twice side _ _ e (OneMore from mid upto d _ a (NoMore last)) = absurd (cc)
+
+abbrev two_replies : List Reply
+two_replies = Reply.Ok (number_fields 1) ∷ Reply.Ok (number_fields 2) ∷ Reply.Ok no_fields ∷ Reply.Ok no_fields ∷ Reply.Ok (pair_fields 3 4) ∷ Reply.Ok (number_fields 1) ∷ Reply.Ok (datagram_values (came ∷ came ∷ [])) ∷ []
+
+handed_twice : IsLicensed allowed datagram_script once two_replies → ⊥
+handed_twice h =
+    let hands : HandsOut once 3 (datagram_values (came ∷ came ∷ [])) = h.replied.1.1.1.1.1.1.0 in
+    twice hands.side hands.upto hands.datagrams hands.values hands.order

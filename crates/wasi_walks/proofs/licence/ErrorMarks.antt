@@ -9,7 +9,7 @@ use Rattle.wasi_walks.proofs.Words.{Input, Output, WriteState}
 use Rattle.wasi_tcp.specs.declared.writer.WriteError.{WriteError}
 use Rattle.wasi_walks.proofs.walks.Failures.{Fails, IsFailed, ReadFails, WriteFails}
 use Rattle.wasi_walks.proofs.licence.Moves.{held_side}
-use Rattle.wasi_walks.proofs.walks.Moves.{Calls, Here, IsStreamCall, record_of}
+use Rattle.wasi_walks.proofs.walks.Moves.{Calls, OfStreams, Here, IsStreamCall, record_of}
 use Rattle.wasi_walks.proofs.licence.State.{MakesCalls, WritesOn}
 use Rattle.wasi_walks.proofs.licence.Line.{Licensed, names_record}
 use Rattle.wasi_walks.proofs.licence.StreamMoves.{made_for}
@@ -45,7 +45,7 @@ module _ (contexts : List WasiSocketsCtx) (steps : List Step) (line : ℕ) (orig
     error_mark _ m i = absurd m
 
   -- an accept is no call of a stream
-  not_accept : (n : ℕ) (handles : List ℕ) → MakesCalls steps n handles → (c s : ℕ) → origin ≡ Step.TcpAccept c s → own_of n ≡ own_of line → ⊥
+  not_accept : (n : ℕ) (handles : List ℕ) → MakesCalls steps OfStreams n handles → (c s : ℕ) → origin ≡ Step.TcpAccept c s → own_of n ≡ own_of line → ⊥
   not_accept n handles b c s is e =
       let p : step_at steps line ≡ Some b.origin = subst (λ (o : OpId). step_at steps o.step ≡ Some b.origin) e b.at in
       let q : origin ≡ b.origin = cc in
@@ -64,11 +64,11 @@ module _ (contexts : List WasiSocketsCtx) (steps : List Step) (line : ℕ) (orig
       let s = r.streams f.streams f.there in
       OutputFailed s.side (i.fine.handles handle (Output place) k).3 (ap side_at f.at ∙ r.named s.side (held_side contexts steps line origin is_line es f.socket f.streams s)) (told_writer es s.side f.streams.writer f.failed s.writes)
 
-  pub error_marked : (es : List Entry) (h : Here) (n handle place : ℕ) (handles : List ℕ) → h.made ≡ Calls n handles → Has handles handle → record_of (kind_at h.machine.table handle) ≡ Some place → Fails es h.machine n handle place → Licensed contexts steps line origin es h
+  pub error_marked : (es : List Entry) (h : Here) (n handle place : ℕ) (handles : List ℕ) → h.made ≡ Calls OfStreams n handles → Has handles handle → record_of (kind_at h.machine.table handle) ≡ Some place → Fails es h.machine n handle place → Licensed contexts steps line origin es h
       → Allows (MayAsk contexts steps) (λ fs made. Licensed contexts steps line origin fs (record h { machine = record h.machine { table = made.1 } })) es (make_asks h.machine.table (own_of n) ErrorValue (Some handle) (side_at (tcp2_at h.machine.store.records place)))
   error_marked es h n handle place handles m k e f i =
       let sock = side_at (tcp2_at h.machine.store.records place) in
-      let b = made_for contexts steps line origin is_line es h n handles m i in
+      let b = made_for contexts steps line origin is_line es h OfStreams n handles m i in
       let named : Has (handles_of b.origin) handle = subst (λ (xs : List ℕ). Has xs handle) (sym b.holds.1) k in
       let r = names_record es h.machine.store.records handle place (kind_at h.machine.table handle) e (i.fine.handles handle) in
       let w : IsMarkedWith es handle sock = subst (IsMarkedWith es handle) (sym (ap side_at r.at)) r.marked in

@@ -13,8 +13,8 @@ use Rattle.wasi_walks.proofs.fits.Law.{Fit}
 use Rattle.wasi_walks.proofs.fits.Records.{FitListening, FitProgress}
 use Rattle.wasi_walks.proofs.licence.Fresh.{spared_as}
 use Rattle.wasi_walks.proofs.claims.Polls.{AllAskBut, IsPlainCall, poll_plainly}
-use Rattle.wasi_walks.proofs.claims.Law.{accept_plain, Named, Base, same_begun, fresh, taken_fresh, Fresh}
-use Rattle.wasi_walks.proofs.walks.Moves.{Held, BindsOn, Connects, Unused, Here, put, Found, Listens, Awaits, UdpCreates, UdpBindsOn, UdpConnectsOn, SendsOn, ReceivesOn, listen_after, accepting_now, second_of}
+use Rattle.wasi_walks.proofs.claims.Law.{accept_plain, Named, Base, same_begun, fresh_to_come, taken_fresh, Fresh}
+use Rattle.wasi_walks.proofs.walks.Moves.{Held, BindsOn, Connects, Here, put, Found, Listens, Awaits, UdpCreates, UdpBindsOn, UdpConnectsOn, SendsOn, ReceivesOn, listen_after, accepting_now}
 use Rattle.wasi_walks.proofs.Lists.{get_set, set_there}
 use Rattle.wasi_walks.specs.Licence.{MakesTcp}
 use Rattle.wasi_walks.proofs.licence.State.{ConnectIsFine, accept_name, Names, BindIsFine, JobIsFine, WritesOn, StreamsAreFine, AcceptingIsFine, ListeningIsFine, ProgressIsFine, RecordIsFine, AcceptStands, AcceptingStands, ListeningStands, name_in, AcceptLeft, AcceptIsFine}
@@ -167,15 +167,12 @@ module _ (contexts : List WasiSocketsCtx) (steps : List Step) (line : ℕ) (orig
       allows_weaker (MayAsk contexts steps) (λ fs end. M fs × Q fs end) (λ fs end. Licensed contexts steps line origin fs (put h place (accepting_now r l (accept_ended op.who end))))
       (λ fs end k. put_after fs end k.0.0 k.0.1 k.1 f.on f.asks lf.side free) es (poll_asks op)
       (allows_keep (λ fs o c. MayAs contexts steps op.who.id fs o c × NoLocal c) (MayAsk contexts steps) M Q
-      (λ fs o c t fits k m. (asked_by contexts steps line origin is_line fs out o c t m.0.2 (spared_as out.machine.store.records o op.who.id c m.0.1 m.0.2 (λ p q y z. free p q y (inr z))) (λ u t. by_second o c m.0.1 (touch_as o (second_of line) c m.0.2 t) u name) (spares contexts steps line origin is_line out c m.1) k.0, maker_more fs _ l.maker l.family l.side k.1)) (λ fs o c m. m.0.0) es (poll_asks op)
+      (λ fs o c t fits k m. (asked_by contexts steps line origin is_line fs out o c t m.0.2 (spared_as out.machine.store.records o op.who.id c m.0.1 m.0.2 (λ p q y z. free p q y (inr z))) (λ x u t. fresh_to_come contexts line origin h n x u place r g (inr (name ∙ ap (λ (y : OpId). Some y) (sym m.0.1 ∙ touch_as o x c m.0.2 t)))) (spares contexts steps line origin is_line out c m.1) k.0, maker_more fs _ l.maker l.family l.side k.1)) (λ fs o c m. m.0.0) es (poll_asks op)
       (taken_out es h place r g i, lf.maker)
       (also (MayAs contexts steps op.who.id) (λ fs o c. NoLocal c) Q _ es (poll_asks op)
       (polled_accept contexts steps op.who f.last es op.left (record { family = l.family; made = subst (λ (y : OpId). IsMaker es op.who.context l.family y) (sym f.on) (subst (λ (m : ℕ). IsMaker es m l.family l.side) (sym f.asks) lf.maker); named = subst (Names steps es op.who.id) (sym f.on) f.named }) st.handed st.marked (subst (λ (y : OpId). AcceptLeft es op.who.id y op.left) (sym f.on) st.so_far))
       (poll_plainly NoLocal no_local op.who op.left es (accept_plain ⊥ op.left its.accept.left))))
     where
-      by_second : (o : OpId) (c : Call) → o ≡ op.who.id → o ≡ second_of line → h.own ≡ Unused → accept_name r.listening ≡ Some op.who.id → ⊥
-      by_second o c p q u name = fresh contexts line origin h u n op.who.id (ap (λ (y : OpId). y.step) (sym p ∙ q)) place r g (inr name)
-
       put_after : (fs : List Entry) (end : End × List Item) → Licensed contexts steps line origin fs (put h place (with_listening r Not)) → IsMaker fs l.maker l.family l.side → StandsAfter contexts steps op.who fs end → op.who.side ≡ l.side → op.who.context ≡ l.maker → r.side ≡ Some l.side → Fresh (put h place (with_listening r Not)) op.who.id
           → Licensed contexts steps line origin fs (put h place (accepting_now r l (accept_ended op.who end)))
       put_after fs end k m q on asks s free =

@@ -1,10 +1,12 @@
 -- What holds of a line: the state fits the log, and so does what the line works on.
+use Rattle.wasi_walks.proofs.walks.Moves.{Awaited, Emptied}
 use Rattle.wasi_walks.proofs.Words.{BeganBy, Begins, Call, Entry, HandedNone, Has, IpSocketAddress, IsMaker, IsSide, Kind, List, MarksNoSocket, None, Not}
 use Rattle.wasi_walks.proofs.Words.{OpId, Operation, Option, SocketAddressFamily, Some, Step, Tcp2Socket, Told, WasiSocketsCtx, ap, entry, inl, inr, length}
 use Rattle.wasi_walks.proofs.Words.{own_of, refl, side_in, subst, sym, with_socket, ℕ, ⊤, ◌∙◌, ◌≡◌, ◌⊎◌}
 use Rattle.wasi_walks.proofs.licence.ListenAsks.{ListenIsFine}
 use Rattle.wasi_walks.proofs.licence.Fresh.{NoMadeBy}
-use Rattle.wasi_walks.proofs.walks.Moves.{Own, Used, Unused, ToStream, Calls, Past, Here, put, put_udp, Found, FoundUdp, record_of, udp_record_of, Plain, Made, Unmade, Joined, Marked, second_of}
+use Rattle.wasi_walks.proofs.walks.Moves.{Own, Used, Unused, ToStream, Calls, Past, Here, put, put_udp, Found, FoundUdp, record_of, udp_record_of, Plain, Made, Unmade, Joined, Marked, part_of}
+use Rattle.wasi_walks.proofs.walks.Here.{IsToCome, Shrinks}
 use Rattle.wasi_walks.proofs.Lists.{get_set, tcp2_seam}
 use Rattle.wasi_walks.proofs.UdpLists.{udp_get_set, udp_of_put, tcp_of_put}
 use Rattle.wasi_walks.specs.Licence.{MakesTcp}
@@ -58,8 +60,8 @@ no_listen op e = absurd (cc)
 pub local_side : (a b : OpId) → Call.Local a ≡ Call.Local b → a ≡ b
 local_side a b e = cc
 
-pub second_names : {steps : List Step} (es : List Entry) (line : ℕ) (side : OpId) → Names steps es (own_of line) side → Names steps es (second_of line) side
-second_names es line side n = record { origin = n.origin; at = n.at; holds = n.holds }
+pub part_names : {steps : List Step} (es : List Entry) (line part : ℕ) (side : OpId) → Names steps es (own_of line) side → Names steps es (part_of line part) side
+part_names es line part side n = record { origin = n.origin; at = n.at; holds = n.holds }
 
 -- A listen in progress, of this record: its network socket is one of a `tcp-create`.
 pub record ListenGoesOn (steps : List Step) (es : List Entry) (r : Tcp2Socket) (op : Operation) : Type 0 where
@@ -77,8 +79,10 @@ NotMarked _ = ⊥
 -- it is nothing of an accept
 abbrev pub NoAccept : Made → Type 0
 NoAccept (ToStream line handle) = ⊤
-NoAccept (Calls line handles) = ⊤
+NoAccept (Calls kind line handles) = ⊤
 NoAccept Past = ⊤
+NoAccept (Emptied kind) = ⊤
+NoAccept (Awaited place) = ⊤
 NoAccept _ = ⊥
 
 no_mark : (made : Made) → NoAccept made → NotMarked made → ⊥
@@ -89,7 +93,7 @@ no_mark _ q u = u
 -- where streams are made, or called, for a line, its step says so
 abbrev pub MakingStands : List Step → Made → Type 0
 MakingStands steps (ToStream line handle) = MakesStreams steps line handle
-MakingStands steps (Calls line handles) = MakesCalls steps line handles
+MakingStands steps (Calls kind line handles) = MakesCalls steps kind line handles
 MakingStands steps _ = ⊤
 
 -- a line's operation names a handle of the network socket that the record was made with
@@ -128,7 +132,7 @@ pub record Licensed (contexts : List WasiSocketsCtx) (steps : List Step) (line :
   pub names : NamesTcpHere steps es h
   pub udp_names : NamesUdpHere steps es h
   pub listens : (place : ℕ) (r : Tcp2Socket) (op : Operation) → Found h place r → r.listening ≡ Begins op → ListenGoesOn steps es r op
-  pub new : h.own ≡ Unused → HandedNone es (second_of line) × MarksNoSocket es (second_of line)
+  pub new : (x : OpId) → IsToCome line h.own x → HandedNone es x × MarksNoSocket es x
   pub unmade : (h.own ≡ Unused) ⊎ NotMarked h.made → (c s : ℕ) → origin ≡ Step.TcpAccept c s → NoMadeBy es (own_of line)
   pub joined : (place : ℕ) → h.made ≡ Joined place → JoinedIsFine origin es h place
   pub marked : (handle place : ℕ) → h.made ≡ Marked handle place → (r : Tcp2Socket) → Found h place r → MadeSocket line es handle r.side
@@ -193,13 +197,13 @@ module _ {contexts : List WasiSocketsCtx} {steps : List Step} {line : ℕ} {orig
       }
 
   -- its own operation began something, or its names are counted
-  pub owned : (es : List Entry) (h : Here) (own : Own) → (own ≡ Unused → ⊥) → Licensed contexts steps line origin es h → Licensed contexts steps line origin es (record h { own = own })
-  owned es h own used i = record {
+  pub owned : (es : List Entry) (h : Here) (own : Own) → (own ≡ Unused → ⊥) → Shrinks line h.own own → Licensed contexts steps line origin es h → Licensed contexts steps line origin es (record h { own = own })
+  owned es h own used less i = record {
     fine = i.fine;
     names = i.names;
     udp_names = i.udp_names;
     listens = i.listens;
-    new = λ e. absurd (used e);
+    new = λ x t. i.new x (less x t);
     unmade = λ e c s is. i.unmade (elim e [ inl u ↦ absurd (used u) | inr u ↦ inr u ]) c s is;
     joined = λ p e. (let j = i.joined p e in record { new = j.new; on = j.on; peer = j.peer; context = j.context; listener = j.listener; by = j.by; side = j.side; of_listener = j.of_listener; handed = j.handed; fresh = j.fresh });
     marked = i.marked;
@@ -207,7 +211,7 @@ module _ {contexts : List WasiSocketsCtx} {steps : List Step} {line : ℕ} {orig
   }
 
   pub spent : (es : List Entry) (h : Here) → Licensed contexts steps line origin es h → Licensed contexts steps line origin es (record h { own = Used })
-  spent es h i = owned es h Used (λ e. absurd (cc)) i
+  spent es h i = owned es h Used (λ e. absurd (cc)) (λ x t. absurd t) i
 
   -- the line makes, or calls, something else
   pub remade : (es : List Entry) (h : Here) (made : Made) → NoAccept made → MakingStands steps made → Licensed contexts steps line origin es h → Licensed contexts steps line origin es (record h { made = made })
@@ -230,7 +234,7 @@ module _ {contexts : List WasiSocketsCtx} {steps : List Step} {line : ℕ} {orig
     names = n;
     udp_names = u;
     listens = λ k r op g e. i.listens k r op (there h now s k r g) e;
-    new = λ e. i.new (sym o ∙ e);
+    new = λ x t. i.new x (subst (λ (own : Own). IsToCome line own x) o t);
     unmade = λ e c t is. i.unmade (elim e [ inl x ↦ inl (sym o ∙ x) | inr x ↦ inr (subst NotMarked m x) ]) c t is;
     joined = λ p e. (let j = i.joined p (sym m ∙ e) in record { new = j.new; on = j.on; peer = j.peer; context = j.context; listener = j.listener; by = j.by; side = λ r g. j.side r (there h now s p r g); of_listener = j.of_listener; handed = j.handed; fresh = j.fresh });
     marked = λ handle p e r g. i.marked handle p (sym m ∙ e) r (there h now s p r g);

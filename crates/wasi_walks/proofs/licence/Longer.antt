@@ -34,6 +34,7 @@ module _ (steps more : List Step) where
   may_more contexts before op (Call.UdpConnect sock addr) h = (reach_more before op sock h.0, began_more on op _ h.1, h.2, h.3, h.4, began_more on sock _ h.5)
   may_more contexts before op (Call.Listen sock backlog) h = (reach_more before op sock h.0, began_more on op _ h.1, h.2, began_more on sock _ h.3)
   may_more contexts before op (Call.SetBacklog sock backlog) h = (reach_more before op sock h.0, began_more on op _ h.1, h.2)
+  may_more contexts before op (Call.UdpDisconnect sock) h = (reach_more before op sock h.0, began_more on op _ h.1)
   may_more contexts before op (Call.GetOption sock option) h = (reach_more before op sock h.0, began_more on op _ h.1)
   may_more contexts before op (Call.SetOption sock option value) h = (reach_more before op sock h.0, began_more on op _ h.1)
   may_more contexts before op (Call.Connect sock addr) h = (reach_more before op sock h.0, began_more on op _ h.1, h.2, h.3, began_more on sock _ h.4)

@@ -1,4 +1,5 @@
 -- A create is licensed, and so are the marks of handles; and what they make fits.
+use Rattle.wasi_walks.proofs.walks.Moves.{record_of}
 use Rattle.wasi_walks.proofs.Words.{Allows, BeganBy, Call, Created, Entry, Err, ErrorCode, HandleKind, Has, Input, IsDoneOrCode, IsMaker}
 use Rattle.wasi_walks.proofs.Words.{IsMarkOf, IsMarkedWith, IsSide, IsTcpCreate, Kind, List, MarksNoSocket, MayAsk, MayUseTcp, Network, None, Ok}
 use Rattle.wasi_walks.proofs.Words.{OpId, Option, Output, Pollable, Result, Socket, SocketAddressFamily, Some, Step, Tcp2, Tcp2Socket, TcpState, Told}
@@ -6,7 +7,8 @@ use Rattle.wasi_walks.proofs.Words.{WasiSocketsCtx, [], after_create, allows_if,
 use Rattle.wasi_walks.proofs.Words.{entry, inl, inr, is_full, kind_at, length, make_asks, name_of, new_asks, new_record, new_socket, own_of, place_in}
 use Rattle.wasi_walks.proofs.Words.{refl, side_at, side_in, slice_get, step_at, subst, sym, told_done, true, with_record, ℕ, ⊤, ◌++◌, ◌∙◌, ◌∷◌, ◌≡◌, ◌⊎◌}
 use Rattle.wasi_walks.proofs.claims.Law.{Named, fresh}
-use Rattle.wasi_walks.proofs.walks.Moves.{Used, Unused, Marks, ANetwork, AStream, ALookup, ALookupPollable, APlain, APlainPollable, MakesPlain, Here, Found, Joined, Marked, made_so, APollable, AUdpPollable, tcp_place, udp_place, FoundUdp, AnAcceptedStream, second_of, Creates, Past}
+use Rattle.wasi_walks.proofs.walks.Here.{IsToCome}
+use Rattle.wasi_walks.proofs.walks.Moves.{Own, Used, Unused, Marks, ANetwork, AStream, ALookup, ALookupPollable, APlain, APlainPollable, MakesPlain, Here, Found, Joined, Marked, made_so, APollable, AUdpPollable, tcp_place, udp_place, FoundUdp, AnAcceptedStream, Creates, Past}
 use Rattle.wasi_walks.proofs.Lists.{has_last, has_split, has_front, get_split, tcp2_seam}
 use Rattle.wasi_walks.specs.Licence.{MakesTcp}
 use Rattle.wasi_walks.proofs.licence.State.{accept_name, NamesRecord, NamesUdp, HandleIsFine, NamesItsOwn, SocketIsFine}
@@ -41,7 +43,7 @@ module _ (contexts : List WasiSocketsCtx) (steps : List Step) (line : ℕ) (orig
   pub made_fine : (es : List Entry) (h : Here) (kind : Kind) (parent : Option ℕ) (sock : Option OpId) → BeganBy steps (own_of line) (IsMarkOf es (own_of line) (name_of kind) parent sock)
       → Spared h.machine.store.records (own_of line) (Call.Made h.machine.table.next (name_of kind) parent sock)
       → ((c s : ℕ) → origin ≡ Step.TcpAccept c s → (h.own ≡ Unused) ⊎ NotMarked h.made → ⊥)
-      → ((x : OpId) → ((h.own ≡ Unused) × (x ≡ second_of line)) ⊎ ((p : ℕ) × (h.made ≡ Joined p)) → name_of kind ≡ name.Tcp2 → sock ≡ Some x → ⊥)
+      → ((x : OpId) → IsToCome line h.own x ⊎ ((p : ℕ) × (h.made ≡ Joined p)) → name_of kind ≡ name.Tcp2 → sock ≡ Some x → ⊥)
       → ((t : Told) → NamesItsOwn (es ++ entry (own_of line) (Call.Made h.machine.table.next (name_of kind) parent sock) t ∷ []) h.machine.store.records h.machine.table.next kind) → Licensed contexts steps line origin es h
       → Allows (MayAsk contexts steps) (λ fs made. Licensed contexts steps line origin fs (record h { machine = record h.machine { table = made.1 } })) es (make_asks h.machine.table (own_of line) kind parent sock)
   unfolding bind
@@ -57,7 +59,7 @@ module _ (contexts : List WasiSocketsCtx) (steps : List Step) (line : ℕ) (orig
               names = λ k n r a g side d. names_on (stay steps) es _ (own_of n) side (i.names k n r a g side d);
               udp_names = λ k n u a g. names_on (stay steps) es _ (own_of n) (udp_side u) (i.udp_names k n u a g);
               listens = listens_on contexts steps line origin is_line es h (own_of line) c told (λ k q op g d p. absurd (cc)) i;
-              new = λ u. (handed_unless es (own_of line) c told (second_of line) (i.new u).0 (λ l p o d. absurd (cc)), unmarked_made es (own_of line) h.machine.table.next (name_of kind) parent sock told (second_of line) (i.new u).1 (ms (second_of line) (inl (u, refl))));
+              new = λ x t. (handed_unless es (own_of line) c told x (i.new x t).0 (λ l p o d. absurd (cc)), unmarked_made es (own_of line) h.machine.table.next (name_of kind) parent sock told x (i.new x t).1 (ms x (inl t)));
               unmade = λ d a s is. absurd (un a s is d);
               joined = λ p d. (let j = i.joined p d in let k = joined_on contexts steps line origin is_line es h e p j (unmarked_made es (own_of line) h.machine.table.next (name_of kind) parent sock told j.new j.fresh (ms j.new (inr (p, d)))) in record { new = k.new; on = k.on; peer = k.peer; context = k.context; listener = k.listener; by = k.by; side = k.side; of_listener = k.of_listener; handed = k.handed; fresh = k.fresh });
               marked = λ handle p d r g. (let k = i.marked handle p d r g in record { above = k.above; told = k.told; mark = has_front es _ _ k.mark });
@@ -181,7 +183,7 @@ module _ (contexts : List WasiSocketsCtx) (steps : List Step) (line : ℕ) (orig
       other_fine es h Network None None (record { origin = origin; at = is_line; holds = subst (IsMarkOf es (own_of line) name.Network None None) (sym e) (refl, refl, refl) }) (λ p. absurd (cc)) (λ a k is. not_accept (Step.Network c) (λ a k p. absurd (cc)) e a k is h) (λ t. (tt, tt, tt)) i
   marked_fine es h kind _ _ (AStream c handle place _ is which e) i =
       let sock = side_at (tcp2_at h.machine.store.records place) in
-      let n = names_record es h.machine.store.records handle place (kind_at h.machine.table handle) e (i.fine.handles handle) in
+      let n = names_record es h.machine.store.records handle place (kind_at h.machine.table handle) (ap record_of e.socket) (i.fine.handles handle) in
       let w : IsMarkedWith es handle sock = subst (IsMarkedWith es handle) (sym (ap side_at n.at)) n.marked in
       other_fine es h kind (Some handle) sock (record { origin = origin; at = is_line; holds = subst (IsMarkOf es (own_of line) (name_of kind) (Some handle) sock) (sym is) (stream_name kind place which, (refl, w)) })
       (no_socket (name_of kind) (stream_name kind place which)) (λ a k p. not_accept (Step.TcpFinishConnect c handle) (λ a k p. absurd (cc)) is a k p h)
@@ -193,14 +195,14 @@ module _ (contexts : List WasiSocketsCtx) (steps : List Step) (line : ℕ) (orig
       (record { origin = origin; at = is_line; holds = subst (IsMarkOf es (own_of line) (name_of kind) (Some handle) sock) (sym is) (inr (record { stream = stream_name kind place which; socket = handle; under = refl; above = k.above; told = k.told; marked = subst (λ (x : Option OpId). Has es (entry (own_of line) (Call.Made handle name.Tcp2 k.above x) k.told)) (sym (ap side_at g)) k.mark })) })
       (no_socket (name_of kind) (stream_name kind place which)) (λ a s p. used_marked h handle place o m)
       (λ t. stream_handle _ h.machine.store.records h.machine.table.next place kind which (new_names es h h.machine.table.next place (name_of kind) (Some handle) r t g)) i
-  marked_fine es h _ _ _ (APollable c handle w is p e) i =
+  marked_fine es h _ _ _ (APollable c handle w is p e by) i =
       let place = place_in w in
       let sock = side_at (tcp2_at h.machine.store.records place) in
       let n = names_record es h.machine.store.records handle place (kind_at h.machine.table handle) e (i.fine.handles handle) in
       let k : IsMarkedWith es handle sock = subst (IsMarkedWith es handle) (sym (ap side_at n.at)) n.marked in
       other_fine es h (Pollable w) (Some handle) sock (record { origin = origin; at = is_line; holds = subst (IsMarkOf es (own_of line) name.Pollable (Some handle) sock) (sym is) (refl, (refl, k)) }) (λ p. absurd (cc)) (λ a s p. not_accept (Step.Subscribe c handle) (λ a s p. absurd (cc)) is a s p h)
       (λ t. pollable_handle _ h.machine.store.records h.machine.table.next w p (new_names es h h.machine.table.next place name.Pollable (Some handle) n.found t n.at)) i
-  marked_fine es h _ _ _ (AUdpPollable c handle w is p e) i =
+  marked_fine es h _ _ _ (AUdpPollable c handle w is p e by) i =
       let place = place_in w in
       let sock = udp_side_at (udp2_at h.machine.store.records place) in
       let n = names_udp es h.machine.store.records handle place (kind_at h.machine.table handle) e (i.fine.handles handle) in
@@ -247,7 +249,7 @@ module _ (contexts : List WasiSocketsCtx) (steps : List Step) (line : ℕ) (orig
               names = λ p m q a d side x. names_on (stay steps) es _ (own_of m) side (i.names p m q a d side x);
               udp_names = λ p m u a d. names_on (stay steps) es _ (own_of m) (udp_side u) (i.udp_names p m u a d);
               listens = listens_on contexts steps line origin is_line es h (own_of line) k told (λ p q op d m x. absurd (cc)) i;
-              new = λ u. absurd (not_used (past ∙ u));
+              new = λ x t. absurd (subst (λ (own : Own). IsToCome line own x) o t);
               unmade = λ u. absurd (elim u [ inl p ↦ not_used (past ∙ p) | inr p ↦ p ]);
               joined = λ p d. absurd (cc);
               marked = λ a p d q m. made_there told a p q d m;
@@ -332,7 +334,7 @@ module _ (contexts : List WasiSocketsCtx) (steps : List Step) (line : ℕ) (orig
         names = λ p n r a e. absurd (no_place p n (sym nowhere ∙ a));
         udp_names = λ p n u a e. absurd (no_place p n (sym nowhere ∙ a));
         listens = λ p q op d m. elim (get_split h.machine.store.records (new_record now) p q d) [ inl v ↦ i.listens p q op v m | inr v ↦ absurd (no_listen op (ap (λ (y : Tcp2Socket). y.listening) v ∙ m)) ];
-        new = λ e. absurd (cc);
+        new = λ x t. absurd t;
         unmade = λ e d s is. absurd (creates_only ctx family c d s is);
         joined = λ p e. absurd (not_joined p (sym past ∙ e));
         marked = λ a p e q d. elim (get_split h.machine.store.records (new_record now) p q d) [ inl v ↦ i.marked a p e q v | inr v ↦ absurd (not_marked a p (sym past ∙ e)) ];
@@ -343,7 +345,7 @@ module _ (contexts : List WasiSocketsCtx) (steps : List Step) (line : ℕ) (orig
       (make_asks h.machine.table own (Tcp2 (length h.machine.store.records)) None (Some own)) _
       (made_fine contexts steps line origin is_line es next (Tcp2 (length h.machine.store.records)) None (Some own) (record { origin = origin; at = is_line; holds = created_mark es ctx.name family ctx family origin c k.0 })
       (λ p r x e n t. elim (get_split h.machine.store.records (new_record now) p r e) [ inl v ↦ fresh contexts line origin h u b x (of_line x t) p r v (inr n) | inr v ↦ no_name x (ap (λ (y : Tcp2Socket). accept_name y.listening) v ∙ n) ])
-      (λ a s is w. creates_only ctx family c a s is) (λ x w p q. elim w [ inl d ↦ absurd (not_used d.0) | inr d ↦ not_joined d.0 (sym past ∙ d.1) ])
+      (λ a s is w. creates_only ctx family c a s is) (λ x w p q. elim w [ inl d ↦ absurd d | inr d ↦ not_joined d.0 (sym past ∙ d.1) ])
       (λ t. (record { found = new_record now; at = tcp2_seam h.machine.store.records (new_record now); marked = record { op = own; kind = name.Tcp2; parent = None; told = t; mark = has_last es _ } }, tt, tt)) j) (λ fs made l. l))
     where
       default_side : (a b : OpId) → TcpState.Default a ≡ TcpState.Default b → Some a ≡ Some b

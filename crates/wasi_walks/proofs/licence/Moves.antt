@@ -1,4 +1,5 @@
 -- Each move keeps that the state fits the log.
+use Rattle.wasi_walks.proofs.walks.Moves.{Awaited, AwaitsCreate, Emptied, Empties}
 use Rattle.wasi_walks.proofs.Words.{Accepting, Accepts, Bool, Connection, Done, End, Entry, Handed, InProgress, IpSocketAddress, IsMaker}
 use Rattle.wasi_walks.proofs.Words.{Job, List, Listener, MarksNoSocket, MayGoOut, None, Not, OpId, ReadState, Refused, Socket}
 use Rattle.wasi_walks.proofs.Words.{SocketAddressFamily, Some, StandingCall, Step, Streams, TcpSendStream, Tcp2Socket, TcpState, Waits, WasiSocketsCtx, WriteState}
@@ -6,17 +7,19 @@ use Rattle.wasi_walks.proofs.Words.{accepted_socket, ap, call_place, closed_by, 
 use Rattle.wasi_walks.proofs.Words.{new_job, new_streams, own_of, refl, side_in, side_of, standing_as, step_at, subst}
 use Rattle.wasi_walks.proofs.Words.{sym, true, wildcard, with_inner, with_listening, with_progress, with_state, with_writer, written_by, ℕ, ◌∙◌, ◌≡◌}
 use Rattle.wasi_walks.proofs.licence.ListenAsks.{Whole as WholeListen}
-use Rattle.wasi_walks.proofs.claims.Law.{Base, same_begun, fresh}
-use Rattle.wasi_walks.proofs.walks.Moves.{Own, Past, ToStream, Used, CallsStreams, RecallsStreamCall, ReachesStream, StandsBlocking, CancelsBind, CancelsUdpBind, CancelsUdpConnect, GoesOn, RemembersStreams, RecallsStreams, BeginsUdpConnect, StandsUdpConnect, StandsDropOutgoing, Counts, SpendsNames, BeginsSend, BeginsReceive, closed_record, Here, put, Found, WriterMoves, Collects, LastsAfter, Closes, Plain, Move, Reaches, ReachesUdp, Leaves, Spends, Changes, ClosesReader, Writes, IsGone, opened_by, Reconnects, Opens, BeginsConnect, BeginsBind, BeginsWrite, begun_bind, Stands, Resumes, Unstands, UdpChanges, BeginsUdpBind, StandsUdpBind, StandsUdpCreate, Finds, Lists, Takes, BeginsListen, BeginsAccept, Unlistens, Forgets, Watches, Joins, accepting_now, begun_listen, beginning_listen, new_accept, joined, second_of}
+use Rattle.wasi_walks.proofs.claims.Law.{Base, same_begun, fresh_to_come}
+use Rattle.wasi_walks.proofs.walks.Moves.{Own, Past, ToStream, Used, CallsHandles, RecallsCall, ReachesHandle, StandsBlocking, CancelsBind, CancelsUdpBind, CancelsUdpConnect, GoesOn, RemembersStreams, RecallsStreams, BeginsUdpConnect, StandsUdpConnect, StandsDropOutgoing, Counts, SpendsNames, BeginsSend, BeginsReceive, closed_record, Here, put, Found, WriterMoves, Collects, LastsAfter, Closes, Plain, Move, Reaches, ReachesUdp, Leaves, Spends, Changes, ClosesReader, Writes, IsGone, opened_by, Reconnects, Opens, BeginsConnect, BeginsBind, BeginsWrite, begun_bind, Stands, Resumes, Unstands, UdpChanges, BeginsUdpBind, StandsUdpBind, StandsUdpCreate, Finds, Lists, Takes, BeginsListen, BeginsAccept, Unlistens, Forgets, Watches, Joins, accepting_now, begun_listen, beginning_listen, new_accept, joined, part_of}
+use Rattle.std.specs.Prelude.{◌+◌}
+use Rattle.wasi_walks.proofs.walks.Here.{IsToCome, next_shrinks, next_to_come, shrinks_to}
 use Rattle.wasi_walks.proofs.Lists.{get_split}
 use Rattle.wasi_walks.proofs.licence.State.{ConnectIsFine, ConnectLeft, Unbound, Unchecked, ReadsOn, Whole, ToWrite, Names, BindIsFine, EndTold, ErrorTold, JobIsFine, WritesOn, StreamsAreFine, AcceptingIsFine, ListeningIsFine, SocketIsFine, RecordIsFine, IsHanded, Unarrived, AcceptingStands, ListeningStands, ListenerIsFine, MakesStreams, OfTcp, OfUdp, StreamsStand, name_in}
 use Rattle.wasi_walks.proofs.licence.Frames.{same_listening, listening_kept, listening_gone, Only, KeepsSide, record_kept}
 use Rattle.wasi_walks.proofs.licence.States.{state_taken, state_put, state_stands, state_unstands, state_jobs, state_renewed, state_joined}
 use Rattle.wasi_walks.proofs.licence.WriteJobs.{shut_after}
-use Rattle.wasi_walks.proofs.licence.Line.{put_with, keeps_plain, seam, no_listen, second_names, ListenGoesOn, NotMarked, NamesMade, Licensed, MakingStands, KeepsListen, put_fine, owned, remade, spent, elsewhere}
+use Rattle.wasi_walks.proofs.licence.Line.{put_with, keeps_plain, seam, no_listen, part_names, ListenGoesOn, NotMarked, NamesMade, Licensed, MakingStands, KeepsListen, put_fine, owned, remade, spent, elsewhere}
 use Rattle.wasi_walks.proofs.licence.LookupMoves.{records_fine}
 use Rattle.wasi_walks.proofs.licence.UdpMoves.{begins_receive, begins_send, begins_udp_connect, recalls_streams, remembers_streams, reaches_udp, resumes, udp_changes, begins_udp_bind, cancels_udp_bind, cancels_udp_connect}
-use Rattle.wasi_walks.proofs.licence.StreamMoves.{calls_streams, is_side, reaches, reaches_stream, recalls_call, stands_blocking}
+use Rattle.wasi_walks.proofs.licence.StreamMoves.{calls_handles, is_side, reaches, reaches_handle, recalls_call, stands_blocking}
 use Rattle.wasi_host.specs.Records.{tcp2_put}
 use Rattle.wasi_host.specs.declared.udp.Udp2Socket.{Udp2Socket}
 use Rattle.wasi_addr.specs.declared.code.ErrorCode.{ErrorCode}
@@ -230,14 +233,18 @@ module _ (contexts : List WasiSocketsCtx) (steps : List Step) (line : ℕ) (orig
       (state_put contexts steps es h.machine place r now g refl (record { stands = λ fs k. tt; names = λ x p. absurd (cc) })
       (record { socket = record { knows = record { maker = λ x p. absurd (cc) }; tcp = λ x p. absurd (cc); bound = λ x p q. absurd (cc); listens = λ x p. absurd (cc); connect = λ x p. absurd (cc) }; named = λ x p. absurd (cc); streams = λ t p. absurd (no_streams es r side t d f p); listening = tt; progress = f.progress }) i.fine)
       (λ op p. subst (ListenGoesOn steps es now) (same_begun _ op p) goes))
-  moves_fine es _ _ (BeginsAccept h place r l at g e a o) b i =
-      let x = i.fine.records place r g in let lf = listener_fine es r l e x in let n = i.new o in
-      spent es _ (renewed_fine es h place r l (new_accept line l) g e
-      (record { named = second_names es line l.side (i.names place line r at g l.side lf.side); on = refl; asks = refl; last = refl }) (record { handed = n.0; marked = n.1; so_far = Unarrived })
-      (λ y p k q u v. absurd (fresh contexts line origin h o b.1 y (of_line y p) k q u (inr v))) i)
+  moves_fine es _ _ (BeginsAccept h place part r l at g e a o) b i =
+      let x = i.fine.records place r g in let lf = listener_fine es r l e x in
+      let name : OpId = part_of line part in
+      let new : IsToCome line h.own name = next_to_come line part h.own o in
+      let n = i.new name new in
+      owned es _ (Own.Names (part + 1)) (λ e. absurd (cc)) (next_shrinks line part h.own o)
+      (renewed_fine es h place r l (new_accept name l) g e
+      (record { named = part_names es line part l.side (i.names place line r at g l.side lf.side); on = refl; asks = refl; last = refl }) (record { handed = n.0; marked = n.1; so_far = Unarrived })
+      (λ y p k q u v. absurd (fresh_to_come contexts line origin h b.1 y (subst (IsToCome line h.own) (some_name y p) new) k q u (inr v))) i)
     where
-      of_line : (x : OpId) → Some (second_of line) ≡ Some x → x.step ≡ line
-      of_line x p = let q : second_of line ≡ x = cc in ap (λ (y : OpId). y.step) (sym q)
+      some_name : (x : OpId) → Some (part_of line part) ≡ Some x → part_of line part ≡ x
+      some_name x p = cc
   moves_fine es _ _ (Unlistens h place r op q g e c o) b i =
       let f = i.fine.records place r g in put_fine es h place r (with_listening r Not) g refl (listening_gone r.listening) (λ op p. absurd (cc)) (record { socket = f.socket; named = f.named; streams = f.streams; listening = tt; progress = f.progress }) i
   moves_fine es _ _ (Forgets h place r l c g e a) b i = renewed_fine es h place r l Accepting.Idle g e tt tt (λ x p. absurd (cc)) i
@@ -286,13 +293,13 @@ module _ (contexts : List WasiSocketsCtx) (steps : List Step) (line : ℕ) (orig
       elsewhere es h _ refl refl refl i (state_stands contexts steps es h.machine (standing_as ids (StandingCall.UdpConnect place handle)) (λ c. OfUdp (Udp2Socket.Open o) g (i.udp_names place ids.line (Udp2Socket.Open o) at g), streams_of es h ids.line handle m i) i.fine) i.names i.udp_names
   moves_fine es _ _ (StandsDropOutgoing h ids place o at g e) b i =
       elsewhere es h _ refl refl refl i (state_stands contexts steps es h.machine (standing_as ids (StandingCall.DropOutgoing place)) (λ c. OfUdp (Udp2Socket.Open o) g (i.udp_names place ids.line (Udp2Socket.Open o) at g), tt) i.fine) i.names i.udp_names
-  moves_fine es _ _ (Counts h u) b i = owned es h (Own.Names 1) (λ e. absurd (cc)) i
+  moves_fine es _ _ (Counts h u) b i = owned es h (Own.Names 1) (λ e. absurd (cc)) (shrinks_to line h.own Own.Unused (Own.Names 1) u (λ x t. t)) i
   moves_fine es _ _ (SpendsNames h n u) b i = spent es h i
-  moves_fine es _ _ (BeginsSend h place n o out d bound at g e is known u) b i = begins_send contexts steps line origin is_line es h place n o out d bound at g is known i
-  moves_fine es _ _ (BeginsReceive h place n o inc bound at g e u) b i = begins_receive contexts steps line origin is_line es h place n o inc bound at g i
-  moves_fine es _ _ (CallsStreams h c) b i = calls_streams contexts steps line origin is_line es h c i
-  moves_fine es _ _ (RecallsStreamCall h ids call e) b i = recalls_call contexts steps line origin is_line es h ids call e i
-  moves_fine es _ _ (ReachesStream h n handle place handles m k e) b i = reaches_stream contexts steps line origin is_line es h n handle place handles m k e i
+  moves_fine es _ _ (BeginsSend h place n o out d bound at g e is known u) b i = begins_send contexts steps line origin is_line es h place n o out d bound at g is known u i
+  moves_fine es _ _ (BeginsReceive h place n o inc bound at g e u) b i = begins_receive contexts steps line origin is_line es h place n o inc bound at g u i
+  moves_fine es _ _ (CallsHandles h kind c) b i = calls_handles contexts steps line origin is_line es h kind c i
+  moves_fine es _ _ (RecallsCall h ids call e) b i = recalls_call contexts steps line origin is_line es h ids call e i
+  moves_fine es _ _ (ReachesHandle h kind n handle place handles m k e) b i = reaches_handle contexts steps line origin is_line es h kind n handle place handles m k e i
   moves_fine es _ _ (StandsBlocking h ids call handles m k) b i = stands_blocking contexts steps line origin is_line es h ids call handles m k i
   moves_fine es _ _ (CancelsBind h place r op q g e) b i =
       let f = i.fine.records place r g in let now = with_progress r InProgress.Nothing in
@@ -300,5 +307,9 @@ module _ (contexts : List WasiSocketsCtx) (steps : List Step) (line : ℕ) (orig
   moves_fine es _ _ (CancelsUdpBind h place o op q g e) b i = cancels_udp_bind contexts steps line origin is_line es h place o g i
   moves_fine es _ _ (CancelsUdpConnect h place o q g) b i = cancels_udp_connect contexts steps line origin is_line es h place o g i
   moves_fine es _ _ (Finds h records s) b i = records_fine (λ op. ⊥) (λ op e. absurd e) es h records s i
+  moves_fine es _ _ (AwaitsCreate h place create g) b i = remade es h (Awaited place) tt tt i
+  moves_fine es _ _ (Empties h handle kind e none) b i =
+      let was : Here = record h { made = Emptied kind } in
+      elsewhere es was _ refl refl refl (remade es h (Emptied kind) tt tt i) (state_taken contexts steps es h.machine handle i.fine) i.names i.udp_names
   moves_fine es _ _ (Lists h jobs) b i = elsewhere es h _ refl refl refl i (state_jobs contexts steps es h.machine jobs i.fine) i.names i.udp_names
-  moves_fine es _ _ (Takes h handle) b i = elsewhere es h _ refl refl refl i (state_taken contexts steps es h.machine handle i.fine) i.names i.udp_names
+  moves_fine es _ _ (Takes h handle none) b i = elsewhere es h _ refl refl refl i (state_taken contexts steps es h.machine handle i.fine) i.names i.udp_names

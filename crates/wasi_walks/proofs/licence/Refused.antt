@@ -4,7 +4,7 @@ use Rattle.wasi_walks.proofs.Words.{IsTcpCreate, List, NamesSide, None, OpId, Re
 use Rattle.wasi_walks.proofs.Words.{WasiSocketsCtx, [], ap, arith, entry, false, inl, inr, own_of, port_of, refl, subst, true, wildcard, ℕ, ⊤, ◌++◌}
 use Rattle.wasi_walks.proofs.Words.{◌∷◌, ◌≡◌}
 use Rattle.wasi_walks.proofs.licence.Rows.{begins, creates, allowed, two_contexts, forbidden, local_80, bind_script}
-use Rattle.wasi_walks.specs.Licence.{IsUdpConnectTo, UdpCreated}
+use Rattle.wasi_walks.specs.Licence.{IsDisconnect, IsUdpConnectTo, UdpCreated}
 use Rattle.wasi_addr.specs.declared.code.ErrorCode.TheVariants as code
 use Rattle.wasi_world.specs.declared.call.HandleKind.TheVariants as kind
 
@@ -206,6 +206,12 @@ unmade : IsLicensed allowed bind_script (begins ++ entry (own_of 3) (Call.UdpCon
 unmade h =
     let may = h.each begins (entry (own_of 3) (Call.UdpConnect (own_of 2) local_80) Told.Done) [] refl in
     at_line (IsUdpConnectTo local_80) (Step.TcpStartBind 0 2 1 local_80) may.1.origin may.1.at may.1.holds
+
+-- == and disconnects one
+undone : IsLicensed allowed bind_script (begins ++ entry (own_of 3) (Call.UdpDisconnect (own_of 2)) Told.Done ∷ []) [] → ⊥
+undone h =
+    let may = h.each begins (entry (own_of 3) (Call.UdpDisconnect (own_of 2)) Told.Done) [] refl in
+    at_line IsDisconnect (Step.TcpStartBind 0 2 1 local_80) may.1.origin may.1.at may.1.holds
 
 -- == the backlog of a network socket that doesn't listen is set
 -- no listen

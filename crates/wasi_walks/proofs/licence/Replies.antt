@@ -5,7 +5,7 @@ use Rattle.std.proofs.Common.{arith}
 use Rattle.wasi_steps.specs.declared.reply.Field.{Field}
 use Rattle.wasi_walks.specs.Licence.{HandsOut, MayReply, EachMayReply}
 use Rattle.wasi_walks.proofs.licence.Frames.{side_more}
-use Rattle.wasi_walks.proofs.remotes.State.{received_more}
+use Rattle.wasi_walks.proofs.order.Handed.{order_more}
 
 -- == more entries
 -- what a receive hands out
@@ -15,7 +15,8 @@ hands_more es fs handle fields h = record {
   of_handle = side_more es fs handle h.side h.of_handle;
   datagrams = h.datagrams;
   values = h.values;
-  received = λ d i. received_more es fs h.side d (h.received d i);
+  upto = h.upto;
+  order = order_more es fs h.side 0 h.upto h.datagrams h.order;
 }
 
 -- one reply

@@ -1,6 +1,6 @@
 -- Each ask of a run is licensed: the law that it is, on the base law; and between two lines the state fits the log, each line being
 -- judged by the steps up to it.
-use Rattle.wasi_walks.proofs.Words.{Allows, Asks, Begins, Call, Entry, Give, HasRun, IsLicensed, Left, List, Machine, MayAsk, Not, Operation, Reply}
+use Rattle.wasi_walks.proofs.Words.{Allows, Asks, Begins, Call, Entry, Give, HasRun, IsLicensed, Left, List, Machine, MayAsk, Not, OpId, Operation, Reply}
 use Rattle.wasi_walks.proofs.Words.{Some, Step, Tcp2Socket, WasiSocketsCtx, [], add-one, allows_at, allows_if, allows_keep, allows_then}
 use Rattle.wasi_walks.proofs.Words.{allows_weaker, ap, append-nil, append_assoc, arith, created_asks, entry, first_state, give_up_asks, inl, is_trap}
 use Rattle.wasi_walks.proofs.Words.{length, length-append, machine_asks, new_asks, own_of, refl, run, side_in, step_at, subst, sym}
@@ -10,7 +10,8 @@ use Rattle.wasi_walks.proofs.licence.Fresh.{IsNew, next_is_new}
 use Rattle.wasi_walks.proofs.licence.Replies.{allows_both, replies_longer, replies_more, replies_push}
 use Rattle.wasi_walks.specs.Licence.{EachMayReply, MayReply}
 use Rattle.wasi_walks.proofs.fits.Polls.{Anything}
-use Rattle.wasi_walks.proofs.remotes.Handed.{step_replies}
+use Rattle.wasi_walks.proofs.order.Replies.{Lates, lines_later, step_replies}
+use Rattle.wasi_walks.proofs.order.State.{first_late}
 use Rattle.wasi_world.proofs.Allowed.{reached}
 use Rattle.wasi_walks.proofs.licence.Longer.{EachMayCome, licensed, with_replies, may_come, come_longer, may_more, state_more, listen_more, tcp_more}
 use Rattle.wasi_walks.proofs.Lists.{get_seam}
@@ -21,7 +22,8 @@ use Rattle.wasi_walks.proofs.walks.OnBase.{Above}
 use Rattle.wasi_walks.proofs.claims.Law.{Base, begins_on_two, on_two, on_two_along}
 use Rattle.wasi_walks.proofs.remotes.State.{Keeps, first_keeps}
 use Rattle.wasi_walks.proofs.remotes.Law.{begins_kept, remotes}
-use Rattle.wasi_walks.proofs.walks.Moves.{closed_record, Used, Here, put, OfSocket}
+use Rattle.wasi_walks.proofs.walks.Here.{IsToCome}
+use Rattle.wasi_walks.proofs.walks.Moves.{closed_record, Here, Names, OfSocket, Own, ToWrite, Unused, Used, put}
 use Rattle.wasi_walks.proofs.licence.Frames.{listening_gone}
 use Rattle.wasi_walks.proofs.walks.Law.{BeginsWrites, Law, Walks}
 use Rattle.wasi_walks.proofs.licence.Moves.{begins_write, closed_fine, gone_maker, moves_fine}
@@ -69,7 +71,7 @@ module _ (contexts : List WasiSocketsCtx) (steps : List Step) (line : ℕ) (orig
     udp_peers = λ es h place o at g b i. (let a = udp_peered contexts steps line origin is_line es h place o at g i in (a.0, λ told fits. a.1 told));
     udp_closes = λ es h place o q g b i. (tt, λ told fits. udp_closed contexts steps line origin is_line es h place o told g i);
     udp_creates = λ es h ctx family c may a o past b i. udp_creates contexts steps line origin is_line es h ctx family c may a past i;
-    udp_marks = λ es h place u g b i. udp_marked contexts steps line origin is_line es h place u g i;
+    udp_marks = λ es h place u g b i. udp_marked contexts steps line origin is_line es h place u g.found i;
     stream_marks = λ es h place n handle kind m which e b i. stream_marked contexts steps line origin is_line es h place n handle kind m which e i;
     error_marks = λ es h n handle place handles m k e f b i. error_marked contexts steps line origin is_line es h n handle place handles m k e f i;
     udp_gives_up = λ es h place create q g b i. udp_given_up contexts steps line origin is_line es h place create g i;
@@ -98,6 +100,7 @@ module _ (contexts : List WasiSocketsCtx) (steps : List Step) (line : ℕ) (orig
 pub record Fine (contexts : List WasiSocketsCtx) (steps : List Step) (line : ℕ) (es : List Entry) (m : Machine) : Type 0 where
   pub base : BaseBetween line m
   pub keeps : Keeps es m.store.records
+  pub late : Lates es m
   pub fine : StateIsFine contexts steps es m
   pub listens : (place : ℕ) (r : Tcp2Socket) (op : Operation) → tcp2_at m.store.records place ≡ Some r → r.listening ≡ Begins op → ListenGoesOn steps es r op
 
@@ -105,6 +108,7 @@ pub fine_more : (contexts : List WasiSocketsCtx) (steps more : List Step) (line 
 fine_more contexts steps more line es m i = record {
   base = i.base;
   keeps = i.keeps;
+  late = i.late;
   fine = state_more steps more contexts es m i.fine;
   listens = λ place r op g e. (let l = i.listens place r op g e in record { fine = listen_more steps more es op l.fine; asks = l.asks; made = l.made; tcp = tcp_more steps more op.who.side l.tcp });
 }
@@ -113,6 +117,7 @@ pub first_fine : (contexts : List WasiSocketsCtx) → Fine contexts [] 1 [] firs
 first_fine contexts = record {
   base = first_base;
   keeps = first_keeps [];
+  late = λ side. first_late side;
   fine = record { count = refl; handles = λ handle kind e. absurd (cc); records = λ place r e. absurd (cc); udp = λ place u e. absurd (cc); lookups = λ place op e. absurd (cc); standing = λ c e. absurd (cc); accepts = λ place r e. absurd (cc); one = λ i j r s x a b c d. absurd (cc) };
   listens = λ place r op e. absurd (cc);
 }
@@ -129,27 +134,33 @@ module _ (contexts : List WasiSocketsCtx) where
   line_licensed steps line s l m es n i =
       let o = may_while m s m.store.standing in
       allows_weaker (MayAsk contexts steps) _ (λ fs done. Fine contexts steps (line + 1) fs done.1)
-      (λ fs done k. record { base = base_over contexts line s done.1 k.0.0; keeps = k.0.1; fine = k.1.fine; listens = k.1.listens }) es (machine_asks contexts m line s)
-      (licence_along contexts steps line s l (machine_walks line s (begins_licence contexts steps line s l) m m.store.standing refl) es
+      (λ fs done k. record { base = base_over contexts line s done.1 k.0.0.0; keeps = k.0.0.1; late = k.1; fine = k.0.1.fine; listens = k.0.1.listens }) es (machine_asks contexts m line s)
+      (allows_both (MayAsk contexts steps) Anything _ (λ fs done. Lates fs done.1) es (machine_asks contexts m line s) (licence_along contexts steps line s l (machine_walks line s (begins_licence contexts steps line s l) m m.store.standing refl) es
       (base_starts contexts line s m o i.base) i.keeps
       (record {
         fine = i.fine;
         names = λ k j r a. absurd (cc);
         udp_names = λ k j u a. absurd (cc);
         listens = i.listens;
-        new = λ u. (n.handed (record { step = line; part = 1 }) refl, n.marked (record { step = line; part = 1 }) refl);
+        new = λ x t. (let s = of_line o x t in (n.handed x s, n.marked x s));
         unmade = λ u c t is. n.made (own_of line) refl;
         joined = λ p e. absurd (cc);
         marked = λ a p e. absurd (cc);
         making = tt;
-      }))
+      })) (lines_later contexts line s m es i.base i.keeps i.late))
+    where
+      of_line : (own : Own) (x : OpId) → IsToCome line own x → x.step ≡ line
+      of_line Unused x t = t.0
+      of_line (Names part) x t = t.0
+      of_line Used x t = absurd t
+      of_line (ToWrite side bytes) x t = absurd t
 
-  -- and its reply hands out only what was received
+  -- and its reply hands out only what was allowed
   line_replies : (steps : List Step) (line : ℕ) (s : Step) → step_at steps line ≡ Some s → (m : Machine) (es : List Entry) → IsNew es m.store.records line → Fine contexts steps line es m
       → Allows (MayAsk contexts steps) (λ fs done. Fine contexts steps (line + 1) fs done.1 × MayReply fs s done.0) es (machine_asks contexts m line s)
   line_replies steps line s l m es n i =
       allows_both (MayAsk contexts steps) Anything (λ fs done. Fine contexts steps (line + 1) fs done.1) (λ fs done. MayReply fs s done.0) es (machine_asks contexts m line s)
-      (line_licensed steps line s l m es n i) (step_replies contexts steps line s m es i.fine i.keeps)
+      (line_licensed steps line s l m es n i) (step_replies contexts steps line s m es i.fine i.keeps i.late)
 
   -- each line is judged by the steps so far, and what these license the whole script does
   lines : (all : List Step) (replies : List Reply) (m : Machine) (line : ℕ) (before rest : List Step) (es : List Entry) → all ≡ before ++ rest → line ≡ length before + 1 → EachMayCome contexts before [] es → length replies ≡ length before → EachMayReply es before replies → Fine contexts before line es m

@@ -6,7 +6,7 @@ use Rattle.wasi_walks.proofs.Words.{NamesSide, None, Nothing, NothingLast, OpId,
 use Rattle.wasi_walks.proofs.Words.{SocketAddressFamily, Some, Standing, Step, Streams, Tcp2Socket, TcpBind, TcpConnect, TcpState, Told, WasiSocketsCtx, Write}
 use Rattle.wasi_walks.proofs.Words.{WriteState, Yes, [], call_place, entry, kind_at, marks_in, own_of, side_of, true, wildcard, ℕ, ⊤, ◌++◌}
 use Rattle.wasi_walks.proofs.Words.{◌+◌, ◌∷◌, ◌≡◌}
-use Rattle.wasi_walks.proofs.walks.Moves.{record_of, udp_record_of, sending_in, receiving_in, IsOfHandle, IsStreamCall}
+use Rattle.wasi_walks.proofs.walks.Moves.{record_of, udp_record_of, sending_in, receiving_in, IsOfHandle, CallKind, IsCall, kind_of}
 use Rattle.wasi_walks.proofs.licence.Lookups.{LookupsAreFine, NamesNone}
 use Rattle.wasi_host.specs.Blocking.{blocking_handles}
 use Rattle.wasi_host.specs.Kinds.{name_of}
@@ -374,16 +374,16 @@ module _ (steps : List Step) where
   abbrev pub MakesStreams : ℕ → ℕ → Type 0
   MakesStreams line handle = BeganBy steps (own_of line) (IsStreamOf handle)
 
-  -- where calls of streams are done for this line on these handles, its step is such a call, and names them
-  abbrev pub MakesCalls : ℕ → List ℕ → Type 0
-  MakesCalls line handles = BeganBy steps (own_of line) (λ s. IsStreamCall s × (handles_of s ≡ handles))
+  -- where a call of this kind is done for this line on these handles, its step is such a call, and names them
+  abbrev pub MakesCalls : CallKind → ℕ → List ℕ → Type 0
+  MakesCalls kind line handles = BeganBy steps (own_of line) (λ s. IsCall kind s × (handles_of s ≡ handles))
 
   abbrev pub StreamsStand : ℕ → StandingCall → Type 0
   StreamsStand line (StandingCall.UdpConnect place handle) = MakesStreams line handle
-  StreamsStand line (StandingCall.Blocking call) = MakesCalls line (blocking_handles call)
+  StreamsStand line (StandingCall.Blocking call) = MakesCalls (kind_of call) line (blocking_handles call)
   StreamsStand line _ = ⊤
 
-  -- a create that is pending names none, and a call of streams is on handles
+  -- a create that is pending names none, and a call on handles says which
   abbrev pub StandingIsFine : List Entry → List Record → Standing → Type 0
   StandingIsFine es records s = (IsOfHandle s.call → LineNames es records s.ids.line (call_place s.call)) × StreamsStand s.ids.line s.call
 

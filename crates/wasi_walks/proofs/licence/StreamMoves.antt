@@ -1,5 +1,5 @@
--- The moves of calls of streams keep that the state fits the log: a call reaches the record of one of the handles that its line named,
--- it may begin a write, and it may be pending.
+-- The moves of calls on handles keep that the state fits the log: a call on streams or on pollables reaches the record of one of the
+-- handles that its line named, and it may be pending.
 use Rattle.wasi_walks.proofs.Words.{BeganBy, Entry, Has, IsMarkedWith, IsSide, List, Some, StandingCall, Step, Tcp2Socket}
 use Rattle.wasi_walks.proofs.Words.{WasiSocketsCtx, ap, handles_of, kind_at, own_of, refl, standing_as, step_at}
 use Rattle.wasi_walks.proofs.Words.{subst, sym, ℕ, ◌∙◌, ◌≡◌}
@@ -8,7 +8,7 @@ use Rattle.wasi_world.specs.declared.ids.OpId.{OpId}
 use Rattle.wasi_host.specs.Blocking.{blocking_handles}
 use Rattle.wasi_host.specs.Records.{tcp2_at}
 use Rattle.wasi_host.specs.declared.blocking.BlockingCall.{BlockingCall}
-use Rattle.wasi_walks.proofs.walks.Moves.{Calls, Found, Here, IsStreamCall, record_of}
+use Rattle.wasi_walks.proofs.walks.Moves.{CallKind, Calls, Found, Here, IsCall, kind_of, record_of}
 use Rattle.wasi_walks.proofs.licence.State.{MakesCalls}
 use Rattle.wasi_walks.proofs.licence.Frames.{same_record}
 use Rattle.wasi_walks.proofs.licence.States.{state_stands}
@@ -33,23 +33,23 @@ module _ (contexts : List WasiSocketsCtx) (steps : List Step) (line : ℕ) (orig
       tcp : NamesTcpHere steps es (record h { at = Some (place, by) })
       tcp k n r a g = let p = pair_first place by k n a in subst (λ (x : ℕ). NamesMade steps x es r) (pair_second place by k n a) (names r (ap (tcp2_at h.machine.store.records) p ∙ g))
 
-  -- == calls of streams
+  -- == calls on handles
   -- the step of the line whose call is done is such a call, and names its handles
-  pub made_for : (es : List Entry) (h : Here) (n : ℕ) (handles : List ℕ) → h.made ≡ Calls n handles → Licensed contexts steps line origin es h → MakesCalls steps n handles
-  made_for es h n handles m i = subst (MakingStands steps) m i.making
+  pub made_for : (es : List Entry) (h : Here) (kind : CallKind) (n : ℕ) (handles : List ℕ) → h.made ≡ Calls kind n handles → Licensed contexts steps line origin es h → MakesCalls steps kind n handles
+  made_for es h kind n handles m i = subst (MakingStands steps) m i.making
 
-  pub calls_streams : (es : List Entry) (h : Here) → IsStreamCall origin → Licensed contexts steps line origin es h → Licensed contexts steps line origin es (record h { made = Calls line (handles_of origin) })
-  calls_streams es h c i = remade es h (Calls line (handles_of origin)) tt (record { origin = origin; at = is_line; holds = (c, refl) }) i
+  pub calls_handles : (es : List Entry) (h : Here) (kind : CallKind) → IsCall kind origin → Licensed contexts steps line origin es h → Licensed contexts steps line origin es (record h { made = Calls kind line (handles_of origin) })
+  calls_handles es h kind c i = remade es h (Calls kind line (handles_of origin)) tt (record { origin = origin; at = is_line; holds = (c, refl) }) i
 
-  pub recalls_call : (es : List Entry) (h : Here) (ids : Ids) (call : BlockingCall) → h.machine.store.standing ≡ Some (standing_as ids (StandingCall.Blocking call)) → Licensed contexts steps line origin es h → Licensed contexts steps line origin es (record h { made = Calls ids.line (blocking_handles call) })
-  recalls_call es h ids call e i = remade es h (Calls ids.line (blocking_handles call)) tt (i.fine.standing (standing_as ids (StandingCall.Blocking call)) e).1 i
+  pub recalls_call : (es : List Entry) (h : Here) (ids : Ids) (call : BlockingCall) → h.machine.store.standing ≡ Some (standing_as ids (StandingCall.Blocking call)) → Licensed contexts steps line origin es h → Licensed contexts steps line origin es (record h { made = Calls (kind_of call) ids.line (blocking_handles call) })
+  recalls_call es h ids call e i = remade es h (Calls (kind_of call) ids.line (blocking_handles call)) tt (i.fine.standing (standing_as ids (StandingCall.Blocking call)) e).1 i
 
-  pub reaches_stream : (es : List Entry) (h : Here) (n handle place : ℕ) (handles : List ℕ) → h.made ≡ Calls n handles → Has handles handle → record_of (kind_at h.machine.table handle) ≡ Some place → Licensed contexts steps line origin es h → Licensed contexts steps line origin es (record h { at = Some (place, n) })
-  reaches_stream es h n handle place handles m k e i =
-      let b = made_for es h n handles m i in
+  pub reaches_handle : (es : List Entry) (h : Here) (kind : CallKind) (n handle place : ℕ) (handles : List ℕ) → h.made ≡ Calls kind n handles → Has handles handle → record_of (kind_at h.machine.table handle) ≡ Some place → Licensed contexts steps line origin es h → Licensed contexts steps line origin es (record h { at = Some (place, n) })
+  reaches_handle es h kind n handle place handles m k e i =
+      let b = made_for es h kind n handles m i in
       reaches es h n handle place (record { origin = b.origin; at = b.at; holds = subst (λ (xs : List ℕ). Has xs handle) (sym b.holds.1) k }) e i
 
-  pub stands_blocking : (es : List Entry) (h : Here) (ids : Ids) (call : BlockingCall) (handles : List ℕ) → h.made ≡ Calls ids.line handles → blocking_handles call ≡ handles → Licensed contexts steps line origin es h
+  pub stands_blocking : (es : List Entry) (h : Here) (ids : Ids) (call : BlockingCall) (handles : List ℕ) → h.made ≡ Calls (kind_of call) ids.line handles → blocking_handles call ≡ handles → Licensed contexts steps line origin es h
       → Licensed contexts steps line origin es (record h { machine = record h.machine { store = record h.machine.store { standing = Some (standing_as ids (StandingCall.Blocking call)) } } })
   stands_blocking es h ids call handles m k i =
-      elsewhere es h _ refl refl refl i (state_stands contexts steps es h.machine (standing_as ids (StandingCall.Blocking call)) (λ c. absurd c, subst (MakesCalls steps ids.line) (sym k) (made_for es h ids.line handles m i)) i.fine) i.names i.udp_names
+      elsewhere es h _ refl refl refl i (state_stands contexts steps es h.machine (standing_as ids (StandingCall.Blocking call)) (λ c. absurd c, subst (MakesCalls steps (kind_of call) ids.line) (sym k) (made_for es h (kind_of call) ids.line handles m i)) i.fine) i.names i.udp_names

@@ -1,10 +1,10 @@
 -- What a line asks of a UDP socket by its own operation is licensed, and so are a create and the mark of its handle.
 use Rattle.wasi_walks.proofs.Words.{Allows, BeganBy, Bool, Call, Entry, IsAddr, IsDoneOrCode, IsMarkOf, Has, List, MarksNoSocket, MayAsk, Ok, None, OpId, Option}
-use Rattle.wasi_walks.proofs.Words.{SocketAddressFamily, Some, Step, Told, WasiSocketsCtx, [], allows_if, ap, bind, context_in, entry, false}
+use Rattle.wasi_walks.proofs.Words.{SocketAddressFamily, Some, Step, Told, WasiSocketsCtx, [], allows_if, allows_weaker, ap, bind, context_in, entry, false}
 use Rattle.wasi_walks.proofs.Words.{if◌then◌else◌, inl, inr, is_full, is_wildcard, make_asks, own_of, refl, slice_get, step_at, subst, sym, told_addr}
 use Rattle.wasi_walks.proofs.Words.{told_done, true, ℕ, ◌++◌, ◌∙◌, ◌∷◌, ◌≡◌}
-use Rattle.wasi_walks.specs.Licence.{IsGetOf, IsMarkedWith, IsSetTo, IsStreamOf, IsUdpCreate, MayUseUdp, UdpCreated}
-use Rattle.wasi_walks.proofs.walks.Moves.{Here, put_udp, FoundUdp, CreatesUdp, udp_begun, udp_record_of, part_of, ToStream, IsUdpQuestionOf, Past, Joined, Marked, second_of}
+use Rattle.wasi_walks.specs.Licence.{IsDisconnect, IsGetOf, IsMarkedWith, IsSetTo, IsStreamOf, IsUdpCreate, MayUseUdp, UdpCreated}
+use Rattle.wasi_walks.proofs.walks.Moves.{Here, put_udp, FoundUdp, CreatesUdp, udp_begun, udp_record_of, part_of, ToStream, IsUdpQuestionOf, Past, Joined, Marked}
 use Rattle.wasi_walks.proofs.Lists.{has_front, has_last, has_split}
 use Rattle.wasi_walks.proofs.UdpLists.{tcp_of_push}
 use Rattle.wasi_walks.specs.Licence.{MakesTcp, MakesUdp}
@@ -12,7 +12,7 @@ use Rattle.wasi_walks.proofs.licence.State.{NamesItsOwn, MakesStreams, Names, Na
 use Rattle.wasi_walks.proofs.licence.Frames.{NoMark, handed_unless, stay, names_on}
 use Rattle.wasi_walks.proofs.licence.States.{state_made, state_joined_udp}
 use Rattle.wasi_walks.proofs.licence.Fresh.{NoMadeBy}
-use Rattle.wasi_walks.proofs.licence.Line.{Licensed, MakingStands, names_udp, elsewhere, put_udp_fine, spent}
+use Rattle.wasi_walks.proofs.licence.Line.{remade, Licensed, MakingStands, names_udp, elsewhere, put_udp_fine, spent}
 use Rattle.wasi_walks.proofs.licence.Asked.{Spares, spares, asked_fine, listens_on, joined_on, own_line}
 use Rattle.wasi_walks.proofs.licence.Marks.{socket_touch, unmarked_made}
 use Rattle.wasi_walks.proofs.licence.UdpMoves.{names_part, open_at_place}
@@ -50,7 +50,7 @@ module _ (contexts : List WasiSocketsCtx) (steps : List Step) (line : ℕ) (orig
   udp_may n es side (Call.Local s) q k = (inl (subst (Names steps es (own_of n)) (sym q) k), tt)
   udp_may n es side (Call.GetOption s o) q k = ((inl (subst (Names steps es (own_of n)) (sym q.0) k), own_line contexts steps line origin is_line n (IsGetOf o) q.1 q.2), tt)
   udp_may n es side (Call.SetOption s o v) q k = ((inl (subst (Names steps es (own_of n)) (sym q.0) k), own_line contexts steps line origin is_line n (IsSetTo o v) q.1 q.2), tt)
-  udp_may n es side (Call.UdpDisconnect s) q k = (inl (subst (Names steps es (own_of n)) (sym q) k), tt)
+  udp_may n es side (Call.UdpDisconnect s) q k = ((inl (subst (Names steps es (own_of n)) (sym q.0) k), own_line contexts steps line origin is_line n IsDisconnect q.1 q.2), tt)
   udp_may n es side _ q k = absurd q
 
   udp_local : (n : ℕ) (side x : OpId) (c : Call) → IsUdpQuestionOf line origin n side c → c ≡ Call.Local x → side ≡ x
@@ -149,7 +149,7 @@ module _ (contexts : List WasiSocketsCtx) (steps : List Step) (line : ℕ) (orig
         names = λ p n r a e. absurd (no_place p n (sym nowhere ∙ a));
         udp_names = λ p n u a e. absurd (no_place p n (sym nowhere ∙ a));
         listens = λ p q op d m. j.listens p q op (tcp_of_push h.machine.store.records now p q d) m;
-        new = λ e. absurd (cc);
+        new = λ x t. absurd t;
         unmade = λ e d s is. absurd (creates_only ctx family c d s is);
         joined = λ p e. absurd (not_joined p (sym past ∙ e));
         marked = λ a p e q d. absurd (not_marked a p (sym past ∙ e));
@@ -226,7 +226,7 @@ module _ (contexts : List WasiSocketsCtx) (steps : List Step) (line : ℕ) (orig
           names = λ p k r a d s x. names_on (stay steps) es _ (own_of k) s (i.names p k r a d s x);
           udp_names = λ p k v a d. names_on (stay steps) es _ (own_of k) (udp_side v) (i.udp_names p k v a d);
           listens = listens_on contexts steps line origin is_line es h op c told (λ p q o d x y. absurd (cc)) i;
-          new = λ o. (handed_unless es op c told (second_of line) (i.new o).0 (λ l p a b. absurd (cc)), unmarked told (second_of line) (i.new o).1);
+          new = λ x o. (handed_unless es op c told x (i.new x o).0 (λ l p a b. absurd (cc)), unmarked told x (i.new x o).1);
           unmade = λ d a s is. unmade_more es op (own_of line) c told (other a s is) (i.unmade d a s is);
           joined = λ p d. (let j = i.joined p d in let k = joined_on contexts steps line origin is_line es h (entry op c told) p j (unmarked told j.new j.fresh) in record { new = k.new; on = k.on; peer = k.peer; context = k.context; listener = k.listener; by = k.by; side = k.side; of_listener = k.of_listener; handed = k.handed; fresh = k.fresh });
           marked = λ handle p d r a. (let k = i.marked handle p d r a in record { above = k.above; told = k.told; mark = has_front es _ _ k.mark });
@@ -236,11 +236,13 @@ module _ (contexts : List WasiSocketsCtx) (steps : List Step) (line : ℕ) (orig
 
   -- a new handle of a UDP socket
   pub udp_marked : (es : List Entry) (h : Here) (place : ℕ) (u : Udp2Socket) → FoundUdp h place u → Licensed contexts steps line origin es h
-      → Allows (MayAsk contexts steps) (λ fs made. Licensed contexts steps line origin fs (record h { machine = record h.machine { table = made.1 } })) es (make_asks h.machine.table (udp_side u) (Udp2 place) None (Some (udp_side u)))
+      → Allows (MayAsk contexts steps) (λ fs made. Licensed contexts steps line origin fs (record h { machine = record h.machine { table = made.1 }; made = Past })) es (make_asks h.machine.table (udp_side u) (Udp2 place) None (Some (udp_side u)))
   udp_marked es h place u g i =
       let m = is_made es u (i.fine.udp place u g) in
-      mark_fine es h (udp_side u) (Udp2 place) None (Some (udp_side u)) (began_mark es (udp_side u) m.maker m.family m.made) (not_accept (udp_side u) m.made.by) (λ e. absurd (cc))
-      (λ t. (tt, record { found = u; at = g; marked = record { op = udp_side u; kind = name.Udp2; parent = None; told = t; mark = has_last es _ } }, tt)) i
+      allows_weaker (MayAsk contexts steps) (λ fs made. Licensed contexts steps line origin fs (record h { machine = record h.machine { table = made.1 } })) _
+      (λ fs made k. remade fs (record h { machine = record h.machine { table = made.1 } }) Past tt tt k) es _
+      (mark_fine es h (udp_side u) (Udp2 place) None (Some (udp_side u)) (began_mark es (udp_side u) m.maker m.family m.made) (not_accept (udp_side u) m.made.by) (λ e. absurd (cc))
+      (λ t. (tt, record { found = u; at = g; marked = record { op = udp_side u; kind = name.Udp2; parent = None; told = t; mark = has_last es _ } }, tt)) i)
 
   -- == the handles of datagram streams
   abbrev pub OneStream : Kind → ℕ → Type 0

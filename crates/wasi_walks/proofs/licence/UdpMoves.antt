@@ -7,6 +7,7 @@ use Rattle.wasi_walks.proofs.licence.State.{Names, UdpUnchecked, UdpBindIsFine, 
 use Rattle.wasi_walks.proofs.licence.Frames.{same_record}
 use Rattle.wasi_walks.proofs.fits.UdpFits.{kept_op}
 use Rattle.wasi_walks.proofs.licence.UdpFrames.{same_udp}
+use Rattle.wasi_walks.proofs.walks.Here.{next_shrinks}
 use Rattle.wasi_walks.proofs.licence.Line.{names_record, names_udp, pair_first, pair_second, NamesMade, NamesTcpHere, NamesUdpHere, Licensed, put_udp_fine, owned, remade, spent, elsewhere}
 use Rattle.wasi_addr.specs.declared.code.ErrorCode.TheVariants.{DatagramTooLarge, InvalidArgument, InvalidState}
 use Rattle.wasi_udp.specs.declared.send.Destination.{Destination}
@@ -179,9 +180,9 @@ module _ (contexts : List WasiSocketsCtx) (steps : List Step) (line : ℕ) (orig
   first_left es op side maker family d (Ok to) true k out = SendUnchecked to.kept to.addr k (inl (out refl))
   first_left es op side maker family d (Ok to) false k out = SendUnbound to.kept to.addr k
 
-  pub begins_send : (es : List Entry) (h : Here) (place n : ℕ) (o : OpenUdp) (out : OutgoingStream) (d : OutgoingDatagram) (bound : Bool) → h.at ≡ Some (place, line) → FoundUdp h place (Udp2Socket.Open o) → IsSendOf n d origin → (bound ≡ true → o.inner.bound ≡ true) → Licensed contexts steps line origin es h
+  pub begins_send : (es : List Entry) (h : Here) (place n : ℕ) (o : OpenUdp) (out : OutgoingStream) (d : OutgoingDatagram) (bound : Bool) → h.at ≡ Some (place, line) → FoundUdp h place (Udp2Socket.Open o) → IsSendOf n d origin → (bound ≡ true → o.inner.bound ≡ true) → h.own ≡ Own.Names n → Licensed contexts steps line origin es h
       → Licensed contexts steps line origin es (record (put_udp h place (Udp2Socket.Open (sending_now o out (send_start (part_of line n) o.inner d.bytes d.remote_address bound)))) { own = Own.Names (n + 1) })
-  begins_send es h place n o out d bound at g is known i =
+  begins_send es h place n o out d bound at g is known u i =
       let f = open_at_place es h place o g i in
       let op = send_start (part_of line n) o.inner d.bytes d.remote_address bound in
       let begun : SendIsFine steps es op = record {
@@ -194,15 +195,15 @@ module _ (contexts : List WasiSocketsCtx) (steps : List Step) (line : ℕ) (orig
         last = refl;
         left = first_left es (part_of line n) o.inner.side o.inner.maker o.inner.family d (send_to o.inner d.bytes d.remote_address) bound (goes_for d o.inner) (λ b. f.bound (known b));
       } in
-      owned es _ (Own.Names (n + 1)) (λ e. absurd (cc)) (put_udp_fine es h place (Udp2Socket.Open o) (Udp2Socket.Open (sending_now o out op)) g refl (record { made = f.made; bound = f.bound; progress = f.progress; connecting = f.connecting; sending = begun; receiving = f.receiving }) i)
+      owned es _ (Own.Names (n + 1)) (λ e. absurd (cc)) (next_shrinks line n h.own u) (put_udp_fine es h place (Udp2Socket.Open o) (Udp2Socket.Open (sending_now o out op)) g refl (record { made = f.made; bound = f.bound; progress = f.progress; connecting = f.connecting; sending = begun; receiving = f.receiving }) i)
 
   received_first : (b : Bool) → IsLeftOfReceive (receive_left None (receive_first b))
   received_first true = IsLeftOfReceive.Unreceived None
   received_first false = IsLeftOfReceive.ToRefuse InvalidState
 
-  pub begins_receive : (es : List Entry) (h : Here) (place n : ℕ) (o : OpenUdp) (inc : IncomingStream) (bound : Bool) → h.at ≡ Some (place, line) → FoundUdp h place (Udp2Socket.Open o) → Licensed contexts steps line origin es h
+  pub begins_receive : (es : List Entry) (h : Here) (place n : ℕ) (o : OpenUdp) (inc : IncomingStream) (bound : Bool) → h.at ≡ Some (place, line) → FoundUdp h place (Udp2Socket.Open o) → h.own ≡ Own.Names n → Licensed contexts steps line origin es h
       → Licensed contexts steps line origin es (record (put_udp h place (Udp2Socket.Open (receiving_now o inc (receive_start (part_of line n) o.inner bound)))) { own = Own.Names (n + 1) })
-  begins_receive es h place n o inc bound at g i =
+  begins_receive es h place n o inc bound at g u i =
       let f = open_at_place es h place o g i in
       let op = receive_start (part_of line n) o.inner bound in
       let begun : ReceiveIsFine steps es op = record {
@@ -212,7 +213,7 @@ module _ (contexts : List WasiSocketsCtx) (steps : List Step) (line : ℕ) (orig
         last = refl;
         left = received_first bound;
       } in
-      owned es _ (Own.Names (n + 1)) (λ e. absurd (cc)) (put_udp_fine es h place (Udp2Socket.Open o) (Udp2Socket.Open (receiving_now o inc op)) g refl (record { made = f.made; bound = f.bound; progress = f.progress; connecting = f.connecting; sending = f.sending; receiving = begun }) i)
+      owned es _ (Own.Names (n + 1)) (λ e. absurd (cc)) (next_shrinks line n h.own u) (put_udp_fine es h place (Udp2Socket.Open o) (Udp2Socket.Open (receiving_now o inc op)) g refl (record { made = f.made; bound = f.bound; progress = f.progress; connecting = f.connecting; sending = f.sending; receiving = begun }) i)
 
   -- == a pending call is given up
   pub cancels_udp_bind : (es : List Entry) (h : Here) (place : ℕ) (o : OpenUdp) → FoundUdp h place (Udp2Socket.Open o) → Licensed contexts steps line origin es h → Licensed contexts steps line origin es (put_udp h place (Udp2Socket.Open (with_udp_progress o UdpInProgress.Nothing)))

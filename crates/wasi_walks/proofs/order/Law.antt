@@ -158,7 +158,7 @@ module _ (side : OpId) (from : ℕ) where
     moves_late es _ _ (walk.BeginsBind h place r x a at g d to idle own) i = put_tcp side from es _ place _ i
     moves_late es _ _ (walk.BeginsWrite h place n r s half permit bytes at g e w within own) i = put_tcp side from es _ place _ i
     moves_late es _ _ (walk.BeginsListen h place r x at g d bound none to idle own) i = put_tcp side from es _ place _ i
-    moves_late es _ _ (walk.BeginsAccept h place r l at g e a own) i = put_tcp side from es _ place _ i
+    moves_late es _ _ (walk.BeginsAccept h place part r l at g e a own) i = put_tcp side from es _ place _ i
     moves_late es _ _ (walk.Unlistens h place r op q g e c o) i = put_tcp side from es _ place _ i
     moves_late es _ _ (walk.Forgets h place r l c g e a) i = put_tcp side from es _ place _ i
     moves_late es _ _ (walk.Joins h c handle place r l new peer is of u g e a) i = push_tcp side from es _ (joined l new peer) (put_tcp side from es _ place _ i)

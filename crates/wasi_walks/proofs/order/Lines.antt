@@ -1,7 +1,7 @@
 -- Each line's reply takes what was received on a network socket from the one place to the other, and what comes later is from there on.
 use Rattle.wasi_walks.proofs.Words.{⊤, Allows, Bool, Entry, Err, IsMarkedWith, IsSide, List, Machine, None, Ok, OpId, Option, Reply, Result, Some, Standing}
-use Rattle.wasi_walks.proofs.Words.{Step, Stop, Trap, WasiSocketsCtx, allows_keep, allows_then, allows_weaker, arith, asks_while, true, false}
-use Rattle.wasi_walks.proofs.Words.{first_ids, inl, inr, kind_at, machine_asks, refl, subst, sym, ℕ, ◌∙◌, ◌≡◌, ◌⊎◌}
+use Rattle.wasi_walks.proofs.Words.{Step, Stop, Trap, WasiSocketsCtx, allows_keep, allows_then, allows_weaker, arith, asks_while, length, true, false}
+use Rattle.wasi_walks.proofs.Words.{first_ids, inl, inr, kind_at, machine_asks, refl, subst, sym, ℕ, ◌∙◌, ◌≡◌, ◌≤◌, ◌⊎◌}
 use Rattle.wasi_world.specs.declared.datagram.IncomingDatagram.{IncomingDatagram}
 use Rattle.wasi_host.specs.DatagramCalls.{begins_receive, receive_datagrams_at, with_receive}
 use Rattle.wasi_host.specs.Host.{Code}
@@ -38,12 +38,19 @@ one_each : (line : ℕ) (m : Machine) → BaseBetween line m → OneEach m.store
 one_each line m b i k o p e f s = b.named.udps.one p.inner.side i k (Udp2Socket.Open o) (Udp2Socket.Open p) e f s refl
 
 -- the handle's network socket is that of its UDP socket
-side_is : (es : List Entry) (records : List Record) (handle place : ℕ) (o : OpenUdp) → NamesUdp es records handle place → udp2_at records place ≡ Some (Udp2Socket.Open o) → IsSide es handle o.inner.side
+pub side_is : (es : List Entry) (records : List Record) (handle place : ℕ) (o : OpenUdp) → NamesUdp es records handle place → udp2_at records place ≡ Some (Udp2Socket.Open o) → IsSide es handle o.inner.side
 side_is es records handle place o n e =
     let p : Some n.found ≡ Some (Udp2Socket.Open o) = sym n.at ∙ e in
     let q : n.found ≡ Udp2Socket.Open o = cc in
     let k : IsMarkedWith es handle (Some o.inner.side) = subst (λ (u : Udp2Socket). IsMarkedWith es handle (Some (udp_side u))) q n.marked in
     record { op = k.op; kind = k.kind; parent = k.parent; told = k.told; mark = k.mark }
+
+-- what a receive of the socket leaves, where it is known what its stream holds
+pub open_leaves : (from handle most line : ℕ) (es : List Entry) (o : OpenUdp) → OpenKeeps es o → from ≤ length es → IncomingLate from es o.inner.side o.incoming → IsSide es handle o.inner.side
+    → Allows Anything (λ fs done. IsSide fs handle o.inner.side × Leaves ⊤ from fs o done.0 done.1) es (receive_datagrams_asks (first_ids line) most o o.incoming)
+open_leaves from handle most line es o k long l i =
+    allows_keep (OnlyOf o.inner.side) Anything (λ fs. IsSide fs handle o.inner.side) (λ fs done. Leaves ⊤ from fs o done.0 done.1) (λ fs op c t fits x n. side_more fs _ handle o.inner.side x) (λ fs op c n. tt) es _ i
+    (receives ⊤ from es (first_ids line) most o o.incoming refl (maker_of es o k) long (λ x. l))
 
 module _ (side : OpId) (from : ℕ) where
   -- the reply takes them up to some place, from which on what comes later is
@@ -80,7 +87,7 @@ module _ (side : OpId) (from : ℕ) where
           let k : OpenKeeps es o = keeps.udps place (Udp2Socket.Open o) at in
           let l : IncomingLate from es o.inner.side o.incoming = subst (λ (x : OpId). IncomingLate from es x o.incoming) (sym is) (late.udps place (Udp2Socket.Open o) at is) in
           allows_then Anything (λ fs done. IsSide fs handle o.inner.side × Leaves ⊤ from fs o done.0 done.1) (λ fs done. Says fs done) es (receive_datagrams_asks (first_ids line) most o o.incoming) _
-          (allows_keep (OnlyOf o.inner.side) Anything (λ fs. IsSide fs handle o.inner.side) (λ fs done. Leaves ⊤ from fs o done.0 done.1) (λ fs op c t fits x n. side_more fs _ handle o.inner.side x) (λ fs op c n. tt) es _ i (receives ⊤ from es (first_ids line) most o o.incoming refl (maker_of es o k) late.long (λ x. l)))
+          (open_leaves from handle most line es o k late.long l i)
           (λ fs done x. (x.1.upto, (says_ours fs o x.1.upto done.0 x.0 is x.1.gives, jobbed x.1.upto fs m.store place o done.1 (put_later side x.1.upto fs m.store.records place o done.1 one at is x.1.long (λ q. subst (λ (y : OpId). IncomingLate x.1.upto fs y done.1.incoming) is (x.1.later tt))))))
       open_takes place o at i (inr not) =
           let k : OpenKeeps es o = keeps.udps place (Udp2Socket.Open o) at in
@@ -112,8 +119,8 @@ module _ (side : OpId) (from : ℕ) where
           allows_then Anything (λ fs done. Told fs done) (λ fs done. Takes fs (Step.UdpReceive ctx handle most) done) es (receive_datagrams_on m (first_ids line) most (incoming_at m handle)) _
           (handle_takes (incoming_at m handle) n) (λ fs done k. k)
 
-  -- what any other line leaves
-  line_later : (contexts : List WasiSocketsCtx) (line : ℕ) (s : Step) (m : Machine) (es : List Entry) → BaseBetween line m → Keeps es m.store.records → Late side from es m.store.records → Allows Anything (λ fs done. Late side from fs done.1.store.records) es (machine_asks contexts m line s)
+  -- what any line leaves of what comes from the place on
+  pub line_later : (contexts : List WasiSocketsCtx) (line : ℕ) (s : Step) (m : Machine) (es : List Entry) → BaseBetween line m → Keeps es m.store.records → Late side from es m.store.records → Allows Anything (λ fs done. Late side from fs done.1.store.records) es (machine_asks contexts m line s)
   line_later contexts line s m es b k late =
       allows_weaker Anything _ (λ fs done. Late side from fs done.1.store.records) (λ fs done x. x.1) es (machine_asks contexts m line s)
       (later_along side from contexts line s (machine_walks line s (begins_later side from contexts line s) m m.store.standing refl) es (base_starts contexts line s m (may_while m s m.store.standing) b) k late)

@@ -9,6 +9,7 @@ use Rattle.wasi_tcp.specs.Connect as connect
 use Rattle.wasi_tcp.specs.Listen as listen
 use Rattle.wasi_tcp.specs.Listen.{IsListen}
 use Rattle.wasi_udp.specs.Bind as udp_bind
+use Rattle.wasi_udp.specs.Receive as receive
 use Rattle.wasi_udp.specs.Receive.{wanting}
 use Rattle.wasi_udp.specs.Send as send
 use Rattle.wasi_udp.specs.Send.{at_remote}
@@ -29,6 +30,7 @@ use Rattle.wasi_world.specs.Operation.{Datagram, Given, Remote}
 use Rattle.wasi_walks.proofs.Lists.{has_front}
 use Rattle.wasi_walks.proofs.UdpLists.{udp_set_set, udp_set_there, udp_get_set}
 use Rattle.wasi_walks.proofs.claims.Law.{Named, Base}
+use Rattle.wasi_walks.proofs.fits.DatagramPolls.{wanted_left}
 use Rattle.wasi_walks.proofs.fits.Polls.{Anything}
 use Rattle.wasi_walks.proofs.fits.Records.{FitConnecting, FitListening, FitProgress, FitReceiving, FitSending, FitUdpProgress, ReceiveOn, SendOn, UdpBindOn, UdpConnectOn}
 use Rattle.wasi_walks.proofs.licence.State.{RemoteIs}
@@ -36,8 +38,7 @@ use Rattle.wasi_walks.proofs.walks.Moves as walk
 use Rattle.wasi_walks.proofs.walks.Moves.{FoundUdp, Held, Here, accepting_now, listen_after, receive_op, receiving_in, send_op, sending_in}
 use Rattle.wasi_walks.proofs.remotes.Polls.{AreSilent, Unpeered, silent_poll}
 use Rattle.wasi_walks.proofs.remotes.ConnectPolls.{After, AsksOwn, connect_poll, none_kept, told_kept}
-use Rattle.wasi_walks.proofs.remotes.ReceivePolls.{poll_receives}
-use Rattle.wasi_walks.proofs.remotes.State.{ConnectsBy, InHand, IncomingKnows, Keeps, OpenKeeps, ReceivesFor, ReceivingKnows, TcpKeeps, UdpKeeps, asked, incoming_more, kept, maker_of, put_tcp, put_udps, Spares}
+use Rattle.wasi_walks.proofs.remotes.State.{ConnectsBy, Keeps, OpenKeeps, ReceivesFor, TcpKeeps, UdpKeeps, asked, kept, maker_of, put_tcp, put_udps, Spares}
 
 -- == items that ask for no remote address
 -- a bind
@@ -79,6 +80,13 @@ udp_bind_silent _ (udp_bind.Unchecked a) = (tt, (tt, tt))
 udp_bind_silent _ (udp_bind.Checked a) = (tt, tt)
 udp_bind_silent _ udp_bind.Ended = tt
 
+-- a receive
+receive_silent : (items : List Item) → receive.IsLeftOfReceive items → AreSilent items
+receive_silent _ (receive.ToRefuse c) = (tt, tt)
+receive_silent _ (receive.Unreceived only) = (tt, tt)
+receive_silent _ (receive.Received only bytes peer) = (tt, tt)
+receive_silent _ receive.Ended = tt
+
 -- a datagram
 send_silent : (items : List Item) → send.IsLeftOfSend items → AreSilent items
 send_silent _ (send.ToRefuse c) = (tt, tt)
@@ -116,7 +124,7 @@ listened_keeps r op (Refused c given, items) k = k
 -- the record that a create leaves
 created_keeps : (create : Create) (fs : List Entry) (ended : End × List Item) → UdpKeeps fs (Udp2Socket.Creating create) → UdpKeeps fs (udp_create_left create ended)
 created_keeps create fs (Waits, items) k = k
-created_keeps create fs (Done given, items) k = record { created = k; remote = none_kept fs _ None refl; connects = tt; receives = tt; receiver = tt }
+created_keeps create fs (Done given, items) k = record { created = k; remote = none_kept fs _ None refl; connects = tt; receiver = tt }
 created_keeps create fs (Refused c given, items) k = tt
 
 -- a change that leaves the socket, its connect and its incoming stream
@@ -125,7 +133,6 @@ same_open fs o now p q r k = record {
   created = rw p k.created;
   remote = rw p k.remote;
   connects = rw (p, q) k.connects;
-  receives = rw (p, r) k.receives;
   receiver = rw (p, r) k.receiver;
 }
 
@@ -142,10 +149,9 @@ polled_receive : (es : List Entry) (h : Here) (place : ℕ) (o : OpenUdp) (inc :
 polled_receive es h place o inc op g e f its i =
     let k : OpenKeeps es o = i.udps place (Udp2Socket.Open o) g in
     let for : ReceivesFor o.inner.maker (Some op) = subst (ReceivesFor o.inner.maker) (ap receiving_in e ∙ ap receive_op f) k.receiver in
-    let hand : InHand es op.who.id o.inner.side op.left = subst (ReceivingKnows es o.inner.side) f (subst (IncomingKnows es o.inner.side) e k.receives) in
-    polled_so (λ fs ended. ReceivingKnows fs op.who.side (receive_left op ended)) es h place (Udp2Socket.Open o) (wanting inc.remote op) (λ ended. Udp2Socket.Open (record o { incoming = Some (with_receiving inc (receive_left op ended)) })) g
-    (λ fs ended m q. record { created = m.created; remote = m.remote; connects = m.connects; receives = subst (λ (x : OpId). ReceivingKnows fs x (receive_left op ended)) its.of_side q; receiver = receives_for o.inner.maker op ended for })
-    (poll_receives op inc.remote o.inner.family es its.receive (rw (its.of_side, for) (maker_of es o k)) (subst (λ (x : OpId). InHand es op.who.id x op.left) (sym its.of_side) hand)) i
+    polled_udp es h place (Udp2Socket.Open o) (wanting inc.remote op) (λ ended. Udp2Socket.Open (record o { incoming = Some (with_receiving inc (receive_left op ended)) })) g
+    (λ fs ended m. record { created = m.created; remote = m.remote; connects = m.connects; receiver = receives_for o.inner.maker op ended for })
+    (receive_silent (wanting inc.remote op).left (wanted_left inc.remote op.left its.receive.left)) i
 
 -- == a connect of a UDP socket
 -- while it is polled, the remote address is left out
@@ -154,7 +160,7 @@ forgotten o = record o { inner = record o.inner { remote = None } }
 
 -- the rest is known still
 forget : (es : List Entry) (o : OpenUdp) → OpenKeeps es o → OpenKeeps es (forgotten o)
-forget es o k = record { created = k.created; remote = none_kept es _ None refl; connects = k.connects; receives = k.receives; receiver = k.receiver }
+forget es o k = record { created = k.created; remote = none_kept es _ None refl; connects = k.connects; receiver = k.receiver }
 
 -- the remote address that is kept
 abbrev remote_of : Udp2Socket → Option IpSocketAddress
@@ -175,16 +181,16 @@ spares_but line h place o c g n own k p e q = elim (udp_get_set h.machine.store.
 
 -- what a connect gives leaves all but the remote address
 given_keeps : (fs : List Entry) (o : OpenUdp) (given : Given) → OpenKeeps fs (forgotten o) → RemoteIs fs o.inner.side (with_given o.inner given).remote → OpenKeeps fs (record o { inner = with_given o.inner given; connecting = None })
-given_keeps fs o (Remote remote) k r = record { created = k.created; remote = r; connects = tt; receives = k.receives; receiver = k.receiver }
-given_keeps fs o _ k r = record { created = k.created; remote = r; connects = tt; receives = k.receives; receiver = k.receiver }
+given_keeps fs o (Remote remote) k r = record { created = k.created; remote = r; connects = tt; receiver = k.receiver }
+given_keeps fs o _ k r = record { created = k.created; remote = r; connects = tt; receiver = k.receiver }
 
 -- the streams are new then
 streams_keep : (fs : List Entry) (o : OpenUdp) → OpenKeeps fs o → OpenKeeps fs (with_streams o)
-streams_keep fs o k = record { created = k.created; remote = k.remote; connects = k.connects; receives = tt; receiver = tt }
+streams_keep fs o k = record { created = k.created; remote = k.remote; connects = k.connects; receiver = tt }
 
 -- what is known after a poll of the connect
 connected_keeps : (fs : List Entry) (o : OpenUdp) (op : Operation) (ended : End × List Item) → op.who.side ≡ o.inner.side → OpenKeeps fs (forgotten o) → After op.who o.inner.maker o.inner.family o.inner fs ended → UdpKeeps fs (Udp2Socket.Open (udp_connect_left op o ended))
-connected_keeps fs o op (Waits, items) s k a = record { created = k.created; remote = subst (λ (x : OpId). RemoteIs fs x o.inner.remote) s a.0.1; connects = a.1; receives = k.receives; receiver = k.receiver }
+connected_keeps fs o op (Waits, items) s k a = record { created = k.created; remote = subst (λ (x : OpId). RemoteIs fs x o.inner.remote) s a.0.1; connects = a.1; receiver = k.receiver }
 connected_keeps fs o op (Done given, items) s k a = streams_keep fs _ (given_keeps fs o given k (subst (λ (x : OpId). RemoteIs fs x (with_given o.inner given).remote) s a.1))
 connected_keeps fs o op (Refused c given, items) s k a = given_keeps fs o given k (subst (λ (x : OpId). RemoteIs fs x (with_given o.inner given).remote) s a.1)
 
@@ -212,7 +218,7 @@ peer_keeps line es h place o op told g n i =
     let k : OpenKeeps es o = i.udps place (Udp2Socket.Open o) g in
     let fs : List Entry = es ++ entry op (Call.Peer o.inner.side) told ∷ [] in
     put_back fs h.machine.store.records place (Udp2Socket.Open (forgotten o)) (Udp2Socket.Open (with_udp_inner o (after_peer o.inner (told_addr told))))
-    (record { created = has_front es _ _ k.created; remote = told_kept es op o.inner.maker o.inner.family o.inner.side told (maker_of es o k); connects = k.connects; receives = incoming_more es _ o.inner.side o.incoming k.receives; receiver = k.receiver })
+    (record { created = has_front es _ _ k.created; remote = told_kept es op o.inner.maker o.inner.family o.inner.side told (maker_of es o k); connects = k.connects; receiver = k.receiver })
     (asked es _ op (Call.Peer o.inner.side) told (spares_but line h place o (Call.Peer o.inner.side) g n (λ x p. cc)) (put_udps es h.machine.store.records place (Udp2Socket.Open (forgotten o)) (forget es o k) i))
 
 -- == what is in progress

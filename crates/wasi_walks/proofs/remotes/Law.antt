@@ -9,7 +9,6 @@ use Rattle.wasi_walks.proofs.Words.{own_of, poll_asks, refl, refuse_in, side_in,
 use Rattle.wasi_walks.proofs.Words.{with_listening, with_reader, with_writer, writer_side, writing_side, ℕ, ⊤, ◌++◌, ◌∙◌, ◌∷◌, ◌≡◌}
 use Rattle.wasi_common.specs.Rounds.{is_going}
 use Rattle.wasi_udp.specs.Create.{Create, create_cancel_asks, new_create, after_create as udp_after_create}
-use Rattle.wasi_udp.specs.Receive.{receive_first, receive_left}
 use Rattle.wasi_udp.specs.Shape.{Socket as UdpSocket}
 use Rattle.wasi_udp.specs.Socket.{after_local as udp_after_local}
 use Rattle.wasi_host.specs.Records.{tcp2_put, udp2_put}
@@ -29,7 +28,7 @@ use Rattle.wasi_walks.proofs.walks.Moves.{closed_record, udp_begun, opened_by, p
 use Rattle.wasi_walks.proofs.remotes.Held.{peer_keeps, polls_keep}
 use Rattle.wasi_walks.proofs.remotes.Polls.{AreSilent, NoPeer, Unpeered, silent_poll}
 use Rattle.wasi_walks.proofs.remotes.ConnectPolls.{Whole}
-use Rattle.wasi_walks.proofs.remotes.State.{InHand, JobBy, Keeps, OpenKeeps, ReadsBy, ReceivesFor, TcpKeeps, WritesBy, asked, incoming_kept, kept, push_tcp, push_udps, put_tcp, put_udps, quiet, records_keep, same_streams, with_none, with_these, writer_moves, Spares}
+use Rattle.wasi_walks.proofs.remotes.State.{JobBy, Keeps, OpenKeeps, ReadsBy, ReceivesFor, TcpKeeps, WritesBy, asked, kept, push_tcp, push_udps, put_tcp, put_udps, quiet, records_keep, same_streams, with_none, with_these, writer_moves, Spares}
 
 -- == what is asked of a network socket of TCP is asked of none of UDP
 -- a writer is on the network socket that its record was made with
@@ -111,9 +110,9 @@ pub learnt_keeps : (fs : List Entry) (o : OpenUdp) (told : Result IpSocketAddres
 learnt_keeps fs o (Ok a) k = by_test (is_wildcard o.inner.family a)
   where
     by_test : (b : Bool) → (let answer : Bool × UdpSocket = if b then (false, o.inner) else (true, record o.inner { bound = true }) in OpenKeeps fs (with_udp_inner o answer.1))
-    by_test true = record { created = k.created; remote = k.remote; connects = k.connects; receives = k.receives; receiver = k.receiver }
-    by_test false = record { created = k.created; remote = k.remote; connects = k.connects; receives = k.receives; receiver = k.receiver }
-learnt_keeps fs o (Err c) k = record { created = k.created; remote = k.remote; connects = k.connects; receives = k.receives; receiver = k.receiver }
+    by_test true = record { created = k.created; remote = k.remote; connects = k.connects; receiver = k.receiver }
+    by_test false = record { created = k.created; remote = k.remote; connects = k.connects; receiver = k.receiver }
+learnt_keeps fs o (Err c) k = record { created = k.created; remote = k.remote; connects = k.connects; receiver = k.receiver }
 
 -- == a turn of a writer, and what is released
 -- one poll of a write
@@ -163,14 +162,8 @@ plain_keeps es o now p k = record {
   created = rw (p.side, p.maker, p.family) k.created;
   remote = rw (p.side, p.remote) k.remote;
   connects = rw (p.family, p.connects) k.connects;
-  receives = rw p.side (incoming_kept es o.inner.side o.incoming now.incoming p.receives p.came k.receives);
   receiver = rw p.maker (kept_op (ReceivesFor o.inner.maker) tt (receiving_in o.incoming) (receiving_in now.incoming) p.receives k.receiver);
 }
-
--- a receive that begins has nothing in hand
-begun_empty : (es : List Entry) (own side : OpId) (bound : Bool) → InHand es own side (receive_left None (receive_first bound))
-begun_empty es own side true = tt
-begun_empty es own side false = tt
 
 -- a write that begins is on the network socket, and asks for no remote address
 pub write_keeps : (es : List Entry) (h : Here) (place n : ℕ) (r : Tcp2Socket) (s : Streams) (half : TcpSendStream) (permit : ℕ) (bytes : List ℕ) → Found h place r → r.streams ≡ Some s → s.writer ≡ WriteState.Ready half permit → Keeps es h.machine.store.records
@@ -198,20 +191,20 @@ module _ (contexts : List WasiSocketsCtx) (line : ℕ) (origin : Step) where
   moves_keep es _ _ (walk.BeginsBind h place r side a at g d to idle own) b i = put_tcp es _ place _ (i.tcps place r g) i
   moves_keep es _ _ (walk.BeginsWrite h place n r s half permit bytes at g e w within own) b i = write_keeps es h place n r s half permit bytes g e w i
   moves_keep es _ _ (walk.BeginsListen h place r side at g d bound none to idle own) b i = put_tcp es _ place _ (i.tcps place r g) i
-  moves_keep es _ _ (walk.BeginsAccept h place r l at g e a own) b i = put_tcp es _ place _ (i.tcps place r g) i
+  moves_keep es _ _ (walk.BeginsAccept h place part r l at g e a own) b i = put_tcp es _ place _ (i.tcps place r g) i
   moves_keep es _ _ (walk.Unlistens h place r op q g e c o) b i = put_tcp es _ place _ (i.tcps place r g) i
   moves_keep es _ _ (walk.Forgets h place r l c g e a) b i = put_tcp es _ place _ (i.tcps place r g) i
   moves_keep es _ _ (walk.Joins h c handle place r l new peer is of u g e a) b i = push_tcp es _ (joined l new peer) (with_these (joined l new peer) _ refl (refl, refl)) (put_tcp es _ place _ (i.tcps place r g) i)
   moves_keep es _ _ (walk.UdpChanges h place o now g p) b i = put_udps es _ place (Udp2Socket.Open now) (plain_keeps es o now p (i.udps place (Udp2Socket.Open o) g)) i
-  moves_keep es _ _ (walk.BeginsUdpBind h place o a at g to idle own) b i = let k = i.udps place (Udp2Socket.Open o) g in put_udps es _ place (Udp2Socket.Open _) (record { created = k.created; remote = k.remote; connects = k.connects; receives = k.receives; receiver = k.receiver }) i
-  moves_keep es _ _ (walk.BeginsUdpConnect h place o a at g to bound own) b i = let k = i.udps place (Udp2Socket.Open o) g in put_udps es _ place (Udp2Socket.Open _) (record { created = k.created; remote = k.remote; connects = Whole a; receives = k.receives; receiver = k.receiver }) i
-  moves_keep es _ _ (walk.BeginsSend h place n o out d bound at g e is known own) b i = let k = i.udps place (Udp2Socket.Open o) g in put_udps es _ place (Udp2Socket.Open _) (record { created = k.created; remote = k.remote; connects = k.connects; receives = k.receives; receiver = k.receiver }) i
+  moves_keep es _ _ (walk.BeginsUdpBind h place o a at g to idle own) b i = let k = i.udps place (Udp2Socket.Open o) g in put_udps es _ place (Udp2Socket.Open _) (record { created = k.created; remote = k.remote; connects = k.connects; receiver = k.receiver }) i
+  moves_keep es _ _ (walk.BeginsUdpConnect h place o a at g to bound own) b i = let k = i.udps place (Udp2Socket.Open o) g in put_udps es _ place (Udp2Socket.Open _) (record { created = k.created; remote = k.remote; connects = Whole a; receiver = k.receiver }) i
+  moves_keep es _ _ (walk.BeginsSend h place n o out d bound at g e is known own) b i = let k = i.udps place (Udp2Socket.Open o) g in put_udps es _ place (Udp2Socket.Open _) (record { created = k.created; remote = k.remote; connects = k.connects; receiver = k.receiver }) i
   moves_keep es _ _ (walk.BeginsReceive h place n o inc bound at g e own) b i =
       let k = i.udps place (Udp2Socket.Open o) g in
-      put_udps es _ place (Udp2Socket.Open _) (record { created = k.created; remote = k.remote; connects = k.connects; receives = begun_empty es (part_of line n) o.inner.side bound; receiver = refl }) i
+      put_udps es _ place (Udp2Socket.Open _) (record { created = k.created; remote = k.remote; connects = k.connects; receiver = refl }) i
   moves_keep es _ _ (walk.CancelsBind h place r op q g e) b i = put_tcp es _ place _ (i.tcps place r g) i
-  moves_keep es _ _ (walk.CancelsUdpBind h place o op q g e) b i = let k = i.udps place (Udp2Socket.Open o) g in put_udps es _ place (Udp2Socket.Open _) (record { created = k.created; remote = k.remote; connects = k.connects; receives = k.receives; receiver = k.receiver }) i
-  moves_keep es _ _ (walk.CancelsUdpConnect h place o q g) b i = let k = i.udps place (Udp2Socket.Open o) g in put_udps es _ place (Udp2Socket.Open _) (record { created = k.created; remote = k.remote; connects = tt; receives = k.receives; receiver = k.receiver }) i
+  moves_keep es _ _ (walk.CancelsUdpBind h place o op q g e) b i = let k = i.udps place (Udp2Socket.Open o) g in put_udps es _ place (Udp2Socket.Open _) (record { created = k.created; remote = k.remote; connects = k.connects; receiver = k.receiver }) i
+  moves_keep es _ _ (walk.CancelsUdpConnect h place o q g) b i = let k = i.udps place (Udp2Socket.Open o) g in put_udps es _ place (Udp2Socket.Open _) (record { created = k.created; remote = k.remote; connects = tt; receiver = k.receiver }) i
   moves_keep es _ _ (walk.Finds h records s) b i = records_keep es h.machine.store.records records s i
   moves_keep es _ _ _ b i = i
 

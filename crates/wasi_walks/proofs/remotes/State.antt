@@ -1,26 +1,21 @@
 -- What is known of the records: of a UDP socket that its create was answered, that the remote address it keeps is what was reported
--- last, that its connect is of its family, and that it has received what its incoming stream holds; of a TCP socket that its streams
--- are of its network socket, and write.
+-- last, that its connect is of its family, and that it receives for its creator; of a TCP socket that its streams are of its network
+-- socket, and write.
 use Rattle.wasi_walks.proofs.Words.{Allows, Asks, Call, Done, End, Entry, Has, IpSocketAddress, IsMaker, Item, Job, List, None, OpId, Operation}
 use Rattle.wasi_walks.proofs.Words.{Option, ReadState, Refused, SocketAddressFamily, Some, Streams, Tcp2Socket, Told, Waits, Write, WriteState, []}
 use Rattle.wasi_walks.proofs.Words.{allows_keep, ap, closed_by, collected, entry, first_state, inl, inr, refl, subst, sym, then_closed, written_by, ℕ, ⊤, ◌++◌}
 use Rattle.wasi_walks.proofs.Words.{◌∙◌, ◌∷◌, ◌≡◌}
-use Rattle.wasi_world.specs.Operation.{CheckPeer, Nothing}
-use Rattle.wasi_world.specs.declared.datagram.IncomingDatagram.{IncomingDatagram}
+use Rattle.wasi_world.specs.Operation.{Nothing}
 use Rattle.wasi_host.specs.Records.{tcp2_at, tcp2_put, tcp2_pushed, udp2_at, udp2_put, udp2_pushed}
-use Rattle.wasi_host.specs.declared.datagrams.Incoming.{Incoming as IncomingStream}
-use Rattle.wasi_host.specs.declared.datagrams.Receiving.{Receiving}
 use Rattle.wasi_host.specs.declared.name_lookup.LookupOp.{LookupOp}
 use Rattle.wasi_host.specs.declared.records.Record.{Record}
 use Rattle.wasi_host.specs.declared.udp.OpenUdp.{OpenUdp}
 use Rattle.wasi_host.specs.declared.udp.Udp2Socket.{Udp2Socket}
-use Rattle.wasi_walks.specs.Licence.{IsReceived, UdpCreated}
-use Rattle.wasi_walks.proofs.Lists.{cut_more, get_set, get_split, has_front}
+use Rattle.wasi_walks.specs.Licence.{UdpCreated}
+use Rattle.wasi_walks.proofs.Lists.{get_set, get_split, has_front}
 use Rattle.wasi_walks.proofs.UdpLists.{tcp_of_put, tcp_of_push, udp_of_put, udp_of_push, udp_get_set, udp_split}
-use Rattle.wasi_walks.proofs.walks.Moves.{Here, FoundUdp, SameSockets, KeepsCame, KeepsOp, WriterMoves, Collects, Permits, Lasts, LastsAfter, Closes, came_in, came_of, receive_op, receiving_in}
+use Rattle.wasi_walks.proofs.walks.Moves.{Here, FoundUdp, SameSockets, WriterMoves, Collects, Permits, Lasts, LastsAfter, Closes, receiving_in}
 use Rattle.wasi_walks.proofs.fits.Polls.{Anything}
-use Rattle.wasi_walks.proofs.fits.UdpFits.{kept_op}
-use Rattle.wasi_walks.proofs.licence.Frames.{maker_more}
 use Rattle.wasi_walks.proofs.licence.State.{RemoteIs}
 use Rattle.wasi_walks.proofs.remotes.Polls.{NoPeer, Unpeered, AreSilent}
 use Rattle.wasi_walks.proofs.remotes.ConnectPolls.{ConnectLeft, remote_more, none_kept}
@@ -45,32 +40,6 @@ abbrev pub Creates : List Entry → Here → Type 0
 Creates es h = (place : ℕ) (u : Udp2Socket) → FoundUdp h place u → CreatedBy es u
 
 -- == receives
--- a receive that has a datagram in hand was told it
-abbrev pub InHand : List Entry → OpId → OpId → List Item → Type 0
-InHand es op side (CheckPeer only bytes peer ∷ items) = Has es (entry op (Call.Recv side) (Told.Datagram bytes peer))
-InHand es op side _ = ⊤
-
--- what is known of a receive: what it has in hand, or what has come
-abbrev pub ReceivingKnows : List Entry → OpId → Receiving → Type 0
-ReceivingKnows es side (Receiving.InProgress op) = InHand es op.who.id side op.left
-ReceivingKnows es side (Receiving.Came d) = IsReceived es side d
-ReceivingKnows es side _ = ⊤
-
--- and of an incoming stream, if there is one
-abbrev pub IncomingKnows : List Entry → OpId → Option IncomingStream → Type 0
-IncomingKnows es side (Some inc) = ReceivingKnows es side inc.receiving
-IncomingKnows es side None = ⊤
-
--- of the receive in progress alone
-abbrev HandKnows : List Entry → OpId → Option Operation → Type 0
-HandKnows es side (Some op) = InHand es op.who.id side op.left
-HandKnows es side None = ⊤
-
--- of what has come alone
-abbrev CameKnows : List Entry → OpId → Option IncomingDatagram → Type 0
-CameKnows es side (Some d) = IsReceived es side d
-CameKnows es side None = ⊤
-
 -- a receive in progress asks for this creator of the network socket
 abbrev pub ReceivesFor : ℕ → Option Operation → Type 0
 ReceivesFor maker (Some op) = op.who.context ≡ maker
@@ -82,13 +51,11 @@ abbrev pub ConnectsBy : SocketAddressFamily → Option Operation → Type 0
 ConnectsBy family (Some op) = ConnectLeft family Nothing op.left
 ConnectsBy family None = ⊤
 
--- An open socket was created, keeps what was reported last, connects by a connect of its family, and receives for its creator what
--- was received.
+-- An open socket was created, keeps what was reported last, connects by a connect of its family, and receives for its creator.
 pub record OpenKeeps (es : List Entry) (o : OpenUdp) : Type 0 where
   pub created : IsCreated es o.inner.side o.inner.maker o.inner.family
   pub remote : RemoteIs es o.inner.side o.inner.remote
   pub connects : ConnectsBy o.inner.family o.connecting
-  pub receives : IncomingKnows es o.inner.side o.incoming
   pub receiver : ReceivesFor o.inner.maker (receiving_in o.incoming)
 
 -- what is known of a UDP socket
@@ -182,33 +149,6 @@ push_udps es records now f k = record {
 pub records_keep : {new : LookupOp → Type 0} (es : List Entry) (old now : List Record) → SameSockets new old now → Keeps es old → Keeps es now
 records_keep es old now s k = record { udps = λ i u e. k.udps i u (sym (s.udp i) ∙ e); tcps = λ i r e. k.tcps i r (sym (s.tcp i) ∙ e) }
 
--- == what an incoming stream holds, under more entries
--- a datagram that was received
-pub received_more : (es fs : List Entry) (side : OpId) (d : IncomingDatagram) → IsReceived es side d → IsReceived (es ++ fs) side d
-received_more es fs side d r = record {
-  op = r.op;
-  front = r.front;
-  back = r.back ++ fs;
-  cut = cut_more es fs r.front r.back _ r.cut;
-  yes = record { ctx = r.yes.ctx; family = r.yes.family; maker = maker_more es fs r.yes.ctx r.yes.family side r.yes.maker; checked = has_front r.back fs _ r.yes.checked };
-}
-
--- one that is in hand
-pub in_hand_more : (es fs : List Entry) (op side : OpId) (items : List Item) → InHand es op side items → InHand (es ++ fs) op side items
-in_hand_more es fs op side (CheckPeer only bytes peer ∷ items) k = has_front es fs _ k
-in_hand_more es fs op side _ k = tt
-
--- either
-pub receiving_more : (es fs : List Entry) (side : OpId) (r : Receiving) → ReceivingKnows es side r → ReceivingKnows (es ++ fs) side r
-receiving_more es fs side (Receiving.InProgress op) k = in_hand_more es fs op.who.id side op.left k
-receiving_more es fs side (Receiving.Came d) k = received_more es fs side d k
-receiving_more es fs side _ k = tt
-
--- of a stream, if there is one
-pub incoming_more : (es fs : List Entry) (side : OpId) (inc : Option IncomingStream) → IncomingKnows es side inc → IncomingKnows (es ++ fs) side inc
-incoming_more es fs side (Some inc) k = receiving_more es fs side inc.receiving k
-incoming_more es fs side None k = tt
-
 -- == one more entry
 -- the call asks no network socket for its remote address, of which one is kept
 abbrev pub Spares : List Record → Call → Type 0
@@ -229,7 +169,6 @@ udp_more es op c told (Udp2Socket.Open o) n k = record {
   created = has_front es _ _ k.created;
   remote = remote_unless es op c told o.inner.side o.inner.remote (n o refl) k.remote;
   connects = k.connects;
-  receives = incoming_more es _ o.inner.side o.incoming k.receives;
   receiver = k.receiver;
 }
 udp_more es op c told (Udp2Socket.Closed side) n k = tt
@@ -245,41 +184,6 @@ quiet records c n place o g e = absurd (subst NoPeer e n)
 -- what asks for no remote address
 pub kept : {A : Type 0} (records : List Record) (Q : List Entry → A → Type 0) (es : List Entry) (asks : Asks A) → Keeps es records → Allows Unpeered Q es asks → Allows Anything (λ fs a. Keeps fs records × Q fs a) es asks
 kept records Q es asks k a = allows_keep Unpeered Anything (λ fs. Keeps fs records) Q (λ fs op c t fits m n. asked fs records op c t (quiet records c n) m) (λ fs op c n. tt) es asks k a
-
--- == a stream of datagrams that keeps what it has, or has it no more
--- what is known of the receive in progress
-hand_of : (es : List Entry) (side : OpId) (inc : Option IncomingStream) → IncomingKnows es side inc → HandKnows es side (receiving_in inc)
-hand_of es side None k = tt
-hand_of es side (Some inc) k = of inc.receiving k
-  where
-    of : (r : Receiving) → ReceivingKnows es side r → HandKnows es side (receive_op r)
-    of (Receiving.InProgress op) k = k
-    of _ k = tt
-
--- and of what has come
-came_known : (es : List Entry) (side : OpId) (inc : Option IncomingStream) → IncomingKnows es side inc → CameKnows es side (came_in inc)
-came_known es side None k = tt
-came_known es side (Some inc) k = of inc.receiving k
-  where
-    of : (r : Receiving) → ReceivingKnows es side r → CameKnows es side (came_of r)
-    of (Receiving.Came d) k = k
-    of _ k = tt
-
--- so of all of it
-knows_both : (es : List Entry) (side : OpId) (inc : Option IncomingStream) → HandKnows es side (receiving_in inc) → CameKnows es side (came_in inc) → IncomingKnows es side inc
-knows_both es side None k l = tt
-knows_both es side (Some inc) k l = of inc.receiving k l
-  where
-    of : (r : Receiving) → HandKnows es side (receive_op r) → CameKnows es side (came_of r) → ReceivingKnows es side r
-    of (Receiving.InProgress op) k l = k
-    of (Receiving.Came d) k l = l
-    of _ k l = tt
-
--- a plain change leaves it
-pub incoming_kept : (es : List Entry) (side : OpId) (old now : Option IncomingStream) → KeepsOp (receiving_in old) (receiving_in now) → KeepsCame (came_in old) (came_in now) → IncomingKnows es side old → IncomingKnows es side now
-incoming_kept es side old now p q k = knows_both es side now
-    (kept_op (HandKnows es side) tt (receiving_in old) (receiving_in now) p (hand_of es side old k))
-    (kept_op (CameKnows es side) tt (came_in old) (came_in now) q (came_known es side old k))
 
 -- == streams
 -- the same streams

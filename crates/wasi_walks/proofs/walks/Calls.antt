@@ -22,7 +22,7 @@ use Rattle.wasi_host.specs.Machine.{with_table}
 use Rattle.wasi_host.specs.StreamCalls.{failed_made}
 use Rattle.wasi_walks.proofs.walks.Failures.{Why, check_why, flush_why, input_why, output_why, written_why}
 use Rattle.wasi_walks.proofs.walks.OnBase.{both}
-use Rattle.wasi_walks.proofs.walks.Moves.{Calls, Here, Leaves, Lists, Own, ReachesStream, Used, put, record_of}
+use Rattle.wasi_walks.proofs.walks.Moves.{Calls, Here, Leaves, Lists, OfStreams, Own, ReachesHandle, Used, put, record_of}
 use Rattle.wasi_walks.proofs.walks.Law.{HasRecord, Law, Walks, and_then, ends, from, give, gives, move, put_same}
 use Rattle.wasi_walks.proofs.walks.Pipes.{read_plain_walks, write_plain_walks}
 use Rattle.wasi_walks.proofs.walks.States.{OverWith, input_record, output_record, streams_are, there}
@@ -32,7 +32,7 @@ use Rattle.wasi_walks.proofs.walks.Writes.{MayWrite, may_at, may_in, may_of}
 -- == what a line works on
 -- calls of streams are done for line n, which named these handles
 abbrev pub Calling : ℕ → List ℕ → Option (ℕ × ℕ) → Own → Machine → Here
-Calling n handles at own m = record { machine = m; at = at; made = Calls n handles; own = own }
+Calling n handles at own m = record { machine = m; at = at; made = Calls OfStreams n handles; own = own }
 
 -- after a call on a stream it is the stream's record that is worked on, where that has one
 abbrev pub reaching : Option (ℕ × ℕ) → ℕ → Option ℕ → Option (ℕ × ℕ)
@@ -120,7 +120,7 @@ module _ {contexts : List WasiSocketsCtx} {line : ℕ} {origin : Step} {law : La
           → Walks law (Calling n handles at own m) (Called n handles (reaching at n o) own) (stream_on m (own_of n) handle call o)
       stream_on_walks call None k c why = give _
       stream_on_walks call (Some place) k c why =
-          move (ReachesStream _ n handle place handles refl named (k place refl))
+          move (ReachesHandle _ OfStreams n handle place handles refl named (k place refl))
           (and_why (Why n m handle place) (why place refl) (stream_at_walks own place call (tcp2_at m.store.records place) refl (λ none. give _) (λ r is here. c place r here)) (λ done. converted_walks m handle place done named (k place refl)))
 
       -- == a read, and a skip
@@ -139,7 +139,7 @@ module _ {contexts : List WasiSocketsCtx} {line : ℕ} {origin : Step} {law : La
       -- == whether there is something to read
       look_on_walks : (o : Option ℕ) → ((place : ℕ) → o ≡ Some place → record_of (kind_at m.table handle) ≡ Some place) → Walks law (Calling n handles at own m) (Called n handles (reaching at n o) own) (look_on m (own_of n) o)
       look_on_walks None k = give _
-      look_on_walks (Some place) k = move (ReachesStream _ n handle place handles refl named (k place refl)) (and_then (look_at_walks m place (tcp2_at m.store.records place) refl) (looked_walks m place))
+      look_on_walks (Some place) k = move (ReachesHandle _ OfStreams n handle place handles refl named (k place refl)) (and_then (look_at_walks m place (tcp2_at m.store.records place) refl) (looked_walks m place))
 
       look_by_walks : (o : Option PlainInput) → plain_input_at m handle ≡ o → Walks law (Calling n handles at own m) (Called n handles (reaching at n (input_at m handle)) own) (look_by m (own_of n) handle o)
       look_by_walks (Some plain) e = ends (λ done. ap (λ (o : Option ℕ). Called n handles (reaching at n o) own done) (sym (no_input (kind_at m.table handle) plain e))) (give _)
@@ -175,7 +175,7 @@ module _ {contexts : List WasiSocketsCtx} {line : ℕ} {origin : Step} {law : La
       write_on_walks bytes (Some place) e k may =
           let o = tcp2_at m.store.records place in
           let h = Calling n handles (Some (place, n)) own m in
-          move (ReachesStream _ n handle place handles refl named (k place refl))
+          move (ReachesHandle _ OfStreams n handle place handles refl named (k place refl))
           (and_why (Why n m handle place) (λ es. written_why n m handle place es bytes e) (and_then (stream_at_walks {h = h} Used place (writer_asks (λ w. write_state_asks (own_of n) w bytes)) o refl
           (λ none. begins_none (subst (λ (x : Option Tcp2Socket). MayWrite law own (may_in x bytes)) none may) (give _))
           (λ r is here. write_record_walks here refl bytes r r.streams refl (subst (λ (x : Option Tcp2Socket). MayWrite law own (may_in x bytes)) is may)))

@@ -23,7 +23,7 @@ use Rattle.wasi_udp.specs.Connect.{connect_asks, connect_start, is_connectable}
 use Rattle.wasi_udp.specs.Shape.{Socket}
 use Rattle.wasi_udp.specs.Socket.{after_local, ask_bound, bound_asks, disconnect_asks, disconnect_in, is_connected, then_peer}
 use Rattle.wasi_walks.proofs.Lists.{value_front}
-use Rattle.wasi_walks.specs.Licence.{IsUdpConnectTo}
+use Rattle.wasi_walks.specs.Licence.{IsDisconnect, IsUdpConnectTo}
 use Rattle.wasi_walks.proofs.walks.Moves.{Here, ToStream, Own, put_udp, FoundUdp, NoStart, NoStartStands, ReachesUdp, Leaves, Spends, UdpChanges, RemembersStreams, BeginsUdpConnect, StandsUdpConnect, Used, Unused}
 use Rattle.wasi_walks.proofs.walks.Law.{Law, Walks, Given, given_then, given_on, give, and_then, and_given, move, gives, from}
 use Rattle.wasi_walks.proofs.walks.States.{OverWith, Starts, udp_record}
@@ -160,20 +160,20 @@ module _ {contexts : List WasiSocketsCtx} {line : ℕ} {origin : Step} {law : La
     told_walks o (Ok d, socket) = opens (with_udp_inner o socket)
     told_walks o (Err c, socket) = gives _ (Spends _ free)
 
-    disconnect_walks : (o : OpenUdp) (remote : Option IpSocketAddress) → o.inner.bound ≡ true → Walks law (put_udp h place (Udp2Socket.Open o)) (λ done. put_udp h place (Udp2Socket.Open (with_udp_inner o done.1))) (disconnect_in (own_of line) o.inner remote)
+    disconnect_walks : IsDisconnect origin → (o : OpenUdp) (remote : Option IpSocketAddress) → o.inner.bound ≡ true → Walks law (put_udp h place (Udp2Socket.Open o)) (λ done. put_udp h place (Udp2Socket.Open (with_udp_inner o done.1))) (disconnect_in (own_of line) o.inner remote)
     unfolding bind
-    disconnect_walks o None bound = give _
-    disconnect_walks o (Some a) bound =
-        ask_udp here o at refl (λ told. subst (λ (s : Socket). Walks law (put_udp h place (Udp2Socket.Open o)) (λ done. put_udp h place (Udp2Socket.Open (with_udp_inner o done.1))) (then_peer (own_of line) s (told_done told))) (bound_same o.inner bound)
+    disconnect_walks to o None bound = give _
+    disconnect_walks to o (Some a) bound =
+        ask_udp here o at (refl, refl, to) (λ told. subst (λ (s : Socket). Walks law (put_udp h place (Udp2Socket.Open o)) (λ done. put_udp h place (Udp2Socket.Open (with_udp_inner o done.1))) (then_peer (own_of line) s (told_done told))) (bound_same o.inner bound)
         (peer_udp here o at (λ t. give _)))
 
-    without_walks : (o : OpenUdp) (connected : Bool) → o.inner.bound ≡ true → Walks law (put_udp h place (Udp2Socket.Open o)) (Ends h place) (disconnect_streams (own_of line) o connected)
-    without_walks o true bound = and_then (disconnect_walks o o.inner.remote bound) (told_walks o)
-    without_walks o false bound = opens o
+    without_walks : IsDisconnect origin → (o : OpenUdp) (connected : Bool) → o.inner.bound ≡ true → Walks law (put_udp h place (Udp2Socket.Open o)) (Ends h place) (disconnect_streams (own_of line) o connected)
+    without_walks to o true bound = and_then (disconnect_walks to o o.inner.remote bound) (told_walks o)
+    without_walks to o false bound = opens o
 
     streams_to_walks : (c s : ℕ) (remote : Option IpSocketAddress) → origin ≡ Step.UdpStream c s remote → (o : OpenUdp) → o.inner.bound ≡ true → Walks law (put_udp h place (Udp2Socket.Open o)) (Ends h place) (streams_to (own_of line) o remote)
     streams_to_walks c s (Some a) is o bound = connect_walks o a bound (subst (IsUdpConnectTo a) (sym is) refl)
-    streams_to_walks c s None is o bound = without_walks o (is_connected o.inner.remote) bound
+    streams_to_walks c s None is o bound = without_walks (subst IsDisconnect (sym is) tt) o (is_connected o.inner.remote) bound
 
     where_walks : (c s : ℕ) (remote : Option IpSocketAddress) → origin ≡ Step.UdpStream c s remote → (o : OpenUdp) (bound : Bool) → (bound ≡ true → o.inner.bound ≡ true) → Walks law (put_udp h place (Udp2Socket.Open o)) (Ends h place) (streams_where (own_of line) remote o bound)
     where_walks c s remote is o true k = streams_to_walks c s remote is o (k refl)

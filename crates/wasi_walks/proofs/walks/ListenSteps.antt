@@ -4,7 +4,10 @@ use Rattle.wasi_walks.proofs.Words.{Ready, Records, Result, Socket, Some, Standi
 use Rattle.wasi_walks.proofs.Words.{accept_at, accept_end, accept_listening, accept_on, accepted_asks, accepted_record, accepted_streams, false}
 use Rattle.wasi_walks.proofs.Words.{first_ids, handles_of, is_nothing, kept_accepted, kind_at, make_asks, own_of, refl, side_at}
 use Rattle.wasi_walks.proofs.Words.{socket_at, start_listen_at, start_listen_by, true, with_records, with_store, socket_with_streams, with_table, ℕ, ⊤, ◌≡◌}
-use Rattle.wasi_walks.proofs.walks.Moves.{NoStartStands, Used, Unused, put, Found, record_of, Reaches, Leaves, Spends, Marked, made_so, AnAcceptedStream, Watches}
+use Rattle.wasi_walks.proofs.walks.Moves.{NoStartStands, Used, Unused, put, Found, record_of, Reaches, Leaves, Spends, Marked, made_so, AnAcceptedStream, Watches, Counts, Names, SpendsNames}
+use Rattle.wasi_walks.proofs.walks.Here.{after_names, part_after}
+use Rattle.std.specs.Prelude.{not}
+use Rattle.wasi_tcp.specs.Listener.{has_accept}
 use Rattle.wasi_walks.proofs.walks.Law.{Law, HasRecord, put_same, Walks, give, and_then, and_given, move, gives, from, accept}
 use Rattle.wasi_walks.proofs.walks.Sockets.{joined_if, Took, takes_walks, listener_walks, begin_listen_walks, begun_listen_given, WaitsSo}
 use Rattle.wasi_walks.proofs.walks.States.{Watching, OverWith, Between, socket_record, JoinedSo, At, Starts, given_any, AcceptedSo, Put, joined_given, Over, there}
@@ -33,14 +36,16 @@ module _ {contexts : List WasiSocketsCtx} {line : ℕ} {origin : Step} {law : La
     accept_answered_walks (Ok (Ready socket), r) = answered_so r (accepted_record socket)
     accept_answered_walks _ = give _
 
-    accept_listening_walks : (r : Tcp2Socket) (l : Listening) → r.listening ≡ l → tcp2_at m.store.records place ≡ Some r → Walks law (put (Watching line m place Unused) place r) (Took (Watching line m place Used) place) (accept_listening (first_ids line) r l)
+    accept_listening_walks : (r : Tcp2Socket) (l : Listening) → r.listening ≡ l → tcp2_at m.store.records place ≡ Some r → Walks law (put (Watching line m place (Names 1)) place r) (Took (Watching line m place Used) place) (accept_listening (first_ids line) r l)
     accept_listening_walks r (Accepts l) e g =
-        and_then (listener_walks (there g) refl r l (accept_end l) l.accept e refl refl (λ now. takes_walks {h = Watching line m place Used} (there {h = Watching line m place Used} {place = place} g) c s is k refl r l now)) (λ done. give _)
-    accept_listening_walks r _ e g = gives _ (Spends _ refl)
+        let begins = not (has_accept l.accept) in
+        and_then (listener_walks (there g) refl r l (accept_end l) 1 l.accept e refl (λ b. (refl, refl))
+        (λ now. move (SpendsNames _ (part_after 1 begins) (after_names 1 begins)) (takes_walks {h = Watching line m place Used} (there {h = Watching line m place Used} {place = place} g) c s is k refl r l now))) (λ done. give _)
+    accept_listening_walks r _ e g = gives _ (SpendsNames _ 1 refl)
 
-    accept_at_walks : (o : Option Tcp2Socket) → tcp2_at m.store.records place ≡ o → Walks law (Watching line m place Unused) (AcceptedSo line m place) (accept_at m.store (first_ids line) place o)
-    accept_at_walks None g = gives _ (Spends _ refl)
-    accept_at_walks (Some r) g = from (put_same (Watching line m place Unused) place r g) (and_then (accept_listening_walks r r.listening refl g) accept_answered_walks)
+    accept_at_walks : (o : Option Tcp2Socket) → tcp2_at m.store.records place ≡ o → Walks law (Watching line m place (Names 1)) (AcceptedSo line m place) (accept_at m.store (first_ids line) place o)
+    accept_at_walks None g = gives _ (SpendsNames _ 1 refl)
+    accept_at_walks (Some r) g = from (put_same (Watching line m place (Names 1)) place r g) (and_then (accept_listening_walks r r.listening refl g) accept_answered_walks)
 
   -- the handles of what was accepted
   accepted_streams_walks : (c s p : ℕ) (m : Machine) (made : Result ℕ Stop × Handles) → origin ≡ Step.TcpAccept c s → HasRecord (Over m) p
@@ -63,4 +68,4 @@ module _ {contexts : List WasiSocketsCtx} {line : ℕ} {origin : Step} {law : La
   accept_on_walks c s m None e named is = gives _ (Spends _ refl)
   accept_on_walks c s m (Some place) e named is =
       let k = socket_record (kind_at m.table s) place e in
-      move (Reaches _ s place named k) (move (Watches _ refl) (and_given JoinedSo (joined_given m.store (first_ids line) place (tcp2_at m.store.records place)) (accept_at_walks c s is m place k (tcp2_at m.store.records place) refl) (λ done j. accepted_walks c s place m done is j)))
+      move (Reaches _ s place named k) (move (Watches _ refl) (move (Counts _ refl) (and_given JoinedSo (joined_given m.store (first_ids line) place (tcp2_at m.store.records place)) (accept_at_walks c s is m place k (tcp2_at m.store.records place) refl) (λ done j. accepted_walks c s place m done is j))))

@@ -1,7 +1,7 @@
 -- What a line does, as moves: the state that it works on, what it may ask of the record that it works on, and how the state may
 -- move where nothing is asked.
 use Rattle.wasi_walks.proofs.Words.{Accepting, Accepts, Begins, Bool, Call, Connection, End, Err, ErrorCode, Has, InProgress, Input}
-use Rattle.wasi_walks.proofs.Words.{IpSocketAddress, IsBindTo, IsConnectTo, IsListenStep, Item, Job, Kind, List, Listener, Listening, Machine, Network, None, Not}
+use Rattle.wasi_walks.proofs.Words.{IpSocketAddress, IsBindTo, IsConnectTo, IsListenStep, Item, Job, Kind, List, Listener, Listening, Network, None, Not}
 use Rattle.wasi_walks.proofs.Words.{Ok, OpId, Operation, Option, Other, Output, Pollable, ReadState, Result, SocketAddressFamily, Some, Standing}
 use Rattle.wasi_walks.proofs.Words.{StandingCall, Step, Stop, Streams, Tcp2, Tcp2Socket, TcpReceiveStream, TcpSendStream, TcpState, WasiSocketsCtx}
 use Rattle.wasi_walks.proofs.Words.{Watched, WriteState, accept_ended, accept_operation, accepted_record, accepted_socket, accepted_state}
@@ -9,13 +9,14 @@ use Rattle.wasi_walks.proofs.Words.{bind_operation, bind_progress, call_place, c
 use Rattle.wasi_walks.proofs.Words.{connect_operation, context_at, false, gone, handles_of, is_connect, is_nothing, is_over, kind_at, length}
 use Rattle.wasi_walks.proofs.Words.{listen_ended, listen_first, listen_operation, listen_polled, nat_lt, new_job, new_streams, own_of, place_in}
 use Rattle.wasi_walks.proofs.Words.{side_at, side_of, standing_as, true, wildcard, with_accept, with_inner, with_listening}
-use Rattle.wasi_walks.proofs.Words.{with_progress, with_reader, with_socket, with_state, with_writer, without_handle, writer_side, ℕ, ⊤}
+use Rattle.wasi_walks.proofs.Words.{with_progress, with_reader, with_state, with_writer, without_handle, writer_side, ℕ, ⊤}
 use Rattle.wasi_walks.proofs.Words.{◌≡◌, ◌⊎◌}
 use Rattle.wasi_world.specs.declared.ids.Ids.{Ids}
+pub use Rattle.wasi_walks.proofs.walks.Here.{IsCreated, IsOpenUdp, NoStart, NoStartIn, NoStartStands, Releases, ReleasesUdp, CallKind, OfPollables, OfStreams, Found, FoundUdp, Here, Own, Names, ToWrite, Unused, Used, Made, Awaited, Calls, Emptied, Joined, Marked, Past, ToStream, Unmade, part_of, put, put_udp, with_records}
 use Rattle.wasi_host.specs.Records.{tcp2_at, tcp2_put, tcp2_pushed, udp2_at, lookup_at, input_pipe_at, output_pipe_at}
 use Rattle.wasi_host.specs.declared.name_lookup.Lookup.TheVariants as lookup
 use Rattle.wasi_host.specs.declared.name_lookup.LookupOp.{LookupOp}
-use Rattle.std.specs.Prelude.{◌+◌, is_some}
+use Rattle.std.specs.Prelude.{◌+◌, IsSome, is_some}
 use Rattle.wasi_names.specs.declared.name.HostName.TheVariants.{Domain}
 use Rattle.wasi_names.specs.Names.{name_is}
 use Rattle.wasi_world.specs.declared.datagram.IncomingDatagram.{IncomingDatagram}
@@ -29,11 +30,12 @@ use Rattle.wasi_host.specs.declared.datagrams.Outgoing.{Outgoing as OutgoingStre
 use Rattle.wasi_host.specs.declared.datagrams.Receiving.{Receiving}
 use Rattle.wasi_host.specs.declared.datagrams.Sending.{Sending}
 use Rattle.wasi_host.specs.declared.blocking.BlockingCall.{BlockingCall}
+use Rattle.wasi_host.specs.declared.blocking.BlockingCall.TheVariants as blocking
 use Rattle.wasi_host.specs.declared.kind.Kind.TheVariants.{Udp2, PlainInput, PlainOutput, Incoming, Outgoing, Lookup}
 use Rattle.wasi_host.specs.declared.kind.PlainInput.TheVariants as plain_input
 use Rattle.wasi_host.specs.declared.kind.PlainOutput.TheVariants as plain_output
 use Rattle.wasi_host.specs.Blocking.{blocking_handles}
-use Rattle.wasi_host.specs.Kinds.{watched_by}
+use Rattle.wasi_host.specs.Kinds.{has_no_child, watched_by}
 use Rattle.wasi_udp.specs.Connect.{connect_start}
 use Rattle.wasi_udp.specs.Receive.{receive_start, wanting}
 use Rattle.wasi_udp.specs.Send.{at_remote, send_start}
@@ -41,7 +43,6 @@ use Rattle.wasi_host.specs.declared.udp.OpenUdp.{OpenUdp}
 use Rattle.wasi_host.specs.declared.udp.Udp2Socket.{Udp2Socket}
 use Rattle.wasi_host.specs.declared.udp.UdpInProgress.{UdpInProgress}
 use Rattle.wasi_host.specs.Udp.{is_udp_idle, udp_bind_progress, udp_create_left, with_udp_progress}
-use Rattle.wasi_host.specs.UdpCalls.{with_udp}
 use Rattle.wasi_host.specs.UdpCreates.{udp_side_at, with_create}
 use Rattle.wasi_udp.specs.Bind.{bind_operation as udp_bind_operation}
 use Rattle.wasi_udp.specs.Create.{Create}
@@ -49,54 +50,12 @@ use Rattle.wasi_udp.specs.Socket.{asker_of}
 use Rattle.wasi_udp.specs.declared.bind.UdpBindStage.{UdpBindStage}
 use Rattle.wasi_host.specs.declared.records.Record.{Record}
 use Rattle.wasi_host.specs.declared.jobs.HostJob.{HostJob}
-use Rattle.wasi_walks.specs.Licence.{IsGetOf, IsSetTo, IsSendOf, IsUdpBindTo, IsUdpConnectTo}
+use Rattle.wasi_walks.specs.Licence.{IsGetOf, IsSetTo, IsSendOf, IsDisconnect, IsUdpBindTo, IsUdpConnectTo}
+use Rattle.wasi_walks.specs.Answered.{streams_in}
 use Rattle.wasi_walks.specs.Waiting.{StartsTold}
 use Rattle.wasi_tcp.specs.declared.bind.BindStage.TheVariants.{Check}
 use Rattle.wasi_tcp.specs.declared.writer.WriteError.{WriteError}
 use Rattle.wasi_tcp.specs.declared.accept.AcceptStage.TheVariants as accept
-
--- what the line's operations have begun: something, or nothing yet; its own none, and of the others those of a part below this one;
--- these bytes it is let write to this network socket
-pub data Own : Type 0 where
-  Used : Own
-  Unused : Own
-  Names : ℕ → Own
-  ToWrite : OpId → List ℕ → Own
-
--- what an accept has made so far: nothing, the record of what it took, or its handle too; the line whose call makes datagram
--- streams, and the handle that they are made under; the line whose call of streams is done, and the handles that it named; else
--- nothing is said of it
-pub data Made : Type 0 where
-  ToStream : ℕ → ℕ → Made
-  Calls : ℕ → List ℕ → Made
-  Past : Made
-  Unmade : Made
-  Joined : ℕ → Made
-  Marked : ℕ → ℕ → Made
-
--- What a line works on.
-pub record Here : Type 0 where
-  pub machine : Machine
-  pub at : Option (ℕ × ℕ)  -- the record that its handle stands for, once it was looked up, and the line whose operation asks
-  pub made : Made
-  pub own : Own
-
-abbrev pub put : Here → ℕ → Tcp2Socket → Here
-put h place r = record h { machine = record h.machine { store = with_socket h.machine.store place r } }
-
-abbrev pub Found : Here → ℕ → Tcp2Socket → Type 0
-Found h place r = tcp2_at h.machine.store.records place ≡ Some r
-
--- the same of a UDP socket
-abbrev pub put_udp : Here → ℕ → Udp2Socket → Here
-put_udp h place u = record h { machine = record h.machine { store = with_udp h.machine.store place u } }
-
-abbrev pub FoundUdp : Here → ℕ → Udp2Socket → Type 0
-FoundUdp h place u = udp2_at h.machine.store.records place ≡ Some u
-
--- other records
-abbrev pub with_records : Here → List Record → Here
-with_records h records = record h { machine = record h.machine { store = record h.machine.store { records = records } } }
 
 -- The sockets are as they were, and a lookup stays one, and so does a pipe. A lookup is in progress only where it was, or is one of
 -- these.
@@ -107,20 +66,6 @@ pub record SameSockets (new : LookupOp → Type 0) (old now : List Record) : Typ
   pub inputs : (k : ℕ) → is_some (input_pipe_at old k) ≡ true → is_some (input_pipe_at now k) ≡ true
   pub outputs : (k : ℕ) → is_some (output_pipe_at old k) ≡ true → is_some (output_pipe_at now k) ≡ true
   pub looks : (k : ℕ) (op : LookupOp) → lookup_at now k ≡ Some (lookup.InProgress op) → (lookup_at old k ≡ Some (lookup.InProgress op)) ⊎ new op
-
--- no bind, listen, create or connect is pending
-abbrev pub NoStartIn : StandingCall → Type 0
-NoStartIn (StandingCall.DropOutput place) = ⊤
-NoStartIn (StandingCall.DropOutgoing place) = ⊤
-NoStartIn (StandingCall.Blocking call) = ⊤
-NoStartIn _ = ⊥
-
-abbrev pub NoStartStands : Option Standing → Type 0
-NoStartStands None = ⊤
-NoStartStands (Some s) = NoStartIn s.call
-
-abbrev pub NoStart : Here → Type 0
-NoStart h = NoStartStands h.machine.store.standing
 
 -- of binds, no other is in progress: none is, or it is the same
 abbrev pub IsSettled : InProgress → Type 0
@@ -172,7 +117,7 @@ abbrev pub IsUdpQuestionOf : ℕ → Step → ℕ → OpId → Call → Type 0
 IsUdpQuestionOf line origin n side (Call.Local s) = s ≡ side
 IsUdpQuestionOf line origin n side (Call.GetOption s option) = (s ≡ side) × (n ≡ line) × IsGetOf option origin
 IsUdpQuestionOf line origin n side (Call.SetOption s option value) = (s ≡ side) × (n ≡ line) × IsSetTo option value origin
-IsUdpQuestionOf line origin n side (Call.UdpDisconnect s) = s ≡ side
+IsUdpQuestionOf line origin n side (Call.UdpDisconnect s) = (s ≡ side) × (n ≡ line) × IsDisconnect origin
 IsUdpQuestionOf line origin n side _ = ⊥
 
 -- the network socket is the socket's, or that of one of its halves
@@ -269,6 +214,28 @@ IsStreamCall (Step.BlockingFlush ctx output) = ⊤
 IsStreamCall (Step.BlockingSplice ctx output input len) = ⊤
 IsStreamCall _ = ⊥
 
+-- a look at a pollable, or a wait for some
+abbrev pub LooksAtPollables : Step → Type 0
+LooksAtPollables (Step.Ready ctx pollable) = ⊤
+LooksAtPollables (Step.Block ctx pollable) = ⊤
+LooksAtPollables (Step.PollList ctx pollables) = ⊤
+LooksAtPollables _ = ⊥
+
+abbrev pub IsCall : CallKind → Step → Type 0
+IsCall OfStreams s = IsStreamCall s
+IsCall OfPollables s = LooksAtPollables s
+
+-- of a call that blocks
+abbrev pub kind_of : BlockingCall → CallKind
+kind_of (blocking.Read input len) = OfStreams
+kind_of (blocking.Skip input len) = OfStreams
+kind_of (blocking.Write output rest) = OfStreams
+kind_of (blocking.Finish output) = OfStreams
+kind_of (blocking.Flush output) = OfStreams
+kind_of (blocking.Splice to from len) = OfStreams
+kind_of (blocking.Block pollable) = OfPollables
+kind_of (blocking.Poll pollables) = OfPollables
+
 -- a create of this family, by this context
 abbrev pub Creates : List WasiSocketsCtx → WasiSocketsCtx → SocketAddressFamily → Step → Type 0
 Creates contexts ctx family (Step.TcpCreate n f) = (context_at contexts n ≡ ctx) × (f ≡ family)
@@ -284,13 +251,19 @@ abbrev pub LooksUp : List WasiSocketsCtx → List ℕ → Step → Type 0
 LooksUp contexts host (Step.Resolve n network name) = ((context_at contexts n).ip_name_lookup ≡ true) × (name_is name ≡ Some (Domain host))
 LooksUp contexts host _ = ⊥
 
+-- The handle is that of the record's socket, whose streams are there; it is no accept's.
+pub record IsOpened (h : Here) (handle place : ℕ) : Type 0 where
+  pub past : h.made ≡ Past
+  pub socket : kind_at h.machine.table handle ≡ Some (Tcp2 place)
+  pub streams : IsSome (streams_in (tcp2_at h.machine.store.records place))
+
 -- a handle that the line may mark, with its parent and its network socket
 pub data Marks (origin : Step) (h : Here) : Kind → Option ℕ → Option OpId → Type 0 where
   ANetwork : (c : ℕ) → origin ≡ Step.Network c → Marks origin h Network None None
-  AStream : (c handle place : ℕ) (kind : Kind) → origin ≡ Step.TcpFinishConnect c handle → (kind ≡ Input place) ⊎ (kind ≡ Output place) → record_of (kind_at h.machine.table handle) ≡ Some place → Marks origin h kind (Some handle) (side_at (tcp2_at h.machine.store.records place))
+  AStream : (c handle place : ℕ) (kind : Kind) → origin ≡ Step.TcpFinishConnect c handle → (kind ≡ Input place) ⊎ (kind ≡ Output place) → IsOpened h handle place → Marks origin h kind (Some handle) (side_at (tcp2_at h.machine.store.records place))
   AnAcceptedStream : (c listener handle place : ℕ) (kind : Kind) (r : Tcp2Socket) → origin ≡ Step.TcpAccept c listener → (kind ≡ Input place) ⊎ (kind ≡ Output place) → h.made ≡ Marked handle place → h.own ≡ Used → Found h place r → Marks origin h kind (Some handle) (side_at (tcp2_at h.machine.store.records place))
-  APollable : (c handle : ℕ) (w : Watched) → origin ≡ Step.Subscribe c handle → tcp_place w ≡ Some (place_in w) → record_of (kind_at h.machine.table handle) ≡ Some (place_in w) → Marks origin h (Pollable w) (Some handle) (side_at (tcp2_at h.machine.store.records (place_in w)))
-  AUdpPollable : (c handle : ℕ) (w : Watched) → origin ≡ Step.Subscribe c handle → udp_place w ≡ Some (place_in w) → udp_record_of (kind_at h.machine.table handle) ≡ Some (place_in w) → Marks origin h (Pollable w) (Some handle) (udp_side_at (udp2_at h.machine.store.records (place_in w)))
+  APollable : (c handle : ℕ) (w : Watched) → origin ≡ Step.Subscribe c handle → tcp_place w ≡ Some (place_in w) → record_of (kind_at h.machine.table handle) ≡ Some (place_in w) → watched_by (kind_at h.machine.table handle) ≡ Some w → Marks origin h (Pollable w) (Some handle) (side_at (tcp2_at h.machine.store.records (place_in w)))
+  AUdpPollable : (c handle : ℕ) (w : Watched) → origin ≡ Step.Subscribe c handle → udp_place w ≡ Some (place_in w) → udp_record_of (kind_at h.machine.table handle) ≡ Some (place_in w) → watched_by (kind_at h.machine.table handle) ≡ Some w → Marks origin h (Pollable w) (Some handle) (udp_side_at (udp2_at h.machine.store.records (place_in w)))
   ALookup : (c network place : ℕ) (name : List ℕ) → origin ≡ Step.Resolve c network name → is_some (lookup_at h.machine.store.records place) ≡ true → Marks origin h (Lookup place) (Some network) None
   ALookupPollable : (c handle place : ℕ) → origin ≡ Step.Subscribe c handle → kind_at h.machine.table handle ≡ Some (Lookup place) → Marks origin h (Pollable (Watched.Lookup place)) (Some handle) None
   APlain : (kind : Kind) → MakesPlain origin kind → Marks origin h kind None None
@@ -316,12 +289,9 @@ listen_after op r ended = (listen_polled r (listen_ended op.who r.inner ended)).
 abbrev pub accepting_now : Tcp2Socket → Listener → Accepting → Tcp2Socket
 accepting_now r l a = with_listening r (Accepts (with_accept l a))
 
--- the second name of a line, which an accept has
-abbrev pub second_of : ℕ → OpId
-second_of line = record { step = line; part = 1 }
-
-abbrev pub new_accept : ℕ → Listener → Accepting
-new_accept line l = Accepting.Asking (accept_operation (record { op = second_of line; side = l.side; maker = l.maker }) accept.Accept)
+-- a new accept has this name
+abbrev pub new_accept : OpId → Listener → Accepting
+new_accept name l = Accepting.Asking (accept_operation (record { op = name; side = l.side; maker = l.maker }) accept.Accept)
 
 -- what was accepted
 abbrev pub joined : Listener → OpId → IpSocketAddress → Tcp2Socket
@@ -405,10 +375,6 @@ pub record SettlesSend (op : Operation) (left : End × List Item → Sending) : 
   pub done : (given : Given) (items : List Item) → send_op (left (Done given, items)) ≡ None
   pub refused : (c : ErrorCode) (given : Given) (items : List Item) → send_op (left (Refused c given, items)) ≡ None
 
--- the name of a part of a line
-abbrev pub part_of : ℕ → ℕ → OpId
-part_of line part = record { step = line; part = part }
-
 -- a create was begun, or refused
 abbrev pub udp_begun : Here → Result Create ErrorCode → Here
 udp_begun h (Ok create) = record h { machine = with_create h.machine create; own = Used }
@@ -439,7 +405,7 @@ pub data Move (line : ℕ) (origin : Step) : Here → Here → Type 0 where
   Changes : (h : Here) (place : ℕ) (r now : Tcp2Socket) → Found h place r → Plain r now → Move line origin h (put h place now)
   ClosesReader : (h : Here) (place : ℕ) (r : Tcp2Socket) (s : Streams) → Found h place r → r.streams ≡ Some s → Move line origin h (put h place (with_reader r s ReadState.Closed))
   Writes : (h : Here) (place : ℕ) (r : Tcp2Socket) (s : Streams) (w : WriteState) → Found h place r → r.streams ≡ Some s → WriterMoves s.writer w → Move line origin h (put h place (with_writer r s w))
-  IsGone : (h : Here) (place : ℕ) (r : Tcp2Socket) → NoStart h → Found h place r → side_of r.inner ≡ None → Move line origin h (put h place (gone r r.inner))
+  IsGone : (h : Here) (place : ℕ) (r : Tcp2Socket) → Releases h place → Found h place r → side_of r.inner ≡ None → Move line origin h (put h place (gone r r.inner))
   -- a connection, whose halves are taken where no connect is in progress
   Reconnects : (h : Here) (place : ℕ) (r : Tcp2Socket) (c now : Connection) → Found h place r → r.inner.state ≡ TcpState.Connected c → now.side ≡ c.side → (c.send_taken ≡ true → now.send_taken ≡ true) → (is_connect r.in_progress ≡ true → TakesNone c now) → Move line origin h (put h place (with_inner r (with_state r.inner (TcpState.Connected now))))
   Opens : (h : Here) (place : ℕ) (r : Tcp2Socket) (c : Connection) → IsSettled r.in_progress → Found h place r → r.inner.state ≡ TcpState.Connected c → c.send_taken ≡ false → Move line origin h (put h place (opened_by r c))
@@ -452,8 +418,6 @@ pub data Move (line : ℕ) (origin : Step) : Here → Here → Type 0 where
       → Move line origin h (record (put h place (with_writer r s (WriteState.Writing (new_job (own_of n) half.side bytes)))) { own = Used })
   BeginsListen : (h : Here) (place : ℕ) (r : Tcp2Socket) (side : OpId) → h.at ≡ Some (place, line) → Found h place r → r.inner.state ≡ TcpState.Default side → r.inner.bound ≡ true → r.listening ≡ Not → IsListenStep origin → is_nothing r.in_progress ≡ true → h.own ≡ Unused
       → Move line origin h (record (put h place (beginning_listen (own_of line) side r)) { own = Used })
-  BeginsAccept : (h : Here) (place : ℕ) (r : Tcp2Socket) (l : Listener) → h.at ≡ Some (place, line) → Found h place r → r.listening ≡ Accepts l → l.accept ≡ Accepting.Idle → h.own ≡ Unused
-      → Move line origin h (record (put h place (accepting_now r l (new_accept line l))) { own = Used })
   -- a listen is over; a listener's fault is taken
   Unlistens : (h : Here) (place : ℕ) (r : Tcp2Socket) (op : Operation) → NoStart h → Found h place r → r.listening ≡ Begins op → side_of r.inner ≡ None → is_over op ≡ true → Move line origin h (put h place (with_listening r Not))
   Forgets : (h : Here) (place : ℕ) (r : Tcp2Socket) (l : Listener) (c : ErrorCode) → Found h place r → r.listening ≡ Accepts l → l.accept ≡ Accepting.Failed c → Move line origin h (put h place (accepting_now r l Accepting.Idle))
@@ -478,27 +442,33 @@ pub data Move (line : ℕ) (origin : Step) : Here → Here → Type 0 where
       → Move line origin h (record (put_udp h place (Udp2Socket.Open (record o { connecting = Some (begun_udp_connect (own_of line) o a) }))) { own = Used })
   StandsUdpConnect : (h : Here) (ids : Ids) (place handle : ℕ) (o : OpenUdp) (op : Operation) → h.at ≡ Some (place, ids.line) → h.made ≡ ToStream ids.line handle → FoundUdp h place (Udp2Socket.Open o) → o.connecting ≡ Some op → Move line origin h (record h { machine = record h.machine { store = record h.machine.store { standing = Some (standing_as ids (StandingCall.UdpConnect place handle)) } } })
   StandsDropOutgoing : (h : Here) (ids : Ids) (place : ℕ) (o : OpenUdp) → h.at ≡ Some (place, ids.line) → FoundUdp h place (Udp2Socket.Open o) → sends o.outgoing ≡ true → Move line origin h (record h { machine = record h.machine { store = record h.machine.store { standing = Some (standing_as ids (StandingCall.DropOutgoing place)) } } })
-  -- datagrams: each has the next name of the line
+  -- accepts and datagrams: each has the next name of the line
   Counts : (h : Here) → h.own ≡ Unused → Move line origin h (record h { own = Names 1 })
   SpendsNames : (h : Here) (n : ℕ) → h.own ≡ Names n → Move line origin h (record h { own = Used })
+  BeginsAccept : (h : Here) (place n : ℕ) (r : Tcp2Socket) (l : Listener) → h.at ≡ Some (place, line) → Found h place r → r.listening ≡ Accepts l → l.accept ≡ Accepting.Idle → h.own ≡ Names n
+      → Move line origin h (record (put h place (accepting_now r l (new_accept (part_of line n) l))) { own = Names (n + 1) })
   BeginsSend : (h : Here) (place n : ℕ) (o : OpenUdp) (out : OutgoingStream) (d : OutgoingDatagram) (bound : Bool) → h.at ≡ Some (place, line) → FoundUdp h place (Udp2Socket.Open o) → o.outgoing ≡ Some out → IsSendOf n d origin → (bound ≡ true → o.inner.bound ≡ true) → h.own ≡ Names n
       → Move line origin h (record (put_udp h place (Udp2Socket.Open (sending_now o out (send_start (part_of line n) o.inner d.bytes d.remote_address bound)))) { own = Names (n + 1) })
   BeginsReceive : (h : Here) (place n : ℕ) (o : OpenUdp) (inc : IncomingStream) (bound : Bool) → h.at ≡ Some (place, line) → FoundUdp h place (Udp2Socket.Open o) → o.incoming ≡ Some inc → h.own ≡ Names n
       → Move line origin h (record (put_udp h place (Udp2Socket.Open (receiving_now o inc (receive_start (part_of line n) o.inner bound)))) { own = Names (n + 1) })
-  -- calls of streams: those of the line, or the one that is pending, and the record of one of its handles; it is pending then
-  CallsStreams : (h : Here) → IsStreamCall origin → Move line origin h (record h { made = Calls line (handles_of origin) })
-  RecallsStreamCall : (h : Here) (ids : Ids) (call : BlockingCall) → h.machine.store.standing ≡ Some (standing_as ids (StandingCall.Blocking call)) → Move line origin h (record h { made = Calls ids.line (blocking_handles call) })
-  ReachesStream : (h : Here) (n handle place : ℕ) (handles : List ℕ) → h.made ≡ Calls n handles → Has handles handle → record_of (kind_at h.machine.table handle) ≡ Some place → Move line origin h (record h { at = Some (place, n) })
-  StandsBlocking : (h : Here) (ids : Ids) (call : BlockingCall) (handles : List ℕ) → h.made ≡ Calls ids.line handles → blocking_handles call ≡ handles → Move line origin h (record h { machine = record h.machine { store = record h.machine.store { standing = Some (standing_as ids (StandingCall.Blocking call)) } } })
+  -- calls on handles: that of the line, or the one that is pending, and the record of one of its handles; it is pending then
+  CallsHandles : (h : Here) (kind : CallKind) → IsCall kind origin → Move line origin h (record h { made = Calls kind line (handles_of origin) })
+  RecallsCall : (h : Here) (ids : Ids) (call : BlockingCall) → h.machine.store.standing ≡ Some (standing_as ids (StandingCall.Blocking call)) → Move line origin h (record h { made = Calls (kind_of call) ids.line (blocking_handles call) })
+  ReachesHandle : (h : Here) (kind : CallKind) (n handle place : ℕ) (handles : List ℕ) → h.made ≡ Calls kind n handles → Has handles handle → record_of (kind_at h.machine.table handle) ≡ Some place → Move line origin h (record h { at = Some (place, n) })
+  StandsBlocking : (h : Here) (ids : Ids) (call : BlockingCall) (handles : List ℕ) → h.made ≡ Calls (kind_of call) ids.line handles → blocking_handles call ≡ handles → Move line origin h (record h { machine = record h.machine { store = record h.machine.store { standing = Some (standing_as ids (StandingCall.Blocking call)) } } })
   -- a pending call is given up
   CancelsBind : (h : Here) (place : ℕ) (r : Tcp2Socket) (op : Operation) → NoStart h → Found h place r → r.in_progress ≡ InProgress.Binding op → Move line origin h (put h place (with_progress r InProgress.Nothing))
   CancelsUdpBind : (h : Here) (place : ℕ) (o : OpenUdp) (op : Operation) → NoStart h → FoundUdp h place (Udp2Socket.Open o) → o.in_progress ≡ UdpInProgress.Binding op → Move line origin h (put_udp h place (Udp2Socket.Open (with_udp_progress o UdpInProgress.Nothing)))
   CancelsUdpConnect : (h : Here) (place : ℕ) (o : OpenUdp) → NoStart h → FoundUdp h place (Udp2Socket.Open o) → Move line origin h (put_udp h place (Udp2Socket.Open (record o { connecting = None })))
   -- lookups and pipes: what was found, and what is handed out
   Finds : (h : Here) (records : List Record) → SameSockets (λ op. ⊥) h.machine.store.records records → Move line origin h (with_records h records)
+  -- a create that is to be polled: no handle is of its record
+  AwaitsCreate : (h : Here) (place : ℕ) (create : Create) → FoundUdp h place (Udp2Socket.Creating create) → Move line origin h (record h { made = Awaited place })
+  -- a handle is taken out of the table, under which nothing is live; of a socket that is dropped it is noted which
+  Empties : (h : Here) (handle : ℕ) (kind : Kind) → kind_at h.machine.table handle ≡ Some kind → has_no_child h.machine.table handle ≡ true → Move line origin h (record h { machine = record h.machine { table = without_handle h.machine.table handle }; made = Emptied kind })
+  Takes : (h : Here) (handle : ℕ) → has_no_child h.machine.table handle ≡ true → Move line origin h (record h { machine = record h.machine { table = without_handle h.machine.table handle } })
   -- the rest
   Lists : (h : Here) (jobs : List HostJob) → Move line origin h (record h { machine = record h.machine { store = record h.machine.store { jobs = jobs } } })
-  Takes : (h : Here) (handle : ℕ) → Move line origin h (record h { machine = record h.machine { table = without_handle h.machine.table handle } })
 
 -- an operation that the line polls: where it is kept, and what becomes of it
 pub data Held (h : Here) : Operation → (End × List Item → Here) → Type 0 where

@@ -1,9 +1,10 @@
 -- A law that rests on another: what it asks, keeps and moves, where the other holds.
+use Rattle.wasi_walks.proofs.walks.Moves.{IsCreated, Releases, ReleasesUdp}
 use Rattle.wasi_walks.proofs.Words.{Allows, Ask, AskWrite, Asks, Call, End, Entry, Fits, Give, IsBacklogSet, Item, Kind, List, None, Not, OpId}
 use Rattle.wasi_walks.proofs.Words.{Operation, Option, SocketAddressFamily, Some, Step, Streams, Tcp2, Tcp2Socket, TcpState, Told, WasiSocketsCtx, []}
 use Rattle.wasi_walks.proofs.Words.{after_local, create_asks, entry, give_up_asks, make_asks, own_of, poll_asks, side_at, side_of}
 use Rattle.wasi_walks.proofs.Words.{told_addr, told_done, true, turn_asks, with_inner, with_listening, with_writer, ℕ, ◌++◌, ◌∷◌, ◌≡◌}
-use Rattle.wasi_walks.proofs.walks.Moves.{Here, Calls, record_of, LooksUp, SameSockets, with_records, put, put_udp, Found, FoundUdp, CreatesUdp, udp_begun, ToStream, part_of, NoStart, closed_record, Past, Joined, made_so, Held, IsQuestionOf, IsUdpQuestionOf, IsOn, Move, Marks, Creates, Used, Unused}
+use Rattle.wasi_walks.proofs.walks.Moves.{Here, Calls, OfStreams, record_of, LooksUp, SameSockets, with_records, put, put_udp, Found, FoundUdp, CreatesUdp, udp_begun, ToStream, part_of, NoStart, closed_record, Past, Joined, made_so, Held, IsQuestionOf, IsUdpQuestionOf, IsOn, Move, Marks, Creates, Used, Unused}
 use Rattle.wasi_walks.proofs.walks.Failures.{Fails}
 use Rattle.wasi_walks.proofs.walks.Law.{Law}
 use Rattle.std.specs.Prelude.{◌⊎◌}
@@ -37,7 +38,7 @@ pub record Above (contexts : List WasiSocketsCtx) (line : ℕ) (origin : Step) (
       → P es (own_of line) (Call.SetBacklog side backlog) × ((told : Told) → Fits (Call.SetBacklog side backlog) told → Inv (es ++ entry (own_of line) (Call.SetBacklog side backlog) told ∷ []) h)
   pub learns : (es : List Entry) (h : Here) (place : ℕ) (r : Tcp2Socket) (side : OpId) → h.at ≡ Some (place, line) → Found h place r → r.inner.state ≡ TcpState.Default side → B es h → Inv es h
       → P es (own_of line) (Call.Local side) × ((told : Told) → Fits (Call.Local side) told → Inv (es ++ entry (own_of line) (Call.Local side) told ∷ []) (put h place (with_inner r (after_local r.inner (told_addr told)).1)))
-  pub closes : (es : List Entry) (h : Here) (place : ℕ) (r : Tcp2Socket) (side : OpId) → NoStart h → Found h place r → side_of r.inner ≡ Some side → B es h → Inv es h
+  pub closes : (es : List Entry) (h : Here) (place : ℕ) (r : Tcp2Socket) (side : OpId) → Releases h place → Found h place r → side_of r.inner ≡ Some side → B es h → Inv es h
       → P es (own_of line) (Call.Close side) × ((told : Told) → Fits (Call.Close side) told → Inv (es ++ entry (own_of line) (Call.Close side) told ∷ []) (put h place (closed_record r)))
   pub marks : (es : List Entry) (h : Here) (kind : Kind) (parent : Option ℕ) (sock : Option OpId) → Marks origin h kind parent sock → B es h → Inv es h
       → Allows P (λ fs made. Inv fs (record h { machine = record h.machine { table = made.1 } })) es (make_asks h.machine.table (own_of line) kind parent sock)
@@ -55,15 +56,15 @@ pub record Above (contexts : List WasiSocketsCtx) (line : ℕ) (origin : Step) (
       → P es (own_of line) (Call.Peer o.inner.side) × ((told : Told) → Fits (Call.Peer o.inner.side) told → Inv (es ++ entry (own_of line) (Call.Peer o.inner.side) told ∷ []) (put_udp h place (Udp2Socket.Open (with_udp_inner o (after_peer o.inner (told_addr told))))))
   pub udp_learns : (es : List Entry) (h : Here) (place part : ℕ) (o : OpenUdp) → h.at ≡ Some (place, line) → FoundUdp h place (Udp2Socket.Open o) → B es h → Inv es h
       → P es (part_of line part) (Call.Local o.inner.side) × ((told : Told) → Fits (Call.Local o.inner.side) told → Inv (es ++ entry (part_of line part) (Call.Local o.inner.side) told ∷ []) (put_udp h place (Udp2Socket.Open (with_udp_inner o (udp_after_local o.inner (told_addr told)).1))))
-  pub udp_closes : (es : List Entry) (h : Here) (place : ℕ) (o : OpenUdp) → NoStart h → FoundUdp h place (Udp2Socket.Open o) → B es h → Inv es h
+  pub udp_closes : (es : List Entry) (h : Here) (place : ℕ) (o : OpenUdp) → ReleasesUdp h place → FoundUdp h place (Udp2Socket.Open o) → B es h → Inv es h
       → P es (own_of line) (Call.Close o.inner.side) × ((told : Told) → Fits (Call.Close o.inner.side) told → Inv (es ++ entry (own_of line) (Call.Close o.inner.side) told ∷ []) (put_udp h place (Udp2Socket.Closed o.inner.side)))
   pub udp_creates : (es : List Entry) (h : Here) (ctx : WasiSocketsCtx) (family : SocketAddressFamily) → CreatesUdp contexts ctx family origin → ctx.udp ≡ true → h.at ≡ None → h.own ≡ Unused → h.made ≡ Past → B es h → Inv es h
       → P es (own_of line) (Call.UdpCreate ctx.name family) × ((told : Told) → Fits (Call.UdpCreate ctx.name family) told → Inv (es ++ entry (own_of line) (Call.UdpCreate ctx.name family) told ∷ []) (udp_begun h (udp_after_create (own_of line) ctx.name family (told_done told))))
-  pub udp_marks : (es : List Entry) (h : Here) (place : ℕ) (u : Udp2Socket) → FoundUdp h place u → B es h → Inv es h
-      → Allows P (λ fs made. Inv fs (record h { machine = record h.machine { table = made.1 } })) es (make_asks h.machine.table (udp_side u) (Udp2 place) None (Some (udp_side u)))
+  pub udp_marks : (es : List Entry) (h : Here) (place : ℕ) (u : Udp2Socket) → IsCreated h place u → B es h → Inv es h
+      → Allows P (λ fs made. Inv fs (record h { machine = record h.machine { table = made.1 }; made = Past })) es (make_asks h.machine.table (udp_side u) (Udp2 place) None (Some (udp_side u)))
   pub stream_marks : (es : List Entry) (h : Here) (place n handle : ℕ) (kind : Kind) → h.made ≡ ToStream n handle → (kind ≡ Incoming place) ⊎ (kind ≡ Outgoing place) → udp_of (kind_at h.machine.table handle) ≡ Some place → B es h → Inv es h
       → Allows P (λ fs made. Inv fs (record h { machine = record h.machine { table = made.1 } })) es (make_asks h.machine.table (own_of n) kind (Some handle) (udp_side_at (udp2_at h.machine.store.records place)))
-  pub error_marks : (es : List Entry) (h : Here) (n handle place : ℕ) (handles : List ℕ) → h.made ≡ Calls n handles → Has handles handle → record_of (kind_at h.machine.table handle) ≡ Some place → Fails es h.machine n handle place → B es h → Inv es h
+  pub error_marks : (es : List Entry) (h : Here) (n handle place : ℕ) (handles : List ℕ) → h.made ≡ Calls OfStreams n handles → Has handles handle → record_of (kind_at h.machine.table handle) ≡ Some place → Fails es h.machine n handle place → B es h → Inv es h
       → Allows P (λ fs made. Inv fs (record h { machine = record h.machine { table = made.1 } })) es (make_asks h.machine.table (own_of n) ErrorValue (Some handle) (side_at (tcp2_at h.machine.store.records place)))
   pub udp_gives_up : (es : List Entry) (h : Here) (place : ℕ) (create : Create) → NoStart h → FoundUdp h place (Udp2Socket.Creating create) → B es h → Inv es h
       → Allows P (λ fs done. Inv fs (put_udp h place (Udp2Socket.Closed create.operation.who.side))) es (create_cancel_asks create)

@@ -6,10 +6,10 @@ use Rattle.wasi_machine.specs.Machine.{first_ids}
 use Rattle.wasi_world.specs.declared.datagram.IncomingDatagram.{IncomingDatagram}
 use Rattle.wasi_world.specs.declared.ids.Ids.{Ids}
 use Rattle.wasi_world.specs.declared.ids.OpId.{OpId}
-use Rattle.wasi_host.specs.DatagramCalls.{begins_receive, drop_incoming_at, incoming_looked, ready_incoming_at, receive_datagrams_at}
+use Rattle.wasi_host.specs.DatagramCalls.{begins_receive, drop_incoming_at, receive_datagrams_at}
 use Rattle.wasi_host.specs.Jobs.{turn_receive_at}
 use Rattle.wasi_host.specs.Machine.{answered, at_once, incoming_at}
-use Rattle.wasi_host.specs.Receiving.{all_received, fetch_asks, fetch_names, look_incoming, poll_receive_asks, receive_after, receive_all, receive_datagrams_asks, receive_next_asks, taken, turn_incoming, turn_receiving, with_incoming, with_receiving}
+use Rattle.wasi_host.specs.Receiving.{all_received, fetch_asks, fetch_names, poll_receive_asks, receive_after, receive_all, receive_datagrams_asks, receive_next_asks, taken, turn_incoming, turn_receiving, with_incoming, with_receiving}
 use Rattle.wasi_host.specs.Records.{open_at, udp2_at}
 use Rattle.wasi_host.specs.UdpCalls.{with_open_udp}
 use Rattle.wasi_host.specs.declared.datagrams.Incoming.{Incoming}
@@ -38,7 +38,7 @@ idle_in : (o : OpenUdp) (now : Option Incoming) → (receiving_in now ≡ None) 
 idle_in o now e f = record { side = refl; maker = refl; family = refl; remote = refl; bound = λ b. b; binds = inl refl; connects = refl; sends = inl refl; receives = inr e; came = inr f }
 
 -- the socket and its stream are these, and so many names of the line are taken
-abbrev With : Here → ℕ → OpenUdp → ℕ → Socket × Incoming → Here
+abbrev pub With : Here → ℕ → OpenUdp → ℕ → Socket × Incoming → Here
 With h place o n s = record (put_udp h place (Udp2Socket.Open (with_incoming o s))) { own = Names n }
 
 -- and the line begins no more
@@ -68,7 +68,7 @@ names_same line (Receiving.Came d) n = refl
 names_same line (Receiving.Failed c) n = refl
 
 -- an incoming stream that is there, put back
-incoming_is : (h : Here) (place : ℕ) (o : OpenUdp) (inc : Incoming) → o.incoming ≡ Some inc → put_udp h place (Udp2Socket.Open (with_incoming o (o.inner, inc))) ≡ put_udp h place (Udp2Socket.Open o)
+pub incoming_is : (h : Here) (place : ℕ) (o : OpenUdp) (inc : Incoming) → o.incoming ≡ Some inc → put_udp h place (Udp2Socket.Open (with_incoming o (o.inner, inc))) ≡ put_udp h place (Udp2Socket.Open o)
 incoming_is h place o inc e = ap (λ (x : Option Incoming). put_udp h place (Udp2Socket.Open (record o { incoming = x }))) (sym e)
 
 module _ {contexts : List WasiSocketsCtx} {line : ℕ} {origin : Step} {law : Law contexts line origin} where
@@ -101,7 +101,7 @@ module _ {contexts : List WasiSocketsCtx} {line : ℕ} {origin : Step} {law : La
         (from (ap (λ (x : Here). record x { own = Names (n + 1) }) (sym (udp_put_put h place (Udp2Socket.Open was) (Udp2Socket.Open now))))
         (and_then (poll_receive_walks there now busy op refl refl) (λ ended. give _)))
 
-    begun_walks : (n : ℕ) (o : OpenUdp) (socket : Socket) (inc : Incoming) → Walks law (With h place o n (socket, inc)) (With h place o (n + 1)) (bind (receive_asks (part_of line n) socket) (λ begun. poll_receive_asks begun.1 inc begun.0))
+    pub begun_walks : (n : ℕ) (o : OpenUdp) (socket : Socket) (inc : Incoming) → Walks law (With h place o n (socket, inc)) (With h place o (n + 1)) (bind (receive_asks (part_of line n) socket) (λ begun. poll_receive_asks begun.1 inc begun.0))
     begun_walks n o socket inc =
         let was : OpenUdp = with_incoming o (socket, inc) in
         let counted : Here = record h { own = Names n } in
@@ -148,11 +148,6 @@ module _ {contexts : List WasiSocketsCtx} {line : ℕ} {origin : Step} {law : La
         told_walks (Ok ds, s) = give _
         told_walks (Err c, s) = give _
 
-    -- == a look
-    look_walks : (o : OpenUdp) (inc : Option Incoming) → o.incoming ≡ inc → h.own ≡ Unused → Walks law (put_udp h place (Udp2Socket.Open o)) (λ now. record (put_udp h place (Udp2Socket.Open now)) { own = Used }) (look_incoming (record { line = line; next_part = 1 }) o inc)
-    look_walks o None e free = gives _ (Spends _ free)
-    look_walks o (Some inc) e free = from (incoming_is h place o inc e) (move (Counts _ free) (and_then (fetch_walks 1 o (o.inner, inc) inc.receiving) (λ s. gives _ (SpendsNames _ (after_fetch inc.receiving 1) refl))))
-
   receives_at : (m : Machine) (place most : ℕ) (o : Option OpenUdp) → open_at m.store.records place ≡ o → Walks law (At line m place Unused) (Put line m place) (receive_datagrams_at m.store (first_ids line) place most o)
   receives_at m place most None e = gives _ (Spends _ refl)
   receives_at m place most (Some o) e =
@@ -162,14 +157,6 @@ module _ {contexts : List WasiSocketsCtx} {line : ℕ} {origin : Step} {law : La
 
   pub receive_walks : (m : Machine) (incoming most : ℕ) → Has (handles_of origin) incoming → Walks law (Starts m Unused) OverWith (receive_datagrams_on m (first_ids line) most (incoming_at m incoming))
   receive_walks m incoming most named = on_udp m incoming (incoming_at m incoming) named (incoming_record (kind_at m.table incoming)) (λ place. receives_at m place most (open_at m.store.records place) refl)
-
-  -- whether something has come
-  pub ready_incoming_walks : (m : Machine) (place : ℕ) (o : Option OpenUdp) → open_at m.store.records place ≡ o → Walks law (At line m place Unused) (Put line m place) (ready_incoming_at m.store (first_ids line) place o)
-  ready_incoming_walks m place None e = gives _ (Spends _ refl)
-  ready_incoming_walks m place (Some o) e =
-      let g : FoundUdp (At line m place Unused) place (Udp2Socket.Open o) = open_is (udp2_at m.store.records place) o e in
-      from (udp_put_same (At line m place Unused) place (Udp2Socket.Open o) g)
-      (and_then (look_walks (udp_there {h = At line m place Unused} g) refl o o.incoming refl refl) (λ now. listed_walks m place (Receive place) ((incoming_looked m.store place o now).0, with_open_udp m.store place now) (begins_receive o now)))
 
   -- == a turn
   turned_walks : {h : Here} {place : ℕ} (here : HasUdp h place) (o : OpenUdp) (inc : Incoming) (receiving : Receiving) → o.incoming ≡ Some inc → inc.receiving ≡ receiving

@@ -15,13 +15,14 @@ use Rattle.wasi_world.specs.declared.call.Opt.{Opt}
 use Rattle.wasi_common.specs.Options.{value_set}
 use Rattle.wasi_walks.specs.Licence.{IsSetTo}
 use Rattle.wasi_host.specs.Records.{tcp2_at}
+use Rattle.wasi_walks.proofs.Words.{Tcp2}
 use Rattle.wasi_host.specs.Options.{looked_at, set_backlog_at}
 use Rattle.wasi_p2.specs.Options.{record_asks}
 use Rattle.wasi_walks.proofs.walks.Moves.{NoStartStands, IsSettled, Used, Unused, Here, put, Found, record_of, AStream, Reaches, Leaves, Spends, Changes, Stands, Made, Past, Marks}
 use Rattle.wasi_walks.proofs.walks.Law.{Law, HasRecord, found, put_same, Walks, Given, give, and_then, and_given, by_if, move, gives, from, mark}
-use Rattle.wasi_walks.proofs.walks.Sockets.{WaitsSo, begun_bind_given, idled, connect_settles, set_walks, begin_bind_walks, begin_connect_walks, poll_connect_walks, local_walks, remote_walks, backlog_walks}
+use Rattle.wasi_walks.proofs.walks.Sockets.{WaitsSo, begun_bind_given, idled, connect_settles, set_walks, begin_bind_walks, begin_connect_walks, poll_connect_walks, FinishedSo, finished_given, local_walks, remote_walks, backlog_walks}
 use Rattle.wasi_walks.proofs.walks.Streams.{shut_walks}
-use Rattle.wasi_walks.proofs.walks.States.{OverWith, Between, socket_record, make_given, At, Starts, streams_are, Put, Over, there}
+use Rattle.wasi_walks.proofs.walks.States.{OverWith, Between, socket_record, make_given, socket_kind, At, Starts, streams_are, Put, Over, there}
 
 module _ {contexts : List WasiSocketsCtx} {line : ℕ} {origin : Step} {law : Law contexts line origin} where
   -- == a call on the record of a handle
@@ -106,17 +107,17 @@ module _ {contexts : List WasiSocketsCtx} {line : ℕ} {origin : Step} {law : La
     pub streams_walks : G m.table → Walks law (Between at made m) OverWith (streams_asks m (own_of line) s place (side_at (tcp2_at m.store.records place)))
     streams_walks g = and_given (λ done. G done.1) (more m.table (Input place) g) (mark (marks m.table (Input place) (inl refl) g)) output_walks
 
-  connected_walks : (c s place : ℕ) (m : Machine) (done : Result (Unit {0}) Stop × Records) → origin ≡ Step.TcpFinishConnect c s → record_of (kind_at m.table s) ≡ Some place → Walks law (Put line m place done) OverWith (connected_asks (own_of line) s place (with_store m done))
-  connected_walks c s place m (Ok d, store) is k =
+  connected_walks : (c s place : ℕ) (m : Machine) (done : Result (Unit {0}) Stop × Records) → origin ≡ Step.TcpFinishConnect c s → kind_at m.table s ≡ Some (Tcp2 place) → FinishedSo place done → Walks law (Put line m place done) OverWith (connected_asks (own_of line) s place (with_store m done))
+  connected_walks c s place m (Ok d, store) is k has =
       let now : Machine = record m { store = store } in
-      streams_walks (Some (place, line)) Past s place now (λ t. record_of (kind_at t s) ≡ Some place) (λ t kind g. make_given t (own_of line) kind (Some s) (side_at (tcp2_at store.records place)) s place g) (λ t kind which g. AStream c s place kind is which g) k
-  connected_walks c s place m (Err why, store) is k = gives _ (Leaves _)
+      streams_walks (Some (place, line)) Past s place now (λ t. kind_at t s ≡ Some (Tcp2 place)) (λ t kind g. make_given t (own_of line) kind (Some s) (side_at (tcp2_at store.records place)) s (Tcp2 place) g) (λ t kind which g. AStream c s place kind is which (record { past = refl; socket = g; streams = has })) k
+  connected_walks c s place m (Err why, store) is k has = gives _ (Leaves _)
 
   pub finish_on_walks : (c s : ℕ) (m : Machine) (o : Option ℕ) → socket_at m s ≡ o → Has (handles_of origin) s → origin ≡ Step.TcpFinishConnect c s → Walks law (Starts m Unused) OverWith (finish_connect_on m (own_of line) s o)
   finish_on_walks c s m None e named is = gives _ (Spends _ refl)
   finish_on_walks c s m (Some place) e named is =
-      let k = socket_record (kind_at m.table s) place e in
-      move (Reaches _ s place named k) (and_then (finish_at_walks m place (tcp2_at m.store.records place) refl) (λ done. connected_walks c s place m done is k))
+      move (Reaches _ s place named (socket_record (kind_at m.table s) place e))
+      (and_given (FinishedSo place) (finished_given m.store place (tcp2_at m.store.records place) refl) (finish_at_walks m place (tcp2_at m.store.records place) refl) (λ done has. connected_walks c s place m done is (socket_kind (kind_at m.table s) place e) has))
 
   -- == the addresses, and what is finished
   puts_back : {T : Type 0} (m : Machine) (place : ℕ) (r : Tcp2Socket) (call : Asks (Result T ErrorCode × Tcp2Socket)) → Found (At line m place Unused) place r → Walks law (put (At line m place Unused) place r) (λ done. put (At line m place Unused) place done.1) call

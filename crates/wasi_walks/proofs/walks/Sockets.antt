@@ -1,4 +1,11 @@
 -- The calls on a socket, and those of a listen and of a listener, as moves of the record that holds it.
+use Rattle.std.specs.Prelude.{IsSome}
+use Rattle.wasi_tcp.specs.Halves.{take_send}
+use Rattle.wasi_host.specs.Records.{tcp2_at}
+use Rattle.wasi_host.specs.Store.{with_record_put}
+use Rattle.wasi_walks.specs.Answered.{streams_in}
+use Rattle.wasi_walks.proofs.Lists.{set_there}
+use Rattle.wasi_walks.proofs.Words.{Records, TcpReceiveStream, TcpSendStream, finish_connect_at, finish_connect_by}
 use Rattle.wasi_walks.proofs.Words.{Accepting, Accepts, Answer, Begins, Bool, Connection, Done, End, Err, ErrorCode, Give, InProgress}
 use Rattle.wasi_walks.proofs.Words.{InvalidArgument, InvalidState, IpSocketAddress, IsBacklogSet, IsBindTo, IsConnectTo, IsListenStep, Item, List}
 use Rattle.wasi_walks.proofs.Words.{Listener, Listening, None, Not, Ok, OpId, Operation, Option, Pending, Ready, Refused, Result, Socket, Some}
@@ -6,7 +13,7 @@ use Rattle.wasi_walks.proofs.Words.{StandingCall, Step, Stop, Tcp2Socket, TcpSta
 use Rattle.wasi_walks.proofs.Words.{accepted_record, after_backlog, after_local, ap, ask_bound, ask_set_option, begin_bind_asks, begin_connect_asks}
 use Rattle.wasi_walks.proofs.Words.{begin_listen_asks, bind, bind_allowed, bind_asks, bind_begun, bind_ended, bound_asks, closed_listening}
 use Rattle.wasi_walks.proofs.Words.{connect_begun, connect_first, connect_operation, connect_polled, connect_start, false, finish_connect_asks}
-use Rattle.wasi_walks.proofs.Words.{finish_in, first_ids, get_option_asks, get_where, idle, if◌then◌else◌, in_socket, inl, inr, ip_of, is_connect}
+use Rattle.wasi_walks.proofs.Words.{finish_in, get_option_asks, get_where, idle, if◌then◌else◌, in_socket, inl, inr, ip_of, is_connect}
 use Rattle.wasi_walks.proofs.Words.{is_connectable, is_nothing, is_of_family, is_over, is_unicast, is_wildcard, kind_at, listen_begun, listen_bound}
 use Rattle.wasi_walks.proofs.Words.{listen_once, listen_polled, listen_start, opened_receive, opened_send, own_of, poll_asks, poll_begun}
 use Rattle.wasi_walks.proofs.Words.{poll_bind_asks, poll_binding, poll_connect_asks, poll_listen_asks, poll_listening, refl, refused_after}
@@ -20,9 +27,11 @@ use Rattle.wasi_addr.specs.Clamp.{clamped_backlog}
 use Rattle.wasi_world.specs.declared.call.Opt.{Opt}
 use Rattle.wasi_walks.specs.Licence.{IsGetOf, IsSetTo}
 use Rattle.wasi_tcp.specs.Addresses.{usable_side, local_side, local_from, after_peer, peer_known, remote_in, still_connected}
-use Rattle.wasi_walks.proofs.walks.Moves.{IsConnecting, NoStart, IsSettled, GoesOn, Used, Unused, Here, put, opened_by, Reconnects, Opens, BeginsConnect, OfSocket, Plain, Spends, Changes, BeginsBind, begun_bind, Unmade, record_of, new_accept, accepting_now, beginning_listen, joined, joining, BeginsListen, BeginsAccept, Unlistens, Forgets, Joins}
-use Rattle.wasi_walks.proofs.walks.Law.{Law, HasRecord, spent, put_put, Given, given_then, given_on, given_along, Walks, give, and_then, and_given, connect, by_if, move, gives, from, poll_bind, found, on, ask, learn, set, listen, await}
-use Rattle.wasi_tcp.specs.Listener.{begun as accept_begun}
+use Rattle.wasi_walks.proofs.walks.Moves.{IsConnecting, NoStart, IsSettled, GoesOn, Used, Unused, Names, part_of, Here, put, opened_by, Reconnects, Opens, BeginsConnect, OfSocket, Plain, Spends, Changes, BeginsBind, begun_bind, Unmade, record_of, new_accept, accepting_now, beginning_listen, joined, joining, BeginsListen, BeginsAccept, Unlistens, Forgets, Joins}
+use Rattle.wasi_walks.proofs.walks.Law.{Law, HasRecord, owning, spent, put_put, Given, given_then, given_on, given_along, Walks, give, and_then, and_given, connect, by_if, move, gives, from, poll_bind, found, on, ask, learn, set, listen, await}
+use Rattle.std.specs.Prelude.{not, ◌+◌}
+use Rattle.wasi_walks.proofs.walks.Here.{MayBegin, after}
+use Rattle.wasi_tcp.specs.Listener.{begun as accept_begun, has_accept}
 use Rattle.wasi_walks.proofs.Lists.{set_set}
 use Rattle.wasi_host.specs.Records.{tcp2_put}
 use Rattle.wasi_host.specs.declared.records.Record.{Record}
@@ -145,6 +154,40 @@ module _ {contexts : List WasiSocketsCtx} {line : ℕ} {origin : Step} {law : La
       polled (Ok Pending, socket) = give _
       polled (Ok (Ready d), socket) = opens r socket socket.state settled
       polled (Err c, socket) = idles r socket _ settled
+
+-- where a connect is finished, the streams are made
+abbrev OpenedSo : Result (Unit {0}) Stop × Tcp2Socket → Type 0
+OpenedSo (Ok done, r) = IsSome r.streams
+OpenedSo (Err why, r) = ⊤
+
+polled_so : (r : Tcp2Socket) (done : Result (Answer (Unit {0})) ErrorCode × Socket) → OpenedSo (connect_polled r done)
+polled_so r (Ok Pending, socket) = tt
+polled_so r (Ok (Ready d), socket) = receive_so (in_socket socket (take_receive socket.state))
+  where
+    send_so : (receive : TcpReceiveStream) (sent : Result TcpSendStream ErrorCode × Socket) → OpenedSo (opened_send r receive sent)
+    send_so receive (Ok send, now) = refl
+    send_so receive (Err c, now) = tt
+
+    receive_so : (got : Result TcpReceiveStream ErrorCode × Socket) → OpenedSo (opened_receive r got)
+    receive_so (Ok receive, now) = send_so receive (in_socket now (take_send now.state))
+    receive_so (Err c, now) = tt
+polled_so r (Err c, socket) = tt
+
+abbrev pub FinishedSo : ℕ → Result (Unit {0}) Stop × Records → Type 0
+FinishedSo place (Ok done, store) = IsSome (streams_in (tcp2_at store.records place))
+FinishedSo place (Err why, store) = ⊤
+
+pub finished_given : (store : Records) (place : ℕ) (o : Option Tcp2Socket) → tcp2_at store.records place ≡ o → Given (FinishedSo place) (finish_connect_at store place o)
+finished_given store place None g = tt
+finished_given store place (Some r) g = by_test (is_connect r.in_progress)
+  where
+    kept : (done : Result (Unit {0}) Stop × Tcp2Socket) → OpenedSo done → FinishedSo place (with_record_put store place done)
+    kept (Ok d, now) has = subst (λ (o : Option Tcp2Socket). IsSome (streams_in o)) (sym (set_there store.records place r now g)) has
+    kept (Err why, now) has = tt
+
+    by_test : (its : Bool) → Given (FinishedSo place) (finish_connect_by store place r its)
+    by_test true = given_along OpenedSo (FinishedSo place) (poll_connect_asks r) (λ done. Give (with_record_put store place done)) (given_then OpenedSo (connect_polled r) (polled_so r) (finish_connect_asks r.inner)) kept
+    by_test false = tt
 
 -- a bind that waits is in progress
 abbrev pub WaitsSo : StandingCall → Result (Answer (Unit {0})) ErrorCode × Tcp2Socket → Type 0
@@ -407,13 +450,22 @@ module _ {contexts : List WasiSocketsCtx} {line : ℕ} {origin : Step} {law : La
   accepting_walks r l ends k s = k s
 
 module _ {contexts : List WasiSocketsCtx} {line : ℕ} {origin : Step} {law : Law contexts line origin} {h : Here} {place : ℕ} (here : HasRecord h place) (at : h.at ≡ Some (place, line)) where
+  -- an accept begins, by the next name of the line
+  begins_accept_walks : {A : Type 0} {end : A → Here} (r : Tcp2Socket) (l : Listener) (ends : Accepting → A) (part : ℕ) → r.listening ≡ Accepts l → l.accept ≡ Accepting.Idle → h.own ≡ Names part
+      → ((now : Accepting) → Walks law (record (put h place (accepting_now r l now)) { own = Names (part + 1) }) end (Give (ends now))) → Walks law (put h place r) end (accept_asks ends (new_accept (part_of line part) l))
+  begins_accept_walks r l ends part e q free k =
+      let new = new_accept (part_of line part) l in
+      move (BeginsAccept (put h place r) place part r l at (found here r) e q free)
+      (from (ap (λ (x : Here). record x { own = Names (part + 1) }) (sym (put_put h place r (accepting_now r l new)))) (accepting_walks (owning here (Names (part + 1))) r l ends k new))
+
+module _ {contexts : List WasiSocketsCtx} {line : ℕ} {origin : Step} {law : Law contexts line origin} {h : Here} {place n : ℕ} (here : HasRecord h place) (at : h.at ≡ Some (place, n)) where
   -- a call of a listener, which may begin its accept
-  pub listener_walks : {A : Type 0} {end : A → Here} (r : Tcp2Socket) (l : Listener) (ends : Accepting → A) (a : Accepting) → r.listening ≡ Accepts l → l.accept ≡ a → h.own ≡ Unused
-      → ((now : Accepting) → Walks law (record (put h place (accepting_now r l now)) { own = Used }) end (Give (ends now))) → Walks law (put h place r) end (accept_asks ends (accept_begun l.side l.maker (first_ids line) a))
-  listener_walks r l ends Accepting.Idle e q free k =
-      move (BeginsAccept (put h place r) place r l at (found here r) e q free)
-      (from (ap (λ (x : Here). record x { own = Used }) (sym (put_put h place r (accepting_now r l (new_accept line l))))) (accepting_walks (spent here) r l ends k (new_accept line l)))
-  listener_walks r l ends s e q free k = move (Spends _ free) (from (same_accept (record h { own = Used }) place r l s e q) (accepting_walks (spent here) r l ends k s))
+  pub listener_walks : {A : Type 0} {end : A → Here} (r : Tcp2Socket) (l : Listener) (ends : Accepting → A) (part : ℕ) (a : Accepting) → r.listening ≡ Accepts l → l.accept ≡ a → MayBegin line n part h.own (not (has_accept a))
+      → ((now : Accepting) → Walks law (record (put h place (accepting_now r l now)) { own = after h.own part (not (has_accept a)) }) end (Give (ends now))) → Walks law (put h place r) end (accept_asks ends (accept_begun l.side l.maker (record { line = n; next_part = part }) a))
+  listener_walks {end = end} r l ends part Accepting.Idle e q may k =
+      let its = may refl in
+      subst (λ (x : ℕ). Walks law (put h place r) end (accept_asks ends (new_accept (part_of x part) l))) (sym its.0) (begins_accept_walks here (at ∙ ap (λ (x : ℕ). Some (place, x)) its.0) r l ends part e q its.1 k)
+  listener_walks r l ends part s e q may k = from (same_accept h place r l s e q) (accepting_walks here r l ends k s)
 
 -- what was taken joins the records, with its streams
 abbrev pub joined_if : Here → ℕ → Tcp2Socket → Result (Unit {0}) Stop × Tcp2Socket → Here

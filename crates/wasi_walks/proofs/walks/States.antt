@@ -6,7 +6,7 @@ use Rattle.wasi_walks.proofs.Words.{ask_made, bind, call_of, eqb-true, false, if
 use Rattle.wasi_walks.proofs.Words.{name_of, output_of, place_of, refl, sym, table_parent, true}
 use Rattle.wasi_walks.proofs.Words.{watch_of, watched_by, with_handle, with_records, ℕ, ⊤, ◌==◌, ◌∙◌, ◌≡◌}
 use Rattle.wasi_world.specs.declared.ids.Ids.{Ids}
-use Rattle.wasi_walks.proofs.walks.Moves.{Own, Used, Here, put, Found, record_of, udp_record_of, tcp_place, udp_place, Made, Past, Unmade, Joined}
+use Rattle.wasi_walks.proofs.walks.Moves.{Own, Used, Here, put, Found, record_of, udp_record_of, tcp_place, udp_place, Made, Awaited, Emptied, Past, Unmade, Joined}
 use Rattle.wasi_host.specs.declared.kind.Kind.TheVariants.{Udp2, PlainInput, PlainOutput, Incoming, Outgoing, Lookup}
 use Rattle.wasi_host.specs.Kinds.{udp_of, incoming_of, outgoing_of}
 use Rattle.wasi_walks.proofs.Lists.{value_front, tcp2_seam}
@@ -31,9 +31,21 @@ At n m place more = record { machine = m; at = Some (place, n); made = Past; own
 abbrev pub Put : {A : Type 0} → ℕ → Machine → ℕ → A × Records → Here
 Put n m place done = At n (record m { store = done.1 }) place Used
 
+-- and its record is that of a socket that is dropped
+abbrev pub Emptying : ℕ → Machine → ℕ → Kind → Own → Here
+Emptying n m place kind own = record (At n m place own) { made = Emptied kind }
+
+-- it works on a create, whose record has no handle yet
+abbrev pub Awaiting : Machine → ℕ → Here
+Awaiting m place = record (Over m) { made = Awaited place }
+
 pub socket_record : (k : Option Kind) (place : ℕ) → place_of k ≡ Some place → record_of k ≡ Some place
 socket_record (Some (Tcp2 n)) place e = e
 socket_record _ place e = absurd (cc)
+
+pub socket_kind : (k : Option Kind) (place : ℕ) → place_of k ≡ Some place → k ≡ Some (Tcp2 place)
+socket_kind (Some (Tcp2 n)) place e = cc
+socket_kind _ place e = absurd (cc)
 
 pub input_record : (k : Option Kind) (place : ℕ) → input_of k ≡ Some place → record_of k ≡ Some place
 input_record (Some (Input n)) place e = e
@@ -75,17 +87,13 @@ abbrev pub Sets : Machine → List Record → Here
 Sets m records = record { machine = record m { store = record m.store { records = records } }; at = None; made = Past; own = Used }
 
 -- a handle that is live stays so where another is made
-pub make_given : (t : Handles) (op : OpId) (kind : Kind) (parent : Option ℕ) (sock : Option OpId) (handle place : ℕ) → record_of (kind_at t handle) ≡ Some place → Given (λ made. record_of (kind_at made.1 handle) ≡ Some place) (make_asks t op kind parent sock)
+pub make_given : (t : Handles) (op : OpId) (kind : Kind) (parent : Option ℕ) (sock : Option OpId) (handle : ℕ) (its : Kind) → kind_at t handle ≡ Some its → Given (λ made. kind_at made.1 handle ≡ Some its) (make_asks t op kind parent sock)
 unfolding bind
-make_given t op kind parent sock handle place e = by_test (is_full t)
+make_given t op kind parent sock handle its e = by_test (is_full t)
   where
-    stays : (k : Option Kind) → kind_at t handle ≡ k → record_of k ≡ Some place → record_of (kind_at (with_handle t kind parent) handle) ≡ Some place
-    stays None q r = absurd (cc)
-    stays (Some its) q r = ap record_of (value_front t.live (record { handle = t.next; value = kind; parent = table_parent kind parent }) handle its q) ∙ r
-
-    by_test : (b : Bool) → Given (λ (made : Result ℕ Stop × Handles). record_of (kind_at made.1 handle) ≡ Some place) (if b then Give (Err (Trap Full), t) else bind (ask_made op t.next (name_of kind) parent sock) (λ done. Give (Ok t.next, with_handle t kind parent)))
+    by_test : (b : Bool) → Given (λ (made : Result ℕ Stop × Handles). kind_at made.1 handle ≡ Some its) (if b then Give (Err (Trap Full), t) else bind (ask_made op t.next (name_of kind) parent sock) (λ done. Give (Ok t.next, with_handle t kind parent)))
     by_test true = e
-    by_test false = λ told. stays (kind_at t handle) refl e
+    by_test false = λ told. value_front t.live (record { handle = t.next; value = kind; parent = table_parent kind parent }) handle its e
 
 pub watched_record : (k : Option Kind) (w : Watched) → watched_by k ≡ Some w → record_of k ≡ tcp_place w
 watched_record (Some (Tcp2 n)) w e = let p : Watched.Socket n ≡ w = cc in ap tcp_place p

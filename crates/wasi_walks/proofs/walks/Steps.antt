@@ -3,7 +3,7 @@ use Rattle.wasi_walks.proofs.Words.{Answer, Err, Give, InProgress, IsBacklogSet,
 use Rattle.wasi_walks.proofs.Words.{StandingCall, Step, Stop, Tcp2Socket, TcpSetting, TheBacklog, WasiSocketsCtx, asks_while, call_of, call_place}
 use Rattle.wasi_walks.proofs.Words.{chosen, context_at, false, get_option_asks, go_on, inl, is_bind}
 use Rattle.wasi_walks.proofs.Words.{is_guest_call, is_listen, kind_at, own_of, rebind_at, refl, relisten_at}
-use Rattle.wasi_walks.proofs.Words.{resume_call, resumed, socket_at, step_asks, subst, sym, true, unstood, watch_of}
+use Rattle.wasi_walks.proofs.Words.{resume_call, resumed, socket_at, step_asks, subst, sym, true, unstood}
 use Rattle.wasi_walks.proofs.Words.{watched_by, with_store, ℕ, ◌≡◌}
 use Rattle.wasi_world.specs.declared.ids.Ids.{Ids}
 use Rattle.wasi_addr.specs.Clamp.{clamped_backlog}
@@ -13,10 +13,10 @@ use Rattle.wasi_steps.specs.Settings.{AnOption}
 use Rattle.wasi_walks.specs.Licence.{IsSetTo, SetsOption, SetsBacklog}
 use Rattle.std.specs.Prelude.{⊤, ◌⊎◌}
 use Rattle.wasi_walks.proofs.walks.Writes.{may, AsLet}
-use Rattle.wasi_walks.proofs.walks.Moves.{CallsStreams, Here, IsStreamCall, NoStartStands, RecallsStreamCall, IsSettled, Own, Unused, ANetwork, Spends, Used, Leaves, RecallsStreams, Resumes, Unstands}
+use Rattle.wasi_walks.proofs.walks.Moves.{CallsHandles, Here, IsStreamCall, NoStartStands, OfStreams, RecallsCall, IsSettled, Own, Unused, ANetwork, Spends, Used, Leaves, RecallsStreams, Resumes, Unstands}
 use Rattle.wasi_walks.proofs.walks.Law.{BeginsWrites, Law, Walks, give, and_then, and_given, by_if, move, gives, mark, create, put_same, from}
 use Rattle.wasi_walks.proofs.walks.Sockets.{WaitsSo, get_walks, listen_given, poll_bind_walks, poll_listen_walks, polled_given}
-use Rattle.wasi_walks.proofs.walks.Streams.{subscribe_walks, drop_walks, turn_walks, ready_walks, drop_output_walks}
+use Rattle.wasi_walks.proofs.walks.Streams.{subscribe_walks, drop_walks, turn_walks, drop_output_walks}
 use Rattle.wasi_walks.proofs.walks.States.{At, Over, OverWith, udp_record, Put, Starts, socket_record, stands_so, there}
 use Rattle.wasi_walks.proofs.walks.SocketSteps.{finish_started_walks, local_at_walks, shutdown_at_walks, start_connect_walks, start_bind_walks, looked_walks, set_chosen_walks, remote_at_walks, on_socket, finish_on_walks, as_left, answered_walks}
 use Rattle.wasi_walks.proofs.walks.ListenSteps.{accept_on_walks, start_listen_at_walks}
@@ -31,13 +31,15 @@ use Rattle.wasi_walks.proofs.walks.Receives.{receive_walks}
 use Rattle.wasi_walks.proofs.walks.Lookups.{next_address_walks, resolve_walks}
 use Rattle.wasi_walks.proofs.walks.Sends.{check_send_walks, drop_outgoing_walks, send_walks}
 use Rattle.wasi_walks.proofs.walks.Udp.{on_udp, udp_local_at_walks, udp_get_at_walks, udp_set_at_walks, start_udp_bind_walks, finish_udp_bind_walks, rebind_udp_walks, create_on_walks, create_udp_walks}
-use Rattle.wasi_walks.proofs.Words.{Asks, first_ids, handles_of, inr}
+use Rattle.wasi_walks.proofs.Words.{Asks, append-nil, first_ids, handles_of, inr, ◌∷◌, []}
 use Rattle.wasi_streams.specs.Streams.{zeros}
 use Rattle.wasi_host.specs.declared.kind.Kind.TheVariants.{PlainInput, PlainOutput}
 use Rattle.wasi_host.specs.declared.kind.PlainInput.TheVariants as plain_input
 use Rattle.wasi_host.specs.declared.kind.PlainOutput.TheVariants as plain_output
 use Rattle.wasi_walks.proofs.walks.Blocking.{WritesNone, blocking_flush_walks, blocking_read_walks, blocking_skip_walks, blocking_splice_walks, blocking_write_walks, blocking_zeroes_walks, unblock_walks}
 use Rattle.wasi_walks.proofs.walks.Calls.{Calling, calls_over, check_asks_walks, flushed_asks_walks, read_asks_walks, skip_asks_walks, write_asks_walks}
+use Rattle.wasi_host.specs.declared.polling.Look.TheVariants.{First}
+use Rattle.wasi_walks.proofs.walks.Polling.{block_walks, looks_begin, poll_asks_walks, ready_asks_walks}
 use Rattle.wasi_walks.proofs.walks.Cancels.{cancel_walks}
 use Rattle.wasi_walks.proofs.walks.Pipes.{input_pipe_walks, output_pipe_walks, plain_walks}
 use Rattle.wasi_walks.proofs.walks.Splices.{splice_walks}
@@ -134,7 +136,7 @@ module _ {contexts : List WasiSocketsCtx} {line : ℕ} {origin : Step} {law : La
   -- the call is taken out, and continues
   taken_walks : (m : Machine) (ids : Ids) (call : StandingCall) → MayContinue law call → m.store.standing ≡ Some (standing_as ids call) → Walks law (Starts m Unused) OverWith (go_on (record m { store = unstood m.store }) ids call)
   taken_walks m ids (StandingCall.UdpCreate place) lets e = move (Unstands _) (move (Spends _ refl) (create_goes_on ids (record m { store = unstood m.store }) tt place))
-  taken_walks m ids (StandingCall.Blocking call) lets e = move (RecallsStreamCall _ ids call e) (move (Unstands _) (move (Spends _ refl) (unblock_walks ids (record m { store = unstood m.store }) call lets)))
+  taken_walks m ids (StandingCall.Blocking call) lets e = move (RecallsCall _ ids call e) (move (Unstands _) (move (Spends _ refl) (unblock_walks ids (record m { store = unstood m.store }) call lets)))
   taken_walks m ids (StandingCall.UdpConnect place handle) lets e = move (Resumes _ (standing_as ids (StandingCall.UdpConnect place handle)) e tt) (move (RecallsStreams _ ids place handle e) (move (Unstands _) (move (Spends _ refl) (streams_go_on ids (record m { store = unstood m.store }) tt place handle))))
   taken_walks m ids (StandingCall.DropOutgoing place) lets e = move (Resumes _ (standing_as ids (StandingCall.DropOutgoing place)) e tt) (move (Unstands _) (move (Spends _ refl) (go_on_walks ids (record m { store = unstood m.store }) tt (StandingCall.DropOutgoing place) tt)))
   taken_walks m ids (StandingCall.Bind place) lets e = move (Resumes _ (standing_as ids (StandingCall.Bind place)) e tt) (move (Unstands _) (move (Spends _ refl) (go_on_walks ids (record m { store = unstood m.store }) tt (StandingCall.Bind place) tt)))
@@ -148,10 +150,10 @@ module _ {contexts : List WasiSocketsCtx} {line : ℕ} {origin : Step} {law : La
       let stands = (stands_so m.store.standing n s e).0 in
       and_then (taken_walks m s.ids s.call (elim lets [ inl begins ↦ inl begins | inr simple ↦ inr (subst ResumesSimply stands simple) ]) stands) resumed_walks
 
-  -- == the calls of streams of a line
+  -- == the calls on streams of a line
   -- the line's own handles, where nothing is written, or where that was begun
   pub calls : {A : Type 0} {own : Own} {m : Machine} {end : A → Here} {asks : Asks A} → IsStreamCall origin → Walks law (Calling line (handles_of origin) None own m) end asks → Walks law (Starts m own) end asks
-  calls is w = move (CallsStreams _ is) w
+  calls is w = move (CallsHandles _ OfStreams is) w
 
   pub begun_calls : {A : Type 0} {m : Machine} {end : A → Here} {asks : Asks A} → IsStreamCall origin → Walks law (Calling line (handles_of origin) None Used m) end asks → Walks law (Starts m Unused) end asks
   begun_calls is w = calls is (move (Spends _ refl) w)
@@ -213,7 +215,9 @@ step_walks line (Step.CheckWrite c output) m b f = and_then (begun_calls tt (cal
 step_walks line (Step.Write c output bytes) m b f = and_then (calls tt (calls_over (write_asks_walks m output (inl refl) bytes (AsLet refl)))) (λ done. give _)
 step_walks line (Step.Flush c output) m b f = and_then (begun_calls tt (calls_over (flushed_asks_walks m output (inl refl)))) (λ done. give _)
 step_walks line (Step.Subscribe c s) m b f = and_then (subscribe_walks c s m (watched_by (kind_at m.table s)) refl refl) (λ done. give _)
-step_walks line (Step.Ready c p) m b f = and_then (ready_walks m p (watch_of (kind_at m.table p)) refl (inl refl)) (λ done. give _)
+step_walks line (Step.Ready c p) m b f = ready_asks_walks m p (inl refl) tt _
+step_walks line (Step.Block c p) {law = law} m b f = and_then (looks_begin tt (block_walks law line (p ∷ []) First (refl, λ q k. k) p refl m 1)) (λ done. give _)
+step_walks line (Step.PollList c ps) m b f = and_then (looks_begin tt (poll_asks_walks m ps (sym (append-nil ps)))) (λ done. give _)
 step_walks line (Step.Drop c this) m b f = and_then (drop_walks m this (kind_at m.table this) (inl refl) refl (none_stands (f refl))) (λ done. give _)
 step_walks line (Step.PipeIn c bytes) m b f = and_then (input_pipe_walks m bytes tt) (λ done. give _)
 step_walks line (Step.PipeOut c capacity) m b f = and_then (output_pipe_walks m capacity tt) (λ done. give _)

@@ -1,15 +1,17 @@
 -- The calls on the streams of a connection, as moves of the record that holds them; and the steps on streams and pollables, drops
 -- and turns.
-use Rattle.wasi_walks.proofs.Words.{◌∙◌, Accepts, Answer, Asks, Bool, Done, End, Err, ErrorCode, ErrorValue, Give, Has, HasChildren, Input, Job, Kind}
-use Rattle.wasi_walks.proofs.Words.{List, Listening, Machine, Network, None, Not, NotPermitted, Ok, OpId, Option, Output, Pending, Pollable}
+use Rattle.wasi_walks.proofs.walks.Moves.{Empties, Releases}
+use Rattle.wasi_walks.proofs.walks.States.{Emptying}
+use Rattle.wasi_walks.proofs.Words.{Answer, Asks, Bool, Done, End, Err, ErrorCode, ErrorValue, Give, Has, HasChildren, Input, Job, Kind}
+use Rattle.wasi_walks.proofs.Words.{List, Machine, Network, None, Not, NotPermitted, Ok, OpId, Option, Output, Pending, Pollable}
 use Rattle.wasi_walks.proofs.Words.{ReadState, Ready, Refused, Result, ShutdownType, Some, StandingCall, Step, StreamStop, Streams, Tcp2}
 use Rattle.wasi_walks.proofs.Words.{Tcp2Socket, TcpReceiveStream, TcpSendStream, Trap, Waits, WasiSocketsCtx, Watched, WriteState, [], after_read}
-use Rattle.wasi_walks.proofs.Words.{allows_weaker, ap, ask_read, begun, bind, check_write_asks, collected, drop_output_at, drop_taken, drop_waits}
-use Rattle.wasi_walks.proofs.Words.{false, first_ids, give_streams_up, gone, handles_of, has_no_child, if◌then◌else◌, is_connect, is_nothing, kind_at}
-use Rattle.wasi_walks.proofs.Words.{length, look_asks, look_in, min, nat_lt, new_job, own_of, permitted, place_in, polled_answer, read_state_asks}
-use Rattle.wasi_walks.proofs.Words.{reader_of, reader_ready_asks, reader_shutdown_asks, ready_end, ready_on, refl, release_asks, release_at}
+use Rattle.wasi_walks.proofs.Words.{ap, ask_read, begun, bind, check_write_asks, collected, drop_output_at, drop_taken, drop_waits}
+use Rattle.wasi_walks.proofs.Words.{false, first_ids, give_streams_up, gone, handles_of, has_no_child, if◌then◌else◌, kind_at}
+use Rattle.wasi_walks.proofs.Words.{length, look_asks, look_in, min, nat_lt, new_job, own_of, permitted, polled_answer, read_state_asks}
+use Rattle.wasi_walks.proofs.Words.{reader_of, reader_ready_asks, reader_shutdown_asks, refl, release_asks, release_at}
 use Rattle.wasi_walks.proofs.Words.{shut_streams, side_of, side_up_asks, subscribe_on, sym, taken_out, true, turn_machine_asks}
-use Rattle.wasi_walks.proofs.Words.{wait_put, wait_writer, watch_of, watched_by, with_listening, with_permit, with_reader, with_store, with_writer}
+use Rattle.wasi_walks.proofs.Words.{wait_put, wait_writer, watched_by, with_listening, with_permit, with_reader, with_store, with_writer}
 use Rattle.wasi_walks.proofs.Words.{without_handle, write_on_asks, write_state_asks, writer_give_up_asks, writer_of}
 use Rattle.wasi_walks.proofs.Words.{writer_shutdown_asks, writer_side, writing_side, ℕ, ◌==◌, ◌∷◌, ◌≡◌}
 use Rattle.wasi_world.specs.declared.ids.Ids.{Ids}
@@ -22,19 +24,18 @@ use Rattle.wasi_host.specs.declared.jobs.HostJob.TheVariants.{Write, Datagram}
 use Rattle.wasi_host.specs.declared.jobs.HostJob.TheVariants as jobs
 use Rattle.wasi_host.specs.Shutdowns.{with_streams}
 use Rattle.wasi_walks.proofs.walks.Writes.{may_begin, MayWrite, AsLet, AsNone, AsAny}
-use Rattle.wasi_walks.proofs.walks.Moves.{Own, Used, Unused, ToWrite, Here, put, OfReader, OfWriter, Collects, Permits, Lasts, LastsAfter, Closes, Spends, ClosesReader, Writes, BeginsWrite, NoStart, NoStartStands, record_of, APlainPollable, Reaches, Leaves, IsGone, Lists, Takes, Stands, APollable, AUdpPollable, ALookupPollable, ReachesUdp, udp_record_of, tcp_place}
+use Rattle.wasi_walks.proofs.walks.Moves.{Own, Used, Unused, ToWrite, Here, put, OfReader, OfWriter, Collects, Permits, Lasts, LastsAfter, Closes, Spends, ClosesReader, Writes, BeginsWrite, NoStartStands, record_of, APlainPollable, Reaches, Leaves, IsGone, Lists, Takes, Stands, APollable, AUdpPollable, ALookupPollable, ReachesUdp, udp_record_of}
 use Rattle.wasi_walks.proofs.walks.Law.{Law, HasRecord, spent, put_put, Walks, give, and_then, by_if, move, gives, from, found, on, ask, turn, put_same, ends, close, mark, give_up, and_so}
 use Rattle.wasi_tcp.specs.Closing.{close_in}
-use Rattle.wasi_host.specs.Readiness.{ready_listening, ready_idle, ready_socket_by, ready_reader, ready_writer, ready_record, ready_at}
+use Rattle.wasi_host.specs.Readiness.{ready_reader, ready_writer}
 use Rattle.wasi_host.specs.Jobs.{turned, turn_at, turn_job, turn_jobs}
-use Rattle.wasi_walks.proofs.walks.Sockets.{listener_walks, finish_walks}
-use Rattle.wasi_walks.proofs.walks.States.{watched_record, OverWith, At, Starts, watch_record, streams_are, Put, there, Sets, watched_udp, watch_udp, watched_lookup}
+use Rattle.wasi_walks.proofs.walks.States.{watched_record, OverWith, At, Starts, streams_are, Put, there, Sets, watched_udp, watched_lookup}
 use Rattle.wasi_walks.proofs.walks.Pipes.{drop_input_walks, drop_output_walks as drop_plain_output_walks}
 use Rattle.wasi_walks.proofs.walks.Udp.{release_udp_walks}
 use Rattle.wasi_walks.proofs.walks.Lookups.{drop_lookup_walks, turn_lookup_walks}
 use Rattle.wasi_host.specs.declared.kind.Kind.TheVariants.{Udp2, PlainInput, PlainOutput, Incoming, Outgoing, Lookup}
 use Rattle.wasi_host.specs.Machine.{answered}
-use Rattle.wasi_walks.proofs.walks.Receives.{drop_incoming_walks, ready_incoming_walks, turn_receive_walks}
+use Rattle.wasi_walks.proofs.walks.Receives.{drop_incoming_walks, turn_receive_walks}
 use Rattle.wasi_walks.proofs.walks.Sends.{drop_outgoing_walks, turn_datagram_walks}
 use Rattle.wasi_streams.specs.StreamStop as stop
 
@@ -185,7 +186,7 @@ module _ {contexts : List WasiSocketsCtx} {line : ℕ} {origin : Step} {law : La
     writer_walks r write (Some s) e k = from (streams_are h place r s e) (and_then (k s s.writer) (λ done. give _))
 
   -- == a drop
-  module _ {h : Here} {place : ℕ} (here : HasRecord h place) (at : h.at ≡ Some (place, line)) (quiet : NoStart h) where
+  module _ {h : Here} {place : ℕ} (here : HasRecord h place) (at : h.at ≡ Some (place, line)) (goes : Releases h place) where
     given_up_walks : (r : Tcp2Socket) (o : Option Streams) → r.streams ≡ o → Walks law (put h place r) (λ done. put h place r) (give_streams_up (own_of line) o)
     given_up_walks r None e = give _
     given_up_walks r (Some s) e =
@@ -193,15 +194,15 @@ module _ {contexts : List WasiSocketsCtx} {line : ℕ} {origin : Step} {law : La
 
     closes_walks : (r : Tcp2Socket) (o : Option OpId) → side_of r.inner ≡ o → Walks law (put h place r) (λ done. put h place (gone r done.1)) (close_in (own_of line) r.inner o)
     unfolding bind
-    closes_walks r None e = on here r _ (IsGone _ _ _ quiet (found here r) e) (give _)
-    closes_walks r (Some side) e = close here r quiet e (λ told. give _)
+    closes_walks r None e = on here r _ (IsGone _ _ _ goes (found here r) e) (give _)
+    closes_walks r (Some side) e = close here r goes e (λ told. give _)
 
     release_walks : (r : Tcp2Socket) → Walks law (put h place r) (λ done. put h place done.1) (release_asks (own_of line) r)
-    release_walks r = let now = with_listening r Not in and_then (give_up here r quiet) (λ done. and_then (given_up_walks now r.streams refl) (λ done. and_then (closes_walks now (side_of r.inner) refl) (λ done. give _)))
+    release_walks r = let now = with_listening r Not in and_then (give_up here r goes.0) (λ done. and_then (given_up_walks now r.streams refl) (λ done. and_then (closes_walks now (side_of r.inner) refl) (λ done. give _)))
 
-  release_at_walks : (m : Machine) (place : ℕ) (o : Option Tcp2Socket) → tcp2_at m.store.records place ≡ o → NoStartStands m.store.standing → Walks law (At line m place Unused) (Put line m place) (release_at m.store (own_of line) place o)
+  release_at_walks : (m : Machine) (place : ℕ) (o : Option Tcp2Socket) → tcp2_at m.store.records place ≡ o → NoStartStands m.store.standing → Walks law (Emptying line m place (Tcp2 place) Unused) (λ done. Emptying line (record m { store = done.1 }) place (Tcp2 place) Used) (release_at m.store (own_of line) place o)
   release_at_walks m place None g q = gives _ (Spends _ refl)
-  release_at_walks m place (Some r) g q = from (put_same (At line m place Unused) place r g) (and_then (release_walks (there g) refl q r) (λ done. move (Spends _ refl) (gives _ (Lists _ _))))
+  release_at_walks m place (Some r) g q = from (put_same (Emptying line m place (Tcp2 place) Unused) place r g) (and_then (release_walks (there g) refl (q, refl) r) (λ done. move (Spends _ refl) (gives _ (Lists _ _))))
 
   -- a drop that waits: one look by the line that dropped it
   module _ (ids : Ids) (place : ℕ) where
@@ -219,37 +220,37 @@ module _ {contexts : List WasiSocketsCtx} {line : ℕ} {origin : Step} {law : La
     drop_output_walks m (Some r) g =
         from (put_same (At ids.line m place Used) place r g) (and_so (wait_put m.store place) (λ done. Give (drop_waits ids place done)) (wait_walks m r (there g) r.streams refl) (stands_or m r (there g)))
 
-  dropped_walks : (m : Machine) (this : ℕ) (kind : Kind) (b : Bool) → Has (handles_of origin) this → kind_at m.table this ≡ Some kind → NoStartStands m.store.standing
+  dropped_walks : (m : Machine) (this : ℕ) (kind : Kind) (b : Bool) → Has (handles_of origin) this → kind_at m.table this ≡ Some kind → has_no_child m.table this ≡ b → NoStartStands m.store.standing
       → Walks law (Starts m Unused) OverWith (drop_taken m (first_ids line) (if b then (Ok kind, without_handle m.table this) else (Err (Trap HasChildren), m.table)))
-  dropped_walks m this kind false named e q = gives _ (Spends _ refl)
-  dropped_walks m this (Tcp2 place) true named e q =
+  dropped_walks m this kind false named e free q = gives _ (Spends _ refl)
+  dropped_walks m this (Tcp2 place) true named e free q =
       let now : Machine = record m { table = without_handle m.table this } in
-      move (Reaches _ this place named (ap record_of e)) (move (Takes _ this) (and_then (release_at_walks now place (tcp2_at m.store.records place) refl q) (λ done. gives _ (Leaves _))))
-  dropped_walks m this (Udp2 place) true named e q =
+      move (Reaches _ this place named (ap record_of e)) (move (Empties _ this (Tcp2 place) e free) (and_then (release_at_walks now place (tcp2_at m.store.records place) refl q) (λ done. gives _ (Leaves _))))
+  dropped_walks m this (Udp2 place) true named e free q =
       let now : Machine = record m { table = without_handle m.table this } in
-      move (ReachesUdp _ this place named (ap udp_record_of e)) (move (Takes _ this) (and_then (release_udp_walks now place (udp2_at m.store.records place) refl q) (λ done. gives _ (Leaves _))))
-  dropped_walks m this (Incoming place) true named e q =
+      move (ReachesUdp _ this place named (ap udp_record_of e)) (move (Empties _ this (Udp2 place) e free) (and_then (release_udp_walks now place (udp2_at m.store.records place) refl q) (λ done. gives _ (Leaves _))))
+  dropped_walks m this (Incoming place) true named e free q =
       let now : Machine = record m { table = without_handle m.table this } in
-      move (ReachesUdp _ this place named (ap udp_record_of e)) (move (Takes _ this) (drop_incoming_walks now place (open_at m.store.records place) refl))
-  dropped_walks m this (Outgoing place) true named e q =
+      move (ReachesUdp _ this place named (ap udp_record_of e)) (move (Takes _ this free) (drop_incoming_walks now place (open_at m.store.records place) refl))
+  dropped_walks m this (Outgoing place) true named e free q =
       let now : Machine = record m { table = without_handle m.table this } in
-      move (ReachesUdp _ this place named (ap udp_record_of e)) (move (Takes _ this) (move (Spends _ refl) (drop_outgoing_walks (first_ids line) now place (λ done. answered (with_store now done)) (λ done. refl))))
-  dropped_walks m this (Lookup place) true named e q =
+      move (ReachesUdp _ this place named (ap udp_record_of e)) (move (Takes _ this free) (move (Spends _ refl) (drop_outgoing_walks (first_ids line) now place (λ done. answered (with_store now done)) (λ done. refl))))
+  dropped_walks m this (Lookup place) true named e free q =
       let now : Machine = record m { table = without_handle m.table this } in
-      move (Takes _ this) (drop_lookup_walks now place (lookup_at m.store.records place) refl)
-  dropped_walks m this (PlainInput plain) true named e q = move (Takes _ this) (move (Spends _ refl) (drop_input_walks (Ok (Ready tt)) plain))
-  dropped_walks m this (PlainOutput plain) true named e q = move (Takes _ this) (move (Spends _ refl) (drop_plain_output_walks (Ok (Ready tt)) plain))
-  dropped_walks m this Network true named e q = move (Takes _ this) (gives _ (Spends _ refl))
-  dropped_walks m this (Input place) true named e q = move (Takes _ this) (gives _ (Spends _ refl))
-  dropped_walks m this (Output place) true named e q =
+      move (Takes _ this free) (drop_lookup_walks now place (lookup_at m.store.records place) refl)
+  dropped_walks m this (PlainInput plain) true named e free q = move (Takes _ this free) (move (Spends _ refl) (drop_input_walks (Ok (Ready tt)) plain))
+  dropped_walks m this (PlainOutput plain) true named e free q = move (Takes _ this free) (move (Spends _ refl) (drop_plain_output_walks (Ok (Ready tt)) plain))
+  dropped_walks m this Network true named e free q = move (Takes _ this free) (gives _ (Spends _ refl))
+  dropped_walks m this (Input place) true named e free q = move (Takes _ this free) (gives _ (Spends _ refl))
+  dropped_walks m this (Output place) true named e free q =
       let now : Machine = record m { table = without_handle m.table this } in
-      move (Reaches _ this place named (ap record_of e)) (move (Takes _ this) (move (Spends _ refl) (and_then (drop_output_walks (first_ids line) place now (tcp2_at m.store.records place) refl) (λ done. gives _ (Leaves _)))))
-  dropped_walks m this (Pollable w) true named e q = move (Takes _ this) (gives _ (Spends _ refl))
-  dropped_walks m this ErrorValue true named e q = move (Takes _ this) (gives _ (Spends _ refl))
+      move (Reaches _ this place named (ap record_of e)) (move (Takes _ this free) (move (Spends _ refl) (and_then (drop_output_walks (first_ids line) place now (tcp2_at m.store.records place) refl) (λ done. gives _ (Leaves _)))))
+  dropped_walks m this (Pollable w) true named e free q = move (Takes _ this free) (gives _ (Spends _ refl))
+  dropped_walks m this ErrorValue true named e free q = move (Takes _ this free) (gives _ (Spends _ refl))
 
   pub drop_walks : (m : Machine) (this : ℕ) (k : Option Kind) → Has (handles_of origin) this → kind_at m.table this ≡ k → NoStartStands m.store.standing → Walks law (Starts m Unused) OverWith (drop_taken m (first_ids line) (taken_out m.table this k))
   drop_walks m this None named e q = gives _ (Spends _ refl)
-  drop_walks m this (Some kind) named e q = dropped_walks m this kind (has_no_child m.table this) named e q
+  drop_walks m this (Some kind) named e q = dropped_walks m this kind (has_no_child m.table this) named e refl q
 
   -- == a turn
   turned_walks : {h : Here} {place : ℕ} (here : HasRecord h place) (r : Tcp2Socket) (o : Option Streams) → r.streams ≡ o → Walks law (put h place r) (λ now. put h place now) (turned r o)
@@ -276,14 +277,14 @@ module _ {contexts : List WasiSocketsCtx} {line : ℕ} {origin : Step} {law : La
   -- == pollables
   pub subscribe_walks : (c s : ℕ) (m : Machine) (o : Option Watched) → watched_by (kind_at m.table s) ≡ o → origin ≡ Step.Subscribe c s → Walks law (Starts m Unused) OverWith (subscribe_on m (own_of line) s o)
   subscribe_walks c s m None e is = gives _ (Spends _ refl)
-  subscribe_walks c s m (Some (Watched.Udp place)) e is = move (Spends _ refl) (and_then (mark (AUdpPollable c s (Watched.Udp place) is refl (watched_udp (kind_at m.table s) _ e))) (λ made. give _))
-  subscribe_walks c s m (Some (Watched.Incoming place)) e is = move (Spends _ refl) (and_then (mark (AUdpPollable c s (Watched.Incoming place) is refl (watched_udp (kind_at m.table s) _ e))) (λ made. give _))
-  subscribe_walks c s m (Some (Watched.Outgoing place)) e is = move (Spends _ refl) (and_then (mark (AUdpPollable c s (Watched.Outgoing place) is refl (watched_udp (kind_at m.table s) _ e))) (λ made. give _))
+  subscribe_walks c s m (Some (Watched.Udp place)) e is = move (Spends _ refl) (and_then (mark (AUdpPollable c s (Watched.Udp place) is refl (watched_udp (kind_at m.table s) _ e) e)) (λ made. give _))
+  subscribe_walks c s m (Some (Watched.Incoming place)) e is = move (Spends _ refl) (and_then (mark (AUdpPollable c s (Watched.Incoming place) is refl (watched_udp (kind_at m.table s) _ e) e)) (λ made. give _))
+  subscribe_walks c s m (Some (Watched.Outgoing place)) e is = move (Spends _ refl) (and_then (mark (AUdpPollable c s (Watched.Outgoing place) is refl (watched_udp (kind_at m.table s) _ e) e)) (λ made. give _))
   subscribe_walks c s m (Some (Watched.Lookup place)) e is = move (Spends _ refl) (and_then (mark (ALookupPollable c s place is (watched_lookup (kind_at m.table s) place e))) (λ made. give _))
   subscribe_walks c s m (Some Watched.Plain) e is = move (Spends _ refl) (and_then (mark (APlainPollable c s is e)) (λ made. give _))
-  subscribe_walks c s m (Some (Watched.Socket place)) e is = move (Spends _ refl) (and_then (mark (APollable c s (Watched.Socket place) is refl (watched_record (kind_at m.table s) _ e))) (λ made. give _))
-  subscribe_walks c s m (Some (Watched.Input place)) e is = move (Spends _ refl) (and_then (mark (APollable c s (Watched.Input place) is refl (watched_record (kind_at m.table s) _ e))) (λ made. give _))
-  subscribe_walks c s m (Some (Watched.Output place)) e is = move (Spends _ refl) (and_then (mark (APollable c s (Watched.Output place) is refl (watched_record (kind_at m.table s) _ e))) (λ made. give _))
+  subscribe_walks c s m (Some (Watched.Socket place)) e is = move (Spends _ refl) (and_then (mark (APollable c s (Watched.Socket place) is refl (watched_record (kind_at m.table s) _ e) e)) (λ made. give _))
+  subscribe_walks c s m (Some (Watched.Input place)) e is = move (Spends _ refl) (and_then (mark (APollable c s (Watched.Input place) is refl (watched_record (kind_at m.table s) _ e) e)) (λ made. give _))
+  subscribe_walks c s m (Some (Watched.Output place)) e is = move (Spends _ refl) (and_then (mark (APollable c s (Watched.Output place) is refl (watched_record (kind_at m.table s) _ e) e)) (λ made. give _))
 
   -- == whether a stream is ready
   module _ {h : Here} {place n : ℕ} (here : HasRecord h place) (at : h.at ≡ Some (place, n)) where
@@ -291,54 +292,6 @@ module _ {contexts : List WasiSocketsCtx} {line : ℕ} {origin : Step} {law : La
     ready_reader_walks r None e = give _
     ready_reader_walks r (Some s) e = from (streams_are h place r s e) (and_then (reader_ready_walks here at r s s.reader) (λ done. give _))
 
-    ready_writer_walks : (r : Tcp2Socket) (o : Option Streams) → r.streams ≡ o → Walks law (put h place r) (λ done. put h place done.1) (ready_writer (own_of n) r o)
+    pub ready_writer_walks : (r : Tcp2Socket) (o : Option Streams) → r.streams ≡ o → Walks law (put h place r) (λ done. put h place done.1) (ready_writer (own_of n) r o)
     ready_writer_walks r None e = give _
     ready_writer_walks r (Some s) e = from (streams_are h place r s e) (and_then (look_walks here at r s s.writer) (λ done. give _))
-
-  module _ {h : Here} {place : ℕ} (here : HasRecord h place) (at : h.at ≡ Some (place, line)) (free : h.own ≡ Unused) where
-    -- the line's operation has begun then
-    spends_after : {A : Type 0} {now : Here} {asks : Asks (A × Tcp2Socket)} → Walks law now (λ done. put h place done.1) asks → Walks law now (λ done. record (put h place done.1) { own = Used }) asks
-    spends_after {asks = asks} w = record { along = λ es i. allows_weaker law.P _ _ (λ fs done k. law.moves fs _ _ (Spends _ free) k) es asks (w.along es i) }
-
-    ready_listening_walks : (r : Tcp2Socket) (l : Listening) → r.listening ≡ l → Walks law (put h place r) (λ done. record (put h place done.1) { own = Used }) (ready_listening (first_ids line) r l)
-    ready_listening_walks r (Accepts l) e = and_then {mid = λ done. record (put h place (with_listening r (Accepts done.1))) { own = Used }} (listener_walks here at r l (ready_end l) l.accept e refl free (λ now. give _)) (λ done. give _)
-    ready_listening_walks r _ e = gives _ (Spends _ free)
-
-    ready_idle_walks : (r : Tcp2Socket) (idle : Bool) → Walks law (put h place r) (λ done. record (put h place done.1) { own = Used }) (ready_idle (first_ids line) r idle)
-    ready_idle_walks r true = ready_listening_walks r r.listening refl
-    ready_idle_walks r false = gives _ (Spends _ free)
-
-    ready_socket_walks : (r : Tcp2Socket) (connects : Bool) → Walks law (put h place r) (λ done. record (put h place done.1) { own = Used }) (ready_socket_by (first_ids line) r connects)
-    ready_socket_walks r true = and_then (finish_walks here r) (λ done. gives _ (Spends _ free))
-    ready_socket_walks r false = ready_idle_walks r (is_nothing r.in_progress)
-
-    ready_input_walks : (r : Tcp2Socket) → Walks law (put h place r) (λ done. record (put h place done.1) { own = Used }) (ready_reader (own_of line) r r.streams)
-    ready_input_walks r = spends_after (ready_reader_walks here at r r.streams refl)
-
-    ready_output_walks : (r : Tcp2Socket) → Walks law (put h place r) (λ done. record (put h place done.1) { own = Used }) (ready_writer (own_of line) r r.streams)
-    ready_output_walks r = spends_after (ready_writer_walks here at r r.streams refl)
-
-    ready_record_walks : (w : Watched) (r : Tcp2Socket) → Walks law (put h place r) (λ done. record (put h place done.1) { own = Used }) (ready_record (own_of line) (first_ids line) w r)
-    ready_record_walks (Watched.Socket n) r = ready_socket_walks r (is_connect r.in_progress)
-    ready_record_walks (Watched.Input n) r = ready_input_walks r
-    ready_record_walks (Watched.Output n) r = ready_output_walks r
-    ready_record_walks _ r = gives _ (Spends _ free)
-
-  ready_at_walks : (m : Machine) (place : ℕ) (w : Watched) (o : Option Tcp2Socket) → tcp2_at m.store.records place ≡ o → Walks law (At line m place Unused) (Put line m place) (ready_at m.store (own_of line) (first_ids line) w place o)
-  ready_at_walks m place w None g = gives _ (Spends _ refl)
-  ready_at_walks m place w (Some r) g = from (put_same (At line m place Unused) place r g) (and_then (ready_record_walks (there g) refl refl w r) (λ done. give _))
-
-  ready_tcp_walks : (m : Machine) (p : ℕ) (w : Watched) → tcp_place w ≡ Some (place_in w) → watch_of (kind_at m.table p) ≡ Some w → Has (handles_of origin) p
-      → Walks law (Starts m Unused) OverWith (bind (ready_at m.store (own_of line) (first_ids line) w (place_in w) (tcp2_at m.store.records (place_in w))) (λ done. Give (with_store m done)))
-  ready_tcp_walks m p w t e named = move (Reaches _ p (place_in w) named (watch_record (kind_at m.table p) w e ∙ t)) (and_then (ready_at_walks m (place_in w) w (tcp2_at m.store.records (place_in w)) refl) (λ done. gives _ (Leaves _)))
-
-  pub ready_walks : (m : Machine) (p : ℕ) (o : Option Watched) → watch_of (kind_at m.table p) ≡ o → Has (handles_of origin) p → Walks law (Starts m Unused) OverWith (ready_on m (first_ids line) o)
-  ready_walks m p None e named = gives _ (Spends _ refl)
-  ready_walks m p (Some (Watched.Udp place)) e named = gives _ (Spends _ refl)
-  ready_walks m p (Some Watched.Plain) e named = gives _ (Spends _ refl)
-  ready_walks m p (Some (Watched.Outgoing place)) e named = gives _ (Spends _ refl)
-  ready_walks m p (Some (Watched.Lookup place)) e named = gives _ (Spends _ refl)
-  ready_walks m p (Some (Watched.Incoming place)) e named = move (ReachesUdp _ p place named (watch_udp (kind_at m.table p) (Watched.Incoming place) e)) (and_then (ready_incoming_walks m place (open_at m.store.records place) refl) (λ done. gives _ (Leaves _)))
-  ready_walks m p (Some (Watched.Socket place)) e named = ready_tcp_walks m p (Watched.Socket place) refl e named
-  ready_walks m p (Some (Watched.Input place)) e named = ready_tcp_walks m p (Watched.Input place) refl e named
-  ready_walks m p (Some (Watched.Output place)) e named = ready_tcp_walks m p (Watched.Output place) refl e named

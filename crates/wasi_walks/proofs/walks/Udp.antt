@@ -3,18 +3,19 @@ use Rattle.std.specs.Prelude.{◌≡◌, ⊤, ℕ, length, Bool, true, false, if
 use Rattle.wasi_addr.specs.declared.address.IpSocketAddress.{IpSocketAddress}
 use Rattle.wasi_addr.specs.Address.{is_of_family, is_wildcard, ip_of}
 use Rattle.wasi_walks.proofs.Words.{Answer, Asks, ErrorCode, Give, Has, Item, End, Waits, Done, Refused, Machine, Operation, Pending, Ready, Records, SocketAddressFamily, StandingCall, Step, Stop, WasiSocketsCtx}
-use Rattle.wasi_walks.proofs.Words.{ap, bind, ◌∙◌, handles_of, is_network, kind_at, left_of, own_of, poll_asks, refl, sym, with_store, Handles, InvalidArgument, inl, inr}
+use Rattle.wasi_walks.proofs.Words.{ap, bind, subst, ◌∙◌, handles_of, is_network, kind_at, left_of, own_of, poll_asks, refl, sym, with_store, Handles, InvalidArgument, inl, inr}
 use Rattle.wasi_machine.specs.Machine.{first_ids}
 use Rattle.wasi_world.specs.declared.ids.Ids.{Ids}
 use Rattle.wasi_world.specs.declared.call.Opt.{Opt}
 use Rattle.wasi_common.specs.Options.{value_set, zero_test, refused_before, refused_after}
 use Rattle.wasi_host.specs.Records.{open_at, open_of, udp2_at}
+use Rattle.wasi_host.specs.declared.kind.Kind.TheVariants.{Udp2}
 use Rattle.wasi_host.specs.declared.udp.OpenUdp.{OpenUdp}
 use Rattle.wasi_host.specs.declared.udp.Udp2Socket.{Udp2Socket}
 use Rattle.wasi_host.specs.declared.udp.UdpInProgress.{UdpInProgress}
 use Rattle.wasi_host.specs.Datagrams.{has_streams}
 use Rattle.wasi_host.specs.Machine.{udp_socket_at}
-use Rattle.wasi_host.specs.Udp.{begin_udp_bind_asks, close_udp_asks, is_udp_bound, is_udp_idle, poll_create_asks, poll_udp_bind_asks, poll_udp_binding, udp_bind_begun, udp_bind_ended, udp_create_ended, udp_local_asks, with_udp_inner, with_udp_progress}
+use Rattle.wasi_host.specs.Udp.{begin_udp_bind_asks, close_udp_asks, is_udp_bound, is_udp_idle, poll_create_asks, poll_udp_bind_asks, poll_udp_binding, udp_bind_begun, udp_bind_ended, udp_create_ended, udp_create_left, udp_local_asks, with_udp_inner, with_udp_progress}
 use Rattle.wasi_host.specs.UdpCalls.{finish_udp_bind_at, finish_udp_bind_by, get_udp_option_at, rebind_udp_at, release_udp_at, set_udp_option_at, start_udp_bind_at, start_udp_bind_by, start_udp_bind_unless, udp_call_answered, udp_local_at, udp_put_back}
 use Rattle.wasi_host.specs.UdpCreates.{create_answered, create_begun, create_on, create_so, create_udp_asks, handle_made, mark_udp, poll_create_at, with_create}
 use Rattle.wasi_p2.specs.Options.{record_asks}
@@ -26,10 +27,10 @@ use Rattle.wasi_udp.specs.Options.{get_option_asks, set_option_asks}
 use Rattle.wasi_udp.specs.Shape.{Socket}
 use Rattle.wasi_udp.specs.Socket.{after_local, asker_of, ask_bound, bound_asks, local_where}
 use Rattle.wasi_walks.specs.Licence.{IsGetOf, IsSetTo, IsUdpBindTo}
-use Rattle.wasi_walks.proofs.walks.Moves.{Here, put_udp, FoundUdp, NoStart, NoStartStands, CreatesUdp, udp_begun, part_of, udp_record_of, IsUdpSettled, ReachesUdp, Leaves, Spends, UdpChanges, BeginsUdpBind, StandsUdpBind, StandsUdpCreate, Used, Unused}
+use Rattle.wasi_walks.proofs.walks.Moves.{AwaitsCreate, Here, put_udp, FoundUdp, IsOpenUdp, NoStart, NoStartStands, ReleasesUdp, CreatesUdp, udp_begun, part_of, udp_record_of, IsUdpSettled, ReachesUdp, Leaves, Spends, UdpChanges, BeginsUdpBind, StandsUdpBind, StandsUdpCreate, Used, Unused}
 use Rattle.wasi_walks.proofs.UdpLists.{udp_set_there}
 use Rattle.wasi_walks.proofs.walks.Law.{Law, Walks, Given, given_then, given_on, given_along, give, and_then, and_so, and_given, by_if, move, gives, from}
-use Rattle.wasi_walks.proofs.walks.States.{At, Over, OverWith, Put, Starts, udp_record}
+use Rattle.wasi_walks.proofs.walks.States.{At, Awaiting, Emptying, Over, OverWith, Put, Starts, udp_record}
 use Rattle.wasi_walks.proofs.walks.UdpLaw.{HasUdp, udp_put_put, udp_put_same, udp_found, create_udp, mark_udp_walks, ask_udp, learn_udp, close_udp, poll_create_walks, poll_udp_bind_walks}
 
 -- what is open at a place is the UDP socket there
@@ -72,6 +73,7 @@ pub record IsCreatingNow (u : Udp2Socket) : Type 0 where
 
 abbrev pub WaitsCreate : Result (Answer (Unit {0})) ErrorCode × Udp2Socket → Type 0
 WaitsCreate (Ok Pending, u) = IsCreatingNow u
+WaitsCreate (Ok (Ready d), u) = IsOpenUdp u
 WaitsCreate _ = ⊤
 
 create_given : (u : Udp2Socket) → Given WaitsCreate (poll_create_asks u)
@@ -104,15 +106,31 @@ udp_there {u} g = record { was = u; at = g }
 pub opened : (line : ℕ) (m : Machine) (place : ℕ) (o : OpenUdp) → open_at m.store.records place ≡ Some o → FoundUdp (At line m place Unused) place (Udp2Socket.Open o)
 opened line m place o e = open_is (udp2_at m.store.records place) o e
 
--- the record is being created, where the create is pending
+-- The socket of the record is there.
+record HasOpened (store : Records) (place : ℕ) : Type 0 where
+  was : Udp2Socket
+  at : udp2_at store.records place ≡ Some was
+  opens : IsOpenUdp was
+
+-- the record is being created, where the create is pending, and is there where it is done
 abbrev CreatesOn : ℕ → Result (Answer (Unit {0})) Stop × Records → Type 0
 CreatesOn place (Ok Pending, store) = (create : Create) × (udp2_at store.records place ≡ Some (Udp2Socket.Creating create))
+CreatesOn place (Ok (Ready d), store) = HasOpened store place
 CreatesOn place _ = ⊤
+
+-- where a create is done, its record has no handle yet
+abbrev Polled : Machine → ℕ → Result (Answer (Unit {0})) ErrorCode × Udp2Socket → Here
+Polled m place (Ok (Ready d), u) = put_udp (Awaiting m place) place u
+Polled m place (_, u) = put_udp (Over m) place u
+
+abbrev CreatedSo : Machine → ℕ → Result (Answer (Unit {0})) Stop × Records → Here
+CreatedSo m place (Ok (Ready d), store) = Awaiting (record m { store = store }) place
+CreatedSo m place (_, store) = Over (record m { store = store })
 
 module _ (m : Machine) (place : ℕ) where
   answered_given : (was : Udp2Socket) → udp2_at m.store.records place ≡ Some was → (done : Result (Answer (Unit {0})) ErrorCode × Udp2Socket) → WaitsCreate done → CreatesOn place (create_answered m.store place done)
   answered_given was g (Ok Pending, u) w = (w.create, udp_set_there m.store.records place was u g ∙ ap (λ (x : Udp2Socket). Some x) w.is)
-  answered_given was g (Ok (Ready d), u) w = tt
+  answered_given was g (Ok (Ready d), u) w = record { was = u; at = udp_set_there m.store.records place was u g; opens = w }
   answered_given was g (Err c, u) w = tt
 
   poll_at_given : (u : Option Udp2Socket) → udp2_at m.store.records place ≡ u → Given (CreatesOn place) (poll_create_at m.store place u)
@@ -256,41 +274,51 @@ module _ {contexts : List WasiSocketsCtx} {line : ℕ} {origin : Step} {law : La
       (and_given WaitsUdp (poll_given o o.in_progress) (poll_bind_walks (udp_there g) q o) (λ done w. udp_answered_walks m ids place done (record { was = Udp2Socket.Open o; at = g }) w))
 
   -- == the end
-  close_by : {h : Here} {place : ℕ} (here : HasUdp h place) → NoStart h → (u : Udp2Socket) → Walks law (put_udp h place u) (λ done. put_udp h place done.1) (close_udp_asks (own_of line) u)
+  close_by : {h : Here} {place : ℕ} (here : HasUdp h place) → ReleasesUdp h place → (u : Udp2Socket) → Walks law (put_udp h place u) (λ done. put_udp h place done.1) (close_udp_asks (own_of line) u)
   unfolding bind
   close_by here q (Udp2Socket.Open o) = close_udp here o q (λ told. give _)
   close_by here q (Udp2Socket.Creating c) = give _
   close_by here q (Udp2Socket.Closed s) = give _
 
-  pub release_udp_walks : (m : Machine) (place : ℕ) (u : Option Udp2Socket) → udp2_at m.store.records place ≡ u → NoStartStands m.store.standing → Walks law (At line m place Unused) (Put line m place) (release_udp_at m.store (own_of line) place u)
+  pub release_udp_walks : (m : Machine) (place : ℕ) (u : Option Udp2Socket) → udp2_at m.store.records place ≡ u → NoStartStands m.store.standing → Walks law (Emptying line m place (Udp2 place) Unused) (λ done. Emptying line (record m { store = done.1 }) place (Udp2 place) Used) (release_udp_at m.store (own_of line) place u)
   release_udp_walks m place None g q = gives _ (Spends _ refl)
-  release_udp_walks m place (Some u) g q = from (udp_put_same (At line m place Unused) place u g) (and_then (close_by (udp_there {h = At line m place Unused} g) q u) (λ done. gives _ (Spends _ refl)))
+  release_udp_walks m place (Some u) g q = from (udp_put_same (Emptying line m place (Udp2 place) Unused) place u g) (and_then (close_by (udp_there {h = Emptying line m place (Udp2 place) Unused} g) (q, refl) u) (λ done. gives _ (Spends _ refl)))
 
   -- == a create
   created_by : (m : Machine) (made : Result ℕ Stop × Handles) → Walks law (Over (record m { table = made.1 })) OverWith (Give (handle_made m made))
   created_by m (Ok handle, t) = give _
   created_by m (Err why, t) = give _
 
-  mark_walks : (m : Machine) (place : ℕ) (u : Option Udp2Socket) → udp2_at m.store.records place ≡ u → Walks law (Over m) OverWith (mark_udp m place u)
-  mark_walks m place None g = give _
-  mark_walks m place (Some u) g = and_then (mark_udp_walks place u g) (created_by m)
+  mark_walks : (m : Machine) (place : ℕ) (u : Option Udp2Socket) → udp2_at m.store.records place ≡ u → HasOpened m.store place → Walks law (Awaiting m place) OverWith (mark_udp m place u)
+  mark_walks m place None g o = absurd (let at = o.at in cc)
+  mark_walks m place (Some u) g o =
+      let same : o.was ≡ u = let at = o.at in cc in
+      and_then (mark_udp_walks place u (record { awaited = refl; found = g; opens = subst IsOpenUdp same o.opens })) (created_by m)
 
-  create_so_walks : (ids : Ids) (place : ℕ) (m : Machine) (done : Result (Answer (Unit {0})) Stop × Records) → CreatesOn place done → Walks law (Over (record m { store = done.1 })) OverWith (create_so ids place m done)
+  create_so_walks : (ids : Ids) (place : ℕ) (m : Machine) (done : Result (Answer (Unit {0})) Stop × Records) → CreatesOn place done → Walks law (CreatedSo m place done) OverWith (create_so ids place m done)
   create_so_walks ids place m (Ok Pending, store) w = gives _ (StandsUdpCreate _ ids place w.0 w.1)
-  create_so_walks ids place m (Ok (Ready d), store) w = mark_walks (record m { store = store }) place (udp2_at store.records place) refl
+  create_so_walks ids place m (Ok (Ready d), store) w = mark_walks (record m { store = store }) place (udp2_at store.records place) refl w
   create_so_walks ids place m (Err c, store) w = give _
 
   module _ (m : Machine) (place : ℕ) where
-    poll_so : (u : Udp2Socket) → FoundUdp (Over m) place u → NoStartStands m.store.standing → Walks law (put_udp (Over m) place u) (λ done. put_udp (Over m) place done.1) (poll_create_asks u)
-    poll_so (Udp2Socket.Creating create) g q = and_then (poll_create_walks (udp_there {h = Over m} g) create q) (λ ended. give _)
+    ended_walks : (create : Create) (ended : End × List Item) → Walks law (put_udp (Awaiting m place) place (udp_create_left create ended)) (Polled m place) (Give (udp_create_ended create ended))
+    ended_walks create (Waits, items) = gives _ (Leaves _)
+    ended_walks create (Done given, items) = give _
+    ended_walks create (Refused c given, items) = gives _ (Leaves _)
+
+    poll_so : (u : Udp2Socket) → FoundUdp (Over m) place u → NoStartStands m.store.standing → Walks law (put_udp (Over m) place u) (Polled m place) (poll_create_asks u)
+    poll_so (Udp2Socket.Creating create) g q =
+        move (AwaitsCreate _ place create (udp_found (udp_there {h = Over m} g) (Udp2Socket.Creating create)))
+        (and_then (poll_create_walks (udp_there {h = Awaiting m place} g) create q) (ended_walks create))
     poll_so (Udp2Socket.Open o) g q = give _
     poll_so (Udp2Socket.Closed s) g q = give _
 
-    answered_so : (done : Result (Answer (Unit {0})) ErrorCode × Udp2Socket) → Walks law (put_udp (Over m) place done.1) (λ x. Over (record m { store = x.1 })) (Give (create_answered m.store place done))
-    answered_so (Ok answer, u) = give _
+    answered_so : (done : Result (Answer (Unit {0})) ErrorCode × Udp2Socket) → Walks law (Polled m place done) (CreatedSo m place) (Give (create_answered m.store place done))
+    answered_so (Ok (Ready d), u) = give _
+    answered_so (Ok Pending, u) = give _
     answered_so (Err c, u) = give _
 
-    poll_at_walks : (u : Option Udp2Socket) → udp2_at m.store.records place ≡ u → NoStartStands m.store.standing → Walks law (Over m) (λ x. Over (record m { store = x.1 })) (poll_create_at m.store place u)
+    poll_at_walks : (u : Option Udp2Socket) → udp2_at m.store.records place ≡ u → NoStartStands m.store.standing → Walks law (Over m) (CreatedSo m place) (poll_create_at m.store place u)
     poll_at_walks None g q = give _
     poll_at_walks (Some u) g q = from (udp_put_same (Over m) place u g) (and_then (poll_so u g q) answered_so)
 

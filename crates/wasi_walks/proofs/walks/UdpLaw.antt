@@ -25,7 +25,7 @@ use Rattle.wasi_host.specs.Udp.{udp_side, udp_create_left, udp_bind_progress, wi
 use Rattle.wasi_udp.specs.Create.{Create, new_asks}
 use Rattle.wasi_udp.specs.Socket.{after_local, after_peer}
 use Rattle.wasi_walks.proofs.UdpLists.{udp_set_set, udp_set_same, udp_set_there}
-use Rattle.wasi_walks.proofs.walks.Moves.{Here, put_udp, FoundUdp, NoStart, IsUdpQuestionOf, CreatesUdp, udp_begun, ToStream, part_of, SettlesSend, Unused, Past, Spends, Held, UdpCreates, UdpBindsOn, UdpConnectsOn, SendsOn, ReceivesOn}
+use Rattle.wasi_walks.proofs.walks.Moves.{Here, put_udp, FoundUdp, IsCreated, NoStart, ReleasesUdp, IsUdpQuestionOf, CreatesUdp, udp_begun, ToStream, part_of, SettlesSend, Unused, Past, Spends, Held, UdpCreates, UdpBindsOn, UdpConnectsOn, SendsOn, ReceivesOn}
 use Rattle.wasi_walks.proofs.walks.Law.{Law, Walks, ends, by_if, gives}
 
 -- A place that has the record of a UDP socket.
@@ -53,7 +53,7 @@ module _ {contexts : List WasiSocketsCtx} {line : ℕ} {origin : Step} {law : La
   create_udp {h} ctx family c t o m = by_if ctx.udp (λ may. record { along = λ es i. let a = law.udp_creates es h ctx family c may t o m i in (a.0, λ told f. a.1 told f) }) (λ other. gives _ (Spends _ o))
 
   -- it gets its handle
-  pub mark_udp_walks : {h : Here} (place : ℕ) (u : Udp2Socket) → FoundUdp h place u → Walks law h (λ made. record h { machine = record h.machine { table = made.1 } }) (make_asks h.machine.table (udp_side u) (Udp2 place) None (Some (udp_side u)))
+  pub mark_udp_walks : {h : Here} (place : ℕ) (u : Udp2Socket) → IsCreated h place u → Walks law h (λ made. record h { machine = record h.machine { table = made.1 }; made = Past }) (make_asks h.machine.table (udp_side u) (Udp2 place) None (Some (udp_side u)))
   mark_udp_walks {h} place u g = record { along = λ es i. law.udp_marks es h place u g i }
 
   module _ {h : Here} {place : ℕ} (here : HasUdp h place) where
@@ -93,7 +93,7 @@ module _ {contexts : List WasiSocketsCtx} {line : ℕ} {origin : Step} {law : La
     }
 
     -- its network socket is closed
-    pub close_udp : {A : Type 0} {end : A → Here} (o : OpenUdp) {next : Told → Asks A} → NoStart h → ((told : Told) → Walks law (put_udp h place (Udp2Socket.Closed o.inner.side)) end (next told)) → Walks law (put_udp h place (Udp2Socket.Open o)) end (Ask (own_of line) (Call.Close o.inner.side) next)
+    pub close_udp : {A : Type 0} {end : A → Here} (o : OpenUdp) {next : Told → Asks A} → ReleasesUdp h place → ((told : Told) → Walks law (put_udp h place (Udp2Socket.Closed o.inner.side)) end (next told)) → Walks law (put_udp h place (Udp2Socket.Open o)) end (Ask (own_of line) (Call.Close o.inner.side) next)
     close_udp o q k = record {
       along = λ es i.
           let a = law.udp_closes es (put_udp h place (Udp2Socket.Open o)) place o q (udp_found here (Udp2Socket.Open o)) i in (

@@ -1,0 +1,189 @@
+-- What a line works on: the state, the record that one of its handles stands for, what it has made so far, and which names its
+-- operations were given.
+use Rattle.wasi_walks.proofs.Words.{Bool, Kind, List, Machine, None, OpId, Option, Some, Standing, StandingCall, Tcp2, Tcp2Socket, arith, inl, inr, refl, subst, sym, true, false, with_socket, ℕ, ⊤, ◌+◌, ◌<◌, ◌≡◌, ◌≤◌, ◌⊎◌}
+use Rattle.wasi_host.specs.Records.{tcp2_at, udp2_at}
+use Rattle.wasi_host.specs.UdpCalls.{with_udp}
+use Rattle.wasi_host.specs.declared.kind.Kind.TheVariants.{Udp2}
+use Rattle.wasi_host.specs.declared.records.Record.{Record}
+use Rattle.wasi_host.specs.declared.udp.Udp2Socket.{Udp2Socket}
+
+-- what the line's operations have begun: something, or nothing yet; its own none, and of the others those of a part below this one;
+-- these bytes it is let write to this network socket
+pub data Own : Type 0 where
+  Used : Own
+  Unused : Own
+  Names : ℕ → Own
+  ToWrite : OpId → List ℕ → Own
+
+-- what a line's call on handles is on
+pub data CallKind : Type 0 where
+  OfStreams : CallKind
+  OfPollables : CallKind
+
+-- what an accept has made so far: nothing, the record of what it took, or its handle too; the line whose call makes datagram
+-- streams, and the handle that they are made under; the line whose call on streams or on pollables is done, and the handles that it
+-- named; the kind of a handle that was dropped, under which nothing was live; the record whose create is polled, which has no handle
+-- yet; else nothing is said of it
+pub data Made : Type 0 where
+  ToStream : ℕ → ℕ → Made
+  Calls : CallKind → ℕ → List ℕ → Made
+  Emptied : Kind → Made
+  Awaited : ℕ → Made
+  Past : Made
+  Unmade : Made
+  Joined : ℕ → Made
+  Marked : ℕ → ℕ → Made
+
+-- What a line works on.
+pub record Here : Type 0 where
+  pub machine : Machine
+  pub at : Option (ℕ × ℕ)  -- the record that its handle stands for, once it was looked up, and the line whose operation asks
+  pub made : Made
+  pub own : Own
+
+abbrev pub put : Here → ℕ → Tcp2Socket → Here
+put h place r = record h { machine = record h.machine { store = with_socket h.machine.store place r } }
+
+abbrev pub Found : Here → ℕ → Tcp2Socket → Type 0
+Found h place r = tcp2_at h.machine.store.records place ≡ Some r
+
+-- the same of a UDP socket
+abbrev pub put_udp : Here → ℕ → Udp2Socket → Here
+put_udp h place u = record h { machine = record h.machine { store = with_udp h.machine.store place u } }
+
+abbrev pub FoundUdp : Here → ℕ → Udp2Socket → Type 0
+FoundUdp h place u = udp2_at h.machine.store.records place ≡ Some u
+
+-- other records
+abbrev pub with_records : Here → List Record → Here
+with_records h records = record h { machine = record h.machine { store = record h.machine.store { records = records } } }
+
+-- == what may be released
+-- no bind, listen, create or connect is pending
+abbrev pub NoStartIn : StandingCall → Type 0
+NoStartIn (StandingCall.DropOutput place) = ⊤
+NoStartIn (StandingCall.DropOutgoing place) = ⊤
+NoStartIn (StandingCall.Blocking call) = ⊤
+NoStartIn _ = ⊥
+
+abbrev pub NoStartStands : Option Standing → Type 0
+NoStartStands None = ⊤
+NoStartStands (Some s) = NoStartIn s.call
+
+abbrev pub NoStart : Here → Type 0
+NoStart h = NoStartStands h.machine.store.standing
+
+-- and the record is that of a socket that is dropped, so that its streams may go
+abbrev pub Releases : Here → ℕ → Type 0
+Releases h place = NoStart h × (h.made ≡ Emptied (Tcp2 place))
+
+abbrev pub ReleasesUdp : Here → ℕ → Type 0
+ReleasesUdp h place = NoStart h × (h.made ≡ Emptied (Udp2 place))
+
+-- == a create
+-- a UDP socket that is there, and isn't closed
+abbrev pub IsOpenUdp : Udp2Socket → Type 0
+IsOpenUdp (Udp2Socket.Open o) = ⊤
+IsOpenUdp _ = ⊥
+
+-- The record of a create that is done, which has no handle yet.
+pub record IsCreated (h : Here) (place : ℕ) (u : Udp2Socket) : Type 0 where
+  pub awaited : h.made ≡ Awaited place
+  pub found : FoundUdp h place u
+  pub opens : IsOpenUdp u
+
+-- == names
+-- the name of a part of a line
+abbrev pub part_of : ℕ → ℕ → OpId
+part_of line part = record { step = line; part = part }
+
+-- The name may be that of a network socket or of an accept by now: it is of an older line, or of this one, and was given. A line
+-- that has begun nothing gave none; one that may write has its names taken, since a write makes no network socket.
+abbrev pub IsOlder : ℕ → Own → OpId → Type 0
+IsOlder line Used x = x.step < line + 1
+IsOlder line Unused x = x.step < line
+IsOlder line (Names n) x = (x.step < line) ⊎ ((x.step ≡ line) × (x.part < n))
+IsOlder line (ToWrite side bytes) x = x.step < line + 1
+
+-- an operation of the line, beside its own, may be given the name yet
+abbrev pub IsToCome : ℕ → Own → OpId → Type 0
+IsToCome line Used x = ⊥
+IsToCome line Unused x = (x.step ≡ line) × (1 ≤ x.part)
+IsToCome line (Names n) x = (x.step ≡ line) × (n ≤ x.part)
+IsToCome line (ToWrite side bytes) x = ⊥
+
+-- no name is lost, and none is given back
+abbrev pub Grows : ℕ → Own → Own → Type 0
+Grows line own now = (x : OpId) → IsOlder line own x → IsOlder line now x
+
+abbrev pub Shrinks : ℕ → Own → Own → Type 0
+Shrinks line own now = (x : OpId) → IsToCome line now x → IsToCome line own x
+
+pub older_used : (line : ℕ) (own : Own) → Grows line own Used
+older_used line Used x o = o
+older_used line Unused x o = omega arith
+older_used line (Names n) x (inl o) = omega arith
+older_used line (Names n) x (inr o) = let s : x.step ≡ line = o.0 in omega arith
+older_used line (ToWrite side bytes) x o = o
+
+pub older_unused : (line : ℕ) (own : Own) → Grows line Unused own
+older_unused line Used x o = omega arith
+older_unused line Unused x o = o
+older_unused line (Names n) x o = inl o
+older_unused line (ToWrite side bytes) x o = omega arith
+
+pub older_names : (line n m : ℕ) → n ≤ m → Grows line (Names n) (Names m)
+older_names line n m l x (inl o) = inl o
+older_names line n m l x (inr o) = inr (o.0, (let p = o.1 in omega (arith, p, l)))
+
+pub to_come_less : (line n m : ℕ) → n ≤ m → Shrinks line (Names n) (Names m)
+to_come_less line n m l x t = (t.0, (let p = t.1 in omega (arith, p, l)))
+
+-- a name that is to come wasn't given
+pub not_given : (line : ℕ) (own : Own) (x : OpId) → IsOlder line own x → IsToCome line own x → ⊥
+not_given line Unused x o t = let s : x.step ≡ line = t.0 in absurd (omega arith)
+not_given line (Names n) x (inl o) t = let s : x.step ≡ line = t.0 in absurd (omega arith)
+not_given line (Names n) x (inr o) t = let a = o.1 in let b = t.1 in absurd (omega (arith, a, b))
+not_given line Used x o t = t
+not_given line (ToWrite side bytes) x o t = t
+
+-- where it is known what the line has begun
+pub grows_to : (line : ℕ) (own was now : Own) → own ≡ was → Grows line was now → Grows line own now
+grows_to line own was now e g = subst (λ (o : Own). Grows line o now) (sym e) g
+
+pub shrinks_to : (line : ℕ) (own was now : Own) → own ≡ was → Shrinks line was now → Shrinks line own now
+shrinks_to line own was now e g = subst (λ (o : Own). Shrinks line o now) (sym e) g
+
+-- a line's next name is given, where something begins
+abbrev pub after : Own → ℕ → Bool → Own
+after own part true = Names (part + 1)
+after own part false = own
+
+abbrev pub part_after : ℕ → Bool → ℕ
+part_after part true = part + 1
+part_after part false = part
+
+pub after_names : (part : ℕ) (begins : Bool) → after (Names part) part begins ≡ Names (part_after part begins)
+after_names part true = refl
+after_names part false = refl
+
+-- what begins for line n by this part begins for the line that is done, whose next name it is
+abbrev pub MayBegin : ℕ → ℕ → ℕ → Own → Bool → Type 0
+MayBegin line n part own begins = begins ≡ true → (n ≡ line) × (own ≡ Names part)
+
+-- the next name is to come, and is given then
+pub next_to_come : (line n : ℕ) (own : Own) → own ≡ Names n → IsToCome line own (part_of line n)
+next_to_come line n own e = subst (λ (o : Own). IsToCome line o (part_of line n)) (sym e) (refl, omega arith)
+
+pub next_grows : (line n : ℕ) (own : Own) → own ≡ Names n → Grows line own (Names (n + 1))
+next_grows line n own e = grows_to line own (Names n) (Names (n + 1)) e (older_names line n (n + 1) (omega arith))
+
+pub next_shrinks : (line n : ℕ) (own : Own) → own ≡ Names n → Shrinks line own (Names (n + 1))
+next_shrinks line n own e = shrinks_to line own (Names n) (Names (n + 1)) e (to_come_less line n (n + 1) (omega arith))
+
+pub next_given : (line n : ℕ) → IsOlder line (Names (n + 1)) (part_of line n)
+next_given line n = inr (refl, omega arith)
+
+-- a line's own name isn't given where it has begun nothing
+pub own_not_given : (line : ℕ) (own : Own) (x : OpId) → own ≡ Unused → x.step ≡ line → IsOlder line own x → ⊥
+own_not_given line own x u e o = let p : IsOlder line Unused x = subst (λ (w : Own). IsOlder line w x) u o in absurd (omega (arith, p, e))
