@@ -4,3 +4,4 @@ pub mod shapes
 pub mod order
 pub mod permits
 pub mod sockets
+pub mod bounds

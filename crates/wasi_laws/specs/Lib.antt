@@ -2,3 +2,4 @@ pub mod Order
 pub mod Writes
 pub mod Permitted
 pub mod Opened
+pub mod Bounds

@@ -2,6 +2,8 @@
 //! is the law.
 #![tactic(auto)]
 
+pub mod polls;
+
 ghost use Rattle.std.specs.Prelude.{◌≡◌, ℕ, ◌+◌, ◌<◌, List, [], ◌∷◌, ◌++◌, Some, length};
 ghost use Rattle.wasi_world.specs.declared.call.Call.TheVariants as Call;
 ghost use Rattle.wasi_world.specs.declared.call.Entry.{Entry};

@@ -27,7 +27,7 @@ use Rattle.wasi_host.specs.declared.datagrams.Sending.{Sending}
 use Rattle.wasi_udp.specs.Receive.{receive_start, wanted_in, wanting}
 use Rattle.wasi_udp.specs.Send.{at_remote, send_start, send_to}
 use Rattle.wasi_host.specs.declared.binding.InProgress.TheVariants as progress
-use Rattle.wasi_laws.proofs.Words.{Accepting, Allows, Asks, Awaits, BeginsAccept, BeginsBind, BeginsConnect, BeginsListen, BeginsWrite, BindsOn, Bool, Call, Changes, ChecksFirst, ClosesReader, Connection, Connects, Done, End, Entry, Forgets, Found, Given, Held, Here, InProgress, IpSocketAddress, IsGone, Item, Job, Joins, KeepsBinding, Left, List, Listening, Listens, Machine, Move, OpId, Opens, Operation, Option, Own, Plain, Reconnects, Refused, Reply, Some, Spends, Starts, Step, Streams, Tcp2Socket, TcpState, ToWrite, Told, Unlistens, Unused, Used, Waits, WasiSocketsCtx, WriteState, Writes, [], accept_ended, accept_operation, accepting_now, allows_weaker, ap, arith, arrived, asked_by, beginning_listen, begun_bind, begun_listen, bind_progress, connect_ended, connect_first, connect_left, connect_operation, entry, false, first_state, inl, inr, is_same, job_after, joined, joining, listen_after, new_accept, new_job, new_record, new_socket, own_of, poll_asks, put, refl, run, second_of, subst, sym, true, with_inner, with_progress, with_state, with_writer, ℕ, ◌++◌, ◌+◌, ◌∙◌, ◌∷◌, ◌≡◌, ◌≤◌, Ok, ◌⊎◌}
+use Rattle.wasi_laws.proofs.Words.{Accepting, Allows, Asks, Awaits, BeginsAccept, BeginsBind, BeginsConnect, BeginsListen, BeginsWrite, BindsOn, Bool, Call, Changes, ChecksFirst, ClosesReader, Connection, Connects, Done, End, Entry, Forgets, Found, Given, Held, Here, InProgress, IpSocketAddress, IsGone, Item, Job, Joins, KeepsBinding, Left, List, Listening, Listens, Machine, Move, OpId, Opens, Operation, Option, Own, Plain, Reconnects, Refused, Reply, Some, Spends, Starts, Step, Streams, Tcp2Socket, TcpState, ToWrite, Told, Unlistens, Unused, Used, Waits, WasiSocketsCtx, WriteState, Writes, [], accept_ended, accept_operation, accepting_now, allows_weaker, ap, arith, arrived, asked_by, beginning_listen, begun_bind, begun_listen, bind_progress, connect_ended, connect_first, connect_left, connect_operation, entry, false, first_state, inl, inr, is_same, job_after, joined, joining, listen_after, new_accept, new_job, new_record, new_socket, own_of, poll_asks, put, refl, run, subst, sym, true, with_inner, with_progress, with_state, with_writer, ℕ, ◌++◌, ◌+◌, ◌∙◌, ◌∷◌, ◌≡◌, ◌≤◌, Ok, ◌⊎◌}
 use Rattle.wasi_laws.proofs.asks.Single.{each_ask, KeepsWrites, Single, Closing, ClosesSocket, ClosesListen, ClosesArrived, creating}
 use Rattle.wasi_laws.proofs.asks.Trees.{GoesOn}
 use Rattle.wasi_laws.proofs.shapes.Shape.{HasStreams, Same, SocketsStay, StreamsShape, sockets_stay}
@@ -101,11 +101,11 @@ module _ (it : OpId) where
     receiving_less : (o : OpenUdp) (inc : Incoming) (op : Operation) (i : Bool) → udp_weight ours (Udp2Socket.Open (receiving_now o inc op)) i ≤ udp_weight ours (Udp2Socket.Open o) i + op_weight ours op.who.id op.left i
     receiving_less o inc op i = omega arith
 
-    -- the operation of a line begins on a TCP socket
-    put_begins : (es : List Entry) (h : Here) (place : ℕ) (r now : Tcp2Socket) (op : Operation) → Found h place r → room line h.own ≡ room line Unused → op.who.id.step ≡ line → checks_of op.left ≤ 1 → ((i : Bool) → record_weight ours now i ≤ record_weight ours r i + op_weight ours op.who.id op.left i) → Kept line es h → Kept line es (record (put h place now) { own = Used })
-    put_begins es h place r now op g u s c l k =
+    -- an operation of the line begins on a TCP socket
+    put_begins : (es : List Entry) (h : Here) (place : ℕ) (r now : Tcp2Socket) (op : Operation) (own : Own) → Found h place r → ((i : Bool) → op_weight ours op.who.id op.left i + room line own ≤ room line h.own) → ((i : Bool) → record_weight ours now i ≤ record_weight ours r i + op_weight ours op.who.id op.left i) → Kept line es h → Kept line es (record (put h place now) { own = own })
+    put_begins es h place r now op own g t l k =
         let b = beside ours h.machine.store.records place r g in
-        begins es h (put h place now) op Used (takes_line it line h.own op.who.id op.left u s c) (λ i. let p = l i in let x = b.was i in let y = b.now now i in omega (arith, p, x, y)) k
+        begins es h (put h place now) op own t (λ i. let p = l i in let x = b.was i in let y = b.now now i in omega (arith, p, x, y)) k
 
     same_weight : (r now : Tcp2Socket) → Same r now → (i : Bool) → record_weight ours now i ≤ record_weight ours r i
     same_weight r now s i =
@@ -149,14 +149,15 @@ module _ (it : OpId) where
       moves es _ _ (Opens h place r c d g e n) k = put_kept es h place r _ g (λ i. omega arith) k
       moves es _ _ (BeginsConnect h place r side a bound at g d to known idle own) k =
           let op = connect_operation (record { op = own_of line; side = side; maker = r.inner.maker }) (wildcard r.inner.family) a (connect_first bound) in
-          put_begins es h place r (with_inner r (with_state r.inner (state.Connecting op))) op g (ap (room line) own) refl (begun_connect (wildcard r.inner.family) a bound) (λ i. omega arith) k
+          put_begins es h place r (with_inner r (with_state r.inner (state.Connecting op))) op Used g (takes_line it line h.own (own_of line) op.left (ap (room line) own) refl (begun_connect (wildcard r.inner.family) a bound)) (λ i. omega arith) k
       moves es _ _ (BeginsBind h place r side a at g d to idle own) k =
-          let op = begun_bind (own_of line) side r a in put_begins es h place r (with_progress r (progress.Binding op)) op g (ap (room line) own) refl (omega arith) (λ i. omega arith) k
+          let op = begun_bind (own_of line) side r a in put_begins es h place r (with_progress r (progress.Binding op)) op Used g (takes_line it line h.own (own_of line) op.left (ap (room line) own) refl (omega arith)) (λ i. omega arith) k
       moves es _ _ (BeginsWrite h place n r s half permit bytes at g e w within own) k = write_begins es h place n r s half bytes g k
-      moves es _ _ (BeginsListen h place r side at g d bound none to idle own) k = put_begins es h place r (beginning_listen (own_of line) side r) (begun_listen (own_of line) side r) g (ap (room line) own) refl (omega arith) (λ i. omega arith) k
-      moves es _ _ (BeginsAccept h place r l at g e a own) k =
-          let op = accept_operation (record { op = second_of line; side = l.side; maker = l.maker }) accept.Accept in
-          put_begins es h place r (accepting_now r l (new_accept line l)) op g (ap (room line) own) refl (omega arith) (λ i. omega arith) k
+      moves es _ _ (BeginsListen h place r side at g d bound none to idle own) k =
+          let op = begun_listen (own_of line) side r in put_begins es h place r (beginning_listen (own_of line) side r) op Used g (takes_line it line h.own (own_of line) op.left (ap (room line) own) refl (omega arith)) (λ i. omega arith) k
+      moves es _ _ (BeginsAccept h place n r l at g e a own) k =
+          let op = accept_operation (record { op = part_of line n; side = l.side; maker = l.maker }) accept.Accept in
+          put_begins es h place r (accepting_now r l (new_accept (part_of line n) l)) op (Names (n + 1)) g (takes_part it line n h.own op.left own (omega arith)) (λ i. omega arith) k
       moves es _ _ (Unlistens h place r op q g e c o) k = put_kept es h place r _ g (λ i. omega arith) k
       moves es _ _ (Forgets h place r l c g e a) k = put_kept es h place r _ g (λ i. omega arith) k
       moves es _ _ (Joins h c handle place r l new peer is of u g e a) k =

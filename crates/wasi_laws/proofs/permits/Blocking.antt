@@ -39,7 +39,7 @@ module _ (contexts : List WasiSocketsCtx) (side : OpId) (line : ℕ) (origin : S
 
     -- it is pending
     waits : (given : List ℕ) (es : List Entry) (at : Option (ℕ × ℕ)) (m : Machine) → Before given es at m → (let done : Blocked ℕ = waits_as ids (Splice to from len) m in Along given es (λ gs. []) (Give done))
-    waits given es at m i = over contexts side line origin given (waits_walks ids {A = ℕ} m (Splice to from len)) es i
+    waits given es at m i = over contexts side line origin given (waits_walks ids {A = ℕ} m (Splice to from len) refl) es i
 
     written_same : (count : ℕ) (done : Result (Unit {0}) CallStop × Machine) → (splice_written count done).1 ≡ done.1
     written_same count (Ok done, m) = refl
@@ -93,7 +93,7 @@ module _ (contexts : List WasiSocketsCtx) (side : OpId) (line : ℕ) (origin : S
     stopped given es at m why i = let done : Blocked (Unit {0}) = stops why m in gone contexts side line origin ids.line (output ∷ []) given es at done i
 
     pends : (given : List ℕ) (es : List Entry) (at : Option (ℕ × ℕ)) (m : Machine) (rest : List ℕ) → On given es at m → (let done : Blocked (Unit {0}) = waits_as ids (Write output rest) m in Along given es (λ gs. []) (Give done))
-    pends given es at m rest i = over contexts side line origin given (waits_walks ids {A = Unit {0}} m (Write output rest)) es i
+    pends given es at m rest i = over contexts side line origin given (waits_walks ids {A = Unit {0}} m (Write output rest) refl) es i
 
     -- it goes on with what isn't written yet
     abbrev GoesOn : LetAgain → Again → Type 0

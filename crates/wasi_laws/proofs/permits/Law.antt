@@ -22,7 +22,7 @@ use Rattle.wasi_walks.proofs.fits.UdpFits.{receives_on, sends_on}
 use Rattle.wasi_walks.proofs.walks.Moves.{CancelsBind, CancelsUdpBind, CancelsUdpConnect, Names, put_udp, with_records, Finds, FoundUdp, UdpChanges, BeginsUdpBind, BeginsUdpConnect, Counts, SpendsNames, BeginsSend, BeginsReceive, UdpCreates, UdpBindsOn, UdpConnectsOn, SendsOn, ReceivesOn}
 use Rattle.wasi_walks.specs.Waiting.{IsLeftOfBind}
 use Rattle.wasi_walks.specs.Waiting as binding
-use Rattle.wasi_laws.proofs.Words.{Allows, ArePlain, Asks, Awaits, Begins, BeginsAccept, BeginsBind, BeginsConnect, BeginsListen, BeginsWrite, BindsOn, Bool, Call, Changes, ClosesReader, Connects, Done, End, Entry, Fit, FitListening, FitProgress, Forgets, Found, Held, Here, HoldsAccept, HoldsConnect, IsAcceptOn, IsConnect, IsFrontOf, IsGone, IsLeftOfConnect, IsLeftOfListen, IsListen, Item, Job, Joins, List, Listens, Move, Named, NoWrite, None, Not, OpId, Opens, Operation, Option, Own, Quiet, Reconnects, Refused, SocketAddressFamily, Some, Spends, Step, Streams, Tcp2Socket, TcpState, ToWrite, Told, Unlistens, Unused, Used, Waits, WasiSocketsCtx, WriteState, Writes, [], accept_ended, accept_name, accept_plain, accepting_now, allows_keep, allows_weaker, ap, append-nil, append_assoc, bytes_left, closed_record, connect_ended, entry, false, fresh, if◌then◌else◌, inl, inr, is_same, job_after, joined, name_in, new_accept, new_job, new_record, new_socket, none_taken, opened_by, own_of, plain_poll, poll_asks, put, refl, rules, side_in, side_of, subst, sym, taken_fresh, taken_in, true, with_inner, with_listening, with_reader, with_state, with_writer, ℕ, ⊤, ◌+◌, ◌++◌, ◌∙◌, ◌∷◌, ◌≡◌}
+use Rattle.wasi_laws.proofs.Words.{Allows, ArePlain, Asks, Awaits, Begins, BeginsAccept, BeginsBind, BeginsConnect, BeginsListen, BeginsWrite, BindsOn, Bool, Call, Changes, ClosesReader, Connects, Done, End, Entry, Fit, FitListening, FitProgress, Forgets, Found, Held, Here, HoldsAccept, HoldsConnect, IsAcceptOn, IsConnect, IsFrontOf, IsGone, IsLeftOfConnect, IsLeftOfListen, IsListen, Item, Job, Joins, List, Listens, Move, Named, NoWrite, None, Not, OpId, Opens, Operation, Option, Own, Quiet, Reconnects, Refused, SocketAddressFamily, Some, Spends, Step, Streams, Tcp2Socket, TcpState, ToWrite, Told, Unlistens, Unused, Used, Waits, WasiSocketsCtx, WriteState, Writes, [], accept_ended, accept_name, accept_plain, accepting_now, allows_keep, allows_weaker, ap, append-nil, append_assoc, bytes_left, closed_record, connect_ended, entry, false, fresh, if◌then◌else◌, inl, inr, is_same, job_after, joined, name_in, new_accept, new_job, new_record, new_socket, none_taken, opened_by, own_of, part_of, plain_poll, poll_asks, put, refl, rules, side_in, side_of, subst, sym, taken_fresh, taken_in, true, with_inner, with_listening, with_reader, with_state, with_writer, ℕ, ⊤, ◌+◌, ◌++◌, ◌∙◌, ◌∷◌, ◌≡◌}
 use Rattle.wasi_laws.proofs.asks.Fronts.{unwritten, polls_by}
 use Rattle.wasi_laws.proofs.asks.Single.{Single, Grounds, Closing, ClosesSocket, ClosesListen, ClosesArrived, creating}
 use Rattle.wasi_laws.proofs.asks.Trees.{GoesOn, InWriting, InClosing}
@@ -195,7 +195,7 @@ module _ (side : OpId) (given : List ℕ) where
       moves es _ _ (BeginsWrite h place number r s half permit bytes at g e w within o) b k =
           record { held = given; stands = begins es h place number r s half permit bytes g e w (subst (StreamsShape r.inner.state) e (b.1 place r g).0) b.0.1 k (is_same half.side side) refl (subst (λ (x : Own). Owes x k.held) o k.owes); owes = refl }
       moves es _ _ (BeginsListen h place r x p g d bound none to idle o) b k = spends es _ h.own o (put_same es h place r _ g (follows_begun line h place r x g d b.0.1) refl k)
-      moves es _ _ (BeginsAccept h place r l p g e a o) b k = spends es _ h.own o (put_same es h place r _ g (follows_quiet r (accepting_now r l (new_accept line l)) refl refl (λ b. b)) refl k)
+      moves es _ _ (BeginsAccept h place part r l p g e a o) b k = owns es _ h.own (Names part) (Names (part + 1)) o (λ held q. q) (put_same es h place r _ g (follows_quiet r (accepting_now r l (new_accept (part_of line part) l)) refl refl (λ b. b)) refl k)
       moves es _ _ (Unlistens h place r op q g e c o) b k = put_same es h place r _ g (follows_quiet r _ refl refl (λ b. b)) refl k
       moves es _ _ (Forgets h place r l c g e a) b k = put_same es h place r _ g (follows_quiet r (accepting_now r l accepting.Idle) refl refl (λ b. b)) refl k
       moves es _ _ (Joins h c handle place r l new peer is of u g e a) b k =

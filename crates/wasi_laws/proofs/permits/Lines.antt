@@ -1,7 +1,7 @@
 -- What a line is let write: what its step may write at once, or what its calls of streams let begin.
 use Rattle.wasi_world.specs.declared.ids.Ids.{Ids}
 use Rattle.wasi_streams.specs.Streams.{zeros}
-use Rattle.wasi_host.specs.Blocking.{Blocked, blocking_handles}
+use Rattle.wasi_host.specs.Blocking.{Blocked}
 use Rattle.wasi_host.specs.Host.{Closed, Failed, Stop, Traps}
 use Rattle.wasi_host.specs.Pending.{blocked_outcome, nothing_given, resume_call, resumed}
 use Rattle.wasi_host.specs.Standing.{call_of, standing_as, unstood}
@@ -17,9 +17,10 @@ use Rattle.wasi_steps.specs.declared.step.Step.TheVariants as step
 use Rattle.wasi_steps.specs.Reply.{no_values}
 use Rattle.wasi_machine.specs.Machine.{blocked_reply_of, first_ids, resumed_reply, stream_reply_of}
 use Rattle.wasi_walks.proofs.Words.{handles_of}
+use Rattle.wasi_walks.proofs.walks.Blocking.{Recalled}
 use Rattle.wasi_walks.proofs.walks.Calls.{Calling}
 use Rattle.wasi_walks.proofs.walks.Law.{give, gives, move}
-use Rattle.wasi_walks.proofs.walks.Moves.{IsStreamCall, Names, RecallsStreamCall, Unstands}
+use Rattle.wasi_walks.proofs.walks.Moves.{IsStreamCall, Names, RecallsCall, Unstands}
 use Rattle.wasi_walks.proofs.walks.States.{stands_so}
 use Rattle.wasi_walks.proofs.walks.Steps.{IsSimple, begun_calls, simple_walks}
 use Rattle.wasi_walks.proofs.walks.Writes.{let_write as let_own}
@@ -76,11 +77,11 @@ module _ (contexts : List WasiSocketsCtx) (side : OpId) where
     calls is = let done : Unit {0} × Machine = (tt, m) in along contexts side line s given {end = λ x. Calling line (handles_of s) None Used x.1} {asks = Give done} (begun_calls is (give _)) es begins
 
     -- or those that a poll continues
-    recalls : (ids : Ids) (call : BlockingCall) → m.store.standing ≡ Some (standing_as ids (Blocking call)) → So contexts side line s ids.line (blocking_handles call) given es None (record m { store = unstood m.store })
+    recalls : (ids : Ids) (call : BlockingCall) → m.store.standing ≡ Some (standing_as ids (Blocking call)) → Holds contexts side line s given es (Recalled ids.line call None (record m { store = unstood m.store }))
     recalls ids call e =
         let now : Machine = record m { store = unstood m.store } in
         let done : Unit {0} × Machine = (tt, now) in
-        along contexts side line s given {end = λ x. Calling ids.line (blocking_handles call) None Used x.1} {asks = Give done} (move (RecallsStreamCall _ ids call e) (move (Unstands _) (gives _ (Spends _ refl)))) es begins
+        along contexts side line s given {end = λ x. Recalled ids.line call None x.1} {asks = Give done} (move (RecallsCall _ ids call e) (move (Unstands _) (gives _ (Spends _ refl)))) es begins
 
     -- == a poll
     resumed_so : {A : Type 0} (gives : A → Outcome) (done : Blocked A) → (resumed (blocked_outcome gives done)).1 ≡ done.1

@@ -138,7 +138,7 @@ module _ (contexts : List WasiSocketsCtx) (line : ℕ) (origin : Step) where
   moves_shape _ _ (BeginsWrite h place part r s half permit bytes at g e w within own) i = write_shape h place part r s half permit bytes g e w i
   moves_shape _ _ (BeginsListen h place r side at g d bound none to idle own) i =
       let k = restates r (state.Closed _) (λ c e. let p : state.Default side ≡ state.Connected c = sym d ∙ e in absurd (cc)) (λ x e. let p : state.Default side ≡ state.Listening x = sym d ∙ e in absurd (cc)) (i place r g) in put_shape h place _ (k.0, tt) i
-  moves_shape _ _ (BeginsAccept h place r l at g e a own) i = let k = i place r g in put_shape h place _ (k.0, accepts_shape r l e k) i
+  moves_shape _ _ (BeginsAccept h place part r l at g e a own) i = let k = i place r g in put_shape h place _ (k.0, accepts_shape r l e k) i
   moves_shape _ _ (Unlistens h place r op q g e c o) i = put_shape h place _ ((i place r g).0, tt) i
   moves_shape _ _ (Forgets h place r l c g e a) i = let k = i place r g in put_shape h place _ (k.0, accepts_shape r l e k) i
   moves_shape _ _ (Joins h c handle place r l new peer is of u g e a) i =

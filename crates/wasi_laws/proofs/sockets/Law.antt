@@ -5,8 +5,7 @@ use Rattle.wasi_tcp.specs.declared.halves.TcpSendStream.{TcpSendStream}
 use Rattle.wasi_tcp.specs.declared.listener.Accepting.TheVariants as accepting
 use Rattle.wasi_tcp.specs.declared.socket.TcpState.TheVariants as state
 use Rattle.wasi_tcp.specs.declared.writer.WriteState.TheVariants as writing
-use Rattle.wasi_walks.proofs.claims.Law.{own_of_parts}
-use Rattle.wasi_laws.proofs.Words.{Accepting, Accepts, Allows, Asks, AsksOpenSockets, Awaits, Begins, BeginsAccept, BeginsBind, BeginsConnect, BeginsListen, BeginsWrite, BindsOn, Call, Changes, CloseLast, ClosesReader, Connection, Connects, Created, Done, End, Entry, Fit, FitListening, FitProgress, Forgets, Found, Given, Has, Held, Here, HoldsAccept, IpSocketAddress, IsAcceptOn, IsAskedOpen, IsGone, IsMade, IsOpen, Item, Job, Joins, Left, List, Listener, Listening, Listens, Machine, Move, Named, None, Not, NothingLast, OpId, Opens, Operation, Own, Reconnects, Refused, Reply, ShutdownLast, SocketAddressFamily, Some, Spends, Starts, Step, Streams, Tcp2Socket, ToWrite, Told, Unlistens, Unused, Used, Waits, WasiSocketsCtx, WriteState, Writes, [], accept_ended, accept_name, accepting_now, ap, append_assoc, arith, arrived, closed_record, connect_ended, cut_of, entry, first_state, has_back, has_last, inl, inr, job_after, joined, listen_after, name_in, new_accept, new_job, new_record, new_socket, next_of, no_some, own_of, poll_asks, put, refl, run, second_of, side_in, side_of, socket_of, subst, sym, true, with_inner, with_listening, with_state, with_writer, ℕ, ◌++◌, ◌+◌, ◌∙◌, ◌∷◌, ◌≡◌, ◌≤◌, ◌⊎◌, Ok}
+use Rattle.wasi_laws.proofs.Words.{Accepting, Accepts, Allows, Asks, AsksOpenSockets, Awaits, Begins, BeginsAccept, BeginsBind, BeginsConnect, BeginsListen, BeginsWrite, BindsOn, Call, Changes, CloseLast, ClosesReader, Connection, Connects, Created, Done, End, Entry, Fit, FitListening, FitProgress, Forgets, Found, Given, Has, Held, Here, HoldsAccept, IpSocketAddress, IsAcceptOn, IsAskedOpen, IsGone, IsMade, IsOpen, Item, Job, Joins, Left, List, Listener, Listening, Listens, Machine, Move, Named, None, Not, NothingLast, OpId, Opens, Operation, Own, Reconnects, Refused, Reply, ShutdownLast, SocketAddressFamily, Some, Spends, Starts, Step, Streams, Tcp2Socket, Told, Unlistens, Unused, Used, Waits, WasiSocketsCtx, WriteState, Writes, [], accept_ended, accept_name, accepting_now, ap, append_assoc, arrived, closed_record, connect_ended, cut_of, entry, first_state, has_back, has_last, inl, inr, job_after, joined, listen_after, name_in, new_accept, new_job, new_record, new_socket, no_some, own_of, poll_asks, put, refl, run, part_of, side_in, side_of, socket_of, subst, sym, true, with_inner, with_listening, with_state, with_writer, ℕ, ◌++◌, ◌+◌, ◌∙◌, ◌∷◌, ◌≡◌, ◌⊎◌, Ok}
 use Rattle.wasi_laws.proofs.asks.Fronts.{is_calm, IsGivenMade}
 use Rattle.wasi_laws.proofs.asks.Single.{each_ask, KeepsWrites, OnUdp, Single, Closing, ClosesSocket, ClosesListen, ClosesArrived, IsAskedOn, OnNone, OnSide, creating}
 use Rattle.wasi_laws.proofs.asks.Trees.{GoesOn}
@@ -19,6 +18,7 @@ use Rattle.wasi_udp.specs.Create.{Create, new_create}
 use Rattle.wasi_walks.proofs.fits.Records.{FitConnecting, FitUdpProgress, ReceiveOn, SendOn, UdpBindOn, UdpConnectOn}
 use Rattle.wasi_walks.proofs.fits.UdpFits.{connected_side, receives_on, sends_on}
 use Rattle.wasi_laws.specs.Opened.{UdpCreated}
+use Rattle.wasi_walks.proofs.walks.Here.{IsOlder, IsToCome, grows_to, next_grows, next_to_come, not_given, older_unused, older_used, own_not_given}
 use Rattle.wasi_walks.proofs.walks.Moves.{CancelsBind, CancelsUdpBind, CancelsUdpConnect, Names, put_udp, FoundUdp, Finds, udp_begun, UdpChanges, BeginsUdpBind, BeginsUdpConnect, Counts, SpendsNames, BeginsSend, BeginsReceive, UdpCreates, UdpBindsOn, UdpConnectsOn, SendsOn, ReceivesOn}
 use Rattle.wasi_laws.proofs.sockets.Opened.{lives_open, put_udp_open, push_udp_open, looked_open, udp_closed_put, Grows, grows_none, grows_entry, RecordOpen, name_of, changed, HasIt, one_more, opened_more, put_open, push_open, later, Kept, closed_put}
 use Rattle.wasi_laws.proofs.sockets.Polls.{ClosesAt, AskedOpen, calm_closes, PollLeaves, polled, calm_end}
@@ -45,44 +45,33 @@ module _ (line : ℕ) where
   put_kept : (es : List Entry) (h : Here) (place : ℕ) (r now : Tcp2Socket) → Found h place r → Follows r now → (now.listening ≡ r.listening) ⊎ (accept_name now.listening ≡ None) → Kept line es h → Kept line es (put h place now)
   put_kept es h place r now g f l i = put_open es place now (changed es r now f l (i.records place r g)) i
 
-  by_own : (o : Own) → next_of line o ≤ line + 1
-  by_own Used = omega arith
-  by_own Unused = omega arith
-  by_own (Names part) = omega arith
-  by_own (ToWrite at bytes) = omega arith
-
   -- a write begins, of whatever line
   begins : (es : List Entry) (h : Here) (place n : ℕ) (r : Tcp2Socket) (s : Streams) (half : TcpSendStream) (bytes : List ℕ) → Found h place r → Kept line es h → Kept line es (record (put h place (with_writer r s (writing.Writing (new_job (own_of n) half.side bytes)))) { own = Used })
-  begins es h place n r s half bytes g i = later es (line + 1) (by_own h.own) (put_kept es h place r _ g (record { side = refl; lives = λ x v. v }) (inl refl) i)
-
-  -- what began nothing has no more names than what did
-  no_less : (o : Own) → next_of line Unused ≤ next_of line o
-  no_less Used = omega arith
-  no_less Unused = omega arith
-  no_less (Names part) = omega arith
-  no_less (ToWrite at bytes) = omega arith
+  begins es h place n r s half bytes g i = later es (IsOlder line Used) (older_used line h.own) (put_kept es h place r _ g (record { side = refl; lives = λ x v. v }) (inl refl) i)
 
   module _ {origin : Step} where
     moves : (es : List Entry) (h now : Here) → Move line origin h now → Named line h → Kept line es h → Kept line es now
-    moves es _ _ (Spends h e) n i = later es (line + 1) (by_own h.own) i
-    moves es _ _ (Counts h e) n i = later es line (own_of_parts line h.own Unused e refl) i
-    moves es _ _ (SpendsNames h part e) n i = later es (line + 1) (by_own h.own) i
+    moves es _ _ (Spends h e) n i = later es (IsOlder line Used) (older_used line h.own) i
+    moves es _ _ (Counts h e) n i = later es (IsOlder line (Names 1)) (grows_to line h.own Unused (Names 1) e (older_unused line (Names 1))) i
+    moves es _ _ (SpendsNames h part e) n i = later es (IsOlder line Used) (older_used line h.own) i
     moves es _ _ (Changes h place r now g p) n i = put_kept es h place r now g (follows_plain r now p) (inl p.listening) i
     moves es _ _ (ClosesReader h place r s g e) n i = put_kept es h place r _ g (record { side = refl; lives = λ x v. v }) (inl refl) i
     moves es _ _ (Writes h place r s w g e m) n i = put_kept es h place r _ g (record { side = refl; lives = λ x v. v }) (inl refl) i
     moves es _ _ (IsGone h place r q g e) n i = put_kept es h place r _ g (follows_gone r _ refl e (λ b. b)) (inr refl) i
     moves es _ _ (Reconnects h place r c now g e s t u) n i = put_kept es h place r _ g (follows_state r _ refl refl (λ x p. ap side_in e ∙ (ap (λ (y : OpId). Some y) (sym s) ∙ p))) (inl refl) i
     moves es _ _ (Opens h place r c d g e k) n i = put_kept es h place r _ g (follows_state r _ refl refl (λ x p. ap side_in e ∙ p)) (inl refl) i
-    moves es _ _ (BeginsConnect h place r side a bound at g d to known idle own) n i = later es (line + 1) (by_own h.own) (put_kept es h place r _ g (follows_state r _ refl refl (λ x p. ap side_in d ∙ p)) (inl refl) i)
-    moves es _ _ (BeginsBind h place r side a at g d to idle own) n i = later es (line + 1) (by_own h.own) (put_kept es h place r _ g (record { side = refl; lives = λ x v. v }) (inl refl) i)
+    moves es _ _ (BeginsConnect h place r side a bound at g d to known idle own) n i = later es (IsOlder line Used) (older_used line h.own) (put_kept es h place r _ g (follows_state r _ refl refl (λ x p. ap side_in d ∙ p)) (inl refl) i)
+    moves es _ _ (BeginsBind h place r side a at g d to idle own) n i = later es (IsOlder line Used) (older_used line h.own) (put_kept es h place r _ g (record { side = refl; lives = λ x v. v }) (inl refl) i)
     moves es _ _ (BeginsWrite h place part r s half permit bytes at g e w within own) n i = begins es h place part r s half bytes g i
-    moves es _ _ (BeginsListen h place r side at g d bound none to idle own) n i = later es (line + 1) (by_own h.own) (put_kept es h place r _ g (follows_begun line h place r side g d n) (inr refl) i)
-    moves es _ _ (BeginsAccept h place r l at g e a own) n i =
+    moves es _ _ (BeginsListen h place r side at g d bound none to idle own) n i = later es (IsOlder line Used) (older_used line h.own) (put_kept es h place r _ g (follows_begun line h place r side g d n) (inr refl) i)
+    moves es _ _ (BeginsAccept h place part r l at g e a own) n i =
         let k = i.records place r g in
-        later es (line + 1) (by_own h.own) (put_open es place (accepting_now r l (new_accept line l)) (record {
-          lives = λ x v. k.lives x ((follows_quiet r (accepting_now r l (new_accept line l)) refl refl (λ b. b)).lives x v);
-          named = λ x p c. (let o = i.older x c in let z : next_of line h.own ≡ line = ap (next_of line) own in let s : x.step ≡ line = sym (ap (λ (y : OpId). y.step) (some_same (second_of line) x p)) in omega (arith, o, z, s));
-          arrived = λ m new peer p q. (let s : new_accept line l ≡ accepting.Arrived new peer = ap accept_of p ∙ q in absurd (cc));
+        let name = part_of line part in
+        let now = accepting_now r l (new_accept name l) in
+        later es (IsOlder line (Names (part + 1))) (next_grows line part h.own own) (put_open es place now (record {
+          lives = λ x v. k.lives x ((follows_quiet r now refl refl (λ b. b)).lives x v);
+          named = λ x p c. not_given line h.own x (i.older x c) (subst (IsToCome line h.own) (some_same name x p) (next_to_come line part h.own own));
+          arrived = λ m new peer p q. (let s : new_accept name l ≡ accepting.Arrived new peer = ap accept_of p ∙ q in absurd (cc));
         }) i)
     moves es _ _ (Unlistens h place r op q g e c o) n i = put_kept es h place r _ g (follows_quiet r _ refl refl (λ b. b)) (inr refl) i
     moves es _ _ (Forgets h place r l c g e a) n i = put_kept es h place r _ g (follows_quiet r _ refl refl (λ b. b)) (inr refl) i
@@ -91,10 +80,10 @@ module _ (line : ℕ) where
         push_open es (joined l new peer) (record { lives = λ x v. subst (IsOpen es) (some_same new x v.0) o; named = λ x p. absurd (no_some x p); arrived = λ k x y p q. absurd (cc) })
         (put_kept es h place r (accepting_now r l accepting.Idle) g (follows_quiet r _ refl refl (λ b. b)) (inr refl) i)
     moves es _ _ (UdpChanges h place o now g p) n i = put_udp_open es place (Udp2Socket.Open now) (subst (IsOpen es) (sym p.side) (i.udps place (Udp2Socket.Open o) g)) i
-    moves es _ _ (BeginsUdpBind h place o a at g to idle own) n i = later es (line + 1) (by_own h.own) (put_udp_open es place (Udp2Socket.Open _) (i.udps place (Udp2Socket.Open o) g) i)
-    moves es _ _ (BeginsUdpConnect h place o a at g to bound own) n i = later es (line + 1) (by_own h.own) (put_udp_open es place (Udp2Socket.Open _) (i.udps place (Udp2Socket.Open o) g) i)
-    moves es _ _ (BeginsSend h place part o out d bound at g e is known own) n i = later es line (own_of_parts line h.own (Names part) own refl) (put_udp_open es place (Udp2Socket.Open _) (i.udps place (Udp2Socket.Open o) g) i)
-    moves es _ _ (BeginsReceive h place part o inc bound at g e own) n i = later es line (own_of_parts line h.own (Names part) own refl) (put_udp_open es place (Udp2Socket.Open _) (i.udps place (Udp2Socket.Open o) g) i)
+    moves es _ _ (BeginsUdpBind h place o a at g to idle own) n i = later es (IsOlder line Used) (older_used line h.own) (put_udp_open es place (Udp2Socket.Open _) (i.udps place (Udp2Socket.Open o) g) i)
+    moves es _ _ (BeginsUdpConnect h place o a at g to bound own) n i = later es (IsOlder line Used) (older_used line h.own) (put_udp_open es place (Udp2Socket.Open _) (i.udps place (Udp2Socket.Open o) g) i)
+    moves es _ _ (BeginsSend h place part o out d bound at g e is known own) n i = later es (IsOlder line (Names (part + 1))) (next_grows line part h.own own) (put_udp_open es place (Udp2Socket.Open _) (i.udps place (Udp2Socket.Open o) g) i)
+    moves es _ _ (BeginsReceive h place part o inc bound at g e own) n i = later es (IsOlder line (Names (part + 1))) (next_grows line part h.own own) (put_udp_open es place (Udp2Socket.Open _) (i.udps place (Udp2Socket.Open o) g) i)
     -- what is given up is open still
     moves es _ _ (CancelsBind h place r op q g e) n i = put_kept es h place r _ g (record { side = refl; lives = λ x v. v }) (inl refl) i
     moves es _ _ (CancelsUdpBind h place o op q g e) n i = put_udp_open es place (Udp2Socket.Open _) (i.udps place (Udp2Socket.Open o) g) i
@@ -228,15 +217,15 @@ module _ (line : ℕ) where
     created es h ctx family u i =
         let own = own_of line in
         let k = calmly es h own (call.TcpCreate ctx.name family) told.Done refl i in
-        let o : IsOpen _ own = (record { made = Created ctx.name family (has_last es _); unclosed = λ c. (let x = k.older own c in let z : next_of line h.own ≡ line = ap (next_of line) u in omega (arith, x, z)) }) in
-        later _ (line + 1) (by_own h.own) (push_open _ (new_record (new_socket own ctx.name family)) (record { lives = λ x v. subst (IsOpen _) (some_same own x v.0) o; named = λ x e. absurd (no_some x e); arrived = λ l new peer e a. absurd (cc) }) k)
+        let o : IsOpen _ own = (record { made = Created ctx.name family (has_last es _); unclosed = λ c. own_not_given line h.own own u refl (k.older own c) }) in
+        later _ (IsOlder line Used) (older_used line h.own) (push_open _ (new_record (new_socket own ctx.name family)) (record { lives = λ x v. subst (IsOpen _) (some_same own x v.0) o; named = λ x e. absurd (no_some x e); arrived = λ l new peer e a. absurd (cc) }) k)
 
     udp_created : (es : List Entry) (h : Here) (ctx : WasiSocketsCtx) (family : SocketAddressFamily) → h.own ≡ Unused → Kept line es h → Kept line (es ++ entry (own_of line) (call.UdpCreate ctx.name family) told.Done ∷ []) (udp_begun h (Ok (new_create (own_of line) ctx.name family)))
     udp_created es h ctx family u i =
         let own = own_of line in
         let k = calmly es h own (call.UdpCreate ctx.name family) told.Done refl i in
-        let o : IsOpen _ own = (record { made = UdpCreated ctx.name family (has_last es _); unclosed = λ c. (let x = k.older own c in let z : next_of line h.own ≡ line = ap (next_of line) u in omega (arith, x, z)) }) in
-        later _ (line + 1) (by_own h.own) (push_udp_open _ (Udp2Socket.Creating (new_create own ctx.name family)) o k)
+        let o : IsOpen _ own = (record { made = UdpCreated ctx.name family (has_last es _); unclosed = λ c. own_not_given line h.own own u refl (k.older own c) }) in
+        later _ (IsOlder line Used) (older_used line h.own) (push_udp_open _ (Udp2Socket.Creating (new_create own ctx.name family)) o k)
 
     pub write_kept : KeepsWrites contexts line origin (Kept line)
     write_kept es h place n r s half permit bytes at g e w within b i = begins es h place n r s half bytes g i
@@ -263,7 +252,7 @@ module _ (contexts : List WasiSocketsCtx) where
   runs_open steps log rest w = record { each = each_ask contexts Kept (λ line origin. sockets line contexts origin) (λ line origin. write_kept line contexts origin) starts (λ line es m i. i) (record { records = λ place r e. absurd (cc); udps = λ place u e. absurd (cc); older = λ x c. absurd c.closed }) steps log rest w }
     where
       starts : (line : ℕ) (es : List Entry) (m : Machine) (own : Own) → Kept line es (Starts m Unused) → Kept line es (Starts m own)
-      starts line es m own i = later es (next_of line own) (no_less line own) i
+      starts line es m own i = later es (IsOlder line own) (older_unused line own) i
 
 -- after a close of a socket nothing is asked of it
 pub nothing_follows : (log : List Entry) → AsksOpenSockets log → (before : List Entry) (op side : OpId) (told : Told) (after : List Entry) (e : Entry) → log ≡ before ++ entry op (call.Close side) told ∷ after → Has after e → socket_of e.call ≡ Some side → ⊥

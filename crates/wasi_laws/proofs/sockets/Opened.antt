@@ -2,7 +2,8 @@
 -- closed is older.
 use Rattle.wasi_world.specs.declared.call.Call.TheVariants as call
 use Rattle.wasi_tcp.specs.declared.listener.Accepting.TheVariants as accepting
-use Rattle.wasi_laws.proofs.Words.{Accepts, Call, Claims, Created, Entry, Found, HandedOver, Here, IpSocketAddress, IsClosed, IsMade, IsOpen, List, Listener, Named, None, OpId, Some, Tcp2Socket, Told, [], accept_name, ap, arith, entry, get_set, get_split, has_front, has_split, inl, inr, name_in, next_of, no_some, put, refl, set_there, subst, sym, ℕ, ◌++◌, ◌<◌, ◌∙◌, ◌∷◌, ◌≡◌, ◌≤◌, ◌⊎◌, ⊤}
+use Rattle.wasi_walks.proofs.walks.Here.{IsOlder}
+use Rattle.wasi_laws.proofs.Words.{Accepts, Call, Claims, Created, Entry, Found, HandedOver, Here, IpSocketAddress, IsClosed, IsMade, IsOpen, List, Listener, Named, None, OpId, Some, Tcp2Socket, Told, [], accept_name, ap, entry, get_set, get_split, has_front, has_split, inl, inr, name_in, no_some, put, refl, set_there, subst, sym, ℕ, ◌++◌, ◌∙◌, ◌∷◌, ◌≡◌, ◌⊎◌, ⊤}
 use Rattle.wasi_laws.proofs.shapes.Shape.{some_same, Lives, Follows, SocketsStay, UdpLives}
 use Rattle.wasi_host.specs.Records.{tcp2_at, tcp2_put, tcp2_pushed, udp2_at, udp2_put, udp2_pushed}
 use Rattle.wasi_host.specs.declared.udp.Udp2Socket.{Udp2Socket}
@@ -101,17 +102,18 @@ udp_more C es fs (Udp2Socket.Creating create) g n o = open_more C es fs _ g (n t
 udp_more C es fs (Udp2Socket.Open s) g n o = open_more C es fs _ g (n tt) o
 udp_more C es fs (Udp2Socket.Closed side) g n o = tt
 
-pub record Opened (bound : ℕ) (es : List Entry) (rs : List Record) : Type 0 where
+-- What is open, and only a name that was given is closed.
+pub record Opened (given : OpId → Type 0) (es : List Entry) (rs : List Record) : Type 0 where
   pub records : (place : ℕ) (r : Tcp2Socket) → tcp2_at rs place ≡ Some r → RecordOpen es r
   pub udps : (place : ℕ) (u : Udp2Socket) → udp2_at rs place ≡ Some u → UdpOpen es u
-  pub older : (x : OpId) → IsClosed es x → x.step < bound
+  pub older : (x : OpId) → IsClosed es x → given x
 
 pub one_more : (es : List Entry) (op : OpId) (c : Call) (t : Told) → ((x : OpId) → Closes c x → ⊥) → Grows NoneCloses es (es ++ entry op c t ∷ [])
 one_more es op c t n = grows_entry NoneCloses es es op c t n (grows_none NoneCloses es)
 
-module _ {bound : ℕ} {records : List Record} where
+module _ {given : OpId → Type 0} {records : List Record} where
   -- asks that close nothing
-  pub opened_more : (es fs : List Entry) → Grows NoneCloses es fs → Opened bound es records → Opened bound fs records
+  pub opened_more : (es fs : List Entry) → Grows NoneCloses es fs → Opened given es records → Opened given fs records
   opened_more es fs g i = record {
     records = λ place r e. record_more NoneCloses es fs r g (λ x u n. n) (i.records place r e);
     udps = λ place u e. udp_more NoneCloses es fs u g (λ l n. n) (i.udps place u e);
@@ -119,36 +121,36 @@ module _ {bound : ℕ} {records : List Record} where
   }
 
   -- a record changes, or there is one more
-  pub put_open : (es : List Entry) (place : ℕ) (now : Tcp2Socket) → RecordOpen es now → Opened bound es records → Opened bound es (tcp2_put records place now)
+  pub put_open : (es : List Entry) (place : ℕ) (now : Tcp2Socket) → RecordOpen es now → Opened given es records → Opened given es (tcp2_put records place now)
   put_open es place now k i = record { records = λ n r e. elim (get_set records place now n r e) [ inl p ↦ subst (RecordOpen es) p.1 k | inr p ↦ i.records n r p ]; udps = λ n u e. i.udps n u (udp_of_put records place now n u e); older = i.older }
 
-  pub push_open : (es : List Entry) (now : Tcp2Socket) → RecordOpen es now → Opened bound es records → Opened bound es (tcp2_pushed records now)
+  pub push_open : (es : List Entry) (now : Tcp2Socket) → RecordOpen es now → Opened given es records → Opened given es (tcp2_pushed records now)
   push_open es now k i = record { records = λ n r e. elim (get_split records now n r e) [ inl p ↦ i.records n r p | inr p ↦ subst (RecordOpen es) p k ]; udps = λ n u e. i.udps n u (udp_of_push records now n u e); older = i.older }
 
   -- the same of a UDP socket
-  pub put_udp_open : (es : List Entry) (place : ℕ) (now : Udp2Socket) → UdpOpen es now → Opened bound es records → Opened bound es (udp2_put records place now)
+  pub put_udp_open : (es : List Entry) (place : ℕ) (now : Udp2Socket) → UdpOpen es now → Opened given es records → Opened given es (udp2_put records place now)
   put_udp_open es place now k i = record { records = λ n r e. i.records n r (tcp_of_put records place now n r e); udps = λ n u e. elim (udp_get_set records place now n u e) [ inl p ↦ subst (UdpOpen es) p.1 k | inr p ↦ i.udps n u p ]; older = i.older }
 
-  pub push_udp_open : (es : List Entry) (now : Udp2Socket) → UdpOpen es now → Opened bound es records → Opened bound es (udp2_pushed records now)
+  pub push_udp_open : (es : List Entry) (now : Udp2Socket) → UdpOpen es now → Opened given es records → Opened given es (udp2_pushed records now)
   push_udp_open es now k i = record { records = λ n r e. i.records n r (tcp_of_push records now n r e); udps = λ n u e. elim (udp_split records now n u e) [ inl p ↦ i.udps n u p | inr p ↦ subst (UdpOpen es) p.0 k ]; older = i.older }
 
   -- a lookup has no network socket
-  pub looked_open : (es : List Entry) (now : List Record) → SocketsStay records now → Opened bound es records → Opened bound es now
+  pub looked_open : (es : List Entry) (now : List Record) → SocketsStay records now → Opened given es records → Opened given es now
   looked_open es now s i = record { records = λ n r e. i.records n r (sym (s.tcp n) ∙ e); udps = λ n u e. i.udps n u (sym (s.udp n) ∙ e); older = i.older }
 
   -- more may be closed by now
-  pub later : (es : List Entry) (more : ℕ) → bound ≤ more → Opened bound es records → Opened more es records
-  later es more l i = record { records = i.records; udps = i.udps; older = λ x c. let o = i.older x c in omega (arith, o, l) }
+  pub later : (es : List Entry) (more : OpId → Type 0) → ((x : OpId) → given x → more x) → Opened given es records → Opened more es records
+  later es more l i = record { records = i.records; udps = i.udps; older = λ x c. l x (i.older x c) }
 
 abbrev pub Kept : ℕ → List Entry → Here → Type 0
-Kept line es h = Opened (next_of line h.own) es h.machine.store.records
+Kept line es h = Opened (IsOlder line h.own) es h.machine.store.records
 
 -- a network socket is closed: the record that claims it has it no more
 pub closed_put : (line : ℕ) (C : OpId → Type 0) (es fs : List Entry) (h : Here) (place : ℕ) (r now : Tcp2Socket) (side : OpId) → Found h place r → Claims side r → ((x : OpId) → C x → side ≡ x) → (HasIt now side → ⊥) → Grows C es fs → Named line h → RecordOpen es now → Kept line es h → Kept line fs (put h place now)
 closed_put line C es fs h place r now side g claims of none grows named k i = record {
   records = λ n q e. record_more C es fs q grows (λ x u d. lacks n q e (subst (HasIt q) (sym (of x d)) u)) ((put_open es place now k i).records n q e);
   udps = λ n u e. (let f = udp_of_put h.machine.store.records place now n u e in udp_more C es fs u grows (λ l d. named.udps.apart side place n r u g f claims (sym (of (udp_side u) d))) (i.udps n u f));
-  older = λ x c. elim (grows.closed x c) [ inl a ↦ i.older x a | inr d ↦ subst (λ (y : OpId). y.step < next_of line h.own) (of x d) (named.older side place r g claims) ];
+  older = λ x c. elim (grows.closed x c) [ inl a ↦ i.older x a | inr d ↦ subst (IsOlder line h.own) (of x d) (named.older side place r g claims) ];
 }
   where
     its : (q : Tcp2Socket) → HasIt q side → Claims side q
@@ -175,7 +177,7 @@ udp_closed_put line C es fs h place u g of grows named i = record {
     | inl p ↦ subst (UdpOpen fs) p.1 tt
     | inr p ↦ udp_more C es fs v grows (λ l d. other n v e p l (of (udp_side v) d)) (i.udps n v p)
   ];
-  older = λ x c. elim (grows.closed x c) [ inl a ↦ i.older x a | inr d ↦ subst (λ (y : OpId). y.step < next_of line h.own) (of x d) (named.udps.older place u g) ];
+  older = λ x c. elim (grows.closed x c) [ inl a ↦ i.older x a | inr d ↦ subst (IsOlder line h.own) (of x d) (named.udps.older place u g) ];
 }
   where
     its : (r : Tcp2Socket) (x : OpId) → HasIt r x → Claims x r

@@ -1,0 +1,37 @@
+//! Laws of how much one poll does: each is a function that does nothing, whose contract is the law.
+
+ghost use Rattle.std.specs.Prelude.{ℕ, ◌+◌, ◌≤◌, List};
+ghost use Rattle.wasi_world.specs.declared.call.Entry.{Entry};
+ghost use Rattle.wasi_world.specs.Asks.{Asks, Left};
+ghost use Rattle.wasi_world.specs.Operation.{Item, End, Operation};
+ghost use Rattle.wasi_tcp.specs.Accept.{IsAccept};
+ghost use Rattle.wasi_udp.specs.Receive.{IsReceive};
+ghost use Rattle.wasi_laws.specs.Order.{operation_polled};
+ghost use Rattle.wasi_laws.specs.Bounds.{datagrams_held, received_in, senders_checked_in, wanted_sender, dropped_in, IsReceiving, MayDrop};
+ghost use Rattle.wasi_laws.specs.Bounds.{arrivals_held, arrived_in, refused_in, IsRefusing, MayRefuse};
+
+/// One poll of a receive, at whichever of its stages, has to do with at most 64 datagrams, the one that it had in hand before among
+/// them: so one that had none in hand receives at most 64, and one that had one at most 63 more. In both it checks at most 64
+/// senders, and drops at most 64 datagrams: those about whose sender it was told no, or whose sender isn't the one that is wanted.
+/// These are the least such numbers: where it has anything to ask, it can be answered so that it drops 64, and then waits.
+pub fn receives_drop_at_most_64()
+    ensures received { (op : Operation) (entries : List Entry) (rest : Asks (End × List Item))
+        → IsReceive op → Left (operation_polled op) entries rest → datagrams_held op.left + received_in entries ≤ 64 }
+    ensures checked { (op : Operation) (entries : List Entry) (rest : Asks (End × List Item))
+        → IsReceive op → Left (operation_polled op) entries rest → senders_checked_in entries ≤ 64 }
+    ensures dropped { (op : Operation) (entries : List Entry) (rest : Asks (End × List Item))
+        → IsReceive op → Left (operation_polled op) entries rest → dropped_in (wanted_sender op.left) entries ≤ 64 }
+    ensures reached { (op : Operation) → IsReceive op → IsReceiving op.left → MayDrop 64 op }
+{}
+
+/// One poll of an accept, at whichever of its stages, has to do with at most 64 arrivals, the one that it had in hand before among
+/// them: so one that had none in hand sees at most 64 connections arrive, and one that had one at most 63 more. In both it refuses
+/// at most 64. These are the least such numbers: where it has anything to ask but to hand over what was admitted, it can be
+/// answered so that it refuses 64, and then waits.
+pub fn accepts_refuse_at_most_64()
+    ensures arrived { (op : Operation) (entries : List Entry) (rest : Asks (End × List Item))
+        → IsAccept op → Left (operation_polled op) entries rest → arrivals_held op.left + arrived_in entries ≤ 64 }
+    ensures refused { (op : Operation) (entries : List Entry) (rest : Asks (End × List Item))
+        → IsAccept op → Left (operation_polled op) entries rest → refused_in entries ≤ 64 }
+    ensures reached { (op : Operation) → IsAccept op → IsRefusing op.left → MayRefuse 64 op }
+{}
