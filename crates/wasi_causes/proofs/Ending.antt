@@ -34,7 +34,7 @@ use Rattle.wasi_tcp.specs.declared.reader.ReadState.TheVariants as reading
 use Rattle.wasi_tcp.specs.declared.writer.WriteState.TheVariants as writing
 use Rattle.wasi_world.specs.declared.call.Call.TheVariants as call
 use Rattle.wasi_world.specs.declared.call.Told.TheVariants as told
-use Rattle.wasi_world.specs.declared.outcome.TrapKind.TheVariants.{Capacity, StreamsAlive, TooLong}
+use Rattle.wasi_world.specs.declared.outcome.TrapKind.TheVariants.{Capacity, StreamsAlive, EmptyList, TooLong}
 use Rattle.wasi_memory.specs.Plain.{Contents}
 use Rattle.wasi_host.specs.declared.kind.PlainInput.TheVariants as plain_input
 use Rattle.wasi_host.specs.declared.kind.PlainOutput.TheVariants as plain_output
@@ -328,6 +328,7 @@ module _ (contexts : List WasiSocketsCtx) (m : Machine) (line c handle : ℕ) wh
   done_ok kind is other free es (reply.Trap StreamsAlive) after row = absurd row.1.0
   done_ok kind is other free es (reply.Trap Capacity) after row = absurd row.1.0
   done_ok kind is other free es (reply.Trap TooLong) after row = absurd row.1.0
+  done_ok kind is other free es (reply.Trap EmptyList) after row = absurd row.1.0
   done_ok kind is other free es (reply.Err w) after row = absurd row.1.0
   done_ok kind is other free es reply.Closed after row = absurd row.1.0
   done_ok kind is other free es (reply.Failed w h) after row = absurd row.1.0.0

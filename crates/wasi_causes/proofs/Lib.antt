@@ -6,10 +6,16 @@ pub mod udp_streams
 pub mod resolving
 pub mod sockets
 pub mod streams
+pub mod pollables
 pub mod Ending
 pub mod Machine
 pub mod Resumes
+pub mod Slots
 pub mod Steady
-pub mod Pending
+pub mod InputHandles
+pub mod PollableHandles
+pub mod UdpHandles
 pub mod PipeHandles
+pub mod Pending
 pub mod Runs
+pub mod Watching

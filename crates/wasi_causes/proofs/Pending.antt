@@ -1,4 +1,4 @@
--- In a run what is pending is on handles that are live and on streams that are there, but for the input of a splice: a step makes
+-- In a run what is pending is on handles that are live and on streams that are there: a step makes
 -- datagram streams or a call of a stream pending only where it asks for the one or is the other, and while such a call is pending,
 -- nothing takes its handle away.
 use Rattle.wasi_causes.proofs.Words.{Allows, Answered, End, Entry, Err, ErrorCode, Give, IfSome, IsSome, IsSomeAnd, Item, Left, List, Machine, None, Ok, OpId, Operation, Option, Reply, Result, Some}
@@ -18,25 +18,38 @@ use Rattle.wasi_udp.specs.Create.{Create, after_create as udp_after_create, crea
 use Rattle.wasi_walks.proofs.fits.Law.{whatever}
 use Rattle.wasi_walks.proofs.fits.Polls.{Anything}
 use Rattle.wasi_walks.proofs.walks.Law.{BeginsWrites, Law}
-use Rattle.wasi_walks.proofs.walks.Moves.{CallsStreams, GoesOn, Held, Here, IsStreamCall, Joins, Leaves, Made, Move, RecallsStreamCall, RecallsStreams, RemembersStreams, Stands, StandsBlocking, StandsDropOutgoing, StandsUdpBind, StandsUdpConnect, StandsUdpCreate, Unstands, Watches, made_so, udp_begun}
+use Rattle.wasi_walks.proofs.walks.Moves.{AwaitsCreate, CallKind, CallsHandles, Empties, GoesOn, Held, Here, IsCall, IsStreamCall, Joins, LooksAtPollables, OfPollables, OfStreams, Leaves, Made, Move, RecallsCall, RecallsStreams, RemembersStreams, Stands, StandsBlocking, StandsDropOutgoing, StandsUdpBind, StandsUdpConnect, StandsUdpCreate, Unstands, Watches, made_so, udp_begun}
 use Rattle.wasi_walks.proofs.walks.Moves.{Awaits, BindsOn, Connects, Listens, ReceivesOn, SendsOn, UdpBindsOn, UdpConnectsOn, UdpCreates}
 use Rattle.wasi_walks.proofs.walks.Runs.{run_ends}
 use Rattle.wasi_walks.proofs.walks.Steps.{machine_walks}
 use Rattle.wasi_steps.specs.Steps.{context_of}
 use Rattle.wasi_steps.specs.declared.reply.Reply.TheVariants as reply
 use Rattle.wasi_steps.specs.declared.step.Step.TheVariants as step
+use Rattle.wasi_host.specs.declared.polling.Look.TheVariants.{First}
+use Rattle.wasi_causes.proofs.pollables.Live.{block_live, list_live, ready_free}
+use Rattle.wasi_causes.proofs.pollables.Looks.{WatchedStay, missed_before, missed_one}
+use Rattle.wasi_causes.specs.PollableCalls.{AllPollables, BeginsToWait, ForNone, NoPollable}
 use Rattle.wasi_causes.proofs.streams.Kept.{PartsThere}
-use Rattle.wasi_causes.proofs.streams.Live.{IsWellOn, StandsWell, begun_live, blocked_live, check_free, flush_free, free_well, read_free, skip_free, splice_free, write_free}
+use Rattle.wasi_causes.proofs.streams.Live.{HasInput, IsWellOn, StandsWell, begun_live, blocked_live, check_free, flush_free, free_well, read_free, skip_free, splice_free, splice_live, write_free}
 use Rattle.wasi_causes.proofs.streams.Missing.{missed_input, missed_output}
-use Rattle.wasi_causes.proofs.tables.Meets.{Meets, met, shifted, widen}
+use Rattle.wasi_causes.proofs.tables.Meets.{Meets, both, ends, met, onto, shifted, widen}
 use Rattle.wasi_causes.proofs.tables.Parts.{by_left}
 use Rattle.wasi_causes.proofs.tables.Steps.{Answers, IsBusy, IsHeldUp, IsItsOwn, answers}
-use Rattle.wasi_causes.specs.Blocking.{IsOfStream, IsShort, StreamCallStands}
-use Rattle.wasi_causes.specs.Datagrams.{HasItsHandle, IsUdpStream, PendingHandleIsLive}
+use Rattle.wasi_causes.specs.Blocking.{BlockingCallStands, IsBlocking, SplicesOn}
+use Rattle.wasi_causes.specs.Datagrams.{HasItsSocket, IsUdpStream}
 use Rattle.wasi_causes.specs.Outcomes.{Outcome}
-use Rattle.wasi_causes.specs.Reached.{LacksInput, SpliceLacksInput}
+use Rattle.wasi_causes.specs.Outcomes.{InputIsThere}
+use Rattle.wasi_causes.proofs.InputHandles.{HasInputs, first_inputs, input_streams_there, line_inputs}
+use Rattle.wasi_causes.proofs.PipeHandles.{HasPipes, first_pipes, line_pipes, pipe_in_of}
+use Rattle.wasi_causes.proofs.Words.{Input, Kind, asks_while, record_in, streams_in}
+use Rattle.wasi_host.specs.Blocking.{blocking_splice_when}
+use Rattle.wasi_host.specs.Kinds.{input_of, is_readable, is_writable, plain_input_of}
+use Rattle.wasi_host.specs.Records.{input_pipe_at, open_at, tcp2_at}
+use Rattle.wasi_host.specs.declared.kind.Kind.TheVariants.{PlainInput}
+use Rattle.wasi_host.specs.declared.kind.PlainInput.TheVariants as plain_input
+use Rattle.wasi_walks.specs.Missing.{MissesInputPipe}
 
--- == no datagram streams, and no call of a stream, are pending
+-- == no datagram streams, and no call that blocks, are pending
 abbrev NoStreamsIn : StandingCall → Type 0
 NoStreamsIn (StandingCall.UdpConnect place handle) = ⊥
 NoStreamsIn (StandingCall.Blocking call) = ⊥
@@ -50,16 +63,20 @@ NoStreamsStand (Some s) = NoStreamsIn s.call
 -- and the line makes none
 abbrev MakesNone : Made → Type 0
 MakesNone (Made.ToStream n handle) = ⊥
-MakesNone (Made.Calls n handles) = ⊥
+MakesNone (Made.Calls kind n handles) = ⊥
 MakesNone _ = ⊤
 
 -- both
 abbrev NoStreams : Here → Type 0
 NoStreams h = NoStreamsStand h.machine.store.standing × MakesNone h.made
 
--- the line is one of datagram streams, or a call of a stream
+-- the line is one of datagram streams, or a call of a stream or on pollables
 abbrev MayPend : Step → Type 0
-MayPend s = IsUdpStream s ⊎ IsStreamCall s
+MayPend s = IsUdpStream s ⊎ (IsStreamCall s ⊎ LooksAtPollables s)
+
+may_call : (kind : CallKind) (s : Step) → IsCall kind s → MayPend s
+may_call OfStreams s k = inr (inl k)
+may_call OfPollables s k = inr (inr k)
 
 -- what goes on in a TCP record makes no streams
 goes_none : (call : StandingCall) (r : Tcp2Socket) → GoesOn call r → NoStreamsIn call
@@ -82,6 +99,8 @@ module _ (contexts : List WasiSocketsCtx) (line : ℕ) (origin : Step) (plain : 
   moves_none : (h now : Here) → Move line origin h now → NoStreams h → NoStreams now
   moves_none _ _ (Leaves h) i = (i.0, tt)
   moves_none _ _ (Watches h own) i = (i.0, tt)
+  moves_none _ _ (Empties h handle kind e none) i = (i.0, tt)
+  moves_none _ _ (AwaitsCreate h place create g) i = (i.0, tt)
   moves_none _ _ (Joins h c handle place r l new peer is of u g e a) i = (i.0, tt)
   moves_none _ _ (Unstands h) i = (tt, i.1)
   moves_none _ _ (Stands h ids call r at g k) i = (goes_none call r k, i.1)
@@ -91,8 +110,8 @@ module _ (contexts : List WasiSocketsCtx) (line : ℕ) (origin : Step) (plain : 
   moves_none _ _ (RemembersStreams h c handle remote is) i = absurd (plain (inl (subst IsUdpStream (sym is) tt)))
   moves_none _ _ (RecallsStreams h ids place handle e) i = absurd (subst NoStreamsStand e i.0)
   moves_none _ _ (StandsUdpConnect h ids place handle o op at made g e) i = absurd (subst MakesNone made i.1)
-  moves_none _ _ (CallsStreams h calls) i = absurd (plain (inr calls))
-  moves_none _ _ (RecallsStreamCall h ids call e) i = absurd (subst NoStreamsStand e i.0)
+  moves_none _ _ (CallsHandles h kind calls) i = absurd (plain (may_call kind origin calls))
+  moves_none _ _ (RecallsCall h ids call e) i = absurd (subst NoStreamsStand e i.0)
   moves_none _ _ (StandsBlocking h ids call handles made its) i = absurd (subst MakesNone made i.1)
   moves_none _ _ _ i = i
 
@@ -136,7 +155,7 @@ module _ (contexts : List WasiSocketsCtx) (line : ℕ) (origin : Step) (plain : 
     udp_peers = λ es h place o at g i. (tt, λ told fits. i);
     udp_closes = λ es h place o q g i. (tt, λ told fits. i);
     udp_creates = λ es h ctx family c may t o m i. (tt, λ told fits. begun_none h (udp_after_create (own_of line) ctx.name family (told_done told)) i);
-    udp_marks = λ es h place u g i. whatever (λ made. NoStreams h) (λ made. i) es (make_asks h.machine.table (udp_side u) (Udp2 place) None (Some (udp_side u)));
+    udp_marks = λ es h place u g i. whatever (λ made. NoStreamsStand h.machine.store.standing × ⊤) (λ made. (i.0, tt)) es (make_asks h.machine.table (udp_side u) (Udp2 place) None (Some (udp_side u)));
     stream_marks = λ es h place n handle kind made its of i. whatever (λ made. NoStreams h) (λ made. i) es (make_asks h.machine.table (own_of n) kind (Some handle) _);
     error_marks = λ es h n handle place handles made k e f i. absurd (subst MakesNone made i.1);
     udp_gives_up = λ es h place create q g i. whatever (λ done. NoStreams h) (λ done. i) es (create_cancel_asks create);
@@ -165,14 +184,16 @@ of_none m (Some s) i = by_call s.call i
     by_call _ i = tt
 
 -- what is on its streams is so where these are still there
-module _ (m after : Machine) (table : after.table ≡ m.table) (there : PartsThere m.store.records after.store.records) where
+module _ (m after : Machine) (table : after.table ≡ m.table) (there : PartsThere m.store.records after.store.records) (stay : WatchedStay m.store.records after.store.records) where
   still_there : (call : BlockingCall) → IsWellOn m (StandingCall.Blocking call) → IsWellOn after (StandingCall.Blocking call)
   still_there (blocking.Read input len) k = (λ missing. k.0 (missed_input m after table there input missing), tt)
   still_there (blocking.Skip input len) k = (λ missing. k.0 (missed_input m after table there input missing), tt)
   still_there (blocking.Write output rest) k = (λ missing. k.0 (missed_output m after table there output missing), k.1)
   still_there (blocking.Finish output) k = (λ missing. k.0 (missed_output m after table there output missing), tt)
   still_there (blocking.Flush output) k = (λ missing. k.0 (missed_output m after table there output missing), tt)
-  still_there (blocking.Splice to from len) k = λ missing. k (missed_output m after table there to missing)
+  still_there (blocking.Block p) k = (λ missing. k.0 (missed_before m after stay table p missing), tt)
+  still_there (blocking.Poll ps) k = (λ missing. k.0 (missed_one m after stay table ps missing), tt)
+  still_there (blocking.Splice to from len) k = (λ missing. k.0 (elim missing [ inl none ↦ inl (missed_output m after table there to none) | inr none ↦ inr (missed_input m after table there from none) ]), tt)
 
   still_on : (call : StandingCall) → IsWellOn m call → IsWellOn after call
   still_on (StandingCall.UdpConnect place handle) k = subst (λ t. udp_of (kind_at t handle) ≡ Some place) (sym table) k
@@ -189,28 +210,39 @@ module _ (m after : Machine) (table : after.table ≡ m.table) (there : PartsThe
 same_quiet : (m after : Machine) → after ≡ m → StandsWell m → StandsWell after
 same_quiet m after same well = subst StandsWell (sym same) well
 
--- datagram streams that are pending have their handle
-pending_well : (m : Machine) → PendingHandleIsLive m → StandsWell m
-pending_well m live = by_standing m.store.standing live
+-- what is watched stays there in a turn
+turn_stays : (m after : Machine) → ((k : ℕ) → IsSome (tcp2_at m.store.records k) → IsSome (tcp2_at after.store.records k)) → ((k : ℕ) → IsSome (open_at m.store.records k) → IsSome (open_at after.store.records k))
+    → ((k : ℕ) → IsSome (streams_in (tcp2_at m.store.records k)) → IsSome (streams_in (tcp2_at after.store.records k))) → WatchedStay m.store.records after.store.records
+turn_stays m after sockets opens streams = record {
+  sockets = λ k. none_before (tcp2_at m.store.records k) (tcp2_at after.store.records k) (sockets k);
+  streams = λ k. none_before (streams_in (tcp2_at m.store.records k)) (streams_in (tcp2_at after.store.records k)) (streams k);
+  opens = λ k. none_before (open_at m.store.records k) (open_at after.store.records k) (opens k);
+}
   where
-    by_call : (call : StandingCall) → HasItsHandle m call → IsWellOn m call
-    by_call (StandingCall.Blocking (blocking.Splice to from len)) k = λ missing. k.0 (inl missing)
-    by_call (StandingCall.Blocking (blocking.Read input len)) k = k
-    by_call (StandingCall.Blocking (blocking.Skip input len)) k = k
-    by_call (StandingCall.Blocking (blocking.Write output rest)) k = k
-    by_call (StandingCall.Blocking (blocking.Finish output)) k = k
-    by_call (StandingCall.Blocking (blocking.Flush output)) k = k
-    by_call (StandingCall.UdpConnect place handle) k = k
-    by_call _ k = tt
-
-    by_standing : (o : Option Standing) → IfSome o (λ s. HasItsHandle m s.call) → IfSome o (λ s. IsWellOn m s.call)
-    by_standing None k = tt
-    by_standing (Some s) k = by_call s.call k
+    none_before : {A : Type 0} (old now : Option A) → (IsSome old → IsSome now) → now ≡ None → old ≡ None
+    none_before None now stays none = refl
+    none_before {A} (Some x) None stays none = let k : IsSome {T = A} None = stays refl in absurd (cc)
+    none_before (Some x) (Some y) stays none = absurd (cc)
 
 few_zeros : (len : ℕ) → len ≤ 4096 → length (zeros len) ≤ 4096
 few_zeros len few = let k = length-replicate {A = ℕ} (min len 65537) 0 in let l = min-le_left len 65537 in omega (arith, k, l, few)
 
-module _ (contexts : List WasiSocketsCtx) (m : Machine) (line : ℕ) where
+-- each live input is there
+pub inputs_are_there : (m : Machine) → HasInputs m → HasPipes m → (handle : ℕ) → InputIsThere m handle
+inputs_are_there m inputs pipes handle readable missing = by_kind (kind_at m.table handle) refl readable missing.0 missing.1
+  where
+    by_kind : (k : Option Kind) → kind_at m.table handle ≡ k → is_readable k ≡ true → streams_in (record_in m (input_of k)) ≡ None → MissesInputPipe m (plain_input_of k) → ⊥
+    by_kind (Some (Input place)) e r none pipe = let has : IsSome (streams_in (tcp2_at m.store.records place)) = input_streams_there m handle place inputs e in absurd (cc)
+    by_kind (Some (PlainInput (plain_input.Pipe place))) e r none pipe = let has : is_some (input_pipe_at m.store.records place) ≡ true = pipes.inputs handle place (ap pipe_in_of e) in absurd (cc)
+    by_kind (Some (PlainInput plain_input.Closed)) e r none pipe = pipe
+    by_kind _ e r none pipe = absurd (cc)
+
+-- a splice of no input is a trap, and all is as it was
+unread : (m : Machine) (ids : Ids) (to from len : ℕ) (writes : Bool) → Meets (λ es done. done.1 ≡ m) [] (blocking_splice_when m ids to from len writes false)
+unread m ids to from len true = ends refl
+unread m ids to from len false = ends refl
+
+module _ (contexts : List WasiSocketsCtx) (m : Machine) (line : ℕ) (inputs : (handle : ℕ) → InputIsThere m handle) where
   -- none are pending afterwards, where none were and the step asks for none
   abbrev KeepsNone : Step → Machine → Type 0
   KeepsNone s after = (MayPend s → ⊥) × NoStreamsStand m.store.standing → NoStreamsStand after.store.standing
@@ -224,59 +256,55 @@ module _ (contexts : List WasiSocketsCtx) (m : Machine) (line : ℕ) where
   by_guest : (s : Step) (after : Machine) → IsSome (context_of s) → (MayPend s → ⊥) → (IsHeldUp contexts m line s → ⊥) → KeepsNone s after → StandsWell after
   by_guest s after guest plain free none = of_none after after.store.standing (none (plain, subst NoStreamsStand (sym (nothing_pending s guest free m.store.standing refl)) tt))
 
-  -- a call of a stream is continued by a poll
+  -- a call that blocks is continued by a poll
   module _ (n : ℕ) (es : List Entry) (r : Reply) (after : Machine) (row : Outcome contexts m line (step.Poll n) es r after) where
-    polled_stream : (ids : Ids) (call : BlockingCall) → m.store.standing ≡ Some (standing_as ids (StandingCall.Blocking call)) → ids.line ≡ n → IsShort call → StandsWell after
-    polled_stream ids call stands same short = blocked_live contexts 0 ids (nothing_stands m) call es r after refl short (row.0.2 0 ids call stands same short)
+    its_input : (call : BlockingCall) → IsWellOn m (StandingCall.Blocking call) → HasInput (nothing_stands m) call
+    its_input (blocking.Splice to from len) k = λ missing. k.0 (inr missing)
+    its_input _ k = tt
+
+    polled_blocking : (ids : Ids) (call : BlockingCall) → m.store.standing ≡ Some (standing_as ids (StandingCall.Blocking call)) → ids.line ≡ n → IsWellOn m (StandingCall.Blocking call) → StandsWell after
+    polled_blocking ids call stands same on = blocked_live contexts 0 ids (nothing_stands m) call es r after refl on.1 (its_input call on) (row.0.2 0 ids call stands same on.1)
 
     -- another call is still pending
-    polled_pending : r ≡ reply.Pending n → (StreamCallStands m → ⊥) → StandsWell m → StandsWell after
+    polled_pending : r ≡ reply.Pending n → (BlockingCallStands m → ⊥) → StandsWell m → StandsWell after
     polled_pending is other well =
         let k = subst (λ (x : Reply). Outcome contexts m line (step.Poll n) es x after) is row in
         subst (λ (o : Option Standing). IfSome o (λ s. IsWellOn after s.call)) (sym (k.1.1.2 other)) (by_standing m.store.standing other well k.1.1.1)
       where
-        by_call : (call : StandingCall) → (IsOfStream call → ⊥) → IsWellOn m call → after.table ≡ m.table → IsWellOn after call
+        by_call : (call : StandingCall) → (IsBlocking call → ⊥) → IsWellOn m call → after.table ≡ m.table → IsWellOn after call
         by_call (StandingCall.UdpConnect place handle) none k table = subst (λ t. udp_of (kind_at t handle) ≡ Some place) (sym table) k
         by_call (StandingCall.Blocking call) none k table = absurd (none tt)
         by_call _ none k table = tt
 
-        by_standing : (o : Option Standing) → (IsSomeAnd o (λ s. IsOfStream s.call) → ⊥) → IfSome o (λ s. IsWellOn m s.call) → after.table ≡ m.table → IfSome o (λ s. IsWellOn after s.call)
+        by_standing : (o : Option Standing) → (IsSomeAnd o (λ s. IsBlocking s.call) → ⊥) → IfSome o (λ s. IsWellOn m s.call) → after.table ≡ m.table → IfSome o (λ s. IsWellOn after s.call)
         by_standing None none k table = tt
         by_standing (Some s) none k table = by_call s.call none k table
 
-    polled_other : (StreamCallStands m → ⊥) → stands_as m.store.standing n ≡ true → StandsWell m → StandsWell after
+    polled_other : (BlockingCallStands m → ⊥) → stands_as m.store.standing n ≡ true → StandsWell m → StandsWell after
     polled_other other stands well = elim (row.0.1 stands) [ inl is ↦ polled_pending is other well | inr free ↦ free_well after free ]
 
     by_line : (s : Standing) → m.store.standing ≡ Some s → stands_as m.store.standing n ≡ true → s.ids.line ≡ n
     by_line s e stands = let same : (s.ids.line == n) ≡ true = ap (λ (o : Option Standing). stands_as o n) (sym e) ∙ stands in eqb-true s.ids.line n same
 
-    its_short : (call : BlockingCall) → IsWellOn m (StandingCall.Blocking call) → IsShort call
-    its_short (blocking.Splice to from len) k = tt
-    its_short (blocking.Read input len) k = k.1
-    its_short (blocking.Skip input len) k = k.1
-    its_short (blocking.Write output rest) k = k.1
-    its_short (blocking.Finish output) k = k.1
-    its_short (blocking.Flush output) k = k.1
-
     polled_as : (o : Option Standing) → m.store.standing ≡ o → stands_as m.store.standing n ≡ true → StandsWell m → StandsWell after
     polled_as None e stands well = let same : stands_as None n ≡ true = ap (λ (o : Option Standing). stands_as o n) (sym e) ∙ stands in absurd (cc)
     polled_as (Some s) e stands well = by_call s.call refl
       where
-        no_stream : (call : StandingCall) → s.call ≡ call → (IsOfStream call → ⊥) → StreamCallStands m → ⊥
-        no_stream call is none stands = none (subst IsOfStream is (subst (λ (o : Option Standing). IsSomeAnd o (λ s. IsOfStream s.call)) e stands))
+        no_blocking : (call : StandingCall) → s.call ≡ call → (IsBlocking call → ⊥) → BlockingCallStands m → ⊥
+        no_blocking call is none stands = none (subst IsBlocking is (subst (λ (o : Option Standing). IsSomeAnd o (λ s. IsBlocking s.call)) e stands))
 
         by_call : (call : StandingCall) → s.call ≡ call → StandsWell after
         by_call (StandingCall.Blocking call) is =
             let its : m.store.standing ≡ Some (standing_as s.ids (StandingCall.Blocking call)) = e ∙ ap (λ (c : StandingCall). Some (standing_as s.ids c)) is in
             let on : IsWellOn m (StandingCall.Blocking call) = subst (λ (o : Option Standing). IfSome o (λ s. IsWellOn m s.call)) its well in
-            polled_stream s.ids call its (by_line s e stands) (its_short call on)
-        by_call (StandingCall.Bind place) is = polled_other (no_stream (StandingCall.Bind place) is (λ k. k)) stands well
-        by_call (StandingCall.Listen place) is = polled_other (no_stream (StandingCall.Listen place) is (λ k. k)) stands well
-        by_call (StandingCall.DropOutput place) is = polled_other (no_stream (StandingCall.DropOutput place) is (λ k. k)) stands well
-        by_call (StandingCall.UdpCreate place) is = polled_other (no_stream (StandingCall.UdpCreate place) is (λ k. k)) stands well
-        by_call (StandingCall.UdpBind place) is = polled_other (no_stream (StandingCall.UdpBind place) is (λ k. k)) stands well
-        by_call (StandingCall.UdpConnect place handle) is = polled_other (no_stream (StandingCall.UdpConnect place handle) is (λ k. k)) stands well
-        by_call (StandingCall.DropOutgoing place) is = polled_other (no_stream (StandingCall.DropOutgoing place) is (λ k. k)) stands well
+            polled_blocking s.ids call its (by_line s e stands) on
+        by_call (StandingCall.Bind place) is = polled_other (no_blocking (StandingCall.Bind place) is (λ k. k)) stands well
+        by_call (StandingCall.Listen place) is = polled_other (no_blocking (StandingCall.Listen place) is (λ k. k)) stands well
+        by_call (StandingCall.DropOutput place) is = polled_other (no_blocking (StandingCall.DropOutput place) is (λ k. k)) stands well
+        by_call (StandingCall.UdpCreate place) is = polled_other (no_blocking (StandingCall.UdpCreate place) is (λ k. k)) stands well
+        by_call (StandingCall.UdpBind place) is = polled_other (no_blocking (StandingCall.UdpBind place) is (λ k. k)) stands well
+        by_call (StandingCall.UdpConnect place handle) is = polled_other (no_blocking (StandingCall.UdpConnect place handle) is (λ k. k)) stands well
+        by_call (StandingCall.DropOutgoing place) is = polled_other (no_blocking (StandingCall.DropOutgoing place) is (λ k. k)) stands well
 
     polled_well : StandsWell m → StandsWell after
     polled_well well = by_stands (stands_as m.store.standing n) refl
@@ -301,12 +329,27 @@ module _ (contexts : List WasiSocketsCtx) (m : Machine) (line : ℕ) where
     abbrev FreeAfter : Step → Type 0
     FreeAfter s = (IsHeldUp contexts m line s → ⊥) → Answered contexts m line s es r after → after.store.standing ≡ None
 
+    spliced_well : (c to from len : ℕ) → m.store.standing ≡ None → Answered contexts m line (step.BlockingSplice c to from len) es r after → (reads : Bool) → is_readable (kind_at m.table from) ≡ reads → SplicesOn contexts m c (first_ids line) to from len es r after → StandsWell after
+    spliced_well c to from len none w true e goes = splice_live contexts c (first_ids line) m to from len es r after none (inputs from e) goes
+    spliced_well c to from len none w false e goes =
+        same_quiet m after (met {Row = λ es done. done.1 ≡ m} {a = (r, after)} (onto _ (subst (λ (b : Bool). Meets (λ es done. done.1 ≡ m) [] (blocking_splice_when m (first_ids line) to from len (is_writable (kind_at m.table to)) b)) (sym e) (unread m (first_ids line) to from len (is_writable (kind_at m.table to)))))
+        (subst (λ (o : Option Standing). Left (asks_while contexts m line (step.BlockingSplice c to from len) o) es (Give (r, after))) none w)) (free_well m none)
+
+    -- a wait for several
+    begun_wait : (ps : List ℕ) → m.store.standing ≡ None → BeginsToWait m line ps es r after → StandsWell after
+    begun_wait ps none goes = of_wait none goes
+      where
+        of_wait : {gs : List Entry} {said : Reply} {now : Machine} → m.store.standing ≡ None → BeginsToWait m line ps gs said now → StandsWell now
+        of_wait none (ForNone e) = free_well m none
+        of_wait none (NoPollable some not) = free_well m none
+        of_wait none (AllPollables gs said now some all k) = list_live m (first_ids line) ps First gs said now none k
+
     well_after : (s : Step) → (IsHeldUp contexts m line s → ⊥) → Answered contexts m line s es r after → Outcome contexts m line s es r after → KeepsNone s after → StandsWell m → StandsWell after
     well_after step.Turn free w row none well =
-        same_well m after row.0.handles (record { streams = row.0.streams; inputs = λ k h. ap (λ o. is_some o) (row.0.pipes k).0 ∙ h; outputs = λ k h. ap (λ o. is_some o) (row.0.pipes k).1 ∙ h }) row.0.pending well
+        same_well m after row.0.handles (record { streams = row.0.streams; inputs = λ k h. ap (λ o. is_some o) (row.0.pipes k).0 ∙ h; outputs = λ k h. ap (λ o. is_some o) (row.0.pipes k).1 ∙ h }) (turn_stays m after row.0.sockets row.0.opens row.0.streams) row.0.pending well
     well_after (step.Poll n) free w row none well = polled_well n es r after row well
     well_after (step.Cancel n) free w row none well = cancelled_well n es r after row well
-    well_after (step.UdpStream c s remote) free w row none well = pending_well after (row.0.1 (nothing_pending (step.UdpStream c s remote) refl free m.store.standing refl))
+    well_after (step.UdpStream c s remote) free w row none well = row.0.1 (nothing_pending (step.UdpStream c s remote) refl free m.store.standing refl)
     well_after (step.Read c input len) free w row none well = free_well after (read_free contexts m (nothing_pending (step.Read c input len) refl free m.store.standing refl) line c es r after input len w)
     well_after (step.CheckWrite c output) free w row none well = free_well after (check_free contexts m (nothing_pending (step.CheckWrite c output) refl free m.store.standing refl) line c es r after output w)
     well_after (step.Write c output bytes) free w row none well = free_well after (write_free contexts m (nothing_pending (step.Write c output bytes) refl free m.store.standing refl) line c es r after output bytes w)
@@ -314,13 +357,16 @@ module _ (contexts : List WasiSocketsCtx) (m : Machine) (line : ℕ) where
     well_after (step.Skip c input len) free w row none well = let none = nothing_pending (step.Skip c input len) refl free m.store.standing refl in free_well after (skip_free contexts m none line c input len es r after (row.0 none))
     well_after (step.WriteZeroes c output len) free w row none well = let none = nothing_pending (step.WriteZeroes c output len) refl free m.store.standing refl in free_well after (write_free contexts m none line c es r after output (zeros len) (row.0 none))
     well_after (step.Splice c to from len) free w row none well = let none = nothing_pending (step.Splice c to from len) refl free m.store.standing refl in free_well after (splice_free contexts m line c to from len es r after none (row.0 none))
-    well_after (step.BlockingRead c input len) free w row none well = let none = nothing_pending (step.BlockingRead c input len) refl free m.store.standing refl in blocked_live contexts c (first_ids line) m (blocking.Read input len) es r after none tt (row.0 none)
-    well_after (step.BlockingSkip c input len) free w row none well = let none = nothing_pending (step.BlockingSkip c input len) refl free m.store.standing refl in blocked_live contexts c (first_ids line) m (blocking.Skip input len) es r after none tt (row.0 none)
+    well_after (step.BlockingRead c input len) free w row none well = let none = nothing_pending (step.BlockingRead c input len) refl free m.store.standing refl in blocked_live contexts c (first_ids line) m (blocking.Read input len) es r after none tt tt (row.0 none)
+    well_after (step.BlockingSkip c input len) free w row none well = let none = nothing_pending (step.BlockingSkip c input len) refl free m.store.standing refl in blocked_live contexts c (first_ids line) m (blocking.Skip input len) es r after none tt tt (row.0 none)
     well_after (step.BlockingWrite c output bytes) free w row none well = let none = nothing_pending (step.BlockingWrite c output bytes) refl free m.store.standing refl in begun_live contexts c (first_ids line) m output (length bytes) bytes es r after none (λ few. few) (row.0 none)
     well_after (step.BlockingZeroes c output len) free w row none well = let none = nothing_pending (step.BlockingZeroes c output len) refl free m.store.standing refl in begun_live contexts c (first_ids line) m output len (zeros len) es r after none (few_zeros len) (row.0 none)
-    well_after (step.BlockingFlush c output) free w row none well = let none = nothing_pending (step.BlockingFlush c output) refl free m.store.standing refl in blocked_live contexts c (first_ids line) m (blocking.Flush output) es r after none tt (row.0 none)
-    well_after (step.BlockingSplice c to from len) free w row none well = let none = nothing_pending (step.BlockingSplice c to from len) refl free m.store.standing refl in blocked_live contexts c (first_ids line) m (blocking.Splice to from len) es r after none tt (row.0 none)
-    well_after s free w row none well = by_guest s after refl (λ h. elim h [ inl k ↦ k | inr k ↦ k ]) free none
+    well_after (step.BlockingFlush c output) free w row none well = let none = nothing_pending (step.BlockingFlush c output) refl free m.store.standing refl in blocked_live contexts c (first_ids line) m (blocking.Flush output) es r after none tt tt (row.0 none)
+    well_after (step.BlockingSplice c to from len) free w row none well = let none = nothing_pending (step.BlockingSplice c to from len) refl free m.store.standing refl in spliced_well c to from len none w (is_readable (kind_at m.table from)) refl (row.0 none)
+    well_after (step.Ready c p) free w row none well = free_well after (ready_free contexts m line c p (nothing_pending (step.Ready c p) refl free m.store.standing refl) es r after w)
+    well_after (step.Block c p) free w row none well = let none = nothing_pending (step.Block c p) refl free m.store.standing refl in block_live contexts c (first_ids line) m p First es r after none (row.0 none)
+    well_after (step.PollList c ps) free w row none well = begun_wait ps (nothing_pending (step.PollList c ps) refl free m.store.standing refl) row.0
+    well_after s free w row none well = by_guest s after refl (λ h. elim h [ inl k ↦ k | inr k ↦ elim k [ inl j ↦ j | inr j ↦ j ] ]) free none
 
   -- whatever it is answered
   by_answer : (s : Step) (es : List Entry) (r : Reply) (after : Machine) → Answered contexts m line s es r after → Answers contexts m line s es r after → KeepsNone s after → StandsWell m → StandsWell after
@@ -332,24 +378,26 @@ module _ (contexts : List WasiSocketsCtx) (m : Machine) (line : ℕ) where
   lasts s = by_left (machine_asks contexts m line s) (λ es done w. by_answer s es done.0 done.1 w (answers contexts m line s es done.0 done.1 w) (λ p. met {a = done} (record { along = stays_none contexts line s p.0 m p.1 }) w))
 
 -- == of a run
-pub runs_stand_well : (contexts : List WasiSocketsCtx) (steps : List Step) (es : List Entry) (replies : List Reply) (m : Machine) → Left (run contexts [] first_state 1 steps) es (Give (replies, m)) → StandsWell m
-runs_stand_well contexts steps es replies m w =
-    (run_ends contexts Anything (λ line fs now. StandsWell now) (λ line s now fs well. (widen (λ gs done k. k.row well) (shifted fs (lasts contexts now line s))).along) tt steps es replies m w).1
+-- what is pending is well, and each live input is there
+abbrev pub Holds : Machine → Type 0
+Holds m = StandsWell m × (HasInputs m × HasPipes m)
 
--- so its handle is live, but where it is a splice whose input isn't there
-pub runs_keep_handles : (m : Machine) → StandsWell m → (SpliceLacksInput m → ⊥) → PendingHandleIsLive m
-runs_keep_handles m well lacks = by_standing m.store.standing well lacks
+line_holds : (contexts : List WasiSocketsCtx) (line : ℕ) (s : Step) (m : Machine) (es : List Entry) → Holds m → Allows Anything (λ fs done. Holds done.1) es (machine_asks contexts m line s)
+line_holds contexts line s m es h =
+    (both (widen (λ gs done k. k.row h.0) (shifted es (lasts contexts m line (inputs_are_there m h.1.0 h.1.1) s)))
+    (both (record { along = line_inputs contexts line s m es h.1.0 }) (record { along = line_pipes contexts line s m es h.1.1 }))).along
+
+pub runs_hold : (contexts : List WasiSocketsCtx) (steps : List Step) (es : List Entry) (replies : List Reply) (m : Machine) → Left (run contexts [] first_state 1 steps) es (Give (replies, m)) → Holds m
+runs_hold contexts steps es replies m w = (run_ends contexts Anything (λ line fs now. Holds now) (λ line s now fs h. line_holds contexts line s now fs h) (tt, (first_inputs, first_pipes)) steps es replies m w).1
+
+-- so datagram streams that are pending have their handle
+pub runs_keep_sockets : (m : Machine) → StandsWell m → IfSome m.store.standing (λ s. HasItsSocket m s.call)
+runs_keep_sockets m well = by_standing m.store.standing well
   where
-    by_call : (call : StandingCall) → IsWellOn m call → (LacksInput m call → ⊥) → HasItsHandle m call
-    by_call (StandingCall.Blocking (blocking.Splice to from len)) k none = (λ missing. elim missing [ inl at ↦ k at | inr at ↦ none at ], tt)
-    by_call (StandingCall.Blocking (blocking.Read input len)) k none = k
-    by_call (StandingCall.Blocking (blocking.Skip input len)) k none = k
-    by_call (StandingCall.Blocking (blocking.Write output rest)) k none = k
-    by_call (StandingCall.Blocking (blocking.Finish output)) k none = k
-    by_call (StandingCall.Blocking (blocking.Flush output)) k none = k
-    by_call (StandingCall.UdpConnect place handle) k none = k
-    by_call _ k none = tt
+    by_call : (call : StandingCall) → IsWellOn m call → HasItsSocket m call
+    by_call (StandingCall.UdpConnect place handle) k = k
+    by_call _ k = tt
 
-    by_standing : (o : Option Standing) → IfSome o (λ s. IsWellOn m s.call) → (IsSomeAnd o (λ s. LacksInput m s.call) → ⊥) → IfSome o (λ s. HasItsHandle m s.call)
-    by_standing None k none = tt
-    by_standing (Some s) k none = by_call s.call k none
+    by_standing : (o : Option Standing) → IfSome o (λ s. IsWellOn m s.call) → IfSome o (λ s. HasItsSocket m s.call)
+    by_standing None k = tt
+    by_standing (Some s) k = by_call s.call k

@@ -1,6 +1,6 @@
 -- Of the machines that runs lead to: each live handle of a pipe's end is of a pipe that is there.
-use Rattle.wasi_causes.proofs.Words.{Allows, End, Entry, Err, ErrorCode, Full, Give, Handles, Input, Item, Kind, Left, List, Machine, NoSuchHandle, None, Ok, OpId, Operation, Option, Output, Reply, Result, Socket, Some, Step, Tcp2, Tcp2Socket, TrapKind, WasiSocketsCtx}
-use Rattle.wasi_causes.proofs.Words.{[], allows_then, ap, bind, created_asks, first_state, give_up_asks, inl, inr, is_some, kind_at, length, machine_asks, make_asks, new_asks, new_record, own_of, poll_asks, refl, run, side_at, side_of, slice_get, subst, sym, told_done, true, turn_asks, with_handle, with_listening, with_record, with_writer, without_handle, is_full, allows_if}
+use Rattle.wasi_causes.proofs.Words.{Allows, End, Entry, Err, ErrorCode, Full, Handles, Input, Item, Kind, List, Machine, NoSuchHandle, None, Ok, OpId, Operation, Option, Output, Reply, Result, Socket, Some, Step, Tcp2, Tcp2Socket, TrapKind, WasiSocketsCtx}
+use Rattle.wasi_causes.proofs.Words.{[], allows_then, ap, bind, created_asks, first_state, give_up_asks, inl, inr, is_some, kind_at, length, machine_asks, make_asks, new_asks, new_record, own_of, poll_asks, refl, side_at, side_of, slice_get, subst, sym, told_done, true, turn_asks, with_handle, with_listening, with_record, with_writer, without_handle, is_full, allows_if}
 use Rattle.wasi_causes.proofs.Words.{ℕ, ⊤, ◌++◌, ◌∷◌, ◌∙◌, ◌≡◌, ◌⊎◌}
 use Rattle.wasi_memory.specs.Plain.{no_contents}
 use Rattle.wasi_udp.specs.Create.{Create, after_create as udp_after_create, create_cancel_asks}
@@ -22,8 +22,7 @@ use Rattle.wasi_causes.proofs.PipeLists.{input_push, input_stays, output_push, o
 use Rattle.wasi_walks.proofs.fits.Law.{whatever}
 use Rattle.wasi_walks.proofs.fits.Polls.{Anything}
 use Rattle.wasi_walks.proofs.walks.Law.{BeginsWrites, Law}
-use Rattle.wasi_walks.proofs.walks.Moves.{AStream, AnAcceptedStream, APlain, Awaits, BeginsAccept, BeginsBind, BeginsConnect, BeginsListen, BeginsReceive, BeginsSend, BeginsUdpBind, BeginsUdpConnect, BeginsWrite, BindsOn, CancelsBind, CancelsUdpBind, CancelsUdpConnect, Changes, ClosesReader, Connects, Finds, Forgets, Found, FoundUdp, Held, Here, IsGone, Joins, Listens, MakesPlain, Marks, Move, Opens, ReceivesOn, Reconnects, SameSockets, SendsOn, Takes, UdpBindsOn, UdpChanges, UdpConnectsOn, UdpCreates, Unlistens, Writes, accepting_now, joined, put, put_udp, udp_begun}
-use Rattle.wasi_walks.proofs.walks.Runs.{run_ends}
+use Rattle.wasi_walks.proofs.walks.Moves.{AStream, AnAcceptedStream, APlain, Awaits, BeginsAccept, BeginsBind, BeginsConnect, BeginsListen, BeginsReceive, BeginsSend, BeginsUdpBind, BeginsUdpConnect, BeginsWrite, BindsOn, CancelsBind, CancelsUdpBind, CancelsUdpConnect, Changes, ClosesReader, Connects, Empties, Finds, Forgets, Found, FoundUdp, Held, Here, IsGone, Joins, Listens, MakesPlain, Marks, Move, Opens, ReceivesOn, Reconnects, SameSockets, SendsOn, Takes, UdpBindsOn, UdpChanges, UdpConnectsOn, UdpCreates, Unlistens, Writes, accepting_now, joined, put, put_udp, udp_begun}
 use Rattle.wasi_walks.proofs.walks.Steps.{machine_walks}
 use Rattle.wasi_causes.proofs.Steady.{where_made, where_taken}
 use Rattle.wasi_causes.proofs.tables.Meets.{Meets, granted, shifted, widen}
@@ -148,7 +147,7 @@ module _ (contexts : List WasiSocketsCtx) (line : ℕ) (origin : Step) (other : 
   moves_has _ _ (BeginsBind h place r side a at g d to idle own) i = put_has h place r g _ i
   moves_has _ _ (BeginsWrite h place n r s half permit bytes at g e w within own) i = put_has h place r g _ i
   moves_has _ _ (BeginsListen h place r side at g d bound none to idle own) i = put_has h place r g _ i
-  moves_has _ _ (BeginsAccept h place r l at g e a own) i = put_has h place r g _ i
+  moves_has _ _ (BeginsAccept h place n r l at g e a own) i = put_has h place r g _ i
   moves_has _ _ (Unlistens h place r op q g e c o) i = put_has h place r g _ i
   moves_has _ _ (Forgets h place r l c g e a) i = put_has h place r g _ i
   moves_has _ _ (Joins h c handle place r l new peer is of u g e a) i =
@@ -162,7 +161,8 @@ module _ (contexts : List WasiSocketsCtx) (line : ℕ) (origin : Step) (other : 
   moves_has _ _ (CancelsUdpBind h place o op q g e) i = put_udp_has h place (Udp2Socket.Open o) g _ i
   moves_has _ _ (CancelsUdpConnect h place o q g) i = put_udp_has h place (Udp2Socket.Open o) g _ i
   moves_has _ _ (Finds h records same) i = same_there h.machine.table h.machine.store.records records same i
-  moves_has _ _ (Takes h handle) i = taken_there h.machine.table h.machine.store.records handle i
+  moves_has _ _ (Empties h handle kind e none) i = taken_there h.machine.table h.machine.store.records handle i
+  moves_has _ _ (Takes h handle none) i = taken_there h.machine.table h.machine.store.records handle i
   moves_has _ _ _ i = i
 
   polls_has : (h : Here) (op : Operation) (after : End × List Item → Here) → Held h op after → (end : End × List Item) → Has h → Has (after end)
@@ -245,6 +245,7 @@ module _ (contexts : List WasiSocketsCtx) (m : Machine) (line : ℕ) (i : HasPip
   in_traps es c bytes trap.StreamsAlive after h = absurd h.0
   in_traps es c bytes trap.Capacity after h = absurd h.0
   in_traps es c bytes trap.TooLong after h = absurd h.0
+  in_traps es c bytes trap.EmptyList after h = absurd h.0
   in_traps es c bytes _ after h = absurd h
 
   out_traps : (es : List Entry) (c capacity : ℕ) (kind : TrapKind) (after : Machine) → Traps contexts m line (step.PipeOut c capacity) es kind after → after ≡ m
@@ -255,6 +256,7 @@ module _ (contexts : List WasiSocketsCtx) (m : Machine) (line : ℕ) (i : HasPip
   out_traps es c capacity trap.StreamsAlive after h = absurd h.0
   out_traps es c capacity trap.Capacity after h = absurd h.0
   out_traps es c capacity trap.TooLong after h = absurd h.0
+  out_traps es c capacity trap.EmptyList after h = absurd h.0
   out_traps es c capacity _ after h = absurd h
 
   in_has : (es : List Entry) (c : ℕ) (bytes : List ℕ) (r : Reply) (after : Machine) → Outcome contexts m line (step.PipeIn c bytes) es r after → HasPipes after
@@ -295,7 +297,9 @@ module _ (contexts : List WasiSocketsCtx) (m : Machine) (line : ℕ) where
   lasts (step.PipeOut c capacity) = widen (λ es done k. pipe_out_lasts c capacity es done.0 done.1 k) (by_standing contexts m line (step.PipeOut c capacity) m.store.standing refl)
   lasts s = granted (λ i. record { along = line_has contexts line s (λ h. h) m i })
 
--- == of a run
-pub runs_have_pipes : (contexts : List WasiSocketsCtx) (steps : List Step) (es : List Entry) (replies : List Reply) (m : Machine) → Left (run contexts [] first_state 1 steps) es (Give (replies, m)) → HasPipes m
-runs_have_pipes contexts steps es replies m w =
-    (run_ends contexts Anything (λ line fs now. HasPipes now) (λ line s now fs i. (widen (λ gs done k. k.row i) (shifted fs (lasts contexts now line s))).along) (record { inputs = λ handle place e. absurd (cc); outputs = λ handle place e. absurd (cc) }) steps es replies m w).1
+-- == of a line
+pub line_pipes : (contexts : List WasiSocketsCtx) (line : ℕ) (s : Step) (m : Machine) (es : List Entry) → HasPipes m → Allows Anything (λ fs done. HasPipes done.1) es (machine_asks contexts m line s)
+line_pipes contexts line s m es i = (widen (λ gs done k. k.row i) (shifted es (lasts contexts m line s))).along
+
+pub first_pipes : HasPipes first_state
+first_pipes = record { inputs = λ handle place e. absurd (cc); outputs = λ handle place e. absurd (cc) }

@@ -1,8 +1,8 @@
 -- A poll of the pending call.
 use Rattle.wasi_host.specs.declared.blocking.BlockingCall.{BlockingCall}
-use Rattle.wasi_causes.proofs.streams.Polls.{stream_goes_on}
-use Rattle.wasi_causes.specs.Blocking.{IsOfStream}
-use Rattle.wasi_causes.specs.Outcomes.{StreamGoesOn}
+use Rattle.wasi_causes.proofs.pollables.Polls.{blocked_goes_on}
+use Rattle.wasi_causes.specs.Blocking.{IsBlocking}
+use Rattle.wasi_causes.specs.Outcomes.{BlockedGoesOn}
 use Rattle.wasi_host.specs.Records.{tcp2_at, udp2_at, open_at, open_of}
 use Rattle.wasi_host.specs.declared.binding.InProgress.TheVariants.{Binding}
 use Rattle.wasi_walks.proofs.walks.States.{stands_so as stands_under}
@@ -109,19 +109,19 @@ module _ (contexts : List WasiSocketsCtx) (m : Machine) (line : ℕ) (ids : Ids)
   free = unstood m.store
 
   -- == a call is pending
-  module _ (call : StandingCall) (stands : Under call) (other_call : IsOfStream call → ⊥) where
+  module _ (call : StandingCall) (stands : Under call) (other_call : IsBlocking call → ⊥) where
     pub stands_so : stands_as m.store.standing n ≡ false → ⊥
     stands_so none = let same : stands_as m.store.standing n ≡ true = ap (λ (o : Option Standing). stands_as o n) stands ∙ eq-eqb n n refl in cc
 
-    -- it is no call of a stream
-    no_stream : (es : List Entry) (r : Reply) (after : Machine) → StreamGoesOn contexts m n es r after
-    no_stream es r after c other its on same short = let is : call ≡ StandingCall.Blocking its = ap (λ (s : Standing). s.call) (the_same (sym stands ∙ on)) in absurd (other_call (subst IsOfStream (sym is) tt))
+    -- it is no call that blocks
+    no_blocking : (es : List Entry) (r : Reply) (after : Machine) → BlockedGoesOn contexts m n es r after
+    no_blocking es r after c other its on same short = let is : call ≡ StandingCall.Blocking its = ap (λ (s : Standing). s.call) (the_same (sym stands ∙ on)) in absurd (other_call (subst IsBlocking (sym is) tt))
 
     pub it_ends : (es : List Entry) (r : Reply) (after : Machine) → r ≢ reply.NoSuchCall → after.store.standing ≡ None → Always contexts m line (step.Poll n) es r after
-    it_ends es r after other none = (apart other stands_so, λ same. inr none, no_stream es r after)
+    it_ends es r after other none = (apart other stands_so, λ same. inr none, no_blocking es r after)
 
     pub done : (es : List Entry) (after : Machine) → after.store.standing ≡ None → GivesBy m no_fields after call → Row es (reply.Ok no_fields, after)
-    done es after none gives = (it_ends es (reply.Ok no_fields) after (λ e. cc) none, (inl tt, subst (λ (o : Option Standing). IsSomeAnd o (λ s. GivesBy m no_fields after s.call)) (sym stands) gives))
+    done es after none gives = (it_ends es (reply.Ok no_fields) after (λ e. cc) none, (inl (inl tt), subst (λ (o : Option Standing). IsSomeAnd o (λ s. GivesBy m no_fields after s.call)) (sym stands) gives))
 
     pub fails : (es : List Entry) (after : Machine) (code : ErrorCode) → after.store.standing ≡ None → after.table ≡ m.table → (PendingCallsFit m → CallFails m es call code × ClosesBy after call) → Row es (reply.Err (word_of_code code), after)
     fails es after code none same cause = (
@@ -136,7 +136,7 @@ module _ (contexts : List WasiSocketsCtx) (m : Machine) (line : ℕ) (ids : Ids)
     )
 
     pub waits : (es : List Entry) (after : Machine) → after.table ≡ m.table → after.store.standing ≡ Some (standing_as ids call) → (PendingCallsFit m → CallWaits m (own_of n) es call) → Row es (reply.Pending n, after)
-    waits es after same on cause = ((apart (λ e. cc) stands_so, λ same. inl refl, no_stream es (reply.Pending n) after), ((refl, rw on refl), (λ binds. subst (λ (o : Option Standing). IsSomeAnd o (λ s. CallWaits m (own_of n) es s.call)) (sym stands) (cause binds), same, λ other. on ∙ sym stands)))
+    waits es after same on cause = ((apart (λ e. cc) stands_so, λ same. inl refl, no_blocking es (reply.Pending n) after), ((refl, rw on refl), (λ binds. subst (λ (o : Option Standing). IsSomeAnd o (λ s. CallWaits m (own_of n) es s.call)) (sym stands) (cause binds), same, λ other. on ∙ sym stands)))
 
     -- what is due for an answer
     abbrev pub Due : List Entry → Result (Answer (Unit {0})) ErrorCode → Type 0
@@ -275,7 +275,7 @@ module _ (contexts : List WasiSocketsCtx) (m : Machine) (line : ℕ) (ids : Ids)
       create_ended es (Done given, items) k =
           marks_udp made_so place (opened_udp (made_by create)) there
           (λ full. (it_ends (StandingCall.UdpCreate place) stands (λ k. k) es (reply.Trap Full) made_so (λ e. cc) refl, (tt, full_so m made_so es full refl k.0, inl (full, is_create))))
-          (it_ends (StandingCall.UdpCreate place) stands (λ k. k) (es ++ mark ∷ []) (reply.Ok (number_fields m.table.next)) (record made_so { table = with_handle m.table (Udp2 place) None }) (λ e. cc) refl, (inr (inl (tt, tt)), gives_handle))
+          (it_ends (StandingCall.UdpCreate place) stands (λ k. k) (es ++ mark ∷ []) (reply.Ok (number_fields m.table.next)) (record made_so { table = with_handle m.table (Udp2 place) None }) (λ e. cc) refl, (inl (inr (inl (tt, tt))), gives_handle))
       create_ended es (Refused code given, items) k = ends (fails (StandingCall.UdpCreate place) stands (λ k. k) es (record m { store = with_udp free place (udp.Closed create.operation.who.side) }) code refl refl (λ fits. (CreateFailed place create code at (k.1 fits), (create.operation.who.side, udp_set_there m.store.records place (udp.Creating create) (udp.Closed create.operation.who.side) at))))
 
     recreates_by : (u : Udp2Socket) → udp2_at m.store.records place ≡ Some u → Meets (λ es done. MadeRow es (create_answered free place done)) [] (poll_create_asks u)
@@ -349,7 +349,7 @@ module _ (contexts : List WasiSocketsCtx) (m : Machine) (line : ℕ) (ids : Ids)
         makes_both now (own_of n) handle its es names unmarked
         (λ fs table full next lacks. (it_ends the_call stands (λ k. k) fs (reply.Trap Full) (record now { table = table }) (λ e. cc) over, (tt, (full, next), inr (inl (subst (λ (o : Option Standing). IsSomeAnd o (λ s. LacksRoomForStreams m s.call)) (sym stands) (rw names lacks)))))) (
           it_ends the_call stands (λ k. k) (marks_of now (own_of n) handle its es) (reply.Ok (pair_fields m.table.next (m.table.next + 1))) (record now { table = with_both m.table its handle }) (λ e. cc) over,
-          (inr (inr (inl (tt, (tt, tt)))), subst (λ (o : Option Standing). IsSomeAnd o (λ s. GivesBy m (pair_fields m.table.next (m.table.next + 1)) (record now { table = with_both m.table its handle }) s.call)) (sym stands) (refl, rw names refl)),
+          (inl (inr (inr (inl (tt, (tt, tt))))), subst (λ (o : Option Standing). IsSomeAnd o (λ s. GivesBy m (pair_fields m.table.next (m.table.next + 1)) (record now { table = with_both m.table its handle }) s.call)) (sym stands) (refl, rw names refl)),
         )
 
     module _ (o : OpenUdp) (at : open_at m.store.records place ≡ Some o) where
@@ -399,7 +399,7 @@ module _ (contexts : List WasiSocketsCtx) (m : Machine) (line : ℕ) (ids : Ids)
   goes_on_as (StandingCall.UdpBind place) stands = onto _ (udp_rebinds place stands (open_at m.store.records place) refl)
   goes_on_as (StandingCall.UdpConnect place handle) stands = onto _ (remakes place handle stands)
   goes_on_as (StandingCall.DropOutgoing place) stands = ends (goes place stands (open_at m.store.records place) refl)
-  goes_on_as (StandingCall.Blocking call) stands = stream_goes_on contexts m line ids call stands
+  goes_on_as (StandingCall.Blocking call) stands = blocked_goes_on contexts m line ids call stands
   goes_on_as (DropOutput place) stands = onto _ (widen (of_output place stands) (outputs free ids place (tcp2_at m.store.records place) refl))
 
 module _ (contexts : List WasiSocketsCtx) (m : Machine) (line n : ℕ) where
@@ -411,7 +411,7 @@ module _ (contexts : List WasiSocketsCtx) (m : Machine) (line n : ℕ) where
       by_line true k = absurd (cc)
       by_line false k = refl
 
-  -- so it is no call of a stream
+  -- so it is no call that blocks
   by_none : stands_as m.store.standing n ≡ false → {other : Ids} {its : BlockingCall} → m.store.standing ≡ Some (standing_as other (StandingCall.Blocking its)) → other.line ≡ n → ⊥
   by_none none {other} on same = let k : stands_as m.store.standing n ≡ true = ap (λ (o : Option Standing). stands_as o n) on ∙ eq-eqb other.line n same in cc
 

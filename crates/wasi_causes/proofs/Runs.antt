@@ -27,11 +27,11 @@ use Rattle.wasi_causes.proofs.Words.{false, first_state}
 use Rattle.wasi_causes.proofs.Words.{if◌then◌else◌, inl, inr, is_connect, is_full, kind_at, machine_asks}
 use Rattle.wasi_causes.proofs.Words.{own_of, place_in, record_at, record_in, refl, run}
 use Rattle.wasi_causes.proofs.Words.{socket_at, subst, sym, true}
-use Rattle.wasi_causes.proofs.Words.{watch_of, watched_in}
+use Rattle.wasi_causes.proofs.Words.{watch_of, watched_in, ◌∷◌}
 use Rattle.wasi_causes.proofs.Words.{ℕ, ◌==◌, ◌≡◌, ◌⊎◌}
 use Rattle.wasi_causes.proofs.tables.Steps.{its_own}
-use Rattle.wasi_causes.specs.Outcomes.{Traps}
-use Rattle.wasi_causes.specs.Reached.{Finishes, MayFinish, ListensLate, HasRecord, HasUdpRecord, LacksInput, OfItsRecord, SpliceLacksInput}
+use Rattle.wasi_causes.specs.Outcomes.{InputIsThere, Traps}
+use Rattle.wasi_causes.specs.Reached.{Finishes, MayFinish, ListensLate, HasRecord, HasUdpRecord, OfItsRecord}
 use Rattle.wasi_host.specs.declared.listening.Listening.TheVariants as listening
 use Rattle.wasi_host.specs.declared.store.StandingCall.TheVariants as standing
 use Rattle.wasi_walks.proofs.fits.Law.{Fit, begins_fit, fits_along}
@@ -50,17 +50,23 @@ use Rattle.wasi_causes.proofs.Words.{HoldsConnect, wildcard}
 use Rattle.wasi_steps.specs.declared.reply.Reply.TheVariants as reply
 use Rattle.wasi_steps.specs.declared.step.Step.TheVariants as step
 use Rattle.wasi_tcp.specs.declared.socket.TcpState.TheVariants as state
-use Rattle.wasi_causes.proofs.Pending.{runs_keep_handles, runs_stand_well}
-use Rattle.wasi_causes.proofs.PipeHandles.{HasPipes, pipe_in_of, pipe_out_of, runs_have_pipes}
+use Rattle.wasi_causes.proofs.Pending.{Holds, inputs_are_there, runs_hold, runs_keep_sockets}
+use Rattle.wasi_causes.proofs.PipeHandles.{HasPipes, pipe_in_of, pipe_out_of}
 use Rattle.wasi_causes.proofs.streams.Live.{IsWellOn, StandsWell}
-use Rattle.wasi_causes.specs.Blocking.{StreamCallStands}
-use Rattle.wasi_host.specs.declared.blocking.BlockingCall.TheVariants as blocking
+use Rattle.wasi_world.specs.declared.ids.Ids.{Ids}
+use Rattle.wasi_host.specs.declared.blocking.BlockingCall.{BlockingCall}
+use Rattle.wasi_host.specs.Polling.{are_pollables}
+use Rattle.wasi_host.specs.Standing.{standing_as}
+use Rattle.wasi_causes.proofs.Watching.{runs_have_what_is_watched}
+use Rattle.wasi_causes.proofs.pollables.Steps.{all_there}
+use Rattle.wasi_causes.specs.Blocking.{IsCallOfStream, StreamCallStands}
+use Rattle.wasi_causes.specs.PollableCalls.{WatchedAreThere}
 use Rattle.wasi_host.specs.declared.kind.PlainInput.TheVariants as plain_input
 use Rattle.wasi_host.specs.declared.kind.PlainOutput.TheVariants as plain_output
 use Rattle.wasi_causes.proofs.Steady.{AsksToConnect, AsksToListen, IsThere, IsUdpThere, Steady, lookup_record_of, runs_are_steady}
-use Rattle.wasi_causes.specs.Datagrams.{LacksRoomForStreams, PendingHandleIsLive}
+use Rattle.wasi_causes.specs.Datagrams.{HasItsSocket, LacksRoomForStreams, PendingHandleIsLive}
 use Rattle.wasi_host.specs.declared.kind.Kind.TheVariants.{Incoming, Outgoing, PlainInput, PlainOutput, Network, ErrorValue}
-use Rattle.wasi_world.specs.declared.outcome.TrapKind.TheVariants.{Capacity, StreamsAlive, TooLong}
+use Rattle.wasi_world.specs.declared.outcome.TrapKind.TheVariants.{Capacity, StreamsAlive, EmptyList, TooLong}
 use Rattle.wasi_walks.proofs.fits.Records.{FitConnecting}
 use Rattle.wasi_walks.specs.Waiting.{IsUdpConnecting}
 
@@ -180,9 +186,9 @@ module _ (m : Machine) (i : Steady m) where
       by_place None q k = refl
       by_place (Some place) q k = let there : is_some (lookup_at m.store.records place) ≡ true = i.lookups handle place (its_record (kind_at m.table handle) place q) in let gone : is_some (lookup_at m.store.records place) ≡ false = ap (λ (o : Option NameLookup). is_some o) k in absurd (cc)
 
--- a pending call is in progress in its record, if it is of one, and on its streams, but for the input of a splice
+-- a pending call is in progress in its record, if it is of one, and on its streams
 module _ (m : Machine) (f : Fit (Over m)) (well : StandsWell m) where
-  on_nothing : (call : StandingCall) → FitCall m.store.records call → IsWellOn m call → IsOnNothing m call → LacksInput m call
+  on_nothing : (call : StandingCall) → FitCall m.store.records call → IsWellOn m call → IsOnNothing m call → ⊥
   on_nothing (standing.Bind place) h its none = let at = h.at in cc
   on_nothing (standing.Listen place) h its none = let at = h.at in cc
   on_nothing (standing.DropOutput place) h its none = none
@@ -191,27 +197,21 @@ module _ (m : Machine) (f : Fit (Over m)) (well : StandsWell m) where
   on_nothing (standing.UdpConnect place handle) h its (inl none) = let at : open_at m.store.records place ≡ Some h.was = ap open_of h.at in cc
   on_nothing (standing.UdpConnect place handle) h its (inr none) = cc
   on_nothing (standing.DropOutgoing place) h its none = none
-  on_nothing (standing.Blocking (blocking.Read input len)) h its none = its.0 none
-  on_nothing (standing.Blocking (blocking.Skip input len)) h its none = its.0 none
-  on_nothing (standing.Blocking (blocking.Write output rest)) h its none = its.0 none
-  on_nothing (standing.Blocking (blocking.Finish output)) h its none = its.0 none
-  on_nothing (standing.Blocking (blocking.Flush output)) h its none = its.0 none
-  on_nothing (standing.Blocking (blocking.Splice to from len)) h its (inl none) = absurd (its none)
-  on_nothing (standing.Blocking (blocking.Splice to from len)) h its (inr none) = none
+  on_nothing (standing.Blocking call) h its none = its.0 none
 
-  stands_on : (n : ℕ) → StandsOnNothing m n → SpliceLacksInput m
+  stands_on : (n : ℕ) → StandsOnNothing m n → ⊥
   stands_on n k = by_standing m.store.standing refl k
     where
-      by_standing : (o : Option Standing) → m.store.standing ≡ o → IsSomeAnd (call_of o n) (λ s. IsOnNothing m s.call) → SpliceLacksInput m
-      by_standing None e none = absurd none
+      by_standing : (o : Option Standing) → m.store.standing ≡ o → IsSomeAnd (call_of o n) (λ s. IsOnNothing m s.call) → ⊥
+      by_standing None e none = none
       by_standing (Some s) e none = by_line (s.ids.line == n) none
         where
           its_call : IsWellOn m s.call
           its_call = subst (λ (o : Option Standing). IfSome o (λ s. IsWellOn m s.call)) e well
 
-          by_line : (same : Bool) → IsSomeAnd (if same then Some s else None) (λ c. IsOnNothing m c.call) → SpliceLacksInput m
-          by_line true on = subst (λ (o : Option Standing). IsSomeAnd o (λ s. LacksInput m s.call)) (sym e) (on_nothing s.call (f.stands s e) its_call on)
-          by_line false on = absurd on
+          by_line : (same : Bool) → IsSomeAnd (if same then Some s else None) (λ c. IsOnNothing m c.call) → ⊥
+          by_line true on = on_nothing s.call (f.stands s e) its_call on
+          by_line false on = on
 
 -- == of a run
 abbrev pub Between : ℕ → List Entry → Machine → Type 0
@@ -224,14 +224,23 @@ module _ (contexts : List WasiSocketsCtx) (steps : List Step) (es : List Entry) 
   pub fits : Fit (Over m)
   fits = (run_ends contexts Anything Between (line_fits contexts) first_fit steps es replies m w).1
 
-  run_well : StandsWell m
-  run_well = runs_stand_well contexts steps es replies m w
+  run_holds : Holds m
+  run_holds = runs_hold contexts steps es replies m w
 
-  pub run_live : (SpliceLacksInput m → ⊥) → PendingHandleIsLive m
-  run_live = runs_keep_handles m run_well
+  run_well : StandsWell m
+  run_well = run_holds.0
+
+  pub run_live : PendingHandleIsLive m
+  run_live = run_well
+
+  pub runs_have_inputs : (handle : ℕ) → InputIsThere m handle
+  runs_have_inputs = inputs_are_there m run_holds.1.0 run_holds.1.1
+
+  pub run_socket : IfSome m.store.standing (λ s. HasItsSocket m s.call)
+  run_socket = runs_keep_sockets m run_well
 
   run_pipes : HasPipes m
-  run_pipes = runs_have_pipes contexts steps es replies m w
+  run_pipes = run_holds.1.1
 
   run_steady : Steady m
   run_steady = runs_are_steady contexts steps es replies m w
@@ -266,7 +275,7 @@ module _ (contexts : List WasiSocketsCtx) (steps : List Step) (es : List Entry) 
   pub runs_miss_no_lookup : (handle : ℕ) → found_lookup m handle ≡ None → lookup_number m handle ≡ None
   runs_miss_no_lookup = no_lookup_missing m run_steady
 
-  pub runs_stand_on_records : (n : ℕ) → StandsOnNothing m n → SpliceLacksInput m
+  pub runs_stand_on_records : (n : ℕ) → StandsOnNothing m n → ⊥
   runs_stand_on_records = stands_on m fits run_well
 
   pub runs_may_finish : (place : ℕ) (r : Tcp2Socket) → tcp2_at m.store.records place ≡ Some r → is_connect r.in_progress ≡ true → MayFinish r.inner.state
@@ -284,19 +293,56 @@ module _ (contexts : List WasiSocketsCtx) (steps : List Step) (es : List Entry) 
 
   -- why a poll traps
   abbrev PollTraps : TrapKind → Type 0
-  PollTraps kind = ((kind ≡ Full) × (((is_full m.table ≡ true) × IsSomeAnd m.store.standing (λ s. IsPendingCreate s.call)) ⊎ (IsSomeAnd m.store.standing (λ s. LacksRoomForStreams m s.call) ⊎ StreamCallStands m))) ⊎ ((kind ≡ NoSuchHandle) × SpliceLacksInput m)
+  PollTraps kind = (kind ≡ Full) × (((is_full m.table ≡ true) × IsSomeAnd m.store.standing (λ s. IsPendingCreate s.call)) ⊎ (IsSomeAnd m.store.standing (λ s. LacksRoomForStreams m s.call) ⊎ StreamCallStands m))
 
   full_alone : (line n : ℕ) (entries : List Entry) (kind : TrapKind) (after : Machine) → Traps contexts m line (step.Poll n) entries kind after → PollTraps kind
-  full_alone line n entries NoSuchHandle after h = inr (refl, stands_on m fits run_well n h.0)
+  full_alone line n entries NoSuchHandle after h = absurd (stands_on m fits run_well n h.0)
   full_alone line n entries HasChildren after h = absurd h.0
-  full_alone line n entries Full after h = inl (refl, h.2)
+  full_alone line n entries Full after h = (refl, h.2)
   full_alone line n entries NotPermitted after h = elim h.0 [ inl w ↦ absurd w | inr s ↦ absurd s ]
   full_alone line n entries StreamsAlive after h = absurd h.0
   full_alone line n entries Capacity after h = absurd h.0
   full_alone line n entries TooLong after h = absurd h.0
+  full_alone line n entries EmptyList after h = absurd h.0
   full_alone line n entries _ after h = absurd h
 
   -- a poll traps only where there is no room for the handle of a create, for those of datagram streams or for that of a stream's
-  -- error, or where the input of a splice isn't there
+  -- error
   pub polls_trap : (line n : ℕ) (entries : List Entry) (kind : TrapKind) (after : Machine) → Answered contexts m line (step.Poll n) entries (reply.Trap kind) after → PollTraps kind
   polls_trap line n entries kind after a = full_alone line n entries kind after (its_own contexts m line (step.Poll n) entries (reply.Trap kind) after a (λ e. cc)).1
+
+  -- a wait for several traps only where it is for none, or a handle of it is no pollable's
+  all_watched : (ps : List ℕ) → WatchedAreThere m ps
+  all_watched [] = tt
+  all_watched (p ∷ ps) = (runs_have_what_is_watched contexts steps es replies m w p, all_watched ps)
+
+  abbrev ListTraps : List ℕ → List Entry → Machine → Type 0
+  ListTraps ps entries after = ((ps ≡ []) ⊎ (are_pollables m ps ≡ false)) × (entries ≡ []) × (after ≡ m)
+
+  list_trap : (line ctx : ℕ) (ps : List ℕ) (entries : List Entry) (kind : TrapKind) (after : Machine) → Traps contexts m line (step.PollList ctx ps) entries kind after → ListTraps ps entries after
+  list_trap line ctx ps entries NoSuchHandle after h = let quiet = h.1 (all_watched ps) in (inr (none_there (are_pollables m ps) refl), quiet.0, quiet.1)
+    where
+      none_there : (b : Bool) → are_pollables m ps ≡ b → are_pollables m ps ≡ false
+      none_there true e = absurd (all_there m ps e (all_watched ps) h.0)
+      none_there false e = e
+  list_trap line ctx ps entries EmptyList after h = (inl h.0, h.1.0, h.1.1)
+  list_trap line ctx ps entries HasChildren after h = absurd h.0
+  list_trap line ctx ps entries Full after h = absurd h.0
+  list_trap line ctx ps entries NotPermitted after h = elim h.0 [ inl w ↦ absurd w | inr s ↦ absurd s ]
+  list_trap line ctx ps entries StreamsAlive after h = absurd h.0
+  list_trap line ctx ps entries Capacity after h = absurd h.0
+  list_trap line ctx ps entries TooLong after h = absurd h.0
+  list_trap line ctx ps entries _ after h = absurd h
+
+  pub lists_trap : (line ctx : ℕ) (ps : List ℕ) (entries : List Entry) (kind : TrapKind) (after : Machine) → Answered contexts m line (step.PollList ctx ps) entries (reply.Trap kind) after → ListTraps ps entries after
+  lists_trap line ctx ps entries kind after a = list_trap line ctx ps entries kind after (its_own contexts m line (step.PollList ctx ps) entries (reply.Trap kind) after a (λ e. cc)).1
+
+  -- a poll of a wait doesn't trap
+  waits_never_trap_by : (call : BlockingCall) → (IsCallOfStream call → ⊥) → ((is_full m.table ≡ true) × ⊥) ⊎ (⊥ ⊎ IsCallOfStream call) → ⊥
+  waits_never_trap_by call wait (inl h) = h.1
+  waits_never_trap_by call wait (inr (inl h)) = h
+  waits_never_trap_by call wait (inr (inr h)) = wait h
+
+  pub waits_never_trap : (line : ℕ) (ids : Ids) (call : BlockingCall) → m.store.standing ≡ Some (standing_as ids (standing.Blocking call)) → (IsCallOfStream call → ⊥) → (entries : List Entry) (kind : TrapKind) (after : Machine)
+      → Answered contexts m line (step.Poll ids.line) entries (reply.Trap kind) after → ⊥
+  waits_never_trap line ids call stands wait entries kind after a = let k = polls_trap line ids.line entries kind after a in waits_never_trap_by call wait (rw stands at k.1)

@@ -31,7 +31,7 @@ use Rattle.wasi_walks.proofs.Lists.{tcp2_front, tcp2_seam}
 use Rattle.wasi_walks.proofs.fits.Law.{told_same, whatever}
 use Rattle.wasi_walks.proofs.fits.Polls.{Anything}
 use Rattle.wasi_walks.proofs.walks.Law.{Law, BeginsWrites}
-use Rattle.wasi_walks.proofs.walks.Moves.{closed_record, Held, BindsOn, Connects, Here, put, Move, Changes, ClosesReader, Writes, IsGone, Reconnects, Opens, BeginsBind, BeginsConnect, BeginsWrite, StandsBlocking, CancelsBind, CancelsUdpBind, CancelsUdpConnect, Stands, Lists, Takes, BeginsListen, BeginsAccept, Unlistens, Forgets, Joins, Unstands, Listens, Awaits, listen_after, accepting_now, joined, IsConnecting, MakesPlain, Marks, APlain, AStream, AnAcceptedStream, APollable, record_of}
+use Rattle.wasi_walks.proofs.walks.Moves.{closed_record, Held, BindsOn, Connects, Here, put, Move, Changes, ClosesReader, Writes, IsGone, Reconnects, Opens, BeginsBind, BeginsConnect, BeginsWrite, StandsBlocking, CancelsBind, CancelsUdpBind, CancelsUdpConnect, Stands, Lists, Empties, Takes, BeginsListen, BeginsAccept, Unlistens, Forgets, Joins, Unstands, Listens, Awaits, listen_after, accepting_now, joined, IsConnecting, MakesPlain, Marks, APlain, AStream, AnAcceptedStream, APollable, record_of}
 use Rattle.wasi_walks.proofs.walks.Runs.{run_ends}
 use Rattle.wasi_walks.proofs.walks.Steps.{machine_walks}
 use Rattle.wasi_causes.proofs.operations.Polls.{Keeps, connect_leaves, listen_leaves}
@@ -171,6 +171,14 @@ module _ (of : Option Kind → Option ℕ) (none : of None ≡ None) (There : �
       by_kind None q e = let never = none in absurd (cc)
       by_kind (Some x) q e = live handle place (ap of (value_without t.live gone handle x q) ∙ e)
 
+taken_steady : (m : Machine) (handle : ℕ) → Steady m → Steady (record m { table = without_handle m.table handle })
+taken_steady m handle i = record {
+  records = i.records;
+  handles = where_taken record_of refl (IsThere m.store.records) m.table i.handles handle;
+  udps = where_taken udp_record_of refl (IsUdpThere m.store.records) m.table i.udps handle;
+  lookups = where_taken lookup_record_of refl (IsLookupThere m.store.records) m.table i.lookups handle;
+}
+
 made_steady : (es : List Entry) (m : Machine) (op : OpId) (kind : Kind) (parent : Option ℕ) (sock : Option OpId) → ((place : ℕ) → record_of (Some kind) ≡ Some place → IsThere m.store.records place) → ((place : ℕ) → udp_record_of (Some kind) ≡ Some place → IsUdpThere m.store.records place) → ((place : ℕ) → lookup_record_of (Some kind) ≡ Some place → IsLookupThere m.store.records place) → Steady m
     → Allows Anything (λ fs made. Steady (record m { table = made.1 })) es (make_asks m.table op kind parent sock)
 unfolding bind
@@ -220,6 +228,28 @@ asks_first : (a wildcard : IpSocketAddress) (bound : Bool) → AllOf IsAskOfConn
 asks_first a wildcard true = (tt, (tt, tt))
 asks_first a wildcard false = (tt, (tt, (tt, tt)))
 
+-- of no connection: a pipe, a sink or a closed stream
+abbrev pub IsPlain : Kind → Type 0
+IsPlain (PlainInput i) = ⊤
+IsPlain (PlainOutput o) = ⊤
+IsPlain _ = ⊥
+
+pub makes_plain : (s : Step) (kind : Kind) → MakesPlain s kind → IsPlain kind
+makes_plain s (PlainInput i) h = tt
+makes_plain s (PlainOutput o) h = tt
+makes_plain (Step.PipeIn c bytes) _ h = absurd h
+makes_plain (Step.PipeOut c capacity) _ h = absurd h
+makes_plain (Step.Sink c) _ h = absurd h
+makes_plain (Step.ClosedIn c) _ h = absurd h
+makes_plain (Step.ClosedOut c) _ h = absurd h
+makes_plain _ _ h = absurd h
+
+-- such is of no socket and of no lookup
+no_place : (kind : Kind) → IsPlain kind → (record_of (Some kind) ≡ None) × (udp_record_of (Some kind) ≡ None) × (lookup_record_of (Some kind) ≡ None)
+no_place (PlainInput i) h = (refl, refl, refl)
+no_place (PlainOutput o) h = (refl, refl, refl)
+no_place _ h = absurd h
+
 module _ (contexts : List WasiSocketsCtx) (line : ℕ) (origin : Step) where
   moves_steady : (h now : Here) → Move line origin h now → Steady h.machine → Steady now.machine
   moves_steady _ _ (Changes h place r now g p) i = put_steady h place r g now (λ c. subst MayFinish (sym p.does) (elim (p.connects c) [ inl k ↦ (i.records place r g).0 k | inr k ↦ connecting_may r.inner.state k ]), λ side d. p.listening ∙ (i.records place r g).1 side (sym p.does ∙ d), (subst AsksToConnect (sym p.does) (i.records place r g).2.0, subst (AsksToListen now.inner.state) (sym p.listening) (subst (λ (s : TcpState). AsksToListen s r.listening) (sym p.does) (i.records place r g).2.1))) i
@@ -232,7 +262,7 @@ module _ (contexts : List WasiSocketsCtx) (line : ℕ) (origin : Step) where
   moves_steady _ _ (BeginsBind h place r side a at g d to idle own) i = put_steady h place r g _ (λ c. absurd (cc), (i.records place r g).1, (i.records place r g).2) i
   moves_steady _ _ (BeginsWrite h place n r s half permit bytes at g e w within own) i = put_steady h place r g _ (i.records place r g) i
   moves_steady _ _ (BeginsListen h place r side at g d bound none to idle own) i = put_steady h place r g _ (λ k. tt, λ s e. absurd (cc), (tt, ((tt, (tt, tt)), refl, refl))) i
-  moves_steady _ _ (BeginsAccept h place r l at g e a own) i = put_steady h place r g _ (listens_on r l _ e (i.records place r g)) i
+  moves_steady _ _ (BeginsAccept h place n r l at g e a own) i = put_steady h place r g _ (listens_on r l _ e (i.records place r g)) i
   moves_steady _ _ (Unlistens h place r op q g e c o) i = put_steady h place r g _ ((i.records place r g).0, λ side d. refl, ((i.records place r g).2.0, tt)) i
   moves_steady _ _ (Forgets h place r l c g e a) i = put_steady h place r g _ (listens_on r l accepting.Idle e (i.records place r g)) i
   moves_steady _ _ (Joins h c handle place r l new peer is of u g e a) i =
@@ -254,12 +284,8 @@ module _ (contexts : List WasiSocketsCtx) (line : ℕ) (origin : Step) where
   moves_steady _ _ (CancelsUdpConnect h place o q g) i = put_udp_steady h place (Udp2Socket.Open o) g _ i
   moves_steady _ _ (Finds h records same) i = found_steady h records same i
   moves_steady _ _ (Lists h jobs) i = record { records = i.records; handles = i.handles; udps = i.udps; lookups = i.lookups }
-  moves_steady _ _ (Takes h handle) i = record {
-    records = i.records;
-    handles = where_taken record_of refl (IsThere h.machine.store.records) h.machine.table i.handles handle;
-    udps = where_taken udp_record_of refl (IsUdpThere h.machine.store.records) h.machine.table i.udps handle;
-    lookups = where_taken lookup_record_of refl (IsLookupThere h.machine.store.records) h.machine.table i.lookups handle;
-  }
+  moves_steady _ _ (Takes h handle none) i = taken_steady h.machine handle i
+  moves_steady _ _ (Empties h handle kind e none) i = taken_steady h.machine handle i
   moves_steady _ _ _ i = i
 
   -- == what is made
@@ -277,23 +303,12 @@ module _ (contexts : List WasiSocketsCtx) (line : ℕ) (origin : Step) where
   never_tcp (Watched.Output n) place udp e = cc
   never_tcp Watched.Plain place udp e = cc
 
-  -- what is of no connection is of no socket and of no lookup
-  no_place : (s : Step) (kind : Kind) → MakesPlain s kind → (record_of (Some kind) ≡ None) × (udp_record_of (Some kind) ≡ None) × (lookup_record_of (Some kind) ≡ None)
-  no_place s (PlainInput i) h = (refl, refl, refl)
-  no_place s (PlainOutput o) h = (refl, refl, refl)
-  no_place (Step.PipeIn c bytes) _ h = absurd h
-  no_place (Step.PipeOut c capacity) _ h = absurd h
-  no_place (Step.Sink c) _ h = absurd h
-  no_place (Step.ClosedIn c) _ h = absurd h
-  no_place (Step.ClosedOut c) _ h = absurd h
-  no_place _ _ h = absurd h
-
   marks_there : (h : Here) (kind : Kind) (parent : Option ℕ) (sock : Option OpId) → Marks origin h kind parent sock → Steady h.machine → (place : ℕ) → record_of (Some kind) ≡ Some place → IsThere h.machine.store.records place
-  marks_there h kind _ _ (AStream c handle its _ is two of) i place e = i.handles handle place (of ∙ ap (λ (x : ℕ). Some x) (one_of_two kind its place two e))
+  marks_there h kind _ _ (AStream c handle its _ is two of) i place e = i.handles handle place (ap record_of of.socket ∙ ap (λ (x : ℕ). Some x) (one_of_two kind its place two e))
   marks_there h kind _ _ (AnAcceptedStream c listener handle its _ r is two made own g) i place e = subst (IsThere h.machine.store.records) (one_of_two kind its place two e) (r, g)
-  marks_there h _ _ _ (APollable c handle w is tcp of) i place e = i.handles handle place (of ∙ (sym tcp ∙ e))
-  marks_there h _ _ _ (AUdpPollable c handle w is udp of) i place e = absurd (never_tcp w place udp e)
-  marks_there h _ _ _ (APlain kind makes) i place e = let none = (no_place origin kind makes).0 in absurd (cc)
+  marks_there h _ _ _ (APollable c handle w is tcp of by) i place e = i.handles handle place (of ∙ (sym tcp ∙ e))
+  marks_there h _ _ _ (AUdpPollable c handle w is udp of by) i place e = absurd (never_tcp w place udp e)
+  marks_there h _ _ _ (APlain kind makes) i place e = let none = (no_place kind (makes_plain origin kind makes)).0 in absurd (cc)
   marks_there h _ _ _ _ i place e = absurd (cc)
 
   -- of a stream, or of a pollable of a TCP socket, nothing is said of UDP sockets
@@ -314,9 +329,9 @@ module _ (contexts : List WasiSocketsCtx) (line : ℕ) (origin : Step) where
   udp_marks_there : (h : Here) (kind : Kind) (parent : Option ℕ) (sock : Option OpId) → Marks origin h kind parent sock → Steady h.machine → (place : ℕ) → udp_record_of (Some kind) ≡ Some place → IsUdpThere h.machine.store.records place
   udp_marks_there h kind _ _ (AStream c handle its _ is two of) i place e = absurd (no_udp kind its place two e)
   udp_marks_there h kind _ _ (AnAcceptedStream c listener handle its _ r is two made own g) i place e = absurd (no_udp kind its place two e)
-  udp_marks_there h _ _ _ (APollable c handle w is tcp of) i place e = absurd (no_udp_watch w place tcp e)
-  udp_marks_there h _ _ _ (AUdpPollable c handle w is udp of) i place e = i.udps handle place (of ∙ (sym udp ∙ e))
-  udp_marks_there h _ _ _ (APlain kind makes) i place e = let none = (no_place origin kind makes).1 in absurd (cc)
+  udp_marks_there h _ _ _ (APollable c handle w is tcp of by) i place e = absurd (no_udp_watch w place tcp e)
+  udp_marks_there h _ _ _ (AUdpPollable c handle w is udp of by) i place e = i.udps handle place (of ∙ (sym udp ∙ e))
+  udp_marks_there h _ _ _ (APlain kind makes) i place e = let none = (no_place kind (makes_plain origin kind makes)).1 in absurd (cc)
   udp_marks_there h _ _ _ _ i place e = absurd (cc)
 
   -- of a stream, or of a pollable of a socket, nothing is said of lookups
@@ -332,11 +347,11 @@ module _ (contexts : List WasiSocketsCtx) (line : ℕ) (origin : Step) where
   lookup_marks_there : (h : Here) (kind : Kind) (parent : Option ℕ) (sock : Option OpId) → Marks origin h kind parent sock → Steady h.machine → (place : ℕ) → lookup_record_of (Some kind) ≡ Some place → IsLookupThere h.machine.store.records place
   lookup_marks_there h kind _ _ (AStream c handle its _ is two of) i place e = absurd (no_lookup kind its place two e)
   lookup_marks_there h kind _ _ (AnAcceptedStream c listener handle its _ r is two made own g) i place e = absurd (no_lookup kind its place two e)
-  lookup_marks_there h _ _ _ (APollable c handle w is tcp of) i place e = absurd (no_lookup_watch w place (inl tcp) e)
-  lookup_marks_there h _ _ _ (AUdpPollable c handle w is udp of) i place e = absurd (no_lookup_watch w place (inr udp) e)
+  lookup_marks_there h _ _ _ (APollable c handle w is tcp of by) i place e = absurd (no_lookup_watch w place (inl tcp) e)
+  lookup_marks_there h _ _ _ (AUdpPollable c handle w is udp of by) i place e = absurd (no_lookup_watch w place (inr udp) e)
   lookup_marks_there h _ _ _ (ALookup c network its name is there) i place e = let same : its ≡ place = cc in subst (IsLookupThere h.machine.store.records) same there
   lookup_marks_there h _ _ _ (ALookupPollable c handle its is of) i place e = i.lookups handle place (ap lookup_record_of of ∙ e)
-  lookup_marks_there h _ _ _ (APlain kind makes) i place e = let none = (no_place origin kind makes).2 in absurd (cc)
+  lookup_marks_there h _ _ _ (APlain kind makes) i place e = let none = (no_place kind (makes_plain origin kind makes)).2 in absurd (cc)
   lookup_marks_there h _ _ _ _ i place e = absurd (cc)
 
   -- a socket that is created doesn't connect
@@ -410,7 +425,7 @@ module _ (contexts : List WasiSocketsCtx) (line : ℕ) (origin : Step) where
     stream_marks = λ es h place n handle kind made its of i. made_steady es h.machine (own_of n) kind (Some handle) (udp_side_at (udp2_at h.machine.store.records place)) (λ k p. absurd (no_tcp kind place k its p)) (both_there h.machine kind place its (i.udps handle place (udp_record _ place of))) (λ k p. absurd (no_stream_lookup kind place k its p)) i;
     udp_closes = λ es h place o q g i. (tt, λ told fits. put_udp_steady h place (Udp2Socket.Open o) g _ i);
     udp_creates = λ es h ctx family c may t o m i. (tt, λ told fits. begun_steady h (udp_after_create (own_of line) ctx.name family (told_done told)) i);
-    udp_marks = λ es h place u g i. made_steady es h.machine (udp_side u) (Udp2 place) None (Some (udp_side u)) (λ k p. absurd (cc)) (λ k p. let q : place ≡ k = cc in subst (IsUdpThere h.machine.store.records) q (u, g)) (λ k p. absurd (cc)) i;
+    udp_marks = λ es h place u g i. made_steady es h.machine (udp_side u) (Udp2 place) None (Some (udp_side u)) (λ k p. absurd (cc)) (λ k p. let q : place ≡ k = cc in subst (IsUdpThere h.machine.store.records) q (u, g.found)) (λ k p. absurd (cc)) i;
     error_marks = λ es h n handle place handles m k e f i. made_steady es h.machine (own_of n) ErrorValue (Some handle) (side_at (tcp2_at h.machine.store.records place)) (λ k p. absurd (cc)) (λ k p. absurd (cc)) (λ k p. absurd (cc)) i;
     udp_gives_up = λ es h place create q g i. whatever (λ done. Steady (put_udp h place (Udp2Socket.Closed create.operation.who.side)).machine) (λ done. put_udp_steady h place (Udp2Socket.Creating create) g _ i) es (create_cancel_asks create);
     lookups = λ es h host l i. (tt, λ told fits records same. found_steady h records same i);

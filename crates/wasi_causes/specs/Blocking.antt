@@ -1,6 +1,7 @@
 -- Calls of streams that block: each is made of others, and is pending where one of these gives nothing yet. The parts are steps of the
--- line that began it, also where a poll continues it.
-use Rattle.std.specs.Prelude.{◌≡◌, ◌≢◌, ◌⊎◌, ◌≤◌, ◌<◌, ℕ, suc, min, Bool, true, false, List, [], ◌∷◌, ◌++◌, length, take, drop, Some, IsSome, IsSomeAnd}
+-- line that began it, also where a poll continues it. How a poll continues a wait for pollables is said with these.
+pub use Rattle.wasi_causes.specs.PollableCalls.{waiting}
+use Rattle.std.specs.Prelude.{◌≡◌, ◌≢◌, ◌⊎◌, ◌≤◌, ◌<◌, ℕ, suc, min, Bool, true, false, List, [], ◌∷◌, ◌++◌, length, take, drop, IsSome, IsSomeAnd}
 use Rattle.wasi_world.specs.declared.call.Call.TheVariants as call
 use Rattle.wasi_world.specs.declared.call.Entry.{Entry}
 use Rattle.wasi_world.specs.declared.call.Told.TheVariants as told
@@ -11,29 +12,27 @@ use Rattle.wasi_world.specs.declared.outcome.WasiSocketsCtx.{WasiSocketsCtx}
 use Rattle.wasi_tcp.specs.declared.halves.TcpReceiveStream.{TcpReceiveStream}
 use Rattle.wasi_tcp.specs.declared.reader.ReadState.TheVariants as reading
 use Rattle.wasi_host.specs.declared.blocking.BlockingCall.{BlockingCall}
-use Rattle.wasi_host.specs.declared.blocking.BlockingCall.TheVariants.{Read, Skip, Write, Finish, Flush, Splice}
+use Rattle.wasi_host.specs.declared.blocking.BlockingCall.TheVariants.{Read, Skip, Write, Finish, Flush, Splice, Block, Poll}
 use Rattle.wasi_host.specs.declared.machine.Machine.{Machine}
+use Rattle.wasi_host.specs.declared.polling.Look.TheVariants.{Later}
 use Rattle.wasi_host.specs.declared.store.StandingCall.{StandingCall}
 use Rattle.wasi_host.specs.declared.store.StandingCall.TheVariants.{Blocking}
 use Rattle.wasi_host.specs.Kinds.{kind_at, is_writable}
 use Rattle.wasi_host.specs.Machine.{input_at, own_of}
-use Rattle.wasi_host.specs.Standing.{standing_as}
+use Rattle.wasi_host.specs.Names.{first_ids}
 use Rattle.wasi_host.specs.StreamCalls.{plain_input_at}
 use Rattle.wasi_steps.specs.declared.reply.Field.{Field}
 use Rattle.wasi_steps.specs.declared.reply.Reply.{Reply}
 use Rattle.wasi_steps.specs.declared.reply.Reply.TheVariants as reply
 use Rattle.wasi_steps.specs.declared.step.Step.{Step}
 use Rattle.wasi_steps.specs.declared.step.Step.TheVariants as step
-use Rattle.wasi_steps.specs.Reply.{bytes_fields, no_fields, number_fields}
+use Rattle.wasi_steps.specs.Reply.{bytes_fields, no_fields, number_fields, numbers_fields}
 use Rattle.wasi_walks.specs.Answered.{Answered, OfStreams, ReadsTold}
 use Rattle.wasi_walks.specs.Licence.{entry}
 use Rattle.wasi_walks.specs.Missing.{MissesInput, MissesStream}
 use Rattle.wasi_causes.specs.Plain.{TakesFront}
 use Rattle.wasi_causes.specs.Parts.{GivesNone, LacksStream, spliced_reply}
-
--- the machine, where this call is pending
-abbrev pub waiting : Machine → Ids → BlockingCall → Machine
-waiting m ids call = record m { store = record m.store { standing = Some (standing_as ids (Blocking call)) } }
+use Rattle.wasi_causes.specs.PollableCalls.{BlocksOn, WaitsOn, waiting}
 
 -- == a look at an input
 -- Whether there is something to read, and what was asked: an input of no connection is always ready, and so is one that is closed; of
@@ -138,21 +137,38 @@ BlocksAs contexts m c ids (Write output rest) es r after = WritesOn contexts c i
 BlocksAs contexts m c ids (Finish output) es r after = LooksLast contexts m c ids output es r after
 BlocksAs contexts m c ids (Flush output) es r after = FlushesOn contexts m c ids output es r after
 BlocksAs contexts m c ids (Splice to from len) es r after = SplicesOn contexts m c ids to from len es r after
+BlocksAs contexts m c ids (Block pollable) es r after = BlocksOn contexts m c ids pollable Later es r after
+BlocksAs contexts m c ids (Poll pollables) es r after = WaitsOn m (first_ids ids.line) pollables Later es r after
 
 -- what it gives where it is done
 abbrev pub GivesOf : BlockingCall → List Field → Type 0
 GivesOf (Read input len) fields = (bytes : List ℕ) × (fields ≡ bytes_fields bytes)
 GivesOf (Skip input len) fields = (n : ℕ) × (fields ≡ number_fields n)
 GivesOf (Splice to from len) fields = (n : ℕ) × (fields ≡ number_fields n)
+GivesOf (Poll pollables) fields = (first : ℕ) × (others : List ℕ) × (fields ≡ numbers_fields (first ∷ others))
 GivesOf _ fields = fields ≡ no_fields
 
 -- what it is on is there
 abbrev pub HasItsStreams : Machine → BlockingCall → Type 0
 HasItsStreams m call = MissesStream m call → ⊥
 
--- a call of a stream is pending
+-- it is no wait for pollables
+abbrev pub IsCallOfStream : BlockingCall → Type 0
+IsCallOfStream (Block pollable) = ⊥
+IsCallOfStream (Poll pollables) = ⊥
+IsCallOfStream _ = Unit {0}
+
+-- a call that blocks is pending
+abbrev pub IsBlocking : StandingCall → Type 0
+IsBlocking (Blocking call) = Unit {0}
+IsBlocking _ = ⊥
+
+abbrev pub BlockingCallStands : Machine → Type 0
+BlockingCallStands m = IsSomeAnd m.store.standing (λ s. IsBlocking s.call)
+
+-- one of a stream is
 abbrev pub IsOfStream : StandingCall → Type 0
-IsOfStream (Blocking call) = Unit {0}
+IsOfStream (Blocking call) = IsCallOfStream call
 IsOfStream _ = ⊥
 
 abbrev pub StreamCallStands : Machine → Type 0

@@ -54,7 +54,7 @@ pub record OutgoingGivenUp (m : Machine) (place : ℕ) (o : OpenUdp) (es : List 
   pub left : after ≡ record m { store = without_datagrams place (with_open_udp (nothing_stands m).store place (record o { outgoing = None })) }
   pub job : Has after.store.jobs (Datagram place) → ⊥
 
--- a bind and a connect leave nothing in progress; an output that waits stays as it is, and what a call of a stream has written
+-- a bind and a connect leave nothing in progress; an output that waits stays as it is, and what a call that blocks has written or begun
 abbrev pub CancelsBy : Machine → List Entry → Machine → StandingCall → Type 0
 CancelsBy m es after (Bind place) = (r : Tcp2Socket) → tcp2_at m.store.records place ≡ Some r → (es ≡ []) × (after ≡ putting (nothing_stands m) place (with_progress r doing.Nothing))
 CancelsBy m es after (Listen place) = (r : Tcp2Socket) → tcp2_at m.store.records place ≡ Some r → ListenGivenUp m place r es after

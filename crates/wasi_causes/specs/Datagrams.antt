@@ -82,12 +82,17 @@ abbrev pub LacksRoomForStreams : Machine → StandingCall → Type 0
 LacksRoomForStreams m (standing.UdpConnect place handle) = IsSomeAnd (udp_socket_at m handle) (λ its. LacksRoomForBoth m.table its handle)
 LacksRoomForStreams m _ = ⊥
 
--- where datagram streams are pending, the handle that they were asked of is that of their socket; and where a call of a stream is, it
--- is on streams that are there, and what isn't written yet is no more than one call may write
+-- where datagram streams are pending, the handle that they were asked of is that of their socket; and where a call that blocks is, what
+-- it is on is there, and what isn't written yet is no more than one call may write
 abbrev pub HasItsHandle : Machine → StandingCall → Type 0
 HasItsHandle m (standing.UdpConnect place handle) = udp_socket_at m handle ≡ Some place
 HasItsHandle m (standing.Blocking call) = HasItsStreams m call × IsShort call
 HasItsHandle m _ = ⊤
+
+-- of datagram streams alone
+abbrev pub HasItsSocket : Machine → StandingCall → Type 0
+HasItsSocket m (standing.UdpConnect place handle) = udp_socket_at m handle ≡ Some place
+HasItsSocket m _ = ⊤
 
 abbrev pub PendingHandleIsLive : Machine → Type 0
 PendingHandleIsLive m = IfSome m.store.standing (λ s. HasItsHandle m s.call)

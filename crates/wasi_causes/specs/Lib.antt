@@ -12,5 +12,6 @@ pub mod SendCauses
 pub mod Plain
 pub mod Parts
 pub mod Blocking
+pub mod PollableCalls
 pub mod Cancelled
 pub mod MayAnswer

@@ -6,7 +6,7 @@ use Rattle.wasi_addr.specs.declared.address.IpSocketAddress.{IpSocketAddress}
 use Rattle.wasi_addr.specs.declared.code.ErrorCode.{ErrorCode}
 use Rattle.wasi_world.specs.declared.datagram.IncomingDatagram.{IncomingDatagram}
 use Rattle.wasi_world.specs.declared.outcome.TrapKind.{TrapKind}
-use Rattle.wasi_world.specs.declared.outcome.TrapKind.TheVariants.{NoSuchHandle, HasChildren, Full, NotPermitted, StreamsAlive, Capacity, TooLong}
+use Rattle.wasi_world.specs.declared.outcome.TrapKind.TheVariants.{NoSuchHandle, HasChildren, Full, EmptyList, NotPermitted, StreamsAlive, Capacity, TooLong}
 use Rattle.wasi_machine.specs.Machine.{is_guest_call}
 use Rattle.wasi_steps.specs.declared.reply.CodeWord.{CodeWord}
 use Rattle.wasi_steps.specs.declared.reply.CodeWord.TheVariants as word
@@ -16,14 +16,15 @@ use Rattle.wasi_steps.specs.declared.reply.Reply.{Reply}
 use Rattle.wasi_steps.specs.declared.reply.Reply.TheVariants as reply
 use Rattle.wasi_steps.specs.declared.step.Step.{Step}
 use Rattle.wasi_steps.specs.declared.step.Step.TheVariants as step
-use Rattle.wasi_steps.specs.Replies.{FieldKind, ANumber, SomeBytes, Truth, Nothing, FieldKinds, Each, AnAddress, AnIpOrNone, ADatagramList, OneOf, kinds_of}
-use Rattle.wasi_steps.specs.Reply.{address_values, datagram_values, found_values}
+use Rattle.wasi_steps.specs.Replies.{FieldKind, ANumber, SomeBytes, Truth, Nothing, FieldKinds, Each, AnAddress, AnIpOrNone, ADatagramList, SomeNumbers, OfAPolledCall, polled_kinds, kinds_of}
+use Rattle.wasi_steps.specs.Reply.{address_values, datagram_values, found_values, numbers_fields}
 use Rattle.wasi_walks.specs.Answered.{word_of_code}
 use Rattle.wasi_walks.specs.Missing.{IsWrite, MakesHandle}
 use Rattle.wasi_walks.specs.Waiting.{IsPoll}
 use Rattle.wasi_causes.specs.Cancelled.{IsCancel}
 use Rattle.wasi_causes.specs.Datagrams.{IsUdpSend, IsUdpStream}
 use Rattle.wasi_causes.specs.GivenUp.{IsDrop}
+use Rattle.wasi_causes.specs.PollableCalls.{IsEmptyWait}
 
 -- == the fields of a reply that is done
 abbrev pub IsLike : FieldKind → Field → Type 0
@@ -43,14 +44,19 @@ abbrev pub LikeOneOf : List (List FieldKind) → List Field → Type 0
 LikeOneOf [] fields = ⊥
 LikeOneOf (kinds ∷ lists) fields = EachLike kinds fields ⊎ LikeOneOf lists fields
 
--- one of each of these kinds, or the numbers of an address, or those of one with no port, or none, or the fields of datagrams, or those
--- of one of these lists; nothing is said of widths
+-- numbers, one at least
+abbrev pub LikeNumbers : List Field → Type 0
+LikeNumbers fields = (first : ℕ) × (others : List ℕ) × (fields ≡ numbers_fields (first ∷ others))
+
+-- one of each of these kinds, or the numbers of an address, or those of one with no port, or none, or the fields of datagrams, or
+-- numbers, or those of a call that can be pending; nothing is said of widths
 abbrev pub AreLike : FieldKinds → List Field → Type 0
 AreLike (Each kinds) fields = EachLike kinds fields
 AreLike AnAddress fields = (a : IpSocketAddress) × (fields ≡ address_values a)
 AreLike AnIpOrNone fields = (found : Option IpAddress) × (fields ≡ found_values found)
 AreLike ADatagramList fields = (ds : List IncomingDatagram) × (fields ≡ datagram_values ds)
-AreLike (OneOf lists) fields = LikeOneOf lists fields
+AreLike SomeNumbers fields = LikeNumbers fields
+AreLike OfAPolledCall fields = LikeOneOf polled_kinds fields ⊎ LikeNumbers fields
 
 -- == the words of refusals
 -- The word of a code that the network may tell, or a test of the host's own answers.
@@ -135,6 +141,7 @@ MayTrap s NotPermitted = IsWrite s ⊎ IsUdpSend s
 MayTrap s StreamsAlive = IsUdpStream s
 MayTrap s Capacity = IsWrite s
 MayTrap s TooLong = IsBlockingWrite s
+MayTrap s EmptyList = IsEmptyWait s
 MayTrap s _ = ⊥
 
 -- under which number it may be pending
@@ -151,6 +158,8 @@ MayWait line (step.BlockingWrite ctx output bytes) n = n ≡ line
 MayWait line (step.BlockingZeroes ctx output len) n = n ≡ line
 MayWait line (step.BlockingFlush ctx output) n = n ≡ line
 MayWait line (step.BlockingSplice ctx to from len) n = n ≡ line
+MayWait line (step.Block ctx pollable) n = n ≡ line
+MayWait line (step.PollList ctx pollables) n = n ≡ line
 MayWait line (step.Poll call) n = n ≡ call
 MayWait line _ n = ⊥
 

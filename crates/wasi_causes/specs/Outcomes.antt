@@ -23,12 +23,14 @@ use Rattle.wasi_steps.specs.Reply.{bytes_fields}
 use Rattle.wasi_walks.specs.Answered.{Answered}
 use Rattle.wasi_walks.specs.Missing.{MissesInput, MissesHandle, MakesHandle, IsWrite}
 use Rattle.wasi_walks.specs.Waiting.{nothing_stands}
-use Rattle.wasi_causes.specs.Blocking.{BeginsToWrite, BlocksAs, IsShort, StreamCallStands}
+use Rattle.wasi_causes.specs.Blocking.{BeginsToWrite, BlockingCallStands, BlocksAs, IsShort, StreamCallStands}
 use Rattle.wasi_causes.specs.Cancelled.{CancelsBy, IsCancel}
 use Rattle.wasi_causes.specs.MayAnswer.{AreLike, IsBlockingWrite, IsCodeWord, IsStreamCall, MayRefuse}
 use Rattle.wasi_causes.specs.Parts.{Skips, Splices}
+use Rattle.wasi_causes.specs.PollableCalls.{BeginsToWait, BlocksOn, IsEmptyWait, WatchedAreThere}
+use Rattle.wasi_host.specs.declared.polling.Look.TheVariants.{First}
 use Rattle.wasi_causes.specs.Plain.{EndsCheck, EndsOutput, EndsPlain, InputPipeGone, MakesPlain, OfOutputPipe, OutputPipeGone, PastCapacity, PermitsPlain, PlainCheck, PlainFlush, PlainRead, PlainWrite, TakesFront, TakesNothing, WatchesPlain, WritesPlain}
-use Rattle.wasi_world.specs.declared.outcome.TrapKind.TheVariants.{Capacity, TooLong}
+use Rattle.wasi_world.specs.declared.outcome.TrapKind.TheVariants.{Capacity, EmptyList, TooLong}
 use Rattle.std.specs.Prelude.{◌≡◌, ◌⊎◌, ⊤, ℕ, ◌+◌, ◌<◌, Bool, true, List, [], ◌∷◌, ◌↔◌, false, length, Option, Some, None, IsSomeAnd}
 use Rattle.wasi_world.specs.declared.outcome.TrapKind.{TrapKind}
 use Rattle.wasi_world.specs.declared.outcome.TrapKind.TheVariants.{NoSuchHandle, HasChildren, Full, NotPermitted, StreamsAlive}
@@ -78,7 +80,7 @@ use Rattle.wasi_causes.specs.Turns.{IsOfJob}
 use Rattle.wasi_host.specs.DatagramCalls.{outgoing_ready}
 use Rattle.wasi_host.specs.Names.{next_name}
 use Rattle.wasi_causes.specs.SendCauses.{ReceivesSome, SendsSome, UdpReceiveRefusal, UdpSendRefusal}
-use Rattle.wasi_causes.specs.StreamCauses.{HasNewStreams, UdpStreamRefusal, StreamsStand}
+use Rattle.wasi_causes.specs.StreamCauses.{HasNewStreams, MakesStreams, UdpStreamRefusal, StreamsStand}
 use Rattle.wasi_causes.specs.Datagrams.{IsUdpSend, IsUdpStream, HasUdpStreams, IsSpent, OfIncoming, OfOutgoing, LacksRoomForBoth, MadeBoth, PermitsSend, PendingHandleIsLive, LacksRoomForStreams, IsReceiving, WatchesDatagrams, WatchesIncoming, WatchesOutgoing, OutgoingWaits, IncomingGone, OutgoingGone}
 use Rattle.wasi_causes.specs.Udp.{OfUdp, RefusedOfUdp, HasUdpInProgress, HasNoUdpBind, KeepsNoRemote, WatchesUdp, udp_create_entry, writable_entry, with_udp_record, new_udp, UdpCreateRefusal, CreatesUdp, CreateStands, KnowsUdpBound, UdpBindRefusal, BindsUdp, UdpBindStands, FinishesUdpBind, UdpLocalRefusal, TellsUdpLocal, TellsUdpRemote, UdpGetRefusal, GetsUdpOption, UdpSetRefusal, SetsUdpOption, udp_given_up, udp_shut, GivesBy, ClosesBy, IsPendingCreate}
 
@@ -106,20 +108,22 @@ AsksOnce line (Some (kind.Udp2 place)) es = ⊤
 AsksOnce line (Some (kind.Output place)) es = LooksOnce (own_of line) es
 AsksOnce line _ es = es ≡ []
 
--- What a turn leaves: the handles and the pending call as they were, each lookup as it was or as it was told, each pipe as it was, and
--- the streams of each connection that has them; and who asks in it.
+-- What a turn leaves: the handles and the pending call as they were, each lookup as it was or as it was told, each pipe as it was, each
+-- socket, and the streams of each connection that has them; and who asks in it.
 pub record Turns (m : Machine) (es : List Entry) (r : Reply) (after : Machine) : Type 0 where
   pub ok : r ≡ reply.Ok no_fields
   pub asked : (e : Entry) → Has es e → IsOfJob m e.op
   pub handles : after.table ≡ m.table
   pub pending : after.store.standing ≡ m.store.standing
   pub lookups : (place : ℕ) (l : Lookup) → lookup_at after.store.records place ≡ Some l → LookedOn m place es l
+  pub sockets : (place : ℕ) → IsSome (tcp2_at m.store.records place) → IsSome (tcp2_at after.store.records place)
+  pub opens : (place : ℕ) → IsSome (open_at m.store.records place) → IsSome (open_at after.store.records place)
   pub streams : (place : ℕ) → IsSome (streams_in (tcp2_at m.store.records place)) → IsSome (streams_in (tcp2_at after.store.records place))
   pub pipes : (place : ℕ) → (input_pipe_at after.store.records place ≡ input_pipe_at m.store.records place) × (output_pipe_at after.store.records place ≡ output_pipe_at m.store.records place)
 
--- a poll of a call of a stream that blocks continues it
-abbrev pub StreamGoesOn : List WasiSocketsCtx → Machine → ℕ → List Entry → Reply → Machine → Type 0
-StreamGoesOn contexts m n es r after = (c : ℕ) (ids : Ids) (call : BlockingCall) → m.store.standing ≡ Some (standing_as ids (standing.Blocking call)) → ids.line ≡ n → IsShort call → BlocksAs contexts (nothing_stands m) c ids call es r after
+-- a poll of a call that blocks continues it
+abbrev pub BlockedGoesOn : List WasiSocketsCtx → Machine → ℕ → List Entry → Reply → Machine → Type 0
+BlockedGoesOn contexts m n es r after = (c : ℕ) (ids : Ids) (call : BlockingCall) → m.store.standing ≡ Some (standing_as ids (standing.Blocking call)) → ids.line ≡ n → IsShort call → BlocksAs contexts (nothing_stands m) c ids call es r after
 
 -- a cancel finds no call exactly where none is pending under its number, and is done exactly where one is
 abbrev pub Cancels : Machine → ℕ → Reply → Type 0
@@ -151,6 +155,8 @@ Always contexts m line (step.BlockingWrite c output bytes) es r after = m.store.
 Always contexts m line (step.BlockingZeroes c output len) es r after = m.store.standing ≡ None → BeginsToWrite contexts m c (first_ids line) output len (zeros len) es r after
 Always contexts m line (step.BlockingFlush c output) es r after = m.store.standing ≡ None → BlocksAs contexts m c (first_ids line) (blocking.Flush output) es r after
 Always contexts m line (step.BlockingSplice c to from len) es r after = m.store.standing ≡ None → BlocksAs contexts m c (first_ids line) (blocking.Splice to from len) es r after
+Always contexts m line (step.Block c pollable) es r after = m.store.standing ≡ None → BlocksOn contexts m c (first_ids line) pollable First es r after
+Always contexts m line (step.PollList c pollables) es r after = BeginsToWait m line pollables es r after
 Always contexts m line (step.Cancel n) es r after = Cancels m n r
 Always contexts m line (step.Ready c p) es r after = (WatchesIdle m p → ReadyAtOnce m es r after) × (WatchesUdp m p → ReadyAtOnce m es r after) × (WatchesPlain m p → ReadyAtOnce m es r after) × ((place : ℕ) → WatchesOutgoing m p place → (r ≡ reply.Ok (truth_fields (outgoing_ready (open_at m.store.records place)))) × Quiet m es after) × ((place : ℕ) → WatchesIncoming m p place → r ≡ reply.Ok (truth_fields false) → IsReceiving (open_at after.store.records place)) × ((place : ℕ) → WatchesLookup m p place → (r ≡ reply.Ok (truth_fields (lookup_ready (lookup_at m.store.records place)))) × Quiet m es after)
 Always contexts m line (step.Drop c h) es r after = ((r ≡ reply.Trap HasChildren) ↔ HasLiveChildren m h) × AsksOnce line (kind_at m.table h) es
@@ -169,7 +175,7 @@ Always contexts m line (step.Resolve c n name) es r after = OnlyWhere (context_a
 Always contexts m line (step.ResolveNext c h) es r after = TellsNext (found_lookup m h) es r
 Always contexts m line (step.NetworkErrorCode c e) es r after = Quiet m es after
 Always contexts m line step.Turn es r after = Turns m es r after
-Always contexts m line (step.Poll n) es r after = ((r ≡ reply.NoSuchCall) ↔ (stands_as m.store.standing n ≡ false)) × (stands_as m.store.standing n ≡ true → (r ≡ reply.Pending n) ⊎ (after.store.standing ≡ None)) × StreamGoesOn contexts m n es r after
+Always contexts m line (step.Poll n) es r after = ((r ≡ reply.NoSuchCall) ↔ (stands_as m.store.standing n ≡ false)) × (stands_as m.store.standing n ≡ true → (r ≡ reply.Pending n) ⊎ (after.store.standing ≡ None)) × BlockedGoesOn contexts m n es r after
 Always contexts m line _ es r after = ⊤
 
 -- == done
@@ -240,7 +246,7 @@ Done contexts m line (step.UdpRemoteAddress c s) es fields after = OfUdp m s (λ
 Done contexts m line (step.UdpAddressFamily c s) es fields after = OfUdp m s (λ place o. fields ≡ family_fields o.inner.family)
 Done contexts m line (step.UdpGet c s option) es fields after = OfUdp m s (λ place o. GetsUdpOption (own_of line) (udp_opt option) o fields es)
 Done contexts m line (step.UdpSet c s setting) es fields after = OfUdp m s (λ place o. SetsUdpOption (own_of line) setting o es)
-Done contexts m line (step.UdpStream c s remote) es fields after = MadeBoth m s fields after × OfUdp m s (λ place o. HasNewStreams place after)
+Done contexts m line (step.UdpStream c s remote) es fields after = MadeBoth m s fields after × (OfUdp m s (λ place o. HasNewStreams place after) × OfUdp m s (λ place o. MakesStreams m (own_of line) s place o remote es after))
 Done contexts m line (step.UdpReceive c s most) es fields after = ReceivesSome most fields
 Done contexts m line (step.UdpSend c s datagrams) es fields after = SendsSome datagrams fields × (0 < length datagrams → IsSpent after s)
 Done contexts m line (step.UdpCheckSend c s) es fields after = OfOutgoing m (outgoing_at m s) (λ place o out. PermitsSend m place o out fields after)
@@ -276,8 +282,8 @@ Refused contexts m line (step.UdpFinishBind c s) es w after = after ≡ m
 Refused contexts m line (step.UdpLocalAddress c s) es w after = RefusedOfUdp m s (UdpLocalRefusal m (own_of line)) es w after × ((after ≡ m) ⊎ KnowsUdpBound m s after)
 Refused contexts m line (step.UdpGet c s option) es w after = OfUdp m s (λ place o. UdpGetRefusal (own_of line) (udp_opt option) o es w)
 Refused contexts m line (step.UdpSet c s setting) es w after = OfUdp m s (λ place o. UdpSetRefusal (own_of line) setting o es w)
-Refused contexts m line (step.UdpReceive c s most) es w after = OfIncoming m (incoming_at m s) (λ place o inc. UdpReceiveRefusal (next_name (first_ids line)) o inc es w)
-Refused contexts m line (step.UdpSend c s datagrams) es w after = OfOutgoing m (outgoing_at m s) (λ place o out. UdpSendRefusal (next_name (first_ids line)) datagrams o out es w) × IsSpent after s
+Refused contexts m line (step.UdpReceive c s most) es w after = OfIncoming m (incoming_at m s) (λ place o inc. UdpReceiveRefusal m (next_name (first_ids line)) place o inc es w after)
+Refused contexts m line (step.UdpSend c s datagrams) es w after = OfOutgoing m (outgoing_at m s) (λ place o out. UdpSendRefusal m (next_name (first_ids line)) place datagrams o out es w after) × IsSpent after s
 Refused contexts m line (step.UdpStream c s remote) es w after = RefusedOfUdp m s (λ place o. UdpStreamRefusal m (own_of line) place o remote) es w after
 Refused contexts m line (step.Resolve c n name) es w after = ResolveRefusal (own_of line) (context_at contexts c) name es w × (after ≡ m)
 Refused contexts m line (step.ResolveNext c h) es w after = after ≡ m
@@ -311,7 +317,7 @@ Pends contexts m line (step.Drop c h) es after = (after.table ≡ without_handle
 Pends contexts m line (step.UdpCreate c family) es after = CreateStands m line (own_of line) (context_at contexts c) family es after
 Pends contexts m line (step.UdpStartBind c s n a) es after = OfUdp m s (λ place o. UdpBindStands m line (own_of line) place o a es after)
 Pends contexts m line (step.UdpStream c s remote) es after = (after.table ≡ m.table) × OfUdp m s (λ place o. StreamsStand m line s place o remote es after)
-Pends contexts m line (step.Poll n) es after = (PendingCallsFit m → StandingWaits m (own_of n) es) × (after.table ≡ m.table) × ((StreamCallStands m → ⊥) → after.store.standing ≡ m.store.standing)
+Pends contexts m line (step.Poll n) es after = (PendingCallsFit m → StandingWaits m (own_of n) es) × (after.table ≡ m.table) × ((BlockingCallStands m → ⊥) → after.store.standing ≡ m.store.standing)
 Pends contexts m line s es after = ⊤
 
 -- == traps
@@ -337,20 +343,22 @@ LeftFull contexts m line (step.Poll n) es after = ((is_full m.table ≡ true) ×
 LeftFull contexts m line s es after = ⊤
 
 -- where a handle is missed nothing was asked, and the machine is as it was; a poll leaves nothing pending: that is said where the
--- handle of pending datagram streams is live; and of a splice it is said where its input, if it is one, is there, since the look at
--- its output comes before
+-- handle of pending datagram streams is live; of a splice it is said where its input, if it is one, is there, since the look at
+-- its output comes before; and of a wait for several pollables where what each of them watches is there, since the looks at others do
 abbrev pub InputIsThere : Machine → ℕ → Type 0
 InputIsThere m from = is_readable (kind_at m.table from) ≡ true → MissesInput m from → ⊥
 
-abbrev pub InputOfSpliceIsThere : Machine → Step → Type 0
-InputOfSpliceIsThere m (step.Splice c to from len) = InputIsThere m from
-InputOfSpliceIsThere m (step.BlockingSplice c to from len) = InputIsThere m from
-InputOfSpliceIsThere m s = ⊤
+abbrev pub LaterPartIsThere : Machine → Step → Type 0
+LaterPartIsThere m (step.Splice c to from len) = InputIsThere m from
+LaterPartIsThere m (step.BlockingSplice c to from len) = InputIsThere m from
+LaterPartIsThere m (step.PollList c pollables) = WatchedAreThere m pollables
+LaterPartIsThere m s = ⊤
 
 abbrev pub LeavesMissing : Machine → Step → List Entry → Machine → Type 0
 LeavesMissing m (step.Poll n) es after = PendingHandleIsLive m → (es ≡ []) × (after ≡ left_missing m (step.Poll n))
 LeavesMissing m (step.Splice c to from len) es after = InputIsThere m from → Quiet m es after
 LeavesMissing m (step.BlockingSplice c to from len) es after = InputIsThere m from → Quiet m es after
+LeavesMissing m (step.PollList c pollables) es after = WatchedAreThere m pollables → Quiet m es after
 LeavesMissing m s es after = (es ≡ []) × (after ≡ left_missing m s)
 
 abbrev pub Traps : List WasiSocketsCtx → Machine → ℕ → Step → List Entry → TrapKind → Machine → Type 0
@@ -361,6 +369,7 @@ Traps contexts m line s es NotPermitted after = (IsWrite s ⊎ IsUdpSend s) × Q
 Traps contexts m line s es StreamsAlive after = IsUdpStream s × Quiet m es after
 Traps contexts m line s es Capacity after = IsWrite s × Quiet m es after
 Traps contexts m line s es TooLong after = IsBlockingWrite s × Quiet m es after
+Traps contexts m line s es EmptyList after = IsEmptyWait s × Quiet m es after
 Traps contexts m line s es _ after = ⊥
 
 -- == the table: what the step of this line was answered, what it replies, and the machine afterwards

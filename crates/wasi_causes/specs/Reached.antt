@@ -1,5 +1,5 @@
 -- What holds of every machine that the lines of a script lead to.
-use Rattle.std.specs.Prelude.{◌≡◌, ⊤, ℕ, true, false, IfSome, IsSome, IsSomeAnd}
+use Rattle.std.specs.Prelude.{◌≡◌, ⊤, ℕ, true, false, IfSome, IsSome}
 use Rattle.wasi_world.specs.declared.ids.OpId.{OpId}
 use Rattle.wasi_tcp.specs.declared.socket.TcpState.{TcpState}
 use Rattle.wasi_tcp.specs.declared.socket.TcpState.TheVariants as state
@@ -14,11 +14,7 @@ use Rattle.wasi_host.specs.declared.machine.Machine.{Machine}
 use Rattle.wasi_host.specs.declared.socket.Tcp2Socket.{Tcp2Socket}
 use Rattle.wasi_host.specs.Kinds.{place_in}
 use Rattle.wasi_host.specs.InProgress.{is_connect}
-use Rattle.wasi_host.specs.declared.blocking.BlockingCall.TheVariants as blocking
-use Rattle.wasi_host.specs.declared.store.StandingCall.{StandingCall}
-use Rattle.wasi_host.specs.declared.store.StandingCall.TheVariants as standing
 use Rattle.wasi_walks.specs.Answered.{record_at}
-use Rattle.wasi_walks.specs.Missing.{MissesInput}
 
 -- == records
 abbrev pub HasRecord : Machine → ℕ → Type 0
@@ -84,12 +80,3 @@ ListensLate r = (side : OpId) → r.inner.state ≡ state.Default side → r.lis
 
 abbrev pub ListensLateAt : Machine → ℕ → Type 0
 ListensLateAt m handle = IfSome (record_at m handle) ListensLate
-
--- == a splice that is pending
--- its input isn't there: neither a pipe nor streams of a connection
-abbrev pub LacksInput : Machine → StandingCall → Type 0
-LacksInput m (standing.Blocking (blocking.Splice to from len)) = MissesInput m from
-LacksInput m _ = ⊥
-
-abbrev pub SpliceLacksInput : Machine → Type 0
-SpliceLacksInput m = IsSomeAnd m.store.standing (λ s. LacksInput m s.call)

@@ -1,5 +1,5 @@
 -- Why a datagram isn't sent, and why none is received.
-use Rattle.std.specs.Prelude.{◌≡◌, ℕ, ◌≤◌, Bool, true, false, not, ◌&&◌, List, [], ◌∷◌, ◌++◌, length}
+use Rattle.std.specs.Prelude.{◌≡◌, ℕ, ◌≤◌, Bool, true, false, not, ◌&&◌, List, [], ◌∷◌, ◌++◌, Some, length}
 use Rattle.wasi_addr.specs.declared.address.IpSocketAddress.{IpSocketAddress}
 use Rattle.wasi_addr.specs.declared.address.SocketAddrUse.{SocketAddrUse}
 use Rattle.wasi_addr.specs.declared.code.ErrorCode.{ErrorCode}
@@ -19,6 +19,7 @@ use Rattle.wasi_host.specs.declared.datagrams.Incoming.{Incoming}
 use Rattle.wasi_host.specs.declared.datagrams.Outgoing.{Outgoing}
 use Rattle.wasi_host.specs.declared.datagrams.Receiving.TheVariants as receiving
 use Rattle.wasi_host.specs.declared.datagrams.Sending.TheVariants as sending
+use Rattle.wasi_host.specs.declared.machine.Machine.{Machine}
 use Rattle.wasi_host.specs.declared.udp.OpenUdp.{OpenUdp}
 use Rattle.wasi_steps.specs.declared.reply.CodeWord.{CodeWord}
 use Rattle.wasi_steps.specs.declared.reply.Field.{Field}
@@ -26,12 +27,17 @@ use Rattle.wasi_steps.specs.Reply.{datagram_values, number_fields}
 use Rattle.wasi_walks.specs.Answered.{word_of_code}
 use Rattle.wasi_walks.specs.Licence.{Has, entry}
 use Rattle.wasi_walks.specs.Waiting.{EndsWith}
-use Rattle.wasi_causes.specs.Udp.{IsUdpBound, IsUdpUnbound, udp_local_entry}
+use Rattle.wasi_causes.specs.Udp.{IsUdpBound, IsUdpUnbound, putting_udp, udp_local_entry}
 
 -- Whether a socket is bound, and what was asked of that.
 pub data BoundSo (own : OpId) (socket : Socket) : List Entry → Bool → Type 0 where
   IsBoundSo : (asked : List Entry) → IsUdpBound own socket asked → BoundSo own socket asked true
   IsFreeSo : (local : Told) → IsUdpUnbound socket local → BoundSo own socket (udp_local_entry own socket local ∷ []) false
+
+-- the socket then: one that was found bound is known to be
+abbrev pub found_so : Bool → Socket → Socket
+found_so true socket = record socket { bound = true }
+found_so false socket = socket
 
 -- == a send
 -- A datagram ended with a code: it can't be sent so, and nothing was asked; or a check of it was answered no; or it was for a remote
@@ -46,12 +52,18 @@ pub data DatagramFails (op : Operation) (entries : List Entry) : ErrorCode → T
 abbrev pub first_send : OpId → OpenUdp → OutgoingDatagram → Bool → Operation
 first_send own o d bound = at_remote o.inner.remote (send_start own o.inner d.bytes d.remote_address bound)
 
+-- the socket of a send that is refused, with this network socket: nothing is permitted on the stream, nothing is in the background,
+-- and no code waits there
+abbrev pub unsent : OpenUdp → Outgoing → Socket → OpenUdp
+unsent o out inner = record o { inner = inner; outgoing = Some (record out { permit = 0; sending = sending.Nothing }) }
+
 -- A send is refused: a datagram before it failed in the background with the code, and nothing is asked; or nothing was in the
--- background, and its own first datagram ended with the code.
-pub data UdpSendRefusal (own : OpId) (datagrams : List OutgoingDatagram) (o : OpenUdp) (out : Outgoing) : List Entry → CodeWord → Type 0 where
-  FailedBefore : (c : ErrorCode) → out.sending ≡ sending.Failed c → UdpSendRefusal own datagrams o out [] (word_of_code c)
+-- background, and its own first datagram ended with the code. Of a socket that was found bound that is kept; else the machine is as it
+-- was but for the stream.
+pub data UdpSendRefusal (m : Machine) (own : OpId) (place : ℕ) (datagrams : List OutgoingDatagram) (o : OpenUdp) (out : Outgoing) : List Entry → CodeWord → Machine → Type 0 where
+  FailedBefore : (c : ErrorCode) → out.sending ≡ sending.Failed c → UdpSendRefusal m own place datagrams o out [] (word_of_code c) (putting_udp m place (unsent o out o.inner))
   FirstFails : (d : OutgoingDatagram) (more : List OutgoingDatagram) (asked polled : List Entry) (bound : Bool) (c : ErrorCode) → datagrams ≡ d ∷ more → out.sending ≡ sending.Nothing → BoundSo own o.inner asked bound → DatagramFails (first_send own o d bound) polled c
-      → UdpSendRefusal own datagrams o out (asked ++ polled) (word_of_code c)
+      → UdpSendRefusal m own place datagrams o out (asked ++ polled) (word_of_code c) (putting_udp m place (unsent o out (found_so bound o.inner)))
 
 -- So many datagrams were sent, or aren't sent yet: at most all of them.
 pub record SendsSome (datagrams : List OutgoingDatagram) (fields : List Field) : Type 0 where
@@ -70,12 +82,17 @@ pub data ReceiveFails (op : Operation) (entries : List Entry) : ErrorCode → Ty
 abbrev pub first_receive : OpId → OpenUdp → Incoming → Bool → Operation
 first_receive own o inc bound = wanting inc.remote (receive_start own o.inner bound)
 
+-- the socket of a receive that is refused, with this network socket: none is in progress, and nothing waits to be taken
+abbrev pub unreceived : OpenUdp → Incoming → Socket → OpenUdp
+unreceived o inc inner = record o { inner = inner; incoming = Some (record inc { receiving = receiving.Nothing }) }
+
 -- A receive is refused: one before it failed with the code, which wasn't taken, and nothing is asked; or none was in progress and
--- none had ended, and the one that began ended with the code.
-pub data UdpReceiveRefusal (own : OpId) (o : OpenUdp) (inc : Incoming) : List Entry → CodeWord → Type 0 where
-  ReceiveFailedBefore : (c : ErrorCode) → inc.receiving ≡ receiving.Failed c → UdpReceiveRefusal own o inc [] (word_of_code c)
+-- none had ended, and the one that began ended with the code. The code is taken, and of a socket that was found bound that is kept; else
+-- the machine is as it was.
+pub data UdpReceiveRefusal (m : Machine) (own : OpId) (place : ℕ) (o : OpenUdp) (inc : Incoming) : List Entry → CodeWord → Machine → Type 0 where
+  ReceiveFailedBefore : (c : ErrorCode) → inc.receiving ≡ receiving.Failed c → UdpReceiveRefusal m own place o inc [] (word_of_code c) (putting_udp m place (unreceived o inc o.inner))
   FirstReceiveFails : (asked polled : List Entry) (bound : Bool) (c : ErrorCode) → inc.receiving ≡ receiving.Nothing → BoundSo own o.inner asked bound → ReceiveFails (first_receive own o inc bound) polled c
-      → UdpReceiveRefusal own o inc (asked ++ polled) (word_of_code c)
+      → UdpReceiveRefusal m own place o inc (asked ++ polled) (word_of_code c) (putting_udp m place (unreceived o inc (found_so bound o.inner)))
 
 -- These datagrams were received: at most as many as were wanted, and at most 16.
 pub record ReceivesSome (most : ℕ) (fields : List Field) : Type 0 where

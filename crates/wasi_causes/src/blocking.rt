@@ -6,12 +6,14 @@ ghost use Rattle.std.specs.Prelude.{◌≡◌, ◌↔◌, ◌⊎◌, ℕ, true, 
 ghost use Rattle.wasi_world.specs.declared.call.Entry.{Entry};
 ghost use Rattle.wasi_world.specs.declared.ids.Ids.{Ids};
 ghost use Rattle.wasi_world.specs.declared.outcome.WasiSocketsCtx.{WasiSocketsCtx};
+ghost use Rattle.wasi_world.specs.Asks.{Give, Left};
 ghost use Rattle.wasi_streams.specs.Streams.{zeros};
 ghost use Rattle.wasi_host.specs.declared.blocking.BlockingCall.{BlockingCall};
 ghost use Rattle.wasi_host.specs.declared.machine.Machine.{Machine};
 ghost use Rattle.wasi_host.specs.declared.store.StandingCall.{StandingCall};
+ghost use Rattle.wasi_host.specs.Machine.{first_state};
 ghost use Rattle.wasi_host.specs.Standing.{standing_as, stands_as};
-ghost use Rattle.wasi_machine.specs.Machine.{first_ids};
+ghost use Rattle.wasi_machine.specs.Machine.{first_ids, run};
 ghost use Rattle.wasi_steps.specs.declared.reply.CodeWord.{CodeWord};
 ghost use Rattle.wasi_steps.specs.declared.reply.Field.{Field};
 ghost use Rattle.wasi_steps.specs.declared.reply.Reply.{Reply};
@@ -21,6 +23,7 @@ ghost use Rattle.wasi_walks.specs.Answered.{Answered};
 ghost use Rattle.wasi_walks.specs.Waiting.{nothing_stands};
 ghost use Rattle.wasi_causes.specs.Blocking.{BeginsToWrite, BlocksAs, EndsByRead, IsShort, StreamCallStands};
 ghost use Rattle.wasi_causes.specs.Cancelled.{CancelsBy};
+ghost use Rattle.wasi_causes.specs.Datagrams.{PendingHandleIsLive};
 
 /// A call of a stream that blocks is made of others: a read and a skip look whether there is something to read, and read then; a
 /// write is made in rounds of a look at what may be written and a write of so much, and flushed and looked at once more; a flush is
@@ -42,10 +45,11 @@ pub fn calls_that_block_are_their_parts()
         → m.store.standing ≡ None → Answered contexts m line (Step.BlockingSplice ctx to from len) entries reply after → BlocksAs contexts m ctx (first_ids line) (BlockingCall.Splice to from len) entries reply after }
 {}
 
-/// A poll of a pending call of a stream continues it, as if nothing were pending, and by the names of the line that began it: a read, a
-/// skip, a flush and a splice begin anew, and a write goes on with what isn't written yet, or with its last look. That is said of a
+/// A poll of a pending call that blocks continues it, as if nothing were pending, and by the names of the line that began it: a read, a
+/// skip, a flush and a splice begin anew, a write goes on with what isn't written yet, or with its last look, and a wait for pollables
+/// looks again, of which `waiting` says more. That is said of a
 /// write of which no more is left than one call may write, as it is after any lines. It is at an end, or fails with an error, only
-/// where such a call is pending.
+/// where a call of a stream is pending.
 pub fn polls_continue_calls_of_streams()
     ensures goes_on { (contexts : List WasiSocketsCtx) (m : Machine) (line ctx : ℕ) (ids : Ids) (call : BlockingCall) (entries : List Entry) (reply : Reply) (after : Machine)
         → m.store.standing ≡ Some (standing_as ids (StandingCall.Blocking call)) → IsShort call → Answered contexts m line (Step.Poll ids.line) entries reply after
@@ -67,11 +71,18 @@ pub fn blocking_reads_hand_out_what_was_told()
         → EndsByRead (nothing_stands m) ids.line input len (b ∷ bytes) entries after }
 {}
 
+/// After the lines of any script, a call of a stream that is pending is on streams that are there, with 4096 bytes at most left to
+/// write, a wait that is pending is for pollables that watch what is there, and pending datagram streams have their handle.
+pub fn pending_calls_have_their_streams()
+    ensures { (contexts : List WasiSocketsCtx) (steps : List Step) (log : List Entry) (replies : List Reply) (m : Machine)
+        → Left (run contexts [] first_state 1 steps) log (Give (replies, m)) → PendingHandleIsLive m }
+{}
+
 /// A cancel finds no such call exactly where none is pending under its number, and asks nothing then and leaves the machine; it is done
 /// exactly where one is, and nothing is pending then and each handle is live as before. What was pending is given up: a bind and a
 /// connect leave their socket as it was with none in progress; a listen and a create close their network socket, and leave the socket
 /// closed and no handle; the drop of an outgoing datagram stream loses its datagram, which no turn sends any more; and the drop of an
-/// output and a call of a stream leave all as it was.
+/// output, a call of a stream and a wait for pollables leave all as it was.
 pub fn cancels_give_up_their_call()
     ensures none { (contexts : List WasiSocketsCtx) (m : Machine) (line n : ℕ) (entries : List Entry) (reply : Reply) (after : Machine)
         → Answered contexts m line (Step.Cancel n) entries reply after → (reply ≡ Reply.NoSuchCall) ↔ (stands_as m.store.standing n ≡ false) }

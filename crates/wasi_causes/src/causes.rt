@@ -1,7 +1,7 @@
 //! Laws over the definitions of specs/ that say where each answer of a step comes from, and what is left after a refusal:
 //! each is a function that does nothing, whose contract is the law. A socket is a TCP socket here, where nothing else is said;
-//! the calls of streams are in `stream_calls` and `blocking`, the steps of UDP sockets in `udp`, those of their datagram streams in
-//! `datagrams`, and those of lookups in `lookups`.
+//! the calls of streams are in `stream_calls` and `blocking`, waits for pollables in `waiting`, the steps of UDP sockets in `udp`, those
+//! of their datagram streams in `datagrams`, and those of lookups in `lookups`.
 
 ghost use Rattle.std.specs.Prelude.{◌≡◌, ◌↔◌, ◌⊎◌, ℕ, ◌+◌, true, false, List, [], ◌∷◌, length, IsSome, IsSomeAnd, Some, None, slice_get};
 ghost use Rattle.wasi_addr.specs.declared.address.IpSocketAddress.{IpSocketAddress};
@@ -28,18 +28,19 @@ ghost use Rattle.wasi_walks.specs.Answered.{Answered, ConnectsAt, CreateRefusal,
 ghost use Rattle.wasi_walks.specs.Missing.{IsWrite, MakesHandle, MissesHandle, StandsOnNothing};
 ghost use Rattle.wasi_causes.specs.Blocking.{StreamCallStands};
 ghost use Rattle.wasi_causes.specs.Cancelled.{IsCancel};
-ghost use Rattle.wasi_causes.specs.Outcomes.{may_answer, EachMayAnswer, InputOfSpliceIsThere, IsBlockingWrite, Outcome};
+ghost use Rattle.wasi_causes.specs.Outcomes.{may_answer, EachMayAnswer, InputIsThere, IsBlockingWrite, LaterPartIsThere, Outcome};
 ghost use Rattle.wasi_causes.specs.Plain.{containing, leaving, WatchesPlain};
+ghost use Rattle.wasi_causes.specs.PollableCalls.{IsEmptyWait, WatchedIsThere};
 ghost use Rattle.wasi_causes.specs.Udp.{IsPendingCreate};
 ghost use Rattle.wasi_causes.specs.Datagrams.{IsUdpSend, IsUdpStream, LacksRoomForStreams, OutgoingWaits, PendingHandleIsLive, WatchesDatagrams};
-ghost use Rattle.wasi_causes.specs.Reached.{FinishesAt, ListensLate, MayFinish, OfItsRecord, SpliceLacksInput};
+ghost use Rattle.wasi_causes.specs.Reached.{FinishesAt, ListensLate, MayFinish, OfItsRecord};
 ghost use Rattle.wasi_causes.specs.GivenUp.{GoesAtOnce, HasLiveChildren, HasNoStreams, IsDrop, IsDropped, IsGone, LooksOnce, shut_down, shutdown_entries, socket_given_up, without};
 ghost use Rattle.wasi_walks.specs.Licence.{entry, Has, marks_in};
 ghost use Rattle.wasi_machine.specs.Machine.{context_at, run};
 ghost use Rattle.wasi_steps.specs.Steps.{context_of};
 ghost use Rattle.wasi_host.specs.Machine.{first_state, input_at, outgoing_at, output_at, own_of, socket_at};
 ghost use Rattle.wasi_host.specs.declared.name_lookup.Lookup.{Lookup};
-ghost use Rattle.wasi_host.specs.Records.{input_pipe_at, lookup_at, output_pipe_at, tcp2_at};
+ghost use Rattle.wasi_host.specs.Records.{input_pipe_at, lookup_at, open_at, output_pipe_at, tcp2_at};
 ghost use Rattle.wasi_host.specs.Shutdowns.{with_streams};
 ghost use Rattle.wasi_host.specs.Kinds.{is_network, kind_at, watched_by, with_handle, without_handle};
 ghost use Rattle.wasi_host.specs.Standing.{stands_as};
@@ -92,20 +93,21 @@ pub fn finish_bind_refusals()
 {}
 
 /// A step traps because a handle of it isn't live or is of another kind, and asks nothing then and leaves the machine as it
-/// was, but that a poll leaves nothing pending, which is said where the handle of pending datagram streams is live and the streams of a
-/// pending call are there, as they are after any lines, but for the input of a splice; and of a splice where its input, if it is one,
-/// is there; or because a handle is dropped under which others are live, and asks nothing
-/// then and leaves the machine; or because the table is full, where it is to make a handle: that was the last of the step, and
+/// was, but that a poll leaves nothing pending, which is said where the handle of pending datagram streams is live and what a pending
+/// call is on is there; of a splice where its input, if it is one, is there; and of a wait for several pollables where what those among
+/// its handles watch is there; all of which is so after any lines; or because a
+/// handle is dropped under which others are live, and asks nothing then and leaves the machine; or because the table is full, where it is to make a handle: that was the last of the step, and
 /// the marks are those of the handles that were made before it; or because a write or a send of datagrams isn't permitted; or
 /// because datagram streams are asked for of a socket of which one is live; or because a write is of more bytes than its pipe has
-/// room for; or because a write that blocks is of too many bytes; and asks nothing then and leaves the machine.
+/// room for; or because a write that blocks is of too many bytes; or because a wait is for no pollable; and asks nothing then and leaves
+/// the machine.
 pub fn traps_have_causes()
     ensures kinds { (contexts : List WasiSocketsCtx) (m : Machine) (line : ℕ) (s : Step) (entries : List Entry) (kind : TrapKind) (after : Machine)
-        → Answered contexts m line s entries (Reply.Trap kind) after → (kind ≡ TrapKind.NoSuchHandle) ⊎ ((kind ≡ TrapKind.HasChildren) ⊎ ((kind ≡ TrapKind.Full) ⊎ ((kind ≡ TrapKind.NotPermitted) ⊎ ((kind ≡ TrapKind.StreamsAlive) ⊎ ((kind ≡ TrapKind.Capacity) ⊎ (kind ≡ TrapKind.TooLong)))))) }
+        → Answered contexts m line s entries (Reply.Trap kind) after → (kind ≡ TrapKind.NoSuchHandle) ⊎ ((kind ≡ TrapKind.HasChildren) ⊎ ((kind ≡ TrapKind.Full) ⊎ ((kind ≡ TrapKind.NotPermitted) ⊎ ((kind ≡ TrapKind.StreamsAlive) ⊎ ((kind ≡ TrapKind.Capacity) ⊎ ((kind ≡ TrapKind.TooLong) ⊎ (kind ≡ TrapKind.EmptyList))))))) }
     ensures no_such_handle { (contexts : List WasiSocketsCtx) (m : Machine) (line : ℕ) (s : Step) (entries : List Entry) (after : Machine)
         → Answered contexts m line s entries (Reply.Trap TrapKind.NoSuchHandle) after → MissesHandle m s }
     ensures no_such_handle_stays { (contexts : List WasiSocketsCtx) (m : Machine) (line : ℕ) (s : Step) (entries : List Entry) (after : Machine)
-        → (IsPoll s → PendingHandleIsLive m) → InputOfSpliceIsThere m s → Answered contexts m line s entries (Reply.Trap TrapKind.NoSuchHandle) after → (entries ≡ []) × (after ≡ left_missing m s) }
+        → (IsPoll s → PendingHandleIsLive m) → LaterPartIsThere m s → Answered contexts m line s entries (Reply.Trap TrapKind.NoSuchHandle) after → (entries ≡ []) × (after ≡ left_missing m s) }
     ensures has_children { (contexts : List WasiSocketsCtx) (m : Machine) (line ctx handle : ℕ) (entries : List Entry) (reply : Reply) (after : Machine)
         → m.store.standing ≡ None → Answered contexts m line (Step.Drop ctx handle) entries reply after → (reply ≡ Reply.Trap TrapKind.HasChildren) ↔ HasLiveChildren m handle }
     ensures has_children_stays { (contexts : List WasiSocketsCtx) (m : Machine) (line : ℕ) (s : Step) (entries : List Entry) (after : Machine)
@@ -124,6 +126,8 @@ pub fn traps_have_causes()
         → Answered contexts m line s entries (Reply.Trap TrapKind.Capacity) after → IsWrite s × (entries ≡ []) × (after ≡ m) }
     ensures too_long { (contexts : List WasiSocketsCtx) (m : Machine) (line : ℕ) (s : Step) (entries : List Entry) (after : Machine)
         → Answered contexts m line s entries (Reply.Trap TrapKind.TooLong) after → IsBlockingWrite s × (entries ≡ []) × (after ≡ m) }
+    ensures empty_list { (contexts : List WasiSocketsCtx) (m : Machine) (line : ℕ) (s : Step) (entries : List Entry) (after : Machine)
+        → Answered contexts m line s entries (Reply.Trap TrapKind.EmptyList) after → IsEmptyWait s × (entries ≡ []) × (after ≡ m) }
 {}
 
 /// A poll finds no such call exactly where no call is pending under its number. It asks nothing then, and the machine stays as
@@ -132,8 +136,7 @@ pub fn traps_have_causes()
 /// answered no, or another of its asks was answered with the code, by its own operation, and a listen and a create closed their
 /// network socket last, and a connect that was answered asked for the remote address. That is said where what is pending as a bind
 /// is a bind, as a listen a listen, as a create a create, and as datagram streams a connect, as it is after any lines. In a run a
-/// poll traps only for lack of room for the handle of a create, for the two of datagram streams, or for that of a stream's error; or
-/// because the input of a pending splice isn't there.
+/// poll traps only for lack of room for the handle of a create, for the two of datagram streams, or for that of a stream's error.
 pub fn polls_find_their_call()
     ensures exactly { (contexts : List WasiSocketsCtx) (m : Machine) (line n : ℕ) (entries : List Entry) (reply : Reply) (after : Machine)
         → Answered contexts m line (Step.Poll n) entries reply after → (reply ≡ Reply.NoSuchCall) ↔ (stands_as m.store.standing n ≡ false) }
@@ -147,14 +150,14 @@ pub fn polls_find_their_call()
         → PendingCallsFit m → Answered contexts m line (Step.Poll n) entries (Reply.Err word) after → StandingFails m n entries word }
     ensures traps { (contexts : List WasiSocketsCtx) (steps : List Step) (log : List Entry) (replies : List Reply) (m : Machine) (line n : ℕ) (entries : List Entry) (kind : TrapKind) (after : Machine)
         → Left (run contexts [] first_state 1 steps) log (Give (replies, m)) → Answered contexts m line (Step.Poll n) entries (Reply.Trap kind) after
-        → ((kind ≡ TrapKind.Full) × (((is_full m.table ≡ true) × IsSomeAnd m.store.standing (λ s. IsPendingCreate s.call)) ⊎ (IsSomeAnd m.store.standing (λ s. LacksRoomForStreams m s.call) ⊎ StreamCallStands m))) ⊎ ((kind ≡ TrapKind.NoSuchHandle) × SpliceLacksInput m) }
+        → (kind ≡ TrapKind.Full) × (((is_full m.table ≡ true) × IsSomeAnd m.store.standing (λ s. IsPendingCreate s.call)) ⊎ (IsSomeAnd m.store.standing (λ s. LacksRoomForStreams m s.call) ⊎ StreamCallStands m)) }
 {}
 
 /// The start of a bind, that of a listen, a create of a UDP socket, that of its datagram streams, the drop of an output or of an
-/// outgoing datagram stream, a call of a stream that blocks and a poll may be pending: all but a poll under their line's number, and a poll under the number that
+/// outgoing datagram stream, a call of a stream that blocks, a wait for pollables and a poll may be pending: all but a poll under their line's number, and a poll under the number that
 /// it polls. A call is pending under that number then. The last ask of a bind and of a listen was answered pending; a drop waits
 /// where its output's write is in progress, or its one ask was answered pending, or where a datagram of its stream isn't sent yet,
-/// which asks nothing; and a poll waits as the call does that it polls, if it is none of a stream, of which `blocking` says it. That is said where what is pending as a bind is a bind, as
+/// which asks nothing; and a poll waits as the call does that it polls, if that is none that blocks, of which `blocking` and `waiting` say it. That is said where what is pending as a bind is a bind, as
 /// a listen a listen, as a create a create, and as datagram streams a connect, as it is after any lines.
 pub fn pending_where_told()
     ensures step { (contexts : List WasiSocketsCtx) (m : Machine) (line : ℕ) (s : Step) (entries : List Entry) (number : ℕ) (after : Machine)
@@ -253,17 +256,21 @@ pub fn runs_connect_by_connects()
 
 /// After the lines of any script: each live handle of a socket, a stream, a pipe, a lookup or a pollable is of a record that is there,
 /// so a number of which no TCP socket is found isn't live or stands for something else; a pending call is of a socket that is there, one
-/// that makes datagram streams is of a handle that is live, and a call of a stream is of streams that are there, but that this isn't
-/// said of the input of a splice;
-/// and where a connect is in progress, the socket connects, or was closed with a code, or is connected and neither half of it was
+/// that makes datagram streams is of a handle that is live, a call of a stream is of streams that are there, and a wait is for pollables
+/// that watch what is there, as each live one does; what a live handle of
+/// an input reads from is there, a connection's streams or a pipe; and where a connect is in progress, the socket connects, or was closed with a code, or is connected and neither half of it was
 /// taken; and a socket that does nothing yet has no listener, and none begins.
 pub fn runs_keep_their_records()
     ensures handles { (contexts : List WasiSocketsCtx) (steps : List Step) (log : List Entry) (replies : List Reply) (m : Machine) (handle : ℕ) (kind : Kind)
         → Left (run contexts [] first_state 1 steps) log (Give (replies, m)) → kind_at m.table handle ≡ Some kind → OfItsRecord m kind }
     ensures missing { (contexts : List WasiSocketsCtx) (steps : List Step) (log : List Entry) (replies : List Reply) (m : Machine) (handle : ℕ)
         → Left (run contexts [] first_state 1 steps) log (Give (replies, m)) → record_at m handle ≡ None → socket_at m handle ≡ None }
+    ensures inputs { (contexts : List WasiSocketsCtx) (steps : List Step) (log : List Entry) (replies : List Reply) (m : Machine) (handle : ℕ)
+        → Left (run contexts [] first_state 1 steps) log (Give (replies, m)) → InputIsThere m handle }
+    ensures pollables { (contexts : List WasiSocketsCtx) (steps : List Step) (log : List Entry) (replies : List Reply) (m : Machine) (pollable : ℕ)
+        → Left (run contexts [] first_state 1 steps) log (Give (replies, m)) → WatchedIsThere m pollable }
     ensures stands { (contexts : List WasiSocketsCtx) (steps : List Step) (log : List Entry) (replies : List Reply) (m : Machine) (number : ℕ)
-        → Left (run contexts [] first_state 1 steps) log (Give (replies, m)) → StandsOnNothing m number → SpliceLacksInput m }
+        → Left (run contexts [] first_state 1 steps) log (Give (replies, m)) → StandsOnNothing m number → ⊥ }
     ensures connects { (contexts : List WasiSocketsCtx) (steps : List Step) (log : List Entry) (replies : List Reply) (m : Machine) (place : ℕ) (r : Tcp2Socket)
         → Left (run contexts [] first_state 1 steps) log (Give (replies, m)) → tcp2_at m.store.records place ≡ Some r → is_connect r.in_progress ≡ true → MayFinish r.inner.state }
     ensures listens { (contexts : List WasiSocketsCtx) (steps : List Step) (log : List Entry) (replies : List Reply) (m : Machine) (place : ℕ) (r : Tcp2Socket)
@@ -413,8 +420,8 @@ pub fn subscribe_makes_a_pollable()
 /// A turn is always ok, and leaves the handles as they were. Whatever it asks is asked by the operation of a job: of a background
 /// write of a record, of a datagram that is sent in the background or a receive in progress of a UDP socket, or of a lookup in
 /// progress. Each lookup is as it was afterwards; or it was in progress, and has found the names, or failed with a code, that its
-/// operation was told in the turn. The call that is pending stays so, each socket that has streams has them still, and each pipe holds
-/// what it held.
+/// operation was told in the turn. The call that is pending stays so, each socket is there still, each that has streams has them
+/// still, and each pipe holds what it held.
 pub fn turns_are_ok()
     ensures ok { (contexts : List WasiSocketsCtx) (m : Machine) (line : ℕ) (entries : List Entry) (reply : Reply) (after : Machine)
         → Answered contexts m line Step.Turn entries reply after → reply ≡ Reply.Ok no_fields }
@@ -426,6 +433,8 @@ pub fn turns_are_ok()
         → Answered contexts m line Step.Turn entries reply after → lookup_at after.store.records place ≡ Some l → LookedOn m place entries l }
     ensures pending { (contexts : List WasiSocketsCtx) (m : Machine) (line : ℕ) (entries : List Entry) (reply : Reply) (after : Machine)
         → Answered contexts m line Step.Turn entries reply after → after.store.standing ≡ m.store.standing }
+    ensures sockets { (contexts : List WasiSocketsCtx) (m : Machine) (line place : ℕ) (entries : List Entry) (reply : Reply) (after : Machine)
+        → Answered contexts m line Step.Turn entries reply after → (IsSome (tcp2_at m.store.records place) → IsSome (tcp2_at after.store.records place)) × (IsSome (open_at m.store.records place) → IsSome (open_at after.store.records place)) }
     ensures streams { (contexts : List WasiSocketsCtx) (m : Machine) (line place : ℕ) (entries : List Entry) (reply : Reply) (after : Machine)
         → Answered contexts m line Step.Turn entries reply after → IsSome (streams_in (tcp2_at m.store.records place)) → IsSome (streams_in (tcp2_at after.store.records place)) }
     ensures pipes { (contexts : List WasiSocketsCtx) (m : Machine) (line place : ℕ) (entries : List Entry) (reply : Reply) (after : Machine)

@@ -1,7 +1,7 @@
 //! Where the answers of the steps of datagram streams come from, and what is left afterwards, as laws over the definitions of
 //! specs/: each is a function that does nothing, whose contract is the law.
 
-ghost use Rattle.std.specs.Prelude.{◌≡◌, ◌↔◌, ◌<◌, ℕ, ◌+◌, List, [], false, Option, IsSomeAnd, Some, None, length};
+ghost use Rattle.std.specs.Prelude.{◌≡◌, ◌↔◌, ◌<◌, ℕ, ◌+◌, List, [], false, Option, IfSome, IsSomeAnd, Some, None, length};
 ghost use Rattle.wasi_addr.specs.declared.address.IpSocketAddress.{IpSocketAddress};
 ghost use Rattle.wasi_world.specs.declared.call.Entry.{Entry};
 ghost use Rattle.wasi_world.specs.declared.datagram.OutgoingDatagram.{OutgoingDatagram};
@@ -25,16 +25,17 @@ ghost use Rattle.wasi_steps.specs.declared.step.Step.{Step};
 ghost use Rattle.wasi_steps.specs.declared.step.Step.TheVariants as Step;
 ghost use Rattle.wasi_steps.specs.Reply.{pair_fields, truth_fields};
 ghost use Rattle.wasi_walks.specs.Answered.{Answered, open_udp_at, outgoing_in};
-ghost use Rattle.wasi_causes.specs.Reached.{SpliceLacksInput};
-ghost use Rattle.wasi_causes.specs.Datagrams.{HasUdpStreams, IncomingGone, IsReceiving, IsSpent, LacksRoomForBoth, OfIncoming, OfOutgoing, OutgoingGone, PendingHandleIsLive, PermitsSend, WatchesIncoming, WatchesOutgoing, with_both};
+ghost use Rattle.wasi_causes.specs.Datagrams.{HasItsSocket, HasUdpStreams, IncomingGone, IsReceiving, IsSpent, LacksRoomForBoth, OfIncoming, OfOutgoing, OutgoingGone, PermitsSend, WatchesIncoming, WatchesOutgoing, with_both};
 ghost use Rattle.wasi_causes.specs.SendCauses.{ReceivesSome, SendsSome, UdpReceiveRefusal, UdpSendRefusal};
-ghost use Rattle.wasi_causes.specs.StreamCauses.{HasNewStreams, StreamsStand, UdpStreamRefusal};
+ghost use Rattle.wasi_causes.specs.StreamCauses.{HasNewStreams, MakesStreams, StreamsStand, UdpStreamRefusal};
 ghost use Rattle.wasi_causes.specs.Udp.{OfUdp, RefusedOfUdp};
 
 /// The datagram streams of a UDP socket that are done are the next two handles, the incoming one first, and both are under the
-/// socket's handle; on neither anything was sent or received, and nothing may be sent yet. They trap with `StreamsAlive` exactly
-/// where one of its streams is live, and ask nothing then and leave the machine as it was. Where there is no room for both
-/// handles, they trap with `Full`.
+/// socket's handle; on neither anything was sent or received, and nothing may be sent yet. Before the marks of both, with an
+/// address, two checks of it were answered yes, and the socket was connected to it; with none, it was disconnected where it kept
+/// a remote address. Its remote address is what was reported then, and else it has none; it is known to be bound, and the machine
+/// is as it was in all else. They trap with `StreamsAlive` exactly where one of its streams is live, and ask nothing then and
+/// leave the machine as it was. Where there is no room for both handles, they trap with `Full`.
 pub fn udp_streams_make_two_handles()
     ensures numbers { (contexts : List WasiSocketsCtx) (m : Machine) (line ctx handle : ℕ) (remote : Option IpSocketAddress) (fields : List Field) (entries : List Entry) (after : Machine)
         → Answered contexts m line (Step.UdpStream ctx handle remote) entries (Reply.Ok fields) after
@@ -45,6 +46,9 @@ pub fn udp_streams_make_two_handles()
     ensures new { (contexts : List WasiSocketsCtx) (m : Machine) (line ctx handle : ℕ) (remote : Option IpSocketAddress) (fields : List Field) (entries : List Entry) (after : Machine)
         → Answered contexts m line (Step.UdpStream ctx handle remote) entries (Reply.Ok fields) after
         → OfUdp m handle (λ place o. HasNewStreams place after) }
+    ensures asked { (contexts : List WasiSocketsCtx) (m : Machine) (line ctx handle : ℕ) (remote : Option IpSocketAddress) (fields : List Field) (entries : List Entry) (after : Machine)
+        → Answered contexts m line (Step.UdpStream ctx handle remote) entries (Reply.Ok fields) after
+        → OfUdp m handle (λ place o. MakesStreams m (own_of line) handle place o remote entries after) }
     ensures alive { (contexts : List WasiSocketsCtx) (m : Machine) (line ctx handle : ℕ) (remote : Option IpSocketAddress) (entries : List Entry) (reply : Reply) (after : Machine)
         → m.store.standing ≡ None → Answered contexts m line (Step.UdpStream ctx handle remote) entries reply after
         → (reply ≡ Reply.Trap TrapKind.StreamsAlive) ↔ HasUdpStreams (open_udp_at m handle) }
@@ -60,7 +64,8 @@ pub fn udp_streams_make_two_handles()
 /// is bound with `invalid-argument` for an address that it can't be connected to; with the word of the code by which its
 /// connect ended, a check that was answered no or the code that the connect was answered; or, where no address is given, with
 /// that of the code that its disconnect was answered. A socket that was found bound is known to be then. Its
-/// remote address is what was reported after a disconnect; after a connect that failed nothing is said of it.
+/// remote address is as it was where a check said no; and where the connect or the disconnect was answered with a code, it is
+/// what was reported after that, which is none after a code or the wildcard.
 pub fn udp_stream_refusals()
     ensures cause { (contexts : List WasiSocketsCtx) (m : Machine) (line ctx handle : ℕ) (remote : Option IpSocketAddress) (entries : List Entry) (word : CodeWord) (after : Machine)
         → Answered contexts m line (Step.UdpStream ctx handle remote) entries (Reply.Err word) after
@@ -69,8 +74,7 @@ pub fn udp_stream_refusals()
 
 /// Datagram streams are pending, under their line's number, only with an address that the socket may be connected to: the last
 /// ask, which was answered pending, was one of its connect. The handles stay as they were, and the call is pending for the
-/// handle of the socket. After the lines of any script that handle is live while it is pending, and so are the streams there that a
-/// pending call of a stream is on, but that this isn't said where that is a splice whose input isn't there.
+/// handle of the socket. After the lines of any script that handle is live while it is pending.
 pub fn udp_streams_wait_for_their_connect()
     ensures waits { (contexts : List WasiSocketsCtx) (m : Machine) (line ctx handle : ℕ) (remote : Option IpSocketAddress) (entries : List Entry) (number : ℕ) (after : Machine)
         → Answered contexts m line (Step.UdpStream ctx handle remote) entries (Reply.Pending number) after
@@ -79,7 +83,7 @@ pub fn udp_streams_wait_for_their_connect()
         → Answered contexts m line (Step.UdpStream ctx handle remote) entries (Reply.Pending number) after
         → after.table ≡ m.table }
     ensures live { (contexts : List WasiSocketsCtx) (steps : List Step) (log : List Entry) (replies : List Reply) (m : Machine)
-        → Left (run contexts [] first_state 1 steps) log (Give (replies, m)) → (SpliceLacksInput m → ⊥) → PendingHandleIsLive m }
+        → Left (run contexts [] first_state 1 steps) log (Give (replies, m)) → IfSome m.store.standing (λ s. HasItsSocket m s.call) }
 {}
 
 /// How many datagrams may be sent comes of the outgoing stream: none while one isn't sent yet, and else 16; and that is its
@@ -120,14 +124,15 @@ pub fn stream_drops_ask_nothing()
 /// is refused with the code by which a datagram before it failed in the background, and asks nothing then; or, with nothing in
 /// the background, with the code by which its own first datagram ended: one that can't be sent so, one of whose checks was
 /// answered no, one for a remote address that has changed, or one that was answered with the code. Either way nothing is
-/// permitted on the stream afterwards, unless the list was empty.
+/// permitted on the stream afterwards, unless the list was empty. After one that is refused nothing is in the background and no
+/// code waits; the machine is as it was in all else, but that a socket that was found bound is known to be.
 pub fn sends_have_causes()
     ensures count { (contexts : List WasiSocketsCtx) (m : Machine) (line ctx outgoing : ℕ) (datagrams : List OutgoingDatagram) (fields : List Field) (entries : List Entry) (after : Machine)
         → Answered contexts m line (Step.UdpSend ctx outgoing datagrams) entries (Reply.Ok fields) after
         → SendsSome datagrams fields }
     ensures cause { (contexts : List WasiSocketsCtx) (m : Machine) (line ctx outgoing : ℕ) (datagrams : List OutgoingDatagram) (entries : List Entry) (word : CodeWord) (after : Machine)
         → Answered contexts m line (Step.UdpSend ctx outgoing datagrams) entries (Reply.Err word) after
-        → OfOutgoing m (outgoing_at m outgoing) (λ place o out. UdpSendRefusal (next_name (first_ids line)) datagrams o out entries word) }
+        → OfOutgoing m (outgoing_at m outgoing) (λ place o out. UdpSendRefusal m (next_name (first_ids line)) place datagrams o out entries word after) }
     ensures spends { (contexts : List WasiSocketsCtx) (m : Machine) (line ctx outgoing : ℕ) (datagrams : List OutgoingDatagram) (fields : List Field) (entries : List Entry) (after : Machine)
         → 0 < length datagrams → Answered contexts m line (Step.UdpSend ctx outgoing datagrams) entries (Reply.Ok fields) after
         → IsSpent after outgoing }
@@ -139,13 +144,15 @@ pub fn sends_have_causes()
 /// A receive that is done answers with at most as many datagrams as were wanted, and with at most 16. It is refused with the
 /// code by which the receive in progress failed, which wasn't taken yet, and asks nothing then; or, with none in progress, with
 /// the code by which the one that it began ended: `invalid-state` of a socket that isn't bound, or the code that it was answered.
+/// After one that is refused none is in progress and the code is taken; the machine is as it was in all else, but that a socket
+/// that was found bound is known to be.
 pub fn receives_have_causes()
     ensures datagrams { (contexts : List WasiSocketsCtx) (m : Machine) (line ctx incoming most : ℕ) (fields : List Field) (entries : List Entry) (after : Machine)
         → Answered contexts m line (Step.UdpReceive ctx incoming most) entries (Reply.Ok fields) after
         → ReceivesSome most fields }
     ensures cause { (contexts : List WasiSocketsCtx) (m : Machine) (line ctx incoming most : ℕ) (entries : List Entry) (word : CodeWord) (after : Machine)
         → Answered contexts m line (Step.UdpReceive ctx incoming most) entries (Reply.Err word) after
-        → OfIncoming m (incoming_at m incoming) (λ place o inc. UdpReceiveRefusal (next_name (first_ids line)) o inc entries word) }
+        → OfIncoming m (incoming_at m incoming) (λ place o inc. UdpReceiveRefusal m (next_name (first_ids line)) place o inc entries word after) }
 {}
 
 /// A pollable of an outgoing datagram stream is ready exactly where none of its datagrams is sent in the background. That asks

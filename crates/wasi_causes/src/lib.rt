@@ -10,3 +10,4 @@ pub mod lookups;
 pub mod options;
 pub mod stream_calls;
 pub mod udp;
+pub mod waiting;

@@ -199,7 +199,8 @@ pub fn udp_drops_close()
 {}
 
 /// A poll that is done gives the next handle, of the socket that was made, where what was pending is a create of a UDP socket;
-/// the next two, where it makes datagram streams; the bytes or the number that a call of a stream gives; and else nothing. One that is refused makes no handle, and of a create it
+/// the next two, where it makes datagram streams; the bytes or the number that a call of a stream gives, or the
+/// places that a wait for pollables gives; and else nothing. One that is refused makes no handle, and of a create it
 /// leaves in the record only the name of the network socket, which was closed: that is said where what is pending as a create is
 /// a create, as it is after any lines. Where there is no room for the handle of a create, for both handles of datagram
 /// streams, or for that of the error of a stream, it traps with `Full`.

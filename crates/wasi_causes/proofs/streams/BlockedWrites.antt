@@ -1,6 +1,6 @@
 -- The calls that block on an output: a flush, the end of a write, and a write, round for round.
-use Rattle.wasi_causes.proofs.Words.{◌≡◌, ◌∙◌, ◌+◌, ℕ, arith, zero, suc, List, [], ◌∷◌, ◌++◌, None, append_assoc, append-nil, refl, sym, subst, ap, Answered, CallStop, Entry, Err, Machine, MissesHandle, NoSuchHandle, Ok, Pending, Reply, Result, Step, TrapKind, WasiSocketsCtx, check_asks, flushed_asks, length, marks_in, no_fields, number_fields, own_of, permit_reply, taken_reply, write_asks}
-use Rattle.std.specs.Prelude.{◌≤◌, ◌<◌, take, drop, min}
+use Rattle.wasi_causes.proofs.Words.{◌≡◌, ◌∙◌, ℕ, arith, zero, suc, List, [], ◌∷◌, ◌++◌, None, append_assoc, append-nil, refl, sym, subst, ap, Answered, CallStop, Entry, Err, Machine, MissesHandle, NoSuchHandle, Ok, Reply, Result, Step, TrapKind, WasiSocketsCtx, check_asks, flushed_asks, length, marks_in, no_fields, number_fields, own_of, permit_reply, taken_reply, write_asks}
+use Rattle.std.specs.Prelude.{◌≤◌, ◌<◌, take, drop}
 use Rattle.std.proofs.Math.Nat.{min-le_left}
 use Rattle.std.proofs.lemmas.List.{length-take}
 use Rattle.wasi_world.specs.declared.ids.Ids.{Ids}

@@ -1,5 +1,5 @@
 -- A cancel of the pending call.
-use Rattle.wasi_causes.proofs.Words.{◌≡◌, ◌==◌, ◌∙◌, ℕ, Bool, true, false, if◌then◌else◌, List, [], Option, Some, None, Done, refl, sym, subst, ap, inl, inr, Entry, Give, IfSome, IsListening, IsSomeAnd, Listening, Machine, PendingCallsFit, Records, Standing, StandingCall, Tcp2Socket, WasiSocketsCtx, bind, call_of, eq-eqb, side_of, stands_as, standing_as, unstood}
+use Rattle.wasi_causes.proofs.Words.{◌≡◌, ◌==◌, ◌∙◌, ℕ, Bool, true, false, if◌then◌else◌, List, [], Option, Some, None, refl, sym, subst, ap, inl, inr, Entry, Give, IfSome, IsListening, IsSomeAnd, Listening, Machine, PendingCallsFit, Records, Standing, StandingCall, Tcp2Socket, WasiSocketsCtx, bind, call_of, eq-eqb, side_of, stands_as, standing_as, unstood}
 use Rattle.wasi_world.specs.declared.ids.Ids.{Ids}
 use Rattle.wasi_world.specs.declared.call.Call.TheVariants as call
 use Rattle.wasi_udp.specs.Create.{Create}

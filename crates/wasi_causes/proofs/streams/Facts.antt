@@ -57,6 +57,7 @@ module _ (contexts : List WasiSocketsCtx) (line c : ℕ) where
     check_traps trap.StreamsAlive k = absurd k.0
     check_traps trap.Capacity k = absurd k.0
     check_traps trap.TooLong k = absurd k.0
+    check_traps trap.EmptyList k = absurd k.0
     check_traps _ k = absurd k
 
     pub flush_traps : (kind : TrapKind) → Traps contexts m line (step.Flush c h) es kind after → HandsOn kind
@@ -67,6 +68,7 @@ module _ (contexts : List WasiSocketsCtx) (line c : ℕ) where
     flush_traps trap.StreamsAlive k = absurd k.0
     flush_traps trap.Capacity k = absurd k.0
     flush_traps trap.TooLong k = absurd k.0
+    flush_traps trap.EmptyList k = absurd k.0
     flush_traps _ k = absurd k
 
     pub read_traps : (len : ℕ) (kind : TrapKind) → Traps contexts m line (step.Read c h len) es kind after → HandsOn kind
@@ -77,6 +79,7 @@ module _ (contexts : List WasiSocketsCtx) (line c : ℕ) where
     read_traps len trap.StreamsAlive k = absurd k.0
     read_traps len trap.Capacity k = absurd k.0
     read_traps len trap.TooLong k = absurd k.0
+    read_traps len trap.EmptyList k = absurd k.0
     read_traps len _ k = absurd k
 
     -- a write that is within what is permitted
@@ -88,4 +91,5 @@ module _ (contexts : List WasiSocketsCtx) (line c : ℕ) where
     write_traps bytes trap.StreamsAlive k permitted fits = absurd k.0
     write_traps bytes trap.Capacity k permitted fits = absurd (fits refl)
     write_traps bytes trap.TooLong k permitted fits = absurd k.0
+    write_traps bytes trap.EmptyList k permitted fits = absurd k.0
     write_traps bytes _ k permitted fits = absurd k

@@ -1,5 +1,5 @@
--- What calls of streams leave pending: nothing, or a call that is on streams which are there, but for the input of a splice.
-use Rattle.wasi_causes.proofs.Words.{◌≡◌, ◌∙◌, ℕ, arith, List, [], ◌∷◌, Option, Some, None, Result, Ok, Err, false, sym, subst, ap, inl, inr, Answered, CallStop, Entry, Give, IfSome, Left, Machine, OfStreams, OpId, Reply, Standing, StandingCall, Step, Streams, Tcp2Socket, WasiSocketsCtx, asks_while, bytes_fields, input_at, length, no_fields, number_fields, own_of, record_in, step_asks, streams_in}
+-- What calls of streams leave pending: nothing, or a call that is on streams which are there.
+use Rattle.wasi_causes.proofs.Words.{◌≡◌, ◌∙◌, ℕ, ⊤, arith, List, [], ◌∷◌, Option, Some, None, Result, Ok, Err, false, sym, subst, ap, inl, inr, Answered, CallStop, Entry, Give, IfSome, Left, Machine, OfStreams, OpId, Reply, Standing, StandingCall, Step, Streams, Tcp2Socket, WasiSocketsCtx, asks_while, bytes_fields, input_at, length, no_fields, number_fields, own_of, record_in, step_asks, streams_in}
 use Rattle.std.specs.Prelude.{◌≤◌, drop, suc, take, zero}
 use Rattle.wasi_world.specs.declared.ids.Ids.{Ids}
 use Rattle.wasi_host.specs.declared.blocking.BlockingCall.{BlockingCall}
@@ -12,12 +12,15 @@ use Rattle.wasi_steps.specs.declared.reply.Field.TheVariants as field
 use Rattle.wasi_steps.specs.declared.reply.Reply.TheVariants as reply
 use Rattle.wasi_steps.specs.declared.step.Step.TheVariants as step
 use Rattle.wasi_steps.specs.Reply.{no_values}
-use Rattle.wasi_walks.specs.Missing.{MissesInput, MissesInputPipe, MissesOutput}
+use Rattle.wasi_walks.specs.Missing.{MissesEither, MissesInput, MissesInputPipe, MissesOutput}
+use Rattle.wasi_host.specs.declared.polling.Look.TheVariants.{Later}
+use Rattle.wasi_host.specs.Names.{first_ids}
+use Rattle.wasi_causes.proofs.pollables.Live.{block_live, list_live}
 use Rattle.wasi_causes.proofs.streams.Kept.{Keeps, Kept, checks_keep, flushes_keep, reads_keep, writes_keep}
-use Rattle.wasi_causes.proofs.streams.Missing.{missed_output, output_is_there}
+use Rattle.wasi_causes.proofs.streams.Missing.{missed_input, missed_output, output_is_there}
 use Rattle.wasi_causes.proofs.tables.Meets.{Meets, met, onto, widen}
 use Rattle.wasi_causes.proofs.tables.Steps.{its_own, while_free}
-use Rattle.wasi_causes.specs.Blocking.{BeginsToWrite, BlocksAs, Finishes, FlushesOn, HasItsStreams, IsShort, LooksInto, LooksLast, SplicesOn, WritesOn}
+use Rattle.wasi_causes.specs.Blocking.{BeginsToWrite, BlocksAs, Finishes, FlushesOn, IsShort, LooksInto, LooksLast, SplicesOn, WritesOn}
 use Rattle.wasi_causes.specs.Blocking as on
 use Rattle.wasi_causes.specs.Datagrams.{HasItsHandle}
 use Rattle.wasi_causes.specs.Outcomes.{Reads}
@@ -26,10 +29,8 @@ use Rattle.wasi_causes.specs.Parts.{Skips, Splices, counted_reply}
 use Rattle.wasi_causes.specs.Plain.{OfInputPipe}
 
 -- == what is pending
--- what it is on is there; of a splice that is said of its output
+-- what it is on is there
 abbrev pub IsWellOn : Machine → StandingCall → Type 0
-IsWellOn m (StandingCall.Blocking (blocking.Splice to from len)) = MissesOutput m to → ⊥
-IsWellOn m (StandingCall.Blocking call) = HasItsStreams m call × IsShort call
 IsWellOn m call = HasItsHandle m call
 
 abbrev pub StandsWell : Machine → Type 0
@@ -37,6 +38,11 @@ StandsWell m = IfSome m.store.standing (λ s. IsWellOn m s.call)
 
 pub free_well : (m : Machine) → m.store.standing ≡ None → StandsWell m
 free_well m free = subst (λ (o : Option Standing). IfSome o (λ s. IsWellOn m s.call)) (sym free) tt
+
+-- the input of a splice is there
+abbrev pub HasInput : Machine → BlockingCall → Type 0
+HasInput m (blocking.Splice to from len) = MissesInput m from → ⊥
+HasInput m call = ⊤
 
 -- == what a part keeps
 -- what is pending and what is there, and the handles where it gives something
@@ -95,6 +101,11 @@ module _ (contexts : List WasiSocketsCtx) where
     output_left : (line c output n : ℕ) (es : List Entry) (after : Machine) → Answered contexts m line (step.CheckWrite c output) es (reply.Ok (number_fields n)) after → MissesOutput after output → ⊥
     output_left line c output n es after w missing =
         let k = check_kept line c es (reply.Ok (number_fields n)) after output w in output_is_there m line output n es (its_own contexts m line (step.CheckWrite c output) es (reply.Ok (number_fields n)) after w (λ e. cc)).1.1 (missed_output m after k.1 k.0.there output missing)
+
+    -- and so are both ends of a splice, where its input was
+    ends_left : (line c to from n : ℕ) (es : List Entry) (after : Machine) → (MissesInput m from → ⊥) → Answered contexts m line (step.CheckWrite c to) es (reply.Ok (number_fields n)) after → MissesEither after to from → ⊥
+    ends_left line c to from n es after there w (inl missing) = output_left line c to n es after w missing
+    ends_left line c to from n es after there w (inr missing) = let k = check_kept line c es (reply.Ok (number_fields n)) after to w in there (missed_input m after k.1 k.0.there from missing)
 
   -- == a splice that doesn't block
   pub splice_free : (m : Machine) (line c to from len : ℕ) (es : List Entry) (r : Reply) (after : Machine) → m.store.standing ≡ None → Splices contexts m line c to from len es r after → after.store.standing ≡ None
@@ -190,22 +201,24 @@ module _ (contexts : List WasiSocketsCtx) where
     begun_live m output count bytes _ _ _ free short (on.TooMany is many) = free_well m free
     begun_live m output count bytes _ _ _ free short (on.Begins es r after is few goes) = write_live output m bytes es r after free (short few) goes
 
-    splice_live : (m : Machine) (to from len : ℕ) (es : List Entry) (r : Reply) (after : Machine) → m.store.standing ≡ None → SplicesOn contexts m c ids to from len es r after → StandsWell after
-    splice_live m to from len _ _ _ free (on.NoStreams lacks) = free_well m free
-    splice_live m to from len _ _ _ free (on.CheckGivesNone es r after w none) = free_well after (check_free m free line c es r after to w)
-    splice_live m to from len _ _ _ free (on.NoRoomYet es after w) = output_left m free line c to 0 es after w
-    splice_live m to from len _ _ _ free (on.NoneToRead es n after w nil) = free_well after (check_free m free line c es (reply.Ok (number_fields (suc n))) after to w)
-    splice_live m to from len _ _ _ free (on.InputIsMissing es n mid w some missing) = free_well mid (check_free m free line c es (reply.Ok (number_fields (suc n))) mid to w)
-    splice_live m to from len _ _ _ free (on.InputWaits es ls n mid w some look) = output_left m free line c to (suc n) es mid w
-    splice_live m to from len _ _ _ free (on.NoneRead es ls fs n count mid w some look v) = output_left m free line c to (suc n) es mid w
-    splice_live m to from len _ _ _ free (on.ReadGivesNone es ls fs n count mid r after w some look v none) = free_well after (read_free mid (check_free m free line c es (reply.Ok (number_fields (suc n))) mid to w) line c fs r after from (suc count) v)
-    splice_live m to from len _ _ _ free (on.WritesRead es ls fs gs n count b bytes mid read r after w some look v u) =
+    pub splice_live : (m : Machine) (to from len : ℕ) (es : List Entry) (r : Reply) (after : Machine) → m.store.standing ≡ None → (MissesInput m from → ⊥) → SplicesOn contexts m c ids to from len es r after → StandsWell after
+    splice_live m to from len _ _ _ free there (on.NoStreams lacks) = free_well m free
+    splice_live m to from len _ _ _ free there (on.CheckGivesNone es r after w none) = free_well after (check_free m free line c es r after to w)
+    splice_live m to from len _ _ _ free there (on.NoRoomYet es after w) = (ends_left m free line c to from 0 es after there w, tt)
+    splice_live m to from len _ _ _ free there (on.NoneToRead es n after w nil) = free_well after (check_free m free line c es (reply.Ok (number_fields (suc n))) after to w)
+    splice_live m to from len _ _ _ free there (on.InputIsMissing es n mid w some missing) = free_well mid (check_free m free line c es (reply.Ok (number_fields (suc n))) mid to w)
+    splice_live m to from len _ _ _ free there (on.InputWaits es ls n mid w some look) = (ends_left m free line c to from (suc n) es mid there w, tt)
+    splice_live m to from len _ _ _ free there (on.NoneRead es ls fs n count mid w some look v) = (ends_left m free line c to from (suc n) es mid there w, tt)
+    splice_live m to from len _ _ _ free there (on.ReadGivesNone es ls fs n count mid r after w some look v none) = free_well after (read_free mid (check_free m free line c es (reply.Ok (number_fields (suc n))) mid to w) line c fs r after from (suc count) v)
+    splice_live m to from len _ _ _ free there (on.WritesRead es ls fs gs n count b bytes mid read r after w some look v u) =
         free_well after (write_free read (read_free mid (check_free m free line c es (reply.Ok (number_fields (suc n))) mid to w) line c fs (reply.Ok (bytes_fields (b ∷ bytes))) read from (suc count) v) line c gs r after to (b ∷ bytes) u)
 
-    pub blocked_live : (m : Machine) (call : BlockingCall) (es : List Entry) (r : Reply) (after : Machine) → m.store.standing ≡ None → IsShort call → BlocksAs contexts m c ids call es r after → StandsWell after
-    blocked_live m (blocking.Read input len) es r after free short goes = read_live m input len es r after free goes
-    blocked_live m (blocking.Skip input len) es r after free short goes = skip_live m input len es r after free goes
-    blocked_live m (blocking.Write output rest) es r after free short goes = write_live output m rest es r after free short goes
-    blocked_live m (blocking.Finish output) es r after free short goes = last_live m output es r after free goes
-    blocked_live m (blocking.Flush output) es r after free short goes = flush_live m output es r after free goes
-    blocked_live m (blocking.Splice to from len) es r after free short goes = splice_live m to from len es r after free goes
+    pub blocked_live : (m : Machine) (call : BlockingCall) (es : List Entry) (r : Reply) (after : Machine) → m.store.standing ≡ None → IsShort call → HasInput m call → BlocksAs contexts m c ids call es r after → StandsWell after
+    blocked_live m (blocking.Read input len) es r after free short there goes = read_live m input len es r after free goes
+    blocked_live m (blocking.Skip input len) es r after free short there goes = skip_live m input len es r after free goes
+    blocked_live m (blocking.Write output rest) es r after free short there goes = write_live output m rest es r after free short goes
+    blocked_live m (blocking.Finish output) es r after free short there goes = last_live m output es r after free goes
+    blocked_live m (blocking.Flush output) es r after free short there goes = flush_live m output es r after free goes
+    blocked_live m (blocking.Splice to from len) es r after free short there goes = splice_live m to from len es r after free there goes
+    blocked_live m (blocking.Block p) es r after free short there goes = block_live contexts c ids m p Later es r after free goes
+    blocked_live m (blocking.Poll ps) es r after free short there goes = list_live m (first_ids ids.line) ps Later es r after free goes

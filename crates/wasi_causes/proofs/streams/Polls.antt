@@ -1,4 +1,4 @@
--- A poll of a pending call of a stream.
+-- A poll of a pending call that blocks, and of one of a stream.
 use Rattle.wasi_causes.proofs.Words.{◌≡◌, ◌≢◌, ◌∙◌, ℕ, Answer, List, [], Option, Some, None, Ok, Err, Pending, Ready, refl, sym, subst, ap, inl, inr, IsSomeAnd, Entry, Machine, CallStop, Reply, true, false, Result, Standing, StandingCall, Stop, WasiSocketsCtx, eq-eqb, no_fields, nothing_stands, number_fields, own_of, CallWaits, stands_as, standing_as}
 use Rattle.std.specs.Prelude.{◌⊎◌}
 use Rattle.wasi_world.specs.declared.ids.Ids.{Ids}
@@ -22,7 +22,7 @@ use Rattle.wasi_causes.proofs.streams.Composed.{IsComposed}
 use Rattle.wasi_causes.proofs.streams.Settles.{Settled, flushes_settle, lasts_settle, reads_settle, rounds_settle, skips_settle, splices_settle}
 use Rattle.wasi_causes.proofs.tables.Meets.{Meets, Rows, both, granted_each, onto, widen}
 use Rattle.wasi_causes.proofs.tables.Routes.{apart}
-use Rattle.wasi_causes.specs.Blocking.{BlocksAs, GivesOf, IsShort, StreamCallStands, waiting}
+use Rattle.wasi_causes.specs.Blocking.{BlockingCallStands, BlocksAs, GivesOf, IsCallOfStream, IsShort, StreamCallStands, waiting}
 use Rattle.wasi_causes.specs.Datagrams.{HasItsHandle}
 use Rattle.wasi_causes.specs.Udp.{GivesBy}
 use Rattle.wasi_causes.specs.MayAnswer.{AreLike}
@@ -39,54 +39,61 @@ module _ (contexts : List WasiSocketsCtx) (m : Machine) (line : ℕ) (ids : Ids)
   abbrev n : ℕ
   n = ids.line
 
-  stream_stands : StreamCallStands m
-  stream_stands = rw stands tt
+  blocking_stands : BlockingCallStands m
+  blocking_stands = rw stands tt
 
   its_call : (P : Standing → Type 0) → P (standing_as ids (StandingCall.Blocking call)) → IsSomeAnd m.store.standing P
   its_call P p = subst (λ (o : Option Standing). IsSomeAnd o P) (sym stands) p
 
-  composed : IsComposed contexts m line (step.Poll n)
-  composed = record { stream = tt; makes = tt; ends = λ es after. stream_stands; fails = λ es w handle after. stream_stands; full = λ es after. inr (inr stream_stands) }
-
   -- the fields are of those that a poll may give
   like : (its : BlockingCall) (fields : List Field) → GivesOf its fields → AreLike (kinds_of (step.Poll n)) fields
-  like (blocking.Read input len) fields g = rw g.1 (inr (inr (inr (inl (tt, tt)))))
-  like (blocking.Skip input len) fields g = rw g.1 (inr (inl (tt, tt)))
-  like (blocking.Splice to from len) fields g = rw g.1 (inr (inl (tt, tt)))
-  like (blocking.Write output rest) fields g = rw g (inl tt)
-  like (blocking.Finish output) fields g = rw g (inl tt)
-  like (blocking.Flush output) fields g = rw g (inl tt)
+  like (blocking.Read input len) fields g = rw g.1 (inl (inr (inr (inr (inl (tt, tt))))))
+  like (blocking.Skip input len) fields g = rw g.1 (inl (inr (inl (tt, tt))))
+  like (blocking.Splice to from len) fields g = rw g.1 (inl (inr (inl (tt, tt))))
+  like (blocking.Write output rest) fields g = rw g (inl (inl tt))
+  like (blocking.Finish output) fields g = rw g (inl (inl tt))
+  like (blocking.Flush output) fields g = rw g (inl (inl tt))
+  like (blocking.Block pollable) fields g = rw g (inl (inl tt))
+  like (blocking.Poll pollables) fields g = inr (g.0, g.1, g.2)
 
-  gives_so : (es : List Entry) (fields : List Field) (after : Machine) → GivesOf call fields → after.table ≡ m.table → Replies contexts m line (step.Poll n) es (reply.Ok fields) after
+  pub gives_so : (es : List Entry) (fields : List Field) (after : Machine) → GivesOf call fields → after.table ≡ m.table → Replies contexts m line (step.Poll n) es (reply.Ok fields) after
   gives_so es fields after g same = (like call fields g, its_call (λ s. GivesBy m fields after s.call) (g, same))
 
-  pends_so : (es : List Entry) (after : Machine) → after.table ≡ m.table → IsSomeAnd after.store.standing (λ c. c.ids.line ≡ n) → Replies contexts m line (step.Poll n) es (reply.Pending n) after
-  pends_so es after same on = ((refl, on), (λ fits. its_call (λ s. CallWaits m (own_of n) es s.call) tt, same, λ other. absurd (other stream_stands)))
+  pub pends_so : (es : List Entry) (after : Machine) → after.table ≡ m.table → IsSomeAnd after.store.standing (λ c. c.ids.line ≡ n) → Replies contexts m line (step.Poll n) es (reply.Pending n) after
+  pends_so es after same on = ((refl, on), (λ fits. its_call (λ s. CallWaits m (own_of n) es s.call) tt, same, λ other. absurd (other blocking_stands)))
 
-  frame : Frame contexts m line (step.Poll n) (nothing_stands m) ids call
-  frame = record {
-    is = composed;
-    table = refl;
-    gives = λ es fields after g same. gives_so es fields after g same;
-    pends = λ es now mid same. pends_so es (waiting mid ids now) same refl;
-    misses = λ missing. rw (stands, eq-eqb n n refl) missing;
-    quiet = λ live. (refl, refl);
-  }
+  -- == of a stream
+  module _ (of : IsCallOfStream call) where
+    stream_stands : StreamCallStands m
+    stream_stands = rw stands of
 
-  -- of a call that gives nothing
-  write_frame : GivesOf call no_fields → WriteFrame contexts m line (step.Poll n) ids
-  write_frame none = record {
-    is = composed;
-    gives = λ es after same. gives_so es no_fields after none same;
-    pends = λ es now mid same. pends_so es (waiting mid ids now) same refl;
-  }
+    composed : IsComposed contexts m line (step.Poll n)
+    composed = record { stream = tt; makes = tt; ends = λ es after. stream_stands; fails = λ es w handle after. stream_stands; full = λ es after. inr (inr stream_stands) }
 
-  -- before anything was done of it
-  begun : {f : WriteFrame contexts m line (step.Poll n) ids} (c output : ℕ) → (MissesOutput (nothing_stands m) output → MissesStream (nothing_stands m) call) → Ahead contexts m line (step.Poll n) c ids output f [] (nothing_stands m)
-  begun c output so = record { table = refl; unmarked = refl; misses = λ missing. (frame.misses (so missing), frame.quiet) }
+    frame : Frame contexts m line (step.Poll n) (nothing_stands m) ids call
+    frame = record {
+      is = composed;
+      table = refl;
+      gives = λ es fields after g same. gives_so es fields after g same;
+      pends = λ es now mid same. pends_so es (waiting mid ids now) same refl;
+      misses = λ missing. rw (stands, eq-eqb n n refl) missing;
+      quiet = λ live. (refl, refl);
+    }
+
+    -- of a call that gives nothing
+    write_frame : GivesOf call no_fields → WriteFrame contexts m line (step.Poll n) ids
+    write_frame none = record {
+      is = composed;
+      gives = λ es after same. gives_so es no_fields after none same;
+      pends = λ es now mid same. pends_so es (waiting mid ids now) same refl;
+    }
+
+    -- before anything was done of it
+    begun : {f : WriteFrame contexts m line (step.Poll n) ids} (c output : ℕ) → (MissesOutput (nothing_stands m) output → MissesStream (nothing_stands m) call) → Ahead contexts m line (step.Poll n) c ids output f [] (nothing_stands m)
+    begun c output so = record { table = refl; unmarked = refl; misses = λ missing. (frame.misses (so missing), frame.quiet) }
 
   -- == as the poll reports it
-  abbrev PolledRow : Rows (Result (Answer Given) Stop × Machine)
+  abbrev pub PolledRow : Rows (Result (Answer Given) Stop × Machine)
   PolledRow es done = Outcome contexts m line (step.Poll n) es (resumed_reply n (resumed done).0) (resumed done).1
 
   abbrev Continues : {A : Type 0} → (A → List Field) → Rows (Blocked A)
@@ -103,7 +110,7 @@ module _ (contexts : List WasiSocketsCtx) (m : Machine) (line : ℕ) (ids : Ids)
   stands_so none = let same : stands_as m.store.standing n ≡ true = ap (λ (o : Option Standing). stands_as o n) stands ∙ eq-eqb n n refl in cc
 
   -- what it leaves pending
-  its_answer : (es : List Entry) (r : Reply) (after : Machine) → r ≢ reply.NoSuchCall → (r ≡ reply.Pending n) ⊎ (after.store.standing ≡ None) → ((c : ℕ) → IsShort call → BlocksAs contexts (nothing_stands m) c ids call es r after) → Replies contexts m line (step.Poll n) es r after → Outcome contexts m line (step.Poll n) es r after
+  pub its_answer : (es : List Entry) (r : Reply) (after : Machine) → r ≢ reply.NoSuchCall → (r ≡ reply.Pending n) ⊎ (after.store.standing ≡ None) → ((c : ℕ) → IsShort call → BlocksAs contexts (nothing_stands m) c ids call es r after) → Replies contexts m line (step.Poll n) es r after → Outcome contexts m line (step.Poll n) es r after
   its_answer es r after other left so row = ((apart other stands_so, λ same. left, goes_on es r after so), row)
 
   polled : {A : Type 0} (fields : A → List Field) (gives : A → Given) → ((value : A) → outcome_reply n (Ready (gives value)) ≡ reply.Ok (fields value)) → (es : List Entry) (given : Result (Answer A) CallStop) (after : Machine) → Continues fields es (given, after) → Settled (nothing_stands m) es (given, after) → PolledRow es (blocked_outcome gives (given, after))
@@ -114,22 +121,24 @@ module _ (contexts : List WasiSocketsCtx) (m : Machine) (line : ℕ) (ids : Ids)
   polled fields gives same es (Err (TrapsBy kind)) after k free = its_answer es (reply.Trap kind) after (λ e. cc) (inr free) k.0 k.1
 
 -- by the call
-pub stream_goes_on : (contexts : List WasiSocketsCtx) (m : Machine) (line : ℕ) (ids : Ids) (call : BlockingCall) (stands : m.store.standing ≡ Some (standing_as ids (StandingCall.Blocking call))) → Meets (PolledRow contexts m line ids call stands) [] (unblock_asks (nothing_stands m) ids call)
-stream_goes_on contexts m line ids (blocking.Read input len) stands =
+pub stream_goes_on : (contexts : List WasiSocketsCtx) (m : Machine) (line : ℕ) (ids : Ids) (call : BlockingCall) (stands : m.store.standing ≡ Some (standing_as ids (StandingCall.Blocking call))) → IsCallOfStream call → Meets (PolledRow contexts m line ids call stands) [] (unblock_asks (nothing_stands m) ids call)
+stream_goes_on contexts m line ids (blocking.Read input len) stands of =
     onto _ (widen (λ es done k. polled contexts m line ids (blocking.Read input len) stands bytes_fields given.Bytes (λ v. refl) es done.0 done.1 (λ c short. (k.0 c).0 refl, (k.0 0).1) k.1)
-    (both (granted_each (λ (c : ℕ). reads_on contexts m line (step.Poll ids.line) (nothing_stands m) c ids input len (frame contexts m line ids (blocking.Read input len) stands))) (reads_settle (nothing_stands m) ids input len)))
-stream_goes_on contexts m line ids (blocking.Skip input len) stands =
+    (both (granted_each (λ (c : ℕ). reads_on contexts m line (step.Poll ids.line) (nothing_stands m) c ids input len (frame contexts m line ids (blocking.Read input len) stands tt))) (reads_settle (nothing_stands m) ids input len)))
+stream_goes_on contexts m line ids (blocking.Skip input len) stands of =
     onto _ (widen (λ es done k. polled contexts m line ids (blocking.Skip input len) stands number_fields given.Count (λ v. refl) es done.0 done.1 (λ c short. (k.0 c).0 refl, (k.0 0).1) k.1)
-    (both (granted_each (λ (c : ℕ). skips_on contexts m line (step.Poll ids.line) (nothing_stands m) c ids input len (frame contexts m line ids (blocking.Skip input len) stands))) (skips_settle (nothing_stands m) ids input len)))
-stream_goes_on contexts m line ids (blocking.Splice to from len) stands =
+    (both (granted_each (λ (c : ℕ). skips_on contexts m line (step.Poll ids.line) (nothing_stands m) c ids input len (frame contexts m line ids (blocking.Skip input len) stands tt))) (skips_settle (nothing_stands m) ids input len)))
+stream_goes_on contexts m line ids (blocking.Splice to from len) stands of =
     onto _ (widen (λ es done k. polled contexts m line ids (blocking.Splice to from len) stands number_fields given.Count (λ v. refl) es done.0 done.1 (λ c short. (k.0 c).0 refl, (k.0 0).1) k.1)
-    (both (granted_each (λ (c : ℕ). splices_on contexts m line (step.Poll ids.line) (nothing_stands m) c ids to from len (frame contexts m line ids (blocking.Splice to from len) stands) (λ readable missing es after live. absurd (let its : HasItsHandle m (StandingCall.Blocking (blocking.Splice to from len)) = rw stands at live in its.0 (inr missing))))) (splices_settle (nothing_stands m) ids to from len)))
-stream_goes_on contexts m line ids (blocking.Write output rest) stands =
+    (both (granted_each (λ (c : ℕ). splices_on contexts m line (step.Poll ids.line) (nothing_stands m) c ids to from len (frame contexts m line ids (blocking.Splice to from len) stands tt) (λ readable missing es after live. absurd (let its : HasItsHandle m (StandingCall.Blocking (blocking.Splice to from len)) = rw stands at live in its.0 (inr missing))))) (splices_settle (nothing_stands m) ids to from len)))
+stream_goes_on contexts m line ids (blocking.Write output rest) stands of =
     onto _ (widen (λ es done k. polled contexts m line ids (blocking.Write output rest) stands no_values nothing_given (λ v. refl) es done.0 done.1 (λ c short. (k.0 c).0 short refl, (k.0 0).1) k.1)
-    (both (granted_each (λ (c : ℕ). rounds contexts m line (step.Poll ids.line) c ids output (write_frame contexts m line ids (blocking.Write output rest) stands refl) 4095 (nothing_stands m) [] (begun contexts m line ids (blocking.Write output rest) stands c output (λ missing. missing)) rest)) (rounds_settle (nothing_stands m) ids output 4096 (nothing_stands m) refl rest [])))
-stream_goes_on contexts m line ids (blocking.Finish output) stands =
+    (both (granted_each (λ (c : ℕ). rounds contexts m line (step.Poll ids.line) c ids output (write_frame contexts m line ids (blocking.Write output rest) stands tt refl) 4095 (nothing_stands m) [] (begun contexts m line ids (blocking.Write output rest) stands tt c output (λ missing. missing)) rest)) (rounds_settle (nothing_stands m) ids output 4096 (nothing_stands m) refl rest [])))
+stream_goes_on contexts m line ids (blocking.Finish output) stands of =
     onto _ (widen (λ es done k. polled contexts m line ids (blocking.Finish output) stands no_values nothing_given (λ v. refl) es done.0 done.1 (λ c short. (k.0 c).0 refl, (k.0 0).1) k.1)
-    (both (granted_each (λ (c : ℕ). last_rows contexts m line (step.Poll ids.line) c ids output (write_frame contexts m line ids (blocking.Finish output) stands refl) (nothing_stands m) [] (begun contexts m line ids (blocking.Finish output) stands c output (λ missing. missing)))) (lasts_settle (nothing_stands m) ids output)))
-stream_goes_on contexts m line ids (blocking.Flush output) stands =
+    (both (granted_each (λ (c : ℕ). last_rows contexts m line (step.Poll ids.line) c ids output (write_frame contexts m line ids (blocking.Finish output) stands tt refl) (nothing_stands m) [] (begun contexts m line ids (blocking.Finish output) stands tt c output (λ missing. missing)))) (lasts_settle (nothing_stands m) ids output)))
+stream_goes_on contexts m line ids (blocking.Flush output) stands of =
     onto _ (widen (λ es done k. polled contexts m line ids (blocking.Flush output) stands no_values nothing_given (λ v. refl) es done.0 done.1 (λ c short. (k.0 c).0 refl, (k.0 0).1) k.1)
-    (both (granted_each (λ (c : ℕ). flush_rows contexts m line (step.Poll ids.line) c ids output (write_frame contexts m line ids (blocking.Flush output) stands refl) (nothing_stands m) [] (begun contexts m line ids (blocking.Flush output) stands c output (λ missing. missing)))) (flushes_settle (nothing_stands m) ids output)))
+    (both (granted_each (λ (c : ℕ). flush_rows contexts m line (step.Poll ids.line) c ids output (write_frame contexts m line ids (blocking.Flush output) stands tt refl) (nothing_stands m) [] (begun contexts m line ids (blocking.Flush output) stands tt c output (λ missing. missing)))) (flushes_settle (nothing_stands m) ids output)))
+stream_goes_on contexts m line ids (blocking.Block pollable) stands of = absurd of
+stream_goes_on contexts m line ids (blocking.Poll pollables) stands of = absurd of

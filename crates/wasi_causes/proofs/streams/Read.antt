@@ -40,6 +40,7 @@ module _ (contexts : List WasiSocketsCtx) (m : Machine) (line : ℕ) where
     trapped es trap.StreamsAlive after h = absurd h.0
     trapped es trap.Capacity after h = absurd h.0
     trapped es trap.TooLong after h = absurd h.0
+    trapped es trap.EmptyList after h = absurd h.0
     trapped es _ after h = absurd h
 
     misses : (es : List Entry) (r : Reply) (after : Machine) → Contained es r after → pipe_of m (plain_output_at m output) ≡ None → r ≡ reply.Trap trap.NoSuchHandle

@@ -302,5 +302,5 @@ module _ (m : Machine) where
 
   pub turn : (contexts : List WasiSocketsCtx) (line : ℕ) → Meets (Says contexts m line step.Turn) [] (bind (turn_machine_asks m) (λ done. Give (reply.Ok no_fields, done.1)))
   turn contexts line =
-      onto _ (widen (λ es done k. (record { ok = refl; asked = k.0.0; handles = k.0.1.0; pending = k.0.1.1; lookups = k.1.0; streams = k.1.1.streams; pipes = λ place. (k.1.1.inputs place, k.1.1.outputs place) }, (tt, tt)))
+      onto _ (widen (λ es done k. (record { ok = refl; asked = k.0.0; handles = k.0.1.0; pending = k.0.1.1; lookups = k.1.0; sockets = k.1.1.sockets; opens = k.1.1.opens; streams = k.1.1.streams; pipes = λ place. (k.1.1.inputs place, k.1.1.outputs place) }, (tt, tt)))
       (both (record { along = allows_keep TurnAsks (λ es op call. ⊤) AllByJobs SameTable one_more (λ es op call its. tt) [] (turn_machine_asks m) (λ e has. absurd has) turn_by }) (both (lookups_turned m) (streams_turned m))))

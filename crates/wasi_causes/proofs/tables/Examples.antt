@@ -2,7 +2,7 @@
 use Rattle.wasi_causes.proofs.Words.{List, None, ◌≡◌, inl, inr, ℕ, [], ◌∷◌, IpSocketAddress, SocketAddressFamily, NoSuchHandle, HasChildren, Full, NotPermitted, Reply, Step}
 use Rattle.wasi_steps.specs.declared.reply.CodeWord.TheVariants as word
 use Rattle.wasi_world.specs.declared.datagram.OutgoingDatagram.{OutgoingDatagram}
-use Rattle.wasi_world.specs.declared.outcome.TrapKind.TheVariants.{Capacity, StreamsAlive, TooLong}
+use Rattle.wasi_world.specs.declared.outcome.TrapKind.TheVariants.{Capacity, EmptyList, StreamsAlive, TooLong}
 use Rattle.wasi_steps.specs.declared.reply.Field.TheVariants as field
 use Rattle.wasi_steps.specs.declared.reply.Reply.TheVariants as reply
 use Rattle.wasi_steps.specs.declared.step.Step.TheVariants as step
@@ -16,7 +16,7 @@ of_no_step line s = (λ h. h, λ h. h)
 
 -- a poll answers for the call that it polls, and is no guest call
 of_no_poll : Never 7 (step.Poll 3) (reply.Pending 7) × Never 7 (step.Poll 3) reply.Busy × Never 7 (step.Poll 3) (reply.Ok (field.True ∷ [])) × Never 7 (step.Poll 3) (reply.Trap NotPermitted)
-of_no_poll = (λ h. absurd (let e : 7 ≡ 3 = h in cc), λ h. absurd (cc), λ h. elim h [ inl k ↦ k | inr k ↦ elim k [ inl j ↦ j.0 | inr j ↦ elim j [ inl i ↦ i.0 | inr i ↦ elim i [ inl l ↦ l.0 | inr l ↦ l ] ] ] ], λ h. elim h [ inl w ↦ w | inr s ↦ s ])
+of_no_poll = (λ h. absurd (let e : 7 ≡ 3 = h in cc), λ h. absurd (cc), λ h. elim h [ inl g ↦ elim g [ inl k ↦ k | inr k ↦ elim k [ inl j ↦ j.0 | inr j ↦ elim j [ inl i ↦ i.0 | inr i ↦ elim i [ inl l ↦ l.0 | inr l ↦ l ] ] ] ] | inr g ↦ absurd (let e = g.2 in cc) ], λ h. elim h [ inl w ↦ w | inr s ↦ s ])
 
 -- a cancel is never pending, traps for nothing, gives nothing but that it is done, and ends no stream
 of_no_cancel : (n : ℕ) → Never 7 (step.Cancel 3) (reply.Pending n) × Never 7 (step.Cancel 3) (reply.Trap NoSuchHandle) × Never 7 (step.Cancel 3) (reply.Ok (field.Number n ∷ [])) × Never 7 (step.Cancel 3) reply.Closed
@@ -38,6 +38,11 @@ traps_of_others = (λ h. h, λ h. h, λ h. h, λ h. elim h [ inl w ↦ w | inr s
 -- a look at a pollable answers with one truth value
 of_no_look : Never 7 (step.Ready 0 1) (reply.Ok (field.True ∷ field.True ∷ [])) × Never 7 (step.Ready 0 1) (reply.Ok (field.Number 1 ∷ []))
 of_no_look = (λ h. h.1, λ h. h.0)
+
+-- a wait is pending under its own line, is never refused, and one for some gives places, one at least, and isn't for none
+of_no_wait : (c p n : ℕ) (ps : List ℕ) → Never 7 (step.Block c p) (reply.Pending 6) × Never 7 (step.Block c p) (reply.Ok (field.True ∷ [])) × Never 7 (step.Block c p) (reply.Trap EmptyList) × Never 7 (step.PollList c ps) (reply.Err word.WouldBlock) × Never 7 (step.PollList c ps) (reply.Ok [])
+    × Never 7 (step.PollList c ps) (reply.Trap Full) × Never 7 (step.PollList c (p ∷ ps)) (reply.Trap EmptyList)
+of_no_wait c p n ps = (λ k. absurd (let e : 6 ≡ 7 = k in cc), λ k. k, λ k. k, λ k. k, λ k. absurd (let e = k.2 in cc), λ k. k, λ k. absurd (let e : p ∷ ps ≡ [] = k in cc))
 
 -- a finish of a bind of a UDP socket waits for nothing, its family is never refused, a create names no handle and is pending under
 -- its own line, and a look at its remote address is refused in one way

@@ -14,6 +14,7 @@ use Rattle.wasi_causes.proofs.udp_streams.Receives.{udp_receive}
 use Rattle.wasi_causes.proofs.udp_streams.Streams.{udp_stream}
 use Rattle.wasi_causes.proofs.resolving.Begins.{resolve}
 use Rattle.wasi_causes.proofs.resolving.Hands.{network_error_code, resolve_next}
+use Rattle.wasi_causes.proofs.pollables.Steps.{block, poll_list}
 use Rattle.wasi_causes.proofs.streams.Halves.{read, check_write, write, flush}
 use Rattle.wasi_causes.proofs.streams.Turns.{turn}
 use Rattle.wasi_causes.proofs.streams.Makes.{closed_in, closed_out, pipe_contents, pipe_in, pipe_out, sink}
@@ -22,7 +23,7 @@ use Rattle.wasi_causes.proofs.streams.Splices.{skip, splice, write_zeroes}
 use Rattle.wasi_causes.proofs.streams.BlockingSteps.{blocking_flush, blocking_read, blocking_skip, blocking_splice, blocking_write, blocking_zeroes}
 use Rattle.wasi_causes.proofs.tables.Meets.{Meets, ends, widen, branch, met, chain, shifted}
 use Rattle.wasi_causes.proofs.tables.Routes.{Says}
-use Rattle.wasi_causes.specs.Outcomes.{InputOfSpliceIsThere, Outcome, Quiet, IsStreamCall, MayRefuse, MayMiss, MayTrap, MayWait, may_answer, EachMayAnswer, LeavesMissing, Looks, Traps}
+use Rattle.wasi_causes.specs.Outcomes.{LaterPartIsThere, Outcome, Quiet, IsStreamCall, MayRefuse, MayMiss, MayTrap, MayWait, may_answer, EachMayAnswer, LeavesMissing, Looks, Traps}
 use Rattle.wasi_causes.specs.Datagrams.{PendingHandleIsLive}
 use Rattle.wasi_walks.specs.Waiting.{IsPoll, left_missing}
 use Rattle.wasi_steps.specs.Steps.{context_of}
@@ -83,6 +84,8 @@ module _ (contexts : List WasiSocketsCtx) (m : Machine) (line : ℕ) where
   rows (step.BlockingZeroes c output len) = blocking_zeroes contexts m line c output len
   rows (step.BlockingFlush c output) = blocking_flush contexts m line c output
   rows (step.BlockingSplice c to from len) = blocking_splice contexts m line c to from len
+  rows (step.Block c p) = block contexts m line c p
+  rows (step.PollList c ps) = poll_list contexts m line c ps
   rows (step.Cancel n) = cancel contexts m line n
   rows (step.Subscribe c h) = subscribe contexts m line c h
   rows (step.Ready c p) = ready contexts m line c p
@@ -168,6 +171,8 @@ waits m line n (step.BlockingWrite ctx output bytes) h = h
 waits m line n (step.BlockingZeroes ctx output len) h = h
 waits m line n (step.BlockingFlush ctx output) h = h
 waits m line n (step.BlockingSplice ctx to from len) h = h
+waits m line n (step.Block ctx pollable) h = h
+waits m line n (step.PollList ctx pollables) h = h
 waits m line n (step.Poll call) h = h
 waits m line n _ h = absurd h
 
@@ -184,6 +189,7 @@ module _ (contexts : List WasiSocketsCtx) (m : Machine) (line : ℕ) where
   traps s es trap.StreamsAlive after h = h.0
   traps s es trap.Capacity after h = h.0
   traps s es trap.TooLong after h = h.0
+  traps s es trap.EmptyList after h = h.0
   traps s es _ after h = absurd h
 
   by_row : (s : Step) (es : List Entry) (r : Reply) (after : Machine) → Outcome contexts m line s es r after → may_answer line s r
@@ -223,21 +229,24 @@ no_failure line s words stream (reply.Failed w handle) h f = stream h.0
 no_failure line s words stream _ h f = f
 
 -- == what is read off for a reader
--- where a handle is missed; a poll's, where that of pending datagram streams is live, and a splice's, where its input is there
-pub missing_left : (m : Machine) (s : Step) (es : List Entry) (after : Machine) → (IsPoll s → PendingHandleIsLive m) → InputOfSpliceIsThere m s → LeavesMissing m s es after → (es ≡ []) × (after ≡ left_missing m s)
+-- where a handle is missed; a poll's, where that of pending datagram streams is live, a splice's, where its input is there, and that of
+-- a wait for several pollables, where what they watch is
+pub missing_left : (m : Machine) (s : Step) (es : List Entry) (after : Machine) → (IsPoll s → PendingHandleIsLive m) → LaterPartIsThere m s → LeavesMissing m s es after → (es ≡ []) × (after ≡ left_missing m s)
 missing_left m (step.Poll n) es after live there h = h (live tt)
 missing_left m (step.Splice c to from len) es after live there h = h there
 missing_left m (step.BlockingSplice c to from len) es after live there h = h there
+missing_left m (step.PollList c ps) es after live there h = h there
 missing_left m _ es after live there h = h
 
-pub trap_kinds : (contexts : List WasiSocketsCtx) (m : Machine) (line : ℕ) (s : Step) (es : List Entry) (kind : TrapKind) (after : Machine) → Traps contexts m line s es kind after → (kind ≡ trap.NoSuchHandle) ⊎ ((kind ≡ trap.HasChildren) ⊎ ((kind ≡ trap.Full) ⊎ ((kind ≡ trap.NotPermitted) ⊎ ((kind ≡ trap.StreamsAlive) ⊎ ((kind ≡ trap.Capacity) ⊎ (kind ≡ trap.TooLong))))))
+pub trap_kinds : (contexts : List WasiSocketsCtx) (m : Machine) (line : ℕ) (s : Step) (es : List Entry) (kind : TrapKind) (after : Machine) → Traps contexts m line s es kind after → (kind ≡ trap.NoSuchHandle) ⊎ ((kind ≡ trap.HasChildren) ⊎ ((kind ≡ trap.Full) ⊎ ((kind ≡ trap.NotPermitted) ⊎ ((kind ≡ trap.StreamsAlive) ⊎ ((kind ≡ trap.Capacity) ⊎ ((kind ≡ trap.TooLong) ⊎ (kind ≡ trap.EmptyList)))))))
 trap_kinds contexts m line s es trap.NoSuchHandle after h = inl refl
 trap_kinds contexts m line s es trap.HasChildren after h = inr (inl refl)
 trap_kinds contexts m line s es trap.Full after h = inr (inr (inl refl))
 trap_kinds contexts m line s es trap.NotPermitted after h = inr (inr (inr (inl refl)))
 trap_kinds contexts m line s es trap.StreamsAlive after h = inr (inr (inr (inr (inl refl))))
 trap_kinds contexts m line s es trap.Capacity after h = inr (inr (inr (inr (inr (inl refl)))))
-trap_kinds contexts m line s es trap.TooLong after h = inr (inr (inr (inr (inr (inr refl)))))
+trap_kinds contexts m line s es trap.TooLong after h = inr (inr (inr (inr (inr (inr (inl refl))))))
+trap_kinds contexts m line s es trap.EmptyList after h = inr (inr (inr (inr (inr (inr (inr refl))))))
 trap_kinds contexts m line s es _ after h = absurd h
 
 pub quiet_never : (contexts : List WasiSocketsCtx) (m : Machine) (line : ℕ) (s : Step) (es : List Entry) (w : CodeWord) (after : Machine) → IsQuiet s → Answered contexts m line s es (reply.Err w) after → ⊥

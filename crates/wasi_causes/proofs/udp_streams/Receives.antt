@@ -11,9 +11,10 @@ use Rattle.wasi_world.specs.declared.ids.Ids.{Ids}
 use Rattle.wasi_udp.specs.Receive.{receive_start}
 use Rattle.wasi_udp.specs.Shape.{Socket}
 use Rattle.wasi_host.specs.DatagramCalls.{receive_datagrams_at, with_receive}
+use Rattle.wasi_host.specs.Host.{code_stop}
 use Rattle.wasi_host.specs.Machine.{incoming_at}
 use Rattle.wasi_host.specs.Names.{next_name}
-use Rattle.wasi_host.specs.Receiving.{all_received, fetch_asks, fetch_names, poll_receive_asks, receive_after, receive_all, receive_datagrams_asks, receive_left, receive_next_asks, receives, taken_from, with_receiving}
+use Rattle.wasi_host.specs.Receiving.{all_received, fetch_asks, fetch_names, is_receiving, poll_receive_asks, receive_after, receive_all, receive_datagrams_asks, receive_left, receive_next_asks, receives, taken_from, with_receiving}
 use Rattle.wasi_host.specs.Records.{open_at}
 use Rattle.wasi_host.specs.declared.datagrams.Incoming.{Incoming}
 use Rattle.wasi_host.specs.declared.datagrams.Receiving.{Receiving}
@@ -28,9 +29,9 @@ use Rattle.wasi_causes.proofs.operations.DatagramPolls.{ReceiveRow as PollRow, r
 use Rattle.wasi_causes.proofs.sockets.Udp.{ItsBound, ItsFree, UdpBoundRow, udp_bounds}
 use Rattle.wasi_causes.proofs.tables.Meets.{After, Meets, Rows, chain, ends, onto, shifted, widen}
 use Rattle.wasi_causes.proofs.tables.Routes.{Replied, Says, code_word}
-use Rattle.wasi_causes.proofs.udp_streams.Routes.{any_at, kept_same, on_open_record}
-use Rattle.wasi_causes.specs.SendCauses.{BoundSo, FirstReceiveFails, IsBoundSo, IsFreeSo, ReceiveFailedBefore, UdpReceiveRefusal, first_receive}
-use Rattle.wasi_causes.specs.Udp.{udp_local_entry}
+use Rattle.wasi_causes.proofs.udp_streams.Routes.{any_at, jobless, kept_same, on_open_record}
+use Rattle.wasi_causes.specs.SendCauses.{BoundSo, FirstReceiveFails, IsBoundSo, IsFreeSo, ReceiveFailedBefore, UdpReceiveRefusal, first_receive, found_so}
+use Rattle.wasi_causes.specs.Udp.{putting_udp, udp_local_entry}
 
 -- at most so many, and no code
 abbrev Within : ℕ → Result (List IncomingDatagram) ErrorCode → Type 0
@@ -54,8 +55,12 @@ rest_so (suc n) (suc room) ids d ds s es = chain {Mid = λ fs r. ⊤} (any_at es
     by_next next fs (Ok Pending, t) = ends (omega arith)
     by_next next fs (Err c, t) = ends (omega arith)
 
+-- a receive is refused, and this is left: none is in progress
+abbrev Leaves : Machine → ℕ → Ids → OpenUdp → Incoming → ErrorCode → List Entry → Socket × Incoming → Type 0
+Leaves m place ids o inc c es s = UdpReceiveRefusal m (next_name ids) place o inc es (word_of_code c) (putting_udp m place (record o { inner = s.0; incoming = Some s.1 })) × (is_receiving s.1.receiving ≡ false)
+
 -- == the first of a list
-module _ (ids : Ids) (o : OpenUdp) (inc : Incoming) where
+module _ (m : Machine) (place : ℕ) (ids : Ids) (o : OpenUdp) (inc : Incoming) where
   -- the name of the first receive
   abbrev own : OpId
   own = next_name ids
@@ -63,7 +68,7 @@ module _ (ids : Ids) (o : OpenUdp) (inc : Incoming) where
   -- the first comes, or doesn't come yet, or is refused for this reason
   abbrev FirstRow : Rows (Result (Answer IncomingDatagram) ErrorCode × (Socket × Incoming))
   FirstRow es (Ok answer, s) = ⊤
-  FirstRow es (Err c, s) = UdpReceiveRefusal own o inc es (word_of_code c)
+  FirstRow es (Err c, s) = Leaves m place ids o inc c es s
 
   -- the socket, known to be bound
   abbrev known : Socket
@@ -73,28 +78,28 @@ module _ (ids : Ids) (o : OpenUdp) (inc : Incoming) where
   module _ (none : inc.receiving ≡ Receiving.Nothing) where
     -- its poll ended
     ended : (asked : List Entry) (bound : Bool) → BoundSo own o.inner asked bound → (es : List Entry) (end : End × List Item) → After (PollRow (first_receive own o inc bound) refl inc.remote) asked es end
-        → (socket : Socket) (op : Operation) → FirstRow es (taken_from (socket, with_receiving inc (receive_left op end)))
-    ended asked bound so es (Waits, items) k socket op = tt
-    ended asked bound so es (Done (Datagram bytes a), items) k socket op = tt
-    ended asked bound so es (Done _, items) k socket op = tt
-    ended asked bound so es (Refused c given, items) k socket op = rw k.cut (FirstReceiveFails asked k.rest bound c none so k.row)
+        → (op : Operation) → FirstRow es (taken_from (found_so bound o.inner, with_receiving inc (receive_left op end)))
+    ended asked bound so es (Waits, items) k op = tt
+    ended asked bound so es (Done (Datagram bytes a), items) k op = tt
+    ended asked bound so es (Done _, items) k op = tt
+    ended asked bound so es (Refused c given, items) k op = rw k.cut (FirstReceiveFails asked k.rest bound c none so k.row, refl)
 
     -- by whether the socket is bound
     by_bound : (es : List Entry) (b : Bool × Socket) → UdpBoundRow own o.inner es b → Meets (λ fs t. FirstRow fs (taken_from t)) es (poll_receive_asks b.1 inc (receive_start own b.1 b.0))
-    by_bound _ _ (ItsBound es is) = onto _ (widen (λ fs end k. ended es true (IsBoundSo es is) fs end k known (receive_start own known true)) (shifted es (receive_ends own o inc true)))
-    by_bound _ _ (ItsFree local free) = onto _ (widen (λ fs end k. ended (udp_local_entry own o.inner local ∷ []) false (IsFreeSo local free) fs end k o.inner (receive_start own o.inner false)) (shifted (udp_local_entry own o.inner local ∷ []) (receive_ends own o inc false)))
+    by_bound _ _ (ItsBound es is) = onto _ (widen (λ fs end k. ended es true (IsBoundSo es is) fs end k (receive_start own known true)) (shifted es (receive_ends own o inc true)))
+    by_bound _ _ (ItsFree local free) = onto _ (widen (λ fs end k. ended (udp_local_entry own o.inner local ∷ []) false (IsFreeSo local free) fs end k (receive_start own o.inner false)) (shifted (udp_local_entry own o.inner local ∷ []) (receive_ends own o inc false)))
 
   -- by what the stream receives
   fetches : (receiving : Receiving) → inc.receiving ≡ receiving → Meets (λ es t. FirstRow es (taken_from t)) [] (fetch_asks own receiving (o.inner, inc))
   fetches Receiving.Nothing is = chain {Mid = λ es begun. Meets (λ fs t. FirstRow fs (taken_from t)) es (poll_receive_asks begun.1 inc begun.0)} (onto _ (widen (by_bound is) (udp_bounds own o.inner))) (λ es begun k. k)
   fetches (Receiving.InProgress op) is = ends (rw is tt)
   fetches (Receiving.Came d) is = ends (rw is tt)
-  fetches (Receiving.Failed c) is = ends (rw is (ReceiveFailedBefore c is))
+  fetches (Receiving.Failed c) is = ends (rw is (ReceiveFailedBefore c is, refl))
 
   -- all of them
   abbrev pub TakenSo : ℕ → Rows (Result (List IncomingDatagram) ErrorCode × (Socket × Incoming))
   TakenSo most es (Ok ds, s) = length ds ≤ most
-  TakenSo most es (Err c, s) = UdpReceiveRefusal own o inc es (word_of_code c)
+  TakenSo most es (Err c, s) = Leaves m place ids o inc c es s
 
   -- with one received, no code is answered
   within_so : (most : ℕ) (es : List Entry) (done : Result (List IncomingDatagram) ErrorCode × (Socket × Incoming)) → Within most done.0 → TakenSo most es done
@@ -125,17 +130,24 @@ module _ (contexts : List WasiSocketsCtx) (m : Machine) (line c handle : ℕ) wh
       abbrev ReceivedRow : Rows (Result (List IncomingDatagram) Stop × OpenUdp)
       ReceivedRow es done = ReceiveRow es (with_store m (done.0, with_receive m.store place o done.1))
 
+      -- it is refused, and no job begins
+      refused_so : (inc : Incoming) (code : ErrorCode) (es : List Entry) (s : Socket × Incoming) → Leaves m place (first_ids line) o inc code es s
+          → UdpReceiveRefusal m (next_name (first_ids line)) place o inc es (word_of_code code) (with_store {A = Result (List IncomingDatagram) Stop} m (Err (code_stop code), with_receive m.store place o (record o { inner = s.0; incoming = Some s.1 }))).1
+      refused_so inc code es s k =
+          subst (λ (store : Records). let left : Machine = record m { store = store } in UdpReceiveRefusal m (next_name (first_ids line)) place o inc es (word_of_code code) left)
+          (sym (jobless m.store place (record o { inner = s.0; incoming = Some s.1 }) (Receive place) (receives o.incoming) (is_receiving s.1.receiving) k.1)) k.0
+
       -- what was received is in the table
-      received_so : (inc : Incoming) → o.incoming ≡ Some inc → (es : List Entry) (done : Result (List IncomingDatagram) ErrorCode × (Socket × Incoming)) → TakenSo (first_ids line) o inc (min most 16) es done → ReceivedRow es (all_received o done)
+      received_so : (inc : Incoming) → o.incoming ≡ Some inc → (es : List Entry) (done : Result (List IncomingDatagram) ErrorCode × (Socket × Incoming)) → TakenSo m place (first_ids line) o inc (min most 16) es done → ReceivedRow es (all_received o done)
       received_so inc has es (Ok ds, s) k = (tt, ((ds, refl), record { datagrams = ds; gives = refl; wanted = let le = min-le_left most 16 in omega (arith, le, k); within = let le = min-le_right most 16 in omega (arith, le, k) }))
-      received_so inc has es (Err code, s) k = (tt, (code_word code, record { place = place; found = o; stream = inc; names = names; at = at; has = has; holds = k }))
+      received_so inc has es (Err code, s) k = (tt, (code_word code, record { place = place; found = o; stream = inc; names = names; at = at; has = has; holds = refused_so inc code es s k }))
 
       -- by the stream of the socket
       by_incoming : (inc : Option Incoming) → o.incoming ≡ inc → Meets ReceivedRow [] (receive_datagrams_asks (first_ids line) most o inc)
       by_incoming None has =
           ends (subst (λ (store : Records). let left : Machine = record m { store = store } in ReceiveRow [] (Err (Trap NoSuchHandle), left)) (sym (kept_same m.store place o (Receive place) (receives o.incoming) at))
           (tt, (ap incoming_of_open (ap (open_in m) names ∙ at) ∙ has, (refl, refl))))
-      by_incoming (Some inc) has = onto _ (widen (received_so inc has) (all_taken (first_ids line) o inc (min most 16) 65536))
+      by_incoming (Some inc) has = onto _ (widen (received_so inc has) (all_taken m place (first_ids line) o inc (min most 16) 65536))
 
     -- the step
     pub udp_receive : Meets (Says contexts m line (step.UdpReceive c handle most)) [] (bind (receive_datagrams_on m (first_ids line) most (incoming_at m handle)) (λ done. Give (reply_of datagram_values done.0, done.1)))

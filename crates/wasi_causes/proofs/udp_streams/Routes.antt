@@ -21,6 +21,15 @@ never_both : (b : Bool) → (not b && b) ≡ false
 never_both true = refl
 never_both false = refl
 
+-- nothing begins that isn't there now
+none_begins : (b : Bool) → (not b && false) ≡ false
+none_begins true = refl
+none_begins false = refl
+
+-- one that has none now begins none
+pub jobless : (store : Records) (place : ℕ) (now : OpenUdp) (job : HostJob) (b has : Bool) → has ≡ false → with_job (with_open_udp store place now) job (not b && has) ≡ with_open_udp store place now
+jobless store place now job b has none = ap (λ (h : Bool). with_job (with_open_udp store place now) job (not b && h)) none ∙ ap (with_job (with_open_udp store place now) job) (none_begins b)
+
 -- a socket that stays as it was begins none
 pub kept_same : (store : Records) (place : ℕ) (o : OpenUdp) (job : HostJob) (b : Bool) → open_at store.records place ≡ Some o → with_job (with_open_udp store place o) job (not b && b) ≡ store
 kept_same store place o job b at = ap (with_job (with_open_udp store place o) job) (never_both b) ∙ open_same store place o at

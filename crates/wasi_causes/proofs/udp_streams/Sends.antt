@@ -8,7 +8,7 @@ use Rattle.wasi_world.specs.declared.ids.Ids.{Ids}
 use Rattle.wasi_udp.specs.Send.{IsSend, at_remote, send_asks, send_start}
 use Rattle.wasi_udp.specs.Shape.{Socket}
 use Rattle.wasi_host.specs.DatagramCalls.{begins_send, check_send_at, check_send_by, datagrams_sent, send_datagrams_at}
-use Rattle.wasi_host.specs.Datagrams.{all_sent, count_told, one_sent, poll_send_asks, send_after, send_all, send_datagrams_asks, send_ended, send_next_asks, send_one_asks, send_some, sends}
+use Rattle.wasi_host.specs.Datagrams.{all_sent, count_told, one_sent, poll_send_asks, send_after, send_all, send_datagrams_asks, send_ended, send_next_asks, send_one_asks, send_some, is_sending, sends}
 use Rattle.wasi_host.specs.Host.{code_stop}
 use Rattle.wasi_host.specs.Machine.{outgoing_at}
 use Rattle.wasi_host.specs.Names.{names_after, next_name}
@@ -26,10 +26,10 @@ use Rattle.wasi_causes.proofs.operations.Polls.{EndsFor}
 use Rattle.wasi_causes.proofs.sockets.Udp.{ItsBound, ItsFree, UdpBoundRow, udp_bounds}
 use Rattle.wasi_causes.proofs.tables.Meets.{After, Meets, Rows, both, branch, chain, ends, onto, shifted, widen}
 use Rattle.wasi_causes.proofs.tables.Routes.{Replied, Says, apart, code_word, none_has}
-use Rattle.wasi_causes.proofs.udp_streams.Routes.{any_at, job_there, kept_same, on_open, on_open_record}
+use Rattle.wasi_causes.proofs.udp_streams.Routes.{any_at, job_there, jobless, kept_same, on_open, on_open_record}
 use Rattle.wasi_causes.specs.Datagrams.{IsSpent}
-use Rattle.wasi_causes.specs.SendCauses.{BoundSo, DatagramFails, FailedBefore, FirstFails, IsBoundSo, IsFreeSo, UdpSendRefusal, first_send}
-use Rattle.wasi_causes.specs.Udp.{udp_local_entry}
+use Rattle.wasi_causes.specs.SendCauses.{BoundSo, DatagramFails, FailedBefore, FirstFails, IsBoundSo, IsFreeSo, UdpSendRefusal, first_send, found_so}
+use Rattle.wasi_causes.specs.Udp.{putting_udp, udp_local_entry}
 
 -- nothing is less than 0
 none_less : (n : ℕ) → n < 0 → ⊥
@@ -86,8 +86,12 @@ spent_all (d ∷ more) count ids s es = chain {Mid = λ fs r. r.1.1.permit ≡ s
     by_next next fs (Ok Pending, t) k = ends k
     by_next next fs (Err c, t) k = ends k
 
+-- a send is refused, and this is left: nothing of it is in the background
+abbrev Leaves : Machine → ℕ → Ids → OpenUdp → Outgoing → List OutgoingDatagram → ErrorCode → List Entry → Socket × Outgoing → Type 0
+Leaves m place ids o out ds c es s = UdpSendRefusal m (next_name ids) place ds o out es (word_of_code c) (putting_udp m place (record o { inner = s.0; outgoing = Some s.1 })) × (is_sending s.1.sending ≡ false)
+
 -- == the first of a list
-module _ (ids : Ids) (o : OpenUdp) (out : Outgoing) (d : OutgoingDatagram) (more : List OutgoingDatagram) where
+module _ (m : Machine) (place : ℕ) (ids : Ids) (o : OpenUdp) (out : Outgoing) (d : OutgoingDatagram) (more : List OutgoingDatagram) where
   -- the name of the first datagram
   abbrev own : OpId
   own = next_name ids
@@ -99,7 +103,7 @@ module _ (ids : Ids) (o : OpenUdp) (out : Outgoing) (d : OutgoingDatagram) (more
   -- the first is sent, or isn't sent yet, or is refused for this reason
   abbrev FirstRow : Rows (Result (Answer (Unit {0})) ErrorCode × (Socket × Outgoing))
   FirstRow es (Ok answer, s) = ⊤
-  FirstRow es (Err c, s) = UdpSendRefusal own (d ∷ more) o out es (word_of_code c)
+  FirstRow es (Err c, s) = Leaves m place ids o out (d ∷ more) c es s
 
   -- the socket, known to be bound
   abbrev known : Socket
@@ -113,15 +117,15 @@ module _ (ids : Ids) (o : OpenUdp) (out : Outgoing) (d : OutgoingDatagram) (more
 
     -- its poll ended
     ended : (asked : List Entry) (bound : Bool) → BoundSo own o.inner asked bound → (es : List Entry) (end : End × List Item) → After (EndsFor (first_send own o d bound) (DatagramFails (first_send own o d bound))) asked es end
-        → (socket : Socket) (op : Operation) → FirstRow es (one_sent (send_ended op socket spent end))
-    ended asked bound so es (Waits, items) k socket op = tt
-    ended asked bound so es (Done given, items) k socket op = tt
-    ended asked bound so es (Refused c given, items) k socket op = rw k.cut (FirstFails d more asked k.rest bound c refl none so k.row)
+        → (op : Operation) → FirstRow es (one_sent (send_ended op (found_so bound o.inner) spent end))
+    ended asked bound so es (Waits, items) k op = tt
+    ended asked bound so es (Done given, items) k op = tt
+    ended asked bound so es (Refused c given, items) k op = rw k.cut (FirstFails d more asked k.rest bound c refl none so k.row, refl)
 
     -- by whether the socket is bound
     by_bound : (es : List Entry) (b : Bool × Socket) → UdpBoundRow own o.inner es b → Meets (λ fs done. FirstRow fs (one_sent done)) es (poll_send_asks b.1 spent (send_start own b.1 d.bytes d.remote_address b.0))
-    by_bound _ _ (ItsBound es is) = onto _ (widen (λ fs end k. ended es true (IsBoundSo es is) fs end k known (send_start own known d.bytes d.remote_address true)) (shifted es (datagram_ends (first_send own o d true) (is_send true))))
-    by_bound _ _ (ItsFree local free) = onto _ (widen (λ fs end k. ended (udp_local_entry own o.inner local ∷ []) false (IsFreeSo local free) fs end k o.inner (send_start own o.inner d.bytes d.remote_address false)) (shifted (udp_local_entry own o.inner local ∷ []) (datagram_ends (first_send own o d false) (is_send false))))
+    by_bound _ _ (ItsBound es is) = onto _ (widen (λ fs end k. ended es true (IsBoundSo es is) fs end k (send_start own known d.bytes d.remote_address true)) (shifted es (datagram_ends (first_send own o d true) (is_send true))))
+    by_bound _ _ (ItsFree local free) = onto _ (widen (λ fs end k. ended (udp_local_entry own o.inner local ∷ []) false (IsFreeSo local free) fs end k (send_start own o.inner d.bytes d.remote_address false)) (shifted (udp_local_entry own o.inner local ∷ []) (datagram_ends (first_send own o d false) (is_send false))))
 
     -- one is begun and polled
     sends_one : Meets (λ fs done. FirstRow fs (one_sent done)) [] (send_one_asks own o.inner spent d)
@@ -131,12 +135,12 @@ module _ (ids : Ids) (o : OpenUdp) (out : Outgoing) (d : OutgoingDatagram) (more
   sends_first : (sending : Sending) → out.sending ≡ sending → Meets FirstRow [] (send_next_asks own o.inner spent d sending)
   sends_first Sending.Nothing is = onto _ (sends_one is)
   sends_first (Sending.InProgress job) is = ends tt
-  sends_first (Sending.Failed c) is = ends (FailedBefore c is)
+  sends_first (Sending.Failed c) is = ends (FailedBefore c is, refl)
 
   -- all of them
   abbrev pub SentSo : Rows (Result ℕ ErrorCode × (Socket × Outgoing))
   SentSo es (Ok n, s) = n ≤ length (d ∷ more)
-  SentSo es (Err c, s) = UdpSendRefusal own (d ∷ more) o out es (word_of_code c)
+  SentSo es (Err c, s) = Leaves m place ids o out (d ∷ more) c es s
 
   -- with one sent, no code is answered
   within_so : (es : List Entry) (done : Result ℕ ErrorCode × (Socket × Outgoing)) → Within (1 + length more) done.0 → SentSo es done
@@ -209,12 +213,19 @@ module _ (contexts : List WasiSocketsCtx) (m : Machine) (line c handle : ℕ) wh
             let found : outgoing_in after handle ≡ Some now = ap outgoing_of_open (ap (open_in after) names ∙ there) in
             subst (λ (x : Option Outgoing). IsSomeAnd x (λ out. out.permit ≡ 0)) (sym found) e
 
+        -- it is refused, and no job begins
+        refused_so : (code : ErrorCode) (es : List Entry) (s : Socket × Outgoing) → Leaves m place (first_ids line) o out ds code es s
+            → UdpSendRefusal m (next_name (first_ids line)) place ds o out es (word_of_code code) (with_store m (datagrams_sent m.store place o (Err (code_stop code), record o { inner = s.0; outgoing = Some s.1 }))).1
+        refused_so code es s k =
+            subst (λ (store : Records). let left : Machine = record m { store = store } in UdpSendRefusal m (next_name (first_ids line)) place ds o out es (word_of_code code) left)
+            (sym (jobless m.store place (record o { inner = s.0; outgoing = Some s.1 }) (Datagram place) (sends o.outgoing) (is_sending s.1.sending) k.1)) k.0
+
         -- what was sent is in the table
-        sent_so : (d : OutgoingDatagram) (more : List OutgoingDatagram) → d ∷ more ≡ ds → (out.permit < length ds → ⊥) → (es : List Entry) (done : Result ℕ ErrorCode × (Socket × Outgoing)) → SentSo (first_ids line) o out d more es done × (done.1.1.permit ≡ 0) → SentRow es (all_sent o done)
+        sent_so : (d : OutgoingDatagram) (more : List OutgoingDatagram) → d ∷ more ≡ ds → (out.permit < length ds → ⊥) → (es : List Entry) (done : Result ℕ ErrorCode × (Socket × Outgoing)) → SentSo m place (first_ids line) o out d more es done × (done.1.1.permit ≡ 0) → SentRow es (all_sent o done)
         sent_so d more is less es (Ok count, s) k = (apart (λ e. cc) (few less), ((tt, tt), (record { count = count; gives = refl; within = subst (λ (xs : List OutgoingDatagram). count ≤ length xs) is k.0 }, λ some. spent_so (Ok count) s.0 s.1 k.1)))
         sent_so d more is less es (Err code, s) k = (
           apart (λ e. cc) (few less),
-          (code_word code, (record { place = place; found = o; stream = out; names = names; at = at; has = has; holds = subst (λ (xs : List OutgoingDatagram). UdpSendRefusal (next_name (first_ids line)) xs o out es (word_of_code code)) is k.0 }, spent_so (Err (code_stop code)) s.0 s.1 k.1)),
+          (code_word code, (record { place = place; found = o; stream = out; names = names; at = at; has = has; holds = refused_so code es s (subst (λ (xs : List OutgoingDatagram). Leaves m place (first_ids line) o out xs code es s) is k.0) }, spent_so (Err (code_stop code)) s.0 s.1 k.1)),
         )
 
         -- by the list
@@ -223,7 +234,7 @@ module _ (contexts : List WasiSocketsCtx) (m : Machine) (line c handle : ℕ) wh
         by_list (d ∷ more) is =
             branch (nat_lt out.permit (length (d ∷ more)))
             (λ e. ends (stays (Err (Trap NotPermitted)) ((λ same. rw (no_outgoing place o names at (Some out) has) (subst (λ (xs : List OutgoingDatagram). out.permit < length xs) is (ltb-true _ _ e)), λ many. refl), (inr tt, (refl, refl)))))
-            (λ e. onto _ (widen (sent_so d more is (λ h. never_less _ _ (ltb-false _ _ e) (subst (λ (xs : List OutgoingDatagram). out.permit < length xs) (sym is) h))) (both (all_so (first_ids line) o out d more) (spent_all (d ∷ more) 0 (first_ids line) (o.inner, record out { permit = 0 }) []))))
+            (λ e. onto _ (widen (sent_so d more is (λ h. never_less _ _ (ltb-false _ _ e) (subst (λ (xs : List OutgoingDatagram). out.permit < length xs) (sym is) h))) (both (all_so m place (first_ids line) o out d more) (spent_all (d ∷ more) 0 (first_ids line) (o.inner, record out { permit = 0 }) []))))
 
       -- by the stream of the socket
       by_stream : (out : Option Outgoing) → o.outgoing ≡ out → Meets SentRow [] (send_datagrams_asks (first_ids line) o out ds)

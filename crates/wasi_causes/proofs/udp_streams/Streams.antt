@@ -13,6 +13,7 @@ use Rattle.wasi_host.specs.Records.{open_at, open_of, udp2_at}
 use Rattle.wasi_host.specs.declared.udp.Udp2Socket.TheVariants as udp
 use Rattle.wasi_walks.proofs.UdpLists.{udp_set_there}
 use Rattle.wasi_walks.proofs.walks.Udp.{open_is}
+use Rattle.wasi_host.specs.UdpCreates.{udp_side_at}
 use Rattle.wasi_host.specs.UdpCalls.{udp_call_answered, with_open_udp}
 use Rattle.wasi_host.specs.declared.udp.OpenUdp.{OpenUdp}
 use Rattle.wasi_p2.specs.Udp.{udp_stream_asks, udp_stream_on}
@@ -23,16 +24,16 @@ use Rattle.wasi_steps.specs.declared.reply.Reply.{Reply}
 use Rattle.wasi_steps.specs.declared.reply.Reply.TheVariants as reply
 use Rattle.wasi_steps.specs.declared.step.Step.TheVariants as step
 use Rattle.wasi_walks.specs.Answered.{open_udp_at}
-use Rattle.wasi_walks.specs.Waiting.{ConnectUnchecked, UdpConnectFails}
-use Rattle.wasi_causes.proofs.udp_streams.Makes.{makes_both}
-use Rattle.wasi_causes.proofs.operations.ConnectPolls.{udp_connect_ends}
+use Rattle.wasi_walks.specs.Waiting.{ConnectUnchecked}
+use Rattle.wasi_causes.proofs.udp_streams.Connected.{ConnectedRow, connects_so}
+use Rattle.wasi_causes.proofs.udp_streams.Makes.{makes_both, marks_of}
+use Rattle.wasi_causes.proofs.operations.ConnectPolls.{ConnectRow, udp_connect_gives}
 use Rattle.wasi_causes.proofs.operations.Marks.{poll_marks_none}
-use Rattle.wasi_causes.proofs.operations.Polls.{EndsFor}
 use Rattle.wasi_causes.proofs.sockets.Udp.{ItsBound, ItsFree, NamesUdp, UdpBoundRow, here_udp, its_udp, on_udp, put_udp_back, udp_bounds}
 use Rattle.wasi_causes.proofs.tables.Meets.{After, Meets, Rows, asks, both, branch, chain, ends, onto, shifted, widen}
 use Rattle.wasi_causes.proofs.tables.Routes.{Replied, Says, apart, code_word, none_has}
 use Rattle.wasi_causes.specs.Datagrams.{HasItsHandle, HasUdpStreams, PendingHandleIsLive, with_both}
-use Rattle.wasi_causes.specs.StreamCauses.{StreamsElsewhere, StreamsStillConnected, StreamsUnbound, StreamsUnconnected, UdpStreamRefusal, disconnect_entry, its_connect, peer_entry}
+use Rattle.wasi_causes.specs.StreamCauses.{MakesStreams, StreamsBegin, StreamsConnected, StreamsDisconnected, StreamsElsewhere, StreamsStillConnected, StreamsUnbound, StreamsUnchanged, StreamsUnconnected, UdpStreamRefusal, disconnect_entry, its_connect, peer_entry}
 use Rattle.wasi_causes.specs.Udp.{IsUdpBound, UdpKnown, UdpToldBound, putting_udp, udp_local_entry}
 
 module _ (m : Machine) (line handle place : ℕ) (o : OpenUdp) (n : NamesUdp m handle place o) (remote : Option IpSocketAddress) where
@@ -50,7 +51,7 @@ module _ (m : Machine) (line handle place : ℕ) (o : OpenUdp) (n : NamesUdp m h
   -- how their making begins: it waits, or they are there, or it is refused
   abbrev BeginsSo : Rows (Result (Answer (Unit {0})) ErrorCode × OpenUdp)
   BeginsSo es (Ok Pending, now) = WaitsForConnect es
-  BeginsSo es (Ok (Ready done), now) = now ≡ with_streams now
+  BeginsSo es (Ok (Ready done), now) = StreamsBegin own o remote es now
   BeginsSo es (Err code, now) = UdpStreamRefusal m own place o remote es (word_of_code code) (putting_udp m place now)
 
   -- no handle is marked so far
@@ -76,7 +77,7 @@ module _ (m : Machine) (line handle place : ℕ) (o : OpenUdp) (n : NamesUdp m h
     module _ (a : IpSocketAddress) (is : remote ≡ Some a) where
       -- a poll of the connect marks none, and ends so
       abbrev PolledRow : Rows (End × List Item)
-      PolledRow es end = (marks_in es ≡ 0) × EndsFor (its_connect own o a) (UdpConnectFails (its_connect own o a)) es end
+      PolledRow es end = (marks_in es ≡ 0) × (ConnectRow (its_connect own o a) es end × ConnectedRow own o a es end)
 
       -- the connect was polled
       ended : is_connectable o.inner a ≡ true → (es : List Entry) (end : End × List Item) → After PolledRow asked es end → BeginRow es (udp_connect_ended (its_connect own o a) (record known { connecting = Some (its_connect own o a) }) end)
@@ -86,18 +87,18 @@ module _ (m : Machine) (line handle place : ℕ) (o : OpenUdp) (n : NamesUdp m h
           addressed = a;
           remote_is = is;
           connectable = may;
-          told = let w = k.row.1 in record { front = asked ++ w.front; last = w.last; cut = ap (λ (xs : List Entry). asked ++ xs) w.cut ∙ sym (append_assoc asked w.front (w.last ∷ [])); op = w.op; told = w.told };
+          told = let w = k.row.1.0 in record { front = asked ++ w.front; last = w.last; cut = ap (λ (xs : List Entry). asked ++ xs) w.cut ∙ sym (append_assoc asked w.front (w.last ∷ [])); op = w.op; told = w.told };
         },
       )
-      ended may es (Done given, items) k = rw k.cut (none_before asked bound k.rest k.row.0, refl)
-      ended may es (Refused code given, items) k = rw k.cut (none_before asked bound k.rest k.row.0, StreamsUnconnected asked k.rest a code given is bound may k.row.1)
+      ended may es (Done given, items) k = let c = k.row.1.1 in rw (k.cut, c.asked, c.gives) (none_before asked bound _ refl, StreamsConnected asked a c.peer is bound may)
+      ended may es (Refused code given, items) k = rw (k.cut, k.row.1.0.gives) (none_before asked bound k.rest k.row.0, StreamsUnconnected asked k.rest a code is bound may k.row.1.0.why)
 
       -- by whether the socket can be connected to the address
       connects : (b : Bool) → is_connectable o.inner a ≡ b → Meets BeginRow asked (streams_to own known (Some a))
       unfolding bind
       connects true may =
           chain {Mid = λ es begun. Meets BeginRow es (udp_connect_begun known begun)}
-          (branch (is_connectable o.inner a) (λ e. ends (onto _ (widen (ended may) (shifted asked (both (record { along = poll_marks_none (its_connect own o a) }) (udp_connect_ends (its_connect own o a) (record { last = refl; left = ConnectUnchecked o.inner.family a }) []))))))
+          (branch (is_connectable o.inner a) (λ e. ends (onto _ (widen (ended may) (shifted asked (both (record { along = poll_marks_none (its_connect own o a) }) (both (udp_connect_gives (its_connect own o a) (record { last = refl; left = ConnectUnchecked o.inner.family a }) []) (connects_so own o a)))))))
           (λ e. absurd (cc)))
           (λ es begun k. k)
       connects false may =
@@ -110,7 +111,7 @@ module _ (m : Machine) (line handle place : ℕ) (o : OpenUdp) (n : NamesUdp m h
       -- it was disconnected
       parted : (a : IpSocketAddress) → o.inner.remote ≡ Some a → (t peer : Told) → IsDoneOrCode t
           → BeginRow ((asked ++ disconnect_entry own o t ∷ []) ++ peer_entry own o peer ∷ []) (disconnected known (told_done t, after_peer known.inner (told_addr peer)))
-      parted a was told.Done peer fits = (rw (append_assoc asked (disconnect_entry own o told.Done ∷ []) (peer_entry own o peer ∷ [])) (none_before asked bound _ refl), refl)
+      parted a was told.Done peer fits = rw (append_assoc asked (disconnect_entry own o told.Done ∷ []) (peer_entry own o peer ∷ [])) (none_before asked bound _ refl, StreamsDisconnected asked a peer is was bound)
       parted a was (told.Code code) peer fits = rw (append_assoc asked (disconnect_entry own o (told.Code code) ∷ []) (peer_entry own o peer ∷ [])) (none_before asked bound _ refl, StreamsStillConnected asked a code peer is was bound)
       parted a was _ peer fits = absurd fits
 
@@ -119,7 +120,8 @@ module _ (m : Machine) (line handle place : ℕ) (o : OpenUdp) (n : NamesUdp m h
       unfolding bind
       parts None was true e = absurd (cc)
       parts (Some a) was true e = chain {Mid = λ es done. BeginRow es (disconnected known done)} (subst (λ (r : Option IpSocketAddress). Meets (λ es done. BeginRow es (disconnected known done)) asked (disconnect_in own known.inner r)) (sym was) (asks (λ t fits. asks (λ u more. ends (parted a was t u fits))))) (λ es done k. ends k)
-      parts kept was false e = ends (none_so asked bound, refl)
+      parts None was false e = ends (none_so asked bound, StreamsUnchanged asked is was bound)
+      parts (Some a) was false e = absurd (cc)
 
     -- by whether an address is given
     by_remote : (given : Option IpSocketAddress) → remote ≡ given → Meets BeginRow asked (streams_to own known given)
@@ -149,9 +151,24 @@ module _ (contexts : List WasiSocketsCtx) (m : Machine) (line c handle : ℕ) (r
   none_alive : {place : ℕ} {o : OpenUdp} → NamesUdp m handle place o → has_streams o ≡ false → (said : Reply) → said ≢ reply.Trap StreamsAlive → (said ≡ reply.Trap StreamsAlive) ↔ HasUdpStreams (open_udp_at m handle)
   none_alive {place} {o} n none said other = apart other (λ k. let some : has_streams o ≡ true = rw (its_udp n) at k in cc)
 
+  -- the streams are new, and their network socket is the one that was
+  are_new : {own : OpId} {o now : OpenUdp} {es : List Entry} → StreamsBegin own o remote es now → (now ≡ with_streams now) × (now.inner.side ≡ o.inner.side)
+  are_new (StreamsConnected asked a peer is bound may) = (refl, refl)
+  are_new (StreamsDisconnected asked a peer is was bound) = (refl, refl)
+  are_new (StreamsUnchanged asked is was bound) = (refl, refl)
+
   -- the socket that is put is there
   new_there : (place : ℕ) (o : OpenUdp) → NamesUdp m handle place o → (now : OpenUdp) → open_at (with_open_udp m.store place now).records place ≡ Some now
   new_there place o n now = ap open_of (udp_set_there m.store.records place (udp.Open o) (udp.Open now) (open_is (udp2_at m.store.records place) o n.at))
+
+  -- the marks are those of its network socket
+  side_there : (place : ℕ) (o : OpenUdp) → NamesUdp m handle place o → (now : OpenUdp) → now.inner.side ≡ o.inner.side → udp_side_at (udp2_at (with_open_udp m.store place now).records place) ≡ Some o.inner.side
+  side_there place o n now same = ap udp_side_at (udp_set_there m.store.records place (udp.Open o) (udp.Open now) (open_is (udp2_at m.store.records place) o n.at)) ∙ ap Some same
+
+  -- they are made so
+  made_so : (place : ℕ) (o : OpenUdp) → NamesUdp m handle place o → (es : List Entry) (now : OpenUdp) → StreamsBegin (own_of line) o remote es now
+      → MakesStreams m (own_of line) handle place o remote (marks_of (record m { store = with_open_udp m.store place now }) (own_of line) handle place es) (record m { store = with_open_udp m.store place now; table = with_both m.table place handle })
+  made_so place o n es now k = record { before = es; now = now; begin = k; asked = rw (side_there place o n now (are_new k).1) (append_assoc es _ _); left = refl }
 
   -- what was begun is in the table, with the handles that are made
   begun_so : (place : ℕ) (o : OpenUdp) (n : NamesUdp m handle place o) → has_streams o ≡ false → (es : List Entry) (begun : Result (Answer (Unit {0})) ErrorCode × OpenUdp) → BeginRow m line handle place o n remote es begun
@@ -160,7 +177,7 @@ module _ (contexts : List WasiSocketsCtx) (m : Machine) (line c handle : ℕ) (r
   begun_so place o n none es (Ok (Ready done), now) k =
       makes_both (record m { store = with_open_udp m.store place now }) (own_of line) handle place es n.names k.0
       (λ fs table full next lacks. ((none_alive n none _ (λ e. cc), free_so (record m { store = with_open_udp m.store place now; table = table }) refl), (tt, (full, next), rw n.names lacks)))
-      ((none_alive n none _ (λ e. cc), free_so (record m { store = with_open_udp m.store place now; table = with_both m.table place handle }) refl), ((tt, (tt, tt)), ((refl, rw n.names refl), here_udp n (rw (new_there place o n now) k.1))))
+      ((none_alive n none _ (λ e. cc), free_so (record m { store = with_open_udp m.store place now; table = with_both m.table place handle }) refl), ((tt, (tt, tt)), ((refl, rw n.names refl), (here_udp n (rw (new_there place o n now) (are_new k.1).0), here_udp n (made_so place o n es now k.1)))))
   begun_so place o n none es (Err code, now) k = ends ((none_alive n none _ (λ e. cc), free_so (record m { store = with_open_udp m.store place now }) refl), (code_word code, here_udp n k.1))
 
   -- by whether a stream is live

@@ -2,7 +2,7 @@ use Rattle.wasi_causes.proofs.causes.traps_have_causes.Goals as goal
 use Rattle.wasi_causes.proofs.tables.Steps.{trap_kinds, its_own, missing_left, while_free}
 use Rattle.wasi_steps.specs.declared.reply.Reply.TheVariants as reply
 use Rattle.wasi_steps.specs.declared.step.Step.TheVariants as step
-use Rattle.wasi_world.specs.declared.outcome.TrapKind.TheVariants.{NoSuchHandle, HasChildren, Full, NotPermitted, StreamsAlive, Capacity, TooLong}
+use Rattle.wasi_world.specs.declared.outcome.TrapKind.TheVariants.{NoSuchHandle, HasChildren, Full, NotPermitted, StreamsAlive, Capacity, TooLong, EmptyList}
 
 pub returns : goal.returns
 returns c = record {
@@ -17,5 +17,6 @@ returns c = record {
   streams_alive = λ contexts m line s entries after w. let h = (its_own contexts m line s entries (reply.Trap StreamsAlive) after w (λ e. cc)).1 in (h.0, h.1.0, h.1.1);
   capacity = λ contexts m line s entries after w. let h = (its_own contexts m line s entries (reply.Trap Capacity) after w (λ e. cc)).1 in (h.0, h.1.0, h.1.1);
   too_long = λ contexts m line s entries after w. let h = (its_own contexts m line s entries (reply.Trap TooLong) after w (λ e. cc)).1 in (h.0, h.1.0, h.1.1);
+  empty_list = λ contexts m line s entries after w. let h = (its_own contexts m line s entries (reply.Trap EmptyList) after w (λ e. cc)).1 in (h.0, h.1.0, h.1.1);
   not_permitted = λ contexts m line s entries after w. (its_own contexts m line s entries (reply.Trap NotPermitted) after w (λ e. cc)).1.0;
 }

@@ -9,6 +9,7 @@ returns c = record {
   handles = λ contexts m line entries reply after w. (unheld contexts m line step.Turn (λ h. let none = h.1 in cc) entries reply after w).0.handles;
   lookups = λ contexts m line place l entries reply after w. (unheld contexts m line step.Turn (λ h. let none = h.1 in cc) entries reply after w).0.lookups place l;
   pending = λ contexts m line entries reply after w. (unheld contexts m line step.Turn (λ h. let none = h.1 in cc) entries reply after w).0.pending;
+  sockets = λ contexts m line place entries reply after w. let left = (unheld contexts m line step.Turn (λ h. let none = h.1 in cc) entries reply after w).0 in (left.sockets place, left.opens place);
   streams = λ contexts m line place entries reply after w. (unheld contexts m line step.Turn (λ h. let none = h.1 in cc) entries reply after w).0.streams place;
   pipes = λ contexts m line place entries reply after w. (unheld contexts m line step.Turn (λ h. let none = h.1 in cc) entries reply after w).0.pipes place;
 }

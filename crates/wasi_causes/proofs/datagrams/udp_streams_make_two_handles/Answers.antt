@@ -8,7 +8,8 @@ pub returns : goal.returns
 returns c = record {
   numbers = λ contexts m line ctx handle remote fields entries after w. (its_own contexts m line (step.UdpStream ctx handle remote) entries (reply.Ok fields) after w (λ e. cc)).1.1.0.0;
   made = λ contexts m line ctx handle remote fields entries after w. (its_own contexts m line (step.UdpStream ctx handle remote) entries (reply.Ok fields) after w (λ e. cc)).1.1.0.1;
-  new = λ contexts m line ctx handle remote fields entries after w. (its_own contexts m line (step.UdpStream ctx handle remote) entries (reply.Ok fields) after w (λ e. cc)).1.1.1;
+  new = λ contexts m line ctx handle remote fields entries after w. (its_own contexts m line (step.UdpStream ctx handle remote) entries (reply.Ok fields) after w (λ e. cc)).1.1.1.0;
+  asked = λ contexts m line ctx handle remote fields entries after w. (its_own contexts m line (step.UdpStream ctx handle remote) entries (reply.Ok fields) after w (λ e. cc)).1.1.1.1;
   alive = λ contexts m line ctx handle remote entries reply after free w. (while_free contexts m line (step.UdpStream ctx handle remote) free entries reply after w).0.0;
   alive_stays = λ contexts m line ctx handle remote entries after w. (its_own contexts m line (step.UdpStream ctx handle remote) entries (reply.Trap StreamsAlive) after w (λ e. cc)).1.1;
   full = λ contexts m line ctx handle remote entries after w. (its_own contexts m line (step.UdpStream ctx handle remote) entries (reply.Trap Full) after w (λ e. cc)).1.2;
