@@ -349,6 +349,14 @@ fn call<W: World>(
             let ready = wasi_host::ready(view, world, ids, pollable);
             reply_of(alloc, socket_result(ready))
         }
+        Step::Block { pollable, .. } => {
+            let answer = wasi_host::block(view, world, ids, pollable);
+            answer_reply(alloc, ids.line, socket_result(answer))
+        }
+        Step::PollList { pollables, .. } => {
+            let answer = wasi_host::poll(alloc, view, world, ids, pollables);
+            answer_reply(alloc, ids.line, socket_result(answer))
+        }
         Step::Drop { handle, .. } => {
             let answer = wasi_host::drop_handle(view, world, ids, handle);
             answer_reply(alloc, ids.line, socket_result(answer))
