@@ -48,7 +48,10 @@ pub fn connect(
 }
 
 /// Makes the network 1 and the socket 2, which is bound and listens.
-fn listen(view: &mut WasiSocketsCtxView<'_>, world: &mut ScriptedWorld) -> Result<Answer<()>, Fail>
+pub fn listen(
+    view: &mut WasiSocketsCtxView<'_>,
+    world: &mut ScriptedWorld,
+) -> Result<Answer<()>, Fail>
     requires { (seen_by world.old).ended ≡ false }
     ensures { (seen_by world.new).ended ≡ false }
 {

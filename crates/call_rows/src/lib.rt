@@ -16,3 +16,5 @@ mod same;
 mod streams;
 #[cfg(test)]
 mod tables;
+#[cfg(test)]
+mod waits;

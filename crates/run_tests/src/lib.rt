@@ -7,6 +7,8 @@ mod checked_cases;
 #[cfg(test)]
 mod faults;
 #[cfg(test)]
+mod full;
+#[cfg(test)]
 mod generated;
 #[cfg(test)]
 mod given;
