@@ -8,4 +8,4 @@ pub mod fits
 pub mod claims
 pub mod remotes
 pub mod licence
-pub mod order
+pub mod received

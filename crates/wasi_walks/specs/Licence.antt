@@ -230,6 +230,14 @@ abbrev pub IsDisconnect : Step → Type 0
 IsDisconnect (step.UdpStream ctx socket None) = ⊤
 IsDisconnect _ = ⊥
 
+-- datagrams are received, or pollables are looked at, by which a receive may begin too
+abbrev pub Receives : Step → Type 0
+Receives (step.UdpReceive ctx incoming most) = ⊤
+Receives (step.Ready ctx pollable) = ⊤
+Receives (step.Block ctx pollable) = ⊤
+Receives (step.PollList ctx pollables) = ⊤
+Receives _ = ⊥
+
 -- the datagram streams of the UDP socket of this handle are made
 abbrev pub IsStreamOf : ℕ → Step → Type 0
 IsStreamOf handle (step.UdpStream ctx socket remote) = socket ≡ handle
@@ -428,7 +436,7 @@ MayAsk contexts steps before op (Shutdown sock how) = ReachesSide steps before o
 MayAsk contexts steps before op (UdpDisconnect sock) = ReachesSide steps before op sock × BeganBy steps op IsDisconnect
 MayAsk contexts steps before op (Send sock addr bytes) =
     ReachesSide steps before op sock × BeganBy steps op (SendsItem before op sock addr bytes) × HasYes before before op sock addr use_of.UdpSend × MaySendOut before op sock × BeganBy steps sock MakesUdp
-MayAsk contexts steps before op (Recv sock) = ReachesSide steps before op sock
+MayAsk contexts steps before op (Recv sock) = ReachesSide steps before op sock × BeganBy steps op Receives
 MayAsk contexts steps before op (GetOption sock option) = ReachesSide steps before op sock × BeganBy steps op (IsGetOf option)
 MayAsk contexts steps before op (SetOption sock option value) = ReachesSide steps before op sock × BeganBy steps op (IsSetTo option value)
 MayAsk contexts steps before op (Close sock) = ⊤

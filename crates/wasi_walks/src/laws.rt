@@ -57,7 +57,8 @@ pub fn sides_have_one_maker()
 
 /// What the replies of a run to the receives on a network socket's streams hand out was received on it in this order, and none of it
 /// is handed out twice: each datagram has its own place in the log, where it was received, and its own yes about its sender, which the
-/// same operation was answered after that and before the place of the next.
+/// same operation was answered after that and before the place of the next. Each was received after the handle of the stream was
+/// marked.
 pub fn datagrams_are_handed_out_in_order()
     ensures { (contexts : List WasiSocketsCtx) (steps : List Step) (log : List Entry) (replies : List Reply) (side : OpId)
         → HasRun contexts steps log replies → HandsOutInOrder log side steps replies }

@@ -332,7 +332,7 @@ module _ (contexts : List WasiSocketsCtx) (line : ℕ) (origin : Step) where
   moves_named _ _ (BeginsUdpBind h place o a at g to idle own) n = put_udp_by line h place (Udp2Socket.Open o) (Udp2Socket.Open _) g refl n Used (older_used line h.own)
   moves_named _ _ (BeginsUdpConnect h place o a at g to bound own) n = put_udp_by line h place (Udp2Socket.Open o) (Udp2Socket.Open _) g refl n Used (older_used line h.own)
   moves_named _ _ (BeginsSend h place part o out d bound at g e is known own) n = put_udp_by line h place (Udp2Socket.Open o) (Udp2Socket.Open _) g refl n (Names (part + 1)) (next_grows line part h.own own)
-  moves_named _ _ (BeginsReceive h place part o inc bound at g e own) n = put_udp_by line h place (Udp2Socket.Open o) (Udp2Socket.Open _) g refl n (Names (part + 1)) (next_grows line part h.own own)
+  moves_named _ _ (BeginsReceive h place part o inc bound at g e is own) n = put_udp_by line h place (Udp2Socket.Open o) (Udp2Socket.Open _) g refl n (Names (part + 1)) (next_grows line part h.own own)
   moves_named _ _ (CancelsBind h place r op q g e) n = put_inner h place r _ g refl refl (λ x p. p) n
   moves_named _ _ (CancelsUdpBind h place o op q g e) n = put_udp_named line h place (Udp2Socket.Open o) (Udp2Socket.Open _) g refl n
   moves_named _ _ (CancelsUdpConnect h place o q g) n = put_udp_named line h place (Udp2Socket.Open o) (Udp2Socket.Open _) g refl n
@@ -431,7 +431,7 @@ module _ (contexts : List WasiSocketsCtx) (line : ℕ) (origin : Step) where
         udp_closes = λ es h place o q g i. (tt, λ told k. ((f.udp_closes es h place o q g i.0).1 told k, put_udp_named line h place (Udp2Socket.Open o) (Udp2Socket.Closed o.inner.side) g refl i.1));
         udp_creates = λ es h ctx family c may a o m i. (tt, λ told k. ((f.udp_creates es h ctx family c may a o m i.0).1 told k, begun_named h ctx.name family (told_done told) o i.1));
         udp_marks = λ es h place u g i. marked es h Past _ i;
-        stream_marks = λ es h place part handle kind m k e i. marked es h h.made _ i;
+        stream_marks = λ es h place part handle reached kind m new k e i. marked es h h.made _ i;
         error_marks = λ es h part handle place handles m k e f i. marked es h h.made _ i;
         udp_gives_up = λ es h place create q g i.
             both Anything Anything (λ fs done. Named line (put_udp h place (Udp2Socket.Closed create.operation.who.side))) (λ fs done. Fit (put_udp h place (Udp2Socket.Closed create.operation.who.side))) es _

@@ -299,7 +299,7 @@ module _ (contexts : List WasiSocketsCtx) (line : ℕ) (origin : Step) where
       let f = i.udps place (Udp2Socket.Open o) g in
       let now = sending_now o out (send_start (part_of line n) o.inner d.bytes d.remote_address bound) in
       begun_udp_fit h place o now (Names (n + 1)) g (stays_open o now refl refl) (f.0, f.1, begun_send (part_of line n) o.inner d.bytes d.remote_address bound, f.3) i
-  moves_fit _ _ (BeginsReceive h place n o inc bound at g e own) i =
+  moves_fit _ _ (BeginsReceive h place n o inc bound at g e is own) i =
       let f = i.udps place (Udp2Socket.Open o) g in
       let now = receiving_now o inc (receive_start (part_of line n) o.inner bound) in
       begun_udp_fit h place o now (Names (n + 1)) g (stays_open o now refl refl) (f.0, f.1, f.2, begun_receive (part_of line n) o.inner bound) i
@@ -408,7 +408,7 @@ module _ (contexts : List WasiSocketsCtx) (line : ℕ) (origin : Step) where
     udp_closes = λ es h place o q g i. (tt, λ told fits. put_udp_fit h place (Udp2Socket.Open o) (Udp2Socket.Closed o.inner.side) g (inl q.0) tt i);
     udp_creates = λ es h ctx family c may a o m i. (tt, λ told fits. begun_fits h (own_of line) ctx.name family (told_done told) i);
     udp_marks = λ es h place u g i. marked_fit es h Past _ i;
-    stream_marks = λ es h place n handle kind m k e i. marked_fit es h h.made _ i;
+    stream_marks = λ es h place n handle reached kind m new k e i. marked_fit es h h.made _ i;
     error_marks = λ es h n handle place handles m k e f i. marked_fit es h h.made _ i;
     udp_gives_up = λ es h place create q g i. whatever (λ done. Fit (put_udp h place (Udp2Socket.Closed create.operation.who.side))) (λ done. put_udp_fit h place (Udp2Socket.Creating create) (Udp2Socket.Closed create.operation.who.side) g (inl q) tt i) es (create_cancel_asks create);
     lookups = λ es h host l i. (tt, λ told fits records s. records_fit h records s i);

@@ -304,7 +304,7 @@ module _ (contexts : List WasiSocketsCtx) (steps : List Step) (op : Operation) w
 
   -- with this left it may be polled
   receive_with : (es : List Entry) (items left : List Item) → ReceiveIsFine steps es (left_of op items) → IsLeftOfReceive left → ReceiveIsFine steps es (left_of op left)
-  receive_with es items left f l = record { family = f.family; made = f.made; named = f.named; last = f.last; left = l }
+  receive_with es items left f l = record { began = f.began; family = f.family; made = f.made; named = f.named; last = f.last; left = l }
 
   -- it stays so after an ask
   receive_on : (es : List Entry) (items : List Item) (c : Call) (t : Told) → ReceiveIsFine steps es (left_of op items) → ReceiveIsFine steps (es ++ entry op.who.id c t ∷ []) (left_of op items)
@@ -339,7 +339,7 @@ module _ (contexts : List WasiSocketsCtx) (steps : List Step) (op : Operation) w
   receive_item : (es : List Entry) (item : Item) (items all : List Item) → ReceiveIsFine steps es (left_of op all) → IsLeftOfReceive (item ∷ items) → Allows (MayUntold contexts steps) (ReceiveLeads items) es (front op.who item)
   unfolding bind
   receive_item es _ _ all f (ToRefuse c) = receive_ends es all c Nothing f
-  receive_item es _ _ all f (Unreceived only) = ((((inl f.named, tt), tt), λ x e. absurd (cc)), λ t fits. received _ all only t (receive_on es all _ t f))
+  receive_item es _ _ all f (Unreceived only) = (((((inl f.named, f.began), tt), tt), λ x e. absurd (cc)), λ t fits. received _ all only t (receive_on es all _ t f))
   receive_item es _ _ all f (Received only bytes peer) = checks_peer es all only bytes peer f
 
 module _ (contexts : List WasiSocketsCtx) (steps : List Step) where

@@ -82,6 +82,7 @@ module _ {steps now : List Step} (goes : Goes steps now) where
   -- a receive
   pub receive_more : (es fs : List Entry) (op : Operation) → ReceiveIsFine steps es op → ReceiveIsFine now (es ++ fs) op
   receive_more es fs op h = record {
+    began = began_more goes op.who.id _ h.began;
     family = h.family;
     made = maker_more es fs op.who.context h.family op.who.side h.made;
     named = names_on goes es fs op.who.id op.who.side h.named;

@@ -78,7 +78,7 @@ NotMarked _ = ⊥
 
 -- it is nothing of an accept
 abbrev pub NoAccept : Made → Type 0
-NoAccept (ToStream line handle) = ⊤
+NoAccept (ToStream line handle place) = ⊤
 NoAccept (Calls kind line handles) = ⊤
 NoAccept Past = ⊤
 NoAccept (Emptied kind) = ⊤
@@ -92,7 +92,7 @@ no_mark _ q u = u
 
 -- where streams are made, or called, for a line, its step says so
 abbrev pub MakingStands : List Step → Made → Type 0
-MakingStands steps (ToStream line handle) = MakesStreams steps line handle
+MakingStands steps (ToStream line handle place) = MakesStreams steps line handle
 MakingStands steps (Calls kind line handles) = MakesCalls steps kind line handles
 MakingStands steps _ = ⊤
 

@@ -40,6 +40,7 @@ module _ (steps more : List Step) where
   may_more contexts before op (Call.Connect sock addr) h = (reach_more before op sock h.0, began_more on op _ h.1, h.2, h.3, began_more on sock _ h.4)
   may_more contexts before op (Call.Hand sock peer) h = (reach_more before op sock h.0, h.1, h.2)
   may_more contexts before op (Call.Send sock addr bytes) h = (reach_more before op sock h.0, began_more on op _ h.1, h.2, h.3, began_more on sock _ h.4)
+  may_more contexts before op (Call.Recv sock) h = (reach_more before op sock h.0, began_more on op _ h.1)
   may_more contexts before op (Call.Close sock) h = h
   may_more contexts before op (Call.Made handle kind parent sock) h = (h.0, began_more on op _ h.1)
   may_more contexts before op _ h = reach_more before op _ h

@@ -162,8 +162,8 @@ module _ (contexts : List WasiSocketsCtx) (steps : List Step) (line : ℕ) (orig
   no_streams_stand r n _ k = tt
 
   -- datagram streams are made for a line whose step says so
-  streams_of : (es : List Entry) (h : Here) (n handle : ℕ) → h.made ≡ ToStream n handle → Licensed contexts steps line origin es h → MakesStreams steps n handle
-  streams_of es h n handle m i = subst (MakingStands steps) m i.making
+  streams_of : (es : List Entry) (h : Here) (n handle place : ℕ) → h.made ≡ ToStream n handle place → Licensed contexts steps line origin es h → MakesStreams steps n handle
+  streams_of es h n handle place m i = subst (MakingStands steps) m i.making
 
   pub moves_fine : (es : List Entry) (h now : Here) → Move line origin h now → Base contexts line origin h → Licensed contexts steps line origin es h → Licensed contexts steps line origin es now
   moves_fine es _ _ (Reaches h handle place named e) b i = reaches contexts steps line origin is_line es h line handle place (record { origin = origin; at = is_line; holds = named }) e i
@@ -286,17 +286,17 @@ module _ (contexts : List WasiSocketsCtx) (steps : List Step) (line : ℕ) (orig
   moves_fine es _ _ (StandsUdpBind h ids place o op at g e) b i =
       elsewhere es h _ refl refl refl i (state_stands contexts steps es h.machine (standing_as ids (StandingCall.UdpBind place)) (λ c. OfUdp (Udp2Socket.Open o) g (i.udp_names place ids.line (Udp2Socket.Open o) at g), tt) i.fine) i.names i.udp_names
   moves_fine es _ _ (StandsUdpCreate h ids place create g) b i = elsewhere es h _ refl refl refl i (state_stands contexts steps es h.machine (standing_as ids (StandingCall.UdpCreate place)) (λ c. absurd c, tt) i.fine) i.names i.udp_names
-  moves_fine es _ _ (RemembersStreams h c handle remote is) b i = remembers_streams contexts steps line origin is_line es h c handle remote is i
+  moves_fine es _ _ (RemembersStreams h c handle place remote is of) b i = remembers_streams contexts steps line origin is_line es h c handle place remote is i
   moves_fine es _ _ (RecallsStreams h ids place handle e) b i = recalls_streams contexts steps line origin is_line es h ids place handle e i
   moves_fine es _ _ (BeginsUdpConnect h place o a at g to bound u) b i = begins_udp_connect contexts steps line origin is_line es h place o a at g to bound i
   moves_fine es _ _ (StandsUdpConnect h ids place handle o op at m g e) b i =
-      elsewhere es h _ refl refl refl i (state_stands contexts steps es h.machine (standing_as ids (StandingCall.UdpConnect place handle)) (λ c. OfUdp (Udp2Socket.Open o) g (i.udp_names place ids.line (Udp2Socket.Open o) at g), streams_of es h ids.line handle m i) i.fine) i.names i.udp_names
+      elsewhere es h _ refl refl refl i (state_stands contexts steps es h.machine (standing_as ids (StandingCall.UdpConnect place handle)) (λ c. OfUdp (Udp2Socket.Open o) g (i.udp_names place ids.line (Udp2Socket.Open o) at g), streams_of es h ids.line handle place m i) i.fine) i.names i.udp_names
   moves_fine es _ _ (StandsDropOutgoing h ids place o at g e) b i =
       elsewhere es h _ refl refl refl i (state_stands contexts steps es h.machine (standing_as ids (StandingCall.DropOutgoing place)) (λ c. OfUdp (Udp2Socket.Open o) g (i.udp_names place ids.line (Udp2Socket.Open o) at g), tt) i.fine) i.names i.udp_names
   moves_fine es _ _ (Counts h u) b i = owned es h (Own.Names 1) (λ e. absurd (cc)) (shrinks_to line h.own Own.Unused (Own.Names 1) u (λ x t. t)) i
   moves_fine es _ _ (SpendsNames h n u) b i = spent es h i
   moves_fine es _ _ (BeginsSend h place n o out d bound at g e is known u) b i = begins_send contexts steps line origin is_line es h place n o out d bound at g is known u i
-  moves_fine es _ _ (BeginsReceive h place n o inc bound at g e u) b i = begins_receive contexts steps line origin is_line es h place n o inc bound at g u i
+  moves_fine es _ _ (BeginsReceive h place n o inc bound at g e is u) b i = begins_receive contexts steps line origin is_line es h place n o inc bound at g is u i
   moves_fine es _ _ (CallsHandles h kind c) b i = calls_handles contexts steps line origin is_line es h kind c i
   moves_fine es _ _ (RecallsCall h ids call e) b i = recalls_call contexts steps line origin is_line es h ids call e i
   moves_fine es _ _ (ReachesHandle h kind n handle place handles m k e) b i = reaches_handle contexts steps line origin is_line es h kind n handle place handles m k e i

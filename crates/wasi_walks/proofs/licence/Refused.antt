@@ -4,7 +4,7 @@ use Rattle.wasi_walks.proofs.Words.{IsTcpCreate, List, NamesSide, None, OpId, Re
 use Rattle.wasi_walks.proofs.Words.{WasiSocketsCtx, [], ap, arith, entry, false, inl, inr, own_of, port_of, refl, subst, true, wildcard, ℕ, ⊤, ◌++◌}
 use Rattle.wasi_walks.proofs.Words.{◌∷◌, ◌≡◌}
 use Rattle.wasi_walks.proofs.licence.Rows.{begins, creates, allowed, two_contexts, forbidden, local_80, bind_script}
-use Rattle.wasi_walks.specs.Licence.{IsDisconnect, IsUdpConnectTo, UdpCreated}
+use Rattle.wasi_walks.specs.Licence.{IsDisconnect, IsUdpConnectTo, Receives, UdpCreated}
 use Rattle.wasi_addr.specs.declared.code.ErrorCode.TheVariants as code
 use Rattle.wasi_world.specs.declared.call.HandleKind.TheVariants as kind
 
@@ -212,6 +212,12 @@ undone : IsLicensed allowed bind_script (begins ++ entry (own_of 3) (Call.UdpDis
 undone h =
     let may = h.each begins (entry (own_of 3) (Call.UdpDisconnect (own_of 2)) Told.Done) [] refl in
     at_line IsDisconnect (Step.TcpStartBind 0 2 1 local_80) may.1.origin may.1.at may.1.holds
+
+-- == and receives
+no_receive : IsLicensed allowed bind_script (begins ++ entry (own_of 3) (Call.Recv (own_of 2)) (Told.Datagram [] local_81) ∷ []) [] → ⊥
+no_receive h =
+    let may = h.each begins (entry (own_of 3) (Call.Recv (own_of 2)) (Told.Datagram [] local_81)) [] refl in
+    at_line Receives (Step.TcpStartBind 0 2 1 local_80) may.1.origin may.1.at may.1.holds
 
 -- == the backlog of a network socket that doesn't listen is set
 -- no listen

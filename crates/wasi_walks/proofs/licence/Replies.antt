@@ -5,7 +5,7 @@ use Rattle.std.proofs.Common.{arith}
 use Rattle.wasi_steps.specs.declared.reply.Field.{Field}
 use Rattle.wasi_walks.specs.Licence.{HandsOut, MayReply, EachMayReply}
 use Rattle.wasi_walks.proofs.licence.Frames.{side_more}
-use Rattle.wasi_walks.proofs.order.Handed.{order_more}
+use Rattle.wasi_walks.proofs.received.Handed.{order_more}
 
 -- == more entries
 -- what a receive hands out

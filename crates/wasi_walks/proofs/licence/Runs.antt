@@ -10,8 +10,8 @@ use Rattle.wasi_walks.proofs.licence.Fresh.{IsNew, next_is_new}
 use Rattle.wasi_walks.proofs.licence.Replies.{allows_both, replies_longer, replies_more, replies_push}
 use Rattle.wasi_walks.specs.Licence.{EachMayReply, MayReply}
 use Rattle.wasi_walks.proofs.fits.Polls.{Anything}
-use Rattle.wasi_walks.proofs.order.Replies.{Lates, lines_later, step_replies}
-use Rattle.wasi_walks.proofs.order.State.{first_late}
+use Rattle.wasi_walks.proofs.received.Replies.{Lates, lines_later, step_replies}
+use Rattle.wasi_walks.proofs.received.State.{first_late}
 use Rattle.wasi_world.proofs.Allowed.{reached}
 use Rattle.wasi_walks.proofs.licence.Longer.{EachMayCome, licensed, with_replies, may_come, come_longer, may_more, state_more, listen_more, tcp_more}
 use Rattle.wasi_walks.proofs.Lists.{get_seam}
@@ -72,7 +72,7 @@ module _ (contexts : List WasiSocketsCtx) (steps : List Step) (line : ℕ) (orig
     udp_closes = λ es h place o q g b i. (tt, λ told fits. udp_closed contexts steps line origin is_line es h place o told g i);
     udp_creates = λ es h ctx family c may a o past b i. udp_creates contexts steps line origin is_line es h ctx family c may a past i;
     udp_marks = λ es h place u g b i. udp_marked contexts steps line origin is_line es h place u g.found i;
-    stream_marks = λ es h place n handle kind m which e b i. stream_marked contexts steps line origin is_line es h place n handle kind m which e i;
+    stream_marks = λ es h place n handle reached kind m new which e b i. stream_marked contexts steps line origin is_line es h place n handle reached kind m which e i;
     error_marks = λ es h n handle place handles m k e f b i. error_marked contexts steps line origin is_line es h n handle place handles m k e f i;
     udp_gives_up = λ es h place create q g b i. udp_given_up contexts steps line origin is_line es h place create g i;
     lookups = λ es h host l b i. (let a = looked_up contexts steps line origin is_line es h host l i in (a.0, λ told fits. a.1 told));

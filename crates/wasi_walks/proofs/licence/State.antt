@@ -12,7 +12,7 @@ use Rattle.wasi_host.specs.Blocking.{blocking_handles}
 use Rattle.wasi_host.specs.Kinds.{name_of}
 use Rattle.wasi_tcp.specs.declared.writer.WriteError.{WriteError}
 use Rattle.wasi_world.specs.Operation.{End, Refused}
-use Rattle.wasi_walks.specs.Licence.{handles_of, IsMarkedAs, WriteFailed, IsRemote, IsSendOf, IsStreamOf, IsUdpBindTo, IsUdpConnectTo, MakesTcp, MakesUdp, MaySendOut, WasDisconnected}
+use Rattle.wasi_walks.specs.Licence.{handles_of, IsMarkedAs, WriteFailed, IsRemote, IsSendOf, IsStreamOf, IsUdpBindTo, IsUdpConnectTo, MakesTcp, MakesUdp, MaySendOut, Receives, WasDisconnected}
 use Rattle.std.specs.Prelude.{Bool, ◌⊎◌}
 use Rattle.wasi_world.specs.declared.datagram.OutgoingDatagram.{OutgoingDatagram}
 use Rattle.wasi_host.specs.declared.store.StandingCall.{StandingCall}
@@ -335,8 +335,9 @@ module _ (steps : List Step) where
     pub last : op.who.last ≡ NothingLast
     pub left : SendLeft es op.who.id op.who.side op.who.context family datagram op.left
 
-  -- A receive that may be polled.
+  -- A receive that may be polled: a line began it that receives.
   pub record ReceiveIsFine (es : List Entry) (op : Operation) : Type 0 where
+    pub began : BeganBy steps op.who.id Receives
     pub family : SocketAddressFamily
     pub made : IsMaker es op.who.context family op.who.side
     pub named : Names es op.who.id op.who.side

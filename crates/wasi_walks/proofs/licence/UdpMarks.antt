@@ -270,9 +270,9 @@ module _ (contexts : List WasiSocketsCtx) (steps : List Step) (line : ℕ) (orig
       let q : origin ≡ b.origin = cc in
       subst (IsStreamOf handle) (sym q ∙ is) b.holds
 
-  pub stream_marked : (es : List Entry) (h : Here) (place n handle : ℕ) (kind : Kind) → h.made ≡ ToStream n handle → OneStream kind place → udp_of (kind_at h.machine.table handle) ≡ Some place → Licensed contexts steps line origin es h
+  pub stream_marked : (es : List Entry) (h : Here) (place n handle reached : ℕ) (kind : Kind) → h.made ≡ ToStream n handle reached → OneStream kind place → udp_of (kind_at h.machine.table handle) ≡ Some place → Licensed contexts steps line origin es h
       → Allows (MayAsk contexts steps) (λ fs made. Licensed contexts steps line origin fs (record h { machine = record h.machine { table = made.1 } })) es (make_asks h.machine.table (own_of n) kind (Some handle) (udp_side_at (udp2_at h.machine.store.records place)))
-  stream_marked es h place n handle kind m which e i =
+  stream_marked es h place n handle reached kind m which e i =
       let sock = udp_side_at (udp2_at h.machine.store.records place) in
       let b : MakesStreams steps n handle = subst (MakingStands steps) m i.making in
       let k = names_udp es h.machine.store.records handle place (kind_at h.machine.table handle) (of_udp (kind_at h.machine.table handle) place e) (i.fine.handles handle) in

@@ -11,6 +11,7 @@ use Rattle.wasi_host.specs.DatagramCalls.{start_streams_by, start_streams_at, re
 use Rattle.wasi_host.specs.Datagrams.{has_streams, with_streams, udp_connect_ended, poll_udp_connecting, udp_connect_begun, disconnected, disconnect_streams, streams_to, streams_where, begin_streams_asks}
 use Rattle.wasi_host.specs.Kinds.{udp_of}
 use Rattle.wasi_host.specs.Records.{open_at, udp2_at}
+use Rattle.wasi_host.specs.declared.datagrams.Receiving.{Receiving}
 use Rattle.wasi_host.specs.declared.kind.Kind.TheVariants as kinds
 use Rattle.wasi_host.specs.declared.udp.OpenUdp.{OpenUdp}
 use Rattle.wasi_host.specs.declared.udp.Udp2Socket.{Udp2Socket}
@@ -23,20 +24,26 @@ use Rattle.wasi_udp.specs.Connect.{connect_asks, connect_start, is_connectable}
 use Rattle.wasi_udp.specs.Shape.{Socket}
 use Rattle.wasi_udp.specs.Socket.{after_local, ask_bound, bound_asks, disconnect_asks, disconnect_in, is_connected, then_peer}
 use Rattle.wasi_walks.proofs.Lists.{value_front}
+use Rattle.wasi_walks.proofs.UdpLists.{udp_set_there}
 use Rattle.wasi_walks.specs.Licence.{IsDisconnect, IsUdpConnectTo}
-use Rattle.wasi_walks.proofs.walks.Moves.{Here, ToStream, Own, put_udp, FoundUdp, NoStart, NoStartStands, ReachesUdp, Leaves, Spends, UdpChanges, RemembersStreams, BeginsUdpConnect, StandsUdpConnect, Used, Unused}
-use Rattle.wasi_walks.proofs.walks.Law.{Law, Walks, Given, given_then, given_on, give, and_then, and_given, move, gives, from}
+use Rattle.wasi_walks.proofs.walks.Moves.{HasNewStream, Here, ToStream, Own, put_udp, FoundUdp, NoStart, NoStartStands, ReachesUdp, Leaves, Spends, UdpChanges, RemembersStreams, BeginsUdpConnect, StandsUdpConnect, Used, Unused}
+use Rattle.wasi_walks.proofs.walks.Law.{Law, Walks, Given, given_along, given_then, given_on, give, and_then, and_given, move, gives, from}
 use Rattle.wasi_walks.proofs.walks.States.{OverWith, Starts, udp_record}
 use Rattle.wasi_walks.proofs.walks.Udp.{bound_walks, open_is, udp_there}
 use Rattle.wasi_walks.proofs.walks.UdpLaw.{HasUdp, udp_put_put, udp_put_same, udp_found, ask_udp, peer_udp, poll_udp_connect_walks, mark_stream}
 
--- a call that is pending has its connect in progress
+-- the incoming stream is new
+abbrev pub IsNew : OpenUdp → Type 0
+IsNew o = o.incoming ≡ Some (record { remote = o.inner.remote; receiving = Receiving.Nothing })
+
+-- a call that is pending has its connect in progress, and one that is done has new streams
 pub record HasUdpConnect (connecting : Option Operation) : Type 0 where
   pub op : Operation
   pub is : connecting ≡ Some op
 
 abbrev pub WaitsUdpConnect : Result (Answer (Unit {0})) ErrorCode × OpenUdp → Type 0
 WaitsUdpConnect (Ok Pending, o) = HasUdpConnect o.connecting
+WaitsUdpConnect (Ok (Ready d), o) = IsNew o
 WaitsUdpConnect _ = ⊤
 
 poll_given : (o : OpenUdp) (connecting : Option Operation) → Given WaitsUdpConnect (poll_udp_connecting o connecting)
@@ -45,7 +52,7 @@ poll_given o (Some op) = given_then WaitsUdpConnect (udp_connect_ended op o) end
   where
     ended : (e : End × List Item) → WaitsUdpConnect (udp_connect_ended op o e)
     ended (Waits, items) = record { op = left_of op items; is = refl }
-    ended (Done given, items) = tt
+    ended (Done given, items) = refl
     ended (Refused c given, items) = tt
 
 begun_given : (o : OpenUdp) (begun : Result Operation ErrorCode × Socket) → Given WaitsUdpConnect (udp_connect_begun o begun)
@@ -53,13 +60,13 @@ begun_given o (Ok op, socket) = poll_given (record o { inner = socket; connectin
 begun_given o (Err c, socket) = tt
 
 disconnected_given : (o : OpenUdp) (done : Result (Unit {0}) ErrorCode × Socket) → WaitsUdpConnect (disconnected o done)
-disconnected_given o (Ok d, socket) = tt
+disconnected_given o (Ok d, socket) = refl
 disconnected_given o (Err c, socket) = tt
 
 streams_given : (own : OpId) (o : OpenUdp) (remote : Option IpSocketAddress) (connected : Bool) → is_connected o.inner.remote ≡ connected → Given WaitsUdpConnect (streams_to own o remote)
 streams_given own o (Some a) b e = given_on WaitsUdpConnect (udp_connect_begun o) (begun_given o) (connect_asks own o.inner a)
 streams_given own o None true e = rw e (given_then WaitsUdpConnect (disconnected o) (disconnected_given o) (disconnect_asks own o.inner))
-streams_given own o None false e = rw e tt
+streams_given own o None false e = rw e refl
 
 where_given : (own : OpId) (remote : Option IpSocketAddress) (o : OpenUdp) (bound : Bool) → Given WaitsUdpConnect (streams_where own remote o bound)
 where_given own remote o true = streams_given own o remote (is_connected o.inner.remote) refl
@@ -112,7 +119,7 @@ Ends h place done = record (put_udp h place (Udp2Socket.Open done.1)) { own = Us
 
 -- the streams of a socket are to be made under its handle
 abbrev pub Streaming : ℕ → Machine → ℕ → ℕ → Own → Here
-Streaming n m place handle own = record { machine = m; at = Some (place, n); made = ToStream n handle; own = own }
+Streaming n m place handle own = record { machine = m; at = Some (place, n); made = ToStream n handle place; own = own }
 
 abbrev pub Streamed : {A : Type 0} → ℕ → Machine → ℕ → ℕ → A × Records → Here
 Streamed n m place handle done = Streaming n (record m { store = done.1 }) place handle Used
@@ -124,6 +131,29 @@ bound_connect op socket a e = ap (λ b. if is_connectable socket a then bind (as
 
 bound_same : (socket : Socket) → socket.bound ≡ true → socket ≡ record socket { bound = true }
 bound_same socket e = ap (λ b. let s : Socket = record socket { bound = b } in s) e
+
+-- where the call is done, its record has new streams
+abbrev pub AreMade : ℕ → Result (Answer (Unit {0})) Stop × Records → Type 0
+AreMade place (Ok (Ready d), store) = HasNewStream store.records place
+AreMade place _ = ⊤
+
+answered_made : (store : Records) (ids : Ids) (place handle : ℕ) (was : OpenUdp) → udp2_at store.records place ≡ Some (Udp2Socket.Open was) → (done : Result (Answer (Unit {0})) ErrorCode × OpenUdp) → WaitsUdpConnect done
+    → AreMade place (udp_call_answered store ids (StandingCall.UdpConnect place handle) done)
+answered_made store ids place handle was g (Ok Pending, o) w = tt
+answered_made store ids place handle was g (Ok (Ready d), o) w = record { socket = o; at = udp_set_there store.records place (Udp2Socket.Open was) (Udp2Socket.Open o) g; new = w }
+answered_made store ids place handle was g (Err c, o) w = tt
+
+start_made : (store : Records) (ids : Ids) (place handle : ℕ) (remote : Option IpSocketAddress) (o : OpenUdp) → udp2_at store.records place ≡ Some (Udp2Socket.Open o) → (live : Bool) → Given (AreMade place) (start_streams_by store ids place handle remote o live)
+start_made store ids place handle remote o g true = tt
+start_made store ids place handle remote o g false = given_along WaitsUdpConnect (AreMade place) (begin_streams_asks (own_of ids.line) o remote) _ (begin_given (own_of ids.line) o remote) (λ begun w. answered_made store ids place handle o g begun w)
+
+starts_made : (store : Records) (ids : Ids) (place handle : ℕ) (remote : Option IpSocketAddress) (o : Option OpenUdp) → open_at store.records place ≡ o → Given (AreMade place) (start_streams_at store ids place handle remote o)
+starts_made store ids place handle remote None e = tt
+starts_made store ids place handle remote (Some o) e = start_made store ids place handle remote o (open_is (udp2_at store.records place) o e) (has_streams o)
+
+again_made : (store : Records) (ids : Ids) (place handle : ℕ) (o : Option OpenUdp) → open_at store.records place ≡ o → Given (AreMade place) (reconnect_udp_at store ids place handle o)
+again_made store ids place handle None e = tt
+again_made store ids place handle (Some o) e = given_along WaitsUdpConnect (AreMade place) (poll_udp_connecting o o.connecting) _ (poll_given o o.connecting) (λ done w. answered_made store ids place handle o (open_is (udp2_at store.records place) o e) done w)
 
 module _ {contexts : List WasiSocketsCtx} {line : ℕ} {origin : Step} {law : Law contexts line origin} where
   -- == a connect that was begun is polled
@@ -214,28 +244,28 @@ module _ {contexts : List WasiSocketsCtx} {line : ℕ} {origin : Step} {law : La
     second_walks m first (Ok second, t) = gives _ (Leaves _)
     second_walks m first (Err stop, t) = gives _ (Leaves _)
 
-    outgoing_walks : (m : Machine) (of : ℕ) (made : Result ℕ Stop × Handles) → udp_of (kind_at made.1 handle) ≡ Some of → Walks law (Streaming n (record m { table = made.1 }) place handle Used) OverWith (outgoing_made m (own_of n) handle of (udp_side_at (udp2_at m.store.records of)) made)
-    outgoing_walks m of (Ok incoming, t) e = and_then (mark_stream {h = Streaming n (record m { table = t }) place handle Used} of n handle (kinds.Outgoing of) refl (inr refl) e) (second_walks m incoming)
-    outgoing_walks m of (Err stop, t) e = gives _ (Leaves _)
+    outgoing_walks : (m : Machine) (of : ℕ) (made : Result ℕ Stop × Handles) → HasNewStream m.store.records place → udp_of (kind_at made.1 handle) ≡ Some of → Walks law (Streaming n (record m { table = made.1 }) place handle Used) OverWith (outgoing_made m (own_of n) handle of (udp_side_at (udp2_at m.store.records of)) made)
+    outgoing_walks m of (Ok incoming, t) new e = and_then (mark_stream {h = Streaming n (record m { table = t }) place handle Used} of n handle place (kinds.Outgoing of) refl new (inr refl) e) (second_walks m incoming)
+    outgoing_walks m of (Err stop, t) new e = gives _ (Leaves _)
 
-    marked_walks : (m : Machine) (of : Option ℕ) → udp_of (kind_at m.table handle) ≡ of → Walks law (Streaming n m place handle Used) OverWith (mark_streams_of m (own_of n) handle of)
-    marked_walks m None e = gives _ (Leaves _)
-    marked_walks m (Some of) e =
+    marked_walks : (m : Machine) (of : Option ℕ) → HasNewStream m.store.records place → udp_of (kind_at m.table handle) ≡ of → Walks law (Streaming n m place handle Used) OverWith (mark_streams_of m (own_of n) handle of)
+    marked_walks m None new e = gives _ (Leaves _)
+    marked_walks m (Some of) new e =
         let its : kind_at m.table handle ≡ Some (kinds.Udp2 of) = udp_kind (kind_at m.table handle) of e in
         and_given (λ made. kind_at made.1 handle ≡ Some (kinds.Udp2 of)) (kind_given m.table (own_of n) (kinds.Incoming of) (Some handle) (udp_side_at (udp2_at m.store.records of)) handle (kinds.Udp2 of) its)
-        (mark_stream {h = Streaming n m place handle Used} of n handle (kinds.Incoming of) refl (inl refl) e) (λ made k. outgoing_walks m of made (ap udp_of k))
+        (mark_stream {h = Streaming n m place handle Used} of n handle place (kinds.Incoming of) refl new (inl refl) e) (λ made k. outgoing_walks m of made new (ap udp_of k))
 
-    so_walks : (m : Machine) (done : Result (Answer (Unit {0})) Stop × Records) → Walks law (Streamed n m place handle done) OverWith (streams_so (own_of n) handle m done)
-    so_walks m (Ok Pending, store) = gives _ (Leaves _)
-    so_walks m (Ok (Ready d), store) = marked_walks (record m { store = store }) (udp_of (kind_at m.table handle)) refl
-    so_walks m (Err stop, store) = gives _ (Leaves _)
+    so_walks : (m : Machine) (done : Result (Answer (Unit {0})) Stop × Records) → AreMade place done → Walks law (Streamed n m place handle done) OverWith (streams_so (own_of n) handle m done)
+    so_walks m (Ok Pending, store) new = gives _ (Leaves _)
+    so_walks m (Ok (Ready d), store) new = marked_walks (record m { store = store }) (udp_of (kind_at m.table handle)) new refl
+    so_walks m (Err stop, store) new = gives _ (Leaves _)
 
   pub stream_walks : (m : Machine) (c s : ℕ) (remote : Option IpSocketAddress) (o : Option ℕ) → udp_socket_at m s ≡ o → origin ≡ Step.UdpStream c s remote → Has (handles_of origin) s → NoStartStands m.store.standing → Walks law (Starts m Unused) OverWith (udp_stream_on m (first_ids line) s remote o)
   stream_walks m c s remote None e is named q = gives _ (Spends _ refl)
   stream_walks m c s remote (Some place) e is named q =
-      move (ReachesUdp _ s place named (udp_record (kind_at m.table s) place e)) (move (RemembersStreams _ c s remote is)
-      (and_then (start_at m place s q c s remote is (open_at m.store.records place) refl) (so_walks line place s m)))
+      move (ReachesUdp _ s place named (udp_record (kind_at m.table s) place e)) (move (RemembersStreams _ c s place remote is e)
+      (and_given (AreMade place) (starts_made m.store (first_ids line) place s remote (open_at m.store.records place) refl) (start_at m place s q c s remote is (open_at m.store.records place) refl) (so_walks line place s m)))
 
   -- a call of streams that was pending continues
   pub streams_again : (ids : Ids) (m : Machine) (place handle : ℕ) → NoStartStands m.store.standing → Walks law (Streaming ids.line m place handle Used) OverWith (remake_streams_asks m ids place handle)
-  streams_again ids m place handle q = and_then (again_at m place handle q ids (open_at m.store.records place) refl) (so_walks ids.line place handle m)
+  streams_again ids m place handle q = and_given (AreMade place) (again_made m.store ids place handle (open_at m.store.records place) refl) (again_at m place handle q ids (open_at m.store.records place) refl) (so_walks ids.line place handle m)

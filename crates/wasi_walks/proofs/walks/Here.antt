@@ -4,7 +4,9 @@ use Rattle.wasi_walks.proofs.Words.{Bool, Kind, List, Machine, None, OpId, Optio
 use Rattle.wasi_host.specs.Records.{tcp2_at, udp2_at}
 use Rattle.wasi_host.specs.UdpCalls.{with_udp}
 use Rattle.wasi_host.specs.declared.kind.Kind.TheVariants.{Udp2}
+use Rattle.wasi_host.specs.declared.datagrams.Receiving.{Receiving}
 use Rattle.wasi_host.specs.declared.records.Record.{Record}
+use Rattle.wasi_host.specs.declared.udp.OpenUdp.{OpenUdp}
 use Rattle.wasi_host.specs.declared.udp.Udp2Socket.{Udp2Socket}
 
 -- what the line's operations have begun: something, or nothing yet; its own none, and of the others those of a part below this one;
@@ -21,11 +23,11 @@ pub data CallKind : Type 0 where
   OfPollables : CallKind
 
 -- what an accept has made so far: nothing, the record of what it took, or its handle too; the line whose call makes datagram
--- streams, and the handle that they are made under; the line whose call on streams or on pollables is done, and the handles that it
+-- streams, the handle that they are made under, and the record that it is of; the line whose call on streams or on pollables is done, and the handles that it
 -- named; the kind of a handle that was dropped, under which nothing was live; the record whose create is polled, which has no handle
 -- yet; else nothing is said of it
 pub data Made : Type 0 where
-  ToStream : ℕ → ℕ → Made
+  ToStream : ℕ → ℕ → ℕ → Made
   Calls : CallKind → ℕ → List ℕ → Made
   Emptied : Kind → Made
   Awaited : ℕ → Made
@@ -91,6 +93,13 @@ pub record IsCreated (h : Here) (place : ℕ) (u : Udp2Socket) : Type 0 where
   pub awaited : h.made ≡ Awaited place
   pub found : FoundUdp h place u
   pub opens : IsOpenUdp u
+
+-- == datagram streams
+-- The incoming stream of the record is new: it holds nothing, and keeps the remote address of its socket.
+pub record HasNewStream (records : List Record) (place : ℕ) : Type 0 where
+  pub socket : OpenUdp
+  pub at : udp2_at records place ≡ Some (Udp2Socket.Open socket)
+  pub new : socket.incoming ≡ Some (record { remote = socket.inner.remote; receiving = Receiving.Nothing })
 
 -- == names
 -- the name of a part of a line

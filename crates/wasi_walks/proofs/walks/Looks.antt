@@ -17,6 +17,7 @@ use Rattle.wasi_host.specs.declared.jobs.HostJob.TheVariants.{Receive}
 use Rattle.wasi_host.specs.declared.udp.OpenUdp.{OpenUdp}
 use Rattle.wasi_host.specs.declared.udp.Udp2Socket.{Udp2Socket}
 use Rattle.wasi_tcp.specs.Listener.{has_accept}
+use Rattle.wasi_walks.specs.Licence.{Receives}
 use Rattle.wasi_walks.proofs.walks.Here.{MayBegin, after}
 use Rattle.wasi_walks.proofs.walks.Moves.{Calls, FoundUdp, Here, Lists, Names, OfPollables, Own, ReachesHandle, ReachesUdp, part_of, put, put_udp, tcp_place}
 use Rattle.wasi_walks.proofs.walks.Law.{HasRecord, Law, Walks, and_then, ends, from, give, gives, move, put_same}
@@ -67,7 +68,7 @@ module _ {contexts : List WasiSocketsCtx} {line : ℕ} {origin : Step} (law : La
   -- == at the incoming stream of a UDP socket
   module _ {h : Here} {place : ℕ} (here : HasUdp h place) (n part : ℕ) where
     -- a receive begins, unless the stream has one, or its result
-    fetch_walks : (o : OpenUdp) (inc : Incoming) (receiving : Receiving) → (has_none receiving ≡ true → h.at ≡ Some (place, line)) → MayBegin line n part h.own (has_none receiving)
+    fetch_walks : (o : OpenUdp) (inc : Incoming) (receiving : Receiving) → (has_none receiving ≡ true → (h.at ≡ Some (place, line)) × Receives origin) → MayBegin line n part h.own (has_none receiving)
         → Walks law (put_udp h place (Udp2Socket.Open (with_incoming o (o.inner, inc)))) (λ now. record (put_udp h place (Udp2Socket.Open now)) { own = after h.own part (has_none receiving) }) (bind (fetch_asks (part_of n part) receiving (o.inner, inc)) (λ s. Give (with_incoming o s)))
     unfolding bind
     fetch_walks o inc Receiving.Nothing at may =
@@ -75,10 +76,10 @@ module _ {contexts : List WasiSocketsCtx} {line : ℕ} {origin : Step} (law : La
         let old = Udp2Socket.Open (with_incoming o (o.inner, inc)) in
         from (ap (λ (own : Own). record (put_udp h place old) { own = own }) (sym its.1))
         (subst (λ (x : ℕ). Walks law (record (put_udp h place old) { own = Names part }) (λ now. record (put_udp h place (Udp2Socket.Open now)) { own = Names (part + 1) }) (bind (fetch_asks (part_of x part) Receiving.Nothing (o.inner, inc)) (λ s. Give (with_incoming o s)))) (sym its.0)
-        (and_then (begun_walks here (at refl) part o o.inner inc) (λ s. give _)))
+        (and_then (begun_walks here (at refl).0 (at refl).1 part o o.inner inc) (λ s. give _)))
     fetch_walks o inc _ at may = give _
 
-    incoming_walks : (o : OpenUdp) (inc : Option Incoming) → o.incoming ≡ inc → (would_receive inc ≡ true → h.at ≡ Some (place, line)) → MayBegin line n part h.own (would_receive inc)
+    incoming_walks : (o : OpenUdp) (inc : Option Incoming) → o.incoming ≡ inc → (would_receive inc ≡ true → (h.at ≡ Some (place, line)) × Receives origin) → MayBegin line n part h.own (would_receive inc)
         → Walks law (put_udp h place (Udp2Socket.Open o)) (λ now. record (put_udp h place (Udp2Socket.Open now)) { own = after h.own part (would_receive inc) }) (look_incoming (names_from n part) o inc)
     incoming_walks o None e at may = give _
     incoming_walks o (Some inc) e at may = from (incoming_is h place o inc e) (fetch_walks o inc inc.receiving at may)
@@ -106,7 +107,7 @@ module _ {contexts : List WasiSocketsCtx} {line : ℕ} {origin : Step} (law : La
     listed_at at now place ready store true = gives _ (Lists _ _)
     listed_at at now place ready store false = give _
 
-    incoming_at : (at : Option (ℕ × ℕ)) (place : ℕ) (o : Option OpenUdp) → open_at m.store.records place ≡ o → (udp_begins o ≡ true → at ≡ Some (place, line)) → MayBegin line n part own (udp_begins o)
+    incoming_at : (at : Option (ℕ × ℕ)) (place : ℕ) (o : Option OpenUdp) → open_at m.store.records place ≡ o → (udp_begins o ≡ true → (at ≡ Some (place, line)) × Receives origin) → MayBegin line n part own (udp_begins o)
         → Walks law (Looking n handles at own m) (λ done. Looking n handles at (after own part (udp_begins o)) (record m { store = done.1 })) (ready_incoming_at m.store (names_from n part) place o)
     incoming_at at place None g named may = give _
     incoming_at at place (Some o) g named may =
@@ -128,19 +129,19 @@ module _ {contexts : List WasiSocketsCtx} {line : ℕ} {origin : Step} (law : La
       reached w now t e k = record { left = Some (place_in w, n); walks = move (ReachesHandle _ OfPollables n p (place_in w) handles refl named (watch_record (kind_at m.table p) w e ∙ t)) (and_then k (λ done. give _)) }
 
       -- of an incoming stream
-      came : (place : ℕ) (b : Bool) → udp_begins (open_at m.store.records place) ≡ b → watch_of (kind_at m.table p) ≡ Some (Watched.Incoming place) → MayBegin line n part own (udp_begins (open_at m.store.records place)) → (udp_begins (open_at m.store.records place) ≡ true → Has (handles_of origin) p)
+      came : (place : ℕ) (b : Bool) → udp_begins (open_at m.store.records place) ≡ b → watch_of (kind_at m.table p) ≡ Some (Watched.Incoming place) → MayBegin line n part own (udp_begins (open_at m.store.records place)) → (udp_begins (open_at m.store.records place) ≡ true → Has (handles_of origin) p × Receives origin)
           → Looked at (after own part (udp_begins (open_at m.store.records place))) (bind (ready_incoming_at m.store (names_from n part) place (open_at m.store.records place)) (λ done. Give (with_store m done)))
       came place true b e may its = record {
         left = Some (place, line);
-        walks = move (ReachesUdp _ p place (its b) (watch_udp (kind_at m.table p) (Watched.Incoming place) e)) (and_then (incoming_at (Some (place, line)) place (open_at m.store.records place) refl (λ t. refl) may) (λ done. give _));
+        walks = move (ReachesUdp _ p place (its b).0 (watch_udp (kind_at m.table p) (Watched.Incoming place) e)) (and_then (incoming_at (Some (place, line)) place (open_at m.store.records place) refl (λ t. (refl, (its b).1)) may) (λ done. give _));
       }
       came place false b e may its = record { left = at; walks = and_then (incoming_at at place (open_at m.store.records place) refl (λ t. absurd (not_both b t)) may) (λ done. give _) }
         where
           not_both : {c : Bool} → c ≡ false → c ≡ true → ⊥
           not_both x y = absurd (cc)
 
-      -- where something begins, the line's step names the pollable
-      pub ready_walks : (o : Option Watched) → watch_of (kind_at m.table p) ≡ o → MayBegin line n part own (begins_on m.store o) → (begins_on m.store o ≡ true → Has (handles_of origin) p) → Looked at (after own part (begins_on m.store o)) (ready_on m (names_from n part) o)
+      -- where something begins, the line's step names the pollable, and receives
+      pub ready_walks : (o : Option Watched) → watch_of (kind_at m.table p) ≡ o → MayBegin line n part own (begins_on m.store o) → (begins_on m.store o ≡ true → Has (handles_of origin) p × Receives origin) → Looked at (after own part (begins_on m.store o)) (ready_on m (names_from n part) o)
       ready_walks None e may its = record { left = at; walks = give _ }
       ready_walks (Some (Watched.Udp place)) e may its = record { left = at; walks = give _ }
       ready_walks (Some Watched.Plain) e may its = record { left = at; walks = give _ }

@@ -12,7 +12,7 @@ use Rattle.wasi_walks.proofs.Words.{side_at, side_of, standing_as, true, wildcar
 use Rattle.wasi_walks.proofs.Words.{with_progress, with_reader, with_state, with_writer, without_handle, writer_side, ℕ, ⊤}
 use Rattle.wasi_walks.proofs.Words.{◌≡◌, ◌⊎◌}
 use Rattle.wasi_world.specs.declared.ids.Ids.{Ids}
-pub use Rattle.wasi_walks.proofs.walks.Here.{IsCreated, IsOpenUdp, NoStart, NoStartIn, NoStartStands, Releases, ReleasesUdp, CallKind, OfPollables, OfStreams, Found, FoundUdp, Here, Own, Names, ToWrite, Unused, Used, Made, Awaited, Calls, Emptied, Joined, Marked, Past, ToStream, Unmade, part_of, put, put_udp, with_records}
+pub use Rattle.wasi_walks.proofs.walks.Here.{HasNewStream, IsCreated, IsOpenUdp, NoStart, NoStartIn, NoStartStands, Releases, ReleasesUdp, CallKind, OfPollables, OfStreams, Found, FoundUdp, Here, Own, Names, ToWrite, Unused, Used, Made, Awaited, Calls, Emptied, Joined, Marked, Past, ToStream, Unmade, part_of, put, put_udp, with_records}
 use Rattle.wasi_host.specs.Records.{tcp2_at, tcp2_put, tcp2_pushed, udp2_at, lookup_at, input_pipe_at, output_pipe_at}
 use Rattle.wasi_host.specs.declared.name_lookup.Lookup.TheVariants as lookup
 use Rattle.wasi_host.specs.declared.name_lookup.LookupOp.{LookupOp}
@@ -35,7 +35,7 @@ use Rattle.wasi_host.specs.declared.kind.Kind.TheVariants.{Udp2, PlainInput, Pla
 use Rattle.wasi_host.specs.declared.kind.PlainInput.TheVariants as plain_input
 use Rattle.wasi_host.specs.declared.kind.PlainOutput.TheVariants as plain_output
 use Rattle.wasi_host.specs.Blocking.{blocking_handles}
-use Rattle.wasi_host.specs.Kinds.{has_no_child, watched_by}
+use Rattle.wasi_host.specs.Kinds.{has_no_child, udp_of, watched_by}
 use Rattle.wasi_udp.specs.Connect.{connect_start}
 use Rattle.wasi_udp.specs.Receive.{receive_start, wanting}
 use Rattle.wasi_udp.specs.Send.{at_remote, send_start}
@@ -50,7 +50,7 @@ use Rattle.wasi_udp.specs.Socket.{asker_of}
 use Rattle.wasi_udp.specs.declared.bind.UdpBindStage.{UdpBindStage}
 use Rattle.wasi_host.specs.declared.records.Record.{Record}
 use Rattle.wasi_host.specs.declared.jobs.HostJob.{HostJob}
-use Rattle.wasi_walks.specs.Licence.{IsGetOf, IsSetTo, IsSendOf, IsDisconnect, IsUdpBindTo, IsUdpConnectTo}
+use Rattle.wasi_walks.specs.Licence.{IsGetOf, IsSetTo, IsSendOf, IsDisconnect, IsUdpBindTo, IsUdpConnectTo, Receives}
 use Rattle.wasi_walks.specs.Answered.{streams_in}
 use Rattle.wasi_walks.specs.Waiting.{StartsTold}
 use Rattle.wasi_tcp.specs.declared.bind.BindStage.TheVariants.{Check}
@@ -346,13 +346,20 @@ abbrev pub came_of : Receiving → Option IncomingDatagram
 came_of (Receiving.Came d) = Some d
 came_of _ = None
 
--- and that of a stream
-abbrev pub came_in : Option IncomingStream → Option IncomingDatagram
-came_in None = None
-came_in (Some inc) = came_of inc.receiving
+-- and that of a stream, which keeps this remote address
+abbrev pub Kept : Type 0
+Kept = Option IpSocketAddress × IncomingDatagram
 
--- what has come is as it was, or was taken
-abbrev pub KeepsCame : Option IncomingDatagram → Option IncomingDatagram → Type 0
+abbrev pub came_from : Option IpSocketAddress → Option IncomingDatagram → Option Kept
+came_from remote None = None
+came_from remote (Some d) = Some (remote, d)
+
+abbrev pub came_in : Option IncomingStream → Option Kept
+came_in None = None
+came_in (Some inc) = came_from inc.remote (came_of inc.receiving)
+
+-- what has come is as it was, and of a stream that keeps the same address, or was taken
+abbrev pub KeepsCame : Option Kept → Option Kept → Type 0
 KeepsCame old now = (now ≡ old) ⊎ (now ≡ None)
 
 -- The network socket, its creator, its family and its remote address are as they were. A bind in progress is as it was, and a
@@ -436,11 +443,11 @@ pub data Move (line : ℕ) (origin : Step) : Here → Here → Type 0 where
   StandsUdpBind : (h : Here) (ids : Ids) (place : ℕ) (o : OpenUdp) (op : Operation) → h.at ≡ Some (place, ids.line) → FoundUdp h place (Udp2Socket.Open o) → o.in_progress ≡ UdpInProgress.Binding op → Move line origin h (record h { machine = record h.machine { store = record h.machine.store { standing = Some (standing_as ids (StandingCall.UdpBind place)) } } })
   StandsUdpCreate : (h : Here) (ids : Ids) (place : ℕ) (create : Create) → FoundUdp h place (Udp2Socket.Creating create) → Move line origin h (record h { machine = record h.machine { store = record h.machine.store { standing = Some (standing_as ids (StandingCall.UdpCreate place)) } } })
   -- the datagram streams of a UDP socket: what they are made under, and the connect that comes before
-  RemembersStreams : (h : Here) (c handle : ℕ) (remote : Option IpSocketAddress) → origin ≡ Step.UdpStream c handle remote → Move line origin h (record h { made = ToStream line handle })
-  RecallsStreams : (h : Here) (ids : Ids) (place handle : ℕ) → h.machine.store.standing ≡ Some (standing_as ids (StandingCall.UdpConnect place handle)) → Move line origin h (record h { made = ToStream ids.line handle })
+  RemembersStreams : (h : Here) (c handle place : ℕ) (remote : Option IpSocketAddress) → origin ≡ Step.UdpStream c handle remote → udp_of (kind_at h.machine.table handle) ≡ Some place → Move line origin h (record h { made = ToStream line handle place })
+  RecallsStreams : (h : Here) (ids : Ids) (place handle : ℕ) → h.machine.store.standing ≡ Some (standing_as ids (StandingCall.UdpConnect place handle)) → Move line origin h (record h { made = ToStream ids.line handle place })
   BeginsUdpConnect : (h : Here) (place : ℕ) (o : OpenUdp) (a : IpSocketAddress) → h.at ≡ Some (place, line) → FoundUdp h place (Udp2Socket.Open o) → IsUdpConnectTo a origin → o.inner.bound ≡ true → h.own ≡ Unused
       → Move line origin h (record (put_udp h place (Udp2Socket.Open (record o { connecting = Some (begun_udp_connect (own_of line) o a) }))) { own = Used })
-  StandsUdpConnect : (h : Here) (ids : Ids) (place handle : ℕ) (o : OpenUdp) (op : Operation) → h.at ≡ Some (place, ids.line) → h.made ≡ ToStream ids.line handle → FoundUdp h place (Udp2Socket.Open o) → o.connecting ≡ Some op → Move line origin h (record h { machine = record h.machine { store = record h.machine.store { standing = Some (standing_as ids (StandingCall.UdpConnect place handle)) } } })
+  StandsUdpConnect : (h : Here) (ids : Ids) (place handle : ℕ) (o : OpenUdp) (op : Operation) → h.at ≡ Some (place, ids.line) → h.made ≡ ToStream ids.line handle place → FoundUdp h place (Udp2Socket.Open o) → o.connecting ≡ Some op → Move line origin h (record h { machine = record h.machine { store = record h.machine.store { standing = Some (standing_as ids (StandingCall.UdpConnect place handle)) } } })
   StandsDropOutgoing : (h : Here) (ids : Ids) (place : ℕ) (o : OpenUdp) → h.at ≡ Some (place, ids.line) → FoundUdp h place (Udp2Socket.Open o) → sends o.outgoing ≡ true → Move line origin h (record h { machine = record h.machine { store = record h.machine.store { standing = Some (standing_as ids (StandingCall.DropOutgoing place)) } } })
   -- accepts and datagrams: each has the next name of the line
   Counts : (h : Here) → h.own ≡ Unused → Move line origin h (record h { own = Names 1 })
@@ -449,7 +456,7 @@ pub data Move (line : ℕ) (origin : Step) : Here → Here → Type 0 where
       → Move line origin h (record (put h place (accepting_now r l (new_accept (part_of line n) l))) { own = Names (n + 1) })
   BeginsSend : (h : Here) (place n : ℕ) (o : OpenUdp) (out : OutgoingStream) (d : OutgoingDatagram) (bound : Bool) → h.at ≡ Some (place, line) → FoundUdp h place (Udp2Socket.Open o) → o.outgoing ≡ Some out → IsSendOf n d origin → (bound ≡ true → o.inner.bound ≡ true) → h.own ≡ Names n
       → Move line origin h (record (put_udp h place (Udp2Socket.Open (sending_now o out (send_start (part_of line n) o.inner d.bytes d.remote_address bound)))) { own = Names (n + 1) })
-  BeginsReceive : (h : Here) (place n : ℕ) (o : OpenUdp) (inc : IncomingStream) (bound : Bool) → h.at ≡ Some (place, line) → FoundUdp h place (Udp2Socket.Open o) → o.incoming ≡ Some inc → h.own ≡ Names n
+  BeginsReceive : (h : Here) (place n : ℕ) (o : OpenUdp) (inc : IncomingStream) (bound : Bool) → h.at ≡ Some (place, line) → FoundUdp h place (Udp2Socket.Open o) → o.incoming ≡ Some inc → Receives origin → h.own ≡ Names n
       → Move line origin h (record (put_udp h place (Udp2Socket.Open (receiving_now o inc (receive_start (part_of line n) o.inner bound)))) { own = Names (n + 1) })
   -- calls on handles: that of the line, or the one that is pending, and the record of one of its handles; it is pending then
   CallsHandles : (h : Here) (kind : CallKind) → IsCall kind origin → Move line origin h (record h { made = Calls kind line (handles_of origin) })

@@ -18,6 +18,7 @@ use Rattle.wasi_host.specs.declared.datagrams.Receiving.{Receiving}
 use Rattle.wasi_host.specs.declared.polling.Look.{Look}
 use Rattle.wasi_host.specs.declared.polling.Look.TheVariants.{First, Later}
 use Rattle.wasi_host.specs.declared.udp.OpenUdp.{OpenUdp}
+use Rattle.wasi_walks.specs.Licence.{Receives}
 use Rattle.wasi_walks.proofs.walks.Here.{after, after_names, part_after}
 use Rattle.wasi_walks.proofs.walks.Moves.{Calls, CallsHandles, Counts, Here, Leaves, LooksAtPollables, Names, OfPollables, Own, SpendsNames, StandsBlocking, Unused, Used}
 use Rattle.wasi_walks.proofs.walks.Law.{Law, Walks, and_then, ends, give, gives, move}
@@ -83,9 +84,9 @@ abbrev pub own_in : Look → ℕ → Own
 own_in First part = Names part
 own_in Later part = Used
 
--- the first looks are those of the line, whose step names the pollables
+-- the first looks are those of the line, whose step names the pollables, and receives
 abbrev pub MayLook : ℕ → Step → ℕ → List ℕ → Look → Type 0
-MayLook line origin n handles First = (n ≡ line) × ((p : ℕ) → Has handles p → Has (handles_of origin) p)
+MayLook line origin n handles First = (n ≡ line) × ((p : ℕ) → Has handles p → Has (handles_of origin) p) × Receives origin
 MayLook line origin n handles Later = ⊤
 
 module _ {contexts : List WasiSocketsCtx} {line : ℕ} {origin : Step} (law : Law contexts line origin) (n : ℕ) (handles : List ℕ) where
@@ -107,7 +108,7 @@ module _ {contexts : List WasiSocketsCtx} {line : ℕ} {origin : Step} (law : La
   look_walks : (look : Look) → MayLook line origin n handles look → (at : Option (ℕ × ℕ)) (m : Machine) (part p : ℕ) → Has handles p → LookedSo look at m part p
   look_walks First may at m part p named =
       let begins = begins_at m p in
-      let w = ready_walks law n handles m (Names part) part at p named (watch_of (kind_at m.table p)) refl (λ b. (may.0, refl)) (λ b. may.1 p named) in
+      let w = ready_walks law n handles m (Names part) part at p named (watch_of (kind_at m.table p)) refl (λ b. (may.0, refl)) (λ b. (may.1 p named, may.2)) in
       record {
         next = part_after part begins;
         names = names_after m n part (watch_of (kind_at m.table p));
@@ -186,16 +187,16 @@ module _ {contexts : List WasiSocketsCtx} {line : ℕ} {origin : Step} {law : La
   pub looks_begin : {A : Type 0} {m : Machine} {end : A → Here} {asks : Asks A} → LooksAtPollables origin → Walks law (Looking line (handles_of origin) None (Names 1) m) end asks → Walks law (Starts m Unused) end asks
   looks_begin is w = move (CallsHandles _ OfPollables is) (move (Counts _ refl) w)
 
-  pub ready_asks_walks : (m : Machine) (p : ℕ) → Has (handles_of origin) p → LooksAtPollables origin → {A : Type 0} (reply : Result Bool Stop → A) → Walks law (Starts m Unused) OverWith (bind (look_at_pollable First m (names_from line 1) p) (λ done. Give (reply done.0, done.1)))
-  ready_asks_walks m p named is reply =
-      let l = look_walks law line (handles_of origin) First (refl, λ q k. k) None m 1 p named in
+  pub ready_asks_walks : (m : Machine) (p : ℕ) → Has (handles_of origin) p → LooksAtPollables origin → Receives origin → {A : Type 0} (reply : Result Bool Stop → A) → Walks law (Starts m Unused) OverWith (bind (look_at_pollable First m (names_from line 1) p) (λ done. Give (reply done.0, done.1)))
+  ready_asks_walks m p named is receives reply =
+      let l = look_walks law line (handles_of origin) First (refl, (λ q k. k), receives) None m 1 p named in
       looks_begin is (and_then l.looked.walks (λ done. looks_end law line (handles_of origin) First l.looked.left l.next done.1 (gives _ (Leaves _))))
 
   -- every handle is tested before
-  poll_when_walks : (m : Machine) (pollables : List ℕ) → pollables ≡ handles_of origin → (b : Bool) → Walks law (Looking line (handles_of origin) None (Names 1) m) OverWith (poll_when m (names_from line 1) pollables b)
-  poll_when_walks m pollables its true = poll_walks law line (handles_of origin) First (refl, λ q k. k) pollables its m 1
-  poll_when_walks m pollables its false = move (SpendsNames _ 1 refl) (gives _ (Leaves _))
+  poll_when_walks : Receives origin → (m : Machine) (pollables : List ℕ) → pollables ≡ handles_of origin → (b : Bool) → Walks law (Looking line (handles_of origin) None (Names 1) m) OverWith (poll_when m (names_from line 1) pollables b)
+  poll_when_walks receives m pollables its true = poll_walks law line (handles_of origin) First (refl, (λ q k. k), receives) pollables its m 1
+  poll_when_walks receives m pollables its false = move (SpendsNames _ 1 refl) (gives _ (Leaves _))
 
-  pub poll_asks_walks : (m : Machine) (pollables : List ℕ) → pollables ≡ handles_of origin → Walks law (Looking line (handles_of origin) None (Names 1) m) OverWith (poll_asks m (names_from line 1) pollables)
-  poll_asks_walks m [] its = move (SpendsNames _ 1 refl) (gives _ (Leaves _))
-  poll_asks_walks m (p ∷ pollables) its = poll_when_walks m (p ∷ pollables) its (are_pollables m (p ∷ pollables))
+  pub poll_asks_walks : Receives origin → (m : Machine) (pollables : List ℕ) → pollables ≡ handles_of origin → Walks law (Looking line (handles_of origin) None (Names 1) m) OverWith (poll_asks m (names_from line 1) pollables)
+  poll_asks_walks receives m [] its = move (SpendsNames _ 1 refl) (gives _ (Leaves _))
+  poll_asks_walks receives m (p ∷ pollables) its = poll_when_walks receives m (p ∷ pollables) its (are_pollables m (p ∷ pollables))

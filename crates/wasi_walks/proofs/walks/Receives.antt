@@ -22,7 +22,8 @@ use Rattle.wasi_p2.specs.Udp.{receive_datagrams_on}
 use Rattle.wasi_udp.specs.Receive.{receive_asks, receive_start}
 use Rattle.wasi_udp.specs.Shape.{Socket}
 use Rattle.wasi_udp.specs.Socket.{bound_asks}
-use Rattle.wasi_walks.proofs.walks.Moves.{Here, Names, Used, Unused, put_udp, FoundUdp, UdpPlain, receiving_in, receive_op, came_in, came_of, part_of, Leaves, Spends, SpendsNames, Counts, Lists, UdpChanges, BeginsReceive}
+use Rattle.wasi_walks.specs.Licence.{Receives}
+use Rattle.wasi_walks.proofs.walks.Moves.{Here, Names, Used, Unused, put_udp, FoundUdp, UdpPlain, receiving_in, receive_op, came_from, came_in, came_of, part_of, Leaves, Spends, SpendsNames, Counts, Lists, UdpChanges, BeginsReceive}
 use Rattle.wasi_walks.proofs.walks.Law.{Law, Walks, Given, given_along, give, and_then, and_given, move, gives, from}
 use Rattle.wasi_walks.proofs.walks.Sends.{listed_walks}
 use Rattle.wasi_walks.proofs.walks.States.{At, OverWith, Put, Sets, Starts, given_any, incoming_record}
@@ -72,8 +73,8 @@ pub incoming_is : (h : Here) (place : ℕ) (o : OpenUdp) (inc : Incoming) → o.
 incoming_is h place o inc e = ap (λ (x : Option Incoming). put_udp h place (Udp2Socket.Open (record o { incoming = x }))) (sym e)
 
 module _ {contexts : List WasiSocketsCtx} {line : ℕ} {origin : Step} {law : Law contexts line origin} where
-  -- == on the record of a place
-  module _ {h : Here} {place : ℕ} (here : HasUdp h place) (at : h.at ≡ Some (place, line)) where
+  -- == on the record of a place, by a line that receives
+  module _ {h : Here} {place : ℕ} (here : HasUdp h place) (at : h.at ≡ Some (place, line)) (is : Receives origin) where
     -- what is taken from the stream leaves no receive in progress, or the one that it had
     takes_walks : {A : Type 0} {end : A → Here} {asks : Asks A} (o : OpenUdp) (n : ℕ) (s : Socket × Incoming) (receiving : Receiving) → s.1.receiving ≡ receiving → Walks law (With h place o n (s.0, with_receiving s.1 (taken receiving).1)) end asks → Walks law (With h place o n s) end asks
     takes_walks o n s receiving e w =
@@ -84,7 +85,7 @@ module _ {contexts : List WasiSocketsCtx} {line : ℕ} {origin : Step} {law : La
       where
         plain : (receiving : Receiving) → s.1.receiving ≡ receiving → UdpPlain (with_incoming o s) (record (with_incoming o s) { incoming = Some (with_receiving s.1 (taken receiving).1) })
         plain Receiving.Nothing e = idle_in (with_incoming o s) _ refl refl
-        plain (Receiving.InProgress op) e = kept_in (with_incoming o s) _ (ap receive_op (sym e)) (ap came_of (sym e))
+        plain (Receiving.InProgress op) e = kept_in (with_incoming o s) _ (ap receive_op (sym e)) (ap (λ (r : Receiving). came_from s.1.remote (came_of r)) (sym e))
         plain (Receiving.Came d) e = idle_in (with_incoming o s) _ refl refl
         plain (Receiving.Failed c) e = idle_in (with_incoming o s) _ refl refl
 
@@ -97,7 +98,7 @@ module _ {contexts : List WasiSocketsCtx} {line : ℕ} {origin : Step} {law : La
         let now : OpenUdp = record was { incoming = Some busy } in
         let counted : Here = record h { own = Names (n + 1) } in
         let there : HasUdp counted place = record { was = here.was; at = here.at } in
-        move (BeginsReceive _ place n was inc bound at (udp_found here (Udp2Socket.Open was)) refl refl)
+        move (BeginsReceive _ place n was inc bound at (udp_found here (Udp2Socket.Open was)) refl is refl)
         (from (ap (λ (x : Here). record x { own = Names (n + 1) }) (sym (udp_put_put h place (Udp2Socket.Open was) (Udp2Socket.Open now))))
         (and_then (poll_receive_walks there now busy op refl refl) (λ ended. give _)))
 
@@ -148,15 +149,15 @@ module _ {contexts : List WasiSocketsCtx} {line : ℕ} {origin : Step} {law : La
         told_walks (Ok ds, s) = give _
         told_walks (Err c, s) = give _
 
-  receives_at : (m : Machine) (place most : ℕ) (o : Option OpenUdp) → open_at m.store.records place ≡ o → Walks law (At line m place Unused) (Put line m place) (receive_datagrams_at m.store (first_ids line) place most o)
-  receives_at m place most None e = gives _ (Spends _ refl)
-  receives_at m place most (Some o) e =
+  receives_at : Receives origin → (m : Machine) (place most : ℕ) (o : Option OpenUdp) → open_at m.store.records place ≡ o → Walks law (At line m place Unused) (Put line m place) (receive_datagrams_at m.store (first_ids line) place most o)
+  receives_at is m place most None e = gives _ (Spends _ refl)
+  receives_at is m place most (Some o) e =
       let g : FoundUdp (At line m place Unused) place (Udp2Socket.Open o) = open_is (udp2_at m.store.records place) o e in
       from (udp_put_same (At line m place Unused) place (Udp2Socket.Open o) g)
-      (and_then (datagrams_walks (udp_there {h = At line m place Unused} g) refl o o.incoming most refl refl) (λ done. listed_walks m place (Receive place) (done.0, with_open_udp m.store place done.1) (begins_receive o done.1)))
+      (and_then (datagrams_walks (udp_there {h = At line m place Unused} g) refl is o o.incoming most refl refl) (λ done. listed_walks m place (Receive place) (done.0, with_open_udp m.store place done.1) (begins_receive o done.1)))
 
-  pub receive_walks : (m : Machine) (incoming most : ℕ) → Has (handles_of origin) incoming → Walks law (Starts m Unused) OverWith (receive_datagrams_on m (first_ids line) most (incoming_at m incoming))
-  receive_walks m incoming most named = on_udp m incoming (incoming_at m incoming) named (incoming_record (kind_at m.table incoming)) (λ place. receives_at m place most (open_at m.store.records place) refl)
+  pub receive_walks : Receives origin → (m : Machine) (incoming most : ℕ) → Has (handles_of origin) incoming → Walks law (Starts m Unused) OverWith (receive_datagrams_on m (first_ids line) most (incoming_at m incoming))
+  receive_walks is m incoming most named = on_udp m incoming (incoming_at m incoming) named (incoming_record (kind_at m.table incoming)) (λ place. receives_at is m place most (open_at m.store.records place) refl)
 
   -- == a turn
   turned_walks : {h : Here} {place : ℕ} (here : HasUdp h place) (o : OpenUdp) (inc : Incoming) (receiving : Receiving) → o.incoming ≡ Some inc → inc.receiving ≡ receiving

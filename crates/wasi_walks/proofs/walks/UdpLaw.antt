@@ -25,7 +25,7 @@ use Rattle.wasi_host.specs.Udp.{udp_side, udp_create_left, udp_bind_progress, wi
 use Rattle.wasi_udp.specs.Create.{Create, new_asks}
 use Rattle.wasi_udp.specs.Socket.{after_local, after_peer}
 use Rattle.wasi_walks.proofs.UdpLists.{udp_set_set, udp_set_same, udp_set_there}
-use Rattle.wasi_walks.proofs.walks.Moves.{Here, put_udp, FoundUdp, IsCreated, NoStart, ReleasesUdp, IsUdpQuestionOf, CreatesUdp, udp_begun, ToStream, part_of, SettlesSend, Unused, Past, Spends, Held, UdpCreates, UdpBindsOn, UdpConnectsOn, SendsOn, ReceivesOn}
+use Rattle.wasi_walks.proofs.walks.Moves.{HasNewStream, Here, put_udp, FoundUdp, IsCreated, NoStart, ReleasesUdp, IsUdpQuestionOf, CreatesUdp, udp_begun, ToStream, part_of, SettlesSend, Unused, Past, Spends, Held, UdpCreates, UdpBindsOn, UdpConnectsOn, SendsOn, ReceivesOn}
 use Rattle.wasi_walks.proofs.walks.Law.{Law, Walks, ends, by_if, gives}
 
 -- A place that has the record of a UDP socket.
@@ -126,6 +126,6 @@ module _ {contexts : List WasiSocketsCtx} {line : ℕ} {origin : Step} {law : La
     poll_receive_walks o inc op e f = udp_polled (Udp2Socket.Open o) (λ ended. Udp2Socket.Open (record o { incoming = Some (with_receiving inc (receive_left op ended)) })) (ReceivesOn place o inc op (udp_found here (Udp2Socket.Open o)) e f)
 
   -- a datagram stream of the socket of this handle is made
-  pub mark_stream : {h : Here} (place n handle : ℕ) (kind : Kind) → h.made ≡ ToStream n handle → (kind ≡ kinds.Incoming place) ⊎ (kind ≡ kinds.Outgoing place) → udp_of (kind_at h.machine.table handle) ≡ Some place
+  pub mark_stream : {h : Here} (place n handle reached : ℕ) (kind : Kind) → h.made ≡ ToStream n handle reached → HasNewStream h.machine.store.records reached → (kind ≡ kinds.Incoming place) ⊎ (kind ≡ kinds.Outgoing place) → udp_of (kind_at h.machine.table handle) ≡ Some place
       → Walks law h (λ made. record h { machine = record h.machine { table = made.1 } }) (make_asks h.machine.table (own_of n) kind (Some handle) (udp_side_at (udp2_at h.machine.store.records place)))
-  mark_stream {h} place n handle kind m k e = record { along = λ es i. law.stream_marks es h place n handle kind m k e i }
+  mark_stream {h} place n handle reached kind m new k e = record { along = λ es i. law.stream_marks es h place n handle reached kind m new k e i }

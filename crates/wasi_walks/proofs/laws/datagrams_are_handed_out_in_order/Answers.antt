@@ -1,4 +1,4 @@
-use Rattle.wasi_walks.proofs.order.Runs.{runs_in_order}
+use Rattle.wasi_walks.proofs.received.Runs.{runs_in_order}
 use Rattle.wasi_walks.proofs.laws.datagrams_are_handed_out_in_order.Goals as goal
 
 pub returns : goal.returns

@@ -6,7 +6,7 @@ use Rattle.wasi_walks.proofs.Words.{allows_if, allows_polls, arrival_front, bind
 use Rattle.wasi_walks.proofs.Words.{if◌then◌else◌, last_ask, length, less_one, local_front, poll_asks, polled_front, refuse_front, suc, taken_front}
 use Rattle.wasi_walks.proofs.Words.{told_addr, told_arrival, told_done, told_polled, told_verdict, true, verdict_front, write_front, zero, ℕ, ⊤}
 use Rattle.wasi_walks.proofs.Words.{◌++◌, ◌∷◌, ◌≡◌}
-use Rattle.wasi_walks.proofs.order.Late.{NoRecvOf}
+use Rattle.wasi_walks.proofs.received.Late.{NoRecvOf}
 use Rattle.std.specs.Prelude.{Option, not, ◌&&◌}
 use Rattle.wasi_addr.specs.declared.address.IpAddress.{IpAddress}
 use Rattle.wasi_world.specs.Operation.{check_peer_front, is_now, is_wanted, lookup_front, receive_front, received_front, send_front, ask_peer_front, peer_front, remote_told, Goes, Again}

@@ -11,7 +11,7 @@ use Rattle.wasi_udp.specs.Create.{Create, create_cancel_asks}
 use Rattle.wasi_udp.specs.Send as send
 use Rattle.wasi_world.specs.Operation as item
 use Rattle.wasi_walks.specs.Waiting as binding
-use Rattle.wasi_walks.proofs.order.Polls.{AreSilent, Elsewhere, silent_poll}
+use Rattle.wasi_walks.proofs.received.Polls.{AreSilent, Elsewhere, silent_poll}
 
 module _ (side : OpId) (Held : Type 0) (who : Who) where
   -- a bind

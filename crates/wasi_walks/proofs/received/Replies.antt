@@ -21,9 +21,9 @@ use Rattle.wasi_walks.proofs.licence.State.{NamesUdp, StateIsFine}
 use Rattle.wasi_walks.proofs.remotes.State.{Keeps}
 use Rattle.wasi_walks.proofs.walks.States.{incoming_record}
 use Rattle.wasi_walks.proofs.walks.Udp.{open_is}
-use Rattle.wasi_walks.proofs.order.Handed.{GivesUpto, Leaves}
-use Rattle.wasi_walks.proofs.order.Lines.{line_later, open_leaves, side_is}
-use Rattle.wasi_walks.proofs.order.State.{Late}
+use Rattle.wasi_walks.proofs.received.Handed.{GivesUpto, Leaves}
+use Rattle.wasi_walks.proofs.received.Lines.{line_later, open_leaves, side_is}
+use Rattle.wasi_walks.proofs.received.State.{Late}
 
 -- what the streams of every network socket hold was received, from the beginning on
 abbrev pub Lates : List Entry → Machine → Type 0

@@ -2,7 +2,6 @@
 use Rattle.wasi_walks.proofs.Words.{◌∷◌, [], entry, Told, Allows, Asks, Bool, Call, Entry, List, None, OpId, Operation, Option, Some, Tcp2Socket, []}
 use Rattle.wasi_walks.proofs.Words.{allows_keep, ap, arith, first_state, inl, inr, length, refl, subst, sym, true, false, ℕ, ⊤, ◌==◌, ◌⊎◌, ◌++◌, ◌∙◌, ◌≡◌, ◌≤◌}
 use Rattle.std.proofs.lemmas.Bool.{eqb-true, eqb-false}
-use Rattle.wasi_world.specs.declared.datagram.IncomingDatagram.{IncomingDatagram}
 use Rattle.wasi_host.specs.Records.{tcp2_put, tcp2_pushed, udp2_at, udp2_put, udp2_pushed}
 use Rattle.wasi_host.specs.declared.datagrams.Incoming.{Incoming as IncomingStream}
 use Rattle.wasi_host.specs.declared.datagrams.Receiving.{Receiving}
@@ -13,10 +12,10 @@ use Rattle.wasi_host.specs.declared.udp.Udp2Socket.{Udp2Socket}
 use Rattle.wasi_walks.proofs.UdpLists.{udp_get_set, udp_of_put, udp_of_push, udp_split, udp_set_there}
 use Rattle.wasi_walks.proofs.fits.Polls.{Anything}
 use Rattle.wasi_walks.proofs.fits.UdpFits.{kept_op}
-use Rattle.wasi_walks.proofs.walks.Moves.{SameSockets, UdpPlain, came_in, came_of, receive_op, receiving_in}
+use Rattle.wasi_walks.proofs.walks.Moves.{Kept, SameSockets, UdpPlain, came_from, came_in, came_of, receive_op, receiving_in}
 use Rattle.wasi_walks.specs.Received.{ReceivesNone}
-use Rattle.wasi_walks.proofs.order.Polls.{Elsewhere}
-use Rattle.wasi_walks.proofs.order.Late.{NoRecvOf, one_none, InHandLate, IncomingLate, ReceivedLate, ReceivingLate, incoming_late_more, long_more}
+use Rattle.wasi_walks.proofs.received.Polls.{Elsewhere}
+use Rattle.wasi_walks.proofs.received.Late.{NoRecvOf, one_none, InHandLate, IncomingLate, ReceivedLate, ReceivingLate, incoming_late_more, long_more}
 
 -- two names are the same or not
 pub same_or_not : (a b : OpId) → (a ≡ b) ⊎ (a ≡ b → ⊥)
@@ -36,8 +35,8 @@ HandIsLate from es side (Some op) = InHandLate from es op.who.id side op.left
 HandIsLate from es side None = ⊤
 
 -- of what has come alone
-abbrev CameIsLate : ℕ → List Entry → OpId → Option IncomingDatagram → Type 0
-CameIsLate from es side (Some d) = ReceivedLate from es side d
+abbrev CameIsLate : ℕ → List Entry → OpId → Option Kept → Type 0
+CameIsLate from es side (Some k) = ReceivedLate from es side k.1
 CameIsLate from es side None = ⊤
 
 hand_of : (from : ℕ) (es : List Entry) (side : OpId) (inc : Option IncomingStream) → IncomingLate from es side inc → HandIsLate from es side (receiving_in inc)
@@ -52,7 +51,7 @@ came_of_it : (from : ℕ) (es : List Entry) (side : OpId) (inc : Option Incoming
 came_of_it from es side None k = tt
 came_of_it from es side (Some inc) k = of inc.receiving k
   where
-    of : (r : Receiving) → ReceivingLate from es side r → CameIsLate from es side (came_of r)
+    of : (r : Receiving) → ReceivingLate from es side r → CameIsLate from es side (came_from inc.remote (came_of r))
     of (Receiving.Came d) k = k
     of _ k = tt
 
@@ -60,7 +59,7 @@ both_late : (from : ℕ) (es : List Entry) (side : OpId) (inc : Option IncomingS
 both_late from es side None k l = tt
 both_late from es side (Some inc) k l = of inc.receiving k l
   where
-    of : (r : Receiving) → HandIsLate from es side (receive_op r) → CameIsLate from es side (came_of r) → ReceivingLate from es side r
+    of : (r : Receiving) → HandIsLate from es side (receive_op r) → CameIsLate from es side (came_from inc.remote (came_of r)) → ReceivingLate from es side r
     of (Receiving.InProgress op) k l = k
     of (Receiving.Came d) k l = l
     of _ k l = tt

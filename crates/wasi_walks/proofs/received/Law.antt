@@ -29,12 +29,12 @@ use Rattle.wasi_walks.proofs.walks.Moves as walk
 use Rattle.wasi_walks.proofs.walks.Moves.{IsQuestionOf, IsUdpQuestionOf, Found, send_op, sending_in, FoundUdp, Held, Here, Move, Used, accepting_now, closed_record, joined, listen_after, opened_by, part_of, receive_op, receiving_in, udp_begun}
 use Rattle.wasi_walks.proofs.remotes.Law.{begins_kept, remotes}
 use Rattle.wasi_walks.proofs.remotes.State.{WritesBy, Keeps, OpenKeeps, ReceivesFor, maker_of}
-use Rattle.wasi_walks.proofs.order.Late.{NoRecvOf, OnlyOf, long_more, only_other, InHandLate, IncomingLate, ReceivingLate, poll_late}
+use Rattle.wasi_walks.proofs.received.Late.{NoRecvOf, OnlyOf, long_more, only_other, InHandLate, IncomingLate, ReceivingLate, poll_late}
 use Rattle.wasi_tcp.specs.Connect as connect
 use Rattle.wasi_tcp.specs.Listen.{IsListen}
-use Rattle.wasi_walks.proofs.order.Polls.{AreSilent, Elsewhere, silent_poll}
-use Rattle.wasi_walks.proofs.order.Silent.{IsApart, accept_silent, bind_silent, cancelled_silent, connect_silent, given_up_silent, listen_silent, made_silent, new_silent, send_silent, turn_silent, udp_bind_silent, udp_connect_silent}
-use Rattle.wasi_walks.proofs.order.State.{IsHeld, Late, OneEach, UdpLate, late_along, one_late, plain_late, put_later, push_tcp, push_udps, put_tcp, put_udps, same_late, same_or_not}
+use Rattle.wasi_walks.proofs.received.Polls.{AreSilent, Elsewhere, silent_poll}
+use Rattle.wasi_walks.proofs.received.Silent.{IsApart, accept_silent, bind_silent, cancelled_silent, connect_silent, given_up_silent, listen_silent, made_silent, new_silent, send_silent, turn_silent, udp_bind_silent, udp_connect_silent}
+use Rattle.wasi_walks.proofs.received.State.{IsHeld, Late, OneEach, UdpLate, late_along, one_late, plain_late, put_later, push_tcp, push_udps, put_tcp, put_udps, same_late, same_or_not}
 
 -- a receive that begins has nothing in hand
 begun_empty : (from : ℕ) (es : List Entry) (own side : OpId) (bound : Bool) → InHandLate from es own side (left_of_receive None (receive_first bound))
@@ -46,26 +46,26 @@ module _ (side : OpId) (from : ℕ) where
   It es records = Late side from es records
 
   -- it holds along a tree that asks for no datagram there
-  along : {A : Type 0} (records : List Record) (es : List Entry) (asks : Asks A) → It es records → Allows (Elsewhere side (IsHeld side records)) (λ fs a. ⊤) es asks → Allows Anything (λ fs a. It fs records) es asks
+  pub along : {A : Type 0} (records : List Record) (es : List Entry) (asks : Asks A) → It es records → Allows (Elsewhere side (IsHeld side records)) (λ fs a. ⊤) es asks → Allows Anything (λ fs a. It fs records) es asks
   along records es asks i n = allows_weaker Anything (λ fs a. It fs records × ⊤) (λ fs a. It fs records) (λ fs a k. k.0) es asks (late_along side from records (λ fs a. ⊤) es asks i n)
 
   -- a mark
-  marks_late : (records : List Record) (es : List Entry) (t : Handles) (op : OpId) (kind : Kind) (parent : Option ℕ) (sock : Option OpId) → It es records → Allows Anything (λ fs made. It fs records) es (make_asks t op kind parent sock)
+  pub marks_late : (records : List Record) (es : List Entry) (t : Handles) (op : OpId) (kind : Kind) (parent : Option ℕ) (sock : Option OpId) → It es records → Allows Anything (λ fs made. It fs records) es (make_asks t op kind parent sock)
   marks_late records es t op kind parent sock i = along records es (make_asks t op kind parent sock) i (made_silent side (IsHeld side records) es t op kind parent sock)
 
   -- a socket that is created joins the records
-  socket_adds : (es : List Entry) (m : Machine) (own : OpId) (made : Result Socket ErrorCode) → It es m.store.records → Allows Anything (λ fs done. It fs done.1.store.records) es (created_asks m own made)
+  pub socket_adds : (es : List Entry) (m : Machine) (own : OpId) (made : Result Socket ErrorCode) → It es m.store.records → Allows Anything (λ fs done. It fs done.1.store.records) es (created_asks m own made)
   socket_adds es m own (Err c) i = i
   socket_adds es m own (Ok socket) i =
       allows_then Anything (λ fs made. It fs m.store.records) (λ fs done. It fs done.1.store.records) es (make_asks m.table own (Tcp2 (length m.store.records)) None (side_of socket)) _ (marks_late m.store.records es m.table own (Tcp2 (length m.store.records)) None (side_of socket) i)
       (λ fs made k. push_tcp side from fs m.store.records (new_record socket) k)
 
-  creates_late : (es : List Entry) (m : Machine) (own : OpId) (ctx : WasiSocketsCtx) (family : SocketAddressFamily) → It es m.store.records → Allows Anything (λ fs done. It fs done.1.store.records) es (create_asks m own ctx family)
+  pub creates_late : (es : List Entry) (m : Machine) (own : OpId) (ctx : WasiSocketsCtx) (family : SocketAddressFamily) → It es m.store.records → Allows Anything (λ fs done. It fs done.1.store.records) es (create_asks m own ctx family)
   creates_late es m own ctx family i =
       allows_then Anything (λ fs made. It fs m.store.records) (λ fs done. It fs done.1.store.records) es (new_asks own ctx family) (created_asks m own) (along m.store.records es (new_asks own ctx family) i (new_silent side (IsHeld side m.store.records) es own ctx family)) (λ fs made k. socket_adds fs m own made k)
 
   -- a create of a UDP socket was answered
-  begun_late : (es : List Entry) (h : Here) (own : OpId) (maker : ℕ) (family : SocketAddressFamily) (told : Told) → IsDoneOrCode told → It es h.machine.store.records
+  pub begun_late : (es : List Entry) (h : Here) (own : OpId) (maker : ℕ) (family : SocketAddressFamily) (told : Told) → IsDoneOrCode told → It es h.machine.store.records
       → It (es ++ entry own (Call.UdpCreate maker family) told ∷ []) (udp_begun h (udp_after_create own maker family (told_done told))).machine.store.records
   begun_late es h own maker family Told.Done f i = push_udps side from _ h.machine.store.records (Udp2Socket.Creating (new_create own maker family)) tt (one_late side from es own (Call.UdpCreate maker family) Told.Done h.machine.store.records (λ x. tt) i)
   begun_late es h own maker family (Told.Code c) f i = one_late side from es own (Call.UdpCreate maker family) (Told.Code c) h.machine.store.records (λ x. tt) i
@@ -125,16 +125,16 @@ module _ (side : OpId) (from : ℕ) where
       (polled_receive ⊥ 0 es h place o inc op g e f its keeps (omega arith) (λ x. absurd x)))
 
   -- no question asks for a datagram
-  question_quiet : (line : ℕ) (origin : Step) (n : ℕ) (x : OpId) (c : Call) → IsQuestionOf line origin n x c → NoRecvOf side c
+  pub question_quiet : (line : ℕ) (origin : Step) (n : ℕ) (x : OpId) (c : Call) → IsQuestionOf line origin n x c → NoRecvOf side c
   question_quiet line origin n x (Call.Recv y) q = absurd q
   question_quiet line origin n x _ q = tt
 
-  udp_question_quiet : (line : ℕ) (origin : Step) (n : ℕ) (x : OpId) (c : Call) → IsUdpQuestionOf line origin n x c → NoRecvOf side c
+  pub udp_question_quiet : (line : ℕ) (origin : Step) (n : ℕ) (x : OpId) (c : Call) → IsUdpQuestionOf line origin n x c → NoRecvOf side c
   udp_question_quiet line origin n x (Call.Recv y) q = absurd q
   udp_question_quiet line origin n x _ q = tt
 
   -- a writer is on a network socket of TCP
-  writer_apart : (line : ℕ) (es : List Entry) (h : Here) (place : ℕ) (r : Tcp2Socket) (s : Streams) → Found h place r → r.streams ≡ Some s → Named line h → Keeps es h.machine.store.records → IsApart side (IsHeld side h.machine.store.records) s.writer
+  pub writer_apart : (line : ℕ) (es : List Entry) (h : Here) (place : ℕ) (r : Tcp2Socket) (s : Streams) → Found h place r → r.streams ≡ Some s → Named line h → Keeps es h.machine.store.records → IsApart side (IsHeld side h.machine.store.records) s.writer
   writer_apart line es h place r s g e names keeps = by_writer s.writer (keeps.tcps place r g s e).1
     where
       not_here : (job : Job) → r.side ≡ Some job.write.who.side → IsHeld side h.machine.store.records → job.write.who.side ≡ side → ⊥
@@ -147,7 +147,7 @@ module _ (side : OpId) (from : ℕ) where
       by_writer (WriteState.Closed c) k = tt
 
   module _ (contexts : List WasiSocketsCtx) (line : ℕ) (origin : Step) where
-    moves_late : (es : List Entry) (h now : Here) → Move line origin h now → It es h.machine.store.records → It es now.machine.store.records
+    pub moves_late : (es : List Entry) (h now : Here) → Move line origin h now → It es h.machine.store.records → It es now.machine.store.records
     moves_late es _ _ (walk.Changes h place r now g p) i = put_tcp side from es _ place now i
     moves_late es _ _ (walk.ClosesReader h place r s g e) i = put_tcp side from es _ place _ i
     moves_late es _ _ (walk.Writes h place r s w g e m) i = put_tcp side from es _ place _ i
@@ -166,7 +166,7 @@ module _ (side : OpId) (from : ℕ) where
     moves_late es _ _ (walk.BeginsUdpBind h place o a at g to idle own) i = put_udps side from es _ place (Udp2Socket.Open _) (i.udps place (Udp2Socket.Open o) g) i
     moves_late es _ _ (walk.BeginsUdpConnect h place o a at g to bound own) i = put_udps side from es _ place (Udp2Socket.Open _) (i.udps place (Udp2Socket.Open o) g) i
     moves_late es _ _ (walk.BeginsSend h place n o out d bound at g e is known own) i = put_udps side from es _ place (Udp2Socket.Open _) (i.udps place (Udp2Socket.Open o) g) i
-    moves_late es _ _ (walk.BeginsReceive h place n o inc bound at g e own) i = put_udps side from es _ place (Udp2Socket.Open _) (λ q. begun_empty from es (part_of line n) side bound) i
+    moves_late es _ _ (walk.BeginsReceive h place n o inc bound at g e is own) i = put_udps side from es _ place (Udp2Socket.Open _) (λ q. begun_empty from es (part_of line n) side bound) i
     moves_late es _ _ (walk.CancelsBind h place r op q g e) i = put_tcp side from es _ place _ i
     moves_late es _ _ (walk.CancelsUdpBind h place o op q g e) i = put_udps side from es _ place (Udp2Socket.Open _) (i.udps place (Udp2Socket.Open o) g) i
     moves_late es _ _ (walk.CancelsUdpConnect h place o q g) i = put_udps side from es _ place (Udp2Socket.Open _) (i.udps place (Udp2Socket.Open o) g) i
@@ -174,7 +174,7 @@ module _ (side : OpId) (from : ℕ) where
     moves_late es _ _ _ i = i
 
     -- a poll of what is in progress
-    polls_late : (es : List Entry) (h : Here) (op : Operation) (after : End × List Item → Here) → Held h op after → Base contexts line origin h → Keeps es h.machine.store.records → It es h.machine.store.records
+    pub polls_late : (es : List Entry) (h : Here) (op : Operation) (after : End × List Item → Here) → Held h op after → Base contexts line origin h → Keeps es h.machine.store.records → It es h.machine.store.records
         → Allows Anything (λ fs ended. It fs (after ended).machine.store.records) es (poll_asks op)
     polls_late es h _ _ (walk.BindsOn place r op q g e) b keeps i = let its = subst (FitProgress r.inner.state) e (b.0.records place r g).2 in
         polled_tcp es h place op (λ ended. with_progress r (bind_progress op ended)) (bind_silent side (IsHeld side h.machine.store.records) op.who op.left its.1.left) i
@@ -197,7 +197,7 @@ module _ (side : OpId) (from : ℕ) where
         receives_late es h place o inc op g e f its keeps (λ x k p q a c z. b.1.udps.one q.inner.side x k (Udp2Socket.Open p) (Udp2Socket.Open q) a c z refl) i (same_or_not o.inner.side side)
 
     -- the law: the calls may be any
-    lates : Above contexts line origin (λ es h. Base contexts line origin h × Keeps es h.machine.store.records)
+    unfoldable pub lates : Above contexts line origin (λ es h. Base contexts line origin h × Keeps es h.machine.store.records)
     lates = record {
       P = Anything;
       Inv = λ es h. It es h.machine.store.records;
@@ -218,7 +218,7 @@ module _ (side : OpId) (from : ℕ) where
       udp_closes = λ es h place o q g b i. (tt, λ told f. put_udps side from _ _ place (Udp2Socket.Closed o.inner.side) tt (one_late side from es (own_of line) (Call.Close o.inner.side) told _ (λ y. tt) i));
       udp_creates = λ es h ctx family c may a o m b i. (tt, λ told f. begun_late es h (own_of line) ctx.name family told f i);
       udp_marks = λ es h place u g b i. marks_late _ es h.machine.table (udp_side u) (Udp2 place) None (Some (udp_side u)) i;
-      stream_marks = λ es h place n handle kind m k e b i. marks_late _ es h.machine.table (own_of n) kind (Some handle) _ i;
+      stream_marks = λ es h place n handle reached kind m new k e b i. marks_late _ es h.machine.table (own_of n) kind (Some handle) _ i;
       error_marks = λ es h n handle place handles m k e f b i. marks_late _ es h.machine.table (own_of n) ErrorValue (Some handle) _ i;
       udp_gives_up = λ es h place create q g b i. allows_weaker Anything (λ fs done. It fs h.machine.store.records) (λ fs done. It fs (udp2_put h.machine.store.records place (Udp2Socket.Closed create.operation.who.side))) (λ fs done k. put_udps side from fs _ place (Udp2Socket.Closed create.operation.who.side) tt k) es (create_cancel_asks create) (along _ es (create_cancel_asks create) i (cancelled_silent side (IsHeld side h.machine.store.records) es create));
       lookups = λ es h host l b i. (tt, λ told f records s. same_late side from _ _ records s (one_late side from es (own_of line) (Call.Lookup host) told _ (λ y. tt) i));

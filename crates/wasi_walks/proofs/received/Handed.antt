@@ -20,7 +20,7 @@ use Rattle.wasi_walks.specs.Received.{InOrder, IsAllowed, NoMore, OneMore}
 use Rattle.wasi_walks.proofs.fits.Records.{ReceiveOn}
 use Rattle.wasi_walks.proofs.fits.UdpFits.{begun_receive}
 use Rattle.wasi_walks.proofs.licence.Frames.{maker_more}
-use Rattle.wasi_walks.proofs.order.Late.{OnlyOf, InHandLate, IncomingLate, ReceivedLate, ReceivingLate, allowed_more, long_more, poll_late}
+use Rattle.wasi_walks.proofs.received.Late.{OnlyOf, InHandLate, IncomingLate, ReceivedLate, ReceivingLate, allowed_more, long_more, poll_late}
 
 -- == in order
 -- under more entries

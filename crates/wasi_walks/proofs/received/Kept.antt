@@ -1,0 +1,189 @@
+-- The law that an incoming stream holds only what came from the remote address that it keeps.
+use Rattle.wasi_walks.proofs.Words.{Allows, Done, End, Entry, Err, ErrorCode, ErrorValue, Item, List, Machine, None, Not, Ok, OpId, Operation, Option, Refused, Result, Socket, Some, Step, Tcp2, Tcp2Socket, Waits, WasiSocketsCtx}
+use Rattle.wasi_walks.proofs.Words.{allows_then, allows_weaker, ap, created_asks, first_state, give_up_asks, inl, inr, length, machine_asks, make_asks, new_asks, new_record, own_of, poll_asks, refl, side_at, side_of, subst, sym, told_done, true, turn_asks}
+use Rattle.wasi_walks.proofs.Words.{with_listening, with_writer, ℕ, ⊤, ◌+◌, ◌∙◌, ◌≡◌}
+use Rattle.wasi_udp.specs.Create.{Create, create_cancel_asks, after_create as udp_after_create}
+use Rattle.wasi_udp.specs.Receive.{wanting}
+use Rattle.wasi_host.specs.Datagrams.{udp_connect_left}
+use Rattle.wasi_host.specs.Receiving.{receive_left, with_receiving}
+use Rattle.wasi_host.specs.Records.{tcp2_at, tcp2_put, tcp2_pushed, udp2_at, udp2_put}
+use Rattle.wasi_host.specs.Udp.{udp_create_left, udp_side}
+use Rattle.wasi_host.specs.declared.kind.Kind.TheVariants.{Udp2}
+use Rattle.wasi_host.specs.declared.datagrams.Incoming.{Incoming}
+use Rattle.wasi_host.specs.declared.datagrams.Receiving.{Receiving}
+use Rattle.wasi_host.specs.declared.name_lookup.LookupOp.{LookupOp}
+use Rattle.wasi_host.specs.declared.records.Record.{Record}
+use Rattle.wasi_host.specs.declared.udp.OpenUdp.{OpenUdp}
+use Rattle.wasi_host.specs.declared.udp.Udp2Socket.{Udp2Socket}
+use Rattle.wasi_world.specs.Operation.{is_wanted}
+use Rattle.wasi_walks.proofs.UdpLists.{udp_get_set, udp_of_put, udp_of_push, udp_split}
+use Rattle.wasi_walks.proofs.claims.Law.{Base, begins_on_names, on_along, on_names}
+use Rattle.wasi_walks.proofs.claims.Lines.{BaseBetween, base_over, base_starts, first_base}
+use Rattle.wasi_walks.proofs.fits.Law.{whatever}
+use Rattle.wasi_walks.proofs.fits.Polls.{Anything}
+use Rattle.wasi_walks.proofs.fits.Records.{FitReceiving, ReceiveOn}
+use Rattle.wasi_walks.proofs.fits.UdpFits.{kept_op}
+use Rattle.wasi_walks.proofs.received.Wanted.{IncomingWanted, ReceivingWanted, poll_wanted}
+use Rattle.wasi_walks.proofs.walks.Law.{BeginsWrites, Law}
+use Rattle.wasi_walks.proofs.walks.Moves as walk
+use Rattle.wasi_walks.proofs.walks.Moves.{Held, Here, Kept, Move, SameSockets, UdpPlain, came_from, came_in, came_of, joined, put_udp, receive_op, receiving_in, udp_begun}
+use Rattle.wasi_walks.proofs.walks.OnBase.{Above}
+use Rattle.wasi_walks.proofs.walks.Steps.{machine_walks, may_while}
+
+abbrev pub UdpWanted : Udp2Socket → Type 0
+UdpWanted (Udp2Socket.Open o) = IncomingWanted o.incoming
+UdpWanted u = ⊤
+
+-- of all records
+abbrev pub AllWanted : List Record → Type 0
+AllWanted records = (place : ℕ) (u : Udp2Socket) → udp2_at records place ≡ Some u → UdpWanted u
+
+-- == a record changes, or joins them
+put_tcp : (records : List Record) (place : ℕ) (now : Tcp2Socket) → AllWanted records → AllWanted (tcp2_put records place now)
+put_tcp records place now k i u e = k i u (udp_of_put records place now i u e)
+
+push_tcp : (records : List Record) (now : Tcp2Socket) → AllWanted records → AllWanted (tcp2_pushed records now)
+push_tcp records now k i u e = k i u (udp_of_push records now i u e)
+
+put_udps : (records : List Record) (place : ℕ) (now : Udp2Socket) → UdpWanted now → AllWanted records → AllWanted (udp2_put records place now)
+put_udps records place now f k i u e = elim (udp_get_set records place now i u e) [ inl p ↦ subst UdpWanted p.1 f | inr p ↦ k i u p ]
+
+same_wanted : {new : LookupOp → Type 0} (old now : List Record) → SameSockets new old now → AllWanted old → AllWanted now
+same_wanted old now s k i u e = k i u (sym (s.udp i) ∙ e)
+
+begun_wanted : (h : Here) (made : Result Create ErrorCode) → AllWanted h.machine.store.records → AllWanted (udp_begun h made).machine.store.records
+begun_wanted h (Ok create) k = λ i u e. elim (udp_split h.machine.store.records (Udp2Socket.Creating create) i u e) [ inl p ↦ k i u p | inr p ↦ subst UdpWanted p.0 tt ]
+begun_wanted h (Err c) k = k
+
+-- a plain change
+abbrev KeptWanted : Option Kept → Type 0
+KeptWanted (Some k) = is_wanted k.0 k.1.remote_address ≡ true
+KeptWanted None = ⊤
+
+came_wanted : (inc : Option Incoming) → IncomingWanted inc → KeptWanted (came_in inc)
+came_wanted None k = tt
+came_wanted (Some inc) k = of inc.receiving k
+  where
+    of : (r : Receiving) → ReceivingWanted inc.remote r → KeptWanted (came_from inc.remote (came_of r))
+    of (Receiving.Came d) k = k
+    of _ k = tt
+
+wanted_came : (inc : Option Incoming) → KeptWanted (came_in inc) → IncomingWanted inc
+wanted_came None k = tt
+wanted_came (Some inc) k = of inc.receiving k
+  where
+    of : (r : Receiving) → KeptWanted (came_from inc.remote (came_of r)) → ReceivingWanted inc.remote r
+    of (Receiving.Came d) k = k
+    of _ k = tt
+
+plain_wanted : (o now : OpenUdp) → UdpPlain o now → IncomingWanted o.incoming → IncomingWanted now.incoming
+plain_wanted o now p k = wanted_came now.incoming (kept_op KeptWanted tt (came_in o.incoming) (came_in now.incoming) p.came (came_wanted o.incoming k))
+
+-- a poll of a create, and of a connect, which leaves the stream or makes a new one
+created_wanted : (create : Create) (ended : End × List Item) → UdpWanted (udp_create_left create ended)
+created_wanted create (Waits, items) = tt
+created_wanted create (Done given, items) = tt
+created_wanted create (Refused c given, items) = tt
+
+connected_wanted : (o : OpenUdp) (op : Operation) (ended : End × List Item) → IncomingWanted o.incoming → IncomingWanted (udp_connect_left op o ended).incoming
+connected_wanted o op (Waits, items) k = k
+connected_wanted o op (Done given, items) k = tt
+connected_wanted o op (Refused c given, items) k = k
+
+module _ (contexts : List WasiSocketsCtx) (line : ℕ) (origin : Step) where
+  abbrev Wants : Here → Type 0
+  Wants h = AllWanted h.machine.store.records
+
+  moves_wanted : (h now : Here) → Move line origin h now → Wants h → Wants now
+  moves_wanted _ _ (walk.Changes h place r now g p) i = put_tcp _ place now i
+  moves_wanted _ _ (walk.ClosesReader h place r s g e) i = put_tcp _ place _ i
+  moves_wanted _ _ (walk.Writes h place r s w g e m) i = put_tcp _ place _ i
+  moves_wanted _ _ (walk.IsGone h place r q g e) i = put_tcp _ place _ i
+  moves_wanted _ _ (walk.Reconnects h place r c now g e s t u) i = put_tcp _ place _ i
+  moves_wanted _ _ (walk.Opens h place r c d g e k) i = put_tcp _ place _ i
+  moves_wanted _ _ (walk.BeginsConnect h place r x a bound at g d to known idle own) i = put_tcp _ place _ i
+  moves_wanted _ _ (walk.BeginsBind h place r x a at g d to idle own) i = put_tcp _ place _ i
+  moves_wanted _ _ (walk.BeginsWrite h place n r s half permit bytes at g e w within own) i = put_tcp _ place _ i
+  moves_wanted _ _ (walk.BeginsListen h place r x at g d bound none to idle own) i = put_tcp _ place _ i
+  moves_wanted _ _ (walk.BeginsAccept h place part r l at g e a own) i = put_tcp _ place _ i
+  moves_wanted _ _ (walk.Unlistens h place r op q g e c o) i = put_tcp _ place _ i
+  moves_wanted _ _ (walk.Forgets h place r l c g e a) i = put_tcp _ place _ i
+  moves_wanted _ _ (walk.Joins h c handle place r l new peer is of u g e a) i = push_tcp _ (joined l new peer) (put_tcp _ place _ i)
+  moves_wanted _ _ (walk.UdpChanges h place o now g p) i = put_udps _ place (Udp2Socket.Open now) (plain_wanted o now p (i place (Udp2Socket.Open o) g)) i
+  moves_wanted _ _ (walk.BeginsUdpBind h place o a at g to idle own) i = put_udps _ place (Udp2Socket.Open _) (i place (Udp2Socket.Open o) g) i
+  moves_wanted _ _ (walk.BeginsUdpConnect h place o a at g to bound own) i = put_udps _ place (Udp2Socket.Open _) (i place (Udp2Socket.Open o) g) i
+  moves_wanted _ _ (walk.BeginsSend h place n o out d bound at g e is known own) i = put_udps _ place (Udp2Socket.Open _) (i place (Udp2Socket.Open o) g) i
+  moves_wanted _ _ (walk.BeginsReceive h place n o inc bound at g e is own) i = put_udps _ place (Udp2Socket.Open _) tt i
+  moves_wanted _ _ (walk.CancelsBind h place r op q g e) i = put_tcp _ place _ i
+  moves_wanted _ _ (walk.CancelsUdpBind h place o op q g e) i = put_udps _ place (Udp2Socket.Open _) (i place (Udp2Socket.Open o) g) i
+  moves_wanted _ _ (walk.CancelsUdpConnect h place o q g) i = put_udps _ place (Udp2Socket.Open _) (i place (Udp2Socket.Open o) g) i
+  moves_wanted _ _ (walk.Finds h records s) i = same_wanted h.machine.store.records records s i
+  moves_wanted _ _ _ i = i
+
+  -- a poll of what is in progress
+  polls_wanted : (es : List Entry) (h : Here) (op : Operation) (after : End × List Item → Here) → Held h op after → Base contexts line origin h → Wants h → Allows Anything (λ fs ended. Wants (after ended)) es (poll_asks op)
+  polls_wanted es h op after (walk.BindsOn place r _ q g e) b i = whatever (λ end. Wants (after end)) (λ end. put_tcp _ place _ i) es (poll_asks op)
+  polls_wanted es h op after (walk.Connects place r _ g e) b i = whatever (λ end. Wants (after end)) (λ end. put_tcp _ place _ i) es (poll_asks op)
+  polls_wanted es h op after (walk.Listens place r _ q g e c) b i = whatever (λ end. Wants (after end)) (λ end. put_tcp _ place _ i) es (poll_asks op)
+  polls_wanted es h op after (walk.Awaits place r l _ g e a) b i = whatever (λ end. Wants (after end)) (λ end. put_tcp _ place _ i) es (poll_asks op)
+  polls_wanted es h op after (walk.UdpCreates place create q g) b i = whatever (λ end. Wants (after end)) (λ end. put_udps _ place _ (created_wanted create end) i) es (poll_asks op)
+  polls_wanted es h op after (walk.UdpBindsOn place o _ q g e) b i = whatever (λ end. Wants (after end)) (λ end. put_udps _ place (Udp2Socket.Open _) (i place (Udp2Socket.Open o) g) i) es (poll_asks op)
+  polls_wanted es h op after (walk.UdpConnectsOn place o _ q g e) b i = whatever (λ end. Wants (after end)) (λ end. put_udps _ place (Udp2Socket.Open (udp_connect_left op o end)) (connected_wanted o op end (i place (Udp2Socket.Open o) g)) i) es (poll_asks op)
+  polls_wanted es h op after (walk.SendsOn place o out _ left g e f s) b i = whatever (λ end. Wants (after end)) (λ end. put_udps _ place (Udp2Socket.Open _) (i place (Udp2Socket.Open o) g) i) es (poll_asks op)
+  polls_wanted es h _ _ (walk.ReceivesOn place o inc op g e f) b i =
+      let its : ReceiveOn o.inner.side op = subst (FitReceiving o.inner.side) (ap receiving_in e ∙ ap receive_op f) (b.0.udps place (Udp2Socket.Open o) g).3 in
+      let now : End × List Item → Udp2Socket = λ ended. Udp2Socket.Open (record o { incoming = Some (with_receiving inc (receive_left op ended)) }) in
+      allows_weaker Anything (λ fs ended. ReceivingWanted inc.remote (receive_left op ended)) (λ fs ended. Wants (put_udp h place (now ended))) (λ fs ended k. put_udps h.machine.store.records place (now ended) k i) es (poll_asks (wanting inc.remote op)) (poll_wanted op inc.remote es its.receive)
+
+  -- a socket that is created joins the records
+  joins : (es : List Entry) (m : Machine) (own : OpId) (made : Result Socket ErrorCode) → AllWanted m.store.records → Allows Anything (λ fs done. AllWanted done.1.store.records) es (created_asks m own made)
+  joins es m own (Err c) i = i
+  joins es m own (Ok socket) i =
+      allows_then Anything (λ fs made. ⊤) (λ fs done. AllWanted done.1.store.records) es (make_asks m.table own (Tcp2 (length m.store.records)) None (side_of socket)) _
+      (whatever (λ made. ⊤) (λ made. tt) es (make_asks m.table own (Tcp2 (length m.store.records)) None (side_of socket))) (λ fs made k. push_tcp m.store.records (new_record socket) i)
+
+  -- the law: the calls may be any
+  unfoldable wanteds : Above contexts line origin (λ es h. Base contexts line origin h)
+  wanteds = record {
+    P = Anything;
+    Inv = λ es h. Wants h;
+    moves = λ es h now m b i. moves_wanted h now m i;
+    asks = λ es h place n r x c at g o q b i. (tt, λ told f. i);
+    sets = λ es h place r x backlog at g s is b i. (tt, λ told f. i);
+    learns = λ es h place r x at g e b i. (tt, λ told f. put_tcp _ place _ i);
+    closes = λ es h place r x q g e b i. (tt, λ told f. put_tcp _ place _ i);
+    marks = λ es h kind parent sock m b i. whatever (λ made. Wants h) (λ made. i) es (make_asks h.machine.table (own_of line) kind parent sock);
+    creates = λ es h ctx family c a o m b i. allows_then Anything (λ fs made. ⊤) (λ fs done. AllWanted done.1.store.records) es (new_asks (own_of line) ctx family) (created_asks h.machine (own_of line)) (whatever (λ made. ⊤) (λ made. tt) es (new_asks (own_of line) ctx family)) (λ fs made k. joins fs h.machine (own_of line) made i);
+    accepted = λ es h c s place r is e o g b i. whatever (λ made. Wants h) (λ made. i) es (make_asks h.machine.table (own_of line) (Tcp2 place) (Some s) _);
+    polls = λ es h op after k b i. polls_wanted es h op after k b i;
+    turns = λ es h place r s g e b i. whatever (λ done. AllWanted (tcp2_put h.machine.store.records place (with_writer r s done.1))) (λ done. put_tcp _ place _ i) es (turn_asks s.writer);
+    gives_up = λ es h place r q g b i. whatever (λ done. AllWanted (tcp2_put h.machine.store.records place (with_listening r Not))) (λ done. put_tcp _ place _ i) es (give_up_asks r.listening);
+    udp_asks = λ es h place n o c at g q b i. (tt, λ told f. i);
+    udp_peers = λ es h place o at g b i. (tt, λ told f. put_udps _ place (Udp2Socket.Open _) (i place (Udp2Socket.Open o) g) i);
+    udp_learns = λ es h place part o at g b i. (tt, λ told f. put_udps _ place (Udp2Socket.Open _) (i place (Udp2Socket.Open o) g) i);
+    udp_closes = λ es h place o q g b i. (tt, λ told f. put_udps _ place (Udp2Socket.Closed o.inner.side) tt i);
+    udp_creates = λ es h ctx family c may a o m b i. (tt, λ told f. begun_wanted h (udp_after_create (own_of line) ctx.name family (told_done told)) i);
+    udp_marks = λ es h place u g b i. whatever (λ made. Wants h) (λ made. i) es (make_asks h.machine.table (udp_side u) (Udp2 place) None (Some (udp_side u)));
+    stream_marks = λ es h place n handle reached kind m new k e b i. whatever (λ made. Wants h) (λ made. i) es (make_asks h.machine.table (own_of n) kind (Some handle) _);
+    error_marks = λ es h n handle place handles m k e f b i. whatever (λ made. Wants h) (λ made. i) es (make_asks h.machine.table (own_of n) ErrorValue (Some handle) (side_at (tcp2_at h.machine.store.records place)));
+    udp_gives_up = λ es h place create q g b i. whatever (λ done. AllWanted (udp2_put h.machine.store.records place (Udp2Socket.Closed create.operation.who.side))) (λ done. put_udps _ place _ tt i) es (create_cancel_asks create);
+    lookups = λ es h host l b i. (tt, λ told f records s. same_wanted h.machine.store.records records s i);
+    looks = λ es h place op g b i. (tt, λ told f. i);
+  }
+
+  wanted_law : Law contexts line origin
+  wanted_law = on_names contexts line origin wanteds
+
+  begins_wanted : BeginsWrites wanted_law
+  unfolding wanted_law wanteds
+  begins_wanted = begins_on_names contexts line origin wanteds (record { begins = λ es h place n r s half permit bytes at g e w within b i. put_tcp _ place _ i })
+
+  -- what a line leaves
+  pub line_wanted : (m : Machine) (es : List Entry) → BaseBetween line m × AllWanted m.store.records → Allows Anything (λ fs done. BaseBetween (line + 1) done.1 × AllWanted done.1.store.records) es (machine_asks contexts m line origin)
+  unfolding wanted_law wanteds
+  line_wanted m es i =
+      allows_weaker Anything _ (λ fs done. BaseBetween (line + 1) done.1 × AllWanted done.1.store.records) (λ fs done k. (base_over contexts line origin done.1 k.0, k.1)) es (machine_asks contexts m line origin)
+      (on_along contexts line origin wanteds (machine_walks line origin {law = wanted_law} begins_wanted m m.store.standing refl) es (base_starts contexts line origin m (may_while m origin m.store.standing) i.0) i.1)
+
+pub first_wanted : BaseBetween 1 first_state × AllWanted first_state.store.records
+first_wanted = (first_base, λ place u e. absurd (cc))

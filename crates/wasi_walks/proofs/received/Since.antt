@@ -1,0 +1,183 @@
+-- The law that what the incoming streams of a network socket hold was received after the marks of their handles.
+use Rattle.wasi_walks.proofs.Words.{Allows, Asks, Call, Entry, Err, ErrorCode, ErrorValue, Full, Handles, Kind, List, None, Not, Ok, OpId, Option, Result, Socket, Some, Step, Stop, Tcp2, Told, Trap, WasiSocketsCtx, []}
+use Rattle.wasi_walks.proofs.Words.{allows_if, allows_keep, allows_then, allows_weaker, ap, arith, bind, created_asks, entry, give_up_asks, inl, inr, is_full, kind_at, length, length-append, make_asks, name_of, new_asks, new_record, own_of, poll_asks}
+use Rattle.wasi_walks.proofs.Words.{refl, side_of, subst, sym, told_done, turn_asks, with_handle, with_listening, with_writer, ℕ, ◌++◌, ◌∷◌, ◌≡◌, ◌⊎◌}
+use Rattle.wasi_udp.specs.Create.{create_cancel_asks, after_create as udp_after_create}
+use Rattle.wasi_host.specs.Kinds.{udp_of}
+use Rattle.wasi_host.specs.Records.{tcp2_pushed, udp2_at}
+use Rattle.wasi_host.specs.Udp.{udp_side}
+use Rattle.wasi_host.specs.UdpCreates.{udp_side_at}
+use Rattle.wasi_host.specs.declared.kind.Kind.TheVariants.{Incoming, Outgoing, Udp2}
+use Rattle.wasi_host.specs.declared.records.Record.{Record}
+use Rattle.wasi_host.specs.declared.udp.OpenUdp.{OpenUdp}
+use Rattle.wasi_host.specs.declared.udp.Udp2Socket.{Udp2Socket}
+use Rattle.wasi_walks.proofs.UdpLists.{udp_set_same}
+use Rattle.wasi_walks.proofs.claims.Law.{begins_on_two, Base, on_two, on_two_along}
+use Rattle.wasi_walks.proofs.fits.Polls.{Anything}
+use Rattle.wasi_walks.proofs.remotes.Law.{begins_kept, remotes}
+use Rattle.wasi_walks.proofs.remotes.State.{Keeps}
+use Rattle.wasi_walks.proofs.received.Handles.{AreUnder, MakesUnder, Under, begun_same, makes_more, moves_under, polled_same, under_so}
+use Rattle.wasi_walks.proofs.received.Late.{IncomingLate}
+use Rattle.wasi_walks.proofs.received.Law.{along, lates}
+use Rattle.wasi_walks.proofs.received.Marks.{AreEarly, NotIncoming, Since, are_early_more, early_new, early_other, is_other, moves_early}
+use Rattle.wasi_walks.proofs.received.Silent.{new_silent}
+use Rattle.wasi_walks.proofs.received.State.{IsHeld, Late, OneEach, one_late, put_later, push_tcp, put_tcp, same_or_not}
+use Rattle.wasi_walks.proofs.walks.Law.{BeginsWrites, Law, Walks}
+use Rattle.wasi_walks.proofs.walks.Moves.{HasNewStream, Here, Made, Past, ToStream, Used, made_so, put, put_udp, udp_begun}
+use Rattle.wasi_walks.proofs.walks.OnBase.{Above}
+
+module _ (side : OpId) (from : ℕ) where
+  abbrev pub SinceIn : List Entry → Here → Type 0
+  SinceIn es h = Since side from es h.machine.store.records h.machine.table
+
+  abbrev pub Inv : List Entry → Here → Type 0
+  Inv es h = SinceIn es h × Under h
+
+  -- under more entries, where the table stays
+  longer : (es fs : List Entry) (records now : List Record) (t : Handles) (s : Since side from es records t) → Late side s.start (es ++ fs) now → Since side from (es ++ fs) now t
+  longer es fs records now t s l = record { start = s.start; on = s.on; late = l; early = are_early_more side s.start s.start es fs t (omega arith) s.early }
+
+  -- along a tree
+  kept : {A : Type 0} (h : Here) (end : A → Here) (es : List Entry) (asks : Asks A) (i : Inv es h)
+      → ((a : A) → Under (end a)) → ((fs : List Entry) (a : A) → AreEarly side i.0.start fs h.machine.table → AreEarly side i.0.start fs (end a).machine.table)
+      → Allows Anything (λ fs a. Late side i.0.start fs (end a).machine.store.records) es asks → Allows Anything (λ fs a. Inv fs (end a)) es asks
+  kept h end es asks i under early l =
+      allows_weaker Anything (λ fs a. AreEarly side i.0.start fs h.machine.table × Late side i.0.start fs (end a).machine.store.records) (λ fs a. Inv fs (end a))
+      (λ fs a k. (record { start = i.0.start; on = i.0.on; late = k.1; early = early fs a k.0 }, under a)) es asks
+      (allows_keep Anything Anything (λ fs. AreEarly side i.0.start fs h.machine.table) (λ fs a. Late side i.0.start fs (end a).machine.store.records) (λ fs op c t fits m n. are_early_more side i.0.start i.0.start fs _ h.machine.table (omega arith) m) (λ fs op c n. tt) es asks i.0.early l)
+
+  -- == a mark
+  -- with what the line has made afterwards
+  marks_so : (es : List Entry) (h : Here) (op : OpId) (kind : Kind) (parent : Option ℕ) (sock : Option OpId) (so : Result ℕ Stop → Made) → NotIncoming side kind → MakesUnder h.machine.table (so (Err (Trap Full))) → MakesUnder (with_handle h.machine.table kind parent) (so (Ok h.machine.table.next)) → Inv es h
+      → Allows Anything (λ fs made. Inv fs (record h { machine = record h.machine { table = made.1 }; made = so made.0 })) es (make_asks h.machine.table op kind parent sock)
+  unfolding bind
+  marks_so es h op kind parent sock so not full room i =
+      allows_if Anything (λ fs made. Inv fs (record h { machine = record h.machine { table = made.1 }; made = so made.0 })) es (is_full h.machine.table) _ _
+      (λ no. (record { start = i.0.start; on = i.0.on; late = i.0.late; early = i.0.early }, record { older = i.1.older; makes = full; stands = i.1.stands }))
+      (λ free. (
+        tt,
+        λ told f. (
+          record {
+            start = i.0.start;
+            on = i.0.on;
+            late = one_late side i.0.start es op (Call.Made h.machine.table.next (name_of kind) parent sock) told h.machine.store.records (λ x. tt) i.0.late;
+            early = early_other side i.0.start _ h.machine.table kind parent not (are_early_more side i.0.start i.0.start es _ h.machine.table (omega arith) i.0.early);
+          },
+          under_so h.machine.table kind parent (so (Ok h.machine.table.next)) h.machine.store.standing i.1.older room i.1.stands,
+        ),
+      ))
+
+  marks_other : (es : List Entry) (h : Here) (op : OpId) (kind : Kind) (parent : Option ℕ) (sock : Option OpId) → NotIncoming side kind → Inv es h → Allows Anything (λ fs made. Inv fs (record h { machine = record h.machine { table = made.1 } })) es (make_asks h.machine.table op kind parent sock)
+  marks_other es h op kind parent sock not i = marks_so es h op kind parent sock (λ made. h.made) not i.1.makes (makes_more h.machine.table kind parent h.made i.1.makes) i
+
+  -- that of a new stream
+  module _ (es : List Entry) (h : Here) (place n handle : ℕ) (one : OneEach h.machine.store.records) (o : OpenUdp) (at : udp2_at h.machine.store.records place ≡ Some (Udp2Socket.Open o)) (i : Inv es h) where
+    abbrev marked : Option OpId → Told → Entry
+    marked sock told = entry (own_of n) (Call.Made h.machine.table.next (name_of (Incoming place)) (Some handle) sock) told
+
+    abbrev table : Handles
+    table = with_handle h.machine.table (Incoming place) (Some handle)
+
+    -- nothing is held, so any later place will do
+    emptied : (fs : List Entry) → o.inner.side ≡ side → IncomingLate (length fs) fs side o.incoming → Late side (length fs) fs h.machine.store.records
+    emptied fs is holds = subst (Late side (length fs) fs) (udp_set_same h.machine.store.records place (Udp2Socket.Open o) at) (put_later side (length fs) fs h.machine.store.records place o o one at is (omega arith) (λ q. holds))
+
+    since : (told : Told) → ((fs : List Entry) → IncomingLate (length fs) fs side o.incoming) → (o.inner.side ≡ side) ⊎ (o.inner.side ≡ side → ⊥) → (let e : Entry = marked (Some o.inner.side) told in Since side from (es ++ e ∷ []) h.machine.store.records table)
+    since told none (inl is) =
+        let e : Entry = marked (Some o.inner.side) told in
+        let p = length-append es (e ∷ []) in
+        let l = i.0.late.long in
+        let on = i.0.on in
+        record {
+          start = length (es ++ e ∷ []);
+          on = omega (arith, p, l, on);
+          late = emptied (es ++ e ∷ []) is (none (es ++ e ∷ []));
+          early = early_new side i.0.start (length (es ++ e ∷ [])) es h.machine.table (own_of n) (Incoming place) (Some handle) o.inner.side told (omega (arith, p, l)) (λ q. omega (arith, p)) i.0.early;
+        }
+    since told none (inr not) =
+        let e : Entry = marked (Some o.inner.side) told in
+        record {
+          start = i.0.start;
+          on = i.0.on;
+          late = one_late side i.0.start es (own_of n) e.call told h.machine.store.records (λ x. tt) i.0.late;
+          early = early_new side i.0.start i.0.start es h.machine.table (own_of n) (Incoming place) (Some handle) o.inner.side told (omega arith) (λ q. absurd (not q)) i.0.early;
+        }
+
+    marks_new : ((fs : List Entry) → IncomingLate (length fs) fs side o.incoming) → Allows Anything (λ fs made. Inv fs (record h { machine = record h.machine { table = made.1 } })) es (make_asks h.machine.table (own_of n) (Incoming place) (Some handle) (Some o.inner.side))
+    unfolding bind
+    marks_new none =
+        allows_if Anything (λ fs made. Inv fs (record h { machine = record h.machine { table = made.1 } })) es (is_full h.machine.table) _ _ (λ no. i)
+        (λ free. (tt, λ told f. (since told none (same_or_not o.inner.side side), under_so h.machine.table (Incoming place) (Some handle) h.made h.machine.store.standing i.1.older (makes_more h.machine.table (Incoming place) (Some handle) h.made i.1.makes) i.1.stands)))
+
+  streams_so : (es : List Entry) (h : Here) (place n handle reached : ℕ) (kind : Kind) → h.made ≡ ToStream n handle reached → HasNewStream h.machine.store.records reached → (kind ≡ Incoming place) ⊎ (kind ≡ Outgoing place) → udp_of (kind_at h.machine.table handle) ≡ Some place → OneEach h.machine.store.records → Inv es h
+      → Allows Anything (λ fs made. Inv fs (record h { machine = record h.machine { table = made.1 } })) es (make_asks h.machine.table (own_of n) kind (Some handle) (udp_side_at (udp2_at h.machine.store.records place)))
+  streams_so es h place n handle reached kind made new (inr e) of one i = marks_other es h (own_of n) kind (Some handle) _ (subst (NotIncoming side) (sym e) tt) i
+  streams_so es h place n handle reached kind made new (inl e) of one i =
+      let same : place ≡ reached = (subst (MakesUnder h.machine.table) made i.1.makes).of place of in
+      let at : udp2_at h.machine.store.records place ≡ Some (Udp2Socket.Open new.socket) = subst (λ (x : ℕ). udp2_at h.machine.store.records x ≡ Some (Udp2Socket.Open new.socket)) (sym same) new.at in
+      let A : Kind → Option OpId → Type 0 = λ k sock. Allows Anything (λ fs made. Inv fs (record h { machine = record h.machine { table = made.1 } })) es (make_asks h.machine.table (own_of n) k (Some handle) sock) in
+      subst (λ (k : Kind). A k (udp_side_at (udp2_at h.machine.store.records place))) (sym e)
+      (subst (A (Incoming place)) (sym (ap udp_side_at at)) (marks_new es h place n handle one new.socket at i (λ fs. subst (IncomingLate (length fs) fs side) (sym new.new) tt)))
+
+  -- == a create
+  joins : (es : List Entry) (h : Here) (own : OpId) (made : Result Socket ErrorCode) → h.made ≡ Past → Inv es h → Allows Anything (λ fs done. Inv fs (record h { machine = done.1; own = Used })) es (created_asks h.machine own made)
+  joins es h own (Err c) past i = i
+  joins es h own (Ok socket) past i =
+      let next : Here = record h { machine = record h.machine { store = record h.machine.store { records = tcp2_pushed h.machine.store.records (new_record socket) } } } in
+      allows_then Anything (λ fs made. Inv fs (record next { machine = record next.machine { table = made.1 } })) (λ fs done. Inv fs (record h { machine = done.1; own = Used })) es (make_asks h.machine.table own (Tcp2 (length h.machine.store.records)) None (side_of socket)) _
+      (marks_other es next own (Tcp2 (length h.machine.store.records)) None (side_of socket) tt (record { start = i.0.start; on = i.0.on; late = push_tcp side i.0.start es _ (new_record socket) i.0.late; early = i.0.early }, i.1)) (λ fs made k. k)
+
+  module _ (contexts : List WasiSocketsCtx) (line : ℕ) (origin : Step) where
+    -- the law: the calls may be any
+    unfoldable sinces : Above contexts line origin (λ es h. Base contexts line origin h × Keeps es h.machine.store.records)
+    unfolding lates
+    sinces = record {
+      P = Anything;
+      Inv = λ es h. Inv es h;
+      moves = λ es h now m b i. (record { start = i.0.start; on = i.0.on; late = (lates side i.0.start contexts line origin).moves es h now m b i.0.late; early = moves_early side i.0.start es h now m i.0.early }, moves_under h now m i.1);
+      asks = λ es h place n r x c at g o q b i. (tt, λ told f. (longer es _ _ _ _ i.0 (((lates side i.0.start contexts line origin).asks es h place n r x c at g o q b i.0.late).1 told f), i.1));
+      sets = λ es h place r x backlog at g s is b i. (tt, λ told f. (longer es _ _ _ _ i.0 (((lates side i.0.start contexts line origin).sets es h place r x backlog at g s is b i.0.late).1 told f), i.1));
+      learns = λ es h place r x at g e b i. (tt, λ told f. (longer es _ _ _ _ i.0 (((lates side i.0.start contexts line origin).learns es h place r x at g e b i.0.late).1 told f), i.1));
+      closes = λ es h place r x q g e b i. (tt, λ told f. (longer es _ _ _ _ i.0 (((lates side i.0.start contexts line origin).closes es h place r x q g e b i.0.late).1 told f), i.1));
+      marks = λ es h kind parent sock m b i. marks_other es h (own_of line) kind parent sock (is_other side origin h kind parent sock m) i;
+      creates = λ es h ctx family c a o m b i.
+          allows_then Anything (λ fs made. Inv fs h) (λ fs done. Inv fs (record h { machine = done.1; own = Used })) es (new_asks (own_of line) ctx family) (created_asks h.machine (own_of line))
+          (kept h (λ made. h) es (new_asks (own_of line) ctx family) i (λ made. i.1) (λ fs made k. k) (along side i.0.start h.machine.store.records es (new_asks (own_of line) ctx family) i.0.late (new_silent side (IsHeld side h.machine.store.records) es (own_of line) ctx family)))
+          (λ fs made k. joins fs h (own_of line) made m k);
+      accepted = λ es h c s place r is e o g b i. marks_so es h (own_of line) (Tcp2 place) (Some s) _ (made_so place) tt tt tt i;
+      polls = λ es h op after k b i. kept h after es (poll_asks op) i (λ end. polled_same (λ t made standing. AreUnder t made standing) h op after k end i.1) (λ fs end. polled_same (λ t made standing. AreEarly side i.0.start fs t) h op after k end) ((lates side i.0.start contexts line origin).polls es h op after k b i.0.late);
+      turns = λ es h place r s g e b i. kept h (λ done. put h place (with_writer r s done.1)) es (turn_asks s.writer) i (λ done. i.1) (λ fs done k. k) ((lates side i.0.start contexts line origin).turns es h place r s g e b i.0.late);
+      gives_up = λ es h place r q g b i. kept h (λ done. put h place (with_listening r Not)) es (give_up_asks r.listening) i (λ done. i.1) (λ fs done k. k) ((lates side i.0.start contexts line origin).gives_up es h place r q g b i.0.late);
+      udp_asks = λ es h place n o c at g q b i. (tt, λ told f. (longer es _ _ _ _ i.0 (((lates side i.0.start contexts line origin).udp_asks es h place n o c at g q b i.0.late).1 told f), i.1));
+      udp_peers = λ es h place o at g b i. (tt, λ told f. (longer es _ _ _ _ i.0 (((lates side i.0.start contexts line origin).udp_peers es h place o at g b i.0.late).1 told f), i.1));
+      udp_learns = λ es h place part o at g b i. (tt, λ told f. (longer es _ _ _ _ i.0 (((lates side i.0.start contexts line origin).udp_learns es h place part o at g b i.0.late).1 told f), i.1));
+      udp_closes = λ es h place o q g b i. (tt, λ told f. (longer es _ _ _ _ i.0 (((lates side i.0.start contexts line origin).udp_closes es h place o q g b i.0.late).1 told f), i.1));
+      udp_creates = λ es h ctx family c may a o m b i. (
+        tt,
+        λ told f.
+            let begun = udp_after_create (own_of line) ctx.name family (told_done told) in
+            let s = longer es _ _ _ _ i.0 (((lates side i.0.start contexts line origin).udp_creates es h ctx family c may a o m b i.0.late).1 told f) in
+            (begun_same (λ t made standing. Since side from (es ++ entry (own_of line) (Call.UdpCreate ctx.name family) told ∷ []) (udp_begun h begun).machine.store.records t) h begun s, begun_same (λ t made standing. AreUnder t made standing) h begun i.1),
+      );
+      udp_marks = λ es h place u g b i. marks_so es h (udp_side u) (Udp2 place) None (Some (udp_side u)) (λ made. Past) tt tt tt i;
+      stream_marks = λ es h place n handle reached kind m new k e b i. streams_so es h place n handle reached kind m new k e (λ x y p q a c z. b.0.1.udps.one q.inner.side x y (Udp2Socket.Open p) (Udp2Socket.Open q) a c z refl) i;
+      error_marks = λ es h n handle place handles m k e f b i. marks_other es h (own_of n) ErrorValue (Some handle) _ tt i;
+      udp_gives_up = λ es h place create q g b i. kept h (λ done. put_udp h place (Udp2Socket.Closed create.operation.who.side)) es (create_cancel_asks create) i (λ done. i.1) (λ fs done k. k) ((lates side i.0.start contexts line origin).udp_gives_up es h place create q g b i.0.late);
+      lookups = λ es h host l b i. (tt, λ told f records s. (longer es _ _ _ _ i.0 (((lates side i.0.start contexts line origin).lookups es h host l b i.0.late).1 told f records s), i.1));
+      looks = λ es h place op g b i. (tt, λ told f. (longer es _ _ _ _ i.0 (((lates side i.0.start contexts line origin).looks es h place op g b i.0.late).1 told f), i.1));
+    }
+
+    pub since_law : Law contexts line origin
+    unfolding remotes
+    since_law = on_two contexts line origin (remotes contexts line origin) sinces
+
+    -- a write that begins in a call of streams
+    pub begins_since : BeginsWrites since_law
+    unfolding since_law sinces remotes
+    begins_since = begins_on_two contexts line origin (remotes contexts line origin) sinces (begins_kept contexts line origin) (record { begins = λ es h place n r s half permit bytes at g e w within b i. (record { start = i.0.start; on = i.0.on; late = put_tcp side i.0.start es _ place _ i.0.late; early = i.0.early }, i.1) })
+
+    -- what it says of a tree
+    pub since_along : {A : Type 0} {h : Here} {end : A → Here} {asks : Asks A} → Walks since_law h end asks → (es : List Entry) → Base contexts line origin h → Keeps es h.machine.store.records → Inv es h
+        → Allows Anything (λ fs a. (Base contexts line origin (end a) × Keeps fs (end a).machine.store.records) × Inv fs (end a)) es asks
+    unfolding since_law sinces remotes
+    since_along w es b k i = on_two_along contexts line origin (remotes contexts line origin) sinces w es b k i
