@@ -177,7 +177,7 @@ module _ (it : OpId) where
       moves es _ _ (BeginsSend h place n o out d bound at g e to known own) k =
           let op = send_start (part_of line n) o.inner d.bytes d.remote_address bound in
           put_udp_begins es h place (Udp2Socket.Open o) (Udp2Socket.Open (sending_now o out op)) op (Names (n + 1)) g (takes_part it line n h.own op.left own (send_begins o.inner.family d.bytes (send_to o.inner d.bytes d.remote_address) bound)) (sending_less o out op) k
-      moves es _ _ (BeginsReceive h place n o inc bound at g e own) k =
+      moves es _ _ (BeginsReceive h place n o inc bound at g e is own) k =
           let op = receive_start (part_of line n) o.inner bound in
           put_udp_begins es h place (Udp2Socket.Open o) (Udp2Socket.Open (receiving_now o inc op)) op (Names (n + 1)) g (takes_part it line n h.own op.left own (receive_begins bound)) (receiving_less o inc op) k
       moves es _ _ (CancelsBind h place r op q g e) k = put_kept es h place r _ g (λ i. omega arith) k

@@ -210,7 +210,7 @@ module _ (side : OpId) (given : List ℕ) where
       moves es _ _ (BeginsUdpBind h place o a at g to idle own) b k = spends es _ h.own own (put_udp_kept es h place (Udp2Socket.Open o) (Udp2Socket.Open _) g k)
       moves es _ _ (BeginsUdpConnect h place o a at g to bound own) b k = spends es _ h.own own (put_udp_kept es h place (Udp2Socket.Open o) (Udp2Socket.Open _) g k)
       moves es _ _ (BeginsSend h place part o out d bound at g e is known own) b k = owns es _ h.own (Names part) (Names (part + 1)) own (λ held p. p) (put_udp_kept es h place (Udp2Socket.Open o) (Udp2Socket.Open _) g k)
-      moves es _ _ (BeginsReceive h place part o inc bound at g e own) b k = owns es _ h.own (Names part) (Names (part + 1)) own (λ held p. p) (put_udp_kept es h place (Udp2Socket.Open o) (Udp2Socket.Open _) g k)
+      moves es _ _ (BeginsReceive h place part o inc bound at g e is own) b k = owns es _ h.own (Names part) (Names (part + 1)) own (λ held p. p) (put_udp_kept es h place (Udp2Socket.Open o) (Udp2Socket.Open _) g k)
       moves es _ _ (CancelsBind h place r op q g e) b k = put_same es h place r _ g (record { side = refl; lives = λ x v. v }) refl k
       moves es _ _ (CancelsUdpBind h place o op q g e) b k = put_udp_kept es h place (Udp2Socket.Open o) (Udp2Socket.Open _) g k
       moves es _ _ (CancelsUdpConnect h place o q g) b k = put_udp_kept es h place (Udp2Socket.Open o) (Udp2Socket.Open _) g k

@@ -149,7 +149,7 @@ module _ (contexts : List WasiSocketsCtx) (line : ℕ) (origin : Step) where
   moves_shape _ _ (BeginsUdpBind h place o a at g to idle own) i = udp_shape h place _ i
   moves_shape _ _ (BeginsUdpConnect h place o a at g to bound own) i = udp_shape h place _ i
   moves_shape _ _ (BeginsSend h place part o out d bound at g e is known own) i = udp_shape h place _ i
-  moves_shape _ _ (BeginsReceive h place part o inc bound at g e own) i = udp_shape h place _ i
+  moves_shape _ _ (BeginsReceive h place part o inc bound at g e is own) i = udp_shape h place _ i
   moves_shape _ _ (CancelsBind h place r op q g e) i = put_shape h place _ (i place r g) i
   moves_shape _ _ (CancelsUdpBind h place o op q g e) i = udp_shape h place _ i
   moves_shape _ _ (CancelsUdpConnect h place o q g) i = udp_shape h place _ i

@@ -83,7 +83,7 @@ module _ (line : ℕ) where
     moves es _ _ (BeginsUdpBind h place o a at g to idle own) n i = later es (IsOlder line Used) (older_used line h.own) (put_udp_open es place (Udp2Socket.Open _) (i.udps place (Udp2Socket.Open o) g) i)
     moves es _ _ (BeginsUdpConnect h place o a at g to bound own) n i = later es (IsOlder line Used) (older_used line h.own) (put_udp_open es place (Udp2Socket.Open _) (i.udps place (Udp2Socket.Open o) g) i)
     moves es _ _ (BeginsSend h place part o out d bound at g e is known own) n i = later es (IsOlder line (Names (part + 1))) (next_grows line part h.own own) (put_udp_open es place (Udp2Socket.Open _) (i.udps place (Udp2Socket.Open o) g) i)
-    moves es _ _ (BeginsReceive h place part o inc bound at g e own) n i = later es (IsOlder line (Names (part + 1))) (next_grows line part h.own own) (put_udp_open es place (Udp2Socket.Open _) (i.udps place (Udp2Socket.Open o) g) i)
+    moves es _ _ (BeginsReceive h place part o inc bound at g e is own) n i = later es (IsOlder line (Names (part + 1))) (next_grows line part h.own own) (put_udp_open es place (Udp2Socket.Open _) (i.udps place (Udp2Socket.Open o) g) i)
     -- what is given up is open still
     moves es _ _ (CancelsBind h place r op q g e) n i = put_kept es h place r _ g (record { side = refl; lives = λ x v. v }) (inl refl) i
     moves es _ _ (CancelsUdpBind h place o op q g e) n i = put_udp_open es place (Udp2Socket.Open _) (i.udps place (Udp2Socket.Open o) g) i
