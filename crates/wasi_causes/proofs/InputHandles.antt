@@ -320,7 +320,7 @@ module _ (contexts : List WasiSocketsCtx) (line : ℕ) (origin : Step) where
       (inputs_stay h.machine.table records _ (push_stays records (joined l new peer)) k, (none.0, none.1, subst (λ (o : Option Tcp2Socket). IsSome (streams_in o)) (sym (tcp2_seam records (joined l new peer))) refl))
   moves_inputs _ _ (Leaves h) i = (i.0, tt)
   moves_inputs _ _ (Watches h own) i = (i.0, tt)
-  moves_inputs _ _ (RemembersStreams h c handle remote is) i = (i.0, tt)
+  moves_inputs _ _ (RemembersStreams h c handle place remote is of) i = (i.0, tt)
   moves_inputs _ _ (RecallsStreams h ids place handle e) i = (i.0, tt)
   moves_inputs _ _ (CallsHandles h kind calls) i = (i.0, tt)
   moves_inputs _ _ (RecallsCall h ids call e) i = (i.0, tt)
@@ -328,7 +328,7 @@ module _ (contexts : List WasiSocketsCtx) (line : ℕ) (origin : Step) where
   moves_inputs _ _ (BeginsUdpBind h place o a at g to idle own) i = put_udp_inputs h place (Udp2Socket.Open o) g _ i
   moves_inputs _ _ (BeginsUdpConnect h place o a at g to bound own) i = put_udp_inputs h place (Udp2Socket.Open o) g _ i
   moves_inputs _ _ (BeginsSend h place n o out d bound at g e item known own) i = put_udp_inputs h place (Udp2Socket.Open o) g _ i
-  moves_inputs _ _ (BeginsReceive h place n o inc bound at g e own) i = put_udp_inputs h place (Udp2Socket.Open o) g _ i
+  moves_inputs _ _ (BeginsReceive h place n o inc bound at g e is own) i = put_udp_inputs h place (Udp2Socket.Open o) g _ i
   moves_inputs _ _ (CancelsBind h place r op q g e) i = put_inputs h place r g _ (λ s. s) i
   moves_inputs _ _ (CancelsUdpBind h place o op q g e) i = put_udp_inputs h place (Udp2Socket.Open o) g _ i
   moves_inputs _ _ (CancelsUdpConnect h place o q g) i = put_udp_inputs h place (Udp2Socket.Open o) g _ i
@@ -440,7 +440,7 @@ module _ (contexts : List WasiSocketsCtx) (line : ℕ) (origin : Step) where
     udp_closes = λ es h place o q g i. (tt, λ told fits. put_udp_inputs h place (Udp2Socket.Open o) g _ i);
     udp_creates = λ es h ctx family c may t o m i. (tt, λ told fits. begun_inputs h (udp_after_create (own_of line) ctx.name family (told_done told)) i);
     udp_marks = λ es h place u g i. mark_other es (record h { made = Past }) (udp_side u) (Udp2 place) None (Some (udp_side u)) tt (i.0, tt);
-    stream_marks = λ es h place n handle kind made its of i. mark_other es h (own_of n) kind (Some handle) (udp_side_at (udp2_at h.machine.store.records place)) (two_other kind place its) i;
+    stream_marks = λ es h place n handle reached kind made new its of i. mark_other es h (own_of n) kind (Some handle) (udp_side_at (udp2_at h.machine.store.records place)) (two_other kind place its) i;
     error_marks = λ es h n handle place handles m k e f i. mark_other es h (own_of n) ErrorValue (Some handle) (side_at (tcp2_at h.machine.store.records place)) tt i;
     udp_gives_up = λ es h place create q g i. whatever (λ done. Inputs (put_udp h place (Udp2Socket.Closed create.operation.who.side))) (λ done. put_udp_inputs h place (Udp2Socket.Creating create) g _ i) es (create_cancel_asks create);
     lookups = λ es h host l i. (tt, λ told fits records same. found_inputs h records same i);

@@ -156,7 +156,7 @@ module _ (contexts : List WasiSocketsCtx) (line : ℕ) (origin : Step) (other : 
   moves_has _ _ (BeginsUdpBind h place o a at g to idle own) i = put_udp_has h place (Udp2Socket.Open o) g _ i
   moves_has _ _ (BeginsUdpConnect h place o a at g to bound own) i = put_udp_has h place (Udp2Socket.Open o) g _ i
   moves_has _ _ (BeginsSend h place n o out d bound at g e item known own) i = put_udp_has h place (Udp2Socket.Open o) g _ i
-  moves_has _ _ (BeginsReceive h place n o inc bound at g e own) i = put_udp_has h place (Udp2Socket.Open o) g _ i
+  moves_has _ _ (BeginsReceive h place n o inc bound at g e is own) i = put_udp_has h place (Udp2Socket.Open o) g _ i
   moves_has _ _ (CancelsBind h place r op q g e) i = put_has h place r g _ i
   moves_has _ _ (CancelsUdpBind h place o op q g e) i = put_udp_has h place (Udp2Socket.Open o) g _ i
   moves_has _ _ (CancelsUdpConnect h place o q g) i = put_udp_has h place (Udp2Socket.Open o) g _ i
@@ -207,7 +207,7 @@ module _ (contexts : List WasiSocketsCtx) (line : ℕ) (origin : Step) (other : 
     udp_closes = λ es h place o q g i. (tt, λ told fits. put_udp_has h place (Udp2Socket.Open o) g _ i);
     udp_creates = λ es h ctx family c may t o m i. (tt, λ told fits. begun_has h (udp_after_create (own_of line) ctx.name family (told_done told)) i);
     udp_marks = λ es h place u g i. mark_has es h (udp_side u) (Udp2 place) None (Some (udp_side u)) (refl, refl) i;
-    stream_marks = λ es h place n handle kind made its of i. mark_has es h (own_of n) kind (Some handle) (udp_side_at (udp2_at h.machine.store.records place)) (of_datagrams kind place its) i;
+    stream_marks = λ es h place n handle reached kind made new its of i. mark_has es h (own_of n) kind (Some handle) (udp_side_at (udp2_at h.machine.store.records place)) (of_datagrams kind place its) i;
     error_marks = λ es h n handle place handles m k e f i. mark_has es h (own_of n) ErrorValue (Some handle) (side_at (tcp2_at h.machine.store.records place)) (refl, refl) i;
     udp_gives_up = λ es h place create q g i. whatever (λ done. Has (put_udp h place (Udp2Socket.Closed create.operation.who.side))) (λ done. put_udp_has h place (Udp2Socket.Creating create) g _ i) es (create_cancel_asks create);
     lookups = λ es h host l i. (tt, λ told fits records same. same_there h.machine.table h.machine.store.records records same i);

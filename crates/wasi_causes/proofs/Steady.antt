@@ -277,7 +277,7 @@ module _ (contexts : List WasiSocketsCtx) (line : ℕ) (origin : Step) where
   moves_steady _ _ (StandsUdpConnect h ids place handle o op at made g e) i = stand_steady h.machine (Some (standing_as ids (standing.UdpConnect place handle))) i
   moves_steady _ _ (StandsDropOutgoing h ids place o at g e) i = stand_steady h.machine (Some (standing_as ids (standing.DropOutgoing place))) i
   moves_steady _ _ (BeginsSend h place n o out d bound at g e item known own) i = put_udp_steady h place (Udp2Socket.Open o) g _ i
-  moves_steady _ _ (BeginsReceive h place n o inc bound at g e own) i = put_udp_steady h place (Udp2Socket.Open o) g _ i
+  moves_steady _ _ (BeginsReceive h place n o inc bound at g e is own) i = put_udp_steady h place (Udp2Socket.Open o) g _ i
   moves_steady _ _ (StandsBlocking h ids call handles made its) i = stand_steady h.machine (Some (standing_as ids (standing.Blocking call))) i
   moves_steady _ _ (CancelsBind h place r op q g e) i = put_steady h place r g _ (λ c. absurd (cc), (i.records place r g).1, (i.records place r g).2) i
   moves_steady _ _ (CancelsUdpBind h place o op q g e) i = put_udp_steady h place (Udp2Socket.Open o) g _ i
@@ -422,7 +422,7 @@ module _ (contexts : List WasiSocketsCtx) (line : ℕ) (origin : Step) where
     udp_asks = λ es h place n o c at g q i. (tt, λ told fits. i);
     udp_learns = λ es h place part o at g i. (tt, λ told fits. put_udp_steady h place (Udp2Socket.Open o) g _ i);
     udp_peers = λ es h place o at g i. (tt, λ told fits. put_udp_steady h place (Udp2Socket.Open o) g _ i);
-    stream_marks = λ es h place n handle kind made its of i. made_steady es h.machine (own_of n) kind (Some handle) (udp_side_at (udp2_at h.machine.store.records place)) (λ k p. absurd (no_tcp kind place k its p)) (both_there h.machine kind place its (i.udps handle place (udp_record _ place of))) (λ k p. absurd (no_stream_lookup kind place k its p)) i;
+    stream_marks = λ es h place n handle reached kind made new its of i. made_steady es h.machine (own_of n) kind (Some handle) (udp_side_at (udp2_at h.machine.store.records place)) (λ k p. absurd (no_tcp kind place k its p)) (both_there h.machine kind place its (i.udps handle place (udp_record _ place of))) (λ k p. absurd (no_stream_lookup kind place k its p)) i;
     udp_closes = λ es h place o q g i. (tt, λ told fits. put_udp_steady h place (Udp2Socket.Open o) g _ i);
     udp_creates = λ es h ctx family c may t o m i. (tt, λ told fits. begun_steady h (udp_after_create (own_of line) ctx.name family (told_done told)) i);
     udp_marks = λ es h place u g i. made_steady es h.machine (udp_side u) (Udp2 place) None (Some (udp_side u)) (λ k p. absurd (cc)) (λ k p. let q : place ≡ k = cc in subst (IsUdpThere h.machine.store.records) q (u, g.found)) (λ k p. absurd (cc)) i;

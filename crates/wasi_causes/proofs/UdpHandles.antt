@@ -234,7 +234,7 @@ module _ (contexts : List WasiSocketsCtx) (line : ℕ) (origin : Step) where
       (push_udps h.machine.table (tcp2_put h.machine.store.records place idle) (joined l new peer) (put_udps h place r g idle i).0, tt)
   moves_udps _ _ (Leaves h) i = (i.0, tt)
   moves_udps _ _ (Watches h own) i = (i.0, tt)
-  moves_udps _ _ (RemembersStreams h c handle remote is) i = (i.0, tt)
+  moves_udps _ _ (RemembersStreams h c handle place remote is of) i = (i.0, tt)
   moves_udps _ _ (RecallsStreams h ids place handle e) i = (i.0, tt)
   moves_udps _ _ (CallsHandles h kind calls) i = (i.0, tt)
   moves_udps _ _ (RecallsCall h ids call e) i = (i.0, tt)
@@ -242,7 +242,7 @@ module _ (contexts : List WasiSocketsCtx) (line : ℕ) (origin : Step) where
   moves_udps _ _ (BeginsUdpBind h place o a at g to idle own) i = put_open h place o _ g i
   moves_udps _ _ (BeginsUdpConnect h place o a at g to bound own) i = put_open h place o _ g i
   moves_udps _ _ (BeginsSend h place n o out d bound at g e item known own) i = put_open h place o _ g i
-  moves_udps _ _ (BeginsReceive h place n o inc bound at g e own) i = put_open h place o _ g i
+  moves_udps _ _ (BeginsReceive h place n o inc bound at g e is own) i = put_open h place o _ g i
   moves_udps _ _ (CancelsBind h place r op q g e) i = put_udps h place r g _ i
   moves_udps _ _ (CancelsUdpBind h place o op q g e) i = put_open h place o _ g i
   moves_udps _ _ (CancelsUdpConnect h place o q g) i = put_open h place o _ g i
@@ -319,7 +319,7 @@ module _ (contexts : List WasiSocketsCtx) (line : ℕ) (origin : Step) where
     udp_closes = λ es h place o q g i. (tt, λ told fits. put_other h place (Udp2Socket.Closed o.inner.side) (subst (MadeSo h.machine.table) q.1 i.1) i);
     udp_creates = λ es h ctx family c may t o m i. (tt, λ told fits. begun_udps h (udp_after_create (own_of line) ctx.name family (told_done told)) i);
     udp_marks = λ es h place u g i. mark_so es h (udp_side u) (Udp2 place) None (Some (udp_side u)) Past (subst (MadeSo h.machine.table) g.awaited i.1, open_of_created h place u g.found g.opens) tt tt i;
-    stream_marks = λ es h place n handle kind made its of i. mark_so es h (own_of n) kind (Some handle) (udp_side_at (udp2_at h.machine.store.records place)) h.made (stream_new h place handle kind its of i) i.1 (subst (MadeSo (with_handle h.machine.table kind (Some handle))) (sym made) tt) i;
+    stream_marks = λ es h place n handle reached kind made new its of i. mark_so es h (own_of n) kind (Some handle) (udp_side_at (udp2_at h.machine.store.records place)) h.made (stream_new h place handle kind its of i) i.1 (subst (MadeSo (with_handle h.machine.table kind (Some handle))) (sym made) tt) i;
     error_marks = λ es h n handle place handles m k e f i. mark_other es h (own_of n) ErrorValue (Some handle) (side_at (tcp2_at h.machine.store.records place)) tt i;
     udp_gives_up = λ es h place create q g i. whatever (λ done. Udps (put_udp h place (Udp2Socket.Closed create.operation.who.side))) (λ done. put_other h place (Udp2Socket.Closed create.operation.who.side) (not_yet h place create g i) i) es (create_cancel_asks create);
     lookups = λ es h host l i. (tt, λ told fits records same. found_udps h records same i);

@@ -5,3 +5,4 @@ pub mod Connected
 pub mod Sends
 pub mod Receives
 pub mod Streams
+pub mod From

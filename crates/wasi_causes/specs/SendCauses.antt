@@ -1,10 +1,10 @@
 -- Why a datagram isn't sent, and why none is received.
-use Rattle.std.specs.Prelude.{◌≡◌, ℕ, ◌≤◌, Bool, true, false, not, ◌&&◌, List, [], ◌∷◌, ◌++◌, Some, length}
+use Rattle.std.specs.Prelude.{◌≡◌, ℕ, ◌≤◌, Bool, true, false, not, ◌&&◌, List, [], ◌∷◌, ◌++◌, Option, Some, length, ⊤}
 use Rattle.wasi_addr.specs.declared.address.IpSocketAddress.{IpSocketAddress}
 use Rattle.wasi_addr.specs.declared.address.SocketAddrUse.{SocketAddrUse}
 use Rattle.wasi_addr.specs.declared.code.ErrorCode.{ErrorCode}
 use Rattle.wasi_addr.specs.declared.code.ErrorCode.TheVariants.{AccessDenied, InvalidState}
-use Rattle.wasi_world.specs.Operation.{Check, Last, Nothing, Operation, Send, is_now}
+use Rattle.wasi_world.specs.Operation.{Check, Last, Nothing, Operation, Send, is_now, is_wanted}
 use Rattle.wasi_world.specs.declared.call.Call.TheVariants as call
 use Rattle.wasi_world.specs.declared.call.Entry.{Entry}
 use Rattle.wasi_world.specs.declared.call.Told.{Told}
@@ -100,3 +100,14 @@ pub record ReceivesSome (most : ℕ) (fields : List Field) : Type 0 where
   pub gives : fields ≡ datagram_values datagrams
   pub wanted : length datagrams ≤ most
   pub within : length datagrams ≤ 16
+
+-- each of them is from this address, where there is one
+abbrev pub AreFrom : Option IpSocketAddress → List IncomingDatagram → Type 0
+AreFrom only [] = ⊤
+AreFrom only (d ∷ ds) = (is_wanted only d.remote_address ≡ true) × AreFrom only ds
+
+-- These datagrams were received, and each is from this address, where there is one.
+pub record ReceivedFrom (only : Option IpSocketAddress) (fields : List Field) : Type 0 where
+  pub datagrams : List IncomingDatagram
+  pub gives : fields ≡ datagram_values datagrams
+  pub from : AreFrom only datagrams

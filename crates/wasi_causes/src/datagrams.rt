@@ -26,7 +26,7 @@ ghost use Rattle.wasi_steps.specs.declared.step.Step.TheVariants as Step;
 ghost use Rattle.wasi_steps.specs.Reply.{pair_fields, truth_fields};
 ghost use Rattle.wasi_walks.specs.Answered.{Answered, open_udp_at, outgoing_in};
 ghost use Rattle.wasi_causes.specs.Datagrams.{HasItsSocket, HasUdpStreams, IncomingGone, IsReceiving, IsSpent, LacksRoomForBoth, OfIncoming, OfOutgoing, OutgoingGone, PermitsSend, WatchesIncoming, WatchesOutgoing, with_both};
-ghost use Rattle.wasi_causes.specs.SendCauses.{ReceivesSome, SendsSome, UdpReceiveRefusal, UdpSendRefusal};
+ghost use Rattle.wasi_causes.specs.SendCauses.{ReceivedFrom, ReceivesSome, SendsSome, UdpReceiveRefusal, UdpSendRefusal};
 ghost use Rattle.wasi_causes.specs.StreamCauses.{HasNewStreams, MakesStreams, StreamsStand, UdpStreamRefusal};
 ghost use Rattle.wasi_causes.specs.Udp.{OfUdp, RefusedOfUdp};
 
@@ -145,7 +145,7 @@ pub fn sends_have_causes()
 /// code by which the receive in progress failed, which wasn't taken yet, and asks nothing then; or, with none in progress, with
 /// the code by which the one that it began ended: `invalid-state` of a socket that isn't bound, or the code that it was answered.
 /// After one that is refused none is in progress and the code is taken; the machine is as it was in all else, but that a socket
-/// that was found bound is known to be.
+/// that was found bound is known to be. In a run each datagram is from the remote address that the stream keeps, where it keeps one.
 pub fn receives_have_causes()
     ensures datagrams { (contexts : List WasiSocketsCtx) (m : Machine) (line ctx incoming most : ℕ) (fields : List Field) (entries : List Entry) (after : Machine)
         → Answered contexts m line (Step.UdpReceive ctx incoming most) entries (Reply.Ok fields) after
@@ -153,6 +153,9 @@ pub fn receives_have_causes()
     ensures cause { (contexts : List WasiSocketsCtx) (m : Machine) (line ctx incoming most : ℕ) (entries : List Entry) (word : CodeWord) (after : Machine)
         → Answered contexts m line (Step.UdpReceive ctx incoming most) entries (Reply.Err word) after
         → OfIncoming m (incoming_at m incoming) (λ place o inc. UdpReceiveRefusal m (next_name (first_ids line)) place o inc entries word after) }
+    ensures from { (contexts : List WasiSocketsCtx) (steps : List Step) (log : List Entry) (replies : List Reply) (m : Machine) (line ctx incoming most : ℕ) (fields : List Field) (entries : List Entry) (after : Machine)
+        → Left (run contexts [] first_state 1 steps) log (Give (replies, m)) → Answered contexts m line (Step.UdpReceive ctx incoming most) entries (Reply.Ok fields) after
+        → OfIncoming m (incoming_at m incoming) (λ place o inc. ReceivedFrom inc.remote fields) }
 {}
 
 /// A pollable of an outgoing datagram stream is ready exactly where none of its datagrams is sent in the background. That asks
