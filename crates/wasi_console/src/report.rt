@@ -1,9 +1,14 @@
 //! What a program prints on standard error when it stops: its status, for programs, and what is wrong, for a person.
 
+ghost use Rattle.std.specs.Prelude.{◌≡◌};
+ghost use Rattle.std.specs.Process.{exit_status};
+ghost use Rattle.wasi_program.specs.Program.{number_of};
+ghost use Rattle.wasi_program.specs.Choices.{IsEndOfPrint};
+
 use crate::lines::Front;
 use std::process::ExitCode;
 use std::{io, str};
-use wasi_program::Status;
+use wasi_program::{Status, scenario_path};
 use wasi_steps::STEP_FORMS;
 
 /// What a line of a scenario may be.
@@ -14,23 +19,29 @@ const SCENARIO_LINES: &str =
 const SCRIPT_LINES: &str =
     "a call such as `0 network`, `turn` or `poll 3`, with the number of a context in front where it is a guest's, ended by a newline (--help lists the calls)";
 
-/// Writes texts to standard output, one after another.
-pub fn print<R: Print + Eprint>(rt: &R, texts: &[&str]) -> ExitCode {
+/// Writes texts to standard output, one after another, and ends with status 0, or with that of a failed write.
+pub fn print<R: Print + Eprint>(rt: &R, texts: &[&str]) -> ExitCode
+    ensures { IsEndOfPrint (exit_status result) }
+{
     for text in texts {
         if rt.print(text).is_err() {
             return end(rt, Status::WriteFault, 0, None);
         }
     }
-    ExitCode::SUCCESS
+    ExitCode::from(Status::Ok.number())
 }
 
 /// Prints the status on standard error, unless it is Ok, with the line of a bad scenario or script; then, on a line of its own,
 /// what is wrong in a person's words, with the front of that line. Returns the status as the program's.
-pub fn end<R: Eprint>(rt: &R, status: Status, line: u32, front: Option<Front>) -> ExitCode {
+pub fn end<R: Eprint>(rt: &R, status: Status, line: u32, front: Option<Front>) -> ExitCode
+    ensures { exit_status result ≡ number_of status }
+{
     let number = status.number();
     let printed = match status {
-        Status::Ok => return ExitCode::SUCCESS,
-        Status::BadScenario => bad_line(rt, number, "scenario.txt", line, front, SCENARIO_LINES),
+        Status::Ok => Ok(()),
+        Status::BadScenario => {
+            bad_line(rt, number, scenario_path(), line, front, SCENARIO_LINES)
+        }
         Status::BadStep => {
             let expected = expected_of(&front);
             bad_line(rt, number, "the script", line, front, expected)

@@ -1,3 +1,4 @@
 pub mod Program
 pub mod Parsed
 pub mod Completeness
+pub mod Choices
