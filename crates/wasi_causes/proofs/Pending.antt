@@ -30,13 +30,13 @@ use Rattle.wasi_causes.proofs.pollables.Live.{block_live, list_live, ready_free}
 use Rattle.wasi_causes.proofs.pollables.Looks.{WatchedStay, missed_before, missed_one}
 use Rattle.wasi_causes.specs.PollableCalls.{AllPollables, BeginsToWait, ForNone, NoPollable}
 use Rattle.wasi_causes.proofs.streams.Kept.{PartsThere}
-use Rattle.wasi_causes.proofs.streams.Live.{HasInput, IsWellOn, StandsWell, begun_live, blocked_live, check_free, flush_free, free_well, read_free, skip_free, splice_free, splice_live, write_free}
+use Rattle.wasi_causes.proofs.streams.Live.{HasInput, begun_live, blocked_live, check_free, flush_free, free_well, read_free, skip_free, splice_free, splice_live, write_free}
 use Rattle.wasi_causes.proofs.streams.Missing.{missed_input, missed_output}
 use Rattle.wasi_causes.proofs.tables.Meets.{Meets, both, ends, met, onto, shifted, widen}
 use Rattle.wasi_causes.proofs.tables.Parts.{by_left}
 use Rattle.wasi_causes.proofs.tables.Steps.{Answers, IsBusy, IsHeldUp, IsItsOwn, answers}
 use Rattle.wasi_causes.specs.Blocking.{BlockingCallStands, IsBlocking, SplicesOn}
-use Rattle.wasi_causes.specs.Datagrams.{HasItsSocket, IsUdpStream}
+use Rattle.wasi_causes.specs.Datagrams.{HasItsHandle, HasItsSocket, IsUdpStream, PendingHandleIsLive}
 use Rattle.wasi_causes.specs.Outcomes.{Outcome}
 use Rattle.wasi_causes.specs.Outcomes.{InputIsThere}
 use Rattle.wasi_causes.proofs.InputHandles.{HasInputs, first_inputs, input_streams_there, line_inputs}
@@ -174,18 +174,18 @@ module _ (contexts : List WasiSocketsCtx) (line : ℕ) (origin : Step) (plain : 
   stays_none m i = gives_more (λ fs done. NoStreamsStand done.1.store.standing × ⊤) (λ fs done. NoStreamsStand done.1.store.standing) (λ fs done k. k.0) [] (machine_asks contexts m line origin) ((machine_walks line origin {law = none_pending} none_begins m m.store.standing refl).along [] (i, tt))
 
 -- == of a step
-of_none : (m : Machine) (o : Option Standing) → NoStreamsStand o → IfSome o (λ s. IsWellOn m s.call)
+of_none : (m : Machine) (o : Option Standing) → NoStreamsStand o → IfSome o (λ s. HasItsHandle m s.call)
 of_none m None i = tt
 of_none m (Some s) i = by_call s.call i
   where
-    by_call : (call : StandingCall) → NoStreamsIn call → IsWellOn m call
+    by_call : (call : StandingCall) → NoStreamsIn call → HasItsHandle m call
     by_call (StandingCall.UdpConnect place handle) i = absurd i
     by_call (StandingCall.Blocking call) i = absurd i
     by_call _ i = tt
 
 -- what is on its streams is so where these are still there
 module _ (m after : Machine) (table : after.table ≡ m.table) (there : PartsThere m.store.records after.store.records) (stay : WatchedStay m.store.records after.store.records) where
-  still_there : (call : BlockingCall) → IsWellOn m (StandingCall.Blocking call) → IsWellOn after (StandingCall.Blocking call)
+  still_there : (call : BlockingCall) → HasItsHandle m (StandingCall.Blocking call) → HasItsHandle after (StandingCall.Blocking call)
   still_there (blocking.Read input len) k = (λ missing. k.0 (missed_input m after table there input missing), tt)
   still_there (blocking.Skip input len) k = (λ missing. k.0 (missed_input m after table there input missing), tt)
   still_there (blocking.Write output rest) k = (λ missing. k.0 (missed_output m after table there output missing), k.1)
@@ -195,20 +195,20 @@ module _ (m after : Machine) (table : after.table ≡ m.table) (there : PartsThe
   still_there (blocking.Poll ps) k = (λ missing. k.0 (missed_one m after stay table ps missing), tt)
   still_there (blocking.Splice to from len) k = (λ missing. k.0 (elim missing [ inl none ↦ inl (missed_output m after table there to none) | inr none ↦ inr (missed_input m after table there from none) ]), tt)
 
-  still_on : (call : StandingCall) → IsWellOn m call → IsWellOn after call
+  still_on : (call : StandingCall) → HasItsHandle m call → HasItsHandle after call
   still_on (StandingCall.UdpConnect place handle) k = subst (λ t. udp_of (kind_at t handle) ≡ Some place) (sym table) k
   still_on (StandingCall.Blocking call) k = still_there call k
   still_on _ k = tt
 
-  of_same : (o : Option Standing) → IfSome o (λ s. IsWellOn m s.call) → IfSome o (λ s. IsWellOn after s.call)
+  of_same : (o : Option Standing) → IfSome o (λ s. HasItsHandle m s.call) → IfSome o (λ s. HasItsHandle after s.call)
   of_same None k = tt
   of_same (Some s) k = still_on s.call k
 
-  same_well : after.store.standing ≡ m.store.standing → StandsWell m → StandsWell after
-  same_well standing well = subst (λ (o : Option Standing). IfSome o (λ s. IsWellOn after s.call)) (sym standing) (of_same m.store.standing well)
+  same_well : after.store.standing ≡ m.store.standing → PendingHandleIsLive m → PendingHandleIsLive after
+  same_well standing well = subst (λ (o : Option Standing). IfSome o (λ s. HasItsHandle after s.call)) (sym standing) (of_same m.store.standing well)
 
-same_quiet : (m after : Machine) → after ≡ m → StandsWell m → StandsWell after
-same_quiet m after same well = subst StandsWell (sym same) well
+same_quiet : (m after : Machine) → after ≡ m → PendingHandleIsLive m → PendingHandleIsLive after
+same_quiet m after same well = subst PendingHandleIsLive (sym same) well
 
 -- what is watched stays there in a turn
 turn_stays : (m after : Machine) → ((k : ℕ) → IsSome (tcp2_at m.store.records k) → IsSome (tcp2_at after.store.records k)) → ((k : ℕ) → IsSome (open_at m.store.records k) → IsSome (open_at after.store.records k))
@@ -253,50 +253,50 @@ module _ (contexts : List WasiSocketsCtx) (m : Machine) (line : ℕ) (inputs : (
   nothing_pending s guest free (Some c) e = absurd (free (rw e refl, guest))
 
   -- then a call of a guest leaves it well
-  by_guest : (s : Step) (after : Machine) → IsSome (context_of s) → (MayPend s → ⊥) → (IsHeldUp contexts m line s → ⊥) → KeepsNone s after → StandsWell after
+  by_guest : (s : Step) (after : Machine) → IsSome (context_of s) → (MayPend s → ⊥) → (IsHeldUp contexts m line s → ⊥) → KeepsNone s after → PendingHandleIsLive after
   by_guest s after guest plain free none = of_none after after.store.standing (none (plain, subst NoStreamsStand (sym (nothing_pending s guest free m.store.standing refl)) tt))
 
   -- a call that blocks is continued by a poll
   module _ (n : ℕ) (es : List Entry) (r : Reply) (after : Machine) (row : Outcome contexts m line (step.Poll n) es r after) where
-    its_input : (call : BlockingCall) → IsWellOn m (StandingCall.Blocking call) → HasInput (nothing_stands m) call
+    its_input : (call : BlockingCall) → HasItsHandle m (StandingCall.Blocking call) → HasInput (nothing_stands m) call
     its_input (blocking.Splice to from len) k = λ missing. k.0 (inr missing)
     its_input _ k = tt
 
-    polled_blocking : (ids : Ids) (call : BlockingCall) → m.store.standing ≡ Some (standing_as ids (StandingCall.Blocking call)) → ids.line ≡ n → IsWellOn m (StandingCall.Blocking call) → StandsWell after
+    polled_blocking : (ids : Ids) (call : BlockingCall) → m.store.standing ≡ Some (standing_as ids (StandingCall.Blocking call)) → ids.line ≡ n → HasItsHandle m (StandingCall.Blocking call) → PendingHandleIsLive after
     polled_blocking ids call stands same on = blocked_live contexts 0 ids (nothing_stands m) call es r after refl on.1 (its_input call on) (row.0.2 0 ids call stands same on.1)
 
     -- another call is still pending
-    polled_pending : r ≡ reply.Pending n → (BlockingCallStands m → ⊥) → StandsWell m → StandsWell after
+    polled_pending : r ≡ reply.Pending n → (BlockingCallStands m → ⊥) → PendingHandleIsLive m → PendingHandleIsLive after
     polled_pending is other well =
         let k = subst (λ (x : Reply). Outcome contexts m line (step.Poll n) es x after) is row in
-        subst (λ (o : Option Standing). IfSome o (λ s. IsWellOn after s.call)) (sym (k.1.1.2 other)) (by_standing m.store.standing other well k.1.1.1)
+        subst (λ (o : Option Standing). IfSome o (λ s. HasItsHandle after s.call)) (sym (k.1.1.2 other)) (by_standing m.store.standing other well k.1.1.1)
       where
-        by_call : (call : StandingCall) → (IsBlocking call → ⊥) → IsWellOn m call → after.table ≡ m.table → IsWellOn after call
+        by_call : (call : StandingCall) → (IsBlocking call → ⊥) → HasItsHandle m call → after.table ≡ m.table → HasItsHandle after call
         by_call (StandingCall.UdpConnect place handle) none k table = subst (λ t. udp_of (kind_at t handle) ≡ Some place) (sym table) k
         by_call (StandingCall.Blocking call) none k table = absurd (none tt)
         by_call _ none k table = tt
 
-        by_standing : (o : Option Standing) → (IsSomeAnd o (λ s. IsBlocking s.call) → ⊥) → IfSome o (λ s. IsWellOn m s.call) → after.table ≡ m.table → IfSome o (λ s. IsWellOn after s.call)
+        by_standing : (o : Option Standing) → (IsSomeAnd o (λ s. IsBlocking s.call) → ⊥) → IfSome o (λ s. HasItsHandle m s.call) → after.table ≡ m.table → IfSome o (λ s. HasItsHandle after s.call)
         by_standing None none k table = tt
         by_standing (Some s) none k table = by_call s.call none k table
 
-    polled_other : (BlockingCallStands m → ⊥) → stands_as m.store.standing n ≡ true → StandsWell m → StandsWell after
+    polled_other : (BlockingCallStands m → ⊥) → stands_as m.store.standing n ≡ true → PendingHandleIsLive m → PendingHandleIsLive after
     polled_other other stands well = elim (row.0.1 stands) [ inl is ↦ polled_pending is other well | inr free ↦ free_well after free ]
 
     by_line : (s : Standing) → m.store.standing ≡ Some s → stands_as m.store.standing n ≡ true → s.ids.line ≡ n
     by_line s e stands = let same : (s.ids.line == n) ≡ true = ap (λ (o : Option Standing). stands_as o n) (sym e) ∙ stands in eqb-true s.ids.line n same
 
-    polled_as : (o : Option Standing) → m.store.standing ≡ o → stands_as m.store.standing n ≡ true → StandsWell m → StandsWell after
+    polled_as : (o : Option Standing) → m.store.standing ≡ o → stands_as m.store.standing n ≡ true → PendingHandleIsLive m → PendingHandleIsLive after
     polled_as None e stands well = let same : stands_as None n ≡ true = ap (λ (o : Option Standing). stands_as o n) (sym e) ∙ stands in absurd (cc)
     polled_as (Some s) e stands well = by_call s.call refl
       where
         no_blocking : (call : StandingCall) → s.call ≡ call → (IsBlocking call → ⊥) → BlockingCallStands m → ⊥
         no_blocking call is none stands = none (subst IsBlocking is (subst (λ (o : Option Standing). IsSomeAnd o (λ s. IsBlocking s.call)) e stands))
 
-        by_call : (call : StandingCall) → s.call ≡ call → StandsWell after
+        by_call : (call : StandingCall) → s.call ≡ call → PendingHandleIsLive after
         by_call (StandingCall.Blocking call) is =
             let its : m.store.standing ≡ Some (standing_as s.ids (StandingCall.Blocking call)) = e ∙ ap (λ (c : StandingCall). Some (standing_as s.ids c)) is in
-            let on : IsWellOn m (StandingCall.Blocking call) = subst (λ (o : Option Standing). IfSome o (λ s. IsWellOn m s.call)) its well in
+            let on : HasItsHandle m (StandingCall.Blocking call) = subst (λ (o : Option Standing). IfSome o (λ s. HasItsHandle m s.call)) its well in
             polled_blocking s.ids call its (by_line s e stands) on
         by_call (StandingCall.Bind place) is = polled_other (no_blocking (StandingCall.Bind place) is (λ k. k)) stands well
         by_call (StandingCall.Listen place) is = polled_other (no_blocking (StandingCall.Listen place) is (λ k. k)) stands well
@@ -306,45 +306,45 @@ module _ (contexts : List WasiSocketsCtx) (m : Machine) (line : ℕ) (inputs : (
         by_call (StandingCall.UdpConnect place handle) is = polled_other (no_blocking (StandingCall.UdpConnect place handle) is (λ k. k)) stands well
         by_call (StandingCall.DropOutgoing place) is = polled_other (no_blocking (StandingCall.DropOutgoing place) is (λ k. k)) stands well
 
-    polled_well : StandsWell m → StandsWell after
+    polled_well : PendingHandleIsLive m → PendingHandleIsLive after
     polled_well well = by_stands (stands_as m.store.standing n) refl
       where
-        by_stands : (b : Bool) → stands_as m.store.standing n ≡ b → StandsWell after
+        by_stands : (b : Bool) → stands_as m.store.standing n ≡ b → PendingHandleIsLive after
         by_stands true e = polled_as m.store.standing refl e well
         by_stands false e = let k = subst (λ (x : Reply). Outcome contexts m line (step.Poll n) es x after) (row.0.0.1 e) row in same_quiet m after k.1.1.1 well
 
   -- a cancel leaves nothing pending, or all as it was
-  cancelled_well : (n : ℕ) (es : List Entry) (r : Reply) (after : Machine) → Outcome contexts m line (step.Cancel n) es r after → StandsWell m → StandsWell after
+  cancelled_well : (n : ℕ) (es : List Entry) (r : Reply) (after : Machine) → Outcome contexts m line (step.Cancel n) es r after → PendingHandleIsLive m → PendingHandleIsLive after
   cancelled_well n es r after row well = by_stands (stands_as m.store.standing n) refl
     where
-      by_stands : (b : Bool) → stands_as m.store.standing n ≡ b → StandsWell after
+      by_stands : (b : Bool) → stands_as m.store.standing n ≡ b → PendingHandleIsLive after
       by_stands true e = let k = subst (λ (x : Reply). Outcome contexts m line (step.Cancel n) es x after) (row.0.1.1 e) row in free_well after k.1.1.1
       by_stands false e = let k = subst (λ (x : Reply). Outcome contexts m line (step.Cancel n) es x after) (row.0.0.1 e) row in same_quiet m after k.1.1.1 well
 
   -- and so does each step
   module _ (es : List Entry) (r : Reply) (after : Machine) where
     abbrev WellAfter : Step → Type 0
-    WellAfter s = (IsHeldUp contexts m line s → ⊥) → Outcome contexts m line s es r after → StandsWell after
+    WellAfter s = (IsHeldUp contexts m line s → ⊥) → Outcome contexts m line s es r after → PendingHandleIsLive after
 
     abbrev FreeAfter : Step → Type 0
     FreeAfter s = (IsHeldUp contexts m line s → ⊥) → Answered contexts m line s es r after → after.store.standing ≡ None
 
-    spliced_well : (c to from len : ℕ) → m.store.standing ≡ None → Answered contexts m line (step.BlockingSplice c to from len) es r after → (reads : Bool) → is_readable (kind_at m.table from) ≡ reads → SplicesOn contexts m c (first_ids line) to from len es r after → StandsWell after
+    spliced_well : (c to from len : ℕ) → m.store.standing ≡ None → Answered contexts m line (step.BlockingSplice c to from len) es r after → (reads : Bool) → is_readable (kind_at m.table from) ≡ reads → SplicesOn contexts m c (first_ids line) to from len es r after → PendingHandleIsLive after
     spliced_well c to from len none w true e goes = splice_live contexts c (first_ids line) m to from len es r after none (inputs from e) goes
     spliced_well c to from len none w false e goes =
         same_quiet m after (met {Row = λ es done. done.1 ≡ m} {a = (r, after)} (onto _ (subst (λ (b : Bool). Meets (λ es done. done.1 ≡ m) [] (blocking_splice_when m (first_ids line) to from len (is_writable (kind_at m.table to)) b)) (sym e) (unread m (first_ids line) to from len (is_writable (kind_at m.table to)))))
         (subst (λ (o : Option Standing). Left (asks_while contexts m line (step.BlockingSplice c to from len) o) es (Give (r, after))) none w)) (free_well m none)
 
     -- a wait for several
-    begun_wait : (ps : List ℕ) → m.store.standing ≡ None → BeginsToWait m line ps es r after → StandsWell after
+    begun_wait : (ps : List ℕ) → m.store.standing ≡ None → BeginsToWait m line ps es r after → PendingHandleIsLive after
     begun_wait ps none goes = of_wait none goes
       where
-        of_wait : {gs : List Entry} {said : Reply} {now : Machine} → m.store.standing ≡ None → BeginsToWait m line ps gs said now → StandsWell now
+        of_wait : {gs : List Entry} {said : Reply} {now : Machine} → m.store.standing ≡ None → BeginsToWait m line ps gs said now → PendingHandleIsLive now
         of_wait none (ForNone e) = free_well m none
         of_wait none (NoPollable some not) = free_well m none
         of_wait none (AllPollables gs said now some all k) = list_live m (first_ids line) ps First gs said now none k
 
-    well_after : (s : Step) → (IsHeldUp contexts m line s → ⊥) → Answered contexts m line s es r after → Outcome contexts m line s es r after → KeepsNone s after → StandsWell m → StandsWell after
+    well_after : (s : Step) → (IsHeldUp contexts m line s → ⊥) → Answered contexts m line s es r after → Outcome contexts m line s es r after → KeepsNone s after → PendingHandleIsLive m → PendingHandleIsLive after
     well_after step.Turn free w row none well =
         same_well m after row.0.handles (record { streams = row.0.streams; inputs = λ k h. ap (λ o. is_some o) (row.0.pipes k).0 ∙ h; outputs = λ k h. ap (λ o. is_some o) (row.0.pipes k).1 ∙ h }) (turn_stays m after row.0.sockets row.0.opens row.0.streams) row.0.pending well
     well_after (step.Poll n) free w row none well = polled_well n es r after row well
@@ -369,18 +369,18 @@ module _ (contexts : List WasiSocketsCtx) (m : Machine) (line : ℕ) (inputs : (
     well_after s free w row none well = by_guest s after refl (λ h. elim h [ inl k ↦ k | inr k ↦ elim k [ inl j ↦ j | inr j ↦ j ] ]) free none
 
   -- whatever it is answered
-  by_answer : (s : Step) (es : List Entry) (r : Reply) (after : Machine) → Answered contexts m line s es r after → Answers contexts m line s es r after → KeepsNone s after → StandsWell m → StandsWell after
+  by_answer : (s : Step) (es : List Entry) (r : Reply) (after : Machine) → Answered contexts m line s es r after → Answers contexts m line s es r after → KeepsNone s after → PendingHandleIsLive m → PendingHandleIsLive after
   by_answer s _ _ _ w (IsBusy held) none well = well
   by_answer s _ _ _ w (IsItsOwn es r after free row) none well = well_after es r after s free w row none well
 
   -- and whatever is told
-  lasts : (s : Step) → Meets (λ es done. StandsWell m → StandsWell done.1) [] (machine_asks contexts m line s)
+  lasts : (s : Step) → Meets (λ es done. PendingHandleIsLive m → PendingHandleIsLive done.1) [] (machine_asks contexts m line s)
   lasts s = by_left (machine_asks contexts m line s) (λ es done w. by_answer s es done.0 done.1 w (answers contexts m line s es done.0 done.1 w) (λ p. met {a = done} (record { along = stays_none contexts line s p.0 m p.1 }) w))
 
 -- == of a run
 -- what is pending is well, and each live input is there
 abbrev pub Holds : Machine → Type 0
-Holds m = StandsWell m × (HasInputs m × HasPipes m)
+Holds m = PendingHandleIsLive m × (HasInputs m × HasPipes m)
 
 line_holds : (contexts : List WasiSocketsCtx) (line : ℕ) (s : Step) (m : Machine) (es : List Entry) → Holds m → Allows Anything (λ fs done. Holds done.1) es (machine_asks contexts m line s)
 line_holds contexts line s m es h =
@@ -391,13 +391,13 @@ pub runs_hold : (contexts : List WasiSocketsCtx) (steps : List Step) (es : List 
 runs_hold contexts steps es replies m w = (run_ends contexts Anything (λ line fs now. Holds now) (λ line s now fs h. line_holds contexts line s now fs h) (tt, (first_inputs, first_pipes)) steps es replies m w).1
 
 -- so datagram streams that are pending have their handle
-pub runs_keep_sockets : (m : Machine) → StandsWell m → IfSome m.store.standing (λ s. HasItsSocket m s.call)
+pub runs_keep_sockets : (m : Machine) → PendingHandleIsLive m → IfSome m.store.standing (λ s. HasItsSocket m s.call)
 runs_keep_sockets m well = by_standing m.store.standing well
   where
-    by_call : (call : StandingCall) → IsWellOn m call → HasItsSocket m call
+    by_call : (call : StandingCall) → HasItsHandle m call → HasItsSocket m call
     by_call (StandingCall.UdpConnect place handle) k = k
     by_call _ k = tt
 
-    by_standing : (o : Option Standing) → IfSome o (λ s. IsWellOn m s.call) → IfSome o (λ s. HasItsSocket m s.call)
+    by_standing : (o : Option Standing) → IfSome o (λ s. HasItsHandle m s.call) → IfSome o (λ s. HasItsSocket m s.call)
     by_standing None k = tt
     by_standing (Some s) k = by_call s.call k

@@ -52,7 +52,6 @@ use Rattle.wasi_steps.specs.declared.step.Step.TheVariants as step
 use Rattle.wasi_tcp.specs.declared.socket.TcpState.TheVariants as state
 use Rattle.wasi_causes.proofs.Pending.{Holds, inputs_are_there, runs_hold, runs_keep_sockets}
 use Rattle.wasi_causes.proofs.PipeHandles.{HasPipes, pipe_in_of, pipe_out_of}
-use Rattle.wasi_causes.proofs.streams.Live.{IsWellOn, StandsWell}
 use Rattle.wasi_world.specs.declared.ids.Ids.{Ids}
 use Rattle.wasi_host.specs.declared.blocking.BlockingCall.{BlockingCall}
 use Rattle.wasi_host.specs.Polling.{are_pollables}
@@ -64,7 +63,7 @@ use Rattle.wasi_causes.specs.PollableCalls.{WatchedAreThere}
 use Rattle.wasi_host.specs.declared.kind.PlainInput.TheVariants as plain_input
 use Rattle.wasi_host.specs.declared.kind.PlainOutput.TheVariants as plain_output
 use Rattle.wasi_causes.proofs.Steady.{AsksToConnect, AsksToListen, IsThere, IsUdpThere, Steady, lookup_record_of, runs_are_steady}
-use Rattle.wasi_causes.specs.Datagrams.{HasItsSocket, LacksRoomForStreams, PendingHandleIsLive}
+use Rattle.wasi_causes.specs.Datagrams.{HasItsHandle, HasItsSocket, LacksRoomForStreams, PendingHandleIsLive}
 use Rattle.wasi_host.specs.declared.kind.Kind.TheVariants.{Incoming, Outgoing, PlainInput, PlainOutput, Network, ErrorValue}
 use Rattle.wasi_world.specs.declared.outcome.TrapKind.TheVariants.{Capacity, StreamsAlive, EmptyList, TooLong}
 use Rattle.wasi_walks.proofs.fits.Records.{FitConnecting}
@@ -187,8 +186,8 @@ module _ (m : Machine) (i : Steady m) where
       by_place (Some place) q k = let there : is_some (lookup_at m.store.records place) ≡ true = i.lookups handle place (its_record (kind_at m.table handle) place q) in let gone : is_some (lookup_at m.store.records place) ≡ false = ap (λ (o : Option NameLookup). is_some o) k in absurd (cc)
 
 -- a pending call is in progress in its record, if it is of one, and on its streams
-module _ (m : Machine) (f : Fit (Over m)) (well : StandsWell m) where
-  on_nothing : (call : StandingCall) → FitCall m.store.records call → IsWellOn m call → IsOnNothing m call → ⊥
+module _ (m : Machine) (f : Fit (Over m)) (well : PendingHandleIsLive m) where
+  on_nothing : (call : StandingCall) → FitCall m.store.records call → HasItsHandle m call → IsOnNothing m call → ⊥
   on_nothing (standing.Bind place) h its none = let at = h.at in cc
   on_nothing (standing.Listen place) h its none = let at = h.at in cc
   on_nothing (standing.DropOutput place) h its none = none
@@ -206,8 +205,8 @@ module _ (m : Machine) (f : Fit (Over m)) (well : StandsWell m) where
       by_standing None e none = none
       by_standing (Some s) e none = by_line (s.ids.line == n) none
         where
-          its_call : IsWellOn m s.call
-          its_call = subst (λ (o : Option Standing). IfSome o (λ s. IsWellOn m s.call)) e well
+          its_call : HasItsHandle m s.call
+          its_call = subst (λ (o : Option Standing). IfSome o (λ s. HasItsHandle m s.call)) e well
 
           by_line : (same : Bool) → IsSomeAnd (if same then Some s else None) (λ c. IsOnNothing m c.call) → ⊥
           by_line true on = on_nothing s.call (f.stands s e) its_call on
@@ -227,7 +226,7 @@ module _ (contexts : List WasiSocketsCtx) (steps : List Step) (es : List Entry) 
   run_holds : Holds m
   run_holds = runs_hold contexts steps es replies m w
 
-  run_well : StandsWell m
+  run_well : PendingHandleIsLive m
   run_well = run_holds.0
 
   pub run_live : PendingHandleIsLive m

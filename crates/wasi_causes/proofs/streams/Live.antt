@@ -1,5 +1,5 @@
 -- What calls of streams leave pending: nothing, or a call that is on streams which are there.
-use Rattle.wasi_causes.proofs.Words.{◌≡◌, ◌∙◌, ℕ, ⊤, arith, List, [], ◌∷◌, Option, Some, None, Result, Ok, Err, false, sym, subst, ap, inl, inr, Answered, CallStop, Entry, Give, IfSome, Left, Machine, OfStreams, OpId, Reply, Standing, StandingCall, Step, Streams, Tcp2Socket, WasiSocketsCtx, asks_while, bytes_fields, input_at, length, no_fields, number_fields, own_of, record_in, step_asks, streams_in}
+use Rattle.wasi_causes.proofs.Words.{◌≡◌, ◌∙◌, ℕ, ⊤, arith, List, [], ◌∷◌, Option, Some, None, Result, Ok, Err, false, sym, subst, ap, inl, inr, Answered, CallStop, Entry, Give, IfSome, Left, Machine, OfStreams, OpId, Reply, Standing, Step, Streams, Tcp2Socket, WasiSocketsCtx, asks_while, bytes_fields, input_at, length, no_fields, number_fields, own_of, record_in, step_asks, streams_in}
 use Rattle.std.specs.Prelude.{◌≤◌, drop, suc, take, zero}
 use Rattle.wasi_world.specs.declared.ids.Ids.{Ids}
 use Rattle.wasi_host.specs.declared.blocking.BlockingCall.{BlockingCall}
@@ -22,22 +22,16 @@ use Rattle.wasi_causes.proofs.tables.Meets.{Meets, met, onto, widen}
 use Rattle.wasi_causes.proofs.tables.Steps.{its_own, while_free}
 use Rattle.wasi_causes.specs.Blocking.{BeginsToWrite, BlocksAs, Finishes, FlushesOn, IsShort, LooksInto, LooksLast, SplicesOn, WritesOn}
 use Rattle.wasi_causes.specs.Blocking as on
-use Rattle.wasi_causes.specs.Datagrams.{HasItsHandle}
+use Rattle.wasi_causes.specs.Datagrams.{HasItsHandle, PendingHandleIsLive}
 use Rattle.wasi_causes.specs.Outcomes.{Reads}
 use Rattle.wasi_causes.specs.Parts as parts
 use Rattle.wasi_causes.specs.Parts.{Skips, Splices, counted_reply}
 use Rattle.wasi_causes.specs.Plain.{OfInputPipe}
 
 -- == what is pending
--- what it is on is there
-abbrev pub IsWellOn : Machine → StandingCall → Type 0
-IsWellOn m call = HasItsHandle m call
-
-abbrev pub StandsWell : Machine → Type 0
-StandsWell m = IfSome m.store.standing (λ s. IsWellOn m s.call)
-
-pub free_well : (m : Machine) → m.store.standing ≡ None → StandsWell m
-free_well m free = subst (λ (o : Option Standing). IfSome o (λ s. IsWellOn m s.call)) (sym free) tt
+-- where nothing is, nothing lacks what it is on
+pub free_well : (m : Machine) → m.store.standing ≡ None → PendingHandleIsLive m
+free_well m free = subst (λ (o : Option Standing). IfSome o (λ s. HasItsHandle m s.call)) (sym free) tt
 
 -- the input of a splice is there
 abbrev pub HasInput : Machine → BlockingCall → Type 0
@@ -161,34 +155,34 @@ module _ (contexts : List WasiSocketsCtx) where
     abbrev line : ℕ
     line = ids.line
 
-    read_live : (m : Machine) (input len : ℕ) (es : List Entry) (r : Reply) (after : Machine) → m.store.standing ≡ None → BlocksAs contexts m c ids (blocking.Read input len) es r after → StandsWell after
+    read_live : (m : Machine) (input len : ℕ) (es : List Entry) (r : Reply) (after : Machine) → m.store.standing ≡ None → BlocksAs contexts m c ids (blocking.Read input len) es r after → PendingHandleIsLive after
     read_live m input len _ _ _ free (on.NoInput missing) = free_well m free
     read_live m input len _ _ _ free (on.NotReady es look) = (waits_there m input (own_of line) es look, tt)
     read_live m input len _ _ _ free (on.NoneCame es fs look w some) = (reads_there m input line len fs (bytes_fields []) m (its_own contexts m line (step.Read c input len) fs (reply.Ok (bytes_fields [])) m w (λ e. cc)).1.1, tt)
     read_live m input len _ _ _ free (on.AsRead es fs r after look w other) = free_well after (read_free m free line c fs r after input len w)
 
-    skip_live : (m : Machine) (input len : ℕ) (es : List Entry) (r : Reply) (after : Machine) → m.store.standing ≡ None → BlocksAs contexts m c ids (blocking.Skip input len) es r after → StandsWell after
+    skip_live : (m : Machine) (input len : ℕ) (es : List Entry) (r : Reply) (after : Machine) → m.store.standing ≡ None → BlocksAs contexts m c ids (blocking.Skip input len) es r after → PendingHandleIsLive after
     skip_live m input len _ _ _ free (on.NoInput missing) = free_well m free
     skip_live m input len _ _ _ free (on.NotReady es look) = (waits_there m input (own_of line) es look, tt)
     skip_live m input len _ _ _ free (on.NoneCame es fs look w some) = let k = (while_free contexts m line (step.Skip c input len) free fs (reply.Ok (number_fields 0)) m w).0 free in (given_there m input line c len 0 fs k.given m k.reads k.counts, tt)
     skip_live m input len _ _ _ free (on.AsRead es fs r after look w other) = free_well after (skip_free m free line c input len fs r after ((while_free contexts m line (step.Skip c input len) free fs r after w).0 free))
 
-    flush_live : (m : Machine) (output : ℕ) (es : List Entry) (r : Reply) (after : Machine) → m.store.standing ≡ None → FlushesOn contexts m c ids output es r after → StandsWell after
+    flush_live : (m : Machine) (output : ℕ) (es : List Entry) (r : Reply) (after : Machine) → m.store.standing ≡ None → FlushesOn contexts m c ids output es r after → PendingHandleIsLive after
     flush_live m output _ _ _ free (on.FlushGivesNone es r after w none) = free_well after (flush_free m free line c es r after output w)
     flush_live m output _ _ _ free (on.LookGivesNone es r after v w none) = free_well after (check_free m free line c es r after output w)
     flush_live m output _ _ _ free (on.StillWrites es after v w) = (output_left m free line c output 0 es after w, tt)
     flush_live m output _ _ _ free (on.IsFlushed es n after v w) = free_well after (check_free m free line c es (reply.Ok (number_fields (suc n))) after output w)
 
-    last_live : (m : Machine) (output : ℕ) (es : List Entry) (r : Reply) (after : Machine) → m.store.standing ≡ None → LooksLast contexts m c ids output es r after → StandsWell after
+    last_live : (m : Machine) (output : ℕ) (es : List Entry) (r : Reply) (after : Machine) → m.store.standing ≡ None → LooksLast contexts m c ids output es r after → PendingHandleIsLive after
     last_live m output _ _ _ free (on.LastGivesNone es r after w none) = free_well after (check_free m free line c es r after output w)
     last_live m output _ _ _ free (on.LastWaits es after w) = (output_left m free line c output 0 es after w, tt)
     last_live m output _ _ _ free (on.AllTaken es n after w) = free_well after (check_free m free line c es (reply.Ok (number_fields (suc n))) after output w)
 
-    finish_live : (m : Machine) (output : ℕ) (es : List Entry) (r : Reply) (after : Machine) → m.store.standing ≡ None → Finishes contexts m c ids output es r after → StandsWell after
+    finish_live : (m : Machine) (output : ℕ) (es : List Entry) (r : Reply) (after : Machine) → m.store.standing ≡ None → Finishes contexts m c ids output es r after → PendingHandleIsLive after
     finish_live m output _ _ _ free (on.EndsByFlush es r after w none) = free_well after (flush_free m free line c es r after output w)
     finish_live m output _ _ _ free (on.EndsByLook es r after w looks) = last_live m output es r after free looks
 
-    write_live : (output : ℕ) (m : Machine) (rest : List ℕ) (es : List Entry) (r : Reply) (after : Machine) → m.store.standing ≡ None → length rest ≤ 4096 → WritesOn contexts c ids output m rest es r after → StandsWell after
+    write_live : (output : ℕ) (m : Machine) (rest : List ℕ) (es : List Entry) (r : Reply) (after : Machine) → m.store.standing ≡ None → length rest ≤ 4096 → WritesOn contexts c ids output m rest es r after → PendingHandleIsLive after
     write_live output _ _ _ _ _ free short (on.NonePermitted m rest es r after w none) = free_well after (check_free m free line c es r after output w)
     write_live output _ _ _ _ _ free short (on.NotYet m rest es after w) = (output_left m free line c output 0 es after w, short)
     write_live output _ _ _ _ _ free short (on.NoneTaken m mid rest n es fs r after w v none) = free_well after (write_free mid (check_free m free line c es (reply.Ok (number_fields (suc n))) mid output w) line c fs r after output (take (suc n) rest) v)
@@ -196,12 +190,12 @@ module _ (contexts : List WasiSocketsCtx) where
         write_live output next (b ∷ more) gs r after (write_free mid (check_free m free line c es (reply.Ok (number_fields (suc n))) mid output w) line c fs (reply.Ok no_fields) next output (take (suc n) rest) v) (still_short (suc n) rest (b ∷ more) left short) goes
     write_live output _ _ _ _ _ free short (on.LastRound m mid next rest n es fs gs r after w v left ends) = finish_live next output gs r after (write_free mid (check_free m free line c es (reply.Ok (number_fields (suc n))) mid output w) line c fs (reply.Ok no_fields) next output (take (suc n) rest) v) ends
 
-    pub begun_live : (m : Machine) (output count : ℕ) (bytes : List ℕ) (es : List Entry) (r : Reply) (after : Machine) → m.store.standing ≡ None → (count ≤ 4096 → length bytes ≤ 4096) → BeginsToWrite contexts m c ids output count bytes es r after → StandsWell after
+    pub begun_live : (m : Machine) (output count : ℕ) (bytes : List ℕ) (es : List Entry) (r : Reply) (after : Machine) → m.store.standing ≡ None → (count ≤ 4096 → length bytes ≤ 4096) → BeginsToWrite contexts m c ids output count bytes es r after → PendingHandleIsLive after
     begun_live m output count bytes _ _ _ free short (on.NoOutput none) = free_well m free
     begun_live m output count bytes _ _ _ free short (on.TooMany is many) = free_well m free
     begun_live m output count bytes _ _ _ free short (on.Begins es r after is few goes) = write_live output m bytes es r after free (short few) goes
 
-    pub splice_live : (m : Machine) (to from len : ℕ) (es : List Entry) (r : Reply) (after : Machine) → m.store.standing ≡ None → (MissesInput m from → ⊥) → SplicesOn contexts m c ids to from len es r after → StandsWell after
+    pub splice_live : (m : Machine) (to from len : ℕ) (es : List Entry) (r : Reply) (after : Machine) → m.store.standing ≡ None → (MissesInput m from → ⊥) → SplicesOn contexts m c ids to from len es r after → PendingHandleIsLive after
     splice_live m to from len _ _ _ free there (on.NoStreams lacks) = free_well m free
     splice_live m to from len _ _ _ free there (on.CheckGivesNone es r after w none) = free_well after (check_free m free line c es r after to w)
     splice_live m to from len _ _ _ free there (on.NoRoomYet es after w) = (ends_left m free line c to from 0 es after there w, tt)
@@ -213,7 +207,7 @@ module _ (contexts : List WasiSocketsCtx) where
     splice_live m to from len _ _ _ free there (on.WritesRead es ls fs gs n count b bytes mid read r after w some look v u) =
         free_well after (write_free read (read_free mid (check_free m free line c es (reply.Ok (number_fields (suc n))) mid to w) line c fs (reply.Ok (bytes_fields (b ∷ bytes))) read from (suc count) v) line c gs r after to (b ∷ bytes) u)
 
-    pub blocked_live : (m : Machine) (call : BlockingCall) (es : List Entry) (r : Reply) (after : Machine) → m.store.standing ≡ None → IsShort call → HasInput m call → BlocksAs contexts m c ids call es r after → StandsWell after
+    pub blocked_live : (m : Machine) (call : BlockingCall) (es : List Entry) (r : Reply) (after : Machine) → m.store.standing ≡ None → IsShort call → HasInput m call → BlocksAs contexts m c ids call es r after → PendingHandleIsLive after
     blocked_live m (blocking.Read input len) es r after free short there goes = read_live m input len es r after free goes
     blocked_live m (blocking.Skip input len) es r after free short there goes = skip_live m input len es r after free goes
     blocked_live m (blocking.Write output rest) es r after free short there goes = write_live output m rest es r after free short goes
