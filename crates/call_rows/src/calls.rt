@@ -11,7 +11,8 @@ use std::test::Fail;
 use wasi_addr::{IpSocketAddress, Ipv4SocketAddress, SocketAddressFamily};
 use wasi_host::{Kind, Outcome, WasiSocketsCtxView, WasiSocketsView, Watched, handles};
 use wasi_p2::tcp;
-use wasi_streams::{Fault, Table};
+use wasi_streams::Fault;
+use wasi_table::Table;
 use wasi_world::{Answer, HandleKind, OpId, ScriptedWorld, Sock, World};
 
 const ADDRESS: IpSocketAddress = IpSocketAddress::Ipv4(Ipv4SocketAddress {

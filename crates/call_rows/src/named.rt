@@ -12,7 +12,7 @@ use wasi_host::{
     Kind, NamedId, SocketError, Store, WasiCtxNamedView, WasiSocketsCtxView, WasiSocketsNamedView,
 };
 use wasi_p2::tcp;
-use wasi_streams::Table;
+use wasi_table::Table;
 use wasi_world::{ScriptedWorld, WasiSocketsCtx};
 
 /// Two contexts: one may use TCP, the other nothing.

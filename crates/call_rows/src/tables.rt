@@ -1,11 +1,11 @@
 //! The table of handles, by its own calls.
 
 ghost use Rattle.std.specs.Prelude.{◌≡◌, OnOk};
-ghost use Rattle.wasi_streams.specs.Table.{with_value};
+ghost use Rattle.wasi_table.specs.Table.{with_value};
 
 use crate::same::same;
 use std::test::Fail;
-use wasi_streams::{Table, TableError};
+use wasi_table::{Table, TableError};
 
 /// The most handles that a table has at a time.
 const MOST: u32 = 65536;

@@ -26,7 +26,7 @@ use Rattle.wasi_host.specs.declared.listening.Listening.TheVariants as listening
 use Rattle.wasi_steps.specs.declared.reply.CodeWord.TheVariants as word
 use Rattle.wasi_steps.specs.declared.reply.Reply.TheVariants as reply
 use Rattle.wasi_steps.specs.declared.step.Step.TheVariants as step
-use Rattle.wasi_streams.specs.Table.{children_of}
+use Rattle.wasi_table.specs.Table.{children_of}
 use Rattle.wasi_tcp.specs.Closing.{close_in}
 use Rattle.wasi_tcp.specs.Job.{finish_in}
 use Rattle.wasi_tcp.specs.declared.listener.Accepting.TheVariants as accepting

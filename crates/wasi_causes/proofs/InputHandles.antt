@@ -3,7 +3,7 @@
 use Rattle.wasi_causes.proofs.Words.{Allows, End, Entry, Err, ErrorCode, Handles, Input, Item, Kind, List, Machine, None, Ok, OpId, Operation, Option, Output, Result, Socket, Some, Step, Tcp2, Tcp2Socket, WasiSocketsCtx}
 use Rattle.wasi_causes.proofs.Words.{[], allows_if, allows_then, ap, bind, created_asks, first_state, gives_more, give_up_asks, inl, inr, is_full, kind_at, length, machine_asks, make_asks, new_asks, new_record, own_of, poll_asks, refl, set_get, side_at, side_of, streams_in, subst, sym, table_parent, told_done, true, turn_asks, with_handle, with_listening, with_record, with_writer, without_handle}
 use Rattle.wasi_causes.proofs.Words.{Done, IsSome, Refused, Waits, ℕ, ⊤, ◌∷◌, ◌∙◌, ◌≡◌, ◌⊎◌}
-use Rattle.wasi_streams.specs.Table.{Slot}
+use Rattle.wasi_table.specs.Table.{Slot}
 use Rattle.wasi_tcp.specs.declared.listener.Accepting.TheVariants as accepting
 use Rattle.wasi_udp.specs.Create.{Create, after_create as udp_after_create, create_cancel_asks}
 use Rattle.wasi_host.specs.Kinds.{has_no_child}

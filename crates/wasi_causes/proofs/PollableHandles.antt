@@ -2,7 +2,7 @@
 -- before.
 use Rattle.wasi_causes.proofs.Words.{Allows, End, Entry, Item, Operation, Err, ErrorCode, ErrorValue, Handles, Input, Kind, List, Machine, None, Ok, OpId, Option, Output, Pollable, Result, Socket, Some, Step, Tcp2, WasiSocketsCtx, Watched}
 use Rattle.wasi_causes.proofs.Words.{allows_if, allows_then, ap, bind, created_asks, first_state, inl, inr, is_full, kind_at, length, machine_asks, make_asks, new_asks, own_of, poll_asks, refl, side_at, side_of, subst, sym, table_parent, told_done, true, turn_asks, give_up_asks, with_handle, without_handle, ℕ, ⊤, ◌∙◌, ◌≡◌, ◌⊎◌}
-use Rattle.wasi_streams.specs.Table.{Slot}
+use Rattle.wasi_table.specs.Table.{Slot}
 use Rattle.wasi_udp.specs.Create.{Create, after_create as udp_after_create, create_cancel_asks}
 use Rattle.wasi_host.specs.Kinds.{has_no_child, watched_by}
 use Rattle.wasi_host.specs.Records.{tcp2_at, udp2_at}

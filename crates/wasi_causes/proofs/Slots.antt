@@ -1,7 +1,7 @@
 -- Live handles: the slot that a handle has, what is under it, and which slots are left where one is made or taken out.
 use Rattle.wasi_causes.proofs.Words.{Bool, Handles, Kind, List, Option, Some, [], ap, eqb-true, false, if◌then◌else◌, inl, inr, refl, subst, sym, table_parent, true, with_handle, ℕ, ◌==◌, ◌∷◌, ◌∙◌, ◌≡◌, ◌⊎◌}
 use Rattle.std.proofs.lemmas.Bool.{eq-eqb}
-use Rattle.wasi_streams.specs.Table.{Slot, children_of, is_child, value_at, without}
+use Rattle.wasi_table.specs.Table.{Slot, children_of, is_child, value_at, without}
 use Rattle.wasi_host.specs.Kinds.{none_in}
 use Rattle.wasi_walks.specs.Licence.{Has}
 use Rattle.wasi_walks.proofs.Lists.{has_split}

@@ -2,7 +2,7 @@
 -- open, since it is closed only where it is dropped, and nothing is live under its handle.
 use Rattle.wasi_causes.proofs.Words.{Allows, End, Entry, Err, ErrorCode, ErrorValue, Handles, Input, Item, Kind, List, Machine, None, Ok, OpId, Operation, Option, Output, Result, Socket, Some, Step, Stop, Tcp2, Tcp2Socket, WasiSocketsCtx}
 use Rattle.wasi_causes.proofs.Words.{allows_if, allows_then, ap, bind, created_asks, first_state, gives_more, give_up_asks, inl, inr, is_full, kind_at, length, machine_asks, make_asks, new_asks, new_record, own_of, poll_asks, refl, side_at, side_of, subst, sym, table_parent, told_done, true, turn_asks, with_handle, with_listening, with_writer, without_handle, ℕ, ⊤, ◌∙◌, ◌≡◌, ◌⊎◌}
-use Rattle.wasi_streams.specs.Table.{Slot}
+use Rattle.wasi_table.specs.Table.{Slot}
 use Rattle.wasi_tcp.specs.declared.listener.Accepting.TheVariants as accepting
 use Rattle.wasi_udp.specs.Create.{Create, after_create as udp_after_create, create_cancel_asks}
 use Rattle.wasi_host.specs.Kinds.{has_no_child, udp_of}

@@ -51,7 +51,7 @@ pub use Rattle.wasi_world.specs.Operation.{receive_front, round, send_front}
 pub use Rattle.wasi_world.specs.Typed.{told_bytes, told_datagram, told_ready, told_taken, told_value}
 pub use Rattle.wasi_world.specs.declared.outcome.TrapKind.{TrapKind}
 pub use Rattle.wasi_world.specs.declared.outcome.TrapKind.TheVariants.{NoSuchHandle}
-pub use Rattle.wasi_streams.proofs.Tables.{value_without, value_without_it}
+pub use Rattle.wasi_table.proofs.Tables.{value_without, value_without_it}
 pub use Rattle.wasi_tcp.specs.Addresses.{after_peer, is_listening, local_asks, local_from, local_where, peer_known, remote_in, still_connected}
 pub use Rattle.wasi_tcp.specs.Addresses.{usable_side}
 pub use Rattle.wasi_tcp.specs.Listen.{IsListen, held_side}

@@ -24,7 +24,7 @@ use Rattle.wasi_steps.specs.declared.reply.Field.{Field}
 use Rattle.wasi_steps.specs.declared.step.Step.{Step}
 use Rattle.wasi_steps.specs.declared.step.Step.TheVariants as step
 use Rattle.wasi_steps.specs.Reply.{number_fields, pair_fields}
-use Rattle.wasi_streams.specs.Table.{is_full}
+use Rattle.wasi_table.specs.Table.{is_full}
 use Rattle.wasi_walks.specs.Answered.{open_in, outgoing_in}
 
 -- == the steps

@@ -11,7 +11,7 @@ use Rattle.wasi_world.specs.declared.call.Entry.{Entry}
 use Rattle.wasi_world.specs.declared.call.Told.{Told}
 use Rattle.wasi_world.specs.declared.call.Told.TheVariants as told
 use Rattle.wasi_world.specs.Operation.{End, Waits, Done, Refused, Who, Operation}
-use Rattle.wasi_streams.specs.Table.{children_of}
+use Rattle.wasi_table.specs.Table.{children_of}
 use Rattle.wasi_tcp.specs.declared.reader.ReadState.{ReadState}
 use Rattle.wasi_tcp.specs.declared.reader.ReadState.TheVariants as reading
 use Rattle.wasi_tcp.specs.declared.writer.WriteError.TheVariants as error

@@ -50,7 +50,7 @@ ghost use Rattle.wasi_causes.specs.Turns.{IsOfJob};
 ghost use Rattle.wasi_walks.specs.Waiting.{IsFailure, IsPoll, IsUnready, left_missing, MayStand, OfWatched, OutputWaits, pollable_mark, StandingFails, StandingWaits, PendingCallsFit, WatchesAccept, WatchesConnect, WatchesIdle};
 ghost use Rattle.wasi_host.specs.InProgress.{is_connect};
 ghost use Rattle.wasi_host.specs.Store.{with_record};
-ghost use Rattle.wasi_streams.specs.Table.{children_of, is_full};
+ghost use Rattle.wasi_table.specs.Table.{children_of, is_full};
 
 /// Each reply that a step may get is one that the table of replies names for it, and so is each of a run: fields of the step's kinds, a
 /// word that the step may be refused with, an end or a failure for a call of a stream, a trap that the step may end by, pending under its

@@ -9,7 +9,7 @@ ghost use Rattle.wasi_world.specs.declared.outcome.WasiSocketsCtx.{WasiSocketsCt
 ghost use Rattle.wasi_memory.specs.Plain.{no_contents};
 ghost use Rattle.wasi_tcp.specs.declared.writer.WriteError.{WriteError};
 ghost use Rattle.wasi_streams.specs.Streams.{zeros};
-ghost use Rattle.wasi_streams.specs.Table.{is_full};
+ghost use Rattle.wasi_table.specs.Table.{is_full};
 ghost use Rattle.wasi_host.specs.declared.kind.Kind.{Kind};
 ghost use Rattle.wasi_host.specs.declared.kind.PlainInput.{PlainInput};
 ghost use Rattle.wasi_host.specs.declared.kind.PlainOutput.{PlainOutput};

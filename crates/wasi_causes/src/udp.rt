@@ -25,7 +25,7 @@ ghost use Rattle.wasi_steps.specs.declared.setting.UdpSetting.{UdpSetting};
 ghost use Rattle.wasi_steps.specs.declared.step.Step.TheVariants as Step;
 ghost use Rattle.wasi_steps.specs.Reply.{family_fields, no_fields, truth_fields};
 ghost use Rattle.wasi_steps.specs.Settings.{udp_opt};
-ghost use Rattle.wasi_streams.specs.Table.{children_of, is_full};
+ghost use Rattle.wasi_table.specs.Table.{children_of, is_full};
 ghost use Rattle.wasi_walks.specs.Answered.{Answered, open_udp_at};
 ghost use Rattle.wasi_walks.specs.Waiting.{PendingCallsFit};
 ghost use Rattle.wasi_causes.specs.Blocking.{StreamCallStands};

@@ -1,8 +1,8 @@
 -- Look-ups in the store.
 use Rattle.std.specs.Prelude.{IsSome, is_some}
 use Rattle.std.proofs.Common.{◌≡◌, ℕ, zero, suc, ◌==◌, Bool, true, false, List, [], ◌∷◌, ◌++◌, Option, Some, None, refl, sym, ap}
-use Rattle.wasi_streams.specs.Table.{Slot, value_at, pushed}
-use Rattle.wasi_streams.proofs.Tables.{value_front}
+use Rattle.wasi_table.specs.Table.{Slot, value_at, pushed}
+use Rattle.wasi_table.proofs.Tables.{value_front}
 use Rattle.wasi_host.specs.declared.kind.Kind.{Kind}
 use Rattle.wasi_host.specs.declared.records.Record.{Record}
 use Rattle.wasi_host.specs.declared.records.Record.TheVariants.{Tcp2, Udp2, Lookup, InputPipe, OutputPipe}

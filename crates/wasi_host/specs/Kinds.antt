@@ -8,7 +8,7 @@ use Rattle.wasi_world.specs.Asks.{Asks, Give, bind}
 use Rattle.wasi_world.specs.Typed.{ask_made}
 use Rattle.wasi_streams.specs.declared.fault.Fault.{Fault}
 use Rattle.wasi_streams.specs.declared.fault.Fault.TheVariants as fault
-use Rattle.wasi_streams.specs.Table.{Shown, value_at, children_of, is_full, pushed, without}
+use Rattle.wasi_table.specs.Table.{Shown, value_at, children_of, is_full, pushed, without}
 use Rattle.wasi_host.specs.declared.kind.Kind.{Kind}
 use Rattle.wasi_host.specs.declared.kind.Kind.TheVariants.{Network, Tcp2, Udp2, Input, Output, PlainInput, PlainOutput, Incoming, Outgoing, Pollable, Lookup, ErrorValue}
 use Rattle.wasi_host.specs.declared.kind.PlainInput.{PlainInput as InputOf}

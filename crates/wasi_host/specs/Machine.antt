@@ -11,7 +11,7 @@ use Rattle.wasi_world.specs.declared.outcome.WasiSocketsCtx.{WasiSocketsCtx}
 use Rattle.wasi_world.specs.Asks.{Asks, Give, bind}
 use Rattle.wasi_tcp.specs.Shape.{Socket}
 use Rattle.wasi_tcp.specs.Socket.{new_asks, side_of}
-use Rattle.wasi_streams.specs.Table.{empty}
+use Rattle.wasi_table.specs.Table.{empty}
 use Rattle.wasi_host.specs.Records.{tcp2_at, udp2_at, open_at, lookup_at}
 use Rattle.wasi_host.specs.declared.kind.Kind.{Kind}
 use Rattle.wasi_host.specs.declared.kind.Kind.TheVariants.{Tcp2, Udp2, Output, PlainInput, PlainOutput, Incoming, Outgoing, Pollable, Lookup}

@@ -18,7 +18,8 @@ use crate::records::{open_udp, open_udp_mut};
 use crate::store::{StandingCall, Store, note_job};
 use std::alloc::Global;
 use wasi_addr::IpSocketAddress;
-use wasi_streams::{Fault, Table};
+use wasi_streams::Fault;
+use wasi_table::Table;
 use wasi_world::{Answer, Handle, Ids, IncomingDatagrams, OpId, OutgoingDatagram, TrapKind, World};
 
 impl Store {

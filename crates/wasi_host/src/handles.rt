@@ -3,7 +3,7 @@
 
 ghost use Rattle.std.specs.Prelude.{◌≡◌, ℕ, IfErr, IfOk, IfSome, IsSome, Ok, OnErr, OnOk, false, true};
 ghost use Rattle.wasi_world.specs.Asks.{AsksFor};
-ghost use Rattle.wasi_streams.specs.Table.{is_full, pushed};
+ghost use Rattle.wasi_table.specs.Table.{is_full, pushed};
 ghost use Rattle.wasi_host.specs.Host.{fault_outcome};
 ghost use Rattle.wasi_host.specs.Store.{Records};
 ghost use Rattle.wasi_host.specs.Sides.{KnowsSides};
@@ -11,7 +11,8 @@ ghost use Rattle.wasi_host.specs.Kinds.{kind_at, place_of, udp_of, input_of, out
 
 use crate::kind::{Kind, PlainInput, PlainOutput, Watched};
 use std::alloc::AllocError;
-use wasi_streams::{Fault, Table, TableError, TrapKind};
+use wasi_streams::{Fault, TrapKind};
+use wasi_table::{Table, TableError};
 use wasi_world::{Handle, OpId, Sock, World, asks};
 
 /// What a live handle stands for.

@@ -6,7 +6,7 @@ ghost use Rattle.wasi_host.specs.Machine.{first_state};
 use crate::kind::Kind;
 use crate::store::Store;
 use std::alloc::Global;
-use wasi_streams::Table;
+use wasi_table::Table;
 
 /// A table of handles and the store of what they name: with a context they make a view, which the calls take.
 #[derive(Drop)]

@@ -23,7 +23,7 @@ use std::collections::VecDeque;
 use std::marker::Model;
 use wasi_addr::{IpAddress, lookup as lookup_code, p2};
 use wasi_names::HostName;
-use wasi_streams::Table;
+use wasi_table::Table;
 use wasi_world::asks::Polled;
 use wasi_world::{Handle, IpList, NameText, OpId, TrapKind, World, asks};
 

@@ -20,7 +20,8 @@ use crate::view::WasiSocketsCtxView;
 use bytes::Bytes;
 use std::alloc::{AllocError, Global};
 use wasi_memory::{InputPipeCore, OutputPipe};
-use wasi_streams::{Fault, StreamError, Table};
+use wasi_streams::{Fault, StreamError};
+use wasi_table::Table;
 use wasi_world::{Handle, Ids, Octets, OpId, TrapKind, World};
 
 /// How many bytes a sink permits.

@@ -25,7 +25,8 @@ use crate::udp::OpenUdp;
 use crate::view::WasiSocketsCtxView;
 use std::alloc::{AllocError, Global};
 use std::marker::Model;
-use wasi_streams::{Fault, Table, TrapKind};
+use wasi_streams::{Fault, TrapKind};
+use wasi_table::Table;
 use wasi_world::{Answer, Handle, Ids, NumberList, World};
 
 /// Which of a call's looks at its pollables it is.

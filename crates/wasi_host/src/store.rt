@@ -25,7 +25,8 @@ use crate::socket::Tcp2Socket;
 use std::alloc::{AllocError, Global};
 use std::marker::Model;
 use wasi_addr::{IpSocketAddress, ShutdownType, SocketAddressFamily, p2};
-use wasi_streams::{StreamError, Table};
+use wasi_streams::StreamError;
+use wasi_table::Table;
 use wasi_tcp::TcpSocket;
 use wasi_world::{Answer, Handle, Ids, Octets, OpId, Sock, TrapKind, WasiSocketsCtx, World};
 

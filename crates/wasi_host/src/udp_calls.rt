@@ -19,7 +19,7 @@ use crate::udp::{PendingCreate, Udp2Socket, UdpInProgress};
 use std::alloc::AllocError;
 use wasi_addr::{IpSocketAddress, SocketAddressFamily, p2};
 use wasi_common::Setting;
-use wasi_streams::Table;
+use wasi_table::Table;
 use wasi_udp::UdpSocket;
 use wasi_world::{Answer, Handle, Ids, OpId, Opt, Sock, TrapKind, WasiSocketsCtx, World};
 

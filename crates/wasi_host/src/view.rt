@@ -5,7 +5,7 @@ ghost use Rattle.wasi_host.specs.Views.{Knows};
 
 use crate::kind::Kind;
 use crate::store::Store;
-use wasi_streams::Table;
+use wasi_table::Table;
 use wasi_world::WasiSocketsCtx;
 
 /// A view of a context, of the table of handles and of the records that they name (`WasiSocketsCtxView` of the crate

@@ -20,7 +20,8 @@ use wasi_machine::replies::{
 };
 use wasi_p2::{ip_name_lookup, tcp, udp};
 use wasi_steps::{NoCode, Reply, Step, TcpSetting, UdpOption, UdpSetting};
-use wasi_streams::{Fault, Table};
+use wasi_streams::Fault;
+use wasi_table::Table;
 use wasi_world::{Handle, Ids, Opt, WasiSocketsCtx, World};
 
 /// Whether the step is a guest call, and a call is pending.

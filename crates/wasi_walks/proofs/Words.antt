@@ -35,7 +35,7 @@ pub use Rattle.wasi_world.specs.declared.outcome.Answer.TheVariants.{Pending, Re
 pub use Rattle.wasi_world.specs.declared.outcome.TrapKind.TheVariants.{Full, HasChildren, NotPermitted}
 pub use Rattle.wasi_world.specs.declared.outcome.WasiSocketsCtx.{WasiSocketsCtx}
 pub use Rattle.wasi_streams.specs.StreamStop.{StreamStop}
-pub use Rattle.wasi_streams.specs.Table.{is_full}
+pub use Rattle.wasi_table.specs.Table.{is_full}
 pub use Rattle.wasi_tcp.specs.Accept.{IsAccept, IsLeftOfAccept, accept_operation, in_hand, refuse_in}
 pub use Rattle.wasi_tcp.specs.Bind.{bind_operation}
 pub use Rattle.wasi_tcp.specs.Connect.{IsConnect, IsLeftOfConnect, connect_first, connect_operation}

@@ -2,7 +2,7 @@
 use Rattle.wasi_walks.proofs.Words.{Call, Entry, Kind, List, Machine, Made, None, OpId, Option, Socket, Some, Standing, Step, Tcp2Socket}
 use Rattle.wasi_walks.proofs.Words.{Told, WasiSocketsCtx, [], arith, entry, inl, inr, marked_by, new_record, refl, subst, table_parent, with_handle}
 use Rattle.wasi_walks.proofs.Words.{with_record, with_socket, without_handle, ℕ, ◌++◌, ◌∷◌, ◌≡◌}
-use Rattle.wasi_streams.proofs.Tables.{value_without}
+use Rattle.wasi_table.proofs.Tables.{value_without}
 use Rattle.wasi_host.specs.Records.{tcp2_at, tcp2_pushed, udp2_at, udp2_pushed}
 use Rattle.wasi_host.specs.Kinds.{name_of}
 use Rattle.wasi_host.specs.Udp.{udp_side}

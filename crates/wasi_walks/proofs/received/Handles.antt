@@ -2,7 +2,7 @@
 -- pending call, is of no other UDP socket than theirs.
 use Rattle.wasi_walks.proofs.Words.{End, Err, ErrorCode, Handles, Item, Kind, List, None, Ok, Operation, Option, Result, Some, Standing, StandingCall, Stop, Step, Tcp2Socket}
 use Rattle.wasi_walks.proofs.Words.{ap, arith, inl, inr, kind_at, refl, standing_as, subst, sym, table_parent, with_handle, without_handle, ℕ, ⊤, ◌<◌, ◌≤◌, ◌≡◌, ◌∙◌, ◌⊎◌}
-use Rattle.wasi_streams.proofs.Tables.{value_without}
+use Rattle.wasi_table.proofs.Tables.{value_without}
 use Rattle.wasi_udp.specs.Create.{Create}
 use Rattle.wasi_host.specs.Kinds.{udp_of}
 use Rattle.wasi_walks.proofs.Lists.{value_split}

@@ -1,7 +1,7 @@
 -- The handle of an incoming stream was marked before the place from which on its network socket's datagrams are handed out.
 use Rattle.wasi_walks.proofs.Words.{Call, Entry, Handles, IsSide, Kind, List, OpId, Option, Some, Step, Told, [], append-nil, append_assoc, ap, arith}
 use Rattle.wasi_walks.proofs.Words.{entry, inl, inr, kind_at, length, length-append, name_of, subst, sym, with_handle, without_handle, ℕ, ⊤, ◌+◌, ◌++◌, ◌∙◌, ◌∷◌, ◌≡◌, ◌≤◌, ◌⊎◌}
-use Rattle.wasi_streams.proofs.Tables.{value_without}
+use Rattle.wasi_table.proofs.Tables.{value_without}
 use Rattle.wasi_host.specs.declared.kind.Kind.TheVariants.{Incoming, Input, Output}
 use Rattle.wasi_host.specs.declared.records.Record.{Record}
 use Rattle.wasi_walks.proofs.Lists.{has_last}
