@@ -54,7 +54,7 @@ impl BindOp {
     pub fn poll<W: World>(
         &mut self,
         world: &mut W,
-        _socket: &mut TcpSocket,
+        socket: &mut TcpSocket,
     ) -> Result<Answer<()>, Refusal>
         requires { (W.seen world.old).ended ≡ false }
         ensures polled { is_going self.old ≡ true → PollsFor (λ done. Nothing) Nothing self.old self.new (W.seen world.old) (W.seen world.new) result }
@@ -62,7 +62,7 @@ impl BindOp {
         ensures over { is_going self.old ≡ false → result ≡ Err (Refusal.Code ErrorCode.InvalidState) }
         ensures unasked { is_going self.old ≡ false → W.seen world.new ≡ W.seen world.old }
         ensures stays { is_going self.old ≡ false → self.new ≡ self.old }
-        ensures same { _socket.new ≡ _socket.old }
+        ensures same { socket.new ≡ socket.old }
         ensures bind { IsBind self.old }
         ensures open { (W.seen world.new).ended ≡ false }
     {

@@ -17,12 +17,12 @@ mod socket;
 mod streams;
 mod writer;
 
-pub use accept::{AcceptOp, AcceptStage};
-pub use bind::{BindOp, BindStage};
-pub use connect::{ConnectOp, ConnectStage};
+pub use accept::AcceptOp;
+pub use bind::BindOp;
+pub use connect::ConnectOp;
 pub use halves::{TcpReceiveStream, TcpSendStream};
-pub use job::{WriteJob, WriteStage};
-pub use listen::{ListenOp, ListenStage};
+pub use job::WriteJob;
+pub use listen::ListenOp;
 pub use listener::{Accepting, TcpListenStream};
 pub use options::NonInheritedOptions;
 pub use reader::ReadState;
