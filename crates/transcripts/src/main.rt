@@ -6,11 +6,9 @@ use std::process::ExitCode;
 use std::rt::Files;
 use std::{fs, io};
 use wasi_console::{LineSource, end, line_of, print, words};
-use wasi_program::Status;
+use wasi_program::{Choice, Status, choice_in, scenario_path};
 use wasi_transcript::program::{End, Words, check, show, words_in};
 use wasi_world::{FileSource, StdSink, StdSource};
-
-const SCENARIO: &str = "scenario.txt";
 
 const VERSION: &str = "transcripts 0.1.0\n";
 
@@ -58,10 +56,10 @@ fn main(rt: HostRuntime) -> ExitCode {
         Ok(words) => words,
         Err(status) => return end(&rt, status, 0, None),
     };
-    match words.as_slice() {
-        [word] if word.as_str() == "--help" => print(&rt, &[HELP]),
-        [word] if word.as_str() == "--version" => print(&rt, &[VERSION]),
-        words => run(rt, words),
+    match choice_in(words.as_slice()) {
+        Choice::Help => print(&rt, &[HELP]),
+        Choice::Version => print(&rt, &[VERSION]),
+        Choice::Command => run(rt, words.as_slice()),
     }
 }
 
@@ -76,12 +74,12 @@ fn run(rt: HostRuntime, words: &[String]) -> ExitCode {
 
 /// Prints the transcript of the script on standard input.
 fn show_script(rt: HostRuntime, limit: u32) -> ExitCode {
-    let mut scenario = FileSource::open(&rt, SCENARIO);
+    let mut scenario = FileSource::open(&rt, scenario_path());
     let mut source = LineSource::new(StdSource::new(rt.stdin()));
     let mut sink = StdSink::new(rt.stdout());
     match show(rt.alloc(), limit, &mut scenario, &mut source, &mut sink) {
         End::Run(Status::BadScenario, line) => {
-            let front = line_of(FileSource::open(&rt, SCENARIO), u64::from(line));
+            let front = line_of(FileSource::open(&rt, scenario_path()), u64::from(line));
             end(&rt, Status::BadScenario, line, front)
         }
         End::Run(Status::BadStep, line) => {
