@@ -3,7 +3,7 @@
 use Rattle.wasi_causes.proofs.Words.{Allows, End, Entry, Err, ErrorCode, Handles, Input, Item, Kind, List, Machine, None, Ok, OpId, Operation, Option, Output, Result, Socket, Some, Step, Tcp2, Tcp2Socket, WasiSocketsCtx}
 use Rattle.wasi_causes.proofs.Words.{[], allows_if, allows_then, ap, bind, created_asks, first_state, gives_more, give_up_asks, inl, inr, is_full, kind_at, length, machine_asks, make_asks, new_asks, new_record, own_of, poll_asks, refl, set_get, side_at, side_of, streams_in, subst, sym, table_parent, told_done, true, turn_asks, with_handle, with_listening, with_record, with_writer, without_handle}
 use Rattle.wasi_causes.proofs.Words.{Done, IsSome, Refused, Waits, ℕ, ⊤, ◌∷◌, ◌∙◌, ◌≡◌, ◌⊎◌}
-use Rattle.wasi_table.specs.Table.{Slot}
+use Rattle.wasi_table.specs.Table.{Live}
 use Rattle.wasi_tcp.specs.declared.listener.Accepting.TheVariants as accepting
 use Rattle.wasi_udp.specs.Create.{Create, after_create as udp_after_create, create_cancel_asks}
 use Rattle.wasi_host.specs.Kinds.{has_no_child}
@@ -37,23 +37,23 @@ StreamOf kind place = (kind ≡ Input place) ⊎ (kind ≡ Output place)
 
 -- A record's socket has one handle, and its streams are under that; a stream's record has them, and a socket's is there.
 pub record InputsThere (t : Handles) (records : List Record) : Type 0 where
-  pub one : (a b : Slot Kind) (place : ℕ) → Has t.live a → Has t.live b → a.value ≡ Tcp2 place → b.value ≡ Tcp2 place → a.handle ≡ b.handle
-  pub under : (a b : Slot Kind) (place : ℕ) → Has t.live a → Has t.live b → StreamOf a.value place → b.value ≡ Tcp2 place → a.parent ≡ Some b.handle
-  pub streams : (a : Slot Kind) (place : ℕ) → Has t.live a → StreamOf a.value place → HasStreams records place
-  pub sockets : (a : Slot Kind) (place : ℕ) → Has t.live a → a.value ≡ Tcp2 place → IsThere records place
+  pub one : (a b : Live Kind) (place : ℕ) → Has t.live a → Has t.live b → a.value ≡ Tcp2 place → b.value ≡ Tcp2 place → a.handle ≡ b.handle
+  pub under : (a b : Live Kind) (place : ℕ) → Has t.live a → Has t.live b → StreamOf a.value place → b.value ≡ Tcp2 place → a.parent ≡ Some b.handle
+  pub streams : (a : Live Kind) (place : ℕ) → Has t.live a → StreamOf a.value place → HasStreams records place
+  pub sockets : (a : Live Kind) (place : ℕ) → Has t.live a → a.value ≡ Tcp2 place → IsThere records place
 
 abbrev pub HasInputs : Machine → Type 0
 HasInputs m = InputsThere m.table m.store.records
 
 -- no socket of the record is live, or but for this handle; no stream of it is
 abbrev NoSocket : Handles → ℕ → Type 0
-NoSocket t place = (a : Slot Kind) → Has t.live a → a.value ≡ Tcp2 place → ⊥
+NoSocket t place = (a : Live Kind) → Has t.live a → a.value ≡ Tcp2 place → ⊥
 
 abbrev OneSocket : Handles → ℕ → ℕ → Type 0
-OneSocket t handle place = (a : Slot Kind) → Has t.live a → a.value ≡ Tcp2 place → a.handle ≡ handle
+OneSocket t handle place = (a : Live Kind) → Has t.live a → a.value ≡ Tcp2 place → a.handle ≡ handle
 
 abbrev NoStream : Handles → ℕ → Type 0
-NoStream t place = (a : Slot Kind) → Has t.live a → StreamOf a.value place → ⊥
+NoStream t place = (a : Live Kind) → Has t.live a → StreamOf a.value place → ⊥
 
 -- what an accept has made so far is new, and a socket that is dropped has no stream
 abbrev MadeSo : Handles → List Record → Made → Type 0
@@ -146,7 +146,7 @@ gone_inputs h place r now g emptied i = (
 -- == a handle is made
 -- what the new handle has to be: the first of its record's socket, or a stream under that
 abbrev NewStream : Handles → List Record → ℕ → Option ℕ → Type 0
-NewStream t records place parent = ((b : Slot Kind) → Has t.live b → b.value ≡ Tcp2 place → parent ≡ Some b.handle) × HasStreams records place
+NewStream t records place parent = ((b : Live Kind) → Has t.live b → b.value ≡ Tcp2 place → parent ≡ Some b.handle) × HasStreams records place
 
 abbrev IsNew : Handles → List Record → Kind → Option ℕ → Type 0
 IsNew t records (Tcp2 place) parent = NoSocket t place × NoStream t place × IsThere records place
@@ -171,17 +171,17 @@ module _ (t : Handles) (records : List Record) (kind : Kind) (parent : Option �
   abbrev after : Handles
   after = with_handle t kind parent
 
-  abbrev new : Slot Kind
+  abbrev new : Live Kind
   new = new_slot t kind parent
 
-  was_or_new : (a : Slot Kind) → Has after.live a → Has t.live a ⊎ (new ≡ a)
+  was_or_new : (a : Live Kind) → Has after.live a → Has t.live a ⊎ (new ≡ a)
   was_or_new a l = one_of t kind parent a l
 
-  kind_of : (a : Slot Kind) (k : Kind) → new ≡ a → a.value ≡ k → kind ≡ k
+  kind_of : (a : Live Kind) (k : Kind) → new ≡ a → a.value ≡ k → kind ≡ k
   kind_of a k n e = value_of t kind parent a k n e
 
-  stream_kind : (a : Slot Kind) (place : ℕ) → new ≡ a → StreamOf a.value place → StreamOf kind place
-  stream_kind a place n e = subst (λ (s : Slot Kind). StreamOf s.value place) (sym n) e
+  stream_kind : (a : Live Kind) (place : ℕ) → new ≡ a → StreamOf a.value place → StreamOf kind place
+  stream_kind a place n e = subst (λ (s : Live Kind). StreamOf s.value place) (sym n) e
 
   no_socket_is : (place : ℕ) → StreamOf kind place → kind ≡ Tcp2 place → ⊥
   no_socket_is place (inl e) is = absurd (let p : Input place ≡ Tcp2 place = sym e ∙ is in cc)
@@ -195,23 +195,23 @@ module _ (t : Handles) (records : List Record) (kind : Kind) (parent : Option �
     as_stream place (inl e) = subst (λ (k : Kind). IsNew t records k (table_parent kind parent)) e fits
     as_stream place (inr e) = subst (λ (k : Kind). IsNew t records k (table_parent kind parent)) e fits
 
-    one_now : (a b : Slot Kind) (place : ℕ) → Has t.live a ⊎ (new ≡ a) → Has t.live b ⊎ (new ≡ b) → a.value ≡ Tcp2 place → b.value ≡ Tcp2 place → a.handle ≡ b.handle
+    one_now : (a b : Live Kind) (place : ℕ) → Has t.live a ⊎ (new ≡ a) → Has t.live b ⊎ (new ≡ b) → a.value ≡ Tcp2 place → b.value ≡ Tcp2 place → a.handle ≡ b.handle
     one_now a b place (inl l) (inl k) d e = i.one a b place l k d e
     one_now a b place (inl l) (inr n) d e = absurd ((as_socket place (kind_of b (Tcp2 place) n e)).0 a l d)
     one_now a b place (inr n) (inl k) d e = absurd ((as_socket place (kind_of a (Tcp2 place) n d)).0 b k e)
-    one_now a b place (inr n) (inr m) d e = ap (λ (s : Slot Kind). s.handle) (sym n ∙ m)
+    one_now a b place (inr n) (inr m) d e = ap (λ (s : Live Kind). s.handle) (sym n ∙ m)
 
-    under_now : (a b : Slot Kind) (place : ℕ) → Has t.live a ⊎ (new ≡ a) → Has t.live b ⊎ (new ≡ b) → StreamOf a.value place → b.value ≡ Tcp2 place → a.parent ≡ Some b.handle
+    under_now : (a b : Live Kind) (place : ℕ) → Has t.live a ⊎ (new ≡ a) → Has t.live b ⊎ (new ≡ b) → StreamOf a.value place → b.value ≡ Tcp2 place → a.parent ≡ Some b.handle
     under_now a b place (inl l) (inl k) d e = i.under a b place l k d e
     under_now a b place (inl l) (inr n) d e = absurd ((as_socket place (kind_of b (Tcp2 place) n e)).1 a l d)
-    under_now a b place (inr n) (inl k) d e = ap (λ (s : Slot Kind). s.parent) (sym n) ∙ (as_stream place (stream_kind a place n d)).0 b k e
+    under_now a b place (inr n) (inl k) d e = ap (λ (s : Live Kind). s.parent) (sym n) ∙ (as_stream place (stream_kind a place n d)).0 b k e
     under_now a b place (inr n) (inr m) d e = absurd (no_socket_is place (stream_kind a place n d) (kind_of b (Tcp2 place) m e))
 
-    streams_now : (a : Slot Kind) (place : ℕ) → Has t.live a ⊎ (new ≡ a) → StreamOf a.value place → HasStreams records place
+    streams_now : (a : Live Kind) (place : ℕ) → Has t.live a ⊎ (new ≡ a) → StreamOf a.value place → HasStreams records place
     streams_now a place (inl l) e = i.streams a place l e
     streams_now a place (inr n) e = (as_stream place (stream_kind a place n e)).1
 
-    sockets_now : (a : Slot Kind) (place : ℕ) → Has t.live a ⊎ (new ≡ a) → a.value ≡ Tcp2 place → IsThere records place
+    sockets_now : (a : Live Kind) (place : ℕ) → Has t.live a ⊎ (new ≡ a) → a.value ≡ Tcp2 place → IsThere records place
     sockets_now a place (inl l) e = i.sockets a place l e
     sockets_now a place (inr n) e = (as_socket place (kind_of a (Tcp2 place) n e)).2
 
@@ -400,7 +400,7 @@ module _ (contexts : List WasiSocketsCtx) (line : ℕ) (origin : Step) where
         tt,
         λ told f. (
           made_there t records (Tcp2 place) (Some s) (k.0, k.1, (r, g)) i.0,
-          (λ a l e. elim (one_of t (Tcp2 place) (Some s) a l) [ inl old ↦ absurd (k.0 a old e) | inr n ↦ ap (λ (x : Slot Kind). x.handle) (sym n) ], k.2),
+          (λ a l e. elim (one_of t (Tcp2 place) (Some s) a l) [ inl old ↦ absurd (k.0 a old e) | inr n ↦ ap (λ (x : Live Kind). x.handle) (sym n) ], k.2),
         ),
       ))
 

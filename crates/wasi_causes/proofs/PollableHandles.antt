@@ -2,7 +2,7 @@
 -- before.
 use Rattle.wasi_causes.proofs.Words.{Allows, End, Entry, Item, Operation, Err, ErrorCode, ErrorValue, Handles, Input, Kind, List, Machine, None, Ok, OpId, Option, Output, Pollable, Result, Socket, Some, Step, Tcp2, WasiSocketsCtx, Watched}
 use Rattle.wasi_causes.proofs.Words.{allows_if, allows_then, ap, bind, created_asks, first_state, inl, inr, is_full, kind_at, length, machine_asks, make_asks, new_asks, own_of, poll_asks, refl, side_at, side_of, subst, sym, table_parent, told_done, true, turn_asks, give_up_asks, with_handle, without_handle, ℕ, ⊤, ◌∙◌, ◌≡◌, ◌⊎◌}
-use Rattle.wasi_table.specs.Table.{Slot}
+use Rattle.wasi_table.specs.Table.{Live}
 use Rattle.wasi_udp.specs.Create.{Create, after_create as udp_after_create, create_cancel_asks}
 use Rattle.wasi_host.specs.Kinds.{has_no_child, watched_by}
 use Rattle.wasi_host.specs.Records.{tcp2_at, udp2_at}
@@ -21,13 +21,13 @@ use Rattle.wasi_causes.proofs.Steady.{IsPlain, makes_plain}
 
 -- Of a pollable that watches this: its parent is a live handle of it.
 pub record Above (t : Handles) (parent : Option ℕ) (w : Watched) : Type 0 where
-  pub slot : Slot Kind
+  pub slot : Live Kind
   pub live_one : Has t.live slot
   pub its : parent ≡ Some slot.handle
   pub watched : watched_by (Some slot.value) ≡ Some w
 
 abbrev pub HasParents : Handles → Type 0
-HasParents t = (a : Slot Kind) (w : Watched) → Has t.live a → a.value ≡ Pollable w → Above t a.parent w
+HasParents t = (a : Live Kind) (w : Watched) → Has t.live a → a.value ≡ Pollable w → Above t a.parent w
 
 -- what a pollable is made under
 abbrev IsUnder : Handles → Kind → Option ℕ → Type 0
@@ -43,7 +43,7 @@ made_parents t kind parent under i a w l e = elim (one_of t kind parent a l) [ i
     new : new_slot t kind parent ≡ a → Above (with_handle t kind parent) a.parent w
     new n =
         let its : kind ≡ Pollable w = value_of t kind parent a (Pollable w) n e in
-        let above : a.parent ≡ parent = ap (λ (s : Slot Kind). s.parent) (sym n) ∙ ap (λ (k : Kind). table_parent k parent) its in
+        let above : a.parent ≡ parent = ap (λ (s : Live Kind). s.parent) (sym n) ∙ ap (λ (k : Kind). table_parent k parent) its in
         let k : Above t parent w = subst (λ (k : Kind). IsUnder t k parent) its under in
         still (record { slot = k.slot; live_one = k.live_one; its = above ∙ k.its; watched = k.watched })
 

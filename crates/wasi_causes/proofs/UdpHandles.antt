@@ -2,7 +2,7 @@
 -- open, since it is closed only where it is dropped, and nothing is live under its handle.
 use Rattle.wasi_causes.proofs.Words.{Allows, End, Entry, Err, ErrorCode, ErrorValue, Handles, Input, Item, Kind, List, Machine, None, Ok, OpId, Operation, Option, Output, Result, Socket, Some, Step, Stop, Tcp2, Tcp2Socket, WasiSocketsCtx}
 use Rattle.wasi_causes.proofs.Words.{allows_if, allows_then, ap, bind, created_asks, first_state, gives_more, give_up_asks, inl, inr, is_full, kind_at, length, machine_asks, make_asks, new_asks, new_record, own_of, poll_asks, refl, side_at, side_of, subst, sym, table_parent, told_done, true, turn_asks, with_handle, with_listening, with_writer, without_handle, ℕ, ⊤, ◌∙◌, ◌≡◌, ◌⊎◌}
-use Rattle.wasi_table.specs.Table.{Slot}
+use Rattle.wasi_table.specs.Table.{Live}
 use Rattle.wasi_tcp.specs.declared.listener.Accepting.TheVariants as accepting
 use Rattle.wasi_udp.specs.Create.{Create, after_create as udp_after_create, create_cancel_asks}
 use Rattle.wasi_host.specs.Kinds.{has_no_child, udp_of}
@@ -36,16 +36,16 @@ OfUdp kind place = (kind ≡ Udp2 place) ⊎ (kind ≡ Incoming place)
 
 -- A record's socket has one handle, and its incoming stream is under that; their record is open.
 pub record UdpThere (t : Handles) (records : List Record) : Type 0 where
-  pub one : (a b : Slot Kind) (place : ℕ) → Has t.live a → Has t.live b → a.value ≡ Udp2 place → b.value ≡ Udp2 place → a.handle ≡ b.handle
-  pub under : (a b : Slot Kind) (place : ℕ) → Has t.live a → Has t.live b → a.value ≡ Incoming place → b.value ≡ Udp2 place → a.parent ≡ Some b.handle
-  pub opens : (a : Slot Kind) (place : ℕ) → Has t.live a → OfUdp a.value place → IsOpenAt records place
+  pub one : (a b : Live Kind) (place : ℕ) → Has t.live a → Has t.live b → a.value ≡ Udp2 place → b.value ≡ Udp2 place → a.handle ≡ b.handle
+  pub under : (a b : Live Kind) (place : ℕ) → Has t.live a → Has t.live b → a.value ≡ Incoming place → b.value ≡ Udp2 place → a.parent ≡ Some b.handle
+  pub opens : (a : Live Kind) (place : ℕ) → Has t.live a → OfUdp a.value place → IsOpenAt records place
 
 abbrev pub HasUdps : Machine → Type 0
 HasUdps m = UdpThere m.table m.store.records
 
 -- nothing of the record is live
 abbrev NoneOf : Handles → ℕ → Type 0
-NoneOf t place = (a : Slot Kind) → Has t.live a → OfUdp a.value place → ⊥
+NoneOf t place = (a : Live Kind) → Has t.live a → OfUdp a.value place → ⊥
 
 -- a create that is polled has no handle yet, and a socket that is dropped has none any more
 abbrev MadeSo : Handles → Made → Type 0
@@ -58,7 +58,7 @@ Udps h = UdpThere h.machine.table h.machine.store.records × MadeSo h.machine.ta
 
 -- == records change
 -- where what is of a live handle stays open
-udps_stay : (t : Handles) (old now : List Record) → ((a : Slot Kind) (place : ℕ) → Has t.live a → OfUdp a.value place → IsOpenAt old place → IsOpenAt now place) → UdpThere t old → UdpThere t now
+udps_stay : (t : Handles) (old now : List Record) → ((a : Live Kind) (place : ℕ) → Has t.live a → OfUdp a.value place → IsOpenAt old place → IsOpenAt now place) → UdpThere t old → UdpThere t now
 udps_stay t old now still i = record { one = i.one; under = i.under; opens = λ a place l e. still a place l e (i.opens a place l e) }
 
 put_udps : (h : Here) (place : ℕ) (r : Tcp2Socket) → Found h place r → (now : Tcp2Socket) → Udps h → Udps (put h place now)
@@ -68,14 +68,14 @@ put_udps h place r g now i = (udps_stay h.machine.table _ _ (λ a k l e has. (ha
 put_open : (h : Here) (place : ℕ) (o now : OpenUdp) → FoundUdp h place (Udp2Socket.Open o) → Udps h → Udps (put_udp h place (Udp2Socket.Open now))
 put_open h place o now g i = (udps_stay h.machine.table _ _ still i.0, i.1)
   where
-    still : (a : Slot Kind) (k : ℕ) → Has h.machine.table.live a → OfUdp a.value k → IsOpenAt h.machine.store.records k → IsOpenAt (udp2_put h.machine.store.records place (Udp2Socket.Open now)) k
+    still : (a : Live Kind) (k : ℕ) → Has h.machine.table.live a → OfUdp a.value k → IsOpenAt h.machine.store.records k → IsOpenAt (udp2_put h.machine.store.records place (Udp2Socket.Open now)) k
     still a k l e (x, at) = elim (udp_set_get h.machine.store.records place (Udp2Socket.Open now) k (Udp2Socket.Open x) at) [ inl same ↦ (x, same) | inr its ↦ (now, its.1) ]
 
 -- nothing of it is live
 put_other : (h : Here) (place : ℕ) (now : Udp2Socket) → NoneOf h.machine.table place → Udps h → Udps (put_udp h place now)
 put_other h place now none i = (udps_stay h.machine.table _ _ still i.0, i.1)
   where
-    still : (a : Slot Kind) (k : ℕ) → Has h.machine.table.live a → OfUdp a.value k → IsOpenAt h.machine.store.records k → IsOpenAt (udp2_put h.machine.store.records place now) k
+    still : (a : Live Kind) (k : ℕ) → Has h.machine.table.live a → OfUdp a.value k → IsOpenAt h.machine.store.records k → IsOpenAt (udp2_put h.machine.store.records place now) k
     still a k l e (x, at) = elim (udp_set_get h.machine.store.records place now k (Udp2Socket.Open x) at) [ inl same ↦ (x, same) | inr its ↦ absurd (none a l (subst (OfUdp a.value) its.0 e)) ]
 
 -- nothing of a create is live
@@ -96,7 +96,7 @@ begun_udps h (Err c) i = i
 -- what the new handle has to be: the first of its record, or an incoming stream under that
 abbrev IsNew : Handles → List Record → Kind → Option ℕ → Type 0
 IsNew t records (Udp2 place) parent = NoneOf t place × IsOpenAt records place
-IsNew t records (Incoming place) parent = ((b : Slot Kind) → Has t.live b → b.value ≡ Udp2 place → parent ≡ Some b.handle) × IsOpenAt records place
+IsNew t records (Incoming place) parent = ((b : Live Kind) → Has t.live b → b.value ≡ Udp2 place → parent ≡ Some b.handle) × IsOpenAt records place
 IsNew t records _ parent = ⊤
 
 -- nothing is asked of the handle of something else
@@ -114,35 +114,35 @@ module _ (t : Handles) (records : List Record) (kind : Kind) (parent : Option �
   abbrev after : Handles
   after = with_handle t kind parent
 
-  abbrev new : Slot Kind
+  abbrev new : Live Kind
   new = new_slot t kind parent
 
-  was_or_new : (a : Slot Kind) → Has after.live a → Has t.live a ⊎ (new ≡ a)
+  was_or_new : (a : Live Kind) → Has after.live a → Has t.live a ⊎ (new ≡ a)
   was_or_new a l = one_of t kind parent a l
 
-  kind_of : (a : Slot Kind) (k : Kind) → new ≡ a → a.value ≡ k → kind ≡ k
+  kind_of : (a : Live Kind) (k : Kind) → new ≡ a → a.value ≡ k → kind ≡ k
   kind_of a k n e = value_of t kind parent a k n e
 
   module _ (fits : IsNew t records kind (table_parent kind parent)) (i : UdpThere t records) where
     as_socket : (place : ℕ) → kind ≡ Udp2 place → NoneOf t place × IsOpenAt records place
     as_socket place e = subst (λ (k : Kind). IsNew t records k (table_parent kind parent)) e fits
 
-    as_stream : (place : ℕ) → kind ≡ Incoming place → ((b : Slot Kind) → Has t.live b → b.value ≡ Udp2 place → table_parent kind parent ≡ Some b.handle) × IsOpenAt records place
+    as_stream : (place : ℕ) → kind ≡ Incoming place → ((b : Live Kind) → Has t.live b → b.value ≡ Udp2 place → table_parent kind parent ≡ Some b.handle) × IsOpenAt records place
     as_stream place e = subst (λ (k : Kind). IsNew t records k (table_parent kind parent)) e fits
 
-    one_now : (a b : Slot Kind) (place : ℕ) → Has t.live a ⊎ (new ≡ a) → Has t.live b ⊎ (new ≡ b) → a.value ≡ Udp2 place → b.value ≡ Udp2 place → a.handle ≡ b.handle
+    one_now : (a b : Live Kind) (place : ℕ) → Has t.live a ⊎ (new ≡ a) → Has t.live b ⊎ (new ≡ b) → a.value ≡ Udp2 place → b.value ≡ Udp2 place → a.handle ≡ b.handle
     one_now a b place (inl l) (inl k) d e = i.one a b place l k d e
     one_now a b place (inl l) (inr n) d e = absurd ((as_socket place (kind_of b (Udp2 place) n e)).0 a l (inl d))
     one_now a b place (inr n) (inl k) d e = absurd ((as_socket place (kind_of a (Udp2 place) n d)).0 b k (inl e))
-    one_now a b place (inr n) (inr m) d e = ap (λ (s : Slot Kind). s.handle) (sym n ∙ m)
+    one_now a b place (inr n) (inr m) d e = ap (λ (s : Live Kind). s.handle) (sym n ∙ m)
 
-    under_now : (a b : Slot Kind) (place : ℕ) → Has t.live a ⊎ (new ≡ a) → Has t.live b ⊎ (new ≡ b) → a.value ≡ Incoming place → b.value ≡ Udp2 place → a.parent ≡ Some b.handle
+    under_now : (a b : Live Kind) (place : ℕ) → Has t.live a ⊎ (new ≡ a) → Has t.live b ⊎ (new ≡ b) → a.value ≡ Incoming place → b.value ≡ Udp2 place → a.parent ≡ Some b.handle
     under_now a b place (inl l) (inl k) d e = i.under a b place l k d e
     under_now a b place (inl l) (inr n) d e = absurd ((as_socket place (kind_of b (Udp2 place) n e)).0 a l (inr d))
-    under_now a b place (inr n) (inl k) d e = ap (λ (s : Slot Kind). s.parent) (sym n) ∙ (as_stream place (kind_of a (Incoming place) n d)).0 b k e
+    under_now a b place (inr n) (inl k) d e = ap (λ (s : Live Kind). s.parent) (sym n) ∙ (as_stream place (kind_of a (Incoming place) n d)).0 b k e
     under_now a b place (inr n) (inr m) d e = absurd (let p : Incoming place ≡ Udp2 place = sym (kind_of a (Incoming place) n d) ∙ kind_of b (Udp2 place) m e in cc)
 
-    opens_now : (a : Slot Kind) (place : ℕ) → Has t.live a ⊎ (new ≡ a) → OfUdp a.value place → IsOpenAt records place
+    opens_now : (a : Live Kind) (place : ℕ) → Has t.live a ⊎ (new ≡ a) → OfUdp a.value place → IsOpenAt records place
     opens_now a place (inl l) e = i.opens a place l e
     opens_now a place (inr n) (inl e) = (as_socket place (kind_of a (Udp2 place) n e)).1
     opens_now a place (inr n) (inr e) = (as_stream place (kind_of a (Incoming place) n e)).1
@@ -195,10 +195,10 @@ module _ (t : Handles) (records : List Record) (handle : ℕ) where
       its : SlotOf t.live handle (Udp2 place)
       its = slot_of t.live handle (Udp2 place) e
 
-      no_socket : (a : Slot Kind) → Has (without_handle t handle).live a → a.value ≡ Udp2 place → ⊥
+      no_socket : (a : Live Kind) → Has (without_handle t handle).live a → a.value ≡ Udp2 place → ⊥
       no_socket a l is = is_another t.live handle a l (i.one a its.slot place (has_without t.live handle a l) its.live_one is its.value ∙ its.its)
 
-      no_stream : (a : Slot Kind) → Has (without_handle t handle).live a → a.value ≡ Incoming place → ⊥
+      no_stream : (a : Live Kind) → Has (without_handle t handle).live a → a.value ≡ Incoming place → ⊥
       no_stream a l is =
           let was = has_without t.live handle a l in
           no_child t.live handle a was (i.under a its.slot place was its.live_one is its.value ∙ ap (λ (x : ℕ). Some x) its.its) none

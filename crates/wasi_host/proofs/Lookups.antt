@@ -1,7 +1,7 @@
 -- Look-ups in the store.
 use Rattle.std.specs.Prelude.{IsSome, is_some}
 use Rattle.std.proofs.Common.{◌≡◌, ℕ, zero, suc, ◌==◌, Bool, true, false, List, [], ◌∷◌, ◌++◌, Option, Some, None, refl, sym, ap}
-use Rattle.wasi_table.specs.Table.{Slot, value_at, pushed}
+use Rattle.wasi_table.specs.Table.{Live, value_at, pushed}
 use Rattle.wasi_table.proofs.Tables.{value_front}
 use Rattle.wasi_host.specs.declared.kind.Kind.{Kind}
 use Rattle.wasi_host.specs.declared.records.Record.{Record}
@@ -41,11 +41,11 @@ stays_live t n kind parent h e live = by (kind_at t h) refl
     by (Some k) q = rw (e, value_front t.live _ h k q) refl
 
 -- and so does the one that is made
-slot_live : (rest : List (Slot Kind)) (s : Slot Kind) (n : ℕ) (kind : Kind) (parent : Option ℕ) (b : Bool) → (s.handle == n) ≡ b → IsSome (value_at (rest ++ record { handle = n; value = kind; parent = parent } ∷ []) n) → IsSome (value_at ((s ∷ rest) ++ record { handle = n; value = kind; parent = parent } ∷ []) n)
+slot_live : (rest : List (Live Kind)) (s : Live Kind) (n : ℕ) (kind : Kind) (parent : Option ℕ) (b : Bool) → (s.handle == n) ≡ b → IsSome (value_at (rest ++ record { handle = n; value = kind; parent = parent } ∷ []) n) → IsSome (value_at ((s ∷ rest) ++ record { handle = n; value = kind; parent = parent } ∷ []) n)
 slot_live rest s n kind parent true e later = rw e refl
 slot_live rest s n kind parent false e later = rw e later
 
-last_live : (live : List (Slot Kind)) (n : ℕ) (kind : Kind) (parent : Option ℕ) → IsSome (value_at (live ++ record { handle = n; value = kind; parent = parent } ∷ []) n)
+last_live : (live : List (Live Kind)) (n : ℕ) (kind : Kind) (parent : Option ℕ) → IsSome (value_at (live ++ record { handle = n; value = kind; parent = parent } ∷ []) n)
 last_live [] n kind parent = rw (eq-eqb n n refl) refl
 last_live (s ∷ live) n kind parent = slot_live live s n kind parent (s.handle == n) refl (last_live live n kind parent)
 

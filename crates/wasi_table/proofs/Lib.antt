@@ -1,2 +1,7 @@
-pub mod Entries
-pub mod Tables
+mod Leads
+mod Orders
+mod Outs
+mod Puts
+mod Stays
+mod Tables
+mod Writes

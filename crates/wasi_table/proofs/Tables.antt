@@ -1,7 +1,7 @@
 -- What is live after a change of a table, and whose children are whose.
-use Rattle.std.proofs.Common.{◌≡◌, ◌⊎◌, inl, inr, ℕ, ◌==◌, Bool, true, false, cond, Option, None, Some, List, [], ◌∷◌, ◌++◌, refl, ap, ◌∙◌, sym}
+use Rattle.std.proofs.Common.{◌≡◌, ℕ, ◌==◌, Bool, true, false, cond, None, Some, List, [], ◌∷◌, ◌++◌, refl, ap, ◌∙◌, sym}
 use Rattle.std.proofs.lemmas.Bool.{eqb-true}
-use Rattle.wasi_table.specs.Table.{Slot, is_child, value_at, children_of, with_value, without}
+use Rattle.wasi_table.specs.Table.{Live, is_child, value_at, children_of, with_value, without}
 
 -- a list and its change, with one more child in front of both
 pub one_more : (b p : Bool) (n : ℕ) (ids new : List ℕ) (change : List ℕ → List ℕ) → change (n ∷ ids) ≡ n ∷ change ids → new ≡ cond p (change ids) ids → cond b (n ∷ new) new ≡ cond p (change (cond b (n ∷ ids) ids)) (cond b (n ∷ ids) ids)
@@ -12,7 +12,7 @@ one_more false false n ids new change c e = e
 
 module _ {K : Type 0} where
   -- what is live stays live as slots come to the end
-  pub value_front : (xs ys : List (Slot K)) (h : ℕ) (v : K) → value_at xs h ≡ Some v → value_at (xs ++ ys) h ≡ Some v
+  pub value_front : (xs ys : List (Live K)) (h : ℕ) (v : K) → value_at xs h ≡ Some v → value_at (xs ++ ys) h ≡ Some v
   value_front [] ys h v found = absurd (cc)
   value_front (s ∷ xs) ys h v found = by (value_front xs ys h v) (s.handle == h) refl
     where
@@ -20,22 +20,8 @@ module _ {K : Type 0} where
       by later true e = let f = rw e at found in rw e f
       by later false e = let f = rw e at found in rw e (later f)
 
-  -- what is live then was live before, or is the slot at the end
-  pub value_last : (xs : List (Slot K)) (n : ℕ) (v : K) (p : Option ℕ) (h : ℕ) (w : K) → value_at (xs ++ (record { handle = n; value = v; parent = p }) ∷ []) h ≡ Some w → (value_at xs h ≡ Some w) ⊎ ((n ≡ h) × (v ≡ w))
-  value_last [] n v p h w found = by (n == h) refl
-    where
-      by : (b : Bool) → (n == h) ≡ b → (value_at {K = K} [] h ≡ Some w) ⊎ ((n ≡ h) × (v ≡ w))
-      by true e = let f : Some v ≡ Some w = rw e at found in inr (eqb-true _ _ e, cc)
-      by false e = let f : None ≡ Some w = rw e at found in absurd (cc)
-  value_last (s ∷ xs) n v p h w found = by (value_last xs n v p h w) (s.handle == h) refl
-    where
-      by : (value_at (xs ++ (record { handle = n; value = v; parent = p }) ∷ []) h ≡ Some w → (value_at xs h ≡ Some w) ⊎ ((n ≡ h) × (v ≡ w)))
-          → (b : Bool) → (s.handle == h) ≡ b → (value_at (s ∷ xs) h ≡ Some w) ⊎ ((n ≡ h) × (v ≡ w))
-      by later true e = let f = rw e at found in inl (rw e f)
-      by later false e = let f = rw e at found in rw e (later f)
-
   -- a handle that ended isn't live
-  pub value_without_it : (live : List (Slot K)) (h : ℕ) → value_at (without live h) h ≡ None
+  pub value_without_it : (live : List (Live K)) (h : ℕ) → value_at (without live h) h ≡ None
   value_without_it [] h = refl
   value_without_it (s ∷ live) h = by (value_without_it live h) (s.handle == h) refl
     where
@@ -44,7 +30,7 @@ module _ {K : Type 0} where
       by later false e = rw (e, e) later
 
   -- what is live after the end of a handle was live before
-  pub value_without : (live : List (Slot K)) (h k : ℕ) (v : K) → value_at (without live h) k ≡ Some v → value_at live k ≡ Some v
+  pub value_without : (live : List (Live K)) (h k : ℕ) (v : K) → value_at (without live h) k ≡ Some v → value_at live k ≡ Some v
   value_without [] h k v found = absurd (cc)
   value_without (s ∷ live) h k v found = by (value_without live h k v) (s.handle == h) (s.handle == k) refl refl
     where
@@ -58,7 +44,7 @@ module _ {K : Type 0} where
       by later false false e f = let g = rw (e, f) at found in rw f (later g)
 
   -- another value changes no list of children
-  pub children_with : (live : List (Slot K)) (h k : ℕ) (w : K) → children_of (with_value live h w) k ≡ children_of live k
+  pub children_with : (live : List (Live K)) (h k : ℕ) (w : K) → children_of (with_value live h w) k ≡ children_of live k
   children_with [] h k w = refl
   children_with (s ∷ live) h k w = by (children_with live h k w) (s.handle == h) refl
     where
@@ -67,6 +53,6 @@ module _ {K : Type 0} where
       by later false e = rw e (ap (λ (ids : List ℕ). cond (is_child s.parent k) (s.handle ∷ ids) ids) later)
 
   -- a slot at the end comes to the end of its parent's list
-  pub children_push : (xs : List (Slot K)) (s : Slot K) (k : ℕ) → children_of (xs ++ s ∷ []) k ≡ cond (is_child s.parent k) (children_of xs k ++ s.handle ∷ []) (children_of xs k)
+  pub children_push : (xs : List (Live K)) (s : Live K) (k : ℕ) → children_of (xs ++ s ∷ []) k ≡ cond (is_child s.parent k) (children_of xs k ++ s.handle ∷ []) (children_of xs k)
   children_push [] s k = refl
   children_push (x ∷ xs) s k = one_more (is_child x.parent k) (is_child s.parent k) x.handle (children_of xs k) _ (λ ids. ids ++ s.handle ∷ []) refl (children_push xs s k)

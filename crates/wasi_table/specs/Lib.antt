@@ -1,3 +1,4 @@
-pub mod Entries
+pub mod Keys
 pub mod Lends
+pub mod Slots
 pub mod Table

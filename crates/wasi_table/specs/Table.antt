@@ -5,7 +5,7 @@ use Rattle.wasi_table.specs.declared.table.TableError.{TableError}
 use Rattle.wasi_table.specs.declared.table.TableError.TheVariants.{NoSuchHandle, HasChildren, Full, Memory}
 
 -- a live handle with its value, and the handle that it was made a child of
-pub record Slot (K : Type 0) : Type 0 where
+pub record Live (K : Type 0) : Type 0 where
   pub handle : ℕ
   pub value : K
   pub parent : Option ℕ
@@ -13,15 +13,15 @@ pub record Slot (K : Type 0) : Type 0 where
 -- the number of the next handle, and the live ones in the order of their making
 pub record Shown (K : Type 0) : Type 0 where
   pub next : ℕ
-  pub live : List (Slot K)
+  pub live : List (Live K)
 
 -- as tuples of their fields
-abbrev pub slot_code : {K : Type 0} → Coded K → Coded (Slot K)
-slot_code {K} code =
+abbrev pub live_code : {K : Type 0} → Coded K → Coded (Live K)
+live_code {K} code =
     code_by (ℕ × (K × Option ℕ)) (coded× coded_ℕ (coded× code (coded_option coded_ℕ))) (λ s. (s.handle, (s.value, s.parent))) (λ p. record { handle = p.0; value = p.1.0; parent = p.1.1 }) (λ _. refl)
 
 abbrev pub shown_code : {K : Type 0} → Coded K → Coded (Shown K)
-shown_code {K} code = code_by (ℕ × List (Slot K)) (coded× coded_ℕ (coded_list (slot_code code))) (λ t. (t.next, t.live)) (λ p. record { next = p.0; live = p.1 }) (λ _. refl)
+shown_code {K} code = code_by (ℕ × List (Live K)) (coded× coded_ℕ (coded_list (live_code code))) (λ t. (t.next, t.live)) (λ p. record { next = p.0; live = p.1 }) (λ _. refl)
 
 -- the number of an error
 abbrev pub number_of : TableError → ℕ
@@ -41,23 +41,23 @@ module _ {K : Type 0} where
   empty = record { next = 1; live = [] }
 
   -- the value of a handle, if it is live
-  abbrev pub value_at : List (Slot K) → ℕ → Option K
+  abbrev pub value_at : List (Live K) → ℕ → Option K
   value_at [] handle = None
   value_at (s ∷ live) handle = if s.handle == handle then Some s.value else value_at live handle
 
   -- the live children of a handle, in the order of their making
-  abbrev pub children_of : List (Slot K) → ℕ → List ℕ
+  abbrev pub children_of : List (Live K) → ℕ → List ℕ
   children_of [] handle = []
   children_of (s ∷ live) handle = if is_child s.parent handle then s.handle ∷ children_of live handle else children_of live handle
 
   -- with this value of a handle
-  abbrev pub with_value : List (Slot K) → ℕ → K → List (Slot K)
+  abbrev pub with_value : List (Live K) → ℕ → K → List (Live K)
   with_value [] handle value = []
   with_value (s ∷ live) handle value =
       if s.handle == handle then (record s { value = value }) ∷ live else s ∷ with_value live handle value
 
   -- the slots of the other handles
-  abbrev pub without : List (Slot K) → ℕ → List (Slot K)
+  abbrev pub without : List (Live K) → ℕ → List (Live K)
   without [] handle = []
   without (s ∷ live) handle = if s.handle == handle then without live handle else s ∷ without live handle
 

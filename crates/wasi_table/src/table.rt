@@ -1,13 +1,24 @@
 //! The table of handles: what a guest holds by number, and what is a child of what.
 //!
-//! The live handles are in a vector that is scanned, in the order of their making. Each has the list of its children beside it.
+//! Each live handle has a slot in a slab, under a key that the slab picks, and an ordered map leads from the handle to the key.
+//! A slot has the ordered set of its handle's children. So a call's time grows with the logarithm of the number of live handles
+//! (a push's on average, since the slab takes room ahead), and memory with the most that were live at a time, however many were
+//! made.
 
-ghost use Rattle.std.specs.Prelude.{◌≡◌, ◌≢◌, ◌↔◌, ◌⊎◌, ◌==◌, ◌+◌, ◌<◌, ◌^◌, [], false, true, length, position, vec_len, IfOk, IfErr, OnOk, OnErr, IfSome, IfNone, OnSome, IsSome, Some, None, Err};
+ghost use Rattle.std.specs.Prelude.{◌≡◌, ◌≢◌, ◌↔◌, ◌⊎◌, ◌+◌, ◌<◌, ◌^◌, [], false, true, IfOk, IfErr, OnOk, OnErr, IsSome, Some, None, Err};
 ghost use Rattle.std.specs.Borrow.{sem};
+ghost use Rattle.std.specs.BTreeMap.{get_by};
+ghost use Rattle.std.specs.Ordering.{nat_cmp};
+ghost use Rattle.slab.specs.Slab.{get};
 ghost use Rattle.wasi_table.specs.Table.{empty, is_full, pushed, value_at, children_of, without, number_of};
-ghost use Rattle.wasi_table.specs.Entries.{slots_of, IsPlace, Rises, IsPut, IsForgotten, IsSame};
+ghost use Rattle.wasi_table.specs.Slots.{AreOfLive, HasEach, HasOnce};
+ghost use Rattle.wasi_table.specs.Keys.{IsLed, IsFilled, IsPut, IsOut, IsKept, IsParentAt, IsWithoutChild};
 
+use crate::handles::Handles;
+use crate::slot::Slot;
+use slab::Slab;
 use std::alloc::{AllocError, Global};
+use std::collections::BTreeMap;
 use std::marker::Model;
 use thiserror::Error;
 
@@ -46,20 +57,14 @@ impl TableError {
     }
 }
 
-/// A live handle, with the handles of its children in the order of their making.
-#[derive(Drop)]
-struct Entry<K> {
-    handle: u32,
-    value: K,
-    parent: Option<u32>,
-    children: Vec<u32>,
-}
-
 /// A map from handles to values, where a handle may be a child of another (`ResourceTable` of the crate wasmtime). Handles are
 /// numbered from 1 on, and no number is given twice.
 #[derive(Drop)]
 pub struct Table<K> {
-    entries: Vec<Entry<K>>,
+    alloc: Global,
+    slots: Slab<Slot<K>>,
+    /// From each live handle to the key of its slot.
+    keys: BTreeMap<u32, usize>,
     next: u32,
 }
 
@@ -70,11 +75,11 @@ impl<K> Model for Table<K> {
 
     ghost coded = { shown_code K.code };
 
-    ghost use Rattle.wasi_table.specs.Entries.{slots_of, AreSound};
+    ghost use Rattle.wasi_table.specs.Keys.{live_of, AreSound};
 
-    ghost view = { λ t. record { next = t.next; live = slots_of t.entries.items } };
+    ghost view = { λ t. record { next = t.next; live = live_of t.keys.entries t.slots } };
 
-    ghost invariant = { λ t. AreSound t.entries.items t.next };
+    ghost invariant = { λ t. AreSound t.keys.entries t.next t.slots };
 }
 
 impl<K> Table<K> {
@@ -83,7 +88,9 @@ impl<K> Table<K> {
         ensures { result ≡ empty }
     {
         Table {
-            entries: Vec::new(alloc),
+            alloc,
+            slots: Slab::new(alloc),
+            keys: BTreeMap::new(alloc),
             next: 1,
         }
     }
@@ -100,7 +107,7 @@ impl<K> Table<K> {
         ensures full { result ≡ is_full self.now }
         ensures room { result ≡ false → self.now.next + 1 < 2 ^ 32 }
     {
-        self.entries.len() >= MOST_LIVE || self.next == u32::MAX
+        self.keys.len() >= MOST_LIVE || self.next == u32::MAX
     }
 
     /// Makes a handle that is no child. `Full` where the table is full; `Memory` where there is none.
@@ -116,7 +123,8 @@ impl<K> Table<K> {
         if self.is_full() {
             return Err(TableError::Full);
         }
-        match put(&mut self.entries, self.next, value) {
+        let slot = Slot::new(self.alloc, self.next, value, None);
+        match put(&mut self.slots, &mut self.keys, slot) {
             Err(_) => Err(TableError::Memory),
             Ok(()) => Ok(take_number(&mut self.next)),
         }
@@ -134,13 +142,14 @@ impl<K> Table<K> {
         ensures full { (result ≡ Err TableError.Full) ↔ (IsSome (value_at self.old.live parent) × (is_full self.old ≡ true)) }
         ensures error { IfErr result (λ e. e ≢ TableError.HasChildren) }
     {
-        let Some(at) = place_of(self.entries.as_slice(), parent) else {
+        let Some(at) = key_of(&self.keys, parent) else {
             return Err(TableError::NoSuchHandle);
         };
         if self.is_full() {
             return Err(TableError::Full);
         }
-        match put_child(&mut self.entries, at, parent, self.next, value) {
+        let slot = Slot::new(self.alloc, self.next, value, Some(parent));
+        match put_child(&mut self.slots, &mut self.keys, at, slot) {
             Err(_) => Err(TableError::Memory),
             Ok(()) => Ok(take_number(&mut self.next)),
         }
@@ -151,22 +160,31 @@ impl<K> Table<K> {
         ensures found { IfOk result (λ v. value_at self.now.live handle ≡ Some v.now) }
         ensures missing { IfErr result (λ e. (e ≡ TableError.NoSuchHandle) × (value_at self.now.live handle ≡ None)) }
     {
-        match place_of(self.entries.as_slice(), handle) {
-            Some(at) => Ok(&self.entries[at].value),
+        match key_of(&self.keys, handle) {
+            Some(key) => Ok(&self.slots[key].value),
             None => Err(TableError::NoSuchHandle),
         }
     }
 
     /// The handles of the live children of a live handle, in the order of their making. Takes no memory.
-    pub fn children(&self, handle: u32) -> Result<&[u32], TableError>
+    pub fn children(&self, handle: u32) -> Result<&Handles, TableError>
         ensures listed { IfOk result (λ ids. ids.now ≡ children_of self.now.live handle) }
         ensures live { OnOk result (IsSome (value_at self.now.live handle)) }
         ensures missing { IfErr result (λ e. (e ≡ TableError.NoSuchHandle) × (value_at self.now.live handle ≡ None)) }
     {
-        match place_of(self.entries.as_slice(), handle) {
-            Some(at) => Ok(self.entries[at].children.as_slice()),
+        match key_of(&self.keys, handle) {
+            Some(key) => Ok(&self.slots[key].children),
             None => Err(TableError::NoSuchHandle),
         }
+    }
+
+    /// The slots of the live handles: one for each, with its value, its parent and its live children. Takes no memory.
+    pub fn slots(&self) -> &Slab<Slot<K>>
+        ensures live { AreOfLive self.now.live result.now }
+        ensures each { HasEach self.now.live result.now }
+        ensures once { HasOnce result.now }
+    {
+        &self.slots
     }
 
     /// Ends a live handle, takes it out of its parent's list, and gives its value. `NoSuchHandle` where it isn't live;
@@ -180,23 +198,13 @@ impl<K> Table<K> {
         ensures has_children { (result ≡ Err TableError.HasChildren) ↔ (IsSome (value_at self.old.live handle) × (children_of self.old.live handle ≢ [])) }
         ensures error { IfErr result (λ e. (e ≡ TableError.NoSuchHandle) ⊎ (e ≡ TableError.HasChildren)) }
     {
-        let Some(at) = place_of(self.entries.as_slice(), handle) else {
+        let Some(key) = key_of(&self.keys, handle) else {
             return Err(TableError::NoSuchHandle);
         };
-        if !self.entries[at].children.is_empty() {
+        if !self.slots[key].children.is_empty() {
             return Err(TableError::HasChildren);
         }
-        Ok(self.take_out(at, handle))
-    }
-
-    fn take_out(&mut self, at: usize, handle: u32) -> K
-        requires { IsPlace self.old.live handle at }
-        ensures value { value_at self.old.live handle ≡ Some result }
-        ensures gone { self.new ≡ record self.old { live = without self.old.live handle } }
-    {
-        let Entry { value, parent, .. } = self.entries.remove(at);
-        forget_child(self.entries.as_mut_slice(), parent, handle);
-        value
+        Ok(take_out(&mut self.slots, &mut self.keys, key))
     }
 }
 
@@ -209,35 +217,27 @@ impl<K> Table<K> {
         ensures found { IfOk result (λ v. value_at self.old.live handle ≡ Some v.now) }
         ensures missing { IfErr result (λ e. (e ≡ TableError.NoSuchHandle) × (value_at self.old.live handle ≡ None)) }
     {
-        match place_of(self.entries.as_slice(), handle) {
-            Some(at) => Ok(self.value_mut(at, handle)),
-            None => Err(TableError::NoSuchHandle),
+        if !self.keys.contains_key(&handle) {
+            return Err(TableError::NoSuchHandle);
         }
+        Ok(self.value_mut(handle))
     }
 
-    fn value_mut(&mut self, at: usize, handle: u32) -> &mut K
-        requires { IsPlace self.old.live handle at }
+    fn value_mut(&mut self, handle: u32) -> &mut K
+        requires { IsSome (value_at self.old.live handle) }
         ensures* lends { sem 𝓛 (lends_value K.row self.entry handle result) }
         ensures found { value_at self.old.live handle ≡ Some result.now }
     {
-        &mut self.entries[at].value
+        let key = self.keys[&handle];
+        &mut self.slots[key].value
     }
 }
 
-fn index_of<K>(entries: &[Entry<K>], handle: u32) -> Option<usize>
-    ensures { result ≡ position (λ e. e.handle == handle) entries.now }
+/// The key of a live handle's slot.
+fn key_of(keys: &BTreeMap<u32, usize>, handle: u32) -> Option<usize>
+    ensures { result ≡ get_by (nat_cmp handle) keys.now }
 {
-    entries.iter().position(|entry| entry.handle == handle)
-}
-
-/// Where a live handle is.
-fn place_of<K>(entries: &[Entry<K>], handle: u32) -> Option<usize>
-    ensures place { IfSome result (λ at. IsPlace (slots_of entries.now) handle at) }
-    ensures within { IfSome result (λ at. at < length entries.now) }
-    ensures live { OnSome result (IsSome (value_at (slots_of entries.now) handle)) }
-    ensures missing { IfNone result (value_at (slots_of entries.now) handle ≡ None) }
-{
-    index_of(entries, handle)
+    keys.get(&handle).copied()
 }
 
 /// Takes the number of the next handle.
@@ -251,59 +251,80 @@ fn take_number(next: &mut u32) -> u32
     number
 }
 
-/// Puts an entry that is no child at the end.
-fn put<K: Drop>(entries: &mut Vec<Entry<K>>, handle: u32, value: K) -> Result<(), AllocError>
-    ensures ok { OnOk result (IsPut entries.old.items entries.new.items (record { handle = handle; value = value; parent = None })) }
-    ensures err { OnErr result (IsSame entries.old.items entries.new.items) }
-{
-    entries.reserve(1)?;
-    let alloc = *entries.allocator();
-    entries.push_reserved(Entry {
-        handle,
-        value,
-        parent: None,
-        children: Vec::new(alloc),
-    });
-    Ok(())
-}
-
-/// Puts an entry at the end and its handle into the list of its parent, which is at `at`. The entry's room is taken first, so
-/// that either both come or neither does.
-fn put_child<K: Drop>(
-    entries: &mut Vec<Entry<K>>,
-    at: usize,
-    parent: u32,
-    handle: u32,
-    value: K,
+/// Puts a slot that is no child under a key. Room for both is taken first, so that either both come or neither does.
+fn put<K: Drop>(
+    slots: &mut Slab<Slot<K>>,
+    keys: &mut BTreeMap<u32, usize>,
+    slot: Slot<K>,
 ) -> Result<(), AllocError>
-    requires rising { Rises (slots_of entries.old.items) 0 }
-    requires place { IsPlace (slots_of entries.old.items) parent at }
-    requires within { at < vec_len entries.old }
-    ensures ok { OnOk result (IsPut entries.old.items entries.new.items (record { handle = handle; value = value; parent = Some parent })) }
-    ensures err { OnErr result (IsSame entries.old.items entries.new.items) }
+    requires { slot.parent ≡ None }
+    ensures ok { OnOk result (IsPut slots.old slots.new keys.old.entries keys.new.entries slot) }
+    ensures err { OnErr result (IsKept slots.old slots.new keys.old.entries keys.new.entries) }
 {
-    entries.reserve(1)?;
-    entries[at].children.push(handle)?;
-    let alloc = *entries.allocator();
-    entries.push_reserved(Entry {
-        handle,
-        value,
-        parent: Some(parent),
-        children: Vec::new(alloc),
-    });
+    slots.reserve(1)?;
+    keys.insert(slot.handle, slots.vacant_key())?;
+    slots.insert_reserved(slot);
     Ok(())
 }
 
-/// Takes a child out of the list of its parent, if that is live.
-fn forget_child<K>(entries: &mut [Entry<K>], parent: Option<u32>, child: u32)
-    requires { Rises (slots_of entries.old) 0 }
-    ensures { IsForgotten entries.old entries.new parent child }
+/// Puts a slot under a key, and its handle among the children of its parent, whose slot is at `at`. Where there is no room for
+/// one of these, none of them comes.
+fn put_child<K: Drop>(
+    slots: &mut Slab<Slot<K>>,
+    keys: &mut BTreeMap<u32, usize>,
+    at: usize,
+    slot: Slot<K>,
+) -> Result<(), AllocError>
+    requires led { IsLed keys.old.entries slots.old }
+    requires parent { IsParentAt slots.old at slot.parent }
+    requires fresh { get_by (nat_cmp slot.handle) keys.old ≡ None }
+    ensures ok { OnOk result (IsPut slots.old slots.new keys.old.entries keys.new.entries slot) }
+    ensures err { OnErr result (IsKept slots.old slots.new keys.old.entries keys.new.entries) }
+{
+    slots.reserve(1)?;
+    keys.insert(slot.handle, slots.vacant_key())?;
+    if let Err(error) = slots[at].children.add(slot.handle) {
+        keys.remove(&slot.handle);
+        return Err(error);
+    }
+    slots.insert_reserved(slot);
+    Ok(())
+}
+
+/// Takes out the slot at `key`, its handle's key, and its handle from among its parent's children, and gives its value.
+fn take_out<K>(slots: &mut Slab<Slot<K>>, keys: &mut BTreeMap<u32, usize>, key: usize) -> K
+    requires led { IsLed keys.old.entries slots.old }
+    requires filled { IsFilled keys.old.entries slots.old }
+    requires there { IsSome (get slots.old key) }
+    ensures { IsOut slots.old slots.new keys.old.entries keys.new.entries key result }
+{
+    let Slot {
+        handle,
+        value,
+        parent,
+        ..
+    } = slots.remove(key);
+    keys.remove(&handle);
+    forget_child(slots, keys, parent, handle);
+    value
+}
+
+/// Takes a child out from among its parent's children, if the parent is live.
+fn forget_child<K>(
+    slots: &mut Slab<Slot<K>>,
+    keys: &BTreeMap<u32, usize>,
+    parent: Option<u32>,
+    child: u32,
+)
+    requires led { IsLed keys.now.entries slots.old }
+    requires filled { IsFilled keys.now.entries slots.old }
+    ensures { IsWithoutChild slots.old slots.new parent child }
 {
     let Some(parent) = parent else {
         return;
     };
-    let Some(at) = place_of(entries, parent) else {
+    let Some(at) = key_of(keys, parent) else {
         return;
     };
-    entries[at].children.retain(|id| *id != child);
+    slots[at].children.take_out(child);
 }

@@ -2,7 +2,7 @@
 use Rattle.std.proofs.Common.{◌≡◌, ℕ, zero, suc, ◌+◌, ◌⊎◌, inl, inr, Bool, true, false, if◌then◌else◌, ◌==◌, List, [], ◌∷◌, ◌++◌, Option, Some, None, slice_get, length, refl, ap, append_assoc, arith, ◌∙◌}
 use Rattle.std.proofs.lemmas.Bool.{eqb-true}
 use Rattle.wasi_world.specs.declared.call.Entry.{Entry}
-use Rattle.wasi_table.specs.Table.{Slot, value_at}
+use Rattle.wasi_table.specs.Table.{Live, value_at}
 use Rattle.wasi_host.specs.declared.records.Record.{Record}
 use Rattle.wasi_host.specs.declared.records.Record.TheVariants.{Tcp2, Udp2, Lookup, InputPipe, OutputPipe}
 use Rattle.wasi_host.specs.declared.socket.Tcp2Socket.{Tcp2Socket}
@@ -117,7 +117,7 @@ set_same (y ∷ xs) (suc i) x e = ap (λ (zs : List Record). y ∷ zs) (set_same
 
 -- == the live handles
 -- what a handle stands for among those of which the last was just made
-pub value_split : {K : Type 0} (live : List (Slot K)) (s : Slot K) (handle : ℕ) (value : K) → value_at (live ++ s ∷ []) handle ≡ Some value → (value_at live handle ≡ Some value) ⊎ ((s.handle ≡ handle) × (s.value ≡ value))
+pub value_split : {K : Type 0} (live : List (Live K)) (s : Live K) (handle : ℕ) (value : K) → value_at (live ++ s ∷ []) handle ≡ Some value → (value_at live handle ≡ Some value) ⊎ ((s.handle ≡ handle) × (s.value ≡ value))
 value_split {K} [] s handle value h = inr (last_if (s.handle == handle) (eqb-true s.handle handle) h)
   where
     last_if : (b : Bool) → (b ≡ true → s.handle ≡ handle) → (if b then Some s.value else None) ≡ Some value → (s.handle ≡ handle) × (s.value ≡ value)
@@ -130,7 +130,7 @@ value_split {K} (x ∷ live) s handle value h = past_if (x.handle == handle) (va
     past_if false o p f e = f e
 
 -- a handle that was live before the last was made stands for what it did
-pub value_front : {K : Type 0} (live : List (Slot K)) (s : Slot K) (handle : ℕ) (value : K) → value_at live handle ≡ Some value → value_at (live ++ s ∷ []) handle ≡ Some value
+pub value_front : {K : Type 0} (live : List (Live K)) (s : Live K) (handle : ℕ) (value : K) → value_at live handle ≡ Some value → value_at (live ++ s ∷ []) handle ≡ Some value
 value_front {K} [] s handle value e = absurd (cc)
 value_front {K} (x ∷ live) s handle value e = by_test (x.handle == handle) (value_at live handle) (value_at (live ++ s ∷ []) handle) (value_front live s handle value) e
   where

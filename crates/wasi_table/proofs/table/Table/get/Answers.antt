@@ -1,7 +1,12 @@
-use Rattle.wasi_table.proofs.Entries.{value_found}
+use Rattle.std.proofs.Common.{refl, sym}
+use Rattle.wasi_table.proofs.Leads.{has_slot, value_found, is_dead}
 use Rattle.wasi_table.proofs.table.Table.get.Goals as goal
 
+pub index-requires : goal.index-requires
+index-requires g c = has_slot _ _ _ _ _ c.self.invariant (sym c.in-Some.ensures)
+
 pub returns-in-Some-clause-found : goal.returns-in-Some-clause-found
-returns-in-Some-clause-found g c =
-    let here = rw c.as_slice.ensures.value at c.in-Some.ensures.place in
-    rw (← c.self.view_is) (value_found _ _ _ _ here c.index.ensures)
+returns-in-Some-clause-found g c = rw (← c.self.view_is) (value_found _ _ _ _ _ _ c.self.invariant (sym c.in-Some.ensures) c.index.ensures)
+
+pub returns-in-None-clause-missing : goal.returns-in-None-clause-missing
+returns-in-None-clause-missing g c = rw (← c.self.view_is) (refl, is_dead _ _ _ _ c.self.invariant (sym c.in-None.ensures))
