@@ -178,7 +178,8 @@ impl<K> Table<K> {
         }
     }
 
-    /// The slots of the live handles: one for each, with its value, its parent and its live children. Takes no memory.
+    /// The slots of the live handles, under keys of no meaning: one for each, with its value, its parent and its live children.
+    /// Takes no memory.
     pub fn slots(&self) -> &Slab<Slot<K>>
         ensures live { AreOfLive self.now.live result.now }
         ensures each { HasEach self.now.live result.now }
@@ -187,8 +188,8 @@ impl<K> Table<K> {
         &self.slots
     }
 
-    /// Ends a live handle, takes it out of its parent's list, and gives its value. `NoSuchHandle` where it isn't live;
-    /// `HasChildren` where it is and has a live child. Takes no memory.
+    /// Ends a live handle, takes it out from among its parent's children, and gives its value. `NoSuchHandle` where it isn't
+    /// live; `HasChildren` where it is and has a live child. Takes no memory.
     pub fn delete(&mut self, handle: u32) -> Result<K, TableError>
         ensures value { IfOk result (λ v. value_at self.old.live handle ≡ Some v) }
         ensures childless { OnOk result (children_of self.old.live handle ≡ []) }
