@@ -3,5 +3,5 @@ mod Orders
 mod Outs
 mod Puts
 mod Stays
-mod Tables
+pub mod Tables
 mod Writes
