@@ -1,5 +1,5 @@
 -- How a host call's asks continue where it gives no value.
-use Rattle.std.specs.Prelude.{◌≡◌, ℕ, List, length, Option, None, Result, Ok, Err, IsErrAnd}
+use Rattle.std.specs.Prelude.{◌≡◌, ℕ, List, length, Option, None, Result, Ok, Err, IsErrAnd, OnErr}
 use Rattle.std.specs.declared.alloc.AllocError.{AllocError}
 use Rattle.std.proofs.Common.{ap, sym, subst}
 use Rattle.wasi_addr.specs.declared.code.ErrorCode.{ErrorCode}
@@ -101,3 +101,9 @@ fault_exit f r h k = rw (fault_memory r h) (record { ok = tt; err = record { res
 -- or after it, where what follows asks nothing
 pub fault_on : {A B T : Type 0} {asks : Asks A} {a : A} (f : A → Asks B) {s t : Seen} {view : Result T Stop → B} {d : AllocError} (r : Result T Fault) → IsErrAnd r (λ x. x ≡ fault.Memory d) → Reaches asks (Give a) s t → AsksFor (bind asks f) s t view (fault_outcome r)
 fault_on {a = a} f r h k = rw (fault_memory r h) (record { ok = tt; err = record { rest = f a; reached = reaches_on f k } })
+
+-- what is left of a poll that ran out of memory, where the answer and the record are said by equations
+pub left_so : {T R A : Type 0} (polls : R → Asks A) (old : Asks A) (p answer : Result T Refusal) (now left : R) (s t : Seen) → answer ≡ p → left ≡ now → OnErr (outcome p) (Reaches old (polls now) s t) → OnErr (outcome answer) (Reaches old (polls left) s t)
+left_so {T} {R} polls old p answer now left s t a l h =
+    let P : Result T Refusal → R → Type 0 = λ x k. OnErr (outcome x) (Reaches old (polls k) s t) in
+    subst (λ (x : Result T Refusal). P x left) (sym a) (subst (λ (k : R). P p k) (sym l) h)

@@ -14,7 +14,7 @@ use Rattle.wasi_world.specs.Seen.{Seen}
 use Rattle.wasi_world.specs.Asks.{Asks, Give, Ask, AskWrite, bind, Reaches, AsksFor, outcome}
 use Rattle.wasi_world.specs.Typed.{ask_close, told_polled}
 use Rattle.wasi_world.specs.Operation.{Nothing, Item, UdpWritable, LastAsk, CloseLast, Who, Operation, End, Waits, Done, Refused, last_ask, after, round, polls, poll_asks, polled_front}
-use Rattle.wasi_world.proofs.Walks.{asks_gives}
+use Rattle.wasi_world.proofs.Walks.{asks_gives, reaches_in}
 use Rattle.wasi_common.specs.Rounds.{is_going, stays_going}
 use Rattle.wasi_udp.specs.Create.{Create, create_ended, create_poll_asks, IsCreate, IsLeftOfCreate, Unready, ToClose, Ended}
 use Rattle.wasi_udp.specs.Shape.{Socket}
@@ -64,6 +64,18 @@ pub create_polled : (create now : Create) (p : Result (Answer Socket) Refusal) {
 create_polled create now p {s} {t} going h =
     let P : Asks (Result (Answer (Unit {0})) ErrorCode × Udp2Socket) → Type 0 = λ asks. AsksFor asks s t (λ (answer : Result (Answer Socket) ErrorCode). made_of (answer, now)) (outcome p) in
     created_as create now p (subst P (same_tree create) (asks_gives made_of (rw going at h)))
+
+-- out of memory, what is left is a poll of what the record is then
+pub create_left_over : (create now : Create) (p : Result (Answer Socket) Refusal) (s t : Seen) → is_going create.operation ≡ true → is_going now.operation ≡ stays_going p → OnErr (outcome p) (Reaches (create_poll_asks create) (create_poll_asks now) s t)
+    → OnErr (outcome (udp_create_done p)) (Reaches (poll_create_asks (Creating create)) (poll_create_asks (udp_create_settled now p)) s t)
+create_left_over create now (Ok (Ready socket)) s t going still h = tt
+create_left_over create now (Ok Pending) s t going still h = tt
+create_left_over create now (Err (refusal.Code c)) s t going still h = tt
+create_left_over create now (Err (refusal.Memory e)) s t going still h =
+    let whole : Create → Asks (Result (Answer (Unit {0})) ErrorCode × Udp2Socket) = λ c. bind (bind (poll_asks c.operation) (λ ended. Give (create_ended c ended))) (λ done. Give (made_of done)) in
+    let so : Reaches (whole create) (whole now) s t = reaches_in (λ done. Give (made_of done)) (rw (going, still) at h) in
+    let its : Reaches (whole create) (poll_create_asks (Creating now)) s t = subst (λ (asks : Asks (Result (Answer (Unit {0})) ErrorCode × Udp2Socket)). Reaches (whole create) asks s t) (same_tree now) so in
+    subst (λ (asks : Asks (Result (Answer (Unit {0})) ErrorCode × Udp2Socket)). Reaches asks (poll_create_asks (Creating now)) s t) (same_tree create) its
 
 -- == what a poll of the create closes
 -- refused, it closed its network socket; else it closed none

@@ -1,7 +1,7 @@
 //! What a socket is in the middle of, and how it is bound.
 
-ghost use Rattle.std.specs.Prelude.{◌≡◌, false, Ok, true};
-ghost use Rattle.wasi_world.specs.Asks.{AsksFor, outcome};
+ghost use Rattle.std.specs.Prelude.{◌≡◌, false, Ok, OnErr, true};
+ghost use Rattle.wasi_world.specs.Asks.{AsksFor, Reaches, outcome};
 ghost use Rattle.wasi_world.specs.Seen.{Seen};
 ghost use Rattle.wasi_common.specs.Rounds.{is_going, stays_going};
 ghost use Rattle.wasi_tcp.specs.Socket.{side_of};
@@ -113,11 +113,13 @@ impl Tcp2Socket {
         self.poll_bind(world)
     }
 
-    /// Polls the bind that was begun: done, it was started; pending or out of memory, it is kept; refused, nothing is in progress.
+    /// Polls the bind that was begun: done, it was started; pending, it is kept; refused, nothing is in progress. Out of memory, it
+    /// is kept as after its last answered ask: a poll of it asks what is left.
     /// None was begun: `InvalidState`.
     pub(crate) fn poll_bind<W: World>(&mut self, world: &mut W) -> Result<Answer<()>, Refusal>
         requires { (W.seen world.old).ended ≡ false }
         ensures asked { AsksFor (poll_bind_asks self.old) (W.seen world.old) (W.seen world.new) (λ answer. (answer, self.new)) (outcome result) }
+        ensures left { OnErr (outcome result) (Reaches (poll_bind_asks self.old) (poll_bind_asks self.new) (W.seen world.old) (W.seen world.new)) }
         ensures none { MakesNone (W.seen world.old) (W.seen world.new) }
         ensures side { side_of self.new.inner ≡ side_of self.old.inner }
         ensures listening { self.new.listening ≡ self.old.listening }

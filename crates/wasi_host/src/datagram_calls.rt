@@ -157,7 +157,7 @@ impl Store {
     }
 
     /// Sends datagrams on the outgoing stream of the UDP socket of this number, of which there are no more than are permitted. One
-    /// that isn't sent at once becomes a job: the room for it is taken before anything is sent.
+    /// that isn't sent at once becomes a job.
     pub fn send_datagrams<W: World>(
         &mut self,
         world: &mut W,
@@ -172,6 +172,7 @@ impl Store {
         ensures sides { KnowsSides (W.seen world.old) self.old → KnowsSides (W.seen world.new) self.new }
         ensures open { (W.seen world.new).ended ≡ false }
     {
+        // Room for the job comes first, so that a datagram in the background has its job.
         self.jobs.reserve(1)?;
         let Some(socket) = open_udp_mut(&mut self.records, place) else {
             return Err(SocketError::Trap(TrapKind::NoSuchHandle));
@@ -185,7 +186,7 @@ impl Store {
 
     /// Takes at most so many datagrams from the incoming stream of the UDP socket of this number, and at most 16, until their
     /// lengths with one more each reach 65,536. A code is answered where there is no datagram before it, else it is dropped. A
-    /// receive that is in progress then becomes a job: the room for it is taken before anything is received.
+    /// receive that is in progress then becomes a job.
     pub fn receive_datagrams<W: World>(
         &mut self,
         alloc: Global,
@@ -201,6 +202,7 @@ impl Store {
         ensures sides { KnowsSides (W.seen world.old) self.old → KnowsSides (W.seen world.new) self.new }
         ensures open { (W.seen world.new).ended ≡ false }
     {
+        // Room for the job comes first, so that a receive in progress has its job.
         self.jobs.reserve(1)?;
         let Some(socket) = open_udp_mut(&mut self.records, place) else {
             return Err(SocketError::Trap(TrapKind::NoSuchHandle));
@@ -213,7 +215,7 @@ impl Store {
     }
 
     /// Whether the incoming stream of the UDP socket of this number has something to take, a datagram or a code: a receive is begun
-    /// where none is, and becomes a job where it is in progress then. Room for the job is taken first.
+    /// where none is, and becomes a job where it is in progress then.
     pub(crate) fn incoming_ready<W: World>(
         &mut self,
         world: &mut W,

@@ -155,7 +155,7 @@ impl Outgoing {
     }
 
     /// Begins to send a datagram of the socket, and polls that. Pending, it is in the background from then on, and counts as
-    /// sent. Out of memory, what was begun is kept.
+    /// sent.
     fn send_one<W: World>(
         &mut self,
         world: &mut W,

@@ -1,10 +1,11 @@
 //! What goes with a handle.
 
-ghost use Rattle.std.specs.Prelude.{◌≡◌, is_some, false, Ok};
+ghost use Rattle.std.specs.Prelude.{◌≡◌, is_some, false, Ok, OnErr};
 ghost use Rattle.wasi_world.specs.Asks.{AsksFor};
 ghost use Rattle.wasi_host.specs.Records.{tcp2_at};
 ghost use Rattle.wasi_host.specs.Dropping.{release_at, released, wait_at, drop_output_at};
 ghost use Rattle.wasi_host.specs.Host.{fault_outcome};
+ghost use Rattle.wasi_host.specs.Kinds.{without_handle};
 ghost use Rattle.wasi_host.specs.Machine.{drop_asks, drop_kind};
 ghost use Rattle.wasi_host.specs.Sides.{KnowsSides};
 ghost use Rattle.wasi_host.specs.Views.{SameView, state_of};
@@ -76,7 +77,8 @@ impl Store {
     }
 }
 
-/// Drops a handle (`drop` of each resource). Something made under it is live: `HasChildren`. The handle goes at once. A TCP socket
+/// Drops a handle (`drop` of each resource). Something made under it is live: `HasChildren`. The handle goes at once, also where
+/// memory runs out then. A TCP socket
 /// releases its open halves and its network socket, and a UDP socket its network socket; an output waits until its writer is ready,
 /// and an outgoing datagram stream until its datagram in the background is sent or failed, and while it isn't the call is pending;
 /// nothing else waits. A lookup isn't asked about any more, and a pipe gives back its bytes. No call is pending yet: a drop that is continues by
@@ -90,6 +92,7 @@ pub fn drop_handle<W: World>(
     requires open { (W.seen world.old).ended ≡ false }
     requires free { is_some view.old.store.now.standing ≡ false }
     ensures asked { AsksFor (drop_asks (state_of view.old) ids.old this) (W.seen world.old) (W.seen world.new) (λ answer. (answer, state_of view.new)) (fault_outcome result) }
+    ensures gone { OnErr (fault_outcome result) ((state_of view.new).table ≡ without_handle (state_of view.old).table this) }
     ensures sides { KnowsSides (W.seen world.old) view.old.store.now → KnowsSides (W.seen world.new) view.new.store.now }
     ensures view { SameView view.old view.new }
     ensures ids { ids.new ≡ ids.old }
@@ -108,6 +111,7 @@ fn release_kind<W: World>(
 ) -> Result<Answer<()>, Fault>
     requires { (W.seen world.old).ended ≡ false }
     ensures asked { AsksFor (drop_kind (state_of view.old) ids.old kind) (W.seen world.old) (W.seen world.new) (λ answer. (answer, state_of view.new)) (fault_outcome result) }
+    ensures table { (state_of view.new).table ≡ (state_of view.old).table }
     ensures sides { KnowsSides (W.seen world.old) view.old.store.now → KnowsSides (W.seen world.new) view.new.store.now }
     ensures view { SameView view.old view.new }
     ensures ids { ids.new ≡ ids.old }

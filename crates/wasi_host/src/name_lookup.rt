@@ -1,6 +1,6 @@
 //! Lookups of host names: how one is begun and asked about, and how the addresses that it found are handed out.
 
-ghost use Rattle.std.specs.Prelude.{◌≡◌, ◌∷◌, [], ◌<◌, IfOk, false, length, map, Ok, vec_capacity, vec_len};
+ghost use Rattle.std.specs.Prelude.{◌≡◌, ◌∷◌, [], ◌<◌, IfOk, OnErr, false, length, map, Ok, vec_capacity, vec_len};
 ghost use Rattle.wasi_addr.specs.Address.{canonical};
 ghost use Rattle.wasi_world.specs.Asks.{AsksFor};
 ghost use Rattle.wasi_world.specs.Typed.{ask_lookup};
@@ -79,6 +79,7 @@ impl LookupOp {
     fn poll<W: World>(&self, world: &mut W) -> Result<Polled<IpList>, AllocError>
         requires { (W.seen world.old).ended ≡ false }
         ensures asked { AsksFor (ask_lookup self.now.id self.now.host) (W.seen world.old) (W.seen world.new) (λ answer. answer) result }
+        ensures unasked { OnErr result (W.seen world.new ≡ W.seen world.old) }
         ensures none { MakesNone (W.seen world.old) (W.seen world.new) }
         ensures open { (W.seen world.new).ended ≡ false }
     {
@@ -124,10 +125,12 @@ impl Lookup {
         }
     }
 
-    /// Asks the network again, where it hasn't answered yet. Out of memory, it is as it was.
+    /// Asks the network again, where it hasn't answered yet. Out of memory, nothing was asked, and it is as it was.
     pub(crate) fn turn<W: World>(&mut self, world: &mut W) -> Result<(), AllocError>
         requires { (W.seen world.old).ended ≡ false }
         ensures asked { AsksFor (turn_lookup self.old) (W.seen world.old) (W.seen world.new) (λ done. self.new) result }
+        ensures err { OnErr result (self.new ≡ self.old) }
+        ensures unasked { OnErr result (W.seen world.new ≡ W.seen world.old) }
         ensures none { MakesNone (W.seen world.old) (W.seen world.new) }
         ensures open { (W.seen world.new).ended ≡ false }
     {

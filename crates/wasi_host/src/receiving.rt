@@ -48,7 +48,7 @@ impl Receiving {
 }
 
 impl Incoming {
-    /// Begins a receive and polls it, where none was begun. Out of memory, what was begun is kept.
+    /// Begins a receive and polls it, where none was begun.
     fn fetch<W: World>(
         &mut self,
         world: &mut W,
@@ -129,8 +129,7 @@ impl Incoming {
     }
 
     /// Takes at most so many datagrams, while there is room for them. One that hasn't come ends the list, and so does a code, which
-    /// is answered where there is no datagram before it. Room for the list is taken first, so that no datagram is lost for want of
-    /// memory.
+    /// is answered where there is no datagram before it.
     fn receive_all<W: World>(
         &mut self,
         alloc: Global,
@@ -147,6 +146,7 @@ impl Incoming {
         ensures side { socket.new.side ≡ socket.old.side }
         ensures open { (W.seen world.new).ended ≡ false }
     {
+        // Room for the list comes first, so that no datagram is lost for want of memory.
         let mut datagrams = Vec::with_capacity(alloc, most as usize)?;
         let mut room = ROOM;
         for _ in 0..most {

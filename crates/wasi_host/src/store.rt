@@ -264,8 +264,7 @@ impl Store {
         record.check_write(world, op)
     }
 
-    /// Writes to the connection of the socket of this number. A write in progress becomes a job: the room for it is taken
-    /// before the write begins.
+    /// Writes to the connection of the socket of this number. A write in progress becomes a job.
     pub fn write<W: World>(
         &mut self,
         world: &mut W,
@@ -278,6 +277,7 @@ impl Store {
         ensures sides { KnowsSides (W.seen world.old) self.old → KnowsSides (W.seen world.new) self.new }
         ensures open { (W.seen world.new).ended ≡ false }
     {
+        // Room for the job comes first, so that a write that is in progress has its job.
         self.jobs.reserve(1)?;
         let Some(record) = tcp2_mut(&mut self.records, place) else {
             return Err(StreamError::Trap(TrapKind::NoSuchHandle));

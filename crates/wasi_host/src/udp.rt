@@ -2,7 +2,7 @@
 
 ghost use Rattle.std.specs.Prelude.{◌≡◌, true, false, option_map, Some, IfOk, OnErr};
 ghost use Rattle.std.specs.Borrow.{LendsIf, sem};
-ghost use Rattle.wasi_world.specs.Asks.{AsksFor, outcome};
+ghost use Rattle.wasi_world.specs.Asks.{AsksFor, Reaches, outcome};
 ghost use Rattle.wasi_common.specs.Rounds.{is_going, stays_going};
 ghost use Rattle.wasi_host.specs.Records.{open_of};
 ghost use Rattle.wasi_host.specs.Rows.{udp_row, open_row};
@@ -200,11 +200,13 @@ impl Udp2Socket {
         }
     }
 
-    /// Waits for the network socket: done, the socket is there; pending or out of memory, the create is kept; refused, the
-    /// network socket was closed. No create was begun: `InvalidState`.
+    /// Waits for the network socket: done, the socket is there; pending, the create is kept; refused, the network socket was
+    /// closed. No create was begun: `InvalidState`. Out of memory, the create is kept as after its last answered ask: a poll of it
+    /// asks what is left.
     pub(crate) fn poll_create<W: World>(&mut self, world: &mut W) -> Result<Answer<()>, Refusal>
         requires { (W.seen world.old).ended ≡ false }
         ensures asked { AsksFor (poll_create_asks self.old) (W.seen world.old) (W.seen world.new) (λ answer. (answer, self.new)) (outcome result) }
+        ensures left { OnErr (outcome result) (Reaches (poll_create_asks self.old) (poll_create_asks self.new) (W.seen world.old) (W.seen world.new)) }
         ensures held { HoldsFewer (W.seen world.old) (W.seen world.new) (udp_holds self.old) (udp_holds self.new) }
         ensures open { (W.seen world.new).ended ≡ false }
     {
@@ -259,10 +261,12 @@ impl Udp2Socket {
         }
     }
 
-    /// Gives a create up that waits for its network socket: that is closed. Out of memory: nothing was asked, and it is as it was.
+    /// Gives a create up that waits for its network socket: that is closed. Out of memory, nothing was asked, and it is as it was.
     pub(crate) fn give_create_up<W: World>(&mut self, world: &mut W) -> Result<(), AllocError>
         requires { (W.seen world.old).ended ≡ false }
         ensures asked { AsksFor (give_create_up self.old) (W.seen world.old) (W.seen world.new) (λ done. self.new) result }
+        ensures err { OnErr result (self.new ≡ self.old) }
+        ensures unasked { OnErr result (W.seen world.new ≡ W.seen world.old) }
         ensures held { HoldsFewer (W.seen world.old) (W.seen world.new) (udp_holds self.old) (udp_holds self.new) }
         ensures open { (W.seen world.new).ended ≡ false }
     {
@@ -274,13 +278,14 @@ impl Udp2Socket {
         Ok(())
     }
 
-    /// Closes the network socket, where the socket is there, as its drop does. Out of memory: nothing was asked, and it is as
+    /// Closes the network socket, where the socket is there, as its drop does. Out of memory, nothing was asked, and it is as
     /// it was.
     pub(crate) fn close<W: World>(&mut self, world: &mut W, op: OpId) -> Result<(), AllocError>
         requires { (W.seen world.old).ended ≡ false }
         ensures asked { AsksFor (close_udp_asks op self.old) (W.seen world.old) (W.seen world.new) (λ done. (done, self.new)) result }
         ensures held { HoldsFewer (W.seen world.old) (W.seen world.new) (udp_holds self.old) (udp_holds self.new) }
         ensures err { OnErr result (self.new ≡ self.old) }
+        ensures unasked { OnErr result (W.seen world.new ≡ W.seen world.old) }
         ensures open { (W.seen world.new).ended ≡ false }
     {
         let Some(open) = self.as_open() else {
@@ -312,11 +317,13 @@ impl OpenUdp {
         self.poll_bind(world)
     }
 
-    /// Polls the bind that was begun: done, it was started; pending or out of memory, it is kept; refused, nothing is in progress.
+    /// Polls the bind that was begun: done, it was started; pending, it is kept; refused, nothing is in progress. Out of memory, it
+    /// is kept as after its last answered ask: a poll of it asks what is left.
     /// None was begun: `InvalidState`.
     pub(crate) fn poll_bind<W: World>(&mut self, world: &mut W) -> Result<Answer<()>, Refusal>
         requires { (W.seen world.old).ended ≡ false }
         ensures asked { AsksFor (poll_udp_bind_asks self.old) (W.seen world.old) (W.seen world.new) (λ answer. (answer, self.new)) (outcome result) }
+        ensures left { OnErr (outcome result) (Reaches (poll_udp_bind_asks self.old) (poll_udp_bind_asks self.new) (W.seen world.old) (W.seen world.new)) }
         ensures none { MakesNone (W.seen world.old) (W.seen world.new) }
         ensures side { self.new.inner.side ≡ self.old.inner.side }
         ensures open { (W.seen world.new).ended ≡ false }

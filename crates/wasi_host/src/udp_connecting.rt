@@ -1,7 +1,7 @@
 //! How the datagram streams of a UDP socket are made: after a connect, or a disconnect.
 
-ghost use Rattle.std.specs.Prelude.{◌≡◌, true, false, None, Some};
-ghost use Rattle.wasi_world.specs.Asks.{AsksFor, outcome};
+ghost use Rattle.std.specs.Prelude.{◌≡◌, true, false, None, OnErr, Some};
+ghost use Rattle.wasi_world.specs.Asks.{AsksFor, Reaches, outcome};
 ghost use Rattle.wasi_common.specs.Rounds.{is_going, stays_going};
 ghost use Rattle.wasi_host.specs.Datagrams.{with_streams, udp_connect_settled, poll_udp_connect_asks, streams_to, begin_streams_asks};
 ghost use Rattle.wasi_host.specs.Sides.{MakesNone};
@@ -115,11 +115,12 @@ impl OpenUdp {
         Ok(Answer::Ready(()))
     }
 
-    /// Polls the connect that was begun: done, the streams are made; pending or out of memory, it is kept; refused, there are no
-    /// streams. None was begun: `InvalidState`.
+    /// Polls the connect that was begun: done, the streams are made; pending, it is kept; refused, there are no streams. None was
+    /// begun: `InvalidState`. Out of memory, it is kept as after its last answered ask: a poll of it asks what is left.
     pub(crate) fn poll_connect<W: World>(&mut self, world: &mut W) -> Result<Answer<()>, Refusal>
         requires { (W.seen world.old).ended ≡ false }
         ensures asked { AsksFor (poll_udp_connect_asks self.old) (W.seen world.old) (W.seen world.new) (λ answer. (answer, self.new)) (outcome result) }
+        ensures left { OnErr (outcome result) (Reaches (poll_udp_connect_asks self.old) (poll_udp_connect_asks self.new) (W.seen world.old) (W.seen world.new)) }
         ensures none { MakesNone (W.seen world.old) (W.seen world.new) }
         ensures side { self.new.inner.side ≡ self.old.inner.side }
         ensures open { (W.seen world.new).ended ≡ false }
