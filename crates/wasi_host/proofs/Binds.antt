@@ -52,7 +52,7 @@ bind_left r socket op now (Err (refusal.Code c)) s t same e h = tt
 bind_left r socket op now (Err (refusal.Memory m)) s t same e h =
     let rest : Who → Asks (Result (Answer (Unit {0})) ErrorCode × Tcp2Socket) = λ w. bind (poll_asks now) (λ ended. Give (bind_ended (record { who = w; left = now.left }) r ended)) in
     let so : Reaches (poll_binding r (Binding op)) (rest op.who) s t =
-        subst (λ (asks : Asks (Result (Answer (Unit {0})) ErrorCode × Tcp2Socket)). Reaches (poll_binding r (Binding op)) asks s t) (λ i. bind (poll_asks now) (λ ended. Give (bind_answer ended.0, with_progress r (progress_so op now.left ended i)))) (reaches_in (λ ended. Give (bind_ended op r ended)) h.ended) in
+    subst (λ (asks : Asks (Result (Answer (Unit {0})) ErrorCode × Tcp2Socket)). Reaches (poll_binding r (Binding op)) asks s t) (λ i. bind (poll_asks now) (λ ended. Give (bind_answer ended.0, with_progress r (progress_so op now.left ended i)))) (reaches_in (λ ended. Give (bind_ended op r ended)) h.ended) in
     let its : Reaches (poll_binding r (Binding op)) (rest now.who) s t = subst (λ (w : Who). Reaches (poll_binding r (Binding op)) (rest w) s t) (sym h.who) so in
     let here : Reaches (poll_bind_asks r) (rest now.who) s t = subst (λ (x : InProgress). Reaches (poll_binding r x) (rest now.who) s t) (sym e) its in
     subst (λ (k : Socket). Reaches (poll_bind_asks r) (poll_bind_asks (with_progress (record r { inner = k }) (Binding now))) s t) (sym same) here

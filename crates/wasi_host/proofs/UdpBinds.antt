@@ -52,7 +52,7 @@ udp_bind_left o op now (Err (refusal.Code c)) s t e h = tt
 udp_bind_left o op now (Err (refusal.Memory m)) s t e h =
     let rest : Who → Asks (Result (Answer (Unit {0})) ErrorCode × OpenUdp) = λ w. bind (poll_asks now) (λ ended. Give (udp_bind_ended (record { who = w; left = now.left }) o ended)) in
     let so : Reaches (poll_udp_binding o (Binding op)) (rest op.who) s t =
-        subst (λ (asks : Asks (Result (Answer (Unit {0})) ErrorCode × OpenUdp)). Reaches (poll_udp_binding o (Binding op)) asks s t) (λ i. bind (poll_asks now) (λ ended. Give (bind_answer ended.0, with_udp_progress o (progress_so op now.left ended i)))) (reaches_in (λ ended. Give (udp_bind_ended op o ended)) h.ended) in
+    subst (λ (asks : Asks (Result (Answer (Unit {0})) ErrorCode × OpenUdp)). Reaches (poll_udp_binding o (Binding op)) asks s t) (λ i. bind (poll_asks now) (λ ended. Give (bind_answer ended.0, with_udp_progress o (progress_so op now.left ended i)))) (reaches_in (λ ended. Give (udp_bind_ended op o ended)) h.ended) in
     let its : Reaches (poll_udp_binding o (Binding op)) (rest now.who) s t = subst (λ (w : Who). Reaches (poll_udp_binding o (Binding op)) (rest w) s t) (sym h.who) so in
     subst (λ (x : UdpInProgress). Reaches (poll_udp_binding o x) (rest now.who) s t) (sym e) its
 
