@@ -17,10 +17,11 @@ use Rattle.wasi_causes.proofs.streams.Halves.{OutputRow, outputs}
 use Rattle.wasi_causes.proofs.tables.Meets.{Rows, Meets, ends, onto, widen, granted, branch}
 use Rattle.wasi_causes.proofs.tables.Routes.{full_so, apart, code_word}
 use Rattle.wasi_causes.specs.Outcomes.{Outcome, Always}
-use Rattle.wasi_causes.specs.Udp.{GivesBy, ClosesBy}
+use Rattle.wasi_causes.specs.Failed.{left_failed}
+use Rattle.wasi_causes.specs.Udp.{GivesBy}
 use Rattle.wasi_host.specs.Pending.{gone_on, created_on, streams_on}
 use Rattle.wasi_causes.proofs.udp_streams.Makes.{makes_both, marks_of}
-use Rattle.wasi_causes.proofs.operations.ConnectPolls.{udp_connect_ends}
+use Rattle.wasi_causes.proofs.operations.ConnectPolls.{ConnectRow, udp_connect_gives}
 use Rattle.wasi_causes.proofs.operations.Marks.{poll_marks_none}
 use Rattle.wasi_causes.specs.Datagrams.{LacksRoomForStreams, PendingHandleIsLive, with_both}
 use Rattle.wasi_host.specs.DatagramCalls.{drop_outgoing_at, drop_outgoing_by, mark_streams, mark_streams_of, reconnect_udp_at, remake_streams_asks, streams_so}
@@ -46,6 +47,8 @@ use Rattle.wasi_walks.proofs.UdpLists.{udp_set_there}
 use Rattle.wasi_walks.specs.Waiting.{CreateFailed, CreateWaits, IsCreating, IsRestOfUdpConnect, IsUdpBinding, IsUdpConnecting, UdpConnectFailed, UdpConnectFails, UdpConnectWaits, UdpBindFailed, UdpBindFails, UdpBindWaits}
 use Rattle.wasi_host.specs.declared.listening.Listening.TheVariants as listening
 use Rattle.wasi_host.specs.declared.pending.Outcome.{Outcome as Given}
+use Rattle.wasi_udp.specs.Connect.{with_given}
+use Rattle.wasi_world.specs.Operation.{Given as GivenByConnect}
 use Rattle.wasi_host.specs.declared.store.StandingCall.TheVariants.{Bind, Listen, DropOutput}
 use Rattle.wasi_steps.specs.declared.reply.Reply.TheVariants as reply
 use Rattle.wasi_steps.specs.declared.step.Step.TheVariants as step
@@ -70,16 +73,6 @@ gives_none m after (Bind place) plain same = (refl, same)
 gives_none m after (Listen place) plain same = (refl, same)
 gives_none m after (DropOutput place) plain same = (refl, same)
 gives_none m after (StandingCall.UdpBind place) plain same = (refl, same)
-
-pub closes_none : (after : Machine) (call : StandingCall) → IsOfNoCreate call → ClosesBy after call
-closes_none after (StandingCall.UdpCreate place) plain = absurd plain
-closes_none after (StandingCall.UdpConnect place handle) plain = tt
-closes_none after (StandingCall.Blocking call) plain = absurd plain
-closes_none after (StandingCall.DropOutgoing place) plain = tt
-closes_none after (Bind place) plain = tt
-closes_none after (Listen place) plain = tt
-closes_none after (DropOutput place) plain = tt
-closes_none after (StandingCall.UdpBind place) plain = tt
 
 the_same : {x y : Standing} → Some x ≡ Some y → x ≡ y
 the_same e = cc
@@ -123,13 +116,17 @@ module _ (contexts : List WasiSocketsCtx) (m : Machine) (line : ℕ) (ids : Ids)
     pub done : (es : List Entry) (after : Machine) → after.store.standing ≡ None → GivesBy m no_fields after call → Row es (reply.Ok no_fields, after)
     done es after none gives = (it_ends es (reply.Ok no_fields) after (λ e. cc) none, (inl (inl tt), subst (λ (o : Option Standing). IsSomeAnd o (λ s. GivesBy m no_fields after s.call)) (sym stands) gives))
 
-    pub fails : (es : List Entry) (after : Machine) (code : ErrorCode) → after.store.standing ≡ None → after.table ≡ m.table → (PendingCallsFit m → CallFails m es call code × ClosesBy after call) → Row es (reply.Err (word_of_code code), after)
+    -- it failed with this code, and left this machine
+    abbrev pub FailsSo : List Entry → ErrorCode → Machine → Type 0
+    FailsSo es code after = (why : CallFails m es call code) × (after ≡ left_failed m why)
+
+    pub fails : (es : List Entry) (after : Machine) (code : ErrorCode) → after.store.standing ≡ None → after.table ≡ m.table → (PendingCallsFit m → FailsSo es code after) → Row es (reply.Err (word_of_code code), after)
     fails es after code none same cause = (
       it_ends es (reply.Err (word_of_code code)) after (λ e. cc) none,
       (
         code_word code,
         (
-          λ fits. (record { ids = ids; call = call; code = code; stands = stands; number = refl; cause = (cause fits).0; word_is = refl }, subst (λ (o : Option Standing). IsSomeAnd o (λ s. ClosesBy after s.call)) (sym stands) (cause fits).1),
+          λ fits. record { fails = record { ids = ids; call = call; code = code; stands = stands; number = refl; cause = (cause fits).0; word_is = refl }; left = (cause fits).1 },
           same,
         ),
       ),
@@ -138,16 +135,16 @@ module _ (contexts : List WasiSocketsCtx) (m : Machine) (line : ℕ) (ids : Ids)
     pub waits : (es : List Entry) (after : Machine) → after.table ≡ m.table → after.store.standing ≡ Some (standing_as ids call) → (PendingCallsFit m → CallWaits m (own_of n) es call) → Row es (reply.Pending n, after)
     waits es after same on cause = ((apart (λ e. cc) stands_so, λ same. inl refl, no_blocking es (reply.Pending n) after), ((refl, rw on refl), (λ binds. subst (λ (o : Option Standing). IsSomeAnd o (λ s. CallWaits m (own_of n) es s.call)) (sym stands) (cause binds), same, λ other. on ∙ sym stands)))
 
-    -- what is due for an answer
-    abbrev pub Due : List Entry → Result (Answer (Unit {0})) ErrorCode → Type 0
-    Due es (Ok Pending) = PendingCallsFit m → CallWaits m (own_of n) es call
-    Due es (Ok (Ready given)) = Unit {0}
-    Due es (Err code) = PendingCallsFit m → CallFails m es call code
+    -- what is due for an answer that leaves this machine
+    abbrev pub Due : List Entry → Result (Answer (Unit {0})) ErrorCode → Machine → Type 0
+    Due es (Ok Pending) after = PendingCallsFit m → CallWaits m (own_of n) es call
+    Due es (Ok (Ready given)) after = Unit {0}
+    Due es (Err code) after = PendingCallsFit m → FailsSo es code after
 
-    pub answered_so : IsOfNoCreate call → (es : List Entry) (begun : Result (Answer (Unit {0})) ErrorCode × Tcp2Socket) → Due es begun.0 → CallRow es (call_answered free ids call begun)
+    pub answered_so : IsOfNoCreate call → (es : List Entry) (begun : Result (Answer (Unit {0})) ErrorCode × Tcp2Socket) → Due es begun.0 (record m { store = with_socket free (call_place call) begun.1 }) → CallRow es (call_answered free ids call begun)
     answered_so plain es (Ok Pending, r) h = waits es (record m { store = record (with_socket free (call_place call) r) { standing = Some (standing_as ids call) } }) refl refl h
     answered_so plain es (Ok (Ready given), r) h = let left : Machine = record m { store = with_socket free (call_place call) r } in done es left refl (gives_none m left call plain refl)
-    answered_so plain es (Err code, r) h = let left : Machine = record m { store = with_socket free (call_place call) r } in fails es left code refl refl (λ fits. (h fits, closes_none left call plain))
+    answered_so plain es (Err code, r) h = fails es (record m { store = with_socket free (call_place call) r }) code refl refl h
 
     pub missing : IsOnNothing m call → Row [] (reply.Trap NoSuchHandle, nothing_stands m)
     missing nothing = (it_ends [] (reply.Trap NoSuchHandle) (nothing_stands m) (λ e. cc) refl, (rw (stands, eq-eqb n n refl) nothing, λ live. (refl, refl)))
@@ -180,7 +177,7 @@ module _ (contexts : List WasiSocketsCtx) (m : Machine) (line : ℕ) (ids : Ids)
         listen_ends : (es : List Entry) (end : End × List Item) → (IsListening r.inner.state (listening.Begins op) → EndsFor op (ListenEnds op) es end) → ListenRow es (listen_polled r (listen_ended op.who r.inner end))
         listen_ends es (Waits, items) h = answered_so (Listen place) stands (λ k. k) tt es (listen_polled r (listen_ended op.who r.inner (Waits, items))) (λ binds. listen_waits es (h (is_listen binds)))
         listen_ends es (Done given, items) h = answered_so (Listen place) stands (λ k. k) tt es (listen_polled r (listen_ended op.who r.inner (Done given, items))) tt
-        listen_ends es (Refused code given, items) h = answered_so (Listen place) stands (λ k. k) tt es (listen_polled r (listen_ended op.who r.inner (Refused code given, items))) (λ binds. ListenFailed place r op code at is (h (is_listen binds)))
+        listen_ends es (Refused code given, items) h = answered_so (Listen place) stands (λ k. k) tt es (listen_polled r (listen_ended op.who r.inner (Refused code given, items))) (λ binds. (ListenFailed place r op code at is (h (is_listen binds)), refl))
 
         begun : Meets ListenRow [] (poll_begun r op)
         begun =
@@ -223,7 +220,7 @@ module _ (contexts : List WasiSocketsCtx) (m : Machine) (line : ℕ) (ids : Ids)
         bind_ends : (es : List Entry) (end : End × List Item) → (IsRestOfBind op → EndsFor op (BindFails op) es end) → BindRow es (bind_ended op r end)
         bind_ends es (Waits, items) h = answered_so (Bind place) stands (λ k. k) tt es (bind_ended op r (Waits, items)) (λ binds. bind_waits es (h (is_bind binds)))
         bind_ends es (Done given, items) h = answered_so (Bind place) stands (λ k. k) tt es (bind_ended op r (Done given, items)) tt
-        bind_ends es (Refused code given, items) h = answered_so (Bind place) stands (λ k. k) tt es (bind_ended op r (Refused code given, items)) (λ binds. BindFailed place r op code at is (h (is_bind binds)))
+        bind_ends es (Refused code given, items) h = answered_so (Bind place) stands (λ k. k) tt es (bind_ended op r (Refused code given, items)) (λ binds. (BindFailed place r op code at is (h (is_bind binds)), refl))
 
       rebinds_by : (doing : InProgress) → r.in_progress ≡ doing → Meets BindRow [] (poll_binding r doing)
       rebinds_by (Binding op) is = onto _ (widen (bind_ends op is) (granted (bind_polls op)))
@@ -276,7 +273,7 @@ module _ (contexts : List WasiSocketsCtx) (m : Machine) (line : ℕ) (ids : Ids)
           marks_udp made_so place (opened_udp (made_by create)) there
           (λ full. (it_ends (StandingCall.UdpCreate place) stands (λ k. k) es (reply.Trap Full) made_so (λ e. cc) refl, (tt, full_so m made_so es full refl k.0, inl (full, is_create))))
           (it_ends (StandingCall.UdpCreate place) stands (λ k. k) (es ++ mark ∷ []) (reply.Ok (number_fields m.table.next)) (record made_so { table = with_handle m.table (Udp2 place) None }) (λ e. cc) refl, (inl (inr (inl (tt, tt))), gives_handle))
-      create_ended es (Refused code given, items) k = ends (fails (StandingCall.UdpCreate place) stands (λ k. k) es (record m { store = with_udp free place (udp.Closed create.operation.who.side) }) code refl refl (λ fits. (CreateFailed place create code at (k.1 fits), (create.operation.who.side, udp_set_there m.store.records place (udp.Creating create) (udp.Closed create.operation.who.side) at))))
+      create_ended es (Refused code given, items) k = ends (fails (StandingCall.UdpCreate place) stands (λ k. k) es (record m { store = with_udp free place (udp.Closed create.operation.who.side) }) code refl refl (λ fits. (CreateFailed place create code at (k.1 fits), refl)))
 
     recreates_by : (u : Udp2Socket) → udp2_at m.store.records place ≡ Some u → Meets (λ es done. MadeRow es (create_answered free place done)) [] (poll_create_asks u)
     recreates_by (udp.Creating create) at = onto _ (widen (create_ended create at) (both (record { along = poll_marks_none create.operation }) (granted (λ fits. create_ends create.operation (creates_on (udp.Creating create) at fits)))))
@@ -296,10 +293,10 @@ module _ (contexts : List WasiSocketsCtx) (m : Machine) (line : ℕ) (ids : Ids)
       abbrev UdpBindRow : Rows (Result (Answer (Unit {0})) ErrorCode × OpenUdp)
       UdpBindRow es begun = CallRow es (udp_call_answered free ids (StandingCall.UdpBind place) begun)
 
-      udp_answered_so : (es : List Entry) (begun : Result (Answer (Unit {0})) ErrorCode × OpenUdp) → Due (StandingCall.UdpBind place) stands (λ k. k) es begun.0 → UdpBindRow es begun
+      udp_answered_so : (es : List Entry) (begun : Result (Answer (Unit {0})) ErrorCode × OpenUdp) → Due (StandingCall.UdpBind place) stands (λ k. k) es begun.0 (record m { store = with_open_udp free place begun.1 }) → UdpBindRow es begun
       udp_answered_so es (Ok Pending, now) h = waits (StandingCall.UdpBind place) stands (λ k. k) es (record m { store = record (with_open_udp free place now) { standing = Some (standing_as ids (StandingCall.UdpBind place)) } }) refl refl h
       udp_answered_so es (Ok (Ready given), now) h = done (StandingCall.UdpBind place) stands (λ k. k) es (record m { store = with_open_udp free place now }) refl (refl, refl)
-      udp_answered_so es (Err code, now) h = fails (StandingCall.UdpBind place) stands (λ k. k) es (record m { store = with_open_udp free place now }) code refl refl (λ fits. (h fits, tt))
+      udp_answered_so es (Err code, now) h = fails (StandingCall.UdpBind place) stands (λ k. k) es (record m { store = with_open_udp free place now }) code refl refl h
 
       udp_goes_on : PendingCallsFit m → IsUdpBinding o.in_progress
       udp_goes_on fits = let k : IfSome (open_at m.store.records place) (λ q. IsUdpBinding q.in_progress) = rw stands at fits in rw at at k
@@ -314,7 +311,7 @@ module _ (contexts : List WasiSocketsCtx) (m : Machine) (line : ℕ) (ids : Ids)
         udp_ended : (es : List Entry) (end : End × List Item) → (PendingCallsFit m → EndsFor op (UdpBindFails op) es end) → UdpBindRow es (udp_bind_ended op o end)
         udp_ended es (Waits, items) h = udp_answered_so es (udp_bind_ended op o (Waits, items)) (λ fits. udp_bind_waits es (h fits))
         udp_ended es (Done given, items) h = udp_answered_so es (udp_bind_ended op o (Done given, items)) tt
-        udp_ended es (Refused code given, items) h = udp_answered_so es (udp_bind_ended op o (Refused code given, items)) (λ fits. UdpBindFailed place o op code at is (h fits))
+        udp_ended es (Refused code given, items) h = udp_answered_so es (udp_bind_ended op o (Refused code given, items)) (λ fits. (UdpBindFailed place o op code at is (h fits), refl))
 
       udp_rebinds_by : (doing : UdpInProgress) → o.in_progress ≡ doing → Meets UdpBindRow [] (poll_udp_binding o doing)
       udp_rebinds_by (doing.Binding op) is = onto _ (widen (udp_ended op is) (granted (λ fits. udp_bind_ends op (is_udp_bind op is fits))))
@@ -363,15 +360,16 @@ module _ (contexts : List WasiSocketsCtx) (m : Machine) (line : ℕ) (ids : Ids)
         connect_waits : (es : List Entry) → EndsPending op.who.id es → CallWaits m (own_of n) es the_call
         connect_waits es h = let k : UdpConnectWaits o.connecting es = rw is h in rw at k
 
-        connect_ended : (es : List Entry) (end : End × List Item) → (marks_in es ≡ 0) × (PendingCallsFit m → EndsFor op (UdpConnectFails op) es end) → ConnectedRow es (udp_call_answered free ids the_call (udp_connect_ended op o end))
+        connect_ended : (es : List Entry) (end : End × List Item) → (marks_in es ≡ 0) × (PendingCallsFit m → ConnectRow op es end) → ConnectedRow es (udp_call_answered free ids the_call (udp_connect_ended op o end))
         connect_ended es (Waits, items) k =
             ends (waits the_call stands (λ k. k) es (record m { store = record (with_open_udp free place (udp_connect_left op o (Waits, items))) { standing = Some (standing_as ids the_call) } }) refl refl (λ fits. connect_waits es (k.1 fits)))
         connect_ended es (Done given, items) k = marked es (with_open_udp free place (udp_connect_left op o (Done given, items))) refl k.0 (udp_socket_at m handle) refl
         connect_ended es (Refused code given, items) k =
-            ends (fails the_call stands (λ k. k) es (record m { store = with_open_udp free place (udp_connect_left op o (Refused code given, items)) }) code refl refl (λ fits. (UdpConnectFailed place handle o op code at is (k.1 fits), tt)))
+            ends (fails the_call stands (λ k. k) es (record m { store = with_open_udp free place (udp_connect_left op o (Refused code given, items)) }) code refl refl
+            (λ fits. let it = k.1 fits in (UdpConnectFailed place handle o op code at is it.why, ap (λ (g : GivenByConnect). record m { store = with_open_udp free place (record o { inner = with_given o.inner g; connecting = None }) }) it.gives)))
 
       reconnects_by : (doing : Option Operation) → o.connecting ≡ doing → Meets (λ es done. ConnectedRow es (udp_call_answered free ids the_call done)) [] (poll_udp_connecting o doing)
-      reconnects_by (Some op) is = onto _ (widen (connect_ended op is) (both (record { along = poll_marks_none op }) (granted (λ fits. udp_connect_ends op (is_connect op is fits) []))))
+      reconnects_by (Some op) is = onto _ (widen (connect_ended op is) (both (record { along = poll_marks_none op }) (granted (λ fits. udp_connect_gives op (is_connect op is fits) []))))
       reconnects_by None is = ends (ends (fails the_call stands (λ k. k) [] (record m { store = with_open_udp free place o }) InvalidState refl refl (λ fits. let k = connects_on fits in absurd (rw is at k))))
 
     reconnects : (o : Option OpenUdp) → open_at m.store.records place ≡ o → Meets ConnectedRow [] (reconnect_udp_at free ids place handle o)

@@ -14,4 +14,5 @@ pub mod Parts
 pub mod Blocking
 pub mod PollableCalls
 pub mod Cancelled
+pub mod Failed
 pub mod MayAnswer

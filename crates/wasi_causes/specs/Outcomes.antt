@@ -25,6 +25,7 @@ use Rattle.wasi_walks.specs.Missing.{MissesInput, MissesHandle, MakesHandle, IsW
 use Rattle.wasi_walks.specs.Waiting.{nothing_stands}
 use Rattle.wasi_causes.specs.Blocking.{BeginsToWrite, BlockingCallStands, BlocksAs, IsShort, StreamCallStands}
 use Rattle.wasi_causes.specs.Cancelled.{CancelsBy, IsCancel}
+use Rattle.wasi_causes.specs.Failed.{FailureLeaves}
 use Rattle.wasi_causes.specs.MayAnswer.{AreLike, IsBlockingWrite, IsCodeWord, IsStreamCall, MayRefuse}
 use Rattle.wasi_causes.specs.Parts.{Skips, Splices}
 use Rattle.wasi_causes.specs.PollableCalls.{BeginsToWait, BlocksOn, IsEmptyWait, WatchedAreThere}
@@ -46,7 +47,7 @@ use Rattle.wasi_walks.specs.Answered.{open_udp_at, outgoing_in, CheckFails, clos
 use Rattle.wasi_machine.specs.Machine.{first_ids, context_at}
 use Rattle.wasi_steps.specs.Replies.{kinds_of}
 use Rattle.wasi_steps.specs.Reply.{family_fields, no_fields, number_fields, triple_fields, truth_fields}
-use Rattle.wasi_walks.specs.Waiting.{IsPoll, IsUnready, left_missing, MayStand, OfWatched, OutputWaits, pollable_mark, StandingFails, StandingWaits, PendingCallsFit, WatchesAccept, WatchesConnect, WatchesIdle}
+use Rattle.wasi_walks.specs.Waiting.{IsPoll, IsUnready, left_missing, MayStand, OfWatched, OutputWaits, pollable_mark, StandingWaits, PendingCallsFit, WatchesAccept, WatchesConnect, WatchesIdle}
 use Rattle.wasi_causes.specs.GivenUp.{IsDrop, HasLiveChildren, HasNoStreams, IsGone, LooksOnce, shut_down, shutdown_entries, socket_given_up, without}
 use Rattle.wasi_world.specs.declared.call.Call.TheVariants as call
 use Rattle.wasi_world.specs.declared.call.Entry.{Entry}
@@ -82,7 +83,7 @@ use Rattle.wasi_host.specs.Names.{next_name}
 use Rattle.wasi_causes.specs.SendCauses.{ReceivesSome, SendsSome, UdpReceiveRefusal, UdpSendRefusal}
 use Rattle.wasi_causes.specs.StreamCauses.{HasNewStreams, MakesStreams, UdpStreamRefusal, StreamsStand}
 use Rattle.wasi_causes.specs.Datagrams.{IsUdpSend, IsUdpStream, HasUdpStreams, IsSpent, OfIncoming, OfOutgoing, LacksRoomForBoth, MadeBoth, PermitsSend, PendingHandleIsLive, LacksRoomForStreams, IsReceiving, WatchesDatagrams, WatchesIncoming, WatchesOutgoing, OutgoingWaits, IncomingGone, OutgoingGone}
-use Rattle.wasi_causes.specs.Udp.{OfUdp, RefusedOfUdp, HasUdpInProgress, HasNoUdpBind, KeepsNoRemote, WatchesUdp, udp_create_entry, writable_entry, with_udp_record, new_udp, UdpCreateRefusal, CreatesUdp, CreateStands, KnowsUdpBound, UdpBindRefusal, BindsUdp, UdpBindStands, FinishesUdpBind, UdpLocalRefusal, TellsUdpLocal, TellsUdpRemote, UdpGetRefusal, GetsUdpOption, UdpSetRefusal, SetsUdpOption, udp_given_up, udp_shut, GivesBy, ClosesBy, IsPendingCreate}
+use Rattle.wasi_causes.specs.Udp.{OfUdp, RefusedOfUdp, HasUdpInProgress, HasNoUdpBind, KeepsNoRemote, WatchesUdp, udp_create_entry, writable_entry, with_udp_record, new_udp, UdpCreateRefusal, CreatesUdp, CreateStands, KnowsUdpBound, UdpBindRefusal, BindsUdp, UdpBindStands, FinishesUdpBind, UdpLocalRefusal, TellsUdpLocal, TellsUdpRemote, UdpGetRefusal, GetsUdpOption, UdpSetRefusal, SetsUdpOption, udp_given_up, udp_shut, GivesBy, IsPendingCreate}
 
 -- == what holds whatever the reply is
 -- a start is refused so exactly where an operation is in progress
@@ -287,7 +288,7 @@ Refused contexts m line (step.UdpSend c s datagrams) es w after = OfOutgoing m (
 Refused contexts m line (step.UdpStream c s remote) es w after = RefusedOfUdp m s (λ place o. UdpStreamRefusal m (own_of line) place o remote) es w after
 Refused contexts m line (step.Resolve c n name) es w after = ResolveRefusal (own_of line) (context_at contexts c) name es w × (after ≡ m)
 Refused contexts m line (step.ResolveNext c h) es w after = after ≡ m
-Refused contexts m line (step.Poll n) es w after = (PendingCallsFit m → StandingFails m n es w × IsSomeAnd m.store.standing (λ s. ClosesBy after s.call)) × (after.table ≡ m.table)
+Refused contexts m line (step.Poll n) es w after = (PendingCallsFit m → FailureLeaves m n es w after) × (after.table ≡ m.table)
 Refused contexts m line s es w after = ⊤
 
 -- == the ends of a stream's call

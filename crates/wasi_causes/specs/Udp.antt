@@ -259,11 +259,6 @@ GivesBy m fields after (standing.UdpConnect place handle) = MadeBoth m handle fi
 GivesBy m fields after (standing.Blocking call) = GivesOf call fields × (after.table ≡ m.table)
 GivesBy m fields after _ = (fields ≡ no_fields) × (after.table ≡ m.table)
 
--- of a create that is refused only the name of its network socket is left
-abbrev pub ClosesBy : Machine → StandingCall → Type 0
-ClosesBy after (standing.UdpCreate place) = (side : OpId) × (udp2_at after.store.records place ≡ Some (udp.Closed side))
-ClosesBy after _ = Unit {0}
-
 -- it is a create
 abbrev pub IsPendingCreate : StandingCall → Type 0
 IsPendingCreate (standing.UdpCreate place) = Unit {0}

@@ -28,6 +28,7 @@ ghost use Rattle.wasi_walks.specs.Answered.{Answered, ConnectsAt, CreateRefusal,
 ghost use Rattle.wasi_walks.specs.Missing.{IsWrite, MakesHandle, MissesHandle, StandsOnNothing};
 ghost use Rattle.wasi_causes.specs.Blocking.{StreamCallStands};
 ghost use Rattle.wasi_causes.specs.Cancelled.{IsCancel};
+ghost use Rattle.wasi_causes.specs.Failed.{FailureLeaves};
 ghost use Rattle.wasi_causes.specs.Outcomes.{may_answer, EachMayAnswer, InputIsThere, IsBlockingWrite, LaterPartIsThere, Outcome};
 ghost use Rattle.wasi_causes.specs.Plain.{containing, leaving, WatchesPlain};
 ghost use Rattle.wasi_causes.specs.PollableCalls.{IsEmptyWait, WatchedIsThere};
@@ -47,7 +48,7 @@ ghost use Rattle.wasi_host.specs.Standing.{stands_as};
 ghost use Rattle.wasi_steps.specs.Reply.{bytes_fields, no_fields, number_fields, truth_fields};
 ghost use Rattle.wasi_causes.specs.Lookups.{LookedOn, LookupWaits};
 ghost use Rattle.wasi_causes.specs.Turns.{IsOfJob};
-ghost use Rattle.wasi_walks.specs.Waiting.{IsFailure, IsPoll, IsUnready, left_missing, MayStand, OfWatched, OutputWaits, pollable_mark, StandingFails, StandingWaits, PendingCallsFit, WatchesAccept, WatchesConnect, WatchesIdle};
+ghost use Rattle.wasi_walks.specs.Waiting.{IsFailure, IsPoll, IsUnready, left_missing, MayStand, OfWatched, OutputWaits, pollable_mark, StandingWaits, PendingCallsFit, WatchesAccept, WatchesConnect, WatchesIdle};
 ghost use Rattle.wasi_host.specs.InProgress.{is_connect};
 ghost use Rattle.wasi_host.specs.Store.{with_record};
 ghost use Rattle.wasi_table.specs.Table.{children_of, is_full};
@@ -134,9 +135,12 @@ pub fn traps_have_causes()
 /// it was; no other step but a cancel is answered so. A poll of a pending call leaves it pending, or leaves nothing pending. It is refused
 /// with the word of the code by which the bind, the listen, the create or the connect of datagram streams failed: a check was
 /// answered no, or another of its asks was answered with the code, by its own operation, and a listen and a create closed their
-/// network socket last, and a connect that was answered asked for the remote address. That is said where what is pending as a bind
-/// is a bind, as a listen a listen, as a create a create, and as datagram streams a connect, as it is after any lines. In a run a
-/// poll traps only for lack of room for the handle of a create, for the two of datagram streams, or for that of a stream's error.
+/// network socket last, and a connect that was answered asked for the remote address. Nothing is pending then, and the machine is as it
+/// was but for the call's record: its bind, its listen or its connect is in progress no more, of a create it has only the name
+/// of the network socket, and after a connect that was answered with a code the remote address is what was reported. That is said
+/// where what is pending as a bind is a bind, as a listen a listen, as a create a create, and as datagram streams a connect, as it is
+/// after any lines. In a run a poll traps only for lack of room for the handle of a create, for the two of datagram streams, or for
+/// that of a stream's error.
 pub fn polls_find_their_call()
     ensures exactly { (contexts : List WasiSocketsCtx) (m : Machine) (line n : ℕ) (entries : List Entry) (reply : Reply) (after : Machine)
         → Answered contexts m line (Step.Poll n) entries reply after → (reply ≡ Reply.NoSuchCall) ↔ (stands_as m.store.standing n ≡ false) }
@@ -147,7 +151,7 @@ pub fn polls_find_their_call()
     ensures ends { (contexts : List WasiSocketsCtx) (m : Machine) (line n : ℕ) (entries : List Entry) (reply : Reply) (after : Machine)
         → stands_as m.store.standing n ≡ true → Answered contexts m line (Step.Poll n) entries reply after → (reply ≡ Reply.Pending n) ⊎ (after.store.standing ≡ None) }
     ensures refused { (contexts : List WasiSocketsCtx) (m : Machine) (line n : ℕ) (entries : List Entry) (word : CodeWord) (after : Machine)
-        → PendingCallsFit m → Answered contexts m line (Step.Poll n) entries (Reply.Err word) after → StandingFails m n entries word }
+        → PendingCallsFit m → Answered contexts m line (Step.Poll n) entries (Reply.Err word) after → FailureLeaves m n entries word after }
     ensures traps { (contexts : List WasiSocketsCtx) (steps : List Step) (log : List Entry) (replies : List Reply) (m : Machine) (line n : ℕ) (entries : List Entry) (kind : TrapKind) (after : Machine)
         → Left (run contexts [] first_state 1 steps) log (Give (replies, m)) → Answered contexts m line (Step.Poll n) entries (Reply.Trap kind) after
         → (kind ≡ TrapKind.Full) × (((is_full m.table ≡ true) × IsSomeAnd m.store.standing (λ s. IsPendingCreate s.call)) ⊎ (IsSomeAnd m.store.standing (λ s. LacksRoomForStreams m s.call) ⊎ StreamCallStands m)) }

@@ -27,11 +27,10 @@ ghost use Rattle.wasi_steps.specs.Reply.{family_fields, no_fields, truth_fields}
 ghost use Rattle.wasi_steps.specs.Settings.{udp_opt};
 ghost use Rattle.wasi_table.specs.Table.{children_of, is_full};
 ghost use Rattle.wasi_walks.specs.Answered.{Answered, open_udp_at};
-ghost use Rattle.wasi_walks.specs.Waiting.{PendingCallsFit};
 ghost use Rattle.wasi_causes.specs.Blocking.{StreamCallStands};
 ghost use Rattle.wasi_causes.specs.GivenUp.{without};
 ghost use Rattle.wasi_causes.specs.Datagrams.{LacksRoomForStreams};
-ghost use Rattle.wasi_causes.specs.Udp.{OfUdp, RefusedOfUdp, HasUdpInProgress, HasNoUdpBind, KeepsNoRemote, WatchesUdp, udp_create_entry, writable_entry, with_udp_record, new_udp, UdpCreateRefusal, CreatesUdp, CreateStands, KnowsUdpBound, UdpBindRefusal, BindsUdp, UdpBindStands, FinishesUdpBind, UdpLocalRefusal, TellsUdpLocal, TellsUdpRemote, UdpGetRefusal, GetsUdpOption, UdpSetRefusal, SetsUdpOption, udp_given_up, udp_shut, GivesBy, ClosesBy, IsPendingCreate};
+ghost use Rattle.wasi_causes.specs.Udp.{OfUdp, RefusedOfUdp, HasUdpInProgress, HasNoUdpBind, KeepsNoRemote, WatchesUdp, udp_create_entry, writable_entry, with_udp_record, new_udp, UdpCreateRefusal, CreatesUdp, CreateStands, KnowsUdpBound, UdpBindRefusal, BindsUdp, UdpBindStands, FinishesUdpBind, UdpLocalRefusal, TellsUdpLocal, TellsUdpRemote, UdpGetRefusal, GetsUdpOption, UdpSetRefusal, SetsUdpOption, udp_given_up, udp_shut, GivesBy, IsPendingCreate};
 
 /// A create of a UDP socket is refused with `access-denied` where the context may not use UDP, and it asks nothing then; or
 /// with the word of the code that the create was answered, and the machine is as it was then; or with that of the code that the
@@ -200,15 +199,11 @@ pub fn udp_drops_close()
 
 /// A poll that is done gives the next handle, of the socket that was made, where what was pending is a create of a UDP socket;
 /// the next two, where it makes datagram streams; the bytes or the number that a call of a stream gives, or the
-/// places that a wait for pollables gives; and else nothing. One that is refused makes no handle, and of a create it
-/// leaves in the record only the name of the network socket, which was closed: that is said where what is pending as a create is
-/// a create, as it is after any lines. Where there is no room for the handle of a create, for both handles of datagram
-/// streams, or for that of the error of a stream, it traps with `Full`.
+/// places that a wait for pollables gives; and else nothing. One that is refused makes no handle. Where there is no room for the
+/// handle of a create, for both handles of datagram streams, or for that of the error of a stream, it traps with `Full`.
 pub fn udp_polls_give_a_handle()
     ensures done { (contexts : List WasiSocketsCtx) (m : Machine) (line n : ℕ) (fields : List Field) (entries : List Entry) (after : Machine)
         → Answered contexts m line (Step.Poll n) entries (Reply.Ok fields) after → IsSomeAnd m.store.standing (λ s. GivesBy m fields after s.call) }
-    ensures closed { (contexts : List WasiSocketsCtx) (m : Machine) (line n : ℕ) (entries : List Entry) (word : CodeWord) (after : Machine)
-        → PendingCallsFit m → Answered contexts m line (Step.Poll n) entries (Reply.Err word) after → IsSomeAnd m.store.standing (λ s. ClosesBy after s.call) }
     ensures none { (contexts : List WasiSocketsCtx) (m : Machine) (line n : ℕ) (entries : List Entry) (word : CodeWord) (after : Machine)
         → Answered contexts m line (Step.Poll n) entries (Reply.Err word) after → after.table ≡ m.table }
     ensures full { (contexts : List WasiSocketsCtx) (m : Machine) (line n : ℕ) (entries : List Entry) (after : Machine)

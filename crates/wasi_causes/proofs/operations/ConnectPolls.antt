@@ -77,12 +77,3 @@ rounds op n its es = by_left op its.last (polls n op.who) op.left its.left (λ i
 -- it waits for a check, or is done, or one of its asks broke it, and it gave what one that failed so gives
 pub udp_connect_gives : (op : Operation) → IsRestOfUdpConnect op → (es : List Entry) → Meets (ConnectRow op) es (poll_asks op)
 udp_connect_gives op its es = rounds op 63 its es
-
--- the same of how it ends alone
-ends_so : (op : Operation) (es : List Entry) (end : End × List Item) → ConnectRow op es end → EndsFor op (UdpConnectFails op) es end
-ends_so op es (Waits, items) k = k
-ends_so op es (Done given, items) k = tt
-ends_so op es (Refused c given, items) k = k.why
-
-pub udp_connect_ends : (op : Operation) → IsRestOfUdpConnect op → (es : List Entry) → Meets (EndsFor op (UdpConnectFails op)) es (poll_asks op)
-udp_connect_ends op its es = widen (ends_so op) (udp_connect_gives op its es)

@@ -10,6 +10,6 @@ returns c = record {
   stays = λ contexts m line n entries after w. (unheld contexts m line (step.Poll n) (λ h. let none = h.1 in cc) entries reply.NoSuchCall after w).1.1;
   only_polls = λ contexts m line s entries after w. (its_own contexts m line s entries reply.NoSuchCall after w (λ e. cc)).1.0;
   ends = λ contexts m line n entries reply after stands w. (unheld contexts m line (step.Poll n) (λ h. let none = h.1 in cc) entries reply after w).0.1 stands;
-  refused = λ contexts m line n entries word after fits w. ((unheld contexts m line (step.Poll n) (λ h. let none = h.1 in cc) entries (reply.Err word) after w).1.1.0 fits).0;
+  refused = λ contexts m line n entries word after fits w. (unheld contexts m line (step.Poll n) (λ h. let none = h.1 in cc) entries (reply.Err word) after w).1.1.0 fits;
   traps = λ contexts steps log replies m line n entries kind after w. polls_trap contexts steps log replies m w line n entries kind after;
 }

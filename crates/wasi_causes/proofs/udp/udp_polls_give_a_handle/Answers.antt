@@ -7,7 +7,6 @@ use Rattle.wasi_causes.proofs.udp.udp_polls_give_a_handle.Goals as goal
 pub returns : goal.returns
 returns c = record {
   done = λ contexts m line n fields entries after w. (its_own contexts m line (step.Poll n) entries (reply.Ok fields) after w (λ e. cc)).1.1;
-  closed = λ contexts m line n entries word after fits w. ((its_own contexts m line (step.Poll n) entries (reply.Err word) after w (λ e. cc)).1.1.0 fits).1;
   none = λ contexts m line n entries word after w. (its_own contexts m line (step.Poll n) entries (reply.Err word) after w (λ e. cc)).1.1.1;
   full = λ contexts m line n entries after w. (its_own contexts m line (step.Poll n) entries (reply.Trap Full) after w (λ e. cc)).1.2;
 }

@@ -1,0 +1,41 @@
+-- What a poll of the pending call leaves where that failed with a code.
+use Rattle.std.specs.Prelude.{◌≡◌, ℕ, List, None}
+use Rattle.wasi_addr.specs.declared.code.ErrorCode.{ErrorCode}
+use Rattle.wasi_world.specs.declared.call.Entry.{Entry}
+use Rattle.wasi_udp.specs.Connect.{with_given}
+use Rattle.wasi_host.specs.declared.binding.InProgress.TheVariants as doing
+use Rattle.wasi_host.specs.declared.listening.Listening.TheVariants as listening
+use Rattle.wasi_host.specs.declared.machine.Machine.{Machine}
+use Rattle.wasi_host.specs.declared.store.StandingCall.{StandingCall}
+use Rattle.wasi_host.specs.declared.udp.Udp2Socket.{Udp2Socket}
+use Rattle.wasi_host.specs.declared.udp.Udp2Socket.TheVariants as udp
+use Rattle.wasi_host.specs.declared.udp.UdpInProgress.TheVariants as udp_doing
+use Rattle.wasi_host.specs.Listening.{with_listening}
+use Rattle.wasi_host.specs.Store.{with_progress}
+use Rattle.wasi_host.specs.Udp.{with_udp_progress}
+use Rattle.wasi_host.specs.UdpCalls.{with_udp}
+use Rattle.wasi_steps.specs.declared.reply.CodeWord.{CodeWord}
+use Rattle.wasi_walks.specs.Answered.{putting}
+use Rattle.wasi_walks.specs.Waiting.{BindFailed, CallFails, CreateFailed, ListenFailed, StandingFails, UdpBindFailed, UdpConnectFailed, nothing_stands}
+use Rattle.wasi_causes.specs.StreamCauses.{given_by}
+use Rattle.wasi_causes.specs.Udp.{putting_udp}
+
+-- the machine, where this is the record of the UDP socket at that place, made or not
+abbrev pub putting_record : Machine → ℕ → Udp2Socket → Machine
+putting_record m place u = record m { store = with_udp m.store place u }
+
+-- The machine afterwards: nothing is pending, and of the records only that of the call has changed. Of a bind nothing is in
+-- progress, and the socket is as it was; a listen is over, and its socket has no network socket, which was closed; of a create only
+-- the name of the network socket is left, which was closed; and no connect is in progress, and the remote address is as it was where
+-- a check was answered no, and else what was reported then.
+abbrev pub left_failed : (m : Machine) → {entries : List Entry} {call : StandingCall} {c : ErrorCode} → CallFails m entries call c → Machine
+left_failed m (BindFailed place r op c at is why) = putting (nothing_stands m) place (with_progress r doing.Nothing)
+left_failed m (ListenFailed place r op c at is why) = putting (nothing_stands m) place (with_listening r listening.Not)
+left_failed m (CreateFailed place create c at why) = putting_record (nothing_stands m) place (udp.Closed create.operation.who.side)
+left_failed m (UdpBindFailed place o op c at is why) = putting_udp (nothing_stands m) place (with_udp_progress o udp_doing.Nothing)
+left_failed m (UdpConnectFailed place handle o op c at is why) = putting_udp (nothing_stands m) place (record o { inner = with_given o.inner (given_by why); connecting = None })
+
+-- The pending call failed with a code of this word, and this is what it left.
+pub record FailureLeaves (m : Machine) (n : ℕ) (entries : List Entry) (word : CodeWord) (after : Machine) : Type 0 where
+  pub fails : StandingFails m n entries word
+  pub left : after ≡ left_failed m fails.cause
