@@ -21,7 +21,7 @@ use Rattle.wasi_walks.proofs.UdpLists.{tcp_in_push, tcp_in_put}
 use Rattle.wasi_walks.proofs.fits.Law.{whatever}
 use Rattle.wasi_walks.proofs.fits.Polls.{Anything}
 use Rattle.wasi_walks.proofs.walks.Law.{BeginsWrites, Law}
-use Rattle.wasi_walks.proofs.walks.Moves.{AStream, AnAcceptedStream, APlain, Awaits, AwaitsCreate, BeginsAccept, BeginsBind, BeginsConnect, BeginsListen, BeginsReceive, BeginsSend, BeginsUdpBind, BeginsUdpConnect, BeginsWrite, BindsOn, CallsHandles, CancelsBind, CancelsUdpBind, CancelsUdpConnect, Changes, ClosesReader, Connects, Empties, Emptied, Finds, Forgets, Found, FoundUdp, Held, Here, IsGone, IsOpened, Joined, Joins, Leaves, Listens, Made, Marked, Own, Marks, Move, Opens, Past, RecallsCall, RecallsStreams, ReceivesOn, Reconnects, RemembersStreams, SameSockets, SendsOn, Takes, UdpBindsOn, UdpChanges, UdpConnectsOn, UdpCreates, Unlistens, Watches, Writes, accepting_now, closed_record, joined, listen_after, made_so, put, put_udp, udp_begun}
+use Rattle.wasi_walks.proofs.walks.Moves.{AStream, AnAcceptedStream, APlain, Awaits, AwaitsCreate, BeginsAccept, BeginsBind, BeginsConnect, BeginsListen, BeginsReceive, BeginsSend, BeginsUdpBind, BeginsUdpConnect, BeginsWrite, BindsOn, CallsHandles, CancelsBind, CancelsUdpBind, CancelsUdpConnect, Changes, ClosesReader, Connects, Empties, Emptied, Finds, Forgets, Found, FoundUdp, Held, Here, IsGone, IsOpened, Joined, Joins, Leaves, Listens, Made, Marked, Own, Marks, Move, Opens, Past, RecallsCall, RecallsStreams, ReceivesOn, Reconnects, RemembersStreams, SameSockets, SendsOn, Takes, UdpBindsOn, UdpChanges, UdpConnectsOn, UdpCreates, Unlistens, Watches, Writes, accepting_now, closed_record, joined, listen_after, made_so, put, put_udp, udp_begun, ToSend, one_stream}
 use Rattle.wasi_walks.proofs.walks.Steps.{machine_walks}
 use Rattle.wasi_causes.proofs.Slots.{has_without, new_slot, no_child, one_of, slot_of, value_of}
 use Rattle.wasi_causes.proofs.Steady.{IsPlain, IsThere, makes_plain}
@@ -320,13 +320,13 @@ module _ (contexts : List WasiSocketsCtx) (line : ℕ) (origin : Step) where
       (inputs_stay h.machine.table records _ (push_stays records (joined l new peer)) k, (none.0, none.1, subst (λ (o : Option Tcp2Socket). IsSome (streams_in o)) (sym (tcp2_seam records (joined l new peer))) refl))
   moves_inputs _ _ (Leaves h) i = (i.0, tt)
   moves_inputs _ _ (Watches h own) i = (i.0, tt)
-  moves_inputs _ _ (RemembersStreams h c handle place remote is of) i = (i.0, tt)
-  moves_inputs _ _ (RecallsStreams h ids place handle e) i = (i.0, tt)
-  moves_inputs _ _ (CallsHandles h kind calls) i = (i.0, tt)
+  moves_inputs _ _ (RemembersStreams h c handle place remote is of o g none) i = (i.0, tt)
+  moves_inputs _ _ (RecallsStreams h ids place handle e own) i = (i.0, tt)
+  moves_inputs _ _ (CallsHandles h kind calls quiet) i = (i.0, tt)
   moves_inputs _ _ (RecallsCall h ids call e) i = (i.0, tt)
-  moves_inputs _ _ (UdpChanges h place o now g p) i = put_udp_inputs h place (Udp2Socket.Open o) g (Udp2Socket.Open now) i
+  moves_inputs _ _ (UdpChanges h place o now g p keeps) i = put_udp_inputs h place (Udp2Socket.Open o) g (Udp2Socket.Open now) i
   moves_inputs _ _ (BeginsUdpBind h place o a at g to idle own) i = put_udp_inputs h place (Udp2Socket.Open o) g _ i
-  moves_inputs _ _ (BeginsUdpConnect h place o a at g to bound own) i = put_udp_inputs h place (Udp2Socket.Open o) g _ i
+  moves_inputs _ _ (BeginsUdpConnect h place o a at g to bound none own) i = put_udp_inputs h place (Udp2Socket.Open o) g _ i
   moves_inputs _ _ (BeginsSend h place n o out d bound at g e item known own) i = put_udp_inputs h place (Udp2Socket.Open o) g _ i
   moves_inputs _ _ (BeginsReceive h place n o inc bound at g e is own) i = put_udp_inputs h place (Udp2Socket.Open o) g _ i
   moves_inputs _ _ (CancelsBind h place r op q g e) i = put_inputs h place r g _ (λ s. s) i
@@ -440,7 +440,7 @@ module _ (contexts : List WasiSocketsCtx) (line : ℕ) (origin : Step) where
     udp_closes = λ es h place o q g i. (tt, λ told fits. put_udp_inputs h place (Udp2Socket.Open o) g _ i);
     udp_creates = λ es h ctx family c may t o m i. (tt, λ told fits. begun_inputs h (udp_after_create (own_of line) ctx.name family (told_done told)) i);
     udp_marks = λ es h place u g i. mark_other es (record h { made = Past }) (udp_side u) (Udp2 place) None (Some (udp_side u)) tt (i.0, tt);
-    stream_marks = λ es h place n handle reached kind made new its of i. mark_other es h (own_of n) kind (Some handle) (udp_side_at (udp2_at h.machine.store.records place)) (two_other kind place its) i;
+    stream_marks = λ es h place n handle reached kind next new of i. mark_other es (record h { made = ToSend n handle reached }) (own_of n) kind (Some handle) (udp_side_at (udp2_at h.machine.store.records place)) (two_other kind place (one_stream h.made n handle reached kind place next)) (i.0, tt);
     error_marks = λ es h n handle place handles m k e f i. mark_other es h (own_of n) ErrorValue (Some handle) (side_at (tcp2_at h.machine.store.records place)) tt i;
     udp_gives_up = λ es h place create q g i. whatever (λ done. Inputs (put_udp h place (Udp2Socket.Closed create.operation.who.side))) (λ done. put_udp_inputs h place (Udp2Socket.Creating create) g _ i) es (create_cancel_asks create);
     lookups = λ es h host l i. (tt, λ told fits records same. found_inputs h records same i);
@@ -449,7 +449,7 @@ module _ (contexts : List WasiSocketsCtx) (line : ℕ) (origin : Step) where
 
   inputs_begin : BeginsWrites inputs_there
   unfolding inputs_there
-  inputs_begin = record { begins = λ es h place n r s half permit bytes at g e w within i. put_inputs h place r g _ (λ k. refl) i }
+  inputs_begin = record { begins = λ es h place n r s half permit bytes at g e w within used i. put_inputs h place r g _ (λ k. refl) i }
 
   pub line_inputs : (m : Machine) (es : List Entry) → HasInputs m → Allows Anything (λ fs done. HasInputs done.1) es (machine_asks contexts m line origin)
   unfolding inputs_there

@@ -15,6 +15,9 @@ pub mod Steady
 pub mod InputHandles
 pub mod PollableHandles
 pub mod UdpHandles
+pub mod UdpConnects
+pub mod StreamsLive
+pub mod StreamHandles
 pub mod PipeHandles
 pub mod Pending
 pub mod Runs

@@ -102,15 +102,15 @@ module _ (contexts : List WasiSocketsCtx) (line : ℕ) (origin : Step) (plain : 
   moves_none _ _ (Empties h handle kind e none) i = (i.0, tt)
   moves_none _ _ (AwaitsCreate h place create g) i = (i.0, tt)
   moves_none _ _ (Joins h c handle place r l new peer is of u g e a) i = (i.0, tt)
-  moves_none _ _ (Unstands h) i = (tt, i.1)
-  moves_none _ _ (Stands h ids call r at g k) i = (goes_none call r k, i.1)
-  moves_none _ _ (StandsUdpBind h ids place o op at g e) i = (tt, i.1)
-  moves_none _ _ (StandsUdpCreate h ids place create g) i = (tt, i.1)
-  moves_none _ _ (StandsDropOutgoing h ids place o at g e) i = (tt, i.1)
-  moves_none _ _ (RemembersStreams h c handle place remote is of) i = absurd (plain (inl (subst IsUdpStream (sym is) tt)))
-  moves_none _ _ (RecallsStreams h ids place handle e) i = absurd (subst NoStreamsStand e i.0)
-  moves_none _ _ (StandsUdpConnect h ids place handle o op at made g e) i = absurd (subst MakesNone made i.1)
-  moves_none _ _ (CallsHandles h kind calls) i = absurd (plain (may_call kind origin calls))
+  moves_none _ _ (Unstands h over) i = (tt, i.1)
+  moves_none _ _ (Stands h ids call r quiet at g k) i = (goes_none call r k, i.1)
+  moves_none _ _ (StandsUdpBind h ids place o op quiet at g e) i = (tt, i.1)
+  moves_none _ _ (StandsUdpCreate h ids place create quiet g) i = (tt, i.1)
+  moves_none _ _ (StandsDropOutgoing h ids place o quiet at g e) i = (tt, i.1)
+  moves_none _ _ (RemembersStreams h c handle place remote is of o g none) i = absurd (plain (inl (subst IsUdpStream (sym is) tt)))
+  moves_none _ _ (RecallsStreams h ids place handle e own) i = absurd (subst NoStreamsStand e i.0)
+  moves_none _ _ (StandsUdpConnect h ids place handle o op quiet at made g e) i = absurd (subst MakesNone made i.1)
+  moves_none _ _ (CallsHandles h kind calls quiet) i = absurd (plain (may_call kind origin calls))
   moves_none _ _ (RecallsCall h ids call e) i = absurd (subst NoStreamsStand e i.0)
   moves_none _ _ (StandsBlocking h ids call handles made its) i = absurd (subst MakesNone made i.1)
   moves_none _ _ _ i = i
@@ -156,7 +156,7 @@ module _ (contexts : List WasiSocketsCtx) (line : ℕ) (origin : Step) (plain : 
     udp_closes = λ es h place o q g i. (tt, λ told fits. i);
     udp_creates = λ es h ctx family c may t o m i. (tt, λ told fits. begun_none h (udp_after_create (own_of line) ctx.name family (told_done told)) i);
     udp_marks = λ es h place u g i. whatever (λ made. NoStreamsStand h.machine.store.standing × ⊤) (λ made. (i.0, tt)) es (make_asks h.machine.table (udp_side u) (Udp2 place) None (Some (udp_side u)));
-    stream_marks = λ es h place n handle reached kind made new its of i. whatever (λ made. NoStreams h) (λ made. i) es (make_asks h.machine.table (own_of n) kind (Some handle) _);
+    stream_marks = λ es h place n handle reached kind next new of i. whatever (λ made. NoStreamsStand h.machine.store.standing × ⊤) (λ made. (i.0, tt)) es (make_asks h.machine.table (own_of n) kind (Some handle) _);
     error_marks = λ es h n handle place handles made k e f i. absurd (subst MakesNone made i.1);
     udp_gives_up = λ es h place create q g i. whatever (λ done. NoStreams h) (λ done. i) es (create_cancel_asks create);
     lookups = λ es h host l i. (tt, λ told fits records same. i);
@@ -166,7 +166,7 @@ module _ (contexts : List WasiSocketsCtx) (line : ℕ) (origin : Step) (plain : 
   -- a write that begins in a call of streams
   none_begins : BeginsWrites none_pending
   unfolding none_pending
-  none_begins = record { begins = λ es h place n r s half permit bytes at g e w within i. i }
+  none_begins = record { begins = λ es h place n r s half permit bytes at g e w within used i. i }
 
   -- so it holds of what the line leaves
   stays_none : (m : Machine) → NoStreamsStand m.store.standing → Allows Anything (λ fs done. NoStreamsStand done.1.store.standing) [] (machine_asks contexts m line origin)

@@ -22,7 +22,7 @@ use Rattle.wasi_causes.proofs.PipeLists.{input_push, input_stays, output_push, o
 use Rattle.wasi_walks.proofs.fits.Law.{whatever}
 use Rattle.wasi_walks.proofs.fits.Polls.{Anything}
 use Rattle.wasi_walks.proofs.walks.Law.{BeginsWrites, Law}
-use Rattle.wasi_walks.proofs.walks.Moves.{AStream, AnAcceptedStream, APlain, Awaits, BeginsAccept, BeginsBind, BeginsConnect, BeginsListen, BeginsReceive, BeginsSend, BeginsUdpBind, BeginsUdpConnect, BeginsWrite, BindsOn, CancelsBind, CancelsUdpBind, CancelsUdpConnect, Changes, ClosesReader, Connects, Empties, Finds, Forgets, Found, FoundUdp, Held, Here, IsGone, Joins, Listens, MakesPlain, Marks, Move, Opens, ReceivesOn, Reconnects, SameSockets, SendsOn, Takes, UdpBindsOn, UdpChanges, UdpConnectsOn, UdpCreates, Unlistens, Writes, accepting_now, joined, put, put_udp, udp_begun}
+use Rattle.wasi_walks.proofs.walks.Moves.{AStream, AnAcceptedStream, APlain, Awaits, BeginsAccept, BeginsBind, BeginsConnect, BeginsListen, BeginsReceive, BeginsSend, BeginsUdpBind, BeginsUdpConnect, BeginsWrite, BindsOn, CancelsBind, CancelsUdpBind, CancelsUdpConnect, Changes, ClosesReader, Connects, Empties, Finds, Forgets, Found, FoundUdp, Held, Here, IsGone, Joins, Listens, MakesPlain, Marks, Move, Opens, ReceivesOn, Reconnects, SameSockets, SendsOn, Takes, UdpBindsOn, UdpChanges, UdpConnectsOn, UdpCreates, Unlistens, Writes, accepting_now, joined, put, put_udp, udp_begun, one_stream}
 use Rattle.wasi_walks.proofs.walks.Steps.{machine_walks}
 use Rattle.wasi_causes.proofs.Steady.{where_made, where_taken}
 use Rattle.wasi_causes.proofs.tables.Meets.{Meets, granted, shifted, widen}
@@ -152,9 +152,9 @@ module _ (contexts : List WasiSocketsCtx) (line : ℕ) (origin : Step) (other : 
   moves_has _ _ (Forgets h place r l c g e a) i = put_has h place r g _ i
   moves_has _ _ (Joins h c handle place r l new peer is of u g e a) i =
       push_there h.machine.table (tcp2_put h.machine.store.records place (accepting_now r l accepting.Idle)) (Record.Tcp2 (joined l new peer)) (put_has h place r g (accepting_now r l accepting.Idle) i)
-  moves_has _ _ (UdpChanges h place o now g p) i = put_udp_has h place (Udp2Socket.Open o) g (Udp2Socket.Open now) i
+  moves_has _ _ (UdpChanges h place o now g p keeps) i = put_udp_has h place (Udp2Socket.Open o) g (Udp2Socket.Open now) i
   moves_has _ _ (BeginsUdpBind h place o a at g to idle own) i = put_udp_has h place (Udp2Socket.Open o) g _ i
-  moves_has _ _ (BeginsUdpConnect h place o a at g to bound own) i = put_udp_has h place (Udp2Socket.Open o) g _ i
+  moves_has _ _ (BeginsUdpConnect h place o a at g to bound none own) i = put_udp_has h place (Udp2Socket.Open o) g _ i
   moves_has _ _ (BeginsSend h place n o out d bound at g e item known own) i = put_udp_has h place (Udp2Socket.Open o) g _ i
   moves_has _ _ (BeginsReceive h place n o inc bound at g e is own) i = put_udp_has h place (Udp2Socket.Open o) g _ i
   moves_has _ _ (CancelsBind h place r op q g e) i = put_has h place r g _ i
@@ -207,7 +207,7 @@ module _ (contexts : List WasiSocketsCtx) (line : ℕ) (origin : Step) (other : 
     udp_closes = λ es h place o q g i. (tt, λ told fits. put_udp_has h place (Udp2Socket.Open o) g _ i);
     udp_creates = λ es h ctx family c may t o m i. (tt, λ told fits. begun_has h (udp_after_create (own_of line) ctx.name family (told_done told)) i);
     udp_marks = λ es h place u g i. mark_has es h (udp_side u) (Udp2 place) None (Some (udp_side u)) (refl, refl) i;
-    stream_marks = λ es h place n handle reached kind made new its of i. mark_has es h (own_of n) kind (Some handle) (udp_side_at (udp2_at h.machine.store.records place)) (of_datagrams kind place its) i;
+    stream_marks = λ es h place n handle reached kind next new of i. mark_has es h (own_of n) kind (Some handle) (udp_side_at (udp2_at h.machine.store.records place)) (of_datagrams kind place (one_stream h.made n handle reached kind place next)) i;
     error_marks = λ es h n handle place handles m k e f i. mark_has es h (own_of n) ErrorValue (Some handle) (side_at (tcp2_at h.machine.store.records place)) (refl, refl) i;
     udp_gives_up = λ es h place create q g i. whatever (λ done. Has (put_udp h place (Udp2Socket.Closed create.operation.who.side))) (λ done. put_udp_has h place (Udp2Socket.Creating create) g _ i) es (create_cancel_asks create);
     lookups = λ es h host l i. (tt, λ told fits records same. same_there h.machine.table h.machine.store.records records same i);
@@ -216,7 +216,7 @@ module _ (contexts : List WasiSocketsCtx) (line : ℕ) (origin : Step) (other : 
 
   pipes_begin : BeginsWrites pipes_there
   unfolding pipes_there
-  pipes_begin = record { begins = λ es h place n r s half permit bytes at g e w within i. put_has h place r g _ i }
+  pipes_begin = record { begins = λ es h place n r s half permit bytes at g e w within used i. put_has h place r g _ i }
 
   line_has : (m : Machine) → HasPipes m → Allows Anything (λ fs done. HasPipes done.1) [] (machine_asks contexts m line origin)
   unfolding pipes_there

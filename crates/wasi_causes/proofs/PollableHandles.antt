@@ -14,7 +14,7 @@ use Rattle.wasi_walks.proofs.Lists.{has_front}
 use Rattle.wasi_walks.proofs.fits.Law.{whatever}
 use Rattle.wasi_walks.proofs.fits.Polls.{Anything}
 use Rattle.wasi_walks.proofs.walks.Law.{BeginsWrites, Law}
-use Rattle.wasi_walks.proofs.walks.Moves.{AStream, AnAcceptedStream, APlain, Empties, Held, Here, Marks, Move, Takes, udp_begun}
+use Rattle.wasi_walks.proofs.walks.Moves.{AStream, AnAcceptedStream, APlain, Empties, Held, Here, Marks, Move, Takes, udp_begun, one_stream}
 use Rattle.wasi_walks.proofs.walks.Steps.{machine_walks}
 use Rattle.wasi_causes.proofs.Slots.{has_still, has_without, new_slot, no_child, one_of, slot_of, value_of}
 use Rattle.wasi_causes.proofs.Steady.{IsPlain, makes_plain}
@@ -130,7 +130,7 @@ module _ (contexts : List WasiSocketsCtx) (line : ℕ) (origin : Step) where
     udp_closes = λ es h place o q g i. (tt, λ told fits. i);
     udp_creates = λ es h ctx family c may t o m i. (tt, λ told fits. begun_parents h (udp_after_create (own_of line) ctx.name family (told_done told)) i);
     udp_marks = λ es h place u g i. marks_parents es h.machine.table (udp_side u) (Udp2 place) None (Some (udp_side u)) tt i;
-    stream_marks = λ es h place n handle reached kind made new its of i. marks_parents es h.machine.table (own_of n) kind (Some handle) (udp_side_at (udp2_at h.machine.store.records place)) (is_one h.machine.table kind (Incoming place) (Outgoing place) (Some handle) its tt tt) i;
+    stream_marks = λ es h place n handle reached kind next new of i. marks_parents es h.machine.table (own_of n) kind (Some handle) (udp_side_at (udp2_at h.machine.store.records place)) (is_one h.machine.table kind (Incoming place) (Outgoing place) (Some handle) (one_stream h.made n handle reached kind place next) tt tt) i;
     error_marks = λ es h n handle place handles m k e f i. marks_parents es h.machine.table (own_of n) ErrorValue (Some handle) (side_at (tcp2_at h.machine.store.records place)) tt i;
     udp_gives_up = λ es h place create q g i. whatever (λ done. HasParents h.machine.table) (λ done. i) es (create_cancel_asks create);
     lookups = λ es h host l i. (tt, λ told fits records same. i);
@@ -139,7 +139,7 @@ module _ (contexts : List WasiSocketsCtx) (line : ℕ) (origin : Step) where
 
   parents_begin : BeginsWrites parents_live
   unfolding parents_live
-  parents_begin = record { begins = λ es h place n r s half permit bytes at g e w within i. i }
+  parents_begin = record { begins = λ es h place n r s half permit bytes at g e w within used i. i }
 
   pub line_parents : (m : Machine) (es : List Entry) → HasParents m.table → Allows Anything (λ fs done. HasParents done.1.table) es (machine_asks contexts m line origin)
   unfolding parents_live

@@ -49,7 +49,7 @@ use Rattle.wasi_host.specs.UdpCreates.{udp_side_at}
 use Rattle.wasi_host.specs.declared.kind.Kind.TheVariants.{Incoming, Outgoing}
 use Rattle.wasi_udp.specs.Receive.{wanting}
 use Rattle.wasi_udp.specs.Send.{at_remote}
-use Rattle.wasi_walks.proofs.walks.Moves.{BeginsReceive, BeginsSend, BeginsUdpConnect, ReceivesOn, SendsOn, StandsDropOutgoing, StandsUdpConnect, UdpConnectsOn, udp_place}
+use Rattle.wasi_walks.proofs.walks.Moves.{BeginsReceive, BeginsSend, BeginsUdpConnect, ReceivesOn, SendsOn, StandsDropOutgoing, StandsUdpConnect, UdpConnectsOn, one_stream, udp_place}
 use Rattle.wasi_walks.proofs.walks.States.{udp_record}
 use Rattle.wasi_walks.proofs.walks.Moves.{ALookup, ALookupPollable, Finds, SameSockets, with_records}
 use Rattle.wasi_host.specs.declared.name_lookup.LookupOp.{LookupOp}
@@ -267,15 +267,15 @@ module _ (contexts : List WasiSocketsCtx) (line : ℕ) (origin : Step) where
   moves_steady _ _ (Forgets h place r l c g e a) i = put_steady h place r g _ (listens_on r l accepting.Idle e (i.records place r g)) i
   moves_steady _ _ (Joins h c handle place r l new peer is of u g e a) i =
       let k = put_steady h place r g (accepting_now r l accepting.Idle) (listens_on r l accepting.Idle e (i.records place r g)) i in push_steady (put h place (accepting_now r l accepting.Idle)).machine (joined l new peer) (λ c. absurd (cc), λ side d. absurd (cc), (tt, tt)) k
-  moves_steady _ _ (Unstands h) i = stand_steady h.machine None i
-  moves_steady _ _ (Stands h ids call r at g b) i = stand_steady h.machine (Some (standing_as ids call)) i
-  moves_steady _ _ (StandsUdpBind h ids place o op at g e) i = stand_steady h.machine (Some (standing_as ids (standing.UdpBind place))) i
-  moves_steady _ _ (StandsUdpCreate h ids place create g) i = stand_steady h.machine (Some (standing_as ids (standing.UdpCreate place))) i
-  moves_steady _ _ (UdpChanges h place o now g p) i = put_udp_steady h place (Udp2Socket.Open o) g (Udp2Socket.Open now) i
+  moves_steady _ _ (Unstands h over) i = stand_steady h.machine None i
+  moves_steady _ _ (Stands h ids call r quiet at g b) i = stand_steady h.machine (Some (standing_as ids call)) i
+  moves_steady _ _ (StandsUdpBind h ids place o op quiet at g e) i = stand_steady h.machine (Some (standing_as ids (standing.UdpBind place))) i
+  moves_steady _ _ (StandsUdpCreate h ids place create quiet g) i = stand_steady h.machine (Some (standing_as ids (standing.UdpCreate place))) i
+  moves_steady _ _ (UdpChanges h place o now g p keeps) i = put_udp_steady h place (Udp2Socket.Open o) g (Udp2Socket.Open now) i
   moves_steady _ _ (BeginsUdpBind h place o a at g to idle own) i = put_udp_steady h place (Udp2Socket.Open o) g _ i
-  moves_steady _ _ (BeginsUdpConnect h place o a at g to bound own) i = put_udp_steady h place (Udp2Socket.Open o) g _ i
-  moves_steady _ _ (StandsUdpConnect h ids place handle o op at made g e) i = stand_steady h.machine (Some (standing_as ids (standing.UdpConnect place handle))) i
-  moves_steady _ _ (StandsDropOutgoing h ids place o at g e) i = stand_steady h.machine (Some (standing_as ids (standing.DropOutgoing place))) i
+  moves_steady _ _ (BeginsUdpConnect h place o a at g to bound none own) i = put_udp_steady h place (Udp2Socket.Open o) g _ i
+  moves_steady _ _ (StandsUdpConnect h ids place handle o op quiet at made g e) i = stand_steady h.machine (Some (standing_as ids (standing.UdpConnect place handle))) i
+  moves_steady _ _ (StandsDropOutgoing h ids place o quiet at g e) i = stand_steady h.machine (Some (standing_as ids (standing.DropOutgoing place))) i
   moves_steady _ _ (BeginsSend h place n o out d bound at g e item known own) i = put_udp_steady h place (Udp2Socket.Open o) g _ i
   moves_steady _ _ (BeginsReceive h place n o inc bound at g e is own) i = put_udp_steady h place (Udp2Socket.Open o) g _ i
   moves_steady _ _ (StandsBlocking h ids call handles made its) i = stand_steady h.machine (Some (standing_as ids (standing.Blocking call))) i
@@ -422,7 +422,7 @@ module _ (contexts : List WasiSocketsCtx) (line : ℕ) (origin : Step) where
     udp_asks = λ es h place n o c at g q i. (tt, λ told fits. i);
     udp_learns = λ es h place part o at g i. (tt, λ told fits. put_udp_steady h place (Udp2Socket.Open o) g _ i);
     udp_peers = λ es h place o at g i. (tt, λ told fits. put_udp_steady h place (Udp2Socket.Open o) g _ i);
-    stream_marks = λ es h place n handle reached kind made new its of i. made_steady es h.machine (own_of n) kind (Some handle) (udp_side_at (udp2_at h.machine.store.records place)) (λ k p. absurd (no_tcp kind place k its p)) (both_there h.machine kind place its (i.udps handle place (udp_record _ place of))) (λ k p. absurd (no_stream_lookup kind place k its p)) i;
+    stream_marks = λ es h place n handle reached kind next new of i. made_steady es h.machine (own_of n) kind (Some handle) (udp_side_at (udp2_at h.machine.store.records place)) (λ k p. absurd (no_tcp kind place k (one_stream h.made n handle reached kind place next) p)) (both_there h.machine kind place (one_stream h.made n handle reached kind place next) (i.udps handle place (udp_record _ place of))) (λ k p. absurd (no_stream_lookup kind place k (one_stream h.made n handle reached kind place next) p)) i;
     udp_closes = λ es h place o q g i. (tt, λ told fits. put_udp_steady h place (Udp2Socket.Open o) g _ i);
     udp_creates = λ es h ctx family c may t o m i. (tt, λ told fits. begun_steady h (udp_after_create (own_of line) ctx.name family (told_done told)) i);
     udp_marks = λ es h place u g i. made_steady es h.machine (udp_side u) (Udp2 place) None (Some (udp_side u)) (λ k p. absurd (cc)) (λ k p. let q : place ≡ k = cc in subst (IsUdpThere h.machine.store.records) q (u, g.found)) (λ k p. absurd (cc)) i;
@@ -435,7 +435,7 @@ module _ (contexts : List WasiSocketsCtx) (line : ℕ) (origin : Step) where
   -- a write that begins in a call of streams
   begins_steady : BeginsWrites steady
   unfolding steady
-  begins_steady = record { begins = λ es h place n r s half permit bytes at g e w within i. put_steady h place r g _ (i.records place r g) i }
+  begins_steady = record { begins = λ es h place n r s half permit bytes at g e w within used i. put_steady h place r g _ (i.records place r g) i }
 
   line_steady : (m : Machine) (es : List Entry) → Steady m → Allows Anything (λ fs done. Steady done.1) es (machine_asks contexts m line origin)
   unfolding steady

@@ -20,7 +20,7 @@ use Rattle.wasi_walks.proofs.UdpLists.{udp_front, udp_in_push, udp_in_put, udp_s
 use Rattle.wasi_walks.proofs.fits.Law.{whatever}
 use Rattle.wasi_walks.proofs.fits.Polls.{Anything}
 use Rattle.wasi_walks.proofs.walks.Law.{BeginsWrites, Law}
-use Rattle.wasi_walks.proofs.walks.Moves.{AStream, AnAcceptedStream, APlain, Awaited, Awaits, AwaitsCreate, BeginsAccept, BeginsBind, BeginsConnect, BeginsListen, BeginsReceive, BeginsSend, BeginsUdpBind, BeginsUdpConnect, BeginsWrite, BindsOn, CallsHandles, CancelsBind, CancelsUdpBind, CancelsUdpConnect, Changes, ClosesReader, Connects, Empties, Emptied, Finds, Forgets, Found, FoundUdp, Held, Here, IsGone, IsOpenUdp, Joins, Leaves, Listens, Made, Marks, Move, Opens, Own, Past, RecallsCall, RecallsStreams, ReceivesOn, Reconnects, RemembersStreams, SameSockets, SendsOn, Takes, UdpBindsOn, UdpChanges, UdpConnectsOn, UdpCreates, Unlistens, Watches, Writes, accepting_now, joined, made_so, put, put_udp, udp_begun}
+use Rattle.wasi_walks.proofs.walks.Moves.{AStream, AnAcceptedStream, APlain, Awaited, Awaits, AwaitsCreate, BeginsAccept, BeginsBind, BeginsConnect, BeginsListen, BeginsReceive, BeginsSend, BeginsUdpBind, BeginsUdpConnect, BeginsWrite, BindsOn, CallsHandles, CancelsBind, CancelsUdpBind, CancelsUdpConnect, Changes, ClosesReader, Connects, Empties, Emptied, Finds, Forgets, Found, FoundUdp, Held, Here, IsGone, IsOpenUdp, Joins, Leaves, Listens, Made, Marks, Move, Opens, Own, Past, RecallsCall, RecallsStreams, ReceivesOn, Reconnects, RemembersStreams, SameSockets, SendsOn, Takes, UdpBindsOn, UdpChanges, UdpConnectsOn, UdpCreates, Unlistens, Watches, Writes, accepting_now, joined, made_so, put, put_udp, udp_begun, ToSend, one_stream}
 use Rattle.wasi_walks.proofs.walks.Steps.{machine_walks}
 use Rattle.wasi_causes.proofs.Slots.{SlotOf, has_without, is_another, new_slot, no_child, one_of, slot_of, value_of}
 use Rattle.wasi_causes.proofs.Steady.{IsPlain, makes_plain}
@@ -31,7 +31,7 @@ abbrev pub IsOpenAt : List Record → ℕ → Type 0
 IsOpenAt records place = (o : OpenUdp) × (udp2_at records place ≡ Some (Udp2Socket.Open o))
 
 -- it is the socket of the record, or its incoming stream
-abbrev OfUdp : Kind → ℕ → Type 0
+abbrev pub OfUdp : Kind → ℕ → Type 0
 OfUdp kind place = (kind ≡ Udp2 place) ⊎ (kind ≡ Incoming place)
 
 -- A record's socket has one handle, and its incoming stream is under that; their record is open.
@@ -44,16 +44,16 @@ abbrev pub HasUdps : Machine → Type 0
 HasUdps m = UdpThere m.table m.store.records
 
 -- nothing of the record is live
-abbrev NoneOf : Handles → ℕ → Type 0
+abbrev pub NoneOf : Handles → ℕ → Type 0
 NoneOf t place = (a : Live Kind) → Has t.live a → OfUdp a.value place → ⊥
 
 -- a create that is polled has no handle yet, and a socket that is dropped has none any more
-abbrev MadeSo : Handles → Made → Type 0
+abbrev pub MadeSo : Handles → Made → Type 0
 MadeSo t (Awaited place) = NoneOf t place
 MadeSo t (Emptied (Udp2 place)) = NoneOf t place
 MadeSo t _ = ⊤
 
-abbrev Udps : Here → Type 0
+abbrev pub Udps : Here → Type 0
 Udps h = UdpThere h.machine.table h.machine.store.records × MadeSo h.machine.table h.made
 
 -- == records change
@@ -61,34 +61,34 @@ Udps h = UdpThere h.machine.table h.machine.store.records × MadeSo h.machine.ta
 udps_stay : (t : Handles) (old now : List Record) → ((a : Live Kind) (place : ℕ) → Has t.live a → OfUdp a.value place → IsOpenAt old place → IsOpenAt now place) → UdpThere t old → UdpThere t now
 udps_stay t old now still i = record { one = i.one; under = i.under; opens = λ a place l e. still a place l e (i.opens a place l e) }
 
-put_udps : (h : Here) (place : ℕ) (r : Tcp2Socket) → Found h place r → (now : Tcp2Socket) → Udps h → Udps (put h place now)
+pub put_udps : (h : Here) (place : ℕ) (r : Tcp2Socket) → Found h place r → (now : Tcp2Socket) → Udps h → Udps (put h place now)
 put_udps h place r g now i = (udps_stay h.machine.table _ _ (λ a k l e has. (has.0, udp_in_put h.machine.store.records place r now k _ g has.1)) i.0, i.1)
 
 -- it stays open
-put_open : (h : Here) (place : ℕ) (o now : OpenUdp) → FoundUdp h place (Udp2Socket.Open o) → Udps h → Udps (put_udp h place (Udp2Socket.Open now))
+pub put_open : (h : Here) (place : ℕ) (o now : OpenUdp) → FoundUdp h place (Udp2Socket.Open o) → Udps h → Udps (put_udp h place (Udp2Socket.Open now))
 put_open h place o now g i = (udps_stay h.machine.table _ _ still i.0, i.1)
   where
     still : (a : Live Kind) (k : ℕ) → Has h.machine.table.live a → OfUdp a.value k → IsOpenAt h.machine.store.records k → IsOpenAt (udp2_put h.machine.store.records place (Udp2Socket.Open now)) k
     still a k l e (x, at) = elim (udp_set_get h.machine.store.records place (Udp2Socket.Open now) k (Udp2Socket.Open x) at) [ inl same ↦ (x, same) | inr its ↦ (now, its.1) ]
 
 -- nothing of it is live
-put_other : (h : Here) (place : ℕ) (now : Udp2Socket) → NoneOf h.machine.table place → Udps h → Udps (put_udp h place now)
+pub put_other : (h : Here) (place : ℕ) (now : Udp2Socket) → NoneOf h.machine.table place → Udps h → Udps (put_udp h place now)
 put_other h place now none i = (udps_stay h.machine.table _ _ still i.0, i.1)
   where
     still : (a : Live Kind) (k : ℕ) → Has h.machine.table.live a → OfUdp a.value k → IsOpenAt h.machine.store.records k → IsOpenAt (udp2_put h.machine.store.records place now) k
     still a k l e (x, at) = elim (udp_set_get h.machine.store.records place now k (Udp2Socket.Open x) at) [ inl same ↦ (x, same) | inr its ↦ absurd (none a l (subst (OfUdp a.value) its.0 e)) ]
 
 -- nothing of a create is live
-not_yet : (h : Here) (place : ℕ) (create : Create) → FoundUdp h place (Udp2Socket.Creating create) → Udps h → NoneOf h.machine.table place
+pub not_yet : (h : Here) (place : ℕ) (create : Create) → FoundUdp h place (Udp2Socket.Creating create) → Udps h → NoneOf h.machine.table place
 not_yet h place create g i a l e = let has = i.0.opens a place l e in absurd (let at : udp2_at h.machine.store.records place ≡ Some (Udp2Socket.Open has.0) = has.1 in cc)
 
-found_udps : {new : LookupOp → Type 0} (h : Here) (records : List Record) → SameSockets new h.machine.store.records records → Udps h → UdpThere h.machine.table records × MadeSo h.machine.table h.made
+pub found_udps : {new : LookupOp → Type 0} (h : Here) (records : List Record) → SameSockets new h.machine.store.records records → Udps h → UdpThere h.machine.table records × MadeSo h.machine.table h.made
 found_udps h records same i = (udps_stay h.machine.table _ _ (λ a k l e has. (has.0, same.udp k ∙ has.1)) i.0, i.1)
 
 push_udps : (t : Handles) (records : List Record) (new : Tcp2Socket) → UdpThere t records → UdpThere t (tcp2_pushed records new)
 push_udps t records new i = udps_stay t _ _ (λ a k l e has. (has.0, udp_in_push records new k _ has.1)) i
 
-begun_udps : (h : Here) (made : Result Create ErrorCode) → Udps h → Udps (udp_begun h made)
+pub begun_udps : (h : Here) (made : Result Create ErrorCode) → Udps h → Udps (udp_begun h made)
 begun_udps h (Ok create) i = (udps_stay h.machine.table _ _ (λ a k l e has. (has.0, udp_front h.machine.store.records (Udp2Socket.Creating create) k _ has.1)) i.0, i.1)
 begun_udps h (Err c) i = i
 
@@ -164,14 +164,14 @@ module _ (t : Handles) (records : List Record) (kind : Kind) (parent : Option �
 
 module _ (es : List Entry) (h : Here) (op : OpId) (kind : Kind) (parent : Option ℕ) (sock : Option OpId) where
   -- with what the line has made afterwards
-  mark_so : (so : Made) → IsNew h.machine.table h.machine.store.records kind (table_parent kind parent) → MadeSo h.machine.table so → MadeSo (with_handle h.machine.table kind parent) so → Udps h
+  pub mark_so : (so : Made) → IsNew h.machine.table h.machine.store.records kind (table_parent kind parent) → MadeSo h.machine.table so → MadeSo (with_handle h.machine.table kind parent) so → Udps h
       → Allows Anything (λ fs made. Udps (record h { machine = record h.machine { table = made.1 }; made = so })) es (make_asks h.machine.table op kind parent sock)
   unfolding bind
   mark_so so fits was now i =
       allows_if Anything (λ fs made. Udps (record h { machine = record h.machine { table = made.1 }; made = so })) es (is_full h.machine.table) _ _ (λ full. (i.0, was))
       (λ room. (tt, λ told f. (made_there h.machine.table h.machine.store.records kind parent fits i.0, now)))
 
-  mark_other : IsOther kind → Udps h → Allows Anything (λ fs made. Udps (record h { machine = record h.machine { table = made.1 } })) es (make_asks h.machine.table op kind parent sock)
+  pub mark_other : IsOther kind → Udps h → Allows Anything (λ fs made. Udps (record h { machine = record h.machine { table = made.1 } })) es (make_asks h.machine.table op kind parent sock)
   mark_other other i = mark_so h.made (other_fits h.machine.table h.machine.store.records kind (table_parent kind parent) other) i.1 (still_made h.machine.table h.machine.store.records kind parent h.made other i.1) i
 
 -- == a handle is taken out
@@ -209,13 +209,13 @@ is_udp : (k : Option Kind) (place : ℕ) → udp_of k ≡ Some place → k ≡ S
 is_udp (Some (Udp2 n)) place e = let p : n ≡ place = cc in ap (λ (x : ℕ). Some (Udp2 x)) p
 is_udp _ place e = absurd (cc)
 
-open_of_created : (h : Here) (place : ℕ) (u : Udp2Socket) → FoundUdp h place u → IsOpenUdp u → IsOpenAt h.machine.store.records place
+pub open_of_created : (h : Here) (place : ℕ) (u : Udp2Socket) → FoundUdp h place u → IsOpenUdp u → IsOpenAt h.machine.store.records place
 open_of_created h place (Udp2Socket.Open o) g opens = (o, g)
 open_of_created h place (Udp2Socket.Creating create) g opens = absurd opens
 open_of_created h place (Udp2Socket.Closed side) g opens = absurd opens
 
 module _ (contexts : List WasiSocketsCtx) (line : ℕ) (origin : Step) where
-  moves_udps : (h now : Here) → Move line origin h now → Udps h → Udps now
+  pub moves_udps : (h now : Here) → Move line origin h now → Udps h → Udps now
   moves_udps _ _ (Changes h place r now g p) i = put_udps h place r g now i
   moves_udps _ _ (ClosesReader h place r s g e) i = put_udps h place r g _ i
   moves_udps _ _ (Writes h place r s w g e m) i = put_udps h place r g _ i
@@ -234,13 +234,13 @@ module _ (contexts : List WasiSocketsCtx) (line : ℕ) (origin : Step) where
       (push_udps h.machine.table (tcp2_put h.machine.store.records place idle) (joined l new peer) (put_udps h place r g idle i).0, tt)
   moves_udps _ _ (Leaves h) i = (i.0, tt)
   moves_udps _ _ (Watches h own) i = (i.0, tt)
-  moves_udps _ _ (RemembersStreams h c handle place remote is of) i = (i.0, tt)
-  moves_udps _ _ (RecallsStreams h ids place handle e) i = (i.0, tt)
-  moves_udps _ _ (CallsHandles h kind calls) i = (i.0, tt)
+  moves_udps _ _ (RemembersStreams h c handle place remote is of o g none) i = (i.0, tt)
+  moves_udps _ _ (RecallsStreams h ids place handle e own) i = (i.0, tt)
+  moves_udps _ _ (CallsHandles h kind calls quiet) i = (i.0, tt)
   moves_udps _ _ (RecallsCall h ids call e) i = (i.0, tt)
-  moves_udps _ _ (UdpChanges h place o now g p) i = put_open h place o now g i
+  moves_udps _ _ (UdpChanges h place o now g p keeps) i = put_open h place o now g i
   moves_udps _ _ (BeginsUdpBind h place o a at g to idle own) i = put_open h place o _ g i
-  moves_udps _ _ (BeginsUdpConnect h place o a at g to bound own) i = put_open h place o _ g i
+  moves_udps _ _ (BeginsUdpConnect h place o a at g to bound none own) i = put_open h place o _ g i
   moves_udps _ _ (BeginsSend h place n o out d bound at g e item known own) i = put_open h place o _ g i
   moves_udps _ _ (BeginsReceive h place n o inc bound at g e is own) i = put_open h place o _ g i
   moves_udps _ _ (CancelsBind h place r op q g e) i = put_udps h place r g _ i
@@ -262,32 +262,32 @@ module _ (contexts : List WasiSocketsCtx) (line : ℕ) (origin : Step) where
   of_tcp kind place (inl e) = subst IsOther (sym e) tt
   of_tcp kind place (inr e) = subst IsOther (sym e) tt
 
-  is_other : (h : Here) (kind : Kind) (parent : Option ℕ) (sock : Option OpId) → Marks origin h kind parent sock → IsOther kind
+  pub is_other : (h : Here) (kind : Kind) (parent : Option ℕ) (sock : Option OpId) → Marks origin h kind parent sock → IsOther kind
   is_other h kind _ _ (AStream c handle place _ is e opened) = of_tcp kind place e
   is_other h kind _ _ (AnAcceptedStream c listener handle place _ r is e made own g) = of_tcp kind place e
   is_other h kind _ _ (APlain _ makes) = plain_other kind (makes_plain origin kind makes)
   is_other h _ _ _ _ = tt
 
-  joins : (es : List Entry) (m : Machine) (op : OpId) (made : Result Socket ErrorCode) → HasUdps m → Allows Anything (λ fs done. HasUdps done.1) es (created_asks m op made)
+  pub joins : (es : List Entry) (m : Machine) (op : OpId) (made : Result Socket ErrorCode) → HasUdps m → Allows Anything (λ fs done. HasUdps done.1) es (created_asks m op made)
   joins es m op (Ok socket) i =
       let over : Here = record { machine = record m { store = record m.store { records = tcp2_pushed m.store.records (new_record socket) } }; at = None; made = Past; own = Own.Used } in
       allows_then Anything (λ fs made. Udps (record over { machine = record over.machine { table = made.1 } })) (λ fs done. HasUdps done.1) es (make_asks m.table op (Tcp2 (length m.store.records)) None (side_of socket)) _
       (mark_other es over op (Tcp2 (length m.store.records)) None (side_of socket) tt (push_udps m.table m.store.records (new_record socket) i, tt)) (λ fs made so. so.0)
   joins es m op (Err c) i = i
 
-  accepted_so : (t : Handles) (place : ℕ) (made : Result ℕ Stop) → MadeSo t (made_so place made)
+  pub accepted_so : (t : Handles) (place : ℕ) (made : Result ℕ Stop) → MadeSo t (made_so place made)
   accepted_so t place (Ok handle) = tt
   accepted_so t place (Err why) = tt
 
   -- the incoming stream is under the one handle of its socket
-  stream_new : (h : Here) (place handle : ℕ) (kind : Kind) → (kind ≡ Incoming place) ⊎ (kind ≡ Outgoing place) → udp_of (kind_at h.machine.table handle) ≡ Some place → Udps h → IsNew h.machine.table h.machine.store.records kind (table_parent kind (Some handle))
+  pub stream_new : (h : Here) (place handle : ℕ) (kind : Kind) → (kind ≡ Incoming place) ⊎ (kind ≡ Outgoing place) → udp_of (kind_at h.machine.table handle) ≡ Some place → Udps h → IsNew h.machine.table h.machine.store.records kind (table_parent kind (Some handle))
   stream_new h place handle kind (inl e) of i =
       let s = slot_of h.machine.table.live handle (Udp2 place) (is_udp (kind_at h.machine.table handle) place of) in
       subst (λ (k : Kind). IsNew h.machine.table h.machine.store.records k (table_parent k (Some handle))) (sym e)
       (λ b l its. ap (λ (x : ℕ). Some x) (sym s.its ∙ i.0.one s.slot b place s.live_one l s.value its), i.0.opens s.slot place s.live_one (inl s.value))
   stream_new h place handle kind (inr e) of i = subst (λ (k : Kind). IsNew h.machine.table h.machine.store.records k (table_parent k (Some handle))) (sym e) tt
 
-  polls_udps : (h : Here) (op : Operation) (after : End × List Item → Here) → Held h op after → (end : End × List Item) → Udps h → Udps (after end)
+  pub polls_udps : (h : Here) (op : Operation) (after : End × List Item → Here) → Held h op after → (end : End × List Item) → Udps h → Udps (after end)
   polls_udps h _ _ (BindsOn place r op q g e) end i = put_udps h place r g _ i
   polls_udps h _ _ (Connects place r op g e) end i = put_udps h place r g _ i
   polls_udps h _ _ (Listens place r op q g e c) end i = put_udps h place r g _ i
@@ -298,7 +298,7 @@ module _ (contexts : List WasiSocketsCtx) (line : ℕ) (origin : Step) where
   polls_udps h _ _ (SendsOn place o out op left g e s settles) end i = put_open h place o _ g i
   polls_udps h _ _ (ReceivesOn place o inc op g e s) end i = put_open h place o _ g i
 
-  unfoldable udps_there : Law contexts line origin
+  unfoldable pub udps_there : Law contexts line origin
   udps_there = record {
     P = Anything;
     Inv = λ es h. Udps h;
@@ -319,16 +319,17 @@ module _ (contexts : List WasiSocketsCtx) (line : ℕ) (origin : Step) where
     udp_closes = λ es h place o q g i. (tt, λ told fits. put_other h place (Udp2Socket.Closed o.inner.side) (subst (MadeSo h.machine.table) q.1 i.1) i);
     udp_creates = λ es h ctx family c may t o m i. (tt, λ told fits. begun_udps h (udp_after_create (own_of line) ctx.name family (told_done told)) i);
     udp_marks = λ es h place u g i. mark_so es h (udp_side u) (Udp2 place) None (Some (udp_side u)) Past (subst (MadeSo h.machine.table) g.awaited i.1, open_of_created h place u g.found g.opens) tt tt i;
-    stream_marks = λ es h place n handle reached kind made new its of i. mark_so es h (own_of n) kind (Some handle) (udp_side_at (udp2_at h.machine.store.records place)) h.made (stream_new h place handle kind its of i) i.1 (subst (MadeSo (with_handle h.machine.table kind (Some handle))) (sym made) tt) i;
+    stream_marks = λ es h place n handle reached kind next new of i. mark_so es h (own_of n) kind (Some handle) (udp_side_at (udp2_at h.machine.store.records place)) (ToSend n handle reached) (stream_new h place handle kind (one_stream h.made n handle reached kind place next) of i) tt tt i;
     error_marks = λ es h n handle place handles m k e f i. mark_other es h (own_of n) ErrorValue (Some handle) (side_at (tcp2_at h.machine.store.records place)) tt i;
     udp_gives_up = λ es h place create q g i. whatever (λ done. Udps (put_udp h place (Udp2Socket.Closed create.operation.who.side))) (λ done. put_other h place (Udp2Socket.Closed create.operation.who.side) (not_yet h place create g i) i) es (create_cancel_asks create);
     lookups = λ es h host l i. (tt, λ told fits records same. found_udps h records same i);
     looks = λ es h place op at i. (tt, λ told fits. i);
   }
 
-  udps_begin : BeginsWrites udps_there
+  -- a write that begins in a call of streams
+  pub udps_begin : BeginsWrites udps_there
   unfolding udps_there
-  udps_begin = record { begins = λ es h place n r s half permit bytes at g e w within i. put_udps h place r g _ i }
+  udps_begin = record { begins = λ es h place n r s half permit bytes at g e w within used i. put_udps h place r g _ i }
 
   pub line_udps : (m : Machine) (es : List Entry) → HasUdps m → Allows Anything (λ fs done. HasUdps done.1) es (machine_asks contexts m line origin)
   unfolding udps_there

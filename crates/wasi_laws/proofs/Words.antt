@@ -45,7 +45,7 @@ pub use Rattle.wasi_walks.proofs.walks.Law.{BeginsWrites, Law, Walks}
 pub use Rattle.wasi_walks.proofs.walks.Moves.{Awaits, BeginsAccept, BeginsBind, BeginsConnect, BeginsListen, BeginsWrite, BindsOn, Changes, Closes}
 pub use Rattle.wasi_walks.proofs.walks.Moves.{ClosesReader, Collects, Connects, Forgets, Found, Held, Here, IsGone, IsOn, IsQuestionOf, Joins}
 pub use Rattle.wasi_walks.proofs.walks.Moves.{KeepsBinding, Lasts, LastsAfter, Listens, Made, Move, OfReader, OfSocket, OfWriter, Opens, Own, Permits}
-pub use Rattle.wasi_walks.proofs.walks.Moves.{Plain, Reconnects, Spends, ToWrite, Unlistens, Unused, Used, WriterMoves, Writes, accepting_now}
+pub use Rattle.wasi_walks.proofs.walks.Moves.{Plain, Reconnects, Spends, ToConnect, ToWrite, Unlistens, Unused, Used, WriterMoves, Writes, accepting_now}
 pub use Rattle.wasi_walks.proofs.walks.Moves.{beginning_listen, begun_bind, begun_listen, closed_record, joined, joining, listen_after, made_so}
 pub use Rattle.wasi_walks.proofs.walks.Moves.{new_accept, opened_by, part_of, put}
 pub use Rattle.wasi_walks.proofs.walks.OnBase.{Above, both}

@@ -27,7 +27,7 @@ use Rattle.wasi_udp.specs.Create.{Create, create_cancel_asks, new_create, after_
 use Rattle.wasi_udp.specs.Shape.{Socket as UdpShape}
 use Rattle.wasi_udp.specs.Socket.{after_local as udp_after_local, after_peer}
 use Rattle.wasi_walks.proofs.fits.UdpFits.{learnt_side}
-use Rattle.wasi_walks.proofs.walks.Moves.{Past, put_udp, FoundUdp, part_of, udp_begun, with_records}
+use Rattle.wasi_walks.proofs.walks.Moves.{Past, ToSend, put_udp, FoundUdp, part_of, udp_begun, with_records}
 
 -- a close of this network socket leaves the record so
 pub data Closing (r : Tcp2Socket) : Tcp2Socket → OpId → Type 0 where
@@ -160,7 +160,7 @@ module _ (contexts : List WasiSocketsCtx) (line : ℕ) (origin : Step) where
       udp_closes = λ es h place o q g b i. let x = a.udp_closes es h place (Udp2Socket.Open o) (own_of line) g tt (b, i.0) i.1 in (x.0, λ told f. (udp_shape h place _ i.0, x.1 told));
       udp_creates = λ es h ctx family c may at u m b i. ((a.asks es h (own_of line) (call.UdpCreate ctx.name family) refl (OnNone refl) i.1).0, λ told f. (begun_shape h _ i.0, udp_created es h ctx family u (b, i.0) i.1 told f));
       udp_marks = λ es h place u g b i. allows_weaker P (λ fs made. Inv fs h) (λ fs made. Shaped h × Inv fs (record h { machine = record h.machine { table = made.1 }; made = Past })) (λ fs made k. (i.0, a.tables fs h made.1 Past k)) es _ (marked_by es h (udp_side u) (Udp2 place) None (Some (udp_side u)) i.1);
-      stream_marks = λ es h place n handle reached kind m new k e b i. allows_weaker P (λ fs made. Inv fs h) (λ fs made. Shaped h × Inv fs (record h { machine = record h.machine { table = made.1 } })) (λ fs made k. (i.0, a.tables fs h made.1 h.made k)) es _ (marked_by es h (own_of n) kind (Some handle) (udp_side_at (udp2_at h.machine.store.records place)) i.1);
+      stream_marks = λ es h place n handle reached kind m new e b i. allows_weaker P (λ fs made. Inv fs h) (λ fs made. Shaped h × Inv fs (record h { machine = record h.machine { table = made.1 }; made = ToSend n handle reached })) (λ fs made k. (i.0, a.tables fs h made.1 (ToSend n handle reached) k)) es _ (marked_by es h (own_of n) kind (Some handle) (udp_side_at (udp2_at h.machine.store.records place)) i.1);
       error_marks = λ es h n handle place handles m k e f b i. allows_weaker P (λ fs made. Inv fs h) (λ fs made. Shaped h × Inv fs (record h { machine = record h.machine { table = made.1 } })) (λ fs made k. (i.0, a.tables fs h made.1 h.made k)) es _ (marked_by es h (own_of n) ErrorValue (Some handle) (side_at (tcp2_at h.machine.store.records place)) i.1);
       udp_gives_up = λ es h place create q g b i. allows_weaker P (λ fs done. Inv fs (put_udp h place (Udp2Socket.Closed create.operation.who.side))) (λ fs done. Shaped (put_udp h place (Udp2Socket.Closed create.operation.who.side)) × Inv fs (put_udp h place (Udp2Socket.Closed create.operation.who.side))) (λ fs done k. (udp_shape h place _ i.0, k)) es _ (udp_gone es h place create g (b, i.0) i.1);
       lookups = λ es h host l b i. let x = a.asks es h (own_of line) (call.Lookup host) refl (OnNone refl) i.1 in (x.0, λ told f records s. (lookup_shape h records (sockets_stay s) i.0, a.lookups _ h records (sockets_stay s) (x.1 told)));
@@ -187,7 +187,7 @@ module _ (contexts : List WasiSocketsCtx) (line : ℕ) (origin : Step) where
     -- what begins a write keeps it
     pub single_begins : KeepsWrites Inv → BeginsWrites single_law
     unfolding single_law single
-    single_begins k = begins_on_names contexts line origin single (record { begins = λ es h place n r s half permit bytes at g e w within b i. (write_shape contexts line origin h place n r s half permit bytes g e w i.0, k es h place n r s half permit bytes at g e w within (b, i.0) i.1) })
+    single_begins k = begins_on_names contexts line origin single (record { begins = λ es h place n r s half permit bytes at g e w within used b i. (write_shape contexts line origin h place n r s half permit bytes g e w i.0, k es h place n r s half permit bytes at g e w within (b, i.0) i.1) })
 
     pub single_along : {A : Type 0} {h : Here} {end : A → Here} {asks : Asks A} → Walks single_law h end asks → (es : List Entry) → Base contexts line origin h → Shaped h → Inv es h → Allows P (λ fs x. Base contexts line origin (end x) × (Shaped (end x) × Inv fs (end x))) es asks
     unfolding single_law single

@@ -16,7 +16,7 @@ use Rattle.wasi_host.specs.Udp.{udp_bind_progress, udp_create_left, udp_side, wi
 use Rattle.wasi_host.specs.UdpCreates.{with_create}
 use Rattle.wasi_udp.specs.Create.{Create, new_create}
 use Rattle.wasi_walks.proofs.walks.Moves.{put_udp, with_records, Finds, FoundUdp, udp_begun, begun_udp_bind, begun_udp_connect, sending_now, receiving_now, part_of, Names, IsUdpSettled, KeepsOp, SettlesSend, UdpPlain, receive_op, receiving_in, send_op, sending_in}
-use Rattle.wasi_walks.proofs.walks.Moves.{CancelsBind, CancelsUdpBind, CancelsUdpConnect, UdpChanges, BeginsUdpBind, BeginsUdpConnect, Counts, SpendsNames, BeginsSend, BeginsReceive, UdpCreates, UdpBindsOn, UdpConnectsOn, SendsOn, ReceivesOn}
+use Rattle.wasi_walks.proofs.walks.Moves.{CancelsBind, EndsConnect, RecallsStreams, ToStream, CancelsUdpBind, CancelsUdpConnect, UdpChanges, BeginsUdpBind, BeginsUdpConnect, Counts, SpendsNames, BeginsSend, BeginsReceive, UdpCreates, UdpBindsOn, UdpConnectsOn, SendsOn, ReceivesOn}
 use Rattle.wasi_world.specs.Operation.{Datagram}
 use Rattle.wasi_host.specs.Datagrams.{udp_connect_left, with_sending}
 use Rattle.wasi_host.specs.Receiving.{receive_left, with_receiving}
@@ -27,7 +27,7 @@ use Rattle.wasi_host.specs.declared.datagrams.Sending.{Sending}
 use Rattle.wasi_udp.specs.Receive.{receive_start, wanted_in, wanting}
 use Rattle.wasi_udp.specs.Send.{at_remote, send_start, send_to}
 use Rattle.wasi_host.specs.declared.binding.InProgress.TheVariants as progress
-use Rattle.wasi_laws.proofs.Words.{Accepting, Allows, Asks, Awaits, BeginsAccept, BeginsBind, BeginsConnect, BeginsListen, BeginsWrite, BindsOn, Bool, Call, Changes, ChecksFirst, ClosesReader, Connection, Connects, Done, End, Entry, Forgets, Found, Given, Held, Here, InProgress, IpSocketAddress, IsGone, Item, Job, Joins, KeepsBinding, Left, List, Listening, Listens, Machine, Move, OpId, Opens, Operation, Option, Own, Plain, Reconnects, Refused, Reply, Some, Spends, Starts, Step, Streams, Tcp2Socket, TcpState, ToWrite, Told, Unlistens, Unused, Used, Waits, WasiSocketsCtx, WriteState, Writes, [], accept_ended, accept_operation, accepting_now, allows_weaker, ap, arith, arrived, asked_by, beginning_listen, begun_bind, begun_listen, bind_progress, connect_ended, connect_first, connect_left, connect_operation, entry, false, first_state, inl, inr, is_same, job_after, joined, joining, listen_after, new_accept, new_job, new_record, new_socket, own_of, poll_asks, put, refl, run, subst, sym, true, with_inner, with_progress, with_state, with_writer, ℕ, ◌++◌, ◌+◌, ◌∙◌, ◌∷◌, ◌≡◌, ◌≤◌, Ok, ◌⊎◌}
+use Rattle.wasi_laws.proofs.Words.{Accepting, Allows, Asks, Awaits, BeginsAccept, BeginsBind, BeginsConnect, BeginsListen, BeginsWrite, BindsOn, Bool, Call, Changes, ChecksFirst, ClosesReader, Connection, Connects, Done, End, Entry, Forgets, Found, Given, Held, Here, InProgress, IpSocketAddress, IsGone, Item, Job, Joins, KeepsBinding, Left, List, Listening, Listens, Machine, Move, OpId, Opens, Operation, Option, Own, Plain, Reconnects, Refused, Reply, Some, Spends, Starts, Step, Streams, Tcp2Socket, TcpState, ToConnect, ToWrite, Told, Unlistens, Unused, Used, Waits, WasiSocketsCtx, WriteState, Writes, [], accept_ended, accept_operation, accepting_now, allows_weaker, ap, arith, arrived, asked_by, beginning_listen, begun_bind, begun_listen, bind_progress, connect_ended, connect_first, connect_left, connect_operation, entry, false, first_state, inl, inr, is_same, job_after, joined, joining, listen_after, new_accept, new_job, new_record, new_socket, own_of, poll_asks, put, refl, run, subst, sym, true, with_inner, with_progress, with_state, with_writer, ℕ, ◌++◌, ◌+◌, ◌∙◌, ◌∷◌, ◌≡◌, ◌≤◌, Ok, ◌⊎◌}
 use Rattle.wasi_laws.proofs.asks.Single.{each_ask, KeepsWrites, Single, Closing, ClosesSocket, ClosesListen, ClosesArrived, creating}
 use Rattle.wasi_laws.proofs.asks.Trees.{GoesOn}
 use Rattle.wasi_laws.proofs.shapes.Shape.{HasStreams, Same, SocketsStay, StreamsShape, sockets_stay}
@@ -141,6 +141,8 @@ module _ (it : OpId) where
     module _ {origin : Step} where
       moves : (es : List Entry) (h now : Here) → Move line origin h now → Kept line es h → Kept line es now
       moves es _ _ (Spends h e) k = lighter es h (record h { own = Used }) (λ i. omega arith) (less_room it line h.own) k
+      moves es _ _ (EndsConnect h place e over) k = lighter es h (record h { own = Used }) (λ i. omega arith) (less_room it line h.own) k
+      moves es _ _ (RecallsStreams h ids place handle e own) k = lighter es h (record h { made = ToStream ids.line handle place; own = ToConnect place }) (λ i. omega arith) (less_room it line h.own) k
       moves es _ _ (Changes h place r now g p) k = put_kept es h place r now g (changed_less r now p) k
       moves es _ _ (ClosesReader h place r s g e) k = put_kept es h place r _ g (λ i. omega arith) k
       moves es _ _ (Writes h place r s w g e m) k = put_kept es h place r _ g (λ i. omega arith) k
@@ -164,13 +166,13 @@ module _ (it : OpId) where
           let idle : Tcp2Socket = accepting_now r l accepting.Idle in
           let m = put_kept es h place r idle g (λ i. omega arith) k in
           lighter es (put h place idle) (joining h (tcp2_put h.machine.store.records place idle) (joined l new peer)) (λ i. let z = sockets_push ours (tcp2_put h.machine.store.records place idle) (joined l new peer) i in omega (arith, z)) (omega arith) m
-      moves es _ _ (UdpChanges h place o now g p) k = put_udp_kept es h place (Udp2Socket.Open o) (Udp2Socket.Open now) g (udp_changed_less o now p) k
+      moves es _ _ (UdpChanges h place o now g p keeps) k = put_udp_kept es h place (Udp2Socket.Open o) (Udp2Socket.Open now) g (udp_changed_less o now p) k
       moves es _ _ (BeginsUdpBind h place o a at g to idle own) k =
           let op = begun_udp_bind (own_of line) o a in
           put_udp_begins es h place (Udp2Socket.Open o) (Udp2Socket.Open (with_udp_progress o (UdpInProgress.Binding op))) op Used g (takes_line it line h.own (own_of line) op.left (ap (room line) own) refl (omega arith)) (λ i. omega arith) k
-      moves es _ _ (BeginsUdpConnect h place o a at g to bound own) k =
+      moves es _ _ (BeginsUdpConnect h place o a at g to bound none own) k =
           let op = begun_udp_connect (own_of line) o a in
-          put_udp_begins es h place (Udp2Socket.Open o) (Udp2Socket.Open (record o { connecting = Some op })) op Used g (takes_line it line h.own (own_of line) op.left (ap (room line) own) refl (omega arith)) (λ i. omega arith) k
+          put_udp_begins es h place (Udp2Socket.Open o) (Udp2Socket.Open (record o { connecting = Some op })) op (ToConnect place) g (takes_line it line h.own (own_of line) op.left (ap (room line) own) refl (omega arith)) (λ i. omega arith) k
       moves es _ _ (Counts h e) k =
           let r : room line h.own ≡ room line Unused = ap (room line) e in let l = names_within it line 1 in lighter es h (record h { own = Names 1 }) (λ i. omega arith) (omega (arith, r, l)) k
       moves es _ _ (SpendsNames h n e) k = lighter es h (record h { own = Used }) (λ i. omega arith) (less_room it line h.own) k
@@ -349,4 +351,5 @@ module _ (it : OpId) where
       starts line es m Used k = lighter line es (Starts m Unused) (Starts m Used) (λ i. omega arith) (less_room it line Unused) k
       starts line es m Unused k = k
       starts line es m (ToWrite at bytes) k = k
+      starts line es m (ToConnect place) k = lighter line es (Starts m Unused) (Starts m (ToConnect place)) (λ i. omega arith) (less_room it line Unused) k
       starts line es m (Names n) k = lighter line es (Starts m Unused) (Starts m (Names n)) (λ i. omega arith) (names_within it line n) k

@@ -1,6 +1,6 @@
 -- The room that a name has: whether the operation of this name may still begin.
 use Rattle.std.proofs.lemmas.Bool.Decides.{nat_tests}
-use Rattle.wasi_laws.proofs.Words.{Bool, Item, List, OpId, Own, ToWrite, Unused, Used, ap, arith, false, if◌then◌else◌, is_same, nat_lt, refl, sym, true, ℕ, ◌+◌, ◌∙◌, ◌≡◌, ◌≤◌}
+use Rattle.wasi_laws.proofs.Words.{Bool, Item, List, OpId, Own, ToConnect, ToWrite, Unused, Used, ap, arith, false, if◌then◌else◌, is_same, nat_lt, refl, sym, true, ℕ, ◌+◌, ◌∙◌, ◌≡◌, ◌≤◌}
 use Rattle.wasi_laws.proofs.shapes.Shape.{same_side}
 use Rattle.wasi_laws.proofs.order.Weights.{checks_of, if_ours, op_weight}
 use Rattle.wasi_walks.proofs.walks.Moves.{Names, part_of}
@@ -49,12 +49,14 @@ module _ (it : OpId) where
   -- what a line has room for, by what it has begun
   abbrev pub room_of : ℕ → Own → ℕ
   room_of line Used = future it.step (line + 1)
+  room_of line (ToConnect place) = future it.step (line + 1)
   room_of line (Names n) = parts it.step it.part line n
   room_of line _ = future it.step line
 
   -- there is the least once it is used
   pub less_room : (line : ℕ) (own : Own) → room_of line Used ≤ room_of line own
   less_room line Used = omega arith
+  less_room line (ToConnect place) = omega arith
   less_room line Unused = future_less it.step line
   less_room line (ToWrite at bytes) = future_less it.step line
   less_room line (Names n) = parts_over it.step it.part line n

@@ -1,6 +1,6 @@
 -- What calls of streams are let write, along their trees: each call in them is walked with the law of what was let write before it,
 -- and a write with that of its own bytes too.
-use Rattle.wasi_laws.proofs.Words.{◌≡◌, ⊤, ℕ, Bool, true, false, List, [], ◌∷◌, ◌++◌, Option, Some, None, Result, refl, sym, ap, subst, append-nil, if◌then◌else◌, is_same, length, OpId, Entry, WasiSocketsCtx, Asks, Give, bind, Allows, allows_then, Has, Base, Machine, Streams, Tcp2Socket, WriteState, nat_lt, taken_in, Own, Used, Unused, ToWrite, Here, Over, Step, Walks, own_of, output_at, record_in, let_begin, writer_in, writer_of_record}
+use Rattle.wasi_laws.proofs.Words.{◌≡◌, ⊤, ℕ, Bool, true, false, List, [], ◌∷◌, ◌++◌, Option, Some, None, Result, refl, sym, ap, subst, append-nil, if◌then◌else◌, is_same, length, OpId, Entry, WasiSocketsCtx, Asks, Give, bind, Allows, allows_then, Has, Base, Machine, Streams, Tcp2Socket, WriteState, nat_lt, taken_in, Own, Used, Unused, ToConnect, ToWrite, Here, Over, Step, Walks, own_of, output_at, record_in, let_begin, writer_in, writer_of_record}
 use Rattle.wasi_tcp.specs.declared.writer.WriteState.TheVariants as writing
 use Rattle.wasi_host.specs.Host.{CallStop}
 use Rattle.wasi_host.specs.Records.{tcp2_at}
@@ -146,6 +146,7 @@ module _ (contexts : List WasiSocketsCtx) (side : OpId) (line : ℕ) (origin : S
       wrote (ToWrite where_to b) k e = along (given ++ let_own side (ToWrite where_to b)) (write_asks_walks m output named bytes (AsLet (sym e))) es (to_write given es at m where_to b i)
       wrote Used k e = absurd k
       wrote (Names part) k e = absurd k
+      wrote (ToConnect place) k e = absurd k
 
       pub write_lets : Wrote (given ++ let_write side m output bytes)
       write_lets = subst (λ (more : List ℕ). Wrote (given ++ more)) (write_is side m output bytes) (wrote (may_at m bytes (output_at m output)) (write_at m bytes (output_at m output)) refl)

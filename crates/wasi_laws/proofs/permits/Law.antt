@@ -19,10 +19,10 @@ use Rattle.wasi_walks.proofs.claims.Polls.{send_plain, receive_plain, udp_connec
 use Rattle.wasi_walks.proofs.fits.DatagramPolls.{wanted_left}
 use Rattle.wasi_walks.proofs.fits.Records.{FitConnecting, FitUdpProgress, ReceiveOn, SendOn, UdpBindOn, UdpConnectOn}
 use Rattle.wasi_walks.proofs.fits.UdpFits.{receives_on, sends_on}
-use Rattle.wasi_walks.proofs.walks.Moves.{CancelsBind, CancelsUdpBind, CancelsUdpConnect, Names, put_udp, with_records, Finds, FoundUdp, UdpChanges, BeginsUdpBind, BeginsUdpConnect, Counts, SpendsNames, BeginsSend, BeginsReceive, UdpCreates, UdpBindsOn, UdpConnectsOn, SendsOn, ReceivesOn}
+use Rattle.wasi_walks.proofs.walks.Moves.{CancelsBind, EndsConnect, RecallsStreams, CancelsUdpBind, CancelsUdpConnect, Names, put_udp, with_records, Finds, FoundUdp, UdpChanges, BeginsUdpBind, BeginsUdpConnect, Counts, SpendsNames, BeginsSend, BeginsReceive, UdpCreates, UdpBindsOn, UdpConnectsOn, SendsOn, ReceivesOn}
 use Rattle.wasi_walks.specs.Waiting.{IsLeftOfBind}
 use Rattle.wasi_walks.specs.Waiting as binding
-use Rattle.wasi_laws.proofs.Words.{Allows, ArePlain, Asks, Awaits, Begins, BeginsAccept, BeginsBind, BeginsConnect, BeginsListen, BeginsWrite, BindsOn, Bool, Call, Changes, ClosesReader, Connects, Done, End, Entry, Fit, FitListening, FitProgress, Forgets, Found, Held, Here, HoldsAccept, HoldsConnect, IsAcceptOn, IsConnect, IsFrontOf, IsGone, IsLeftOfConnect, IsLeftOfListen, IsListen, Item, Job, Joins, List, Listens, Move, Named, NoWrite, None, Not, OpId, Opens, Operation, Option, Own, Quiet, Reconnects, Refused, SocketAddressFamily, Some, Spends, Step, Streams, Tcp2Socket, TcpState, ToWrite, Told, Unlistens, Unused, Used, Waits, WasiSocketsCtx, WriteState, Writes, [], accept_ended, accept_name, accept_plain, accepting_now, allows_keep, allows_weaker, ap, append-nil, append_assoc, bytes_left, closed_record, connect_ended, entry, false, fresh, if◌then◌else◌, inl, inr, is_same, job_after, joined, name_in, new_accept, new_job, new_record, new_socket, none_taken, opened_by, own_of, part_of, plain_poll, poll_asks, put, refl, rules, side_in, side_of, subst, sym, taken_fresh, taken_in, true, with_inner, with_listening, with_reader, with_state, with_writer, ℕ, ⊤, ◌+◌, ◌++◌, ◌∙◌, ◌∷◌, ◌≡◌}
+use Rattle.wasi_laws.proofs.Words.{Allows, ArePlain, Asks, Awaits, Begins, BeginsAccept, BeginsBind, BeginsConnect, BeginsListen, BeginsWrite, BindsOn, Bool, Call, Changes, ClosesReader, Connects, Done, End, Entry, Fit, FitListening, FitProgress, Forgets, Found, Held, Here, HoldsAccept, HoldsConnect, IsAcceptOn, IsConnect, IsFrontOf, IsGone, IsLeftOfConnect, IsLeftOfListen, IsListen, Item, Job, Joins, List, Listens, Move, Named, NoWrite, None, Not, OpId, Opens, Operation, Option, Own, Quiet, Reconnects, Refused, SocketAddressFamily, Some, Spends, Step, Streams, Tcp2Socket, TcpState, ToConnect, ToWrite, Told, Unlistens, Unused, Used, Waits, WasiSocketsCtx, WriteState, Writes, [], accept_ended, accept_name, accept_plain, accepting_now, allows_keep, allows_weaker, ap, append-nil, append_assoc, bytes_left, closed_record, connect_ended, entry, false, fresh, if◌then◌else◌, inl, inr, is_same, job_after, joined, name_in, new_accept, new_job, new_record, new_socket, none_taken, opened_by, own_of, part_of, plain_poll, poll_asks, put, refl, rules, side_in, side_of, subst, sym, taken_fresh, taken_in, true, with_inner, with_listening, with_reader, with_state, with_writer, ℕ, ⊤, ◌+◌, ◌++◌, ◌∙◌, ◌∷◌, ◌≡◌}
 use Rattle.wasi_laws.proofs.asks.Fronts.{unwritten, polls_by}
 use Rattle.wasi_laws.proofs.asks.Single.{Single, Grounds, Closing, ClosesSocket, ClosesListen, ClosesArrived, creating}
 use Rattle.wasi_laws.proofs.asks.Trees.{GoesOn, InWriting, InClosing}
@@ -102,6 +102,7 @@ module _ (side : OpId) (given : List ℕ) where
   front_by taken held Used e f = subst (IsFrontOf taken) e f
   front_by taken held Unused e f = subst (IsFrontOf taken) e f
   front_by taken held (Names part) e f = subst (IsFrontOf taken) e f
+  front_by taken held (ToConnect place) e f = subst (IsFrontOf taken) e f
   front_by taken held (ToWrite at bytes) e f = front_on taken held _ f e
 
   front : (es : List Entry) (h : Here) → Kept es h → IsFrontOf (taken_in side es) given
@@ -180,6 +181,8 @@ module _ (side : OpId) (given : List ℕ) where
     module _ (contexts : List WasiSocketsCtx) (origin : Step) where
       moves : (es : List Entry) (h now : Here) → Move line origin h now → Grounds contexts line origin h → Kept es h → Kept es now
       moves es _ _ (Spends h e) b k = spends es _ h.own e k
+      moves es _ _ (EndsConnect h place e over) b k = owns es _ h.own (ToConnect place) Used e (λ held o. o) k
+      moves es _ _ (RecallsStreams h ids place handle e own) b k = owns es _ h.own Unused (ToConnect place) own (λ held o. o) k
       moves es _ _ (Counts h e) b k = owns es _ h.own Unused (Names 1) e (λ held o. o) k
       moves es _ _ (SpendsNames h part e) b k = owns es _ h.own (Names part) Used e (λ held o. o) k
       moves es _ _ (Changes h place r now g p) b k = put_same es h place r now g (follows_plain r now p) p.streams k
@@ -206,9 +209,9 @@ module _ (side : OpId) (given : List ℕ) where
             stands = agrees_push side (taken_in side es) i.held (tcp2_put h.machine.store.records place idle) (joined l new peer) (λ q j x d v. taken_fresh contexts line origin h place r idle new g (ap accept_name e ∙ ap name_in a) refl refl b.0.1 j x d (inl (v ∙ sym q))) (λ t. t.0 ∙ sym t.1) i.stands;
             owes = i.owes;
           }
-      moves es _ _ (UdpChanges h place o now g p) b k = put_udp_kept es h place (Udp2Socket.Open o) (Udp2Socket.Open now) g k
+      moves es _ _ (UdpChanges h place o now g p keeps) b k = put_udp_kept es h place (Udp2Socket.Open o) (Udp2Socket.Open now) g k
       moves es _ _ (BeginsUdpBind h place o a at g to idle own) b k = spends es _ h.own own (put_udp_kept es h place (Udp2Socket.Open o) (Udp2Socket.Open _) g k)
-      moves es _ _ (BeginsUdpConnect h place o a at g to bound own) b k = spends es _ h.own own (put_udp_kept es h place (Udp2Socket.Open o) (Udp2Socket.Open _) g k)
+      moves es _ _ (BeginsUdpConnect h place o a at g to bound none own) b k = owns es _ h.own Unused (ToConnect place) own (λ held p. p) (put_udp_kept es h place (Udp2Socket.Open o) (Udp2Socket.Open _) g k)
       moves es _ _ (BeginsSend h place part o out d bound at g e is known own) b k = owns es _ h.own (Names part) (Names (part + 1)) own (λ held p. p) (put_udp_kept es h place (Udp2Socket.Open o) (Udp2Socket.Open _) g k)
       moves es _ _ (BeginsReceive h place part o inc bound at g e is own) b k = owns es _ h.own (Names part) (Names (part + 1)) own (λ held p. p) (put_udp_kept es h place (Udp2Socket.Open o) (Udp2Socket.Open _) g k)
       moves es _ _ (CancelsBind h place r op q g e) b k = put_same es h place r _ g (record { side = refl; lives = λ x v. v }) refl k

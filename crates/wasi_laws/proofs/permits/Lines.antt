@@ -22,9 +22,10 @@ use Rattle.wasi_walks.proofs.walks.Calls.{Calling}
 use Rattle.wasi_walks.proofs.walks.Law.{give, gives, move}
 use Rattle.wasi_walks.proofs.walks.Moves.{IsStreamCall, Names, RecallsCall, Unstands}
 use Rattle.wasi_walks.proofs.walks.States.{stands_so}
+use Rattle.wasi_walks.proofs.walks.Here.{NoStartStands, takes_none}
 use Rattle.wasi_walks.proofs.walks.Steps.{IsSimple, begun_calls, simple_walks}
 use Rattle.wasi_walks.proofs.walks.Writes.{let_write as let_own}
-use Rattle.wasi_laws.proofs.Words.{base_over, ◌+◌, permitted_by, true, false, if◌then◌else◌, ◌==◌, Asks, BaseBetween, Bool, Entry, Err, Give, List, Machine, None, Ok, OpId, Option, Over, Own, Reply, Result, Some, Spends, Standing, Starts, Step, ToWrite, Unused, Used, WasiSocketsCtx, [], ap, append-nil, asks_while, base_starts, bind, inl, inr, length, machine_asks, may_while, nat_lt, number_fields, own_of, permitted_in, refl, subst, sym, taken_in, ℕ, ◌++◌, ◌∙◌, ◌≡◌}
+use Rattle.wasi_laws.proofs.Words.{base_over, ◌+◌, permitted_by, true, false, if◌then◌else◌, ◌==◌, Asks, BaseBetween, Bool, Entry, Err, Give, List, Machine, None, Ok, OpId, Option, Over, Own, Reply, Result, Some, Spends, Standing, Starts, Step, ToConnect, ToWrite, Unused, Used, WasiSocketsCtx, [], ap, append-nil, asks_while, base_starts, bind, inl, inr, length, machine_asks, may_while, nat_lt, number_fields, own_of, permitted_in, refl, subst, sym, taken_in, ℕ, ◌++◌, ◌∙◌, ◌≡◌}
 use Rattle.wasi_laws.proofs.shapes.Law.{Shaped}
 use Rattle.wasi_laws.proofs.shapes.Shape.{some_same}
 use Rattle.wasi_laws.proofs.permits.Agreeing.{Agreeing}
@@ -52,6 +53,7 @@ module _ (contexts : List WasiSocketsCtx) (side : OpId) where
     owes Used = sym (append-nil given)
     owes Unused = sym (append-nil given)
     owes (Names part) = sym (append-nil given)
+    owes (ToConnect place) = sym (append-nil given)
     owes (ToWrite at bytes) = refl
 
     starts : (own : Own) → Holds contexts side line s (given ++ let_own side own) es (Starts m own)
@@ -73,15 +75,15 @@ module _ (contexts : List WasiSocketsCtx) (side : OpId) where
     replied reply more asks h = lets_given side (Ends contexts side line s) (Ends contexts side line s) (λ done. (reply done.0, done.1)) (λ bytes fs done k. k) (λ gs. given ++ more gs) es asks h
 
     -- the calls of streams of the line begin
-    calls : IsStreamCall s → So contexts side line s line (handles_of s) given es None m
-    calls is = let done : Unit {0} × Machine = (tt, m) in along contexts side line s given {end = λ x. Calling line (handles_of s) None Used x.1} {asks = Give done} (begun_calls is (give _)) es begins
+    calls : IsStreamCall s → m.store.standing ≡ None → So contexts side line s line (handles_of s) given es None m
+    calls is e = let done : Unit {0} × Machine = (tt, m) in along contexts side line s given {end = λ x. Calling line (handles_of s) None Used x.1} {asks = Give done} (begun_calls is (subst NoStartStands (sym e) tt) (give _)) es begins
 
     -- or those that a poll continues
     recalls : (ids : Ids) (call : BlockingCall) → m.store.standing ≡ Some (standing_as ids (Blocking call)) → Holds contexts side line s given es (Recalled ids.line call None (record m { store = unstood m.store }))
     recalls ids call e =
         let now : Machine = record m { store = unstood m.store } in
         let done : Unit {0} × Machine = (tt, now) in
-        along contexts side line s given {end = λ x. Recalled ids.line call None x.1} {asks = Give done} (move (RecallsCall _ ids call e) (move (Unstands _) (gives _ (Spends _ refl)))) es begins
+        along contexts side line s given {end = λ x. Recalled ids.line call None x.1} {asks = Give done} (move (RecallsCall _ ids call e) (move (Unstands _ (takes_none m.store.standing ids (Blocking call) Unused e tt)) (gives _ (Spends _ refl)))) es begins
 
     -- == a poll
     resumed_so : {A : Type 0} (gives : A → Outcome) (done : Blocked A) → (resumed (blocked_outcome gives done)).1 ≡ done.1
@@ -144,16 +146,16 @@ module _ (contexts : List WasiSocketsCtx) (side : OpId) where
     step_lets (step.WriteZeroes ctx output len) e = simple line (step.WriteZeroes ctx output len) given es m i None e tt (λ gs. write_is side m output (zeros len))
     step_lets (step.Splice ctx to from len) e =
         let s = step.Splice ctx to from len in
-        replied line s given es m i (stream_reply_of number_fields) (let_splice side m (own_of line) to from len) _ (splice_lets contexts side line s line (handles_of s) to from (inl refl) (inr (inl refl)) given es None m len (calls line s given es m i tt))
+        replied line s given es m i (stream_reply_of number_fields) (let_splice side m (own_of line) to from len) _ (splice_lets contexts side line s line (handles_of s) to from (inl refl) (inr (inl refl)) given es None m len (calls line s given es m i tt e))
     step_lets (step.BlockingWrite ctx output bytes) e =
         let s = step.BlockingWrite ctx output bytes in
-        replied line s given es m i (blocked_reply_of no_values line) (let_blocking_write side m (own_of line) output bytes (nat_lt 4096 (length bytes))) _ (blocking_write_lets contexts side line s (first_ids line) output given es None m bytes (calls line s given es m i tt))
+        replied line s given es m i (blocked_reply_of no_values line) (let_blocking_write side m (own_of line) output bytes (nat_lt 4096 (length bytes))) _ (blocking_write_lets contexts side line s (first_ids line) output given es None m bytes (calls line s given es m i tt e))
     step_lets (step.BlockingZeroes ctx output len) e =
         let s = step.BlockingZeroes ctx output len in
-        replied line s given es m i (blocked_reply_of no_values line) (let_blocking_write side m (own_of line) output (zeros len) (nat_lt 4096 len)) _ (blocking_zeroes_lets contexts side line s (first_ids line) output given es None m len (calls line s given es m i tt))
+        replied line s given es m i (blocked_reply_of no_values line) (let_blocking_write side m (own_of line) output (zeros len) (nat_lt 4096 len)) _ (blocking_zeroes_lets contexts side line s (first_ids line) output given es None m len (calls line s given es m i tt e))
     step_lets (step.BlockingSplice ctx to from len) e =
         let s = step.BlockingSplice ctx to from len in
-        replied line s given es m i (blocked_reply_of number_fields line) (let_blocking_splice side m (own_of line) to from len) _ (blocking_splice_lets contexts side line s (first_ids line) to from len given es None m (calls line s given es m i tt))
+        replied line s given es m i (blocked_reply_of number_fields line) (let_blocking_splice side m (own_of line) to from len) _ (blocking_splice_lets contexts side line s (first_ids line) to from len given es None m (calls line s given es m i tt e))
     step_lets (step.Poll n) e = simple line (step.Poll n) given es m i None e tt (λ gs. none_polled n None gs e refl)
     step_lets s e = simple line s given es m i None e tt (λ gs. refl)
 

@@ -145,9 +145,9 @@ module _ (contexts : List WasiSocketsCtx) (line : ℕ) (origin : Step) where
       let k = i place r g in
       let idle : Tcp2Socket = accepting_now r l _ in
       push_shape (tcp2_put h.machine.store.records place idle) (joined l new peer) (record { connection = _; is = refl; taken = refl; reader = λ half d. (let q : record { side = new } ≡ half = cc in ap (λ y. y.side) (sym q)); writer = refl }, tt) (put_shape h place idle (k.0, accepts_shape r l e k) i)
-  moves_shape _ _ (UdpChanges h place o now g p) i = udp_shape h place _ i
+  moves_shape _ _ (UdpChanges h place o now g p keeps) i = udp_shape h place _ i
   moves_shape _ _ (BeginsUdpBind h place o a at g to idle own) i = udp_shape h place _ i
-  moves_shape _ _ (BeginsUdpConnect h place o a at g to bound own) i = udp_shape h place _ i
+  moves_shape _ _ (BeginsUdpConnect h place o a at g to bound none own) i = udp_shape h place _ i
   moves_shape _ _ (BeginsSend h place part o out d bound at g e is known own) i = udp_shape h place _ i
   moves_shape _ _ (BeginsReceive h place part o inc bound at g e is own) i = udp_shape h place _ i
   moves_shape _ _ (CancelsBind h place r op q g e) i = put_shape h place _ (i place r g) i

@@ -19,7 +19,7 @@ use Rattle.wasi_walks.proofs.fits.Records.{FitConnecting, FitUdpProgress, Receiv
 use Rattle.wasi_walks.proofs.fits.UdpFits.{connected_side, receives_on, sends_on}
 use Rattle.wasi_laws.specs.Opened.{UdpCreated}
 use Rattle.wasi_walks.proofs.walks.Here.{IsOlder, IsToCome, grows_to, next_grows, next_to_come, not_given, older_unused, older_used, own_not_given}
-use Rattle.wasi_walks.proofs.walks.Moves.{CancelsBind, CancelsUdpBind, CancelsUdpConnect, Names, put_udp, FoundUdp, Finds, udp_begun, UdpChanges, BeginsUdpBind, BeginsUdpConnect, Counts, SpendsNames, BeginsSend, BeginsReceive, UdpCreates, UdpBindsOn, UdpConnectsOn, SendsOn, ReceivesOn}
+use Rattle.wasi_walks.proofs.walks.Moves.{CancelsBind, EndsConnect, RecallsStreams, CancelsUdpBind, CancelsUdpConnect, Names, put_udp, FoundUdp, Finds, udp_begun, UdpChanges, BeginsUdpBind, BeginsUdpConnect, Counts, SpendsNames, BeginsSend, BeginsReceive, UdpCreates, UdpBindsOn, UdpConnectsOn, SendsOn, ReceivesOn}
 use Rattle.wasi_laws.proofs.sockets.Opened.{lives_open, put_udp_open, push_udp_open, looked_open, udp_closed_put, Grows, grows_none, grows_entry, RecordOpen, name_of, changed, HasIt, one_more, opened_more, put_open, push_open, later, Kept, closed_put}
 use Rattle.wasi_laws.proofs.sockets.Polls.{ClosesAt, AskedOpen, calm_closes, PollLeaves, polled, calm_end}
 
@@ -54,6 +54,8 @@ module _ (line : ℕ) where
     moves es _ _ (Spends h e) n i = later es (IsOlder line Used) (older_used line h.own) i
     moves es _ _ (Counts h e) n i = later es (IsOlder line (Names 1)) (grows_to line h.own Unused (Names 1) e (older_unused line (Names 1))) i
     moves es _ _ (SpendsNames h part e) n i = later es (IsOlder line Used) (older_used line h.own) i
+    moves es _ _ (EndsConnect h place e over) n i = later es (IsOlder line Used) (older_used line h.own) i
+    moves es _ _ (RecallsStreams h ids place handle e own) n i = later es (IsOlder line Used) (older_used line h.own) i
     moves es _ _ (Changes h place r now g p) n i = put_kept es h place r now g (follows_plain r now p) (inl p.listening) i
     moves es _ _ (ClosesReader h place r s g e) n i = put_kept es h place r _ g (record { side = refl; lives = λ x v. v }) (inl refl) i
     moves es _ _ (Writes h place r s w g e m) n i = put_kept es h place r _ g (record { side = refl; lives = λ x v. v }) (inl refl) i
@@ -79,9 +81,9 @@ module _ (line : ℕ) where
         let o = arrived_open es h place r l new peer g e a i in
         push_open es (joined l new peer) (record { lives = λ x v. subst (IsOpen es) (some_same new x v.0) o; named = λ x p. absurd (no_some x p); arrived = λ k x y p q. absurd (cc) })
         (put_kept es h place r (accepting_now r l accepting.Idle) g (follows_quiet r _ refl refl (λ b. b)) (inr refl) i)
-    moves es _ _ (UdpChanges h place o now g p) n i = put_udp_open es place (Udp2Socket.Open now) (subst (IsOpen es) (sym p.side) (i.udps place (Udp2Socket.Open o) g)) i
+    moves es _ _ (UdpChanges h place o now g p keeps) n i = put_udp_open es place (Udp2Socket.Open now) (subst (IsOpen es) (sym p.side) (i.udps place (Udp2Socket.Open o) g)) i
     moves es _ _ (BeginsUdpBind h place o a at g to idle own) n i = later es (IsOlder line Used) (older_used line h.own) (put_udp_open es place (Udp2Socket.Open _) (i.udps place (Udp2Socket.Open o) g) i)
-    moves es _ _ (BeginsUdpConnect h place o a at g to bound own) n i = later es (IsOlder line Used) (older_used line h.own) (put_udp_open es place (Udp2Socket.Open _) (i.udps place (Udp2Socket.Open o) g) i)
+    moves es _ _ (BeginsUdpConnect h place o a at g to bound none own) n i = later es (IsOlder line Used) (older_used line h.own) (put_udp_open es place (Udp2Socket.Open _) (i.udps place (Udp2Socket.Open o) g) i)
     moves es _ _ (BeginsSend h place part o out d bound at g e is known own) n i = later es (IsOlder line (Names (part + 1))) (next_grows line part h.own own) (put_udp_open es place (Udp2Socket.Open _) (i.udps place (Udp2Socket.Open o) g) i)
     moves es _ _ (BeginsReceive h place part o inc bound at g e is own) n i = later es (IsOlder line (Names (part + 1))) (next_grows line part h.own own) (put_udp_open es place (Udp2Socket.Open _) (i.udps place (Udp2Socket.Open o) g) i)
     -- what is given up is open still

@@ -32,7 +32,7 @@ use Rattle.wasi_host.specs.declared.udp.Udp2Socket.{Udp2Socket}
 use Rattle.wasi_host.specs.Udp.{udp_bind_progress, udp_create_left, udp_side, with_udp_progress}
 use Rattle.wasi_udp.specs.Create.{create_cancel_asks, new_create, after_create as udp_after_create}
 use Rattle.wasi_walks.proofs.UdpLists.{tcp_of_put, tcp_of_push, udp_of_put, udp_of_push, udp_get_set, udp_split}
-use Rattle.wasi_walks.proofs.walks.Moves.{with_records, SameSockets, Finds, put_udp, FoundUdp, udp_begun, Names, UdpChanges, BeginsUdpBind, BeginsUdpConnect, BeginsSend, BeginsReceive, Counts, SpendsNames, UdpCreates, UdpBindsOn, UdpConnectsOn, SendsOn, ReceivesOn}
+use Rattle.wasi_walks.proofs.walks.Moves.{EndsConnect, RecallsStreams, ToConnect, with_records, SameSockets, Finds, put_udp, FoundUdp, udp_begun, Names, UdpChanges, BeginsUdpBind, BeginsUdpConnect, BeginsSend, BeginsReceive, Counts, SpendsNames, UdpCreates, UdpBindsOn, UdpConnectsOn, SendsOn, ReceivesOn}
 
 -- it was made with this network socket, or its accept has this name, by which a network socket will be made
 abbrev pub Claims : OpId → Tcp2Socket → Type 0
@@ -295,6 +295,8 @@ module _ (contexts : List WasiSocketsCtx) (line : ℕ) (origin : Step) where
   pub moves_named : (h now : Here) → Move line origin h now → Named line h → Named line now
   moves_named _ _ (Spends h e) n = spends_named h n
   moves_named _ _ (SpendsNames h part e) n = spends_named h n
+  moves_named _ _ (EndsConnect h place e over) n = spends_named h n
+  moves_named _ _ (RecallsStreams h ids place handle e own) n = let k = owns_named h (ToConnect place) n (older_used line h.own) in record { one = k.one; apart = k.apart; older = k.older; named = k.named; held = k.held; udps = record { one = k.udps.one; apart = k.udps.apart; older = k.udps.older } }
   moves_named _ _ (Counts h e) n = owns_named h (Names 1) n (grows_to line h.own Unused (Names 1) e (older_unused line (Names 1)))
   moves_named _ _ (Changes h place r now g p) n = put_inner h place r now g p.side p.listening (λ x e. sym (ap side_in p.does) ∙ e) n
   moves_named _ _ (ClosesReader h place r s g e) n = put_inner h place r _ g refl refl (λ x e. e) n
@@ -328,9 +330,9 @@ module _ (contexts : List WasiSocketsCtx) (line : ℕ) (origin : Step) where
       let name : accept_name r.listening ≡ Some new = ap accept_name e ∙ ap name_in a in
       let j = push_named line mid (joined l new peer) h.own refl (λ x p. (let s : new ≡ x = cc in subst (λ (y : OpId). IsOlder line h.own y × Fresh mid y × FreshUdp mid y) s (n.older new place r g (inr name), taken_fresh h place r (accepting_now r l Accepting.Idle) new g name refl refl n, λ i v f q. n.udps.apart new place i r v g (udp_of_put h.machine.store.records place (accepting_now r l Accepting.Idle) i v f) (inr name) q))) (λ x p. p) (λ op p. absurd (cc)) (λ x o. o) k in
       record { one = j.one; apart = j.apart; older = j.older; named = j.named; held = j.held; udps = record { one = j.udps.one; apart = j.udps.apart; older = j.udps.older } }
-  moves_named _ _ (UdpChanges h place o now g p) n = put_udp_named line h place (Udp2Socket.Open o) (Udp2Socket.Open now) g p.side n
+  moves_named _ _ (UdpChanges h place o now g p keeps) n = put_udp_named line h place (Udp2Socket.Open o) (Udp2Socket.Open now) g p.side n
   moves_named _ _ (BeginsUdpBind h place o a at g to idle own) n = put_udp_by line h place (Udp2Socket.Open o) (Udp2Socket.Open _) g refl n Used (older_used line h.own)
-  moves_named _ _ (BeginsUdpConnect h place o a at g to bound own) n = put_udp_by line h place (Udp2Socket.Open o) (Udp2Socket.Open _) g refl n Used (older_used line h.own)
+  moves_named _ _ (BeginsUdpConnect h place o a at g to bound none own) n = put_udp_by line h place (Udp2Socket.Open o) (Udp2Socket.Open _) g refl n (ToConnect place) (older_used line h.own)
   moves_named _ _ (BeginsSend h place part o out d bound at g e is known own) n = put_udp_by line h place (Udp2Socket.Open o) (Udp2Socket.Open _) g refl n (Names (part + 1)) (next_grows line part h.own own)
   moves_named _ _ (BeginsReceive h place part o inc bound at g e is own) n = put_udp_by line h place (Udp2Socket.Open o) (Udp2Socket.Open _) g refl n (Names (part + 1)) (next_grows line part h.own own)
   moves_named _ _ (CancelsBind h place r op q g e) n = put_inner h place r _ g refl refl (λ x p. p) n
@@ -431,7 +433,7 @@ module _ (contexts : List WasiSocketsCtx) (line : ℕ) (origin : Step) where
         udp_closes = λ es h place o q g i. (tt, λ told k. ((f.udp_closes es h place o q g i.0).1 told k, put_udp_named line h place (Udp2Socket.Open o) (Udp2Socket.Closed o.inner.side) g refl i.1));
         udp_creates = λ es h ctx family c may a o m i. (tt, λ told k. ((f.udp_creates es h ctx family c may a o m i.0).1 told k, begun_named h ctx.name family (told_done told) o i.1));
         udp_marks = λ es h place u g i. marked es h Past _ i;
-        stream_marks = λ es h place part handle reached kind m new k e i. marked es h h.made _ i;
+        stream_marks = λ es h place part handle reached kind m new e i. marked es h _ _ i;
         error_marks = λ es h part handle place handles m k e f i. marked es h h.made _ i;
         udp_gives_up = λ es h place create q g i.
             both Anything Anything (λ fs done. Named line (put_udp h place (Udp2Socket.Closed create.operation.who.side))) (λ fs done. Fit (put_udp h place (Udp2Socket.Closed create.operation.who.side))) es _
@@ -446,7 +448,7 @@ module _ (contexts : List WasiSocketsCtx) (line : ℕ) (origin : Step) where
   -- a write that begins in a call of streams
   pub begins_named : BeginsWrites names
   unfolding names
-  begins_named = record { begins = λ es h place n r s half permit bytes at g e w within i. (write_fit contexts line origin h place r s _ Used g i.0, put_spent h place r _ g refl refl (λ x p. p) i.1) }
+  begins_named = record { begins = λ es h place n r s half permit bytes at g e w within used i. (write_fit contexts line origin h place r s _ Used g i.0, put_spent h place r _ g refl refl (λ x p. p) i.1) }
 
   -- the laws that rest on it
   pub on_names : Above contexts line origin (λ es h. Base h) → Law contexts line origin

@@ -40,7 +40,7 @@ use Rattle.wasi_walks.proofs.fits.UdpPolls.{LeavesCreate, create_left, create_fi
 use Rattle.wasi_walks.proofs.fits.DatagramPolls.{LeavesConnect, datagram_left, received_left, udp_connect_leaves, wanted_left}
 use Rattle.wasi_walks.proofs.fits.TcpFits.{first_of, ended_fits, listened_fits, bound_fits, accepted_fits, joined_fits}
 use Rattle.wasi_walks.proofs.fits.UdpFits.{KeepsOpen, same_udp, same_open, no_open, stays_open, idle_keeps, plain_open, plain_fits, inner_fits, learnt_side, bound_udp, connected_udp, begun_send, sends_on, sent_udp, begun_receive, receives_on, received_udp}
-use Rattle.wasi_walks.proofs.walks.Moves.{with_records, SameSockets, Finds, put_udp, FoundUdp, udp_begun, begun_udp_bind, begun_udp_connect, sending_now, receiving_now, part_of, UdpChanges, BeginsUdpBind, StandsUdpBind, StandsUdpCreate, BeginsUdpConnect, StandsUdpConnect, StandsDropOutgoing, BeginsSend, BeginsReceive, UdpCreates, UdpBindsOn, UdpConnectsOn, SendsOn, ReceivesOn}
+use Rattle.wasi_walks.proofs.walks.Moves.{ToConnect, with_records, SameSockets, Finds, put_udp, FoundUdp, udp_begun, begun_udp_bind, begun_udp_connect, sending_now, receiving_now, part_of, UdpChanges, BeginsUdpBind, StandsUdpBind, StandsUdpCreate, BeginsUdpConnect, StandsUdpConnect, StandsDropOutgoing, BeginsSend, BeginsReceive, UdpCreates, UdpBindsOn, UdpConnectsOn, SendsOn, ReceivesOn}
 use Rattle.wasi_host.specs.declared.records.Record.{Record}
 
 -- Each record fits, and so does the pending call.
@@ -279,22 +279,22 @@ module _ (contexts : List WasiSocketsCtx) (line : ℕ) (origin : Step) where
         udps = λ p u d. k.udps p u (udp_of_push (tcp2_put h.machine.store.records place idle) (joined l new peer) p u d);
         stands = λ c e. call_push (tcp2_put h.machine.store.records place idle) (joined l new peer) c.call (k.stands c e);
       }
-  moves_fit _ _ (Stands h ids call r at g b) i = stood_fit h ids call (call_stands h.machine.store.records call r g b) i
-  moves_fit _ _ (Unstands h) i = record { records = i.records; udps = i.udps; stands = λ c p. absurd (cc) }
-  moves_fit _ _ (UdpChanges h place o now g p) i = put_udp_fit h place (Udp2Socket.Open o) (Udp2Socket.Open now) g (inr (plain_open o now p)) (plain_fits o now p (i.udps place (Udp2Socket.Open o) g)) i
+  moves_fit _ _ (Stands h ids call r quiet at g b) i = stood_fit h ids call (call_stands h.machine.store.records call r g b) i
+  moves_fit _ _ (Unstands h over) i = record { records = i.records; udps = i.udps; stands = λ c p. absurd (cc) }
+  moves_fit _ _ (UdpChanges h place o now g p keeps) i = put_udp_fit h place (Udp2Socket.Open o) (Udp2Socket.Open now) g (inr (plain_open o now p)) (plain_fits o now p (i.udps place (Udp2Socket.Open o) g)) i
   moves_fit _ _ (BeginsUdpBind h place o a at g to idle own) i =
       let f = i.udps place (Udp2Socket.Open o) g in
       let now : OpenUdp = with_udp_progress o (UdpInProgress.Binding (begun_udp_bind (own_of line) o a)) in
       begun_udp_fit h place o now Used g (record { was = o; is = now; from = refl; to = refl; binds = λ op e. absurd (idle_keeps o.in_progress idle op e); connects = λ op e. (op, e) }) (record { bind = record { last = refl; left = udp.Unchecked a }; of_side = refl }, f.1, f.2, f.3) i
-  moves_fit _ _ (StandsUdpBind h ids place o op at g e) i = stood_fit h ids (StandingCall.UdpBind place) (record { was = o; at = g; op = op; goes = e }) i
-  moves_fit _ _ (StandsUdpCreate h ids place create g) i = stood_fit h ids (StandingCall.UdpCreate place) (record { was = create; at = g }) i
-  moves_fit _ _ (BeginsUdpConnect h place o a at g to bound own) i =
+  moves_fit _ _ (StandsUdpBind h ids place o op quiet at g e) i = stood_fit h ids (StandingCall.UdpBind place) (record { was = o; at = g; op = op; goes = e }) i
+  moves_fit _ _ (StandsUdpCreate h ids place create quiet g) i = stood_fit h ids (StandingCall.UdpCreate place) (record { was = create; at = g }) i
+  moves_fit _ _ (BeginsUdpConnect h place o a at g to bound none own) i =
       let f = i.udps place (Udp2Socket.Open o) g in
       let op = begun_udp_connect (own_of line) o a in
       let now : OpenUdp = record o { connecting = Some op } in
-      begun_udp_fit h place o now Used g (record { was = o; is = now; from = refl; to = refl; binds = λ x e. e; connects = λ x e. (op, refl) }) (f.0, record { connect = record { last = refl; left = binding.ConnectUnchecked o.inner.family a }; of_side = refl }, f.2, f.3) i
-  moves_fit _ _ (StandsUdpConnect h ids place handle o op at under g e) i = stood_fit h ids (StandingCall.UdpConnect place handle) (record { was = o; at = g; op = op; goes = e }) i
-  moves_fit _ _ (StandsDropOutgoing h ids place o at g s) i = stood_fit h ids (StandingCall.DropOutgoing place) tt i
+      begun_udp_fit h place o now (ToConnect place) g (record { was = o; is = now; from = refl; to = refl; binds = λ x e. e; connects = λ x e. (op, refl) }) (f.0, record { connect = record { last = refl; left = binding.ConnectUnchecked o.inner.family a }; of_side = refl }, f.2, f.3) i
+  moves_fit _ _ (StandsUdpConnect h ids place handle o op quiet at under g e) i = stood_fit h ids (StandingCall.UdpConnect place handle) (record { was = o; at = g; op = op; goes = e }) i
+  moves_fit _ _ (StandsDropOutgoing h ids place o quiet at g s) i = stood_fit h ids (StandingCall.DropOutgoing place) tt i
   moves_fit _ _ (BeginsSend h place n o out d bound at g e is known own) i =
       let f = i.udps place (Udp2Socket.Open o) g in
       let now = sending_now o out (send_start (part_of line n) o.inner d.bytes d.remote_address bound) in
@@ -408,7 +408,7 @@ module _ (contexts : List WasiSocketsCtx) (line : ℕ) (origin : Step) where
     udp_closes = λ es h place o q g i. (tt, λ told fits. put_udp_fit h place (Udp2Socket.Open o) (Udp2Socket.Closed o.inner.side) g (inl q.0) tt i);
     udp_creates = λ es h ctx family c may a o m i. (tt, λ told fits. begun_fits h (own_of line) ctx.name family (told_done told) i);
     udp_marks = λ es h place u g i. marked_fit es h Past _ i;
-    stream_marks = λ es h place n handle reached kind m new k e i. marked_fit es h h.made _ i;
+    stream_marks = λ es h place n handle reached kind m new e i. marked_fit es h _ _ i;
     error_marks = λ es h n handle place handles m k e f i. marked_fit es h h.made _ i;
     udp_gives_up = λ es h place create q g i. whatever (λ done. Fit (put_udp h place (Udp2Socket.Closed create.operation.who.side))) (λ done. put_udp_fit h place (Udp2Socket.Creating create) (Udp2Socket.Closed create.operation.who.side) g (inl q) tt i) es (create_cancel_asks create);
     lookups = λ es h host l i. (tt, λ told fits records s. records_fit h records s i);
@@ -419,7 +419,7 @@ module _ (contexts : List WasiSocketsCtx) (line : ℕ) (origin : Step) where
   -- a write that begins in a call of streams
   pub begins_fit : BeginsWrites fits
   unfolding fits
-  begins_fit = record { begins = λ es h place n r s half permit bytes at g e w within i. write_fit h place r s (WriteState.Writing (new_job (own_of n) half.side bytes)) Used g i }
+  begins_fit = record { begins = λ es h place n r s half permit bytes at g e w within used i. write_fit h place r s (WriteState.Writing (new_job (own_of n) half.side bytes)) Used g i }
 
   -- what it says of a tree
   pub fits_along : {A : Type 0} {h : Here} {end : A → Here} {asks : Asks A} → Walks fits h end asks → (es : List Entry) → Fit h → Allows Anything (λ fs a. Fit (end a)) es asks

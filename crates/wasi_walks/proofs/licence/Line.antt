@@ -5,7 +5,7 @@ use Rattle.wasi_walks.proofs.Words.{OpId, Operation, Option, SocketAddressFamily
 use Rattle.wasi_walks.proofs.Words.{own_of, refl, side_in, subst, sym, with_socket, ℕ, ⊤, ◌∙◌, ◌≡◌, ◌⊎◌}
 use Rattle.wasi_walks.proofs.licence.ListenAsks.{ListenIsFine}
 use Rattle.wasi_walks.proofs.licence.Fresh.{NoMadeBy}
-use Rattle.wasi_walks.proofs.walks.Moves.{Own, Used, Unused, ToStream, Calls, Past, Here, put, put_udp, Found, FoundUdp, record_of, udp_record_of, Plain, Made, Unmade, Joined, Marked, part_of}
+use Rattle.wasi_walks.proofs.walks.Moves.{Own, Used, Unused, ToSend, ToStream, Calls, Past, Here, put, put_udp, Found, FoundUdp, record_of, udp_record_of, Plain, Made, Unmade, Joined, Marked, part_of}
 use Rattle.wasi_walks.proofs.walks.Here.{IsToCome, Shrinks}
 use Rattle.wasi_walks.proofs.Lists.{get_set, tcp2_seam}
 use Rattle.wasi_walks.proofs.UdpLists.{udp_get_set, udp_of_put, tcp_of_put}
@@ -79,6 +79,7 @@ NotMarked _ = ⊥
 -- it is nothing of an accept
 abbrev pub NoAccept : Made → Type 0
 NoAccept (ToStream line handle place) = ⊤
+NoAccept (ToSend line handle place) = ⊤
 NoAccept (Calls kind line handles) = ⊤
 NoAccept Past = ⊤
 NoAccept (Emptied kind) = ⊤
@@ -93,6 +94,7 @@ no_mark _ q u = u
 -- where streams are made, or called, for a line, its step says so
 abbrev pub MakingStands : List Step → Made → Type 0
 MakingStands steps (ToStream line handle place) = MakesStreams steps line handle
+MakingStands steps (ToSend line handle place) = MakesStreams steps line handle
 MakingStands steps (Calls kind line handles) = MakesCalls steps kind line handles
 MakingStands steps _ = ⊤
 

@@ -8,7 +8,7 @@ use Rattle.wasi_walks.proofs.Words.{new_job, new_streams, own_of, refl, side_in,
 use Rattle.wasi_walks.proofs.Words.{sym, true, wildcard, with_inner, with_listening, with_progress, with_state, with_writer, written_by, ℕ, ◌∙◌, ◌≡◌}
 use Rattle.wasi_walks.proofs.licence.ListenAsks.{Whole as WholeListen}
 use Rattle.wasi_walks.proofs.claims.Law.{Base, same_begun, fresh_to_come}
-use Rattle.wasi_walks.proofs.walks.Moves.{Own, Past, ToStream, Used, CallsHandles, RecallsCall, ReachesHandle, StandsBlocking, CancelsBind, CancelsUdpBind, CancelsUdpConnect, GoesOn, RemembersStreams, RecallsStreams, BeginsUdpConnect, StandsUdpConnect, StandsDropOutgoing, Counts, SpendsNames, BeginsSend, BeginsReceive, closed_record, Here, put, Found, WriterMoves, Collects, LastsAfter, Closes, Plain, Move, Reaches, ReachesUdp, Leaves, Spends, Changes, ClosesReader, Writes, IsGone, opened_by, Reconnects, Opens, BeginsConnect, BeginsBind, BeginsWrite, begun_bind, Stands, Resumes, Unstands, UdpChanges, BeginsUdpBind, StandsUdpBind, StandsUdpCreate, Finds, Lists, Takes, BeginsListen, BeginsAccept, Unlistens, Forgets, Watches, Joins, accepting_now, begun_listen, beginning_listen, new_accept, joined, part_of}
+use Rattle.wasi_walks.proofs.walks.Moves.{EndsConnect, Own, Past, ToStream, Used, CallsHandles, RecallsCall, ReachesHandle, StandsBlocking, CancelsBind, CancelsUdpBind, CancelsUdpConnect, GoesOn, RemembersStreams, RecallsStreams, BeginsUdpConnect, StandsUdpConnect, StandsDropOutgoing, Counts, SpendsNames, BeginsSend, BeginsReceive, closed_record, Here, put, Found, WriterMoves, Collects, LastsAfter, Closes, Plain, Move, Reaches, ReachesUdp, Leaves, Spends, Changes, ClosesReader, Writes, IsGone, opened_by, Reconnects, Opens, BeginsConnect, BeginsBind, BeginsWrite, begun_bind, Stands, Resumes, Unstands, UdpChanges, BeginsUdpBind, StandsUdpBind, StandsUdpCreate, Finds, Lists, Takes, BeginsListen, BeginsAccept, Unlistens, Forgets, Watches, Joins, accepting_now, begun_listen, beginning_listen, new_accept, joined, part_of}
 use Rattle.std.specs.Prelude.{◌+◌}
 use Rattle.wasi_walks.proofs.walks.Here.{IsToCome, next_shrinks, next_to_come, shrinks_to}
 use Rattle.wasi_walks.proofs.Lists.{get_split}
@@ -170,6 +170,7 @@ module _ (contexts : List WasiSocketsCtx) (steps : List Step) (line : ℕ) (orig
   moves_fine es _ _ (ReachesUdp h handle place named e) b i = reaches_udp contexts steps line origin is_line es h handle place named e i
   moves_fine es _ _ (Leaves h) b i = elsewhere es (record h { made = Past }) (record h { at = None; made = Past }) refl refl refl (remade es h Past tt tt i) i.fine (λ k n r a g. absurd (cc)) (λ k n u a g. absurd (cc))
   moves_fine es _ _ (Spends h e) b i = spent es h i
+  moves_fine es _ _ (EndsConnect h place e over) b i = spent es h i
   moves_fine es _ _ (Changes h place r now g p) b i = plain_fine es h place r now g p i
   moves_fine es _ _ (ClosesReader h place r s g e) b i = streams_fine es h place r s (record s { reader = ReadState.Closed }) g e (λ f. (tt, f.writes)) i
   moves_fine es _ _ (Writes h place r s w g e m) b i = streams_fine es h place r s (record s { writer = w }) g e (λ f. (f.reads, writes_on es f.side s.writer w m f.writes)) i
@@ -278,26 +279,26 @@ module _ (contexts : List WasiSocketsCtx) (steps : List Step) (line : ℕ) (orig
         marked = λ s p m. absurd (cc);
         making = tt;
       }
-  moves_fine es _ _ (Stands h ids call r at g k) b i = elsewhere es h _ refl refl refl i (state_stands contexts steps es h.machine (standing_as ids call) (λ o. OfTcp r g (i.names (call_place call) ids.line r at g), no_streams_stand r ids.line call k) i.fine) i.names i.udp_names
+  moves_fine es _ _ (Stands h ids call r quiet at g k) b i = elsewhere es h _ refl refl refl i (state_stands contexts steps es h.machine (standing_as ids call) (λ o. OfTcp r g (i.names (call_place call) ids.line r at g), no_streams_stand r ids.line call k) i.fine) i.names i.udp_names
   moves_fine es _ _ (Resumes h s e o) b i = resumes contexts steps line origin is_line es h s e o i
-  moves_fine es _ _ (Unstands h) b i = elsewhere es h _ refl refl refl i (state_unstands contexts steps es h.machine i.fine) i.names i.udp_names
-  moves_fine es _ _ (UdpChanges h place o now g p) b i = udp_changes contexts steps line origin is_line es h place o now g p i
+  moves_fine es _ _ (Unstands h over) b i = elsewhere es h _ refl refl refl i (state_unstands contexts steps es h.machine i.fine) i.names i.udp_names
+  moves_fine es _ _ (UdpChanges h place o now g p keeps) b i = udp_changes contexts steps line origin is_line es h place o now g p i
   moves_fine es _ _ (BeginsUdpBind h place o a at g to idle u) b i = begins_udp_bind contexts steps line origin is_line es h place o a at g to i
-  moves_fine es _ _ (StandsUdpBind h ids place o op at g e) b i =
+  moves_fine es _ _ (StandsUdpBind h ids place o op quiet at g e) b i =
       elsewhere es h _ refl refl refl i (state_stands contexts steps es h.machine (standing_as ids (StandingCall.UdpBind place)) (λ c. OfUdp (Udp2Socket.Open o) g (i.udp_names place ids.line (Udp2Socket.Open o) at g), tt) i.fine) i.names i.udp_names
-  moves_fine es _ _ (StandsUdpCreate h ids place create g) b i = elsewhere es h _ refl refl refl i (state_stands contexts steps es h.machine (standing_as ids (StandingCall.UdpCreate place)) (λ c. absurd c, tt) i.fine) i.names i.udp_names
-  moves_fine es _ _ (RemembersStreams h c handle place remote is of) b i = remembers_streams contexts steps line origin is_line es h c handle place remote is i
-  moves_fine es _ _ (RecallsStreams h ids place handle e) b i = recalls_streams contexts steps line origin is_line es h ids place handle e i
-  moves_fine es _ _ (BeginsUdpConnect h place o a at g to bound u) b i = begins_udp_connect contexts steps line origin is_line es h place o a at g to bound i
-  moves_fine es _ _ (StandsUdpConnect h ids place handle o op at m g e) b i =
+  moves_fine es _ _ (StandsUdpCreate h ids place create quiet g) b i = elsewhere es h _ refl refl refl i (state_stands contexts steps es h.machine (standing_as ids (StandingCall.UdpCreate place)) (λ c. absurd c, tt) i.fine) i.names i.udp_names
+  moves_fine es _ _ (RemembersStreams h c handle place remote is of o g none) b i = remembers_streams contexts steps line origin is_line es h c handle place remote is i
+  moves_fine es _ _ (RecallsStreams h ids place handle e own) b i = recalls_streams contexts steps line origin is_line es h ids place handle e i
+  moves_fine es _ _ (BeginsUdpConnect h place o a at g to bound none u) b i = begins_udp_connect contexts steps line origin is_line es h place o a at g to bound i
+  moves_fine es _ _ (StandsUdpConnect h ids place handle o op quiet at m g e) b i =
       elsewhere es h _ refl refl refl i (state_stands contexts steps es h.machine (standing_as ids (StandingCall.UdpConnect place handle)) (λ c. OfUdp (Udp2Socket.Open o) g (i.udp_names place ids.line (Udp2Socket.Open o) at g), streams_of es h ids.line handle place m i) i.fine) i.names i.udp_names
-  moves_fine es _ _ (StandsDropOutgoing h ids place o at g e) b i =
+  moves_fine es _ _ (StandsDropOutgoing h ids place o quiet at g e) b i =
       elsewhere es h _ refl refl refl i (state_stands contexts steps es h.machine (standing_as ids (StandingCall.DropOutgoing place)) (λ c. OfUdp (Udp2Socket.Open o) g (i.udp_names place ids.line (Udp2Socket.Open o) at g), tt) i.fine) i.names i.udp_names
   moves_fine es _ _ (Counts h u) b i = owned es h (Own.Names 1) (λ e. absurd (cc)) (shrinks_to line h.own Own.Unused (Own.Names 1) u (λ x t. t)) i
   moves_fine es _ _ (SpendsNames h n u) b i = spent es h i
   moves_fine es _ _ (BeginsSend h place n o out d bound at g e is known u) b i = begins_send contexts steps line origin is_line es h place n o out d bound at g is known u i
   moves_fine es _ _ (BeginsReceive h place n o inc bound at g e is u) b i = begins_receive contexts steps line origin is_line es h place n o inc bound at g is u i
-  moves_fine es _ _ (CallsHandles h kind c) b i = calls_handles contexts steps line origin is_line es h kind c i
+  moves_fine es _ _ (CallsHandles h kind c quiet) b i = calls_handles contexts steps line origin is_line es h kind c i
   moves_fine es _ _ (RecallsCall h ids call e) b i = recalls_call contexts steps line origin is_line es h ids call e i
   moves_fine es _ _ (ReachesHandle h kind n handle place handles m k e) b i = reaches_handle contexts steps line origin is_line es h kind n handle place handles m k e i
   moves_fine es _ _ (StandsBlocking h ids call handles m k) b i = stands_blocking contexts steps line origin is_line es h ids call handles m k i

@@ -23,7 +23,7 @@ use Rattle.wasi_walks.proofs.claims.Law.{Base, begins_on_two, on_two, on_two_alo
 use Rattle.wasi_walks.proofs.remotes.State.{Keeps, first_keeps}
 use Rattle.wasi_walks.proofs.remotes.Law.{begins_kept, remotes}
 use Rattle.wasi_walks.proofs.walks.Here.{IsToCome}
-use Rattle.wasi_walks.proofs.walks.Moves.{closed_record, Here, Names, OfSocket, Own, ToWrite, Unused, Used, put}
+use Rattle.wasi_walks.proofs.walks.Moves.{closed_record, Here, Names, OfSocket, Own, ToConnect, ToWrite, Unused, Used, put}
 use Rattle.wasi_walks.proofs.licence.Frames.{listening_gone}
 use Rattle.wasi_walks.proofs.walks.Law.{BeginsWrites, Law, Walks}
 use Rattle.wasi_walks.proofs.licence.Moves.{begins_write, closed_fine, gone_maker, moves_fine}
@@ -72,7 +72,7 @@ module _ (contexts : List WasiSocketsCtx) (steps : List Step) (line : ℕ) (orig
     udp_closes = λ es h place o q g b i. (tt, λ told fits. udp_closed contexts steps line origin is_line es h place o told g i);
     udp_creates = λ es h ctx family c may a o past b i. udp_creates contexts steps line origin is_line es h ctx family c may a past i;
     udp_marks = λ es h place u g b i. udp_marked contexts steps line origin is_line es h place u g.found i;
-    stream_marks = λ es h place n handle reached kind m new which e b i. stream_marked contexts steps line origin is_line es h place n handle reached kind m which e i;
+    stream_marks = λ es h place n handle reached kind m new e b i. stream_marked contexts steps line origin is_line es h place n handle reached kind m e i;
     error_marks = λ es h n handle place handles m k e f b i. error_marked contexts steps line origin is_line es h n handle place handles m k e f i;
     udp_gives_up = λ es h place create q g b i. udp_given_up contexts steps line origin is_line es h place create g i;
     lookups = λ es h host l b i. (let a = looked_up contexts steps line origin is_line es h host l i in (a.0, λ told fits. a.1 told));
@@ -88,7 +88,7 @@ module _ (contexts : List WasiSocketsCtx) (steps : List Step) (line : ℕ) (orig
   unfolding licence licences remotes
   begins_licence =
       begins_on_two contexts line origin (remotes contexts line origin) licences (begins_kept contexts line origin)
-      (record { begins = λ es h place n r s half permit bytes at g e w within b i. begins_write contexts steps line origin is_line es h place n r s half permit bytes at g e w i })
+      (record { begins = λ es h place n r s half permit bytes at g e w within used b i. begins_write contexts steps line origin is_line es h place n r s half permit bytes at g e w i })
 
   -- what it says of a tree
   pub licence_along : {A : Type 0} {h : Here} {end : A → Here} {asks : Asks A} → Walks licence h end asks → (es : List Entry) → Base contexts line origin h → Keeps es h.machine.store.records → Licensed contexts steps line origin es h
@@ -154,6 +154,7 @@ module _ (contexts : List WasiSocketsCtx) where
       of_line (Names part) x t = t.0
       of_line Used x t = absurd t
       of_line (ToWrite side bytes) x t = absurd t
+      of_line (ToConnect place) x t = absurd t
 
   -- and its reply hands out only what was allowed
   line_replies : (steps : List Step) (line : ℕ) (s : Step) → step_at steps line ≡ Some s → (m : Machine) (es : List Entry) → IsNew es m.store.records line → Fine contexts steps line es m

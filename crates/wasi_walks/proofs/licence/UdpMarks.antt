@@ -4,7 +4,7 @@ use Rattle.wasi_walks.proofs.Words.{SocketAddressFamily, Some, Step, Told, WasiS
 use Rattle.wasi_walks.proofs.Words.{if◌then◌else◌, inl, inr, is_full, is_wildcard, make_asks, own_of, refl, slice_get, step_at, subst, sym, told_addr}
 use Rattle.wasi_walks.proofs.Words.{told_done, true, ℕ, ◌++◌, ◌∙◌, ◌∷◌, ◌≡◌}
 use Rattle.wasi_walks.specs.Licence.{IsDisconnect, IsGetOf, IsMarkedWith, IsSetTo, IsStreamOf, IsUdpCreate, MayUseUdp, UdpCreated}
-use Rattle.wasi_walks.proofs.walks.Moves.{Here, put_udp, FoundUdp, CreatesUdp, udp_begun, udp_record_of, part_of, ToStream, IsUdpQuestionOf, Past, Joined, Marked}
+use Rattle.wasi_walks.proofs.walks.Moves.{Here, Made, MarksNext, one_stream, put_udp, FoundUdp, CreatesUdp, udp_begun, udp_record_of, part_of, ToSend, IsUdpQuestionOf, Past, Joined, Marked}
 use Rattle.wasi_walks.proofs.Lists.{has_front, has_last, has_split}
 use Rattle.wasi_walks.proofs.UdpLists.{tcp_of_push}
 use Rattle.wasi_walks.specs.Licence.{MakesTcp, MakesUdp}
@@ -270,15 +270,22 @@ module _ (contexts : List WasiSocketsCtx) (steps : List Step) (line : ℕ) (orig
       let q : origin ≡ b.origin = cc in
       subst (IsStreamOf handle) (sym q ∙ is) b.holds
 
-  pub stream_marked : (es : List Entry) (h : Here) (place n handle reached : ℕ) (kind : Kind) → h.made ≡ ToStream n handle reached → OneStream kind place → udp_of (kind_at h.machine.table handle) ≡ Some place → Licensed contexts steps line origin es h
-      → Allows (MayAsk contexts steps) (λ fs made. Licensed contexts steps line origin fs (record h { machine = record h.machine { table = made.1 } })) es (make_asks h.machine.table (own_of n) kind (Some handle) (udp_side_at (udp2_at h.machine.store.records place)))
-  stream_marked es h place n handle reached kind m which e i =
+  makes_streams : (made : Made) (n handle reached : ℕ) (kind : Kind) (place : ℕ) → MarksNext made n handle reached kind place → MakingStands steps made → MakesStreams steps n handle
+  makes_streams made n handle reached kind place (inl m) i = subst (MakingStands steps) m.1 i
+  makes_streams made n handle reached kind place (inr m) i = subst (MakingStands steps) m.1 i
+
+  pub stream_marked : (es : List Entry) (h : Here) (place n handle reached : ℕ) (kind : Kind) → MarksNext h.made n handle reached kind place → udp_of (kind_at h.machine.table handle) ≡ Some place → Licensed contexts steps line origin es h
+      → Allows (MayAsk contexts steps) (λ fs made. Licensed contexts steps line origin fs (record h { machine = record h.machine { table = made.1 }; made = ToSend n handle reached })) es (make_asks h.machine.table (own_of n) kind (Some handle) (udp_side_at (udp2_at h.machine.store.records place)))
+  stream_marked es h place n handle reached kind m e i =
       let sock = udp_side_at (udp2_at h.machine.store.records place) in
-      let b : MakesStreams steps n handle = subst (MakingStands steps) m i.making in
+      let which : OneStream kind place = one_stream h.made n handle reached kind place m in
+      let b : MakesStreams steps n handle = makes_streams h.made n handle reached kind place m i.making in
       let k = names_udp es h.machine.store.records handle place (kind_at h.machine.table handle) (of_udp (kind_at h.machine.table handle) place e) (i.fine.handles handle) in
       let w : IsMarkedWith es handle sock = subst (IsMarkedWith es handle) (sym (ap udp_side_at k.at)) k.marked in
-      mark_fine es h (own_of n) kind (Some handle) sock (record { origin = b.origin; at = b.at; holds = stream_mark es (own_of n) handle (name_of kind) sock (stream_name kind place which) w b.origin b.holds }) (no_stream n handle b) (no_tcp kind place which)
-      (λ t. stream_handle _ h.machine.store.records h.machine.table.next place kind which (record { found = k.found; at = k.at; marked = record { op = own_of n; kind = name_of kind; parent = Some handle; told = t; mark = marked_of t k.found k.at } })) i
+      allows_weaker (MayAsk contexts steps) (λ fs made. Licensed contexts steps line origin fs (record h { machine = record h.machine { table = made.1 } })) (λ fs made. Licensed contexts steps line origin fs (record h { machine = record h.machine { table = made.1 }; made = ToSend n handle reached }))
+      (λ fs made k. remade fs (record h { machine = record h.machine { table = made.1 } }) (ToSend n handle reached) tt b k) es _
+      (mark_fine es h (own_of n) kind (Some handle) sock (record { origin = b.origin; at = b.at; holds = stream_mark es (own_of n) handle (name_of kind) sock (stream_name kind place which) w b.origin b.holds }) (no_stream n handle b) (no_tcp kind place which)
+      (λ t. stream_handle _ h.machine.store.records h.machine.table.next place kind which (record { found = k.found; at = k.at; marked = record { op = own_of n; kind = name_of kind; parent = Some handle; told = t; mark = marked_of t k.found k.at } })) i)
     where
       of_udp : (k : Option Kind) (p : ℕ) → udp_of k ≡ Some p → udp_record_of k ≡ Some p
       of_udp (Some (Udp2 q)) p d = d

@@ -2,7 +2,7 @@
 use Rattle.wasi_walks.proofs.Words.{Entry, Has, IpSocketAddress, IsMarkedWith, List, Option, Some, Standing, Step, Tcp2Socket, Told, WasiSocketsCtx, ap}
 use Rattle.wasi_walks.proofs.Words.{call_place, handles_of, inl, inr, kind_at, own_of, refl, slice_get, step_at, subst, sym, ℕ, ◌∙◌, ◌≡◌, ◌⊎◌}
 use Rattle.wasi_walks.specs.Licence.{IsBoundSide, IsSendOf, IsStreamOf, IsUdpBindTo, IsUdpConnectTo, Receives, UdpCreated, WasDisconnected}
-use Rattle.wasi_walks.proofs.walks.Moves.{Own, ToStream, part_of, begun_udp_connect, sending_now, receiving_now, sending_in, receiving_in, Here, put_udp, FoundUdp, record_of, udp_record_of, UdpPlain, IsUdpSettled, begun_udp_bind, Used, IsOfHandle}
+use Rattle.wasi_walks.proofs.walks.Moves.{Own, ToConnect, ToStream, part_of, begun_udp_connect, sending_now, receiving_now, sending_in, receiving_in, Here, put_udp, FoundUdp, record_of, udp_record_of, UdpPlain, IsUdpSettled, begun_udp_bind, Used, IsOfHandle}
 use Rattle.wasi_walks.proofs.licence.State.{Names, UdpUnchecked, UdpBindIsFine, UdpProgressIsFine, OpenIsFine, LineNames, OfTcp, OfUdp, IfOp, ConnectWhole, UdpConnectIsFine, IsFor, SendLeft, SendRefused, SendUnbound, SendUnchecked, SendIsFine, ReceiveIsFine}
 use Rattle.wasi_walks.proofs.licence.Frames.{same_record}
 use Rattle.wasi_walks.proofs.fits.UdpFits.{kept_op}
@@ -148,15 +148,15 @@ module _ (contexts : List WasiSocketsCtx) (steps : List Step) (line : ℕ) (orig
   pub remembers_streams : (es : List Entry) (h : Here) (c handle place : ℕ) (remote : Option IpSocketAddress) → origin ≡ Step.UdpStream c handle remote → Licensed contexts steps line origin es h → Licensed contexts steps line origin es (record h { made = ToStream line handle place })
   remembers_streams es h c handle place remote is i = remade es h (ToStream line handle place) tt (record { origin = origin; at = is_line; holds = subst (IsStreamOf handle) (sym is) refl }) i
 
-  pub recalls_streams : (es : List Entry) (h : Here) (ids : Ids) (place handle : ℕ) → h.machine.store.standing ≡ Some (standing_as ids (StandingCall.UdpConnect place handle)) → Licensed contexts steps line origin es h → Licensed contexts steps line origin es (record h { made = ToStream ids.line handle place })
-  recalls_streams es h ids place handle e i = remade es h (ToStream ids.line handle place) tt (i.fine.standing (standing_as ids (StandingCall.UdpConnect place handle)) e).1 i
+  pub recalls_streams : (es : List Entry) (h : Here) (ids : Ids) (place handle : ℕ) → h.machine.store.standing ≡ Some (standing_as ids (StandingCall.UdpConnect place handle)) → Licensed contexts steps line origin es h → Licensed contexts steps line origin es (record h { made = ToStream ids.line handle place; own = ToConnect place })
+  recalls_streams es h ids place handle e i = owned es (record h { made = ToStream ids.line handle place }) (ToConnect place) (λ u. absurd (cc)) (λ x t. absurd t) (remade es h (ToStream ids.line handle place) tt (i.fine.standing (standing_as ids (StandingCall.UdpConnect place handle)) e).1 i)
 
   -- an operation of the line names a handle of the network socket
   pub names_part : (es : List Entry) (n : ℕ) (side : OpId) → Names steps es (own_of line) side → Names steps es (part_of line n) side
   names_part es n side k = record { origin = k.origin; at = k.at; holds = k.holds }
 
   pub begins_udp_connect : (es : List Entry) (h : Here) (place : ℕ) (o : OpenUdp) (a : IpSocketAddress) → h.at ≡ Some (place, line) → FoundUdp h place (Udp2Socket.Open o) → IsUdpConnectTo a origin → o.inner.bound ≡ true → Licensed contexts steps line origin es h
-      → Licensed contexts steps line origin es (record (put_udp h place (Udp2Socket.Open (record o { connecting = Some (begun_udp_connect (own_of line) o a) }))) { own = Used })
+      → Licensed contexts steps line origin es (record (put_udp h place (Udp2Socket.Open (record o { connecting = Some (begun_udp_connect (own_of line) o a) }))) { own = ToConnect place })
   begins_udp_connect es h place o a at g to b i =
       let f = open_at_place es h place o g i in
       let begun : UdpConnectIsFine steps es (begun_udp_connect (own_of line) o a) = record {
@@ -171,7 +171,7 @@ module _ (contexts : List WasiSocketsCtx) (steps : List Step) (line : ℕ) (orig
         left = ConnectWhole;
       } in
       let now = Udp2Socket.Open (record o { connecting = Some (begun_udp_connect (own_of line) o a) }) in
-      spent es _ (put_udp_fine es h place (Udp2Socket.Open o) now g refl (record { made = f.made; bound = f.bound; progress = f.progress; connecting = begun; sending = f.sending; receiving = f.receiving }) i)
+      owned es _ (ToConnect place) (λ u. absurd (cc)) (λ x t. absurd t) (put_udp_fine es h place (Udp2Socket.Open o) now g refl (record { made = f.made; bound = f.bound; progress = f.progress; connecting = begun; sending = f.sending; receiving = f.receiving }) i)
 
   -- where a datagram goes
   first_left : (es : List Entry) (op side : OpId) (maker : ℕ) (family : SocketAddressFamily) (d : OutgoingDatagram) (to : Result Destination ErrorCode) (b : Bool) → GoesFor d to → (b ≡ true → IsBoundSide es side ⊎ WasDisconnected es side)

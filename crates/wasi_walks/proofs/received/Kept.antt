@@ -109,9 +109,9 @@ module _ (contexts : List WasiSocketsCtx) (line : ℕ) (origin : Step) where
   moves_wanted _ _ (walk.Unlistens h place r op q g e c o) i = put_tcp _ place _ i
   moves_wanted _ _ (walk.Forgets h place r l c g e a) i = put_tcp _ place _ i
   moves_wanted _ _ (walk.Joins h c handle place r l new peer is of u g e a) i = push_tcp _ (joined l new peer) (put_tcp _ place _ i)
-  moves_wanted _ _ (walk.UdpChanges h place o now g p) i = put_udps _ place (Udp2Socket.Open now) (plain_wanted o now p (i place (Udp2Socket.Open o) g)) i
+  moves_wanted _ _ (walk.UdpChanges h place o now g p keeps) i = put_udps _ place (Udp2Socket.Open now) (plain_wanted o now p (i place (Udp2Socket.Open o) g)) i
   moves_wanted _ _ (walk.BeginsUdpBind h place o a at g to idle own) i = put_udps _ place (Udp2Socket.Open _) (i place (Udp2Socket.Open o) g) i
-  moves_wanted _ _ (walk.BeginsUdpConnect h place o a at g to bound own) i = put_udps _ place (Udp2Socket.Open _) (i place (Udp2Socket.Open o) g) i
+  moves_wanted _ _ (walk.BeginsUdpConnect h place o a at g to bound none own) i = put_udps _ place (Udp2Socket.Open _) (i place (Udp2Socket.Open o) g) i
   moves_wanted _ _ (walk.BeginsSend h place n o out d bound at g e is known own) i = put_udps _ place (Udp2Socket.Open _) (i place (Udp2Socket.Open o) g) i
   moves_wanted _ _ (walk.BeginsReceive h place n o inc bound at g e is own) i = put_udps _ place (Udp2Socket.Open _) tt i
   moves_wanted _ _ (walk.CancelsBind h place r op q g e) i = put_tcp _ place _ i
@@ -164,7 +164,7 @@ module _ (contexts : List WasiSocketsCtx) (line : ℕ) (origin : Step) where
     udp_closes = λ es h place o q g b i. (tt, λ told f. put_udps _ place (Udp2Socket.Closed o.inner.side) tt i);
     udp_creates = λ es h ctx family c may a o m b i. (tt, λ told f. begun_wanted h (udp_after_create (own_of line) ctx.name family (told_done told)) i);
     udp_marks = λ es h place u g b i. whatever (λ made. Wants h) (λ made. i) es (make_asks h.machine.table (udp_side u) (Udp2 place) None (Some (udp_side u)));
-    stream_marks = λ es h place n handle reached kind m new k e b i. whatever (λ made. Wants h) (λ made. i) es (make_asks h.machine.table (own_of n) kind (Some handle) _);
+    stream_marks = λ es h place n handle reached kind m new e b i. whatever (λ made. Wants h) (λ made. i) es (make_asks h.machine.table (own_of n) kind (Some handle) _);
     error_marks = λ es h n handle place handles m k e f b i. whatever (λ made. Wants h) (λ made. i) es (make_asks h.machine.table (own_of n) ErrorValue (Some handle) (side_at (tcp2_at h.machine.store.records place)));
     udp_gives_up = λ es h place create q g b i. whatever (λ done. AllWanted (udp2_put h.machine.store.records place (Udp2Socket.Closed create.operation.who.side))) (λ done. put_udps _ place _ tt i) es (create_cancel_asks create);
     lookups = λ es h host l b i. (tt, λ told f records s. same_wanted h.machine.store.records records s i);
@@ -176,7 +176,7 @@ module _ (contexts : List WasiSocketsCtx) (line : ℕ) (origin : Step) where
 
   begins_wanted : BeginsWrites wanted_law
   unfolding wanted_law wanteds
-  begins_wanted = begins_on_names contexts line origin wanteds (record { begins = λ es h place n r s half permit bytes at g e w within b i. put_tcp _ place _ i })
+  begins_wanted = begins_on_names contexts line origin wanteds (record { begins = λ es h place n r s half permit bytes at g e w within used b i. put_tcp _ place _ i })
 
   -- what a line leaves
   pub line_wanted : (m : Machine) (es : List Entry) → BaseBetween line m × AllWanted m.store.records → Allows Anything (λ fs done. BaseBetween (line + 1) done.1 × AllWanted done.1.store.records) es (machine_asks contexts m line origin)

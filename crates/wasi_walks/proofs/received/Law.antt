@@ -162,9 +162,9 @@ module _ (side : OpId) (from : ℕ) where
     moves_late es _ _ (walk.Unlistens h place r op q g e c o) i = put_tcp side from es _ place _ i
     moves_late es _ _ (walk.Forgets h place r l c g e a) i = put_tcp side from es _ place _ i
     moves_late es _ _ (walk.Joins h c handle place r l new peer is of u g e a) i = push_tcp side from es _ (joined l new peer) (put_tcp side from es _ place _ i)
-    moves_late es _ _ (walk.UdpChanges h place o now g p) i = put_udps side from es _ place (Udp2Socket.Open now) (plain_late side from es o now p (i.udps place (Udp2Socket.Open o) g)) i
+    moves_late es _ _ (walk.UdpChanges h place o now g p keeps) i = put_udps side from es _ place (Udp2Socket.Open now) (plain_late side from es o now p (i.udps place (Udp2Socket.Open o) g)) i
     moves_late es _ _ (walk.BeginsUdpBind h place o a at g to idle own) i = put_udps side from es _ place (Udp2Socket.Open _) (i.udps place (Udp2Socket.Open o) g) i
-    moves_late es _ _ (walk.BeginsUdpConnect h place o a at g to bound own) i = put_udps side from es _ place (Udp2Socket.Open _) (i.udps place (Udp2Socket.Open o) g) i
+    moves_late es _ _ (walk.BeginsUdpConnect h place o a at g to bound none own) i = put_udps side from es _ place (Udp2Socket.Open _) (i.udps place (Udp2Socket.Open o) g) i
     moves_late es _ _ (walk.BeginsSend h place n o out d bound at g e is known own) i = put_udps side from es _ place (Udp2Socket.Open _) (i.udps place (Udp2Socket.Open o) g) i
     moves_late es _ _ (walk.BeginsReceive h place n o inc bound at g e is own) i = put_udps side from es _ place (Udp2Socket.Open _) (λ q. begun_empty from es (part_of line n) side bound) i
     moves_late es _ _ (walk.CancelsBind h place r op q g e) i = put_tcp side from es _ place _ i
@@ -218,7 +218,7 @@ module _ (side : OpId) (from : ℕ) where
       udp_closes = λ es h place o q g b i. (tt, λ told f. put_udps side from _ _ place (Udp2Socket.Closed o.inner.side) tt (one_late side from es (own_of line) (Call.Close o.inner.side) told _ (λ y. tt) i));
       udp_creates = λ es h ctx family c may a o m b i. (tt, λ told f. begun_late es h (own_of line) ctx.name family told f i);
       udp_marks = λ es h place u g b i. marks_late _ es h.machine.table (udp_side u) (Udp2 place) None (Some (udp_side u)) i;
-      stream_marks = λ es h place n handle reached kind m new k e b i. marks_late _ es h.machine.table (own_of n) kind (Some handle) _ i;
+      stream_marks = λ es h place n handle reached kind m new e b i. marks_late _ es h.machine.table (own_of n) kind (Some handle) _ i;
       error_marks = λ es h n handle place handles m k e f b i. marks_late _ es h.machine.table (own_of n) ErrorValue (Some handle) _ i;
       udp_gives_up = λ es h place create q g b i. allows_weaker Anything (λ fs done. It fs h.machine.store.records) (λ fs done. It fs (udp2_put h.machine.store.records place (Udp2Socket.Closed create.operation.who.side))) (λ fs done k. put_udps side from fs _ place (Udp2Socket.Closed create.operation.who.side) tt k) es (create_cancel_asks create) (along _ es (create_cancel_asks create) i (cancelled_silent side (IsHeld side h.machine.store.records) es create));
       lookups = λ es h host l b i. (tt, λ told f records s. same_late side from _ _ records s (one_late side from es (own_of line) (Call.Lookup host) told _ (λ y. tt) i));
@@ -232,7 +232,7 @@ module _ (side : OpId) (from : ℕ) where
     -- a write that begins in a call of streams
     pub begins_later : BeginsWrites later
     unfolding later lates remotes
-    begins_later = begins_on_two contexts line origin (remotes contexts line origin) lates (begins_kept contexts line origin) (record { begins = λ es h place n r s half permit bytes at g e w within b i. put_tcp side from es _ place _ i })
+    begins_later = begins_on_two contexts line origin (remotes contexts line origin) lates (begins_kept contexts line origin) (record { begins = λ es h place n r s half permit bytes at g e w within used b i. put_tcp side from es _ place _ i })
 
     -- what it says of a tree
     pub later_along : {A : Type 0} {h : Here} {end : A → Here} {asks : Asks A} → Walks later h end asks → (es : List Entry) → Base contexts line origin h → Keeps es h.machine.store.records → It es h.machine.store.records

@@ -7,7 +7,7 @@ use Rattle.wasi_host.specs.Kinds.{udp_of}
 use Rattle.wasi_host.specs.Records.{tcp2_pushed, udp2_at}
 use Rattle.wasi_host.specs.Udp.{udp_side}
 use Rattle.wasi_host.specs.UdpCreates.{udp_side_at}
-use Rattle.wasi_host.specs.declared.kind.Kind.TheVariants.{Incoming, Outgoing, Udp2}
+use Rattle.wasi_host.specs.declared.kind.Kind.TheVariants.{Incoming, Udp2}
 use Rattle.wasi_host.specs.declared.records.Record.{Record}
 use Rattle.wasi_host.specs.declared.udp.OpenUdp.{OpenUdp}
 use Rattle.wasi_host.specs.declared.udp.Udp2Socket.{Udp2Socket}
@@ -23,7 +23,7 @@ use Rattle.wasi_walks.proofs.received.Marks.{AreEarly, NotIncoming, Since, are_e
 use Rattle.wasi_walks.proofs.received.Silent.{new_silent}
 use Rattle.wasi_walks.proofs.received.State.{IsHeld, Late, OneEach, one_late, put_later, push_tcp, put_tcp, same_or_not}
 use Rattle.wasi_walks.proofs.walks.Law.{BeginsWrites, Law, Walks}
-use Rattle.wasi_walks.proofs.walks.Moves.{HasNewStream, Here, Made, Past, ToStream, Used, made_so, put, put_udp, udp_begun}
+use Rattle.wasi_walks.proofs.walks.Moves.{HasNewStream, Here, Made, MarksNext, Past, ToSend, Used, made_so, put, put_udp, udp_begun}
 use Rattle.wasi_walks.proofs.walks.OnBase.{Above}
 
 module _ (side : OpId) (from : ℕ) where
@@ -103,21 +103,22 @@ module _ (side : OpId) (from : ℕ) where
           early = early_new side i.0.start i.0.start es h.machine.table (own_of n) (Incoming place) (Some handle) o.inner.side told (omega arith) (λ q. absurd (not q)) i.0.early;
         }
 
-    marks_new : ((fs : List Entry) → IncomingLate (length fs) fs side o.incoming) → Allows Anything (λ fs made. Inv fs (record h { machine = record h.machine { table = made.1 } })) es (make_asks h.machine.table (own_of n) (Incoming place) (Some handle) (Some o.inner.side))
+    marks_new : (reached : ℕ) → ((fs : List Entry) → IncomingLate (length fs) fs side o.incoming) → Allows Anything (λ fs made. Inv fs (record h { machine = record h.machine { table = made.1 }; made = ToSend n handle reached })) es (make_asks h.machine.table (own_of n) (Incoming place) (Some handle) (Some o.inner.side))
     unfolding bind
-    marks_new none =
-        allows_if Anything (λ fs made. Inv fs (record h { machine = record h.machine { table = made.1 } })) es (is_full h.machine.table) _ _ (λ no. i)
-        (λ free. (tt, λ told f. (since told none (same_or_not o.inner.side side), under_so h.machine.table (Incoming place) (Some handle) h.made h.machine.store.standing i.1.older (makes_more h.machine.table (Incoming place) (Some handle) h.made i.1.makes) i.1.stands)))
+    marks_new reached none =
+        allows_if Anything (λ fs made. Inv fs (record h { machine = record h.machine { table = made.1 }; made = ToSend n handle reached })) es (is_full h.machine.table) _ _
+        (λ no. (record { start = i.0.start; on = i.0.on; late = i.0.late; early = i.0.early }, record { older = i.1.older; makes = tt; stands = i.1.stands }))
+        (λ free. (tt, λ told f. (since told none (same_or_not o.inner.side side), under_so h.machine.table (Incoming place) (Some handle) (ToSend n handle reached) h.machine.store.standing i.1.older tt i.1.stands)))
 
-  streams_so : (es : List Entry) (h : Here) (place n handle reached : ℕ) (kind : Kind) → h.made ≡ ToStream n handle reached → HasNewStream h.machine.store.records reached → (kind ≡ Incoming place) ⊎ (kind ≡ Outgoing place) → udp_of (kind_at h.machine.table handle) ≡ Some place → OneEach h.machine.store.records → Inv es h
-      → Allows Anything (λ fs made. Inv fs (record h { machine = record h.machine { table = made.1 } })) es (make_asks h.machine.table (own_of n) kind (Some handle) (udp_side_at (udp2_at h.machine.store.records place)))
-  streams_so es h place n handle reached kind made new (inr e) of one i = marks_other es h (own_of n) kind (Some handle) _ (subst (NotIncoming side) (sym e) tt) i
-  streams_so es h place n handle reached kind made new (inl e) of one i =
+  streams_so : (es : List Entry) (h : Here) (place n handle reached : ℕ) (kind : Kind) → MarksNext h.made n handle reached kind place → HasNewStream h.machine.store reached → udp_of (kind_at h.machine.table handle) ≡ Some place → OneEach h.machine.store.records → Inv es h
+      → Allows Anything (λ fs made. Inv fs (record h { machine = record h.machine { table = made.1 }; made = ToSend n handle reached })) es (make_asks h.machine.table (own_of n) kind (Some handle) (udp_side_at (udp2_at h.machine.store.records place)))
+  streams_so es h place n handle reached kind (inr m) new of one i = marks_so es h (own_of n) kind (Some handle) _ (λ made. ToSend n handle reached) (subst (NotIncoming side) (sym m.0) tt) tt tt i
+  streams_so es h place n handle reached kind (inl (e, made)) new of one i =
       let same : place ≡ reached = (subst (MakesUnder h.machine.table) made i.1.makes).of place of in
       let at : udp2_at h.machine.store.records place ≡ Some (Udp2Socket.Open new.socket) = subst (λ (x : ℕ). udp2_at h.machine.store.records x ≡ Some (Udp2Socket.Open new.socket)) (sym same) new.at in
-      let A : Kind → Option OpId → Type 0 = λ k sock. Allows Anything (λ fs made. Inv fs (record h { machine = record h.machine { table = made.1 } })) es (make_asks h.machine.table (own_of n) k (Some handle) sock) in
+      let A : Kind → Option OpId → Type 0 = λ k sock. Allows Anything (λ fs made. Inv fs (record h { machine = record h.machine { table = made.1 }; made = ToSend n handle reached })) es (make_asks h.machine.table (own_of n) k (Some handle) sock) in
       subst (λ (k : Kind). A k (udp_side_at (udp2_at h.machine.store.records place))) (sym e)
-      (subst (A (Incoming place)) (sym (ap udp_side_at at)) (marks_new es h place n handle one new.socket at i (λ fs. subst (IncomingLate (length fs) fs side) (sym new.new) tt)))
+      (subst (A (Incoming place)) (sym (ap udp_side_at at)) (marks_new es h place n handle one new.socket at i reached (λ fs. subst (IncomingLate (length fs) fs side) (sym new.new) tt)))
 
   -- == a create
   joins : (es : List Entry) (h : Here) (own : OpId) (made : Result Socket ErrorCode) → h.made ≡ Past → Inv es h → Allows Anything (λ fs done. Inv fs (record h { machine = done.1; own = Used })) es (created_asks h.machine own made)
@@ -160,7 +161,7 @@ module _ (side : OpId) (from : ℕ) where
             (begun_same (λ t made standing. Since side from (es ++ entry (own_of line) (Call.UdpCreate ctx.name family) told ∷ []) (udp_begun h begun).machine.store.records t) h begun s, begun_same (λ t made standing. AreUnder t made standing) h begun i.1),
       );
       udp_marks = λ es h place u g b i. marks_so es h (udp_side u) (Udp2 place) None (Some (udp_side u)) (λ made. Past) tt tt tt i;
-      stream_marks = λ es h place n handle reached kind m new k e b i. streams_so es h place n handle reached kind m new k e (λ x y p q a c z. b.0.1.udps.one q.inner.side x y (Udp2Socket.Open p) (Udp2Socket.Open q) a c z refl) i;
+      stream_marks = λ es h place n handle reached kind m new e b i. streams_so es h place n handle reached kind m new e (λ x y p q a c z. b.0.1.udps.one q.inner.side x y (Udp2Socket.Open p) (Udp2Socket.Open q) a c z refl) i;
       error_marks = λ es h n handle place handles m k e f b i. marks_other es h (own_of n) ErrorValue (Some handle) _ tt i;
       udp_gives_up = λ es h place create q g b i. kept h (λ done. put_udp h place (Udp2Socket.Closed create.operation.who.side)) es (create_cancel_asks create) i (λ done. i.1) (λ fs done k. k) ((lates side i.0.start contexts line origin).udp_gives_up es h place create q g b i.0.late);
       lookups = λ es h host l b i. (tt, λ told f records s. (longer es _ _ _ _ i.0 (((lates side i.0.start contexts line origin).lookups es h host l b i.0.late).1 told f records s), i.1));
@@ -174,7 +175,7 @@ module _ (side : OpId) (from : ℕ) where
     -- a write that begins in a call of streams
     pub begins_since : BeginsWrites since_law
     unfolding since_law sinces remotes
-    begins_since = begins_on_two contexts line origin (remotes contexts line origin) sinces (begins_kept contexts line origin) (record { begins = λ es h place n r s half permit bytes at g e w within b i. (record { start = i.0.start; on = i.0.on; late = put_tcp side i.0.start es _ place _ i.0.late; early = i.0.early }, i.1) })
+    begins_since = begins_on_two contexts line origin (remotes contexts line origin) sinces (begins_kept contexts line origin) (record { begins = λ es h place n r s half permit bytes at g e w within used b i. (record { start = i.0.start; on = i.0.on; late = put_tcp side i.0.start es _ place _ i.0.late; early = i.0.early }, i.1) })
 
     -- what it says of a tree
     pub since_along : {A : Type 0} {h : Here} {end : A → Here} {asks : Asks A} → Walks since_law h end asks → (es : List Entry) → Base contexts line origin h → Keeps es h.machine.store.records → Inv es h

@@ -195,9 +195,9 @@ module _ (contexts : List WasiSocketsCtx) (line : ℕ) (origin : Step) where
   moves_keep es _ _ (walk.Unlistens h place r op q g e c o) b i = put_tcp es _ place _ (i.tcps place r g) i
   moves_keep es _ _ (walk.Forgets h place r l c g e a) b i = put_tcp es _ place _ (i.tcps place r g) i
   moves_keep es _ _ (walk.Joins h c handle place r l new peer is of u g e a) b i = push_tcp es _ (joined l new peer) (with_these (joined l new peer) _ refl (refl, refl)) (put_tcp es _ place _ (i.tcps place r g) i)
-  moves_keep es _ _ (walk.UdpChanges h place o now g p) b i = put_udps es _ place (Udp2Socket.Open now) (plain_keeps es o now p (i.udps place (Udp2Socket.Open o) g)) i
+  moves_keep es _ _ (walk.UdpChanges h place o now g p keeps) b i = put_udps es _ place (Udp2Socket.Open now) (plain_keeps es o now p (i.udps place (Udp2Socket.Open o) g)) i
   moves_keep es _ _ (walk.BeginsUdpBind h place o a at g to idle own) b i = let k = i.udps place (Udp2Socket.Open o) g in put_udps es _ place (Udp2Socket.Open _) (record { created = k.created; remote = k.remote; connects = k.connects; receiver = k.receiver }) i
-  moves_keep es _ _ (walk.BeginsUdpConnect h place o a at g to bound own) b i = let k = i.udps place (Udp2Socket.Open o) g in put_udps es _ place (Udp2Socket.Open _) (record { created = k.created; remote = k.remote; connects = Whole a; receiver = k.receiver }) i
+  moves_keep es _ _ (walk.BeginsUdpConnect h place o a at g to bound none own) b i = let k = i.udps place (Udp2Socket.Open o) g in put_udps es _ place (Udp2Socket.Open _) (record { created = k.created; remote = k.remote; connects = Whole a; receiver = k.receiver }) i
   moves_keep es _ _ (walk.BeginsSend h place n o out d bound at g e is known own) b i = let k = i.udps place (Udp2Socket.Open o) g in put_udps es _ place (Udp2Socket.Open _) (record { created = k.created; remote = k.remote; connects = k.connects; receiver = k.receiver }) i
   moves_keep es _ _ (walk.BeginsReceive h place n o inc bound at g e is own) b i =
       let k = i.udps place (Udp2Socket.Open o) g in
@@ -232,7 +232,7 @@ module _ (contexts : List WasiSocketsCtx) (line : ℕ) (origin : Step) where
     udp_closes = λ es h place o q g b i. (tt, λ told f. put_udps _ _ place (Udp2Socket.Closed o.inner.side) tt (asked es _ (own_of line) _ told (quiet _ _ tt) i));
     udp_creates = λ es h ctx family c may a o m b i. (tt, λ told f. begun_keeps es h (own_of line) ctx.name family told f i);
     udp_marks = λ es h place u g b i. marks_keep es _ h.machine.table (udp_side u) (Udp2 place) None (Some (udp_side u)) i;
-    stream_marks = λ es h place n handle reached kind m new k e b i. marks_keep es _ h.machine.table (own_of n) kind (Some handle) _ i;
+    stream_marks = λ es h place n handle reached kind m new e b i. marks_keep es _ h.machine.table (own_of n) kind (Some handle) _ i;
     error_marks = λ es h n handle place handles m k e f b i. marks_keep es _ h.machine.table (own_of n) ErrorValue (Some handle) _ i;
     udp_gives_up = λ es h place create q g b i.
         allows_weaker Anything (λ fs done. Keeps fs h.machine.store.records × ⊤) (λ fs done. Keeps fs (udp2_put h.machine.store.records place (Udp2Socket.Closed create.operation.who.side)))
@@ -244,4 +244,4 @@ module _ (contexts : List WasiSocketsCtx) (line : ℕ) (origin : Step) where
   -- a write that begins in a call of streams
   pub begins_kept : BeginsAbove remotes
   unfolding remotes
-  begins_kept = record { begins = λ es h place n r s half permit bytes at g e w within b i. write_keeps es h place n r s half permit bytes g e w i }
+  begins_kept = record { begins = λ es h place n r s half permit bytes at g e w within used b i. write_keeps es h place n r s half permit bytes g e w i }

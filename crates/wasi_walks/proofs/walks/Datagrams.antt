@@ -8,7 +8,7 @@ use Rattle.wasi_machine.specs.Machine.{first_ids}
 use Rattle.wasi_world.specs.declared.ids.Ids.{Ids}
 use Rattle.wasi_world.specs.declared.ids.OpId.{OpId}
 use Rattle.wasi_host.specs.DatagramCalls.{start_streams_by, start_streams_at, reconnect_udp_at, second_made, outgoing_made, mark_streams_of, streams_so, remake_streams_asks}
-use Rattle.wasi_host.specs.Datagrams.{has_streams, with_streams, udp_connect_ended, poll_udp_connecting, udp_connect_begun, disconnected, disconnect_streams, streams_to, streams_where, begin_streams_asks}
+use Rattle.wasi_host.specs.Datagrams.{has_streams, with_streams, udp_connect_ended, udp_connect_left, poll_udp_connecting, udp_connect_begun, disconnected, disconnect_streams, streams_to, streams_where, begin_streams_asks}
 use Rattle.wasi_host.specs.Kinds.{udp_of}
 use Rattle.wasi_host.specs.Records.{open_at, udp2_at}
 use Rattle.wasi_host.specs.declared.datagrams.Receiving.{Receiving}
@@ -26,11 +26,12 @@ use Rattle.wasi_udp.specs.Socket.{after_local, ask_bound, bound_asks, disconnect
 use Rattle.wasi_walks.proofs.Lists.{value_front}
 use Rattle.wasi_walks.proofs.UdpLists.{udp_set_there}
 use Rattle.wasi_walks.specs.Licence.{IsDisconnect, IsUdpConnectTo}
-use Rattle.wasi_walks.proofs.walks.Moves.{HasNewStream, Here, ToStream, Own, put_udp, FoundUdp, NoStart, NoStartStands, ReachesUdp, Leaves, Spends, UdpChanges, RemembersStreams, BeginsUdpConnect, StandsUdpConnect, Used, Unused}
+use Rattle.wasi_walks.proofs.walks.Here.{no_open}
+use Rattle.wasi_walks.proofs.walks.Moves.{EndsConnect, HasNewStream, Here, ToConnect, ToSend, ToStream, Own, put_udp, FoundUdp, NoStart, NoStartStands, ReachesUdp, Leaves, Spends, UdpChanges, RemembersStreams, BeginsUdpConnect, StandsUdpConnect, Used, Unused}
 use Rattle.wasi_walks.proofs.walks.Law.{Law, Walks, Given, given_along, given_then, given_on, give, and_then, and_given, move, gives, from}
-use Rattle.wasi_walks.proofs.walks.States.{OverWith, Starts, udp_record}
+use Rattle.wasi_walks.proofs.walks.States.{At, Over, OverWith, Starts, udp_record}
 use Rattle.wasi_walks.proofs.walks.Udp.{bound_walks, open_is, udp_there}
-use Rattle.wasi_walks.proofs.walks.UdpLaw.{HasUdp, udp_put_put, udp_put_same, udp_found, ask_udp, peer_udp, poll_udp_connect_walks, mark_stream}
+use Rattle.wasi_walks.proofs.walks.UdpLaw.{HasUdp, over_at, udp_put_put, udp_put_same, udp_found, ask_udp, peer_udp, poll_udp_connect_walks, mark_stream}
 
 -- the incoming stream is new
 abbrev pub IsNew : OpenUdp → Type 0
@@ -113,16 +114,30 @@ udp_kind (Some (kinds.Udp2 n)) place e = ap (λ (o : Option ℕ). option_kind o)
     option_kind None = None
 udp_kind _ place e = absurd (cc)
 
--- the socket is so, and the line has begun its operation
+-- the socket is so, and the line has begun its operation; while the connect goes on, it is that
 abbrev Ends : Here → ℕ → Result (Answer (Unit {0})) ErrorCode × OpenUdp → Here
-Ends h place done = record (put_udp h place (Udp2Socket.Open done.1)) { own = Used }
+Ends h place (Ok Pending, o) = record (put_udp h place (Udp2Socket.Open o)) { own = ToConnect place }
+Ends h place (_, o) = record (put_udp h place (Udp2Socket.Open o)) { own = Used }
+
+-- its connect goes on by the line
+abbrev Going : Here → ℕ → Here
+Going h place = record h { own = ToConnect place }
+
+goes : {h : Here} {place : ℕ} → HasUdp h place → HasUdp (Going h place) place
+goes here = record { was = here.was; at = here.at }
 
 -- the streams of a socket are to be made under its handle
 abbrev pub Streaming : ℕ → Machine → ℕ → ℕ → Own → Here
 Streaming n m place handle own = record { machine = m; at = Some (place, n); made = ToStream n handle place; own = own }
 
-abbrev pub Streamed : {A : Type 0} → ℕ → Machine → ℕ → ℕ → A × Records → Here
-Streamed n m place handle done = Streaming n (record m { store = done.1 }) place handle Used
+-- they are there, and have no handles yet; else nothing is worked on any more
+abbrev pub Streamed : ℕ → Machine → ℕ → ℕ → Result (Answer (Unit {0})) Stop × Records → Here
+Streamed n m place handle (Ok (Ready d), store) = Streaming n (record m { store = store }) place handle Used
+Streamed n m place handle (_, store) = Over (record m { store = store })
+
+-- the incoming one has its handle
+abbrev Sending : ℕ → Machine → ℕ → ℕ → Here
+Sending n m place handle = record (Streaming n m place handle Used) { made = ToSend n handle place }
 
 -- the same connect, where it is known that the socket is bound
 bound_connect : (op : OpId) (socket : Socket) (a : IpSocketAddress) → socket.bound ≡ true → connect_asks op socket a ≡ (if is_connectable socket a then Give (Ok (connect_start op socket a true), socket) else Give (Err InvalidArgument, socket))
@@ -134,56 +149,58 @@ bound_same socket e = ap (λ b. let s : Socket = record socket { bound = b } in 
 
 -- where the call is done, its record has new streams
 abbrev pub AreMade : ℕ → Result (Answer (Unit {0})) Stop × Records → Type 0
-AreMade place (Ok (Ready d), store) = HasNewStream store.records place
+AreMade place (Ok (Ready d), store) = HasNewStream store place
 AreMade place _ = ⊤
 
-answered_made : (store : Records) (ids : Ids) (place handle : ℕ) (was : OpenUdp) → udp2_at store.records place ≡ Some (Udp2Socket.Open was) → (done : Result (Answer (Unit {0})) ErrorCode × OpenUdp) → WaitsUdpConnect done
+answered_made : (store : Records) (ids : Ids) (place handle : ℕ) → NoStartStands store.standing → (was : OpenUdp) → udp2_at store.records place ≡ Some (Udp2Socket.Open was) → (done : Result (Answer (Unit {0})) ErrorCode × OpenUdp) → WaitsUdpConnect done
     → AreMade place (udp_call_answered store ids (StandingCall.UdpConnect place handle) done)
-answered_made store ids place handle was g (Ok Pending, o) w = tt
-answered_made store ids place handle was g (Ok (Ready d), o) w = record { socket = o; at = udp_set_there store.records place (Udp2Socket.Open was) (Udp2Socket.Open o) g; new = w }
-answered_made store ids place handle was g (Err c, o) w = tt
+answered_made store ids place handle q was g (Ok Pending, o) w = tt
+answered_made store ids place handle q was g (Ok (Ready d), o) w = record { quiet = q; socket = o; at = udp_set_there store.records place (Udp2Socket.Open was) (Udp2Socket.Open o) g; new = w }
+answered_made store ids place handle q was g (Err c, o) w = tt
 
-start_made : (store : Records) (ids : Ids) (place handle : ℕ) (remote : Option IpSocketAddress) (o : OpenUdp) → udp2_at store.records place ≡ Some (Udp2Socket.Open o) → (live : Bool) → Given (AreMade place) (start_streams_by store ids place handle remote o live)
-start_made store ids place handle remote o g true = tt
-start_made store ids place handle remote o g false = given_along WaitsUdpConnect (AreMade place) (begin_streams_asks (own_of ids.line) o remote) _ (begin_given (own_of ids.line) o remote) (λ begun w. answered_made store ids place handle o g begun w)
+start_made : (store : Records) (ids : Ids) (place handle : ℕ) → NoStartStands store.standing → (remote : Option IpSocketAddress) (o : OpenUdp) → udp2_at store.records place ≡ Some (Udp2Socket.Open o) → (live : Bool) → Given (AreMade place) (start_streams_by store ids place handle remote o live)
+start_made store ids place handle q remote o g true = tt
+start_made store ids place handle q remote o g false = given_along WaitsUdpConnect (AreMade place) (begin_streams_asks (own_of ids.line) o remote) _ (begin_given (own_of ids.line) o remote) (λ begun w. answered_made store ids place handle q o g begun w)
 
-starts_made : (store : Records) (ids : Ids) (place handle : ℕ) (remote : Option IpSocketAddress) (o : Option OpenUdp) → open_at store.records place ≡ o → Given (AreMade place) (start_streams_at store ids place handle remote o)
-starts_made store ids place handle remote None e = tt
-starts_made store ids place handle remote (Some o) e = start_made store ids place handle remote o (open_is (udp2_at store.records place) o e) (has_streams o)
+starts_made : (store : Records) (ids : Ids) (place handle : ℕ) → NoStartStands store.standing → (remote : Option IpSocketAddress) (o : Option OpenUdp) → open_at store.records place ≡ o → Given (AreMade place) (start_streams_at store ids place handle remote o)
+starts_made store ids place handle q remote None e = tt
+starts_made store ids place handle q remote (Some o) e = start_made store ids place handle q remote o (open_is (udp2_at store.records place) o e) (has_streams o)
 
-again_made : (store : Records) (ids : Ids) (place handle : ℕ) (o : Option OpenUdp) → open_at store.records place ≡ o → Given (AreMade place) (reconnect_udp_at store ids place handle o)
-again_made store ids place handle None e = tt
-again_made store ids place handle (Some o) e = given_along WaitsUdpConnect (AreMade place) (poll_udp_connecting o o.connecting) _ (poll_given o o.connecting) (λ done w. answered_made store ids place handle o (open_is (udp2_at store.records place) o e) done w)
+again_made : (store : Records) (ids : Ids) (place handle : ℕ) → NoStartStands store.standing → (o : Option OpenUdp) → open_at store.records place ≡ o → Given (AreMade place) (reconnect_udp_at store ids place handle o)
+again_made store ids place handle q None e = tt
+again_made store ids place handle q (Some o) e = given_along WaitsUdpConnect (AreMade place) (poll_udp_connecting o o.connecting) _ (poll_given o o.connecting) (λ done w. answered_made store ids place handle q o (open_is (udp2_at store.records place) o e) done w)
 
 module _ {contexts : List WasiSocketsCtx} {line : ℕ} {origin : Step} {law : Law contexts line origin} where
-  -- == a connect that was begun is polled
+  -- == a connect that was begun is polled, by the line that it goes on by
   module _ {h : Here} {place : ℕ} (here : HasUdp h place) (quiet : NoStart h) where
-    polled_by : (o : OpenUdp) (connecting : Option Operation) → o.connecting ≡ connecting → Walks law (put_udp h place (Udp2Socket.Open o)) (λ done. put_udp h place (Udp2Socket.Open done.1)) (poll_udp_connecting o connecting)
-    polled_by o None e = give _
-    polled_by o (Some op) e = and_then (poll_udp_connect_walks here o op quiet e) (λ ended. give _)
+    ended_walks : (op : Operation) (o : OpenUdp) (ended : End × List Item) → Walks law (put_udp (Going h place) place (Udp2Socket.Open (udp_connect_left op o ended))) (Ends h place) (Give (udp_connect_ended op o ended))
+    ended_walks op o (Waits, items) = give _
+    ended_walks op o (Done given, items) = gives _ (EndsConnect _ place refl (inl (over_at (goes here) (udp_connect_left op o (Done given, items)) refl)))
+    ended_walks op o (Refused c given, items) = gives _ (EndsConnect _ place refl (inl (over_at (goes here) (udp_connect_left op o (Refused c given, items)) refl)))
+
+    polled_by : (o : OpenUdp) (connecting : Option Operation) → o.connecting ≡ connecting → Walks law (put_udp (Going h place) place (Udp2Socket.Open o)) (Ends h place) (poll_udp_connecting o connecting)
+    polled_by o None e = gives _ (EndsConnect _ place refl (inl (over_at (goes here) o e)))
+    polled_by o (Some op) e = and_then (poll_udp_connect_walks (goes here) o op quiet e) (ended_walks op o)
 
   -- == on the record of a place
   module _ {h : Here} {place : ℕ} (here : HasUdp h place) (at : h.at ≡ Some (place, line)) (free : h.own ≡ Unused) (quiet : NoStart h) where
     opens : (o : OpenUdp) → Walks law (put_udp h place (Udp2Socket.Open o)) (Ends h place) (Give (Ok (Ready tt), with_streams o))
     opens o =
-        move (UdpChanges _ place o (with_streams o) (udp_found here (Udp2Socket.Open o)) (record { side = refl; maker = refl; family = refl; remote = refl; bound = λ b. b; binds = inl refl; connects = refl; sends = inr refl; receives = inr refl; came = inr refl }))
+        move (UdpChanges _ place o (with_streams o) (udp_found here (Udp2Socket.Open o)) (record { side = refl; maker = refl; family = refl; remote = refl; bound = λ b. b; binds = inl refl; connects = refl; sends = inr refl; receives = inr refl; came = inr refl }) (record { incoming = inl (λ some. refl); makes = inr (free, quiet) }))
         (from (sym (udp_put_put h place (Udp2Socket.Open o) (Udp2Socket.Open (with_streams o)))) (gives _ (Spends _ free)))
 
     -- with a connect
-    connect_walks : (o : OpenUdp) (a : IpSocketAddress) → o.inner.bound ≡ true → IsUdpConnectTo a origin → Walks law (put_udp h place (Udp2Socket.Open o)) (Ends h place) (bind (connect_asks (own_of line) o.inner a) (udp_connect_begun o))
+    connect_walks : (o : OpenUdp) (a : IpSocketAddress) → o.inner.bound ≡ true → has_streams o ≡ false → IsUdpConnectTo a origin → Walks law (put_udp h place (Udp2Socket.Open o)) (Ends h place) (bind (connect_asks (own_of line) o.inner a) (udp_connect_begun o))
     unfolding bind
-    connect_walks o a bound to = rw (bound_connect (own_of line) o.inner a bound) (by_test (is_connectable o.inner a))
+    connect_walks o a bound none to = rw (bound_connect (own_of line) o.inner a bound) (by_test (is_connectable o.inner a))
       where
         by_test : (b : Bool) → Walks law (put_udp h place (Udp2Socket.Open o)) (Ends h place) (bind (if b then Give (Ok (connect_start (own_of line) o.inner a true), o.inner) else Give (Err InvalidArgument, o.inner)) (udp_connect_begun o))
         by_test false = gives _ (Spends _ free)
         by_test true =
             let op : Operation = connect_start (own_of line) o.inner a true in
             let now : OpenUdp = record o { connecting = Some op } in
-            let busy : Here = record h { own = Used } in
-            let there : HasUdp busy place = record { was = here.was; at = here.at } in
-            move (BeginsUdpConnect _ place o a at (udp_found here (Udp2Socket.Open o)) to bound free)
-            (from (ap (λ (x : Here). record x { own = Used }) (sym (udp_put_put h place (Udp2Socket.Open o) (Udp2Socket.Open now))))
-            (and_then (poll_udp_connect_walks there now op quiet refl) (λ ended. give _)))
+            move (BeginsUdpConnect _ place o a at (udp_found here (Udp2Socket.Open o)) to bound none free)
+            (from (ap (λ (x : Here). record x { own = ToConnect place }) (sym (udp_put_put h place (Udp2Socket.Open o) (Udp2Socket.Open now)))) (polled_by here quiet now (Some op) refl))
 
     -- with a disconnect, where the socket is connected
     told_walks : (o : OpenUdp) (done : Result (Unit {0}) ErrorCode × Socket) → Walks law (put_udp h place (Udp2Socket.Open (with_udp_inner o done.1))) (Ends h place) (Give (disconnected o done))
@@ -201,71 +218,74 @@ module _ {contexts : List WasiSocketsCtx} {line : ℕ} {origin : Step} {law : La
     without_walks to o true bound = and_then (disconnect_walks to o o.inner.remote bound) (told_walks o)
     without_walks to o false bound = opens o
 
-    streams_to_walks : (c s : ℕ) (remote : Option IpSocketAddress) → origin ≡ Step.UdpStream c s remote → (o : OpenUdp) → o.inner.bound ≡ true → Walks law (put_udp h place (Udp2Socket.Open o)) (Ends h place) (streams_to (own_of line) o remote)
-    streams_to_walks c s (Some a) is o bound = connect_walks o a bound (subst (IsUdpConnectTo a) (sym is) refl)
-    streams_to_walks c s None is o bound = without_walks (subst IsDisconnect (sym is) tt) o (is_connected o.inner.remote) bound
+    streams_to_walks : (c s : ℕ) (remote : Option IpSocketAddress) → origin ≡ Step.UdpStream c s remote → (o : OpenUdp) → o.inner.bound ≡ true → has_streams o ≡ false → Walks law (put_udp h place (Udp2Socket.Open o)) (Ends h place) (streams_to (own_of line) o remote)
+    streams_to_walks c s (Some a) is o bound none = connect_walks o a bound none (subst (IsUdpConnectTo a) (sym is) refl)
+    streams_to_walks c s None is o bound none = without_walks (subst IsDisconnect (sym is) tt) o (is_connected o.inner.remote) bound
 
-    where_walks : (c s : ℕ) (remote : Option IpSocketAddress) → origin ≡ Step.UdpStream c s remote → (o : OpenUdp) (bound : Bool) → (bound ≡ true → o.inner.bound ≡ true) → Walks law (put_udp h place (Udp2Socket.Open o)) (Ends h place) (streams_where (own_of line) remote o bound)
-    where_walks c s remote is o true k = streams_to_walks c s remote is o (k refl)
-    where_walks c s remote is o false k = gives _ (Spends _ free)
+    where_walks : (c s : ℕ) (remote : Option IpSocketAddress) → origin ≡ Step.UdpStream c s remote → (o : OpenUdp) (bound : Bool) → (bound ≡ true → o.inner.bound ≡ true) → has_streams o ≡ false → Walks law (put_udp h place (Udp2Socket.Open o)) (Ends h place) (streams_where (own_of line) remote o bound)
+    where_walks c s remote is o true k none = streams_to_walks c s remote is o (k refl) none
+    where_walks c s remote is o false k none = gives _ (Spends _ free)
 
-    begin_walks : (c s : ℕ) (remote : Option IpSocketAddress) → origin ≡ Step.UdpStream c s remote → (o : OpenUdp) → Walks law (put_udp h place (Udp2Socket.Open o)) (Ends h place) (begin_streams_asks (own_of line) o remote)
-    begin_walks c s remote is o = and_given KeepsBound (bound_given (own_of line) o.inner) (bound_walks here at o) (λ b k. where_walks c s remote is (with_udp_inner o b.1) b.0 k)
+    begin_walks : (c s : ℕ) (remote : Option IpSocketAddress) → origin ≡ Step.UdpStream c s remote → (o : OpenUdp) → has_streams o ≡ false → Walks law (put_udp h place (Udp2Socket.Open o)) (Ends h place) (begin_streams_asks (own_of line) o remote)
+    begin_walks c s remote is o none = and_given KeepsBound (bound_given (own_of line) o.inner) (bound_walks here at o) (λ b k. where_walks c s remote is (with_udp_inner o b.1) b.0 k none)
 
   -- == a call that may be pending was answered
-  answered_walks : (m : Machine) (ids : Ids) (place handle : ℕ) (done : Result (Answer (Unit {0})) ErrorCode × OpenUdp) → HasUdp (Streaming ids.line m place handle Used) place → WaitsUdpConnect done
-      → Walks law (put_udp (Streaming ids.line m place handle Used) place (Udp2Socket.Open done.1)) (Streamed ids.line m place handle) (Give (udp_call_answered m.store ids (StandingCall.UdpConnect place handle) done))
-  answered_walks m ids place handle (Ok Pending, o) here w = gives _ (StandsUdpConnect _ ids place handle o w.op refl refl (udp_found here (Udp2Socket.Open o)) w.is)
-  answered_walks m ids place handle (Ok (Ready d), o) here w = give _
-  answered_walks m ids place handle (Err c, o) here w = give _
+  answered_walks : (m : Machine) (ids : Ids) (place handle : ℕ) → NoStartStands m.store.standing → (done : Result (Answer (Unit {0})) ErrorCode × OpenUdp) → HasUdp (Streaming ids.line m place handle Used) place → WaitsUdpConnect done
+      → Walks law (Ends (Streaming ids.line m place handle Used) place done) (Streamed ids.line m place handle) (Give (udp_call_answered m.store ids (StandingCall.UdpConnect place handle) done))
+  answered_walks m ids place handle q (Ok Pending, o) here w = move (StandsUdpConnect _ ids place handle o w.op q refl refl (udp_found here (Udp2Socket.Open o)) w.is) (move (EndsConnect _ place refl (inr refl)) (gives _ (Leaves _)))
+  answered_walks m ids place handle q (Ok (Ready d), o) here w = give _
+  answered_walks m ids place handle q (Err c, o) here w = gives _ (Leaves _)
 
   module _ (m : Machine) (place handle : ℕ) (quiet : NoStartStands m.store.standing) where
-    start_by : (c s : ℕ) (remote : Option IpSocketAddress) → origin ≡ Step.UdpStream c s remote → (o : OpenUdp) → FoundUdp (Streaming line m place handle Unused) place (Udp2Socket.Open o) → (live : Bool) → Walks law (Streaming line m place handle Unused) (Streamed line m place handle) (start_streams_by m.store (first_ids line) place handle remote o live)
-    start_by c s remote is o g true = gives _ (Spends _ refl)
-    start_by c s remote is o g false =
-        from (udp_put_same (Streaming line m place handle Unused) place (Udp2Socket.Open o) g)
-        (and_given WaitsUdpConnect (begin_given (own_of line) o remote) (begin_walks (udp_there {h = Streaming line m place handle Unused} g) refl refl quiet c s remote is o) (λ begun w. answered_walks m (first_ids line) place handle begun (record { was = Udp2Socket.Open o; at = g }) w))
+    start_by : (c : ℕ) (remote : Option IpSocketAddress) → origin ≡ Step.UdpStream c handle remote → udp_of (kind_at m.table handle) ≡ Some place → (o : OpenUdp) → FoundUdp (At line m place Unused) place (Udp2Socket.Open o) → (live : Bool) → has_streams o ≡ live
+        → Walks law (At line m place Unused) (Streamed line m place handle) (start_streams_by m.store (first_ids line) place handle remote o live)
+    start_by c remote is of o g true none = move (Spends _ refl) (gives _ (Leaves _))
+    start_by c remote is of o g false none =
+        move (RemembersStreams _ c handle place remote is of o g none)
+        (from (udp_put_same (Streaming line m place handle Unused) place (Udp2Socket.Open o) g)
+        (and_given WaitsUdpConnect (begin_given (own_of line) o remote) (begin_walks (udp_there {h = Streaming line m place handle Unused} g) refl refl quiet c handle remote is o none) (λ begun w. answered_walks m (first_ids line) place handle quiet begun (record { was = Udp2Socket.Open o; at = g }) w)))
 
-    start_at : (c s : ℕ) (remote : Option IpSocketAddress) → origin ≡ Step.UdpStream c s remote → (o : Option OpenUdp) → open_at m.store.records place ≡ o → Walks law (Streaming line m place handle Unused) (Streamed line m place handle) (start_streams_at m.store (first_ids line) place handle remote o)
-    start_at c s remote is None e = gives _ (Spends _ refl)
-    start_at c s remote is (Some o) e = start_by c s remote is o (open_is (udp2_at m.store.records place) o e) (has_streams o)
+    start_at : (c : ℕ) (remote : Option IpSocketAddress) → origin ≡ Step.UdpStream c handle remote → udp_of (kind_at m.table handle) ≡ Some place → (o : Option OpenUdp) → open_at m.store.records place ≡ o → Walks law (At line m place Unused) (Streamed line m place handle) (start_streams_at m.store (first_ids line) place handle remote o)
+    start_at c remote is of None e = move (Spends _ refl) (gives _ (Leaves _))
+    start_at c remote is of (Some o) e = start_by c remote is of o (open_is (udp2_at m.store.records place) o e) (has_streams o) refl
 
     -- a connect that was pending is polled again
-    again_at : (ids : Ids) (o : Option OpenUdp) → open_at m.store.records place ≡ o → Walks law (Streaming ids.line m place handle Used) (Streamed ids.line m place handle) (reconnect_udp_at m.store ids place handle o)
-    again_at ids None e = give _
+    again_at : (ids : Ids) (o : Option OpenUdp) → open_at m.store.records place ≡ o → Walks law (Streaming ids.line m place handle (ToConnect place)) (Streamed ids.line m place handle) (reconnect_udp_at m.store ids place handle o)
+    again_at ids None e = move (EndsConnect _ place refl (inl (no_open (Streaming ids.line m place handle Used) place e))) (gives _ (Leaves _))
     again_at ids (Some o) e =
         let g : FoundUdp (Streaming ids.line m place handle Used) place (Udp2Socket.Open o) = open_is (udp2_at m.store.records place) o e in
-        from (udp_put_same (Streaming ids.line m place handle Used) place (Udp2Socket.Open o) g)
-        (and_given WaitsUdpConnect (poll_given o o.connecting) (polled_by (udp_there {h = Streaming ids.line m place handle Used} g) quiet o o.connecting refl) (λ done w. answered_walks m ids place handle done (record { was = Udp2Socket.Open o; at = g }) w))
+        let there : HasUdp (Streaming ids.line m place handle Used) place = record { was = Udp2Socket.Open o; at = g } in
+        from (udp_put_same (Streaming ids.line m place handle (ToConnect place)) place (Udp2Socket.Open o) g)
+        (and_given WaitsUdpConnect (poll_given o o.connecting) (polled_by there quiet o o.connecting refl) (λ done w. answered_walks m ids place handle quiet done there w))
 
   -- == their handles
   module _ (n place handle : ℕ) where
-    second_walks : (m : Machine) (first : ℕ) (made : Result ℕ Stop × Handles) → Walks law (Streaming n (record m { table = made.1 }) place handle Used) OverWith (Give (second_made m first made))
+    second_walks : (m : Machine) (first : ℕ) (made : Result ℕ Stop × Handles) → Walks law (Sending n (record m { table = made.1 }) place handle) OverWith (Give (second_made m first made))
     second_walks m first (Ok second, t) = gives _ (Leaves _)
     second_walks m first (Err stop, t) = gives _ (Leaves _)
 
-    outgoing_walks : (m : Machine) (of : ℕ) (made : Result ℕ Stop × Handles) → HasNewStream m.store.records place → udp_of (kind_at made.1 handle) ≡ Some of → Walks law (Streaming n (record m { table = made.1 }) place handle Used) OverWith (outgoing_made m (own_of n) handle of (udp_side_at (udp2_at m.store.records of)) made)
-    outgoing_walks m of (Ok incoming, t) new e = and_then (mark_stream {h = Streaming n (record m { table = t }) place handle Used} of n handle place (kinds.Outgoing of) refl new (inr refl) e) (second_walks m incoming)
+    outgoing_walks : (m : Machine) (of : ℕ) (made : Result ℕ Stop × Handles) → HasNewStream m.store place → udp_of (kind_at made.1 handle) ≡ Some of → Walks law (Sending n (record m { table = made.1 }) place handle) OverWith (outgoing_made m (own_of n) handle of (udp_side_at (udp2_at m.store.records of)) made)
+    outgoing_walks m of (Ok incoming, t) new e = and_then (mark_stream {h = Sending n (record m { table = t }) place handle} of n handle place (kinds.Outgoing of) (inr (refl, refl)) new e) (second_walks m incoming)
     outgoing_walks m of (Err stop, t) new e = gives _ (Leaves _)
 
-    marked_walks : (m : Machine) (of : Option ℕ) → HasNewStream m.store.records place → udp_of (kind_at m.table handle) ≡ of → Walks law (Streaming n m place handle Used) OverWith (mark_streams_of m (own_of n) handle of)
+    marked_walks : (m : Machine) (of : Option ℕ) → HasNewStream m.store place → udp_of (kind_at m.table handle) ≡ of → Walks law (Streaming n m place handle Used) OverWith (mark_streams_of m (own_of n) handle of)
     marked_walks m None new e = gives _ (Leaves _)
     marked_walks m (Some of) new e =
         let its : kind_at m.table handle ≡ Some (kinds.Udp2 of) = udp_kind (kind_at m.table handle) of e in
         and_given (λ made. kind_at made.1 handle ≡ Some (kinds.Udp2 of)) (kind_given m.table (own_of n) (kinds.Incoming of) (Some handle) (udp_side_at (udp2_at m.store.records of)) handle (kinds.Udp2 of) its)
-        (mark_stream {h = Streaming n m place handle Used} of n handle place (kinds.Incoming of) refl new (inl refl) e) (λ made k. outgoing_walks m of made new (ap udp_of k))
+        (mark_stream {h = Streaming n m place handle Used} of n handle place (kinds.Incoming of) (inl (refl, refl)) new e) (λ made k. outgoing_walks m of made new (ap udp_of k))
 
     so_walks : (m : Machine) (done : Result (Answer (Unit {0})) Stop × Records) → AreMade place done → Walks law (Streamed n m place handle done) OverWith (streams_so (own_of n) handle m done)
-    so_walks m (Ok Pending, store) new = gives _ (Leaves _)
+    so_walks m (Ok Pending, store) new = give _
     so_walks m (Ok (Ready d), store) new = marked_walks (record m { store = store }) (udp_of (kind_at m.table handle)) new refl
-    so_walks m (Err stop, store) new = gives _ (Leaves _)
+    so_walks m (Err stop, store) new = give _
 
   pub stream_walks : (m : Machine) (c s : ℕ) (remote : Option IpSocketAddress) (o : Option ℕ) → udp_socket_at m s ≡ o → origin ≡ Step.UdpStream c s remote → Has (handles_of origin) s → NoStartStands m.store.standing → Walks law (Starts m Unused) OverWith (udp_stream_on m (first_ids line) s remote o)
   stream_walks m c s remote None e is named q = gives _ (Spends _ refl)
   stream_walks m c s remote (Some place) e is named q =
-      move (ReachesUdp _ s place named (udp_record (kind_at m.table s) place e)) (move (RemembersStreams _ c s place remote is e)
-      (and_given (AreMade place) (starts_made m.store (first_ids line) place s remote (open_at m.store.records place) refl) (start_at m place s q c s remote is (open_at m.store.records place) refl) (so_walks line place s m)))
+      move (ReachesUdp _ s place named (udp_record (kind_at m.table s) place e))
+      (and_given (AreMade place) (starts_made m.store (first_ids line) place s q remote (open_at m.store.records place) refl) (start_at m place s q c remote is e (open_at m.store.records place) refl) (so_walks line place s m))
 
   -- a call of streams that was pending continues
-  pub streams_again : (ids : Ids) (m : Machine) (place handle : ℕ) → NoStartStands m.store.standing → Walks law (Streaming ids.line m place handle Used) OverWith (remake_streams_asks m ids place handle)
-  streams_again ids m place handle q = and_given (AreMade place) (again_made m.store ids place handle (open_at m.store.records place) refl) (again_at m place handle q ids (open_at m.store.records place) refl) (so_walks ids.line place handle m)
+  pub streams_again : (ids : Ids) (m : Machine) (place handle : ℕ) → NoStartStands m.store.standing → Walks law (Streaming ids.line m place handle (ToConnect place)) OverWith (remake_streams_asks m ids place handle)
+  streams_again ids m place handle q = and_given (AreMade place) (again_made m.store ids place handle q (open_at m.store.records place) refl) (again_at m place handle q ids (open_at m.store.records place) refl) (so_walks ids.line place handle m)

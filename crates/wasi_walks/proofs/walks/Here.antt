@@ -1,21 +1,25 @@
 -- What a line works on: the state, the record that one of its handles stands for, what it has made so far, and which names its
 -- operations were given.
-use Rattle.wasi_walks.proofs.Words.{Bool, Kind, List, Machine, None, OpId, Option, Some, Standing, StandingCall, Tcp2, Tcp2Socket, arith, inl, inr, refl, subst, sym, true, false, with_socket, ℕ, ⊤, ◌+◌, ◌<◌, ◌≡◌, ◌≤◌, ◌⊎◌}
-use Rattle.wasi_host.specs.Records.{tcp2_at, udp2_at}
+use Rattle.wasi_walks.proofs.Words.{Bool, Kind, List, Machine, None, OpId, Operation, Option, Records, Some, Standing, StandingCall, Tcp2, Tcp2Socket, ap, arith, inl, inr, refl, standing_as, subst, sym, true, false, with_socket, ℕ, ⊤, ◌+◌, ◌<◌, ◌≡◌, ◌≤◌, ◌⊎◌}
+use Rattle.std.specs.Prelude.{is_some, ◌||◌}
+use Rattle.wasi_world.specs.declared.ids.Ids.{Ids}
+use Rattle.wasi_host.specs.Datagrams.{has_streams}
+use Rattle.wasi_host.specs.Records.{open_at, open_of, tcp2_at, udp2_at}
 use Rattle.wasi_host.specs.UdpCalls.{with_udp}
-use Rattle.wasi_host.specs.declared.kind.Kind.TheVariants.{Udp2}
+use Rattle.wasi_host.specs.declared.kind.Kind.TheVariants.{Incoming, Outgoing, Udp2}
 use Rattle.wasi_host.specs.declared.datagrams.Receiving.{Receiving}
 use Rattle.wasi_host.specs.declared.records.Record.{Record}
 use Rattle.wasi_host.specs.declared.udp.OpenUdp.{OpenUdp}
 use Rattle.wasi_host.specs.declared.udp.Udp2Socket.{Udp2Socket}
 
 -- what the line's operations have begun: something, or nothing yet; its own none, and of the others those of a part below this one;
--- these bytes it is let write to this network socket
+-- these bytes it is let write to this network socket; something, and the connect of this UDP socket's record goes on by it
 pub data Own : Type 0 where
   Used : Own
   Unused : Own
   Names : ℕ → Own
   ToWrite : OpId → List ℕ → Own
+  ToConnect : ℕ → Own
 
 -- what a line's call on handles is on
 pub data CallKind : Type 0 where
@@ -23,11 +27,12 @@ pub data CallKind : Type 0 where
   OfPollables : CallKind
 
 -- what an accept has made so far: nothing, the record of what it took, or its handle too; the line whose call makes datagram
--- streams, the handle that they are made under, and the record that it is of; the line whose call on streams or on pollables is done, and the handles that it
--- named; the kind of a handle that was dropped, under which nothing was live; the record whose create is polled, which has no handle
--- yet; else nothing is said of it
+-- streams, the handle that they are made under, and the record that it is of, and the same once the incoming one was marked; the line
+-- whose call on streams or on pollables is done, and the handles that it named; the kind of a handle that was dropped, under which
+-- nothing was live; the record whose create is polled, which has no handle yet; else nothing is said of it
 pub data Made : Type 0 where
   ToStream : ℕ → ℕ → ℕ → Made
+  ToSend : ℕ → ℕ → ℕ → Made
   Calls : CallKind → ℕ → List ℕ → Made
   Emptied : Kind → Made
   Awaited : ℕ → Made
@@ -59,6 +64,39 @@ FoundUdp h place u = udp2_at h.machine.store.records place ≡ Some u
 -- other records
 abbrev pub with_records : Here → List Record → Here
 with_records h records = record h { machine = record h.machine { store = record h.machine.store { records = records } } }
+
+-- a connect of the record is pending
+abbrev pub IsConnectOf : StandingCall → ℕ → Type 0
+IsConnectOf (StandingCall.UdpConnect p handle) place = p ≡ place
+IsConnectOf _ place = ⊥
+
+abbrev pub ConnectStands : Option Standing → ℕ → Type 0
+ConnectStands None place = ⊥
+ConnectStands (Some s) place = IsConnectOf s.call place
+
+-- where that is taken out, the line goes on with it
+abbrev pub TakesOver : Here → Type 0
+TakesOver h = (place : ℕ) → ConnectStands h.machine.store.standing place → h.own ≡ ToConnect place
+
+-- none goes on at the record, or it is pending
+abbrev pub ConnectIsOver : Here → ℕ → Type 0
+ConnectIsOver h place = ((o : OpenUdp) (op : Operation) → FoundUdp h place (Udp2Socket.Open o) → o.connecting ≡ Some op → ⊥) ⊎ ConnectStands h.machine.store.standing place
+
+-- none goes on where no open socket is
+pub no_open : (h : Here) (place : ℕ) → open_at h.machine.store.records place ≡ None → (o : OpenUdp) (op : Operation) → FoundUdp h place (Udp2Socket.Open o) → o.connecting ≡ Some op → ⊥
+no_open h place e o op g c = absurd (let its : open_at h.machine.store.records place ≡ Some o = ap open_of g in cc)
+
+-- a call that is none takes over nothing
+abbrev pub NoConnectIn : StandingCall → Type 0
+NoConnectIn (StandingCall.UdpConnect place handle) = ⊥
+NoConnectIn _ = ⊤
+
+pub takes_none : (standing : Option Standing) (ids : Ids) (call : StandingCall) (own : Own) → standing ≡ Some (standing_as ids call) → NoConnectIn call → (place : ℕ) → ConnectStands standing place → own ≡ ToConnect place
+takes_none standing ids call own e n place k = absurd (by_call call n (subst (λ (o : Option Standing). ConnectStands o place) e k))
+  where
+    by_call : (call : StandingCall) → NoConnectIn call → IsConnectOf call place → ⊥
+    by_call (StandingCall.UdpConnect p handle) n k = n
+    by_call _ n k = k
 
 -- == what may be released
 -- no bind, listen, create or connect is pending
@@ -95,10 +133,40 @@ pub record IsCreated (h : Here) (place : ℕ) (u : Udp2Socket) : Type 0 where
   pub opens : IsOpenUdp u
 
 -- == datagram streams
--- The incoming stream of the record is new: it holds nothing, and keeps the remote address of its socket.
-pub record HasNewStream (records : List Record) (place : ℕ) : Type 0 where
+-- Its incoming stream is there where it was, or the handle of that is gone; and streams are there only where some were, or a line
+-- that has begun nothing makes them, while no start is pending.
+pub record KeepsStreams (h : Here) (place : ℕ) (old now : OpenUdp) : Type 0 where
+  pub incoming : (is_some old.incoming ≡ true → is_some now.incoming ≡ true) ⊎ (h.made ≡ Emptied (Incoming place))
+  pub makes : (has_streams now ≡ true → has_streams old ≡ true) ⊎ ((h.own ≡ Unused) × NoStart h)
+
+pub or_true : (b : Bool) → b || true ≡ true
+or_true true = refl
+or_true false = refl
+
+-- streams that are left were there
+pub in_gone : (o : OpenUdp) → has_streams (record o { incoming = None }) ≡ true → has_streams o ≡ true
+in_gone o some = rw some (or_true (is_some o.incoming))
+
+pub out_gone : (o : OpenUdp) → has_streams (record o { outgoing = None }) ≡ true → has_streams o ≡ true
+out_gone o some = by_incoming (is_some o.incoming) (is_some o.outgoing) some
+  where
+    by_incoming : (a b : Bool) → a || false ≡ true → a || b ≡ true
+    by_incoming true b e = refl
+    by_incoming false b e = absurd (cc)
+
+-- the handle that is made next: that of the incoming stream, and then that of the outgoing one
+abbrev pub MarksNext : Made → ℕ → ℕ → ℕ → Kind → ℕ → Type 0
+MarksNext made n handle reached kind place = ((kind ≡ Incoming place) × (made ≡ ToStream n handle reached)) ⊎ ((kind ≡ Outgoing place) × (made ≡ ToSend n handle reached))
+
+pub one_stream : (made : Made) (n handle reached : ℕ) (kind : Kind) (place : ℕ) → MarksNext made n handle reached kind place → (kind ≡ Incoming place) ⊎ (kind ≡ Outgoing place)
+one_stream made n handle reached kind place (inl m) = inl m.0
+one_stream made n handle reached kind place (inr m) = inr m.0
+
+-- The incoming stream of the record is new: it holds nothing, and keeps the remote address of its socket. No start is pending.
+pub record HasNewStream (store : Records) (place : ℕ) : Type 0 where
+  pub quiet : NoStartStands store.standing
   pub socket : OpenUdp
-  pub at : udp2_at records place ≡ Some (Udp2Socket.Open socket)
+  pub at : udp2_at store.records place ≡ Some (Udp2Socket.Open socket)
   pub new : socket.incoming ≡ Some (record { remote = socket.inner.remote; receiving = Receiving.Nothing })
 
 -- == names
@@ -113,6 +181,7 @@ IsOlder line Used x = x.step < line + 1
 IsOlder line Unused x = x.step < line
 IsOlder line (Names n) x = (x.step < line) ⊎ ((x.step ≡ line) × (x.part < n))
 IsOlder line (ToWrite side bytes) x = x.step < line + 1
+IsOlder line (ToConnect place) x = x.step < line + 1
 
 -- an operation of the line, beside its own, may be given the name yet
 abbrev pub IsToCome : ℕ → Own → OpId → Type 0
@@ -120,6 +189,7 @@ IsToCome line Used x = ⊥
 IsToCome line Unused x = (x.step ≡ line) × (1 ≤ x.part)
 IsToCome line (Names n) x = (x.step ≡ line) × (n ≤ x.part)
 IsToCome line (ToWrite side bytes) x = ⊥
+IsToCome line (ToConnect place) x = ⊥
 
 -- no name is lost, and none is given back
 abbrev pub Grows : ℕ → Own → Own → Type 0
@@ -134,12 +204,14 @@ older_used line Unused x o = omega arith
 older_used line (Names n) x (inl o) = omega arith
 older_used line (Names n) x (inr o) = let s : x.step ≡ line = o.0 in omega arith
 older_used line (ToWrite side bytes) x o = o
+older_used line (ToConnect place) x o = o
 
 pub older_unused : (line : ℕ) (own : Own) → Grows line Unused own
 older_unused line Used x o = omega arith
 older_unused line Unused x o = o
 older_unused line (Names n) x o = inl o
 older_unused line (ToWrite side bytes) x o = omega arith
+older_unused line (ToConnect place) x o = omega arith
 
 pub older_names : (line n m : ℕ) → n ≤ m → Grows line (Names n) (Names m)
 older_names line n m l x (inl o) = inl o
@@ -155,6 +227,7 @@ not_given line (Names n) x (inl o) t = let s : x.step ≡ line = t.0 in absurd (
 not_given line (Names n) x (inr o) t = let a = o.1 in let b = t.1 in absurd (omega (arith, a, b))
 not_given line Used x o t = t
 not_given line (ToWrite side bytes) x o t = t
+not_given line (ToConnect place) x o t = t
 
 -- where it is known what the line has begun
 pub grows_to : (line : ℕ) (own was now : Own) → own ≡ was → Grows line was now → Grows line own now

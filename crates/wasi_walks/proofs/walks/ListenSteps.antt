@@ -18,7 +18,7 @@ module _ {contexts : List WasiSocketsCtx} {line : ℕ} {origin : Step} {law : La
   -- == a listen
   start_listen_by_walks : (m : Machine) (place : ℕ) (r : Tcp2Socket) (idle : Bool) → is_nothing r.in_progress ≡ idle → Found (At line m place Unused) place r → IsListenStep origin → NoStartStands m.store.standing → Walks law (At line m place Unused) (Put line m place) (start_listen_by m.store (first_ids line) place r idle)
   start_listen_by_walks m place r true e g is q =
-      from (put_same (At line m place Unused) place r g) (and_given (WaitsSo (StandingCall.Listen place)) (begun_listen_given place (own_of line) r) (begin_listen_walks (there g) refl is refl q r e) (λ begun w. answered_walks m (first_ids line) (StandingCall.Listen place) begun (record { was = r; found = g }) w))
+      from (put_same (At line m place Unused) place r g) (and_given (WaitsSo (StandingCall.Listen place)) (begun_listen_given place (own_of line) r) (begin_listen_walks (there g) refl is refl q r e) (λ begun w. answered_walks m (first_ids line) (StandingCall.Listen place) q begun (record { was = r; found = g }) w))
   start_listen_by_walks m place r false e g is q = gives _ (Spends _ refl)
 
   pub start_listen_at_walks : (m : Machine) (place : ℕ) (o : Option Tcp2Socket) → tcp2_at m.store.records place ≡ o → IsListenStep origin → NoStartStands m.store.standing → Walks law (At line m place Unused) (Put line m place) (start_listen_at m.store (first_ids line) place o)

@@ -12,7 +12,7 @@ use Rattle.wasi_walks.proofs.Words.{side_at, side_of, standing_as, true, wildcar
 use Rattle.wasi_walks.proofs.Words.{with_progress, with_reader, with_state, with_writer, without_handle, writer_side, ℕ, ⊤}
 use Rattle.wasi_walks.proofs.Words.{◌≡◌, ◌⊎◌}
 use Rattle.wasi_world.specs.declared.ids.Ids.{Ids}
-pub use Rattle.wasi_walks.proofs.walks.Here.{HasNewStream, IsCreated, IsOpenUdp, NoStart, NoStartIn, NoStartStands, Releases, ReleasesUdp, CallKind, OfPollables, OfStreams, Found, FoundUdp, Here, Own, Names, ToWrite, Unused, Used, Made, Awaited, Calls, Emptied, Joined, Marked, Past, ToStream, Unmade, part_of, put, put_udp, with_records}
+pub use Rattle.wasi_walks.proofs.walks.Here.{ConnectIsOver, HasNewStream, KeepsStreams, MarksNext, TakesOver, one_stream, IsCreated, IsOpenUdp, NoStart, NoStartIn, NoStartStands, Releases, ReleasesUdp, CallKind, OfPollables, OfStreams, Found, FoundUdp, Here, Own, Names, ToConnect, ToWrite, Unused, Used, Made, Awaited, Calls, Emptied, Joined, Marked, Past, ToSend, ToStream, Unmade, part_of, put, put_udp, with_records}
 use Rattle.wasi_host.specs.Records.{tcp2_at, tcp2_put, tcp2_pushed, udp2_at, lookup_at, input_pipe_at, output_pipe_at}
 use Rattle.wasi_host.specs.declared.name_lookup.Lookup.TheVariants as lookup
 use Rattle.wasi_host.specs.declared.name_lookup.LookupOp.{LookupOp}
@@ -23,7 +23,7 @@ use Rattle.wasi_world.specs.declared.datagram.IncomingDatagram.{IncomingDatagram
 use Rattle.wasi_world.specs.declared.datagram.OutgoingDatagram.{OutgoingDatagram}
 use Rattle.wasi_world.specs.Operation.{Given, Waits, Done, Refused}
 use Rattle.wasi_host.specs.Binding.{left_of}
-use Rattle.wasi_host.specs.Datagrams.{sends, udp_connect_left, with_sending}
+use Rattle.wasi_host.specs.Datagrams.{has_streams, sends, udp_connect_left, with_sending}
 use Rattle.wasi_host.specs.Receiving.{receive_left, with_receiving}
 use Rattle.wasi_host.specs.declared.datagrams.Incoming.{Incoming as IncomingStream}
 use Rattle.wasi_host.specs.declared.datagrams.Outgoing.{Outgoing as OutgoingStream}
@@ -433,22 +433,24 @@ pub data Move (line : ℕ) (origin : Step) : Here → Here → Type 0 where
   Joins : (h : Here) (c handle place : ℕ) (r : Tcp2Socket) (l : Listener) (new : OpId) (peer : IpSocketAddress) → origin ≡ Step.TcpAccept c handle → record_of (kind_at h.machine.table handle) ≡ Some place → h.made ≡ Unmade → Found h place r → r.listening ≡ Accepts l → l.accept ≡ Accepting.Arrived new peer
       → Move line origin h (joining h (tcp2_put h.machine.store.records place (accepting_now r l Accepting.Idle)) (joined l new peer))
   -- a call is pending, by the line that asks; it is in progress; nothing is pending
-  Stands : (h : Here) (ids : Ids) (call : StandingCall) (r : Tcp2Socket) → h.at ≡ Some (call_place call, ids.line) → Found h (call_place call) r → GoesOn call r → Move line origin h (record h { machine = record h.machine { store = record h.machine.store { standing = Some (standing_as ids call) } } })
+  Stands : (h : Here) (ids : Ids) (call : StandingCall) (r : Tcp2Socket) → NoStart h → h.at ≡ Some (call_place call, ids.line) → Found h (call_place call) r → GoesOn call r → Move line origin h (record h { machine = record h.machine { store = record h.machine.store { standing = Some (standing_as ids call) } } })
   Resumes : (h : Here) (s : Standing) → h.machine.store.standing ≡ Some s → IsOfHandle s.call → Move line origin h (record h { at = Some (call_place s.call, s.ids.line) })
-  Unstands : (h : Here) → Move line origin h (record h { machine = record h.machine { store = record h.machine.store { standing = None } } })
+  Unstands : (h : Here) → TakesOver h → Move line origin h (record h { machine = record h.machine { store = record h.machine.store { standing = None } } })
   -- a UDP socket
-  UdpChanges : (h : Here) (place : ℕ) (o now : OpenUdp) → FoundUdp h place (Udp2Socket.Open o) → UdpPlain o now → Move line origin h (put_udp h place (Udp2Socket.Open now))
+  UdpChanges : (h : Here) (place : ℕ) (o now : OpenUdp) → FoundUdp h place (Udp2Socket.Open o) → UdpPlain o now → KeepsStreams h place o now → Move line origin h (put_udp h place (Udp2Socket.Open now))
   BeginsUdpBind : (h : Here) (place : ℕ) (o : OpenUdp) (a : IpSocketAddress) → h.at ≡ Some (place, line) → FoundUdp h place (Udp2Socket.Open o) → IsUdpBindTo a origin → is_udp_idle o.in_progress ≡ true → h.own ≡ Unused
       → Move line origin h (record (put_udp h place (Udp2Socket.Open (with_udp_progress o (UdpInProgress.Binding (begun_udp_bind (own_of line) o a))))) { own = Used })
-  StandsUdpBind : (h : Here) (ids : Ids) (place : ℕ) (o : OpenUdp) (op : Operation) → h.at ≡ Some (place, ids.line) → FoundUdp h place (Udp2Socket.Open o) → o.in_progress ≡ UdpInProgress.Binding op → Move line origin h (record h { machine = record h.machine { store = record h.machine.store { standing = Some (standing_as ids (StandingCall.UdpBind place)) } } })
-  StandsUdpCreate : (h : Here) (ids : Ids) (place : ℕ) (create : Create) → FoundUdp h place (Udp2Socket.Creating create) → Move line origin h (record h { machine = record h.machine { store = record h.machine.store { standing = Some (standing_as ids (StandingCall.UdpCreate place)) } } })
-  -- the datagram streams of a UDP socket: what they are made under, and the connect that comes before
-  RemembersStreams : (h : Here) (c handle place : ℕ) (remote : Option IpSocketAddress) → origin ≡ Step.UdpStream c handle remote → udp_of (kind_at h.machine.table handle) ≡ Some place → Move line origin h (record h { made = ToStream line handle place })
-  RecallsStreams : (h : Here) (ids : Ids) (place handle : ℕ) → h.machine.store.standing ≡ Some (standing_as ids (StandingCall.UdpConnect place handle)) → Move line origin h (record h { made = ToStream ids.line handle place })
-  BeginsUdpConnect : (h : Here) (place : ℕ) (o : OpenUdp) (a : IpSocketAddress) → h.at ≡ Some (place, line) → FoundUdp h place (Udp2Socket.Open o) → IsUdpConnectTo a origin → o.inner.bound ≡ true → h.own ≡ Unused
-      → Move line origin h (record (put_udp h place (Udp2Socket.Open (record o { connecting = Some (begun_udp_connect (own_of line) o a) }))) { own = Used })
-  StandsUdpConnect : (h : Here) (ids : Ids) (place handle : ℕ) (o : OpenUdp) (op : Operation) → h.at ≡ Some (place, ids.line) → h.made ≡ ToStream ids.line handle place → FoundUdp h place (Udp2Socket.Open o) → o.connecting ≡ Some op → Move line origin h (record h { machine = record h.machine { store = record h.machine.store { standing = Some (standing_as ids (StandingCall.UdpConnect place handle)) } } })
-  StandsDropOutgoing : (h : Here) (ids : Ids) (place : ℕ) (o : OpenUdp) → h.at ≡ Some (place, ids.line) → FoundUdp h place (Udp2Socket.Open o) → sends o.outgoing ≡ true → Move line origin h (record h { machine = record h.machine { store = record h.machine.store { standing = Some (standing_as ids (StandingCall.DropOutgoing place)) } } })
+  StandsUdpBind : (h : Here) (ids : Ids) (place : ℕ) (o : OpenUdp) (op : Operation) → NoStart h → h.at ≡ Some (place, ids.line) → FoundUdp h place (Udp2Socket.Open o) → o.in_progress ≡ UdpInProgress.Binding op → Move line origin h (record h { machine = record h.machine { store = record h.machine.store { standing = Some (standing_as ids (StandingCall.UdpBind place)) } } })
+  StandsUdpCreate : (h : Here) (ids : Ids) (place : ℕ) (create : Create) → NoStart h → FoundUdp h place (Udp2Socket.Creating create) → Move line origin h (record h { machine = record h.machine { store = record h.machine.store { standing = Some (standing_as ids (StandingCall.UdpCreate place)) } } })
+  -- the datagram streams of a UDP socket: what they are made under, and the connect that comes before, until it is over or pending
+  RemembersStreams : (h : Here) (c handle place : ℕ) (remote : Option IpSocketAddress) → origin ≡ Step.UdpStream c handle remote → udp_of (kind_at h.machine.table handle) ≡ Some place → (o : OpenUdp) → FoundUdp h place (Udp2Socket.Open o) → has_streams o ≡ false
+      → Move line origin h (record h { made = ToStream line handle place })
+  RecallsStreams : (h : Here) (ids : Ids) (place handle : ℕ) → h.machine.store.standing ≡ Some (standing_as ids (StandingCall.UdpConnect place handle)) → h.own ≡ Unused → Move line origin h (record h { made = ToStream ids.line handle place; own = ToConnect place })
+  BeginsUdpConnect : (h : Here) (place : ℕ) (o : OpenUdp) (a : IpSocketAddress) → h.at ≡ Some (place, line) → FoundUdp h place (Udp2Socket.Open o) → IsUdpConnectTo a origin → o.inner.bound ≡ true → has_streams o ≡ false → h.own ≡ Unused
+      → Move line origin h (record (put_udp h place (Udp2Socket.Open (record o { connecting = Some (begun_udp_connect (own_of line) o a) }))) { own = ToConnect place })
+  EndsConnect : (h : Here) (place : ℕ) → h.own ≡ ToConnect place → ConnectIsOver h place → Move line origin h (record h { own = Used })
+  StandsUdpConnect : (h : Here) (ids : Ids) (place handle : ℕ) (o : OpenUdp) (op : Operation) → NoStart h → h.at ≡ Some (place, ids.line) → h.made ≡ ToStream ids.line handle place → FoundUdp h place (Udp2Socket.Open o) → o.connecting ≡ Some op → Move line origin h (record h { machine = record h.machine { store = record h.machine.store { standing = Some (standing_as ids (StandingCall.UdpConnect place handle)) } } })
+  StandsDropOutgoing : (h : Here) (ids : Ids) (place : ℕ) (o : OpenUdp) → NoStart h → h.at ≡ Some (place, ids.line) → FoundUdp h place (Udp2Socket.Open o) → sends o.outgoing ≡ true → Move line origin h (record h { machine = record h.machine { store = record h.machine.store { standing = Some (standing_as ids (StandingCall.DropOutgoing place)) } } })
   -- accepts and datagrams: each has the next name of the line
   Counts : (h : Here) → h.own ≡ Unused → Move line origin h (record h { own = Names 1 })
   SpendsNames : (h : Here) (n : ℕ) → h.own ≡ Names n → Move line origin h (record h { own = Used })
@@ -459,7 +461,7 @@ pub data Move (line : ℕ) (origin : Step) : Here → Here → Type 0 where
   BeginsReceive : (h : Here) (place n : ℕ) (o : OpenUdp) (inc : IncomingStream) (bound : Bool) → h.at ≡ Some (place, line) → FoundUdp h place (Udp2Socket.Open o) → o.incoming ≡ Some inc → Receives origin → h.own ≡ Names n
       → Move line origin h (record (put_udp h place (Udp2Socket.Open (receiving_now o inc (receive_start (part_of line n) o.inner bound)))) { own = Names (n + 1) })
   -- calls on handles: that of the line, or the one that is pending, and the record of one of its handles; it is pending then
-  CallsHandles : (h : Here) (kind : CallKind) → IsCall kind origin → Move line origin h (record h { made = Calls kind line (handles_of origin) })
+  CallsHandles : (h : Here) (kind : CallKind) → IsCall kind origin → NoStart h → Move line origin h (record h { made = Calls kind line (handles_of origin) })
   RecallsCall : (h : Here) (ids : Ids) (call : BlockingCall) → h.machine.store.standing ≡ Some (standing_as ids (StandingCall.Blocking call)) → Move line origin h (record h { made = Calls (kind_of call) ids.line (blocking_handles call) })
   ReachesHandle : (h : Here) (kind : CallKind) (n handle place : ℕ) (handles : List ℕ) → h.made ≡ Calls kind n handles → Has handles handle → record_of (kind_at h.machine.table handle) ≡ Some place → Move line origin h (record h { at = Some (place, n) })
   StandsBlocking : (h : Here) (ids : Ids) (call : BlockingCall) (handles : List ℕ) → h.made ≡ Calls (kind_of call) ids.line handles → blocking_handles call ≡ handles → Move line origin h (record h { machine = record h.machine { store = record h.machine.store { standing = Some (standing_as ids (StandingCall.Blocking call)) } } })

@@ -4,17 +4,16 @@ use Rattle.wasi_walks.proofs.Words.{Allows, Ask, AskWrite, Asks, Call, End, Entr
 use Rattle.wasi_walks.proofs.Words.{Operation, Option, SocketAddressFamily, Some, Step, Streams, Tcp2, Tcp2Socket, TcpState, Told, WasiSocketsCtx, []}
 use Rattle.wasi_walks.proofs.Words.{after_local, create_asks, entry, give_up_asks, make_asks, own_of, poll_asks, side_at, side_of}
 use Rattle.wasi_walks.proofs.Words.{told_addr, told_done, true, turn_asks, with_inner, with_listening, with_writer, ℕ, ◌++◌, ◌∷◌, ◌≡◌}
-use Rattle.wasi_walks.proofs.walks.Moves.{HasNewStream, Here, Calls, OfStreams, record_of, LooksUp, SameSockets, with_records, put, put_udp, Found, FoundUdp, CreatesUdp, udp_begun, ToStream, part_of, NoStart, closed_record, Past, Joined, made_so, Held, IsQuestionOf, IsUdpQuestionOf, IsOn, Move, Marks, Creates, Used, Unused}
+use Rattle.wasi_walks.proofs.walks.Moves.{HasNewStream, Here, MarksNext, ToSend, Calls, OfStreams, record_of, LooksUp, SameSockets, with_records, put, put_udp, Found, FoundUdp, CreatesUdp, udp_begun, part_of, NoStart, closed_record, Past, Joined, made_so, Held, IsQuestionOf, IsUdpQuestionOf, IsOn, Move, Marks, Creates, Used, Unused}
 use Rattle.wasi_walks.proofs.walks.Failures.{Fails}
 use Rattle.wasi_walks.proofs.walks.Law.{Law}
-use Rattle.std.specs.Prelude.{◌⊎◌}
 use Rattle.wasi_host.specs.Kinds.{kind_at, udp_of}
 use Rattle.wasi_host.specs.Records.{tcp2_at, udp2_at, lookup_at}
 use Rattle.wasi_host.specs.declared.name_lookup.Lookup.TheVariants as lookup
 use Rattle.wasi_host.specs.declared.name_lookup.LookupOp.{LookupOp}
 use Rattle.wasi_host.specs.declared.records.Record.{Record}
 use Rattle.wasi_host.specs.UdpCreates.{udp_side_at}
-use Rattle.wasi_host.specs.declared.kind.Kind.TheVariants.{Udp2, Incoming, Outgoing}
+use Rattle.wasi_host.specs.declared.kind.Kind.TheVariants.{Udp2}
 use Rattle.wasi_host.specs.declared.udp.OpenUdp.{OpenUdp}
 use Rattle.wasi_host.specs.declared.udp.Udp2Socket.{Udp2Socket}
 use Rattle.wasi_host.specs.Udp.{udp_side, with_udp_inner}
@@ -62,8 +61,8 @@ pub record Above (contexts : List WasiSocketsCtx) (line : ℕ) (origin : Step) (
       → P es (own_of line) (Call.UdpCreate ctx.name family) × ((told : Told) → Fits (Call.UdpCreate ctx.name family) told → Inv (es ++ entry (own_of line) (Call.UdpCreate ctx.name family) told ∷ []) (udp_begun h (udp_after_create (own_of line) ctx.name family (told_done told))))
   pub udp_marks : (es : List Entry) (h : Here) (place : ℕ) (u : Udp2Socket) → IsCreated h place u → B es h → Inv es h
       → Allows P (λ fs made. Inv fs (record h { machine = record h.machine { table = made.1 }; made = Past })) es (make_asks h.machine.table (udp_side u) (Udp2 place) None (Some (udp_side u)))
-  pub stream_marks : (es : List Entry) (h : Here) (place n handle reached : ℕ) (kind : Kind) → h.made ≡ ToStream n handle reached → HasNewStream h.machine.store.records reached → (kind ≡ Incoming place) ⊎ (kind ≡ Outgoing place) → udp_of (kind_at h.machine.table handle) ≡ Some place → B es h → Inv es h
-      → Allows P (λ fs made. Inv fs (record h { machine = record h.machine { table = made.1 } })) es (make_asks h.machine.table (own_of n) kind (Some handle) (udp_side_at (udp2_at h.machine.store.records place)))
+  pub stream_marks : (es : List Entry) (h : Here) (place n handle reached : ℕ) (kind : Kind) → MarksNext h.made n handle reached kind place → HasNewStream h.machine.store reached → udp_of (kind_at h.machine.table handle) ≡ Some place → B es h → Inv es h
+      → Allows P (λ fs made. Inv fs (record h { machine = record h.machine { table = made.1 }; made = ToSend n handle reached })) es (make_asks h.machine.table (own_of n) kind (Some handle) (udp_side_at (udp2_at h.machine.store.records place)))
   pub error_marks : (es : List Entry) (h : Here) (n handle place : ℕ) (handles : List ℕ) → h.made ≡ Calls OfStreams n handles → Has handles handle → record_of (kind_at h.machine.table handle) ≡ Some place → Fails es h.machine n handle place → B es h → Inv es h
       → Allows P (λ fs made. Inv fs (record h { machine = record h.machine { table = made.1 } })) es (make_asks h.machine.table (own_of n) ErrorValue (Some handle) (side_at (tcp2_at h.machine.store.records place)))
   pub udp_gives_up : (es : List Entry) (h : Here) (place : ℕ) (create : Create) → NoStart h → FoundUdp h place (Udp2Socket.Creating create) → B es h → Inv es h
@@ -95,7 +94,7 @@ stand base a = record {
   udp_peers = λ es h place o at g i. let x = base.udp_peers es h place o at g i.0 in let y = a.udp_peers es h place o at g i.0 i.1 in (y.0, λ told f. (x.1 told f, y.1 told f));
   udp_closes = λ es h place o q g i. let x = base.udp_closes es h place o q g i.0 in let y = a.udp_closes es h place o q g i.0 i.1 in (y.0, λ told f. (x.1 told f, y.1 told f));
   udp_creates = λ es h ctx family c may t o m i. let x = base.udp_creates es h ctx family c may t o m i.0 in let y = a.udp_creates es h ctx family c may t o m i.0 i.1 in (y.0, λ told f. (x.1 told f, y.1 told f));
-  stream_marks = λ es h place n handle reached kind m new k e i. both a.P base.P _ _ es _ (a.stream_marks es h place n handle reached kind m new k e i.0 i.1) (base.stream_marks es h place n handle reached kind m new k e i.0);
+  stream_marks = λ es h place n handle reached kind m new e i. both a.P base.P _ _ es _ (a.stream_marks es h place n handle reached kind m new e i.0 i.1) (base.stream_marks es h place n handle reached kind m new e i.0);
   udp_marks = λ es h place u g i. both a.P base.P _ _ es _ (a.udp_marks es h place u g i.0 i.1) (base.udp_marks es h place u g i.0);
   error_marks = λ es h n handle place handles m k e f i. both a.P base.P _ _ es _ (a.error_marks es h n handle place handles m k e f i.0 i.1) (base.error_marks es h n handle place handles m k e f i.0);
   udp_gives_up = λ es h place create q g i. both a.P base.P _ _ es _ (a.udp_gives_up es h place create q g i.0 i.1) (base.udp_gives_up es h place create q g i.0);

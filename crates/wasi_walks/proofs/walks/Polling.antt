@@ -20,7 +20,7 @@ use Rattle.wasi_host.specs.declared.polling.Look.TheVariants.{First, Later}
 use Rattle.wasi_host.specs.declared.udp.OpenUdp.{OpenUdp}
 use Rattle.wasi_walks.specs.Licence.{Receives}
 use Rattle.wasi_walks.proofs.walks.Here.{after, after_names, part_after}
-use Rattle.wasi_walks.proofs.walks.Moves.{Calls, CallsHandles, Counts, Here, Leaves, LooksAtPollables, Names, OfPollables, Own, SpendsNames, StandsBlocking, Unused, Used}
+use Rattle.wasi_walks.proofs.walks.Moves.{Calls, CallsHandles, Counts, Here, Leaves, LooksAtPollables, Names, NoStartStands, OfPollables, Own, SpendsNames, StandsBlocking, Unused, Used}
 use Rattle.wasi_walks.proofs.walks.Law.{Law, Walks, and_then, ends, give, gives, move}
 use Rattle.wasi_walks.proofs.walks.Looks.{Looked, Looking, connecting_begins, names_from, ready_walks}
 use Rattle.wasi_walks.proofs.walks.States.{OverWith, Starts}
@@ -184,13 +184,13 @@ module _ {contexts : List WasiSocketsCtx} {line : ℕ} {origin : Step} (law : La
 
 module _ {contexts : List WasiSocketsCtx} {line : ℕ} {origin : Step} {law : Law contexts line origin} where
   -- == the looks of a line
-  pub looks_begin : {A : Type 0} {m : Machine} {end : A → Here} {asks : Asks A} → LooksAtPollables origin → Walks law (Looking line (handles_of origin) None (Names 1) m) end asks → Walks law (Starts m Unused) end asks
-  looks_begin is w = move (CallsHandles _ OfPollables is) (move (Counts _ refl) w)
+  pub looks_begin : {A : Type 0} {m : Machine} {end : A → Here} {asks : Asks A} → LooksAtPollables origin → NoStartStands m.store.standing → Walks law (Looking line (handles_of origin) None (Names 1) m) end asks → Walks law (Starts m Unused) end asks
+  looks_begin is q w = move (CallsHandles _ OfPollables is q) (move (Counts _ refl) w)
 
-  pub ready_asks_walks : (m : Machine) (p : ℕ) → Has (handles_of origin) p → LooksAtPollables origin → Receives origin → {A : Type 0} (reply : Result Bool Stop → A) → Walks law (Starts m Unused) OverWith (bind (look_at_pollable First m (names_from line 1) p) (λ done. Give (reply done.0, done.1)))
-  ready_asks_walks m p named is receives reply =
+  pub ready_asks_walks : (m : Machine) → NoStartStands m.store.standing → (p : ℕ) → Has (handles_of origin) p → LooksAtPollables origin → Receives origin → {A : Type 0} (reply : Result Bool Stop → A) → Walks law (Starts m Unused) OverWith (bind (look_at_pollable First m (names_from line 1) p) (λ done. Give (reply done.0, done.1)))
+  ready_asks_walks m q p named is receives reply =
       let l = look_walks law line (handles_of origin) First (refl, (λ q k. k), receives) None m 1 p named in
-      looks_begin is (and_then l.looked.walks (λ done. looks_end law line (handles_of origin) First l.looked.left l.next done.1 (gives _ (Leaves _))))
+      looks_begin is q (and_then l.looked.walks (λ done. looks_end law line (handles_of origin) First l.looked.left l.next done.1 (gives _ (Leaves _))))
 
   -- every handle is tested before
   poll_when_walks : Receives origin → (m : Machine) (pollables : List ℕ) → pollables ≡ handles_of origin → (b : Bool) → Walks law (Looking line (handles_of origin) None (Names 1) m) OverWith (poll_when m (names_from line 1) pollables b)

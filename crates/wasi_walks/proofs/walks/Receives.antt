@@ -15,6 +15,7 @@ use Rattle.wasi_host.specs.UdpCalls.{with_open_udp}
 use Rattle.wasi_host.specs.declared.datagrams.Incoming.{Incoming}
 use Rattle.wasi_host.specs.declared.datagrams.Receiving.{Receiving}
 use Rattle.wasi_host.specs.declared.jobs.HostJob.TheVariants.{Receive}
+use Rattle.wasi_host.specs.declared.kind.Kind.TheVariants as kinds
 use Rattle.wasi_host.specs.declared.records.Record.{Record}
 use Rattle.wasi_host.specs.declared.udp.OpenUdp.{OpenUdp}
 use Rattle.wasi_host.specs.declared.udp.Udp2Socket.{Udp2Socket}
@@ -23,10 +24,11 @@ use Rattle.wasi_udp.specs.Receive.{receive_asks, receive_start}
 use Rattle.wasi_udp.specs.Shape.{Socket}
 use Rattle.wasi_udp.specs.Socket.{bound_asks}
 use Rattle.wasi_walks.specs.Licence.{Receives}
+use Rattle.wasi_walks.proofs.walks.Here.{in_gone}
 use Rattle.wasi_walks.proofs.walks.Moves.{Here, Names, Used, Unused, put_udp, FoundUdp, UdpPlain, receiving_in, receive_op, came_from, came_in, came_of, part_of, Leaves, Spends, SpendsNames, Counts, Lists, UdpChanges, BeginsReceive}
 use Rattle.wasi_walks.proofs.walks.Law.{Law, Walks, Given, given_along, give, and_then, and_given, move, gives, from}
 use Rattle.wasi_walks.proofs.walks.Sends.{listed_walks}
-use Rattle.wasi_walks.proofs.walks.States.{At, OverWith, Put, Sets, Starts, given_any, incoming_record}
+use Rattle.wasi_walks.proofs.walks.States.{At, Emptying, OverWith, Put, Sets, Starts, given_any, incoming_record}
 use Rattle.wasi_walks.proofs.walks.Udp.{open_is, on_udp, part_bound_walks, udp_there}
 use Rattle.wasi_walks.proofs.walks.UdpLaw.{HasUdp, udp_put_put, udp_put_same, udp_found, poll_receive_walks}
 
@@ -80,7 +82,7 @@ module _ {contexts : List WasiSocketsCtx} {line : ℕ} {origin : Step} {law : La
     takes_walks o n s receiving e w =
         let was : OpenUdp = with_incoming o s in
         let inc : Incoming = with_receiving s.1 (taken receiving).1 in
-        move (UdpChanges _ place was (record was { incoming = Some inc }) (udp_found here (Udp2Socket.Open was)) (plain receiving e))
+        move (UdpChanges _ place was (record was { incoming = Some inc }) (udp_found here (Udp2Socket.Open was)) (plain receiving e) (record { incoming = inl (λ some. refl); makes = inl (λ some. refl) }))
         (from (ap (λ (x : Here). record x { own = Names n }) (sym (udp_put_put h place (Udp2Socket.Open was) (Udp2Socket.Open (record was { incoming = Some inc }))))) w)
       where
         plain : (receiving : Receiving) → s.1.receiving ≡ receiving → UdpPlain (with_incoming o s) (record (with_incoming o s) { incoming = Some (with_receiving s.1 (taken receiving).1) })
@@ -176,7 +178,7 @@ module _ {contexts : List WasiSocketsCtx} {line : ℕ} {origin : Step} {law : La
       from (udp_put_same (Sets m records) place (Udp2Socket.Open o) g) (and_then (turn_in (udp_there {h = Sets m records} g) o o.incoming refl) (λ now. give _))
 
   -- == a drop
-  pub drop_incoming_walks : (m : Machine) (place : ℕ) (o : Option OpenUdp) → open_at m.store.records place ≡ o → Walks law (At line m place Unused) OverWith (Give (answered (with_store m (at_once (drop_incoming_at m.store place o)))))
+  pub drop_incoming_walks : (m : Machine) (place : ℕ) (o : Option OpenUdp) → open_at m.store.records place ≡ o → Walks law (Emptying line m place (kinds.Incoming place) Unused) OverWith (Give (answered (with_store m (at_once (drop_incoming_at m.store place o)))))
   drop_incoming_walks m place None e = move (Spends _ refl) (gives _ (Leaves _))
   drop_incoming_walks m place (Some o) e =
-      move (UdpChanges _ place o (record o { incoming = None }) (open_is (udp2_at m.store.records place) o e) (idle_in o None refl refl)) (move (Spends _ refl) (move (Leaves _) (gives _ (Lists _ _))))
+      move (UdpChanges _ place o (record o { incoming = None }) (open_is (udp2_at m.store.records place) o e) (idle_in o None refl refl) (record { incoming = inr refl; makes = inl (λ some. in_gone o some) })) (move (Spends _ refl) (move (Leaves _) (gives _ (Lists _ _))))

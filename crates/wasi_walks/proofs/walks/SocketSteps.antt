@@ -40,16 +40,16 @@ module _ {contexts : List WasiSocketsCtx} {line : ℕ} {origin : Step} {law : La
       from here (and_then (k r (there g)) (λ done. from (sym here) (gives _ (Spends _ refl))))
 
   -- a call that may stand was answered
-  pub answered_walks : (m : Machine) (ids : Ids) (call : StandingCall) (begun : Result (Answer (Unit {0})) ErrorCode × Tcp2Socket) → HasRecord (At ids.line m (call_place call) Used) (call_place call) → WaitsSo call begun
+  pub answered_walks : (m : Machine) (ids : Ids) (call : StandingCall) → NoStartStands m.store.standing → (begun : Result (Answer (Unit {0})) ErrorCode × Tcp2Socket) → HasRecord (At ids.line m (call_place call) Used) (call_place call) → WaitsSo call begun
       → Walks law (put (At ids.line m (call_place call) Used) (call_place call) begun.1) (Put ids.line m (call_place call)) (Give (call_answered m.store ids call begun))
-  answered_walks m ids call (Ok Pending, r) here waits = gives _ (Stands _ ids call r refl (found here r) waits)
-  answered_walks m ids call _ here waits = give _
+  answered_walks m ids call q (Ok Pending, r) here waits = gives _ (Stands _ ids call r q refl (found here r) waits)
+  answered_walks m ids call q _ here waits = give _
 
   -- == a bind
   start_by_walks : (m : Machine) (place : ℕ) (a : IpSocketAddress) (r : Tcp2Socket) (idle : Bool) → is_nothing r.in_progress ≡ idle → Found (At line m place Unused) place r → IsBindTo a origin → NoStartStands m.store.standing → Walks law (At line m place Unused) (Put line m place) (start_bind_by m.store (first_ids line) place a r idle)
   start_by_walks m place a r true e g to q =
       from (put_same (At line m place Unused) place r g)
-      (and_given (WaitsSo (StandingCall.Bind place)) (begun_bind_given place (own_of line) r a) (begin_bind_walks (there g) refl a to refl q r e) (λ begun w. answered_walks m (first_ids line) (StandingCall.Bind place) begun (record { was = r; found = g }) w))
+      (and_given (WaitsSo (StandingCall.Bind place)) (begun_bind_given place (own_of line) r a) (begin_bind_walks (there g) refl a to refl q r e) (λ begun w. answered_walks m (first_ids line) (StandingCall.Bind place) q begun (record { was = r; found = g }) w))
   start_by_walks m place a r false e g to q = gives _ (Spends _ refl)
 
   start_at_walks : (m : Machine) (place : ℕ) (a : IpSocketAddress) (o : Option Tcp2Socket) → tcp2_at m.store.records place ≡ o → IsBindTo a origin → NoStartStands m.store.standing → Walks law (At line m place Unused) (Put line m place) (start_bind_at m.store (first_ids line) place a o)

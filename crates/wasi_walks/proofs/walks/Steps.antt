@@ -13,7 +13,9 @@ use Rattle.wasi_steps.specs.Settings.{AnOption}
 use Rattle.wasi_walks.specs.Licence.{IsSetTo, SetsOption, SetsBacklog}
 use Rattle.std.specs.Prelude.{⊤, ◌⊎◌}
 use Rattle.wasi_walks.proofs.walks.Writes.{may, AsLet}
-use Rattle.wasi_walks.proofs.walks.Moves.{CallsHandles, Here, IsStreamCall, NoStartStands, OfStreams, RecallsCall, IsSettled, Own, Unused, ANetwork, Spends, Used, Leaves, RecallsStreams, Resumes, Unstands}
+use Rattle.wasi_walks.proofs.Words.{ap}
+use Rattle.wasi_walks.proofs.walks.Here.{ConnectStands, takes_none}
+use Rattle.wasi_walks.proofs.walks.Moves.{ToConnect, CallsHandles, Here, IsStreamCall, NoStartStands, OfStreams, RecallsCall, IsSettled, Own, Unused, ANetwork, Spends, Used, Leaves, RecallsStreams, Resumes, Unstands}
 use Rattle.wasi_walks.proofs.walks.Law.{BeginsWrites, Law, Walks, give, and_then, and_given, by_if, move, gives, mark, create, put_same, from}
 use Rattle.wasi_walks.proofs.walks.Sockets.{WaitsSo, get_walks, listen_given, poll_bind_walks, poll_listen_walks, polled_given}
 use Rattle.wasi_walks.proofs.walks.Streams.{subscribe_walks, drop_walks, turn_walks, drop_output_walks}
@@ -91,13 +93,13 @@ module _ {contexts : List WasiSocketsCtx} {line : ℕ} {origin : Step} {law : La
     rebind_walks place None g = give _
     rebind_walks place (Some r) g =
         from (put_same (At ids.line m place Used) place r g)
-        (and_given (WaitsSo (StandingCall.Bind place)) (polled_given place r r.in_progress) (poll_bind_walks (there g) quiet r) (λ done w. answered_walks m ids (StandingCall.Bind place) done (there g) w))
+        (and_given (WaitsSo (StandingCall.Bind place)) (polled_given place r r.in_progress) (poll_bind_walks (there g) quiet r) (λ done w. answered_walks m ids (StandingCall.Bind place) quiet done (there g) w))
 
     relisten_walks : (place : ℕ) (o : Option Tcp2Socket) → tcp2_at m.store.records place ≡ o → Walks law (At ids.line m place Used) (Put ids.line m place) (relisten_at m.store ids place o)
     relisten_walks place None g = give _
     relisten_walks place (Some r) g =
         from (put_same (At ids.line m place Used) place r g)
-        (and_given (WaitsSo (StandingCall.Listen place)) (listen_given place r) (poll_listen_walks (there g) quiet r) (λ done w. answered_walks m ids (StandingCall.Listen place) done (there g) w))
+        (and_given (WaitsSo (StandingCall.Listen place)) (listen_given place r) (poll_listen_walks (there g) quiet r) (λ done w. answered_walks m ids (StandingCall.Listen place) quiet done (there g) w))
 
     -- what was answered, and nothing is worked on any more
     gone_on_walks : (place : ℕ) (done : Result (Answer (Unit {0})) Stop × Records) → Walks law (Put ids.line m place done) OverWith (Give (gone_on (with_store m done)))
@@ -112,9 +114,9 @@ module _ {contexts : List WasiSocketsCtx} {line : ℕ} {origin : Step} {law : La
     go_on_walks : (call : StandingCall) → MakesNoHandle call → Walks law (At ids.line m (call_place call) Used) OverWith (go_on m ids call)
     go_on_walks (StandingCall.Bind place) k = and_then (rebind_walks place (tcp2_at m.store.records place) refl) (gone_on_walks place)
     go_on_walks (StandingCall.Listen place) k = and_then (relisten_walks place (tcp2_at m.store.records place) refl) (gone_on_walks place)
-    go_on_walks (StandingCall.DropOutput place) k = and_then (drop_output_walks ids place m (tcp2_at m.store.records place) refl) (λ done. gone_on_walks place (allowed_answer done))
+    go_on_walks (StandingCall.DropOutput place) k = and_then (drop_output_walks ids place m quiet (tcp2_at m.store.records place) refl) (λ done. gone_on_walks place (allowed_answer done))
     go_on_walks (StandingCall.UdpBind place) k = and_then (rebind_udp_walks ids m quiet place (open_at m.store.records place) refl) (gone_on_walks place)
-    go_on_walks (StandingCall.DropOutgoing place) k = drop_outgoing_walks ids m place (λ done. gone_on (with_store m (allowed_answer done))) (dropped_so m)
+    go_on_walks (StandingCall.DropOutgoing place) k = drop_outgoing_walks ids m place quiet (λ done. gone_on (with_store m (allowed_answer done))) (dropped_so m)
     go_on_walks (StandingCall.UdpCreate place) k = absurd k
     go_on_walks (StandingCall.UdpConnect place handle) k = absurd k
     go_on_walks (StandingCall.Blocking call) k = absurd k
@@ -123,7 +125,7 @@ module _ {contexts : List WasiSocketsCtx} {line : ℕ} {origin : Step} {law : La
     streamed_walks (Ok answer, m) = give _
     streamed_walks (Err why, m) = give _
 
-    streams_go_on : (place handle : ℕ) → Walks law (Streaming ids.line m place handle Used) OverWith (go_on m ids (StandingCall.UdpConnect place handle))
+    streams_go_on : (place handle : ℕ) → Walks law (Streaming ids.line m place handle (ToConnect place)) OverWith (go_on m ids (StandingCall.UdpConnect place handle))
     streams_go_on place handle = and_then (streams_again ids m place handle quiet) streamed_walks
 
     create_goes_on : (place : ℕ) → Walks law (Over m) OverWith (go_on m ids (StandingCall.UdpCreate place))
@@ -135,14 +137,14 @@ module _ {contexts : List WasiSocketsCtx} {line : ℕ} {origin : Step} {law : La
 
   -- the call is taken out, and continues
   taken_walks : (m : Machine) (ids : Ids) (call : StandingCall) → MayContinue law call → m.store.standing ≡ Some (standing_as ids call) → Walks law (Starts m Unused) OverWith (go_on (record m { store = unstood m.store }) ids call)
-  taken_walks m ids (StandingCall.UdpCreate place) lets e = move (Unstands _) (move (Spends _ refl) (create_goes_on ids (record m { store = unstood m.store }) tt place))
-  taken_walks m ids (StandingCall.Blocking call) lets e = move (RecallsCall _ ids call e) (move (Unstands _) (move (Spends _ refl) (unblock_walks ids (record m { store = unstood m.store }) call lets)))
-  taken_walks m ids (StandingCall.UdpConnect place handle) lets e = move (Resumes _ (standing_as ids (StandingCall.UdpConnect place handle)) e tt) (move (RecallsStreams _ ids place handle e) (move (Unstands _) (move (Spends _ refl) (streams_go_on ids (record m { store = unstood m.store }) tt place handle))))
-  taken_walks m ids (StandingCall.DropOutgoing place) lets e = move (Resumes _ (standing_as ids (StandingCall.DropOutgoing place)) e tt) (move (Unstands _) (move (Spends _ refl) (go_on_walks ids (record m { store = unstood m.store }) tt (StandingCall.DropOutgoing place) tt)))
-  taken_walks m ids (StandingCall.Bind place) lets e = move (Resumes _ (standing_as ids (StandingCall.Bind place)) e tt) (move (Unstands _) (move (Spends _ refl) (go_on_walks ids (record m { store = unstood m.store }) tt (StandingCall.Bind place) tt)))
-  taken_walks m ids (StandingCall.Listen place) lets e = move (Resumes _ (standing_as ids (StandingCall.Listen place)) e tt) (move (Unstands _) (move (Spends _ refl) (go_on_walks ids (record m { store = unstood m.store }) tt (StandingCall.Listen place) tt)))
-  taken_walks m ids (StandingCall.DropOutput place) lets e = move (Resumes _ (standing_as ids (StandingCall.DropOutput place)) e tt) (move (Unstands _) (move (Spends _ refl) (go_on_walks ids (record m { store = unstood m.store }) tt (StandingCall.DropOutput place) tt)))
-  taken_walks m ids (StandingCall.UdpBind place) lets e = move (Resumes _ (standing_as ids (StandingCall.UdpBind place)) e tt) (move (Unstands _) (move (Spends _ refl) (go_on_walks ids (record m { store = unstood m.store }) tt (StandingCall.UdpBind place) tt)))
+  taken_walks m ids (StandingCall.UdpCreate place) lets e = move (Unstands _ (takes_none m.store.standing ids (StandingCall.UdpCreate place) Unused e tt)) (move (Spends _ refl) (create_goes_on ids (record m { store = unstood m.store }) tt place))
+  taken_walks m ids (StandingCall.Blocking call) lets e = move (RecallsCall _ ids call e) (move (Unstands _ (takes_none m.store.standing ids (StandingCall.Blocking call) Unused e tt)) (move (Spends _ refl) (unblock_walks ids (record m { store = unstood m.store }) call lets)))
+  taken_walks m ids (StandingCall.UdpConnect place handle) lets e = move (Resumes _ (standing_as ids (StandingCall.UdpConnect place handle)) e tt) (move (RecallsStreams _ ids place handle e refl) (move (Unstands _ (λ p k. ap (λ (x : ℕ). ToConnect x) (subst (λ (o : Option Standing). ConnectStands o p) e k))) (streams_go_on ids (record m { store = unstood m.store }) tt place handle)))
+  taken_walks m ids (StandingCall.DropOutgoing place) lets e = move (Resumes _ (standing_as ids (StandingCall.DropOutgoing place)) e tt) (move (Unstands _ (takes_none m.store.standing ids (StandingCall.DropOutgoing place) Unused e tt)) (move (Spends _ refl) (go_on_walks ids (record m { store = unstood m.store }) tt (StandingCall.DropOutgoing place) tt)))
+  taken_walks m ids (StandingCall.Bind place) lets e = move (Resumes _ (standing_as ids (StandingCall.Bind place)) e tt) (move (Unstands _ (takes_none m.store.standing ids (StandingCall.Bind place) Unused e tt)) (move (Spends _ refl) (go_on_walks ids (record m { store = unstood m.store }) tt (StandingCall.Bind place) tt)))
+  taken_walks m ids (StandingCall.Listen place) lets e = move (Resumes _ (standing_as ids (StandingCall.Listen place)) e tt) (move (Unstands _ (takes_none m.store.standing ids (StandingCall.Listen place) Unused e tt)) (move (Spends _ refl) (go_on_walks ids (record m { store = unstood m.store }) tt (StandingCall.Listen place) tt)))
+  taken_walks m ids (StandingCall.DropOutput place) lets e = move (Resumes _ (standing_as ids (StandingCall.DropOutput place)) e tt) (move (Unstands _ (takes_none m.store.standing ids (StandingCall.DropOutput place) Unused e tt)) (move (Spends _ refl) (go_on_walks ids (record m { store = unstood m.store }) tt (StandingCall.DropOutput place) tt)))
+  taken_walks m ids (StandingCall.UdpBind place) lets e = move (Resumes _ (standing_as ids (StandingCall.UdpBind place)) e tt) (move (Unstands _ (takes_none m.store.standing ids (StandingCall.UdpBind place) Unused e tt)) (move (Spends _ refl) (go_on_walks ids (record m { store = unstood m.store }) tt (StandingCall.UdpBind place) tt)))
 
   pub resume_walks : (m : Machine) (n : ℕ) (o : Option Standing) → call_of m.store.standing n ≡ o → BeginsWrites law ⊎ ResumesSimply m.store.standing → Walks law (Starts m Unused) OverWith (resume_call m o)
   resume_walks m n None e lets = gives _ (Spends _ refl)
@@ -152,11 +154,11 @@ module _ {contexts : List WasiSocketsCtx} {line : ℕ} {origin : Step} {law : La
 
   -- == the calls on streams of a line
   -- the line's own handles, where nothing is written, or where that was begun
-  pub calls : {A : Type 0} {own : Own} {m : Machine} {end : A → Here} {asks : Asks A} → IsStreamCall origin → Walks law (Calling line (handles_of origin) None own m) end asks → Walks law (Starts m own) end asks
-  calls is w = move (CallsHandles _ OfStreams is) w
+  pub calls : {A : Type 0} {own : Own} {m : Machine} {end : A → Here} {asks : Asks A} → IsStreamCall origin → NoStartStands m.store.standing → Walks law (Calling line (handles_of origin) None own m) end asks → Walks law (Starts m own) end asks
+  calls is q w = move (CallsHandles _ OfStreams is q) w
 
-  pub begun_calls : {A : Type 0} {m : Machine} {end : A → Here} {asks : Asks A} → IsStreamCall origin → Walks law (Calling line (handles_of origin) None Used m) end asks → Walks law (Starts m Unused) end asks
-  begun_calls is w = calls is (move (Spends _ refl) w)
+  pub begun_calls : {A : Type 0} {m : Machine} {end : A → Here} {asks : Asks A} → IsStreamCall origin → NoStartStands m.store.standing → Walks law (Calling line (handles_of origin) None Used m) end asks → Walks law (Starts m Unused) end asks
+  begun_calls is q w = calls is q (move (Spends _ refl) w)
 
 -- what a set sets, by what its setting chooses
 option_set : (c s : ℕ) (setting : TcpSetting) (option : Opt) (value : ℕ) → chosen setting ≡ AnOption option value → IsSetTo option (value_set option value) (Step.TcpSet c s setting)
@@ -210,14 +212,14 @@ step_walks line (Step.UdpSend c outgoing ds) m b f = and_then (send_walks m c ou
 step_walks line (Step.Resolve c network name) m b f = and_then (resolve_walks m c network name refl) (λ done. give _)
 step_walks line (Step.ResolveNext c lookup) m b f = as_left (next_address_walks m (lookup_number m lookup))
 step_walks line (Step.NetworkErrorCode c e) m b f = gives _ (Spends _ refl)
-step_walks line (Step.Read c input len) m b f = and_then (begun_calls tt (calls_over (read_asks_walks m input (inl refl) len))) (λ done. give _)
-step_walks line (Step.CheckWrite c output) m b f = and_then (begun_calls tt (calls_over (check_asks_walks m output (inl refl)))) (λ done. give _)
-step_walks line (Step.Write c output bytes) m b f = and_then (calls tt (calls_over (write_asks_walks m output (inl refl) bytes (AsLet refl)))) (λ done. give _)
-step_walks line (Step.Flush c output) m b f = and_then (begun_calls tt (calls_over (flushed_asks_walks m output (inl refl)))) (λ done. give _)
+step_walks line (Step.Read c input len) m b f = and_then (begun_calls tt (none_stands (f refl)) (calls_over (read_asks_walks m input (inl refl) len))) (λ done. give _)
+step_walks line (Step.CheckWrite c output) m b f = and_then (begun_calls tt (none_stands (f refl)) (calls_over (check_asks_walks m output (inl refl)))) (λ done. give _)
+step_walks line (Step.Write c output bytes) m b f = and_then (calls tt (none_stands (f refl)) (calls_over (write_asks_walks m output (inl refl) bytes (AsLet refl)))) (λ done. give _)
+step_walks line (Step.Flush c output) m b f = and_then (begun_calls tt (none_stands (f refl)) (calls_over (flushed_asks_walks m output (inl refl)))) (λ done. give _)
 step_walks line (Step.Subscribe c s) m b f = and_then (subscribe_walks c s m (watched_by (kind_at m.table s)) refl refl) (λ done. give _)
-step_walks line (Step.Ready c p) m b f = ready_asks_walks m p (inl refl) tt tt _
-step_walks line (Step.Block c p) {law = law} m b f = and_then (looks_begin tt (block_walks law line (p ∷ []) First (refl, (λ q k. k), tt) p refl m 1)) (λ done. give _)
-step_walks line (Step.PollList c ps) m b f = and_then (looks_begin tt (poll_asks_walks tt m ps (sym (append-nil ps)))) (λ done. give _)
+step_walks line (Step.Ready c p) m b f = ready_asks_walks m (none_stands (f refl)) p (inl refl) tt tt _
+step_walks line (Step.Block c p) {law = law} m b f = and_then (looks_begin tt (none_stands (f refl)) (block_walks law line (p ∷ []) First (refl, (λ q k. k), tt) p refl m 1)) (λ done. give _)
+step_walks line (Step.PollList c ps) m b f = and_then (looks_begin tt (none_stands (f refl)) (poll_asks_walks tt m ps (sym (append-nil ps)))) (λ done. give _)
 step_walks line (Step.Drop c this) m b f = and_then (drop_walks m this (kind_at m.table this) (inl refl) refl (none_stands (f refl))) (λ done. give _)
 step_walks line (Step.PipeIn c bytes) m b f = and_then (input_pipe_walks m bytes tt) (λ done. give _)
 step_walks line (Step.PipeOut c capacity) m b f = and_then (output_pipe_walks m capacity tt) (λ done. give _)
@@ -225,20 +227,20 @@ step_walks line (Step.PipeContents c output) m b f = gives _ (Spends _ refl)
 step_walks line (Step.Sink c) m b f = and_then (plain_walks m (PlainOutput plain_output.Sink) tt) (λ done. give _)
 step_walks line (Step.ClosedIn c) m b f = and_then (plain_walks m (PlainInput plain_input.Closed) tt) (λ done. give _)
 step_walks line (Step.ClosedOut c) m b f = and_then (plain_walks m (PlainOutput plain_output.Closed) tt) (λ done. give _)
-step_walks line (Step.Skip c input len) m b f = and_then (begun_calls tt (calls_over (skip_asks_walks m input (inl refl) len))) (λ done. give _)
-step_walks line (Step.WriteZeroes c output len) m b f = and_then (calls tt (calls_over (write_asks_walks m output (inl refl) (zeros len) (AsLet refl)))) (λ done. give _)
-step_walks line (Step.Splice c output input len) m (inl begins) f = and_then (begun_calls tt (splice_walks begins output input (inl refl) (inr (inl refl)) m len)) (λ done. give _)
+step_walks line (Step.Skip c input len) m b f = and_then (begun_calls tt (none_stands (f refl)) (calls_over (skip_asks_walks m input (inl refl) len))) (λ done. give _)
+step_walks line (Step.WriteZeroes c output len) m b f = and_then (calls tt (none_stands (f refl)) (calls_over (write_asks_walks m output (inl refl) (zeros len) (AsLet refl)))) (λ done. give _)
+step_walks line (Step.Splice c output input len) m (inl begins) f = and_then (begun_calls tt (none_stands (f refl)) (splice_walks begins output input (inl refl) (inr (inl refl)) m len)) (λ done. give _)
 step_walks line (Step.Splice c output input len) m (inr none) f = absurd none
-step_walks line (Step.BlockingRead c input len) m b f = and_then (begun_calls tt (blocking_read_walks (first_ids line) input len m)) (λ done. give _)
-step_walks line (Step.BlockingSkip c input len) m b f = and_then (begun_calls tt (blocking_skip_walks (first_ids line) input len m)) (λ done. give _)
-step_walks line (Step.BlockingWrite c output bytes) m (inl begins) f = and_then (begun_calls tt (blocking_write_walks (first_ids line) output begins m bytes)) (λ done. give _)
+step_walks line (Step.BlockingRead c input len) m b f = and_then (begun_calls tt (none_stands (f refl)) (blocking_read_walks (first_ids line) input len m)) (λ done. give _)
+step_walks line (Step.BlockingSkip c input len) m b f = and_then (begun_calls tt (none_stands (f refl)) (blocking_skip_walks (first_ids line) input len m)) (λ done. give _)
+step_walks line (Step.BlockingWrite c output bytes) m (inl begins) f = and_then (begun_calls tt (none_stands (f refl)) (blocking_write_walks (first_ids line) output begins m bytes)) (λ done. give _)
 step_walks line (Step.BlockingWrite c output bytes) m (inr none) f = absurd none
-step_walks line (Step.BlockingZeroes c output len) m (inl begins) f = and_then (begun_calls tt (blocking_zeroes_walks (first_ids line) output begins m len)) (λ done. give _)
+step_walks line (Step.BlockingZeroes c output len) m (inl begins) f = and_then (begun_calls tt (none_stands (f refl)) (blocking_zeroes_walks (first_ids line) output begins m len)) (λ done. give _)
 step_walks line (Step.BlockingZeroes c output len) m (inr none) f = absurd none
-step_walks line (Step.BlockingFlush c output) m b f = and_then (begun_calls tt (blocking_flush_walks (first_ids line) output m)) (λ done. give _)
-step_walks line (Step.BlockingSplice c output input len) m (inl begins) f = and_then (begun_calls tt (blocking_splice_walks (first_ids line) begins output input len m)) (λ done. give _)
+step_walks line (Step.BlockingFlush c output) m b f = and_then (begun_calls tt (none_stands (f refl)) (blocking_flush_walks (first_ids line) output m)) (λ done. give _)
+step_walks line (Step.BlockingSplice c output input len) m (inl begins) f = and_then (begun_calls tt (none_stands (f refl)) (blocking_splice_walks (first_ids line) begins output input len m)) (λ done. give _)
 step_walks line (Step.BlockingSplice c output input len) m (inr none) f = absurd none
-step_walks line (Step.Cancel n) m b f = and_then (cancel_walks m (call_of m.store.standing n)) (λ done. give _)
+step_walks line (Step.Cancel n) m b f = and_then (cancel_walks m n (call_of m.store.standing n) refl) (λ done. give _)
 step_walks line Step.Turn m b f = and_then (turn_walks m) (λ done. give _)
 step_walks line (Step.Poll n) m b f = and_then (resume_walks m n (call_of m.store.standing n) refl b) (λ done. give _)
 

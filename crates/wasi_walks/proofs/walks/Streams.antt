@@ -159,7 +159,7 @@ module _ {contexts : List WasiSocketsCtx} {line : ℕ} {origin : Step} {law : La
       elim may [
         | AsLet free ↦ move (BeginsWrite (put h place old) place n old was half permit bytes at (found here old) refl refl t free) goes
         | AsNone used none ↦ absurd (cc)
-        | AsAny used law_begins ↦ record { along = λ es i. goes.along es (law_begins.begins es (put h place old) place n old was half permit bytes at (found here old) refl refl t i) }
+        | AsAny used law_begins ↦ record { along = λ es i. goes.along es (law_begins.begins es (put h place old) place n old was half permit bytes at (found here old) refl refl t used i) }
       ]
 
   within_walks : (r : Tcp2Socket) (s : Streams) (half : TcpSendStream) (permit b : ℕ) (bytes : List ℕ) (past : Bool) → nat_lt permit (length (b ∷ bytes)) ≡ past → (let own : Own = if past then Unused else ToWrite half.side (b ∷ bytes) in MayWrite law h.own own)
@@ -210,15 +210,15 @@ module _ {contexts : List WasiSocketsCtx} {line : ℕ} {origin : Step} {law : La
     wait_walks m r here None e = give _
     wait_walks m r here (Some s) e = from (streams_are (At ids.line m place Used) place r s e) (and_then (look_walks here refl r s s.writer) (λ done. give _))
 
-    stands_or : (m : Machine) (r : Tcp2Socket) (here : HasRecord (At ids.line m place Used) place) (done : Answer (Unit {0}) × Tcp2Socket) → Walks law (put (At ids.line m place Used) place done.1) (Put ids.line m place) (Give (drop_waits ids place (wait_put m.store place done)))
-    stands_or m r here (Ready d, now) = give _
-    stands_or m r here (Pending, now) = gives _ (Stands _ ids (StandingCall.DropOutput place) now refl (found here now) tt)
+    stands_or : (m : Machine) → NoStartStands m.store.standing → (r : Tcp2Socket) (here : HasRecord (At ids.line m place Used) place) (done : Answer (Unit {0}) × Tcp2Socket) → Walks law (put (At ids.line m place Used) place done.1) (Put ids.line m place) (Give (drop_waits ids place (wait_put m.store place done)))
+    stands_or m q r here (Ready d, now) = give _
+    stands_or m q r here (Pending, now) = gives _ (Stands _ ids (StandingCall.DropOutput place) now q refl (found here now) tt)
 
-    pub drop_output_walks : (m : Machine) (o : Option Tcp2Socket) → tcp2_at m.store.records place ≡ o → Walks law (At ids.line m place Used) (Put ids.line m place) (drop_output_at m.store ids place o)
+    pub drop_output_walks : (m : Machine) → NoStartStands m.store.standing → (o : Option Tcp2Socket) → tcp2_at m.store.records place ≡ o → Walks law (At ids.line m place Used) (Put ids.line m place) (drop_output_at m.store ids place o)
     unfolding bind
-    drop_output_walks m None g = give _
-    drop_output_walks m (Some r) g =
-        from (put_same (At ids.line m place Used) place r g) (and_so (wait_put m.store place) (λ done. Give (drop_waits ids place done)) (wait_walks m r (there g) r.streams refl) (stands_or m r (there g)))
+    drop_output_walks m q None g = give _
+    drop_output_walks m q (Some r) g =
+        from (put_same (At ids.line m place Used) place r g) (and_so (wait_put m.store place) (λ done. Give (drop_waits ids place done)) (wait_walks m r (there g) r.streams refl) (stands_or m q r (there g)))
 
   dropped_walks : (m : Machine) (this : ℕ) (kind : Kind) (b : Bool) → Has (handles_of origin) this → kind_at m.table this ≡ Some kind → has_no_child m.table this ≡ b → NoStartStands m.store.standing
       → Walks law (Starts m Unused) OverWith (drop_taken m (first_ids line) (if b then (Ok kind, without_handle m.table this) else (Err (Trap HasChildren), m.table)))
@@ -231,10 +231,10 @@ module _ {contexts : List WasiSocketsCtx} {line : ℕ} {origin : Step} {law : La
       move (ReachesUdp _ this place named (ap udp_record_of e)) (move (Empties _ this (Udp2 place) e free) (and_then (release_udp_walks now place (udp2_at m.store.records place) refl q) (λ done. gives _ (Leaves _))))
   dropped_walks m this (Incoming place) true named e free q =
       let now : Machine = record m { table = without_handle m.table this } in
-      move (ReachesUdp _ this place named (ap udp_record_of e)) (move (Takes _ this free) (drop_incoming_walks now place (open_at m.store.records place) refl))
+      move (ReachesUdp _ this place named (ap udp_record_of e)) (move (Empties _ this (Incoming place) e free) (drop_incoming_walks now place (open_at m.store.records place) refl))
   dropped_walks m this (Outgoing place) true named e free q =
       let now : Machine = record m { table = without_handle m.table this } in
-      move (ReachesUdp _ this place named (ap udp_record_of e)) (move (Takes _ this free) (move (Spends _ refl) (drop_outgoing_walks (first_ids line) now place (λ done. answered (with_store now done)) (λ done. refl))))
+      move (ReachesUdp _ this place named (ap udp_record_of e)) (move (Takes _ this free) (move (Spends _ refl) (drop_outgoing_walks (first_ids line) now place q (λ done. answered (with_store now done)) (λ done. refl))))
   dropped_walks m this (Lookup place) true named e free q =
       let now : Machine = record m { table = without_handle m.table this } in
       move (Takes _ this free) (drop_lookup_walks now place (lookup_at m.store.records place) refl)
@@ -244,7 +244,7 @@ module _ {contexts : List WasiSocketsCtx} {line : ℕ} {origin : Step} {law : La
   dropped_walks m this (Input place) true named e free q = move (Takes _ this free) (gives _ (Spends _ refl))
   dropped_walks m this (Output place) true named e free q =
       let now : Machine = record m { table = without_handle m.table this } in
-      move (Reaches _ this place named (ap record_of e)) (move (Takes _ this free) (move (Spends _ refl) (and_then (drop_output_walks (first_ids line) place now (tcp2_at m.store.records place) refl) (λ done. gives _ (Leaves _)))))
+      move (Reaches _ this place named (ap record_of e)) (move (Takes _ this free) (move (Spends _ refl) (and_then (drop_output_walks (first_ids line) place now q (tcp2_at m.store.records place) refl) (λ done. gives _ (Leaves _)))))
   dropped_walks m this (Pollable w) true named e free q = move (Takes _ this free) (gives _ (Spends _ refl))
   dropped_walks m this ErrorValue true named e free q = move (Takes _ this free) (gives _ (Spends _ refl))
 

@@ -114,7 +114,7 @@ record HasOpened (store : Records) (place : ℕ) : Type 0 where
 
 -- the record is being created, where the create is pending, and is there where it is done
 abbrev CreatesOn : ℕ → Result (Answer (Unit {0})) Stop × Records → Type 0
-CreatesOn place (Ok Pending, store) = (create : Create) × (udp2_at store.records place ≡ Some (Udp2Socket.Creating create))
+CreatesOn place (Ok Pending, store) = NoStartStands store.standing × ((create : Create) × (udp2_at store.records place ≡ Some (Udp2Socket.Creating create)))
 CreatesOn place (Ok (Ready d), store) = HasOpened store place
 CreatesOn place _ = ⊤
 
@@ -128,14 +128,14 @@ CreatedSo m place (Ok (Ready d), store) = Awaiting (record m { store = store }) 
 CreatedSo m place (_, store) = Over (record m { store = store })
 
 module _ (m : Machine) (place : ℕ) where
-  answered_given : (was : Udp2Socket) → udp2_at m.store.records place ≡ Some was → (done : Result (Answer (Unit {0})) ErrorCode × Udp2Socket) → WaitsCreate done → CreatesOn place (create_answered m.store place done)
-  answered_given was g (Ok Pending, u) w = (w.create, udp_set_there m.store.records place was u g ∙ ap (λ (x : Udp2Socket). Some x) w.is)
-  answered_given was g (Ok (Ready d), u) w = record { was = u; at = udp_set_there m.store.records place was u g; opens = w }
-  answered_given was g (Err c, u) w = tt
+  answered_given : NoStartStands m.store.standing → (was : Udp2Socket) → udp2_at m.store.records place ≡ Some was → (done : Result (Answer (Unit {0})) ErrorCode × Udp2Socket) → WaitsCreate done → CreatesOn place (create_answered m.store place done)
+  answered_given q was g (Ok Pending, u) w = (q, (w.create, udp_set_there m.store.records place was u g ∙ ap (λ (x : Udp2Socket). Some x) w.is))
+  answered_given q was g (Ok (Ready d), u) w = record { was = u; at = udp_set_there m.store.records place was u g; opens = w }
+  answered_given q was g (Err c, u) w = tt
 
-  poll_at_given : (u : Option Udp2Socket) → udp2_at m.store.records place ≡ u → Given (CreatesOn place) (poll_create_at m.store place u)
-  poll_at_given None g = tt
-  poll_at_given (Some u) g = given_along WaitsCreate (CreatesOn place) (poll_create_asks u) (λ done. Give (create_answered m.store place done)) (create_given u) (answered_given u g)
+  poll_at_given : NoStartStands m.store.standing → (u : Option Udp2Socket) → udp2_at m.store.records place ≡ u → Given (CreatesOn place) (poll_create_at m.store place u)
+  poll_at_given q None g = tt
+  poll_at_given q (Some u) g = given_along WaitsCreate (CreatesOn place) (poll_create_asks u) (λ done. Give (create_answered m.store place done)) (create_given u) (answered_given q u g)
 
 module _ {contexts : List WasiSocketsCtx} {line : ℕ} {origin : Step} {law : Law contexts line origin} where
   -- == on the record of a place
@@ -228,11 +228,11 @@ module _ {contexts : List WasiSocketsCtx} {line : ℕ} {origin : Step} {law : La
 
   -- == a bind
   -- a call that may be pending was answered
-  udp_answered_walks : (m : Machine) (ids : Ids) (place : ℕ) (done : Result (Answer (Unit {0})) ErrorCode × OpenUdp) → HasUdp (At ids.line m place Used) place → WaitsUdp done
+  udp_answered_walks : (m : Machine) (ids : Ids) (place : ℕ) → NoStartStands m.store.standing → (done : Result (Answer (Unit {0})) ErrorCode × OpenUdp) → HasUdp (At ids.line m place Used) place → WaitsUdp done
       → Walks law (put_udp (At ids.line m place Used) place (Udp2Socket.Open done.1)) (Put ids.line m place) (Give (udp_call_answered m.store ids (StandingCall.UdpBind place) done))
-  udp_answered_walks m ids place (Ok Pending, o) here w = gives _ (StandsUdpBind _ ids place o w.op refl (udp_found here (Udp2Socket.Open o)) w.is)
-  udp_answered_walks m ids place (Ok (Ready d), o) here w = give _
-  udp_answered_walks m ids place (Err c, o) here w = give _
+  udp_answered_walks m ids place q (Ok Pending, o) here w = gives _ (StandsUdpBind _ ids place o w.op q refl (udp_found here (Udp2Socket.Open o)) w.is)
+  udp_answered_walks m ids place q (Ok (Ready d), o) here w = give _
+  udp_answered_walks m ids place q (Err c, o) here w = give _
 
   start_by : (m : Machine) (place : ℕ) (a : IpSocketAddress) → IsUdpBindTo a origin → NoStartStands m.store.standing → (o : OpenUdp) → FoundUdp (At line m place Unused) place (Udp2Socket.Open o) → (idle : Bool) → is_udp_idle o.in_progress ≡ idle
       → Walks law (At line m place Unused) (Put line m place) (start_udp_bind_by m.store (first_ids line) place a o idle)
@@ -242,7 +242,7 @@ module _ {contexts : List WasiSocketsCtx} {line : ℕ} {origin : Step} {law : La
       start_unless true = gives _ (Spends _ refl)
       start_unless false =
           from (udp_put_same (At line m place Unused) place (Udp2Socket.Open o) g)
-          (and_given WaitsUdp (begin_given (own_of line) o a) (begin_udp_walks (udp_there g) refl refl q a to o e) (λ begun w. udp_answered_walks m (first_ids line) place begun (record { was = Udp2Socket.Open o; at = g }) w))
+          (and_given WaitsUdp (begin_given (own_of line) o a) (begin_udp_walks (udp_there g) refl refl q a to o e) (λ begun w. udp_answered_walks m (first_ids line) place q begun (record { was = Udp2Socket.Open o; at = g }) w))
   start_by m place a to q o g false e = gives _ (Spends _ refl)
 
   start_at : (m : Machine) (place : ℕ) (a : IpSocketAddress) → IsUdpBindTo a origin → NoStartStands m.store.standing → (o : Option OpenUdp) → open_at m.store.records place ≡ o → Walks law (At line m place Unused) (Put line m place) (start_udp_bind_at m.store (first_ids line) place a o)
@@ -254,7 +254,7 @@ module _ {contexts : List WasiSocketsCtx} {line : ℕ} {origin : Step} {law : La
       by_if (is_network (kind_at m.table n)) (λ yes. on_udp m s (udp_socket_at m s) named (udp_record (kind_at m.table s)) (λ place. start_at m place a to q (open_at m.store.records place) refl)) (λ other. gives _ (Spends _ refl))
 
   finish_by : (m : Machine) (place : ℕ) (o : OpenUdp) → FoundUdp (Over m) place (Udp2Socket.Open o) → (b : Bool) → is_udp_bound o.in_progress ≡ b → Walks law (Starts m Unused) (λ now. Over now) (Give (with_store m (finish_udp_bind_by m.store place o b)).1)
-  finish_by m place o g true e = move (Spends _ refl) (gives _ (UdpChanges _ place o _ g (record { side = refl; maker = refl; family = refl; remote = refl; bound = λ b. b; binds = inr (bound_settles o.in_progress e, tt); connects = refl; sends = inl refl; receives = inl refl; came = inl refl })))
+  finish_by m place o g true e = move (Spends _ refl) (gives _ (UdpChanges _ place o _ g (record { side = refl; maker = refl; family = refl; remote = refl; bound = λ b. b; binds = inr (bound_settles o.in_progress e, tt); connects = refl; sends = inl refl; receives = inl refl; came = inl refl }) (record { incoming = inl (λ some. some); makes = inl (λ some. some) })))
   finish_by m place o g false e = gives _ (Spends _ refl)
 
   finish_at : (m : Machine) (place : ℕ) (o : Option OpenUdp) → open_at m.store.records place ≡ o → Walks law (Starts m Unused) (λ now. Over now) (Give (with_store m (finish_udp_bind_at m.store place o)).1)
@@ -271,7 +271,7 @@ module _ {contexts : List WasiSocketsCtx} {line : ℕ} {origin : Step} {law : La
   rebind_udp_walks ids m q place (Some o) e =
       let g : FoundUdp (At ids.line m place Used) place (Udp2Socket.Open o) = open_is (udp2_at m.store.records place) o e in
       from (udp_put_same (At ids.line m place Used) place (Udp2Socket.Open o) g)
-      (and_given WaitsUdp (poll_given o o.in_progress) (poll_bind_walks (udp_there g) q o) (λ done w. udp_answered_walks m ids place done (record { was = Udp2Socket.Open o; at = g }) w))
+      (and_given WaitsUdp (poll_given o o.in_progress) (poll_bind_walks (udp_there g) q o) (λ done w. udp_answered_walks m ids place q done (record { was = Udp2Socket.Open o; at = g }) w))
 
   -- == the end
   close_by : {h : Here} {place : ℕ} (here : HasUdp h place) → ReleasesUdp h place → (u : Udp2Socket) → Walks law (put_udp h place u) (λ done. put_udp h place done.1) (close_udp_asks (own_of line) u)
@@ -296,7 +296,7 @@ module _ {contexts : List WasiSocketsCtx} {line : ℕ} {origin : Step} {law : La
       and_then (mark_udp_walks place u (record { awaited = refl; found = g; opens = subst IsOpenUdp same o.opens })) (created_by m)
 
   create_so_walks : (ids : Ids) (place : ℕ) (m : Machine) (done : Result (Answer (Unit {0})) Stop × Records) → CreatesOn place done → Walks law (CreatedSo m place done) OverWith (create_so ids place m done)
-  create_so_walks ids place m (Ok Pending, store) w = gives _ (StandsUdpCreate _ ids place w.0 w.1)
+  create_so_walks ids place m (Ok Pending, store) w = gives _ (StandsUdpCreate _ ids place w.1.0 w.0 w.1.1)
   create_so_walks ids place m (Ok (Ready d), store) w = mark_walks (record m { store = store }) place (udp2_at store.records place) refl w
   create_so_walks ids place m (Err c, store) w = give _
 
@@ -323,7 +323,7 @@ module _ {contexts : List WasiSocketsCtx} {line : ℕ} {origin : Step} {law : La
     poll_at_walks (Some u) g q = from (udp_put_same (Over m) place u g) (and_then (poll_so u g q) answered_so)
 
   pub create_on_walks : (ids : Ids) (m : Machine) → NoStartStands m.store.standing → (place : ℕ) → Walks law (Over m) OverWith (create_on m ids place)
-  create_on_walks ids m q place = and_given (CreatesOn place) (poll_at_given m place (udp2_at m.store.records place) refl) (poll_at_walks m place (udp2_at m.store.records place) refl q) (create_so_walks ids place m)
+  create_on_walks ids m q place = and_given (CreatesOn place) (poll_at_given m place q (udp2_at m.store.records place) refl) (poll_at_walks m place (udp2_at m.store.records place) refl q) (create_so_walks ids place m)
 
   create_begun_walks : (m : Machine) → NoStartStands m.store.standing → (begun : Result Create ErrorCode) → Walks law (udp_begun (Starts m Unused) begun) OverWith (create_begun m (first_ids line) begun)
   create_begun_walks m q (Ok create) = create_on_walks (first_ids line) (with_create m create) q (length m.store.records)

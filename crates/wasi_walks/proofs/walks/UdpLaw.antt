@@ -1,8 +1,7 @@
 -- How walks of UDP sockets are put together: what is asked of one, the polls of its create and of its bind, and its end.
 use Rattle.std.specs.Prelude.{◌≡◌, ℕ, List, [], ◌∷◌, ◌++◌, Some, None}
 use Rattle.wasi_walks.proofs.Words.{Asks, Ask, Call, End, Entry, Item, Operation, SocketAddressFamily, Step, Told, WasiSocketsCtx}
-use Rattle.wasi_walks.proofs.Words.{ap, bind, entry, make_asks, own_of, poll_asks, subst, told_addr}
-use Rattle.std.specs.Prelude.{◌⊎◌}
+use Rattle.wasi_walks.proofs.Words.{ap, bind, entry, ◌∙◌, make_asks, own_of, poll_asks, subst, told_addr}
 use Rattle.wasi_host.specs.Datagrams.{udp_connect_left, with_sending}
 use Rattle.wasi_host.specs.Kinds.{kind_at, udp_of}
 use Rattle.wasi_host.specs.Receiving.{receive_left, with_receiving}
@@ -13,7 +12,6 @@ use Rattle.wasi_host.specs.declared.datagrams.Outgoing.{Outgoing}
 use Rattle.wasi_host.specs.declared.datagrams.Receiving.{Receiving}
 use Rattle.wasi_host.specs.declared.datagrams.Sending.{Sending}
 use Rattle.wasi_host.specs.declared.kind.Kind.{Kind}
-use Rattle.wasi_host.specs.declared.kind.Kind.TheVariants as kinds
 use Rattle.wasi_host.specs.declared.kind.Kind.TheVariants.{Udp2}
 use Rattle.wasi_udp.specs.Receive.{wanting}
 use Rattle.wasi_udp.specs.Send.{at_remote}
@@ -25,7 +23,7 @@ use Rattle.wasi_host.specs.Udp.{udp_side, udp_create_left, udp_bind_progress, wi
 use Rattle.wasi_udp.specs.Create.{Create, new_asks}
 use Rattle.wasi_udp.specs.Socket.{after_local, after_peer}
 use Rattle.wasi_walks.proofs.UdpLists.{udp_set_set, udp_set_same, udp_set_there}
-use Rattle.wasi_walks.proofs.walks.Moves.{HasNewStream, Here, put_udp, FoundUdp, IsCreated, NoStart, ReleasesUdp, IsUdpQuestionOf, CreatesUdp, udp_begun, ToStream, part_of, SettlesSend, Unused, Past, Spends, Held, UdpCreates, UdpBindsOn, UdpConnectsOn, SendsOn, ReceivesOn}
+use Rattle.wasi_walks.proofs.walks.Moves.{HasNewStream, Here, MarksNext, put_udp, FoundUdp, IsCreated, NoStart, ReleasesUdp, IsUdpQuestionOf, CreatesUdp, udp_begun, ToSend, part_of, SettlesSend, Unused, Past, Spends, Held, UdpCreates, UdpBindsOn, UdpConnectsOn, SendsOn, ReceivesOn}
 use Rattle.wasi_walks.proofs.walks.Law.{Law, Walks, ends, by_if, gives}
 
 -- A place that has the record of a UDP socket.
@@ -45,6 +43,10 @@ udp_put_same h place u e =
 
 pub udp_found : {h : Here} {place : ℕ} → HasUdp h place → (u : Udp2Socket) → FoundUdp (put_udp h place u) place u
 udp_found {h} {place} here u = udp_set_there h.machine.store.records place here.was u here.at
+
+-- no connect goes on where the record has none
+pub over_at : {h : Here} {place : ℕ} → HasUdp h place → (o : OpenUdp) → o.connecting ≡ None → (x : OpenUdp) (op : Operation) → FoundUdp (put_udp h place (Udp2Socket.Open o)) place (Udp2Socket.Open x) → x.connecting ≡ Some op → ⊥
+over_at here o none x op g e = absurd (let its : o ≡ x = (let p = udp_found here (Udp2Socket.Open o) in cc) in let q : o.connecting ≡ Some op = ap (λ (y : OpenUdp). y.connecting) its ∙ e in cc)
 
 module _ {contexts : List WasiSocketsCtx} {line : ℕ} {origin : Step} {law : Law contexts line origin} where
   -- its network socket is made
@@ -126,6 +128,6 @@ module _ {contexts : List WasiSocketsCtx} {line : ℕ} {origin : Step} {law : La
     poll_receive_walks o inc op e f = udp_polled (Udp2Socket.Open o) (λ ended. Udp2Socket.Open (record o { incoming = Some (with_receiving inc (receive_left op ended)) })) (ReceivesOn place o inc op (udp_found here (Udp2Socket.Open o)) e f)
 
   -- a datagram stream of the socket of this handle is made
-  pub mark_stream : {h : Here} (place n handle reached : ℕ) (kind : Kind) → h.made ≡ ToStream n handle reached → HasNewStream h.machine.store.records reached → (kind ≡ kinds.Incoming place) ⊎ (kind ≡ kinds.Outgoing place) → udp_of (kind_at h.machine.table handle) ≡ Some place
-      → Walks law h (λ made. record h { machine = record h.machine { table = made.1 } }) (make_asks h.machine.table (own_of n) kind (Some handle) (udp_side_at (udp2_at h.machine.store.records place)))
-  mark_stream {h} place n handle reached kind m new k e = record { along = λ es i. law.stream_marks es h place n handle reached kind m new k e i }
+  pub mark_stream : {h : Here} (place n handle reached : ℕ) (kind : Kind) → MarksNext h.made n handle reached kind place → HasNewStream h.machine.store reached → udp_of (kind_at h.machine.table handle) ≡ Some place
+      → Walks law h (λ made. record h { machine = record h.machine { table = made.1 }; made = ToSend n handle reached }) (make_asks h.machine.table (own_of n) kind (Some handle) (udp_side_at (udp2_at h.machine.store.records place)))
+  mark_stream {h} place n handle reached kind m new e = record { along = λ es i. law.stream_marks es h place n handle reached kind m new e i }

@@ -1,0 +1,324 @@
+-- Of the machines that runs lead to: a UDP socket whose connect is in progress has no datagram streams. The connect is pending, or the
+-- line that is done goes on with it.
+use Rattle.wasi_causes.proofs.Words.{Allows, Bool, End, Entry, Err, ErrorCode, ErrorValue, Item, List, Machine, None, Ok, OpId, Operation, Option, Result, Socket, Some, Standing, StandingCall, Step, Stop, Tcp2, Tcp2Socket, WasiSocketsCtx}
+use Rattle.wasi_causes.proofs.Words.{allows_then, ap, created_asks, first_state, give_up_asks, inl, inr, length, make_asks, new_asks, new_record, own_of, poll_asks, refl, side_of, standing_as, subst, sym, told_done, true, false, turn_asks, with_listening, with_writer, ℕ, ⊤, ◌∙◌, ◌≡◌, ◌⊎◌}
+use Rattle.std.specs.Prelude.{is_some, ◌+◌}
+use Rattle.wasi_tcp.specs.declared.listener.Accepting.TheVariants as accepting
+use Rattle.wasi_udp.specs.Create.{Create, after_create as udp_after_create, create_cancel_asks}
+use Rattle.wasi_world.specs.Operation.{Done, Refused, Waits}
+use Rattle.wasi_host.specs.Datagrams.{has_streams, udp_connect_left}
+use Rattle.wasi_host.specs.Records.{tcp2_put, tcp2_pushed, udp2_at, udp2_put, udp2_pushed}
+use Rattle.wasi_host.specs.Udp.{udp_create_left, udp_side}
+use Rattle.wasi_host.specs.declared.kind.Kind.TheVariants.{Udp2}
+use Rattle.wasi_host.specs.declared.listening.Listening.TheVariants as listening
+use Rattle.wasi_host.specs.declared.name_lookup.LookupOp.{LookupOp}
+use Rattle.wasi_host.specs.declared.records.Record.{Record}
+use Rattle.wasi_host.specs.declared.udp.OpenUdp.{OpenUdp}
+use Rattle.wasi_host.specs.declared.udp.Udp2Socket.{Udp2Socket}
+use Rattle.wasi_walks.proofs.UdpLists.{udp_get_set, udp_of_push, udp_of_put, udp_split}
+use Rattle.wasi_walks.proofs.fits.Law.{whatever}
+use Rattle.wasi_walks.proofs.fits.Polls.{Anything}
+use Rattle.wasi_walks.proofs.walks.Here.{ConnectStands, IsConnectOf, KeepsStreams, NoConnectIn, NoStartIn, NoStartStands, or_true}
+use Rattle.wasi_walks.proofs.walks.Begins.{BeginsAbove}
+use Rattle.wasi_walks.proofs.walks.Moves as walk
+use Rattle.wasi_walks.proofs.walks.Moves.{Found, FoundUdp, GoesOn, Held, Here, Made, Move, Own, Past, SameSockets, ToConnect, Unused, Used, made_so, put, put_udp, udp_begun}
+use Rattle.wasi_walks.proofs.walks.OnBase.{Above}
+use Rattle.wasi_causes.proofs.UdpHandles.{Udps}
+
+-- == what is in progress
+-- the connect of the record is pending, or the line goes on with it
+abbrev GoesBy : Option Standing → Own → ℕ → Type 0
+GoesBy standing own place = ConnectStands standing place ⊎ (own ≡ ToConnect place)
+
+-- Where a connect is in progress, the socket has no streams.
+pub record Connects (records : List Record) (standing : Option Standing) (own : Own) : Type 0 where
+  pub quiet : (place : ℕ) (o : OpenUdp) (op : Operation) → udp2_at records place ≡ Some (Udp2Socket.Open o) → o.connecting ≡ Some op → has_streams o ≡ false
+  goes : (place : ℕ) (o : OpenUdp) (op : Operation) → udp2_at records place ≡ Some (Udp2Socket.Open o) → o.connecting ≡ Some op → GoesBy standing own place
+
+abbrev pub HasConnects : Machine → Type 0
+HasConnects m = Connects m.store.records m.store.standing Used
+
+-- no connect is pending
+abbrev pub NoConnect : Option Standing → Type 0
+NoConnect None = ⊤
+NoConnect (Some s) = NoConnectIn s.call
+
+-- nor beside a call on handles
+abbrev pub CallsSo : Made → Option Standing → Type 0
+CallsSo (Made.Calls kind n handles) standing = NoConnect standing
+CallsSo _ standing = ⊤
+
+abbrev pub Quiet : Here → Type 0
+Quiet h = Connects h.machine.store.records h.machine.store.standing h.own × CallsSo h.made h.machine.store.standing
+
+none_stands : (standing : Option Standing) (place : ℕ) → NoConnect standing → ConnectStands standing place → ⊥
+none_stands None place n k = k
+none_stands (Some s) place n k = by_call s.call n k
+  where
+    by_call : (call : StandingCall) → NoConnectIn call → IsConnectOf call place → ⊥
+    by_call (StandingCall.UdpConnect p handle) n k = n
+    by_call _ n k = k
+
+no_start : (standing : Option Standing) → NoStartStands standing → NoConnect standing
+no_start None q = tt
+no_start (Some s) q = by_call s.call q
+  where
+    by_call : (call : StandingCall) → NoStartIn call → NoConnectIn call
+    by_call (StandingCall.UdpConnect p handle) q = q
+    by_call _ q = tt
+
+calls_so : (made : Made) (standing : Option Standing) → NoConnect standing → CallsSo made standing
+calls_so (Made.Calls kind n handles) standing q = q
+calls_so _ standing q = tt
+
+-- == the line's own operation, and the pending call
+owns : (records : List Record) (standing : Option Standing) (own now : Own) → ((k : ℕ) → own ≡ ToConnect k → ⊥) → Connects records standing own → Connects records standing now
+owns records standing own now none i = record { quiet = i.quiet; goes = λ k o op at c. elim (i.goes k o op at c) [ inl s ↦ inl s | inr e ↦ absurd (none k e) ] }
+
+-- where no connect was pending
+stands_now : (records : List Record) (was standing : Option Standing) (own : Own) → NoConnect was → Connects records was own → Connects records standing own
+stands_now records was standing own none i = record { quiet = i.quiet; goes = λ k o op at c. elim (i.goes k o op at c) [ inl s ↦ absurd (none_stands was k none s) | inr e ↦ inr e ] }
+
+-- == records change
+pub put_tcp : (h : Here) (place : ℕ) (now : Tcp2Socket) → Quiet h → Quiet (put h place now)
+put_tcp h place now i = (record { quiet = λ k o op at c. i.0.quiet k o op (udp_of_put h.machine.store.records place now k _ at) c; goes = λ k o op at c. i.0.goes k o op (udp_of_put h.machine.store.records place now k _ at) c }, i.1)
+
+push_tcp : (records : List Record) (new : Tcp2Socket) (standing : Option Standing) (own : Own) → Connects records standing own → Connects (tcp2_pushed records new) standing own
+push_tcp records new standing own i = record { quiet = λ k o op at c. i.quiet k o op (udp_of_push records new k _ at) c; goes = λ k o op at c. i.goes k o op (udp_of_push records new k _ at) c }
+
+push_create : (records : List Record) (create : Create) (standing : Option Standing) (own : Own) → Connects records standing own → Connects (udp2_pushed records (Udp2Socket.Creating create)) standing own
+push_create records create standing own i = record { quiet = λ k o op at c. i.quiet k o op (was k o at) c; goes = λ k o op at c. i.goes k o op (was k o at) c }
+  where
+    was : (k : ℕ) (o : OpenUdp) → udp2_at (udp2_pushed records (Udp2Socket.Creating create)) k ≡ Some (Udp2Socket.Open o) → udp2_at records k ≡ Some (Udp2Socket.Open o)
+    was k o at = elim (udp_split records (Udp2Socket.Creating create) k (Udp2Socket.Open o) at) [ inl e ↦ e | inr e ↦ absurd (let x = e.0 in cc) ]
+
+pub found : {new : LookupOp → Type 0} (h : Here) (records : List Record) → SameSockets new h.machine.store.records records → Quiet h → Connects records h.machine.store.standing h.own × CallsSo h.made h.machine.store.standing
+found h records same i = (record { quiet = λ k o op at c. i.0.quiet k o op (sym (same.udp k) ∙ at) c; goes = λ k o op at c. i.0.goes k o op (sym (same.udp k) ∙ at) c }, i.1)
+
+-- a UDP socket's record, which is as this one
+module _ (records : List Record) (standing : Option Standing) (own now : Own) (place : ℕ) (u : Udp2Socket) where
+  abbrev Its : Type 0
+  Its = (o : OpenUdp) (op : Operation) → u ≡ Udp2Socket.Open o → o.connecting ≡ Some op → (has_streams o ≡ false) × GoesBy standing now place
+
+  put_by : Its → ((k : ℕ) → own ≡ ToConnect k → now ≡ ToConnect k) → Connects records standing own → Connects (udp2_put records place u) standing now
+  put_by its stay i = record { quiet = λ k o op at c. (both k o op at c).0; goes = λ k o op at c. (both k o op at c).1 }
+    where
+      both : (k : ℕ) (o : OpenUdp) (op : Operation) → udp2_at (udp2_put records place u) k ≡ Some (Udp2Socket.Open o) → o.connecting ≡ Some op → (has_streams o ≡ false) × GoesBy standing now k
+      both k o op at c = elim (udp_get_set records place u k (Udp2Socket.Open o) at) [
+        | inl here ↦ (let x = its o op here.1 c in (x.0, subst (GoesBy standing now) (sym here.0) x.1))
+        | inr other ↦ (i.quiet k o op other c, elim (i.goes k o op other c) [ inl s ↦ inl s | inr e ↦ inr (stay k e) ])
+      ]
+
+-- of which no connect is in progress
+pub put_none : (h : Here) (place : ℕ) (u : Udp2Socket) → ((o : OpenUdp) (op : Operation) → u ≡ Udp2Socket.Open o → o.connecting ≡ Some op → ⊥) → Quiet h → Quiet (put_udp h place u)
+put_none h place u none i = (put_by h.machine.store.records h.machine.store.standing h.own h.own place u (λ o op e c. absurd (none o op e c)) (λ k e. e) i.0, i.1)
+
+false_too : (a b : Bool) → (b ≡ true → a ≡ true) → a ≡ false → b ≡ false
+false_too a true less e = absurd (let t = less refl in cc)
+false_too a false less e = refl
+
+-- the same connect, and no more streams
+module _ (h : Here) (place : ℕ) (o now : OpenUdp) (g : FoundUdp h place (Udp2Socket.Open o)) (same : now.connecting ≡ o.connecting) (less : has_streams now ≡ true → has_streams o ≡ true) where
+  its : (i : Quiet h) (x : OpenUdp) (op : Operation) → Udp2Socket.Open now ≡ Udp2Socket.Open x → x.connecting ≡ Some op → (has_streams x ≡ false) × GoesBy h.machine.store.standing h.own place
+  its i x op e c =
+      let is : now ≡ x = cc in
+      let was : o.connecting ≡ Some op = sym same ∙ (ap (λ (y : OpenUdp). y.connecting) is ∙ c) in
+      (subst (λ (y : OpenUdp). has_streams y ≡ false) is (false_too (has_streams o) (has_streams now) less (i.0.quiet place o op g was)), i.0.goes place o op g was)
+
+  pub put_open : Quiet h → Quiet (put_udp h place (Udp2Socket.Open now))
+  put_open i = (put_by h.machine.store.records h.machine.store.standing h.own h.own place (Udp2Socket.Open now) (its i) (λ k e. e) i.0, i.1)
+
+-- streams that a line makes which has begun nothing: no connect is in progress
+new_streams : (h : Here) (place : ℕ) (o now : OpenUdp) → FoundUdp h place (Udp2Socket.Open o) → now.connecting ≡ o.connecting → h.own ≡ Unused → NoStartStands h.machine.store.standing → Quiet h → Quiet (put_udp h place (Udp2Socket.Open now))
+new_streams h place o now g same own q i = put_none h place (Udp2Socket.Open now) none i
+  where
+    none : (x : OpenUdp) (op : Operation) → Udp2Socket.Open now ≡ Udp2Socket.Open x → x.connecting ≡ Some op → ⊥
+    none x op e c =
+        let is : now ≡ x = cc in
+        elim (i.0.goes place o op g (sym same ∙ (ap (λ (y : OpenUdp). y.connecting) is ∙ c))) [ inl s ↦ none_stands h.machine.store.standing place (no_start h.machine.store.standing q) s | inr e ↦ absurd (let p : Unused ≡ ToConnect place = sym own ∙ e in cc) ]
+
+changed : (h : Here) (place : ℕ) (o now : OpenUdp) → FoundUdp h place (Udp2Socket.Open o) → now.connecting ≡ o.connecting → KeepsStreams h place o now → Quiet h → Quiet (put_udp h place (Udp2Socket.Open now))
+changed h place o now g same keeps i = elim keeps.makes [ inl less ↦ put_open h place o now g same less i | inr new ↦ new_streams h place o now g same new.0 new.1 i ]
+
+-- the line's next operation begins
+spent : (h : Here) (own was : Own) → h.own ≡ was → ((k : ℕ) → was ≡ ToConnect k → ⊥) → Quiet h → Quiet (record h { own = own })
+spent h own was e none i = (owns h.machine.store.records h.machine.store.standing h.own own (λ k c. none k (sym e ∙ c)) i.0, i.1)
+
+-- and a record changes
+begun_tcp : (h : Here) (place : ℕ) (now : Tcp2Socket) (own was : Own) → h.own ≡ was → ((k : ℕ) → was ≡ ToConnect k → ⊥) → Quiet h → Quiet (record (put h place now) { own = own })
+begun_tcp h place now own was e none i = spent (put h place now) own was e none (put_tcp h place now i)
+
+begun_udp : (h : Here) (place : ℕ) (o now : OpenUdp) → FoundUdp h place (Udp2Socket.Open o) → now.connecting ≡ o.connecting → (has_streams now ≡ true → has_streams o ≡ true) → (own was : Own) → h.own ≡ was → ((k : ℕ) → was ≡ ToConnect k → ⊥) → Quiet h → Quiet (record (put_udp h place (Udp2Socket.Open now)) { own = own })
+begun_udp h place o now g same less own was e none i = spent (put_udp h place (Udp2Socket.Open now)) own was e none (put_open h place o now g same less i)
+
+unused : (k : ℕ) → Unused ≡ ToConnect k → ⊥
+unused k e = absurd (cc)
+
+used : (k : ℕ) → Used ≡ ToConnect k → ⊥
+used k e = absurd (cc)
+
+names : (n k : ℕ) → Own.Names n ≡ ToConnect k → ⊥
+names n k e = absurd (cc)
+
+to_write : (side : OpId) (bytes : List ℕ) (k : ℕ) → Own.ToWrite side bytes ≡ ToConnect k → ⊥
+to_write side bytes k e = absurd (cc)
+
+-- a connect begins
+begins : (h : Here) (place : ℕ) (o : OpenUdp) (op : Operation) → has_streams o ≡ false → h.own ≡ Unused → Quiet h → Quiet (record (put_udp h place (Udp2Socket.Open (record o { connecting = Some op }))) { own = ToConnect place })
+begins h place o op none own i = (
+  put_by h.machine.store.records h.machine.store.standing h.own (ToConnect place) place (Udp2Socket.Open (record o { connecting = Some op }))
+      (λ x p e c. (let is : record o { connecting = Some op } ≡ x = cc in subst (λ (y : OpenUdp). has_streams y ≡ false) is none, inr refl)) (λ k e. absurd (unused k (sym own ∙ e))) i.0,
+  i.1,
+)
+
+-- it is over, or pending
+ended : (h : Here) (place : ℕ) → h.own ≡ ToConnect place → walk.ConnectIsOver h place → Quiet h → Quiet (record h { own = Used })
+ended h place own over i = (record { quiet = i.0.quiet; goes = λ k o op at c. elim (i.0.goes k o op at c) [ inl s ↦ inl s | inr e ↦ inl (by_place k o op at c (let p : ToConnect k ≡ ToConnect place = sym e ∙ own in cc) over) ] }, i.1)
+  where
+    by_place : (k : ℕ) (o : OpenUdp) (op : Operation) → udp2_at h.machine.store.records k ≡ Some (Udp2Socket.Open o) → o.connecting ≡ Some op → k ≡ place → walk.ConnectIsOver h place → ConnectStands h.machine.store.standing k
+    by_place k o op at c e (inl none) = absurd (none o op (subst (λ (x : ℕ). udp2_at h.machine.store.records x ≡ Some (Udp2Socket.Open o)) e at) c)
+    by_place k o op at c e (inr s) = subst (ConnectStands h.machine.store.standing) (sym e) s
+
+-- == of the moves
+goes_none : (call : StandingCall) (r : Tcp2Socket) → GoesOn call r → NoConnectIn call
+goes_none (StandingCall.UdpConnect place handle) r k = k
+goes_none _ r k = tt
+
+-- another call is pending, where none of these was
+restood : (h : Here) (now : Standing) → NoStartStands h.machine.store.standing → NoConnectIn now.call → Quiet h → Connects h.machine.store.records (Some now) h.own × CallsSo h.made (Some now)
+restood h now q n i = (stands_now h.machine.store.records h.machine.store.standing (Some now) h.own (no_start h.machine.store.standing q) i.0, calls_so h.made (Some now) n)
+
+module _ (contexts : List WasiSocketsCtx) (line : ℕ) (origin : Step) where
+  pub moves_quiet : (h now : Here) → Move line origin h now → Quiet h → Quiet now
+  moves_quiet _ _ (walk.Spends h e) i = spent h Used Unused e unused i
+  moves_quiet _ _ (walk.Counts h e) i = spent h (Own.Names 1) Unused e unused i
+  moves_quiet _ _ (walk.SpendsNames h n e) i = spent h Used (Own.Names n) e (names n) i
+  moves_quiet _ _ (walk.EndsConnect h place e over) i = ended h place e over i
+  moves_quiet _ _ (walk.Changes h place r now g p) i = put_tcp h place now i
+  moves_quiet _ _ (walk.ClosesReader h place r s g e) i = put_tcp h place _ i
+  moves_quiet _ _ (walk.Writes h place r s w g e m) i = put_tcp h place _ i
+  moves_quiet _ _ (walk.IsGone h place r q g e) i = put_tcp h place _ i
+  moves_quiet _ _ (walk.Reconnects h place r c now g e s t u) i = put_tcp h place _ i
+  moves_quiet _ _ (walk.Opens h place r c d g e n) i = put_tcp h place _ i
+  moves_quiet _ _ (walk.BeginsConnect h place r side a bound at g d to known idle own) i = begun_tcp h place _ Used Unused own unused i
+  moves_quiet _ _ (walk.BeginsBind h place r side a at g d to idle own) i = begun_tcp h place _ Used Unused own unused i
+  moves_quiet _ _ (walk.BeginsWrite h place n r s half permit bytes at g e w within own) i = begun_tcp h place _ Used (Own.ToWrite half.side bytes) own (to_write half.side bytes) i
+  moves_quiet _ _ (walk.BeginsListen h place r side at g d bound none to idle own) i = begun_tcp h place _ Used Unused own unused i
+  moves_quiet _ _ (walk.BeginsAccept h place n r l at g e a own) i = begun_tcp h place _ (Own.Names (n + 1)) (Own.Names n) own (names n) i
+  moves_quiet _ _ (walk.Unlistens h place r op q g e c o) i = put_tcp h place _ i
+  moves_quiet _ _ (walk.Forgets h place r l c g e a) i = put_tcp h place _ i
+  moves_quiet _ _ (walk.CancelsBind h place r op q g e) i = put_tcp h place _ i
+  moves_quiet _ _ (walk.Joins h c handle place r l new peer is of u g e a) i =
+      let idle = walk.accepting_now r l accepting.Idle in (push_tcp (tcp2_put h.machine.store.records place idle) (walk.joined l new peer) h.machine.store.standing h.own (put_tcp h place idle i).0, tt)
+  moves_quiet _ _ (walk.Leaves h) i = (i.0, tt)
+  moves_quiet _ _ (walk.Watches h own) i = (i.0, tt)
+  moves_quiet _ _ (walk.AwaitsCreate h place create g) i = (i.0, tt)
+  moves_quiet _ _ (walk.RemembersStreams h c handle place remote is of o g none) i = (i.0, tt)
+  moves_quiet _ _ (walk.RecallsStreams h ids place handle e own) i = ((spent h (ToConnect place) Unused own unused i).0, tt)
+  moves_quiet _ _ (walk.CallsHandles h kind calls quiet) i = (i.0, no_start h.machine.store.standing quiet)
+  moves_quiet _ _ (walk.RecallsCall h ids call e) i = (i.0, subst NoConnect (sym e) tt)
+  moves_quiet _ _ (walk.Empties h handle kind e none) i = (i.0, tt)
+  moves_quiet _ _ (walk.Stands h ids call r quiet at g k) i = restood h (standing_as ids call) quiet (goes_none call r k) i
+  moves_quiet _ _ (walk.StandsUdpBind h ids place o op quiet at g e) i = restood h (standing_as ids (StandingCall.UdpBind place)) quiet tt i
+  moves_quiet _ _ (walk.StandsUdpCreate h ids place create quiet g) i = restood h (standing_as ids (StandingCall.UdpCreate place)) quiet tt i
+  moves_quiet _ _ (walk.StandsDropOutgoing h ids place o quiet at g e) i = restood h (standing_as ids (StandingCall.DropOutgoing place)) quiet tt i
+  moves_quiet _ _ (walk.StandsBlocking h ids call handles made its) i =
+      let now = Some (standing_as ids (StandingCall.Blocking call)) in (stands_now h.machine.store.records h.machine.store.standing now h.own (subst (λ (m : Made). CallsSo m h.machine.store.standing) made i.1) i.0, calls_so h.made now tt)
+  moves_quiet _ _ (walk.StandsUdpConnect h ids place handle o op quiet at made g e) i =
+      let now = Some (standing_as ids (StandingCall.UdpConnect place handle)) in (stands_now h.machine.store.records h.machine.store.standing now h.own (no_start h.machine.store.standing quiet) i.0, subst (λ (m : Made). CallsSo m now) (sym made) tt)
+  moves_quiet _ _ (walk.Unstands h over) i = (record { quiet = i.0.quiet; goes = λ k o op at c. inr (elim (i.0.goes k o op at c) [ inl s ↦ over k s | inr e ↦ e ]) }, calls_so h.made None tt)
+  moves_quiet _ _ (walk.UdpChanges h place o now g p keeps) i = changed h place o now g p.connects keeps i
+  moves_quiet _ _ (walk.BeginsUdpBind h place o a at g to idle own) i = begun_udp h place o _ g refl (λ some. some) Used Unused own unused i
+  moves_quiet _ _ (walk.BeginsUdpConnect h place o a at g to bound none own) i = begins h place o _ none own i
+  moves_quiet _ _ (walk.BeginsSend h place n o out d bound at g e item known own) i = begun_udp h place o _ g refl (λ some. rw e (or_true (is_some o.incoming))) (Own.Names (n + 1)) (Own.Names n) own (names n) i
+  moves_quiet _ _ (walk.BeginsReceive h place n o inc bound at g e is own) i = begun_udp h place o _ g refl (λ some. rw e refl) (Own.Names (n + 1)) (Own.Names n) own (names n) i
+  moves_quiet _ _ (walk.CancelsUdpBind h place o op q g e) i = put_open h place o _ g refl (λ some. some) i
+  moves_quiet _ _ (walk.CancelsUdpConnect h place o q g) i = put_none h place _ (λ x op e c. (let p : record o { connecting = None } ≡ x = cc in let none : x.connecting ≡ None = ap (λ (y : OpenUdp). y.connecting) (sym p) in absurd (cc))) i
+  moves_quiet _ _ (walk.Finds h records same) i = found h records same i
+  moves_quiet _ _ _ i = i
+
+  -- a create that was polled has no connect, nor has a socket that is closed
+  created_none : (create : Create) (end : End × List Item) (o : OpenUdp) (op : Operation) → udp_create_left create end ≡ Udp2Socket.Open o → o.connecting ≡ Some op → ⊥
+  created_none create (Waits, items) o op e c = absurd (cc)
+  created_none create (Done given, items) o op e c = absurd (let none : o.connecting ≡ None = (let p : udp_create_left create (Done given, items) ≡ Udp2Socket.Open o = e in cc) in cc)
+  created_none create (Refused code given, items) o op e c = absurd (cc)
+
+  pub closed_none : (side : OpId) (o : OpenUdp) (op : Operation) → Udp2Socket.Closed side ≡ Udp2Socket.Open o → o.connecting ≡ Some op → ⊥
+  closed_none side o op e c = absurd (cc)
+
+  -- a connect that was polled goes on, or is none
+  polled_connect : (h : Here) (place : ℕ) (o : OpenUdp) (op : Operation) → FoundUdp h place (Udp2Socket.Open o) → o.connecting ≡ Some op → (end : End × List Item) → Quiet h → Quiet (put_udp h place (Udp2Socket.Open (udp_connect_left op o end)))
+  polled_connect h place o op g e (Waits, items) i =
+      let none = i.0.quiet place o op g e in
+      let goes = i.0.goes place o op g e in
+      let now = udp_connect_left op o (Waits, items) in
+      (put_by h.machine.store.records h.machine.store.standing h.own h.own place (Udp2Socket.Open now) (λ x p d c. (let is : now ≡ x = cc in subst (λ (y : OpenUdp). has_streams y ≡ false) is none, goes)) (λ k d. d) i.0, i.1)
+  polled_connect h place o op g e (Done given, items) i = let now = udp_connect_left op o (Done given, items) in put_none h place (Udp2Socket.Open now) (λ x p d c. (let is : now ≡ x = cc in let none : x.connecting ≡ None = ap (λ (y : OpenUdp). y.connecting) (sym is) in absurd (cc))) i
+  polled_connect h place o op g e (Refused code given, items) i = let now = udp_connect_left op o (Refused code given, items) in put_none h place (Udp2Socket.Open now) (λ x p d c. (let is : now ≡ x = cc in let none : x.connecting ≡ None = ap (λ (y : OpenUdp). y.connecting) (sym is) in absurd (cc))) i
+
+  pub polls_quiet : (h : Here) (op : Operation) (after : End × List Item → Here) → Held h op after → (end : End × List Item) → Quiet h → Quiet (after end)
+  polls_quiet h _ _ (walk.BindsOn place r op q g e) end i = put_tcp h place _ i
+  polls_quiet h _ _ (walk.Connects place r op g e) end i = put_tcp h place _ i
+  polls_quiet h _ _ (walk.Listens place r op q g e c) end i = put_tcp h place _ i
+  polls_quiet h _ _ (walk.Awaits place r l op g e a) end i = put_tcp h place _ i
+  polls_quiet h _ _ (walk.UdpCreates place create q g) end i = put_none h place _ (created_none create end) i
+  polls_quiet h _ _ (walk.UdpBindsOn place o op q g e) end i = put_open h place o _ g refl (λ some. some) i
+  polls_quiet h _ _ (walk.UdpConnectsOn place o op q g e) end i = polled_connect h place o op g e end i
+  polls_quiet h _ _ (walk.SendsOn place o out op left g e s settles) end i = put_open h place o _ g refl (λ some. rw e (or_true (is_some o.incoming))) i
+  polls_quiet h _ _ (walk.ReceivesOn place o inc op g e s) end i = put_open h place o _ g refl (λ some. rw e refl) i
+
+  pub joins : (es : List Entry) (h : Here) (made : Result Socket ErrorCode) → h.own ≡ Unused → Quiet h → Allows Anything (λ fs done. Quiet (record h { machine = done.1; own = Used })) es (created_asks h.machine (own_of line) made)
+  joins es h (Err c) own i = spent h Used Unused own unused i
+  joins es h (Ok socket) own i =
+      let so : Quiet (record h { machine = record h.machine { store = record h.machine.store { records = tcp2_pushed h.machine.store.records (new_record socket) } }; own = Used }) = (owns _ h.machine.store.standing h.own Used (λ k c. unused k (sym own ∙ c)) (push_tcp h.machine.store.records (new_record socket) h.machine.store.standing h.own i.0), i.1) in
+      allows_then Anything (λ fs made. ⊤) (λ fs done. Quiet (record h { machine = done.1; own = Used })) es (make_asks h.machine.table (own_of line) (Tcp2 (length h.machine.store.records)) None (side_of socket)) _
+      (whatever (λ made. ⊤) (λ made. tt) es (make_asks h.machine.table (own_of line) (Tcp2 (length h.machine.store.records)) None (side_of socket))) (λ fs made k. so)
+
+  pub accepted_so : (standing : Option Standing) (place : ℕ) (made : Result ℕ Stop) → CallsSo (made_so place made) standing
+  accepted_so standing place (Ok handle) = tt
+  accepted_so standing place (Err why) = tt
+
+  pub begun : (h : Here) (made : Result Create ErrorCode) → h.own ≡ Unused → Quiet h → Quiet (udp_begun h made)
+  begun h (Ok create) own i = (owns _ h.machine.store.standing h.own Used (λ k c. unused k (sym own ∙ c)) (push_create h.machine.store.records create h.machine.store.standing h.own i.0), i.1)
+  begun h (Err c) own i = spent h Used Unused own unused i
+
+  -- the law: the calls may be any
+  unfoldable pub connects : Above contexts line origin (λ es h. Udps h)
+  connects = record {
+    P = Anything;
+    Inv = λ es h. Quiet h;
+    moves = λ es h now m b i. moves_quiet h now m i;
+    asks = λ es h place n r side c at g o q b i. (tt, λ told fits. i);
+    sets = λ es h place r side backlog at g s is b i. (tt, λ told fits. i);
+    learns = λ es h place r side at g e b i. (tt, λ told fits. put_tcp h place _ i);
+    closes = λ es h place r side q g e b i. (tt, λ told fits. put_tcp h place _ i);
+    marks = λ es h kind parent sock m b i. whatever (λ made. Quiet h) (λ made. i) es (make_asks h.machine.table (own_of line) kind parent sock);
+    creates = λ es h ctx family c a o m b i. allows_then Anything (λ fs made. Quiet h) (λ fs done. Quiet (record h { machine = done.1; own = Used })) es (new_asks (own_of line) ctx family) (created_asks h.machine (own_of line)) (whatever (λ made. Quiet h) (λ made. i) es (new_asks (own_of line) ctx family)) (λ fs made k. joins fs h made o k);
+    accepted = λ es h c s place r is e o g b i. whatever (λ made. Connects h.machine.store.records h.machine.store.standing h.own × CallsSo (made_so place made.0) h.machine.store.standing) (λ made. (i.0, accepted_so h.machine.store.standing place made.0)) es (make_asks h.machine.table (own_of line) (Tcp2 place) (Some s) _);
+    polls = λ es h op after held b i. whatever (λ end. Quiet (after end)) (λ end. polls_quiet h op after held end i) es (poll_asks op);
+    turns = λ es h place r s g e b i. whatever (λ done. Quiet (put h place (with_writer r s done.1))) (λ done. put_tcp h place _ i) es (turn_asks s.writer);
+    gives_up = λ es h place r q g b i. whatever (λ done. Quiet (put h place (with_listening r listening.Not))) (λ done. put_tcp h place _ i) es (give_up_asks r.listening);
+    udp_asks = λ es h place n o c at g q b i. (tt, λ told fits. i);
+    udp_learns = λ es h place part o at g b i. (tt, λ told fits. put_open h place o _ g refl (λ some. some) i);
+    udp_peers = λ es h place o at g b i. (tt, λ told fits. put_open h place o _ g refl (λ some. some) i);
+    udp_closes = λ es h place o q g b i. (tt, λ told fits. put_none h place (Udp2Socket.Closed o.inner.side) (closed_none o.inner.side) i);
+    udp_creates = λ es h ctx family c may t o m b i. (tt, λ told fits. begun h (udp_after_create (own_of line) ctx.name family (told_done told)) o i);
+    udp_marks = λ es h place u g b i. whatever (λ made. Connects h.machine.store.records h.machine.store.standing h.own × ⊤) (λ made. (i.0, tt)) es (make_asks h.machine.table (udp_side u) (Udp2 place) None (Some (udp_side u)));
+    stream_marks = λ es h place n handle reached kind next new of b i. whatever (λ made. Connects h.machine.store.records h.machine.store.standing h.own × ⊤) (λ made. (i.0, tt)) es (make_asks h.machine.table (own_of n) kind (Some handle) _);
+    error_marks = λ es h n handle place handles m k e f b i. whatever (λ made. Quiet h) (λ made. i) es (make_asks h.machine.table (own_of n) ErrorValue (Some handle) _);
+    udp_gives_up = λ es h place create q g b i. whatever (λ done. Quiet (put_udp h place (Udp2Socket.Closed create.operation.who.side))) (λ done. put_none h place (Udp2Socket.Closed create.operation.who.side) (closed_none create.operation.who.side) i) es (create_cancel_asks create);
+    lookups = λ es h host l b i. (tt, λ told fits records same. found h records same i);
+    looks = λ es h place op at b i. (tt, λ told fits. i);
+  }
+
+  -- a write that begins in a call of streams
+  pub connects_begin : BeginsAbove connects
+  unfolding connects
+  connects_begin = record { begins = λ es h place n r s half permit bytes at g e w within own b i. begun_tcp h place _ Used Used own used i }
+
+-- a line begins with what it may write
+pub starts_with : (records : List Record) (standing : Option Standing) (own : Own) → Connects records standing Used → Connects records standing own
+starts_with records standing own i = owns records standing Used own used i
+
+pub first_connects : HasConnects first_state
+first_connects = record { quiet = λ place o op at c. absurd (cc); goes = λ place o op at c. absurd (cc) }
