@@ -44,7 +44,7 @@ use Rattle.wasi_host.specs.declared.udp.UdpInProgress.TheVariants as doing
 use Rattle.wasi_udp.specs.Bind.{IsBind as IsUdpBind}
 use Rattle.wasi_udp.specs.Create.{Create, made_by, with_left}
 use Rattle.wasi_walks.proofs.UdpLists.{udp_set_there}
-use Rattle.wasi_walks.specs.Waiting.{CreateFailed, CreateWaits, IsCreating, IsRestOfUdpConnect, IsUdpBinding, IsUdpConnecting, UdpConnectFailed, UdpConnectFails, UdpConnectWaits, UdpBindFailed, UdpBindFails, UdpBindWaits}
+use Rattle.wasi_walks.specs.Waiting.{CreateFailed, CreateWaits, IsCreating, IsRestOfUdpConnect, IsUdpBinding, IsUdpConnecting, UdpConnectFailed, UdpConnectWaits, UdpBindFailed, UdpBindFails, UdpBindWaits}
 use Rattle.wasi_host.specs.declared.listening.Listening.TheVariants as listening
 use Rattle.wasi_host.specs.declared.pending.Outcome.{Outcome as Given}
 use Rattle.wasi_udp.specs.Connect.{with_given}

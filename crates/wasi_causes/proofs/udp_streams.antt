@@ -6,3 +6,6 @@ pub mod Sends
 pub mod Receives
 pub mod Streams
 pub mod From
+pub mod Bounds
+pub mod SendAsks
+pub mod ReceiveAsks

@@ -24,10 +24,10 @@ use Rattle.wasi_causes.specs.Udp.{putting_udp}
 abbrev pub putting_record : Machine → ℕ → Udp2Socket → Machine
 putting_record m place u = record m { store = with_udp m.store place u }
 
--- The machine afterwards: nothing is pending, and of the records only that of the call has changed. Of a bind nothing is in
--- progress, and the socket is as it was; a listen is over, and its socket has no network socket, which was closed; of a create only
--- the name of the network socket is left, which was closed; and no connect is in progress, and the remote address is as it was where
--- a check was answered no, and else what was reported then.
+-- The machine afterwards: nothing is pending, and of the records only that of the call has changed. Of a bind and of a listen nothing
+-- is in progress, and else the socket is as it was, which has no network socket while it is about to listen; of a create only the name
+-- of its network socket is left; and of datagram streams no connect is in progress, and the remote address is as it was where a check
+-- was answered no, and else what was reported then. A call of another kind doesn't fail so.
 abbrev pub left_failed : (m : Machine) → {entries : List Entry} {call : StandingCall} {c : ErrorCode} → CallFails m entries call c → Machine
 left_failed m (BindFailed place r op c at is why) = putting (nothing_stands m) place (with_progress r doing.Nothing)
 left_failed m (ListenFailed place r op c at is why) = putting (nothing_stands m) place (with_listening r listening.Not)

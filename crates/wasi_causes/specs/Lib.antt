@@ -15,4 +15,5 @@ pub mod Blocking
 pub mod PollableCalls
 pub mod Cancelled
 pub mod Failed
+pub mod DatagramAsks
 pub mod MayAnswer

@@ -32,7 +32,7 @@ use Rattle.wasi_host.specs.declared.udp.UdpInProgress.TheVariants as doing
 use Rattle.wasi_host.specs.Datagrams.{has_streams}
 use Rattle.wasi_host.specs.Kinds.{kind_at, watch_of, with_handle}
 use Rattle.wasi_host.specs.Machine.{udp_socket_at}
-use Rattle.wasi_host.specs.Records.{udp2_at, udp2_pushed, open_at, open_put}
+use Rattle.wasi_host.specs.Records.{udp2_pushed, open_at, open_put}
 use Rattle.wasi_host.specs.Standing.{standing_as}
 use Rattle.wasi_host.specs.Udp.{is_udp_idle, is_udp_bound, opened_udp, with_udp_inner, with_udp_progress}
 use Rattle.wasi_host.specs.UdpCalls.{with_open_udp}

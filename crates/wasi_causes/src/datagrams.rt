@@ -1,7 +1,7 @@
 //! Where the answers of the steps of datagram streams come from, and what is left afterwards, as laws over the definitions of
 //! specs/: each is a function that does nothing, whose contract is the law.
 
-ghost use Rattle.std.specs.Prelude.{◌≡◌, ◌↔◌, ◌<◌, ℕ, ◌+◌, List, [], false, Option, IfSome, IsSomeAnd, Some, None, length};
+ghost use Rattle.std.specs.Prelude.{◌≡◌, ◌↔◌, ◌<◌, ℕ, ◌+◌, List, [], ◌∷◌, ◌++◌, false, Option, IfSome, IsSomeAnd, Some, None, length};
 ghost use Rattle.wasi_addr.specs.declared.address.IpSocketAddress.{IpSocketAddress};
 ghost use Rattle.wasi_world.specs.declared.call.Entry.{Entry};
 ghost use Rattle.wasi_world.specs.declared.datagram.OutgoingDatagram.{OutgoingDatagram};
@@ -25,8 +25,10 @@ ghost use Rattle.wasi_steps.specs.declared.step.Step.{Step};
 ghost use Rattle.wasi_steps.specs.declared.step.Step.TheVariants as Step;
 ghost use Rattle.wasi_steps.specs.Reply.{pair_fields, truth_fields};
 ghost use Rattle.wasi_walks.specs.Answered.{Answered, open_udp_at, outgoing_in};
+ghost use Rattle.wasi_causes.specs.DatagramAsks.{CountsSent, HandsOutWhatCame, IsOfReceive, IsOfSend};
 ghost use Rattle.wasi_causes.specs.Datagrams.{HasItsSocket, HasUdpStreams, IncomingGone, IsReceiving, IsSpent, LacksRoomForBoth, OfIncoming, OfOutgoing, OutgoingGone, PermitsSend, WatchesIncoming, WatchesOutgoing, with_both};
 ghost use Rattle.wasi_causes.specs.SendCauses.{ReceivedFrom, ReceivesSome, SendsSome, UdpReceiveRefusal, UdpSendRefusal};
+ghost use Rattle.wasi_causes.specs.Turns.{datagram_of};
 ghost use Rattle.wasi_causes.specs.StreamCauses.{HasNewStreams, MakesStreams, StreamsStand, UdpStreamRefusal};
 ghost use Rattle.wasi_causes.specs.Udp.{OfUdp, RefusedOfUdp};
 
@@ -125,7 +127,11 @@ pub fn stream_drops_ask_nothing()
 /// the background, with the code by which its own first datagram ended: one that can't be sent so, one of whose checks was
 /// answered no, one for a remote address that has changed, or one that was answered with the code. Either way nothing is
 /// permitted on the stream afterwards, unless the list was empty. After one that is refused nothing is in the background and no
-/// code waits; the machine is as it was in all else, but that a socket that was found bound is known to be.
+/// code waits; the machine is as it was in all else, but that a socket that was found bound is known to be. Whatever the reply is,
+/// each entry is an ask of one of its datagrams, by the operation of that datagram's part and of the stream's socket: whether the
+/// socket is bound, the check of the wildcard of one that isn't, the check of where the datagram goes, and the datagram itself,
+/// right after that was answered yes. Of a send that is done each datagram that it counts was sent, which was answered done, but
+/// that the last may wait: its last ask was answered pending, and it is sent in the background.
 pub fn sends_have_causes()
     ensures count { (contexts : List WasiSocketsCtx) (m : Machine) (line ctx outgoing : ℕ) (datagrams : List OutgoingDatagram) (fields : List Field) (entries : List Entry) (after : Machine)
         → Answered contexts m line (Step.UdpSend ctx outgoing datagrams) entries (Reply.Ok fields) after
@@ -139,13 +145,23 @@ pub fn sends_have_causes()
     ensures spends_refused { (contexts : List WasiSocketsCtx) (m : Machine) (line ctx outgoing : ℕ) (datagrams : List OutgoingDatagram) (entries : List Entry) (word : CodeWord) (after : Machine)
         → Answered contexts m line (Step.UdpSend ctx outgoing datagrams) entries (Reply.Err word) after
         → IsSpent after outgoing }
+    ensures asked { (contexts : List WasiSocketsCtx) (m : Machine) (line ctx outgoing : ℕ) (datagrams : List OutgoingDatagram) (before rest : List Entry) (e : Entry) (reply : Reply) (after : Machine)
+        → Answered contexts m line (Step.UdpSend ctx outgoing datagrams) (before ++ e ∷ rest) reply after
+        → OfOutgoing m (outgoing_at m outgoing) (λ place o out. IsOfSend line o.inner datagrams before e.op e.call) }
+    ensures sent { (contexts : List WasiSocketsCtx) (m : Machine) (line ctx outgoing : ℕ) (datagrams : List OutgoingDatagram) (fields : List Field) (entries : List Entry) (after : Machine)
+        → Answered contexts m line (Step.UdpSend ctx outgoing datagrams) entries (Reply.Ok fields) after
+        → OfOutgoing m (outgoing_at m outgoing) (λ place o out. CountsSent line o.inner datagrams fields entries (datagram_of (open_at after.store.records place))) }
 {}
 
 /// A receive that is done answers with at most as many datagrams as were wanted, and with at most 16. It is refused with the
 /// code by which the receive in progress failed, which wasn't taken yet, and asks nothing then; or, with none in progress, with
 /// the code by which the one that it began ended: `invalid-state` of a socket that isn't bound, or the code that it was answered.
 /// After one that is refused none is in progress and the code is taken; the machine is as it was in all else, but that a socket
-/// that was found bound is known to be. In a run each datagram is from the remote address that the stream keeps, where it keeps one.
+/// that was found bound is known to be. Whatever the reply is, each entry is asked by one of the line's receives, at most as many as
+/// datagrams are wanted and at most 16, and is of the stream's socket: whether it is bound, a datagram, of a socket that is, or the
+/// check of its sender, right after one came. What is handed out came by these receives in turn, one by each from the line's first on,
+/// and its sender's check was answered yes; before that stands the datagram that had come before, where one had. In a run each is from
+/// the remote address that the stream keeps, where it keeps one.
 pub fn receives_have_causes()
     ensures datagrams { (contexts : List WasiSocketsCtx) (m : Machine) (line ctx incoming most : ℕ) (fields : List Field) (entries : List Entry) (after : Machine)
         → Answered contexts m line (Step.UdpReceive ctx incoming most) entries (Reply.Ok fields) after
@@ -153,6 +169,12 @@ pub fn receives_have_causes()
     ensures cause { (contexts : List WasiSocketsCtx) (m : Machine) (line ctx incoming most : ℕ) (entries : List Entry) (word : CodeWord) (after : Machine)
         → Answered contexts m line (Step.UdpReceive ctx incoming most) entries (Reply.Err word) after
         → OfIncoming m (incoming_at m incoming) (λ place o inc. UdpReceiveRefusal m (next_name (first_ids line)) place o inc entries word after) }
+    ensures asked { (contexts : List WasiSocketsCtx) (m : Machine) (line ctx incoming most : ℕ) (before rest : List Entry) (e : Entry) (reply : Reply) (after : Machine)
+        → Answered contexts m line (Step.UdpReceive ctx incoming most) (before ++ e ∷ rest) reply after
+        → OfIncoming m (incoming_at m incoming) (λ place o inc. IsOfReceive line o.inner most before e.op e.call) }
+    ensures came { (contexts : List WasiSocketsCtx) (m : Machine) (line ctx incoming most : ℕ) (fields : List Field) (entries : List Entry) (after : Machine)
+        → Answered contexts m line (Step.UdpReceive ctx incoming most) entries (Reply.Ok fields) after
+        → OfIncoming m (incoming_at m incoming) (λ place o inc. HandsOutWhatCame line o.inner inc fields entries) }
     ensures from { (contexts : List WasiSocketsCtx) (steps : List Step) (log : List Entry) (replies : List Reply) (m : Machine) (line ctx incoming most : ℕ) (fields : List Field) (entries : List Entry) (after : Machine)
         → Left (run contexts [] first_state 1 steps) log (Give (replies, m)) → Answered contexts m line (Step.UdpReceive ctx incoming most) entries (Reply.Ok fields) after
         → OfIncoming m (incoming_at m incoming) (λ place o inc. ReceivedFrom inc.remote fields) }

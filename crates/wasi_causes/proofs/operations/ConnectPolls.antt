@@ -9,8 +9,7 @@ use Rattle.wasi_world.specs.Operation.{peer_front, remote_told}
 use Rattle.wasi_world.specs.declared.call.Call.TheVariants as call
 use Rattle.wasi_world.specs.declared.call.Told.TheVariants as told
 use Rattle.wasi_walks.specs.Waiting.{ConnectSendChecked, ConnectToldNo, ConnectToldWhy, ConnectUnchecked, IsLeftOfUdpConnect, IsRestOfUdpConnect, UdpConnectFails}
-use Rattle.wasi_causes.proofs.operations.Polls.{EndsFor}
-use Rattle.wasi_causes.proofs.tables.Meets.{Meets, Rows, asks, ends, widen}
+use Rattle.wasi_causes.proofs.tables.Meets.{Meets, Rows, asks, ends}
 use Rattle.wasi_causes.specs.StreamCauses.{given_by}
 
 -- it ended with this code for this reason, and gave what one that failed so gives

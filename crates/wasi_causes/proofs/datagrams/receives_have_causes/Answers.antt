@@ -1,6 +1,7 @@
 use Rattle.wasi_causes.proofs.datagrams.receives_have_causes.Goals as goal
 use Rattle.wasi_causes.proofs.tables.Steps.{its_own}
 use Rattle.wasi_causes.proofs.udp_streams.From.{runs_receive_from}
+use Rattle.wasi_causes.proofs.udp_streams.ReceiveAsks.{receives_ask, receives_came}
 use Rattle.wasi_steps.specs.declared.reply.Reply.TheVariants as reply
 use Rattle.wasi_steps.specs.declared.step.Step.TheVariants as step
 
@@ -9,4 +10,6 @@ returns c = record {
   from = λ contexts steps log replies m line ctx incoming most fields entries after w a. runs_receive_from contexts steps log replies m w line ctx incoming most fields entries after a;
   datagrams = λ contexts m line ctx incoming most fields entries after w. (its_own contexts m line (step.UdpReceive ctx incoming most) entries (reply.Ok fields) after w (λ e. cc)).1.1;
   cause = λ contexts m line ctx incoming most entries word after w. (its_own contexts m line (step.UdpReceive ctx incoming most) entries (reply.Err word) after w (λ e. cc)).1.1;
+  asked = λ contexts m line ctx incoming most before rest e reply after w. receives_ask m line ctx incoming most contexts before e rest reply after w;
+  came = λ contexts m line ctx incoming most fields entries after w. receives_came m line ctx incoming most contexts entries (reply.Ok fields) after w;
 }

@@ -1,5 +1,6 @@
 use Rattle.wasi_causes.proofs.datagrams.sends_have_causes.Goals as goal
 use Rattle.wasi_causes.proofs.tables.Steps.{its_own}
+use Rattle.wasi_causes.proofs.udp_streams.SendAsks.{sends_ask, sends_count}
 use Rattle.wasi_steps.specs.declared.reply.Reply.TheVariants as reply
 use Rattle.wasi_steps.specs.declared.step.Step.TheVariants as step
 
@@ -9,4 +10,6 @@ returns c = record {
   cause = λ contexts m line ctx outgoing datagrams entries word after w. (its_own contexts m line (step.UdpSend ctx outgoing datagrams) entries (reply.Err word) after w (λ e. cc)).1.1.0;
   spends = λ contexts m line ctx outgoing datagrams fields entries after some w. (its_own contexts m line (step.UdpSend ctx outgoing datagrams) entries (reply.Ok fields) after w (λ e. cc)).1.1.1 some;
   spends_refused = λ contexts m line ctx outgoing datagrams entries word after w. (its_own contexts m line (step.UdpSend ctx outgoing datagrams) entries (reply.Err word) after w (λ e. cc)).1.1.1;
+  asked = λ contexts m line ctx outgoing datagrams before rest e reply after w. sends_ask m line ctx outgoing datagrams contexts before e rest reply after w;
+  sent = λ contexts m line ctx outgoing datagrams fields entries after w. sends_count m line ctx outgoing datagrams contexts entries (reply.Ok fields) after w;
 }
