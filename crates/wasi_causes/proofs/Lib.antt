@@ -3,6 +3,7 @@ pub mod PipeLists
 pub mod tables
 pub mod operations
 pub mod udp_streams
+pub mod receiving
 pub mod resolving
 pub mod sockets
 pub mod streams

@@ -1,6 +1,6 @@
 -- Of the machines that runs lead to: a live incoming datagram stream has its stream in the record of an open UDP socket, no other
 -- handle of that record is one, and a socket whose connect is in progress has no streams.
-use Rattle.wasi_causes.proofs.Words.{Allows, Asks, End, Entry, Err, ErrorCode, ErrorValue, Give, Handles, Input, Item, Kind, Left, List, Machine, None, Ok, OpId, Operation, Option, Output, Reply, Result, Socket, Some, StandingCall, Step, Stop, Tcp2, Tcp2Socket, WasiSocketsCtx, []}
+use Rattle.wasi_causes.proofs.Words.{Allows, End, Entry, Err, ErrorCode, ErrorValue, Give, Handles, Input, Item, Kind, Left, List, Machine, None, Ok, OpId, Operation, Option, Output, Reply, Result, Socket, Some, StandingCall, Step, Stop, Tcp2, Tcp2Socket, WasiSocketsCtx, []}
 use Rattle.wasi_causes.proofs.Words.{allows_then, created_asks, first_state, gives_more, give_up_asks, inl, inr, is_some, kind_at, length, machine_asks, make_asks, new_asks, new_record, own_of, poll_asks, refl, run, side_at, side_of, standing_as, subst, sym, told_done, false, turn_asks, with_listening, with_writer, ℕ, ◌≡◌, ◌⊎◌}
 use Rattle.std.specs.Prelude.{◌||◌}
 use Rattle.wasi_table.specs.Table.{Live}
@@ -20,8 +20,8 @@ use Rattle.wasi_walks.specs.Licence.{Has}
 use Rattle.wasi_walks.proofs.fits.Law.{whatever}
 use Rattle.wasi_walks.proofs.fits.Polls.{Anything}
 use Rattle.wasi_walks.proofs.received.Handles.{AreUnder, begun_same, moves_under, polled_same}
-use Rattle.wasi_walks.proofs.walks.Begins.{BeginsAbove, begins_stand}
-use Rattle.wasi_walks.proofs.walks.Law.{BeginsWrites, Law, Walks}
+use Rattle.wasi_walks.proofs.walks.Begins.{begins_stand}
+use Rattle.wasi_walks.proofs.walks.Law.{BeginsWrites, Law}
 use Rattle.wasi_walks.proofs.walks.OnBase.{Above, stand}
 use Rattle.wasi_walks.proofs.walks.Moves as walk
 use Rattle.wasi_walks.proofs.walks.Moves.{Found, FoundUdp, GoesOn, NoStartIn, NoStartStands, HasNewStream, Held, Here, KeepsStreams, Made, Marks, MarksNext, Move, Own, Past, SameSockets, ToSend, made_so, put, put_udp, udp_begun}
@@ -96,7 +96,7 @@ module _ (contexts : List WasiSocketsCtx) (line : ℕ) (origin : Step) where
   moves_apart _ _ (walk.StandsDropOutgoing h ids place o quiet at g e) i = restood _ _ h.made _ (Some (standing_as ids (StandingCall.DropOutgoing place))) tt i
   moves_apart _ _ (walk.StandsBlocking h ids call handles made its) i = restood _ _ h.made _ (Some (standing_as ids (StandingCall.Blocking call))) tt i
   moves_apart _ _ (walk.StandsUdpConnect h ids place handle o op quiet at made g e) i = restood _ _ h.made _ (Some (standing_as ids (StandingCall.UdpConnect place handle))) (subst (MadeSo h.machine.table) made i.makes) i
-  moves_apart _ _ (walk.UdpChanges h place o now g p keeps) i = changed h place o now g keeps i
+  moves_apart _ _ (walk.UdpChanges h place o now g p keeps) i = changed h place o now g (walk.keeps_incoming origin h place o.incoming now.incoming keeps.incoming) i
   moves_apart _ _ (walk.BeginsUdpBind h place o a at g to idle own) i = put_open h place o _ g (λ e. e) i
   moves_apart _ _ (walk.BeginsUdpConnect h place o a at g to bound none own) i = put_open h place o _ g (λ e. e) i
   moves_apart _ _ (walk.BeginsSend h place n o out d bound at g e item known own) i = put_open h place o _ g (λ e. e) i
@@ -187,18 +187,22 @@ module _ (contexts : List WasiSocketsCtx) (line : ℕ) (origin : Step) where
       begins_stand (stand (udps_there contexts line origin) (connects contexts line origin)) aparts (begins_stand (udps_there contexts line origin) (connects contexts line origin) (udps_begin contexts line origin) (connects_begin contexts line origin))
       (record { begins = λ es h place n r s half permit bytes at g e w within used b i. (put_tcp h place r g _ i.0, i.1) })
 
-  -- the laws that rest on it, a write that begins in a call of streams, and what they say of a tree
-  pub on_streams : Above contexts line origin (λ es h. Apart h) → Law contexts line origin
-  unfolding streams_there udps_there connects aparts stand
-  on_streams a = stand streams_there a
+  -- for laws that rest on it
+  pub streams_law : Law contexts line origin
+  unfolding streams_there
+  streams_law = streams_there
 
-  pub begins_on_streams : (a : Above contexts line origin (λ es h. Apart h)) → BeginsAbove a → BeginsWrites (on_streams a)
-  unfolding on_streams streams_there udps_there connects aparts stand
-  begins_on_streams a k = begins_stand streams_there a streams_begin k
+  pub apart_in : (es : List Entry) (h : Here) → streams_law.Inv es h → Apart h
+  unfolding streams_law streams_there udps_there connects aparts stand
+  apart_in es h i = i
 
-  pub on_streams_along : (a : Above contexts line origin (λ es h. Apart h)) {A : Type 0} {h : Here} {end : A → Here} {asks : Asks A} → Walks (on_streams a) h end asks → (es : List Entry) → Apart h → a.Inv es h → Allows a.P (λ fs x. Apart (end x) × a.Inv fs (end x)) es asks
-  unfolding on_streams streams_there udps_there connects aparts stand
-  on_streams_along a w es b i = w.along es (b, i)
+  pub in_apart : (es : List Entry) (h : Here) → Apart h → streams_law.Inv es h
+  unfolding streams_law streams_there udps_there connects aparts stand
+  in_apart es h i = i
+
+  pub streams_law_begins : BeginsWrites streams_law
+  unfolding streams_law
+  streams_law_begins = streams_begin
 
   -- what it says of a line
   streams_along : (m : Machine) (es : List Entry) → Apart (Starts m (may_while m origin m.store.standing)) → Allows Anything (λ fs done. Apart (Over done.1)) es (machine_asks contexts m line origin)

@@ -19,7 +19,7 @@ use Rattle.wasi_walks.specs.Licence.{Has}
 use Rattle.wasi_walks.proofs.UdpLists.{udp_front, udp_in_push, udp_in_put, udp_set_get}
 use Rattle.wasi_walks.proofs.fits.Polls.{Anything}
 use Rattle.wasi_walks.proofs.received.Handles.{MakesUnder, Under, makes_more, under_so}
-use Rattle.wasi_walks.proofs.walks.Moves.{Found, FoundUdp, NoStartIn, NoStartStands, HasNewStream, Here, KeepsStreams, Made, MarksNext, SameSockets, ToSend, put, put_udp, udp_begun}
+use Rattle.wasi_walks.proofs.walks.Moves.{Found, FoundUdp, NoStartIn, NoStartStands, HasNewStream, Here, Made, MarksNext, SameSockets, ToSend, put, put_udp, udp_begun}
 use Rattle.wasi_causes.proofs.Slots.{SlotOf, has_without, is_another, new_slot, one_of, slot_of, value_of}
 
 -- == what is live
@@ -114,8 +114,8 @@ put_open h place o now g keeps i =
     put_by h place (Udp2Socket.Open now)
     (λ a l e has. (now, (refl, keeps (let same : has.socket ≡ o = (let at = has.at in cc) in ap (λ (x : OpenUdp). is_some x.incoming) (sym same) ∙ ap (λ x. is_some x) has.has)))) i
 
-pub changed : (h : Here) (place : ℕ) (o now : OpenUdp) → FoundUdp h place (Udp2Socket.Open o) → KeepsStreams h place o now → Parts h → Parts (put_udp h place (Udp2Socket.Open now))
-changed h place o now g k i = elim k.incoming [ inl keeps ↦ put_open h place o now g keeps i | inr gone ↦ put_none h place (Udp2Socket.Open now) (subst (MadeSo h.machine.table) gone i.makes) i ]
+pub changed : (h : Here) (place : ℕ) (o now : OpenUdp) → FoundUdp h place (Udp2Socket.Open o) → (is_some o.incoming ≡ true → is_some now.incoming ≡ true) ⊎ (h.made ≡ Made.Emptied (Incoming place)) → Parts h → Parts (put_udp h place (Udp2Socket.Open now))
+changed h place o now g k i = elim k [ inl keeps ↦ put_open h place o now g keeps i | inr gone ↦ put_none h place (Udp2Socket.Open now) (subst (MadeSo h.machine.table) gone i.makes) i ]
 
 -- no stream of a create is live, nor of a socket that has none
 pub not_yet : (h : Here) (place : ℕ) (create : Create) → FoundUdp h place (Udp2Socket.Creating create) → Parts h → NoIncoming h.machine.table place

@@ -18,7 +18,7 @@ use Rattle.wasi_host.specs.declared.udp.Udp2Socket.{Udp2Socket}
 use Rattle.wasi_walks.proofs.UdpLists.{udp_get_set, udp_of_push, udp_of_put, udp_split}
 use Rattle.wasi_walks.proofs.fits.Law.{whatever}
 use Rattle.wasi_walks.proofs.fits.Polls.{Anything}
-use Rattle.wasi_walks.proofs.walks.Here.{ConnectStands, IsConnectOf, KeepsStreams, NoConnectIn, NoStartIn, NoStartStands, or_true}
+use Rattle.wasi_walks.proofs.walks.Here.{ConnectStands, IsConnectOf, NoConnectIn, NoStart, NoStartIn, NoStartStands, or_true}
 use Rattle.wasi_walks.proofs.walks.Begins.{BeginsAbove}
 use Rattle.wasi_walks.proofs.walks.Moves as walk
 use Rattle.wasi_walks.proofs.walks.Moves.{Found, FoundUdp, GoesOn, Held, Here, Made, Move, Own, Past, SameSockets, ToConnect, Unused, Used, made_so, put, put_udp, udp_begun}
@@ -137,8 +137,8 @@ new_streams h place o now g same own q i = put_none h place (Udp2Socket.Open now
         let is : now ≡ x = cc in
         elim (i.0.goes place o op g (sym same ∙ (ap (λ (y : OpenUdp). y.connecting) is ∙ c))) [ inl s ↦ none_stands h.machine.store.standing place (no_start h.machine.store.standing q) s | inr e ↦ absurd (let p : Unused ≡ ToConnect place = sym own ∙ e in cc) ]
 
-changed : (h : Here) (place : ℕ) (o now : OpenUdp) → FoundUdp h place (Udp2Socket.Open o) → now.connecting ≡ o.connecting → KeepsStreams h place o now → Quiet h → Quiet (put_udp h place (Udp2Socket.Open now))
-changed h place o now g same keeps i = elim keeps.makes [ inl less ↦ put_open h place o now g same less i | inr new ↦ new_streams h place o now g same new.0 new.1 i ]
+changed : (h : Here) (place : ℕ) (o now : OpenUdp) → FoundUdp h place (Udp2Socket.Open o) → now.connecting ≡ o.connecting → (has_streams now ≡ true → has_streams o ≡ true) ⊎ ((h.own ≡ Unused) × NoStart h) → Quiet h → Quiet (put_udp h place (Udp2Socket.Open now))
+changed h place o now g same keeps i = elim keeps [ inl less ↦ put_open h place o now g same less i | inr new ↦ new_streams h place o now g same new.0 new.1 i ]
 
 -- the line's next operation begins
 spent : (h : Here) (own was : Own) → h.own ≡ was → ((k : ℕ) → was ≡ ToConnect k → ⊥) → Quiet h → Quiet (record h { own = own })
@@ -227,7 +227,7 @@ module _ (contexts : List WasiSocketsCtx) (line : ℕ) (origin : Step) where
   moves_quiet _ _ (walk.StandsUdpConnect h ids place handle o op quiet at made g e) i =
       let now = Some (standing_as ids (StandingCall.UdpConnect place handle)) in (stands_now h.machine.store.records h.machine.store.standing now h.own (no_start h.machine.store.standing quiet) i.0, subst (λ (m : Made). CallsSo m now) (sym made) tt)
   moves_quiet _ _ (walk.Unstands h over) i = (record { quiet = i.0.quiet; goes = λ k o op at c. inr (elim (i.0.goes k o op at c) [ inl s ↦ over k s | inr e ↦ e ]) }, calls_so h.made None tt)
-  moves_quiet _ _ (walk.UdpChanges h place o now g p keeps) i = changed h place o now g p.connects keeps i
+  moves_quiet _ _ (walk.UdpChanges h place o now g p keeps) i = changed h place o now g p.connects keeps.makes i
   moves_quiet _ _ (walk.BeginsUdpBind h place o a at g to idle own) i = begun_udp h place o _ g refl (λ some. some) Used Unused own unused i
   moves_quiet _ _ (walk.BeginsUdpConnect h place o a at g to bound none own) i = begins h place o _ none own i
   moves_quiet _ _ (walk.BeginsSend h place n o out d bound at g e item known own) i = begun_udp h place o _ g refl (λ some. rw e (or_true (is_some o.incoming))) (Own.Names (n + 1)) (Own.Names n) own (names n) i

@@ -8,6 +8,7 @@ pub mod datagrams;
 pub mod listens;
 pub mod lookups;
 pub mod options;
+pub mod received;
 pub mod stream_calls;
 pub mod udp;
 pub mod waiting;

@@ -6,6 +6,7 @@ pub mod Failures
 pub mod Law
 pub mod Told
 pub mod OnBase
+pub mod Layers
 pub mod Begins
 pub mod UdpLaw
 pub mod Sockets

@@ -297,7 +297,7 @@ module _ (contexts : List WasiSocketsCtx) (steps : List Step) (line : ℕ) (orig
   moves_fine es _ _ (Counts h u) b i = owned es h (Own.Names 1) (λ e. absurd (cc)) (shrinks_to line h.own Own.Unused (Own.Names 1) u (λ x t. t)) i
   moves_fine es _ _ (SpendsNames h n u) b i = spent es h i
   moves_fine es _ _ (BeginsSend h place n o out d bound at g e is known u) b i = begins_send contexts steps line origin is_line es h place n o out d bound at g is known u i
-  moves_fine es _ _ (BeginsReceive h place n o inc bound at g e is u) b i = begins_receive contexts steps line origin is_line es h place n o inc bound at g is u i
+  moves_fine es _ _ (BeginsReceive h place n o inc bound at g e is u) b i = begins_receive contexts steps line origin is_line es h place n o inc bound at g is.0 u i
   moves_fine es _ _ (CallsHandles h kind c quiet) b i = calls_handles contexts steps line origin is_line es h kind c i
   moves_fine es _ _ (RecallsCall h ids call e) b i = recalls_call contexts steps line origin is_line es h ids call e i
   moves_fine es _ _ (ReachesHandle h kind n handle place handles m k e) b i = reaches_handle contexts steps line origin is_line es h kind n handle place handles m k e i

@@ -32,8 +32,8 @@ use Rattle.wasi_walks.proofs.remotes.State.{WritesBy, Keeps, OpenKeeps, Receives
 use Rattle.wasi_walks.proofs.received.Late.{NoRecvOf, OnlyOf, long_more, only_other, InHandLate, IncomingLate, ReceivingLate, poll_late}
 use Rattle.wasi_tcp.specs.Connect as connect
 use Rattle.wasi_tcp.specs.Listen.{IsListen}
-use Rattle.wasi_walks.proofs.received.Polls.{AreSilent, Elsewhere, silent_poll}
-use Rattle.wasi_walks.proofs.received.Silent.{IsApart, accept_silent, bind_silent, cancelled_silent, connect_silent, given_up_silent, listen_silent, made_silent, new_silent, send_silent, turn_silent, udp_bind_silent, udp_connect_silent}
+use Rattle.wasi_walks.proofs.received.Polls.{AreSilent, Elsewhere, NoName, silent_poll}
+use Rattle.wasi_walks.proofs.received.Silent.{WritesApart, accept_silent, bind_silent, cancelled_silent, connect_silent, given_up_silent, listen_silent, made_silent, new_silent, send_silent, turn_silent, udp_bind_silent, udp_connect_silent}
 use Rattle.wasi_walks.proofs.received.State.{IsHeld, Late, OneEach, UdpLate, late_along, one_late, plain_late, put_later, push_tcp, push_udps, put_tcp, put_udps, same_late, same_or_not}
 
 -- a receive that begins has nothing in hand
@@ -46,12 +46,12 @@ module _ (side : OpId) (from : ℕ) where
   It es records = Late side from es records
 
   -- it holds along a tree that asks for no datagram there
-  pub along : {A : Type 0} (records : List Record) (es : List Entry) (asks : Asks A) → It es records → Allows (Elsewhere side (IsHeld side records)) (λ fs a. ⊤) es asks → Allows Anything (λ fs a. It fs records) es asks
+  pub along : {A : Type 0} (records : List Record) (es : List Entry) (asks : Asks A) → It es records → Allows (Elsewhere side (IsHeld side records) NoName) (λ fs a. ⊤) es asks → Allows Anything (λ fs a. It fs records) es asks
   along records es asks i n = allows_weaker Anything (λ fs a. It fs records × ⊤) (λ fs a. It fs records) (λ fs a k. k.0) es asks (late_along side from records (λ fs a. ⊤) es asks i n)
 
   -- a mark
   pub marks_late : (records : List Record) (es : List Entry) (t : Handles) (op : OpId) (kind : Kind) (parent : Option ℕ) (sock : Option OpId) → It es records → Allows Anything (λ fs made. It fs records) es (make_asks t op kind parent sock)
-  marks_late records es t op kind parent sock i = along records es (make_asks t op kind parent sock) i (made_silent side (IsHeld side records) es t op kind parent sock)
+  marks_late records es t op kind parent sock i = along records es (make_asks t op kind parent sock) i (made_silent side (IsHeld side records) NoName es t op kind parent sock)
 
   -- a socket that is created joins the records
   pub socket_adds : (es : List Entry) (m : Machine) (own : OpId) (made : Result Socket ErrorCode) → It es m.store.records → Allows Anything (λ fs done. It fs done.1.store.records) es (created_asks m own made)
@@ -62,7 +62,7 @@ module _ (side : OpId) (from : ℕ) where
 
   pub creates_late : (es : List Entry) (m : Machine) (own : OpId) (ctx : WasiSocketsCtx) (family : SocketAddressFamily) → It es m.store.records → Allows Anything (λ fs done. It fs done.1.store.records) es (create_asks m own ctx family)
   creates_late es m own ctx family i =
-      allows_then Anything (λ fs made. It fs m.store.records) (λ fs done. It fs done.1.store.records) es (new_asks own ctx family) (created_asks m own) (along m.store.records es (new_asks own ctx family) i (new_silent side (IsHeld side m.store.records) es own ctx family)) (λ fs made k. socket_adds fs m own made k)
+      allows_then Anything (λ fs made. It fs m.store.records) (λ fs done. It fs done.1.store.records) es (new_asks own ctx family) (created_asks m own) (along m.store.records es (new_asks own ctx family) i (new_silent side (IsHeld side m.store.records) NoName es own ctx family)) (λ fs made k. socket_adds fs m own made k)
 
   -- a create of a UDP socket was answered
   pub begun_late : (es : List Entry) (h : Here) (own : OpId) (maker : ℕ) (family : SocketAddressFamily) (told : Told) → IsDoneOrCode told → It es h.machine.store.records
@@ -72,14 +72,14 @@ module _ (side : OpId) (from : ℕ) where
   begun_late es h own maker family _ f i = absurd f
 
   -- == polls
-  polled_tcp : (es : List Entry) (h : Here) (place : ℕ) (op : Operation) (now : End × List Item → Tcp2Socket) → AreSilent side (IsHeld side h.machine.store.records) op.who op.left → It es h.machine.store.records → Allows Anything (λ fs ended. It fs (tcp2_put h.machine.store.records place (now ended))) es (poll_asks op)
+  polled_tcp : (es : List Entry) (h : Here) (place : ℕ) (op : Operation) (now : End × List Item → Tcp2Socket) → AreSilent side (IsHeld side h.machine.store.records) NoName op.who op.left → It es h.machine.store.records → Allows Anything (λ fs ended. It fs (tcp2_put h.machine.store.records place (now ended))) es (poll_asks op)
   polled_tcp es h place op now n i =
-      allows_weaker Anything (λ fs ended. It fs h.machine.store.records) (λ fs ended. It fs (tcp2_put h.machine.store.records place (now ended))) (λ fs ended k. put_tcp side from fs h.machine.store.records place (now ended) k) es _ (along h.machine.store.records es (poll_asks op) i (silent_poll side (IsHeld side h.machine.store.records) op es n))
+      allows_weaker Anything (λ fs ended. It fs h.machine.store.records) (λ fs ended. It fs (tcp2_put h.machine.store.records place (now ended))) (λ fs ended k. put_tcp side from fs h.machine.store.records place (now ended) k) es _ (along h.machine.store.records es (poll_asks op) i (silent_poll side (IsHeld side h.machine.store.records) NoName op es n))
 
-  polled_udp : (es : List Entry) (h : Here) (place : ℕ) (u : Udp2Socket) (op : Operation) (now : End × List Item → Udp2Socket) → FoundUdp h place u → ((fs : List Entry) (ended : End × List Item) → UdpLate side from fs u → UdpLate side from fs (now ended)) → AreSilent side (IsHeld side h.machine.store.records) op.who op.left → It es h.machine.store.records
+  polled_udp : (es : List Entry) (h : Here) (place : ℕ) (u : Udp2Socket) (op : Operation) (now : End × List Item → Udp2Socket) → FoundUdp h place u → ((fs : List Entry) (ended : End × List Item) → UdpLate side from fs u → UdpLate side from fs (now ended)) → AreSilent side (IsHeld side h.machine.store.records) NoName op.who op.left → It es h.machine.store.records
       → Allows Anything (λ fs ended. It fs (udp2_put h.machine.store.records place (now ended))) es (poll_asks op)
   polled_udp es h place u op now g f n i =
-      allows_weaker Anything (λ fs ended. It fs h.machine.store.records) (λ fs ended. It fs (udp2_put h.machine.store.records place (now ended))) (λ fs ended k. put_udps side from fs h.machine.store.records place (now ended) (f fs ended (k.udps place u g)) k) es _ (along h.machine.store.records es (poll_asks op) i (silent_poll side (IsHeld side h.machine.store.records) op es n))
+      allows_weaker Anything (λ fs ended. It fs h.machine.store.records) (λ fs ended. It fs (udp2_put h.machine.store.records place (now ended))) (λ fs ended k. put_udps side from fs h.machine.store.records place (now ended) (f fs ended (k.udps place u g)) k) es _ (along h.machine.store.records es (poll_asks op) i (silent_poll side (IsHeld side h.machine.store.records) NoName op es n))
 
   -- a create leaves no stream
   created_late : (create : Create) (fs : List Entry) (ended : End × List Item) → UdpLate side from fs (udp_create_left create ended)
@@ -134,15 +134,15 @@ module _ (side : OpId) (from : ℕ) where
   udp_question_quiet line origin n x _ q = tt
 
   -- a writer is on a network socket of TCP
-  pub writer_apart : (line : ℕ) (es : List Entry) (h : Here) (place : ℕ) (r : Tcp2Socket) (s : Streams) → Found h place r → r.streams ≡ Some s → Named line h → Keeps es h.machine.store.records → IsApart side (IsHeld side h.machine.store.records) s.writer
+  pub writer_apart : (line : ℕ) (es : List Entry) (h : Here) (place : ℕ) (r : Tcp2Socket) (s : Streams) → Found h place r → r.streams ≡ Some s → Named line h → Keeps es h.machine.store.records → WritesApart side (IsHeld side h.machine.store.records) NoName s.writer
   writer_apart line es h place r s g e names keeps = by_writer s.writer (keeps.tcps place r g s e).1
     where
       not_here : (job : Job) → r.side ≡ Some job.write.who.side → IsHeld side h.machine.store.records → job.write.who.side ≡ side → ⊥
       not_here job made x is = names.udps.apart side place x.place r (Udp2Socket.Open x.socket) g x.found (inl (made ∙ ap (λ (y : OpId). Some y) is)) x.is
 
-      by_writer : (w : WriteState) → WritesBy r.side w → IsApart side (IsHeld side h.machine.store.records) w
-      by_writer (WriteState.Writing job) k = not_here job k.0
-      by_writer (WriteState.Closing job) k = not_here job k.0
+      by_writer : (w : WriteState) → WritesBy r.side w → WritesApart side (IsHeld side h.machine.store.records) NoName w
+      by_writer (WriteState.Writing job) k = λ x. (not_here job k.0 x, λ n. n)
+      by_writer (WriteState.Closing job) k = λ x. (not_here job k.0 x, λ n. n)
       by_writer (WriteState.Ready half permit) k = tt
       by_writer (WriteState.Closed c) k = tt
 
@@ -177,21 +177,21 @@ module _ (side : OpId) (from : ℕ) where
     pub polls_late : (es : List Entry) (h : Here) (op : Operation) (after : End × List Item → Here) → Held h op after → Base contexts line origin h → Keeps es h.machine.store.records → It es h.machine.store.records
         → Allows Anything (λ fs ended. It fs (after ended).machine.store.records) es (poll_asks op)
     polls_late es h _ _ (walk.BindsOn place r op q g e) b keeps i = let its = subst (FitProgress r.inner.state) e (b.0.records place r g).2 in
-        polled_tcp es h place op (λ ended. with_progress r (bind_progress op ended)) (bind_silent side (IsHeld side h.machine.store.records) op.who op.left its.1.left) i
+        polled_tcp es h place op (λ ended. with_progress r (bind_progress op ended)) (bind_silent side (IsHeld side h.machine.store.records) NoName op.who op.left its.1.left) i
     polls_late es h _ _ (walk.Connects place r op g e) b keeps i = let its : connect.IsConnect op = subst HoldsConnect e (b.0.records place r g).0 in
-        polled_tcp es h place op (λ ended. with_inner r (with_state r.inner (connect_ended op.who ended).1)) (connect_silent side (IsHeld side h.machine.store.records) op.who op.left its.left) i
+        polled_tcp es h place op (λ ended. with_inner r (with_state r.inner (connect_ended op.who ended).1)) (connect_silent side (IsHeld side h.machine.store.records) NoName op.who op.left its.left) i
     polls_late es h _ _ (walk.Listens place r op q g e c) b keeps i = let its : IsListen op = subst FitListening e (b.0.records place r g).1 in
-        polled_tcp es h place op (listen_after op r) (listen_silent side (IsHeld side h.machine.store.records) op.who op.left its.left) i
+        polled_tcp es h place op (listen_after op r) (listen_silent side (IsHeld side h.machine.store.records) NoName op.who op.left its.left) i
     polls_late es h _ _ (walk.Awaits place r l op g e a) b keeps i = let its : IsAcceptOn l.side l.maker op = subst (HoldsAccept l.side l.maker) a (subst FitListening e (b.0.records place r g).1) in
-        polled_tcp es h place op (λ ended. accepting_now r l (accept_ended op.who ended)) (accept_silent side (IsHeld side h.machine.store.records) op.who op.left its.accept.left) i
-    polls_late es h _ _ (walk.UdpCreates place create q g) b keeps i = polled_udp es h place (Udp2Socket.Creating create) create.operation (udp_create_left create) g (λ fs ended k. created_late create fs ended) (subst (AreSilent side (IsHeld side h.machine.store.records) create.operation.who) (sym (b.0.udps place (Udp2Socket.Creating create) g).1) (tt, tt)) i
+        polled_tcp es h place op (λ ended. accepting_now r l (accept_ended op.who ended)) (accept_silent side (IsHeld side h.machine.store.records) NoName op.who op.left its.accept.left) i
+    polls_late es h _ _ (walk.UdpCreates place create q g) b keeps i = polled_udp es h place (Udp2Socket.Creating create) create.operation (udp_create_left create) g (λ fs ended k. created_late create fs ended) (subst (AreSilent side (IsHeld side h.machine.store.records) NoName create.operation.who) (sym (b.0.udps place (Udp2Socket.Creating create) g).1) (tt, tt)) i
     polls_late es h _ _ (walk.UdpBindsOn place o op q g e) b keeps i = let its : UdpBindOn o.inner.side op = subst (FitUdpProgress o.inner.side) e (b.0.udps place (Udp2Socket.Open o) g).0 in
-        polled_udp es h place (Udp2Socket.Open o) op (λ ended. Udp2Socket.Open (with_udp_progress o (udp_bind_progress op ended))) g (λ fs ended k. k) (udp_bind_silent side (IsHeld side h.machine.store.records) op.who op.left its.bind.left) i
+        polled_udp es h place (Udp2Socket.Open o) op (λ ended. Udp2Socket.Open (with_udp_progress o (udp_bind_progress op ended))) g (λ fs ended k. k) (udp_bind_silent side (IsHeld side h.machine.store.records) NoName op.who op.left its.bind.left) i
     polls_late es h _ _ (walk.UdpConnectsOn place o op q g e) b keeps i = let its : UdpConnectOn o.inner.side op = subst (FitConnecting o.inner.side) e (b.0.udps place (Udp2Socket.Open o) g).1 in
-        polled_udp es h place (Udp2Socket.Open o) op (λ ended. Udp2Socket.Open (udp_connect_left op o ended)) g (λ fs ended k. connected_late fs o op ended k) (udp_connect_silent side (IsHeld side h.machine.store.records) op.who op.left its.connect.left) i
+        polled_udp es h place (Udp2Socket.Open o) op (λ ended. Udp2Socket.Open (udp_connect_left op o ended)) g (λ fs ended k. connected_late fs o op ended k) (udp_connect_silent side (IsHeld side h.machine.store.records) NoName op.who (λ x n. n) op.left its.connect.left) i
     polls_late es h _ _ (walk.SendsOn place o out op left g e f s) b keeps i =
         let its : SendOn o.inner.side op = subst (FitSending o.inner.side) (ap sending_in e ∙ ap send_op f) (b.0.udps place (Udp2Socket.Open o) g).2 in
-        polled_udp es h place (Udp2Socket.Open o) (at_remote o.inner.remote op) (λ ended. Udp2Socket.Open (record o { outgoing = Some (with_sending out (left ended)) })) g (λ fs ended k. k) (send_silent side (IsHeld side h.machine.store.records) op.who op.left its.send.left) i
+        polled_udp es h place (Udp2Socket.Open o) (at_remote o.inner.remote op) (λ ended. Udp2Socket.Open (record o { outgoing = Some (with_sending out (left ended)) })) g (λ fs ended k. k) (send_silent side (IsHeld side h.machine.store.records) NoName op.who op.left its.send.left) i
     polls_late es h _ _ (walk.ReceivesOn place o inc op g e f) b keeps i =
         let its : ReceiveOn o.inner.side op = subst (FitReceiving o.inner.side) (ap receiving_in e ∙ ap receive_op f) (b.0.udps place (Udp2Socket.Open o) g).3 in
         receives_late es h place o inc op g e f its keeps (λ x k p q a c z. b.1.udps.one q.inner.side x k (Udp2Socket.Open p) (Udp2Socket.Open q) a c z refl) i (same_or_not o.inner.side side)
@@ -210,8 +210,8 @@ module _ (side : OpId) (from : ℕ) where
       creates = λ es h ctx family c a o m b i. creates_late es h.machine (own_of line) ctx family i;
       accepted = λ es h c s place r is e o g b i. marks_late _ es h.machine.table (own_of line) (Tcp2 place) (Some s) _ i;
       polls = λ es h op after k b i. polls_late es h op after k b.0 b.1 i;
-      turns = λ es h place r s g e b i. allows_weaker Anything (λ fs done. It fs h.machine.store.records) (λ fs done. It fs (tcp2_put h.machine.store.records place (with_writer r s done.1))) (λ fs done k. put_tcp side from fs _ place _ k) es (turn_asks s.writer) (along _ es (turn_asks s.writer) i (turn_silent side (IsHeld side h.machine.store.records) es s.writer (writer_apart line es h place r s g e b.0.1 b.1)));
-      gives_up = λ es h place r q g b i. allows_weaker Anything (λ fs done. It fs h.machine.store.records) (λ fs done. It fs (tcp2_put h.machine.store.records place (with_listening r Not))) (λ fs done k. put_tcp side from fs _ place _ k) es (give_up_asks r.listening) (along _ es (give_up_asks r.listening) i (given_up_silent side (IsHeld side h.machine.store.records) es r.listening));
+      turns = λ es h place r s g e b i. allows_weaker Anything (λ fs done. It fs h.machine.store.records) (λ fs done. It fs (tcp2_put h.machine.store.records place (with_writer r s done.1))) (λ fs done k. put_tcp side from fs _ place _ k) es (turn_asks s.writer) (along _ es (turn_asks s.writer) i (turn_silent side (IsHeld side h.machine.store.records) NoName es s.writer (writer_apart line es h place r s g e b.0.1 b.1)));
+      gives_up = λ es h place r q g b i. allows_weaker Anything (λ fs done. It fs h.machine.store.records) (λ fs done. It fs (tcp2_put h.machine.store.records place (with_listening r Not))) (λ fs done k. put_tcp side from fs _ place _ k) es (give_up_asks r.listening) (along _ es (give_up_asks r.listening) i (given_up_silent side (IsHeld side h.machine.store.records) NoName es r.listening));
       udp_asks = λ es h place n o c at g q b i. (tt, λ told f. one_late side from es (own_of n) c told _ (λ y. udp_question_quiet line origin n o.inner.side c q) i);
       udp_peers = λ es h place o at g b i. (tt, λ told f. (let k = one_late side from es (own_of line) (Call.Peer o.inner.side) told _ (λ y. tt) i in put_udps side from _ _ place (Udp2Socket.Open _) (k.udps place (Udp2Socket.Open o) g) k));
       udp_learns = λ es h place part o at g b i. (tt, λ told f. (let k = one_late side from es (part_of line part) (Call.Local o.inner.side) told _ (λ y. tt) i in put_udps side from _ _ place (Udp2Socket.Open _) (λ q. k.udps place (Udp2Socket.Open o) g (sym (learnt_side o.inner (told_addr told)) ∙ q)) k));
@@ -220,7 +220,7 @@ module _ (side : OpId) (from : ℕ) where
       udp_marks = λ es h place u g b i. marks_late _ es h.machine.table (udp_side u) (Udp2 place) None (Some (udp_side u)) i;
       stream_marks = λ es h place n handle reached kind m new e b i. marks_late _ es h.machine.table (own_of n) kind (Some handle) _ i;
       error_marks = λ es h n handle place handles m k e f b i. marks_late _ es h.machine.table (own_of n) ErrorValue (Some handle) _ i;
-      udp_gives_up = λ es h place create q g b i. allows_weaker Anything (λ fs done. It fs h.machine.store.records) (λ fs done. It fs (udp2_put h.machine.store.records place (Udp2Socket.Closed create.operation.who.side))) (λ fs done k. put_udps side from fs _ place (Udp2Socket.Closed create.operation.who.side) tt k) es (create_cancel_asks create) (along _ es (create_cancel_asks create) i (cancelled_silent side (IsHeld side h.machine.store.records) es create));
+      udp_gives_up = λ es h place create q g b i. allows_weaker Anything (λ fs done. It fs h.machine.store.records) (λ fs done. It fs (udp2_put h.machine.store.records place (Udp2Socket.Closed create.operation.who.side))) (λ fs done k. put_udps side from fs _ place (Udp2Socket.Closed create.operation.who.side) tt k) es (create_cancel_asks create) (along _ es (create_cancel_asks create) i (cancelled_silent side (IsHeld side h.machine.store.records) NoName es create));
       lookups = λ es h host l b i. (tt, λ told f records s. same_late side from _ _ records s (one_late side from es (own_of line) (Call.Lookup host) told _ (λ y. tt) i));
       looks = λ es h place op g b i. (tt, λ told f. one_late side from es op.id (Call.Lookup op.host) told _ (λ y. tt) i);
     }

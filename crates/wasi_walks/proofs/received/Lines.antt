@@ -1,5 +1,5 @@
 -- Each line's reply takes what was received on a network socket from the one place to the other, and what comes later is from there on.
-use Rattle.wasi_walks.proofs.Words.{⊤, ap, Allows, Bool, Kind, Entry, Err, IsMarkedWith, IsSide, List, Machine, None, Ok, OpId, Option, Reply, Result, Some, Standing}
+use Rattle.wasi_walks.proofs.Words.{⊤, Allows, Bool, Entry, Err, IsMarkedWith, IsSide, List, Machine, None, Ok, OpId, Option, Reply, Result, Some, Standing}
 use Rattle.wasi_walks.proofs.Words.{Step, Stop, Trap, WasiSocketsCtx, allows_keep, allows_then, allows_weaker, arith, asks_while, length, true, false}
 use Rattle.wasi_walks.proofs.Words.{first_ids, inl, inr, kind_at, machine_asks, refl, subst, sym, ℕ, ◌∙◌, ◌≡◌, ◌≤◌, ◌⊎◌}
 use Rattle.wasi_world.specs.declared.datagram.IncomingDatagram.{IncomingDatagram}
@@ -26,7 +26,7 @@ use Rattle.wasi_walks.proofs.licence.Frames.{side_more}
 use Rattle.wasi_walks.proofs.licence.Line.{names_udp}
 use Rattle.wasi_walks.proofs.licence.State.{NamesUdp, StateIsFine}
 use Rattle.wasi_walks.proofs.remotes.State.{Keeps, OpenKeeps, maker_of}
-use Rattle.wasi_walks.proofs.walks.States.{Over, incoming_record}
+use Rattle.wasi_walks.proofs.walks.States.{Over, incoming_kind, incoming_record}
 use Rattle.wasi_walks.proofs.walks.Steps.{machine_walks, may_while}
 use Rattle.wasi_walks.proofs.walks.Udp.{open_is}
 use Rattle.wasi_walks.proofs.received.Late.{OnlyOf, only_other, IncomingLate}
@@ -37,7 +37,6 @@ use Rattle.wasi_walks.proofs.received.Handles.{AreUnder}
 use Rattle.wasi_walks.proofs.received.Marks.{AreEarly, Early, Since, are_early_later, are_early_more, early_more}
 use Rattle.wasi_walks.proofs.received.Since.{Inv, begins_since, since_along}
 use Rattle.wasi_walks.proofs.walks.Moves.{Past}
-use Rattle.wasi_host.specs.Kinds.{incoming_of}
 use Rattle.wasi_host.specs.declared.kind.Kind.TheVariants.{Incoming}
 
 one_each : (line : ℕ) (m : Machine) → BaseBetween line m → OneEach m.store.records
@@ -190,11 +189,6 @@ module _ (side : OpId) (from : ℕ) where
   line_since contexts line s m es b k was =
       allows_weaker Anything _ (λ fs done. Between side from fs done.1) (λ fs done x. x.1) es (machine_asks contexts m line s)
       (since_along side from contexts line s (machine_walks line s (begins_since side from contexts line s) m m.store.standing refl) es (base_starts contexts line s m (may_while m s m.store.standing) b) k was)
-
-  -- the stream of a handle
-  incoming_kind : (k : Option Kind) (place : ℕ) → incoming_of k ≡ Some place → k ≡ Some (Incoming place)
-  incoming_kind (Some (Incoming n)) place e = let p : n ≡ place = cc in ap (λ (x : ℕ). Some (Incoming x)) p
-  incoming_kind _ place e = absurd (cc)
 
   -- the reply to a step
   pub step_takes : (contexts : List WasiSocketsCtx) (steps : List Step) (line : ℕ) (s : Step) (m : Machine) (es : List Entry) → ((handle : ℕ) (a b : OpId) → IsSide es handle a → IsSide es handle b → a ≡ b) → StateIsFine contexts steps es m → BaseBetween line m → Keeps es m.store.records → Between side from es m → Allows Anything (λ fs done. Takes fs s done) es (machine_asks contexts m line s)

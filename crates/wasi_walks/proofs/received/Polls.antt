@@ -1,4 +1,5 @@
--- Operations that ask for no datagram of a network socket: all but a receive of it.
+-- Operations that ask for no datagram of a network socket, nor about the sender of one that another operation has in hand: all but a
+-- receive of it.
 use Rattle.wasi_walks.proofs.Words.{AccessDenied, Allows, Asks, Bool, Call, Check, End, Entry, Err, ErrorCode, Front, FrontKeeps, Given}
 use Rattle.wasi_walks.proofs.Words.{InvalidState, IpSocketAddress, SocketAddressFamily, Item, Last, LastAsk, List, Listen, Nothing, NothingLast, Ok, OpId, Operation}
 use Rattle.wasi_walks.proofs.Words.{Polled, Refuse, Result, ShutdownSend, SocketAddrUse, Verdict, Who, Write, [], accept_front, admitted_front}
@@ -6,6 +7,7 @@ use Rattle.wasi_walks.proofs.Words.{allows_if, allows_polls, arrival_front, bind
 use Rattle.wasi_walks.proofs.Words.{if◌then◌else◌, last_ask, length, less_one, local_front, poll_asks, polled_front, refuse_front, suc, taken_front}
 use Rattle.wasi_walks.proofs.Words.{told_addr, told_arrival, told_done, told_polled, told_verdict, true, verdict_front, write_front, zero, ℕ, ⊤}
 use Rattle.wasi_walks.proofs.Words.{◌++◌, ◌∷◌, ◌≡◌}
+use Rattle.wasi_addr.specs.declared.address.SocketAddrUse.TheVariants.{UdpReceive}
 use Rattle.wasi_walks.proofs.received.Late.{NoRecvOf}
 use Rattle.std.specs.Prelude.{Option, not, ◌&&◌}
 use Rattle.wasi_addr.specs.declared.address.IpAddress.{IpAddress}
@@ -13,15 +15,35 @@ use Rattle.wasi_world.specs.Operation.{check_peer_front, is_now, is_wanted, look
 use Rattle.wasi_world.specs.Operation as item
 use Rattle.wasi_world.specs.Typed.{told_datagram, told_names}
 
-module _ (side : OpId) (Held : Type 0) where
-  -- any call but a `recv` of the network socket, where it is held
-  abbrev pub Elsewhere : List Entry → OpId → Call → Type 0
-  Elsewhere es op c = Held → NoRecvOf side c
+-- no operation has these names
+abbrev pub NoName : OpId → Type 0
+NoName op = ⊥
 
-  -- any ask but for a datagram there
+-- any call but a `recv` of this network socket, and but the check of a sender by an operation of these names
+abbrev pub Spares : OpId → (OpId → Type 0) → OpId → Call → Type 0
+Spares side Names op (Call.Recv x) = x ≡ side → ⊥
+Spares side Names op (Call.Check ctx a UdpReceive) = Names op → ⊥
+Spares side Names op _ = ⊤
+
+pub spares_recv : (side : OpId) (Names : OpId → Type 0) (op : OpId) (c : Call) → Spares side Names op c → NoRecvOf side c
+spares_recv side Names op (Call.Recv x) n = n
+spares_recv side Names op _ n = tt
+
+module _ (side : OpId) (Held : Type 0) (Names : OpId → Type 0) where
+  -- any call but those, where the network socket is held
+  abbrev pub Elsewhere : List Entry → OpId → Call → Type 0
+  Elsewhere es op c = Held → Spares side Names op c
+
+  -- the operation is of another network socket, and has none of the names
+  abbrev pub IsApart : Who → Type 0
+  IsApart who = Held → (who.side ≡ side → ⊥) × (Names who.id → ⊥)
+
+  -- any ask but for a datagram there, and but the check of a sender
   abbrev pub IsSilent : Who → Item → Type 0
-  IsSilent who (item.Receive wanted) = Held → who.side ≡ side → ⊥
-  IsSilent who (item.CheckPeer wanted bytes a) = Held → who.side ≡ side → ⊥
+  IsSilent who (item.Receive wanted) = IsApart who
+  IsSilent who (item.CheckPeer wanted bytes a) = IsApart who
+  IsSilent who (Check a UdpReceive) = Held → Names who.id → ⊥
+  IsSilent who (item.CheckLocal UdpReceive) = Held → Names who.id → ⊥
   IsSilent who _ = ⊤
 
   -- all of them
@@ -43,6 +65,15 @@ module _ (side : OpId) (Held : Type 0) where
     unfolding bind
     last_silent es NothingLast c given = tt
     last_silent es _ c given = ((λ x. tt), λ t fits. tt)
+
+    -- a check for this use
+    use_silent : (es : List Entry) (ctx : ℕ) (a : IpSocketAddress) (usage : SocketAddrUse) → IsSilent who (Check a usage) → Elsewhere es who.id (Call.Check ctx a usage)
+    use_silent es ctx a UdpReceive may = may
+    use_silent es ctx a _ may = λ x. tt
+
+    local_use : (a : IpSocketAddress) (usage : SocketAddrUse) → IsSilent who (item.CheckLocal usage) → IsSilent who (Check a usage)
+    local_use a UdpReceive may = may
+    local_use a _ may = tt
 
     module _ (items : List Item) (k : AreSilent who items) where
       -- what comes of the front ask
@@ -71,14 +102,14 @@ module _ (side : OpId) (Held : Type 0) where
       by_polled es i Polled.Pending may = (may, k)
 
       -- a check
-      checks : (es : List Entry) (a : IpSocketAddress) (usage : SocketAddrUse) → Leads es (check_front who a usage)
+      checks : (es : List Entry) (a : IpSocketAddress) (usage : SocketAddrUse) → IsSilent who (Check a usage) → Leads es (check_front who a usage)
       unfolding bind
-      checks es a usage = ((λ x. tt), λ t fits. by_verdict _ (Check a usage) (told_verdict t) tt)
+      checks es a usage may = (use_silent es who.context a usage may, λ t fits. by_verdict _ (Check a usage) (told_verdict t) may)
 
       -- the check of the local address
-      locals : (es : List Entry) (usage : SocketAddrUse) (r : Result IpSocketAddress ErrorCode) → Leads es (local_front who usage r)
-      locals es usage (Ok a) = checks es a usage
-      locals es usage (Err c) = last_silent es who.last c Nothing
+      locals : (es : List Entry) (usage : SocketAddrUse) (r : Result IpSocketAddress ErrorCode) → IsSilent who (item.CheckLocal usage) → Leads es (local_front who usage r)
+      locals es usage (Ok a) may = checks es a usage (local_use a usage may)
+      locals es usage (Err c) may = last_silent es who.last c Nothing
 
       -- an accept
       hands : (es : List Entry) (peer : IpSocketAddress) → Leads es (hand_front who peer)
@@ -126,7 +157,7 @@ module _ (side : OpId) (Held : Type 0) where
       sends es kept a bytes = allows_if Elsewhere (λ fs f. Keeps fs f) es (kept && not (is_now who.remote a)) _ _ (λ late. last_silent es who.last InvalidState Nothing) (λ now. ((λ x. tt), λ t fits. by_polled _ (item.Send kept a bytes) (told_polled t) tt))
 
       -- a receive
-      by_sender : (es : List Entry) (wanted : Option IpSocketAddress) (n : Held → who.side ≡ side → ⊥) (bytes : List ℕ) (a : IpSocketAddress) (v : Verdict) → Keeps es (received_front wanted bytes a v)
+      by_sender : (es : List Entry) (wanted : Option IpSocketAddress) (n : IsApart who) (bytes : List ℕ) (a : IpSocketAddress) (v : Verdict) → Keeps es (received_front wanted bytes a v)
       by_sender es wanted n bytes a Verdict.Yes = by_test (is_wanted wanted a)
         where
           by_test : (b : Bool) → Keeps es (if b then Goes (item.Datagram bytes a) else Again (item.Receive wanted))
@@ -136,12 +167,12 @@ module _ (side : OpId) (Held : Type 0) where
       by_sender es wanted n bytes a Verdict.Pending = (n, k)
 
       -- the sender is checked
-      senders : (es : List Entry) (wanted : Option IpSocketAddress) (n : Held → who.side ≡ side → ⊥) (bytes : List ℕ) (a : IpSocketAddress) → Leads es (check_peer_front who wanted bytes a)
+      senders : (es : List Entry) (wanted : Option IpSocketAddress) (n : IsApart who) (bytes : List ℕ) (a : IpSocketAddress) → Leads es (check_peer_front who wanted bytes a)
       unfolding bind
-      senders es wanted n bytes a = ((λ x. tt), λ t fits. by_sender _ wanted n bytes a (told_verdict t))
+      senders es wanted n bytes a = ((λ x. (n x).1), λ t fits. by_sender _ wanted n bytes a (told_verdict t))
 
       -- the receive was answered
-      receives : (es : List Entry) (wanted : Option IpSocketAddress) (n : Held → who.side ≡ side → ⊥) (p : Polled (List ℕ × IpSocketAddress)) → Leads es (receive_front who wanted p)
+      receives : (es : List Entry) (wanted : Option IpSocketAddress) (n : IsApart who) (p : Polled (List ℕ × IpSocketAddress)) → Leads es (receive_front who wanted p)
       receives es wanted n Polled.Pending = (n, k)
       receives es wanted n (Polled.Ready d) = senders es wanted n d.0 d.1
       receives es wanted n (Polled.Code c) = last_silent es who.last c Nothing
@@ -164,8 +195,8 @@ module _ (side : OpId) (Held : Type 0) where
     -- each front ask
     silent_front : (es : List Entry) (given : Given) (i : Item) (items : List Item) → AreSilent who (i ∷ items) → Allows Elsewhere (FrontKeeps Elsewhere who Before After items) es (front who i)
     unfolding bind
-    silent_front es given (Check a usage) items k = checks items k.1 es a usage
-    silent_front es given (item.CheckLocal usage) items k = ((λ x. tt), λ t fits. locals items k.1 _ usage (told_addr t))
+    silent_front es given (Check a usage) items k = checks items k.1 es a usage k.0
+    silent_front es given (item.CheckLocal usage) items k = ((λ x. tt), λ t fits. locals items k.1 _ usage (told_addr t) k.0)
     silent_front es given (item.Bind a) items k = ((λ x. tt), λ t fits. by_done items k.1 _ (told_done t))
     silent_front es given (item.Connect a) items k = ((λ x. tt), λ t fits. by_polled items k.1 _ (item.Connect a) (told_polled t) tt)
     silent_front es given (Listen backlog) items k = ((λ x. tt), λ t fits. by_done items k.1 _ (told_done t))
@@ -180,7 +211,7 @@ module _ (side : OpId) (Held : Type 0) where
     silent_front es given (item.UdpConnect family a) items k = ((λ x. tt), λ t fits. peers items k.1 _ family (told_done t))
     silent_front es given (item.AskPeer family told) items k = peers items k.1 es family told
     silent_front es given (item.Send kept a bytes) items k = sends items k.1 es kept a bytes
-    silent_front es given (item.Receive wanted) items k = (k.0, λ t fits. receives items k.1 _ wanted k.0 (told_datagram t))
+    silent_front es given (item.Receive wanted) items k = ((λ x. (k.0 x).0), λ t fits. receives items k.1 _ wanted k.0 (told_datagram t))
     silent_front es given (item.CheckPeer wanted bytes a) items k = senders items k.1 es wanted k.0 bytes a
     silent_front es given (item.Lookup host) items k = ((λ x. tt), λ t fits. by_names items k.1 _ host (told_names t))
     silent_front es given (Last c kept) items k = last_silent es who.last c kept

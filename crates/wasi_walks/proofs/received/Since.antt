@@ -20,6 +20,7 @@ use Rattle.wasi_walks.proofs.received.Handles.{AreUnder, MakesUnder, Under, begu
 use Rattle.wasi_walks.proofs.received.Late.{IncomingLate}
 use Rattle.wasi_walks.proofs.received.Law.{along, lates}
 use Rattle.wasi_walks.proofs.received.Marks.{AreEarly, NotIncoming, Since, are_early_more, early_new, early_other, is_other, moves_early}
+use Rattle.wasi_walks.proofs.received.Polls.{NoName}
 use Rattle.wasi_walks.proofs.received.Silent.{new_silent}
 use Rattle.wasi_walks.proofs.received.State.{IsHeld, Late, OneEach, one_late, put_later, push_tcp, put_tcp, same_or_not}
 use Rattle.wasi_walks.proofs.walks.Law.{BeginsWrites, Law, Walks}
@@ -143,7 +144,7 @@ module _ (side : OpId) (from : ℕ) where
       marks = λ es h kind parent sock m b i. marks_other es h (own_of line) kind parent sock (is_other side origin h kind parent sock m) i;
       creates = λ es h ctx family c a o m b i.
           allows_then Anything (λ fs made. Inv fs h) (λ fs done. Inv fs (record h { machine = done.1; own = Used })) es (new_asks (own_of line) ctx family) (created_asks h.machine (own_of line))
-          (kept h (λ made. h) es (new_asks (own_of line) ctx family) i (λ made. i.1) (λ fs made k. k) (along side i.0.start h.machine.store.records es (new_asks (own_of line) ctx family) i.0.late (new_silent side (IsHeld side h.machine.store.records) es (own_of line) ctx family)))
+          (kept h (λ made. h) es (new_asks (own_of line) ctx family) i (λ made. i.1) (λ fs made k. k) (along side i.0.start h.machine.store.records es (new_asks (own_of line) ctx family) i.0.late (new_silent side (IsHeld side h.machine.store.records) NoName es (own_of line) ctx family)))
           (λ fs made k. joins fs h (own_of line) made m k);
       accepted = λ es h c s place r is e o g b i. marks_so es h (own_of line) (Tcp2 place) (Some s) _ (made_so place) tt tt tt i;
       polls = λ es h op after k b i. kept h after es (poll_asks op) i (λ end. polled_same (λ t made standing. AreUnder t made standing) h op after k end i.1) (λ fs end. polled_same (λ t made standing. AreEarly side i.0.start fs t) h op after k end) ((lates side i.0.start contexts line origin).polls es h op after k b i.0.late);

@@ -14,7 +14,7 @@ use Rattle.wasi_walks.proofs.fits.Polls.{Anything}
 use Rattle.wasi_walks.proofs.fits.UdpFits.{kept_op}
 use Rattle.wasi_walks.proofs.walks.Moves.{Kept, SameSockets, UdpPlain, came_from, came_in, came_of, receive_op, receiving_in}
 use Rattle.wasi_walks.specs.Received.{ReceivesNone}
-use Rattle.wasi_walks.proofs.received.Polls.{Elsewhere}
+use Rattle.wasi_walks.proofs.received.Polls.{Elsewhere, NoName, spares_recv}
 use Rattle.wasi_walks.proofs.received.Late.{NoRecvOf, one_none, InHandLate, IncomingLate, ReceivedLate, ReceivingLate, incoming_late_more, long_more}
 
 -- two names are the same or not
@@ -103,8 +103,8 @@ module _ (side : OpId) where
   one_late from es op c told records n k = late_more from es _ records (λ x. one_none side op c told (n x)) k
 
   -- along a tree that asks for none
-  pub late_along : {A : Type 0} (from : ℕ) (records : List Record) (Q : List Entry → A → Type 0) (es : List Entry) (asks : Asks A) → Late from es records → Allows (Elsewhere side (IsHeld records)) Q es asks → Allows Anything (λ fs a. Late from fs records × Q fs a) es asks
-  late_along from records Q es asks k a = allows_keep (Elsewhere side (IsHeld records)) Anything (λ fs. Late from fs records) Q (λ fs op c t fits m n. one_late from fs op c t records n m) (λ fs op c n. tt) es asks k a
+  pub late_along : {A : Type 0} (from : ℕ) (records : List Record) (Q : List Entry → A → Type 0) (es : List Entry) (asks : Asks A) → Late from es records → Allows (Elsewhere side (IsHeld records) NoName) Q es asks → Allows Anything (λ fs a. Late from fs records × Q fs a) es asks
+  late_along from records Q es asks k a = allows_keep (Elsewhere side (IsHeld records) NoName) Anything (λ fs. Late from fs records) Q (λ fs op c t fits m n. one_late from fs op c t records (λ x. spares_recv side NoName op c (n x)) m) (λ fs op c n. tt) es asks k a
 
   -- == a record changes, or joins them
   pub put_tcp : (from : ℕ) (es : List Entry) (records : List Record) (place : ℕ) (now : Tcp2Socket) → Late from es records → Late from es (tcp2_put records place now)

@@ -20,13 +20,13 @@ IncomingWanted None = ⊤
 
 -- == a receive is polled
 -- what may be left of one that wants this address
-data IsLeft (only : Option IpSocketAddress) : List Item → Type 0 where
+pub data IsLeft (only : Option IpSocketAddress) : List Item → Type 0 where
   LeftToRefuse : (c : ErrorCode) → IsLeft only (Last c Nothing ∷ [])
   LeftToReceive : IsLeft only (Receive only ∷ [])
   LeftToCheck : (bytes : List ℕ) (peer : IpSocketAddress) → IsLeft only (CheckPeer only bytes peer ∷ [])
   LeftOver : IsLeft only []
 
-is_left : (only : Option IpSocketAddress) (items : List Item) → IsLeftOfReceive items → IsLeft only (wanted_in only items)
+pub is_left : (only : Option IpSocketAddress) (items : List Item) → IsLeftOfReceive items → IsLeft only (wanted_in only items)
 is_left only _ (ToRefuse c) = LeftToRefuse c
 is_left only _ (Unreceived any) = LeftToReceive
 is_left only _ (Received any bytes peer) = LeftToCheck bytes peer

@@ -9,7 +9,7 @@ use Rattle.wasi_host.specs.declared.udp.Udp2Socket.{Udp2Socket}
 use Rattle.wasi_host.specs.declared.udp.UdpInProgress.{UdpInProgress}
 use Rattle.wasi_udp.specs.Create.{Create, create_cancel_asks}
 use Rattle.wasi_walks.proofs.walks.Here.{ConnectStands, NoConnectIn, no_open, out_gone, takes_none}
-use Rattle.wasi_walks.proofs.walks.Moves.{Used, CancelsBind, CancelsUdpBind, CancelsUdpConnect, Changes, EndsConnect, Found, FoundUdp, Here, Leaves, RecallsStreams, ToConnect, ToStream, IsSettled, IsUdpSettled, Lists, NoStartStands, Spends, UdpChanges, Unstands, Unused, put_udp}
+use Rattle.wasi_walks.proofs.walks.Moves.{StreamStays, Used, CancelsBind, CancelsUdpBind, CancelsUdpConnect, Changes, EndsConnect, Found, FoundUdp, Here, Leaves, RecallsStreams, ToConnect, ToStream, IsSettled, IsUdpSettled, Lists, NoStartStands, Spends, UdpChanges, Unstands, Unused, put_udp}
 use Rattle.wasi_walks.proofs.walks.Law.{Law, Walks, and_then, from, give, give_up, gives, move, put_same}
 use Rattle.wasi_walks.proofs.walks.States.{Over, OverWith, Starts, stands_so, there}
 use Rattle.wasi_walks.proofs.walks.Udp.{open_is, udp_there}
@@ -38,7 +38,7 @@ module _ {contexts : List WasiSocketsCtx} {line : ℕ} {origin : Step} {law : La
     udp_bind_walks : (o : OpenUdp) → FoundUdp (Over m) place (Udp2Socket.Open o) → (doing : UdpInProgress) → o.in_progress ≡ doing → Walks law (Over m) (Stores m) (Give (cancel_udp_bind_at m.store place (Some o)))
     udp_bind_walks o g (UdpInProgress.Binding op) e = gives _ (CancelsUdpBind _ place o op quiet g e)
     udp_bind_walks o g _ e =
-        gives _ (UdpChanges _ place o _ g (record { side = refl; maker = refl; family = refl; remote = refl; bound = λ b. b; binds = inr (subst IsUdpSettled (sym e) tt, tt); connects = refl; sends = inl refl; receives = inl refl; came = inl refl }) (record { incoming = inl (λ some. some); makes = inl (λ some. some) }))
+        gives _ (UdpChanges _ place o _ g (record { side = refl; maker = refl; family = refl; remote = refl; bound = λ b. b; binds = inr (subst IsUdpSettled (sym e) tt, tt); connects = refl; sends = inl refl; receives = inl refl; came = inl refl }) (record { incoming = StreamStays _; makes = inl (λ some. some) }))
 
     udp_bind_at_walks : (o : Option OpenUdp) → open_at m.store.records place ≡ o → Walks law (Over m) (Stores m) (Give (cancel_udp_bind_at m.store place o))
     udp_bind_at_walks None e = give _
@@ -66,7 +66,7 @@ module _ {contexts : List WasiSocketsCtx} {line : ℕ} {origin : Step} {law : La
     drop_outgoing_at_walks None e = give _
     drop_outgoing_at_walks (Some o) e =
         let gone : OpenUdp = record o { outgoing = None } in
-        move (UdpChanges _ place o gone (open_is (udp2_at m.store.records place) o e) (record { side = refl; maker = refl; family = refl; remote = refl; bound = λ b. b; binds = inl refl; connects = refl; sends = inr refl; receives = inl refl; came = inl refl }) (record { incoming = inl (λ some. some); makes = inl (λ some. out_gone o some) }))
+        move (UdpChanges _ place o gone (open_is (udp2_at m.store.records place) o e) (record { side = refl; maker = refl; family = refl; remote = refl; bound = λ b. b; binds = inl refl; connects = refl; sends = inr refl; receives = inl refl; came = inl refl }) (record { incoming = StreamStays _; makes = inl (λ some. out_gone o some) }))
         (gives _ (Lists _ _))
 
   -- what is left of the records

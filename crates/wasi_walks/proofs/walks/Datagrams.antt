@@ -1,5 +1,5 @@
 -- The datagram streams of a UDP socket are made, as moves: with a connect before, or a disconnect, and then their handles.
-use Rattle.std.specs.Prelude.{◌≡◌, ⊤, ℕ, Bool, true, false, if◌then◌else◌, Option, Some, None, Result, Ok, Err}
+use Rattle.std.specs.Prelude.{is_some, ◌||◌, ◌≡◌, ⊤, ℕ, Bool, true, false, if◌then◌else◌, Option, Some, None, Result, Ok, Err}
 use Rattle.wasi_addr.specs.declared.address.IpSocketAddress.{IpSocketAddress}
 use Rattle.wasi_addr.specs.Address.{is_wildcard}
 use Rattle.wasi_walks.proofs.Words.{Answer, ErrorCode, Give, Has, Item, End, Waits, Done, Refused, Machine, Operation, Pending, Ready, Records, StandingCall, Step, Stop, WasiSocketsCtx, List}
@@ -11,6 +11,7 @@ use Rattle.wasi_host.specs.DatagramCalls.{start_streams_by, start_streams_at, re
 use Rattle.wasi_host.specs.Datagrams.{has_streams, with_streams, udp_connect_ended, udp_connect_left, poll_udp_connecting, udp_connect_begun, disconnected, disconnect_streams, streams_to, streams_where, begin_streams_asks}
 use Rattle.wasi_host.specs.Kinds.{udp_of}
 use Rattle.wasi_host.specs.Records.{open_at, udp2_at}
+use Rattle.wasi_host.specs.declared.datagrams.Incoming.{Incoming}
 use Rattle.wasi_host.specs.declared.datagrams.Receiving.{Receiving}
 use Rattle.wasi_host.specs.declared.kind.Kind.TheVariants as kinds
 use Rattle.wasi_host.specs.declared.udp.OpenUdp.{OpenUdp}
@@ -27,7 +28,7 @@ use Rattle.wasi_walks.proofs.Lists.{value_front}
 use Rattle.wasi_walks.proofs.UdpLists.{udp_set_there}
 use Rattle.wasi_walks.specs.Licence.{IsDisconnect, IsUdpConnectTo}
 use Rattle.wasi_walks.proofs.walks.Here.{no_open}
-use Rattle.wasi_walks.proofs.walks.Moves.{EndsConnect, HasNewStream, Here, ToConnect, ToSend, ToStream, Own, put_udp, FoundUdp, NoStart, NoStartStands, ReachesUdp, Leaves, Spends, UdpChanges, RemembersStreams, BeginsUdpConnect, StandsUdpConnect, Used, Unused}
+use Rattle.wasi_walks.proofs.walks.Moves.{StreamIsMade, StreamMoves, EndsConnect, HasNewStream, Here, ToConnect, ToSend, ToStream, Own, put_udp, FoundUdp, NoStart, NoStartStands, ReachesUdp, Leaves, Spends, UdpChanges, RemembersStreams, BeginsUdpConnect, StandsUdpConnect, Used, Unused}
 use Rattle.wasi_walks.proofs.walks.Law.{Law, Walks, Given, given_along, given_then, given_on, give, and_then, and_given, move, gives, from}
 use Rattle.wasi_walks.proofs.walks.States.{At, Over, OverWith, Starts, udp_record}
 use Rattle.wasi_walks.proofs.walks.Udp.{bound_walks, open_is, udp_there}
@@ -147,6 +148,14 @@ bound_connect op socket a e = ap (λ b. if is_connectable socket a then bind (as
 bound_same : (socket : Socket) → socket.bound ≡ true → socket ≡ record socket { bound = true }
 bound_same socket e = ap (λ b. let s : Socket = record socket { bound = b } in s) e
 
+-- a socket that has no streams has no incoming one
+no_incoming : (o : OpenUdp) → has_streams o ≡ false → o.incoming ≡ None
+no_incoming o e = by_stream o.incoming e
+  where
+    by_stream : (inc : Option Incoming) → (is_some inc || is_some o.outgoing) ≡ false → inc ≡ None
+    by_stream None e = refl
+    by_stream (Some inc) e = absurd (cc)
+
 -- where the call is done, its record has new streams
 abbrev pub AreMade : ℕ → Result (Answer (Unit {0})) Stop × Records → Type 0
 AreMade place (Ok (Ready d), store) = HasNewStream store place
@@ -184,9 +193,9 @@ module _ {contexts : List WasiSocketsCtx} {line : ℕ} {origin : Step} {law : La
 
   -- == on the record of a place
   module _ {h : Here} {place : ℕ} (here : HasUdp h place) (at : h.at ≡ Some (place, line)) (free : h.own ≡ Unused) (quiet : NoStart h) where
-    opens : (o : OpenUdp) → Walks law (put_udp h place (Udp2Socket.Open o)) (Ends h place) (Give (Ok (Ready tt), with_streams o))
-    opens o =
-        move (UdpChanges _ place o (with_streams o) (udp_found here (Udp2Socket.Open o)) (record { side = refl; maker = refl; family = refl; remote = refl; bound = λ b. b; binds = inl refl; connects = refl; sends = inr refl; receives = inr refl; came = inr refl }) (record { incoming = inl (λ some. refl); makes = inr (free, quiet) }))
+    opens : (o : OpenUdp) → o.incoming ≡ None → Walks law (put_udp h place (Udp2Socket.Open o)) (Ends h place) (Give (Ok (Ready tt), with_streams o))
+    opens o none =
+        move (UdpChanges _ place o (with_streams o) (udp_found here (Udp2Socket.Open o)) (record { side = refl; maker = refl; family = refl; remote = refl; bound = λ b. b; binds = inl refl; connects = refl; sends = inr refl; receives = inr refl; came = inr refl }) (record { incoming = subst (λ (inc : Option Incoming). StreamMoves origin (put_udp h place (Udp2Socket.Open o)) place inc (with_streams o).incoming) (sym none) (StreamIsMade _); makes = inr (free, quiet) }))
         (from (sym (udp_put_put h place (Udp2Socket.Open o) (Udp2Socket.Open (with_streams o)))) (gives _ (Spends _ free)))
 
     -- with a connect
@@ -203,9 +212,9 @@ module _ {contexts : List WasiSocketsCtx} {line : ℕ} {origin : Step} {law : La
             (from (ap (λ (x : Here). record x { own = ToConnect place }) (sym (udp_put_put h place (Udp2Socket.Open o) (Udp2Socket.Open now)))) (polled_by here quiet now (Some op) refl))
 
     -- with a disconnect, where the socket is connected
-    told_walks : (o : OpenUdp) (done : Result (Unit {0}) ErrorCode × Socket) → Walks law (put_udp h place (Udp2Socket.Open (with_udp_inner o done.1))) (Ends h place) (Give (disconnected o done))
-    told_walks o (Ok d, socket) = opens (with_udp_inner o socket)
-    told_walks o (Err c, socket) = gives _ (Spends _ free)
+    told_walks : (o : OpenUdp) → o.incoming ≡ None → (done : Result (Unit {0}) ErrorCode × Socket) → Walks law (put_udp h place (Udp2Socket.Open (with_udp_inner o done.1))) (Ends h place) (Give (disconnected o done))
+    told_walks o none (Ok d, socket) = opens (with_udp_inner o socket) none
+    told_walks o none (Err c, socket) = gives _ (Spends _ free)
 
     disconnect_walks : IsDisconnect origin → (o : OpenUdp) (remote : Option IpSocketAddress) → o.inner.bound ≡ true → Walks law (put_udp h place (Udp2Socket.Open o)) (λ done. put_udp h place (Udp2Socket.Open (with_udp_inner o done.1))) (disconnect_in (own_of line) o.inner remote)
     unfolding bind
@@ -214,13 +223,13 @@ module _ {contexts : List WasiSocketsCtx} {line : ℕ} {origin : Step} {law : La
         ask_udp here o at (refl, refl, to) (λ told. subst (λ (s : Socket). Walks law (put_udp h place (Udp2Socket.Open o)) (λ done. put_udp h place (Udp2Socket.Open (with_udp_inner o done.1))) (then_peer (own_of line) s (told_done told))) (bound_same o.inner bound)
         (peer_udp here o at (λ t. give _)))
 
-    without_walks : IsDisconnect origin → (o : OpenUdp) (connected : Bool) → o.inner.bound ≡ true → Walks law (put_udp h place (Udp2Socket.Open o)) (Ends h place) (disconnect_streams (own_of line) o connected)
-    without_walks to o true bound = and_then (disconnect_walks to o o.inner.remote bound) (told_walks o)
-    without_walks to o false bound = opens o
+    without_walks : IsDisconnect origin → (o : OpenUdp) → o.incoming ≡ None → (connected : Bool) → o.inner.bound ≡ true → Walks law (put_udp h place (Udp2Socket.Open o)) (Ends h place) (disconnect_streams (own_of line) o connected)
+    without_walks to o none true bound = and_then (disconnect_walks to o o.inner.remote bound) (told_walks o none)
+    without_walks to o none false bound = opens o none
 
     streams_to_walks : (c s : ℕ) (remote : Option IpSocketAddress) → origin ≡ Step.UdpStream c s remote → (o : OpenUdp) → o.inner.bound ≡ true → has_streams o ≡ false → Walks law (put_udp h place (Udp2Socket.Open o)) (Ends h place) (streams_to (own_of line) o remote)
     streams_to_walks c s (Some a) is o bound none = connect_walks o a bound none (subst (IsUdpConnectTo a) (sym is) refl)
-    streams_to_walks c s None is o bound none = without_walks (subst IsDisconnect (sym is) tt) o (is_connected o.inner.remote) bound
+    streams_to_walks c s None is o bound none = without_walks (subst IsDisconnect (sym is) tt) o (no_incoming o none) (is_connected o.inner.remote) bound
 
     where_walks : (c s : ℕ) (remote : Option IpSocketAddress) → origin ≡ Step.UdpStream c s remote → (o : OpenUdp) (bound : Bool) → (bound ≡ true → o.inner.bound ≡ true) → has_streams o ≡ false → Walks law (put_udp h place (Udp2Socket.Open o)) (Ends h place) (streams_where (own_of line) remote o bound)
     where_walks c s remote is o true k none = streams_to_walks c s remote is o (k refl) none

@@ -1,12 +1,14 @@
 -- What a line works on: the state, the record that one of its handles stands for, what it has made so far, and which names its
 -- operations were given.
-use Rattle.wasi_walks.proofs.Words.{Bool, Kind, List, Machine, None, OpId, Operation, Option, Records, Some, Standing, StandingCall, Tcp2, Tcp2Socket, ap, arith, inl, inr, refl, standing_as, subst, sym, true, false, with_socket, ℕ, ⊤, ◌+◌, ◌<◌, ◌≡◌, ◌≤◌, ◌⊎◌}
+use Rattle.wasi_walks.proofs.Words.{Bool, Handles, Kind, List, Machine, None, OpId, Operation, Option, Records, Some, Standing, StandingCall, Step, Tcp2, Tcp2Socket, ap, arith, inl, kind_at, inr, refl, standing_as, subst, sym, true, false, with_socket, ℕ, ⊤, ◌+◌, ◌<◌, ◌≡◌, ◌≤◌, ◌⊎◌}
 use Rattle.std.specs.Prelude.{is_some, ◌||◌}
 use Rattle.wasi_world.specs.declared.ids.Ids.{Ids}
 use Rattle.wasi_host.specs.Datagrams.{has_streams}
+use Rattle.wasi_host.specs.Receiving.{taken, with_receiving}
 use Rattle.wasi_host.specs.Records.{open_at, open_of, tcp2_at, udp2_at}
 use Rattle.wasi_host.specs.UdpCalls.{with_udp}
 use Rattle.wasi_host.specs.declared.kind.Kind.TheVariants.{Incoming, Outgoing, Udp2}
+use Rattle.wasi_host.specs.declared.datagrams.Incoming.{Incoming as IncomingStream}
 use Rattle.wasi_host.specs.declared.datagrams.Receiving.{Receiving}
 use Rattle.wasi_host.specs.declared.records.Record.{Record}
 use Rattle.wasi_host.specs.declared.udp.OpenUdp.{OpenUdp}
@@ -133,10 +135,33 @@ pub record IsCreated (h : Here) (place : ℕ) (u : Udp2Socket) : Type 0 where
   pub opens : IsOpenUdp u
 
 -- == datagram streams
--- Its incoming stream is there where it was, or the handle of that is gone; and streams are there only where some were, or a line
--- that has begun nothing makes them, while no start is pending.
-pub record KeepsStreams (h : Here) (place : ℕ) (old now : OpenUdp) : Type 0 where
-  pub incoming : (is_some old.incoming ≡ true → is_some now.incoming ≡ true) ⊎ (h.made ≡ Emptied (Incoming place))
+-- The step receives on the incoming stream of this record.
+pub record TakesFrom (origin : Step) (t : Handles) (place : ℕ) : Type 0 where
+  pub ctx : ℕ
+  pub handle : ℕ
+  pub most : ℕ
+  pub is : origin ≡ Step.UdpReceive ctx handle most
+  pub of : kind_at t handle ≡ Some (Incoming place)
+
+-- How the incoming stream of a UDP socket moves: it stays as it is; it is made, where there was none; what it holds is taken, by a
+-- line that receives on it; it goes, once its handle was dropped.
+pub data StreamMoves (origin : Step) (h : Here) (place : ℕ) : Option IncomingStream → Option IncomingStream → Type 0 where
+  StreamStays : (inc : Option IncomingStream) → StreamMoves origin h place inc inc
+  StreamIsMade : (inc : IncomingStream) → StreamMoves origin h place None (Some inc)
+  StreamIsTaken : (inc : IncomingStream) → TakesFrom origin h.machine.table place → StreamMoves origin h place (Some inc) (Some (with_receiving inc (taken inc.receiving).1))
+  StreamGoes : (inc : Option IncomingStream) → h.made ≡ Emptied (Incoming place) → StreamMoves origin h place inc None
+
+-- so it is there where it was, or its handle is gone
+pub keeps_incoming : (origin : Step) (h : Here) (place : ℕ) (old now : Option IncomingStream) → StreamMoves origin h place old now → (is_some old ≡ true → is_some now ≡ true) ⊎ (h.made ≡ Emptied (Incoming place))
+keeps_incoming origin h place _ _ (StreamStays inc) = inl (λ some. some)
+keeps_incoming origin h place _ _ (StreamIsMade inc) = inl (λ some. refl)
+keeps_incoming origin h place _ _ (StreamIsTaken inc takes) = inl (λ some. refl)
+keeps_incoming origin h place _ _ (StreamGoes inc gone) = inr gone
+
+-- How both of its streams move: streams are there only where some were, or a line that has begun nothing makes them, while no start is
+-- pending.
+pub record KeepsStreams (origin : Step) (h : Here) (place : ℕ) (old now : OpenUdp) : Type 0 where
+  pub incoming : StreamMoves origin h place old.incoming now.incoming
   pub makes : (has_streams now ≡ true → has_streams old ≡ true) ⊎ ((h.own ≡ Unused) × NoStart h)
 
 pub or_true : (b : Bool) → b || true ≡ true

@@ -68,21 +68,21 @@ module _ {contexts : List WasiSocketsCtx} {line : ℕ} {origin : Step} (law : La
   -- == at the incoming stream of a UDP socket
   module _ {h : Here} {place : ℕ} (here : HasUdp h place) (n part : ℕ) where
     -- a receive begins, unless the stream has one, or its result
-    fetch_walks : (o : OpenUdp) (inc : Incoming) (receiving : Receiving) → (has_none receiving ≡ true → (h.at ≡ Some (place, line)) × Receives origin) → MayBegin line n part h.own (has_none receiving)
+    fetch_walks : (o : OpenUdp) (inc : Incoming) (receiving : Receiving) → inc.receiving ≡ receiving → (has_none receiving ≡ true → (h.at ≡ Some (place, line)) × Receives origin) → MayBegin line n part h.own (has_none receiving)
         → Walks law (put_udp h place (Udp2Socket.Open (with_incoming o (o.inner, inc)))) (λ now. record (put_udp h place (Udp2Socket.Open now)) { own = after h.own part (has_none receiving) }) (bind (fetch_asks (part_of n part) receiving (o.inner, inc)) (λ s. Give (with_incoming o s)))
     unfolding bind
-    fetch_walks o inc Receiving.Nothing at may =
+    fetch_walks o inc Receiving.Nothing e at may =
         let its = may refl in
         let old = Udp2Socket.Open (with_incoming o (o.inner, inc)) in
         from (ap (λ (own : Own). record (put_udp h place old) { own = own }) (sym its.1))
         (subst (λ (x : ℕ). Walks law (record (put_udp h place old) { own = Names part }) (λ now. record (put_udp h place (Udp2Socket.Open now)) { own = Names (part + 1) }) (bind (fetch_asks (part_of x part) Receiving.Nothing (o.inner, inc)) (λ s. Give (with_incoming o s)))) (sym its.0)
-        (and_then (begun_walks here (at refl).0 (at refl).1 part o o.inner inc) (λ s. give _)))
-    fetch_walks o inc _ at may = give _
+        (and_then (begun_walks here (at refl).0 (at refl).1 part o o.inner inc e) (λ s. give _)))
+    fetch_walks o inc _ e at may = give _
 
     incoming_walks : (o : OpenUdp) (inc : Option Incoming) → o.incoming ≡ inc → (would_receive inc ≡ true → (h.at ≡ Some (place, line)) × Receives origin) → MayBegin line n part h.own (would_receive inc)
         → Walks law (put_udp h place (Udp2Socket.Open o)) (λ now. record (put_udp h place (Udp2Socket.Open now)) { own = after h.own part (would_receive inc) }) (look_incoming (names_from n part) o inc)
     incoming_walks o None e at may = give _
-    incoming_walks o (Some inc) e at may = from (incoming_is h place o inc e) (fetch_walks o inc inc.receiving at may)
+    incoming_walks o (Some inc) e at may = from (incoming_is h place o inc e) (fetch_walks o inc inc.receiving refl at may)
 
   -- == what is watched
   module _ (n : ℕ) (handles : List ℕ) (m : Machine) (own : Own) (part : ℕ) where

@@ -25,11 +25,11 @@ use Rattle.wasi_udp.specs.Shape.{Socket}
 use Rattle.wasi_udp.specs.Socket.{bound_asks}
 use Rattle.wasi_walks.specs.Licence.{Receives}
 use Rattle.wasi_walks.proofs.walks.Here.{in_gone}
-use Rattle.wasi_walks.proofs.walks.Moves.{Here, Names, Used, Unused, put_udp, FoundUdp, UdpPlain, receiving_in, receive_op, came_from, came_in, came_of, part_of, Leaves, Spends, SpendsNames, Counts, Lists, UdpChanges, BeginsReceive}
+use Rattle.wasi_walks.proofs.walks.Moves.{ReachesUdp, TakesFrom, StreamGoes, StreamIsTaken, StreamMoves, Here, Names, Used, Unused, put_udp, FoundUdp, UdpPlain, receiving_in, receive_op, came_from, came_in, came_of, part_of, Leaves, Spends, SpendsNames, Counts, Lists, UdpChanges, BeginsReceive}
 use Rattle.wasi_walks.proofs.walks.Law.{Law, Walks, Given, given_along, give, and_then, and_given, move, gives, from}
 use Rattle.wasi_walks.proofs.walks.Sends.{listed_walks}
-use Rattle.wasi_walks.proofs.walks.States.{At, Emptying, OverWith, Put, Sets, Starts, given_any, incoming_record}
-use Rattle.wasi_walks.proofs.walks.Udp.{open_is, on_udp, part_bound_walks, udp_there}
+use Rattle.wasi_walks.proofs.walks.States.{At, Emptying, OverWith, Put, Sets, Starts, given_any, incoming_kind, incoming_record}
+use Rattle.wasi_walks.proofs.walks.Udp.{open_is, part_bound_walks, udp_there}
 use Rattle.wasi_walks.proofs.walks.UdpLaw.{HasUdp, udp_put_put, udp_put_same, udp_found, poll_receive_walks}
 
 -- an incoming stream that has what it had
@@ -78,11 +78,11 @@ module _ {contexts : List WasiSocketsCtx} {line : ℕ} {origin : Step} {law : La
   -- == on the record of a place, by a line that receives
   module _ {h : Here} {place : ℕ} (here : HasUdp h place) (at : h.at ≡ Some (place, line)) (is : Receives origin) where
     -- what is taken from the stream leaves no receive in progress, or the one that it had
-    takes_walks : {A : Type 0} {end : A → Here} {asks : Asks A} (o : OpenUdp) (n : ℕ) (s : Socket × Incoming) (receiving : Receiving) → s.1.receiving ≡ receiving → Walks law (With h place o n (s.0, with_receiving s.1 (taken receiving).1)) end asks → Walks law (With h place o n s) end asks
-    takes_walks o n s receiving e w =
+    takes_walks : {A : Type 0} {end : A → Here} {asks : Asks A} → TakesFrom origin h.machine.table place → (o : OpenUdp) (n : ℕ) (s : Socket × Incoming) (receiving : Receiving) → s.1.receiving ≡ receiving → Walks law (With h place o n (s.0, with_receiving s.1 (taken receiving).1)) end asks → Walks law (With h place o n s) end asks
+    takes_walks takes o n s receiving e w =
         let was : OpenUdp = with_incoming o s in
         let inc : Incoming = with_receiving s.1 (taken receiving).1 in
-        move (UdpChanges _ place was (record was { incoming = Some inc }) (udp_found here (Udp2Socket.Open was)) (plain receiving e) (record { incoming = inl (λ some. refl); makes = inl (λ some. refl) }))
+        move (UdpChanges _ place was (record was { incoming = Some inc }) (udp_found here (Udp2Socket.Open was)) (plain receiving e) (record { incoming = subst (λ (r : Receiving). StreamMoves origin (With h place o n s) place (Some s.1) (Some (with_receiving s.1 (taken r).1))) e (StreamIsTaken s.1 takes); makes = inl (λ some. refl) }))
         (from (ap (λ (x : Here). record x { own = Names n }) (sym (udp_put_put h place (Udp2Socket.Open was) (Udp2Socket.Open (record was { incoming = Some inc }))))) w)
       where
         plain : (receiving : Receiving) → s.1.receiving ≡ receiving → UdpPlain (with_incoming o s) (record (with_incoming o s) { incoming = Some (with_receiving s.1 (taken receiving).1) })
@@ -92,45 +92,45 @@ module _ {contexts : List WasiSocketsCtx} {line : ℕ} {origin : Step} {law : La
         plain (Receiving.Failed c) e = idle_in (with_incoming o s) _ refl refl
 
     -- a receive begins, and is polled
-    polled_walks : (n : ℕ) (o : OpenUdp) (socket : Socket) (inc : Incoming) (bound : Bool) → Walks law (With h place o n (socket, inc)) (With h place o (n + 1)) (poll_receive_asks socket inc (receive_start (part_of line n) socket bound))
-    polled_walks n o socket inc bound =
+    polled_walks : (n : ℕ) (o : OpenUdp) (socket : Socket) (inc : Incoming) (bound : Bool) → inc.receiving ≡ Receiving.Nothing → Walks law (With h place o n (socket, inc)) (With h place o (n + 1)) (poll_receive_asks socket inc (receive_start (part_of line n) socket bound))
+    polled_walks n o socket inc bound idle =
         let was : OpenUdp = with_incoming o (socket, inc) in
         let op : Operation = receive_start (part_of line n) socket bound in
         let busy : Incoming = with_receiving inc (Receiving.InProgress op) in
         let now : OpenUdp = record was { incoming = Some busy } in
         let counted : Here = record h { own = Names (n + 1) } in
         let there : HasUdp counted place = record { was = here.was; at = here.at } in
-        move (BeginsReceive _ place n was inc bound at (udp_found here (Udp2Socket.Open was)) refl is refl)
+        move (BeginsReceive _ place n was inc bound at (udp_found here (Udp2Socket.Open was)) refl (is, idle) refl)
         (from (ap (λ (x : Here). record x { own = Names (n + 1) }) (sym (udp_put_put h place (Udp2Socket.Open was) (Udp2Socket.Open now))))
         (and_then (poll_receive_walks there now busy op refl refl) (λ ended. give _)))
 
-    pub begun_walks : (n : ℕ) (o : OpenUdp) (socket : Socket) (inc : Incoming) → Walks law (With h place o n (socket, inc)) (With h place o (n + 1)) (bind (receive_asks (part_of line n) socket) (λ begun. poll_receive_asks begun.1 inc begun.0))
-    begun_walks n o socket inc =
+    pub begun_walks : (n : ℕ) (o : OpenUdp) (socket : Socket) (inc : Incoming) → inc.receiving ≡ Receiving.Nothing → Walks law (With h place o n (socket, inc)) (With h place o (n + 1)) (bind (receive_asks (part_of line n) socket) (λ begun. poll_receive_asks begun.1 inc begun.0))
+    begun_walks n o socket inc idle =
         let was : OpenUdp = with_incoming o (socket, inc) in
         let counted : Here = record h { own = Names n } in
         let there : HasUdp counted place = record { was = here.was; at = here.at } in
         and_given {mid = λ begun. With h place o n (begun.1, inc)} (Begun (part_of line n)) (begun_given (part_of line n) socket) (and_then (part_bound_walks there at n was) (λ b. give _))
-        (λ begun k. subst (λ (op : Operation). Walks law (With h place o n (begun.1, inc)) (With h place o (n + 1)) (poll_receive_asks begun.1 inc op)) (sym k.same) (polled_walks n o begun.1 inc k.bound))
+        (λ begun k. subst (λ (op : Operation). Walks law (With h place o n (begun.1, inc)) (With h place o (n + 1)) (poll_receive_asks begun.1 inc op)) (sym k.same) (polled_walks n o begun.1 inc k.bound idle))
 
-    fetch_walks : (n : ℕ) (o : OpenUdp) (s : Socket × Incoming) (receiving : Receiving) → Walks law (With h place o n s) (With h place o (after_fetch receiving n)) (fetch_asks (part_of line n) receiving s)
-    fetch_walks n o s Receiving.Nothing = begun_walks n o s.0 s.1
-    fetch_walks n o s (Receiving.InProgress op) = give _
-    fetch_walks n o s (Receiving.Came d) = give _
-    fetch_walks n o s (Receiving.Failed c) = give _
+    fetch_walks : (n : ℕ) (o : OpenUdp) (s : Socket × Incoming) (receiving : Receiving) → s.1.receiving ≡ receiving → Walks law (With h place o n s) (With h place o (after_fetch receiving n)) (fetch_asks (part_of line n) receiving s)
+    fetch_walks n o s Receiving.Nothing e = begun_walks n o s.0 s.1 e
+    fetch_walks n o s (Receiving.InProgress op) e = give _
+    fetch_walks n o s (Receiving.Came d) e = give _
+    fetch_walks n o s (Receiving.Failed c) e = give _
 
-    next_walks : (n : ℕ) (o : OpenUdp) (s : Socket × Incoming) → Walks law (With h place o n s) (λ done. With h place o (after_fetch s.1.receiving n) done.1) (receive_next_asks (part_of line n) s)
-    next_walks n o s = and_then (fetch_walks n o s s.1.receiving) (λ t. takes_walks o (after_fetch s.1.receiving n) t t.1.receiving refl (give _))
+    next_walks : TakesFrom origin h.machine.table place → (n : ℕ) (o : OpenUdp) (s : Socket × Incoming) → Walks law (With h place o n s) (λ done. With h place o (after_fetch s.1.receiving n) done.1) (receive_next_asks (part_of line n) s)
+    next_walks takes n o s = and_then (fetch_walks n o s s.1.receiving refl) (λ t. takes_walks takes o (after_fetch s.1.receiving n) t t.1.receiving refl (give _))
 
     -- == datagrams in turn
     taken_over : {A : Type 0} (o : OpenUdp) (n : ℕ) (done : A × (Socket × Incoming)) → Walks law (With h place o n done.1) (Taken h place o) (Give done)
     taken_over o n done = gives _ (SpendsNames _ n refl)
 
-    all_walks : (o : OpenUdp) (most room n : ℕ) (so_far : List IncomingDatagram) (s : Socket × Incoming) → Walks law (With h place o n s) (Taken h place o) (receive_all most room (record { line = line; next_part = n }) so_far s)
-    all_walks o zero room n so_far s = taken_over o n _
-    all_walks o (suc most) zero n so_far s = taken_over o n _
-    all_walks o (suc most) (suc room) n so_far s =
-        and_then {mid = λ done. With h place o (after_fetch s.1.receiving n) done.1} (next_walks n o s)
-        (after_walks (λ d t. subst (λ (ids : Ids). Walks law (With h place o (after_fetch s.1.receiving n) t) (Taken h place o) (receive_all most (room - length d.bytes) ids (so_far ++ d ∷ []) t)) (sym (names_same line s.1.receiving n)) (all_walks o most (room - length d.bytes) (after_fetch s.1.receiving n) (so_far ++ d ∷ []) t)))
+    all_walks : TakesFrom origin h.machine.table place → (o : OpenUdp) (most room n : ℕ) (so_far : List IncomingDatagram) (s : Socket × Incoming) → Walks law (With h place o n s) (Taken h place o) (receive_all most room (record { line = line; next_part = n }) so_far s)
+    all_walks takes o zero room n so_far s = taken_over o n _
+    all_walks takes o (suc most) zero n so_far s = taken_over o n _
+    all_walks takes o (suc most) (suc room) n so_far s =
+        and_then {mid = λ done. With h place o (after_fetch s.1.receiving n) done.1} (next_walks takes n o s)
+        (after_walks (λ d t. subst (λ (ids : Ids). Walks law (With h place o (after_fetch s.1.receiving n) t) (Taken h place o) (receive_all most (room - length d.bytes) ids (so_far ++ d ∷ []) t)) (sym (names_same line s.1.receiving n)) (all_walks takes o most (room - length d.bytes) (after_fetch s.1.receiving n) (so_far ++ d ∷ []) t)))
       where
         k : ℕ
         k = after_fetch s.1.receiving n
@@ -143,23 +143,30 @@ module _ {contexts : List WasiSocketsCtx} {line : ℕ} {origin : Step} {law : La
         after_walks again (Ok Pending, t) = taken_over o k _
         after_walks again (Err c, t) = taken_over o k _
 
-    datagrams_walks : (o : OpenUdp) (inc : Option Incoming) (most : ℕ) → o.incoming ≡ inc → h.own ≡ Unused → Walks law (put_udp h place (Udp2Socket.Open o)) (λ done. record (put_udp h place (Udp2Socket.Open done.1)) { own = Used }) (receive_datagrams_asks (record { line = line; next_part = 1 }) most o inc)
-    datagrams_walks o None most e free = gives _ (Spends _ free)
-    datagrams_walks o (Some inc) most e free = from (incoming_is h place o inc e) (move (Counts _ free) (and_then (all_walks o (min most 16) 65536 1 [] (o.inner, inc)) told_walks))
+    datagrams_walks : TakesFrom origin h.machine.table place → (o : OpenUdp) (inc : Option Incoming) (most : ℕ) → o.incoming ≡ inc → h.own ≡ Unused → Walks law (put_udp h place (Udp2Socket.Open o)) (λ done. record (put_udp h place (Udp2Socket.Open done.1)) { own = Used }) (receive_datagrams_asks (record { line = line; next_part = 1 }) most o inc)
+    datagrams_walks takes o None most e free = gives _ (Spends _ free)
+    datagrams_walks takes o (Some inc) most e free = from (incoming_is h place o inc e) (move (Counts _ free) (and_then (all_walks takes o (min most 16) 65536 1 [] (o.inner, inc)) told_walks))
       where
         told_walks : (done : Result (List IncomingDatagram) ErrorCode × (Socket × Incoming)) → Walks law (Taken h place o done) (λ done. record (put_udp h place (Udp2Socket.Open done.1)) { own = Used }) (Give (all_received o done))
         told_walks (Ok ds, s) = give _
         told_walks (Err c, s) = give _
 
-  receives_at : Receives origin → (m : Machine) (place most : ℕ) (o : Option OpenUdp) → open_at m.store.records place ≡ o → Walks law (At line m place Unused) (Put line m place) (receive_datagrams_at m.store (first_ids line) place most o)
-  receives_at is m place most None e = gives _ (Spends _ refl)
-  receives_at is m place most (Some o) e =
+  receives_at : Receives origin → (m : Machine) (place most : ℕ) → TakesFrom origin m.table place → (o : Option OpenUdp) → open_at m.store.records place ≡ o → Walks law (At line m place Unused) (Put line m place) (receive_datagrams_at m.store (first_ids line) place most o)
+  receives_at is m place most takes None e = gives _ (Spends _ refl)
+  receives_at is m place most takes (Some o) e =
       let g : FoundUdp (At line m place Unused) place (Udp2Socket.Open o) = open_is (udp2_at m.store.records place) o e in
       from (udp_put_same (At line m place Unused) place (Udp2Socket.Open o) g)
-      (and_then (datagrams_walks (udp_there {h = At line m place Unused} g) refl is o o.incoming most refl refl) (λ done. listed_walks m place (Receive place) (done.0, with_open_udp m.store place done.1) (begins_receive o done.1)))
+      (and_then (datagrams_walks (udp_there {h = At line m place Unused} g) refl is takes o o.incoming most refl refl) (λ done. listed_walks m place (Receive place) (done.0, with_open_udp m.store place done.1) (begins_receive o done.1)))
 
-  pub receive_walks : Receives origin → (m : Machine) (incoming most : ℕ) → Has (handles_of origin) incoming → Walks law (Starts m Unused) OverWith (receive_datagrams_on m (first_ids line) most (incoming_at m incoming))
-  receive_walks is m incoming most named = on_udp m incoming (incoming_at m incoming) named (incoming_record (kind_at m.table incoming)) (λ place. receives_at is m place most (open_at m.store.records place) refl)
+  -- of the handle that the line names
+  receives_on : Receives origin → (m : Machine) (c incoming most : ℕ) → origin ≡ Step.UdpReceive c incoming most → Has (handles_of origin) incoming → (o : Option ℕ) → incoming_at m incoming ≡ o → Walks law (Starts m Unused) OverWith (receive_datagrams_on m (first_ids line) most o)
+  receives_on is m c incoming most its named None e = gives _ (Spends _ refl)
+  receives_on is m c incoming most its named (Some place) e =
+      move (ReachesUdp _ incoming place named (incoming_record (kind_at m.table incoming) place e))
+      (and_then (receives_at is m place most (record { ctx = c; handle = incoming; most = most; is = its; of = incoming_kind (kind_at m.table incoming) place e }) (open_at m.store.records place) refl) (λ done. gives _ (Leaves _)))
+
+  pub receive_walks : Receives origin → (m : Machine) (c incoming most : ℕ) → origin ≡ Step.UdpReceive c incoming most → Has (handles_of origin) incoming → Walks law (Starts m Unused) OverWith (receive_datagrams_on m (first_ids line) most (incoming_at m incoming))
+  receive_walks is m c incoming most its named = receives_on is m c incoming most its named (incoming_at m incoming) refl
 
   -- == a turn
   turned_walks : {h : Here} {place : ℕ} (here : HasUdp h place) (o : OpenUdp) (inc : Incoming) (receiving : Receiving) → o.incoming ≡ Some inc → inc.receiving ≡ receiving
@@ -181,4 +188,4 @@ module _ {contexts : List WasiSocketsCtx} {line : ℕ} {origin : Step} {law : La
   pub drop_incoming_walks : (m : Machine) (place : ℕ) (o : Option OpenUdp) → open_at m.store.records place ≡ o → Walks law (Emptying line m place (kinds.Incoming place) Unused) OverWith (Give (answered (with_store m (at_once (drop_incoming_at m.store place o)))))
   drop_incoming_walks m place None e = move (Spends _ refl) (gives _ (Leaves _))
   drop_incoming_walks m place (Some o) e =
-      move (UdpChanges _ place o (record o { incoming = None }) (open_is (udp2_at m.store.records place) o e) (idle_in o None refl refl) (record { incoming = inr refl; makes = inl (λ some. in_gone o some) })) (move (Spends _ refl) (move (Leaves _) (gives _ (Lists _ _))))
+      move (UdpChanges _ place o (record o { incoming = None }) (open_is (udp2_at m.store.records place) o e) (idle_in o None refl refl) (record { incoming = StreamGoes o.incoming refl; makes = inl (λ some. in_gone o some) })) (move (Spends _ refl) (move (Leaves _) (gives _ (Lists _ _))))

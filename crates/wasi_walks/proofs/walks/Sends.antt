@@ -27,7 +27,7 @@ use Rattle.wasi_walks.specs.Licence.{IsItem, IsSendOf}
 use Rattle.wasi_walks.proofs.walks.Datagrams.{KeepsBound, bound_given}
 use Rattle.std.specs.Prelude.{is_some}
 use Rattle.wasi_walks.proofs.walks.Here.{or_true, out_gone}
-use Rattle.wasi_walks.proofs.walks.Moves.{Here, NoStartStands, Names, Used, Unused, put_udp, FoundUdp, UdpPlain, SettlesSend, sending_in, part_of, Leaves, Spends, SpendsNames, Counts, Lists, UdpChanges, BeginsSend, StandsDropOutgoing}
+use Rattle.wasi_walks.proofs.walks.Moves.{StreamStays, Here, NoStartStands, Names, Used, Unused, put_udp, FoundUdp, UdpPlain, SettlesSend, sending_in, part_of, Leaves, Spends, SpendsNames, Counts, Lists, UdpChanges, BeginsSend, StandsDropOutgoing}
 use Rattle.wasi_walks.proofs.walks.Law.{Law, Walks, Given, given_along, give, and_then, and_so, and_given, by_if, move, gives, from}
 use Rattle.wasi_walks.proofs.walks.States.{At, Over, OverWith, Put, Sets, Starts, outgoing_record}
 use Rattle.wasi_walks.proofs.walks.Udp.{open_is, on_udp, part_bound_walks, udp_there}
@@ -139,7 +139,7 @@ module _ {contexts : List WasiSocketsCtx} {line : ℕ} {origin : Step} {law : La
         next_walks again (Sending.Failed c) =
             let was : OpenUdp = record o { inner = s.0; outgoing = Some s.1 } in
             let now : OpenUdp = record was { outgoing = Some idle } in
-            move (UdpChanges _ place was now (udp_found here (Udp2Socket.Open was)) (idle_out was (Some idle) refl) (record { incoming = inl (λ some. some); makes = inl (λ some. some) }))
+            move (UdpChanges _ place was now (udp_found here (Udp2Socket.Open was)) (idle_out was (Some idle) refl) (record { incoming = StreamStays _; makes = inl (λ some. some) }))
             (from (ap (λ (x : Here). record x { own = Names n }) (sym (udp_put_put h place (Udp2Socket.Open was) (Udp2Socket.Open now)))) (sent_over o n _))
 
     permitted_walks : (o : OpenUdp) (out : Outgoing) (ds : List OutgoingDatagram) → AreSent 1 origin ds → o.outgoing ≡ Some out → h.own ≡ Unused → Walks law (put_udp h place (Udp2Socket.Open o)) (λ done. record (put_udp h place (Udp2Socket.Open done.1)) { own = Used }) (send_permitted (record { line = line; next_part = 1 }) o out ds)
@@ -147,7 +147,7 @@ module _ {contexts : List WasiSocketsCtx} {line : ℕ} {origin : Step} {law : La
         let none : Outgoing = record out { permit = 0 } in
         let now : OpenUdp = record o { outgoing = Some none } in
         by_if (nat_lt out.permit (length ds)) (λ more. gives _ (Spends _ free))
-        (λ within. move (UdpChanges _ place o now (udp_found here (Udp2Socket.Open o)) (plain_out o (Some none) (ap sending_in (sym e))) (record { incoming = inl (λ some. some); makes = inl (λ some. rw e (or_true (is_some o.incoming))) }))
+        (λ within. move (UdpChanges _ place o now (udp_found here (Udp2Socket.Open o)) (plain_out o (Some none) (ap sending_in (sym e))) (record { incoming = StreamStays _; makes = inl (λ some. rw e (or_true (is_some o.incoming))) }))
         (from (sym (udp_put_put h place (Udp2Socket.Open o) (Udp2Socket.Open now))) (move (Counts _ free) (and_then (all_walks o 0 1 ds are (o.inner, none)) told_walks))))
       where
         told_walks : (done : Result ℕ ErrorCode × (Socket × Outgoing)) → Walks law (Sent h place o done) (λ done. record (put_udp h place (Udp2Socket.Open done.1)) { own = Used }) (Give (all_sent o done))
@@ -180,7 +180,7 @@ module _ {contexts : List WasiSocketsCtx} {line : ℕ} {origin : Step} {law : La
   -- == a permit
   permits_by : (m : Machine) (place : ℕ) (o : OpenUdp) → FoundUdp (Over m) place (Udp2Socket.Open o) → (out : Option Outgoing) → o.outgoing ≡ out → Walks law (Starts m Unused) (λ now. Over now) (Give (with_store m (check_send_by m.store place o out)).1)
   permits_by m place o g None e = gives _ (Spends _ refl)
-  permits_by m place o g (Some out) e = move (Spends _ refl) (gives _ (UdpChanges _ place o _ g (plain_out o (Some (permitted out)) (ap sending_in (sym e))) (record { incoming = inl (λ some. some); makes = inl (λ some. rw e (or_true (is_some o.incoming))) })))
+  permits_by m place o g (Some out) e = move (Spends _ refl) (gives _ (UdpChanges _ place o _ g (plain_out o (Some (permitted out)) (ap sending_in (sym e))) (record { incoming = StreamStays _; makes = inl (λ some. rw e (or_true (is_some o.incoming))) })))
 
   permits_at : (m : Machine) (place : ℕ) (o : Option OpenUdp) → open_at m.store.records place ≡ o → Walks law (Starts m Unused) (λ now. Over now) (Give (with_store m (check_send_at m.store place o)).1)
   permits_at m place None e = gives _ (Spends _ refl)
@@ -210,7 +210,7 @@ module _ {contexts : List WasiSocketsCtx} {line : ℕ} {origin : Step} {law : La
   -- == a drop
   drops_by : (ids : Ids) (m : Machine) (place : ℕ) (o : OpenUdp) → FoundUdp (At ids.line m place Used) place (Udp2Socket.Open o) → (b : Bool) → sends o.outgoing ≡ b → NoStartStands m.store.standing → Walks law (At ids.line m place Used) (Put ids.line m place) (Give (drop_outgoing_by m.store ids place o b))
   drops_by ids m place o g true e q = gives _ (StandsDropOutgoing _ ids place o q refl g e)
-  drops_by ids m place o g false e q = gives _ (UdpChanges _ place o _ g (idle_out o None refl) (record { incoming = inl (λ some. some); makes = inl (λ some. out_gone o some) }))
+  drops_by ids m place o g false e q = gives _ (UdpChanges _ place o _ g (idle_out o None refl) (record { incoming = StreamStays _; makes = inl (λ some. out_gone o some) }))
 
   drops_at : (ids : Ids) (m : Machine) (place : ℕ) (o : Option OpenUdp) → open_at m.store.records place ≡ o → NoStartStands m.store.standing → Walks law (At ids.line m place Used) (Put ids.line m place) (Give (drop_outgoing_at m.store ids place o))
   drops_at ids m place None e q = give _

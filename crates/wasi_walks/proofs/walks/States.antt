@@ -116,6 +116,10 @@ pub udp_record : (k : Option Kind) (place : ℕ) → udp_of k ≡ Some place →
 udp_record (Some (Udp2 n)) place e = e
 udp_record _ place e = absurd (cc)
 
+pub incoming_kind : (k : Option Kind) (place : ℕ) → incoming_of k ≡ Some place → k ≡ Some (Incoming place)
+incoming_kind (Some (Incoming n)) place e = let p : n ≡ place = cc in ap (λ (x : ℕ). Some (Incoming x)) p
+incoming_kind _ place e = absurd (cc)
+
 pub incoming_record : (k : Option Kind) (place : ℕ) → incoming_of k ≡ Some place → udp_record_of k ≡ Some place
 incoming_record (Some (Incoming n)) place e = e
 incoming_record _ place e = absurd (cc)

@@ -27,7 +27,7 @@ use Rattle.wasi_udp.specs.Options.{get_option_asks, set_option_asks}
 use Rattle.wasi_udp.specs.Shape.{Socket}
 use Rattle.wasi_udp.specs.Socket.{after_local, asker_of, ask_bound, bound_asks, local_where}
 use Rattle.wasi_walks.specs.Licence.{IsGetOf, IsSetTo, IsUdpBindTo}
-use Rattle.wasi_walks.proofs.walks.Moves.{AwaitsCreate, Here, put_udp, FoundUdp, IsOpenUdp, NoStart, NoStartStands, ReleasesUdp, CreatesUdp, udp_begun, part_of, udp_record_of, IsUdpSettled, ReachesUdp, Leaves, Spends, UdpChanges, BeginsUdpBind, StandsUdpBind, StandsUdpCreate, Used, Unused}
+use Rattle.wasi_walks.proofs.walks.Moves.{StreamStays, AwaitsCreate, Here, put_udp, FoundUdp, IsOpenUdp, NoStart, NoStartStands, ReleasesUdp, CreatesUdp, udp_begun, part_of, udp_record_of, IsUdpSettled, ReachesUdp, Leaves, Spends, UdpChanges, BeginsUdpBind, StandsUdpBind, StandsUdpCreate, Used, Unused}
 use Rattle.wasi_walks.proofs.UdpLists.{udp_set_there}
 use Rattle.wasi_walks.proofs.walks.Law.{Law, Walks, Given, given_then, given_on, given_along, give, and_then, and_so, and_given, by_if, move, gives, from}
 use Rattle.wasi_walks.proofs.walks.States.{At, Awaiting, Emptying, Over, OverWith, Put, Starts, udp_record}
@@ -254,7 +254,7 @@ module _ {contexts : List WasiSocketsCtx} {line : ℕ} {origin : Step} {law : La
       by_if (is_network (kind_at m.table n)) (λ yes. on_udp m s (udp_socket_at m s) named (udp_record (kind_at m.table s)) (λ place. start_at m place a to q (open_at m.store.records place) refl)) (λ other. gives _ (Spends _ refl))
 
   finish_by : (m : Machine) (place : ℕ) (o : OpenUdp) → FoundUdp (Over m) place (Udp2Socket.Open o) → (b : Bool) → is_udp_bound o.in_progress ≡ b → Walks law (Starts m Unused) (λ now. Over now) (Give (with_store m (finish_udp_bind_by m.store place o b)).1)
-  finish_by m place o g true e = move (Spends _ refl) (gives _ (UdpChanges _ place o _ g (record { side = refl; maker = refl; family = refl; remote = refl; bound = λ b. b; binds = inr (bound_settles o.in_progress e, tt); connects = refl; sends = inl refl; receives = inl refl; came = inl refl }) (record { incoming = inl (λ some. some); makes = inl (λ some. some) })))
+  finish_by m place o g true e = move (Spends _ refl) (gives _ (UdpChanges _ place o _ g (record { side = refl; maker = refl; family = refl; remote = refl; bound = λ b. b; binds = inr (bound_settles o.in_progress e, tt); connects = refl; sends = inl refl; receives = inl refl; came = inl refl }) (record { incoming = StreamStays _; makes = inl (λ some. some) })))
   finish_by m place o g false e = gives _ (Spends _ refl)
 
   finish_at : (m : Machine) (place : ℕ) (o : Option OpenUdp) → open_at m.store.records place ≡ o → Walks law (Starts m Unused) (λ now. Over now) (Give (with_store m (finish_udp_bind_at m.store place o)).1)

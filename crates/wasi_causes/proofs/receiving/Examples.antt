@@ -1,0 +1,104 @@
+-- A small log: of five datagrams the first is refused, the second comes from elsewhere, the third is checked twice, and the last waits
+-- for its check. So two are received.
+use Rattle.wasi_causes.proofs.Words.{Call, Entry, List, None, OpId, Some, Told, [], ap, entry, refl, ℕ, ◌≡◌, ◌∷◌, ◌++◌}
+use Rattle.wasi_addr.specs.declared.address.IpSocketAddress.{IpSocketAddress}
+use Rattle.wasi_addr.specs.declared.address.IpSocketAddress.TheVariants.{Ipv4}
+use Rattle.wasi_addr.specs.declared.address.SocketAddrUse.TheVariants.{UdpReceive}
+use Rattle.wasi_world.specs.declared.datagram.IncomingDatagram.{IncomingDatagram}
+use Rattle.wasi_steps.specs.Reply.{datagram_values, received_values}
+use Rattle.wasi_steps.specs.declared.reply.Reply.{Reply}
+use Rattle.wasi_steps.specs.declared.step.Step.{Step}
+use Rattle.std.specs.Prelude.{flat_map}
+use Rattle.wasi_causes.specs.ReceivedList.{HandedOut, NoneIsReplaced, handed_out, left_in_hand, received_since}
+
+abbrev at_port : ℕ → IpSocketAddress
+at_port port = Ipv4 (record { port = port; address = (192, 0, 2, 1) })
+
+abbrev of_line : ℕ → OpId
+of_line step = record { step = step; part = 1 }
+
+-- the network socket, and another one
+abbrev ours : OpId
+ours = record { step = 1; part = 0 }
+
+abbrev theirs : OpId
+theirs = record { step = 2; part = 0 }
+
+abbrev told : OpId → OpId → ℕ → ℕ → Entry
+told side op byte port = entry op (Call.Recv side) (Told.Datagram (byte ∷ []) (at_port port))
+
+abbrev checked : OpId → ℕ → Told → Entry
+checked op port answer = entry op (Call.Check 0 (at_port port) UdpReceive) answer
+
+abbrev datagram : ℕ → ℕ → IncomingDatagram
+datagram byte port = record { bytes = byte ∷ []; remote_address = at_port port }
+
+-- a no, and a yes about one from another port than the stream keeps
+abbrev refused : List Entry
+refused = told ours (of_line 4) 1 70 ∷ checked (of_line 4) 70 Told.No ∷ told ours (of_line 4) 2 90 ∷ checked (of_line 4) 90 Told.Yes ∷ []
+
+-- a check that is pending first, while another network socket receives from the same sender
+abbrev pending : List Entry
+pending = told ours (of_line 4) 3 70 ∷ checked (of_line 4) 70 Told.Pending ∷ told theirs (of_line 5) 9 70 ∷ checked (of_line 5) 70 Told.Yes ∷ checked (of_line 4) 70 Told.Yes ∷ []
+
+abbrev log : List Entry
+log = refused ++ pending ++ told ours (of_line 6) 4 70 ∷ checked (of_line 6) 70 Told.Yes ∷ told ours (of_line 7) 5 70 ∷ []
+
+-- a stream that keeps the address received two of them
+abbrev both : List IncomingDatagram
+both = datagram 3 70 ∷ datagram 4 70 ∷ []
+
+pub two_are_received : received_since ours (Some (at_port 70)) log ≡ both
+two_are_received = refl
+
+-- one that keeps none also what came from elsewhere
+pub three_are_received : received_since ours None log ≡ datagram 2 90 ∷ both
+three_are_received = refl
+
+-- the last one is in hand, and none was replaced
+pub one_is_in_hand : left_in_hand ours None log ≡ Some (record { op = of_line 7; datagram = datagram 5 70 })
+one_is_in_hand = refl
+
+pub none_is_replaced : NoneIsReplaced ours None log
+none_is_replaced = (refl, (tt, (refl, (tt, (refl, (tt, (tt, (tt, (tt, (refl, (tt, (refl, tt))))))))))))
+
+-- the other network socket received its own
+pub theirs_are_theirs : received_since theirs None log ≡ datagram 9 70 ∷ []
+theirs_are_theirs = refl
+
+-- == wrong lists
+-- one is left out, one is handed out twice, they are in the other order
+pub not_one_less : received_since ours (Some (at_port 70)) log ≡ datagram 4 70 ∷ [] → ⊥
+not_one_less e = absurd (cc)
+
+pub not_twice : received_since ours (Some (at_port 70)) log ≡ datagram 3 70 ∷ both → ⊥
+not_twice e = absurd (cc)
+
+abbrev first_bytes : List IncomingDatagram → List ℕ
+first_bytes [] = []
+first_bytes (d ∷ ds) = d.bytes
+
+differ : (a b : List ℕ) → a ≡ b → a ≡ 3 ∷ [] → b ≡ 4 ∷ [] → ⊥
+differ a b e f g = absurd (cc)
+
+pub not_turned : received_since ours (Some (at_port 70)) log ≡ datagram 4 70 ∷ datagram 3 70 ∷ [] → ⊥
+not_turned e = differ (first_bytes (received_since ours (Some (at_port 70)) log)) (first_bytes (datagram 4 70 ∷ datagram 3 70 ∷ [])) (ap (λ (ds : List IncomingDatagram). first_bytes ds) e) refl refl
+
+-- where one was told again before its check, one was replaced
+pub is_replaced : NoneIsReplaced ours None (told ours (of_line 4) 1 70 ∷ told ours (of_line 4) 2 70 ∷ []) → ⊥
+is_replaced k = let p : Some _ ≡ None = k.1.0 in absurd (cc)
+
+-- == replies
+-- on handle 3, among those of another stream: one, then none yet, then the other
+abbrev steps : List Step
+steps = Step.UdpReceive 0 3 8 ∷ Step.UdpReceive 0 5 8 ∷ Step.UdpReceive 0 3 8 ∷ Step.Turn ∷ Step.UdpReceive 0 3 8 ∷ []
+
+abbrev replies : List Reply
+replies = Reply.Ok (datagram_values (datagram 3 70 ∷ [])) ∷ Reply.Ok (datagram_values (datagram 9 70 ∷ [])) ∷ Reply.Ok (datagram_values []) ∷ Reply.Ok [] ∷ Reply.Ok (datagram_values (datagram 4 70 ∷ [])) ∷ []
+
+pub both_are_handed_out : HandedOut 3 steps replies both
+both_are_handed_out = refl
+
+-- with a script that goes on, so far
+pub so_far : handed_out 3 steps (Reply.Ok (datagram_values (datagram 3 70 ∷ [])) ∷ []) ≡ flat_map received_values (datagram 3 70 ∷ [])
+so_far = refl

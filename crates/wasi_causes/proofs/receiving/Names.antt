@@ -1,0 +1,177 @@
+-- The law that names of receives in progress are apart, from one another and from those of connects and writes.
+use Rattle.wasi_causes.proofs.Words.{Allows, Done, End, Entry, Err, ErrorCode, ErrorValue, Item, Job, List, None, Ok, OpId, Operation, Option, Refused, Result, Socket, Some, Step, Tcp2, Tcp2Socket, Waits, WasiSocketsCtx, WriteState, allows_then, ap, arith, created_asks, give_up_asks, inl, inr, job_asks, job_in, length, make_asks, new_asks, new_record, own_of, poll_asks, refl, side_at, side_of, subst, sym, told_done, turn_asks, with_listening, with_writer, ℕ, ⊤, ◌+◌, ◌∙◌, ◌≡◌}
+use Rattle.wasi_udp.specs.Create.{Create, after_create as udp_after_create, create_cancel_asks}
+use Rattle.wasi_host.specs.Datagrams.{udp_connect_left}
+use Rattle.wasi_host.specs.Receiving.{receive_left, with_receiving}
+use Rattle.wasi_host.specs.Records.{tcp2_at}
+use Rattle.wasi_host.specs.Udp.{udp_create_left, udp_side}
+use Rattle.wasi_host.specs.declared.datagrams.Receiving.{Receiving}
+use Rattle.wasi_host.specs.declared.kind.Kind.TheVariants.{Udp2}
+use Rattle.wasi_host.specs.declared.listening.Listening.TheVariants as listening
+use Rattle.wasi_host.specs.declared.udp.OpenUdp.{OpenUdp}
+use Rattle.wasi_host.specs.declared.udp.Udp2Socket.{Udp2Socket}
+use Rattle.wasi_walks.proofs.Words.{allows_weaker}
+use Rattle.wasi_walks.proofs.fits.Law.{whatever}
+use Rattle.wasi_walks.proofs.fits.Polls.{Anything}
+use Rattle.wasi_walks.proofs.walks.Begins.{BeginsAbove}
+use Rattle.wasi_walks.proofs.walks.Here.{grows_to, next_given, next_grows, next_to_come, not_given, older_unused, older_used}
+use Rattle.wasi_walks.proofs.walks.Moves as walk
+use Rattle.wasi_walks.proofs.walks.Moves.{FoundUdp, Held, Here, Move, Names, Own, ToConnect, Unused, Used, joined, part_of, put, put_udp, udp_begun}
+use Rattle.wasi_walks.proofs.walks.OnBase.{Above}
+use Rattle.wasi_causes.proofs.receiving.Named.{GivesLater, IsFirst, NamesApart, begins_apart, connect_name, job_name, kept_name, moves_first, name_of_op, owns_apart, polled_name, push_tcp, push_udps, put_tcp, put_udps, receive_name, same_apart, streams_name}
+
+module _ (contexts : List WasiSocketsCtx) (line : ℕ) (origin : Step) where
+  abbrev pub Apart : Here → Type 0
+  Apart h = NamesApart line h.own h.machine.store.records
+
+  -- the streams are as they were
+  pub tcp_stays : (h : Here) (place : ℕ) (r now : Tcp2Socket) → walk.Found h place r → now.streams ≡ r.streams → Apart h → Apart (put h place now)
+  tcp_stays h place r now g e i = put_tcp line h.own h.machine.store.records place now (subst (λ (s : Option _). IsFirst (streams_name s)) (sym e) (i.writes place r g)) i
+
+  -- the line has begun something
+  pub used : (h : Here) → Apart h → Apart (record h { own = Used })
+  used h i = owns_apart line h.own Used h.machine.store.records (older_used line h.own) tt i
+
+  -- its connect goes on
+  connects : (h : Here) (place : ℕ) → Apart h → Apart (record h { own = ToConnect place })
+  connects h place i = owns_apart line h.own (ToConnect place) h.machine.store.records (older_used line h.own) tt i
+
+  tcp_used : (h : Here) (place : ℕ) (r now : Tcp2Socket) → walk.Found h place r → now.streams ≡ r.streams → Apart h → Apart (record (put h place now) { own = Used })
+  tcp_used h place r now g e i = used (put h place now) (tcp_stays h place r now g e i)
+
+  pub tcp_none : (h : Here) (place : ℕ) (now : Tcp2Socket) → now.streams ≡ None → Apart h → Apart (put h place now)
+  tcp_none h place now e i = put_tcp line h.own h.machine.store.records place now (subst (λ (s : Option _). IsFirst (streams_name s)) (sym e) tt) i
+
+  -- a UDP socket whose receive and connect are as they were
+  pub udp_stays : (h : Here) (place : ℕ) (o now : OpenUdp) → FoundUdp h place (Udp2Socket.Open o) → now.incoming ≡ o.incoming → now.connecting ≡ o.connecting → Apart h → Apart (put_udp h place (Udp2Socket.Open now))
+  udp_stays h place o now g e f i =
+      put_udps line h.own h.machine.store.records place (Udp2Socket.Open o) (Udp2Socket.Open now) g (inl (ap (λ (x : Option _). name_of_op (walk.receiving_in x)) e)) i (subst (λ (x : Option Operation). IsFirst (name_of_op x)) (sym f) (i.connects place (Udp2Socket.Open o) g))
+
+  pub udp_other : (h : Here) (place : ℕ) (u now : Udp2Socket) → FoundUdp h place u → receive_name now ≡ None → IsFirst (connect_name now) → Apart h → Apart (put_udp h place now)
+  udp_other h place u now g e f i = put_udps line h.own h.machine.store.records place u now g (inr e) i f
+
+  next_gives : (own : Own) (n : ℕ) → own ≡ Names n → GivesLater own → GivesLater (Names (n + 1))
+  next_gives own n e g = let k : GivesLater (Names n) = subst GivesLater e g in omega (arith, k)
+
+  pub moves_apart : (h now : Here) → Move line origin h now → Apart h → Apart now
+  moves_apart _ _ (walk.Spends h e) i = used h i
+  moves_apart _ _ (walk.SpendsNames h n e) i = used h i
+  moves_apart _ _ (walk.Counts h e) i = owns_apart line h.own (Names 1) h.machine.store.records (grows_to line h.own Unused (Names 1) e (older_unused line (Names 1))) (omega arith) i
+  moves_apart _ _ (walk.Changes h place r now g p) i = tcp_stays h place r now g p.streams i
+  moves_apart _ _ (walk.ClosesReader h place r s g e) i = put_tcp line h.own h.machine.store.records place _ (subst (λ (s : Option _). IsFirst (streams_name s)) e (i.writes place r g)) i
+  moves_apart _ _ (walk.Writes h place r s w g e m) i = put_tcp line h.own h.machine.store.records place _ (moves_first s.writer w m (subst (λ (s : Option _). IsFirst (streams_name s)) e (i.writes place r g))) i
+  moves_apart _ _ (walk.IsGone h place r q g e) i = tcp_none h place _ refl i
+  moves_apart _ _ (walk.Reconnects h place r c now g e s t u) i = tcp_stays h place r _ g refl i
+  moves_apart _ _ (walk.Opens h place r c d g e k) i = put_tcp line h.own h.machine.store.records place _ tt i
+  moves_apart _ _ (walk.BeginsConnect h place r x a bound at g d to known idle own) i = tcp_used h place r _ g refl i
+  moves_apart _ _ (walk.BeginsBind h place r x a at g d to idle own) i = tcp_used h place r _ g refl i
+  moves_apart _ _ (walk.BeginsWrite h place n r s half permit bytes at g e w within own) i = used (put h place _) (put_tcp line h.own h.machine.store.records place _ refl i)
+  moves_apart _ _ (walk.BeginsListen h place r x at g d bound none to idle own) i = tcp_used h place r _ g refl i
+  moves_apart _ _ (walk.BeginsAccept h place n r l at g e a own) i = owns_apart line h.own (Names (n + 1)) _ (next_grows line n h.own own) (next_gives h.own n own i.gives) (tcp_stays h place r _ g refl i)
+  moves_apart _ _ (walk.Unlistens h place r op q g e c o) i = tcp_stays h place r _ g refl i
+  moves_apart _ _ (walk.Forgets h place r l c g e a) i = tcp_stays h place r _ g refl i
+  moves_apart _ _ (walk.Joins h c handle place r l new peer is of u g e a) i = push_tcp line h.own _ (joined l new peer) tt (tcp_stays h place r _ g refl i)
+  moves_apart _ _ (walk.UdpChanges h place o now g p keeps) i =
+      put_udps line h.own h.machine.store.records place (Udp2Socket.Open o) (Udp2Socket.Open now) g (kept_name (walk.receiving_in o.incoming) (walk.receiving_in now.incoming) p.receives) i (subst (λ (x : Option Operation). IsFirst (name_of_op x)) (sym p.connects) (i.connects place (Udp2Socket.Open o) g))
+  moves_apart _ _ (walk.BeginsUdpBind h place o a at g to idle own) i = used (put_udp h place _) (udp_stays h place o _ g refl refl i)
+  moves_apart _ _ (walk.BeginsUdpConnect h place o a at g to bound none own) i = connects (put_udp h place _) place (put_udps line h.own h.machine.store.records place (Udp2Socket.Open o) (Udp2Socket.Open _) g (inl refl) i refl)
+  moves_apart _ _ (walk.RecallsStreams h ids place handle e own) i = connects h place i
+  moves_apart _ _ (walk.EndsConnect h place own over) i = used h i
+  moves_apart _ _ (walk.BeginsSend h place n o out d bound at g e is known own) i = owns_apart line h.own (Names (n + 1)) _ (next_grows line n h.own own) (next_gives h.own n own i.gives) (udp_stays h place o _ g refl refl i)
+  moves_apart _ _ (walk.BeginsReceive h place n o inc bound at g e is own) i =
+      let first : GivesLater (Names n) = subst GivesLater own i.gives in
+      begins_apart line h.own h.machine.store.records place (Udp2Socket.Open _) (part_of line n) (Names (n + 1)) refl (i.connects place (Udp2Socket.Open o) g) first (λ old. not_given line h.own (part_of line n) old (next_to_come line n h.own own)) (next_given line n) (next_grows line n h.own own) (next_gives h.own n own i.gives) i
+  moves_apart _ _ (walk.CancelsBind h place r op q g e) i = tcp_stays h place r _ g refl i
+  moves_apart _ _ (walk.CancelsUdpBind h place o op q g e) i = udp_stays h place o _ g refl refl i
+  moves_apart _ _ (walk.CancelsUdpConnect h place o q g) i = put_udps line h.own h.machine.store.records place (Udp2Socket.Open o) (Udp2Socket.Open _) g (inl refl) i tt
+  moves_apart _ _ (walk.Finds h records s) i = same_apart line h.own h.machine.store.records records s i
+  moves_apart _ _ _ i = record { later = i.later; apart = i.apart; connects = i.connects; writes = i.writes; gives = i.gives }
+
+  -- a create leaves a socket that does nothing
+  created_none : (create : Create) (ended : End × List Item) → (receive_name (udp_create_left create ended) ≡ None) × IsFirst (connect_name (udp_create_left create ended))
+  created_none create (Waits, items) = (refl, tt)
+  created_none create (Done given, items) = (refl, tt)
+  created_none create (Refused c given, items) = (refl, tt)
+
+  -- a connect that is polled keeps its name, and a stream that is made receives nothing yet
+  connected : (h : Here) (place : ℕ) (o : OpenUdp) (op : Operation) (ended : End × List Item) → FoundUdp h place (Udp2Socket.Open o) → o.connecting ≡ Some op → Apart h → Apart (put_udp h place (Udp2Socket.Open (udp_connect_left op o ended)))
+  connected h place o op (Waits, items) g e i = put_udps line h.own h.machine.store.records place (Udp2Socket.Open o) (Udp2Socket.Open _) g (inl refl) i (subst (λ (x : Option Operation). IsFirst (name_of_op x)) e (i.connects place (Udp2Socket.Open o) g))
+  connected h place o op (Done given, items) g e i = udp_other h place (Udp2Socket.Open o) (Udp2Socket.Open _) g refl tt i
+  connected h place o op (Refused c given, items) g e i = put_udps line h.own h.machine.store.records place (Udp2Socket.Open o) (Udp2Socket.Open _) g (inl refl) i tt
+
+  received_name : (h : Here) (place : ℕ) (o : OpenUdp) (inc : _) (op : Operation) (ended : End × List Item) → FoundUdp h place (Udp2Socket.Open o) → o.incoming ≡ Some inc → inc.receiving ≡ Receiving.InProgress op → Apart h → Apart (put_udp h place (Udp2Socket.Open (record o { incoming = Some (with_receiving inc (receive_left op ended)) })))
+  received_name h place o inc op ended g e f i =
+      put_udps line h.own h.machine.store.records place (Udp2Socket.Open o) (Udp2Socket.Open _) g
+      (elim (polled_name op ended) [ inl p ↦ inl (p ∙ sym (ap (λ (x : Option _). name_of_op (walk.receiving_in x)) e ∙ ap (λ (r : _). name_of_op (walk.receive_op r)) f)) | inr p ↦ inr p ]) i (i.connects place (Udp2Socket.Open o) g)
+
+  pub polls_apart : (h : Here) (op : Operation) (after : End × List Item → Here) → Held h op after → (ended : End × List Item) → Apart h → Apart (after ended)
+  polls_apart h _ _ (walk.BindsOn place r op q g e) ended i = tcp_stays h place r _ g refl i
+  polls_apart h _ _ (walk.Connects place r op g e) ended i = tcp_stays h place r _ g refl i
+  polls_apart h _ _ (walk.Listens place r op q g e c) ended i = listens ended
+    where
+      listens : (ended : End × List Item) → Apart (put h place (walk.listen_after op r ended))
+      listens (Waits, items) = tcp_stays h place r _ g refl i
+      listens (Done given, items) = tcp_stays h place r _ g refl i
+      listens (Refused code given, items) = tcp_stays h place r _ g refl i
+  polls_apart h _ _ (walk.Awaits place r l op g e a) ended i = tcp_stays h place r _ g refl i
+  polls_apart h _ _ (walk.UdpCreates place create q g) ended i = udp_other h place (Udp2Socket.Creating create) _ g (created_none create ended).0 (created_none create ended).1 i
+  polls_apart h _ _ (walk.UdpBindsOn place o op q g e) ended i = udp_stays h place o _ g refl refl i
+  polls_apart h _ _ (walk.UdpConnectsOn place o op q g e) ended i = connected h place o op ended g e i
+  polls_apart h _ _ (walk.SendsOn place o out op left g e f s) ended i = udp_stays h place o _ g refl refl i
+  polls_apart h _ _ (walk.ReceivesOn place o inc op g e f) ended i = received_name h place o inc op ended g e f i
+
+  pub begun_apart : (h : Here) (made : Result Create ErrorCode) → Apart h → Apart (udp_begun h made)
+  begun_apart h (Ok create) i = used (record h { machine = (udp_begun h (Ok create)).machine }) (push_udps line h.own h.machine.store.records (Udp2Socket.Creating create) refl tt i)
+  begun_apart h (Err c) i = used h i
+
+  -- a socket that is created joins the records
+  pub joins : (es : List Entry) (h : Here) (own : OpId) (made : Result Socket ErrorCode) → Apart h → Allows Anything (λ fs done. Apart (record h { machine = done.1; own = Used })) es (created_asks h.machine own made)
+  joins es h own (Err c) i = used h i
+  joins es h own (Ok socket) i =
+      allows_then Anything (λ fs made. ⊤) (λ fs done. Apart (record h { machine = done.1; own = Used })) es (make_asks h.machine.table own (Tcp2 (length h.machine.store.records)) None (side_of socket)) _
+      (whatever (λ made. ⊤) (λ made. tt) es (make_asks h.machine.table own (Tcp2 (length h.machine.store.records)) None (side_of socket)))
+      (λ fs made k. owns_apart line h.own Used _ (older_used line h.own) tt (push_tcp line h.own h.machine.store.records (new_record socket) tt i))
+
+  -- a turn of a writer
+  job_first : (es : List Entry) (job : Job) (end : End) → IsFirst (Some job.write.who.id) → Allows Anything (λ fs j. IsFirst (Some j.write.who.id)) es (job_in job end)
+  job_first es job Waits f = allows_then Anything (λ fs ended. ⊤) (λ fs j. IsFirst (Some j.write.who.id)) es (poll_asks job.write) _ (whatever (λ ended. ⊤) (λ ended. tt) es (poll_asks job.write)) (λ fs ended k. f)
+  job_first es job _ f = f
+
+  pub turn_first : (es : List Entry) (w : WriteState) → IsFirst (job_name w) → Allows Anything (λ fs done. IsFirst (job_name done.1)) es (turn_asks w)
+  turn_first es (WriteState.Writing job) f = allows_then Anything (λ fs j. IsFirst (Some j.write.who.id)) (λ fs done. IsFirst (job_name done.1)) es (job_asks job) _ (job_first es job job.end f) (λ fs j k. k)
+  turn_first es (WriteState.Closing job) f = allows_then Anything (λ fs j. IsFirst (Some j.write.who.id)) (λ fs done. IsFirst (job_name done.1)) es (job_asks job) _ (job_first es job job.end f) (λ fs j k. k)
+  turn_first es _ f = f
+
+  module _ (B : List Entry → Here → Type 0) where
+    -- the law: the calls may be any
+    unfoldable pub names_apart : Above contexts line origin B
+    names_apart = record {
+      P = Anything;
+      Inv = λ es h. Apart h;
+      moves = λ es h now m b i. moves_apart h now m i;
+      asks = λ es h place n r x c at g o q b i. (tt, λ told f. i);
+      sets = λ es h place r x backlog at g s is b i. (tt, λ told f. i);
+      learns = λ es h place r x at g e b i. (tt, λ told f. tcp_stays h place r _ g refl i);
+      closes = λ es h place r x q g e b i. (tt, λ told f. tcp_none h place _ refl i);
+      marks = λ es h kind parent sock m b i. whatever (λ made. Apart h) (λ made. i) es (make_asks h.machine.table (own_of line) kind parent sock);
+      creates = λ es h ctx family c a o m b i. allows_then Anything (λ fs made. ⊤) (λ fs done. Apart (record h { machine = done.1; own = Used })) es (new_asks (own_of line) ctx family) (created_asks h.machine (own_of line)) (whatever (λ made. ⊤) (λ made. tt) es (new_asks (own_of line) ctx family)) (λ fs made k. joins fs h (own_of line) made i);
+      accepted = λ es h c s place r is e o g b i. whatever (λ made. Apart h) (λ made. i) es (make_asks h.machine.table (own_of line) (Tcp2 place) (Some s) _);
+      polls = λ es h op after k b i. whatever (λ ended. Apart (after ended)) (λ ended. polls_apart h op after k ended i) es (poll_asks op);
+      turns = λ es h place r s g e b i. allows_weaker Anything (λ fs done. IsFirst (job_name done.1)) (λ fs done. Apart (put h place (with_writer r s done.1))) (λ fs done k. put_tcp line h.own h.machine.store.records place _ k i) es (turn_asks s.writer) (turn_first es s.writer (subst (λ (s : Option _). IsFirst (streams_name s)) e (i.writes place r g)));
+      gives_up = λ es h place r q g b i. whatever (λ done. Apart (put h place (with_listening r listening.Not))) (λ done. tcp_stays h place r _ g refl i) es (give_up_asks r.listening);
+      udp_asks = λ es h place n o c at g q b i. (tt, λ told f. i);
+      udp_peers = λ es h place o at g b i. (tt, λ told f. udp_stays h place o _ g refl refl i);
+      udp_learns = λ es h place part o at g b i. (tt, λ told f. udp_stays h place o _ g refl refl i);
+      udp_closes = λ es h place o q g b i. (tt, λ told f. udp_other h place (Udp2Socket.Open o) (Udp2Socket.Closed o.inner.side) g refl tt i);
+      udp_creates = λ es h ctx family c may a o m b i. (tt, λ told f. begun_apart h (udp_after_create (own_of line) ctx.name family (told_done told)) i);
+      udp_marks = λ es h place u g b i. whatever (λ made. Apart h) (λ made. i) es (make_asks h.machine.table (udp_side u) (Udp2 place) None (Some (udp_side u)));
+      stream_marks = λ es h place n handle reached kind m new e b i. whatever (λ made. Apart h) (λ made. i) es (make_asks h.machine.table (own_of n) kind (Some handle) _);
+      error_marks = λ es h n handle place handles m k e f b i. whatever (λ made. Apart h) (λ made. i) es (make_asks h.machine.table (own_of n) ErrorValue (Some handle) (side_at (tcp2_at h.machine.store.records place)));
+      udp_gives_up = λ es h place create q g b i. whatever (λ done. Apart (put_udp h place (Udp2Socket.Closed create.operation.who.side))) (λ done. udp_other h place (Udp2Socket.Creating create) _ g refl tt i) es (create_cancel_asks create);
+      lookups = λ es h host l b i. (tt, λ told f records s. same_apart line h.own h.machine.store.records records s i);
+      looks = λ es h place op g b i. (tt, λ told f. i);
+    }
+
+    pub begins_names : BeginsAbove names_apart
+    unfolding names_apart
+    begins_names = record { begins = λ es h place n r s half permit bytes at g e w within own b i. used (put h place _) (put_tcp line h.own h.machine.store.records place _ refl i) }
