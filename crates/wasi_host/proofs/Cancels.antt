@@ -1,7 +1,7 @@
 -- Calls that are given up: what becomes of the records, and of the network sockets that they hold.
 use Rattle.std.specs.Prelude.{filter, IfOk, OnErr}
 use Rattle.std.specs.declared.alloc.AllocError.{AllocError}
-use Rattle.std.proofs.Common.{◌≡◌, ℕ, not, Bool, true, false, if◌then◌else◌, cond, List, [], ◌∷◌, Some, Result, Ok, Err, refl, sym, ap}
+use Rattle.std.proofs.Common.{◌≡◌, ℕ, not, Bool, true, false, if◌then◌else◌, cond, List, [], ◌∷◌, Result, Ok, Err, refl, sym, ap}
 use Rattle.wasi_world.specs.Asks.{Give, bind, AsksFor}
 use Rattle.wasi_world.specs.Seen.{Seen}
 use Rattle.wasi_world.proofs.Walks.{asks_end, asks_exit}
@@ -9,19 +9,13 @@ use Rattle.wasi_common.specs.Rounds.{is_going}
 use Rattle.wasi_udp.specs.Create.{Create, create_cancel_asks}
 use Rattle.wasi_host.specs.declared.jobs.HostJob.{HostJob}
 use Rattle.wasi_host.specs.declared.listening.Listening.TheVariants.{Not}
-use Rattle.wasi_host.specs.declared.records.Record.{Record}
 use Rattle.wasi_host.specs.declared.socket.Tcp2Socket.{Tcp2Socket}
-use Rattle.wasi_host.specs.declared.udp.Udp2Socket.{Udp2Socket}
-use Rattle.wasi_host.specs.declared.udp.Udp2Socket.TheVariants.{Creating, Open, Closed}
-use Rattle.wasi_host.specs.Cancel.{is_datagram_on, other_than_datagram, give_create_up, cancel_create, listen_gone}
+use Rattle.wasi_host.specs.Cancel.{is_datagram_on, other_than_datagram, listen_gone}
 use Rattle.wasi_host.specs.Listening.{give_up_asks, side_in, unclosed, with_listening}
-use Rattle.wasi_host.specs.Records.{udp2_at}
 use Rattle.wasi_host.specs.Sides.{Balances, HoldsFewer}
 use Rattle.wasi_host.specs.Store.{Records, with_socket}
-use Rattle.wasi_host.specs.UdpCalls.{with_udp}
 use Rattle.wasi_host.proofs.Releases.{given_up_closes, unclosed_holds}
-use Rattle.wasi_host.proofs.UdpLookups.{udp_put_same}
-use Rattle.wasi_host.proofs.UdpPolls.{gives_twice, open_closes}
+use Rattle.wasi_host.proofs.UdpPolls.{open_closes}
 
 -- == the datagrams of a record among the jobs
 pub other_than_datagram-filter : (place : ℕ) (jobs : List HostJob) → filter (λ job. not (is_datagram_on place job)) jobs ≡ other_than_datagram place jobs
@@ -48,10 +42,3 @@ listen_balances r now {s} (Err d) h e f u = rw (f, u) (unclosed_holds r s)
 pub create_closes : (create : Create) {s t : Seen} (result : Result (Unit {0}) AllocError) → is_going create.operation ≡ true → AsksFor (create_cancel_asks create) s t (λ done. done) result → IfOk result (λ done. HoldsFewer s t 1 0)
 create_closes create (Ok done) g h = let k = rw g at h in open_closes create.operation.who.id create.operation.who.side k.ok
 create_closes create (Err d) g h = tt
-
--- by cases, as its record gives it up
-pub cancel_create_as : (store : Records) (place : ℕ) (u : Udp2Socket) → udp2_at store.records place ≡ Some u → cancel_create store place u ≡ bind (give_create_up u) (λ now. Give (with_udp store place now))
-unfolding bind
-cancel_create_as store place (Creating create) e = sym (gives_twice (λ done. Closed create.operation.who.side) (with_udp store place) (create_cancel_asks create))
-cancel_create_as store place (Open o) e = ap (λ (l : List Record). Give (record store { records = l })) (sym (udp_put_same store.records place (Open o) e))
-cancel_create_as store place (Closed side) e = ap (λ (l : List Record). Give (record store { records = l })) (sym (udp_put_same store.records place (Closed side) e))

@@ -1,13 +1,12 @@
 -- The closings after the end mark.
-use Rattle.std.proofs.Common.{◌≡◌, ◌∙◌, ap, sym, ℕ, ◌+◌, ◌<◌, ◌≤◌, ◌^◌, List, [], ◌∷◌, ◌++◌, length, take, get_or, Option, Some, None, length-take, arith}
+use Rattle.std.proofs.Common.{◌≡◌, ◌∙◌, ap, sym, ℕ, ◌+◌, ◌<◌, ◌≤◌, ◌^◌, List, [], ◌∷◌, ◌++◌, length, length-append, append_assoc, append-nil, true, Option, Some, None, refl, subst, arith}
 use Rattle.std.specs.Prelude.{IfSome}
-use Rattle.std.proofs.lemmas.List.{take_more}
 use Rattle.wasi_world.specs.declared.ids.OpId.{OpId}
 use Rattle.wasi_world.specs.declared.call.Entry.{Entry}
 use Rattle.wasi_world.specs.Seen.{Seen}
 use Rattle.wasi_tcp.specs.Socket.{side_of}
 use Rattle.wasi_host.specs.declared.records.Record.{Record}
-use Rattle.wasi_host.specs.declared.records.Record.TheVariants.{Tcp2, Udp2, Lookup, InputPipe, OutputPipe}
+use Rattle.wasi_host.specs.declared.records.Record.TheVariants.{Tcp2, Udp2, Lookup, InputPipe, OutputPipe, Gone}
 use Rattle.wasi_host.specs.declared.udp.Udp2Socket.{Udp2Socket}
 use Rattle.wasi_host.specs.declared.udp.Udp2Socket.TheVariants.{Creating, Open, Closed}
 use Rattle.wasi_host.specs.Sides.{made_in, closed_in, held_by, held_in, one_if_some}
@@ -39,14 +38,11 @@ few_by (Udp2 u) = few_udp u
 few_by (Lookup l) = omega arith
 few_by (InputPipe bytes) = omega arith
 few_by (OutputPipe pipe) = omega arith
+few_by Gone = omega arith
 
 few_held : (xs : List Record) → held_in xs ≤ length xs + length xs
 few_held [] = omega arith
 few_held (x ∷ xs) = let h = few_held xs in let k = few_by x in omega arith
-
--- one record more
-held_more : (xs : List Record) (i : ℕ) (x : Record) → i < length xs → x ≡ get_or xs i x → held_in (take (i + 1) xs) ≡ held_in (take i xs) + held_by x
-held_more xs i x h e = ap held_in (take_more xs i x h ∙ ap (λ y. take i xs ++ y ∷ []) (sym e)) ∙ (held_in-append (take i xs) (x ∷ []) ∙ omega arith)
 
 -- == closings
 closes_more : {old mid new : Seen} {n k : ℕ} → ClosesSides old mid n → ClosesMore mid new k → n + k < 2 ^ 64 → ClosesSides old new (n + k)
@@ -56,14 +52,26 @@ closes_more {old} {mid} {new} {n} {k} h d f = record {
   counted = λ z. (let e = h.counted z in d.counted (omega (arith, e, f)) ∙ ap (λ m. m + k) e);
 }
 
--- what the next record holds
-pub closes_next : {old mid new : Seen} (xs : List Record) (i : ℕ) (x : Record) → i < length xs → length xs + length xs < 2 ^ 64 → x ≡ get_or xs i x
-    → ClosesSides old mid (held_in (take i xs)) → ClosesMore mid new (held_by x) → ClosesSides old new (held_in (take (i + 1) xs))
-closes_next {old} {mid} {new} xs i x h l e c d =
-    let few = few_held (take i xs) in
-    let short = length-take i xs in
+-- the network sockets of the first of these records were closed, and the rest is left
+pub record ClosedFirst (old mid : Seen) (all rest : List Record) : Type 0 where
+  pub done : List Record
+  pub split : all ≡ done ++ rest
+  pub closed : ClosesSides old mid (held_in done)
+
+pub none_closed : {s : Seen} (all : List Record) → s.ended ≡ true → ClosedFirst s s all all
+none_closed all ended = record { done = []; split = refl; closed = record { quiet = record { log = refl; faults = refl; plan = refl }; ended = ended; counted = λ z. z } }
+
+pub next_closed : {old mid new : Seen} (all left rest : List Record) (x : Record) → length all < 2 ^ 63 → left ≡ x ∷ rest → ClosedFirst old mid all left → ClosesMore mid new (held_by x) → ClosedFirst old new all rest
+next_closed all left rest x short next c d =
+    let few = few_held c.done in
     let p = few_by x in
-    rw (held_more xs i x h e) (closes_more c d (omega (arith, few, short, h, l, p)))
+    let split : all ≡ c.done ++ x ∷ rest = c.split ∙ ap (λ (l : List Record). c.done ++ l) next in
+    let long = ap length split ∙ length-append c.done (x ∷ rest) in
+    let held : held_in (c.done ++ x ∷ []) ≡ held_in c.done + held_by x = held_in-append c.done (x ∷ []) ∙ omega arith in
+    record { done = c.done ++ x ∷ []; split = split ∙ sym (append_assoc c.done (x ∷ []) rest); closed = rw held (closes_more c.closed d (omega (arith, few, p, long, short))) }
+
+pub all_closed : {old mid : Seen} (all rest : List Record) → rest ≡ [] → ClosedFirst old mid all rest → ClosesSides old mid (held_in all)
+all_closed {old} {mid} all rest none c = subst (λ (l : List Record). ClosesSides old mid (held_in l)) (sym (c.split ∙ ap (λ (l : List Record). c.done ++ l) none ∙ append-nil c.done)) c.closed
 
 pub empty_known : (log : Option (List Entry)) (held : ℕ) → IfSome log (λ log. log ≡ []) → held ≡ 0 → IfSome log (λ log. closed_in log + held ≡ made_in log)
 empty_known None held h z = tt

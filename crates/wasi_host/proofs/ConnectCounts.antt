@@ -29,7 +29,7 @@ use Rattle.wasi_tcp.specs.Connect.{IsConnect, IsLeftOfConnect, Unbound, Unchecke
 use Rattle.wasi_tcp.specs.Connecting.{HoldsConnect, connect_ended, finish_in, in_socket, finish_connect_asks}
 use Rattle.wasi_host.specs.Records.{tcp2_at, tcp2_put}
 use Rattle.wasi_host.specs.declared.records.Record.{Record}
-use Rattle.wasi_host.specs.declared.records.Record.TheVariants.{Tcp2, Udp2, Lookup, InputPipe, OutputPipe}
+use Rattle.wasi_host.specs.declared.records.Record.TheVariants.{Tcp2, Udp2, Lookup, InputPipe, OutputPipe, Gone}
 use Rattle.wasi_host.specs.declared.socket.Tcp2Socket.{Tcp2Socket}
 use Rattle.wasi_world.proofs.Walks.{asks_end, reaches_in}
 use Rattle.wasi_host.specs.Store.{Records, with_socket, with_inner, opened_send, opened_receive, opened, connect_polled, connect_settled, connect_told, poll_connect_asks}
@@ -254,6 +254,7 @@ held_in-swap (Udp2 u ∷ rs) zero r s h = absurd (cc)
 held_in-swap (Lookup l ∷ rs) zero r s h = absurd (cc)
 held_in-swap (InputPipe b ∷ rs) zero r s h = absurd (cc)
 held_in-swap (OutputPipe p ∷ rs) zero r s h = absurd (cc)
+held_in-swap (Gone ∷ rs) zero r s h = absurd (cc)
 held_in-swap (x ∷ rs) (suc i) old now h = let p = held_in-swap rs i old now h in omega arith
 
 pub knows_polled : {s t : Seen} (store : Records) (place : ℕ) (old now : Tcp2Socket) → tcp2_at store.records place ≡ Some old → Balances s t 0 old now → KnowsSides s store → KnowsSides t (with_socket store place now)

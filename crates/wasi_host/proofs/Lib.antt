@@ -37,3 +37,7 @@ pub mod Pipes
 pub mod Blocks
 pub mod Cancels
 pub mod PollLists
+pub mod Numbers
+pub mod RecordMaps
+pub mod HeldMaps
+pub mod GivenBack

@@ -5,7 +5,7 @@ use Rattle.wasi_table.specs.Table.{Live, value_at, pushed}
 use Rattle.wasi_table.proofs.Tables.{value_front}
 use Rattle.wasi_host.specs.declared.kind.Kind.{Kind}
 use Rattle.wasi_host.specs.declared.records.Record.{Record}
-use Rattle.wasi_host.specs.declared.records.Record.TheVariants.{Tcp2, Udp2, Lookup, InputPipe, OutputPipe}
+use Rattle.wasi_host.specs.declared.records.Record.TheVariants.{Tcp2, Udp2, Lookup, InputPipe, OutputPipe, Gone}
 use Rattle.wasi_host.specs.declared.socket.Tcp2Socket.{Tcp2Socket}
 use Rattle.wasi_host.specs.Kinds.{Handles, kind_at}
 use Rattle.wasi_host.specs.Records.{tcp2_at, tcp2_put}
@@ -30,6 +30,7 @@ set_back xs i x h = put_same xs i x.now (sym h)
     put_same (Lookup l ∷ ys) zero r e = absurd (cc)
     put_same (InputPipe b ∷ ys) zero r e = absurd (cc)
     put_same (OutputPipe p ∷ ys) zero r e = absurd (cc)
+    put_same (Gone ∷ ys) zero r e = absurd (cc)
     put_same (y ∷ ys) (suc k) r e = ap (λ (l : List Record). y ∷ l) (put_same ys k r e)
 
 -- what is live stays so where a handle is made

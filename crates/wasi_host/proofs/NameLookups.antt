@@ -17,7 +17,7 @@ use Rattle.wasi_host.specs.Kinds.{Handles, make_asks}
 use Rattle.wasi_host.specs.NameLookup.{is_looking}
 use Rattle.wasi_host.specs.NameLookupCalls.{lookup_handle, with_lookup}
 use Rattle.wasi_host.specs.declared.records.Record.{Record}
-use Rattle.wasi_host.specs.declared.records.Record.TheVariants.{Tcp2, Udp2, Lookup, InputPipe, OutputPipe}
+use Rattle.wasi_host.specs.declared.records.Record.TheVariants.{Tcp2, Udp2, Lookup, InputPipe, OutputPipe, Gone}
 use Rattle.wasi_host.specs.Records.{lookup_at, lookup_put, lookup_pushed}
 use Rattle.wasi_host.specs.Sides.{held_by, held_in}
 use Rattle.wasi_addr.specs.Address.{canonical}
@@ -68,6 +68,7 @@ held_in-lookup (Tcp2 r ∷ rs) zero old now h = absurd (cc)
 held_in-lookup (Udp2 u ∷ rs) zero old now h = absurd (cc)
 held_in-lookup (InputPipe b ∷ rs) zero old now h = absurd (cc)
 held_in-lookup (OutputPipe p ∷ rs) zero old now h = absurd (cc)
+held_in-lookup (Gone ∷ rs) zero old now h = absurd (cc)
 held_in-lookup (Lookup l ∷ rs) zero old now h = refl
 held_in-lookup (x ∷ rs) (suc i) old now h = ap (λ n. held_by x + n) (held_in-lookup rs i old now h)
 

@@ -17,7 +17,7 @@ use Rattle.wasi_host.specs.declared.error.CallError.{CallError}
 use Rattle.wasi_host.specs.declared.kind.Kind.{Kind}
 use Rattle.wasi_host.specs.declared.machine.Machine.{Machine}
 use Rattle.wasi_host.specs.declared.records.Record.{Record}
-use Rattle.wasi_host.specs.declared.records.Record.TheVariants.{Tcp2, Udp2, Lookup, InputPipe, OutputPipe}
+use Rattle.wasi_host.specs.declared.records.Record.TheVariants.{Tcp2, Udp2, Lookup, InputPipe, OutputPipe, Gone}
 use Rattle.wasi_host.specs.Host.{CallStop, Stop, call_outcome, fault_outcome, plain_outcome}
 use Rattle.wasi_host.specs.Kinds.{Handles, make_asks}
 use Rattle.wasi_host.specs.PlainStreams.{pipe_asks, piped, with_contents, with_input_bytes}
@@ -34,6 +34,7 @@ held_in-input (Tcp2 r ∷ rs) zero old now h = absurd (cc)
 held_in-input (Udp2 u ∷ rs) zero old now h = absurd (cc)
 held_in-input (Lookup l ∷ rs) zero old now h = absurd (cc)
 held_in-input (OutputPipe p ∷ rs) zero old now h = absurd (cc)
+held_in-input (Gone ∷ rs) zero old now h = absurd (cc)
 held_in-input (InputPipe b ∷ rs) zero old now h = refl
 held_in-input (x ∷ rs) (suc i) old now h = ap (λ n. held_by x + n) (held_in-input rs i old now h)
 
@@ -44,6 +45,7 @@ held_in-output (Udp2 u ∷ rs) zero old now h = absurd (cc)
 held_in-output (Lookup l ∷ rs) zero old now h = absurd (cc)
 held_in-output (InputPipe b ∷ rs) zero old now h = absurd (cc)
 held_in-output (OutputPipe p ∷ rs) zero old now h = refl
+held_in-output (Gone ∷ rs) zero old now h = absurd (cc)
 held_in-output (x ∷ rs) (suc i) old now h = ap (λ n. held_by x + n) (held_in-output rs i old now h)
 
 -- nor does one more
@@ -65,6 +67,7 @@ input_put_same (Tcp2 r ∷ xs) zero bytes h = absurd (cc)
 input_put_same (Udp2 u ∷ xs) zero bytes h = absurd (cc)
 input_put_same (Lookup l ∷ xs) zero bytes h = absurd (cc)
 input_put_same (OutputPipe p ∷ xs) zero bytes h = absurd (cc)
+input_put_same (Gone ∷ xs) zero bytes h = absurd (cc)
 input_put_same (InputPipe b ∷ xs) zero bytes h = cc
 input_put_same (x ∷ xs) (suc i) bytes h = ap (λ (l : List Record). x ∷ l) (input_put_same xs i bytes h)
 
@@ -75,6 +78,7 @@ output_put_same (Udp2 u ∷ xs) zero pipe h = absurd (cc)
 output_put_same (Lookup l ∷ xs) zero pipe h = absurd (cc)
 output_put_same (InputPipe b ∷ xs) zero pipe h = absurd (cc)
 output_put_same (OutputPipe p ∷ xs) zero pipe h = cc
+output_put_same (Gone ∷ xs) zero pipe h = absurd (cc)
 output_put_same (x ∷ xs) (suc i) pipe h = ap (λ (l : List Record). x ∷ l) (output_put_same xs i pipe h)
 
 pub input_back : (store : Records) (place : ℕ) (x : MutBor (List ℕ)) (now : List ℕ) → Some x.now ≡ input_pipe_at store.records place → now ≡ x.now → with_input_bytes store place now ≡ store

@@ -39,7 +39,7 @@ use Rattle.wasi_tcp.specs.Socket.{side_of, new_asks, after_create, ask_bound, bo
 use Rattle.wasi_world.proofs.Walks.{reaches_all}
 use Rattle.wasi_host.specs.Records.{tcp2_put, tcp2_at, tcp2_pushed}
 use Rattle.wasi_host.specs.declared.records.Record.{Record}
-use Rattle.wasi_host.specs.declared.records.Record.TheVariants.{Tcp2, Udp2, Lookup, InputPipe, OutputPipe}
+use Rattle.wasi_host.specs.declared.records.Record.TheVariants.{Tcp2, Udp2, Lookup, InputPipe, OutputPipe, Gone}
 use Rattle.wasi_host.specs.declared.socket.Tcp2Socket.{Tcp2Socket}
 use Rattle.wasi_host.specs.declared.store.StandingCall.{StandingCall}
 use Rattle.wasi_host.specs.Standing.{stood}
@@ -115,6 +115,7 @@ held_in-same (Udp2 u ∷ rs) zero r s h e = absurd (cc)
 held_in-same (Lookup l ∷ rs) zero r s h e = absurd (cc)
 held_in-same (InputPipe b ∷ rs) zero r s h e = absurd (cc)
 held_in-same (OutputPipe p ∷ rs) zero r s h e = absurd (cc)
+held_in-same (Gone ∷ rs) zero r s h e = absurd (cc)
 held_in-same (x ∷ rs) (suc i) r s h e = ap (λ n. held_by x + n) (held_in-same rs i r s h e)
 
 pub holds-same : (r s : Tcp2Socket) → side_of s.inner ≡ side_of r.inner → s.listening ≡ r.listening → holds s ≡ holds r

@@ -2,7 +2,7 @@
 use Rattle.std.specs.Borrow.{Bor, MutBor}
 use Rattle.std.proofs.Common.{◌≡◌, ℕ, zero, suc, ◌+◌, List, [], ◌∷◌, Option, Some, None, sym, ap, arith}
 use Rattle.wasi_host.specs.declared.records.Record.{Record}
-use Rattle.wasi_host.specs.declared.records.Record.TheVariants.{Tcp2, Udp2, Lookup, InputPipe, OutputPipe}
+use Rattle.wasi_host.specs.declared.records.Record.TheVariants.{Tcp2, Udp2, Lookup, InputPipe, OutputPipe, Gone}
 use Rattle.wasi_host.specs.declared.udp.OpenUdp.{OpenUdp}
 use Rattle.wasi_host.specs.declared.udp.Udp2Socket.{Udp2Socket}
 use Rattle.wasi_host.specs.declared.udp.Udp2Socket.TheVariants.{Creating, Open, Closed}
@@ -43,6 +43,7 @@ udp_put_same (Tcp2 r ∷ xs) zero u h = absurd (cc)
 udp_put_same (Lookup l ∷ xs) zero u h = absurd (cc)
 udp_put_same (InputPipe b ∷ xs) zero u h = absurd (cc)
 udp_put_same (OutputPipe p ∷ xs) zero u h = absurd (cc)
+udp_put_same (Gone ∷ xs) zero u h = absurd (cc)
 udp_put_same (Udp2 x ∷ xs) zero u h = cc
 udp_put_same (x ∷ xs) (suc i) u h = ap (λ (l : List Record). x ∷ l) (udp_put_same xs i u h)
 
@@ -56,6 +57,7 @@ held_in-udp_swap (Tcp2 r ∷ rs) zero old now h = absurd (cc)
 held_in-udp_swap (Lookup l ∷ rs) zero old now h = absurd (cc)
 held_in-udp_swap (InputPipe b ∷ rs) zero old now h = absurd (cc)
 held_in-udp_swap (OutputPipe p ∷ rs) zero old now h = absurd (cc)
+held_in-udp_swap (Gone ∷ rs) zero old now h = absurd (cc)
 held_in-udp_swap (Udp2 u ∷ rs) zero old now h = let k : u ≡ old = cc in let p = ap (λ (y : Udp2Socket). udp_holds y) k in omega arith
 held_in-udp_swap (x ∷ rs) (suc i) old now h = let p = held_in-udp_swap rs i old now h in omega arith
 

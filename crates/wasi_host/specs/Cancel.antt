@@ -15,6 +15,7 @@ use Rattle.wasi_host.specs.declared.udp.OpenUdp.{OpenUdp}
 use Rattle.wasi_host.specs.declared.udp.Udp2Socket.{Udp2Socket}
 use Rattle.wasi_host.specs.declared.udp.Udp2Socket.TheVariants as udp
 use Rattle.wasi_host.specs.declared.udp.UdpInProgress.TheVariants.{Nothing}
+use Rattle.wasi_host.specs.GivingBack.{given_back}
 use Rattle.wasi_host.specs.Listening.{give_up_asks, with_listening}
 use Rattle.wasi_host.specs.Records.{tcp2_at, udp2_at, open_at}
 use Rattle.wasi_host.specs.Standing.{call_of, unstood}
@@ -40,14 +41,8 @@ cancel_listen_at store place None = Give store
 cancel_listen_at store place (Some r) = bind (give_up_asks r.listening) (λ done. Give (listen_gone store place r))
 
 -- == a create closes its network socket, and no handle is made
--- the same of the record alone
-abbrev pub give_create_up : Udp2Socket → Asks Udp2Socket
-give_create_up (udp.Creating create) = bind (create_cancel_asks create) (λ done. Give (udp.Closed create.operation.who.side))
-give_create_up (udp.Open o) = Give (udp.Open o)
-give_create_up (udp.Closed side) = Give (udp.Closed side)
-
 abbrev pub cancel_create : Records → ℕ → Udp2Socket → Asks Records
-cancel_create store place (udp.Creating create) = bind (create_cancel_asks create) (λ done. Give (with_udp store place (udp.Closed create.operation.who.side)))
+cancel_create store place (udp.Creating create) = bind (create_cancel_asks create) (λ done. Give (given_back place (with_udp store place (udp.Closed create.operation.who.side))))
 cancel_create store place (udp.Open o) = Give store
 cancel_create store place (udp.Closed side) = Give store
 

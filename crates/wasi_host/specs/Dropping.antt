@@ -21,7 +21,7 @@ use Rattle.wasi_host.specs.declared.store.StandingCall.TheVariants.{DropOutput}
 use Rattle.wasi_host.specs.Names.{own_of}
 use Rattle.wasi_host.specs.Store.{Records, with_socket, with_writer}
 use Rattle.wasi_host.specs.Standing.{stood}
-use Rattle.wasi_host.specs.Jobs.{other_jobs}
+use Rattle.wasi_host.specs.GivingBack.{given_back}
 use Rattle.wasi_host.specs.Listening.{give_up_asks}
 
 -- == a socket
@@ -30,7 +30,7 @@ abbrev pub give_streams_up : OpId → Option Streams → Asks (Unit {0})
 give_streams_up op None = Give tt
 give_streams_up op (Some s) = bind (reader_shutdown_asks op s.reader) (λ done. writer_give_up_asks op s.writer)
 
--- nothing is left of the record but its place
+-- the record without what it had
 abbrev pub gone : Tcp2Socket → Socket → Tcp2Socket
 gone r socket = record r { inner = socket; in_progress = doing.Nothing; listening = Not; streams = None }
 
@@ -45,8 +45,9 @@ release_connection op r = bind (give_streams_up op r.streams) (λ done. close_re
 abbrev pub release_asks : OpId → Tcp2Socket → Asks (Unit {0} × Tcp2Socket)
 release_asks op r = bind (give_up_asks r.listening) (λ done. release_connection op r)
 
+-- and is given back then
 abbrev pub released : Records → ℕ → Tcp2Socket → Records
-released store place r = record (with_socket store place r) { jobs = other_jobs place store.jobs }
+released store place r = given_back place (with_socket store place r)
 
 abbrev pub release_at : Records → OpId → ℕ → Option Tcp2Socket → Asks (Unit {0} × Records)
 release_at store op place None = Give (tt, store)

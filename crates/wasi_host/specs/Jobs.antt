@@ -11,6 +11,7 @@ use Rattle.wasi_host.specs.NameLookup.{looks_on, turn_lookup_at}
 use Rattle.wasi_host.specs.Receiving.{receives, turn_incoming}
 use Rattle.wasi_host.specs.Records.{tcp2_at, tcp2_put, open_at, open_put, lookup_at}
 use Rattle.wasi_host.specs.declared.records.Record.{Record}
+pub use Rattle.wasi_host.specs.GivingBack.{is_on, other_jobs}
 use Rattle.wasi_host.specs.declared.jobs.HostJob.{HostJob}
 use Rattle.wasi_host.specs.declared.jobs.HostJob.TheVariants.{Write, Datagram, Receive, Lookup}
 use Rattle.wasi_host.specs.declared.socket.Streams.{Streams}
@@ -118,18 +119,7 @@ after_turn store records = record store { records = records; jobs = still_going 
 abbrev pub turn_store_asks : Records → Asks (Unit {0} × Records)
 turn_store_asks store = bind (turn_jobs store.jobs store.records) (λ records. Give (tt, after_turn store records))
 
--- == a record that goes takes its jobs with it
-abbrev pub is_on : ℕ → HostJob → Bool
-is_on place (Write p) = p == place
-is_on place (Datagram p) = p == place
-is_on place (Receive p) = p == place
-is_on place (Lookup p) = p == place
-
-abbrev pub other_jobs : ℕ → List HostJob → List HostJob
-other_jobs place [] = []
-other_jobs place (job ∷ jobs) = if is_on place job then other_jobs place jobs else job ∷ other_jobs place jobs
-
--- and an incoming stream its receive
+-- == an incoming stream that goes takes its receive with it
 abbrev pub is_receive_on : ℕ → HostJob → Bool
 is_receive_on place (Receive p) = p == place
 is_receive_on place _ = false

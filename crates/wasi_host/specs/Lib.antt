@@ -2,6 +2,8 @@ pub mod Host
 pub mod Kinds
 pub mod Names
 pub mod InProgress
+pub mod Numbered
+pub mod RecordMap
 pub mod Records
 pub mod Rows
 pub mod Store
@@ -9,6 +11,7 @@ pub mod Standing
 pub mod Binding
 pub mod Listening
 pub mod Options
+pub mod GivingBack
 pub mod Jobs
 pub mod Readiness
 pub mod Dropping

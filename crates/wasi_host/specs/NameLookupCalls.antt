@@ -13,7 +13,8 @@ use Rattle.wasi_host.specs.declared.name_lookup.Lookup.{Lookup}
 use Rattle.wasi_host.specs.declared.name_lookup.Lookup.TheVariants.{Found, Failed}
 use Rattle.wasi_host.specs.declared.machine.Machine.{Machine}
 use Rattle.wasi_host.specs.Host.{Stop, Code, Trap}
-use Rattle.wasi_host.specs.Jobs.{jobs_with, other_jobs}
+use Rattle.wasi_host.specs.GivingBack.{given_back}
+use Rattle.wasi_host.specs.Jobs.{jobs_with}
 use Rattle.wasi_host.specs.Kinds.{make_asks}
 use Rattle.wasi_host.specs.NameLookup.{is_looking, looks_on, unresolvable, poll_lookup_asks, next_of}
 use Rattle.wasi_host.specs.Records.{lookup_put, lookup_pushed}
@@ -54,7 +55,7 @@ next_at store place (Some l) = (next_told (next_of l).0, with_lookup_now store p
 abbrev pub lookup_ready : Option Lookup → Bool
 lookup_ready found = not (looks_on found)
 
--- it isn't asked about any more, and no address is kept
+-- it isn't asked about any more, and nothing of it is kept
 abbrev pub drop_lookup_at : Records → ℕ → Option Lookup → Unit {0} × Records
 drop_lookup_at store place None = (tt, store)
-drop_lookup_at store place (Some l) = (tt, record (with_lookup_now store place Failed) { jobs = other_jobs place store.jobs })
+drop_lookup_at store place (Some l) = (tt, given_back place store)

@@ -15,6 +15,7 @@ use Rattle.wasi_host.specs.declared.kind.PlainOutput.TheVariants as output
 use Rattle.wasi_host.specs.declared.machine.Machine.{Machine}
 use Rattle.wasi_host.specs.declared.records.Record.{Record}
 use Rattle.wasi_host.specs.declared.records.Record.TheVariants.{InputPipe, OutputPipe}
+use Rattle.wasi_host.specs.GivingBack.{given_back}
 use Rattle.wasi_host.specs.Host.{Stop, Trap}
 use Rattle.wasi_host.specs.Kinds.{Handles, kind_at, plain_output_of, make_asks}
 use Rattle.wasi_host.specs.Records.{input_pipe_at, input_pipe_put, output_pipe_at, output_pipe_put}
@@ -100,20 +101,20 @@ contents_on m _ = Err (Trap NoSuchHandle)
 abbrev pub contents_asks : Machine → ℕ → Result (List ℕ) Stop
 contents_asks m handle = contents_on m (plain_output_of (kind_at m.table handle))
 
--- a pipe gives back its bytes
-abbrev pub empty_input_at : Records → ℕ → Option (List ℕ) → Records
-empty_input_at store place None = store
-empty_input_at store place (Some bytes) = with_input_bytes store place []
+-- a pipe goes with its bytes
+abbrev pub drop_input_pipe_at : Records → ℕ → Option (List ℕ) → Records
+drop_input_pipe_at store place None = store
+drop_input_pipe_at store place (Some bytes) = given_back place store
 
-abbrev pub empty_output_at : Records → ℕ → Option Contents → Records
-empty_output_at store place None = store
-empty_output_at store place (Some pipe) = with_contents store place (no_contents 0)
+abbrev pub drop_output_pipe_at : Records → ℕ → Option Contents → Records
+drop_output_pipe_at store place None = store
+drop_output_pipe_at store place (Some pipe) = given_back place store
 
 abbrev pub drop_plain_input : Records → PlainInput → Records
-drop_plain_input store (input.Pipe place) = empty_input_at store place (input_pipe_at store.records place)
+drop_plain_input store (input.Pipe place) = drop_input_pipe_at store place (input_pipe_at store.records place)
 drop_plain_input store input.Closed = store
 
 abbrev pub drop_plain_output : Records → PlainOutput → Records
-drop_plain_output store (output.Pipe place) = empty_output_at store place (output_pipe_at store.records place)
+drop_plain_output store (output.Pipe place) = drop_output_pipe_at store place (output_pipe_at store.records place)
 drop_plain_output store output.Sink = store
 drop_plain_output store output.Closed = store

@@ -1,8 +1,7 @@
 -- The records of a store by number, and the sockets, lookups and pipes among them.
 use Rattle.std.specs.Prelude.{ℕ, List, [], ◌∷◌, ◌++◌, Option, Some, None, slice_get, slice_set}
-use Rattle.std.specs.Global.{Vec}
-use Rattle.std.specs.Vec.{with_item}
 use Rattle.wasi_memory.specs.Plain.{Contents}
+use Rattle.wasi_host.specs.Numbered.{Numbered, with_item}
 use Rattle.wasi_host.specs.declared.records.Record.{Record}
 use Rattle.wasi_host.specs.declared.records.Record.TheVariants.{Tcp2, Udp2, Lookup as LookupRecord, InputPipe, OutputPipe}
 use Rattle.wasi_host.specs.declared.name_lookup.Lookup.{Lookup}
@@ -29,8 +28,8 @@ tcp2_put records place r = slice_set records place (Tcp2 r)
 abbrev pub tcp2_pushed : List Record → Tcp2Socket → List Record
 tcp2_pushed records r = records ++ Tcp2 r ∷ []
 
--- the same of the vector that holds them
-abbrev pub with_tcp2 : Vec Record → ℕ → Tcp2Socket → Vec Record
+-- the same of what holds them
+abbrev pub with_tcp2 : Numbered → ℕ → Tcp2Socket → Numbered
 with_tcp2 v place r = with_item v place (Tcp2 r)
 
 -- == UDP sockets
@@ -49,7 +48,7 @@ udp2_put records place u = slice_set records place (Udp2 u)
 abbrev pub udp2_pushed : List Record → Udp2Socket → List Record
 udp2_pushed records u = records ++ Udp2 u ∷ []
 
-abbrev pub with_udp2 : Vec Record → ℕ → Udp2Socket → Vec Record
+abbrev pub with_udp2 : Numbered → ℕ → Udp2Socket → Numbered
 with_udp2 v place u = with_item v place (Udp2 u)
 
 -- the UDP socket that is there: one that is made and not closed
@@ -63,7 +62,7 @@ open_at records place = open_of (udp2_at records place)
 abbrev pub open_put : List Record → ℕ → OpenUdp → List Record
 open_put records place o = udp2_put records place (Open o)
 
-abbrev pub with_open : Vec Record → ℕ → OpenUdp → Vec Record
+abbrev pub with_open : Numbered → ℕ → OpenUdp → Numbered
 with_open v place o = with_udp2 v place (Open o)
 
 -- == lookups
@@ -82,7 +81,7 @@ lookup_put records place l = slice_set records place (LookupRecord l)
 abbrev pub lookup_pushed : List Record → Lookup → List Record
 lookup_pushed records l = records ++ LookupRecord l ∷ []
 
-abbrev pub with_lookup_at : Vec Record → ℕ → Lookup → Vec Record
+abbrev pub with_lookup_at : Numbered → ℕ → Lookup → Numbered
 with_lookup_at v place l = with_item v place (LookupRecord l)
 
 -- == pipes
@@ -97,7 +96,7 @@ input_pipe_at records place = input_pipe_of (slice_get records place)
 abbrev pub input_pipe_put : List Record → ℕ → List ℕ → List Record
 input_pipe_put records place bytes = slice_set records place (InputPipe bytes)
 
-abbrev pub with_input_pipe : Vec Record → ℕ → List ℕ → Vec Record
+abbrev pub with_input_pipe : Numbered → ℕ → List ℕ → Numbered
 with_input_pipe v place bytes = with_item v place (InputPipe bytes)
 
 -- what is in the pipe that a record is, which is written
@@ -111,5 +110,5 @@ output_pipe_at records place = output_pipe_of (slice_get records place)
 abbrev pub output_pipe_put : List Record → ℕ → Contents → List Record
 output_pipe_put records place pipe = slice_set records place (OutputPipe pipe)
 
-abbrev pub with_output_pipe : Vec Record → ℕ → Contents → Vec Record
+abbrev pub with_output_pipe : Numbered → ℕ → Contents → Numbered
 with_output_pipe v place pipe = with_item v place (OutputPipe pipe)

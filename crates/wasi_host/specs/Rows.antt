@@ -1,9 +1,7 @@
 -- The types of records as the logic holds them, for the clauses on what a `&mut` lends.
 use denote.RattleType.{RattleType}
-use Rattle.std.specs.contracts.alloc.Global as global
-use Rattle.std.specs.contracts.vec.Vec as vec
-use Rattle.std.specs.contracts.impls.GlobalAllocator.TheImpl.{ghosts}
 use Rattle.wasi_host.specs.contracts.records.Record as rec
+use Rattle.wasi_host.specs.contracts.record_list.RecordList as numbered
 use Rattle.wasi_host.specs.contracts.socket.Tcp2Socket as socket
 use Rattle.wasi_host.specs.contracts.udp.Udp2Socket as datagrams
 use Rattle.wasi_host.specs.contracts.udp.OpenUdp as opened
@@ -33,4 +31,4 @@ abbrev pub output_pipe_row : RattleType
 output_pipe_row = writes.the_row
 
 abbrev pub records_row : RattleType
-records_row = vec.the_row rec.the_row global.the_row ghosts
+records_row = numbered.the_row

@@ -13,7 +13,7 @@ use Rattle.wasi_world.specs.Seen.{Seen, Passes}
 use Rattle.wasi_tcp.specs.Shape.{Socket}
 use Rattle.wasi_tcp.specs.Socket.{side_of}
 use Rattle.wasi_host.specs.declared.records.Record.{Record}
-use Rattle.wasi_host.specs.declared.records.Record.TheVariants.{Tcp2, Udp2, Lookup, InputPipe, OutputPipe}
+use Rattle.wasi_host.specs.declared.records.Record.TheVariants.{Tcp2, Udp2, Lookup, InputPipe, OutputPipe, Gone}
 use Rattle.wasi_host.specs.declared.socket.Tcp2Socket.{Tcp2Socket}
 use Rattle.wasi_host.specs.Listening.{side_in}
 use Rattle.wasi_host.specs.Udp.{udp_holds}
@@ -57,6 +57,7 @@ held_by (Udp2 u) = udp_holds u
 held_by (Lookup l) = 0
 held_by (InputPipe bytes) = 0
 held_by (OutputPipe pipe) = 0
+held_by Gone = 0
 
 -- how many network sockets the records hold
 abbrev pub held_in : List Record → ℕ

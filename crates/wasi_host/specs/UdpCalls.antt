@@ -16,8 +16,10 @@ use Rattle.wasi_host.specs.declared.store.StandingCall.{StandingCall}
 use Rattle.wasi_host.specs.declared.store.StandingCall.TheVariants.{UdpBind}
 use Rattle.wasi_host.specs.declared.udp.OpenUdp.{OpenUdp}
 use Rattle.wasi_host.specs.declared.udp.Udp2Socket.{Udp2Socket}
+use Rattle.wasi_host.specs.declared.udp.Udp2Socket.TheVariants.{Creating, Open, Closed}
 use Rattle.wasi_host.specs.declared.udp.UdpInProgress.TheVariants.{Nothing}
 use Rattle.wasi_host.specs.Datagrams.{has_streams}
+use Rattle.wasi_host.specs.GivingBack.{given_back}
 use Rattle.wasi_host.specs.Host.{Stop, Code, Trap, code_stop}
 use Rattle.wasi_host.specs.Names.{own_of}
 use Rattle.wasi_host.specs.Options.{code_told}
@@ -28,6 +30,12 @@ use Rattle.wasi_host.specs.Udp.{with_udp_progress, is_udp_idle, is_udp_bound, be
 
 abbrev pub with_udp : Records → ℕ → Udp2Socket → Records
 with_udp store place u = record store { records = udp2_put store.records place u }
+
+-- one whose network socket is closed is given back
+abbrev pub udp_left : Records → ℕ → Udp2Socket → Records
+udp_left store place (Closed side) = given_back place (with_udp store place (Closed side))
+udp_left store place (Creating create) = with_udp store place (Creating create)
+udp_left store place (Open o) = with_udp store place (Open o)
 
 abbrev pub with_open_udp : Records → ℕ → OpenUdp → Records
 with_open_udp store place o = record store { records = open_put store.records place o }
@@ -95,7 +103,7 @@ set_udp_option_at store op option value (Some o) = bind (set_option_asks op o.in
 
 -- == its end
 abbrev pub udp_closed : Records → ℕ → Unit {0} × Udp2Socket → Unit {0} × Records
-udp_closed store place done = (tt, with_udp store place done.1)
+udp_closed store place done = (tt, udp_left store place done.1)
 
 abbrev pub release_udp_at : Records → OpId → ℕ → Option Udp2Socket → Asks (Unit {0} × Records)
 release_udp_at store op place None = Give (tt, store)

@@ -22,7 +22,7 @@ use Rattle.wasi_host.specs.Records.{udp2_at, udp2_pushed}
 use Rattle.wasi_host.specs.Standing.{standing_as}
 use Rattle.wasi_host.specs.Store.{Records}
 use Rattle.wasi_host.specs.Udp.{poll_create_asks, udp_side}
-use Rattle.wasi_host.specs.UdpCalls.{with_udp}
+use Rattle.wasi_host.specs.UdpCalls.{udp_left, with_udp}
 
 -- a network socket that was made has its record, whether or not a handle is made for it
 abbrev pub with_create : Machine → Create → Machine
@@ -33,10 +33,10 @@ abbrev pub udp_side_at : Option Udp2Socket → Option OpId
 udp_side_at None = None
 udp_side_at (Some u) = Some (udp_side u)
 
--- what a poll of the create answered, and the records afterwards
+-- what a poll of the create answered, and the records afterwards: of one that is refused nothing is left
 abbrev pub create_answered : Records → ℕ → Result (Answer (Unit {0})) ErrorCode × Udp2Socket → Result (Answer (Unit {0})) Stop × Records
 create_answered store place (Ok answer, u) = (Ok answer, with_udp store place u)
-create_answered store place (Err c, u) = (Err (code_stop c), with_udp store place u)
+create_answered store place (Err c, u) = (Err (code_stop c), udp_left store place u)
 
 abbrev pub poll_create_at : Records → ℕ → Option Udp2Socket → Asks (Result (Answer (Unit {0})) Stop × Records)
 poll_create_at store place None = Give (Err (Trap NoSuchHandle), store)

@@ -10,9 +10,9 @@ ghost use Rattle.wasi_host.specs.Views.{SameView, state_of};
 
 use crate::binding::InProgress;
 use crate::jobs::HostJob;
-use crate::records::{open_udp_mut, tcp2_mut, udp2_mut};
+use crate::records::{open_udp_mut, tcp2_mut, udp2};
 use crate::store::{StandingCall, Store};
-use crate::udp::UdpInProgress;
+use crate::udp::{Udp2Socket, UdpInProgress};
 use crate::view::WasiSocketsCtxView;
 use std::alloc::AllocError;
 use wasi_world::World;
@@ -52,17 +52,22 @@ impl Store {
         record.give_listening_up(world)
     }
 
-    /// The create of the UDP socket of this number closes its network socket, and no handle is made.
+    /// The create of the UDP socket of this number closes its network socket, and nothing is left of it: no handle was made.
     fn cancel_create<W: World>(&mut self, world: &mut W, place: usize) -> Result<(), AllocError>
         requires { (W.seen world.old).ended ≡ false }
         ensures asked { AsksFor (cancel_create_at self.old place (udp2_at self.old.records place)) (W.seen world.old) (W.seen world.new) (λ done. self.new) result }
         ensures sides { KnowsSides (W.seen world.old) self.old → KnowsSides (W.seen world.new) self.new }
         ensures open { (W.seen world.new).ended ≡ false }
     {
-        let Some(socket) = udp2_mut(&mut self.records, place) else {
+        let Some(socket) = udp2(&self.records, place) else {
             return Ok(());
         };
-        socket.give_create_up(world)
+        let Udp2Socket::Creating(create) = socket else {
+            return Ok(());
+        };
+        create.cancel(world)?;
+        self.give_back(place);
+        Ok(())
     }
 
     /// The bind of the UDP socket of this number is forgotten, as that of a TCP socket is.

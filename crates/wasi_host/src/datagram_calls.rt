@@ -275,7 +275,7 @@ impl Store {
     pub(crate) fn outgoing_ready(&self, place: usize) -> bool
         ensures { result ≡ outgoing_ready (open_at self.now.records place) }
     {
-        match open_udp(self.records.as_slice(), place) {
+        match open_udp(&self.records, place) {
             Some(socket) => !socket.sends(),
             None => true,
         }

@@ -37,7 +37,7 @@ impl Store {
             return Ok(());
         };
         record.release(world, op)?;
-        self.forget_jobs(place);
+        self.give_back(place);
         Ok(())
     }
 

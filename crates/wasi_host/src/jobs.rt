@@ -2,14 +2,18 @@
 
 ghost use Rattle.std.specs.Prelude.{◌≡◌, false};
 ghost use Rattle.wasi_world.specs.Asks.{AsksFor};
+ghost use Rattle.wasi_world.specs.Seen.{Seen};
 ghost use Rattle.wasi_host.specs.Records.{tcp2_at, open_at, lookup_at};
 ghost use Rattle.wasi_host.specs.NameLookup.{looks_on, turn_lookup_at};
-ghost use Rattle.wasi_host.specs.Jobs.{turn_at, turn_datagram_at, turn_receive_at, sends_on, receives_on, is_receive_on, other_than_receive, turn_job, turn_jobs, turn_store_asks, still_going, has_job, is_going, is_on, other_jobs};
+ghost use Rattle.wasi_host.specs.Jobs.{turn_at, turn_datagram_at, turn_receive_at, sends_on, receives_on, is_receive_on, other_than_receive, turn_job, turn_jobs, turn_store_asks, still_going, has_job, is_going};
+ghost use Rattle.wasi_host.specs.GivingBack.{given_back, is_on};
+ghost use Rattle.wasi_host.specs.Numbered.{item_at};
 ghost use Rattle.wasi_host.specs.Machine.{turn_machine_asks};
-ghost use Rattle.wasi_host.specs.Sides.{KnowsSides, MakesNone, held_in};
+ghost use Rattle.wasi_host.specs.Sides.{KnowsSides, MakesNone, held_by, held_in};
 ghost use Rattle.wasi_host.specs.Views.{SameView, state_of};
 
-use crate::records::{Record, lookup, lookup_mut, open_udp, open_udp_mut, tcp2, tcp2_mut};
+use crate::record_list::RecordList;
+use crate::records::{lookup, lookup_mut, open_udp, open_udp_mut, tcp2, tcp2_mut};
 use crate::socket::Tcp2Socket;
 use crate::store::Store;
 use crate::view::WasiSocketsCtxView;
@@ -57,7 +61,7 @@ impl HostJob {
 
 /// Polls the write of the socket of this number once, where one is in progress.
 fn turn_socket<W: World>(
-    records: &mut Vec<Record>,
+    records: &mut RecordList,
     world: &mut W,
     place: usize,
 ) -> Result<(), AllocError>
@@ -75,7 +79,7 @@ fn turn_socket<W: World>(
 
 /// Polls the datagram in the background of the UDP socket of this number once, where there is one.
 fn turn_datagram<W: World>(
-    records: &mut Vec<Record>,
+    records: &mut RecordList,
     world: &mut W,
     place: usize,
 ) -> Result<(), AllocError>
@@ -93,7 +97,7 @@ fn turn_datagram<W: World>(
 
 /// Polls the receive in progress of the UDP socket of this number once, where there is one.
 fn turn_receive<W: World>(
-    records: &mut Vec<Record>,
+    records: &mut RecordList,
     world: &mut W,
     place: usize,
 ) -> Result<(), AllocError>
@@ -111,7 +115,7 @@ fn turn_receive<W: World>(
 
 /// Asks the network again about the lookup of this number, where it is in progress.
 fn turn_lookup<W: World>(
-    records: &mut Vec<Record>,
+    records: &mut RecordList,
     world: &mut W,
     place: usize,
 ) -> Result<(), AllocError>
@@ -129,7 +133,7 @@ fn turn_lookup<W: World>(
 
 /// Polls a job once.
 fn turn_job<W: World>(
-    records: &mut Vec<Record>,
+    records: &mut RecordList,
     world: &mut W,
     job: HostJob,
 ) -> Result<(), AllocError>
@@ -149,7 +153,7 @@ fn turn_job<W: World>(
 
 /// Polls these jobs, in order.
 fn turn_jobs<W: World>(
-    records: &mut Vec<Record>,
+    records: &mut RecordList,
     world: &mut W,
     jobs: &[HostJob],
 ) -> Result<(), AllocError>
@@ -166,8 +170,8 @@ fn turn_jobs<W: World>(
 }
 
 /// Whether the socket of this number has a write in progress.
-fn has_job(records: &[Record], place: usize) -> bool
-    ensures { result ≡ has_job (tcp2_at records.now place) }
+fn has_job(records: &RecordList, place: usize) -> bool
+    ensures { result ≡ has_job (tcp2_at records.now.items place) }
 {
     match tcp2(records, place) {
         Some(record) => record.has_job(),
@@ -176,8 +180,8 @@ fn has_job(records: &[Record], place: usize) -> bool
 }
 
 /// Whether the UDP socket of this number has a datagram in the background.
-fn sends_on(records: &[Record], place: usize) -> bool
-    ensures { result ≡ sends_on (open_at records.now place) }
+fn sends_on(records: &RecordList, place: usize) -> bool
+    ensures { result ≡ sends_on (open_at records.now.items place) }
 {
     match open_udp(records, place) {
         Some(socket) => socket.sends(),
@@ -186,8 +190,8 @@ fn sends_on(records: &[Record], place: usize) -> bool
 }
 
 /// Whether the UDP socket of this number has a receive in progress.
-fn receives_on(records: &[Record], place: usize) -> bool
-    ensures { result ≡ receives_on (open_at records.now place) }
+fn receives_on(records: &RecordList, place: usize) -> bool
+    ensures { result ≡ receives_on (open_at records.now.items place) }
 {
     match open_udp(records, place) {
         Some(socket) => socket.receives(),
@@ -196,8 +200,8 @@ fn receives_on(records: &[Record], place: usize) -> bool
 }
 
 /// Whether the lookup of this number is in progress.
-fn looks_on(records: &[Record], place: usize) -> bool
-    ensures { result ≡ looks_on (lookup_at records.now place) }
+fn looks_on(records: &RecordList, place: usize) -> bool
+    ensures { result ≡ looks_on (lookup_at records.now.items place) }
 {
     match lookup(records, place) {
         Some(lookup) => lookup.is_in_progress(),
@@ -206,8 +210,8 @@ fn looks_on(records: &[Record], place: usize) -> bool
 }
 
 /// Whether a job isn't over.
-fn is_going(records: &[Record], job: HostJob) -> bool
-    ensures { result ≡ is_going records.now job }
+fn is_going(records: &RecordList, job: HostJob) -> bool
+    ensures { result ≡ is_going records.now.items job }
 {
     match job {
         HostJob::Write { socket } => has_job(records, socket),
@@ -234,7 +238,7 @@ impl Store {
     fn settle_jobs(&mut self)
         ensures { self.new ≡ record self.old { jobs = still_going self.old.records self.old.jobs } }
     {
-        let records = self.records.as_slice();
+        let records = &self.records;
         self.jobs.retain(|job| is_going(records, *job));
     }
 
@@ -245,10 +249,12 @@ impl Store {
         self.jobs.retain(|job| !job.is_receive_on(place));
     }
 
-    /// No job of this record is left.
-    pub(crate) fn forget_jobs(&mut self, place: usize)
-        ensures { self.new ≡ record self.old { jobs = other_jobs place self.old.jobs } }
+    /// Gives the record of this number back, to which nothing refers any more, and its jobs with it.
+    pub(crate) fn give_back(&mut self, place: usize)
+        ensures state { self.new ≡ given_back place self.old }
+        ensures sides { (s : Seen) → held_by (item_at self.old.records place) ≡ 0 → KnowsSides s self.old → KnowsSides s self.new }
     {
+        self.records.give_back(place);
         self.jobs.retain(|job| !job.is_on(place));
     }
 }

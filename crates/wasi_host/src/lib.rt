@@ -24,6 +24,7 @@ mod pollables;
 pub mod polling;
 mod readiness;
 mod receiving;
+pub mod record_list;
 pub mod records;
 mod releasing;
 pub mod socket;

@@ -1,6 +1,6 @@
 //! Sockets that listen: how far one is with it, its listen, and what it accepts.
 
-ghost use Rattle.std.specs.Prelude.{◌≡◌, ◌+◌, ◌<◌, ◌^◌, false, IfOk, Ok, OnErr, vec_capacity, vec_len};
+ghost use Rattle.std.specs.Prelude.{◌≡◌, ◌+◌, ◌<◌, ◌^◌, true, false, IfOk, Ok, OnErr};
 ghost use Rattle.wasi_world.specs.Asks.{AsksFor, outcome};
 ghost use Rattle.wasi_host.specs.Records.{tcp2_at};
 ghost use Rattle.wasi_host.specs.Host.{host_outcome};
@@ -9,6 +9,7 @@ ghost use Rattle.wasi_host.specs.Sides.{Balances, KnowsSides, given_by};
 
 use crate::binding::{AsyncOperation, InProgress};
 use crate::error::SocketError;
+use crate::record_list::RecordList;
 use crate::records::{Record, tcp2_mut};
 use crate::socket::Tcp2Socket;
 use crate::store::{StandingCall, Store};
@@ -193,8 +194,8 @@ impl Tcp2Socket {
 
 /// Keeps the record of what was accepted, for which there is room, and gives its number. A code is reported, and there is no
 /// record.
-fn keep_accepted(records: &mut Vec<Record>, socket: TcpSocket) -> Result<usize, SocketError>
-    requires { vec_len records.old < vec_capacity records.old }
+fn keep_accepted(records: &mut RecordList, socket: TcpSocket) -> Result<usize, SocketError>
+    requires { records.old.room ≡ true }
     ensures told { host_outcome result ≡ Ok (with_accepted_in records.old.items socket).0 }
     ensures records { records.new.items ≡ (with_accepted_in records.old.items socket).1 }
 {
@@ -246,7 +247,7 @@ impl Store {
         ensures names { IfOk (host_outcome result) (λ answer. ids.new ≡ accept_ids_at ids.old (tcp2_at self.old.records place)) }
         ensures open { (W.seen world.new).ended ≡ false }
     {
-        self.records.reserve(1)?;
+        self.records.reserve()?;
         let Some(record) = tcp2_mut(&mut self.records, place) else {
             return Err(SocketError::Trap(TrapKind::NoSuchHandle));
         };

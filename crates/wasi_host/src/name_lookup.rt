@@ -1,6 +1,6 @@
 //! Lookups of host names: how one is begun and asked about, and how the addresses that it found are handed out.
 
-ghost use Rattle.std.specs.Prelude.{◌≡◌, ◌∷◌, [], ◌<◌, IfOk, OnErr, false, length, map, Ok, vec_capacity, vec_len};
+ghost use Rattle.std.specs.Prelude.{◌≡◌, ◌∷◌, [], ◌<◌, IfOk, OnErr, true, false, length, map, Ok, vec_capacity, vec_len};
 ghost use Rattle.wasi_addr.specs.Address.{canonical};
 ghost use Rattle.wasi_world.specs.Asks.{AsksFor};
 ghost use Rattle.wasi_world.specs.Typed.{ask_lookup};
@@ -16,6 +16,7 @@ use crate::error::SocketError;
 use crate::handles;
 use crate::jobs::HostJob;
 use crate::kind::Kind;
+use crate::record_list::RecordList;
 use crate::records::{Record, lookup, lookup_mut};
 use crate::store::{Store, note_job};
 use std::alloc::{AllocError, Global};
@@ -170,8 +171,8 @@ fn unresolvable() -> p2::ErrorCode
 }
 
 /// Adds the record of a lookup, and its job, where it isn't answered yet; there is room for both. Its number is returned.
-fn add_lookup(records: &mut Vec<Record>, jobs: &mut Vec<HostJob>, lookup: Lookup) -> usize
-    requires record { vec_len records.old < vec_capacity records.old }
+fn add_lookup(records: &mut RecordList, jobs: &mut Vec<HostJob>, lookup: Lookup) -> usize
+    requires record { records.old.room ≡ true }
     requires job { vec_len jobs.old < vec_capacity jobs.old }
     ensures place { result ≡ length records.old.items }
     ensures records { records.new.items ≡ lookup_pushed records.old.items lookup }
@@ -248,7 +249,7 @@ impl Store {
         ensures sides { KnowsSides (W.seen world.old) self.old → KnowsSides (W.seen world.new) self.new }
         ensures open { (W.seen world.new).ended ≡ false }
     {
-        self.records.reserve(1)?;
+        self.records.reserve()?;
         self.jobs.reserve(1)?;
         let place = add_lookup(&mut self.records, &mut self.jobs, lookup);
         let kind = Kind::Lookup(place);
@@ -275,21 +276,20 @@ impl Store {
     pub(crate) fn lookup_ready(&self, place: usize) -> bool
         ensures { result ≡ lookup_ready (lookup_at self.now.records place) }
     {
-        match lookup(self.records.as_slice(), place) {
+        match lookup(&self.records, place) {
             Some(lookup) => !lookup.is_in_progress(),
             None => true,
         }
     }
 
-    /// Gives the lookup of this number up: it isn't asked about any more, and no address is kept.
+    /// Gives the lookup of this number up: it isn't asked about any more, and nothing of it is kept.
     pub(crate) fn drop_lookup(&mut self, place: usize)
         ensures state { self.new ≡ (drop_lookup_at self.old place (lookup_at self.old.records place)).1 }
         ensures sides { (s : Seen) → KnowsSides s self.old → KnowsSides s self.new }
     {
-        let Some(lookup) = lookup_mut(&mut self.records, place) else {
+        let Some(_dropped) = lookup(&self.records, place) else {
             return;
         };
-        *lookup = Lookup::Failed;
-        self.forget_jobs(place);
+        self.give_back(place);
     }
 }

@@ -30,7 +30,7 @@ impl Store {
         ensures sides { KnowsSides (W.seen world.old) self.now → KnowsSides (W.seen world.new) self.now }
         ensures open { (W.seen world.new).ended ≡ false }
     {
-        let Some(record) = tcp2(self.records.as_slice(), place) else {
+        let Some(record) = tcp2(&self.records, place) else {
             return Err(SocketError::Trap(TrapKind::NoSuchHandle));
         };
         let value = record.inner.get_option(world, op, option)?;

@@ -14,7 +14,7 @@ ghost use Rattle.wasi_host.specs.Views.{SameView, state_of};
 use crate::error::CallError;
 use crate::handles;
 use crate::kind::{Kind, PlainInput, PlainOutput};
-use crate::records::{Record, input_pipe_mut, output_pipe, output_pipe_mut};
+use crate::records::{Record, input_pipe, input_pipe_mut, output_pipe, output_pipe_mut};
 use crate::store::Store;
 use crate::view::WasiSocketsCtxView;
 use bytes::Bytes;
@@ -76,7 +76,7 @@ impl Store {
         ensures { stream_outcome result ≡ Ok (check_plain self.now output) }
     {
         match output {
-            PlainOutput::Pipe(place) => match output_pipe(self.records.as_slice(), place) {
+            PlainOutput::Pipe(place) => match output_pipe(&self.records, place) {
                 Some(pipe) => pipe.check_write(),
                 None => Err(StreamError::Trap(TrapKind::NoSuchHandle)),
             },
@@ -114,7 +114,7 @@ impl Store {
         pipe.write(bytes)
     }
 
-    /// An input of no connection goes: a pipe gives back its bytes.
+    /// An input of no connection goes: a pipe is given back with its bytes.
     pub(crate) fn drop_plain_input(&mut self, input: PlainInput)
         ensures state { self.new ≡ drop_plain_input self.old input }
         ensures sides { (s : Seen) → KnowsSides s self.old → KnowsSides s self.new }
@@ -122,13 +122,13 @@ impl Store {
         let PlainInput::Pipe(place) = input else {
             return;
         };
-        let Some(pipe) = input_pipe_mut(&mut self.records, place) else {
+        let Some(_dropped) = input_pipe(&self.records, place) else {
             return;
         };
-        *pipe = InputPipeCore::new(Bytes::new());
+        self.give_back(place);
     }
 
-    /// An output of no connection goes: a pipe gives back its bytes.
+    /// An output of no connection goes: a pipe is given back with its bytes.
     pub(crate) fn drop_plain_output(&mut self, output: PlainOutput)
         ensures state { self.new ≡ drop_plain_output self.old output }
         ensures sides { (s : Seen) → KnowsSides s self.old → KnowsSides s self.new }
@@ -136,10 +136,10 @@ impl Store {
         let PlainOutput::Pipe(place) = output else {
             return;
         };
-        let Some(pipe) = output_pipe_mut(&mut self.records, place) else {
+        let Some(_dropped) = output_pipe(&self.records, place) else {
             return;
         };
-        pipe.discard();
+        self.give_back(place);
     }
 
     /// Makes the handle of a pipe, and then its record.
@@ -157,7 +157,7 @@ impl Store {
         ensures sides { KnowsSides (W.seen world.old) self.old → KnowsSides (W.seen world.new) self.new }
         ensures open { (W.seen world.new).ended ≡ false }
     {
-        self.records.reserve(1)?;
+        self.records.reserve()?;
         let handle = handles::make(table, world, own, kind, None, None)?;
         self.records.push_reserved(pipe);
         Ok(handle)
@@ -205,7 +205,7 @@ impl Store {
     fn pipe_contents(&self, alloc: Global, place: usize) -> Result<Octets, Fault>
         ensures { IfOk (fault_outcome result) (λ answer. answer ≡ contents_at (output_pipe_at self.now.records place)) }
     {
-        match output_pipe(self.records.as_slice(), place) {
+        match output_pipe(&self.records, place) {
             Some(pipe) => Ok(Octets::copy_of(alloc, pipe.contents())?),
             None => Err(Fault::Trap(TrapKind::NoSuchHandle)),
         }

@@ -140,11 +140,11 @@ impl Store {
         ensures { result ≡ begins_on self.now (Some watched) }
     {
         match watched {
-            Watched::Socket(place) => match tcp2(self.records.as_slice(), place) {
+            Watched::Socket(place) => match tcp2(&self.records, place) {
                 Some(record) => record.would_accept(),
                 None => false,
             },
-            Watched::Incoming(place) => match open_udp(self.records.as_slice(), place) {
+            Watched::Incoming(place) => match open_udp(&self.records, place) {
                 Some(socket) => socket.would_receive(),
                 None => false,
             },

@@ -7,6 +7,7 @@ ghost use Rattle.wasi_host.specs.Rows.{record_row, records_row, socket_row, udp_
 ghost use Rattle.wasi_host.specs.declared.records.Record.TheVariants.{Tcp2, Udp2, Lookup as LookupRecord, InputPipe as ReadPipe, OutputPipe as WrittenPipe};
 
 use crate::name_lookup::Lookup;
+use crate::record_list::RecordList;
 use crate::socket::Tcp2Socket;
 use crate::udp::{OpenUdp, Udp2Socket};
 use wasi_memory::{InputPipeCore, OutputPipe};
@@ -24,6 +25,8 @@ pub enum Record {
     InputPipe(InputPipeCore),
     /// A pipe that a guest writes.
     OutputPipe(OutputPipe),
+    /// Nothing: what it was is given back, since nothing refers to it any more. Its number is never given again.
+    Gone,
 }
 
 impl Record {
@@ -90,6 +93,16 @@ impl Record {
         }
     }
 
+    /// The pipe that is read that it is.
+    fn as_input_pipe(&self) -> Option<&InputPipeCore>
+        ensures { option_map (λ p. p.now) result ≡ input_pipe_of (Some self.now) }
+    {
+        match self {
+            Record::InputPipe(pipe) => Some(pipe),
+            _ => None,
+        }
+    }
+
     /// The pipe that is read that it is, to be changed.
     fn as_input_pipe_mut(&mut self) -> Option<&mut InputPipeCore>
         ensures* writes_back { sem 𝓛 (LendsIf record_row input_pipe_row self.entry result ReadPipe self.old) }
@@ -124,14 +137,14 @@ impl Record {
 }
 
 /// The TCP socket of this number.
-pub(crate) fn tcp2(records: &[Record], place: usize) -> Option<&Tcp2Socket>
-    ensures item { option_map (λ r. r.now) result ≡ tcp2_at records.now place }
+pub(crate) fn tcp2(records: &RecordList, place: usize) -> Option<&Tcp2Socket>
+    ensures item { option_map (λ r. r.now) result ≡ tcp2_at records.now.items place }
 {
     records.get(place)?.as_tcp2()
 }
 
 /// The TCP socket of this number, to be changed where it is.
-pub(crate) fn tcp2_mut(records: &mut Vec<Record>, place: usize) -> Option<&mut Tcp2Socket>
+pub(crate) fn tcp2_mut(records: &mut RecordList, place: usize) -> Option<&mut Tcp2Socket>
     ensures* writes_back { sem 𝓛 (LendsIf records_row socket_row records.entry result (with_tcp2 records.old place) records.old) }
     ensures item { option_map (λ r. r.now) result ≡ tcp2_at records.old.items place }
 {
@@ -139,14 +152,14 @@ pub(crate) fn tcp2_mut(records: &mut Vec<Record>, place: usize) -> Option<&mut T
 }
 
 /// The UDP socket of this number.
-pub(crate) fn udp2(records: &[Record], place: usize) -> Option<&Udp2Socket>
-    ensures item { option_map (λ u. u.now) result ≡ udp2_at records.now place }
+pub(crate) fn udp2(records: &RecordList, place: usize) -> Option<&Udp2Socket>
+    ensures item { option_map (λ u. u.now) result ≡ udp2_at records.now.items place }
 {
     records.get(place)?.as_udp2()
 }
 
 /// The UDP socket of this number, to be changed where it is.
-pub(crate) fn udp2_mut(records: &mut Vec<Record>, place: usize) -> Option<&mut Udp2Socket>
+pub(crate) fn udp2_mut(records: &mut RecordList, place: usize) -> Option<&mut Udp2Socket>
     ensures* writes_back { sem 𝓛 (LendsIf records_row udp_row records.entry result (with_udp2 records.old place) records.old) }
     ensures item { option_map (λ u. u.now) result ≡ udp2_at records.old.items place }
 {
@@ -154,14 +167,14 @@ pub(crate) fn udp2_mut(records: &mut Vec<Record>, place: usize) -> Option<&mut U
 }
 
 /// The UDP socket of this number, where it is open.
-pub(crate) fn open_udp(records: &[Record], place: usize) -> Option<&OpenUdp>
-    ensures item { option_map (λ o. o.now) result ≡ open_at records.now place }
+pub(crate) fn open_udp(records: &RecordList, place: usize) -> Option<&OpenUdp>
+    ensures item { option_map (λ o. o.now) result ≡ open_at records.now.items place }
 {
     udp2(records, place)?.as_open()
 }
 
 /// The UDP socket of this number, where it is open, to be changed where it is.
-pub(crate) fn open_udp_mut(records: &mut Vec<Record>, place: usize) -> Option<&mut OpenUdp>
+pub(crate) fn open_udp_mut(records: &mut RecordList, place: usize) -> Option<&mut OpenUdp>
     ensures* writes_back { sem 𝓛 (LendsIf records_row open_row records.entry result (with_open records.old place) records.old) }
     ensures item { option_map (λ o. o.now) result ≡ open_at records.old.items place }
 {
@@ -169,22 +182,29 @@ pub(crate) fn open_udp_mut(records: &mut Vec<Record>, place: usize) -> Option<&m
 }
 
 /// The lookup of this number.
-pub(crate) fn lookup(records: &[Record], place: usize) -> Option<&Lookup>
-    ensures item { option_map (λ l. l.now) result ≡ lookup_at records.now place }
+pub(crate) fn lookup(records: &RecordList, place: usize) -> Option<&Lookup>
+    ensures item { option_map (λ l. l.now) result ≡ lookup_at records.now.items place }
 {
     records.get(place)?.as_lookup()
 }
 
 /// The lookup of this number, to be changed where it is.
-pub(crate) fn lookup_mut(records: &mut Vec<Record>, place: usize) -> Option<&mut Lookup>
+pub(crate) fn lookup_mut(records: &mut RecordList, place: usize) -> Option<&mut Lookup>
     ensures* writes_back { sem 𝓛 (LendsIf records_row lookup_row records.entry result (with_lookup_at records.old place) records.old) }
     ensures item { option_map (λ l. l.now) result ≡ lookup_at records.old.items place }
 {
     records.get_mut(place)?.as_lookup_mut()
 }
 
+/// The pipe of this number that a guest reads.
+pub(crate) fn input_pipe(records: &RecordList, place: usize) -> Option<&InputPipeCore>
+    ensures item { option_map (λ p. p.now) result ≡ input_pipe_at records.now.items place }
+{
+    records.get(place)?.as_input_pipe()
+}
+
 /// The pipe of this number that a guest reads, to be changed where it is.
-pub(crate) fn input_pipe_mut(records: &mut Vec<Record>, place: usize) -> Option<&mut InputPipeCore>
+pub(crate) fn input_pipe_mut(records: &mut RecordList, place: usize) -> Option<&mut InputPipeCore>
     ensures* writes_back { sem 𝓛 (LendsIf records_row input_pipe_row records.entry result (with_input_pipe records.old place) records.old) }
     ensures item { option_map (λ p. p.now) result ≡ input_pipe_at records.old.items place }
 {
@@ -192,14 +212,14 @@ pub(crate) fn input_pipe_mut(records: &mut Vec<Record>, place: usize) -> Option<
 }
 
 /// The pipe of this number that a guest writes.
-pub(crate) fn output_pipe(records: &[Record], place: usize) -> Option<&OutputPipe>
-    ensures item { option_map (λ p. p.now) result ≡ output_pipe_at records.now place }
+pub(crate) fn output_pipe(records: &RecordList, place: usize) -> Option<&OutputPipe>
+    ensures item { option_map (λ p. p.now) result ≡ output_pipe_at records.now.items place }
 {
     records.get(place)?.as_output_pipe()
 }
 
 /// The pipe of this number that a guest writes, to be changed where it is.
-pub(crate) fn output_pipe_mut(records: &mut Vec<Record>, place: usize) -> Option<&mut OutputPipe>
+pub(crate) fn output_pipe_mut(records: &mut RecordList, place: usize) -> Option<&mut OutputPipe>
     ensures* writes_back { sem 𝓛 (LendsIf records_row output_pipe_row records.entry result (with_output_pipe records.old place) records.old) }
     ensures item { option_map (λ p. p.now) result ≡ output_pipe_at records.old.items place }
 {

@@ -1,9 +1,9 @@
 //! What a socket releases when it goes.
 
-ghost use Rattle.std.specs.Prelude.{◌≡◌, not, OnErr, false, None};
+ghost use Rattle.std.specs.Prelude.{◌≡◌, not, OnOk, OnErr, false, None};
 ghost use Rattle.wasi_world.specs.Asks.{AsksFor};
 ghost use Rattle.wasi_host.specs.Dropping.{give_streams_up, close_record, release_asks, release_connection};
-ghost use Rattle.wasi_host.specs.Sides.{Balances};
+ghost use Rattle.wasi_host.specs.Sides.{Balances, holds};
 ghost use Rattle.wasi_host.specs.declared.listening.Listening.{Listening};
 
 use crate::binding::InProgress;
@@ -18,6 +18,7 @@ impl Tcp2Socket {
         requires { (W.seen world.old).ended ≡ false }
         ensures asked { AsksFor (release_asks op self.old) (W.seen world.old) (W.seen world.new) (λ done. (done, self.new)) result }
         ensures sides { Balances (W.seen world.old) (W.seen world.new) 0 self.old self.new }
+        ensures none { OnOk result (holds self.new ≡ 0) }
         ensures open { (W.seen world.new).ended ≡ false }
     {
         self.give_listening_up(world)?;
@@ -30,6 +31,7 @@ impl Tcp2Socket {
         requires not { self.old.listening ≡ Listening.Not }
         ensures asked { AsksFor (release_connection op self.old) (W.seen world.old) (W.seen world.new) (λ done. (done, self.new)) result }
         ensures sides { Balances (W.seen world.old) (W.seen world.new) 0 self.old self.new }
+        ensures none { OnOk result (holds self.new ≡ 0) }
         ensures open { (W.seen world.new).ended ≡ false }
     {
         self.give_streams_up(world, op)?;
@@ -56,6 +58,7 @@ impl Tcp2Socket {
         ensures asked { AsksFor (close_record op self.old) (W.seen world.old) (W.seen world.new) (λ done. (done, self.new)) result }
         ensures err { OnErr result (self.new ≡ self.old) }
         ensures unasked { OnErr result (W.seen world.new ≡ W.seen world.old) }
+        ensures none { OnOk result (holds self.new ≡ 0) }
         ensures open { (W.seen world.new).ended ≡ false }
     {
         self.inner.close(world, op)?;

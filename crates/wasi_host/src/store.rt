@@ -20,6 +20,7 @@ use crate::error::SocketError;
 use crate::handles;
 use crate::jobs::HostJob;
 use crate::kind::Kind;
+use crate::record_list::RecordList;
 use crate::records::{Record, tcp2, tcp2_mut};
 use crate::socket::Tcp2Socket;
 use std::alloc::{AllocError, Global};
@@ -60,11 +61,11 @@ pub struct Standing {
     pub call: StandingCall,
 }
 
-/// The records by number, the jobs in the order of making, and the pending call. Memory follows how many sockets, lookups and pipes
-/// were made.
+/// The records by number, the jobs in the order of making, and the pending call. A record goes with what refers to it: memory
+/// follows how many sockets, lookups and pipes are there, and not how many were made.
 #[derive(Drop)]
 pub struct Store {
-    pub(crate) records: Vec<Record>,
+    pub(crate) records: RecordList,
     pub(crate) jobs: Vec<HostJob>,
     pub(crate) standing: Option<Standing>,
 }
@@ -86,7 +87,7 @@ impl Store {
         ensures { result ≡ no_records }
     {
         Store {
-            records: Vec::new(alloc),
+            records: RecordList::new(alloc),
             jobs: Vec::new(alloc),
             standing: None,
         }
@@ -107,7 +108,7 @@ impl Store {
         ensures sides { KnowsSides (W.seen world.old) self.old → KnowsSides (W.seen world.new) self.new }
         ensures open { (W.seen world.new).ended ≡ false }
     {
-        self.records.reserve(1)?;
+        self.records.reserve()?;
         let socket = TcpSocket::new(world, own, ctx, family)?;
         let place = self.records.len();
         let side = socket.side();
@@ -203,7 +204,7 @@ impl Store {
     pub fn is_listening(&self, place: usize) -> Result<bool, SocketError>
         ensures { host_outcome result ≡ Ok (is_listening_at (tcp2_at self.now.records place)) }
     {
-        match tcp2(self.records.as_slice(), place) {
+        match tcp2(&self.records, place) {
             Some(record) => Ok(record.inner.is_listening()),
             None => Err(SocketError::Trap(TrapKind::NoSuchHandle)),
         }
@@ -213,7 +214,7 @@ impl Store {
     pub fn address_family(&self, place: usize) -> Result<SocketAddressFamily, SocketError>
         ensures { host_outcome result ≡ Ok (address_family_at (tcp2_at self.now.records place)) }
     {
-        match tcp2(self.records.as_slice(), place) {
+        match tcp2(&self.records, place) {
             Some(record) => Ok(record.inner.address_family()),
             None => Err(SocketError::Trap(TrapKind::NoSuchHandle)),
         }
@@ -223,7 +224,7 @@ impl Store {
     pub fn side(&self, place: usize) -> Option<Sock>
         ensures { result ≡ side_at (tcp2_at self.now.records place) }
     {
-        tcp2(self.records.as_slice(), place)?.side
+        tcp2(&self.records, place)?.side
     }
 
     /// Reads from the connection of the socket of this number.
@@ -324,7 +325,7 @@ impl Store {
         requires { (W.seen world.old).ended ≡ true }
         ensures { ClosesSides (W.seen world.old) (W.seen world.new) (held_in self.records) }
     {
-        close_sides(world, self.records.as_slice());
+        close_sides(world, &self.records);
     }
 
     /// The number of the pending call: while it does, every guest call is busy. That is the caller's to test: the calls of

@@ -6,7 +6,6 @@ ghost use Rattle.wasi_world.specs.Asks.{AsksFor, Reaches, outcome};
 ghost use Rattle.wasi_common.specs.Rounds.{is_going, stays_going};
 ghost use Rattle.wasi_host.specs.Records.{open_of};
 ghost use Rattle.wasi_host.specs.Rows.{udp_row, open_row};
-ghost use Rattle.wasi_host.specs.Cancel.{give_create_up};
 ghost use Rattle.wasi_udp.specs.Create.{create_cancel_asks};
 ghost use Rattle.wasi_host.specs.Sides.{HoldsFewer, MakesNone, one_if_some};
 ghost use Rattle.wasi_host.specs.Udp.{udp_side, udp_holds, opened_udp, poll_create_asks, udp_create_settled, udp_create_done, is_udp_idle, is_udp_bound, begin_udp_bind_asks, poll_udp_bind_asks, udp_bind_settled, with_udp_progress, udp_local_asks, close_udp_asks};
@@ -54,7 +53,7 @@ impl PendingCreate {
     }
 
     /// Gives it up: its network socket is closed. Out of memory nothing was asked.
-    fn cancel<W: World>(&self, world: &mut W) -> Result<(), AllocError>
+    pub(crate) fn cancel<W: World>(&self, world: &mut W) -> Result<(), AllocError>
         requires { (W.seen world.old).ended ≡ false }
         ensures asked { AsksFor (create_cancel_asks self.now) (W.seen world.old) (W.seen world.new) (λ done. done) result }
         ensures closed { IfOk result (λ done. HoldsFewer (W.seen world.old) (W.seen world.new) 1 0) }
@@ -259,23 +258,6 @@ impl Udp2Socket {
                 Err(Refusal::Memory(e))
             }
         }
-    }
-
-    /// Gives a create up that waits for its network socket: that is closed. Out of memory, nothing was asked, and it is as it was.
-    pub(crate) fn give_create_up<W: World>(&mut self, world: &mut W) -> Result<(), AllocError>
-        requires { (W.seen world.old).ended ≡ false }
-        ensures asked { AsksFor (give_create_up self.old) (W.seen world.old) (W.seen world.new) (λ done. self.new) result }
-        ensures err { OnErr result (self.new ≡ self.old) }
-        ensures unasked { OnErr result (W.seen world.new ≡ W.seen world.old) }
-        ensures held { HoldsFewer (W.seen world.old) (W.seen world.new) (udp_holds self.old) (udp_holds self.new) }
-        ensures open { (W.seen world.new).ended ≡ false }
-    {
-        let Udp2Socket::Creating(create) = self else {
-            return Ok(());
-        };
-        create.cancel(world)?;
-        *self = Udp2Socket::Closed(create.side());
-        Ok(())
     }
 
     /// Closes the network socket, where the socket is there, as its drop does. Out of memory, nothing was asked, and it is as

@@ -1,13 +1,13 @@
 //! The calls on the UDP socket of a number.
 
-ghost use Rattle.std.specs.Prelude.{◌≡◌, ◌≤◌, false, IfOk, Ok};
+ghost use Rattle.std.specs.Prelude.{◌≡◌, ◌≤◌, false, IfOk, Ok, Some};
 ghost use Rattle.wasi_world.specs.Asks.{AsksFor};
 ghost use Rattle.wasi_world.specs.Seen.{Seen};
 ghost use Rattle.wasi_common.specs.Options.{largest_value, option_of, number_of};
 ghost use Rattle.wasi_host.specs.Host.{host_outcome};
 ghost use Rattle.wasi_host.specs.Records.{open_at, udp2_at};
 ghost use Rattle.wasi_host.specs.Sides.{KnowsSides};
-ghost use Rattle.wasi_host.specs.UdpCalls.{start_udp_bind_at, rebind_udp_at, finish_udp_bind_at, udp_local_at, udp_remote_at, udp_family_at, get_udp_option_at, set_udp_option_at, release_udp_at};
+ghost use Rattle.wasi_host.specs.UdpCalls.{start_udp_bind_at, rebind_udp_at, finish_udp_bind_at, udp_local_at, udp_remote_at, udp_family_at, get_udp_option_at, set_udp_option_at, release_udp_at, udp_left};
 ghost use Rattle.wasi_host.specs.UdpCreates.{create_udp_asks, create_on, mark_udp, poll_create_at, udp_side_at};
 
 use crate::error::SocketError;
@@ -39,7 +39,7 @@ impl Store {
         ensures sides { KnowsSides (W.seen world.old) self.old → KnowsSides (W.seen world.new) self.new }
         ensures open { (W.seen world.new).ended ≡ false }
     {
-        self.records.reserve(1)?;
+        self.records.reserve()?;
         let create = UdpSocket::new(world, ids.own(), ctx, family)?;
         let place = self.records.len();
         let creating = Udp2Socket::Creating(PendingCreate::new(create));
@@ -106,15 +106,20 @@ impl Store {
         let Some(record) = udp2_mut(&mut self.records, place) else {
             return Err(SocketError::Trap(TrapKind::NoSuchHandle));
         };
-        let answer = record.poll_create(world)?;
-        Ok(answer)
+        match record.poll_create(world) {
+            Ok(answer) => Ok(answer),
+            Err(refusal) => {
+                self.leave_udp(place);
+                Err(SocketError::from(refusal))
+            }
+        }
     }
 
     /// The network socket that the UDP socket of this number was made with.
     pub(crate) fn udp_side(&self, place: usize) -> Option<Sock>
         ensures { result ≡ udp_side_at (udp2_at self.now.records place) }
     {
-        Some(udp2(self.records.as_slice(), place)?.side())
+        Some(udp2(&self.records, place)?.side())
     }
 
     /// Begins a bind of the UDP socket of this number. An operation in progress: `ConcurrencyConflict`. A datagram stream of it is
@@ -202,7 +207,7 @@ impl Store {
     pub fn udp_remote_address(&self, place: usize) -> Result<IpSocketAddress, SocketError>
         ensures { host_outcome result ≡ Ok (udp_remote_at (open_at self.now.records place)) }
     {
-        let Some(socket) = open_udp(self.records.as_slice(), place) else {
+        let Some(socket) = open_udp(&self.records, place) else {
             return Err(SocketError::Trap(TrapKind::NoSuchHandle));
         };
         match socket.inner.remote_address() {
@@ -215,7 +220,7 @@ impl Store {
     pub fn udp_address_family(&self, place: usize) -> Result<SocketAddressFamily, SocketError>
         ensures { host_outcome result ≡ Ok (udp_family_at (open_at self.now.records place)) }
     {
-        match open_udp(self.records.as_slice(), place) {
+        match open_udp(&self.records, place) {
             Some(socket) => Ok(socket.inner.address_family()),
             None => Err(SocketError::Trap(TrapKind::NoSuchHandle)),
         }
@@ -235,7 +240,7 @@ impl Store {
         ensures sides { KnowsSides (W.seen world.old) self.now → KnowsSides (W.seen world.new) self.now }
         ensures open { (W.seen world.new).ended ≡ false }
     {
-        let Some(socket) = open_udp(self.records.as_slice(), place) else {
+        let Some(socket) = open_udp(&self.records, place) else {
             return Err(SocketError::Trap(TrapKind::NoSuchHandle));
         };
         let value = socket.inner.get_option(world, op, option)?;
@@ -262,7 +267,7 @@ impl Store {
         Ok(())
     }
 
-    /// Closes the network socket of the UDP socket of this number, as its drop does.
+    /// Closes the network socket of the UDP socket of this number, as its drop does. Nothing is left of it then.
     pub(crate) fn release_udp<W: World>(
         &mut self,
         world: &mut W,
@@ -277,6 +282,22 @@ impl Store {
         let Some(record) = udp2_mut(&mut self.records, place) else {
             return Ok(());
         };
-        record.close(world, op)
+        record.close(world, op)?;
+        self.leave_udp(place);
+        Ok(())
+    }
+
+    /// Gives the UDP socket of this number back, where its network socket is closed.
+    fn leave_udp(&mut self, place: usize)
+        ensures state { (u : Udp2Socket) → udp2_at self.old.records place ≡ Some u → self.new ≡ udp_left self.old place u }
+        ensures sides { (s : Seen) → KnowsSides s self.old → KnowsSides s self.new }
+    {
+        let Some(socket) = udp2(&self.records, place) else {
+            return;
+        };
+        let Udp2Socket::Closed(_) = socket else {
+            return;
+        };
+        self.give_back(place);
     }
 }

@@ -1,8 +1,5 @@
-use Rattle.std.proofs.Common.{arith, length, ◌+◌, ◌<◌, ◌^◌}
-use Rattle.wasi_host.proofs.Closings.{closes_next}
+use Rattle.wasi_host.proofs.HeldMaps.{held_values}
 use Rattle.wasi_host.proofs.closing.close_sides.Goals as goal
 
-pub loop-record-preserved : goal.loop-record-preserved
-loop-record-preserved g c =
-    let f : length c.args.records.now + length c.args.records.now < 2 ^ 64 = omega arith in
-    closes_next c.args.records.now c.loop-record.record-index c.record-item.result c.loop-record-test.true f c.record-item.is c.loop-record.invariant c.close_record.ensures
+pub returns : goal.returns
+returns g c = rw (← c.records.view_is, ← held_values _ _ c.close_live.ensures.ordered c.records.invariant) c.close_live.ensures.closed

@@ -1,4 +1,4 @@
-use Rattle.std.proofs.Common.{ap}
+use Rattle.std.proofs.Common.{ap, refl}
 use Rattle.wasi_world.proofs.Walks.{asks_exit, asks_end}
 use Rattle.wasi_tcp.specs.Shape.{Socket}
 use Rattle.wasi_host.specs.declared.socket.Tcp2Socket.{Tcp2Socket}
@@ -14,3 +14,6 @@ returns-in_err-close-clause-err g c = on_err c.from_residual.result (ap (λ (i :
 
 pub returns-clause-asked : goal.returns-clause-asked
 returns-clause-asked g c = asks_end _ c.in_ok-close.ensures.asked.ok (gone_as c.args.self.now _ c.requires.not)
+
+pub returns-clause-none : goal.returns-clause-none
+returns-clause-none g c = rw (c.in_ok-close.ensures.gone, c.requires.not) refl

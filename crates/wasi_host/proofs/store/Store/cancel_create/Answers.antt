@@ -1,22 +1,30 @@
-use Rattle.std.proofs.Common.{refl}
-use Rattle.wasi_world.proofs.Walks.{asks_at, asks_gives, asks_given}
+use Rattle.std.proofs.Common.{Some, ap, sym, ◌∙◌}
+use Rattle.wasi_world.specs.Asks.{Give}
+use Rattle.wasi_world.proofs.Walks.{asks_end, asks_exit}
+use Rattle.wasi_host.specs.GivingBack.{given_back}
 use Rattle.wasi_host.specs.Store.{Records}
-use Rattle.wasi_host.specs.UdpCalls.{with_udp}
-use Rattle.wasi_host.proofs.Cancels.{cancel_create_as}
-use Rattle.wasi_host.proofs.UdpLookups.{udp_at, no_udp}
-use Rattle.wasi_host.proofs.UdpPolls.{knows_fewer}
+use Rattle.wasi_host.specs.declared.records.Record.TheVariants.{Udp2}
+use Rattle.wasi_host.specs.declared.udp.Udp2Socket.{Udp2Socket}
+use Rattle.wasi_host.specs.declared.udp.Udp2Socket.TheVariants.{Closed}
+use Rattle.wasi_host.proofs.GivenBack.{given_back_put, knows_cancelled}
 use Rattle.wasi_host.proofs.store.Store.cancel_create.Goals as goal
 
-pub returns-in_default-clause-asked : goal.returns-in_default-clause-asked
-returns-in_default-clause-asked g c = rw (← c.self.view_is, no_udp c.self.inside.records.items c.args.place c.in_default.ensures.item) (asks_given _ _ refl refl)
+pub returns-in_err-cancel-clause-asked : goal.returns-in_err-cancel-clause-asked
+returns-in_err-cancel-clause-asked g c =
+    let found = sym c.in-Some.ensures.item ∙ ap (λ (u : Udp2Socket). Some u) c.in-Creating.is in
+    rw (← c.self.view_is, found) (asks_exit _ _ c.from_residual.ensures.1 c.in_err-cancel.ensures.asked.err)
 
 pub returns-clause-asked : goal.returns-clause-asked
 returns-clause-asked g c =
     let store : Records = record { records = c.self.inside.records.items; jobs = c.self.inside.jobs.items; standing = c.self.inside.standing } in
-    let found = udp_at c.self.inside.records.items c.args.place c.in-Some.socket c.in-Some.ensures.item in
-    rw (← c.self.view_is, found) (asks_at (λ asks. asks) (cancel_create_as store c.args.place c.in-Some.socket.now found) (asks_gives (with_udp store c.args.place) c.give_create_up.ensures.asked))
+    let found = sym c.in-Some.ensures.item ∙ ap (λ (u : Udp2Socket). Some u) c.in-Creating.is in
+    let gone = c.give_back.ensures.state ∙ ap (given_back c.args.place) (sym c.self.view_is) in
+    rw (← c.self.view_is, found, gone)
+    (asks_end _ c.in_ok-cancel.ensures.asked.ok (ap (λ (now : Records). Give now) (given_back_put store c.args.place (Udp2 (Closed c.in-Creating.create.operation.who.side)))))
 
 pub returns-clause-sides : goal.returns-clause-sides
 returns-clause-sides g c = λ k.
     let store : Records = record { records = c.self.inside.records.items; jobs = c.self.inside.jobs.items; standing = c.self.inside.standing } in
-    knows_fewer store c.args.place c.in-Some.socket.now c.give_create_up.new.self (udp_at c.self.inside.records.items c.args.place c.in-Some.socket c.in-Some.ensures.item) c.give_create_up.ensures.held (rw (← c.self.view_is) at k)
+    let found = sym c.in-Some.ensures.item ∙ ap (λ (u : Udp2Socket). Some u) c.in-Creating.is in
+    let gone = c.give_back.ensures.state ∙ ap (given_back c.args.place) (sym c.self.view_is) in
+    rw gone (knows_cancelled store c.args.place c.in-Creating.create found c.in_ok-cancel.ensures.closed (rw (← c.self.view_is) at k))

@@ -1,4 +1,4 @@
-use Rattle.std.proofs.Common.{List, Err, ap, sym, ◌∙◌, subst, refl}
+use Rattle.std.proofs.Common.{List, length, Err, ap, sym, ◌∙◌, subst, refl}
 use Rattle.wasi_world.specs.Asks.{Give}
 use Rattle.wasi_world.proofs.Walks.{asks_then}
 use Rattle.wasi_host.specs.declared.records.Record.{Record}
@@ -25,13 +25,13 @@ pub returns-in_err-handle-clause-asked : goal.returns-in_err-handle-clause-asked
 returns-in_err-handle-clause-asked g c = rw (← c.self.view_is, fault_told _ c.from_residual-in_err-handle.result c.from_residual-in_err-handle.ensures.1)
     (asks_then _ c.in_ok-socket.ensures.asked.ok
     (handle_asks (record { table = c.args.table.now; store = record { records = c.self.inside.records.items; jobs = c.self.inside.jobs.items; standing = c.self.inside.standing } }) c.args.own c.in_ok-socket.socket
-    (c.len-place.ensures ∙ c.reserve.ensures.len ∙ c.self.inside.records.ok.0) c.side-side.ensures (rw (c.reserve.ensures.items, c.new-2.ensures) at c.push_reserved.ensures.items) c.in_err-handle.ensures.asked))
+    (c.len-place.ensures ∙ ap length c.reserve.ensures.items) c.side-side.ensures (rw (c.reserve.ensures.items, c.new-2.ensures) at c.push_reserved.ensures.items) c.in_err-handle.ensures.asked))
 
 pub returns-clause-asked : goal.returns-clause-asked
 returns-clause-asked g c = rw (← c.self.view_is)
     (asks_then _ c.in_ok-socket.ensures.asked.ok
     ((handle_asks (record { table = c.args.table.now; store = record { records = c.self.inside.records.items; jobs = c.self.inside.jobs.items; standing = c.self.inside.standing } }) c.args.own c.in_ok-socket.socket
-    (c.len-place.ensures ∙ c.reserve.ensures.len ∙ c.self.inside.records.ok.0) c.side-side.ensures (rw (c.reserve.ensures.items, c.new-2.ensures) at c.push_reserved.ensures.items) c.in_ok-handle.ensures.asked)))
+    (c.len-place.ensures ∙ ap length c.reserve.ensures.items) c.side-side.ensures (rw (c.reserve.ensures.items, c.new-2.ensures) at c.push_reserved.ensures.items) c.in_ok-handle.ensures.asked)))
 
 pub returns-in_err-handle-clause-sides : goal.returns-in_err-handle-clause-sides
 returns-in_err-handle-clause-sides g c = λ k.

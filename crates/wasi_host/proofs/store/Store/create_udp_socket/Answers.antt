@@ -1,4 +1,4 @@
-use Rattle.std.proofs.Common.{List, Err, ap, sym, ◌∙◌, subst, refl}
+use Rattle.std.proofs.Common.{List, length, Err, ap, sym, ◌∙◌, subst, refl}
 use Rattle.wasi_world.specs.Asks.{Give}
 use Rattle.wasi_world.proofs.Walks.{asks_then}
 use Rattle.wasi_host.specs.declared.machine.Machine.{Machine}
@@ -25,7 +25,7 @@ pub returns-clause-asked : goal.returns-clause-asked
 returns-clause-asked g c = rw (← c.self.view_is)
     (asks_then _ (rw c.own.ensures at c.in_ok-create.ensures.asked.ok)
     (begun_on (record { table = c.args.table.now; store = record { records = c.self.inside.records.items; jobs = c.self.inside.jobs.items; standing = c.self.inside.standing } }) c.args.ids c.in_ok-create.create
-    (c.len-place.ensures ∙ c.reserve.ensures.len ∙ c.self.inside.records.ok.0) (rw (c.reserve.ensures.items, c.new-2.ensures) at c.push_reserved.ensures.items) c.create_on.ensures.asked))
+    (c.len-place.ensures ∙ ap length c.reserve.ensures.items) (rw (c.reserve.ensures.items, c.new-2.ensures) at c.push_reserved.ensures.items) c.create_on.ensures.asked))
 
 pub returns-clause-sides : goal.returns-clause-sides
 returns-clause-sides g c = λ k.

@@ -1,7 +1,12 @@
-use Rattle.wasi_host.proofs.NameLookups.{lookup_found, held_in-lookup}
-use Rattle.wasi_host.proofs.SideCounts.{knows_same}
+use Rattle.std.proofs.Common.{refl, sym}
+use Rattle.wasi_host.specs.declared.name_lookup.Lookup.TheVariants.{Failed}
+use Rattle.wasi_host.specs.declared.records.Record.TheVariants.{Lookup}
+use Rattle.wasi_host.proofs.GivenBack.{was_none}
+use Rattle.wasi_host.proofs.NameLookups.{held_in-lookup}
 use Rattle.wasi_host.proofs.store.Store.drop_lookup.Goals as goal
 
 pub returns-clause-sides : goal.returns-clause-sides
 returns-clause-sides c = λ s k.
-    rw c.forget_jobs.ensures (knows_same _ _ (held_in-lookup c.self.inside.records.items c.args.place c.in-Some.lookup.now _ (lookup_found c.self.inside.records.items c.args.place c.in-Some.lookup c.in-Some.ensures.item)) (rw (← c.self.view_is) at k))
+    let items = c.self.inside.records.items in
+    let place = c.args.place in
+    c.give_back.ensures.sides s (rw (← c.self.view_is) (was_none items place (Lookup Failed) refl (held_in-lookup items place c.in-Some._dropped.now Failed (sym c.in-Some.ensures.item)))) k

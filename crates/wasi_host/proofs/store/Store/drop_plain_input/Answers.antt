@@ -1,8 +1,11 @@
-use Rattle.wasi_host.specs.Store.{Records}
-use Rattle.wasi_host.proofs.Pipes.{knows_input}
+use Rattle.std.proofs.Common.{[], refl, sym}
+use Rattle.wasi_host.specs.declared.records.Record.TheVariants.{InputPipe}
+use Rattle.wasi_host.proofs.GivenBack.{was_none}
+use Rattle.wasi_host.proofs.Pipes.{held_in-input}
 use Rattle.wasi_host.proofs.store.Store.drop_plain_input.Goals as goal
 
 pub returns-clause-sides : goal.returns-clause-sides
 returns-clause-sides c = λ s k.
-    let store : Records = record { records = c.self.inside.records.items; jobs = c.self.inside.jobs.items; standing = c.self.inside.standing } in
-    knows_input store c.in-Pipe.place c.in-Some.pipe _ c.in-Some.ensures.item (rw (← c.self.view_is) at k)
+    let items = c.self.inside.records.items in
+    let place = c.in-Pipe.place in
+    c.give_back.ensures.sides s (rw (← c.self.view_is) (was_none items place (InputPipe []) refl (held_in-input items place c.in-Some._dropped.now [] (sym c.in-Some.ensures.item)))) k

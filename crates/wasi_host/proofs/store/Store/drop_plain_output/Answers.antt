@@ -1,8 +1,12 @@
-use Rattle.wasi_host.specs.Store.{Records}
-use Rattle.wasi_host.proofs.Pipes.{knows_output}
+use Rattle.std.proofs.Common.{refl, sym}
+use Rattle.wasi_memory.specs.Plain.{no_contents}
+use Rattle.wasi_host.specs.declared.records.Record.TheVariants.{OutputPipe}
+use Rattle.wasi_host.proofs.GivenBack.{was_none}
+use Rattle.wasi_host.proofs.Pipes.{held_in-output}
 use Rattle.wasi_host.proofs.store.Store.drop_plain_output.Goals as goal
 
 pub returns-clause-sides : goal.returns-clause-sides
 returns-clause-sides c = λ s k.
-    let store : Records = record { records = c.self.inside.records.items; jobs = c.self.inside.jobs.items; standing = c.self.inside.standing } in
-    knows_output store c.in-Pipe.place c.in-Some.pipe _ c.in-Some.ensures.item (rw (← c.self.view_is) at k)
+    let items = c.self.inside.records.items in
+    let place = c.in-Pipe.place in
+    c.give_back.ensures.sides s (rw (← c.self.view_is) (was_none items place (OutputPipe (no_contents 0)) refl (held_in-output items place c.in-Some._dropped.now (no_contents 0) (sym c.in-Some.ensures.item)))) k

@@ -7,14 +7,14 @@ use Rattle.wasi_host.proofs.OptionSides.{calm_get}
 use Rattle.wasi_host.proofs.store.Store.get_option.Goals as goal
 
 pub returns-in_default-clause-asked : goal.returns-in_default-clause-asked
-returns-in_default-clause-asked g c = rw (← c.self.view_is, not_got c.self.inside.records.items c.args.place (rw c.as_slice.ensures.value at c.in_default.ensures.item)) (asks_given _ _ refl refl)
+returns-in_default-clause-asked g c = rw (← c.self.view_is, not_got c.self.inside.records.items c.args.place c.in_default.ensures.item) (asks_given _ _ refl refl)
 
 pub returns-in_err-value-clause-asked : goal.returns-in_err-value-clause-asked
 returns-in_err-value-clause-asked g c =
-    rw (← c.self.view_is, got_at c.self.inside.records.items c.args.place c.in-Some.record (rw c.as_slice.ensures.value at c.in-Some.ensures.item)) (host_refused _ _ c.from_residual.result c.from_residual.ensures.1 c.in_err-value.ensures.asked (λ code. refl))
+    rw (← c.self.view_is, got_at c.self.inside.records.items c.args.place c.in-Some.record c.in-Some.ensures.item) (host_refused _ _ c.from_residual.result c.from_residual.ensures.1 c.in_err-value.ensures.asked (λ code. refl))
 
 pub returns-clause-asked : goal.returns-clause-asked
-returns-clause-asked g c = rw (← c.self.view_is, got_at c.self.inside.records.items c.args.place c.in-Some.record (rw c.as_slice.ensures.value at c.in-Some.ensures.item)) (asks_end _ c.in_ok-value.ensures.asked.ok refl)
+returns-clause-asked g c = rw (← c.self.view_is, got_at c.self.inside.records.items c.args.place c.in-Some.record c.in-Some.ensures.item) (asks_end _ c.in_ok-value.ensures.asked.ok refl)
 
 pub returns-in_err-value-clause-sides : goal.returns-in_err-value-clause-sides
 returns-in_err-value-clause-sides g c = λ k. knows_asked Any _ _ _ (calm_get c.args.op c.in-Some.record.now.inner c.args.option) c.in_err-value.ensures.asked refl k

@@ -1,7 +1,8 @@
-use Rattle.std.proofs.Common.{refl}
-use Rattle.wasi_world.proofs.Walks.{asks_gives, asks_given}
+use Rattle.std.proofs.Common.{refl, ap, sym, ◌∙◌}
+use Rattle.wasi_world.specs.Asks.{Give}
+use Rattle.wasi_world.proofs.Walks.{asks_end, asks_exit, asks_given}
 use Rattle.wasi_host.specs.Store.{Records}
-use Rattle.wasi_host.specs.UdpCalls.{udp_closed}
+use Rattle.wasi_host.proofs.GivenBack.{udp_there, left_put}
 use Rattle.wasi_host.proofs.UdpLookups.{udp_at, no_udp}
 use Rattle.wasi_host.proofs.UdpPolls.{knows_fewer}
 use Rattle.wasi_host.proofs.store.Store.release_udp.Goals as goal
@@ -9,12 +10,22 @@ use Rattle.wasi_host.proofs.store.Store.release_udp.Goals as goal
 pub returns-in_default-clause-asked : goal.returns-in_default-clause-asked
 returns-in_default-clause-asked g c = rw (← c.self.view_is, no_udp c.self.inside.records.items c.args.place c.in_default.ensures.item) (asks_given _ _ refl refl)
 
+pub returns-in_err-close-clause-asked : goal.returns-in_err-close-clause-asked
+returns-in_err-close-clause-asked g c = rw (← c.self.view_is, udp_at c.self.inside.records.items c.args.place c.in-Some.record c.in-Some.ensures.item) (asks_exit _ _ c.from_residual.ensures.1 c.in_err-close.ensures.asked.err)
+
+pub returns-in_err-close-clause-sides : goal.returns-in_err-close-clause-sides
+returns-in_err-close-clause-sides g c = λ k.
+    let store : Records = record { records = c.self.inside.records.items; jobs = c.self.inside.jobs.items; standing = c.self.inside.standing } in
+    knows_fewer store c.args.place c.in-Some.record.now c.close.new.self (udp_at c.self.inside.records.items c.args.place c.in-Some.record c.in-Some.ensures.item) c.close.ensures.held (rw (← c.self.view_is) at k)
+
 pub returns-clause-asked : goal.returns-clause-asked
 returns-clause-asked g c =
     let store : Records = record { records = c.self.inside.records.items; jobs = c.self.inside.jobs.items; standing = c.self.inside.standing } in
-    rw (← c.self.view_is, udp_at c.self.inside.records.items c.args.place c.in-Some.record c.in-Some.ensures.item) (asks_gives (udp_closed store c.args.place) c.close.ensures.asked)
+    let found = udp_at c.self.inside.records.items c.args.place c.in-Some.record c.in-Some.ensures.item in
+    let left = c.leave_udp.ensures.state c.close.new.self (udp_there store.records c.args.place c.in-Some.record.now c.close.new.self found) ∙ left_put store c.args.place c.close.new.self in
+    rw (← c.self.view_is, found) (asks_end _ c.in_ok-close.ensures.asked.ok (ap (λ (now : Records). Give (tt, now)) (sym left)))
 
 pub returns-clause-sides : goal.returns-clause-sides
 returns-clause-sides g c = λ k.
     let store : Records = record { records = c.self.inside.records.items; jobs = c.self.inside.jobs.items; standing = c.self.inside.standing } in
-    knows_fewer store c.args.place c.in-Some.record.now c.close.new.self (udp_at c.self.inside.records.items c.args.place c.in-Some.record c.in-Some.ensures.item) c.close.ensures.held (rw (← c.self.view_is) at k)
+    c.leave_udp.ensures.sides _ (knows_fewer store c.args.place c.in-Some.record.now c.close.new.self (udp_at c.self.inside.records.items c.args.place c.in-Some.record c.in-Some.ensures.item) c.close.ensures.held (rw (← c.self.view_is) at k))

@@ -1,0 +1,21 @@
+use Rattle.std.proofs.Common.{Some, ap, sym, ◌∙◌}
+use Rattle.wasi_host.specs.Records.{udp2_at}
+use Rattle.wasi_host.specs.Store.{Records}
+use Rattle.wasi_host.specs.declared.udp.Udp2Socket.TheVariants.{Closed}
+use Rattle.wasi_host.proofs.GivenBack.{left_same, left_closed, udp_held}
+use Rattle.wasi_host.proofs.store.Store.leave_udp.Goals as goal
+
+pub returns-in_default-socket : goal.returns-in_default-socket
+returns-in_default-socket c =
+    let there = c.in-Some.ensures.item ∙ ap (λ (s : Records). udp2_at s.records c.args.place) c.self.view_is in
+    record { state = λ u found. left_same c.args.self.now c.args.place u c.in-Some.socket.now found there c.in_default-socket.not-Closed; sides = λ s k. k }
+
+pub returns-clause-state : goal.returns-clause-state
+returns-clause-state c =
+    let there = c.in-Some.ensures.item ∙ ap (λ (s : Records). udp2_at s.records c.args.place) c.self.view_is in
+    λ u found. c.give_back.ensures.state ∙ left_closed c.args.self.now c.args.place u c.in-Some.socket.now c.in-Closed.field-0 found there c.in-Closed.is
+
+pub returns-clause-sides : goal.returns-clause-sides
+returns-clause-sides c =
+    let there = c.in-Some.ensures.item ∙ ap (λ (s : Records). udp2_at s.records c.args.place) c.self.view_is in
+    λ s k. c.give_back.ensures.sides s (udp_held c.args.self.now.records c.args.place (Closed c.in-Closed.field-0) (sym there ∙ ap Some c.in-Closed.is)) k
