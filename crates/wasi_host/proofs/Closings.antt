@@ -58,9 +58,6 @@ pub record ClosedFirst (old mid : Seen) (all rest : List Record) : Type 0 where
   pub split : all ≡ done ++ rest
   pub closed : ClosesSides old mid (held_in done)
 
-pub none_closed : {s : Seen} (all : List Record) → s.ended ≡ true → ClosedFirst s s all all
-none_closed all ended = record { done = []; split = refl; closed = record { quiet = record { log = refl; faults = refl; plan = refl }; ended = ended; counted = λ z. z } }
-
 pub next_closed : {old mid new : Seen} (all left rest : List Record) (x : Record) → length all < 2 ^ 63 → left ≡ x ∷ rest → ClosedFirst old mid all left → ClosesMore mid new (held_by x) → ClosedFirst old new all rest
 next_closed all left rest x short next c d =
     let few = few_held c.done in
@@ -69,9 +66,6 @@ next_closed all left rest x short next c d =
     let long = ap length split ∙ length-append c.done (x ∷ rest) in
     let held : held_in (c.done ++ x ∷ []) ≡ held_in c.done + held_by x = held_in-append c.done (x ∷ []) ∙ omega arith in
     record { done = c.done ++ x ∷ []; split = split ∙ sym (append_assoc c.done (x ∷ []) rest); closed = rw held (closes_more c.closed d (omega (arith, few, p, long, short))) }
-
-pub all_closed : {old mid : Seen} (all rest : List Record) → rest ≡ [] → ClosedFirst old mid all rest → ClosesSides old mid (held_in all)
-all_closed {old} {mid} all rest none c = subst (λ (l : List Record). ClosesSides old mid (held_in l)) (sym (c.split ∙ ap (λ (l : List Record). c.done ++ l) none ∙ append-nil c.done)) c.closed
 
 pub empty_known : (log : Option (List Entry)) (held : ℕ) → IfSome log (λ log. log ≡ []) → held ≡ 0 → IfSome log (λ log. closed_in log + held ≡ made_in log)
 empty_known None held h z = tt

@@ -52,7 +52,7 @@ impl Store {
         record.give_listening_up(world)
     }
 
-    /// The create of the UDP socket of this number closes its network socket, and nothing is left of it: no handle was made.
+    /// The create of the UDP socket of this number closes its network socket, and its record is given back: no handle was made.
     fn cancel_create<W: World>(&mut self, world: &mut W, place: usize) -> Result<(), AllocError>
         requires { (W.seen world.old).ended ≡ false }
         ensures asked { AsksFor (cancel_create_at self.old place (udp2_at self.old.records place)) (W.seen world.old) (W.seen world.new) (λ done. self.new) result }

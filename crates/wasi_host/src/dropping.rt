@@ -21,7 +21,7 @@ use wasi_world::{Answer, Handle, Ids, OpId, World};
 
 impl Store {
     /// Releases what the socket of this number has: its open halves, the receiving one first, and its network socket. A write
-    /// in progress ends with its rest unwritten.
+    /// in progress ends with its rest unwritten. Its record is given back.
     pub(crate) fn release<W: World>(
         &mut self,
         world: &mut W,
@@ -81,8 +81,8 @@ impl Store {
 /// memory runs out then. A TCP socket
 /// releases its open halves and its network socket, and a UDP socket its network socket; an output waits until its writer is ready,
 /// and an outgoing datagram stream until its datagram in the background is sent or failed, and while it isn't the call is pending;
-/// nothing else waits. A lookup isn't asked about any more, and a pipe gives back its bytes. No call is pending yet: a drop that is continues by
-/// [`resume`](crate::resume).
+/// nothing else waits. A lookup isn't asked about any more. The record of a socket, a lookup or a pipe is given back. No call is
+/// pending yet: a drop that is continues by [`resume`](crate::resume).
 pub fn drop_handle<W: World>(
     view: &mut WasiSocketsCtxView<'_>,
     world: &mut W,

@@ -282,7 +282,7 @@ impl Store {
         }
     }
 
-    /// Gives the lookup of this number up: it isn't asked about any more, and nothing of it is kept.
+    /// Gives the lookup of this number up: it isn't asked about any more, and its record is given back.
     pub(crate) fn drop_lookup(&mut self, place: usize)
         ensures state { self.new ≡ (drop_lookup_at self.old place (lookup_at self.old.records place)).1 }
         ensures sides { (s : Seen) → KnowsSides s self.old → KnowsSides s self.new }

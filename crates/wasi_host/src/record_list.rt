@@ -58,7 +58,7 @@ impl RecordList {
         if self.next == usize::MAX {
             return Err(AllocError);
         }
-        // The map has no reserve: nothing stands at the next number until its record comes.
+        // The map has no reserve, so `Gone` keeps the room of the next record.
         self.live.insert(self.next, Record::Gone)?;
         Ok(())
     }
@@ -72,7 +72,7 @@ impl RecordList {
         self.next += 1;
     }
 
-    /// The record of this number. Where it was given back, or wasn't made, there is none, or nothing is there.
+    /// The record of this number: none, or `Gone`, where it was given back or wasn't made.
     pub(crate) fn get(&self, place: usize) -> Option<&Record>
         ensures { or_gone (option_map (λ r. r.now) result) ≡ item_at self.now.items place }
     {

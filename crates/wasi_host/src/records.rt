@@ -25,7 +25,7 @@ pub enum Record {
     InputPipe(InputPipeCore),
     /// A pipe that a guest writes.
     OutputPipe(OutputPipe),
-    /// Nothing: what it was is given back, since nothing refers to it any more. Its number is never given again.
+    /// Nothing: what was there is given back, since nothing refers to it any more, or its number isn't given yet.
     Gone,
 }
 

@@ -61,8 +61,9 @@ pub struct Standing {
     pub call: StandingCall,
 }
 
-/// The records by number, the jobs in the order of making, and the pending call. A record goes with what refers to it: memory
-/// follows how many sockets, lookups and pipes are there, and not how many were made.
+/// The records by number, the jobs in the order of making, and the pending call. A record is given back once nothing refers to it
+/// any more, so memory follows how many sockets, lookups and pipes are there, and not how many were made. A record for which no
+/// handle could be made stays.
 #[derive(Drop)]
 pub struct Store {
     pub(crate) records: RecordList,

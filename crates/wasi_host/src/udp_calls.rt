@@ -92,7 +92,7 @@ impl Store {
         Ok(Answer::Ready(handle))
     }
 
-    /// Waits for the network socket of the record of this number.
+    /// Waits for the network socket of the record of this number. Refused, the record is given back.
     fn poll_create<W: World>(
         &mut self,
         world: &mut W,
@@ -267,7 +267,7 @@ impl Store {
         Ok(())
     }
 
-    /// Closes the network socket of the UDP socket of this number, as its drop does. Nothing is left of it then.
+    /// Closes the network socket of the UDP socket of this number, as its drop does. Its record is given back.
     pub(crate) fn release_udp<W: World>(
         &mut self,
         world: &mut W,
