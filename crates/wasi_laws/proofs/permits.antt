@@ -1,5 +1,6 @@
 -- What a network socket takes is what it is let write.
 pub mod Agreeing
+pub mod Spent
 pub mod Taken
 pub mod Law
 pub mod Lets

@@ -2,6 +2,9 @@ pub mod Words
 pub mod Lists
 pub mod UdpLists
 pub mod LookupLists
+pub mod GoneLists
+pub mod Slots
+pub mod owners
 pub mod Gives
 pub mod walks
 pub mod fits

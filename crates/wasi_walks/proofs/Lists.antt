@@ -4,7 +4,7 @@ use Rattle.std.proofs.lemmas.Bool.{eqb-true}
 use Rattle.wasi_world.specs.declared.call.Entry.{Entry}
 use Rattle.wasi_table.specs.Table.{Live, value_at}
 use Rattle.wasi_host.specs.declared.records.Record.{Record}
-use Rattle.wasi_host.specs.declared.records.Record.TheVariants.{Tcp2, Udp2, Lookup, InputPipe, OutputPipe}
+use Rattle.wasi_host.specs.declared.records.Record.TheVariants.{Tcp2, Udp2, Lookup, InputPipe, OutputPipe, Gone}
 use Rattle.wasi_host.specs.declared.socket.Tcp2Socket.{Tcp2Socket}
 use Rattle.wasi_host.specs.Records.{tcp2_at, tcp2_put, tcp2_pushed}
 use Rattle.wasi_walks.specs.Licence.{Has, marked_by, marks_in}
@@ -112,6 +112,7 @@ set_same (Udp2 y ∷ xs) zero x e = absurd (cc)
 set_same (Lookup y ∷ xs) zero x e = absurd (cc)
 set_same (InputPipe y ∷ xs) zero x e = absurd (cc)
 set_same (OutputPipe y ∷ xs) zero x e = absurd (cc)
+set_same (Gone ∷ xs) zero x e = absurd (cc)
 set_same (Tcp2 y ∷ xs) zero x e = let p : x ≡ y = cc in ap (λ (z : Tcp2Socket). Tcp2 z ∷ xs) p
 set_same (y ∷ xs) (suc i) x e = ap (λ (zs : List Record). y ∷ zs) (set_same xs i x e)
 

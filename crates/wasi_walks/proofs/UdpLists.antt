@@ -1,7 +1,7 @@
 -- The UDP sockets among the records by place, and the TCP sockets beside them.
 use Rattle.std.proofs.Common.{◌≡◌, ℕ, zero, suc, ◌⊎◌, inl, inr, List, [], ◌∷◌, Some, length, refl, ap}
 use Rattle.wasi_host.specs.declared.records.Record.{Record}
-use Rattle.wasi_host.specs.declared.records.Record.TheVariants.{Tcp2, Udp2, Lookup, InputPipe, OutputPipe}
+use Rattle.wasi_host.specs.declared.records.Record.TheVariants.{Tcp2, Udp2, Lookup, InputPipe, OutputPipe, Gone}
 use Rattle.wasi_host.specs.declared.socket.Tcp2Socket.{Tcp2Socket}
 use Rattle.wasi_host.specs.declared.udp.Udp2Socket.{Udp2Socket}
 use Rattle.wasi_host.specs.Records.{tcp2_at, tcp2_put, tcp2_pushed, udp2_at, udp2_put, udp2_pushed}
@@ -49,6 +49,7 @@ udp_set_same (Tcp2 x ∷ xs) zero u h = absurd (cc)
 udp_set_same (Lookup x ∷ xs) zero u h = absurd (cc)
 udp_set_same (InputPipe x ∷ xs) zero u h = absurd (cc)
 udp_set_same (OutputPipe x ∷ xs) zero u h = absurd (cc)
+udp_set_same (Gone ∷ xs) zero u h = absurd (cc)
 udp_set_same (x ∷ xs) (suc i) u h = ap (λ (l : List Record). x ∷ l) (udp_set_same xs i u h)
 
 pub udp_set_set : (xs : List Record) (i : ℕ) (u now : Udp2Socket) → udp2_put (udp2_put xs i u) i now ≡ udp2_put xs i now
@@ -77,6 +78,7 @@ tcp_in_put (Udp2 z ∷ xs) zero old u zero r g h = absurd (cc)
 tcp_in_put (Lookup z ∷ xs) zero old u zero r g h = absurd (cc)
 tcp_in_put (InputPipe z ∷ xs) zero old u zero r g h = absurd (cc)
 tcp_in_put (OutputPipe z ∷ xs) zero old u zero r g h = absurd (cc)
+tcp_in_put (Gone ∷ xs) zero old u zero r g h = absurd (cc)
 tcp_in_put (z ∷ xs) zero old u (suc k) r g h = h
 tcp_in_put (z ∷ xs) (suc i) old u zero r g h = h
 tcp_in_put (z ∷ xs) (suc i) old u (suc k) r g h = tcp_in_put xs i old u k r g h
@@ -106,6 +108,7 @@ udp_in_put (Udp2 z ∷ xs) zero old r zero u g h = absurd (cc)
 udp_in_put (Lookup z ∷ xs) zero old r zero u g h = absurd (cc)
 udp_in_put (InputPipe z ∷ xs) zero old r zero u g h = absurd (cc)
 udp_in_put (OutputPipe z ∷ xs) zero old r zero u g h = absurd (cc)
+udp_in_put (Gone ∷ xs) zero old r zero u g h = absurd (cc)
 udp_in_put (z ∷ xs) zero old r (suc k) u g h = h
 udp_in_put (z ∷ xs) (suc i) old r zero u g h = h
 udp_in_put (z ∷ xs) (suc i) old r (suc k) u g h = udp_in_put xs i old r k u g h

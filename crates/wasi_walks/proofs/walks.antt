@@ -1,6 +1,7 @@
 -- What a line does, said once as moves; what a law of runs is; and that each step is made of moves.
 pub mod Here
 pub mod Moves
+pub mod Jobs
 pub mod Writes
 pub mod Failures
 pub mod Law

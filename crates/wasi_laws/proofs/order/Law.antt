@@ -16,7 +16,7 @@ use Rattle.wasi_host.specs.Udp.{udp_bind_progress, udp_create_left, udp_side, wi
 use Rattle.wasi_host.specs.UdpCreates.{with_create}
 use Rattle.wasi_udp.specs.Create.{Create, new_create}
 use Rattle.wasi_walks.proofs.walks.Moves.{put_udp, with_records, Finds, FoundUdp, udp_begun, begun_udp_bind, begun_udp_connect, sending_now, receiving_now, part_of, Names, IsUdpSettled, KeepsOp, SettlesSend, UdpPlain, receive_op, receiving_in, send_op, sending_in}
-use Rattle.wasi_walks.proofs.walks.Moves.{CancelsBind, EndsConnect, RecallsStreams, ToStream, CancelsUdpBind, CancelsUdpConnect, UdpChanges, BeginsUdpBind, BeginsUdpConnect, Counts, SpendsNames, BeginsSend, BeginsReceive, UdpCreates, UdpBindsOn, UdpConnectsOn, SendsOn, ReceivesOn}
+use Rattle.wasi_walks.proofs.walks.Moves.{CancelsBind, EndsConnect, RecallsStreams, ToStream, CancelsUdpBind, CancelsUdpConnect, UdpChanges, BeginsUdpBind, BeginsUdpConnect, Counts, SpendsNames, BeginsSend, BeginsReceive, UdpCreates, UdpBindsOn, UdpConnectsOn, SendsOn, ReceivesOn, GivesBack, without_record}
 use Rattle.wasi_world.specs.Operation.{Datagram}
 use Rattle.wasi_host.specs.Datagrams.{udp_connect_left, with_sending}
 use Rattle.wasi_host.specs.Receiving.{receive_left, with_receiving}
@@ -34,7 +34,7 @@ use Rattle.wasi_laws.proofs.shapes.Shape.{HasStreams, Same, SocketsStay, Streams
 use Rattle.wasi_laws.proofs.shapes.Law.{job_of}
 use Rattle.wasi_laws.proofs.order.Ordered.{Asked, gone_after, gone_along, gone_push, calm_may, asked_first, asked_one}
 use Rattle.wasi_laws.proofs.order.Rooms.{future_small, less_room, names_within, room_of, takes_line, takes_part}
-use Rattle.wasi_laws.proofs.order.Weights.{send_begins, receive_begins, wanted_checks, checks_of, if_ours, op_weight, state_ops, accept_ops, listening_ops, progress_ops, udp_progress_ops, op_in, total, half, record_weight, udp_weight, sockets_same, sockets_push, udps_push, beside, beside_udp, weight}
+use Rattle.wasi_laws.proofs.order.Weights.{send_begins, receive_begins, wanted_checks, checks_of, if_ours, op_weight, state_ops, accept_ops, listening_ops, progress_ops, udp_progress_ops, op_in, total, half, record_weight, udp_weight, sockets_same, sockets_fewer, sockets_push, udps_push, beside, beside_udp, weight}
 use Rattle.wasi_laws.proofs.order.Polls.{Within, poll_kept, write_asks_calmly}
 
 module _ (it : OpId) where
@@ -58,6 +58,10 @@ module _ (it : OpId) where
     -- a lookup weighs nothing
     looked : (es : List Entry) (h : Here) (records : List Record) → SocketsStay h.machine.store.records records → Kept line es h → Kept line es (with_records h records)
     looked es h records s k = lighter es h (with_records h records) (λ i. let x = sockets_same ours h.machine.store.records records s.tcp s.udp i in omega (arith, x)) (omega arith) k
+
+    -- and what is given back weighs nothing
+    fewer : (es : List Entry) (h : Here) (place : ℕ) → Kept line es h → Kept line es (without_record h place)
+    fewer es h place k = lighter es h (without_record h place) (λ i. sockets_fewer ours h.machine.store.records place i) (omega arith) k
 
     -- an operation of the line begins in its room
     begins : (es : List Entry) (h now : Here) (op : Operation) (own : Own) → ((i : Bool) → op_weight ours op.who.id op.left i + room line own ≤ room line h.own) → ((i : Bool) → weight ours now i ≤ weight ours h i + op_weight ours op.who.id op.left i) → Kept line es h → Within (λ i. 0) (room line own) (gone_along ours 0 es) (weight ours now)
@@ -186,6 +190,7 @@ module _ (it : OpId) where
       moves es _ _ (CancelsUdpBind h place o op q g e) k = put_udp_kept es h place (Udp2Socket.Open o) (Udp2Socket.Open _) g (λ i. omega arith) k
       moves es _ _ (CancelsUdpConnect h place o q g) k = put_udp_kept es h place (Udp2Socket.Open o) (Udp2Socket.Open _) g (λ i. omega arith) k
       moves es _ _ (Finds h records s) k = looked es h records (sockets_stay s) k
+      moves es _ _ (GivesBack h place idle left) k = fewer es h place k
       -- the others leave all that is looked at
       moves es _ _ _ k = k
 

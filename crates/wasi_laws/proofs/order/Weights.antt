@@ -5,6 +5,7 @@ use Rattle.wasi_world.specs.Operation.{UdpBind, UdpConnect, Send}
 use Rattle.wasi_host.specs.declared.udp.Udp2Socket.{Udp2Socket}
 use Rattle.wasi_host.specs.declared.udp.UdpInProgress.{UdpInProgress}
 use Rattle.wasi_host.specs.declared.udp.UdpInProgress.TheVariants as udp
+use Rattle.wasi_host.specs.GivingBack.{record_gone}
 use Rattle.wasi_host.specs.Records.{tcp2_put, tcp2_at, tcp2_of, tcp2_pushed, udp2_at, udp2_of, udp2_put, udp2_pushed}
 use Rattle.wasi_host.specs.declared.records.Record.{Record}
 use Rattle.wasi_host.specs.declared.records.Record.TheVariants as rec
@@ -188,6 +189,13 @@ module _ (ours : OpId → Bool) where
   half_sockets (rec.Lookup l ∷ rs) = let d = half_sockets rs in omega (arith, d)
   half_sockets (rec.InputPipe bytes ∷ rs) = let d = half_sockets rs in omega (arith, d)
   half_sockets (rec.OutputPipe pipe ∷ rs) = let d = half_sockets rs in omega (arith, d)
+  half_sockets (rec.Gone ∷ rs) = let d = half_sockets rs in omega (arith, d)
+
+  -- what is given back weighs nothing any more
+  pub sockets_fewer : (rs : List Record) (place : ℕ) (i : Bool) → sockets_weight (record_gone rs place) i ≤ sockets_weight rs i
+  sockets_fewer [] place i = omega arith
+  sockets_fewer (x ∷ rs) zero i = omega arith
+  sockets_fewer (x ∷ rs) (suc place) i = let k = sockets_fewer rs place i in omega (arith, k)
 
   pub sockets_push : (rs : List Record) (r : Tcp2Socket) (i : Bool) → sockets_weight (tcp2_pushed rs r) i ≡ sockets_weight rs i + record_weight r i
   sockets_push [] r i = omega arith
@@ -231,6 +239,7 @@ module _ (ours : OpId → Bool) where
   beside_udp (rec.Lookup l ∷ rs) zero u g = absurd (cc)
   beside_udp (rec.InputPipe bytes ∷ rs) zero u g = absurd (cc)
   beside_udp (rec.OutputPipe pipe ∷ rs) zero u g = absurd (cc)
+  beside_udp (rec.Gone ∷ rs) zero u g = absurd (cc)
   beside_udp (x ∷ rs) (suc place) u g =
       let k = beside_udp rs place u g in
       record {

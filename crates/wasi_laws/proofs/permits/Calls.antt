@@ -12,7 +12,8 @@ use Rattle.wasi_walks.proofs.walks.Calls.{Calling, Called, reaching, write_asks_
 use Rattle.wasi_walks.proofs.walks.Writes.{AsLet, AsNone, may_begin, may_of, may_in, may_at, let_write as let_own}
 use Rattle.wasi_laws.proofs.asks.Single.{single_law, single_along}
 use Rattle.wasi_laws.proofs.shapes.Law.{Shaped}
-use Rattle.wasi_laws.proofs.permits.Agreeing.{Agreeing}
+use Rattle.wasi_laws.proofs.permits.Agreeing.{Agreeing, agrees_over}
+use Rattle.wasi_laws.proofs.permits.Spent.{IsSpent, spent_own}
 use Rattle.wasi_laws.proofs.permits.Law.{Kept, permits}
 use Rattle.wasi_laws.proofs.permits.Lets.{Lets, lets_same, lets_all}
 use Rattle.wasi_laws.proofs.permits.Taken.{Fronts}
@@ -88,7 +89,7 @@ write_at m bytes (Some place) = write_in (tcp2_at m.store.records place) bytes
 module _ (contexts : List WasiSocketsCtx) (side : OpId) (line : ℕ) (origin : Step) where
   -- so much was let write, and the line works on this
   abbrev pub Holds : List ℕ → List Entry → Here → Type 0
-  Holds given es h = Base contexts line origin h × (Shaped h × Kept side given es h)
+  Holds given es h = Base contexts line origin h × (Shaped h × Kept side given line es h)
 
   -- the line is over
   abbrev pub Ends : {A : Type 0} → List ℕ → List Entry → A × Machine → Type 0
@@ -132,8 +133,8 @@ module _ (contexts : List WasiSocketsCtx) (side : OpId) (line : ℕ) (origin : S
     to_write : (given : List ℕ) (es : List Entry) (at : Option (ℕ × ℕ)) (m : Machine) (where_to : OpId) (bytes : List ℕ) → So given es at m → Holds (given ++ let_own side (ToWrite where_to bytes)) es (Calling n handles at (ToWrite where_to bytes) m)
     to_write given es at m where_to bytes i =
         let f = i.0.0 in let k = i.0.1 in let p = i.1.1 in (
-          (record { records = f.records; udps = f.udps; stands = f.stands }, record { one = k.one; apart = k.apart; older = k.older; named = k.named; held = k.held; udps = record { one = k.udps.one; apart = k.udps.apart; older = k.udps.older } }),
-          (i.1.0, record { held = given; stands = subst (λ (held : List ℕ). Agreeing side (taken_in side es) held m.store.records) p.owes p.stands; owes = refl }),
+          (record { records = f.records; udps = f.udps; stands = f.stands }, record { one = k.one; apart = k.apart; older = k.older; named = k.named; held = k.held; udps = record { one = k.udps.one; apart = k.udps.apart; older = k.udps.older } }, (i.0.2.0, tt)),
+          (i.1.0, record { held = given; stands = agrees_over side (taken_in side es) given m.store.records (spent_own side line Used (ToWrite where_to bytes) m.store.records (λ x o. o)) (subst (λ (held : List ℕ). Agreeing side (IsSpent side line (Over m)) (taken_in side es) held m.store.records) p.owes p.stands); owes = refl }),
         )
 
     -- a write, by what may begin

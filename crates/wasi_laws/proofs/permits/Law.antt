@@ -22,13 +22,18 @@ use Rattle.wasi_walks.proofs.fits.UdpFits.{receives_on, sends_on}
 use Rattle.wasi_walks.proofs.walks.Moves.{CancelsBind, EndsConnect, RecallsStreams, CancelsUdpBind, CancelsUdpConnect, Names, put_udp, with_records, Finds, FoundUdp, UdpChanges, BeginsUdpBind, BeginsUdpConnect, Counts, SpendsNames, BeginsSend, BeginsReceive, UdpCreates, UdpBindsOn, UdpConnectsOn, SendsOn, ReceivesOn}
 use Rattle.wasi_walks.specs.Waiting.{IsLeftOfBind}
 use Rattle.wasi_walks.specs.Waiting as binding
-use Rattle.wasi_laws.proofs.Words.{Allows, ArePlain, Asks, Awaits, Begins, BeginsAccept, BeginsBind, BeginsConnect, BeginsListen, BeginsWrite, BindsOn, Bool, Call, Changes, ClosesReader, Connects, Done, End, Entry, Fit, FitListening, FitProgress, Forgets, Found, Held, Here, HoldsAccept, HoldsConnect, IsAcceptOn, IsConnect, IsFrontOf, IsGone, IsLeftOfConnect, IsLeftOfListen, IsListen, Item, Job, Joins, List, Listens, Move, Named, NoWrite, None, Not, OpId, Opens, Operation, Option, Own, Quiet, Reconnects, Refused, SocketAddressFamily, Some, Spends, Step, Streams, Tcp2Socket, TcpState, ToConnect, ToWrite, Told, Unlistens, Unused, Used, Waits, WasiSocketsCtx, WriteState, Writes, [], accept_ended, accept_name, accept_plain, accepting_now, allows_keep, allows_weaker, ap, append-nil, append_assoc, bytes_left, closed_record, connect_ended, entry, false, fresh, if◌then◌else◌, inl, inr, is_same, job_after, joined, name_in, new_accept, new_job, new_record, new_socket, none_taken, opened_by, own_of, part_of, plain_poll, poll_asks, put, refl, rules, side_in, side_of, subst, sym, taken_fresh, taken_in, true, with_inner, with_listening, with_reader, with_state, with_writer, ℕ, ⊤, ◌+◌, ◌++◌, ◌∙◌, ◌∷◌, ◌≡◌}
+use Rattle.wasi_laws.proofs.Words.{Allows, ArePlain, Asks, Awaits, Begins, BeginsAccept, BeginsBind, BeginsConnect, BeginsListen, BeginsWrite, BindsOn, Bool, Call, Changes, ClosesReader, Connects, Done, End, Entry, Fit, FitListening, FitProgress, Forgets, Found, Held, Here, HoldsAccept, HoldsConnect, IsAcceptOn, IsConnect, IsFrontOf, IsGone, IsLeftOfConnect, IsLeftOfListen, IsListen, Item, Job, Joins, List, Listens, Move, Named, NoWrite, None, Not, OpId, Opens, Operation, Option, Own, Quiet, Reconnects, Refused, SocketAddressFamily, Some, Spends, Step, Streams, Tcp2Socket, TcpState, ToConnect, ToWrite, Told, Unlistens, Unused, Used, Waits, WasiSocketsCtx, WriteState, Writes, [], accept_ended, accept_name, accept_plain, accepting_now, allows_keep, allows_weaker, ap, append-nil, append_assoc, bytes_left, closed_record, connect_ended, entry, false, fresh, if◌then◌else◌, inl, inr, is_same, job_after, joined, name_in, new_accept, new_job, new_record, new_socket, none_taken, opened_by, own_of, part_of, poll_asks, put, refl, rules, side_in, side_of, subst, sym, taken_fresh, taken_in, true, with_inner, with_listening, with_reader, with_state, with_writer, ℕ, ⊤, ◌+◌, ◌++◌, ◌∙◌, ◌∷◌, ◌≡◌, Ok, length}
 use Rattle.wasi_laws.proofs.asks.Fronts.{unwritten, polls_by}
 use Rattle.wasi_laws.proofs.asks.Single.{Single, Grounds, Closing, ClosesSocket, ClosesListen, ClosesArrived, creating}
 use Rattle.wasi_laws.proofs.asks.Trees.{GoesOn, InWriting, InClosing}
 use Rattle.wasi_laws.proofs.shapes.Shape.{same_side, not_same, some_same, WriterIs, HasStreams, StreamsShape, IsBegun, Lives, Follows, follows_plain, follows_same, follows_state, follows_quiet, follows_begun, follows_gone, gone_lacks, SocketsStay, sockets_stay}
 use Rattle.wasi_laws.proofs.shapes.Law.{job_of}
-use Rattle.wasi_laws.proofs.permits.Agreeing.{JobAgrees, Agrees, Agree, Agreeing, agrees_put, agrees_moved, agrees_push, writer_agrees, agrees_beside}
+use Rattle.wasi_laws.proofs.permits.Agreeing.{JobAgrees, Agrees, Agree, Agreeing, agrees_put, agrees_moved, agrees_push, writer_agrees, agrees_beside, agrees_fewer, agrees_over}
+use Rattle.wasi_laws.proofs.permits.Spent.{IsSpent, moves_spent, polls_spent, spent_by, spent_fewer, spent_own, spent_push, spent_put}
+use Rattle.wasi_walks.proofs.Lists.{tcp2_seam}
+use Rattle.wasi_walks.proofs.claims.Polls.{GivesOwn, own_poll}
+use Rattle.wasi_walks.proofs.walks.Here.{older_used, own_not_given}
+use Rattle.wasi_walks.proofs.walks.Moves.{GivesBack, udp_begun}
 use Rattle.wasi_laws.proofs.permits.Taken.{After, write_law, taken_push, Fronts, quiet_keep, Accounts}
 use Rattle.wasi_host.specs.Records.{tcp2_put, udp2_put, udp2_pushed}
 use Rattle.wasi_host.specs.declared.records.Record.{Record}
@@ -87,13 +92,13 @@ module _ (side : OpId) (given : List ℕ) where
   Owes _ held = held ≡ given
 
   -- What was let write, and that the records are so.
-  pub record Permitted (es : List Entry) (records : List Record) (own : Own) : Type 0 where
+  pub record Permitted (over : Type 0) (es : List Entry) (records : List Record) (own : Own) : Type 0 where
     pub held : List ℕ
-    pub stands : Agreeing side (taken_in side es) held records
+    pub stands : Agreeing side over (taken_in side es) held records
     pub owes : Owes own held
 
-  abbrev pub Kept : List Entry → Here → Type 0
-  Kept es h = Permitted es h.machine.store.records h.own
+  abbrev pub KeptBy : Type 0 → List Entry → Here → Type 0
+  KeptBy over es h = Permitted over es h.machine.store.records h.own
 
   front_on : (taken held more : List ℕ) → IsFrontOf taken held → given ≡ held ++ more → IsFrontOf taken given
   front_on taken held more f e = (f.0 ++ more, sym (append_assoc taken f.0 more) ∙ (ap (λ (t : List ℕ). t ++ more) f.1 ∙ sym e))
@@ -105,196 +110,240 @@ module _ (side : OpId) (given : List ℕ) where
   front_by taken held (ToConnect place) e f = subst (IsFrontOf taken) e f
   front_by taken held (ToWrite at bytes) e f = front_on taken held _ f e
 
-  front : (es : List Entry) (h : Here) → Kept es h → IsFrontOf (taken_in side es) given
-  front es h k = front_by (taken_in side es) k.held h.own k.owes k.stands.front
+  -- where the streams are made nothing was taken
+  opens_agree : (es : List Entry) (held : List ℕ) (c : Connection) (o : Option Streams) → c.send_taken ≡ false → StreamsShape (state.Connected c) o → Agree (taken_in side es) held o → taken_in side es ≡ held
+  opens_agree es held c None f s a = a.0 ∙ sym a.1
+  opens_agree es held c (Some x) f s a = absurd (let q : c ≡ s.connection = cc in let z : false ≡ true = sym f ∙ (ap (λ (y : Connection). y.send_taken) q ∙ s.taken) in cc)
 
-  -- so much was taken by now
-  took : (es fs : List Entry) (h : Here) → taken_in side fs ≡ taken_in side es → Kept es h → Kept fs h
-  took es fs h e k = record { held = k.held; stands = subst (λ (t : List ℕ). Agreeing side t k.held h.machine.store.records) (sym e) k.stands; owes = k.owes }
+  module _ (over : Type 0) where
+    front : (es : List Entry) (h : Here) → KeptBy over es h → IsFrontOf (taken_in side es) given
+    front es h k = front_by (taken_in side es) k.held h.own k.owes k.stands.front
 
-  asked : (es : List Entry) (h : Here) (op : OpId) (c : Call) (told : Told) → NoWrite c → Kept es h → Kept (es ++ entry op c told ∷ []) h
-  asked es h op c told n k = took es (es ++ entry op c told ∷ []) h (taken_push side es (entry op c told) (none_taken side c told n)) k
+    -- so much was taken by now
+    took : (es fs : List Entry) (h : Here) → taken_in side fs ≡ taken_in side es → KeptBy over es h → KeptBy over fs h
+    took es fs h e k = record { held = k.held; stands = subst (λ (t : List ℕ). Agreeing side over t k.held h.machine.store.records) (sym e) k.stands; owes = k.owes }
 
-  -- a record changes, and agrees where its network socket is alive
-  put_kept : (es : List Entry) (h : Here) (place : ℕ) (r now : Tcp2Socket) → Found h place r → Follows r now → ((held : List ℕ) → Lives side now → Agree (taken_in side es) held r.streams → Agree (taken_in side es) held now.streams) → Kept es h → Kept es (put h place now)
-  put_kept es h place r now g f a k = record { held = k.held; stands = agrees_put side h.machine.store.records place r now g f.side (taken_in side es) k.held (λ v. a k.held v (k.stands.lives place r g (f.lives side v))) k.stands; owes = k.owes }
+    asked : (es : List Entry) (h : Here) (op : OpId) (c : Call) (told : Told) → NoWrite c → KeptBy over es h → KeptBy over (es ++ entry op c told ∷ []) h
+    asked es h op c told n k = took es (es ++ entry op c told ∷ []) h (taken_push side es (entry op c told) (none_taken side c told n)) k
 
-  -- and its streams are as they were
-  put_same : (es : List Entry) (h : Here) (place : ℕ) (r now : Tcp2Socket) → Found h place r → Follows r now → now.streams ≡ r.streams → Kept es h → Kept es (put h place now)
-  put_same es h place r now g f s k = put_kept es h place r now g f (λ held v a. subst (Agree (taken_in side es) held) (sym s) a) k
+    -- a record changes, and agrees where its network socket is alive
+    put_kept : (es : List Entry) (h : Here) (place : ℕ) (r now : Tcp2Socket) → Found h place r → Follows r now → ((held : List ℕ) → Lives side now → Agree (taken_in side es) held r.streams → Agree (taken_in side es) held now.streams) → KeptBy over es h → KeptBy over es (put h place now)
+    put_kept es h place r now g f a k = record { held = k.held; stands = agrees_put side h.machine.store.records place r now g f.side (taken_in side es) k.held (λ v. a k.held v (k.stands.lives place r g (f.lives side v))) k.stands; owes = k.owes }
 
-  -- it has no network socket any more
-  put_gone : (es : List Entry) (h : Here) (place : ℕ) (r now : Tcp2Socket) → Found h place r → now.side ≡ r.side → side_of now.inner ≡ None → (IsBegun now.listening → ⊥) → Kept es h → Kept es (put h place now)
-  put_gone es h place r now g s d n k = put_kept es h place r now g (follows_gone r now s d n) (λ held v a. absurd (gone_lacks now d n side v)) k
+    -- and its streams are as they were
+    put_same : (es : List Entry) (h : Here) (place : ℕ) (r now : Tcp2Socket) → Found h place r → Follows r now → now.streams ≡ r.streams → KeptBy over es h → KeptBy over es (put h place now)
+    put_same es h place r now g f s k = put_kept es h place r now g f (λ held v a. subst (Agree (taken_in side es) held) (sym s) a) k
 
-  -- a UDP socket changes, or there is one more
-  put_udp_kept : (es : List Entry) (h : Here) (place : ℕ) (u now : Udp2Socket) → FoundUdp h place u → Kept es h → Kept es (put_udp h place now)
-  put_udp_kept es h place u now g k = record {
-    held = k.held;
-    stands = agrees_beside side (taken_in side es) k.held h.machine.store.records (udp2_put h.machine.store.records place now) (tcp_of_put h.machine.store.records place now) (λ i r e. tcp_in_put h.machine.store.records place u now i r g e) k.stands;
-    owes = k.owes;
-  }
+    -- it has no network socket any more
+    put_gone : (es : List Entry) (h : Here) (place : ℕ) (r now : Tcp2Socket) → Found h place r → now.side ≡ r.side → side_of now.inner ≡ None → (IsBegun now.listening → ⊥) → KeptBy over es h → KeptBy over es (put h place now)
+    put_gone es h place r now g s d n k = put_kept es h place r now g (follows_gone r now s d n) (λ held v a. absurd (gone_lacks now d n side v)) k
 
-  push_udp_kept : (es : List Entry) (records : List Record) (now : Udp2Socket) (own : Own) → Permitted es records own → Permitted es (udp2_pushed records now) own
-  push_udp_kept es records now own k = record { held = k.held; stands = agrees_beside side (taken_in side es) k.held records (udp2_pushed records now) (tcp_of_push records now) (tcp_in_push records now) k.stands; owes = k.owes }
+    -- a UDP socket changes, or there is one more
+    put_udp_kept : (es : List Entry) (h : Here) (place : ℕ) (u now : Udp2Socket) → FoundUdp h place u → KeptBy over es h → KeptBy over es (put_udp h place now)
+    put_udp_kept es h place u now g k = record {
+      held = k.held;
+      stands = agrees_beside side (taken_in side es) k.held h.machine.store.records (udp2_put h.machine.store.records place now) (tcp_of_put h.machine.store.records place now) (λ i r e. tcp_in_put h.machine.store.records place u now i r g e) k.stands;
+      owes = k.owes;
+    }
 
-  -- a lookup was let write nothing
-  looked : (es : List Entry) (h : Here) (records : List Record) → SocketsStay h.machine.store.records records → Kept es h → Kept es (with_records h records)
-  looked es h records s k = record { held = k.held; stands = agrees_beside side (taken_in side es) k.held h.machine.store.records records (λ i r e. sym (s.tcp i) ∙ e) (λ i r e. s.tcp i ∙ e) k.stands; owes = k.owes }
+    push_udp_kept : (es : List Entry) (records : List Record) (now : Udp2Socket) (own : Own) → Permitted over es records own → Permitted over es (udp2_pushed records now) own
+    push_udp_kept es records now own k = record { held = k.held; stands = agrees_beside side (taken_in side es) k.held records (udp2_pushed records now) (tcp_of_push records now) (tcp_in_push records now) k.stands; owes = k.owes }
 
-  -- what the line has begun changes, and it is let write as much as before
-  owns : (es : List Entry) (records : List Record) (own was now : Own) → own ≡ was → ((held : List ℕ) → Owes was held → Owes now held) → Permitted es records own → Permitted es records now
-  owns es records own was now e f k = record { held = k.held; stands = k.stands; owes = f k.held (subst (λ (o : Own). Owes o k.held) e k.owes) }
+    -- a lookup was let write nothing
+    looked : (es : List Entry) (h : Here) (records : List Record) → SocketsStay h.machine.store.records records → KeptBy over es h → KeptBy over es (with_records h records)
+    looked es h records s k = record { held = k.held; stands = agrees_beside side (taken_in side es) k.held h.machine.store.records records (λ i r e. sym (s.tcp i) ∙ e) (λ i r e. s.tcp i ∙ e) k.stands; owes = k.owes }
 
-  spends : (es : List Entry) (records : List Record) (own : Own) → own ≡ Unused → Permitted es records own → Permitted es records Used
-  spends es records own u k = owns es records own Unused Used u (λ held o. o) k
+    -- what the line has begun changes, and it is let write as much as before
+    owns : (es : List Entry) (records : List Record) (own was now : Own) → own ≡ was → ((held : List ℕ) → Owes was held → Owes now held) → Permitted over es records own → Permitted over es records now
+    owns es records own was now e f k = record { held = k.held; stands = k.stands; owes = f k.held (subst (λ (o : Own). Owes o k.held) e k.owes) }
+
+    spends : (es : List Entry) (records : List Record) (own : Own) → own ≡ Unused → Permitted over es records own → Permitted over es records Used
+    spends es records own u k = owns es records own Unused Used u (λ held o. o) k
+
+    module _ (line : ℕ) where
+      -- a write begins: its network socket is the connection's
+      module _ (es : List Entry) (h : Here) (place number : ℕ) (r : Tcp2Socket) (s : Streams) (half : TcpSendStream) (permit : ℕ) (bytes : List ℕ) (g : Found h place r) (e : r.streams ≡ Some s) (w : s.writer ≡ writing.Ready half permit) (o : HasStreams r.inner.state s) (n : Named line h) (k : KeptBy over es h) where
+        abbrev begun : Tcp2Socket
+        begun = with_writer r s (writing.Writing (new_job (own_of number) half.side bytes))
+
+        its_side : side_of r.inner ≡ Some half.side
+        its_side = let same : half.side ≡ o.connection.side = subst (WriterIs o.connection.side) w o.writer in ap side_in o.is ∙ ap (λ (x : OpId). Some x) (sym same)
+
+        its_made : r.side ≡ Some half.side
+        its_made = n.named half.side place r g its_side
+
+        all_taken : half.side ≡ side → taken_in side es ≡ k.held
+        all_taken ours = let o = ap (λ (x : OpId). Some x) ours in subst (Agrees (taken_in side es) k.held) w (subst (Agree (taken_in side es) k.held) e (k.stands.lives place r g (its_made ∙ o, inl (its_side ∙ o))))
+
+        begins : (b : Bool) → is_same half.side side ≡ b → (let more : List ℕ = if b then bytes else [] in given ≡ k.held ++ more) → Agreeing side over (taken_in side es) given (tcp2_put h.machine.store.records place begun)
+        begins true b o =
+            let is = same_side half.side side b in let m : r.side ≡ Some side = its_made ∙ ap (λ (x : OpId). Some x) is in
+            agrees_moved side h.machine.store.records place r begun g refl (taken_in side es) k.held (taken_in side es) given m (λ i q e v. n.one side i place q r e g (inl v) (inl m)) (front_on (taken_in side es) k.held bytes k.stands.front o)
+            (ap (λ (t : List ℕ). t ++ bytes) (all_taken is) ∙ sym o) k.stands
+        begins false b o =
+            subst (λ (q : List ℕ). Agreeing side over (taken_in side es) q (tcp2_put h.machine.store.records place begun)) (sym (append-nil k.held) ∙ sym o)
+            (agrees_put side h.machine.store.records place r begun g refl (taken_in side es) k.held (λ v. absurd (not_same half.side side (some_same half.side side (sym its_made ∙ v.0)) b)) k.stands)
+
+      module _ (contexts : List WasiSocketsCtx) (origin : Step) where
+        moves : (es : List Entry) (h now : Here) → Move line origin h now → (over → IsSpent side line now) → (IsSpent side line now → over) → Grounds contexts line origin h → KeptBy over es h → KeptBy over es now
+        moves es _ _ (Spends h e) says makes b k = spends es _ h.own e k
+        moves es _ _ (EndsConnect h place e ended) says makes b k = owns es _ h.own (ToConnect place) Used e (λ held o. o) k
+        moves es _ _ (RecallsStreams h ids place handle e own) says makes b k = owns es _ h.own Unused (ToConnect place) own (λ held o. o) k
+        moves es _ _ (Counts h e) says makes b k = owns es _ h.own Unused (Names 1) e (λ held o. o) k
+        moves es _ _ (SpendsNames h part e) says makes b k = owns es _ h.own (Names part) Used e (λ held o. o) k
+        moves es _ _ (Changes h place r now g p) says makes b k = put_same es h place r now g (follows_plain r now p) p.streams k
+        moves es _ _ (ClosesReader h place r s g e) says makes b k = put_kept es h place r (with_reader r s reading.Closed) g (record { side = refl; lives = λ x v. v }) (λ held v a. subst (Agree (taken_in side es) held) e a) k
+        moves es _ _ (Writes h place r s w g e m) says makes b k = put_kept es h place r (with_writer r s w) g (record { side = refl; lives = λ x v. v }) (λ held v a. writer_agrees (taken_in side es) held s.writer w m (subst (Agree (taken_in side es) held) e a)) k
+        moves es _ _ (IsGone h place r q g e) says makes b k = put_gone es h place r _ g refl e (λ b. b) k
+        moves es _ _ (Reconnects h place r c now g e s t u) says makes b k = put_same es h place r _ g (follows_state r (with_inner r (with_state r.inner (state.Connected now))) refl refl (λ x p. ap side_in e ∙ (ap (λ (y : OpId). Some y) (sym s) ∙ p))) refl k
+        moves es _ _ (Opens h place r c d g e f) says makes b k =
+            put_kept es h place r (opened_by r c) g (follows_state r (opened_by r c) refl refl (λ x p. ap side_in e ∙ p))
+            (λ held v a. opens_agree es held c r.streams f (subst (λ (t : TcpState). StreamsShape t r.streams) e (b.1 place r g).0) a) k
+        moves es _ _ (BeginsConnect h place r x a bound at g d to known idle o) says makes b k = spends es _ h.own o (put_same es h place r _ g (follows_state r _ refl refl (λ x p. ap side_in d ∙ p)) refl k)
+        moves es _ _ (BeginsBind h place r x a at g d to idle o) says makes b k = spends es _ h.own o (put_same es h place r _ g (record { side = refl; lives = λ x v. v }) refl k)
+        moves es _ _ (BeginsWrite h place number r s half permit bytes at g e w within o) says makes b k =
+            record { held = given; stands = begins es h place number r s half permit bytes g e w (subst (StreamsShape r.inner.state) e (b.1 place r g).0) b.0.1 k (is_same half.side side) refl (subst (λ (x : Own). Owes x k.held) o k.owes); owes = refl }
+        moves es _ _ (BeginsListen h place r x p g d bound none to idle o) says makes b k = spends es _ h.own o (put_same es h place r _ g (follows_begun line h place r x g d b.0.1) refl k)
+        moves es _ _ (BeginsAccept h place part r l p g e a o) says makes b k = owns es _ h.own (Names part) (Names (part + 1)) o (λ held q. q) (put_same es h place r _ g (follows_quiet r (accepting_now r l (new_accept (part_of line part) l)) refl refl (λ b. b)) refl k)
+        moves es _ _ (Unlistens h place r op q g e c o) says makes b k = put_same es h place r _ g (follows_quiet r _ refl refl (λ b. b)) refl k
+        moves es _ _ (Forgets h place r l c g e a) says makes b k = put_same es h place r _ g (follows_quiet r (accepting_now r l accepting.Idle) refl refl (λ b. b)) refl k
+        moves es _ _ (Joins h c handle place r l new peer is of u g e a) says makes b k =
+            let idle = accepting_now r l accepting.Idle in
+            let i = put_same es h place r idle g (follows_quiet r idle refl refl (λ b. b)) refl k in
+            record {
+              held = i.held;
+              stands = agrees_push side (taken_in side es) i.held (tcp2_put h.machine.store.records place idle) (joined l new peer) (λ q j x d v. taken_fresh contexts line origin h place r idle new g (ap accept_name e ∙ ap name_in a) refl refl b.0.1 j x d (inl (v ∙ sym q))) (λ q o. (says o).none (length (tcp2_put h.machine.store.records place idle)) (joined l new peer) (tcp2_seam (tcp2_put h.machine.store.records place idle) (joined l new peer)) (inl q)) (λ t. t.0 ∙ sym t.1) i.stands;
+              owes = i.owes;
+            }
+        moves es _ _ (UdpChanges h place o now g p keeps) says makes b k = put_udp_kept es h place (Udp2Socket.Open o) (Udp2Socket.Open now) g k
+        moves es _ _ (BeginsUdpBind h place o a at g to idle own) says makes b k = spends es _ h.own own (put_udp_kept es h place (Udp2Socket.Open o) (Udp2Socket.Open _) g k)
+        moves es _ _ (BeginsUdpConnect h place o a at g to bound none own) says makes b k = owns es _ h.own Unused (ToConnect place) own (λ held p. p) (put_udp_kept es h place (Udp2Socket.Open o) (Udp2Socket.Open _) g k)
+        moves es _ _ (BeginsSend h place part o out d bound at g e is known own) says makes b k = owns es _ h.own (Names part) (Names (part + 1)) own (λ held p. p) (put_udp_kept es h place (Udp2Socket.Open o) (Udp2Socket.Open _) g k)
+        moves es _ _ (BeginsReceive h place part o inc bound at g e is own) says makes b k = owns es _ h.own (Names part) (Names (part + 1)) own (λ held p. p) (put_udp_kept es h place (Udp2Socket.Open o) (Udp2Socket.Open _) g k)
+        moves es _ _ (CancelsBind h place r op q g e) says makes b k = put_same es h place r _ g (record { side = refl; lives = λ x v. v }) refl k
+        moves es _ _ (CancelsUdpBind h place o op q g e) says makes b k = put_udp_kept es h place (Udp2Socket.Open o) (Udp2Socket.Open _) g k
+        moves es _ _ (CancelsUdpConnect h place o q g) says makes b k = put_udp_kept es h place (Udp2Socket.Open o) (Udp2Socket.Open _) g k
+        moves es _ _ (Finds h records s) says makes b k = looked es h records (sockets_stay s) k
+        moves es _ _ (GivesBack h place idle left) says makes b k =
+            record { held = k.held; stands = agrees_fewer side (taken_in side es) k.held h.machine.store.records place (λ r g its. makes (spent_fewer side line h place r b.0.1 g its)) k.stands; owes = k.owes }
+        -- the others leave all that is looked at
+        moves es _ _ _ says makes b k = k
+
+        -- what writes nothing leaves it so
+        quiet_kept : {A : Type 0} (Q : A → Type 0) (es : List Entry) (h : Here) (asks : Asks A) → KeptBy over es h → Quiet Q es asks → Allows (Fronts side given) (λ fs a. KeptBy over fs h × Q a) es asks
+        quiet_kept Q es h asks k q = allows_weaker (Fronts side given) (λ fs a. (taken_in side fs ≡ taken_in side es) × Q a) (λ fs a. KeptBy over fs h × Q a) (λ fs a x. (took es fs h x.0 k, x.1)) es asks (quiet_keep side given Q (taken_in side es) es asks (front es h k) refl q)
+
+        -- what becomes of what is polled
+        ended_kept : (es : List Entry) (h : Here) (op : Operation) (after : End × List Item → Here) (ended : End × List Item) → Held h op after → Named line h → KeptBy over es h → KeptBy over es (after ended)
+        ended_kept es h _ _ ended (BindsOn place r op q g e) n k = put_same es h place r _ g (record { side = refl; lives = λ x v. v }) refl k
+        ended_kept es h _ _ ended (Connects place r op g e) n k = put_same es h place r _ g (follows_state r (with_inner r (with_state r.inner (connect_ended op.who ended).1)) refl refl (λ x p. ap side_in e ∙ ended_side op ended x p)) refl k
+        ended_kept es h _ _ (Waits, items) (Listens place r op q g e c) n k = put_same es h place r _ g (listen_follows r _ op e refl) refl k
+        ended_kept es h _ _ (Done given, items) (Listens place r op q g e c) n k = put_same es h place r _ g (listen_follows r _ op e refl) refl k
+        ended_kept es h _ _ (Refused c given, items) (Listens place r op q g e _) n k = put_same es h place r _ g (listen_follows r _ op e refl) refl k
+        ended_kept es h _ _ ended (Awaits place r l op g e a) n k = put_same es h place r _ g (follows_quiet r (accepting_now r l (accept_ended op.who ended)) refl refl (λ b. b)) refl k
+        ended_kept es h _ _ ended (UdpCreates place create q g) n k = put_udp_kept es h place (Udp2Socket.Creating create) (udp_create_left create ended) g k
+        ended_kept es h _ _ ended (UdpBindsOn place o op q g e) n k = put_udp_kept es h place (Udp2Socket.Open o) (Udp2Socket.Open _) g k
+        ended_kept es h _ _ ended (UdpConnectsOn place o op q g e) n k = put_udp_kept es h place (Udp2Socket.Open o) (Udp2Socket.Open _) g k
+        ended_kept es h _ _ ended (SendsOn place o out op left g e s settles) n k = put_udp_kept es h place (Udp2Socket.Open o) (Udp2Socket.Open _) g k
+        ended_kept es h _ _ ended (ReceivesOn place o inc op g e r) n k = put_udp_kept es h place (Udp2Socket.Open o) (Udp2Socket.Open _) g k
+
+        -- a write is in progress
+        turns : (es : List Entry) (h : Here) (place : ℕ) (r : Tcp2Socket) (s : Streams) (w : WriteState) (job : Job) (now : Job → WriteState) → Found h place r → r.streams ≡ Some s → HasStreams r.inner.state s → s.writer ≡ w → GoesOn w job now → Named line h → KeptBy over es h
+            → Allows (Fronts side given) (λ fs ended. KeptBy over fs (put h place (with_writer r s (now (job_after job.write.who ended))))) es (poll_asks job.write)
+        turns es h place r s w job now g e o d on n k =
+            let j = (job_of w job now on (subst (WriterIs o.connection.side) d o.writer)).0 in
+            let held_there : side_of r.inner ≡ Some job.write.who.side = ap side_in o.is ∙ ap (λ (x : OpId). Some x) (sym j.side) in
+            let its = n.named job.write.who.side place r g held_there in
+            let begun : Accounts side k.held job.write.who.side (taken_in side es) (λ all. all ++ bytes_left job.write.left ≡ k.held) (taken_in side es) = (record {
+              front = k.stands.front;
+              ours = λ x. owes_still w job now on (taken_in side es) k.held (subst (Agrees (taken_in side es) k.held) d (subst (Agree (taken_in side es) k.held) e (k.stands.lives place r g (its ∙ ap (λ (y : OpId). Some y) x, inl (held_there ∙ ap (λ (y : OpId). Some y) x)))));
+              theirs = λ x. refl;
+            }) in
+            allows_weaker (Fronts side given) (λ fs ended. ⊤ × After side k.held (taken_in side es) job.write.who fs ended) (λ fs ended. KeptBy over fs (put h place (with_writer r s (now (job_after job.write.who ended)))))
+            (λ fs ended x. record { held = k.held; stands = turned fs ended (is_same job.write.who.side side) refl its x.1; owes = k.owes }) es (poll_asks job.write)
+            (allows_keep (Fronts side k.held) (Fronts side given) (λ fs. ⊤) (After side k.held (taken_in side es) job.write.who) (λ fs op c t f x m. tt) (λ fs op c m. front_by (taken_in side fs) k.held h.own k.owes m) es (poll_asks job.write) tt
+            (polls_by (write_law side k.held (taken_in side es) job.write.who) job.write.left es (j.left, begun)))
+          where
+            turned : (fs : List Entry) (ended : End × List Item) (ours : Bool) → is_same job.write.who.side side ≡ ours → r.side ≡ Some job.write.who.side → After side k.held (taken_in side es) job.write.who fs ended → Agreeing side over (taken_in side fs) k.held (tcp2_put h.machine.store.records place (with_writer r s (now (job_after job.write.who ended))))
+            turned fs ended true b its x =
+                let is = same_side job.write.who.side side b in let m : r.side ≡ Some side = its ∙ ap (λ (y : OpId). Some y) is in
+                agrees_moved side h.machine.store.records place r _ g refl (taken_in side es) k.held (taken_in side fs) k.held m (λ j q d v. n.one side j place q r d g (inl v) (inl m)) x.front (agrees_now w job now on (taken_in side fs) k.held ended (x.ours is)) k.stands
+            turned fs ended false b its x =
+                subst (λ (t : List ℕ). Agreeing side over t k.held (tcp2_put h.machine.store.records place (with_writer r s (now (job_after job.write.who ended))))) (sym (x.theirs b))
+                (agrees_put side h.machine.store.records place r _ g refl (taken_in side es) k.held (λ v. absurd (not_same job.write.who.side side (some_same job.write.who.side side (sym its ∙ v.0)) b)) k.stands)
+
+        -- a socket that is created is of the line's own name
+        created : (es : List Entry) (h : Here) (ctx : WasiSocketsCtx) (family : SocketAddressFamily) → (over → IsSpent side line (creating h (own_of line) ctx family)) → h.own ≡ Unused → Named line h → KeptBy over es h → KeptBy over (es ++ entry (own_of line) (call.TcpCreate ctx.name family) told.Done ∷ []) (creating h (own_of line) ctx family)
+        created es h ctx family is u n i =
+            let k = asked es h (own_of line) (call.TcpCreate ctx.name family) told.Done tt i in
+            spends _ _ h.own u (record {
+              held = k.held;
+              stands = agrees_push side _ k.held h.machine.store.records (new_record (new_socket (own_of line) ctx.name family)) (λ q p x d v. fresh contexts line origin h u n side (ap (λ (x : OpId). x.step) (sym (some_same (own_of line) side q))) p x d (inl v)) (λ q o. (let new = new_record (new_socket (own_of line) ctx.name family) in (is o).none (length h.machine.store.records) new (tcp2_seam h.machine.store.records new) (inl q))) (λ t. t) k.stands;
+              owes = k.owes;
+            })
+
+        closed_kept : (es : List Entry) (h : Here) (place : ℕ) (r now : Tcp2Socket) (x : OpId) → Found h place r → Closing r now x → KeptBy over es h → KeptBy over es (put h place now)
+        closed_kept es h place r _ x g (ClosesSocket _ e) k = put_gone es h place r (closed_record r) g refl refl (λ b. b) k
+        closed_kept es h place r _ x g (ClosesListen op e) k = put_same es h place r (with_listening r Not) g (follows_quiet r (with_listening r Not) refl refl (λ b. b)) refl k
+        closed_kept es h place r _ x g (ClosesArrived l _ peer e a) k = put_same es h place r (with_listening r Not) g (follows_quiet r (with_listening r Not) refl refl (λ b. b)) refl k
+
+  -- where it is over says another fact
+  over_so : (over now : Type 0) (es : List Entry) (records : List Record) (own : Own) → (over → now) → Permitted over es records own → Permitted now es records own
+  over_so over now es records own f k = record { held = k.held; stands = agrees_over side (taken_in side es) k.held records f k.stands; owes = k.owes }
 
   module _ (line : ℕ) where
-    -- a write begins: its network socket is the connection's
-    module _ (es : List Entry) (h : Here) (place number : ℕ) (r : Tcp2Socket) (s : Streams) (half : TcpSendStream) (permit : ℕ) (bytes : List ℕ) (g : Found h place r) (e : r.streams ≡ Some s) (w : s.writer ≡ writing.Ready half permit) (o : HasStreams r.inner.state s) (n : Named line h) (k : Kept es h) where
-      abbrev begun : Tcp2Socket
-      begun = with_writer r s (writing.Writing (new_job (own_of number) half.side bytes))
-
-      its_side : side_of r.inner ≡ Some half.side
-      its_side = let same : half.side ≡ o.connection.side = subst (WriterIs o.connection.side) w o.writer in ap side_in o.is ∙ ap (λ (x : OpId). Some x) (sym same)
-
-      its_made : r.side ≡ Some half.side
-      its_made = n.named half.side place r g its_side
-
-      all_taken : half.side ≡ side → taken_in side es ≡ k.held
-      all_taken ours = let o = ap (λ (x : OpId). Some x) ours in subst (Agrees (taken_in side es) k.held) w (subst (Agree (taken_in side es) k.held) e (k.stands.lives place r g (its_made ∙ o, inl (its_side ∙ o))))
-
-      begins : (b : Bool) → is_same half.side side ≡ b → (let more : List ℕ = if b then bytes else [] in given ≡ k.held ++ more) → Agreeing side (taken_in side es) given (tcp2_put h.machine.store.records place begun)
-      begins true b o =
-          let is = same_side half.side side b in let m : r.side ≡ Some side = its_made ∙ ap (λ (x : OpId). Some x) is in
-          agrees_moved side h.machine.store.records place r begun g refl (taken_in side es) k.held (taken_in side es) given m (λ i q e v. n.one side i place q r e g (inl v) (inl m)) (front_on (taken_in side es) k.held bytes k.stands.front o)
-          (ap (λ (t : List ℕ). t ++ bytes) (all_taken is) ∙ sym o) k.stands
-      begins false b o =
-          subst (λ (q : List ℕ). Agreeing side (taken_in side es) q (tcp2_put h.machine.store.records place begun)) (sym (append-nil k.held) ∙ sym o)
-          (agrees_put side h.machine.store.records place r begun g refl (taken_in side es) k.held (λ v. absurd (not_same half.side side (some_same half.side side (sym its_made ∙ v.0)) b)) k.stands)
-
-    -- where the streams are made nothing was taken
-    opens_agree : (es : List Entry) (held : List ℕ) (c : Connection) (o : Option Streams) → c.send_taken ≡ false → StreamsShape (state.Connected c) o → Agree (taken_in side es) held o → taken_in side es ≡ held
-    opens_agree es held c None f s a = a.0 ∙ sym a.1
-    opens_agree es held c (Some x) f s a = absurd (let q : c ≡ s.connection = cc in let z : false ≡ true = sym f ∙ (ap (λ (y : Connection). y.send_taken) q ∙ s.taken) in cc)
+    abbrev pub Kept : List Entry → Here → Type 0
+    Kept es h = KeptBy (IsSpent side line h) es h
 
     module _ (contexts : List WasiSocketsCtx) (origin : Step) where
-      moves : (es : List Entry) (h now : Here) → Move line origin h now → Grounds contexts line origin h → Kept es h → Kept es now
-      moves es _ _ (Spends h e) b k = spends es _ h.own e k
-      moves es _ _ (EndsConnect h place e over) b k = owns es _ h.own (ToConnect place) Used e (λ held o. o) k
-      moves es _ _ (RecallsStreams h ids place handle e own) b k = owns es _ h.own Unused (ToConnect place) own (λ held o. o) k
-      moves es _ _ (Counts h e) b k = owns es _ h.own Unused (Names 1) e (λ held o. o) k
-      moves es _ _ (SpendsNames h part e) b k = owns es _ h.own (Names part) Used e (λ held o. o) k
-      moves es _ _ (Changes h place r now g p) b k = put_same es h place r now g (follows_plain r now p) p.streams k
-      moves es _ _ (ClosesReader h place r s g e) b k = put_kept es h place r (with_reader r s reading.Closed) g (record { side = refl; lives = λ x v. v }) (λ held v a. subst (Agree (taken_in side es) held) e a) k
-      moves es _ _ (Writes h place r s w g e m) b k = put_kept es h place r (with_writer r s w) g (record { side = refl; lives = λ x v. v }) (λ held v a. writer_agrees (taken_in side es) held s.writer w m (subst (Agree (taken_in side es) held) e a)) k
-      moves es _ _ (IsGone h place r q g e) b k = put_gone es h place r _ g refl e (λ b. b) k
-      moves es _ _ (Reconnects h place r c now g e s t u) b k = put_same es h place r _ g (follows_state r (with_inner r (with_state r.inner (state.Connected now))) refl refl (λ x p. ap side_in e ∙ (ap (λ (y : OpId). Some y) (sym s) ∙ p))) refl k
-      moves es _ _ (Opens h place r c d g e f) b k =
-          put_kept es h place r (opened_by r c) g (follows_state r (opened_by r c) refl refl (λ x p. ap side_in e ∙ p))
-          (λ held v a. opens_agree es held c r.streams f (subst (λ (t : TcpState). StreamsShape t r.streams) e (b.1 place r g).0) a) k
-      moves es _ _ (BeginsConnect h place r x a bound at g d to known idle o) b k = spends es _ h.own o (put_same es h place r _ g (follows_state r _ refl refl (λ x p. ap side_in d ∙ p)) refl k)
-      moves es _ _ (BeginsBind h place r x a at g d to idle o) b k = spends es _ h.own o (put_same es h place r _ g (record { side = refl; lives = λ x v. v }) refl k)
-      moves es _ _ (BeginsWrite h place number r s half permit bytes at g e w within o) b k =
-          record { held = given; stands = begins es h place number r s half permit bytes g e w (subst (StreamsShape r.inner.state) e (b.1 place r g).0) b.0.1 k (is_same half.side side) refl (subst (λ (x : Own). Owes x k.held) o k.owes); owes = refl }
-      moves es _ _ (BeginsListen h place r x p g d bound none to idle o) b k = spends es _ h.own o (put_same es h place r _ g (follows_begun line h place r x g d b.0.1) refl k)
-      moves es _ _ (BeginsAccept h place part r l p g e a o) b k = owns es _ h.own (Names part) (Names (part + 1)) o (λ held q. q) (put_same es h place r _ g (follows_quiet r (accepting_now r l (new_accept (part_of line part) l)) refl refl (λ b. b)) refl k)
-      moves es _ _ (Unlistens h place r op q g e c o) b k = put_same es h place r _ g (follows_quiet r _ refl refl (λ b. b)) refl k
-      moves es _ _ (Forgets h place r l c g e a) b k = put_same es h place r _ g (follows_quiet r (accepting_now r l accepting.Idle) refl refl (λ b. b)) refl k
-      moves es _ _ (Joins h c handle place r l new peer is of u g e a) b k =
-          let idle = accepting_now r l accepting.Idle in
-          let i = put_same es h place r idle g (follows_quiet r idle refl refl (λ b. b)) refl k in
-          record {
-            held = i.held;
-            stands = agrees_push side (taken_in side es) i.held (tcp2_put h.machine.store.records place idle) (joined l new peer) (λ q j x d v. taken_fresh contexts line origin h place r idle new g (ap accept_name e ∙ ap name_in a) refl refl b.0.1 j x d (inl (v ∙ sym q))) (λ t. t.0 ∙ sym t.1) i.stands;
-            owes = i.owes;
-          }
-      moves es _ _ (UdpChanges h place o now g p keeps) b k = put_udp_kept es h place (Udp2Socket.Open o) (Udp2Socket.Open now) g k
-      moves es _ _ (BeginsUdpBind h place o a at g to idle own) b k = spends es _ h.own own (put_udp_kept es h place (Udp2Socket.Open o) (Udp2Socket.Open _) g k)
-      moves es _ _ (BeginsUdpConnect h place o a at g to bound none own) b k = owns es _ h.own Unused (ToConnect place) own (λ held p. p) (put_udp_kept es h place (Udp2Socket.Open o) (Udp2Socket.Open _) g k)
-      moves es _ _ (BeginsSend h place part o out d bound at g e is known own) b k = owns es _ h.own (Names part) (Names (part + 1)) own (λ held p. p) (put_udp_kept es h place (Udp2Socket.Open o) (Udp2Socket.Open _) g k)
-      moves es _ _ (BeginsReceive h place part o inc bound at g e is own) b k = owns es _ h.own (Names part) (Names (part + 1)) own (λ held p. p) (put_udp_kept es h place (Udp2Socket.Open o) (Udp2Socket.Open _) g k)
-      moves es _ _ (CancelsBind h place r op q g e) b k = put_same es h place r _ g (record { side = refl; lives = λ x v. v }) refl k
-      moves es _ _ (CancelsUdpBind h place o op q g e) b k = put_udp_kept es h place (Udp2Socket.Open o) (Udp2Socket.Open _) g k
-      moves es _ _ (CancelsUdpConnect h place o q g) b k = put_udp_kept es h place (Udp2Socket.Open o) (Udp2Socket.Open _) g k
-      moves es _ _ (Finds h records s) b k = looked es h records (sockets_stay s) k
-      -- the others leave all that is looked at
-      moves es _ _ _ b k = k
+      -- it is said of what comes first
+      on : (es : List Entry) (h now : Here) → (IsSpent side line h → IsSpent side line now) → Kept es h → KeptBy (IsSpent side line now) es h
+      on es h now f k = over_so (IsSpent side line h) (IsSpent side line now) es h.machine.store.records h.own f k
 
-      -- what writes nothing leaves it so
-      quiet_kept : {A : Type 0} (Q : A → Type 0) (es : List Entry) (h : Here) (asks : Asks A) → Kept es h → Quiet Q es asks → Allows (Fronts side given) (λ fs a. Kept fs h × Q a) es asks
-      quiet_kept Q es h asks k q = allows_weaker (Fronts side given) (λ fs a. (taken_in side fs ≡ taken_in side es) × Q a) (λ fs a. Kept fs h × Q a) (λ fs a x. (took es fs h x.0 k, x.1)) es asks (quiet_keep side given Q (taken_in side es) es asks (front es h k) refl q)
+      same_spent : (h : Here) (place : ℕ) (r now : Tcp2Socket) → Found h place r → now.side ≡ r.side → now.listening ≡ r.listening → IsSpent side line h → IsSpent side line (put h place now)
+      same_spent h place r now g s l i = spent_put side line h.own h.machine.store.records place r now g s (λ e. ap accept_name (sym l) ∙ e) i
 
-      -- what becomes of what is polled
-      ended_kept : (es : List Entry) (h : Here) (op : Operation) (after : End × List Item → Here) (ended : End × List Item) → Held h op after → Named line h → Kept es h → Kept es (after ended)
-      ended_kept es h _ _ ended (BindsOn place r op q g e) n k = put_same es h place r _ g (record { side = refl; lives = λ x v. v }) refl k
-      ended_kept es h _ _ ended (Connects place r op g e) n k = put_same es h place r _ g (follows_state r (with_inner r (with_state r.inner (connect_ended op.who ended).1)) refl refl (λ x p. ap side_in e ∙ ended_side op ended x p)) refl k
-      ended_kept es h _ _ (Waits, items) (Listens place r op q g e c) n k = put_same es h place r _ g (listen_follows r _ op e refl) refl k
-      ended_kept es h _ _ (Done given, items) (Listens place r op q g e c) n k = put_same es h place r _ g (listen_follows r _ op e refl) refl k
-      ended_kept es h _ _ (Refused c given, items) (Listens place r op q g e _) n k = put_same es h place r _ g (listen_follows r _ op e refl) refl k
-      ended_kept es h _ _ ended (Awaits place r l op g e a) n k = put_same es h place r _ g (follows_quiet r (accepting_now r l (accept_ended op.who ended)) refl refl (λ b. b)) refl k
-      ended_kept es h _ _ ended (UdpCreates place create q g) n k = put_udp_kept es h place (Udp2Socket.Creating create) (udp_create_left create ended) g k
-      ended_kept es h _ _ ended (UdpBindsOn place o op q g e) n k = put_udp_kept es h place (Udp2Socket.Open o) (Udp2Socket.Open _) g k
-      ended_kept es h _ _ ended (UdpConnectsOn place o op q g e) n k = put_udp_kept es h place (Udp2Socket.Open o) (Udp2Socket.Open _) g k
-      ended_kept es h _ _ ended (SendsOn place o out op left g e s settles) n k = put_udp_kept es h place (Udp2Socket.Open o) (Udp2Socket.Open _) g k
-      ended_kept es h _ _ ended (ReceivesOn place o inc op g e r) n k = put_udp_kept es h place (Udp2Socket.Open o) (Udp2Socket.Open _) g k
+      bare_spent : (h : Here) (place : ℕ) (r now : Tcp2Socket) → Found h place r → now.side ≡ r.side → accept_name now.listening ≡ None → IsSpent side line h → IsSpent side line (put h place now)
+      bare_spent h place r now g s none i = spent_put side line h.own h.machine.store.records place r now g s (λ e. absurd (let never : None ≡ Some side = sym none ∙ e in cc)) i
 
-      -- a write is in progress
-      turns : (es : List Entry) (h : Here) (place : ℕ) (r : Tcp2Socket) (s : Streams) (w : WriteState) (job : Job) (now : Job → WriteState) → Found h place r → r.streams ≡ Some s → HasStreams r.inner.state s → s.writer ≡ w → GoesOn w job now → Named line h → Kept es h
-          → Allows (Fronts side given) (λ fs ended. Kept fs (put h place (with_writer r s (now (job_after job.write.who ended))))) es (poll_asks job.write)
-      turns es h place r s w job now g e o d on n k =
-          let j = (job_of w job now on (subst (WriterIs o.connection.side) d o.writer)).0 in
-          let held_there : side_of r.inner ≡ Some job.write.who.side = ap side_in o.is ∙ ap (λ (x : OpId). Some x) (sym j.side) in
-          let its = n.named job.write.who.side place r g held_there in
-          let begun : Accounts side k.held job.write.who.side (taken_in side es) (λ all. all ++ bytes_left job.write.left ≡ k.held) (taken_in side es) = (record {
-            front = k.stands.front;
-            ours = λ x. owes_still w job now on (taken_in side es) k.held (subst (Agrees (taken_in side es) k.held) d (subst (Agree (taken_in side es) k.held) e (k.stands.lives place r g (its ∙ ap (λ (y : OpId). Some y) x, inl (held_there ∙ ap (λ (y : OpId). Some y) x)))));
-            theirs = λ x. refl;
-          }) in
-          allows_weaker (Fronts side given) (λ fs ended. ⊤ × After side k.held (taken_in side es) job.write.who fs ended) (λ fs ended. Kept fs (put h place (with_writer r s (now (job_after job.write.who ended)))))
-          (λ fs ended x. record { held = k.held; stands = turned fs ended (is_same job.write.who.side side) refl its x.1; owes = k.owes }) es (poll_asks job.write)
-          (allows_keep (Fronts side k.held) (Fronts side given) (λ fs. ⊤) (After side k.held (taken_in side es) job.write.who) (λ fs op c t f x m. tt) (λ fs op c m. front_by (taken_in side fs) k.held h.own k.owes m) es (poll_asks job.write) tt
-          (polls_by (write_law side k.held (taken_in side es) job.write.who) job.write.left es (j.left, begun)))
-        where
-          turned : (fs : List Entry) (ended : End × List Item) (ours : Bool) → is_same job.write.who.side side ≡ ours → r.side ≡ Some job.write.who.side → After side k.held (taken_in side es) job.write.who fs ended → Agreeing side (taken_in side fs) k.held (tcp2_put h.machine.store.records place (with_writer r s (now (job_after job.write.who ended))))
-          turned fs ended true b its x =
-              let is = same_side job.write.who.side side b in let m : r.side ≡ Some side = its ∙ ap (λ (y : OpId). Some y) is in
-              agrees_moved side h.machine.store.records place r _ g refl (taken_in side es) k.held (taken_in side fs) k.held m (λ j q d v. n.one side j place q r d g (inl v) (inl m)) x.front (agrees_now w job now on (taken_in side fs) k.held ended (x.ours is)) k.stands
-          turned fs ended false b its x =
-              subst (λ (t : List ℕ). Agreeing side t k.held (tcp2_put h.machine.store.records place (with_writer r s (now (job_after job.write.who ended))))) (sym (x.theirs b))
-              (agrees_put side h.machine.store.records place r _ g refl (taken_in side es) k.held (λ v. absurd (not_same job.write.who.side side (some_same job.write.who.side side (sym its ∙ v.0)) b)) k.stands)
+      udp_spent : (h : Here) (place : ℕ) (now : Udp2Socket) → IsSpent side line h → IsSpent side line (put_udp h place now)
+      udp_spent h place now i = spent_by side line h.own _ _ (tcp_of_put h.machine.store.records place now) i
 
-      -- a socket that is created is of the line's own name
-      created : (es : List Entry) (h : Here) (ctx : WasiSocketsCtx) (family : SocketAddressFamily) → h.own ≡ Unused → Named line h → Kept es h → Kept (es ++ entry (own_of line) (call.TcpCreate ctx.name family) told.Done ∷ []) (creating h (own_of line) ctx family)
-      created es h ctx family u n i =
-          let k = asked es h (own_of line) (call.TcpCreate ctx.name family) told.Done tt i in
-          spends _ _ h.own u (record {
-            held = k.held;
-            stands = agrees_push side _ k.held h.machine.store.records (new_record (new_socket (own_of line) ctx.name family)) (λ q p x d v. fresh contexts line origin h u n side (ap (λ (x : OpId). x.step) (sym (some_same (own_of line) side q))) p x d (inl v)) (λ t. t) k.stands;
-            owes = k.owes;
-          })
+      -- a new socket has the line's own name, which wasn't given
+      made_spent : (h : Here) (ctx : WasiSocketsCtx) (family : SocketAddressFamily) → h.own ≡ Unused → IsSpent side line h → IsSpent side line (creating h (own_of line) ctx family)
+      made_spent h ctx family u i =
+          spent_own side line h.own Used _ (older_used line h.own)
+          (spent_push side line h.own h.machine.store.records (new_record (new_socket (own_of line) ctx.name family)) (λ c. elim c [ inl q ↦ own_not_given line h.own side u (ap (λ (x : OpId). x.step) (sym (some_same (own_of line) side q))) i.older | inr q ↦ absurd (cc) ]) i)
 
-      closed_kept : (es : List Entry) (h : Here) (place : ℕ) (r now : Tcp2Socket) (x : OpId) → Found h place r → Closing r now x → Kept es h → Kept es (put h place now)
-      closed_kept es h place r _ x g (ClosesSocket _ e) k = put_gone es h place r (closed_record r) g refl refl (λ b. b) k
-      closed_kept es h place r _ x g (ClosesListen op e) k = put_same es h place r (with_listening r Not) g (follows_quiet r (with_listening r Not) refl refl (λ b. b)) refl k
-      closed_kept es h place r _ x g (ClosesArrived l _ peer e a) k = put_same es h place r (with_listening r Not) g (follows_quiet r (with_listening r Not) refl refl (λ b. b)) refl k
+      closing_spent : (h : Here) (place : ℕ) (r now : Tcp2Socket) (x : OpId) → Found h place r → Closing r now x → IsSpent side line h → IsSpent side line (put h place now)
+      closing_spent h place r _ x g (ClosesSocket _ e) i = bare_spent h place r _ g refl refl i
+      closing_spent h place r _ x g (ClosesListen op e) i = bare_spent h place r _ g refl refl i
+      closing_spent h place r _ x g (ClosesArrived l _ peer e a) i = bare_spent h place r _ g refl refl i
 
       pub permits : Single contexts line origin (Fronts side given) Kept
       permits = record {
-        moves = moves;
-        same = λ es h place r now g s k. put_same es h place r now g (follows_same r now s) s.streams k;
+        moves = λ es h now m b k. moves (IsSpent side line now) line contexts origin es h now m (λ o. o) (λ o. o) b (on es h now (moves_spent side line contexts origin h now m) k);
+        same = λ es h place r now g s k. put_same (IsSpent side line (put h place now)) es h place r now g (follows_same r now s) s.streams (on es h (put h place now) (same_spent h place r now g s.side s.listening) k);
         tables = λ es h t m k. k;
-        stops = λ es h place r g k. put_same es h place r (with_listening r Not) g (follows_quiet r (with_listening r Not) refl refl (λ b. b)) refl k;
-        asks = λ es h op c calm on k. (front es h k, λ told. asked es h op c told (unwritten c calm) k);
-        creates = λ es h ctx family u b k. created es h ctx family u b.0.1 k;
-        closes = λ es h place r now op x g c b k. (front es h k, λ told. asked es (put h place now) op (call.Close x) told tt (closed_kept es h place r now x g c k));
-        udp_same = λ es h place o now g s e k. put_udp_kept es h place (Udp2Socket.Open o) (Udp2Socket.Open now) g k;
+        stops = λ es h place r g k. put_same (IsSpent side line (put h place (with_listening r Not))) es h place r (with_listening r Not) g (follows_quiet r (with_listening r Not) refl refl (λ b. b)) refl (on es h (put h place (with_listening r Not)) (bare_spent h place r (with_listening r Not) g refl refl) k);
+        asks = λ es h op c calm at k. (front (IsSpent side line h) es h k, λ told. asked (IsSpent side line h) es h op c told (unwritten c calm) k);
+        creates = λ es h ctx family u b k. (let now = creating h (own_of line) ctx family in created (IsSpent side line now) line contexts origin es h ctx family (λ o. o) u b.0.1 (on es h now (made_spent h ctx family u) k));
+        closes = λ es h place r now op x g c b k. (front (IsSpent side line h) es h k, λ told. asked (IsSpent side line (put h place now)) es (put h place now) op (call.Close x) told tt (closed_kept (IsSpent side line (put h place now)) line contexts origin es h place r now x g c (on es h (put h place now) (closing_spent h place r now x g c) k)));
+        udp_same = λ es h place o now g s e k. put_udp_kept (IsSpent side line (put_udp h place (Udp2Socket.Open now))) es h place (Udp2Socket.Open o) (Udp2Socket.Open now) g (on es h (put_udp h place (Udp2Socket.Open now)) (udp_spent h place (Udp2Socket.Open now)) k);
         udp_creates = λ es h ctx family u b k.
-            let m = asked es h (own_of line) (call.UdpCreate ctx.name family) told.Done tt k in
-            spends _ _ h.own u (push_udp_kept _ h.machine.store.records (Udp2Socket.Creating (new_create (own_of line) ctx.name family)) h.own m);
-        udp_closes = λ es h place u op g l b k. (front es h k, λ told. asked es (put_udp h place (Udp2Socket.Closed (udp_side u))) op (call.Close (udp_side u)) told tt (put_udp_kept es h place u (Udp2Socket.Closed (udp_side u)) g k));
-        lookups = looked;
-        polls = λ es h op after x b k. allows_weaker (Fronts side given) (λ fs ended. Kept fs h × ArePlain ended.1) (λ fs ended. Kept fs (after ended)) (λ fs ended y. ended_kept fs h op after ended x b.0.1 y.0) es (poll_asks op)
-            (quiet_kept (λ ended. ArePlain ended.1) es h (poll_asks op) k (plain_poll op es (held_plain h op after x b.0.0)));
-        turns = λ es h place r s job now g e on b k. turns es h place r s s.writer job now g e (subst (StreamsShape r.inner.state) e (b.1 place r g).0) refl on b.0.1 k;
+            let new = Udp2Socket.Creating (new_create (own_of line) ctx.name family) in
+            let now = udp_begun h (Ok (new_create (own_of line) ctx.name family)) in
+            let over = IsSpent side line now in
+            let m = asked over es h (own_of line) (call.UdpCreate ctx.name family) told.Done tt (on es h now (λ i. spent_own side line h.own Used _ (older_used line h.own) (spent_by side line h.own _ _ (tcp_of_push h.machine.store.records new) i)) k) in
+            spends over _ _ h.own u (push_udp_kept over _ h.machine.store.records new h.own m);
+        udp_closes = λ es h place u op g l b k.
+            let now = put_udp h place (Udp2Socket.Closed (udp_side u)) in
+            (front (IsSpent side line h) es h k, λ told. asked (IsSpent side line now) es now op (call.Close (udp_side u)) told tt (put_udp_kept (IsSpent side line now) es h place u (Udp2Socket.Closed (udp_side u)) g (on es h now (udp_spent h place (Udp2Socket.Closed (udp_side u))) k)));
+        lookups = λ es h records s k. looked (IsSpent side line (with_records h records)) es h records s (on es h (with_records h records) (λ i. spent_by side line h.own _ _ (λ n r e. sym (s.tcp n) ∙ e) i) k);
+        polls = λ es h op after x b k. allows_weaker (Fronts side given) (λ fs ended. Kept fs h × (ArePlain ended.1 × GivesOwn op.who.id ended.0)) (λ fs ended. Kept fs (after ended))
+            (λ fs ended y. ended_kept (IsSpent side line (after ended)) line contexts origin fs h op after ended x b.0.1 (on fs h (after ended) (polls_spent side line contexts origin h op after x ended y.1.1) y.0)) es (poll_asks op)
+            (quiet_kept (IsSpent side line h) line contexts origin (λ ended. ArePlain ended.1 × GivesOwn op.who.id ended.0) es h (poll_asks op) k (own_poll op es (held_plain h op after x b.0.0)));
+        turns = λ es h place r s job now g e at b k. allows_weaker (Fronts side given) (λ fs ended. KeptBy (IsSpent side line h) fs (put h place (with_writer r s (now (job_after job.write.who ended))))) (λ fs ended. Kept fs (put h place (with_writer r s (now (job_after job.write.who ended)))))
+            (λ fs ended y. over_so (IsSpent side line h) _ fs _ _ (same_spent h place r (with_writer r s (now (job_after job.write.who ended))) g refl refl) y) es (poll_asks job.write)
+            (turns (IsSpent side line h) line contexts origin es h place r s s.writer job now g e (subst (StreamsShape r.inner.state) e (b.1 place r g).0) refl at b.0.1 k);
       }

@@ -25,10 +25,12 @@ use Rattle.wasi_walks.proofs.walks.States.{stands_so}
 use Rattle.wasi_walks.proofs.walks.Here.{NoStartStands, takes_none}
 use Rattle.wasi_walks.proofs.walks.Steps.{IsSimple, begun_calls, simple_walks}
 use Rattle.wasi_walks.proofs.walks.Writes.{let_write as let_own}
-use Rattle.wasi_laws.proofs.Words.{base_over, ◌+◌, permitted_by, true, false, if◌then◌else◌, ◌==◌, Asks, BaseBetween, Bool, Entry, Err, Give, List, Machine, None, Ok, OpId, Option, Over, Own, Reply, Result, Some, Spends, Standing, Starts, Step, ToConnect, ToWrite, Unused, Used, WasiSocketsCtx, [], ap, append-nil, asks_while, base_starts, bind, inl, inr, length, machine_asks, may_while, nat_lt, number_fields, own_of, permitted_in, refl, subst, sym, taken_in, ℕ, ◌++◌, ◌∙◌, ◌≡◌}
+use Rattle.wasi_laws.proofs.Words.{base_over, ◌+◌, permitted_by, true, false, if◌then◌else◌, ◌==◌, Asks, BaseBetween, Bool, Entry, Err, Give, List, Machine, None, Ok, OpId, Option, Over, Own, Reply, Result, Some, Spends, Standing, Starts, Step, ToConnect, ToWrite, Unused, Used, WasiSocketsCtx, [], ap, append-nil, asks_while, base_starts, bind, inl, inr, length, machine_asks, may_while, nat_lt, number_fields, own_of, permitted_in, refl, subst, sym, taken_in, ℕ, ◌++◌, ◌∙◌, ◌≡◌, arith}
 use Rattle.wasi_laws.proofs.shapes.Law.{Shaped}
 use Rattle.wasi_laws.proofs.shapes.Shape.{some_same}
-use Rattle.wasi_laws.proofs.permits.Agreeing.{Agreeing}
+use Rattle.wasi_laws.proofs.permits.Agreeing.{Agreeing, agrees_over}
+use Rattle.wasi_laws.proofs.permits.Spent.{Spent, spent_own}
+use Rattle.wasi_walks.proofs.walks.Here.{older_unused}
 use Rattle.wasi_laws.proofs.permits.Blocking.{all_lets, blocking_splice_lets, blocking_write_lets, blocking_zeroes_lets}
 use Rattle.wasi_laws.proofs.permits.Calls.{Ends, Gives, Holds, So, along, over, same_given, write_is}
 use Rattle.wasi_laws.proofs.permits.Law.{Owes}
@@ -41,7 +43,7 @@ module _ (contexts : List WasiSocketsCtx) (side : OpId) where
   pub record LetSo (line : ℕ) (given : List ℕ) (es : List Entry) (m : Machine) : Type 0 where
     pub base : BaseBetween line m
     pub shaped : Shaped (Over m)
-    pub stands : Agreeing side (taken_in side es) given m.store.records
+    pub stands : Agreeing side (Spent side line Unused m.store.records) (taken_in side es) given m.store.records
 
   -- == a line
   module _ (line : ℕ) (s : Step) (given : List ℕ) (es : List Entry) (m : Machine) (i : LetSo line given es m) where
@@ -57,7 +59,7 @@ module _ (contexts : List WasiSocketsCtx) (side : OpId) where
     owes (ToWrite at bytes) = refl
 
     starts : (own : Own) → Holds contexts side line s (given ++ let_own side own) es (Starts m own)
-    starts own = (base_starts contexts line s m own i.base, (i.shaped, record { held = given; stands = i.stands; owes = owes own }))
+    starts own = (base_starts contexts line s m own i.base, (i.shaped, record { held = given; stands = agrees_over side (taken_in side es) given m.store.records (spent_own side line Unused own m.store.records (older_unused line own)) i.stands; owes = owes own }))
 
     begins : Holds contexts side line s given es (Starts m Unused)
     begins = same_given contexts side line s (given ++ []) given es (Starts m Unused) (append-nil given) (starts Unused)
@@ -169,4 +171,4 @@ module _ (contexts : List WasiSocketsCtx) (side : OpId) where
   -- the line is over
   pub line_over : (line : ℕ) (s : Step) (given : List ℕ) (es : List Entry) (next : Machine) → Holds contexts side line s given es (Over next) → LetSo (line + 1) given es next
   line_over line s given es next k =
-      record { base = base_over contexts line s next k.0; shaped = k.1.0; stands = subst (λ (bytes : List ℕ). Agreeing side (taken_in side es) bytes next.store.records) k.1.1.owes k.1.1.stands }
+      record { base = base_over contexts line s next k.0; shaped = k.1.0; stands = agrees_over side (taken_in side es) given next.store.records (λ o. (let was = o.older in record { older = omega (arith, was); none = o.none })) (subst (λ (bytes : List ℕ). Agreeing side (Spent side line Used next.store.records) (taken_in side es) bytes next.store.records) k.1.1.owes k.1.1.stands) }

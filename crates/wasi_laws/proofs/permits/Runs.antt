@@ -67,4 +67,4 @@ module _ (contexts : List WasiSocketsCtx) (side : OpId) where
       → Answered contexts after (1 + length steps) (step.CheckWrite ctx output) entries (reply.Ok (number_fields n)) next → 0 < n → taken_in side (log ++ entries) ≡ permitted
   runs_take_all steps log permitted after ctx output n entries next d w walk some =
       let k = done_lets steps log permitted after d in
-      taken_append side log entries ∙ all_taken contexts side (taken_in side log) permitted (1 + length steps) after ctx output n k.stands k.shaped k.base.named w some entries next walk
+      taken_append side log entries ∙ all_taken contexts side (taken_in side log) permitted (1 + length steps) after ctx output n k.stands.lives k.shaped k.base.named w some entries next walk

@@ -19,8 +19,8 @@ use Rattle.wasi_walks.proofs.fits.Records.{FitConnecting, FitUdpProgress, Receiv
 use Rattle.wasi_walks.proofs.fits.UdpFits.{connected_side, receives_on, sends_on}
 use Rattle.wasi_laws.specs.Opened.{UdpCreated}
 use Rattle.wasi_walks.proofs.walks.Here.{IsOlder, IsToCome, grows_to, next_grows, next_to_come, not_given, older_unused, older_used, own_not_given}
-use Rattle.wasi_walks.proofs.walks.Moves.{CancelsBind, EndsConnect, RecallsStreams, CancelsUdpBind, CancelsUdpConnect, Names, put_udp, FoundUdp, Finds, udp_begun, UdpChanges, BeginsUdpBind, BeginsUdpConnect, Counts, SpendsNames, BeginsSend, BeginsReceive, UdpCreates, UdpBindsOn, UdpConnectsOn, SendsOn, ReceivesOn}
-use Rattle.wasi_laws.proofs.sockets.Opened.{lives_open, put_udp_open, push_udp_open, looked_open, udp_closed_put, Grows, grows_none, grows_entry, RecordOpen, name_of, changed, HasIt, one_more, opened_more, put_open, push_open, later, Kept, closed_put}
+use Rattle.wasi_walks.proofs.walks.Moves.{CancelsBind, EndsConnect, RecallsStreams, CancelsUdpBind, CancelsUdpConnect, Names, put_udp, FoundUdp, Finds, udp_begun, UdpChanges, BeginsUdpBind, BeginsUdpConnect, Counts, SpendsNames, BeginsSend, BeginsReceive, UdpCreates, UdpBindsOn, UdpConnectsOn, SendsOn, ReceivesOn, GivesBack}
+use Rattle.wasi_laws.proofs.sockets.Opened.{lives_open, put_udp_open, push_udp_open, looked_open, udp_closed_put, Grows, grows_none, grows_entry, RecordOpen, name_of, changed, HasIt, one_more, opened_more, put_open, push_open, later, Kept, closed_put, fewer_open}
 use Rattle.wasi_laws.proofs.sockets.Polls.{ClosesAt, AskedOpen, calm_closes, PollLeaves, polled, calm_end}
 
 abbrev accept_of : Listening → Accepting
@@ -91,6 +91,7 @@ module _ (line : ℕ) where
     moves es _ _ (CancelsUdpBind h place o op q g e) n i = put_udp_open es place (Udp2Socket.Open _) (i.udps place (Udp2Socket.Open o) g) i
     moves es _ _ (CancelsUdpConnect h place o q g) n i = put_udp_open es place (Udp2Socket.Open _) (i.udps place (Udp2Socket.Open o) g) i
     moves es _ _ (Finds h records s) n i = looked_open es records (sockets_stay s) i
+    moves es _ _ (GivesBack h place idle left) n i = fewer_open es place i
     -- the others leave all that is looked at
     moves es _ _ _ n i = i
 

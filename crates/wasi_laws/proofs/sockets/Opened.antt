@@ -5,7 +5,9 @@ use Rattle.wasi_tcp.specs.declared.listener.Accepting.TheVariants as accepting
 use Rattle.wasi_walks.proofs.walks.Here.{IsOlder}
 use Rattle.wasi_laws.proofs.Words.{Accepts, Call, Claims, Created, Entry, Found, HandedOver, Here, IpSocketAddress, IsClosed, IsMade, IsOpen, List, Listener, Named, None, OpId, Some, Tcp2Socket, Told, [], accept_name, ap, entry, get_set, get_split, has_front, has_split, inl, inr, name_in, no_some, put, refl, set_there, subst, sym, ℕ, ◌++◌, ◌∙◌, ◌∷◌, ◌≡◌, ◌⊎◌, ⊤}
 use Rattle.wasi_laws.proofs.shapes.Shape.{some_same, Lives, Follows, SocketsStay, UdpLives}
-use Rattle.wasi_host.specs.Records.{tcp2_at, tcp2_put, tcp2_pushed, udp2_at, udp2_put, udp2_pushed}
+use Rattle.wasi_host.specs.GivingBack.{record_gone}
+use Rattle.wasi_host.specs.Records.{tcp2_at, tcp2_of, tcp2_put, tcp2_pushed, udp2_at, udp2_of, udp2_put, udp2_pushed}
+use Rattle.wasi_walks.proofs.GoneLists.{was_there}
 use Rattle.wasi_host.specs.declared.udp.Udp2Socket.{Udp2Socket}
 use Rattle.wasi_host.specs.Udp.{udp_side}
 use Rattle.wasi_laws.specs.Opened.{UdpCreated}
@@ -137,6 +139,10 @@ module _ {given : OpId → Type 0} {records : List Record} where
   -- a lookup has no network socket
   pub looked_open : (es : List Entry) (now : List Record) → SocketsStay records now → Opened given es records → Opened given es now
   looked_open es now s i = record { records = λ n r e. i.records n r (sym (s.tcp n) ∙ e); udps = λ n u e. i.udps n u (sym (s.udp n) ∙ e); older = i.older }
+
+  -- one is given back
+  pub fewer_open : (es : List Entry) (place : ℕ) → Opened given es records → Opened given es (record_gone records place)
+  fewer_open es place i = record { records = λ n r e. i.records n r (was_there tcp2_of refl records place n r e); udps = λ n u e. i.udps n u (was_there udp2_of refl records place n u e); older = i.older }
 
   -- more may be closed by now
   pub later : (es : List Entry) (more : OpId → Type 0) → ((x : OpId) → given x → more x) → Opened given es records → Opened more es records

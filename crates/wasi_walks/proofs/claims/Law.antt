@@ -1,6 +1,6 @@
 -- The base law: numbers and network sockets are claimed once, and are of older lines. A network socket is claimed by the record
 -- that was made with it, and the name of an accept by the record of its listener.
-use Rattle.wasi_walks.proofs.Words.{Accepting, Accepts, Allows, Asks, Begins, Done, End, Entry, Err, ErrorCode}
+use Rattle.wasi_walks.proofs.Words.{Machine, Accepting, Accepts, Allows, Asks, Begins, Done, End, Entry, Err, ErrorCode}
 use Rattle.wasi_walks.proofs.Words.{HoldsAccept, IsAcceptOn, IsLeftOfAccept, Item, List, Listener, Listening, None, Not, Ok, OpId, Operation}
 use Rattle.wasi_walks.proofs.Words.{Refused, Result, Socket, SocketAddressFamily, Some, Step, Tcp2, Tcp2Socket, TcpState, Waits, WasiSocketsCtx}
 use Rattle.wasi_walks.proofs.Words.{accept_ended, after_create, allows_if, allows_then, allows_weaker, ap, arith, bind, bind_progress}
@@ -16,6 +16,8 @@ use Rattle.wasi_walks.proofs.fits.Records.{FitListening}
 use Rattle.wasi_walks.proofs.Lists.{split_place, get_set, get_split, set_there}
 use Rattle.wasi_walks.proofs.claims.Polls.{AllAskBut, ArePlain, GivesOwn, any_quiet, ended_name, ended_sides, none_of, own_poll}
 use Rattle.wasi_walks.proofs.walks.Here.{Made, Past}
+use Rattle.wasi_walks.proofs.GoneLists.{was_there}
+use Rattle.wasi_walks.proofs.owners.Law.{Owns, owners, put_owns}
 use Rattle.wasi_walks.proofs.walks.Moves.{closed_record, Own, Used, Unused, Here, put, Found, joined, part_of, new_accept, accepting_now, listen_after, beginning_listen, made_so, Held, BindsOn, Connects, Listens, Awaits, Move, Spends, Changes, ClosesReader, Writes, IsGone, Reconnects, Opens, BeginsConnect, BeginsBind, BeginsWrite, CancelsBind, CancelsUdpBind, CancelsUdpConnect, BeginsListen, BeginsAccept, Unlistens, Forgets, Joins}
 use Rattle.wasi_walks.proofs.walks.Law.{BeginsWrites, Law, Walks}
 use Rattle.wasi_walks.proofs.fits.Law.{Fit, told_same, whatever, fits, moves_fit, polls_fit, put_fit, created, write_fit}
@@ -25,14 +27,14 @@ use Rattle.wasi_tcp.specs.Accept as accept
 use Rattle.wasi_host.specs.Datagrams.{udp_connect_left, with_sending}
 use Rattle.wasi_host.specs.Kinds.{Handles}
 use Rattle.wasi_host.specs.Receiving.{receive_left, with_receiving}
-use Rattle.wasi_host.specs.Records.{tcp2_at, tcp2_put, tcp2_pushed, udp2_at, udp2_pushed}
+use Rattle.wasi_host.specs.Records.{tcp2_at, tcp2_of, tcp2_put, tcp2_pushed, udp2_at, udp2_of, udp2_pushed}
 use Rattle.wasi_host.specs.declared.name_lookup.LookupOp.{LookupOp}
 use Rattle.wasi_host.specs.declared.records.Record.{Record}
 use Rattle.wasi_host.specs.declared.udp.Udp2Socket.{Udp2Socket}
 use Rattle.wasi_host.specs.Udp.{udp_bind_progress, udp_create_left, udp_side, with_udp_progress}
 use Rattle.wasi_udp.specs.Create.{create_cancel_asks, new_create, after_create as udp_after_create}
 use Rattle.wasi_walks.proofs.UdpLists.{tcp_of_put, tcp_of_push, udp_of_put, udp_of_push, udp_get_set, udp_split}
-use Rattle.wasi_walks.proofs.walks.Moves.{EndsConnect, RecallsStreams, ToConnect, with_records, SameSockets, Finds, put_udp, FoundUdp, udp_begun, Names, UdpChanges, BeginsUdpBind, BeginsUdpConnect, BeginsSend, BeginsReceive, Counts, SpendsNames, UdpCreates, UdpBindsOn, UdpConnectsOn, SendsOn, ReceivesOn}
+use Rattle.wasi_walks.proofs.walks.Moves.{EndsConnect, RecallsStreams, ToConnect, with_records, SameSockets, Finds, put_udp, FoundUdp, udp_begun, Names, UdpChanges, BeginsUdpBind, BeginsUdpConnect, BeginsSend, BeginsReceive, Counts, SpendsNames, UdpCreates, UdpBindsOn, UdpConnectsOn, SendsOn, ReceivesOn, GivesBack, ToSend, without_record}
 
 -- it was made with this network socket, or its accept has this name, by which a network socket will be made
 abbrev pub Claims : OpId → Tcp2Socket → Type 0
@@ -205,9 +207,9 @@ module _ (line : ℕ) where
       tcp : (i : ℕ) (r : Tcp2Socket) → tcp2_at (udp2_pushed h.machine.store.records now) i ≡ Some r → Found h i r
       tcp = tcp_of_push h.machine.store.records now
 
-  -- the records are others with the same sockets
-  pub records_named : {new : LookupOp → Type 0} (h : Here) (records : List Record) → SameSockets new h.machine.store.records records → Named line h → Named line (with_records h records)
-  records_named h records s n = record {
+  -- each socket among the records was there
+  part_named : (h : Here) (machine : Machine) → ((i : ℕ) (r : Tcp2Socket) → tcp2_at machine.store.records i ≡ Some r → Found h i r) → ((i : ℕ) (u : Udp2Socket) → udp2_at machine.store.records i ≡ Some u → FoundUdp h i u) → Named line h → Named line (record h { machine = machine })
+  part_named h machine tcp udp n = record {
     one = λ x i k r q e f c d. n.one x i k r q (tcp i r e) (tcp k q f) c d;
     apart = λ x i r e a b. n.apart x i r (tcp i r e) a b;
     older = λ x i r e c. n.older x i r (tcp i r e) c;
@@ -219,12 +221,13 @@ module _ (line : ℕ) where
       older = λ i u e. n.udps.older i u (udp i u e);
     };
   }
-    where
-      tcp : (i : ℕ) (r : Tcp2Socket) → tcp2_at records i ≡ Some r → Found h i r
-      tcp i r e = sym (s.tcp i) ∙ e
 
-      udp : (i : ℕ) (u : Udp2Socket) → udp2_at records i ≡ Some u → FoundUdp h i u
-      udp i u e = sym (s.udp i) ∙ e
+  -- the records are others with the same sockets, or one is given back
+  pub records_named : {new : LookupOp → Type 0} (h : Here) (records : List Record) → SameSockets new h.machine.store.records records → Named line h → Named line (with_records h records)
+  records_named h records s n = part_named h (with_records h records).machine (λ i r e. sym (s.tcp i) ∙ e) (λ i u e. sym (s.udp i) ∙ e) n
+
+  pub fewer_named : (h : Here) (place : ℕ) → Named line h → Named line (without_record h place)
+  fewer_named h place n = part_named h (without_record h place).machine (was_there tcp2_of refl h.machine.store.records place) (was_there udp2_of refl h.machine.store.records place) n
 
 pub accept_plain : (L : Type 0) (items : List Item) → IsLeftOfAccept items → AllAskBut L items
 accept_plain L _ accept.Unarrived = (tt, tt)
@@ -339,6 +342,7 @@ module _ (contexts : List WasiSocketsCtx) (line : ℕ) (origin : Step) where
   moves_named _ _ (CancelsUdpBind h place o op q g e) n = put_udp_named line h place (Udp2Socket.Open o) (Udp2Socket.Open _) g refl n
   moves_named _ _ (CancelsUdpConnect h place o q g) n = put_udp_named line h place (Udp2Socket.Open o) (Udp2Socket.Open _) g refl n
   moves_named _ _ (Finds h records s) n = records_named line h records s n
+  moves_named _ _ (GivesBack h place idle left) n = fewer_named line h place n
   moves_named _ _ _ n = record { one = n.one; apart = n.apart; older = n.older; named = n.named; held = n.held; udps = record { one = n.udps.one; apart = n.udps.apart; older = n.udps.older } }
 
   -- the record that a listen leaves
@@ -351,8 +355,15 @@ module _ (contexts : List WasiSocketsCtx) (line : ℕ) (origin : Step) where
   awaited_names h place r l op end g e a k n = put_named line h place r _ g (listening_names h place r _ g (λ x p. ap accept_name e ∙ (ap name_in a ∙ ended_name op end k x p)) (λ o p. absurd (cc)) n) n
 
   -- == the law
+  abbrev Pair : Here → Type 0
+  Pair h = Fit h × Named line h
+
+  -- and what is live of each record
   abbrev pub Base : Here → Type 0
-  Base h = Fit h × Named line h
+  Base h = Fit h × Named line h × Owns h
+
+  all : {A : Type 0} (now : A → Here) (es : List Entry) (asks : Asks A) → Allows Anything (λ fs a. Pair (now a)) es asks → Allows Anything (λ fs a. Owns (now a)) es asks → Allows Anything (λ fs a. Base (now a)) es asks
+  all now es asks p o = allows_weaker Anything (λ fs a. Owns (now a) × (Fit (now a) × Named line (now a))) (λ fs a. Base (now a)) (λ fs a k. (k.1.0, k.1.1, k.0)) es asks (both Anything Anything (λ fs a. Pair (now a)) (λ fs a. Owns (now a)) es asks p o)
 
   names_polled : (es : List Entry) (h : Here) (op : Operation) (after : End × List Item → Here) → Held h op after → Base h → Allows Anything (λ fs ended. Named line (after ended)) es (poll_asks op)
   names_polled es h _ _ (BindsOn place r op q g e) n = whatever (λ ended. Named line (put h place (with_progress r (bind_progress op ended)))) (λ ended. put_inner h place r _ g refl refl (λ x p. p) n.1) es _
@@ -406,49 +417,50 @@ module _ (contexts : List WasiSocketsCtx) (line : ℕ) (origin : Step) where
           record { one = j.one; apart = j.apart; older = j.older; named = j.named; held = j.held; udps = record { one = j.udps.one; apart = j.udps.apart; older = j.udps.older } })
 
   -- a handle is made
-  marked : {A : Type 0} (es : List Entry) (h : Here) (so : Made) (asks : Asks (A × Handles)) → Base h → Allows Anything (λ fs made. Base (record h { machine = record h.machine { table = made.1 }; made = so })) es asks
-  marked es h so asks i = whatever (λ made. Base (record h { machine = record h.machine { table = made.1 }; made = so })) (λ made. let k = i.1 in (record { records = i.0.records; udps = i.0.udps; stands = i.0.stands }, record { one = k.one; apart = k.apart; older = k.older; named = k.named; held = k.held; udps = record { one = k.udps.one; apart = k.udps.apart; older = k.udps.older } })) es asks
+  marked : {A : Type 0} (es : List Entry) (h : Here) (so : Made) (asks : Asks (A × Handles)) → Pair h → Allows Anything (λ fs made. Pair (record h { machine = record h.machine { table = made.1 }; made = so })) es asks
+  marked es h so asks i = whatever (λ made. Pair (record h { machine = record h.machine { table = made.1 }; made = so })) (λ made. let k = i.1 in (record { records = i.0.records; udps = i.0.udps; stands = i.0.stands }, record { one = k.one; apart = k.apart; older = k.older; named = k.named; held = k.held; udps = record { one = k.udps.one; apart = k.udps.apart; older = k.udps.older } })) es asks
 
   -- this and that the records fit, of which it takes that an accept is one
   pub names : Law contexts line origin
-  unfolding fits
+  unfolding fits owners
   names =
       let f = fits contexts line origin in
+      let w = owners contexts line origin in
       record {
         P = Anything;
         Inv = λ es h. Base h;
-        moves = λ es h now m i. (moves_fit contexts line origin h now m i.0, moves_named h now m i.1);
+        moves = λ es h now m i. (moves_fit contexts line origin h now m i.0, moves_named h now m i.1, w.moves es h now m i.2);
         asks = λ es h place n r side c at g o q i. (tt, λ told k. i);
         sets = λ es h place r side b at g s is i. (tt, λ told k. i);
-        learns = λ es h place r side at g e i. (tt, λ told k. ((f.learns es h place r side at g e i.0).1 told k, put_inner h place r _ g refl refl (λ x p. sym (ap side_in (told_same r.inner (told_addr told))) ∙ p) i.1));
-        closes = λ es h place r side q g e i. (tt, λ told k. ((f.closes es h place r side q g e i.0).1 told k, put_named line h place r (closed_record r) g (record { side = refl; accepts = λ x p. absurd (cc); named = λ x p. absurd (cc); held = λ op p. absurd (cc) }) i.1));
-        marks = λ es h kind parent sock m i. marked es h h.made _ i;
-        creates = λ es h ctx family c a o m i. both Anything Anything (λ fs done. Named line (record h { machine = done.1; own = Used })) (λ fs done. Fit (record h { machine = done.1; own = Used })) es _ (created_named es h ctx family o i.1) (created contexts line origin es h (own_of line) ctx family i.0);
-        accepted = λ es h c s place r is e o g i. whatever (λ made. Base (record h { machine = record h.machine { table = made.1 }; made = made_so place made.0 })) (λ made. let k = i.1 in (record { records = i.0.records; udps = i.0.udps; stands = i.0.stands }, record { one = k.one; apart = k.apart; older = k.older; named = k.named; held = k.held; udps = record { one = k.udps.one; apart = k.udps.apart; older = k.udps.older } })) es _;
-        polls = λ es h op after k i. both Anything Anything (λ fs ended. Named line (after ended)) (λ fs ended. Fit (after ended)) es _ (names_polled es h op after k i) (polls_fit contexts line origin es h op after k i.0);
-        turns = λ es h place r s g e i. whatever (λ done. Base (put h place (with_writer r s done.1))) (λ done. (put_fit h place r _ g (inr (λ b. b, λ l. l)) (i.0.records place r g) i.0, put_inner h place r _ g refl refl (λ x p. p) i.1)) es (turn_asks s.writer);
+        learns = λ es h place r side at g e i. (tt, λ told k. ((f.learns es h place r side at g e i.0).1 told k, put_inner h place r _ g refl refl (λ x p. sym (ap side_in (told_same r.inner (told_addr told))) ∙ p) i.1, (w.learns es h place r side at g e i.2).1 told k));
+        closes = λ es h place r side q g e i. (tt, λ told k. ((f.closes es h place r side q g e i.0).1 told k, put_named line h place r (closed_record r) g (record { side = refl; accepts = λ x p. absurd (cc); named = λ x p. absurd (cc); held = λ op p. absurd (cc) }) i.1, (w.closes es h place r side q g e i.2).1 told k));
+        marks = λ es h kind parent sock m i. all (λ made. record h { machine = record h.machine { table = made.1 } }) es _ (marked es h h.made _ (i.0, i.1)) (w.marks es h kind parent sock m i.2);
+        creates = λ es h ctx family c a o m i. all (λ done. record h { machine = done.1; own = Used }) es _ (both Anything Anything (λ fs done. Named line (record h { machine = done.1; own = Used })) (λ fs done. Fit (record h { machine = done.1; own = Used })) es _ (created_named es h ctx family o i.1) (created contexts line origin es h (own_of line) ctx family i.0)) (w.creates es h ctx family c a o m i.2);
+        accepted = λ es h c s place r is e o g i. all (λ made. record h { machine = record h.machine { table = made.1 }; made = made_so place made.0 }) es _ (whatever (λ made. Pair (record h { machine = record h.machine { table = made.1 }; made = made_so place made.0 })) (λ made. let k = i.1 in (record { records = i.0.records; udps = i.0.udps; stands = i.0.stands }, record { one = k.one; apart = k.apart; older = k.older; named = k.named; held = k.held; udps = record { one = k.udps.one; apart = k.udps.apart; older = k.udps.older } })) es _) (w.accepted es h c s place r is e o g i.2);
+        polls = λ es h op after k i. all after es _ (both Anything Anything (λ fs ended. Named line (after ended)) (λ fs ended. Fit (after ended)) es _ (names_polled es h op after k i) (polls_fit contexts line origin es h op after k i.0)) (w.polls es h op after k i.2);
+        turns = λ es h place r s g e i. all (λ done. put h place (with_writer r s done.1)) es _ (whatever (λ done. Pair (put h place (with_writer r s done.1))) (λ done. (put_fit h place r _ g (inr (λ b. b, λ l. l)) (i.0.records place r g) i.0, put_inner h place r _ g refl refl (λ x p. p) i.1)) es (turn_asks s.writer)) (w.turns es h place r s g e i.2);
         udp_asks = λ es h place n o c at g q i. (tt, λ told k. i);
-        udp_learns = λ es h place part o at g i. (tt, λ told k. ((f.udp_learns es h place part o at g i.0).1 told k, put_udp_named line h place (Udp2Socket.Open o) (Udp2Socket.Open _) g (learnt_side o.inner (told_addr told)) i.1));
-        udp_peers = λ es h place o at g i. (tt, λ told k. ((f.udp_peers es h place o at g i.0).1 told k, put_udp_named line h place (Udp2Socket.Open o) (Udp2Socket.Open _) g refl i.1));
-        udp_closes = λ es h place o q g i. (tt, λ told k. ((f.udp_closes es h place o q g i.0).1 told k, put_udp_named line h place (Udp2Socket.Open o) (Udp2Socket.Closed o.inner.side) g refl i.1));
-        udp_creates = λ es h ctx family c may a o m i. (tt, λ told k. ((f.udp_creates es h ctx family c may a o m i.0).1 told k, begun_named h ctx.name family (told_done told) o i.1));
-        udp_marks = λ es h place u g i. marked es h Past _ i;
-        stream_marks = λ es h place part handle reached kind m new e i. marked es h _ _ i;
-        error_marks = λ es h part handle place handles m k e f i. marked es h h.made _ i;
-        udp_gives_up = λ es h place create q g i.
+        udp_learns = λ es h place part o at g i. (tt, λ told k. ((f.udp_learns es h place part o at g i.0).1 told k, put_udp_named line h place (Udp2Socket.Open o) (Udp2Socket.Open _) g (learnt_side o.inner (told_addr told)) i.1, (w.udp_learns es h place part o at g i.2).1 told k));
+        udp_peers = λ es h place o at g i. (tt, λ told k. ((f.udp_peers es h place o at g i.0).1 told k, put_udp_named line h place (Udp2Socket.Open o) (Udp2Socket.Open _) g refl i.1, (w.udp_peers es h place o at g i.2).1 told k));
+        udp_closes = λ es h place o q g i. (tt, λ told k. ((f.udp_closes es h place o q g i.0).1 told k, put_udp_named line h place (Udp2Socket.Open o) (Udp2Socket.Closed o.inner.side) g refl i.1, (w.udp_closes es h place o q g i.2).1 told k));
+        udp_creates = λ es h ctx family c may a o m i. (tt, λ told k. ((f.udp_creates es h ctx family c may a o m i.0).1 told k, begun_named h ctx.name family (told_done told) o i.1, (w.udp_creates es h ctx family c may a o m i.2).1 told k));
+        udp_marks = λ es h place u g i. all (λ made. record h { machine = record h.machine { table = made.1 }; made = Past }) es _ (marked es h Past _ (i.0, i.1)) (w.udp_marks es h place u g i.2);
+        stream_marks = λ es h place part handle reached kind m new e i. all (λ made. record h { machine = record h.machine { table = made.1 }; made = ToSend part handle reached }) es _ (marked es h _ _ (i.0, i.1)) (w.stream_marks es h place part handle reached kind m new e i.2);
+        error_marks = λ es h part handle place handles m k e f i. all (λ made. record h { machine = record h.machine { table = made.1 } }) es _ (marked es h h.made _ (i.0, i.1)) (w.error_marks es h part handle place handles m k e f i.2);
+        udp_gives_up = λ es h place create q g i. all (λ done. put_udp h place (Udp2Socket.Closed create.operation.who.side)) es _ (
             both Anything Anything (λ fs done. Named line (put_udp h place (Udp2Socket.Closed create.operation.who.side))) (λ fs done. Fit (put_udp h place (Udp2Socket.Closed create.operation.who.side))) es _
-            (whatever (λ done. Named line (put_udp h place (Udp2Socket.Closed create.operation.who.side))) (λ done. put_udp_named line h place (Udp2Socket.Creating create) (Udp2Socket.Closed create.operation.who.side) g refl i.1) es (create_cancel_asks create)) (f.udp_gives_up es h place create q g i.0);
-        lookups = λ es h host l i. (tt, λ told k records s. ((f.lookups es h host l i.0).1 told k records s, records_named line h records s i.1));
+            (whatever (λ done. Named line (put_udp h place (Udp2Socket.Closed create.operation.who.side))) (λ done. put_udp_named line h place (Udp2Socket.Creating create) (Udp2Socket.Closed create.operation.who.side) g refl i.1) es (create_cancel_asks create)) (f.udp_gives_up es h place create q g i.0)) (w.udp_gives_up es h place create q g i.2);
+        lookups = λ es h host l i. (tt, λ told k records s. ((f.lookups es h host l i.0).1 told k records s, records_named line h records s i.1, (w.lookups es h host l i.2).1 told k records s));
         looks = λ es h place op g i. (tt, λ told k. i);
-        gives_up = λ es h place r q g i.
-            whatever (λ done. Base (put h place (with_listening r Not)))
-            (λ done. let b = i.0.records place r g in (put_fit h place r _ g (inl q) (b.0, tt, b.2) i.0, put_named line h place r (with_listening r Not) g (listening_names h place r Not g (λ x p. absurd (cc)) (λ op p. absurd (cc)) i.1) i.1)) es (give_up_asks r.listening);
+        gives_up = λ es h place r q g i. all (λ done. put h place (with_listening r Not)) es _ (
+            whatever (λ done. Pair (put h place (with_listening r Not)))
+            (λ done. let b = i.0.records place r g in (put_fit h place r _ g (inl q) (b.0, tt, b.2) i.0, put_named line h place r (with_listening r Not) g (listening_names h place r Not g (λ x p. absurd (cc)) (λ op p. absurd (cc)) i.1) i.1)) es (give_up_asks r.listening)) (w.gives_up es h place r q g i.2);
       }
 
   -- a write that begins in a call of streams
   pub begins_named : BeginsWrites names
-  unfolding names
-  begins_named = record { begins = λ es h place n r s half permit bytes at g e w within used i. (write_fit contexts line origin h place r s _ Used g i.0, put_spent h place r _ g refl refl (λ x p. p) i.1) }
+  unfolding names owners
+  begins_named = record { begins = λ es h place n r s half permit bytes at g e w within used i. (write_fit contexts line origin h place r s _ Used g i.0, put_spent h place r _ g refl refl (λ x p. p) i.1, put_owns h place _ i.2) }
 
   -- the laws that rest on it
   pub on_names : Above contexts line origin (λ es h. Base h) → Law contexts line origin

@@ -21,7 +21,8 @@ use Rattle.wasi_tcp.specs.Accept as accept
 use Rattle.wasi_tcp.specs.Listen as listen
 use Rattle.wasi_walks.specs.Waiting as binding
 use Rattle.wasi_host.specs.Kinds.{Handles}
-use Rattle.wasi_host.specs.Records.{tcp2_at, tcp2_put, tcp2_pushed, udp2_at, udp2_put, udp2_pushed}
+use Rattle.wasi_host.specs.Records.{tcp2_at, tcp2_of, tcp2_put, tcp2_pushed, udp2_at, udp2_of, udp2_put, udp2_pushed}
+use Rattle.wasi_walks.proofs.GoneLists.{was_there}
 use Rattle.wasi_host.specs.declared.name_lookup.LookupOp.{LookupOp}
 use Rattle.wasi_host.specs.declared.udp.OpenUdp.{OpenUdp}
 use Rattle.wasi_host.specs.declared.udp.Udp2Socket.{Udp2Socket}
@@ -40,7 +41,7 @@ use Rattle.wasi_walks.proofs.fits.UdpPolls.{LeavesCreate, create_left, create_fi
 use Rattle.wasi_walks.proofs.fits.DatagramPolls.{LeavesConnect, datagram_left, received_left, udp_connect_leaves, wanted_left}
 use Rattle.wasi_walks.proofs.fits.TcpFits.{first_of, ended_fits, listened_fits, bound_fits, accepted_fits, joined_fits}
 use Rattle.wasi_walks.proofs.fits.UdpFits.{KeepsOpen, same_udp, same_open, no_open, stays_open, idle_keeps, plain_open, plain_fits, inner_fits, learnt_side, bound_udp, connected_udp, begun_send, sends_on, sent_udp, begun_receive, receives_on, received_udp}
-use Rattle.wasi_walks.proofs.walks.Moves.{ToConnect, with_records, SameSockets, Finds, put_udp, FoundUdp, udp_begun, begun_udp_bind, begun_udp_connect, sending_now, receiving_now, part_of, UdpChanges, BeginsUdpBind, StandsUdpBind, StandsUdpCreate, BeginsUdpConnect, StandsUdpConnect, StandsDropOutgoing, BeginsSend, BeginsReceive, UdpCreates, UdpBindsOn, UdpConnectsOn, SendsOn, ReceivesOn}
+use Rattle.wasi_walks.proofs.walks.Moves.{ToConnect, with_records, SameSockets, Finds, put_udp, FoundUdp, udp_begun, begun_udp_bind, begun_udp_connect, sending_now, receiving_now, part_of, UdpChanges, BeginsUdpBind, StandsUdpBind, StandsUdpCreate, BeginsUdpConnect, StandsUdpConnect, StandsDropOutgoing, BeginsSend, BeginsReceive, UdpCreates, UdpBindsOn, UdpConnectsOn, SendsOn, ReceivesOn, GivesBack, without_record}
 use Rattle.wasi_host.specs.declared.records.Record.{Record}
 
 -- Each record fits, and so does the pending call.
@@ -111,6 +112,14 @@ records_fit h records s i = record {
   records = λ k r e. i.records k r (sym (s.tcp k) ∙ e);
   udps = λ k u e. i.udps k u (sym (s.udp k) ∙ e);
   stands = λ c e. call_kept h.machine.store.records records (λ k r e. s.tcp k ∙ e) (λ k u e. s.udp k ∙ e) c.call (i.stands c e);
+}
+
+-- one is given back, and nothing is pending
+fewer_fit : (h : Here) (place : ℕ) → h.machine.store.standing ≡ None → Fit h → Fit (without_record h place)
+fewer_fit h place idle i = record {
+  records = λ k r e. i.records k r (was_there tcp2_of refl h.machine.store.records place k r e);
+  udps = λ k u e. i.udps k u (was_there udp2_of refl h.machine.store.records place k u e);
+  stands = λ c e. absurd (let none : None ≡ Some c = sym idle ∙ e in cc);
 }
 
 call_stands : (records : List Record) (call : StandingCall) (r : Tcp2Socket) → tcp2_at records (call_place call) ≡ Some r → GoesOn call r → FitCall records call
@@ -308,6 +317,7 @@ module _ (contexts : List WasiSocketsCtx) (line : ℕ) (origin : Step) where
   moves_fit _ _ (CancelsUdpBind h place o op q g e) i = let f = i.udps place (Udp2Socket.Open o) g in put_udp_fit h place (Udp2Socket.Open o) _ g (inl q) (tt, f.1, f.2, f.3) i
   moves_fit _ _ (CancelsUdpConnect h place o q g) i = let f = i.udps place (Udp2Socket.Open o) g in put_udp_fit h place (Udp2Socket.Open o) _ g (inl q) (f.0, tt, f.2, f.3) i
   moves_fit _ _ (Finds h records s) i = records_fit h records s i
+  moves_fit _ _ (GivesBack h place idle left) i = fewer_fit h place idle i
   moves_fit _ _ _ i = record { records = i.records; udps = i.udps; stands = i.stands }
 
   -- a socket that is created connects by nothing

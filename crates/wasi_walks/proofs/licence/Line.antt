@@ -1,5 +1,5 @@
 -- What holds of a line: the state fits the log, and so does what the line works on.
-use Rattle.wasi_walks.proofs.walks.Moves.{Awaited, Emptied}
+use Rattle.wasi_walks.proofs.walks.Moves.{Awaited, Emptied, Numbered}
 use Rattle.wasi_walks.proofs.Words.{BeganBy, Begins, Call, Entry, HandedNone, Has, IpSocketAddress, IsMaker, IsSide, Kind, List, MarksNoSocket, None, Not}
 use Rattle.wasi_walks.proofs.Words.{OpId, Operation, Option, SocketAddressFamily, Some, Step, Tcp2Socket, Told, WasiSocketsCtx, ap, entry, inl, inr, length}
 use Rattle.wasi_walks.proofs.Words.{own_of, refl, side_in, subst, sym, with_socket, ℕ, ⊤, ◌∙◌, ◌≡◌, ◌⊎◌}
@@ -84,6 +84,7 @@ NoAccept (Calls kind line handles) = ⊤
 NoAccept Past = ⊤
 NoAccept (Emptied kind) = ⊤
 NoAccept (Awaited place) = ⊤
+NoAccept (Numbered place next) = ⊤
 NoAccept _ = ⊥
 
 no_mark : (made : Made) → NoAccept made → NotMarked made → ⊥

@@ -1,8 +1,13 @@
 -- Where lookups change, the sockets among the records are the same, and the state still fits the log.
-use Rattle.wasi_walks.proofs.Words.{Entry, List, Machine, Step, Tcp2Socket, WasiSocketsCtx, refl, sym, ℕ, ◌∙◌}
-use Rattle.wasi_walks.proofs.walks.Moves.{Found, Here, SameSockets, with_records}
+use Rattle.wasi_walks.proofs.Words.{Entry, Handles, Kind, List, Machine, None, Option, Some, Step, Tcp2Socket, WasiSocketsCtx, ap, kind_at, refl, sym, ℕ, ◌∙◌, ◌≡◌}
+use Rattle.wasi_walks.proofs.GoneLists.{stays_there, was_there}
+use Rattle.wasi_walks.proofs.owners.Owned.{NoneOf, Owned, named_by, none_named, tcp_names, udp_names}
+use Rattle.wasi_host.specs.GivingBack.{given_back, record_gone}
+use Rattle.wasi_host.specs.Records.{lookup_of, tcp2_at, tcp2_of, udp2_of}
+use Rattle.wasi_host.specs.declared.name_lookup.Lookup.{Lookup}
+use Rattle.wasi_walks.proofs.walks.Moves.{Found, Here, SameSockets, record_of, udp_record_of, with_records, without_record}
 use Rattle.wasi_walks.proofs.licence.Lookups.{LookupIsFine, lookups_same}
-use Rattle.wasi_walks.proofs.licence.State.{StateIsFine}
+use Rattle.wasi_walks.proofs.licence.State.{HandleIsFine, NamesIf, NamesUdpIf, StateIsFine}
 use Rattle.wasi_walks.proofs.licence.UdpFrames.{KeepsSides, handle_kept, standing_kept}
 use Rattle.wasi_walks.proofs.licence.Line.{Licensed}
 use Rattle.wasi_host.specs.declared.name_lookup.LookupOp.{LookupOp}
@@ -39,6 +44,54 @@ module _ {contexts : List WasiSocketsCtx} {steps : List Step} (new : LookupOp �
         fine = state_same es h.machine records s i.fine;
         names = λ k n r a e. i.names k n r a (tcp k r e);
         udp_names = λ k n u a e. i.udp_names k n u a (sym (s.udp k) ∙ e);
+        listens = λ k r op e b. i.listens k r op (tcp k r e) b;
+        new = i.new;
+        unmade = i.unmade;
+        joined = λ p e. (let j = i.joined p e in record { new = j.new; on = j.on; peer = j.peer; context = j.context; listener = j.listener; by = j.by; side = λ r d. j.side r (tcp p r d); of_listener = j.of_listener; handed = j.handed; fresh = j.fresh });
+        marked = λ handle p e r d. i.marked handle p e r (tcp p r d);
+        making = i.making;
+      }
+
+-- == a record is given back
+-- a live handle is of another record
+module _ (es : List Entry) (t : Handles) (old : List Record) (place : ℕ) (none : NoneOf t place) (live : Owned t old) (handle : ℕ) (kind : Kind) (e : kind_at t handle ≡ Some kind) where
+  another : (k : ℕ) → named_by kind ≡ Some k → k ≡ place → ⊥
+  another k named same = none_named t old live place none handle kind e (named ∙ ap (λ (x : ℕ). Some x) same)
+
+  tcp_left : (o : Option ℕ) → record_of (Some kind) ≡ o → NamesIf es old handle o → NamesIf es (record_gone old place) handle o
+  tcp_left (Some k) q h = record { found = h.found; at = stays_there tcp2_of old place k h.found (another k (tcp_names kind k q)) h.at; marked = h.marked }
+  tcp_left None q h = tt
+
+  udp_left : (o : Option ℕ) → udp_record_of (Some kind) ≡ o → NamesUdpIf es old handle o → NamesUdpIf es (record_gone old place) handle o
+  udp_left (Some k) q h = record { found = h.found; at = stays_there udp2_of old place k h.found (another k (udp_names kind k q)) h.at; marked = h.marked }
+  udp_left None q h = tt
+
+  handle_left : HandleIsFine es old handle kind → HandleIsFine es (record_gone old place) handle kind
+  handle_left h = (tcp_left (record_of (Some kind)) refl h.0, udp_left (udp_record_of (Some kind)) refl h.1, h.2, h.3)
+
+module _ {contexts : List WasiSocketsCtx} {steps : List Step} where
+  -- nothing is pending
+  state_fewer : (es : List Entry) (m : Machine) (place : ℕ) → m.store.standing ≡ None → NoneOf m.table place → Owned m.table m.store.records → StateIsFine contexts steps es m → StateIsFine contexts steps es (record m { store = given_back place m.store })
+  state_fewer es m place idle none live h =
+      let tcp : (k : ℕ) (r : Tcp2Socket) → tcp2_at (record_gone m.store.records place) k ≡ Some r → tcp2_at m.store.records k ≡ Some r = was_there tcp2_of refl m.store.records place in
+      record {
+        count = h.count;
+        handles = λ handle kind e. handle_left es m.table m.store.records place none live handle kind e (h.handles handle kind e);
+        records = λ k r e. h.records k r (tcp k r e);
+        udp = λ k u e. h.udp k u (was_there udp2_of refl m.store.records place k u e);
+        lookups = λ k op e. h.lookups k op (was_there lookup_of refl m.store.records place k (Lookup.InProgress op) e);
+        standing = λ c e. absurd (let never : None ≡ Some c = sym idle ∙ e in cc);
+        accepts = λ k r e. h.accepts k r (tcp k r e);
+        one = λ i j r q x a b. h.one i j r q x (tcp i r a) (tcp j q b);
+      }
+
+  pub fewer_fine : {line : ℕ} {origin : Step} (es : List Entry) (h : Here) (place : ℕ) → h.machine.store.standing ≡ None → NoneOf h.machine.table place → Owned h.machine.table h.machine.store.records → Licensed contexts steps line origin es h → Licensed contexts steps line origin es (without_record h place)
+  fewer_fine es h place idle none live i =
+      let tcp : (k : ℕ) (r : Tcp2Socket) → Found (without_record h place) k r → Found h k r = was_there tcp2_of refl h.machine.store.records place in
+      record {
+        fine = state_fewer es h.machine place idle none live i.fine;
+        names = λ k n r a e. i.names k n r a (tcp k r e);
+        udp_names = λ k n u a e. i.udp_names k n u a (was_there udp2_of refl h.machine.store.records place k u e);
         listens = λ k r op e b. i.listens k r op (tcp k r e) b;
         new = i.new;
         unmade = i.unmade;

@@ -210,14 +210,14 @@ module _ (contexts : List WasiSocketsCtx) (steps : List Step) (line : ℕ) (orig
       other_fine es h (Pollable w) (Some handle) sock (record { origin = origin; at = is_line; holds = subst (IsMarkOf es (own_of line) name.Pollable (Some handle) sock) (sym is) (refl, (refl, k)) }) (λ p. absurd (cc))
       (λ a s p. not_accept (Step.Subscribe c handle) (λ a s p. absurd (cc)) is a s p h)
       (λ t. udp_pollable_handle _ h.machine.store.records h.machine.table.next w p (new_udp_names es h h.machine.table.next place name.Pollable (Some handle) n.found t n.at)) i
-  marked_fine es h _ _ _ (ALookup c network place host e there) i =
+  marked_fine es h _ _ _ (ALookup c network place host e there made) i =
       other_fine es h (Kind.Lookup place) (Some network) None (record { origin = origin; at = is_line; holds = subst (IsMarkOf es (own_of line) name.Lookup (Some network) None) (sym e) (refl, refl, refl) }) (λ p. absurd (cc)) (λ a k p. not_accept (Step.Resolve c network host) (λ a k p. absurd (cc)) e a k p h)
       (λ t. (tt, tt, marks_none es h.machine.table.next name.Lookup (Some network) t)) i
   marked_fine es h _ _ _ (ALookupPollable c handle place is e) i =
       let k : IsMarkedWith es handle None = (i.fine.handles handle (Kind.Lookup place) e).2 in
       other_fine es h (Pollable (Watched.Lookup place)) (Some handle) None (record { origin = origin; at = is_line; holds = subst (IsMarkOf es (own_of line) name.Pollable (Some handle) None) (sym is) (refl, (refl, k)) }) (λ p. absurd (cc)) (λ a s p. not_accept (Step.Subscribe c handle) (λ a s p. absurd (cc)) is a s p h)
       (λ t. (tt, tt, marks_none es h.machine.table.next name.Pollable (Some handle) t)) i
-  marked_fine es h kind _ _ (APlain _ m) i =
+  marked_fine es h kind _ _ (APlain _ m numbered) i =
       let p = plain_made origin kind m in
       other_fine es h kind None None (record { origin = origin; at = is_line; holds = plain_mark es (own_of line) origin kind m }) (plain_name kind p) (λ a s is u. subst (λ (x : Step). MakesPlain x kind) is m)
       (λ t. plain_handle _ h.machine.store.records h.machine.table.next kind p (marks_none es h.machine.table.next (name_of kind) None t)) i

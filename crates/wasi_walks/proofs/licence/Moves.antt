@@ -1,5 +1,6 @@
 -- Each move keeps that the state fits the log.
-use Rattle.wasi_walks.proofs.walks.Moves.{Awaited, AwaitsCreate, Emptied, Empties}
+use Rattle.wasi_walks.proofs.walks.Moves.{Awaited, AwaitsCreate, Emptied, Empties, GivesBack, Numbers}
+use Rattle.wasi_walks.proofs.owners.Law.{left_none}
 use Rattle.wasi_walks.proofs.Words.{Accepting, Accepts, Bool, Connection, Done, End, Entry, Handed, InProgress, IpSocketAddress, IsMaker}
 use Rattle.wasi_walks.proofs.Words.{Job, List, Listener, MarksNoSocket, MayGoOut, None, Not, OpId, ReadState, Refused, Socket}
 use Rattle.wasi_walks.proofs.Words.{SocketAddressFamily, Some, StandingCall, Step, Streams, TcpSendStream, Tcp2Socket, TcpState, Waits, WasiSocketsCtx, WriteState}
@@ -17,7 +18,7 @@ use Rattle.wasi_walks.proofs.licence.Frames.{same_listening, listening_kept, lis
 use Rattle.wasi_walks.proofs.licence.States.{state_taken, state_put, state_stands, state_unstands, state_jobs, state_renewed, state_joined}
 use Rattle.wasi_walks.proofs.licence.WriteJobs.{shut_after}
 use Rattle.wasi_walks.proofs.licence.Line.{put_with, keeps_plain, seam, no_listen, part_names, ListenGoesOn, NotMarked, NamesMade, Licensed, MakingStands, KeepsListen, put_fine, owned, remade, spent, elsewhere}
-use Rattle.wasi_walks.proofs.licence.LookupMoves.{records_fine}
+use Rattle.wasi_walks.proofs.licence.LookupMoves.{fewer_fine, records_fine}
 use Rattle.wasi_walks.proofs.licence.UdpMoves.{begins_receive, begins_send, begins_udp_connect, recalls_streams, remembers_streams, reaches_udp, resumes, udp_changes, begins_udp_bind, cancels_udp_bind, cancels_udp_connect}
 use Rattle.wasi_walks.proofs.licence.StreamMoves.{calls_handles, is_side, reaches, reaches_handle, recalls_call, stands_blocking}
 use Rattle.wasi_host.specs.Records.{tcp2_put}
@@ -312,5 +313,7 @@ module _ (contexts : List WasiSocketsCtx) (steps : List Step) (line : ℕ) (orig
   moves_fine es _ _ (Empties h handle kind e none) b i =
       let was : Here = record h { made = Emptied kind } in
       elsewhere es was _ refl refl refl (remade es h (Emptied kind) tt tt i) (state_taken contexts steps es h.machine handle i.fine) i.names i.udp_names
-  moves_fine es _ _ (Lists h jobs) b i = elsewhere es h _ refl refl refl i (state_jobs contexts steps es h.machine jobs i.fine) i.names i.udp_names
+  moves_fine es _ _ (GivesBack h place idle left) b i = fewer_fine es h place idle (left_none h place left b.2) b.2.0 i
+  moves_fine es _ _ (Numbers h) b i = remade es h _ tt tt i
+  moves_fine es _ _ (Lists h jobs keeps) b i = elsewhere es h _ refl refl refl i (state_jobs contexts steps es h.machine jobs i.fine) i.names i.udp_names
   moves_fine es _ _ (Takes h handle none) b i = elsewhere es h _ refl refl refl i (state_taken contexts steps es h.machine handle i.fine) i.names i.udp_names

@@ -118,6 +118,7 @@ reached_under t handle place older e = by_kind (kind_at t handle) refl e
 
 pub moves_under : {line : ℕ} {origin : Step} (h now : Here) → Move line origin h now → Under h → Under now
 moves_under _ _ (walk.Leaves h) i = nothing_made _ _ _ i
+moves_under _ _ (walk.Numbers h) i = record { older = i.older; makes = tt; stands = i.stands }
 moves_under _ _ (walk.Watches h own) i = record { older = i.older; makes = tt; stands = i.stands }
 moves_under _ _ (walk.CallsHandles h kind calls quiet) i = record { older = i.older; makes = tt; stands = i.stands }
 moves_under _ _ (walk.RecallsCall h ids call e) i = record { older = i.older; makes = tt; stands = i.stands }

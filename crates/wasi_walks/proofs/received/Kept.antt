@@ -6,7 +6,8 @@ use Rattle.wasi_udp.specs.Create.{Create, create_cancel_asks, after_create as ud
 use Rattle.wasi_udp.specs.Receive.{wanting}
 use Rattle.wasi_host.specs.Datagrams.{udp_connect_left}
 use Rattle.wasi_host.specs.Receiving.{receive_left, with_receiving}
-use Rattle.wasi_host.specs.Records.{tcp2_at, tcp2_put, tcp2_pushed, udp2_at, udp2_put}
+use Rattle.wasi_host.specs.Records.{tcp2_at, tcp2_put, tcp2_pushed, udp2_at, udp2_of, udp2_put}
+use Rattle.wasi_walks.proofs.GoneLists.{was_there}
 use Rattle.wasi_host.specs.Udp.{udp_create_left, udp_side}
 use Rattle.wasi_host.specs.declared.kind.Kind.TheVariants.{Udp2}
 use Rattle.wasi_host.specs.declared.datagrams.Incoming.{Incoming}
@@ -118,6 +119,7 @@ module _ (contexts : List WasiSocketsCtx) (line : ℕ) (origin : Step) where
   moves_wanted _ _ (walk.CancelsUdpBind h place o op q g e) i = put_udps _ place (Udp2Socket.Open _) (i place (Udp2Socket.Open o) g) i
   moves_wanted _ _ (walk.CancelsUdpConnect h place o q g) i = put_udps _ place (Udp2Socket.Open _) (i place (Udp2Socket.Open o) g) i
   moves_wanted _ _ (walk.Finds h records s) i = same_wanted h.machine.store.records records s i
+  moves_wanted _ _ (walk.GivesBack h place idle left) i = λ k u e. i k u (was_there udp2_of refl h.machine.store.records place k u e)
   moves_wanted _ _ _ i = i
 
   -- a poll of what is in progress

@@ -34,7 +34,7 @@ use Rattle.wasi_tcp.specs.Connect as connect
 use Rattle.wasi_tcp.specs.Listen.{IsListen}
 use Rattle.wasi_walks.proofs.received.Polls.{AreSilent, Elsewhere, NoName, silent_poll}
 use Rattle.wasi_walks.proofs.received.Silent.{WritesApart, accept_silent, bind_silent, cancelled_silent, connect_silent, given_up_silent, listen_silent, made_silent, new_silent, send_silent, turn_silent, udp_bind_silent, udp_connect_silent}
-use Rattle.wasi_walks.proofs.received.State.{IsHeld, Late, OneEach, UdpLate, late_along, one_late, plain_late, put_later, push_tcp, push_udps, put_tcp, put_udps, same_late, same_or_not}
+use Rattle.wasi_walks.proofs.received.State.{IsHeld, Late, OneEach, UdpLate, late_along, one_late, plain_late, put_later, push_tcp, push_udps, put_tcp, put_udps, same_late, same_or_not, fewer_late}
 
 -- a receive that begins has nothing in hand
 begun_empty : (from : ℕ) (es : List Entry) (own side : OpId) (bound : Bool) → InHandLate from es own side (left_of_receive None (receive_first bound))
@@ -171,6 +171,7 @@ module _ (side : OpId) (from : ℕ) where
     moves_late es _ _ (walk.CancelsUdpBind h place o op q g e) i = put_udps side from es _ place (Udp2Socket.Open _) (i.udps place (Udp2Socket.Open o) g) i
     moves_late es _ _ (walk.CancelsUdpConnect h place o q g) i = put_udps side from es _ place (Udp2Socket.Open _) (i.udps place (Udp2Socket.Open o) g) i
     moves_late es _ _ (walk.Finds h records s) i = same_late side from es h.machine.store.records records s i
+    moves_late es _ _ (walk.GivesBack h place idle left) i = fewer_late side from es h.machine.store.records place i
     moves_late es _ _ _ i = i
 
     -- a poll of what is in progress

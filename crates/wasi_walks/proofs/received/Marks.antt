@@ -94,7 +94,7 @@ module _ (side : OpId) where
   pub is_other : (origin : Step) (h : Here) (kind : Kind) (parent : Option ℕ) (sock : Option OpId) → Marks origin h kind parent sock → NotIncoming kind
   is_other origin h kind _ _ (walk.AStream c handle place _ is e opened) = of_tcp kind place e
   is_other origin h kind _ _ (walk.AnAcceptedStream c listener handle place _ r is e made own g) = of_tcp kind place e
-  is_other origin h kind _ _ (walk.APlain _ makes) = plain_other origin kind makes
+  is_other origin h kind _ _ (walk.APlain _ makes numbered) = plain_other origin kind makes
   is_other origin h _ _ _ _ = tt
 
   -- == moves

@@ -2,7 +2,9 @@
 use Rattle.wasi_walks.proofs.Words.{◌∷◌, [], entry, Told, Allows, Asks, Bool, Call, Entry, List, None, OpId, Operation, Option, Some, Tcp2Socket, []}
 use Rattle.wasi_walks.proofs.Words.{allows_keep, ap, arith, first_state, inl, inr, length, refl, subst, sym, true, false, ℕ, ⊤, ◌==◌, ◌⊎◌, ◌++◌, ◌∙◌, ◌≡◌, ◌≤◌}
 use Rattle.std.proofs.lemmas.Bool.{eqb-true, eqb-false}
-use Rattle.wasi_host.specs.Records.{tcp2_put, tcp2_pushed, udp2_at, udp2_put, udp2_pushed}
+use Rattle.wasi_host.specs.GivingBack.{record_gone}
+use Rattle.wasi_host.specs.Records.{tcp2_put, tcp2_pushed, udp2_at, udp2_of, udp2_put, udp2_pushed}
+use Rattle.wasi_walks.proofs.GoneLists.{was_there}
 use Rattle.wasi_host.specs.declared.datagrams.Incoming.{Incoming as IncomingStream}
 use Rattle.wasi_host.specs.declared.datagrams.Receiving.{Receiving}
 use Rattle.wasi_host.specs.declared.name_lookup.LookupOp.{LookupOp}
@@ -127,6 +129,9 @@ module _ (side : OpId) where
 
   pub same_late : {new : LookupOp → Type 0} (from : ℕ) (es : List Entry) (old now : List Record) → SameSockets new old now → Late from es old → Late from es now
   same_late from es old now s k = record { long = k.long; udps = λ i u e. k.udps i u (sym (s.udp i) ∙ e) }
+
+  pub fewer_late : (from : ℕ) (es : List Entry) (old : List Record) (place : ℕ) → Late from es old → Late from es (record_gone old place)
+  fewer_late from es old place k = record { long = k.long; udps = λ i u e. k.udps i u (was_there udp2_of refl old place i u e) }
 
   -- a plain change
   pub plain_late : (from : ℕ) (es : List Entry) (o now : OpenUdp) → UdpPlain o now → UdpLate from es (Udp2Socket.Open o) → UdpLate from es (Udp2Socket.Open now)

@@ -28,7 +28,7 @@ use Rattle.wasi_walks.proofs.walks.Moves.{closed_record, udp_begun, opened_by, p
 use Rattle.wasi_walks.proofs.remotes.Held.{peer_keeps, polls_keep}
 use Rattle.wasi_walks.proofs.remotes.Polls.{AreSilent, NoPeer, Unpeered, silent_poll}
 use Rattle.wasi_walks.proofs.remotes.ConnectPolls.{Whole}
-use Rattle.wasi_walks.proofs.remotes.State.{JobBy, Keeps, OpenKeeps, ReadsBy, ReceivesFor, TcpKeeps, WritesBy, asked, kept, push_tcp, push_udps, put_tcp, put_udps, quiet, records_keep, same_streams, with_none, with_these, writer_moves, Spares}
+use Rattle.wasi_walks.proofs.remotes.State.{JobBy, Keeps, OpenKeeps, ReadsBy, ReceivesFor, TcpKeeps, WritesBy, asked, kept, push_tcp, push_udps, put_tcp, put_udps, quiet, records_keep, fewer_keep, same_streams, with_none, with_these, writer_moves, Spares}
 
 -- == what is asked of a network socket of TCP is asked of none of UDP
 -- a writer is on the network socket that its record was made with
@@ -206,6 +206,7 @@ module _ (contexts : List WasiSocketsCtx) (line : ℕ) (origin : Step) where
   moves_keep es _ _ (walk.CancelsUdpBind h place o op q g e) b i = let k = i.udps place (Udp2Socket.Open o) g in put_udps es _ place (Udp2Socket.Open _) (record { created = k.created; remote = k.remote; connects = k.connects; receiver = k.receiver }) i
   moves_keep es _ _ (walk.CancelsUdpConnect h place o q g) b i = let k = i.udps place (Udp2Socket.Open o) g in put_udps es _ place (Udp2Socket.Open _) (record { created = k.created; remote = k.remote; connects = tt; receiver = k.receiver }) i
   moves_keep es _ _ (walk.Finds h records s) b i = records_keep es h.machine.store.records records s i
+  moves_keep es _ _ (walk.GivesBack h place idle left) b i = fewer_keep es h.machine.store.records place i
   moves_keep es _ _ _ b i = i
 
   -- the law: the calls may be any

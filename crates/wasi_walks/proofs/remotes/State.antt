@@ -6,7 +6,9 @@ use Rattle.wasi_walks.proofs.Words.{Option, ReadState, Refused, SocketAddressFam
 use Rattle.wasi_walks.proofs.Words.{allows_keep, ap, closed_by, collected, entry, first_state, inl, inr, refl, subst, sym, then_closed, written_by, ℕ, ⊤, ◌++◌}
 use Rattle.wasi_walks.proofs.Words.{◌∙◌, ◌∷◌, ◌≡◌}
 use Rattle.wasi_world.specs.Operation.{Nothing}
-use Rattle.wasi_host.specs.Records.{tcp2_at, tcp2_put, tcp2_pushed, udp2_at, udp2_put, udp2_pushed}
+use Rattle.wasi_host.specs.GivingBack.{record_gone}
+use Rattle.wasi_host.specs.Records.{tcp2_at, tcp2_of, tcp2_put, tcp2_pushed, udp2_at, udp2_of, udp2_put, udp2_pushed}
+use Rattle.wasi_walks.proofs.GoneLists.{was_there}
 use Rattle.wasi_host.specs.declared.name_lookup.LookupOp.{LookupOp}
 use Rattle.wasi_host.specs.declared.records.Record.{Record}
 use Rattle.wasi_host.specs.declared.udp.OpenUdp.{OpenUdp}
@@ -148,6 +150,10 @@ push_udps es records now f k = record {
 -- the sockets among them stay the same
 pub records_keep : {new : LookupOp → Type 0} (es : List Entry) (old now : List Record) → SameSockets new old now → Keeps es old → Keeps es now
 records_keep es old now s k = record { udps = λ i u e. k.udps i u (sym (s.udp i) ∙ e); tcps = λ i r e. k.tcps i r (sym (s.tcp i) ∙ e) }
+
+-- and one is given back
+pub fewer_keep : (es : List Entry) (old : List Record) (place : ℕ) → Keeps es old → Keeps es (record_gone old place)
+fewer_keep es old place k = record { udps = λ i u e. k.udps i u (was_there udp2_of refl old place i u e); tcps = λ i r e. k.tcps i r (was_there tcp2_of refl old place i r e) }
 
 -- == one more entry
 -- the call asks no network socket for its remote address, of which one is kept

@@ -1,5 +1,6 @@
 -- The calls of streams, as moves. They are done for a line, by its name, on handles that it named: the line's own, or those of the
 -- pending call that it began. The steps on streams, splices and the calls that block are made of the same ones.
+use Rattle.wasi_walks.proofs.walks.Jobs.{begun_is_record, one_begins}
 use Rattle.std.specs.Prelude.{◌≡◌, ℕ, Bool, true, false, List, Option, Some, None, Result, Ok, Err}
 use Rattle.wasi_world.specs.declared.outcome.TrapKind.TheVariants.{NoSuchHandle}
 use Rattle.wasi_walks.proofs.Words.{Asks, ErrorValue, Give, Has, Kind, Machine, Records, Step, Stop, Streams, StreamStop, Tcp2Socket, WasiSocketsCtx, allows_weaker}
@@ -79,9 +80,9 @@ module _ {contexts : List WasiSocketsCtx} {line : ℕ} {origin : Step} {law : La
   write_record_walks {h} {place} here is bytes r (Some s) e may = from (streams_are h place r s e) (and_then (write_walks here is r s s.writer bytes may) (λ done. give _))
 
   -- a job that begins is listed
-  noted_walks : {T : Type 0} (h : Here) (place : ℕ) (done : Result T StreamStop × Records) (begins : Bool) → Walks law (Stored h Used done) (Stored h Used) (Give (done.0, with_job done.1 (Write place) begins))
-  noted_walks h place done true = gives _ (Lists _ _)
-  noted_walks h place done false = give _
+  noted_walks : {T : Type 0} (h : Here) (place : ℕ) (before : Option Tcp2Socket) (done : Result T StreamStop × Records) (begins : Bool) → begins_job before (tcp2_at done.1.records place) ≡ begins → Walks law (Stored h Used done) (Stored h Used) (Give (done.0, with_job done.1 (Write place) begins))
+  noted_walks h place before done true e = gives _ (Lists _ _ (one_begins done.1.records done.1.jobs (Write place) (begun_is_record done.1.records place before e)))
+  noted_walks h place before done false e = give _
 
   module _ {n : ℕ} {handles : List ℕ} where
     -- where the call failed an error gets its handle
@@ -179,7 +180,7 @@ module _ {contexts : List WasiSocketsCtx} {line : ℕ} {origin : Step} {law : La
           (and_why (Why n m handle place) (λ es. written_why n m handle place es bytes e) (and_then (stream_at_walks {h = h} Used place (writer_asks (λ w. write_state_asks (own_of n) w bytes)) o refl
           (λ none. begins_none (subst (λ (x : Option Tcp2Socket). MayWrite law own (may_in x bytes)) none may) (give _))
           (λ r is here. write_record_walks here refl bytes r r.streams refl (subst (λ (x : Option Tcp2Socket). MayWrite law own (may_in x bytes)) is may)))
-          (λ done. noted_walks h place done (begins_job o (tcp2_at done.1.records place)))) (λ done. converted_walks m handle place done named (k place refl)))
+          (λ done. noted_walks h place o done (begins_job o (tcp2_at done.1.records place)) refl)) (λ done. converted_walks m handle place done named (k place refl)))
 
       write_by_walks : (bytes : List ℕ) (o : Option PlainOutput) → plain_output_at m handle ≡ o → MayWrite law own (may_at m bytes (output_at m handle))
           → Walks law (Calling n handles at own m) (Called n handles (reaching at n (output_at m handle)) Used) (write_by m (own_of n) handle bytes o)

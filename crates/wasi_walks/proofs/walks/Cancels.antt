@@ -9,11 +9,12 @@ use Rattle.wasi_host.specs.declared.udp.Udp2Socket.{Udp2Socket}
 use Rattle.wasi_host.specs.declared.udp.UdpInProgress.{UdpInProgress}
 use Rattle.wasi_udp.specs.Create.{Create, create_cancel_asks}
 use Rattle.wasi_walks.proofs.walks.Here.{ConnectStands, NoConnectIn, no_open, out_gone, takes_none}
-use Rattle.wasi_walks.proofs.walks.Moves.{StreamStays, Used, CancelsBind, CancelsUdpBind, CancelsUdpConnect, Changes, EndsConnect, Found, FoundUdp, Here, Leaves, RecallsStreams, ToConnect, ToStream, IsSettled, IsUdpSettled, Lists, NoStartStands, Spends, UdpChanges, Unstands, Unused, put_udp}
+use Rattle.wasi_walks.proofs.walks.Moves.{GivesBack, OfUdp, StreamStays, Used, CancelsBind, CancelsUdpBind, CancelsUdpConnect, Changes, EndsConnect, Found, FoundUdp, Here, Leaves, RecallsStreams, ToConnect, ToStream, IsSettled, IsUdpSettled, Lists, NoStartStands, Spends, UdpChanges, Unstands, Unused, put_udp}
 use Rattle.wasi_walks.proofs.walks.Law.{Law, Walks, and_then, from, give, give_up, gives, move, put_same}
-use Rattle.wasi_walks.proofs.walks.States.{Over, OverWith, Starts, stands_so, there}
+use Rattle.wasi_walks.proofs.walks.States.{Over, OverWith, Starts, none_stands, stands_so, there}
 use Rattle.wasi_walks.proofs.walks.Udp.{open_is, udp_there}
-use Rattle.wasi_walks.proofs.walks.UdpLaw.{over_at}
+use Rattle.wasi_walks.proofs.walks.Jobs.{datagrams_end}
+use Rattle.wasi_walks.proofs.walks.UdpLaw.{over_at, udp_found}
 
 -- the store is so
 abbrev Stores : Machine → Records → Here
@@ -24,10 +25,10 @@ abbrev TakenOver : ℕ → Machine → ℕ → ℕ → Here
 TakenOver n m place handle = record { machine = m; at = None; made = ToStream n handle place; own = ToConnect place }
 
 module _ {contexts : List WasiSocketsCtx} {line : ℕ} {origin : Step} {law : Law contexts line origin} where
-  module _ (m : Machine) (quiet : NoStartStands m.store.standing) (place : ℕ) where
+  module _ (m : Machine) (idle : m.store.standing ≡ None) (place : ℕ) where
     -- == a bind
     bind_walks : (r : Tcp2Socket) → Found (Over m) place r → (doing : InProgress) → r.in_progress ≡ doing → Walks law (Over m) (Stores m) (Give (cancel_bind_at m.store place (Some r)))
-    bind_walks r g (InProgress.Binding op) e = gives _ (CancelsBind _ place r op quiet g e)
+    bind_walks r g (InProgress.Binding op) e = gives _ (CancelsBind _ place r op (none_stands idle) g e)
     bind_walks r g _ e =
         gives _ (Changes _ place r (with_progress r InProgress.Nothing) g (record { side = refl; streams = refl; listening = refl; does = refl; maker = refl; family = refl; bound = λ side d b. b; binds = inr (subst IsSettled (sym e) tt, tt); connects = λ c. absurd (cc) }))
 
@@ -36,7 +37,7 @@ module _ {contexts : List WasiSocketsCtx} {line : ℕ} {origin : Step} {law : La
     bind_at_walks (Some r) g = bind_walks r g r.in_progress refl
 
     udp_bind_walks : (o : OpenUdp) → FoundUdp (Over m) place (Udp2Socket.Open o) → (doing : UdpInProgress) → o.in_progress ≡ doing → Walks law (Over m) (Stores m) (Give (cancel_udp_bind_at m.store place (Some o)))
-    udp_bind_walks o g (UdpInProgress.Binding op) e = gives _ (CancelsUdpBind _ place o op quiet g e)
+    udp_bind_walks o g (UdpInProgress.Binding op) e = gives _ (CancelsUdpBind _ place o op (none_stands idle) g e)
     udp_bind_walks o g _ e =
         gives _ (UdpChanges _ place o _ g (record { side = refl; maker = refl; family = refl; remote = refl; bound = λ b. b; binds = inr (subst IsUdpSettled (sym e) tt, tt); connects = refl; sends = inl refl; receives = inl refl; came = inl refl }) (record { incoming = StreamStays _; makes = inl (λ some. some) }))
 
@@ -47,13 +48,13 @@ module _ {contexts : List WasiSocketsCtx} {line : ℕ} {origin : Step} {law : La
     -- == a listen, and a create
     listen_at_walks : (o : Option Tcp2Socket) → tcp2_at m.store.records place ≡ o → Walks law (Over m) (Stores m) (cancel_listen_at m.store place o)
     listen_at_walks None g = give _
-    listen_at_walks (Some r) g = from (put_same (Over m) place r g) (and_then (give_up (there {h = Over m} g) r quiet) (λ done. give _))
+    listen_at_walks (Some r) g = from (put_same (Over m) place r g) (and_then (give_up (there {h = Over m} g) r (none_stands idle)) (λ done. give _))
 
     closed_walks : (create : Create) → FoundUdp (Over m) place (Udp2Socket.Creating create) → Walks law (Over m) (λ done. put_udp (Over m) place (Udp2Socket.Closed create.operation.who.side)) (create_cancel_asks create)
-    closed_walks create g = record { along = λ es i. law.udp_gives_up es (Over m) place create quiet g i }
+    closed_walks create g = record { along = λ es i. law.udp_gives_up es (Over m) place create (none_stands idle) g i }
 
     create_walks : (u : Udp2Socket) → FoundUdp (Over m) place u → Walks law (Over m) (Stores m) (cancel_create m.store place u)
-    create_walks (Udp2Socket.Creating create) g = and_then (closed_walks create g) (λ done. give _)
+    create_walks (Udp2Socket.Creating create) g = and_then (closed_walks create g) (λ done. gives _ (GivesBack _ place idle (OfUdp create.operation.who.side (udp_found (udp_there {h = Over m} g) (Udp2Socket.Closed create.operation.who.side)))))
     create_walks (Udp2Socket.Open o) g = give _
     create_walks (Udp2Socket.Closed side) g = give _
 
@@ -67,10 +68,10 @@ module _ {contexts : List WasiSocketsCtx} {line : ℕ} {origin : Step} {law : La
     drop_outgoing_at_walks (Some o) e =
         let gone : OpenUdp = record o { outgoing = None } in
         move (UdpChanges _ place o gone (open_is (udp2_at m.store.records place) o e) (record { side = refl; maker = refl; family = refl; remote = refl; bound = λ b. b; binds = inl refl; connects = refl; sends = inr refl; receives = inl refl; came = inl refl }) (record { incoming = StreamStays _; makes = inl (λ some. out_gone o some) }))
-        (gives _ (Lists _ _))
+        (gives _ (Lists _ _ (datagrams_end _ place _)))
 
   -- what is left of the records
-  cancel_on_walks : (m : Machine) → NoStartStands m.store.standing → (call : StandingCall) → NoConnectIn call → Walks law (Over m) (Stores m) (cancel_on m.store call)
+  cancel_on_walks : (m : Machine) → m.store.standing ≡ None → (call : StandingCall) → NoConnectIn call → Walks law (Over m) (Stores m) (cancel_on m.store call)
   cancel_on_walks m q (StandingCall.Bind place) n = bind_at_walks m q place (tcp2_at m.store.records place) refl
   cancel_on_walks m q (StandingCall.Listen place) n = listen_at_walks m q place (tcp2_at m.store.records place) refl
   cancel_on_walks m q (StandingCall.DropOutput place) n = give _
@@ -88,7 +89,7 @@ module _ {contexts : List WasiSocketsCtx} {line : ℕ} {origin : Step} {law : La
       move (CancelsUdpConnect _ place o q g) (move (EndsConnect _ place refl (inl (over_at (udp_there {h = TakenOver n m place handle} g) (record o { connecting = None }) refl))) (gives _ (Leaves _)))
 
   other_walks : (m : Machine) (ids : Ids) (call : StandingCall) → m.store.standing ≡ Some (standing_as ids call) → NoConnectIn call → Walks law (Starts m Unused) (Stores m) (cancel_on (unstood m.store) call)
-  other_walks m ids call e n = move (Spends _ refl) (move (Unstands _ (takes_none m.store.standing ids call Used e n)) (cancel_on_walks (record m { store = unstood m.store }) tt call n))
+  other_walks m ids call e n = move (Spends _ refl) (move (Unstands _ (takes_none m.store.standing ids call Used e n)) (cancel_on_walks (record m { store = unstood m.store }) refl call n))
 
   -- the call that was pending
   call_walks : (m : Machine) (ids : Ids) (call : StandingCall) → m.store.standing ≡ Some (standing_as ids call) → Walks law (Starts m Unused) (Stores m) (cancel_on (unstood m.store) call)

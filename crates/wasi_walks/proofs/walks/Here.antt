@@ -1,16 +1,25 @@
 -- What a line works on: the state, the record that one of its handles stands for, what it has made so far, and which names its
 -- operations were given.
 use Rattle.wasi_walks.proofs.Words.{Bool, Handles, Kind, List, Machine, None, OpId, Operation, Option, Records, Some, Standing, StandingCall, Step, Tcp2, Tcp2Socket, ap, arith, inl, kind_at, inr, refl, standing_as, subst, sym, true, false, with_socket, ℕ, ⊤, ◌+◌, ◌<◌, ◌≡◌, ◌≤◌, ◌⊎◌}
-use Rattle.std.specs.Prelude.{is_some, ◌||◌}
+use Rattle.std.specs.Prelude.{is_some, slice_get, ◌||◌}
 use Rattle.wasi_world.specs.declared.ids.Ids.{Ids}
 use Rattle.wasi_host.specs.Datagrams.{has_streams}
 use Rattle.wasi_host.specs.Receiving.{taken, with_receiving}
-use Rattle.wasi_host.specs.Records.{open_at, open_of, tcp2_at, udp2_at}
+use Rattle.wasi_host.specs.Records.{open_at, open_of, tcp2_at, udp2_at, lookup_at, input_pipe_at, output_pipe_at}
 use Rattle.wasi_host.specs.UdpCalls.{with_udp}
-use Rattle.wasi_host.specs.declared.kind.Kind.TheVariants.{Incoming, Outgoing, Udp2}
+use Rattle.wasi_host.specs.declared.kind.Kind.TheVariants.{Incoming, Outgoing, Udp2, Lookup, PlainInput, PlainOutput}
 use Rattle.wasi_host.specs.declared.datagrams.Incoming.{Incoming as IncomingStream}
+use Rattle.wasi_memory.specs.Plain.{Contents}
+use Rattle.wasi_host.specs.GivingBack.{given_back}
+use Rattle.wasi_host.specs.declared.kind.PlainInput.TheVariants as plain_input
+use Rattle.wasi_host.specs.declared.kind.PlainOutput.TheVariants as plain_output
+use Rattle.wasi_host.specs.declared.name_lookup.Lookup.{Lookup as NameLookup}
 use Rattle.wasi_host.specs.declared.datagrams.Receiving.{Receiving}
+use Rattle.wasi_host.specs.declared.jobs.HostJob.{HostJob}
+use Rattle.wasi_host.specs.declared.jobs.HostJob.TheVariants as jobs
 use Rattle.wasi_host.specs.declared.records.Record.{Record}
+use Rattle.wasi_host.specs.declared.records.Record.TheVariants.{Gone}
+use Rattle.wasi_walks.specs.Licence.{Has}
 use Rattle.wasi_host.specs.declared.udp.OpenUdp.{OpenUdp}
 use Rattle.wasi_host.specs.declared.udp.Udp2Socket.{Udp2Socket}
 
@@ -31,13 +40,15 @@ pub data CallKind : Type 0 where
 -- what an accept has made so far: nothing, the record of what it took, or its handle too; the line whose call makes datagram
 -- streams, the handle that they are made under, and the record that it is of, and the same once the incoming one was marked; the line
 -- whose call on streams or on pollables is done, and the handles that it named; the kind of a handle that was dropped, under which
--- nothing was live; the record whose create is polled, which has no handle yet; else nothing is said of it
+-- nothing was live; the record whose create is polled, which has no handle yet; the number of the record of a lookup or of a pipe that
+-- is made, while the next handle is still this one; else nothing is said of it
 pub data Made : Type 0 where
   ToStream : ℕ → ℕ → ℕ → Made
   ToSend : ℕ → ℕ → ℕ → Made
   Calls : CallKind → ℕ → List ℕ → Made
   Emptied : Kind → Made
   Awaited : ℕ → Made
+  Numbered : ℕ → ℕ → Made
   Past : Made
   Unmade : Made
   Joined : ℕ → Made
@@ -121,6 +132,44 @@ Releases h place = NoStart h × (h.made ≡ Emptied (Tcp2 place))
 
 abbrev pub ReleasesUdp : Here → ℕ → Type 0
 ReleasesUdp h place = NoStart h × (h.made ≡ Emptied (Udp2 place))
+
+-- == what is made of no network socket
+-- the record of a pipe is there before its handle, and has the next number
+abbrev pub IsNumbered : Here → Kind → Type 0
+IsNumbered h (PlainInput (plain_input.Pipe place)) = (h.made ≡ Numbered place h.machine.table.next) × (is_some (input_pipe_at h.machine.store.records place) ≡ true)
+IsNumbered h (PlainOutput (plain_output.Pipe place)) = (h.made ≡ Numbered place h.machine.table.next) × (is_some (output_pipe_at h.machine.store.records place) ≡ true)
+IsNumbered h _ = ⊤
+
+-- == jobs
+-- a record is there, and wasn't given back
+abbrev pub IsRecord : Option Record → Type 0
+IsRecord None = ⊥
+IsRecord (Some Gone) = ⊥
+IsRecord _ = ⊤
+
+-- the record that a job is of
+abbrev pub job_place : HostJob → ℕ
+job_place (jobs.Write place) = place
+job_place (jobs.Datagram place) = place
+job_place (jobs.Receive place) = place
+job_place (jobs.Lookup place) = place
+
+-- each job was one of these, or its record is there
+abbrev pub KeepsJobs : List Record → List HostJob → List HostJob → Type 0
+KeepsJobs records old now = (job : HostJob) → Has now job → Has old job ⊎ IsRecord (slice_get records (job_place job))
+
+-- == what is given back
+-- a record to which no handle is any more: the one that it had was just dropped, or it is a UDP socket whose network socket is closed
+pub data IsLeft (h : Here) (place : ℕ) : Type 0 where
+  OfTcp : (r : Tcp2Socket) → h.made ≡ Emptied (Tcp2 place) → Found h place r → IsLeft h place
+  OfUdp : (side : OpId) → FoundUdp h place (Udp2Socket.Closed side) → IsLeft h place
+  OfLookup : (l : NameLookup) → h.made ≡ Emptied (Lookup place) → lookup_at h.machine.store.records place ≡ Some l → IsLeft h place
+  OfInput : (bytes : List ℕ) → h.made ≡ Emptied (PlainInput (plain_input.Pipe place)) → input_pipe_at h.machine.store.records place ≡ Some bytes → IsLeft h place
+  OfOutput : (pipe : Contents) → h.made ≡ Emptied (PlainOutput (plain_output.Pipe place)) → output_pipe_at h.machine.store.records place ≡ Some pipe → IsLeft h place
+
+-- it goes, with its jobs
+abbrev pub without_record : Here → ℕ → Here
+without_record h place = record h { machine = record h.machine { store = given_back place h.machine.store } }
 
 -- == a create
 -- a UDP socket that is there, and isn't closed

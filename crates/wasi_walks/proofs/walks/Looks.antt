@@ -1,5 +1,8 @@
 -- Looks at pollables, as moves: one of a line, or of a call that it polls, which begins nothing. What begins has the next name of the
 -- line.
+use Rattle.wasi_walks.proofs.walks.Jobs.{one_begins, udp_is_record}
+use Rattle.std.specs.Prelude.{slice_get}
+use Rattle.wasi_walks.proofs.UdpLists.{udp_set_there}
 use Rattle.std.specs.Prelude.{◌≡◌, ℕ, ◌+◌, not, Bool, true, false, List, Option, Some, None, Result, Ok}
 use Rattle.wasi_walks.proofs.Words.{Accepts, Asks, Give, Has, InProgress, Listening, Machine, Records, Step, Stop, Tcp2Socket, WasiSocketsCtx, Watched}
 use Rattle.wasi_walks.proofs.Words.{ap, bind, handles_of, if◌then◌else◌, is_connect, is_nothing, kind_at, own_of, place_in, ready_on, refl, subst, sym, watch_of, with_listening, with_store, ready_end, ◌∙◌}
@@ -103,9 +106,9 @@ module _ {contexts : List WasiSocketsCtx} {line : ℕ} {origin : Step} (law : La
     output_at place (Some r) g = from (put_same (On place) place r g) (and_then (ready_writer_walks (there {h = On place} g) refl r r.streams refl) (λ done. give _))
 
     -- a receive that begins is a job
-    listed_at : (at : Option (ℕ × ℕ)) (now : Own) (place : ℕ) (ready : Bool) (store : Records) (begins : Bool) → (let done : Result Bool Stop × Records = (Ok ready, with_job store (Receive place) begins) in Walks law (Looking n handles at now (record m { store = store })) (λ done. Looking n handles at now (record m { store = done.1 })) (Give done))
-    listed_at at now place ready store true = gives _ (Lists _ _)
-    listed_at at now place ready store false = give _
+    listed_at : (at : Option (ℕ × ℕ)) (now : Own) (place : ℕ) (ready : Bool) (store : Records) (begins : Bool) (u : Udp2Socket) → udp2_at store.records place ≡ Some u → (let done : Result Bool Stop × Records = (Ok ready, with_job store (Receive place) begins) in Walks law (Looking n handles at now (record m { store = store })) (λ done. Looking n handles at now (record m { store = done.1 })) (Give done))
+    listed_at at now place ready store true u e = gives _ (Lists _ _ (one_begins store.records store.jobs (Receive place) (udp_is_record (slice_get store.records place) u e)))
+    listed_at at now place ready store false u e = give _
 
     incoming_at : (at : Option (ℕ × ℕ)) (place : ℕ) (o : Option OpenUdp) → open_at m.store.records place ≡ o → (udp_begins o ≡ true → (at ≡ Some (place, line)) × Receives origin) → MayBegin line n part own (udp_begins o)
         → Walks law (Looking n handles at own m) (λ done. Looking n handles at (after own part (udp_begins o)) (record m { store = done.1 })) (ready_incoming_at m.store (names_from n part) place o)
@@ -114,7 +117,7 @@ module _ {contexts : List WasiSocketsCtx} {line : ℕ} {origin : Step} (law : La
         let h = Looking n handles at own m in
         let found : FoundUdp h place (Udp2Socket.Open o) = open_is (udp2_at m.store.records place) o g in
         from (udp_put_same h place (Udp2Socket.Open o) found)
-        (and_then (incoming_walks (udp_there {h = h} found) n part o o.incoming refl named may) (λ now. listed_at at (after own part (would_receive o.incoming)) place (not (receives now.incoming)) (with_open_udp m.store place now) (begins_receive o now)))
+        (and_then (incoming_walks (udp_there {h = h} found) n part o o.incoming refl named may) (λ now. listed_at at (after own part (would_receive o.incoming)) place (not (receives now.incoming)) (with_open_udp m.store place now) (begins_receive o now) (Udp2Socket.Open now) (udp_set_there m.store.records place (Udp2Socket.Open o) (Udp2Socket.Open now) found)))
 
     -- A look leaves the line at the record of one of its handles, or where it was.
     pub record Looked (at : Option (ℕ × ℕ)) (now : Own) (asks : Asks (Result Bool Stop × Machine)) : Type 0 where

@@ -18,12 +18,17 @@ use Rattle.wasi_host.specs.Records.{lookup_at, lookup_put, lookup_pushed}
 use Rattle.wasi_host.specs.declared.name_lookup.Lookup.{Lookup}
 use Rattle.wasi_host.specs.declared.name_lookup.Lookup.TheVariants.{InProgress, Found, Failed}
 use Rattle.wasi_host.specs.declared.name_lookup.LookupOp.{LookupOp}
+use Rattle.wasi_host.specs.declared.kind.Kind.TheVariants.{Lookup as LookupHandle}
 use Rattle.wasi_host.specs.declared.records.Record.{Record}
 use Rattle.wasi_p2.specs.Lookup.{next_address_on, resolve_asks, resolved_host}
 use Rattle.wasi_walks.proofs.LookupLists.{input_lookup_push, input_lookup_put, lookup_front, lookup_get_set, lookup_last, lookup_split, lookup_stays, output_lookup_push, output_lookup_put, tcp_lookup_push, tcp_lookup_put, udp_lookup_push, udp_lookup_put}
-use Rattle.wasi_walks.proofs.walks.Moves.{ALookup, Finds, Here, Lists, LooksUp, SameSockets, Spends, Unused, with_records}
+use Rattle.wasi_walks.proofs.walks.Moves.{ALookup, Emptied, Finds, GivesBack, Here, Leaves, Lists, LooksUp, Numbers, OfLookup, SameSockets, Spends, Unused, with_records}
 use Rattle.wasi_walks.proofs.walks.Law.{Law, Walks, and_then, by_if, give, gives, mark, move}
-use Rattle.wasi_walks.proofs.walks.States.{Over, OverWith, Sets, Starts}
+use Rattle.wasi_walks.proofs.walks.Jobs.{lookup_is_record, may_begin_one}
+use Rattle.wasi_host.specs.NameLookup.{is_looking}
+use Rattle.wasi_host.specs.declared.jobs.HostJob.TheVariants as jobs
+use Rattle.std.specs.Prelude.{length, slice_get}
+use Rattle.wasi_walks.proofs.walks.States.{Numbering, Over, OverWith, Sets, Starts}
 
 -- == the sockets are the same
 same_sockets : {new : LookupOp → Type 0} (xs : List Record) → SameSockets new xs xs
@@ -95,14 +100,14 @@ module _ {contexts : List WasiSocketsCtx} {line : ℕ} {origin : Step} {law : La
 
   module _ (m : Machine) (c network : ℕ) (name : List ℕ) (is : origin ≡ Step.Resolve c network name) where
     -- its record was made, and it gets its handle
-    handle_walks : (l : Lookup) → Walks law (with_records (Over m) (lookup_pushed m.store.records l)) OverWith (lookup_handle m (own_of line) network l)
-    handle_walks l = and_then (mark (ALookup c network _ name is (lookup_last m.store.records l))) (λ made. gives _ (Lists _ _))
+    handle_walks : (l : Lookup) → Walks law (with_records (Numbering m) (lookup_pushed m.store.records l)) OverWith (lookup_handle m (own_of line) network l)
+    handle_walks l = and_then (mark (ALookup c network _ name is (lookup_last m.store.records l) refl)) (λ made. move (Leaves _) (gives _ (Lists _ _ (may_begin_one (lookup_pushed m.store.records l) m.store.jobs (jobs.Lookup (length m.store.records)) (is_looking l) (lookup_is_record (slice_get (lookup_pushed m.store.records l) (length m.store.records)) (lookup_last m.store.records l))))))
 
-    resolved_walks : (l : Lookup) → Walks law (with_records (Over m) (begun_in m.store.records l)) OverWith (resolved m (own_of line) network l)
-    resolved_walks Failed = give _
+    resolved_walks : (l : Lookup) → Walks law (with_records (Numbering m) (begun_in m.store.records l)) OverWith (resolved m (own_of line) network l)
+    resolved_walks Failed = gives _ (Leaves _)
     resolved_walks l = handle_walks l
 
-    host_walks : (host : HostName) → host_for (context_at contexts c) name ≡ Ok host → Walks law (Over m) OverWith (resolve_host m (own_of line) network host)
+    host_walks : (host : HostName) → host_for (context_at contexts c) name ≡ Ok host → Walks law (Numbering m) OverWith (resolve_host m (own_of line) network host)
     unfolding bind
     host_walks (Address a) e = move (Finds _ _ (same_by_push m.store.records (Found (a ∷ [])) (λ op e. absurd (cc)))) (handle_walks (Found (a ∷ [])))
     host_walks (Domain host) e =
@@ -111,7 +116,7 @@ module _ {contexts : List WasiSocketsCtx} {line : ℕ} {origin : Step} {law : La
         (λ told. begun_same m.store.records (lookup_told asked (told_names told)) (λ op e. sym (same_asked asked (told_names told) op e))) (λ told. resolved_walks (lookup_told asked (told_names told)))
 
     by_host : (r : Result HostName ErrorCode) → host_for (context_at contexts c) name ≡ r → Walks law (Over m) OverWith (resolved_host m (own_of line) network r)
-    by_host (Ok host) e = host_walks host e
+    by_host (Ok host) e = move (Numbers _) (host_walks host e)
     by_host (Err why) e = give _
 
     pub resolve_walks : Walks law (Starts m Unused) OverWith (resolve_asks m (own_of line) (context_at contexts c) network name)
@@ -145,6 +150,6 @@ module _ {contexts : List WasiSocketsCtx} {line : ℕ} {origin : Step} {law : La
   turn_lookup_walks m records place (Some l) e = looked_walks m records place l e
 
   -- == a drop
-  pub drop_lookup_walks : (m : Machine) (place : ℕ) (o : Option Lookup) → lookup_at m.store.records place ≡ o → Walks law (Starts m Unused) OverWith (Give (answered (with_store m (at_once (drop_lookup_at m.store place o)))))
-  drop_lookup_walks m place None e = gives _ (Spends _ refl)
-  drop_lookup_walks m place (Some l) e = move (Spends _ refl) (move (Finds _ _ (same_by_put m.store.records place l Failed e (λ op p. absurd (cc)))) (gives _ (Lists _ _)))
+  pub drop_lookup_walks : (m : Machine) (place : ℕ) (o : Option Lookup) → lookup_at m.store.records place ≡ o → m.store.standing ≡ None → Walks law (record (Starts m Unused) { made = Emptied (LookupHandle place) }) OverWith (Give (answered (with_store m (at_once (drop_lookup_at m.store place o)))))
+  drop_lookup_walks m place None e q = move (Spends _ refl) (gives _ (Leaves _))
+  drop_lookup_walks m place (Some l) e q = move (Spends _ refl) (move (GivesBack _ place q (OfLookup l refl e)) (gives _ (Leaves _)))

@@ -12,7 +12,7 @@ use Rattle.wasi_walks.proofs.Words.{side_at, side_of, standing_as, true, wildcar
 use Rattle.wasi_walks.proofs.Words.{with_progress, with_reader, with_state, with_writer, without_handle, writer_side, ℕ, ⊤}
 use Rattle.wasi_walks.proofs.Words.{◌≡◌, ◌⊎◌}
 use Rattle.wasi_world.specs.declared.ids.Ids.{Ids}
-pub use Rattle.wasi_walks.proofs.walks.Here.{keeps_incoming, StreamGoes, StreamIsMade, StreamIsTaken, StreamMoves, StreamStays, TakesFrom, ConnectIsOver, HasNewStream, KeepsStreams, MarksNext, TakesOver, one_stream, IsCreated, IsOpenUdp, NoStart, NoStartIn, NoStartStands, Releases, ReleasesUdp, CallKind, OfPollables, OfStreams, Found, FoundUdp, Here, Own, Names, ToConnect, ToWrite, Unused, Used, Made, Awaited, Calls, Emptied, Joined, Marked, Past, ToSend, ToStream, Unmade, part_of, put, put_udp, with_records}
+pub use Rattle.wasi_walks.proofs.walks.Here.{KeepsJobs, IsRecord, job_place, keeps_incoming, StreamGoes, StreamIsMade, StreamIsTaken, StreamMoves, StreamStays, TakesFrom, ConnectIsOver, HasNewStream, KeepsStreams, MarksNext, TakesOver, one_stream, IsCreated, IsOpenUdp, NoStart, NoStartIn, NoStartStands, Releases, ReleasesUdp, CallKind, OfPollables, OfStreams, Found, FoundUdp, Here, Own, Names, ToConnect, ToWrite, Unused, Used, Made, Awaited, Calls, Emptied, Joined, Marked, Past, ToSend, ToStream, Unmade, part_of, put, put_udp, with_records, IsLeft, IsNumbered, OfTcp, OfUdp, OfLookup, OfInput, OfOutput, without_record, Numbered}
 use Rattle.wasi_host.specs.Records.{tcp2_at, tcp2_put, tcp2_pushed, udp2_at, lookup_at, input_pipe_at, output_pipe_at}
 use Rattle.wasi_host.specs.declared.name_lookup.Lookup.TheVariants as lookup
 use Rattle.wasi_host.specs.declared.name_lookup.LookupOp.{LookupOp}
@@ -264,9 +264,9 @@ pub data Marks (origin : Step) (h : Here) : Kind → Option ℕ → Option OpId 
   AnAcceptedStream : (c listener handle place : ℕ) (kind : Kind) (r : Tcp2Socket) → origin ≡ Step.TcpAccept c listener → (kind ≡ Input place) ⊎ (kind ≡ Output place) → h.made ≡ Marked handle place → h.own ≡ Used → Found h place r → Marks origin h kind (Some handle) (side_at (tcp2_at h.machine.store.records place))
   APollable : (c handle : ℕ) (w : Watched) → origin ≡ Step.Subscribe c handle → tcp_place w ≡ Some (place_in w) → record_of (kind_at h.machine.table handle) ≡ Some (place_in w) → watched_by (kind_at h.machine.table handle) ≡ Some w → Marks origin h (Pollable w) (Some handle) (side_at (tcp2_at h.machine.store.records (place_in w)))
   AUdpPollable : (c handle : ℕ) (w : Watched) → origin ≡ Step.Subscribe c handle → udp_place w ≡ Some (place_in w) → udp_record_of (kind_at h.machine.table handle) ≡ Some (place_in w) → watched_by (kind_at h.machine.table handle) ≡ Some w → Marks origin h (Pollable w) (Some handle) (udp_side_at (udp2_at h.machine.store.records (place_in w)))
-  ALookup : (c network place : ℕ) (name : List ℕ) → origin ≡ Step.Resolve c network name → is_some (lookup_at h.machine.store.records place) ≡ true → Marks origin h (Lookup place) (Some network) None
+  ALookup : (c network place : ℕ) (name : List ℕ) → origin ≡ Step.Resolve c network name → is_some (lookup_at h.machine.store.records place) ≡ true → h.made ≡ Numbered place h.machine.table.next → Marks origin h (Lookup place) (Some network) None
   ALookupPollable : (c handle place : ℕ) → origin ≡ Step.Subscribe c handle → kind_at h.machine.table handle ≡ Some (Lookup place) → Marks origin h (Pollable (Watched.Lookup place)) (Some handle) None
-  APlain : (kind : Kind) → MakesPlain origin kind → Marks origin h kind None None
+  APlain : (kind : Kind) → MakesPlain origin kind → IsNumbered h kind → Marks origin h kind None None
   APlainPollable : (c handle : ℕ) → origin ≡ Step.Subscribe c handle → watched_by (kind_at h.machine.table handle) ≡ Some Watched.Plain → Marks origin h (Pollable Watched.Plain) (Some handle) None
 
 -- == records of a bind
@@ -471,13 +471,16 @@ pub data Move (line : ℕ) (origin : Step) : Here → Here → Type 0 where
   CancelsUdpConnect : (h : Here) (place : ℕ) (o : OpenUdp) → NoStart h → FoundUdp h place (Udp2Socket.Open o) → Move line origin h (put_udp h place (Udp2Socket.Open (record o { connecting = None })))
   -- lookups and pipes: what was found, and what is handed out
   Finds : (h : Here) (records : List Record) → SameSockets (λ op. ⊥) h.machine.store.records records → Move line origin h (with_records h records)
+  Numbers : (h : Here) → Move line origin h (record h { made = Numbered (length h.machine.store.records) h.machine.table.next })
   -- a create that is to be polled: no handle is of its record
   AwaitsCreate : (h : Here) (place : ℕ) (create : Create) → FoundUdp h place (Udp2Socket.Creating create) → Move line origin h (record h { made = Awaited place })
   -- a handle is taken out of the table, under which nothing is live; of a socket that is dropped it is noted which
   Empties : (h : Here) (handle : ℕ) (kind : Kind) → kind_at h.machine.table handle ≡ Some kind → has_no_child h.machine.table handle ≡ true → Move line origin h (record h { machine = record h.machine { table = without_handle h.machine.table handle }; made = Emptied kind })
   Takes : (h : Here) (handle : ℕ) → has_no_child h.machine.table handle ≡ true → Move line origin h (record h { machine = record h.machine { table = without_handle h.machine.table handle } })
+  -- nothing refers to a record any more, and nothing is pending
+  GivesBack : (h : Here) (place : ℕ) → h.machine.store.standing ≡ None → IsLeft h place → Move line origin h (without_record h place)
   -- the rest
-  Lists : (h : Here) (jobs : List HostJob) → Move line origin h (record h { machine = record h.machine { store = record h.machine.store { jobs = jobs } } })
+  Lists : (h : Here) (jobs : List HostJob) → KeepsJobs h.machine.store.records h.machine.store.jobs jobs → Move line origin h (record h { machine = record h.machine { store = record h.machine.store { jobs = jobs } } })
 
 -- an operation that the line polls: where it is kept, and what becomes of it
 pub data Held (h : Here) : Operation → (End × List Item → Here) → Type 0 where

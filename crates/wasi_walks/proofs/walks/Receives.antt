@@ -1,4 +1,5 @@
 -- Datagrams are received, as moves: a receive begins by the next name of the line, and is polled, by a turn too.
+use Rattle.wasi_walks.proofs.UdpLists.{udp_set_there}
 use Rattle.std.specs.Prelude.{◌≡◌, ⊤, ℕ, zero, suc, ◌+◌, ◌-◌, min, Bool, List, [], ◌∷◌, ◌++◌, length, Option, Some, None, Result, Ok, Err}
 use Rattle.wasi_walks.proofs.Words.{Answer, Asks, ErrorCode, Give, Has, Machine, Operation, Pending, Ready, Step, WasiSocketsCtx}
 use Rattle.wasi_walks.proofs.Words.{ap, bind, handles_of, kind_at, refl, sym, subst, inl, inr, with_store}
@@ -27,6 +28,7 @@ use Rattle.wasi_walks.specs.Licence.{Receives}
 use Rattle.wasi_walks.proofs.walks.Here.{in_gone}
 use Rattle.wasi_walks.proofs.walks.Moves.{ReachesUdp, TakesFrom, StreamGoes, StreamIsTaken, StreamMoves, Here, Names, Used, Unused, put_udp, FoundUdp, UdpPlain, receiving_in, receive_op, came_from, came_in, came_of, part_of, Leaves, Spends, SpendsNames, Counts, Lists, UdpChanges, BeginsReceive}
 use Rattle.wasi_walks.proofs.walks.Law.{Law, Walks, Given, given_along, give, and_then, and_given, move, gives, from}
+use Rattle.wasi_walks.proofs.walks.Jobs.{receives_end}
 use Rattle.wasi_walks.proofs.walks.Sends.{listed_walks}
 use Rattle.wasi_walks.proofs.walks.States.{At, Emptying, OverWith, Put, Sets, Starts, given_any, incoming_kind, incoming_record}
 use Rattle.wasi_walks.proofs.walks.Udp.{open_is, part_bound_walks, udp_there}
@@ -156,7 +158,7 @@ module _ {contexts : List WasiSocketsCtx} {line : ℕ} {origin : Step} {law : La
   receives_at is m place most takes (Some o) e =
       let g : FoundUdp (At line m place Unused) place (Udp2Socket.Open o) = open_is (udp2_at m.store.records place) o e in
       from (udp_put_same (At line m place Unused) place (Udp2Socket.Open o) g)
-      (and_then (datagrams_walks (udp_there {h = At line m place Unused} g) refl is takes o o.incoming most refl refl) (λ done. listed_walks m place (Receive place) (done.0, with_open_udp m.store place done.1) (begins_receive o done.1)))
+      (and_then (datagrams_walks (udp_there {h = At line m place Unused} g) refl is takes o o.incoming most refl refl) (λ done. listed_walks m place (Receive place) (done.0, with_open_udp m.store place done.1) (begins_receive o done.1) (udp_set_there m.store.records place (Udp2Socket.Open o) (Udp2Socket.Open done.1) g)))
 
   -- of the handle that the line names
   receives_on : Receives origin → (m : Machine) (c incoming most : ℕ) → origin ≡ Step.UdpReceive c incoming most → Has (handles_of origin) incoming → (o : Option ℕ) → incoming_at m incoming ≡ o → Walks law (Starts m Unused) OverWith (receive_datagrams_on m (first_ids line) most o)
@@ -188,4 +190,4 @@ module _ {contexts : List WasiSocketsCtx} {line : ℕ} {origin : Step} {law : La
   pub drop_incoming_walks : (m : Machine) (place : ℕ) (o : Option OpenUdp) → open_at m.store.records place ≡ o → Walks law (Emptying line m place (kinds.Incoming place) Unused) OverWith (Give (answered (with_store m (at_once (drop_incoming_at m.store place o)))))
   drop_incoming_walks m place None e = move (Spends _ refl) (gives _ (Leaves _))
   drop_incoming_walks m place (Some o) e =
-      move (UdpChanges _ place o (record o { incoming = None }) (open_is (udp2_at m.store.records place) o e) (idle_in o None refl refl) (record { incoming = StreamGoes o.incoming refl; makes = inl (λ some. in_gone o some) })) (move (Spends _ refl) (move (Leaves _) (gives _ (Lists _ _))))
+      move (UdpChanges _ place o (record o { incoming = None }) (open_is (udp2_at m.store.records place) o e) (idle_in o None refl refl) (record { incoming = StreamGoes o.incoming refl; makes = inl (λ some. in_gone o some) })) (move (Spends _ refl) (move (Leaves _) (gives _ (Lists _ _ (receives_end _ place _)))))

@@ -1,4 +1,8 @@
 -- Datagrams are sent, as moves: each begins by the next name of the line, and is polled; one in the background is polled by a turn.
+use Rattle.wasi_walks.proofs.walks.Jobs.{one_begins, udp_is_record}
+use Rattle.std.specs.Prelude.{slice_get}
+use Rattle.wasi_walks.proofs.walks.Moves.{job_place}
+use Rattle.wasi_walks.proofs.UdpLists.{udp_set_there}
 use Rattle.std.specs.Prelude.{◌≡◌, ⊤, ℕ, suc, ◌+◌, nat_lt, Bool, true, false, List, [], ◌∷◌, length, Option, Some, None, Result, Ok, Err}
 use Rattle.wasi_walks.proofs.Words.{Answer, Asks, ErrorCode, Give, Has, Machine, Operation, Records, Step, Stop, WasiSocketsCtx}
 use Rattle.wasi_walks.proofs.Words.{ap, arith, bind, handles_of, kind_at, refl, sym, subst, inl, inr, with_store}
@@ -163,16 +167,16 @@ module _ {contexts : List WasiSocketsCtx} {line : ℕ} {origin : Step} {law : La
     datagrams_walks o (Some out) ds are e free = some_walks o out ds are e free
 
   -- a job that begins is listed
-  pub listed_walks : {T : Type 0} (m : Machine) (place : ℕ) (job : HostJob) (done : Result T Stop × Records) (begins : Bool) → Walks law (Put line m place done) (Put line m place) (Give (done.0, with_job done.1 job begins))
-  listed_walks m place job done true = gives _ (Lists _ _)
-  listed_walks m place job done false = give _
+  pub listed_walks : {T : Type 0} (m : Machine) (place : ℕ) (job : HostJob) (done : Result T Stop × Records) (begins : Bool) {now : Udp2Socket} → udp2_at done.1.records (job_place job) ≡ Some now → Walks law (Put line m place done) (Put line m place) (Give (done.0, with_job done.1 job begins))
+  listed_walks m place job done true {now} e = gives _ (Lists _ _ (one_begins done.1.records done.1.jobs job (udp_is_record (slice_get done.1.records (job_place job)) now e)))
+  listed_walks m place job done false e = give _
 
   sends_at : (m : Machine) (place : ℕ) (ds : List OutgoingDatagram) → AreSent 1 origin ds → (o : Option OpenUdp) → open_at m.store.records place ≡ o → Walks law (At line m place Unused) (Put line m place) (send_datagrams_at m.store (first_ids line) place ds o)
   sends_at m place ds are None e = gives _ (Spends _ refl)
   sends_at m place ds are (Some o) e =
       let g : FoundUdp (At line m place Unused) place (Udp2Socket.Open o) = open_is (udp2_at m.store.records place) o e in
       from (udp_put_same (At line m place Unused) place (Udp2Socket.Open o) g)
-      (and_then (datagrams_walks (udp_there {h = At line m place Unused} g) refl o o.outgoing ds are refl refl) (λ done. listed_walks m place (Datagram place) (done.0, with_open_udp m.store place done.1) (begins_send o done.1)))
+      (and_then (datagrams_walks (udp_there {h = At line m place Unused} g) refl o o.outgoing ds are refl refl) (λ done. listed_walks m place (Datagram place) (done.0, with_open_udp m.store place done.1) (begins_send o done.1) (udp_set_there m.store.records place (Udp2Socket.Open o) (Udp2Socket.Open done.1) g)))
 
   pub send_walks : (m : Machine) (c outgoing : ℕ) (ds : List OutgoingDatagram) → origin ≡ Step.UdpSend c outgoing ds → Has (handles_of origin) outgoing → Walks law (Starts m Unused) OverWith (send_datagrams_on m (first_ids line) ds (outgoing_at m outgoing))
   send_walks m c outgoing ds is named = on_udp m outgoing (outgoing_at m outgoing) named (outgoing_record (kind_at m.table outgoing)) (λ place. sends_at m place ds (subst (λ (s : Step). AreSent 1 s ds) (sym is) (all_sent_by c outgoing ds)) (open_at m.store.records place) refl)

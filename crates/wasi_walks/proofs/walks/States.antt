@@ -3,10 +3,10 @@ use Rattle.wasi_walks.proofs.Words.{Answer, Ask, AskWrite, Asks, Bool, Err, Erro
 use Rattle.wasi_walks.proofs.Words.{OpId, Option, Output, Pending, Pollable, Ready, Records, Result, Socket, Some, Standing, Stop}
 use Rattle.wasi_walks.proofs.Words.{Streams, Tcp2, Tcp2Socket, Trap, Watched, accept_answered, accept_at, accept_record_asks, accepted_record, ap}
 use Rattle.wasi_walks.proofs.Words.{ask_made, bind, call_of, eqb-true, false, if◌then◌else◌, input_of, is_full, kept_accepted, kind_at, make_asks}
-use Rattle.wasi_walks.proofs.Words.{name_of, output_of, place_of, refl, sym, table_parent, true}
+use Rattle.wasi_walks.proofs.Words.{length, name_of, output_of, place_of, refl, subst, sym, table_parent, true}
 use Rattle.wasi_walks.proofs.Words.{watch_of, watched_by, with_handle, with_records, ℕ, ⊤, ◌==◌, ◌∙◌, ◌≡◌}
 use Rattle.wasi_world.specs.declared.ids.Ids.{Ids}
-use Rattle.wasi_walks.proofs.walks.Moves.{Own, Used, Here, put, Found, record_of, udp_record_of, tcp_place, udp_place, Made, Awaited, Emptied, Past, Unmade, Joined}
+use Rattle.wasi_walks.proofs.walks.Moves.{Own, Used, Here, put, Found, NoStartStands, record_of, udp_record_of, tcp_place, udp_place, Made, Awaited, Emptied, Numbered, Past, Unmade, Joined}
 use Rattle.wasi_host.specs.declared.kind.Kind.TheVariants.{Udp2, PlainInput, PlainOutput, Incoming, Outgoing, Lookup}
 use Rattle.wasi_host.specs.Kinds.{udp_of, incoming_of, outgoing_of}
 use Rattle.wasi_walks.proofs.Lists.{value_front, tcp2_seam}
@@ -39,6 +39,10 @@ Emptying n m place kind own = record (At n m place own) { made = Emptied kind }
 abbrev pub Awaiting : Machine → ℕ → Here
 Awaiting m place = record (Over m) { made = Awaited place }
 
+-- a lookup or a pipe is made, whose record has the next number
+abbrev pub Numbering : Machine → Here
+Numbering m = record (Over m) { made = Numbered (length m.store.records) m.table.next }
+
 pub socket_record : (k : Option Kind) (place : ℕ) → place_of k ≡ Some place → record_of k ≡ Some place
 socket_record (Some (Tcp2 n)) place e = e
 socket_record _ place e = absurd (cc)
@@ -66,6 +70,10 @@ stands_so (Some t) n s e = by_line (t.ids.line == n) refl e
     by_line : (same : Bool) → (t.ids.line == n) ≡ same → (if same then Some t else None) ≡ Some s → (Some t ≡ Some s) × (s.ids.line ≡ n)
     by_line true l q = let its : t ≡ s = cc in (q, sym (ap (λ (x : Standing). x.ids.line) its) ∙ eqb-true t.ids.line n l)
     by_line false l q = absurd (cc)
+
+-- where nothing is pending, no start is
+pub none_stands : {o : Option Standing} → o ≡ None → NoStartStands o
+none_stands e = subst NoStartStands (sym e) tt
 
 pub streams_are : (h : Here) (place : ℕ) (r : Tcp2Socket) (s : Streams) → r.streams ≡ Some s → put h place (record r { streams = Some s }) ≡ put h place r
 streams_are h place r s e = ap (λ (o : Option Streams). put h place (record r { streams = o })) (sym e)

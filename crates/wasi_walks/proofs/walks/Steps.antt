@@ -19,7 +19,7 @@ use Rattle.wasi_walks.proofs.walks.Moves.{ToConnect, CallsHandles, Here, IsStrea
 use Rattle.wasi_walks.proofs.walks.Law.{BeginsWrites, Law, Walks, give, and_then, and_given, by_if, move, gives, mark, create, put_same, from}
 use Rattle.wasi_walks.proofs.walks.Sockets.{WaitsSo, get_walks, listen_given, poll_bind_walks, poll_listen_walks, polled_given}
 use Rattle.wasi_walks.proofs.walks.Streams.{subscribe_walks, drop_walks, turn_walks, drop_output_walks}
-use Rattle.wasi_walks.proofs.walks.States.{At, Over, OverWith, udp_record, Put, Starts, socket_record, stands_so, there}
+use Rattle.wasi_walks.proofs.walks.States.{At, Over, OverWith, udp_record, Put, Starts, socket_record, stands_so, there, none_stands}
 use Rattle.wasi_walks.proofs.walks.SocketSteps.{finish_started_walks, local_at_walks, shutdown_at_walks, start_connect_walks, start_bind_walks, looked_walks, set_chosen_walks, remote_at_walks, on_socket, finish_on_walks, as_left, answered_walks}
 use Rattle.wasi_walks.proofs.walks.ListenSteps.{accept_on_walks, start_listen_at_walks}
 use Rattle.wasi_host.specs.Records.{tcp2_at, open_at}
@@ -128,8 +128,8 @@ module _ {contexts : List WasiSocketsCtx} {line : ℕ} {origin : Step} {law : La
     streams_go_on : (place handle : ℕ) → Walks law (Streaming ids.line m place handle (ToConnect place)) OverWith (go_on m ids (StandingCall.UdpConnect place handle))
     streams_go_on place handle = and_then (streams_again ids m place handle quiet) streamed_walks
 
-    create_goes_on : (place : ℕ) → Walks law (Over m) OverWith (go_on m ids (StandingCall.UdpCreate place))
-    create_goes_on place = and_then (create_on_walks ids m quiet place) created_on_walks
+    create_goes_on : m.store.standing ≡ None → (place : ℕ) → Walks law (Over m) OverWith (go_on m ids (StandingCall.UdpCreate place))
+    create_goes_on idle place = and_then (create_on_walks ids m idle place) created_on_walks
 
   resumed_walks : (done : Result (Answer Outcome) Stop × Machine) → Walks law (Over done.1) OverWith (Give (resumed done))
   resumed_walks (Ok answer, m) = give _
@@ -137,7 +137,7 @@ module _ {contexts : List WasiSocketsCtx} {line : ℕ} {origin : Step} {law : La
 
   -- the call is taken out, and continues
   taken_walks : (m : Machine) (ids : Ids) (call : StandingCall) → MayContinue law call → m.store.standing ≡ Some (standing_as ids call) → Walks law (Starts m Unused) OverWith (go_on (record m { store = unstood m.store }) ids call)
-  taken_walks m ids (StandingCall.UdpCreate place) lets e = move (Unstands _ (takes_none m.store.standing ids (StandingCall.UdpCreate place) Unused e tt)) (move (Spends _ refl) (create_goes_on ids (record m { store = unstood m.store }) tt place))
+  taken_walks m ids (StandingCall.UdpCreate place) lets e = move (Unstands _ (takes_none m.store.standing ids (StandingCall.UdpCreate place) Unused e tt)) (move (Spends _ refl) (create_goes_on ids (record m { store = unstood m.store }) tt refl place))
   taken_walks m ids (StandingCall.Blocking call) lets e = move (RecallsCall _ ids call e) (move (Unstands _ (takes_none m.store.standing ids (StandingCall.Blocking call) Unused e tt)) (move (Spends _ refl) (unblock_walks ids (record m { store = unstood m.store }) call lets)))
   taken_walks m ids (StandingCall.UdpConnect place handle) lets e = move (Resumes _ (standing_as ids (StandingCall.UdpConnect place handle)) e tt) (move (RecallsStreams _ ids place handle e refl) (move (Unstands _ (λ p k. ap (λ (x : ℕ). ToConnect x) (subst (λ (o : Option Standing). ConnectStands o p) e k))) (streams_go_on ids (record m { store = unstood m.store }) tt place handle)))
   taken_walks m ids (StandingCall.DropOutgoing place) lets e = move (Resumes _ (standing_as ids (StandingCall.DropOutgoing place)) e tt) (move (Unstands _ (takes_none m.store.standing ids (StandingCall.DropOutgoing place) Unused e tt)) (move (Spends _ refl) (go_on_walks ids (record m { store = unstood m.store }) tt (StandingCall.DropOutgoing place) tt)))
@@ -176,9 +176,6 @@ listen_settles : (doing : InProgress) → is_listen doing ≡ true → IsSettled
 listen_settles (InProgress.Binding op) e = absurd (cc)
 listen_settles _ e = tt
 
-none_stands : {o : Option Standing} → o ≡ None → NoStartStands o
-none_stands e = subst NoStartStands (sym e) tt
-
 -- each step is made of moves; where a guest calls, nothing is pending
 pub step_walks : {contexts : List WasiSocketsCtx} (line : ℕ) (s : Step) {law : Law contexts line s} → (m : Machine) → BeginsWrites law ⊎ IsSimpleAt m.store.standing s → (is_guest_call s ≡ true → m.store.standing ≡ None) → Walks law (Starts m (may m s)) OverWith (step_asks contexts m line s)
 step_walks line (Step.Network c) m b f = move (Spends _ refl) (and_then (and_then (mark (ANetwork c refl)) (λ made. give _)) (λ done. give _))
@@ -197,7 +194,7 @@ step_walks line (Step.TcpAddressFamily c s) m b f = gives _ (Spends _ refl)
 step_walks line (Step.TcpGet c s option) m b f = and_then (on_socket m s (socket_at m s) (inl refl) (socket_record (kind_at m.table s)) (λ place. looked_walks m place (λ x. get_option_asks (own_of line) x option) (tcp2_at m.store.records place) refl (λ r here. get_walks here refl r option refl refl))) (λ done. give _)
 step_walks line (Step.TcpSet c s setting) m b f = and_then (set_chosen_walks m s (socket_at m s) (chosen setting) (inl refl) (socket_record (kind_at m.table s)) (option_set c s setting) (backlog_set c s setting)) (λ done. give _)
 step_walks line (Step.TcpShutdown c s how) m b f = and_then (on_socket m s (socket_at m s) (inl refl) (socket_record (kind_at m.table s)) (λ place. shutdown_at_walks m place how (tcp2_at m.store.records place) refl)) (λ done. give _)
-step_walks {contexts} line (Step.UdpCreate c family) m b f = and_then (create_udp_walks m (context_at contexts c) family (refl, refl) (none_stands (f refl))) (λ done. give _)
+step_walks {contexts} line (Step.UdpCreate c family) m b f = and_then (create_udp_walks m (context_at contexts c) family (refl, refl) (f refl)) (λ done. give _)
 step_walks line (Step.UdpStartBind c s n a) m b f = and_then (start_udp_bind_walks m s n a (inl refl) refl (none_stands (f refl))) (λ done. give _)
 step_walks line (Step.UdpFinishBind c s) m b f = as_left (finish_udp_bind_walks m (udp_socket_at m s))
 step_walks line (Step.UdpLocalAddress c s) m b f = and_then (on_udp m s (udp_socket_at m s) (inl refl) (udp_record (kind_at m.table s)) (λ place. udp_local_at_walks m place (open_at m.store.records place) refl)) (λ done. give _)
@@ -220,13 +217,13 @@ step_walks line (Step.Subscribe c s) m b f = and_then (subscribe_walks c s m (wa
 step_walks line (Step.Ready c p) m b f = ready_asks_walks m (none_stands (f refl)) p (inl refl) tt tt _
 step_walks line (Step.Block c p) {law = law} m b f = and_then (looks_begin tt (none_stands (f refl)) (block_walks law line (p ∷ []) First (refl, (λ q k. k), tt) p refl m 1)) (λ done. give _)
 step_walks line (Step.PollList c ps) m b f = and_then (looks_begin tt (none_stands (f refl)) (poll_asks_walks tt m ps (sym (append-nil ps)))) (λ done. give _)
-step_walks line (Step.Drop c this) m b f = and_then (drop_walks m this (kind_at m.table this) (inl refl) refl (none_stands (f refl))) (λ done. give _)
+step_walks line (Step.Drop c this) m b f = and_then (drop_walks m this (kind_at m.table this) (inl refl) refl (f refl)) (λ done. give _)
 step_walks line (Step.PipeIn c bytes) m b f = and_then (input_pipe_walks m bytes tt) (λ done. give _)
 step_walks line (Step.PipeOut c capacity) m b f = and_then (output_pipe_walks m capacity tt) (λ done. give _)
 step_walks line (Step.PipeContents c output) m b f = gives _ (Spends _ refl)
-step_walks line (Step.Sink c) m b f = and_then (plain_walks m (PlainOutput plain_output.Sink) tt) (λ done. give _)
-step_walks line (Step.ClosedIn c) m b f = and_then (plain_walks m (PlainInput plain_input.Closed) tt) (λ done. give _)
-step_walks line (Step.ClosedOut c) m b f = and_then (plain_walks m (PlainOutput plain_output.Closed) tt) (λ done. give _)
+step_walks line (Step.Sink c) m b f = and_then (plain_walks m (PlainOutput plain_output.Sink) tt tt) (λ done. give _)
+step_walks line (Step.ClosedIn c) m b f = and_then (plain_walks m (PlainInput plain_input.Closed) tt tt) (λ done. give _)
+step_walks line (Step.ClosedOut c) m b f = and_then (plain_walks m (PlainOutput plain_output.Closed) tt tt) (λ done. give _)
 step_walks line (Step.Skip c input len) m b f = and_then (begun_calls tt (none_stands (f refl)) (calls_over (skip_asks_walks m input (inl refl) len))) (λ done. give _)
 step_walks line (Step.WriteZeroes c output len) m b f = and_then (calls tt (none_stands (f refl)) (calls_over (write_asks_walks m output (inl refl) (zeros len) (AsLet refl)))) (λ done. give _)
 step_walks line (Step.Splice c output input len) m (inl begins) f = and_then (begun_calls tt (none_stands (f refl)) (splice_walks begins output input (inl refl) (inr (inl refl)) m len)) (λ done. give _)

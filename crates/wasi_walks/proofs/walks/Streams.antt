@@ -1,6 +1,6 @@
 -- The calls on the streams of a connection, as moves of the record that holds them; and the steps on streams and pollables, drops
 -- and turns.
-use Rattle.wasi_walks.proofs.walks.Moves.{Empties, Releases}
+use Rattle.wasi_walks.proofs.walks.Moves.{Empties, GivesBack, OfTcp, NoStartStands, Releases}
 use Rattle.wasi_walks.proofs.walks.States.{Emptying}
 use Rattle.wasi_walks.proofs.Words.{Answer, Asks, Bool, Done, End, Err, ErrorCode, ErrorValue, Give, Has, HasChildren, Input, Job, Kind}
 use Rattle.wasi_walks.proofs.Words.{List, Machine, Network, None, Not, NotPermitted, Ok, OpId, Option, Output, Pending, Pollable}
@@ -24,12 +24,13 @@ use Rattle.wasi_host.specs.declared.jobs.HostJob.TheVariants.{Write, Datagram}
 use Rattle.wasi_host.specs.declared.jobs.HostJob.TheVariants as jobs
 use Rattle.wasi_host.specs.Shutdowns.{with_streams}
 use Rattle.wasi_walks.proofs.walks.Writes.{may_begin, MayWrite, AsLet, AsNone, AsAny}
-use Rattle.wasi_walks.proofs.walks.Moves.{Own, Used, Unused, ToWrite, Here, put, OfReader, OfWriter, Collects, Permits, Lasts, LastsAfter, Closes, Spends, ClosesReader, Writes, BeginsWrite, NoStartStands, record_of, APlainPollable, Reaches, Leaves, IsGone, Lists, Takes, Stands, APollable, AUdpPollable, ALookupPollable, ReachesUdp, udp_record_of}
+use Rattle.wasi_walks.proofs.walks.Moves.{Own, Used, Unused, ToWrite, Here, put, OfReader, OfWriter, Collects, Permits, Lasts, LastsAfter, Closes, Spends, ClosesReader, Writes, BeginsWrite, record_of, APlainPollable, Reaches, Leaves, IsGone, Lists, Takes, Stands, APollable, AUdpPollable, ALookupPollable, ReachesUdp, udp_record_of}
 use Rattle.wasi_walks.proofs.walks.Law.{Law, HasRecord, spent, put_put, Walks, give, and_then, by_if, move, gives, from, found, on, ask, turn, put_same, ends, close, mark, give_up, and_so}
 use Rattle.wasi_tcp.specs.Closing.{close_in}
 use Rattle.wasi_host.specs.Readiness.{ready_reader, ready_writer}
 use Rattle.wasi_host.specs.Jobs.{turned, turn_at, turn_job, turn_jobs}
-use Rattle.wasi_walks.proofs.walks.States.{watched_record, OverWith, At, Starts, streams_are, Put, there, Sets, watched_udp, watched_lookup}
+use Rattle.wasi_walks.proofs.walks.States.{watched_record, OverWith, At, Starts, streams_are, none_stands, Put, there, Sets, watched_udp, watched_lookup}
+use Rattle.wasi_walks.proofs.walks.Jobs.{some_end}
 use Rattle.wasi_walks.proofs.walks.Pipes.{drop_input_walks, drop_output_walks as drop_plain_output_walks}
 use Rattle.wasi_walks.proofs.walks.Udp.{release_udp_walks}
 use Rattle.wasi_walks.proofs.walks.Lookups.{drop_lookup_walks, turn_lookup_walks}
@@ -200,9 +201,9 @@ module _ {contexts : List WasiSocketsCtx} {line : ℕ} {origin : Step} {law : La
     release_walks : (r : Tcp2Socket) → Walks law (put h place r) (λ done. put h place done.1) (release_asks (own_of line) r)
     release_walks r = let now = with_listening r Not in and_then (give_up here r goes.0) (λ done. and_then (given_up_walks now r.streams refl) (λ done. and_then (closes_walks now (side_of r.inner) refl) (λ done. give _)))
 
-  release_at_walks : (m : Machine) (place : ℕ) (o : Option Tcp2Socket) → tcp2_at m.store.records place ≡ o → NoStartStands m.store.standing → Walks law (Emptying line m place (Tcp2 place) Unused) (λ done. Emptying line (record m { store = done.1 }) place (Tcp2 place) Used) (release_at m.store (own_of line) place o)
+  release_at_walks : (m : Machine) (place : ℕ) (o : Option Tcp2Socket) → tcp2_at m.store.records place ≡ o → m.store.standing ≡ None → Walks law (Emptying line m place (Tcp2 place) Unused) (λ done. Emptying line (record m { store = done.1 }) place (Tcp2 place) Used) (release_at m.store (own_of line) place o)
   release_at_walks m place None g q = gives _ (Spends _ refl)
-  release_at_walks m place (Some r) g q = from (put_same (Emptying line m place (Tcp2 place) Unused) place r g) (and_then (release_walks (there g) refl (q, refl) r) (λ done. move (Spends _ refl) (gives _ (Lists _ _))))
+  release_at_walks m place (Some r) g q = from (put_same (Emptying line m place (Tcp2 place) Unused) place r g) (and_then (release_walks (there g) refl (none_stands q, refl) r) (λ done. move (Spends _ refl) (gives _ (GivesBack _ place q (OfTcp done.1 refl (found (there {h = Emptying line m place (Tcp2 place) Used} g) done.1))))))
 
   -- a drop that waits: one look by the line that dropped it
   module _ (ids : Ids) (place : ℕ) where
@@ -220,7 +221,7 @@ module _ {contexts : List WasiSocketsCtx} {line : ℕ} {origin : Step} {law : La
     drop_output_walks m q (Some r) g =
         from (put_same (At ids.line m place Used) place r g) (and_so (wait_put m.store place) (λ done. Give (drop_waits ids place done)) (wait_walks m r (there g) r.streams refl) (stands_or m q r (there g)))
 
-  dropped_walks : (m : Machine) (this : ℕ) (kind : Kind) (b : Bool) → Has (handles_of origin) this → kind_at m.table this ≡ Some kind → has_no_child m.table this ≡ b → NoStartStands m.store.standing
+  dropped_walks : (m : Machine) (this : ℕ) (kind : Kind) (b : Bool) → Has (handles_of origin) this → kind_at m.table this ≡ Some kind → has_no_child m.table this ≡ b → m.store.standing ≡ None
       → Walks law (Starts m Unused) OverWith (drop_taken m (first_ids line) (if b then (Ok kind, without_handle m.table this) else (Err (Trap HasChildren), m.table)))
   dropped_walks m this kind false named e free q = gives _ (Spends _ refl)
   dropped_walks m this (Tcp2 place) true named e free q =
@@ -234,21 +235,21 @@ module _ {contexts : List WasiSocketsCtx} {line : ℕ} {origin : Step} {law : La
       move (ReachesUdp _ this place named (ap udp_record_of e)) (move (Empties _ this (Incoming place) e free) (drop_incoming_walks now place (open_at m.store.records place) refl))
   dropped_walks m this (Outgoing place) true named e free q =
       let now : Machine = record m { table = without_handle m.table this } in
-      move (ReachesUdp _ this place named (ap udp_record_of e)) (move (Takes _ this free) (move (Spends _ refl) (drop_outgoing_walks (first_ids line) now place q (λ done. answered (with_store now done)) (λ done. refl))))
+      move (ReachesUdp _ this place named (ap udp_record_of e)) (move (Takes _ this free) (move (Spends _ refl) (drop_outgoing_walks (first_ids line) now place (none_stands q) (λ done. answered (with_store now done)) (λ done. refl))))
   dropped_walks m this (Lookup place) true named e free q =
       let now : Machine = record m { table = without_handle m.table this } in
-      move (Takes _ this free) (drop_lookup_walks now place (lookup_at m.store.records place) refl)
-  dropped_walks m this (PlainInput plain) true named e free q = move (Takes _ this free) (move (Spends _ refl) (drop_input_walks (Ok (Ready tt)) plain))
-  dropped_walks m this (PlainOutput plain) true named e free q = move (Takes _ this free) (move (Spends _ refl) (drop_plain_output_walks (Ok (Ready tt)) plain))
+      move (Empties _ this (Lookup place) e free) (drop_lookup_walks now place (lookup_at m.store.records place) refl q)
+  dropped_walks m this (PlainInput plain) true named e free q = move (Empties _ this (PlainInput plain) e free) (move (Spends _ refl) (drop_input_walks (Ok (Ready tt)) plain refl q))
+  dropped_walks m this (PlainOutput plain) true named e free q = move (Empties _ this (PlainOutput plain) e free) (move (Spends _ refl) (drop_plain_output_walks (Ok (Ready tt)) plain refl q))
   dropped_walks m this Network true named e free q = move (Takes _ this free) (gives _ (Spends _ refl))
   dropped_walks m this (Input place) true named e free q = move (Takes _ this free) (gives _ (Spends _ refl))
   dropped_walks m this (Output place) true named e free q =
       let now : Machine = record m { table = without_handle m.table this } in
-      move (Reaches _ this place named (ap record_of e)) (move (Takes _ this free) (move (Spends _ refl) (and_then (drop_output_walks (first_ids line) place now q (tcp2_at m.store.records place) refl) (λ done. gives _ (Leaves _)))))
+      move (Reaches _ this place named (ap record_of e)) (move (Takes _ this free) (move (Spends _ refl) (and_then (drop_output_walks (first_ids line) place now (none_stands q) (tcp2_at m.store.records place) refl) (λ done. gives _ (Leaves _)))))
   dropped_walks m this (Pollable w) true named e free q = move (Takes _ this free) (gives _ (Spends _ refl))
   dropped_walks m this ErrorValue true named e free q = move (Takes _ this free) (gives _ (Spends _ refl))
 
-  pub drop_walks : (m : Machine) (this : ℕ) (k : Option Kind) → Has (handles_of origin) this → kind_at m.table this ≡ k → NoStartStands m.store.standing → Walks law (Starts m Unused) OverWith (drop_taken m (first_ids line) (taken_out m.table this k))
+  pub drop_walks : (m : Machine) (this : ℕ) (k : Option Kind) → Has (handles_of origin) this → kind_at m.table this ≡ k → m.store.standing ≡ None → Walks law (Starts m Unused) OverWith (drop_taken m (first_ids line) (taken_out m.table this k))
   drop_walks m this None named e q = gives _ (Spends _ refl)
   drop_walks m this (Some kind) named e q = dropped_walks m this kind (has_no_child m.table this) named e refl q
 
@@ -272,7 +273,7 @@ module _ {contexts : List WasiSocketsCtx} {line : ℕ} {origin : Step} {law : La
   turn_jobs_walks m (job ∷ jobs) records = and_then (turn_job_walks m records job) (turn_jobs_walks m jobs)
 
   pub turn_walks : (m : Machine) → Walks law (Starts m Unused) OverWith (turn_machine_asks m)
-  turn_walks m = move (Spends _ refl) (and_then (and_then (turn_jobs_walks m m.store.jobs m.store.records) (λ records. gives _ (Lists _ _))) (λ done. give _))
+  turn_walks m = move (Spends _ refl) (and_then (and_then (turn_jobs_walks m m.store.jobs m.store.records) (λ records. gives _ (Lists _ _ (some_end _ records _)))) (λ done. give _))
 
   -- == pollables
   pub subscribe_walks : (c s : ℕ) (m : Machine) (o : Option Watched) → watched_by (kind_at m.table s) ≡ o → origin ≡ Step.Subscribe c s → Walks law (Starts m Unused) OverWith (subscribe_on m (own_of line) s o)

@@ -16,7 +16,7 @@ use Rattle.wasi_host.specs.declared.udp.UdpInProgress.{UdpInProgress}
 use Rattle.wasi_host.specs.Datagrams.{has_streams}
 use Rattle.wasi_host.specs.Machine.{udp_socket_at}
 use Rattle.wasi_host.specs.Udp.{begin_udp_bind_asks, close_udp_asks, is_udp_bound, is_udp_idle, poll_create_asks, poll_udp_bind_asks, poll_udp_binding, udp_bind_begun, udp_bind_ended, udp_create_ended, udp_create_left, udp_local_asks, with_udp_inner, with_udp_progress}
-use Rattle.wasi_host.specs.UdpCalls.{finish_udp_bind_at, finish_udp_bind_by, get_udp_option_at, rebind_udp_at, release_udp_at, set_udp_option_at, start_udp_bind_at, start_udp_bind_by, start_udp_bind_unless, udp_call_answered, udp_local_at, udp_put_back}
+use Rattle.wasi_host.specs.UdpCalls.{finish_udp_bind_at, finish_udp_bind_by, get_udp_option_at, rebind_udp_at, release_udp_at, set_udp_option_at, udp_left, start_udp_bind_at, start_udp_bind_by, start_udp_bind_unless, udp_call_answered, udp_local_at, udp_put_back}
 use Rattle.wasi_host.specs.UdpCreates.{create_answered, create_begun, create_on, create_so, create_udp_asks, handle_made, mark_udp, poll_create_at, with_create}
 use Rattle.wasi_p2.specs.Options.{record_asks}
 use Rattle.wasi_p2.specs.Udp.{finish_udp_bind_on, start_udp_bind_asks}
@@ -27,10 +27,10 @@ use Rattle.wasi_udp.specs.Options.{get_option_asks, set_option_asks}
 use Rattle.wasi_udp.specs.Shape.{Socket}
 use Rattle.wasi_udp.specs.Socket.{after_local, asker_of, ask_bound, bound_asks, local_where}
 use Rattle.wasi_walks.specs.Licence.{IsGetOf, IsSetTo, IsUdpBindTo}
-use Rattle.wasi_walks.proofs.walks.Moves.{StreamStays, AwaitsCreate, Here, put_udp, FoundUdp, IsOpenUdp, NoStart, NoStartStands, ReleasesUdp, CreatesUdp, udp_begun, part_of, udp_record_of, IsUdpSettled, ReachesUdp, Leaves, Spends, UdpChanges, BeginsUdpBind, StandsUdpBind, StandsUdpCreate, Used, Unused}
+use Rattle.wasi_walks.proofs.walks.Moves.{StreamStays, AwaitsCreate, Here, put_udp, FoundUdp, IsOpenUdp, NoStart, NoStartStands, ReleasesUdp, CreatesUdp, udp_begun, part_of, udp_record_of, IsUdpSettled, ReachesUdp, Leaves, Spends, UdpChanges, BeginsUdpBind, StandsUdpBind, StandsUdpCreate, Used, Unused, GivesBack, OfUdp}
 use Rattle.wasi_walks.proofs.UdpLists.{udp_set_there}
 use Rattle.wasi_walks.proofs.walks.Law.{Law, Walks, Given, given_then, given_on, given_along, give, and_then, and_so, and_given, by_if, move, gives, from}
-use Rattle.wasi_walks.proofs.walks.States.{At, Awaiting, Emptying, Over, OverWith, Put, Starts, udp_record}
+use Rattle.wasi_walks.proofs.walks.States.{At, Awaiting, Emptying, Over, OverWith, Put, Starts, none_stands, udp_record}
 use Rattle.wasi_walks.proofs.walks.UdpLaw.{HasUdp, udp_put_put, udp_put_same, udp_found, create_udp, mark_udp_walks, ask_udp, learn_udp, close_udp, poll_create_walks, poll_udp_bind_walks}
 
 -- what is open at a place is the UDP socket there
@@ -136,6 +136,10 @@ module _ (m : Machine) (place : ℕ) where
   poll_at_given : NoStartStands m.store.standing → (u : Option Udp2Socket) → udp2_at m.store.records place ≡ u → Given (CreatesOn place) (poll_create_at m.store place u)
   poll_at_given q None g = tt
   poll_at_given q (Some u) g = given_along WaitsCreate (CreatesOn place) (poll_create_asks u) (λ done. Give (create_answered m.store place done)) (create_given u) (answered_given q u g)
+
+-- with another store
+abbrev with_store_of : Here → Records → Here
+with_store_of h store = record h { machine = record h.machine { store = store } }
 
 module _ {contexts : List WasiSocketsCtx} {line : ℕ} {origin : Step} {law : Law contexts line origin} where
   -- == on the record of a place
@@ -280,9 +284,17 @@ module _ {contexts : List WasiSocketsCtx} {line : ℕ} {origin : Step} {law : La
   close_by here q (Udp2Socket.Creating c) = give _
   close_by here q (Udp2Socket.Closed s) = give _
 
-  pub release_udp_walks : (m : Machine) (place : ℕ) (u : Option Udp2Socket) → udp2_at m.store.records place ≡ u → NoStartStands m.store.standing → Walks law (Emptying line m place (Udp2 place) Unused) (λ done. Emptying line (record m { store = done.1 }) place (Udp2 place) Used) (release_udp_at m.store (own_of line) place u)
+  -- one that is closed is given back
+  left_walks : {A : Type 0} {h : Here} {place : ℕ} {end : A → Here} {asks : Asks A} → HasUdp h place → h.machine.store.standing ≡ None → (u : Udp2Socket) → Walks law (with_store_of h (udp_left h.machine.store place u)) end asks → Walks law (put_udp h place u) end asks
+  left_walks {place = place} here q (Udp2Socket.Closed side) w = move (GivesBack _ place q (OfUdp side (udp_found here (Udp2Socket.Closed side)))) w
+  left_walks here q (Udp2Socket.Creating create) w = w
+  left_walks here q (Udp2Socket.Open o) w = w
+
+  pub release_udp_walks : (m : Machine) (place : ℕ) (u : Option Udp2Socket) → udp2_at m.store.records place ≡ u → m.store.standing ≡ None → Walks law (Emptying line m place (Udp2 place) Unused) (λ done. Emptying line (record m { store = done.1 }) place (Udp2 place) Used) (release_udp_at m.store (own_of line) place u)
   release_udp_walks m place None g q = gives _ (Spends _ refl)
-  release_udp_walks m place (Some u) g q = from (udp_put_same (Emptying line m place (Udp2 place) Unused) place u g) (and_then (close_by (udp_there {h = Emptying line m place (Udp2 place) Unused} g) (q, refl) u) (λ done. gives _ (Spends _ refl)))
+  release_udp_walks m place (Some u) g q =
+      from (udp_put_same (Emptying line m place (Udp2 place) Unused) place u g)
+      (and_then (close_by (udp_there {h = Emptying line m place (Udp2 place) Unused} g) (none_stands q, refl) u) (λ done. move (Spends _ refl) (left_walks (udp_there {h = Emptying line m place (Udp2 place) Used} g) q done.1 (give _))))
 
   -- == a create
   created_by : (m : Machine) (made : Result ℕ Stop × Handles) → Walks law (Over (record m { table = made.1 })) OverWith (Give (handle_made m made))
@@ -306,28 +318,28 @@ module _ {contexts : List WasiSocketsCtx} {line : ℕ} {origin : Step} {law : La
     ended_walks create (Done given, items) = give _
     ended_walks create (Refused c given, items) = gives _ (Leaves _)
 
-    poll_so : (u : Udp2Socket) → FoundUdp (Over m) place u → NoStartStands m.store.standing → Walks law (put_udp (Over m) place u) (Polled m place) (poll_create_asks u)
+    poll_so : (u : Udp2Socket) → FoundUdp (Over m) place u → m.store.standing ≡ None → Walks law (put_udp (Over m) place u) (Polled m place) (poll_create_asks u)
     poll_so (Udp2Socket.Creating create) g q =
         move (AwaitsCreate _ place create (udp_found (udp_there {h = Over m} g) (Udp2Socket.Creating create)))
-        (and_then (poll_create_walks (udp_there {h = Awaiting m place} g) create q) (ended_walks create))
+        (and_then (poll_create_walks (udp_there {h = Awaiting m place} g) create (none_stands q)) (ended_walks create))
     poll_so (Udp2Socket.Open o) g q = give _
     poll_so (Udp2Socket.Closed s) g q = give _
 
-    answered_so : (done : Result (Answer (Unit {0})) ErrorCode × Udp2Socket) → Walks law (Polled m place done) (CreatedSo m place) (Give (create_answered m.store place done))
-    answered_so (Ok (Ready d), u) = give _
-    answered_so (Ok Pending, u) = give _
-    answered_so (Err c, u) = give _
+    answered_so : HasUdp (Over m) place → m.store.standing ≡ None → (done : Result (Answer (Unit {0})) ErrorCode × Udp2Socket) → Walks law (Polled m place done) (CreatedSo m place) (Give (create_answered m.store place done))
+    answered_so here q (Ok (Ready d), u) = give _
+    answered_so here q (Ok Pending, u) = give _
+    answered_so here q (Err c, u) = left_walks here q u (give _)
 
-    poll_at_walks : (u : Option Udp2Socket) → udp2_at m.store.records place ≡ u → NoStartStands m.store.standing → Walks law (Over m) (CreatedSo m place) (poll_create_at m.store place u)
+    poll_at_walks : (u : Option Udp2Socket) → udp2_at m.store.records place ≡ u → m.store.standing ≡ None → Walks law (Over m) (CreatedSo m place) (poll_create_at m.store place u)
     poll_at_walks None g q = give _
-    poll_at_walks (Some u) g q = from (udp_put_same (Over m) place u g) (and_then (poll_so u g q) answered_so)
+    poll_at_walks (Some u) g q = from (udp_put_same (Over m) place u g) (and_then (poll_so u g q) (answered_so (udp_there {h = Over m} g) q))
 
-  pub create_on_walks : (ids : Ids) (m : Machine) → NoStartStands m.store.standing → (place : ℕ) → Walks law (Over m) OverWith (create_on m ids place)
-  create_on_walks ids m q place = and_given (CreatesOn place) (poll_at_given m place q (udp2_at m.store.records place) refl) (poll_at_walks m place (udp2_at m.store.records place) refl q) (create_so_walks ids place m)
+  pub create_on_walks : (ids : Ids) (m : Machine) → m.store.standing ≡ None → (place : ℕ) → Walks law (Over m) OverWith (create_on m ids place)
+  create_on_walks ids m q place = and_given (CreatesOn place) (poll_at_given m place (none_stands q) (udp2_at m.store.records place) refl) (poll_at_walks m place (udp2_at m.store.records place) refl q) (create_so_walks ids place m)
 
-  create_begun_walks : (m : Machine) → NoStartStands m.store.standing → (begun : Result Create ErrorCode) → Walks law (udp_begun (Starts m Unused) begun) OverWith (create_begun m (first_ids line) begun)
+  create_begun_walks : (m : Machine) → m.store.standing ≡ None → (begun : Result Create ErrorCode) → Walks law (udp_begun (Starts m Unused) begun) OverWith (create_begun m (first_ids line) begun)
   create_begun_walks m q (Ok create) = create_on_walks (first_ids line) (with_create m create) q (length m.store.records)
   create_begun_walks m q (Err c) = give _
 
-  pub create_udp_walks : (m : Machine) (ctx : WasiSocketsCtx) (family : SocketAddressFamily) → CreatesUdp contexts ctx family origin → NoStartStands m.store.standing → Walks law (Starts m Unused) OverWith (create_udp_asks m (first_ids line) ctx family)
+  pub create_udp_walks : (m : Machine) (ctx : WasiSocketsCtx) (family : SocketAddressFamily) → CreatesUdp contexts ctx family origin → m.store.standing ≡ None → Walks law (Starts m Unused) OverWith (create_udp_asks m (first_ids line) ctx family)
   create_udp_walks m ctx family c q = and_then (create_udp ctx family c refl refl refl) (create_begun_walks m q)

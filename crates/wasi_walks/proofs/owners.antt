@@ -1,0 +1,4 @@
+-- Each record has one handle at most, what else is of it is under that, and none is of a record that is given back.
+pub mod There
+pub mod Owned
+pub mod Law

@@ -1,0 +1,291 @@
+-- What is live of each record: one handle is of it, and its streams and what watches them are under that.
+use Rattle.wasi_walks.proofs.Words.{Handles, Input, Kind, List, None, Option, Output, Pollable, Some, Tcp2, Watched, ap, arith, inl, inr, kind_at, refl, slice_get, subst, sym, table_parent, true, watched_by, with_handle, without_handle, ℕ, ⊤, ◌∙◌, ◌≡◌, ◌≤◌, ◌⊎◌}
+use Rattle.wasi_table.specs.Table.{Live}
+use Rattle.wasi_host.specs.Kinds.{has_no_child}
+use Rattle.wasi_host.specs.Machine.{first_state}
+use Rattle.wasi_host.specs.declared.kind.Kind.TheVariants.{Incoming, Lookup, Outgoing, PlainInput, PlainOutput, Udp2}
+use Rattle.wasi_host.specs.declared.kind.PlainInput.TheVariants as plain_input
+use Rattle.wasi_host.specs.declared.kind.PlainOutput.TheVariants as plain_output
+use Rattle.wasi_host.specs.declared.records.Record.{Record}
+use Rattle.wasi_walks.specs.Licence.{Has}
+use Rattle.wasi_walks.proofs.Lists.{has_front}
+use Rattle.wasi_walks.proofs.Slots.{SlotOf, has_still, has_without, is_another, new_slot, no_child, one_of, slot_of, value_of}
+use Rattle.wasi_walks.proofs.walks.Moves.{Awaited, Emptied, Joined, Made, Marked, Numbered, record_of, tcp_place, udp_place, udp_record_of}
+use Rattle.wasi_walks.proofs.owners.There.{Stays}
+
+-- == whose a handle is
+-- the record that a handle is of, where no other is
+abbrev pub owner_of : Kind → Option ℕ
+owner_of (Tcp2 place) = Some place
+owner_of (Udp2 place) = Some place
+owner_of (Lookup place) = Some place
+owner_of (PlainInput (plain_input.Pipe place)) = Some place
+owner_of (PlainOutput (plain_output.Pipe place)) = Some place
+owner_of _ = None
+
+-- and that of the socket which a stream is of
+abbrev pub stream_place : Kind → Option ℕ
+stream_place (Input place) = Some place
+stream_place (Output place) = Some place
+stream_place (Incoming place) = Some place
+stream_place (Outgoing place) = Some place
+stream_place _ = None
+
+abbrev pub IsOf : Kind → ℕ → Type 0
+IsOf kind place = (owner_of kind ≡ Some place) ⊎ (stream_place kind ≡ Some place)
+
+-- Of a pollable that watches this: its parent is a live handle of it.
+pub record Above (t : Handles) (parent : Option ℕ) (w : Watched) : Type 0 where
+  pub slot : Live Kind
+  pub live_one : Has t.live slot
+  pub its : parent ≡ Some slot.handle
+  pub watched : watched_by (Some slot.value) ≡ Some w
+
+-- Each record has one handle at most, its streams are under that, and a pollable is under what it watches; the records are there.
+pub record Owned (t : Handles) (records : List Record) : Type 0 where
+  pub one : (a b : Live Kind) (place : ℕ) → Has t.live a → Has t.live b → owner_of a.value ≡ Some place → owner_of b.value ≡ Some place → a.handle ≡ b.handle
+  pub under : (a b : Live Kind) (place : ℕ) → Has t.live a → Has t.live b → stream_place a.value ≡ Some place → owner_of b.value ≡ Some place → a.parent ≡ Some b.handle
+  pub there : (a : Live Kind) (place : ℕ) → Has t.live a → IsOf a.value place → Stays (slice_get records place)
+  pub watches : (a : Live Kind) (w : Watched) → Has t.live a → a.value ≡ Pollable w → Above t a.parent w
+
+-- nothing of the record is live, or but for this handle
+abbrev pub NoneOf : Handles → ℕ → Type 0
+NoneOf t place = (a : Live Kind) → Has t.live a → IsOf a.value place → ⊥
+
+abbrev pub OneOwner : Handles → ℕ → ℕ → Type 0
+OneOwner t handle place = (a : Live Kind) → Has t.live a → owner_of a.value ≡ Some place → a.handle ≡ handle
+
+-- what is made has no handle yet, and what was dropped has none any more
+abbrev pub MadeSo : Handles → Made → Type 0
+MadeSo t (Joined place) = NoneOf t place
+MadeSo t (Marked handle place) = OneOwner t handle place
+MadeSo t (Emptied kind) = (place : ℕ) → owner_of kind ≡ Some place → NoneOf t place
+MadeSo t (Awaited place) = NoneOf t place
+MadeSo t (Numbered place next) = (next ≤ t.next) × (t.next ≡ next → NoneOf t place)
+MadeSo t _ = ⊤
+
+-- nothing is live in the first state
+pub first_owned : {records : List Record} → Owned first_state.table records
+first_owned = record { one = λ a b place l k d e. absurd l; under = λ a b place l k d e. absurd l; there = λ a place l e. absurd l; watches = λ a w l e. absurd l }
+
+-- == records change
+pub owned_still : (t : Handles) (old now : List Record) → ((a : Live Kind) (place : ℕ) → Has t.live a → IsOf a.value place → Stays (slice_get old place) → Stays (slice_get now place)) → Owned t old → Owned t now
+owned_still t old now still i = record { one = i.one; under = i.under; there = λ a place l e. still a place l e (i.there a place l e); watches = i.watches }
+
+-- == a handle is made
+-- What a new handle has to be: the first of its record, a stream under that, or a pollable under what it watches.
+pub record IsNew (t : Handles) (records : List Record) (kind : Kind) (parent : Option ℕ) : Type 0 where
+  pub owner : (place : ℕ) → owner_of kind ≡ Some place → NoneOf t place × Stays (slice_get records place)
+  pub stream : (place : ℕ) → stream_place kind ≡ Some place → ((b : Live Kind) → Has t.live b → owner_of b.value ≡ Some place → parent ≡ Some b.handle) × Stays (slice_get records place)
+  pub watch : (w : Watched) → kind ≡ Pollable w → Above t parent w
+
+-- a kind of handle is of a record as one or the other
+pub one_way : (kind : Kind) (place other : ℕ) → stream_place kind ≡ Some place → owner_of kind ≡ Some other → ⊥
+one_way (Input n) place other s o = absurd (cc)
+one_way (Output n) place other s o = absurd (cc)
+one_way (Incoming n) place other s o = absurd (cc)
+one_way (Outgoing n) place other s o = absurd (cc)
+one_way _ place other s o = absurd (cc)
+
+module _ (t : Handles) (records : List Record) (kind : Kind) (parent : Option ℕ) where
+  abbrev after : Handles
+  after = with_handle t kind parent
+
+  abbrev new : Live Kind
+  new = new_slot t kind parent
+
+  its_owner : (a : Live Kind) (place : ℕ) → new ≡ a → owner_of a.value ≡ Some place → owner_of kind ≡ Some place
+  its_owner a place n e = ap (λ (s : Live Kind). owner_of s.value) n ∙ e
+
+  its_stream : (a : Live Kind) (place : ℕ) → new ≡ a → stream_place a.value ≡ Some place → stream_place kind ≡ Some place
+  its_stream a place n e = ap (λ (s : Live Kind). stream_place s.value) n ∙ e
+
+  module _ (fits : IsNew t records kind (table_parent kind parent)) (i : Owned t records) where
+    one_now : (a b : Live Kind) (place : ℕ) → Has t.live a ⊎ (new ≡ a) → Has t.live b ⊎ (new ≡ b) → owner_of a.value ≡ Some place → owner_of b.value ≡ Some place → a.handle ≡ b.handle
+    one_now a b place (inl l) (inl k) d e = i.one a b place l k d e
+    one_now a b place (inl l) (inr n) d e = absurd ((fits.owner place (its_owner b place n e)).0 a l (inl d))
+    one_now a b place (inr n) (inl k) d e = absurd ((fits.owner place (its_owner a place n d)).0 b k (inl e))
+    one_now a b place (inr n) (inr m) d e = ap (λ (s : Live Kind). s.handle) (sym n ∙ m)
+
+    under_now : (a b : Live Kind) (place : ℕ) → Has t.live a ⊎ (new ≡ a) → Has t.live b ⊎ (new ≡ b) → stream_place a.value ≡ Some place → owner_of b.value ≡ Some place → a.parent ≡ Some b.handle
+    under_now a b place (inl l) (inl k) d e = i.under a b place l k d e
+    under_now a b place (inl l) (inr n) d e = absurd ((fits.owner place (its_owner b place n e)).0 a l (inr d))
+    under_now a b place (inr n) (inl k) d e = ap (λ (s : Live Kind). s.parent) (sym n) ∙ (fits.stream place (its_stream a place n d)).0 b k e
+    under_now a b place (inr n) (inr m) d e = absurd (one_way kind place place (its_stream a place n d) (its_owner b place m e))
+
+    there_now : (a : Live Kind) (place : ℕ) → Has t.live a ⊎ (new ≡ a) → IsOf a.value place → Stays (slice_get records place)
+    there_now a place (inl l) e = i.there a place l e
+    there_now a place (inr n) (inl e) = (fits.owner place (its_owner a place n e)).1
+    there_now a place (inr n) (inr e) = (fits.stream place (its_stream a place n e)).1
+
+    above_still : (a : Option ℕ) (w : Watched) → Above t a w → Above after a w
+    above_still a w k = record { slot = k.slot; live_one = has_front t.live _ k.slot k.live_one; its = k.its; watched = k.watched }
+
+    watches_now : (a : Live Kind) (w : Watched) → Has t.live a ⊎ (new ≡ a) → a.value ≡ Pollable w → Above after a.parent w
+    watches_now a w (inl l) e = above_still a.parent w (i.watches a w l e)
+    watches_now a w (inr n) e = let k = fits.watch w (value_of t kind parent a (Pollable w) n e) in above_still a.parent w (record { slot = k.slot; live_one = k.live_one; its = ap (λ (s : Live Kind). s.parent) (sym n) ∙ k.its; watched = k.watched })
+
+    pub made_owned : Owned after records
+    made_owned = record {
+      one = λ a b place l k d e. one_now a b place (one_of t kind parent a l) (one_of t kind parent b k) d e;
+      under = λ a b place l k d e. under_now a b place (one_of t kind parent a l) (one_of t kind parent b k) d e;
+      there = λ a place l e. there_now a place (one_of t kind parent a l) e;
+      watches = λ a w l e. watches_now a w (one_of t kind parent a l) e;
+    }
+
+  -- what holds of none, or of one, still does
+  none_still : (place : ℕ) → (IsOf kind place → ⊥) → NoneOf t place → NoneOf after place
+  none_still place other none a l e = elim (one_of t kind parent a l) [ inl old ↦ none a old e | inr n ↦ other (subst (λ (s : Live Kind). IsOf s.value place) (sym n) e) ]
+
+  pub one_still : (handle place : ℕ) → (owner_of kind ≡ Some place → ⊥) → OneOwner t handle place → OneOwner after handle place
+  one_still handle place other one a l e = elim (one_of t kind parent a l) [ inl old ↦ one a old e | inr n ↦ absurd (other (its_owner a place n e)) ]
+
+  pub numbered_still : (place next : ℕ) → MadeSo t (Numbered place next) → MadeSo after (Numbered place next)
+  numbered_still place next k = let small = k.0 in (omega (arith, small), λ e. absurd (omega (arith, small, e)))
+
+  -- whatever the line has made, where the new handle is of no record
+  pub other_still : (made : Made) → ((place : ℕ) → IsOf kind place → ⊥) → MadeSo t made → MadeSo after made
+  other_still (Joined place) other k = none_still place (other place) k
+  other_still (Marked handle place) other k = one_still handle place (λ e. other place (inl e)) k
+  other_still (Emptied gone) other k = λ place e. none_still place (other place) (k place e)
+  other_still (Awaited place) other k = none_still place (other place) k
+  other_still (Numbered place next) other k = numbered_still place next k
+  other_still _ other k = tt
+
+-- == a handle is taken out
+module _ (t : Handles) (records : List Record) (handle : ℕ) (none : has_no_child t handle ≡ true) where
+  pub taken_owned : Owned t records → Owned (without_handle t handle) records
+  taken_owned i = record {
+    one = λ a b place l k d e. i.one a b place (has_without t.live handle a l) (has_without t.live handle b k) d e;
+    under = λ a b place l k d e. i.under a b place (has_without t.live handle a l) (has_without t.live handle b k) d e;
+    there = λ a place l e. i.there a place (has_without t.live handle a l) e;
+    watches = λ a w l e.
+        let was = has_without t.live handle a l in
+        let k = i.watches a w was e in
+        record { slot = k.slot; live_one = has_still t.live handle k.slot k.live_one (λ same. no_child t.live handle a was (k.its ∙ ap (λ (x : ℕ). Some x) same) none); its = k.its; watched = k.watched };
+  }
+
+  pub taken_made : (made : Made) → MadeSo t made → MadeSo (without_handle t handle) made
+  taken_made (Joined place) k = λ a l e. k a (has_without t.live handle a l) e
+  taken_made (Marked n place) k = λ a l e. k a (has_without t.live handle a l) e
+  taken_made (Emptied kind) k = λ place its a l e. k place its a (has_without t.live handle a l) e
+  taken_made (Awaited place) k = λ a l e. k a (has_without t.live handle a l) e
+  taken_made (Numbered place next) k = (k.0, λ same a l e. k.1 same a (has_without t.live handle a l) e)
+  taken_made _ k = tt
+
+  -- it has no child, so where it was the one of its record nothing of that is left
+  pub emptied_made : (kind : Kind) → kind_at t handle ≡ Some kind → Owned t records → MadeSo (without_handle t handle) (Emptied kind)
+  emptied_made kind e i = λ place owns a l is. elim is [ inl owner ↦ no_owner place owns a l owner | inr stream ↦ no_stream place owns a l stream ]
+    where
+      its : SlotOf t.live handle kind
+      its = slot_of t.live handle kind e
+
+      it_owns : (place : ℕ) → owner_of kind ≡ Some place → owner_of its.slot.value ≡ Some place
+      it_owns place owns = ap owner_of its.value ∙ owns
+
+      no_owner : (place : ℕ) → owner_of kind ≡ Some place → (a : Live Kind) → Has (without_handle t handle).live a → owner_of a.value ≡ Some place → ⊥
+      no_owner place owns a l is = is_another t.live handle a l (i.one a its.slot place (has_without t.live handle a l) its.live_one is (it_owns place owns) ∙ its.its)
+
+      no_stream : (place : ℕ) → owner_of kind ≡ Some place → (a : Live Kind) → Has (without_handle t handle).live a → stream_place a.value ≡ Some place → ⊥
+      no_stream place owns a l is =
+          let was = has_without t.live handle a l in
+          no_child t.live handle a was (i.under a its.slot place was its.live_one is (it_owns place owns) ∙ ap (λ (x : ℕ). Some x) its.its) none
+
+-- == of a live handle
+-- a handle of what is watched is a parent
+pub parent_of : (t : Handles) (handle : ℕ) (w : Watched) → watched_by (kind_at t handle) ≡ Some w → Above t (Some handle) w
+parent_of t handle w by = by_kind (kind_at t handle) refl by
+  where
+    by_kind : (o : Option Kind) → kind_at t handle ≡ o → watched_by o ≡ Some w → Above t (Some handle) w
+    by_kind None e is = absurd (cc)
+    by_kind (Some kind) e is = let s = slot_of t.live handle kind e in record { slot = s.slot; live_one = s.live_one; its = ap (λ (x : ℕ). Some x) (sym s.its); watched = ap (λ (k : Kind). watched_by (Some k)) s.value ∙ is }
+
+-- the record that is watched
+abbrev pub watched_place : Watched → Option ℕ
+watched_place (Watched.Socket place) = Some place
+watched_place (Watched.Input place) = Some place
+watched_place (Watched.Output place) = Some place
+watched_place (Watched.Udp place) = Some place
+watched_place (Watched.Incoming place) = Some place
+watched_place (Watched.Outgoing place) = Some place
+watched_place (Watched.Lookup place) = Some place
+watched_place Watched.Plain = None
+
+-- the record that a handle names
+abbrev pub named_by : Kind → Option ℕ
+named_by (Tcp2 place) = Some place
+named_by (Udp2 place) = Some place
+named_by (Lookup place) = Some place
+named_by (PlainInput (plain_input.Pipe place)) = Some place
+named_by (PlainOutput (plain_output.Pipe place)) = Some place
+named_by (Input place) = Some place
+named_by (Output place) = Some place
+named_by (Incoming place) = Some place
+named_by (Outgoing place) = Some place
+named_by (Pollable w) = watched_place w
+named_by _ = None
+
+watched_is_of : (kind : Kind) (w : Watched) (place : ℕ) → watched_by (Some kind) ≡ Some w → watched_place w ≡ Some place → IsOf kind place
+watched_is_of (Tcp2 n) w place e f = let p : Watched.Socket n ≡ w = cc in inl (ap watched_place p ∙ f)
+watched_is_of (Udp2 n) w place e f = let p : Watched.Udp n ≡ w = cc in inl (ap watched_place p ∙ f)
+watched_is_of (Lookup n) w place e f = let p : Watched.Lookup n ≡ w = cc in inl (ap watched_place p ∙ f)
+watched_is_of (Input n) w place e f = let p : Watched.Input n ≡ w = cc in inr (ap watched_place p ∙ f)
+watched_is_of (Output n) w place e f = let p : Watched.Output n ≡ w = cc in inr (ap watched_place p ∙ f)
+watched_is_of (Incoming n) w place e f = let p : Watched.Incoming n ≡ w = cc in inr (ap watched_place p ∙ f)
+watched_is_of (Outgoing n) w place e f = let p : Watched.Outgoing n ≡ w = cc in inr (ap watched_place p ∙ f)
+watched_is_of (PlainInput n) w place e f = absurd (let p : Watched.Plain ≡ w = cc in let none : None ≡ Some place = ap watched_place p ∙ f in cc)
+watched_is_of (PlainOutput n) w place e f = absurd (let p : Watched.Plain ≡ w = cc in let none : None ≡ Some place = ap watched_place p ∙ f in cc)
+watched_is_of _ w place e f = absurd (cc)
+
+module _ (t : Handles) (records : List Record) (i : Owned t records) where
+  -- what names the record is of it, or watches what is
+  pub names_live : (handle place : ℕ) (kind : Kind) → kind_at t handle ≡ Some kind → named_by kind ≡ Some place → (a : Live Kind) × (Has t.live a × IsOf a.value place)
+  names_live handle place kind e named = let s = slot_of t.live handle kind e in by_kind kind s named
+    where
+      by_kind : (k : Kind) → SlotOf t.live handle k → named_by k ≡ Some place → (a : Live Kind) × (Has t.live a × IsOf a.value place)
+      by_kind (Pollable w) s n = let k = i.watches s.slot w s.live_one s.value in (k.slot, (k.live_one, watched_is_of k.slot.value w place k.watched n))
+      by_kind (Tcp2 p) s n = (s.slot, (s.live_one, inl (ap owner_of s.value ∙ n)))
+      by_kind (Udp2 p) s n = (s.slot, (s.live_one, inl (ap owner_of s.value ∙ n)))
+      by_kind (Lookup p) s n = (s.slot, (s.live_one, inl (ap owner_of s.value ∙ n)))
+      by_kind (PlainInput (plain_input.Pipe p)) s n = (s.slot, (s.live_one, inl (ap owner_of s.value ∙ n)))
+      by_kind (PlainOutput (plain_output.Pipe p)) s n = (s.slot, (s.live_one, inl (ap owner_of s.value ∙ n)))
+      by_kind (Input p) s n = (s.slot, (s.live_one, inr (ap stream_place s.value ∙ n)))
+      by_kind (Output p) s n = (s.slot, (s.live_one, inr (ap stream_place s.value ∙ n)))
+      by_kind (Incoming p) s n = (s.slot, (s.live_one, inr (ap stream_place s.value ∙ n)))
+      by_kind (Outgoing p) s n = (s.slot, (s.live_one, inr (ap stream_place s.value ∙ n)))
+      by_kind _ s n = absurd (cc)
+
+  -- so the record of each live handle is there
+  pub named_stays : (handle place : ℕ) (kind : Kind) → kind_at t handle ≡ Some kind → named_by kind ≡ Some place → Stays (slice_get records place)
+  named_stays handle place kind e named = let k = names_live handle place kind e named in i.there k.0 place k.1.0 k.1.1
+
+  -- and where nothing is of it nothing names it
+  pub none_named : (place : ℕ) → NoneOf t place → (handle : ℕ) (kind : Kind) → kind_at t handle ≡ Some kind → named_by kind ≡ Some place → ⊥
+  none_named place none handle kind e named = let k = names_live handle place kind e named in none k.0 k.1.0 k.1.1
+
+-- a handle that is of a socket names its record
+pub tcp_names : (kind : Kind) (place : ℕ) → record_of (Some kind) ≡ Some place → named_by kind ≡ Some place
+tcp_names (Tcp2 n) place e = e
+tcp_names (Input n) place e = e
+tcp_names (Output n) place e = e
+tcp_names (Pollable w) place e = by_watched w e
+  where
+    by_watched : (x : Watched) → tcp_place x ≡ Some place → watched_place x ≡ Some place
+    by_watched (Watched.Socket n) f = f
+    by_watched (Watched.Input n) f = f
+    by_watched (Watched.Output n) f = f
+    by_watched _ f = absurd (cc)
+tcp_names _ place e = absurd (cc)
+
+pub udp_names : (kind : Kind) (place : ℕ) → udp_record_of (Some kind) ≡ Some place → named_by kind ≡ Some place
+udp_names (Udp2 n) place e = e
+udp_names (Incoming n) place e = e
+udp_names (Outgoing n) place e = e
+udp_names (Pollable w) place e = by_watched w e
+  where
+    by_watched : (x : Watched) → udp_place x ≡ Some place → watched_place x ≡ Some place
+    by_watched (Watched.Udp n) f = f
+    by_watched (Watched.Incoming n) f = f
+    by_watched (Watched.Outgoing n) f = f
+    by_watched _ f = absurd (cc)
+udp_names _ place e = absurd (cc)
