@@ -1,5 +1,5 @@
 -- What is released: by a shutdown, by a drop of a handle, and what a drop leaves.
-use Rattle.wasi_causes.proofs.Words.{◌≡◌, Bool, true, false, if◌then◌else◌, List, [], ◌∷◌, ◌++◌, Option, Some, None, refl, sym, ap, ◌∙◌, ⊤, ◌⊎◌, append-nil, append_assoc, ℕ, Result, inl, inr, Ok, Err, subst, ◌≢◌, IsSome, IpSocketAddress, ShutdownType, Receive, Send, Both, give_streams_up, gone, release_asks, released, release_at, Stop, Trap, is_on, other_jobs, kind_at, output_of, has_no_child, without_handle, taken_out, place_of, give_up_asks, socket_at, own_of, with_store, answered, at_once, drop_kind, drop_taken, drop_asks, shut_streams, shut_record, shutdown_at, Records, Kind, Tcp2, Output, Listening, Machine, Streams, Tcp2Socket, shutdown_on, set_there, record_at, putting, record_in, OfRecord, Has, done_reply, answer_reply, Each, no_fields, OutputWaits, WritesOn, ToldToWait, WriterWaits, Field, Reply, in_hand, refuse_in, Job, is_over, held_side, give_up_in, reader_shutdown_asks, Socket, side_of, writer_side, writer_shutdown_asks, side_up_asks, Accepting, ReadState, WriteState, Give, bind, End, Done, Who, Operation, ask_close, Entry, OpId, Answer, Ready, Pending, HasChildren, NoSuchHandle, Full, NotPermitted, WasiSocketsCtx}
+use Rattle.wasi_causes.proofs.Words.{◌≡◌, Bool, true, false, if◌then◌else◌, List, [], ◌∷◌, ◌++◌, Option, Some, None, refl, sym, ap, ◌∙◌, ⊤, ◌⊎◌, append-nil, append_assoc, ℕ, Result, inl, inr, Ok, Err, subst, ◌≢◌, IsSome, IpSocketAddress, ShutdownType, Receive, Send, Both, give_streams_up, gone, release_asks, released, release_at, Stop, Trap, kind_at, output_of, has_no_child, without_handle, taken_out, place_of, give_up_asks, socket_at, own_of, with_store, answered, at_once, drop_kind, drop_taken, drop_asks, shut_streams, shut_record, shutdown_at, Records, Kind, Tcp2, Output, Listening, Machine, Streams, Tcp2Socket, shutdown_on, record_at, putting, record_in, OfRecord, done_reply, answer_reply, Each, no_fields, OutputWaits, WritesOn, ToldToWait, WriterWaits, Field, Reply, in_hand, refuse_in, Job, is_over, held_side, give_up_in, reader_shutdown_asks, Socket, side_of, writer_side, writer_shutdown_asks, side_up_asks, Accepting, ReadState, WriteState, Give, bind, End, Done, Who, Operation, ask_close, Entry, OpId, Answer, Ready, Pending, HasChildren, NoSuchHandle, Full, NotPermitted, WasiSocketsCtx}
 use Rattle.wasi_machine.specs.Machine.{first_ids}
 use Rattle.wasi_host.specs.Records.{tcp2_at, udp2_at, open_at, lookup_at, input_pipe_at, output_pipe_at}
 use Rattle.wasi_host.specs.NameLookupCalls.{drop_lookup_at}
@@ -13,8 +13,11 @@ use Rattle.wasi_host.specs.UdpCalls.{release_udp_at, udp_closed, with_open_udp, 
 use Rattle.wasi_host.specs.declared.kind.Kind.TheVariants.{Udp2, Incoming, Outgoing}
 use Rattle.wasi_host.specs.declared.udp.Udp2Socket.{Udp2Socket}
 use Rattle.wasi_host.specs.declared.udp.Udp2Socket.TheVariants as udp
-use Rattle.wasi_causes.specs.Udp.{udp_given_up, udp_shut}
-use Rattle.wasi_host.specs.declared.jobs.HostJob.{HostJob}
+use Rattle.wasi_causes.specs.Udp.{udp_given_up, udp_left}
+use Rattle.wasi_causes.proofs.GivenBack.{no_job, put_gone}
+use Rattle.wasi_host.specs.UdpCalls as calls
+use Rattle.wasi_host.specs.declared.records.Record.{Record}
+use Rattle.wasi_walks.proofs.UdpLists.{udp_set_same}
 use Rattle.wasi_causes.proofs.streams.Halves.{OutputRow, outputs}
 use Rattle.wasi_causes.proofs.tables.Meets.{Rows, Meets, ends, asks, chain, onto, told_so, widen}
 use Rattle.wasi_causes.proofs.tables.Routes.{Replied, Says, put_back, Names, its, on_record, apart, none_has}
@@ -38,7 +41,7 @@ use Rattle.wasi_world.specs.declared.outcome.TrapKind.TheVariants.{Capacity, Str
 use Rattle.wasi_memory.specs.Plain.{Contents}
 use Rattle.wasi_host.specs.declared.kind.PlainInput.TheVariants as plain_input
 use Rattle.wasi_host.specs.declared.kind.PlainOutput.TheVariants as plain_output
-use Rattle.wasi_host.specs.PlainStreams.{empty_input_at, empty_output_at}
+use Rattle.wasi_host.specs.PlainStreams.{drop_input_pipe_at, drop_output_pipe_at}
 
 abbrev Adds : {A : Type 0} → List Entry → List Entry → Rows A
 Adds es more fs done = fs ≡ es ++ more
@@ -139,16 +142,6 @@ module _ (own : OpId) where
   shuts Send s = sends s []
   shuts Both s = chain {Mid = ShutSo Receive s} (receives s) (then_sends s)
 
--- a job that is over is taken out of the list
-no_job : (place : ℕ) (jobs : List HostJob) (job : HostJob) → Has (other_jobs place jobs) job → is_on place job ≡ true → ⊥
-no_job place [] job h on = h
-no_job place (j ∷ jobs) job h on = by_same (is_on place j) refl (λ k. no_job place jobs job k on) h
-  where
-    by_same : (same : Bool) → is_on place j ≡ same → (Has (other_jobs place jobs) job → ⊥) → Has (if same then other_jobs place jobs else j ∷ other_jobs place jobs) job → ⊥
-    by_same true e rest k = rest k
-    by_same false e rest (inl is) = let k : is_on place j ≡ true = ap (is_on place) is ∙ on in cc
-    by_same false e rest (inr k) = rest k
-
 none_there : (hs : List ℕ) → none_in hs ≡ true → hs ≡ []
 none_there [] e = refl
 none_there (h ∷ hs) e = absurd (cc)
@@ -203,12 +196,10 @@ module _ (contexts : List WasiSocketsCtx) (m : Machine) (line c handle : ℕ) wh
     -- == of a socket
     module _ (place : ℕ) (is : IsKind (Tcp2 place)) where
       left : (r : Tcp2Socket) → tcp2_at m.store.records place ≡ Some r → (es : List Entry) (done : Unit {0} × Tcp2Socket) → Released own r es done.1 → DropRow es (answered (with_store (without m handle) (at_once (tt, released m.store place done.1))))
-      left r at es (done, now) k =
-          let same : now ≡ gone r k.socket = k.is in
-          rw same (
-            (apart (λ e. cc) no_children, rw is tt),
-            (tt, (refl, rw is (λ q there. let its : r ≡ q = cc in (rw (sym its) k.asked, record { found = gone r k.socket; at = set_there m.store.records place r (gone r k.socket) at; side = k.no_side; listening = refl; streams = refl; idle = refl; job = no_job place m.store.jobs })))),
-          )
+      left r at es done k = (
+        (apart (λ e. cc) no_children, rw is tt),
+        (tt, (refl, rw is (λ q there. let its : r ≡ q = cc in (rw (sym its) k.asked, record { left = put_gone (without m handle) place (Record.Tcp2 done.1); job = no_job place m.store.jobs })))),
+      )
 
       by_record : (o : Option Tcp2Socket) → tcp2_at m.store.records place ≡ o → Meets (λ es done. DropRow es (answered (with_store (without m handle) (at_once done)))) [] (release_at m.store own place o)
       by_record None at = ends ((apart (λ e. cc) no_children, rw is tt), (tt, (refl, rw is (λ r there. absurd (cc)))))
@@ -216,11 +207,25 @@ module _ (contexts : List WasiSocketsCtx) (m : Machine) (line c handle : ℕ) wh
 
     -- == of a UDP socket
     module _ (place : ℕ) (is : IsKind (Udp2 place)) where
-      udp_left : (u : Udp2Socket) → udp2_at m.store.records place ≡ Some u → (es : List Entry) (done : Unit {0} × Udp2Socket) → (es ≡ udp_given_up own u) × (done.1 ≡ udp_shut u) → DropRow es (answered (with_store (without m handle) (at_once (udp_closed m.store place done))))
-      udp_left u at es (done, now) k =
-          ((apart (λ e. cc) no_children, rw is tt), (tt, (refl, rw is (λ q there. let its : u ≡ q = cc in (rw (sym its) k.0, ap (λ (x : Udp2Socket). let left : Machine = record (without m handle) { store = with_udp m.store place x } in left) (k.1 ∙ ap udp_shut its))))))
+      -- what it closed is given back
+      abbrev UdpShut : Udp2Socket → Udp2Socket → Type 0
+      UdpShut (udp.Open o) now = now ≡ udp.Closed o.inner.side
+      UdpShut u now = now ≡ u
 
-      udp_closes : (u : Udp2Socket) → Meets (λ es done. (es ≡ udp_given_up own u) × (done.1 ≡ udp_shut u)) [] (close_udp_asks own u)
+      abbrev UdpLeaves : Udp2Socket → Udp2Socket → Type 0
+      UdpLeaves u now = record (without m handle) { store = calls.udp_left m.store place now } ≡ udp_left (without m handle) place u
+
+      udp_gone : (u : Udp2Socket) → udp2_at m.store.records place ≡ Some u → (now : Udp2Socket) → UdpShut u now → UdpLeaves u now
+      udp_gone (udp.Open o) at now e = subst (UdpLeaves (udp.Open o)) (sym e) (put_gone (without m handle) place (Record.Udp2 (udp.Closed o.inner.side)))
+      udp_gone (udp.Closed side) at now e = subst (UdpLeaves (udp.Closed side)) (sym e) (put_gone (without m handle) place (Record.Udp2 (udp.Closed side)))
+      udp_gone (udp.Creating create) at now e =
+          subst (UdpLeaves (udp.Creating create)) (sym e) (ap (λ (rs : List Record). let after : Machine = record (without m handle) { store = record m.store { records = rs } } in after) (udp_set_same m.store.records place (udp.Creating create) at))
+
+      udp_ends : (u : Udp2Socket) → udp2_at m.store.records place ≡ Some u → (es : List Entry) (done : Unit {0} × Udp2Socket) → (es ≡ udp_given_up own u) × UdpShut u done.1 → DropRow es (answered (with_store (without m handle) (at_once (udp_closed m.store place done))))
+      udp_ends u at es done k =
+          ((apart (λ e. cc) no_children, rw is tt), (tt, (refl, rw is (λ q there. let its : u ≡ q = cc in (rw (sym its) k.0, udp_gone u at done.1 k.1 ∙ ap (udp_left (without m handle) place) its)))))
+
+      udp_closes : (u : Udp2Socket) → Meets (λ es done. (es ≡ udp_given_up own u) × UdpShut u done.1) [] (close_udp_asks own u)
       unfolding bind
       udp_closes (udp.Open o) = asks (λ t fits. ends (told_so own [] (call.Close o.inner.side) t fits, refl))
       udp_closes (udp.Creating create) = ends (refl, refl)
@@ -228,7 +233,7 @@ module _ (contexts : List WasiSocketsCtx) (m : Machine) (line c handle : ℕ) wh
 
       udp_by_record : (o : Option Udp2Socket) → udp2_at m.store.records place ≡ o → Meets (λ es done. DropRow es (answered (with_store (without m handle) (at_once done)))) [] (release_udp_at m.store own place o)
       udp_by_record None at = ends ((apart (λ e. cc) no_children, rw is tt), (tt, (refl, rw is (λ u there. absurd (cc)))))
-      udp_by_record (Some u) at = onto _ (widen (udp_left u at) (udp_closes u))
+      udp_by_record (Some u) at = onto _ (widen (udp_ends u at) (udp_closes u))
 
     -- == of an output
     waits_once : (writer : WriteState) (es : List Entry) → WriterWaits own writer es → LooksOnce own es
@@ -276,11 +281,11 @@ module _ (contexts : List WasiSocketsCtx) (m : Machine) (line c handle : ℕ) wh
     lookup_left place is (Some l) at = ((apart (λ e. cc) no_children, asks_none (kind_at m.table handle)), (tt, (refl, rw is (λ q there. record { quiet = refl; left = refl; job = no_job place m.store.jobs }))))
 
     -- == of a pipe
-    input_pipe_left : (place : ℕ) → IsKind (kinds.PlainInput (plain_input.Pipe place)) → (o : Option (List ℕ)) → input_pipe_at m.store.records place ≡ o → DropRow [] (Ok (Ready tt), record (without m handle) { store = empty_input_at m.store place o })
+    input_pipe_left : (place : ℕ) → IsKind (kinds.PlainInput (plain_input.Pipe place)) → (o : Option (List ℕ)) → input_pipe_at m.store.records place ≡ o → DropRow [] (Ok (Ready tt), record (without m handle) { store = drop_input_pipe_at m.store place o })
     input_pipe_left place is None at = ((apart (λ e. cc) no_children, asks_none (kind_at m.table handle)), (tt, (refl, rw is (λ bytes there. absurd (cc)))))
     input_pipe_left place is (Some bytes) at = ((apart (λ e. cc) no_children, asks_none (kind_at m.table handle)), (tt, (refl, rw is (λ its there. refl))))
 
-    output_pipe_left : (place : ℕ) → IsKind (kinds.PlainOutput (plain_output.Pipe place)) → (o : Option Contents) → output_pipe_at m.store.records place ≡ o → DropRow [] (Ok (Ready tt), record (without m handle) { store = empty_output_at m.store place o })
+    output_pipe_left : (place : ℕ) → IsKind (kinds.PlainOutput (plain_output.Pipe place)) → (o : Option Contents) → output_pipe_at m.store.records place ≡ o → DropRow [] (Ok (Ready tt), record (without m handle) { store = drop_output_pipe_at m.store place o })
     output_pipe_left place is None at = ((apart (λ e. cc) no_children, asks_none (kind_at m.table handle)), (tt, (refl, rw is (λ pipe there. absurd (cc)))))
     output_pipe_left place is (Some pipe) at = ((apart (λ e. cc) no_children, asks_none (kind_at m.table handle)), (tt, (refl, rw is (λ its there. refl))))
 
@@ -355,7 +360,7 @@ module _ (contexts : List WasiSocketsCtx) (m : Machine) (line c handle : ℕ) wh
 
   pub record GivesUp (r : Tcp2Socket) (es : List Entry) (after : Machine) : Type 0 where
     pub asked : es ≡ socket_given_up (own_of line) r
-    pub gone : OfRecord m handle (λ place r. IsGone after place)
+    pub gone : OfRecord m handle (λ place r. IsGone m handle place after)
 
   pub gives_up : (r : Tcp2Socket) (es : List Entry) (after : Machine) (o : Option Kind) → kind_at m.table handle ≡ o → record_in m (place_of o) ≡ Some r → Gone m line handle o es after → GivesUp r es after
   gives_up r es after (Some (Tcp2 place)) is at gone = let k = gone r at in record { asked = k.0; gone = record { place = place; found = r; names = ap place_of is; at = at; holds = k.1 } }

@@ -7,7 +7,7 @@ use Rattle.wasi_table.specs.Table.{Live}
 use Rattle.wasi_tcp.specs.declared.listener.Accepting.TheVariants as accepting
 use Rattle.wasi_udp.specs.Create.{Create, after_create as udp_after_create, create_cancel_asks}
 use Rattle.wasi_host.specs.Kinds.{has_no_child}
-use Rattle.wasi_host.specs.Records.{tcp2_at, tcp2_put, tcp2_pushed, udp2_at, udp2_put, udp2_pushed}
+use Rattle.wasi_host.specs.Records.{tcp2_at, tcp2_of, tcp2_put, tcp2_pushed, udp2_at, udp2_put, udp2_pushed}
 use Rattle.wasi_host.specs.Udp.{udp_side}
 use Rattle.wasi_host.specs.UdpCreates.{udp_side_at}
 use Rattle.wasi_host.specs.declared.kind.Kind.TheVariants.{ErrorValue, Incoming, Outgoing, Udp2}
@@ -21,9 +21,12 @@ use Rattle.wasi_walks.proofs.UdpLists.{tcp_in_push, tcp_in_put}
 use Rattle.wasi_walks.proofs.fits.Law.{whatever}
 use Rattle.wasi_walks.proofs.fits.Polls.{Anything}
 use Rattle.wasi_walks.proofs.walks.Law.{BeginsWrites, Law}
-use Rattle.wasi_walks.proofs.walks.Moves.{AStream, AnAcceptedStream, APlain, Awaits, AwaitsCreate, BeginsAccept, BeginsBind, BeginsConnect, BeginsListen, BeginsReceive, BeginsSend, BeginsUdpBind, BeginsUdpConnect, BeginsWrite, BindsOn, CallsHandles, CancelsBind, CancelsUdpBind, CancelsUdpConnect, Changes, ClosesReader, Connects, Empties, Emptied, Finds, Forgets, Found, FoundUdp, Held, Here, IsGone, IsOpened, Joined, Joins, Leaves, Listens, Made, Marked, Own, Marks, Move, Opens, Past, RecallsCall, RecallsStreams, ReceivesOn, Reconnects, RemembersStreams, SameSockets, SendsOn, Takes, UdpBindsOn, UdpChanges, UdpConnectsOn, UdpCreates, Unlistens, Watches, Writes, accepting_now, closed_record, joined, listen_after, made_so, put, put_udp, udp_begun, ToSend, one_stream}
+use Rattle.wasi_walks.proofs.walks.Moves.{GivesBack, IsLeft, Numbers, without_record, AStream, AnAcceptedStream, APlain, Awaits, AwaitsCreate, BeginsAccept, BeginsBind, BeginsConnect, BeginsListen, BeginsReceive, BeginsSend, BeginsUdpBind, BeginsUdpConnect, BeginsWrite, BindsOn, CallsHandles, CancelsBind, CancelsUdpBind, CancelsUdpConnect, Changes, ClosesReader, Connects, Empties, Emptied, Finds, Forgets, Found, FoundUdp, Held, Here, IsGone, IsOpened, Joined, Joins, Leaves, Listens, Made, Marked, Own, Marks, Move, Opens, Past, RecallsCall, RecallsStreams, ReceivesOn, Reconnects, RemembersStreams, SameSockets, SendsOn, Takes, UdpBindsOn, UdpChanges, UdpConnectsOn, UdpCreates, Unlistens, Watches, Writes, accepting_now, closed_record, joined, listen_after, made_so, put, put_udp, udp_begun, ToSend, one_stream}
 use Rattle.wasi_walks.proofs.walks.Steps.{machine_walks}
-use Rattle.wasi_causes.proofs.Slots.{has_without, new_slot, no_child, one_of, slot_of, value_of}
+use Rattle.wasi_causes.proofs.GivenBack.{left_tcp}
+use Rattle.wasi_walks.proofs.GoneLists.{stays_there}
+use Rattle.wasi_host.specs.GivingBack.{record_gone}
+use Rattle.wasi_causes.proofs.Slots.{has_without, is_another, new_slot, no_child, one_of, slot_of, value_of}
 use Rattle.wasi_causes.proofs.Steady.{IsPlain, IsThere, makes_plain}
 
 -- == what is live
@@ -55,11 +58,11 @@ OneSocket t handle place = (a : Live Kind) → Has t.live a → a.value ≡ Tcp2
 abbrev NoStream : Handles → ℕ → Type 0
 NoStream t place = (a : Live Kind) → Has t.live a → StreamOf a.value place → ⊥
 
--- what an accept has made so far is new, and a socket that is dropped has no stream
+-- what an accept has made so far is new, and of a socket that is dropped nothing is live
 abbrev MadeSo : Handles → List Record → Made → Type 0
 MadeSo t records (Joined place) = NoSocket t place × NoStream t place × HasStreams records place
 MadeSo t records (Marked handle place) = OneSocket t handle place × HasStreams records place
-MadeSo t records (Emptied (Tcp2 place)) = NoStream t place
+MadeSo t records (Emptied (Tcp2 place)) = NoSocket t place × NoStream t place
 MadeSo t records _ = ⊤
 
 abbrev Inputs : Here → Type 0
@@ -133,15 +136,44 @@ gone_inputs h place r now g emptied i = (
         let f = found_by (tcp2_at h.machine.store.records k) (i.0.streams a k l e) in
         elim (set_get h.machine.store.records place now k f.0 f.1) [
           | inl same ↦ subst (λ (o : Option Tcp2Socket). IsSome (streams_in o)) (f.1 ∙ sym same) (i.0.streams a k l e)
-          | inr its ↦ absurd (none a l (subst (StreamOf a.value) its.0 e))
+          | inr its ↦ absurd (both.1 a l (subst (StreamOf a.value) its.0 e))
         ];
     sockets = λ a k l e. there_put h.machine.store.records place now k (i.0.sockets a k l e);
   },
-  subst (MadeSo h.machine.table (tcp2_put h.machine.store.records place now)) (sym emptied) none,
+  subst (MadeSo h.machine.table (tcp2_put h.machine.store.records place now)) (sym emptied) both,
 )
   where
-    none : NoStream h.machine.table place
-    none = subst (MadeSo h.machine.table h.machine.store.records) emptied i.1
+    both : NoSocket h.machine.table place × NoStream h.machine.table place
+    both = subst (MadeSo h.machine.table h.machine.store.records) emptied i.1
+
+-- a record is given back: of a TCP socket that was just dropped, and then nothing of it is live
+given_back_inputs : (h : Here) (place : ℕ) → IsLeft h place → Inputs h → Inputs (without_record h place)
+given_back_inputs h place left i = (
+  record {
+    one = i.0.one;
+    under = i.0.under;
+    streams = λ a k l e. still k (i.0.streams a k l e) (λ same made. (none made).1 a l (subst (StreamOf a.value) same e));
+    sockets = λ a k l e. (let there = i.0.sockets a k l e in (there.0, stays_there tcp2_of h.machine.store.records place k there.0 (λ same. (none (left_tcp h place left there.0 (at same there.1))).0 a l (e ∙ ap (λ (x : ℕ). Tcp2 x) same)) there.1));
+  },
+  made h.made refl i.1,
+)
+  where
+    none : h.made ≡ Emptied (Tcp2 place) → NoSocket h.machine.table place × NoStream h.machine.table place
+    none emptied = subst (MadeSo h.machine.table h.machine.store.records) emptied i.1
+
+    at : {k : ℕ} {r : Tcp2Socket} → k ≡ place → tcp2_at h.machine.store.records k ≡ Some r → tcp2_at h.machine.store.records place ≡ Some r
+    at same e = ap (tcp2_at h.machine.store.records) (sym same) ∙ e
+
+    still : (k : ℕ) → HasStreams h.machine.store.records k → (k ≡ place → h.made ≡ Emptied (Tcp2 place) → ⊥) → HasStreams (record_gone h.machine.store.records place) k
+    still k has other =
+        let f = found_by (tcp2_at h.machine.store.records k) has in
+        subst (λ (o : Option Tcp2Socket). IsSome (streams_in o)) (f.1 ∙ sym (stays_there tcp2_of h.machine.store.records place k f.0 (λ same. other same (left_tcp h place left f.0 (at same f.1))) f.1)) has
+
+    made : (so : Made) → h.made ≡ so → MadeSo h.machine.table h.machine.store.records so → MadeSo h.machine.table (record_gone h.machine.store.records place) so
+    made (Joined p) q k = (k.0, k.1, still p k.2 (λ same emptied. absurd (cc)))
+    made (Marked handle p) q k = (k.0, still p k.1 (λ same emptied. absurd (cc)))
+    made (Emptied (Tcp2 p)) q k = k
+    made _ q k = tt
 
 -- == a handle is made
 -- what the new handle has to be: the first of its record's socket, or a stream under that
@@ -236,7 +268,7 @@ module _ (t : Handles) (records : List Record) (kind : Kind) (parent : Option �
   still_made : (made : Made) → IsOther kind → MadeSo t records made → MadeSo after records made
   still_made (Joined place) other k = (no_socket place (λ e. subst IsOther e other) k.0, no_stream place other k.1, k.2)
   still_made (Marked handle place) other k = (one_socket handle place (λ e. subst IsOther e other) k.0, k.1)
-  still_made (Emptied (Tcp2 place)) other k = no_stream place other k
+  still_made (Emptied (Tcp2 place)) other k = (no_socket place (λ e. subst IsOther e other) k.0, no_stream place other k.1)
   still_made _ other k = tt
 
 module _ (es : List Entry) (h : Here) (op : OpId) (kind : Kind) (parent : Option ℕ) (sock : Option OpId) where
@@ -266,15 +298,16 @@ module _ (t : Handles) (records : List Record) (handle : ℕ) where
   taken_made : (made : Made) → MadeSo t records made → MadeSo (without_handle t handle) records made
   taken_made (Joined place) k = (λ a l e. k.0 a (has_without t.live handle a l) e, λ a l e. k.1 a (has_without t.live handle a l) e, k.2)
   taken_made (Marked made place) k = (λ a l e. k.0 a (has_without t.live handle a l) e, k.1)
-  taken_made (Emptied (Tcp2 place)) k = λ a l e. k a (has_without t.live handle a l) e
+  taken_made (Emptied (Tcp2 place)) k = (λ a l e. k.0 a (has_without t.live handle a l) e, λ a l e. k.1 a (has_without t.live handle a l) e)
   taken_made _ k = tt
 
--- what is taken out has no child, so where it is a socket its record has no stream
+-- what is taken out has no child, so where it is a socket nothing of its record is left
 emptied_so : (t : Handles) (records : List Record) (handle : ℕ) (kind : Kind) → kind_at t handle ≡ Some kind → has_no_child t handle ≡ true → InputsThere t records → MadeSo (without_handle t handle) records (Emptied kind)
-emptied_so t records handle (Tcp2 place) e none i = λ a l is.
-    let s = slot_of t.live handle (Tcp2 place) e in
-    let was = has_without t.live handle a l in
-    no_child t.live handle a was (i.under a s.slot place was s.live_one is s.value ∙ ap (λ (x : ℕ). Some x) s.its) none
+emptied_so t records handle (Tcp2 place) e none i =
+    let s = slot_of t.live handle (Tcp2 place) e in (
+      λ a l is. is_another t.live handle a l (i.one a s.slot place (has_without t.live handle a l) s.live_one is s.value ∙ s.its),
+      λ a l is. let was = has_without t.live handle a l in no_child t.live handle a was (i.under a s.slot place was s.live_one is s.value ∙ ap (λ (x : ℕ). Some x) s.its) none,
+    )
 emptied_so t records handle _ e none i = tt
 
 -- == records that join
@@ -319,6 +352,8 @@ module _ (contexts : List WasiSocketsCtx) (line : ℕ) (origin : Step) where
       let none = none_at_end h.machine.table records k in
       (inputs_stay h.machine.table records _ (push_stays records (joined l new peer)) k, (none.0, none.1, subst (λ (o : Option Tcp2Socket). IsSome (streams_in o)) (sym (tcp2_seam records (joined l new peer))) refl))
   moves_inputs _ _ (Leaves h) i = (i.0, tt)
+  moves_inputs _ _ (Numbers h) i = (i.0, tt)
+  moves_inputs _ _ (GivesBack h place idle left) i = given_back_inputs h place left i
   moves_inputs _ _ (Watches h own) i = (i.0, tt)
   moves_inputs _ _ (RemembersStreams h c handle place remote is of o g none) i = (i.0, tt)
   moves_inputs _ _ (RecallsStreams h ids place handle e own) i = (i.0, tt)
@@ -368,11 +403,11 @@ module _ (contexts : List WasiSocketsCtx) (line : ℕ) (origin : Step) where
       let k : MadeSo h.machine.table h.machine.store.records (Marked handle place) = subst (MadeSo h.machine.table h.machine.store.records) made i.1 in
       under_socket es h kind handle place _ e k.0 k.1
       (λ so. subst (MadeSo (with_handle h.machine.table kind (Some handle)) h.machine.store.records) (sym made) (one_socket h.machine.table h.machine.store.records kind (Some handle) handle place (no_socket_is h.machine.table h.machine.store.records kind (Some handle) place e) k.0, k.1)) i
-  marks_inputs es h _ _ _ (APlain kind makes) i = mark_other es h (own_of line) kind None None (plain_other kind (makes_plain origin kind makes)) i
+  marks_inputs es h _ _ _ (APlain kind makes numbered) i = mark_other es h (own_of line) kind None None (plain_other kind (makes_plain origin kind makes)) i
   marks_inputs es h kind parent sock (Marks.ANetwork c e) i = mark_other es h (own_of line) kind parent sock tt i
   marks_inputs es h kind parent sock (Marks.APollable c handle w is p e by) i = mark_other es h (own_of line) kind parent sock tt i
   marks_inputs es h kind parent sock (Marks.AUdpPollable c handle w is p e by) i = mark_other es h (own_of line) kind parent sock tt i
-  marks_inputs es h kind parent sock (Marks.ALookup c network place name e there) i = mark_other es h (own_of line) kind parent sock tt i
+  marks_inputs es h kind parent sock (Marks.ALookup c network place name e there made) i = mark_other es h (own_of line) kind parent sock tt i
   marks_inputs es h kind parent sock (Marks.ALookupPollable c handle place is e) i = mark_other es h (own_of line) kind parent sock tt i
   marks_inputs es h kind parent sock (Marks.APlainPollable c handle is e) i = mark_other es h (own_of line) kind parent sock tt i
 

@@ -12,6 +12,7 @@ pub mod Ending
 pub mod Machine
 pub mod Resumes
 pub mod Slots
+pub mod GivenBack
 pub mod Steady
 pub mod InputHandles
 pub mod PollableHandles
@@ -23,3 +24,4 @@ pub mod PipeHandles
 pub mod Pending
 pub mod Runs
 pub mod Watching
+pub mod NamedRecords

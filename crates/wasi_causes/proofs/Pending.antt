@@ -18,7 +18,7 @@ use Rattle.wasi_udp.specs.Create.{Create, after_create as udp_after_create, crea
 use Rattle.wasi_walks.proofs.fits.Law.{whatever}
 use Rattle.wasi_walks.proofs.fits.Polls.{Anything}
 use Rattle.wasi_walks.proofs.walks.Law.{BeginsWrites, Law}
-use Rattle.wasi_walks.proofs.walks.Moves.{AwaitsCreate, CallKind, CallsHandles, Empties, GoesOn, Held, Here, IsCall, IsStreamCall, Joins, LooksAtPollables, OfPollables, OfStreams, Leaves, Made, Move, RecallsCall, RecallsStreams, RemembersStreams, Stands, StandsBlocking, StandsDropOutgoing, StandsUdpBind, StandsUdpConnect, StandsUdpCreate, Unstands, Watches, made_so, udp_begun}
+use Rattle.wasi_walks.proofs.walks.Moves.{Numbers, AwaitsCreate, CallKind, CallsHandles, Empties, GoesOn, Held, Here, IsCall, IsStreamCall, Joins, LooksAtPollables, OfPollables, OfStreams, Leaves, Made, Move, RecallsCall, RecallsStreams, RemembersStreams, Stands, StandsBlocking, StandsDropOutgoing, StandsUdpBind, StandsUdpConnect, StandsUdpCreate, Unstands, Watches, made_so, udp_begun}
 use Rattle.wasi_walks.proofs.walks.Moves.{Awaits, BindsOn, Connects, Listens, ReceivesOn, SendsOn, UdpBindsOn, UdpConnectsOn, UdpCreates}
 use Rattle.wasi_walks.proofs.walks.Runs.{run_ends}
 use Rattle.wasi_walks.proofs.walks.Steps.{machine_walks}
@@ -99,6 +99,7 @@ module _ (contexts : List WasiSocketsCtx) (line : ℕ) (origin : Step) (plain : 
   moves_none : (h now : Here) → Move line origin h now → NoStreams h → NoStreams now
   moves_none _ _ (Leaves h) i = (i.0, tt)
   moves_none _ _ (Watches h own) i = (i.0, tt)
+  moves_none _ _ (Numbers h) i = (i.0, tt)
   moves_none _ _ (Empties h handle kind e none) i = (i.0, tt)
   moves_none _ _ (AwaitsCreate h place create g) i = (i.0, tt)
   moves_none _ _ (Joins h c handle place r l new peer is of u g e a) i = (i.0, tt)
@@ -233,7 +234,7 @@ inputs_are_there m inputs pipes handle readable missing = by_kind (kind_at m.tab
   where
     by_kind : (k : Option Kind) → kind_at m.table handle ≡ k → is_readable k ≡ true → streams_in (record_in m (input_of k)) ≡ None → MissesInputPipe m (plain_input_of k) → ⊥
     by_kind (Some (Input place)) e r none pipe = let has : IsSome (streams_in (tcp2_at m.store.records place)) = input_streams_there m handle place inputs e in absurd (cc)
-    by_kind (Some (PlainInput (plain_input.Pipe place))) e r none pipe = let has : is_some (input_pipe_at m.store.records place) ≡ true = pipes.inputs handle place (ap pipe_in_of e) in absurd (cc)
+    by_kind (Some (PlainInput (plain_input.Pipe place))) e r none pipe = let has : is_some (input_pipe_at m.store.records place) ≡ true = pipes.1.inputs handle place (ap pipe_in_of e) in absurd (cc)
     by_kind (Some (PlainInput plain_input.Closed)) e r none pipe = pipe
     by_kind _ e r none pipe = absurd (cc)
 

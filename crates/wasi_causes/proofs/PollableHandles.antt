@@ -88,7 +88,7 @@ module _ (contexts : List WasiSocketsCtx) (line : ℕ) (origin : Step) where
   is_under : (h : Here) (kind : Kind) (parent : Option ℕ) (sock : Option OpId) → Marks origin h kind parent sock → IsUnder h.machine.table kind parent
   is_under h kind _ _ (AStream c handle place _ is e opened) = is_one h.machine.table kind (Input place) (Output place) (Some handle) e tt tt
   is_under h kind _ _ (AnAcceptedStream c listener handle place _ r is e made own g) = is_one h.machine.table kind (Input place) (Output place) (Some handle) e tt tt
-  is_under h kind _ _ (APlain _ makes) = plain_under h.machine.table kind None (makes_plain origin kind makes)
+  is_under h kind _ _ (APlain _ makes numbered) = plain_under h.machine.table kind None (makes_plain origin kind makes)
   is_under h _ _ _ (Marks.APollable c handle w is p e by) = parent_of h.machine.table handle w by
   is_under h _ _ _ (Marks.AUdpPollable c handle w is p e by) = parent_of h.machine.table handle w by
   is_under h _ _ _ (Marks.ALookupPollable c handle place is e) = parent_of h.machine.table handle (Watched.Lookup place) (ap watched_by e)

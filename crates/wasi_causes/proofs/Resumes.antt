@@ -33,7 +33,10 @@ use Rattle.wasi_causes.proofs.sockets.UdpCreates.{marks_udp}
 use Rattle.wasi_causes.proofs.tables.Meets.{chain, both}
 use Rattle.wasi_causes.specs.Udp.{IsPendingCreate}
 use Rattle.wasi_host.specs.Udp.{opened_udp, poll_create_asks, udp_create_ended, udp_bind_ended, poll_udp_binding}
-use Rattle.wasi_host.specs.UdpCalls.{with_udp, with_open_udp, udp_call_answered, rebind_udp_at}
+use Rattle.wasi_host.specs.GivingBack.{given_back}
+use Rattle.wasi_host.specs.declared.records.Record.{Record}
+use Rattle.wasi_causes.proofs.GivenBack.{put_gone}
+use Rattle.wasi_host.specs.UdpCalls.{udp_left, with_udp, with_open_udp, udp_call_answered, rebind_udp_at}
 use Rattle.wasi_host.specs.UdpCreates.{create_answered, poll_create_at, create_so, create_on}
 use Rattle.wasi_host.specs.declared.kind.Kind.TheVariants.{Udp2}
 use Rattle.wasi_host.specs.declared.udp.OpenUdp.{OpenUdp}
@@ -242,9 +245,14 @@ module _ (contexts : List WasiSocketsCtx) (m : Machine) (line : ℕ) (ids : Ids)
       creates_on : PendingCallsFit m → IsCreating u
       creates_on fits = let k : IfSome (udp2_at m.store.records place) IsCreating = rw stands at fits in rw at at k
 
+      left_free : (now : Udp2Socket) → (udp_left free place now).standing ≡ None
+      left_free (udp.Creating create) = refl
+      left_free (udp.Open o) = refl
+      left_free (udp.Closed side) = refl
+
       -- a pending create is in progress
       uncreated : (IsCreating u → ⊥) → MadeRow [] (create_answered free place (Err InvalidState, u))
-      uncreated none = ends (fails (StandingCall.UdpCreate place) stands (λ k. k) [] (record m { store = with_udp free place u }) InvalidState refl refl (λ fits. absurd (none (creates_on fits))))
+      uncreated none = ends (fails (StandingCall.UdpCreate place) stands (λ k. k) [] (record m { store = udp_left free place u }) InvalidState (left_free u) refl (λ fits. absurd (none (creates_on fits))))
 
     module _ (create : Create) (at : udp2_at m.store.records place ≡ Some (udp.Creating create)) where
       -- the socket is there
@@ -273,7 +281,7 @@ module _ (contexts : List WasiSocketsCtx) (m : Machine) (line : ℕ) (ids : Ids)
           marks_udp made_so place (opened_udp (made_by create)) there
           (λ full. (it_ends (StandingCall.UdpCreate place) stands (λ k. k) es (reply.Trap Full) made_so (λ e. cc) refl, (tt, full_so m made_so es full refl k.0, inl (full, is_create))))
           (it_ends (StandingCall.UdpCreate place) stands (λ k. k) (es ++ mark ∷ []) (reply.Ok (number_fields m.table.next)) (record made_so { table = with_handle m.table (Udp2 place) None }) (λ e. cc) refl, (inl (inr (inl (tt, tt))), gives_handle))
-      create_ended es (Refused code given, items) k = ends (fails (StandingCall.UdpCreate place) stands (λ k. k) es (record m { store = with_udp free place (udp.Closed create.operation.who.side) }) code refl refl (λ fits. (CreateFailed place create code at (k.1 fits), refl)))
+      create_ended es (Refused code given, items) k = ends (fails (StandingCall.UdpCreate place) stands (λ k. k) es (record m { store = given_back place (with_udp free place (udp.Closed create.operation.who.side)) }) code refl refl (λ fits. (CreateFailed place create code at (k.1 fits), put_gone (nothing_stands m) place (Record.Udp2 (udp.Closed create.operation.who.side)))))
 
     recreates_by : (u : Udp2Socket) → udp2_at m.store.records place ≡ Some u → Meets (λ es done. MadeRow es (create_answered free place done)) [] (poll_create_asks u)
     recreates_by (udp.Creating create) at = onto _ (widen (create_ended create at) (both (record { along = poll_marks_none create.operation }) (granted (λ fits. create_ends create.operation (creates_on (udp.Creating create) at fits)))))

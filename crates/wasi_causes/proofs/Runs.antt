@@ -153,8 +153,8 @@ module _ (m : Machine) (i : Steady m) (pipes : HasPipes m) where
   of_its_record handle (Pollable (Watched.Socket place)) e = has_record place (i.handles handle place (ap record_of e))
   of_its_record handle (Pollable (Watched.Input place)) e = has_record place (i.handles handle place (ap record_of e))
   of_its_record handle (Pollable (Watched.Output place)) e = has_record place (i.handles handle place (ap record_of e))
-  of_its_record handle (PlainInput (plain_input.Pipe place)) e = pipes.inputs handle place (ap pipe_in_of e)
-  of_its_record handle (PlainOutput (plain_output.Pipe place)) e = pipes.outputs handle place (ap pipe_out_of e)
+  of_its_record handle (PlainInput (plain_input.Pipe place)) e = pipes.1.inputs handle place (ap pipe_in_of e)
+  of_its_record handle (PlainOutput (plain_output.Pipe place)) e = pipes.1.outputs handle place (ap pipe_out_of e)
   of_its_record handle (PlainInput plain_input.Closed) e = tt
   of_its_record handle (PlainOutput plain_output.Sink) e = tt
   of_its_record handle (PlainOutput plain_output.Closed) e = tt

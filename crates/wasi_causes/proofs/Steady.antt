@@ -54,6 +54,16 @@ use Rattle.wasi_walks.proofs.walks.States.{udp_record}
 use Rattle.wasi_walks.proofs.walks.Moves.{ALookup, ALookupPollable, Finds, SameSockets, with_records}
 use Rattle.wasi_host.specs.declared.name_lookup.LookupOp.{LookupOp}
 use Rattle.wasi_causes.proofs.Words.{is_some}
+use Rattle.wasi_causes.proofs.GivenBack.{another, some_stays}
+use Rattle.wasi_causes.proofs.Words.{Asks}
+use Rattle.wasi_host.specs.Records.{tcp2_of, udp2_of, lookup_of}
+use Rattle.wasi_walks.proofs.GoneLists.{stays_there, was_there}
+use Rattle.wasi_walks.proofs.owners.Law.{Owns, left_none, owners, owners_begin}
+use Rattle.wasi_walks.proofs.owners.Owned.{NoneOf, Owned, first_owned, named_by, tcp_names, udp_names}
+use Rattle.wasi_walks.proofs.walks.Begins.{begins_stand}
+use Rattle.wasi_walks.proofs.walks.Law.{Walks}
+use Rattle.wasi_walks.proofs.walks.Moves.{GivesBack, without_record}
+use Rattle.wasi_walks.proofs.walks.OnBase.{Above, stand}
 use Rattle.wasi_causes.proofs.resolving.Lists.{lookup_push, lookup_tcp_put, lookup_udp_put}
 
 -- == what holds of a machine
@@ -143,6 +153,21 @@ found_steady h records same i = record {
   handles = λ handle k e. let t = i.handles handle k e in (t.0, same.tcp k ∙ t.1);
   udps = λ handle k e. let t = i.udps handle k e in (t.0, same.udp k ∙ t.1);
   lookups = λ handle k e. same.stays k (i.lookups handle k e);
+}
+
+-- a handle of a lookup names its record
+lookup_names : (kind : Kind) (place : ℕ) → lookup_record_of (Some kind) ≡ Some place → named_by kind ≡ Some place
+lookup_names (Lookup n) place e = e
+lookup_names (Pollable (Watched.Lookup n)) place e = e
+lookup_names _ place e = absurd (cc)
+
+-- a record is given back: nothing live is of it
+given_back_steady : (h : Here) (place : ℕ) → NoneOf h.machine.table place → Owned h.machine.table h.machine.store.records → Steady h.machine → Steady (without_record h place).machine
+given_back_steady h place none owned i = record {
+  records = λ k r e. i.records k r (was_there tcp2_of refl h.machine.store.records place k r e);
+  handles = λ handle k e. let t = i.handles handle k e in (t.0, stays_there tcp2_of h.machine.store.records place k t.0 (another h.machine.table h.machine.store.records place none owned record_of refl tcp_names handle k e) t.1);
+  udps = λ handle k e. let t = i.udps handle k e in (t.0, stays_there udp2_of h.machine.store.records place k t.0 (another h.machine.table h.machine.store.records place none owned udp_record_of refl udp_names handle k e) t.1);
+  lookups = λ handle k e. some_stays lookup_of h.machine.store.records place k (another h.machine.table h.machine.store.records place none owned lookup_record_of refl lookup_names handle k e) (i.lookups handle k e);
 }
 
 begun_steady : (h : Here) (made : Result Create ErrorCode) → Steady h.machine → Steady (udp_begun h made).machine
@@ -251,42 +276,43 @@ no_place (PlainOutput o) h = (refl, refl, refl)
 no_place _ h = absurd h
 
 module _ (contexts : List WasiSocketsCtx) (line : ℕ) (origin : Step) where
-  moves_steady : (h now : Here) → Move line origin h now → Steady h.machine → Steady now.machine
-  moves_steady _ _ (Changes h place r now g p) i = put_steady h place r g now (λ c. subst MayFinish (sym p.does) (elim (p.connects c) [ inl k ↦ (i.records place r g).0 k | inr k ↦ connecting_may r.inner.state k ]), λ side d. p.listening ∙ (i.records place r g).1 side (sym p.does ∙ d), (subst AsksToConnect (sym p.does) (i.records place r g).2.0, subst (AsksToListen now.inner.state) (sym p.listening) (subst (λ (s : TcpState). AsksToListen s r.listening) (sym p.does) (i.records place r g).2.1))) i
-  moves_steady _ _ (ClosesReader h place r s g e) i = put_steady h place r g _ (i.records place r g) i
-  moves_steady _ _ (Writes h place r s w g e m) i = put_steady h place r g _ (i.records place r g) i
-  moves_steady _ _ (IsGone h place r q g e) i = put_steady h place r g _ (λ c. absurd (cc), λ side d. refl, ((i.records place r g).2.0, tt)) i
-  moves_steady _ _ (Reconnects h place r c now g e s t u) i = put_steady h place r g _ (λ k. (let f : MayFinish (state.Connected c) = subst MayFinish e ((i.records place r g).0 k) in ((u k).0 ∙ f.0, (u k).1 ∙ f.1)), λ side d. absurd (cc), (tt, no_listen r.inner.state (state.Connected now) r.listening c.side (ap side_in e) (i.records place r g).2.1)) i
-  moves_steady _ _ (Opens h place r c d g e n) i = put_steady h place r g _ (λ k. absurd (cc), λ side d. absurd (cc), (tt, no_listen r.inner.state (state.Connected (record c { send_taken = true })) r.listening c.side (ap side_in e) (i.records place r g).2.1)) i
-  moves_steady _ _ (BeginsConnect h place r side a bound at g d to known idle own) i = put_steady h place r g _ (λ k. tt, λ s e. absurd (cc), (asks_first a _ bound, no_listen r.inner.state (state.Connecting (connect_operation (record { op = own_of line; side = side; maker = r.inner.maker }) (wildcard r.inner.family) a (connect_first bound))) r.listening side (ap side_in d) (i.records place r g).2.1)) i
-  moves_steady _ _ (BeginsBind h place r side a at g d to idle own) i = put_steady h place r g _ (λ c. absurd (cc), (i.records place r g).1, (i.records place r g).2) i
-  moves_steady _ _ (BeginsWrite h place n r s half permit bytes at g e w within own) i = put_steady h place r g _ (i.records place r g) i
-  moves_steady _ _ (BeginsListen h place r side at g d bound none to idle own) i = put_steady h place r g _ (λ k. tt, λ s e. absurd (cc), (tt, ((tt, (tt, tt)), refl, refl))) i
-  moves_steady _ _ (BeginsAccept h place n r l at g e a own) i = put_steady h place r g _ (listens_on r l _ e (i.records place r g)) i
-  moves_steady _ _ (Unlistens h place r op q g e c o) i = put_steady h place r g _ ((i.records place r g).0, λ side d. refl, ((i.records place r g).2.0, tt)) i
-  moves_steady _ _ (Forgets h place r l c g e a) i = put_steady h place r g _ (listens_on r l accepting.Idle e (i.records place r g)) i
-  moves_steady _ _ (Joins h c handle place r l new peer is of u g e a) i =
+  moves_steady : (h now : Here) → Move line origin h now → Owns h → Steady h.machine → Steady now.machine
+  moves_steady _ _ (Changes h place r now g p) b i = put_steady h place r g now (λ c. subst MayFinish (sym p.does) (elim (p.connects c) [ inl k ↦ (i.records place r g).0 k | inr k ↦ connecting_may r.inner.state k ]), λ side d. p.listening ∙ (i.records place r g).1 side (sym p.does ∙ d), (subst AsksToConnect (sym p.does) (i.records place r g).2.0, subst (AsksToListen now.inner.state) (sym p.listening) (subst (λ (s : TcpState). AsksToListen s r.listening) (sym p.does) (i.records place r g).2.1))) i
+  moves_steady _ _ (ClosesReader h place r s g e) b i = put_steady h place r g _ (i.records place r g) i
+  moves_steady _ _ (Writes h place r s w g e m) b i = put_steady h place r g _ (i.records place r g) i
+  moves_steady _ _ (IsGone h place r q g e) b i = put_steady h place r g _ (λ c. absurd (cc), λ side d. refl, ((i.records place r g).2.0, tt)) i
+  moves_steady _ _ (Reconnects h place r c now g e s t u) b i = put_steady h place r g _ (λ k. (let f : MayFinish (state.Connected c) = subst MayFinish e ((i.records place r g).0 k) in ((u k).0 ∙ f.0, (u k).1 ∙ f.1)), λ side d. absurd (cc), (tt, no_listen r.inner.state (state.Connected now) r.listening c.side (ap side_in e) (i.records place r g).2.1)) i
+  moves_steady _ _ (Opens h place r c d g e n) b i = put_steady h place r g _ (λ k. absurd (cc), λ side d. absurd (cc), (tt, no_listen r.inner.state (state.Connected (record c { send_taken = true })) r.listening c.side (ap side_in e) (i.records place r g).2.1)) i
+  moves_steady _ _ (BeginsConnect h place r side a bound at g d to known idle own) b i = put_steady h place r g _ (λ k. tt, λ s e. absurd (cc), (asks_first a _ bound, no_listen r.inner.state (state.Connecting (connect_operation (record { op = own_of line; side = side; maker = r.inner.maker }) (wildcard r.inner.family) a (connect_first bound))) r.listening side (ap side_in d) (i.records place r g).2.1)) i
+  moves_steady _ _ (BeginsBind h place r side a at g d to idle own) b i = put_steady h place r g _ (λ c. absurd (cc), (i.records place r g).1, (i.records place r g).2) i
+  moves_steady _ _ (BeginsWrite h place n r s half permit bytes at g e w within own) b i = put_steady h place r g _ (i.records place r g) i
+  moves_steady _ _ (BeginsListen h place r side at g d bound none to idle own) b i = put_steady h place r g _ (λ k. tt, λ s e. absurd (cc), (tt, ((tt, (tt, tt)), refl, refl))) i
+  moves_steady _ _ (BeginsAccept h place n r l at g e a own) b i = put_steady h place r g _ (listens_on r l _ e (i.records place r g)) i
+  moves_steady _ _ (Unlistens h place r op q g e c o) b i = put_steady h place r g _ ((i.records place r g).0, λ side d. refl, ((i.records place r g).2.0, tt)) i
+  moves_steady _ _ (Forgets h place r l c g e a) b i = put_steady h place r g _ (listens_on r l accepting.Idle e (i.records place r g)) i
+  moves_steady _ _ (Joins h c handle place r l new peer is of u g e a) b i =
       let k = put_steady h place r g (accepting_now r l accepting.Idle) (listens_on r l accepting.Idle e (i.records place r g)) i in push_steady (put h place (accepting_now r l accepting.Idle)).machine (joined l new peer) (λ c. absurd (cc), λ side d. absurd (cc), (tt, tt)) k
-  moves_steady _ _ (Unstands h over) i = stand_steady h.machine None i
-  moves_steady _ _ (Stands h ids call r quiet at g b) i = stand_steady h.machine (Some (standing_as ids call)) i
-  moves_steady _ _ (StandsUdpBind h ids place o op quiet at g e) i = stand_steady h.machine (Some (standing_as ids (standing.UdpBind place))) i
-  moves_steady _ _ (StandsUdpCreate h ids place create quiet g) i = stand_steady h.machine (Some (standing_as ids (standing.UdpCreate place))) i
-  moves_steady _ _ (UdpChanges h place o now g p keeps) i = put_udp_steady h place (Udp2Socket.Open o) g (Udp2Socket.Open now) i
-  moves_steady _ _ (BeginsUdpBind h place o a at g to idle own) i = put_udp_steady h place (Udp2Socket.Open o) g _ i
-  moves_steady _ _ (BeginsUdpConnect h place o a at g to bound none own) i = put_udp_steady h place (Udp2Socket.Open o) g _ i
-  moves_steady _ _ (StandsUdpConnect h ids place handle o op quiet at made g e) i = stand_steady h.machine (Some (standing_as ids (standing.UdpConnect place handle))) i
-  moves_steady _ _ (StandsDropOutgoing h ids place o quiet at g e) i = stand_steady h.machine (Some (standing_as ids (standing.DropOutgoing place))) i
-  moves_steady _ _ (BeginsSend h place n o out d bound at g e item known own) i = put_udp_steady h place (Udp2Socket.Open o) g _ i
-  moves_steady _ _ (BeginsReceive h place n o inc bound at g e is own) i = put_udp_steady h place (Udp2Socket.Open o) g _ i
-  moves_steady _ _ (StandsBlocking h ids call handles made its) i = stand_steady h.machine (Some (standing_as ids (standing.Blocking call))) i
-  moves_steady _ _ (CancelsBind h place r op q g e) i = put_steady h place r g _ (λ c. absurd (cc), (i.records place r g).1, (i.records place r g).2) i
-  moves_steady _ _ (CancelsUdpBind h place o op q g e) i = put_udp_steady h place (Udp2Socket.Open o) g _ i
-  moves_steady _ _ (CancelsUdpConnect h place o q g) i = put_udp_steady h place (Udp2Socket.Open o) g _ i
-  moves_steady _ _ (Finds h records same) i = found_steady h records same i
-  moves_steady _ _ (Lists h jobs) i = record { records = i.records; handles = i.handles; udps = i.udps; lookups = i.lookups }
-  moves_steady _ _ (Takes h handle none) i = taken_steady h.machine handle i
-  moves_steady _ _ (Empties h handle kind e none) i = taken_steady h.machine handle i
-  moves_steady _ _ _ i = i
+  moves_steady _ _ (Unstands h over) b i = stand_steady h.machine None i
+  moves_steady _ _ (Stands h ids call r quiet at g goes) b i = stand_steady h.machine (Some (standing_as ids call)) i
+  moves_steady _ _ (StandsUdpBind h ids place o op quiet at g e) b i = stand_steady h.machine (Some (standing_as ids (standing.UdpBind place))) i
+  moves_steady _ _ (StandsUdpCreate h ids place create quiet g) b i = stand_steady h.machine (Some (standing_as ids (standing.UdpCreate place))) i
+  moves_steady _ _ (UdpChanges h place o now g p keeps) b i = put_udp_steady h place (Udp2Socket.Open o) g (Udp2Socket.Open now) i
+  moves_steady _ _ (BeginsUdpBind h place o a at g to idle own) b i = put_udp_steady h place (Udp2Socket.Open o) g _ i
+  moves_steady _ _ (BeginsUdpConnect h place o a at g to bound none own) b i = put_udp_steady h place (Udp2Socket.Open o) g _ i
+  moves_steady _ _ (StandsUdpConnect h ids place handle o op quiet at made g e) b i = stand_steady h.machine (Some (standing_as ids (standing.UdpConnect place handle))) i
+  moves_steady _ _ (StandsDropOutgoing h ids place o quiet at g e) b i = stand_steady h.machine (Some (standing_as ids (standing.DropOutgoing place))) i
+  moves_steady _ _ (BeginsSend h place n o out d bound at g e item known own) b i = put_udp_steady h place (Udp2Socket.Open o) g _ i
+  moves_steady _ _ (BeginsReceive h place n o inc bound at g e is own) b i = put_udp_steady h place (Udp2Socket.Open o) g _ i
+  moves_steady _ _ (StandsBlocking h ids call handles made its) b i = stand_steady h.machine (Some (standing_as ids (standing.Blocking call))) i
+  moves_steady _ _ (CancelsBind h place r op q g e) b i = put_steady h place r g _ (λ c. absurd (cc), (i.records place r g).1, (i.records place r g).2) i
+  moves_steady _ _ (CancelsUdpBind h place o op q g e) b i = put_udp_steady h place (Udp2Socket.Open o) g _ i
+  moves_steady _ _ (CancelsUdpConnect h place o q g) b i = put_udp_steady h place (Udp2Socket.Open o) g _ i
+  moves_steady _ _ (Finds h records same) b i = found_steady h records same i
+  moves_steady _ _ (GivesBack h place idle left) b i = given_back_steady h place (left_none h place left b) b.0 i
+  moves_steady _ _ (Lists h jobs keeps) b i = record { records = i.records; handles = i.handles; udps = i.udps; lookups = i.lookups }
+  moves_steady _ _ (Takes h handle none) b i = taken_steady h.machine handle i
+  moves_steady _ _ (Empties h handle kind e none) b i = taken_steady h.machine handle i
+  moves_steady _ _ _ b i = i
 
   -- == what is made
   one_of_two : (kind : Kind) (its place : ℕ) → (kind ≡ Input its) ⊎ (kind ≡ Output its) → record_of (Some kind) ≡ Some place → its ≡ place
@@ -308,7 +334,7 @@ module _ (contexts : List WasiSocketsCtx) (line : ℕ) (origin : Step) where
   marks_there h kind _ _ (AnAcceptedStream c listener handle its _ r is two made own g) i place e = subst (IsThere h.machine.store.records) (one_of_two kind its place two e) (r, g)
   marks_there h _ _ _ (APollable c handle w is tcp of by) i place e = i.handles handle place (of ∙ (sym tcp ∙ e))
   marks_there h _ _ _ (AUdpPollable c handle w is udp of by) i place e = absurd (never_tcp w place udp e)
-  marks_there h _ _ _ (APlain kind makes) i place e = let none = (no_place kind (makes_plain origin kind makes)).0 in absurd (cc)
+  marks_there h _ _ _ (APlain kind makes numbered) i place e = let none = (no_place kind (makes_plain origin kind makes)).0 in absurd (cc)
   marks_there h _ _ _ _ i place e = absurd (cc)
 
   -- of a stream, or of a pollable of a TCP socket, nothing is said of UDP sockets
@@ -331,7 +357,7 @@ module _ (contexts : List WasiSocketsCtx) (line : ℕ) (origin : Step) where
   udp_marks_there h kind _ _ (AnAcceptedStream c listener handle its _ r is two made own g) i place e = absurd (no_udp kind its place two e)
   udp_marks_there h _ _ _ (APollable c handle w is tcp of by) i place e = absurd (no_udp_watch w place tcp e)
   udp_marks_there h _ _ _ (AUdpPollable c handle w is udp of by) i place e = i.udps handle place (of ∙ (sym udp ∙ e))
-  udp_marks_there h _ _ _ (APlain kind makes) i place e = let none = (no_place kind (makes_plain origin kind makes)).1 in absurd (cc)
+  udp_marks_there h _ _ _ (APlain kind makes numbered) i place e = let none = (no_place kind (makes_plain origin kind makes)).1 in absurd (cc)
   udp_marks_there h _ _ _ _ i place e = absurd (cc)
 
   -- of a stream, or of a pollable of a socket, nothing is said of lookups
@@ -349,9 +375,9 @@ module _ (contexts : List WasiSocketsCtx) (line : ℕ) (origin : Step) where
   lookup_marks_there h kind _ _ (AnAcceptedStream c listener handle its _ r is two made own g) i place e = absurd (no_lookup kind its place two e)
   lookup_marks_there h _ _ _ (APollable c handle w is tcp of by) i place e = absurd (no_lookup_watch w place (inl tcp) e)
   lookup_marks_there h _ _ _ (AUdpPollable c handle w is udp of by) i place e = absurd (no_lookup_watch w place (inr udp) e)
-  lookup_marks_there h _ _ _ (ALookup c network its name is there) i place e = let same : its ≡ place = cc in subst (IsLookupThere h.machine.store.records) same there
+  lookup_marks_there h _ _ _ (ALookup c network its name is there made) i place e = let same : its ≡ place = cc in subst (IsLookupThere h.machine.store.records) same there
   lookup_marks_there h _ _ _ (ALookupPollable c handle its is of) i place e = i.lookups handle place (ap lookup_record_of of ∙ e)
-  lookup_marks_there h _ _ _ (APlain kind makes) i place e = let none = (no_place kind (makes_plain origin kind makes)).2 in absurd (cc)
+  lookup_marks_there h _ _ _ (APlain kind makes numbered) i place e = let none = (no_place kind (makes_plain origin kind makes)).2 in absurd (cc)
   lookup_marks_there h _ _ _ _ i place e = absurd (cc)
 
   -- a socket that is created doesn't connect
@@ -404,43 +430,60 @@ module _ (contexts : List WasiSocketsCtx) (line : ℕ) (origin : Step) where
   no_stream_lookup kind its place (inl is) p = let q : lookup_record_of (Some kind) ≡ None = ap (λ (x : Kind). lookup_record_of (Some x)) is in cc
   no_stream_lookup kind its place (inr is) p = let q : lookup_record_of (Some kind) ≡ None = ap (λ (x : Kind). lookup_record_of (Some x)) is in cc
 
-  unfoldable steady : Law contexts line origin
-  steady = record {
+  unfoldable steadily : Above contexts line origin (λ es h. Owns h)
+  steadily = record {
     P = Anything;
     Inv = λ es h. Steady h.machine;
-    moves = λ es h now m i. moves_steady h now m i;
-    asks = λ es h place n r side c at g o q i. (tt, λ told fits. i);
-    sets = λ es h place r side b at g s is i. (tt, λ told fits. i);
-    learns = λ es h place r side at g e i. (tt, λ told fits. put_steady h place r g _ (λ c. subst MayFinish (sym (told_same r.inner (told_addr told))) ((i.records place r g).0 c), λ s d. (i.records place r g).1 s (sym (told_same r.inner (told_addr told)) ∙ d), (subst AsksToConnect (sym (told_same r.inner (told_addr told))) (i.records place r g).2.0, subst (λ (s : TcpState). AsksToListen s r.listening) (sym (told_same r.inner (told_addr told))) (i.records place r g).2.1)) i);
-    closes = λ es h place r side q g e i. (tt, λ told fits. put_steady h place r g (closed_record r) (λ c. absurd (cc), λ s d. refl, (tt, tt)) i);
-    marks = λ es h kind parent sock m i. made_steady es h.machine (own_of line) kind parent sock (marks_there h kind parent sock m i) (udp_marks_there h kind parent sock m i) (lookup_marks_there h kind parent sock m i) i;
-    creates = λ es h ctx family c a o m i. allows_then Anything (λ fs made. MadeIdle made) (λ fs done. Steady done.1) es (new_asks (own_of line) ctx family) (created_asks h.machine (own_of line)) (made_idle es (own_of line) ctx family) (λ fs made k. joins fs h.machine (own_of line) made k i);
-    accepted = λ es h c s place r is e o g i. made_steady es h.machine (own_of line) (Tcp2 place) (Some s) (side_at (tcp2_at h.machine.store.records place)) (λ k p. let q : place ≡ k = cc in subst (IsThere h.machine.store.records) q (r, g)) (λ k p. absurd (cc)) (λ k p. absurd (cc)) i;
-    polls = polls_steady;
-    turns = λ es h place r s g e i. whatever (λ done. Steady (put h place (with_writer r s done.1)).machine) (λ done. put_steady h place r g _ (i.records place r g) i) es (turn_asks s.writer);
-    gives_up = λ es h place r q g i. whatever (λ done. Steady (put h place (with_listening r listening.Not)).machine) (λ done. put_steady h place r g _ ((i.records place r g).0, λ side d. refl, ((i.records place r g).2.0, tt)) i) es (give_up_asks r.listening);
-    udp_asks = λ es h place n o c at g q i. (tt, λ told fits. i);
-    udp_learns = λ es h place part o at g i. (tt, λ told fits. put_udp_steady h place (Udp2Socket.Open o) g _ i);
-    udp_peers = λ es h place o at g i. (tt, λ told fits. put_udp_steady h place (Udp2Socket.Open o) g _ i);
-    stream_marks = λ es h place n handle reached kind next new of i. made_steady es h.machine (own_of n) kind (Some handle) (udp_side_at (udp2_at h.machine.store.records place)) (λ k p. absurd (no_tcp kind place k (one_stream h.made n handle reached kind place next) p)) (both_there h.machine kind place (one_stream h.made n handle reached kind place next) (i.udps handle place (udp_record _ place of))) (λ k p. absurd (no_stream_lookup kind place k (one_stream h.made n handle reached kind place next) p)) i;
-    udp_closes = λ es h place o q g i. (tt, λ told fits. put_udp_steady h place (Udp2Socket.Open o) g _ i);
-    udp_creates = λ es h ctx family c may t o m i. (tt, λ told fits. begun_steady h (udp_after_create (own_of line) ctx.name family (told_done told)) i);
-    udp_marks = λ es h place u g i. made_steady es h.machine (udp_side u) (Udp2 place) None (Some (udp_side u)) (λ k p. absurd (cc)) (λ k p. let q : place ≡ k = cc in subst (IsUdpThere h.machine.store.records) q (u, g.found)) (λ k p. absurd (cc)) i;
-    error_marks = λ es h n handle place handles m k e f i. made_steady es h.machine (own_of n) ErrorValue (Some handle) (side_at (tcp2_at h.machine.store.records place)) (λ k p. absurd (cc)) (λ k p. absurd (cc)) (λ k p. absurd (cc)) i;
-    udp_gives_up = λ es h place create q g i. whatever (λ done. Steady (put_udp h place (Udp2Socket.Closed create.operation.who.side)).machine) (λ done. put_udp_steady h place (Udp2Socket.Creating create) g _ i) es (create_cancel_asks create);
-    lookups = λ es h host l i. (tt, λ told fits records same. found_steady h records same i);
-    looks = λ es h place op at i. (tt, λ told fits. i);
+    moves = λ es h now m b i. moves_steady h now m b i;
+    asks = λ es h place n r side c at g o q b i. (tt, λ told fits. i);
+    sets = λ es h place r side backlog at g s is b i. (tt, λ told fits. i);
+    learns = λ es h place r side at g e b i. (tt, λ told fits. put_steady h place r g _ (λ c. subst MayFinish (sym (told_same r.inner (told_addr told))) ((i.records place r g).0 c), λ s d. (i.records place r g).1 s (sym (told_same r.inner (told_addr told)) ∙ d), (subst AsksToConnect (sym (told_same r.inner (told_addr told))) (i.records place r g).2.0, subst (λ (s : TcpState). AsksToListen s r.listening) (sym (told_same r.inner (told_addr told))) (i.records place r g).2.1)) i);
+    closes = λ es h place r side q g e b i. (tt, λ told fits. put_steady h place r g (closed_record r) (λ c. absurd (cc), λ s d. refl, (tt, tt)) i);
+    marks = λ es h kind parent sock m b i. made_steady es h.machine (own_of line) kind parent sock (marks_there h kind parent sock m i) (udp_marks_there h kind parent sock m i) (lookup_marks_there h kind parent sock m i) i;
+    creates = λ es h ctx family c a o m b i. allows_then Anything (λ fs made. MadeIdle made) (λ fs done. Steady done.1) es (new_asks (own_of line) ctx family) (created_asks h.machine (own_of line)) (made_idle es (own_of line) ctx family) (λ fs made k. joins fs h.machine (own_of line) made k i);
+    accepted = λ es h c s place r is e o g b i. made_steady es h.machine (own_of line) (Tcp2 place) (Some s) (side_at (tcp2_at h.machine.store.records place)) (λ k p. let q : place ≡ k = cc in subst (IsThere h.machine.store.records) q (r, g)) (λ k p. absurd (cc)) (λ k p. absurd (cc)) i;
+    polls = λ es h op after held b i. polls_steady es h op after held i;
+    turns = λ es h place r s g e b i. whatever (λ done. Steady (put h place (with_writer r s done.1)).machine) (λ done. put_steady h place r g _ (i.records place r g) i) es (turn_asks s.writer);
+    gives_up = λ es h place r q g b i. whatever (λ done. Steady (put h place (with_listening r listening.Not)).machine) (λ done. put_steady h place r g _ ((i.records place r g).0, λ side d. refl, ((i.records place r g).2.0, tt)) i) es (give_up_asks r.listening);
+    udp_asks = λ es h place n o c at g q b i. (tt, λ told fits. i);
+    udp_learns = λ es h place part o at g b i. (tt, λ told fits. put_udp_steady h place (Udp2Socket.Open o) g _ i);
+    udp_peers = λ es h place o at g b i. (tt, λ told fits. put_udp_steady h place (Udp2Socket.Open o) g _ i);
+    stream_marks = λ es h place n handle reached kind next new of b i. made_steady es h.machine (own_of n) kind (Some handle) (udp_side_at (udp2_at h.machine.store.records place)) (λ k p. absurd (no_tcp kind place k (one_stream h.made n handle reached kind place next) p)) (both_there h.machine kind place (one_stream h.made n handle reached kind place next) (i.udps handle place (udp_record _ place of))) (λ k p. absurd (no_stream_lookup kind place k (one_stream h.made n handle reached kind place next) p)) i;
+    udp_closes = λ es h place o q g b i. (tt, λ told fits. put_udp_steady h place (Udp2Socket.Open o) g _ i);
+    udp_creates = λ es h ctx family c may t o m b i. (tt, λ told fits. begun_steady h (udp_after_create (own_of line) ctx.name family (told_done told)) i);
+    udp_marks = λ es h place u g b i. made_steady es h.machine (udp_side u) (Udp2 place) None (Some (udp_side u)) (λ k p. absurd (cc)) (λ k p. let q : place ≡ k = cc in subst (IsUdpThere h.machine.store.records) q (u, g.found)) (λ k p. absurd (cc)) i;
+    error_marks = λ es h n handle place handles m k e f b i. made_steady es h.machine (own_of n) ErrorValue (Some handle) (side_at (tcp2_at h.machine.store.records place)) (λ k p. absurd (cc)) (λ k p. absurd (cc)) (λ k p. absurd (cc)) i;
+    udp_gives_up = λ es h place create q g b i. whatever (λ done. Steady (put_udp h place (Udp2Socket.Closed create.operation.who.side)).machine) (λ done. put_udp_steady h place (Udp2Socket.Creating create) g _ i) es (create_cancel_asks create);
+    lookups = λ es h host l b i. (tt, λ told fits records same. found_steady h records same i);
+    looks = λ es h place op at b i. (tt, λ told fits. i);
   }
+
+  steady : Law contexts line origin
+  unfolding steadily owners
+  steady = stand (owners contexts line origin) steadily
 
   -- a write that begins in a call of streams
   begins_steady : BeginsWrites steady
-  unfolding steady
-  begins_steady = record { begins = λ es h place n r s half permit bytes at g e w within used i. put_steady h place r g _ (i.records place r g) i }
+  unfolding steady steadily owners
+  begins_steady = begins_stand (owners contexts line origin) steadily (owners_begin contexts line origin) (record { begins = λ es h place n r s half permit bytes at g e w within used b i. put_steady h place r g _ (i.records place r g) i })
 
-  line_steady : (m : Machine) (es : List Entry) → Steady m → Allows Anything (λ fs done. Steady done.1) es (machine_asks contexts m line origin)
-  unfolding steady
-  line_steady m es i = (machine_walks line origin {law = steady} begins_steady m m.store.standing refl).along es i
+  -- what it says of a tree
+  steady_along : {A : Type 0} {h : Here} {end : A → Here} {asks : Asks A} → Walks steady h end asks → (es : List Entry) → Owns h → Steady h.machine → Allows Anything (λ fs x. Owns (end x) × Steady (end x).machine) es asks
+  unfolding steady steadily owners stand
+  steady_along w es b i = w.along es (b, i)
+
+  line_steady : (m : Machine) (es : List Entry) → Owned m.table m.store.records × Steady m → Allows Anything (λ fs done. Owned done.1.table done.1.store.records × Steady done.1) es (machine_asks contexts m line origin)
+  line_steady m es i =
+      gives_more (λ fs done. (Owned done.1.table done.1.store.records × ⊤) × Steady done.1) (λ fs done. Owned done.1.table done.1.store.records × Steady done.1) (λ fs done k. (k.0.0, k.1)) es (machine_asks contexts m line origin)
+      (steady_along (machine_walks line origin {law = steady} begins_steady m m.store.standing refl) es (i.0, tt) i.1)
+
+-- and what is live of each record
+abbrev pub IsSteady : Machine → Type 0
+IsSteady m = Owned m.table m.store.records × Steady m
+
+pub runs_stay : (contexts : List WasiSocketsCtx) (steps : List Step) (es : List Entry) (replies : List Reply) (m : Machine) → Left (run contexts [] first_state 1 steps) es (Give (replies, m)) → IsSteady m
+runs_stay contexts steps es replies m w =
+    (run_ends contexts Anything (λ line fs now. IsSteady now) (λ line s now fs i. line_steady contexts line s now fs i) (first_owned, record { records = λ place r e. absurd (cc); handles = λ handle place e. absurd (cc); udps = λ handle place e. absurd (cc); lookups = λ handle place e. absurd (cc) }) steps es replies m w).1
 
 pub runs_are_steady : (contexts : List WasiSocketsCtx) (steps : List Step) (es : List Entry) (replies : List Reply) (m : Machine) → Left (run contexts [] first_state 1 steps) es (Give (replies, m)) → Steady m
-runs_are_steady contexts steps es replies m w =
-    (run_ends contexts Anything (λ line fs now. Steady now) (λ line s now fs i. line_steady contexts line s now fs i) (record { records = λ place r e. absurd (cc); handles = λ handle place e. absurd (cc); udps = λ handle place e. absurd (cc); lookups = λ handle place e. absurd (cc) }) steps es replies m w).1
+runs_are_steady contexts steps es replies m w = (runs_stay contexts steps es replies m w).1

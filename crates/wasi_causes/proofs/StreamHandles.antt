@@ -28,12 +28,13 @@ use Rattle.wasi_walks.proofs.walks.Moves.{Found, FoundUdp, GoesOn, NoStartIn, No
 use Rattle.wasi_walks.proofs.walks.Runs.{run_ends}
 use Rattle.wasi_walks.proofs.walks.States.{Over, Starts}
 use Rattle.wasi_walks.proofs.walks.Steps.{machine_walks, may_while}
+use Rattle.wasi_causes.proofs.GivenBack.{open_stays}
 use Rattle.wasi_causes.proofs.Slots.{slot_of}
 use Rattle.wasi_causes.proofs.Steady.{IsPlain, makes_plain}
 use Rattle.wasi_causes.proofs.UdpHandles as udp
 use Rattle.wasi_causes.proofs.UdpConnects.{HasConnects, Quiet, connects, connects_begin, first_connects, starts_with}
 use Rattle.wasi_causes.proofs.UdpHandles.{HasUdps, Udps, first_udps, udps_begin, udps_there}
-use Rattle.wasi_causes.proofs.StreamsLive.{Both, HasIncoming, IsOther, CallSo, MadeSo, Parts, StandsSo, Streams, begun, changed, connect_keeps, emptied, found, has_none, makes_left, mark_next, mark_other, mark_so, not_yet, push_tcp, put_none, put_open, put_tcp, remade, restood, taken}
+use Rattle.wasi_causes.proofs.StreamsLive.{Both, HasIncoming, IsOther, CallSo, MadeSo, Parts, StandsSo, Streams, begun, changed, connect_keeps, emptied, found, has_none, makes_left, mark_next, mark_other, mark_so, not_yet, push_tcp, put_none, put_open, put_tcp, remade, restood, stay, taken}
 
 -- == what is live
 -- A live incoming stream is there, and is one of its own; a socket whose connect is in progress has no streams.
@@ -83,6 +84,8 @@ module _ (contexts : List WasiSocketsCtx) (line : ℕ) (origin : Step) where
       let idle = walk.accepting_now r l accepting.Idle in
       remade h.machine.table _ h.made (Made.Joined (length (tcp2_put h.machine.store.records place idle))) h.machine.store.standing tt (push_tcp h.machine.table (tcp2_put h.machine.store.records place idle) (walk.joined l new peer) h.made h.machine.store.standing (put_tcp h place r g idle i))
   moves_apart _ _ (walk.Leaves h) i = remade _ _ h.made Past _ tt i
+  moves_apart _ _ (walk.Numbers h) i = remade _ _ h.made (Made.Numbered (length h.machine.store.records) h.machine.table.next) _ tt i
+  moves_apart _ _ (walk.GivesBack h place idle left) i = stay h.machine.table _ _ h.made h.machine.store.standing (λ a k l e has. record { socket = has.socket; at = open_stays h place left k has.socket has.at; stream = has.stream; has = has.has }) i
   moves_apart _ _ (walk.Watches h own) i = remade _ _ h.made Made.Unmade _ tt i
   moves_apart _ _ (walk.CallsHandles h kind calls quiet) i = remade _ _ h.made (Made.Calls kind line _) _ tt i
   moves_apart _ _ (walk.RecallsCall h ids call e) i = remade _ _ h.made (Made.Calls (walk.kind_of call) ids.line _) _ tt i
@@ -120,7 +123,7 @@ module _ (contexts : List WasiSocketsCtx) (line : ℕ) (origin : Step) where
   is_other : (h : Here) (kind : Kind) (parent : Option ℕ) (sock : Option OpId) → Marks origin h kind parent sock → IsOther kind
   is_other h kind _ _ (walk.AStream c handle place _ is e opened) = of_tcp kind place e
   is_other h kind _ _ (walk.AnAcceptedStream c listener handle place _ r is e made own g) = of_tcp kind place e
-  is_other h kind _ _ (walk.APlain _ makes) = plain_other kind (makes_plain origin kind makes)
+  is_other h kind _ _ (walk.APlain _ makes numbered) = plain_other kind (makes_plain origin kind makes)
   is_other h _ _ _ _ = tt
 
   joins : (es : List Entry) (h : Here) (made : Result Socket ErrorCode) → h.made ≡ Past → Both h → Allows Anything (λ fs done. Both (record h { machine = done.1; own = Own.Used })) es (created_asks h.machine (own_of line) made)

@@ -71,10 +71,10 @@ pub some_is : {A : Type 0} (o : Option A) → is_some o ≡ true → (x : A) × 
 some_is None e = absurd (cc)
 some_is (Some x) e = (x, refl)
 
-abbrev Stays : Handles → List Record → List Record → Type 0
+abbrev pub Stays : Handles → List Record → List Record → Type 0
 Stays t old now = (a : Live Kind) (place : ℕ) → Has t.live a → a.value ≡ Incoming place → HasIncoming old place → HasIncoming now place
 
-stay : (t : Handles) (old now : List Record) (made : Made) (standing : Option Standing) → Stays t old now → Streams t old made standing → Streams t now made standing
+pub stay : (t : Handles) (old now : List Record) (made : Made) (standing : Option Standing) → Stays t old now → Streams t old made standing → Streams t now made standing
 stay t old now made standing still i = record { apart = record { there = λ a k l e. still a k l e (i.apart.there a k l e); single = i.apart.single }; makes = i.makes; stands = i.stands }
 
 -- with something else made

@@ -7,7 +7,7 @@ use Rattle.wasi_tcp.specs.declared.listener.Accepting.TheVariants as accepting
 use Rattle.wasi_udp.specs.Create.{Create, after_create as udp_after_create, create_cancel_asks}
 use Rattle.wasi_world.specs.Operation.{Done, Refused, Waits}
 use Rattle.wasi_host.specs.Datagrams.{has_streams, udp_connect_left}
-use Rattle.wasi_host.specs.Records.{tcp2_put, tcp2_pushed, udp2_at, udp2_put, udp2_pushed}
+use Rattle.wasi_host.specs.Records.{tcp2_put, tcp2_pushed, udp2_at, udp2_of, udp2_put, udp2_pushed}
 use Rattle.wasi_host.specs.Udp.{udp_create_left, udp_side}
 use Rattle.wasi_host.specs.declared.kind.Kind.TheVariants.{Udp2}
 use Rattle.wasi_host.specs.declared.listening.Listening.TheVariants as listening
@@ -15,6 +15,7 @@ use Rattle.wasi_host.specs.declared.name_lookup.LookupOp.{LookupOp}
 use Rattle.wasi_host.specs.declared.records.Record.{Record}
 use Rattle.wasi_host.specs.declared.udp.OpenUdp.{OpenUdp}
 use Rattle.wasi_host.specs.declared.udp.Udp2Socket.{Udp2Socket}
+use Rattle.wasi_walks.proofs.GoneLists.{was_there}
 use Rattle.wasi_walks.proofs.UdpLists.{udp_get_set, udp_of_push, udp_of_put, udp_split}
 use Rattle.wasi_walks.proofs.fits.Law.{whatever}
 use Rattle.wasi_walks.proofs.fits.Polls.{Anything}
@@ -140,6 +141,16 @@ new_streams h place o now g same own q i = put_none h place (Udp2Socket.Open now
 changed : (h : Here) (place : ℕ) (o now : OpenUdp) → FoundUdp h place (Udp2Socket.Open o) → now.connecting ≡ o.connecting → (has_streams now ≡ true → has_streams o ≡ true) ⊎ ((h.own ≡ Unused) × NoStart h) → Quiet h → Quiet (put_udp h place (Udp2Socket.Open now))
 changed h place o now g same keeps i = elim keeps [ inl less ↦ put_open h place o now g same less i | inr new ↦ new_streams h place o now g same new.0 new.1 i ]
 
+-- one is given back
+fewer : (h : Here) (place : ℕ) → Quiet h → Quiet (walk.without_record h place)
+fewer h place i = (
+  record {
+    quiet = λ k o op at c. i.0.quiet k o op (was_there udp2_of refl h.machine.store.records place k (Udp2Socket.Open o) at) c;
+    goes = λ k o op at c. i.0.goes k o op (was_there udp2_of refl h.machine.store.records place k (Udp2Socket.Open o) at) c;
+  },
+  i.1,
+)
+
 -- the line's next operation begins
 spent : (h : Here) (own was : Own) → h.own ≡ was → ((k : ℕ) → was ≡ ToConnect k → ⊥) → Quiet h → Quiet (record h { own = own })
 spent h own was e none i = (owns h.machine.store.records h.machine.store.standing h.own own (λ k c. none k (sym e ∙ c)) i.0, i.1)
@@ -235,6 +246,8 @@ module _ (contexts : List WasiSocketsCtx) (line : ℕ) (origin : Step) where
   moves_quiet _ _ (walk.CancelsUdpBind h place o op q g e) i = put_open h place o _ g refl (λ some. some) i
   moves_quiet _ _ (walk.CancelsUdpConnect h place o q g) i = put_none h place _ (λ x op e c. (let p : record o { connecting = None } ≡ x = cc in let none : x.connecting ≡ None = ap (λ (y : OpenUdp). y.connecting) (sym p) in absurd (cc))) i
   moves_quiet _ _ (walk.Finds h records same) i = found h records same i
+  moves_quiet _ _ (walk.GivesBack h place idle left) i = fewer h place i
+  moves_quiet _ _ (walk.Numbers h) i = (i.0, tt)
   moves_quiet _ _ _ i = i
 
   -- a create that was polled has no connect, nor has a socket that is closed

@@ -22,6 +22,8 @@ use Rattle.wasi_walks.proofs.fits.Polls.{Anything}
 use Rattle.wasi_walks.proofs.walks.Law.{BeginsWrites, Law}
 use Rattle.wasi_walks.proofs.walks.Moves.{AStream, AnAcceptedStream, APlain, Awaited, Awaits, AwaitsCreate, BeginsAccept, BeginsBind, BeginsConnect, BeginsListen, BeginsReceive, BeginsSend, BeginsUdpBind, BeginsUdpConnect, BeginsWrite, BindsOn, CallsHandles, CancelsBind, CancelsUdpBind, CancelsUdpConnect, Changes, ClosesReader, Connects, Empties, Emptied, Finds, Forgets, Found, FoundUdp, Held, Here, IsGone, IsOpenUdp, Joins, Leaves, Listens, Made, Marks, Move, Opens, Own, Past, RecallsCall, RecallsStreams, ReceivesOn, Reconnects, RemembersStreams, SameSockets, SendsOn, Takes, UdpBindsOn, UdpChanges, UdpConnectsOn, UdpCreates, Unlistens, Watches, Writes, accepting_now, joined, made_so, put, put_udp, udp_begun, ToSend, one_stream}
 use Rattle.wasi_walks.proofs.walks.Steps.{machine_walks}
+use Rattle.wasi_causes.proofs.GivenBack.{open_stays}
+use Rattle.wasi_walks.proofs.walks.Moves.{GivesBack, Numbers}
 use Rattle.wasi_causes.proofs.Slots.{SlotOf, has_without, is_another, new_slot, no_child, one_of, slot_of, value_of}
 use Rattle.wasi_causes.proofs.Steady.{IsPlain, makes_plain}
 
@@ -233,6 +235,8 @@ module _ (contexts : List WasiSocketsCtx) (line : ℕ) (origin : Step) where
       let idle = accepting_now r l accepting.Idle in
       (push_udps h.machine.table (tcp2_put h.machine.store.records place idle) (joined l new peer) (put_udps h place r g idle i).0, tt)
   moves_udps _ _ (Leaves h) i = (i.0, tt)
+  moves_udps _ _ (Numbers h) i = (i.0, tt)
+  moves_udps _ _ (GivesBack h place idle left) i = (udps_stay h.machine.table _ _ (λ a k l e has. (has.0, open_stays h place left k has.0 has.1)) i.0, i.1)
   moves_udps _ _ (Watches h own) i = (i.0, tt)
   moves_udps _ _ (RemembersStreams h c handle place remote is of o g none) i = (i.0, tt)
   moves_udps _ _ (RecallsStreams h ids place handle e own) i = (i.0, tt)
@@ -265,7 +269,7 @@ module _ (contexts : List WasiSocketsCtx) (line : ℕ) (origin : Step) where
   pub is_other : (h : Here) (kind : Kind) (parent : Option ℕ) (sock : Option OpId) → Marks origin h kind parent sock → IsOther kind
   is_other h kind _ _ (AStream c handle place _ is e opened) = of_tcp kind place e
   is_other h kind _ _ (AnAcceptedStream c listener handle place _ r is e made own g) = of_tcp kind place e
-  is_other h kind _ _ (APlain _ makes) = plain_other kind (makes_plain origin kind makes)
+  is_other h kind _ _ (APlain _ makes numbered) = plain_other kind (makes_plain origin kind makes)
   is_other h _ _ _ _ = tt
 
   pub joins : (es : List Entry) (m : Machine) (op : OpId) (made : Result Socket ErrorCode) → HasUdps m → Allows Anything (λ fs done. HasUdps done.1) es (created_asks m op made)

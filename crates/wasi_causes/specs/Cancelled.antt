@@ -20,13 +20,13 @@ use Rattle.wasi_host.specs.Listening.{with_listening}
 use Rattle.wasi_host.specs.Records.{tcp2_at, udp2_at, open_at}
 use Rattle.wasi_host.specs.Store.{with_progress}
 use Rattle.wasi_host.specs.Udp.{with_udp_progress}
-use Rattle.wasi_host.specs.UdpCalls.{with_open_udp, with_udp}
+use Rattle.wasi_host.specs.UdpCalls.{with_open_udp}
 use Rattle.wasi_steps.specs.declared.step.Step.{Step}
 use Rattle.wasi_steps.specs.declared.step.Step.TheVariants as step
 use Rattle.wasi_walks.specs.Answered.{putting}
 use Rattle.wasi_walks.specs.Licence.{Has, entry}
 use Rattle.wasi_walks.specs.Waiting.{PendingCallsFit, nothing_stands}
-use Rattle.wasi_causes.specs.GivenUp.{listening_given_up}
+use Rattle.wasi_causes.specs.GivenUp.{giving_back, listening_given_up}
 use Rattle.wasi_causes.specs.Udp.{putting_udp}
 
 abbrev pub IsCancel : Step → Type 0
@@ -43,10 +43,10 @@ pub record ListenGivenUp (m : Machine) (place : ℕ) (r : Tcp2Socket) (es : List
   pub left : after ≡ putting (nothing_stands m) place (with_listening r Not)
   pub closed : PendingCallsFit m → side_of r.inner ≡ None
 
--- What is left of a create: its network socket was closed, where it is one, and of the record only the name of that is left.
+-- What is left of a create: its network socket was closed, where it is one, and its record was given back.
 pub record CreateGivenUp (m : Machine) (place : ℕ) (create : Create) (es : List Entry) (after : Machine) : Type 0 where
   pub asked : PendingCallsFit m → es ≡ entry create.operation.who.id (call.Close create.operation.who.side) told.Done ∷ []
-  pub left : after ≡ record m { store = with_udp (nothing_stands m).store place (udp.Closed create.operation.who.side) }
+  pub left : after ≡ giving_back (nothing_stands m) place
 
 -- What is left of the drop of an outgoing datagram stream: the stream is gone, and its datagram with it, which no turn sends any more.
 pub record OutgoingGivenUp (m : Machine) (place : ℕ) (o : OpenUdp) (es : List Entry) (after : Machine) : Type 0 where

@@ -7,31 +7,25 @@ use Rattle.wasi_host.specs.declared.binding.InProgress.TheVariants as doing
 use Rattle.wasi_host.specs.declared.listening.Listening.TheVariants as listening
 use Rattle.wasi_host.specs.declared.machine.Machine.{Machine}
 use Rattle.wasi_host.specs.declared.store.StandingCall.{StandingCall}
-use Rattle.wasi_host.specs.declared.udp.Udp2Socket.{Udp2Socket}
-use Rattle.wasi_host.specs.declared.udp.Udp2Socket.TheVariants as udp
 use Rattle.wasi_host.specs.declared.udp.UdpInProgress.TheVariants as udp_doing
 use Rattle.wasi_host.specs.Listening.{with_listening}
 use Rattle.wasi_host.specs.Store.{with_progress}
 use Rattle.wasi_host.specs.Udp.{with_udp_progress}
-use Rattle.wasi_host.specs.UdpCalls.{with_udp}
 use Rattle.wasi_steps.specs.declared.reply.CodeWord.{CodeWord}
 use Rattle.wasi_walks.specs.Answered.{putting}
 use Rattle.wasi_walks.specs.Waiting.{BindFailed, CallFails, CreateFailed, ListenFailed, StandingFails, UdpBindFailed, UdpConnectFailed, nothing_stands}
+use Rattle.wasi_causes.specs.GivenUp.{giving_back}
 use Rattle.wasi_causes.specs.StreamCauses.{given_by}
 use Rattle.wasi_causes.specs.Udp.{putting_udp}
 
--- the machine, where this is the record of the UDP socket at that place, made or not
-abbrev pub putting_record : Machine → ℕ → Udp2Socket → Machine
-putting_record m place u = record m { store = with_udp m.store place u }
-
 -- The machine afterwards: nothing is pending, and of the records only that of the call has changed. Of a bind and of a listen nothing
--- is in progress, and else the socket is as it was, which has no network socket while it is about to listen; of a create only the name
--- of its network socket is left; and of datagram streams no connect is in progress, and the remote address is as it was where a check
--- was answered no, and else what was reported then. A call of another kind doesn't fail so.
+-- is in progress, and else the socket is as it was, which has no network socket while it is about to listen; of a create nothing is
+-- left, its record was given back; and of datagram streams no connect is in progress, and the remote address is as it was where a
+-- check was answered no, and else what was reported then. A call of another kind doesn't fail so.
 abbrev pub left_failed : (m : Machine) → {entries : List Entry} {call : StandingCall} {c : ErrorCode} → CallFails m entries call c → Machine
 left_failed m (BindFailed place r op c at is why) = putting (nothing_stands m) place (with_progress r doing.Nothing)
 left_failed m (ListenFailed place r op c at is why) = putting (nothing_stands m) place (with_listening r listening.Not)
-left_failed m (CreateFailed place create c at why) = putting_record (nothing_stands m) place (udp.Closed create.operation.who.side)
+left_failed m (CreateFailed place create c at why) = giving_back (nothing_stands m) place
 left_failed m (UdpBindFailed place o op c at is why) = putting_udp (nothing_stands m) place (with_udp_progress o udp_doing.Nothing)
 left_failed m (UdpConnectFailed place handle o op c at is why) = putting_udp (nothing_stands m) place (record o { inner = with_given o.inner (given_by why); connecting = None })
 

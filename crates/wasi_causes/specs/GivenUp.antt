@@ -2,6 +2,7 @@
 use Rattle.wasi_host.specs.declared.kind.PlainInput.TheVariants as plain_input
 use Rattle.wasi_host.specs.declared.kind.PlainOutput.TheVariants as plain_output
 use Rattle.std.specs.Prelude.{◌≡◌, ◌≢◌, ⊤, ℕ, true, List, [], ◌∷◌, ◌++◌, Option, Some, None, IsSome, IsSomeAnd}
+use Rattle.wasi_host.specs.GivingBack.{given_back}
 use Rattle.wasi_addr.specs.declared.address.IpSocketAddress.{IpSocketAddress}
 use Rattle.wasi_addr.specs.declared.address.ShutdownType.{ShutdownType}
 use Rattle.wasi_addr.specs.declared.address.ShutdownType.TheVariants.{Receive, Send, Both}
@@ -24,7 +25,6 @@ use Rattle.wasi_tcp.specs.Job.{Job, closing_job}
 use Rattle.wasi_tcp.specs.Listen.{held_side}
 use Rattle.wasi_tcp.specs.Socket.{side_of}
 use Rattle.wasi_tcp.specs.Writer.{writer_side}
-use Rattle.wasi_host.specs.Records.{tcp2_at}
 use Rattle.wasi_host.specs.declared.jobs.HostJob.{HostJob}
 use Rattle.wasi_host.specs.declared.kind.Kind.{Kind}
 use Rattle.wasi_host.specs.declared.kind.Kind.TheVariants as kind
@@ -34,7 +34,6 @@ use Rattle.wasi_host.specs.declared.machine.Machine.{Machine}
 use Rattle.wasi_host.specs.declared.socket.Streams.{Streams}
 use Rattle.wasi_host.specs.declared.socket.Tcp2Socket.{Tcp2Socket}
 use Rattle.wasi_host.specs.Kinds.{kind_at, without_handle}
-use Rattle.wasi_host.specs.InProgress.{is_nothing}
 use Rattle.wasi_host.specs.Jobs.{is_on}
 use Rattle.wasi_steps.specs.declared.reply.Reply.{Reply}
 use Rattle.wasi_steps.specs.declared.reply.Reply.TheVariants as reply
@@ -73,6 +72,10 @@ IsDropped _ = ⊥
 -- the machine without the handle
 abbrev pub without : Machine → ℕ → Machine
 without m handle = record m { table = without_handle m.table handle }
+
+-- the machine, where the record of this number is given back, and its jobs with it
+abbrev pub giving_back : Machine → ℕ → Machine
+giving_back m place = record m { store = given_back place m.store }
 
 -- all but a socket, an output of a connection, a datagram stream, a lookup and a pipe: nothing is asked where it is dropped, and nothing
 -- else goes
@@ -124,15 +127,11 @@ listening_given_up (listening.Unclosed side) = entry side (call.Close side) told
 abbrev pub socket_given_up : OpId → Tcp2Socket → List Entry
 socket_given_up own r = listening_given_up r.listening ++ streams_given_up own r.streams ++ side_closed own (side_of r.inner)
 
--- Of the socket at this place nothing is left: no network socket, no listener, no streams, nothing in progress, and no job.
-pub record IsGone (m : Machine) (place : ℕ) : Type 0 where
-  pub found : Tcp2Socket
-  pub at : tcp2_at m.store.records place ≡ Some found
-  pub side : side_of found.inner ≡ None
-  pub listening : found.listening ≡ listening.Not
-  pub streams : found.streams ≡ None
-  pub idle : is_nothing found.in_progress ≡ true
-  pub job : (job : HostJob) → Has m.store.jobs job → is_on place job ≡ true → ⊥
+-- Nothing is left of what was dropped: the machine is as it was without the handle, but that the record was given back, and no job is
+-- of it.
+pub record IsGone (m : Machine) (handle place : ℕ) (after : Machine) : Type 0 where
+  pub left : after ≡ giving_back (without m handle) place
+  pub job : (job : HostJob) → Has after.store.jobs job → is_on place job ≡ true → ⊥
 
 -- At most one look was made at whether a network socket may be written to.
 pub data LooksOnce (own : OpId) : List Entry → Type 0 where

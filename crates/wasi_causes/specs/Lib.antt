@@ -18,3 +18,4 @@ pub mod Cancelled
 pub mod Failed
 pub mod DatagramAsks
 pub mod MayAnswer
+pub mod NamedRecords

@@ -20,7 +20,7 @@ use Rattle.wasi_host.specs.declared.machine.Machine.{Machine}
 use Rattle.wasi_host.specs.declared.name_lookup.Lookup.{Lookup}
 use Rattle.wasi_host.specs.declared.name_lookup.Lookup.TheVariants.{InProgress, Found, Failed}
 use Rattle.wasi_host.specs.declared.name_lookup.LookupOp.{LookupOp}
-use Rattle.wasi_host.specs.Jobs.{is_on, other_jobs}
+use Rattle.wasi_host.specs.Jobs.{is_on}
 use Rattle.wasi_host.specs.Kinds.{kind_at, watch_of, with_handle}
 use Rattle.wasi_host.specs.Machine.{lookup_number}
 use Rattle.wasi_host.specs.NameLookup.{looks_on}
@@ -34,7 +34,7 @@ use Rattle.wasi_steps.specs.declared.reply.Reply.TheVariants as reply
 use Rattle.wasi_steps.specs.Reply.{found_values, number_fields}
 use Rattle.wasi_walks.specs.Answered.{lookup_in}
 use Rattle.wasi_walks.specs.Licence.{Has, entry}
-use Rattle.wasi_causes.specs.GivenUp.{without}
+use Rattle.wasi_causes.specs.GivenUp.{giving_back, without}
 
 -- == the lookups that handles name
 -- the lookup of a live handle of one
@@ -128,8 +128,8 @@ pub record LookupWaits (m : Machine) (pollable : ℕ) (entries : List Entry) : T
   pub in_progress : looks_on (lookup_at m.store.records place) ≡ true
   pub quiet : entries ≡ []
 
--- A lookup goes at once, and nothing is asked: it keeps no address, and its job goes with it.
+-- A lookup goes at once, and nothing is asked: its record is given back, and its job goes with it.
 pub record LookupGone (m : Machine) (handle place : ℕ) (entries : List Entry) (after : Machine) : Type 0 where
   pub quiet : entries ≡ []
-  pub left : after ≡ record (without m handle) { store = record (with_lookup_now m.store place Failed) { jobs = other_jobs place m.store.jobs } }
+  pub left : after ≡ giving_back (without m handle) place
   pub job : (job : HostJob) → Has after.store.jobs job → is_on place job ≡ true → ⊥

@@ -60,7 +60,6 @@ use Rattle.wasi_host.specs.Records.{tcp2_at, udp2_at, open_at, lookup_at}
 use Rattle.wasi_host.specs.declared.name_lookup.Lookup.{Lookup}
 use Rattle.wasi_host.specs.NameLookupCalls.{lookup_ready}
 use Rattle.wasi_host.specs.declared.udp.OpenUdp.{OpenUdp}
-use Rattle.wasi_host.specs.UdpCalls.{with_udp}
 use Rattle.wasi_host.specs.declared.udp.Udp2Socket.{Udp2Socket}
 use Rattle.wasi_host.specs.declared.kind.Kind.{Kind}
 use Rattle.wasi_host.specs.declared.kind.Kind.TheVariants as kind
@@ -83,7 +82,7 @@ use Rattle.wasi_host.specs.Names.{next_name}
 use Rattle.wasi_causes.specs.SendCauses.{ReceivesSome, SendsSome, UdpReceiveRefusal, UdpSendRefusal}
 use Rattle.wasi_causes.specs.StreamCauses.{HasNewStreams, MakesStreams, UdpStreamRefusal, StreamsStand}
 use Rattle.wasi_causes.specs.Datagrams.{IsUdpSend, IsUdpStream, HasUdpStreams, IsSpent, OfIncoming, OfOutgoing, LacksRoomForBoth, MadeBoth, PermitsSend, PendingHandleIsLive, LacksRoomForStreams, IsReceiving, WatchesDatagrams, WatchesIncoming, WatchesOutgoing, OutgoingWaits, IncomingGone, OutgoingGone}
-use Rattle.wasi_causes.specs.Udp.{OfUdp, RefusedOfUdp, HasUdpInProgress, HasNoUdpBind, KeepsNoRemote, WatchesUdp, udp_create_entry, writable_entry, with_udp_record, new_udp, UdpCreateRefusal, CreatesUdp, CreateStands, KnowsUdpBound, UdpBindRefusal, BindsUdp, UdpBindStands, FinishesUdpBind, UdpLocalRefusal, TellsUdpLocal, TellsUdpRemote, UdpGetRefusal, GetsUdpOption, UdpSetRefusal, SetsUdpOption, udp_given_up, udp_shut, GivesBy, IsPendingCreate}
+use Rattle.wasi_causes.specs.Udp.{OfUdp, RefusedOfUdp, HasUdpInProgress, HasNoUdpBind, KeepsNoRemote, WatchesUdp, udp_create_entry, writable_entry, with_udp_record, new_udp, UdpCreateRefusal, CreatesUdp, CreateStands, KnowsUdpBound, UdpBindRefusal, BindsUdp, UdpBindStands, FinishesUdpBind, UdpLocalRefusal, TellsUdpLocal, TellsUdpRemote, UdpGetRefusal, GetsUdpOption, UdpSetRefusal, SetsUdpOption, udp_given_up, udp_left, GivesBy, IsPendingCreate}
 
 -- == what holds whatever the reply is
 -- a start is refused so exactly where an operation is in progress
@@ -210,8 +209,8 @@ Looks m line pollable es _ = ⊥
 
 -- what is left where the handle that was dropped is of this kind
 abbrev pub Gone : Machine → ℕ → ℕ → Option Kind → List Entry → Machine → Type 0
-Gone m line handle (Some (kind.Tcp2 place)) es after = (r : Tcp2Socket) → tcp2_at m.store.records place ≡ Some r → (es ≡ socket_given_up (own_of line) r) × IsGone after place
-Gone m line handle (Some (kind.Udp2 place)) es after = (u : Udp2Socket) → udp2_at m.store.records place ≡ Some u → (es ≡ udp_given_up (own_of line) u) × (after ≡ record (without m handle) { store = with_udp m.store place (udp_shut u) })
+Gone m line handle (Some (kind.Tcp2 place)) es after = (r : Tcp2Socket) → tcp2_at m.store.records place ≡ Some r → (es ≡ socket_given_up (own_of line) r) × IsGone m handle place after
+Gone m line handle (Some (kind.Udp2 place)) es after = (u : Udp2Socket) → udp2_at m.store.records place ≡ Some u → (es ≡ udp_given_up (own_of line) u) × (after ≡ udp_left (without m handle) place u)
 Gone m line handle (Some (kind.Output place)) es after = ⊤
 Gone m line handle (Some (kind.Incoming place)) es after = (o : OpenUdp) → open_at m.store.records place ≡ Some o → IncomingGone m handle place o es after
 Gone m line handle (Some (kind.Outgoing place)) es after = (o : OpenUdp) → open_at m.store.records place ≡ Some o → OutgoingGone m handle place o es after

@@ -1,10 +1,11 @@
 -- Inputs and outputs of no connection: how they are made, what their calls answer and what is left. Nothing is asked but their marks.
+use Rattle.wasi_causes.specs.GivenUp.{giving_back}
 use Rattle.std.specs.Prelude.{◌≡◌, ◌≢◌, ◌↔◌, ℕ, ◌<◌, List, [], ◌∷◌, ◌++◌, take, drop, Some, None, IfSome, IsSomeAnd}
 use Rattle.wasi_world.specs.declared.call.Call.TheVariants as call
 use Rattle.wasi_world.specs.declared.call.Entry.{Entry}
 use Rattle.wasi_world.specs.declared.call.Told.TheVariants as told
 use Rattle.wasi_world.specs.declared.outcome.TrapKind.TheVariants.{Capacity}
-use Rattle.wasi_memory.specs.Plain.{Contents, left_in, no_contents}
+use Rattle.wasi_memory.specs.Plain.{Contents, left_in}
 use Rattle.wasi_host.specs.declared.kind.Kind.{Kind}
 use Rattle.wasi_host.specs.declared.kind.PlainInput.{PlainInput}
 use Rattle.wasi_host.specs.declared.kind.PlainInput.TheVariants as input
@@ -138,9 +139,9 @@ abbrev pub EndsCheck : Machine → ℕ → List Entry → Machine → Type 0
 EndsCheck m h es after = IsSomeAnd (plain_output_at m h) (TakesNoMore m) × Quiet m es after
 
 -- == a drop
--- the bytes of a pipe are given back
+-- the record of a pipe is given back, with its bytes
 abbrev pub InputPipeGone : Machine → ℕ → ℕ → Machine → Machine → Type 0
-InputPipeGone m handle place without after = (bytes : List ℕ) → input_pipe_at m.store.records place ≡ Some bytes → after ≡ leaving without place []
+InputPipeGone m handle place without after = (bytes : List ℕ) → input_pipe_at m.store.records place ≡ Some bytes → after ≡ giving_back without place
 
 abbrev pub OutputPipeGone : Machine → ℕ → ℕ → Machine → Machine → Type 0
-OutputPipeGone m handle place without after = (pipe : Contents) → output_pipe_at m.store.records place ≡ Some pipe → after ≡ containing without place (no_contents 0)
+OutputPipeGone m handle place without after = (pipe : Contents) → output_pipe_at m.store.records place ≡ Some pipe → after ≡ giving_back without place

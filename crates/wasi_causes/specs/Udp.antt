@@ -1,5 +1,6 @@
 -- How the steps of UDP sockets are answered: where each answer comes from, and what is left afterwards.
 use Rattle.wasi_causes.specs.Blocking.{GivesOf}
+use Rattle.wasi_causes.specs.GivenUp.{giving_back}
 use Rattle.std.specs.Prelude.{◌≡◌, ℕ, ◌<◌, ◌≤◌, true, false, length, List, [], ◌∷◌, ◌++◌, Option, Some, None, IsSome, IsSomeAnd}
 use Rattle.wasi_addr.specs.declared.address.IpSocketAddress.{IpSocketAddress}
 use Rattle.wasi_addr.specs.declared.address.SocketAddressFamily.{SocketAddressFamily}
@@ -96,13 +97,13 @@ abbrev pub new_udp : OpId → WasiSocketsCtx → SocketAddressFamily → Udp2Soc
 new_udp own ctx family = opened_udp (made_by (new_create own ctx.name family))
 
 -- A create is refused: the context may not use UDP, and nothing is asked; or the create returned a code, and nothing is made; or
--- its network socket, which was made, returned one when it was waited for, and was closed, so that of the record only the name
--- of the network socket is left.
+-- its network socket, which was made, returned one when it was waited for, and was closed, and nothing is left of the record that
+-- it had.
 pub data UdpCreateRefusal (m : Machine) (own : OpId) (ctx : WasiSocketsCtx) (family : SocketAddressFamily) : List Entry → CodeWord → Machine → Type 0 where
   UdpNotAllowed : ctx.udp ≡ false → UdpCreateRefusal m own ctx family [] word.AccessDenied m
   UdpCreateTold : (c : ErrorCode) → ctx.udp ≡ true → UdpCreateRefusal m own ctx family (udp_create_entry own ctx family (told.Code c) ∷ []) (word_of_code c) m
   UdpWritableTold : (c : ErrorCode) → ctx.udp ≡ true
-      → UdpCreateRefusal m own ctx family (udp_create_entry own ctx family told.Done ∷ writable_entry own (told.Code c) ∷ entry own (call.Close own) told.Done ∷ []) (word_of_code c) (with_udp_record m (udp.Closed own))
+      → UdpCreateRefusal m own ctx family (udp_create_entry own ctx family told.Done ∷ writable_entry own (told.Code c) ∷ entry own (call.Close own) told.Done ∷ []) (word_of_code c) (giving_back (with_udp_record m (udp.Closed own)) (length m.store.records))
 
 -- The socket was made, and its network socket may be used; it has a record, and the next handle, which is marked by the name of
 -- the create.
@@ -245,10 +246,11 @@ abbrev pub udp_given_up : OpId → Udp2Socket → List Entry
 udp_given_up own (udp.Open o) = entry own (call.Close o.inner.side) told.Done ∷ []
 udp_given_up own _ = []
 
--- and leaves of it the name of the network socket
-abbrev pub udp_shut : Udp2Socket → Udp2Socket
-udp_shut (udp.Open o) = udp.Closed o.inner.side
-udp_shut u = u
+-- and nothing is left of its record; a create, which has no handle, stays
+abbrev pub udp_left : Machine → ℕ → Udp2Socket → Machine
+udp_left m place (udp.Creating create) = m
+udp_left m place (udp.Open o) = giving_back m place
+udp_left m place (udp.Closed side) = giving_back m place
 
 -- == a poll of the pending call
 -- a create that is done gives the next handle, which is of its record, and the socket is there; datagram streams give the next two,

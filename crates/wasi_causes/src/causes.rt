@@ -13,7 +13,7 @@ ghost use Rattle.wasi_world.specs.declared.call.Told.{Told};
 ghost use Rattle.wasi_world.specs.declared.outcome.TrapKind.{TrapKind};
 ghost use Rattle.wasi_world.specs.declared.outcome.WasiSocketsCtx.{WasiSocketsCtx};
 ghost use Rattle.wasi_world.specs.Asks.{Give, Left};
-ghost use Rattle.wasi_memory.specs.Plain.{Contents, no_contents};
+ghost use Rattle.wasi_memory.specs.Plain.{Contents};
 ghost use Rattle.wasi_tcp.specs.Socket.{new_socket};
 ghost use Rattle.wasi_host.specs.declared.kind.Kind.{Kind};
 ghost use Rattle.wasi_host.specs.declared.kind.PlainInput.{PlainInput};
@@ -30,12 +30,12 @@ ghost use Rattle.wasi_causes.specs.Blocking.{StreamCallStands};
 ghost use Rattle.wasi_causes.specs.Cancelled.{IsCancel};
 ghost use Rattle.wasi_causes.specs.Failed.{FailureLeaves};
 ghost use Rattle.wasi_causes.specs.Outcomes.{may_answer, EachMayAnswer, InputIsThere, IsBlockingWrite, LaterPartIsThere, Outcome};
-ghost use Rattle.wasi_causes.specs.Plain.{containing, leaving, WatchesPlain};
+ghost use Rattle.wasi_causes.specs.Plain.{WatchesPlain};
 ghost use Rattle.wasi_causes.specs.PollableCalls.{IsEmptyWait, WatchedIsThere};
 ghost use Rattle.wasi_causes.specs.Udp.{IsPendingCreate};
 ghost use Rattle.wasi_causes.specs.Datagrams.{IsUdpSend, IsUdpStream, LacksRoomForStreams, OutgoingWaits, PendingHandleIsLive, WatchesDatagrams};
 ghost use Rattle.wasi_causes.specs.Reached.{FinishesAt, ListensLate, MayFinish, OfItsRecord};
-ghost use Rattle.wasi_causes.specs.GivenUp.{GoesAtOnce, HasLiveChildren, HasNoStreams, IsDrop, IsDropped, IsGone, LooksOnce, shut_down, shutdown_entries, socket_given_up, without};
+ghost use Rattle.wasi_causes.specs.GivenUp.{giving_back, GoesAtOnce, HasLiveChildren, HasNoStreams, IsDrop, IsDropped, IsGone, LooksOnce, shut_down, shutdown_entries, socket_given_up, without};
 ghost use Rattle.wasi_walks.specs.Licence.{entry, Has, marks_in};
 ghost use Rattle.wasi_machine.specs.Machine.{context_at, run};
 ghost use Rattle.wasi_steps.specs.Steps.{context_of};
@@ -136,8 +136,8 @@ pub fn traps_have_causes()
 /// with the word of the code by which the bind, the listen, the create or the connect of datagram streams failed: a check was
 /// answered no, or another of its asks was answered with the code, by its own operation, and a listen and a create closed their
 /// network socket last, and a connect that was answered asked for the remote address. Nothing is pending then, and the machine is as it
-/// was but for the call's record: its bind, its listen or its connect is in progress no more, of a create it has only the name
-/// of the network socket, and after a connect that was answered with a code the remote address is what was reported. That is said
+/// was but for the call's record: its bind, its listen or its connect is in progress no more, of a create nothing is left, since its
+/// record was given back, and after a connect that was answered with a code the remote address is what was reported. That is said
 /// where what is pending as a bind is a bind, as a listen a listen, as a create a create, and as datagram streams a connect, as it is
 /// after any lines. In a run a poll traps only for lack of room for the handle of a create, for the two of datagram streams, or for
 /// that of a stream's error.
@@ -332,9 +332,9 @@ pub fn errors_have_no_network_code()
 
 /// A drop of a socket is done, unless it traps. It releases what is open: what it listens by, which refuses an arrival in hand
 /// and closes a connection that wasn't taken; the receiving half while that is open, then the sending half while there is one,
-/// and then the socket's network socket, each answered done; and nothing is left of the socket. A drop of a
+/// and then the socket's network socket, each answered done; and nothing is left of its record, and no job. A drop of a
 /// network, an input, a pollable, an error, a sink or a closed stream asks nothing and takes the handle out, that of a pipe's end
-/// gives back what the pipe holds besides, and a drop of an output of a connection looks once at most.
+/// leaves nothing of the pipe's record either, and a drop of an output of a connection looks once at most.
 /// Whatever was dropped, its handle is live no more.
 pub fn drops_give_up_what_is_open()
     ensures socket { (contexts : List WasiSocketsCtx) (m : Machine) (line ctx handle place : ℕ) (entries : List Entry) (reply : Reply) (after : Machine)
@@ -345,7 +345,7 @@ pub fn drops_give_up_what_is_open()
         → entries ≡ socket_given_up (own_of line) r }
     ensures gone { (contexts : List WasiSocketsCtx) (m : Machine) (line ctx handle : ℕ) (r : Tcp2Socket) (fields : List Field) (entries : List Entry) (after : Machine)
         → record_at m handle ≡ Some r → Answered contexts m line (Step.Drop ctx handle) entries (Reply.Ok fields) after
-        → OfRecord m handle (λ place r. IsGone after place) }
+        → OfRecord m handle (λ place r. IsGone m handle place after) }
     ensures plain { (contexts : List WasiSocketsCtx) (m : Machine) (line ctx handle : ℕ) (kind : Kind) (entries : List Entry) (reply : Reply) (after : Machine)
         → kind_at m.table handle ≡ Some kind → GoesAtOnce kind → Answered contexts m line (Step.Drop ctx handle) entries reply after → entries ≡ [] }
     ensures plain_leaves { (contexts : List WasiSocketsCtx) (m : Machine) (line ctx handle : ℕ) (kind : Kind) (entries : List Entry) (reply : Reply) (after : Machine)
@@ -353,10 +353,10 @@ pub fn drops_give_up_what_is_open()
         → after ≡ without m handle }
     ensures input_pipe { (contexts : List WasiSocketsCtx) (m : Machine) (line ctx handle place : ℕ) (bytes : List ℕ) (fields : List Field) (entries : List Entry) (after : Machine)
         → kind_at m.table handle ≡ Some (Kind.PlainInput (PlainInput.Pipe place)) → input_pipe_at m.store.records place ≡ Some bytes → Answered contexts m line (Step.Drop ctx handle) entries (Reply.Ok fields) after
-        → (entries ≡ []) × (after ≡ leaving (without m handle) place []) }
+        → (entries ≡ []) × (after ≡ giving_back (without m handle) place) }
     ensures output_pipe { (contexts : List WasiSocketsCtx) (m : Machine) (line ctx handle place : ℕ) (pipe : Contents) (fields : List Field) (entries : List Entry) (after : Machine)
         → kind_at m.table handle ≡ Some (Kind.PlainOutput (PlainOutput.Pipe place)) → output_pipe_at m.store.records place ≡ Some pipe → Answered contexts m line (Step.Drop ctx handle) entries (Reply.Ok fields) after
-        → (entries ≡ []) × (after ≡ containing (without m handle) place (no_contents 0)) }
+        → (entries ≡ []) × (after ≡ giving_back (without m handle) place) }
     ensures output { (contexts : List WasiSocketsCtx) (m : Machine) (line ctx handle place : ℕ) (entries : List Entry) (reply : Reply) (after : Machine)
         → kind_at m.table handle ≡ Some (Kind.Output place) → Answered contexts m line (Step.Drop ctx handle) entries reply after → LooksOnce (own_of line) entries }
     ensures table { (contexts : List WasiSocketsCtx) (m : Machine) (line ctx handle : ℕ) (entries : List Entry) (reply : Reply) (after : Machine)

@@ -9,6 +9,7 @@ pub mod listens;
 pub mod lookups;
 pub mod options;
 pub mod received;
+pub mod records;
 pub mod stream_calls;
 pub mod udp;
 pub mod waiting;

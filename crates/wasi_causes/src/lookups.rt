@@ -90,7 +90,7 @@ pub fn addresses_are_handed_out_in_order()
 {}
 
 /// A pollable of a lookup is ready exactly where the lookup isn't in progress. That asks nothing, and the machine stays as it was.
-/// A drop of a lookup asks nothing. The lookup keeps no address, and no job is its afterwards, so a turn doesn't ask about it.
+/// A drop of a lookup asks nothing. Nothing is left of its record, and no job is its afterwards, so a turn doesn't ask about it.
 pub fn lookups_are_watched_and_dropped()
     ensures watched { (contexts : List WasiSocketsCtx) (m : Machine) (line ctx pollable place : ℕ) (entries : List Entry) (reply : Reply) (after : Machine)
         → m.store.standing ≡ None → WatchesLookup m pollable place → Answered contexts m line (Step.Ready ctx pollable) entries reply after

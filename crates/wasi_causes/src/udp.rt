@@ -14,7 +14,6 @@ ghost use Rattle.wasi_host.specs.declared.udp.Udp2Socket.{Udp2Socket};
 ghost use Rattle.wasi_host.specs.Kinds.{is_network, kind_at};
 ghost use Rattle.wasi_host.specs.Machine.{own_of};
 ghost use Rattle.wasi_host.specs.Records.{udp2_at};
-ghost use Rattle.wasi_host.specs.UdpCalls.{with_udp};
 ghost use Rattle.wasi_machine.specs.Machine.{context_at};
 ghost use Rattle.wasi_steps.specs.declared.reply.CodeWord.{CodeWord};
 ghost use Rattle.wasi_steps.specs.declared.reply.Field.{Field};
@@ -30,12 +29,12 @@ ghost use Rattle.wasi_walks.specs.Answered.{Answered, open_udp_at};
 ghost use Rattle.wasi_causes.specs.Blocking.{StreamCallStands};
 ghost use Rattle.wasi_causes.specs.GivenUp.{without};
 ghost use Rattle.wasi_causes.specs.Datagrams.{LacksRoomForStreams};
-ghost use Rattle.wasi_causes.specs.Udp.{OfUdp, RefusedOfUdp, HasUdpInProgress, HasNoUdpBind, KeepsNoRemote, WatchesUdp, udp_create_entry, writable_entry, with_udp_record, new_udp, UdpCreateRefusal, CreatesUdp, CreateStands, KnowsUdpBound, UdpBindRefusal, BindsUdp, UdpBindStands, FinishesUdpBind, UdpLocalRefusal, TellsUdpLocal, TellsUdpRemote, UdpGetRefusal, GetsUdpOption, UdpSetRefusal, SetsUdpOption, udp_given_up, udp_shut, GivesBy, IsPendingCreate};
+ghost use Rattle.wasi_causes.specs.Udp.{OfUdp, RefusedOfUdp, HasUdpInProgress, HasNoUdpBind, KeepsNoRemote, WatchesUdp, udp_create_entry, writable_entry, with_udp_record, new_udp, UdpCreateRefusal, CreatesUdp, CreateStands, KnowsUdpBound, UdpBindRefusal, BindsUdp, UdpBindStands, FinishesUdpBind, UdpLocalRefusal, TellsUdpLocal, TellsUdpRemote, UdpGetRefusal, GetsUdpOption, UdpSetRefusal, SetsUdpOption, udp_given_up, udp_left, GivesBy, IsPendingCreate};
 
 /// A create of a UDP socket is refused with `access-denied` where the context may not use UDP, and it asks nothing then; or
 /// with the word of the code that the create was answered, and the machine is as it was then; or with that of the code that the
-/// network socket returned while it was waited for, and then it was closed, and of the record only its name is left. There
-/// is no handle then.
+/// network socket returned while it was waited for, and then it was closed, and nothing is left of its record. There is no
+/// handle then.
 pub fn udp_create_refusals()
     ensures cause { (contexts : List WasiSocketsCtx) (m : Machine) (line ctx : ℕ) (family : SocketAddressFamily) (entries : List Entry) (word : CodeWord) (after : Machine)
         → Answered contexts m line (Step.UdpCreate ctx family) entries (Reply.Err word) after
@@ -184,7 +183,7 @@ pub fn udp_options_are_read_and_set()
 {}
 
 /// A drop of a UDP socket is done, unless it traps. It closes the network socket of a socket that is there, which is answered
-/// done, and asks nothing else; of the record only the name of the network socket is left, and the handle is live no more.
+/// done, and asks nothing else; nothing is left of its record, and the handle is live no more.
 pub fn udp_drops_close()
     ensures socket { (contexts : List WasiSocketsCtx) (m : Machine) (line ctx handle place : ℕ) (entries : List Entry) (reply : Reply) (after : Machine)
         → m.store.standing ≡ None → kind_at m.table handle ≡ Some (Kind.Udp2 place) → children_of m.table.live handle ≡ []
@@ -194,7 +193,7 @@ pub fn udp_drops_close()
         → Answered contexts m line (Step.Drop ctx handle) entries (Reply.Ok fields) after → entries ≡ udp_given_up (own_of line) u }
     ensures left { (contexts : List WasiSocketsCtx) (m : Machine) (line ctx handle place : ℕ) (u : Udp2Socket) (fields : List Field) (entries : List Entry) (after : Machine)
         → kind_at m.table handle ≡ Some (Kind.Udp2 place) → udp2_at m.store.records place ≡ Some u
-        → Answered contexts m line (Step.Drop ctx handle) entries (Reply.Ok fields) after → after ≡ record (without m handle) { store = with_udp m.store place (udp_shut u) } }
+        → Answered contexts m line (Step.Drop ctx handle) entries (Reply.Ok fields) after → after ≡ udp_left (without m handle) place u }
 {}
 
 /// A poll that is done gives the next handle, of the socket that was made, where what was pending is a create of a UDP socket;

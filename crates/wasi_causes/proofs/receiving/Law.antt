@@ -38,8 +38,9 @@ use Rattle.wasi_causes.proofs.StreamHandles.{apart_in, streams_law}
 use Rattle.wasi_causes.proofs.receiving.Along.{Along, HandName}
 use Rattle.wasi_causes.proofs.receiving.Named.{IsFirst, job_name, name_of_op, streams_name}
 use Rattle.wasi_causes.proofs.receiving.Polled.{Exact, hand_of}
+use Rattle.wasi_causes.proofs.GivenBack.{open_stays}
 use Rattle.wasi_causes.proofs.receiving.Polls.{Mine, Rest, apart_of, begun_none, connecting_none, no_stream, not_first, polled_tcp, polled_udp, question_else, quietly, receives, same_open, udp_question_else}
-use Rattle.wasi_causes.proofs.receiving.Streams.{Becomes, IsElse, IsFresh, Knows, NotStream, StreamAt, StreamIs, fresh_with, put_at, stays_so, stream_more, stream_push, stream_push_tcp, stream_put, stream_put_tcp, stream_same, stream_with, stream_without, tcp_at}
+use Rattle.wasi_causes.proofs.receiving.Streams.{Becomes, IsElse, IsFresh, Knows, NotStream, StreamAt, StreamIs, fresh_with, put_at, stays_so, stream_more, stream_push, stream_push_tcp, stream_put, stream_put_tcp, stream_same, stream_stays, stream_with, stream_without, tcp_at}
 
 module _ (handle : ℕ) (list : List IncomingDatagram) (contexts : List WasiSocketsCtx) (line : ℕ) (origin : Step) where
   abbrev pub B : List Entry → Here → Type 0
@@ -128,6 +129,7 @@ module _ (handle : ℕ) (list : List IncomingDatagram) (contexts : List WasiSock
     moves_exact es _ _ (walk.CancelsBind h place r op q g e) b i = tcp es h place r _ g i
     moves_exact es _ _ (walk.CancelsUdpBind h place o op q g e) b i = udp_same es h place o _ g refl refl i
     moves_exact es _ _ (walk.CancelsUdpConnect h place o q g) b i = udp_same es h place o _ g refl refl i
+    moves_exact es _ _ (walk.GivesBack h place idle left) b i = (stream_stays handle list es h.machine.table h.machine.store.records _ (open_stays h place left) i.0, i.1)
     moves_exact es _ _ (walk.Finds h records s) b i = (stream_same handle list es h.machine.table h.machine.store.records records s i.0, i.1)
     moves_exact es _ _ (walk.Empties h gone kind e none) b i = (stream_without handle list es h.machine.table h.machine.store.records gone i.0, i.1)
     moves_exact es _ _ (walk.Takes h gone none) b i = (stream_without handle list es h.machine.table h.machine.store.records gone i.0, i.1)
@@ -233,7 +235,7 @@ module _ (handle : ℕ) (list : List IncomingDatagram) (contexts : List WasiSock
     pub not_stream : (h : Here) (kind : Kind) (parent : Option ℕ) (sock : Option OpId) → Marks origin h kind parent sock → NotStream kind
     not_stream h kind _ _ (walk.AStream c its place _ is e opened) = of_tcp kind place e
     not_stream h kind _ _ (walk.AnAcceptedStream c listener its place _ r is e made own g) = of_tcp kind place e
-    not_stream h kind _ _ (walk.APlain _ makes) = plain_other kind (makes_plain origin kind makes)
+    not_stream h kind _ _ (walk.APlain _ makes numbered) = plain_other kind (makes_plain origin kind makes)
     not_stream h _ _ _ _ = tt
 
     -- == what is created

@@ -4,10 +4,12 @@ use Rattle.wasi_causes.proofs.Words.{Done, End, Given, Item, List, None, OpId, O
 use Rattle.wasi_walks.proofs.Words.{closed_by, written_by, ◌≤◌}
 use Rattle.wasi_world.specs.Operation as item
 use Rattle.wasi_host.specs.Receiving.{receive_left}
-use Rattle.wasi_host.specs.Records.{tcp2_at, tcp2_put, tcp2_pushed, udp2_at, udp2_put, udp2_pushed}
+use Rattle.wasi_host.specs.GivingBack.{record_gone}
+use Rattle.wasi_host.specs.Records.{tcp2_at, tcp2_of, tcp2_put, tcp2_pushed, udp2_at, udp2_of, udp2_put, udp2_pushed}
 use Rattle.wasi_host.specs.declared.name_lookup.LookupOp.{LookupOp}
 use Rattle.wasi_host.specs.declared.records.Record.{Record}
 use Rattle.wasi_host.specs.declared.udp.Udp2Socket.{Udp2Socket}
+use Rattle.wasi_walks.proofs.GoneLists.{was_there}
 use Rattle.wasi_walks.proofs.Lists.{get_set, get_split}
 use Rattle.wasi_walks.proofs.UdpLists.{tcp_of_put, tcp_of_push, udp_get_set, udp_of_put, udp_of_push, udp_split}
 use Rattle.wasi_walks.proofs.walks.Here.{Grows, IsOlder}
@@ -142,6 +144,16 @@ module _ (line : ℕ) where
       apart = λ a b u v x e g r t. i.apart a b u v x (sym (s.udp a) ∙ e) (sym (s.udp b) ∙ g) r t;
       connects = λ k u e. i.connects k u (sym (s.udp k) ∙ e);
       writes = λ k r e. i.writes k r (sym (s.tcp k) ∙ e);
+      gives = i.gives;
+    }
+
+    -- one is given back
+    pub fewer_apart : (place : ℕ) → NamesApart line own records → NamesApart line own (record_gone records place)
+    fewer_apart place i = record {
+      later = λ k u x e r. i.later k u x (was_there udp2_of refl records place k u e) r;
+      apart = λ a b u v x e g r t. i.apart a b u v x (was_there udp2_of refl records place a u e) (was_there udp2_of refl records place b v g) r t;
+      connects = λ k u e. i.connects k u (was_there udp2_of refl records place k u e);
+      writes = λ k r e. i.writes k r (was_there tcp2_of refl records place k r e);
       gives = i.gives;
     }
 

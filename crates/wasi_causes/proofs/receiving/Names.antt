@@ -18,7 +18,7 @@ use Rattle.wasi_walks.proofs.walks.Here.{grows_to, next_given, next_grows, next_
 use Rattle.wasi_walks.proofs.walks.Moves as walk
 use Rattle.wasi_walks.proofs.walks.Moves.{FoundUdp, Held, Here, Move, Names, Own, ToConnect, Unused, Used, joined, part_of, put, put_udp, udp_begun}
 use Rattle.wasi_walks.proofs.walks.OnBase.{Above}
-use Rattle.wasi_causes.proofs.receiving.Named.{GivesLater, IsFirst, NamesApart, begins_apart, connect_name, job_name, kept_name, moves_first, name_of_op, owns_apart, polled_name, push_tcp, push_udps, put_tcp, put_udps, receive_name, same_apart, streams_name}
+use Rattle.wasi_causes.proofs.receiving.Named.{GivesLater, IsFirst, NamesApart, begins_apart, connect_name, job_name, kept_name, moves_first, name_of_op, owns_apart, polled_name, push_tcp, push_udps, put_tcp, put_udps, receive_name, same_apart, fewer_apart, streams_name}
 
 module _ (contexts : List WasiSocketsCtx) (line : ℕ) (origin : Step) where
   abbrev pub Apart : Here → Type 0
@@ -84,6 +84,7 @@ module _ (contexts : List WasiSocketsCtx) (line : ℕ) (origin : Step) where
   moves_apart _ _ (walk.CancelsBind h place r op q g e) i = tcp_stays h place r _ g refl i
   moves_apart _ _ (walk.CancelsUdpBind h place o op q g e) i = udp_stays h place o _ g refl refl i
   moves_apart _ _ (walk.CancelsUdpConnect h place o q g) i = put_udps line h.own h.machine.store.records place (Udp2Socket.Open o) (Udp2Socket.Open _) g (inl refl) i tt
+  moves_apart _ _ (walk.GivesBack h place idle left) i = fewer_apart line h.own h.machine.store.records place i
   moves_apart _ _ (walk.Finds h records s) i = same_apart line h.own h.machine.store.records records s i
   moves_apart _ _ _ i = record { later = i.later; apart = i.apart; connects = i.connects; writes = i.writes; gives = i.gives }
 

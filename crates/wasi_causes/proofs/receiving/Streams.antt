@@ -162,6 +162,10 @@ module _ (handle : ℕ) (list : List IncomingDatagram) where
   pub stream_same : {new : LookupOp → Type 0} (es : List Entry) (t : Handles) (records now : List Record) → SameSockets new records now → StreamIs es t records → StreamIs es t now
   stream_same es t records now same i place e = let s = i place e in record { socket = s.socket; at = same.udp place ∙ s.at; stream = s.stream; has = s.has; knows = s.knows }
 
+  -- what is open stays
+  pub stream_stays : (es : List Entry) (t : Handles) (records now : List Record) → ((k : ℕ) (o : OpenUdp) → udp2_at records k ≡ Some (Udp2Socket.Open o) → udp2_at now k ≡ Some (Udp2Socket.Open o)) → StreamIs es t records → StreamIs es t now
+  stream_stays es t records now stays i place e = let s = i place e in record { socket = s.socket; at = stays place s.socket s.at; stream = s.stream; has = s.has; knows = s.knows }
+
   -- == the table changes
   pub stream_without : (es : List Entry) (t : Handles) (records : List Record) (gone : ℕ) → StreamIs es t records → StreamIs es (without_handle t gone) records
   stream_without es t records gone i place e = i place (value_without t.live gone handle (Incoming place) e)

@@ -16,6 +16,7 @@ lookup_tcp_put (rec.Udp2 x ∷ xs) zero r now zero h = absurd (cc)
 lookup_tcp_put (rec.Lookup x ∷ xs) zero r now zero h = absurd (cc)
 lookup_tcp_put (rec.InputPipe x ∷ xs) zero r now zero h = absurd (cc)
 lookup_tcp_put (rec.OutputPipe x ∷ xs) zero r now zero h = absurd (cc)
+lookup_tcp_put (rec.Gone ∷ xs) zero r now zero h = absurd (cc)
 lookup_tcp_put (z ∷ xs) zero r now (suc k) h = refl
 lookup_tcp_put (z ∷ xs) (suc i) r now zero h = refl
 lookup_tcp_put (z ∷ xs) (suc i) r now (suc k) h = lookup_tcp_put xs i r now k h
@@ -27,6 +28,7 @@ lookup_udp_put (rec.Tcp2 x ∷ xs) zero u now zero h = absurd (cc)
 lookup_udp_put (rec.Lookup x ∷ xs) zero u now zero h = absurd (cc)
 lookup_udp_put (rec.InputPipe x ∷ xs) zero u now zero h = absurd (cc)
 lookup_udp_put (rec.OutputPipe x ∷ xs) zero u now zero h = absurd (cc)
+lookup_udp_put (rec.Gone ∷ xs) zero u now zero h = absurd (cc)
 lookup_udp_put (z ∷ xs) zero u now (suc k) h = refl
 lookup_udp_put (z ∷ xs) (suc i) u now zero h = refl
 lookup_udp_put (z ∷ xs) (suc i) u now (suc k) h = lookup_udp_put xs i u now k h
@@ -50,6 +52,7 @@ lookup_same (rec.Tcp2 x ∷ xs) zero l h = absurd (cc)
 lookup_same (rec.Udp2 x ∷ xs) zero l h = absurd (cc)
 lookup_same (rec.InputPipe x ∷ xs) zero l h = absurd (cc)
 lookup_same (rec.OutputPipe x ∷ xs) zero l h = absurd (cc)
+lookup_same (rec.Gone ∷ xs) zero l h = absurd (cc)
 lookup_same (z ∷ xs) (suc i) l h = ap (λ (rest : List Record). z ∷ rest) (lookup_same xs i l h)
 
 -- each other lookup stays

@@ -10,6 +10,7 @@ use Rattle.wasi_host.specs.Records.{udp2_at, udp2_put, udp2_pushed}
 use Rattle.wasi_host.specs.Udp.{udp_side, udp_create_ended}
 use Rattle.wasi_host.specs.UdpCreates.{with_create, create_answered, poll_create_at, mark_udp, create_so, create_on, create_begun, create_udp_asks}
 use Rattle.wasi_host.specs.declared.kind.Kind.TheVariants.{Udp2}
+use Rattle.wasi_causes.specs.GivenUp.{giving_back}
 use Rattle.wasi_host.specs.declared.records.Record.{Record}
 use Rattle.wasi_host.specs.declared.udp.Udp2Socket.{Udp2Socket}
 use Rattle.wasi_host.specs.declared.udp.Udp2Socket.TheVariants as udp
@@ -64,7 +65,7 @@ module _ (contexts : List WasiSocketsCtx) (m : Machine) (line c : ℕ) (family :
   over : (es : List Entry) (given : Given) (items : List Item) → PollRow es (Done given, items) → es ≡ writable_entry own told.Done ∷ []
   over _ _ _ (GoesOn _ _ _ _ _ WritableToldDone WasOver) = refl
 
-  refused : ctx.udp ≡ true → (es : List Entry) (code : ErrorCode) (given : Given) (items : List Item) → PollRow es (Refused code given, items) → UdpCreateRefusal m own ctx family (begun ∷ es) (word_of_code code) (with_udp_record m (udp.Closed own))
+  refused : ctx.udp ≡ true → (es : List Entry) (code : ErrorCode) (given : Given) (items : List Item) → PollRow es (Refused code given, items) → UdpCreateRefusal m own ctx family (begun ∷ es) (word_of_code code) (giving_back (with_udp_record m (udp.Closed own)) (length m.store.records))
   refused may _ _ _ _ (Stops _ _ _ _ (WritableToldCode code)) = UdpWritableTold code may
   refused may _ _ _ _ (GoesOn _ _ _ _ _ passed row) = absurd (not_over row)
 
@@ -101,7 +102,7 @@ module _ (contexts : List WasiSocketsCtx) (m : Machine) (line c : ℕ) (family :
       (λ full. (only may, (tt, full_so m (with_udp_record m (new_udp own ctx family)) es full refl (ap marks_in asked), (full, asked, refl))))
       (only may, ((tt, tt), record { number = refl; asked = ap (λ (xs : List Entry). xs ++ entry own (call.Made m.table.next name.Udp2 None (Some own)) told.Done ∷ []) asked; left = refl })))
   polled_so may es (Refused code given, items) k =
-      ends (subst (λ (x : Machine). CreateRow es (Err (code_stop code), x)) (sym (put_so (udp.Closed own))) (only may, (code_word code, rw k.cut (refused may k.rest code given items k.row))))
+      ends (subst (λ (x : Machine). CreateRow es (Err (code_stop code), x)) (sym (ap (λ (x : Machine). giving_back x place) (put_so (udp.Closed own)))) (only may, (code_word code, rw k.cut (refused may k.rest code given items k.row))))
 
   polls : ctx.udp ≡ true → Meets CreateRow (begun ∷ []) (create_on now (first_ids line) place)
   polls may =

@@ -1,5 +1,5 @@
 -- A cancel of the pending call.
-use Rattle.wasi_causes.proofs.Words.{◌≡◌, ◌==◌, ◌∙◌, ℕ, Bool, true, false, if◌then◌else◌, List, [], Option, Some, None, refl, sym, subst, ap, inl, inr, Entry, Give, IfSome, IsListening, IsSomeAnd, Listening, Machine, PendingCallsFit, Records, Standing, StandingCall, Tcp2Socket, WasiSocketsCtx, bind, call_of, eq-eqb, side_of, stands_as, standing_as, unstood}
+use Rattle.wasi_causes.proofs.Words.{nothing_stands, ◌≡◌, ◌==◌, ◌∙◌, ℕ, Bool, true, false, if◌then◌else◌, List, [], Option, Some, None, refl, sym, subst, ap, inl, inr, Entry, Give, IfSome, IsListening, IsSomeAnd, Listening, Machine, PendingCallsFit, Records, Standing, StandingCall, Tcp2Socket, WasiSocketsCtx, bind, call_of, eq-eqb, side_of, stands_as, standing_as, unstood}
 use Rattle.wasi_world.specs.declared.ids.Ids.{Ids}
 use Rattle.wasi_world.specs.declared.call.Call.TheVariants as call
 use Rattle.wasi_udp.specs.Create.{Create}
@@ -23,6 +23,9 @@ use Rattle.wasi_causes.proofs.Ending.{listening_up}
 use Rattle.wasi_causes.proofs.tables.Meets.{Meets, Rows, asks, branch, ends, onto, told_so, widen}
 use Rattle.wasi_causes.proofs.tables.Routes.{Says, apart}
 use Rattle.wasi_causes.specs.Cancelled.{CancelsBy, CreateGivenUp, ListenGivenUp}
+use Rattle.wasi_host.specs.GivingBack.{given_back}
+use Rattle.wasi_host.specs.declared.records.Record.{Record}
+use Rattle.wasi_causes.proofs.GivenBack.{put_gone}
 use Rattle.wasi_host.specs.UdpCalls.{with_udp}
 use Rattle.wasi_causes.proofs.Words.{◌∷◌}
 use Rattle.wasi_causes.specs.Outcomes.{Outcome}
@@ -75,8 +78,8 @@ module _ (m : Machine) where
         let k : IfSome (udp2_at m.store.records place) IsCreating = rw stands at fits in
         let its : IsCreating (udp.Creating create) = rw at at k in ap (λ (items : List Item). is_going (record create.operation { left = items })) its.1
 
-    created : (place : ℕ) (create : Create) → udp2_at m.store.records place ≡ Some (udp.Creating create) → Under ids (StandingCall.UdpCreate place) → (es : List Entry) → (PendingCallsFit m → es ≡ entry create.operation.who.id (call.Close create.operation.who.side) told.Done ∷ []) → LeftRow (StandingCall.UdpCreate place) es (with_udp free place (udp.Closed create.operation.who.side))
-    created place create at stands es asked = (λ other there. let its : create ≡ other = cc in subst (λ (x : Create). CreateGivenUp m place x es (record m { store = with_udp free place (udp.Closed create.operation.who.side) })) its (record { asked = asked; left = refl }), refl)
+    created : (place : ℕ) (create : Create) → udp2_at m.store.records place ≡ Some (udp.Creating create) → Under ids (StandingCall.UdpCreate place) → (es : List Entry) → (PendingCallsFit m → es ≡ entry create.operation.who.id (call.Close create.operation.who.side) told.Done ∷ []) → LeftRow (StandingCall.UdpCreate place) es (given_back place (with_udp free place (udp.Closed create.operation.who.side)))
+    created place create at stands es asked = (λ other there. let its : create ≡ other = cc in subst (λ (x : Create). CreateGivenUp m place x es (record m { store = given_back place (with_udp free place (udp.Closed create.operation.who.side)) })) its (record { asked = asked; left = put_gone (nothing_stands m) place (Record.Udp2 (udp.Closed create.operation.who.side)) }), refl)
 
     create_goes : (place : ℕ) → Under ids (StandingCall.UdpCreate place) → (o : Option Udp2Socket) → udp2_at m.store.records place ≡ o → Meets (LeftRow (StandingCall.UdpCreate place)) [] (cancel_create_at free place o)
     unfolding bind

@@ -13,7 +13,7 @@ use Rattle.wasi_host.specs.declared.kind.PlainInput.TheVariants as input
 use Rattle.wasi_host.specs.declared.kind.PlainOutput.{PlainOutput}
 use Rattle.wasi_host.specs.declared.kind.PlainOutput.TheVariants as output
 use Rattle.wasi_host.specs.declared.records.Record.{Record}
-use Rattle.wasi_host.specs.declared.records.Record.TheVariants.{Tcp2, Udp2, Lookup, InputPipe, OutputPipe}
+use Rattle.wasi_host.specs.declared.records.Record.TheVariants.{Tcp2, Udp2, Lookup, InputPipe, OutputPipe, Gone}
 use Rattle.wasi_host.specs.PlainStreams.{check_pipe_at, read_pipe_at}
 use Rattle.wasi_host.specs.Records.{input_pipe_at, output_pipe_at, tcp2_at, tcp2_put}
 use Rattle.wasi_host.specs.StreamCalls.{check_by, plain_answer, plain_done, plain_input_at, plain_output_at, read_by}
@@ -138,6 +138,7 @@ writer_kept (Udp2 x ∷ xs) zero r s reader zero at has = absurd (cc)
 writer_kept (Lookup x ∷ xs) zero r s reader zero at has = absurd (cc)
 writer_kept (InputPipe x ∷ xs) zero r s reader zero at has = absurd (cc)
 writer_kept (OutputPipe x ∷ xs) zero r s reader zero at has = absurd (cc)
+writer_kept (Gone ∷ xs) zero r s reader zero at has = absurd (cc)
 writer_kept (x ∷ xs) zero r s reader (suc k) at has = refl
 writer_kept (x ∷ xs) (suc i) r s reader zero at has = refl
 writer_kept (x ∷ xs) (suc i) r s reader (suc k) at has = writer_kept xs i r s reader k at has

@@ -6,7 +6,7 @@ use Rattle.wasi_host.specs.declared.kind.Kind.TheVariants as kind
 use Rattle.wasi_host.specs.declared.kind.PlainInput.{PlainInput}
 use Rattle.wasi_host.specs.declared.kind.PlainOutput.{PlainOutput}
 use Rattle.wasi_host.specs.declared.records.Record.{Record}
-use Rattle.wasi_host.specs.declared.records.Record.TheVariants.{Tcp2, Udp2, Lookup, InputPipe, OutputPipe}
+use Rattle.wasi_host.specs.declared.records.Record.TheVariants.{Tcp2, Udp2, Lookup, InputPipe, OutputPipe, Gone}
 use Rattle.wasi_host.specs.Kinds.{input_of, is_readable, is_writable, output_of, plain_input_of, plain_output_of}
 use Rattle.wasi_host.specs.declared.name_lookup.Lookup.{Lookup as NameLookup}
 use Rattle.wasi_host.specs.declared.socket.Tcp2Socket.{Tcp2Socket}
@@ -21,11 +21,13 @@ input_same (Tcp2 x ∷ xs) zero bytes at = absurd (cc)
 input_same (Udp2 x ∷ xs) zero bytes at = absurd (cc)
 input_same (Lookup x ∷ xs) zero bytes at = absurd (cc)
 input_same (OutputPipe x ∷ xs) zero bytes at = absurd (cc)
+input_same (Gone ∷ xs) zero bytes at = absurd (cc)
 input_same (x ∷ xs) (suc i) bytes at = ap (λ (rest : List Record). x ∷ rest) (input_same xs i bytes at)
 
 pub output_same : (xs : List Record) (i : ℕ) (pipe : Contents) → output_pipe_at xs i ≡ Some pipe → output_pipe_put xs i pipe ≡ xs
 output_same [] i pipe at = absurd (cc)
 output_same (OutputPipe x ∷ xs) zero pipe at = cc
+output_same (Gone ∷ xs) zero pipe at = absurd (cc)
 output_same (Tcp2 x ∷ xs) zero pipe at = absurd (cc)
 output_same (Udp2 x ∷ xs) zero pipe at = absurd (cc)
 output_same (Lookup x ∷ xs) zero pipe at = absurd (cc)

@@ -1,17 +1,17 @@
 -- What the definitions of sends, of receives and of failed calls exclude, and what follows of a create that failed.
-use Rattle.wasi_causes.proofs.Words.{Call, List, Machine, Entry, ErrorCode, OpId, Option, StandingCall, Some, [], arith, inl, inr, refl, subst, ℕ, ⊤, ◌++◌, ◌∷◌, ◌≡◌}
+use Rattle.wasi_causes.proofs.Words.{Call, List, Machine, Entry, ErrorCode, OpId, Option, StandingCall, Some, [], arith, inl, inr, refl, slice_get, subst, ℕ, ⊤, ◌++◌, ◌∷◌, ◌≡◌}
 use Rattle.wasi_world.specs.declared.call.Call.TheVariants as call
 use Rattle.wasi_world.specs.declared.datagram.IncomingDatagram.{IncomingDatagram}
 use Rattle.wasi_world.specs.declared.datagram.OutgoingDatagram.{OutgoingDatagram}
 use Rattle.wasi_udp.specs.Shape.{Socket}
-use Rattle.wasi_host.specs.Records.{udp2_at}
+use Rattle.wasi_host.specs.declared.records.Record.TheVariants.{Gone}
 use Rattle.wasi_host.specs.declared.datagrams.Receiving.TheVariants as receiving
 use Rattle.wasi_host.specs.declared.udp.Udp2Socket.TheVariants as udp
-use Rattle.wasi_walks.proofs.UdpLists.{udp_set_there}
 use Rattle.wasi_walks.specs.Waiting.{BindFailed, CallFails, CreateFailed, ListenFailed, UdpBindFailed, UdpConnectFailed}
 use Rattle.wasi_walks.specs.Answered.{EndsPending}
 use Rattle.wasi_causes.specs.DatagramAsks.{AreHandedOut, AreSent, AsksForDatagram, AsksToReceive, AsksToSend, CameInTurn, ChecksDestination, ChecksSender, ChecksWildcard, HandsOutHeld, HandsOutNew, HandsOutNone, ReceiveAsksIfBound, SendAsksIfBound, SendsIt, part_of}
 use Rattle.wasi_causes.specs.Failed.{left_failed}
+use Rattle.wasi_causes.proofs.GivenBack.{gone_at}
 
 -- an entry that isn't there wasn't answered pending
 none_pending : (own : OpId) → EndsPending own [] → ⊥
@@ -54,13 +54,13 @@ no_send own socket before _ (ReceiveAsksIfBound unknown) is = is
 no_send own socket before _ (AsksForDatagram bound) is = is
 no_send own socket before _ (ChecksSender bytes a came) is = is
 
--- of a create that failed only the name of its network socket is left
+-- of a create that failed nothing is left: its record was given back
 abbrev ClosesBy : Machine → StandingCall → Type 0
-ClosesBy after (StandingCall.UdpCreate place) = (side : OpId) × (udp2_at after.store.records place ≡ Some (udp.Closed side))
+ClosesBy after (StandingCall.UdpCreate place) = slice_get after.store.records place ≡ Some Gone
 ClosesBy after _ = ⊤
 
 closes : (m : Machine) (es : List Entry) (pending : StandingCall) (c : ErrorCode) → (why : CallFails m es pending c) → ClosesBy (left_failed m why) pending
-closes m es _ _ (CreateFailed place create c at why) = (create.operation.who.side, udp_set_there m.store.records place (udp.Creating create) (udp.Closed create.operation.who.side) at)
+closes m es _ _ (CreateFailed place create c at why) = gone_at m.store.records place (udp.Creating create) at
 closes m es _ _ (UdpConnectFailed place handle o op c at is why) = tt
 closes m es _ _ (UdpBindFailed place o op c at is why) = tt
 closes m es _ _ (BindFailed place r op c at is why) = tt

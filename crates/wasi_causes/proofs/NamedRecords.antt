@@ -1,0 +1,303 @@
+-- Of the machines that runs lead to: the record of a pending call is there, since none is given back while a call is pending, and so is
+-- that of each job, since a record takes its jobs with it; and that of each live handle, since nothing live is of one that is gone.
+use Rattle.wasi_causes.proofs.Words.{Allows, End, Entry, Err, ErrorCode, ErrorValue, Give, Item, Kind, Left, List, Machine, None, Ok, OpId, Operation, Option, Reply, Result, Socket, Some, Standing, StandingCall, Step, Tcp2, Tcp2Socket, WasiSocketsCtx, Watched, []}
+use Rattle.wasi_causes.proofs.Words.{allows_then, ap, call_place, created_asks, first_state, give_up_asks, is_some, kind_at, length, machine_asks, make_asks, new_asks, new_record, own_of, poll_asks, refl, run, side_at, side_of, slice_get, subst, sym, told_done, true, turn_asks, with_listening, with_record, with_writer, ℕ, ⊤, ◌++◌, ◌∷◌, ◌∙◌, ◌≡◌}
+use Rattle.std.proofs.Common.{slice_set, suc, zero}
+use Rattle.wasi_tcp.specs.declared.listener.Accepting.TheVariants as accepting
+use Rattle.wasi_udp.specs.Create.{Create, after_create as udp_after_create, create_cancel_asks}
+use Rattle.wasi_host.specs.Records.{input_pipe_of, lookup_of, output_pipe_of, tcp2_at, tcp2_of, tcp2_put, udp2_at, udp2_of}
+use Rattle.wasi_host.specs.Udp.{udp_side}
+use Rattle.wasi_host.specs.UdpCreates.{udp_side_at}
+use Rattle.wasi_host.specs.declared.kind.Kind.TheVariants.{Incoming, Input, Lookup, Network, Outgoing, Output, PlainInput, PlainOutput, Pollable, Udp2}
+use Rattle.wasi_host.specs.declared.kind.PlainInput.TheVariants as plain_input
+use Rattle.wasi_host.specs.declared.kind.PlainOutput.TheVariants as plain_output
+use Rattle.wasi_host.specs.declared.listening.Listening.TheVariants as listening
+use Rattle.wasi_host.specs.declared.name_lookup.LookupOp.{LookupOp}
+use Rattle.wasi_host.specs.declared.records.Record.{Record}
+use Rattle.wasi_host.specs.declared.udp.Udp2Socket.{Udp2Socket}
+use Rattle.wasi_walks.proofs.fits.Law.{whatever}
+use Rattle.wasi_walks.proofs.fits.Polls.{Anything}
+use Rattle.wasi_walks.proofs.owners.Owned.{named_by, named_stays}
+use Rattle.wasi_walks.proofs.owners.There.{Stays}
+use Rattle.wasi_walks.proofs.walks.Law.{BeginsWrites, Law}
+use Rattle.wasi_walks.proofs.walks.Moves as walk
+use Rattle.wasi_walks.proofs.walks.Moves.{GoesOn, Held, Here, Move, SameSockets, put, put_udp, udp_begun, with_records}
+use Rattle.wasi_walks.proofs.walks.Runs.{run_ends}
+use Rattle.wasi_walks.proofs.walks.Steps.{machine_walks}
+use Rattle.wasi_causes.proofs.Steady.{runs_stay}
+use Rattle.wasi_causes.specs.NamedRecords.{IsGivenBack, call_names, job_names, record_named}
+use Rattle.wasi_causes.proofs.GivenBack.{no_job}
+use Rattle.wasi_causes.proofs.Words.{Bool, false, if◌then◌else◌, inl, inr, ◌⊎◌}
+use Rattle.std.proofs.lemmas.Bool.{eq-eqb}
+use Rattle.wasi_host.specs.GivingBack.{is_on, other_jobs, record_gone}
+use Rattle.wasi_host.specs.declared.jobs.HostJob.{HostJob}
+use Rattle.wasi_host.specs.declared.jobs.HostJob.TheVariants as job
+use Rattle.wasi_walks.specs.Licence.{Has}
+use Rattle.wasi_walks.proofs.walks.Moves.{IsRecord, KeepsJobs, job_place}
+
+-- == records that are there
+tcp_kept : (o : Option Record) (r : Tcp2Socket) → tcp2_of o ≡ Some r → IsRecord o
+tcp_kept (Some (Record.Tcp2 x)) r e = tt
+tcp_kept _ r e = absurd (cc)
+
+udp_kept : (o : Option Record) (u : Udp2Socket) → udp2_of o ≡ Some u → IsRecord o
+udp_kept (Some (Record.Udp2 x)) u e = tt
+udp_kept _ u e = absurd (cc)
+
+lookup_kept : (o : Option Record) → is_some (lookup_of o) ≡ true → IsRecord o
+lookup_kept (Some (Record.Lookup l)) e = tt
+lookup_kept _ e = absurd (cc)
+
+input_kept : (o : Option Record) → is_some (input_pipe_of o) ≡ true → IsRecord o
+input_kept (Some (Record.InputPipe bytes)) e = tt
+input_kept _ e = absurd (cc)
+
+output_kept : (o : Option Record) → is_some (output_pipe_of o) ≡ true → IsRecord o
+output_kept (Some (Record.OutputPipe pipe)) e = tt
+output_kept _ e = absurd (cc)
+
+kept_set : (xs : List Record) (i : ℕ) (now : Record) (k : ℕ) → IsRecord (Some now) → IsRecord (slice_get xs k) → IsRecord (slice_get (slice_set xs i now) k)
+kept_set [] i now k new s = s
+kept_set (z ∷ xs) zero now zero new s = new
+kept_set (z ∷ xs) zero now (suc k) new s = s
+kept_set (z ∷ xs) (suc i) now zero new s = s
+kept_set (z ∷ xs) (suc i) now (suc k) new s = kept_set xs i now k new s
+
+kept_push : (xs : List Record) (now : Record) (k : ℕ) → IsRecord (slice_get xs k) → IsRecord (slice_get (xs ++ now ∷ []) k)
+kept_push [] now k s = absurd s
+kept_push (z ∷ xs) now zero s = s
+kept_push (z ∷ xs) now (suc k) s = kept_push xs now k s
+
+-- another is given back
+kept_gone : (xs : List Record) (i k : ℕ) → (k ≡ i → ⊥) → IsRecord (slice_get xs k) → IsRecord (slice_get (record_gone xs i) k)
+kept_gone [] i k other s = s
+kept_gone (z ∷ xs) zero zero other s = absurd (other refl)
+kept_gone (z ∷ xs) zero (suc k) other s = s
+kept_gone (z ∷ xs) (suc i) zero other s = s
+kept_gone (z ∷ xs) (suc i) (suc k) other s = kept_gone xs i k (λ e. other (ap suc e)) s
+
+kept_same : {new : LookupOp → Type 0} (old now : List Record) (k : ℕ) → SameSockets new old now → IsRecord (slice_get old k) → IsRecord (slice_get now k)
+kept_same old now k same = by_record (slice_get old k) refl
+  where
+    by_record : (o : Option Record) → slice_get old k ≡ o → IsRecord o → IsRecord (slice_get now k)
+    by_record (Some (Record.Tcp2 r)) e s = tcp_kept (slice_get now k) r (same.tcp k ∙ ap tcp2_of e)
+    by_record (Some (Record.Udp2 u)) e s = udp_kept (slice_get now k) u (same.udp k ∙ ap udp2_of e)
+    by_record (Some (Record.Lookup l)) e s = lookup_kept (slice_get now k) (same.stays k (ap (λ (x : Option Record). is_some (lookup_of x)) e))
+    by_record (Some (Record.InputPipe bytes)) e s = input_kept (slice_get now k) (same.inputs k (ap (λ (x : Option Record). is_some (input_pipe_of x)) e))
+    by_record (Some (Record.OutputPipe pipe)) e s = output_kept (slice_get now k) (same.outputs k (ap (λ (x : Option Record). is_some (output_pipe_of x)) e))
+    by_record (Some Record.Gone) e s = absurd s
+    by_record None e s = absurd s
+
+-- == the pending call
+-- its record is there, where it is of one
+abbrev CallIn : List Record → StandingCall → Type 0
+CallIn records call = (place : ℕ) → call_names call ≡ Some place → IsRecord (slice_get records place)
+
+abbrev StandsIn : List Record → Option Standing → Type 0
+StandsIn records None = ⊤
+StandsIn records (Some s) = CallIn records s.call
+
+-- == and the jobs
+abbrev JobsIn : List Record → List HostJob → Type 0
+JobsIn records jobs = (job : HostJob) → Has jobs job → IsRecord (slice_get records (job_place job))
+
+abbrev StoreIn : List Record → List HostJob → Option Standing → Type 0
+StoreIn records jobs standing = StandsIn records standing × JobsIn records jobs
+
+abbrev MachineIn : Machine → Type 0
+MachineIn m = StoreIn m.store.records m.store.jobs m.store.standing
+
+abbrev In : Here → Type 0
+In h = MachineIn h.machine
+
+stands_still : (old now : List Record) → ((k : ℕ) → IsRecord (slice_get old k) → IsRecord (slice_get now k)) → (o : Option Standing) → StandsIn old o → StandsIn now o
+stands_still old now f None i = tt
+stands_still old now f (Some s) i = λ place e. f place (i place e)
+
+moved : (old now : List Record) → ((k : ℕ) → IsRecord (slice_get old k) → IsRecord (slice_get now k)) → (jobs : List HostJob) (o : Option Standing) → StoreIn old jobs o → StoreIn now jobs o
+moved old now f jobs o i = (stands_still old now f o i.0, λ job l. f (job_place job) (i.1 job l))
+
+put_in : (h : Here) (place : ℕ) (now : Tcp2Socket) → In h → In (put h place now)
+put_in h place now i = moved h.machine.store.records _ (λ k s. kept_set h.machine.store.records place (Record.Tcp2 now) k tt s) h.machine.store.jobs h.machine.store.standing i
+
+put_udp_in : (h : Here) (place : ℕ) (now : Udp2Socket) → In h → In (put_udp h place now)
+put_udp_in h place now i = moved h.machine.store.records _ (λ k s. kept_set h.machine.store.records place (Record.Udp2 now) k tt s) h.machine.store.jobs h.machine.store.standing i
+
+push_in : (records : List Record) (new : Record) (jobs : List HostJob) (o : Option Standing) → StoreIn records jobs o → StoreIn (records ++ new ∷ []) jobs o
+push_in records new jobs o i = moved records _ (λ k s. kept_push records new k s) jobs o i
+
+same_in : {new : LookupOp → Type 0} (h : Here) (records : List Record) → SameSockets new h.machine.store.records records → In h → In (with_records h records)
+same_in h records same i = moved h.machine.store.records records (λ k s. kept_same h.machine.store.records records k same s) h.machine.store.jobs h.machine.store.standing i
+
+begun_in : (h : Here) (made : Result Create ErrorCode) → In h → In (udp_begun h made)
+begun_in h (Ok create) i = push_in h.machine.store.records (Record.Udp2 (Udp2Socket.Creating create)) h.machine.store.jobs h.machine.store.standing i
+begun_in h (Err c) i = i
+
+-- jobs that begin are of records that are there
+listed_in : (records : List Record) (old now : List HostJob) → KeepsJobs records old now → JobsIn records old → JobsIn records now
+listed_in records old now keeps i job l = elim (keeps job l) [ inl was ↦ i job was | inr there ↦ there ]
+
+-- a record that is given back takes its jobs with it
+was_a_job : (place : ℕ) (jobs : List HostJob) (job : HostJob) → Has (other_jobs place jobs) job → Has jobs job
+was_a_job place [] job l = l
+was_a_job place (j ∷ jobs) job l = by_test (is_on place j) (was_a_job place jobs job) l
+  where
+    by_test : (b : Bool) → (Has (other_jobs place jobs) job → Has jobs job) → Has (if b then other_jobs place jobs else j ∷ other_jobs place jobs) job → (j ≡ job) ⊎ Has jobs job
+    by_test true rest k = inr (rest k)
+    by_test false rest (inl is) = inl is
+    by_test false rest (inr k) = inr (rest k)
+
+is_its_job : (place : ℕ) (job : HostJob) → job_place job ≡ place → is_on place job ≡ true
+is_its_job place (job.Write p) e = eq-eqb p place e
+is_its_job place (job.Datagram p) e = eq-eqb p place e
+is_its_job place (job.Receive p) e = eq-eqb p place e
+is_its_job place (job.Lookup p) e = eq-eqb p place e
+
+fewer_in : (records : List Record) (place : ℕ) (jobs : List HostJob) → JobsIn records jobs → JobsIn (record_gone records place) (other_jobs place jobs)
+fewer_in records place jobs i job l = kept_gone records place (job_place job) (λ same. no_job place jobs job l (is_its_job place job same)) (i job (was_a_job place jobs job l))
+
+-- a call that comes to be pending is of a record that is there
+goes_in : (records : List Record) (call : StandingCall) (r : Tcp2Socket) → tcp2_at records (call_place call) ≡ Some r → GoesOn call r → CallIn records call
+goes_in records (StandingCall.Bind n) r g k place e = let same : n ≡ place = cc in subst (λ (x : ℕ). IsRecord (slice_get records x)) same (tcp_kept (slice_get records n) r g)
+goes_in records (StandingCall.Listen n) r g k place e = let same : n ≡ place = cc in subst (λ (x : ℕ). IsRecord (slice_get records x)) same (tcp_kept (slice_get records n) r g)
+goes_in records (StandingCall.DropOutput n) r g k place e = let same : n ≡ place = cc in subst (λ (x : ℕ). IsRecord (slice_get records x)) same (tcp_kept (slice_get records n) r g)
+goes_in records _ r g k place e = absurd k
+
+udp_goes_in : (records : List Record) (n : ℕ) (u : Udp2Socket) → udp2_at records n ≡ Some u → (place : ℕ) → Some n ≡ Some place → IsRecord (slice_get records place)
+udp_goes_in records n u g place e = let same : n ≡ place = cc in subst (λ (x : ℕ). IsRecord (slice_get records x)) same (udp_kept (slice_get records n) u g)
+
+module _ (contexts : List WasiSocketsCtx) (line : ℕ) (origin : Step) where
+  moves_in : (h now : Here) → Move line origin h now → In h → In now
+  moves_in _ _ (walk.Changes h place r now g p) i = put_in h place now i
+  moves_in _ _ (walk.ClosesReader h place r s g e) i = put_in h place _ i
+  moves_in _ _ (walk.Writes h place r s w g e m) i = put_in h place _ i
+  moves_in _ _ (walk.IsGone h place r q g e) i = put_in h place _ i
+  moves_in _ _ (walk.Reconnects h place r c now g e s t u) i = put_in h place _ i
+  moves_in _ _ (walk.Opens h place r c d g e n) i = put_in h place _ i
+  moves_in _ _ (walk.BeginsConnect h place r side a bound at g d to known idle own) i = put_in h place _ i
+  moves_in _ _ (walk.BeginsBind h place r side a at g d to idle own) i = put_in h place _ i
+  moves_in _ _ (walk.BeginsWrite h place n r s half permit bytes at g e w within own) i = put_in h place _ i
+  moves_in _ _ (walk.BeginsListen h place r side at g d bound none to idle own) i = put_in h place _ i
+  moves_in _ _ (walk.BeginsAccept h place n r l at g e a own) i = put_in h place _ i
+  moves_in _ _ (walk.Unlistens h place r op q g e c o) i = put_in h place _ i
+  moves_in _ _ (walk.Forgets h place r l c g e a) i = put_in h place _ i
+  moves_in _ _ (walk.CancelsBind h place r op q g e) i = put_in h place _ i
+  moves_in _ _ (walk.UdpChanges h place o now g p keeps) i = put_udp_in h place (Udp2Socket.Open now) i
+  moves_in _ _ (walk.BeginsUdpBind h place o a at g to idle own) i = put_udp_in h place _ i
+  moves_in _ _ (walk.BeginsUdpConnect h place o a at g to bound none own) i = put_udp_in h place _ i
+  moves_in _ _ (walk.BeginsSend h place n o out d bound at g e item known own) i = put_udp_in h place _ i
+  moves_in _ _ (walk.BeginsReceive h place n o inc bound at g e is own) i = put_udp_in h place _ i
+  moves_in _ _ (walk.CancelsUdpBind h place o op q g e) i = put_udp_in h place _ i
+  moves_in _ _ (walk.CancelsUdpConnect h place o q g) i = put_udp_in h place _ i
+  moves_in _ _ (walk.Joins h c handle place r l new peer is of u g e a) i = push_in (tcp2_put h.machine.store.records place (walk.accepting_now r l accepting.Idle)) (Record.Tcp2 (walk.joined l new peer)) h.machine.store.jobs h.machine.store.standing (put_in h place (walk.accepting_now r l accepting.Idle) i)
+  moves_in _ _ (walk.Finds h records same) i = same_in h records same i
+  moves_in _ _ (walk.Unstands h over) i = (tt, i.1)
+  moves_in _ _ (walk.Stands h ids call r quiet at g k) i = (goes_in h.machine.store.records call r g k, i.1)
+  moves_in _ _ (walk.StandsUdpBind h ids place o op quiet at g e) i = (udp_goes_in h.machine.store.records place (Udp2Socket.Open o) g, i.1)
+  moves_in _ _ (walk.StandsUdpCreate h ids place create quiet g) i = (udp_goes_in h.machine.store.records place (Udp2Socket.Creating create) g, i.1)
+  moves_in _ _ (walk.StandsUdpConnect h ids place handle o op quiet at made g e) i = (udp_goes_in h.machine.store.records place (Udp2Socket.Open o) g, i.1)
+  moves_in _ _ (walk.StandsDropOutgoing h ids place o quiet at g e) i = (udp_goes_in h.machine.store.records place (Udp2Socket.Open o) g, i.1)
+  moves_in _ _ (walk.StandsBlocking h ids call handles made its) i = (λ place e. absurd (cc), i.1)
+  moves_in _ _ (walk.GivesBack h place idle left) i = (subst (StandsIn (walk.without_record h place).machine.store.records) (sym idle) tt, fewer_in h.machine.store.records place h.machine.store.jobs i.1)
+  moves_in _ _ (walk.Lists h jobs keeps) i = (i.0, listed_in h.machine.store.records h.machine.store.jobs jobs keeps i.1)
+  moves_in _ _ _ i = i
+
+  joins : (es : List Entry) (m : Machine) (op : OpId) (made : Result Socket ErrorCode) → MachineIn m → Allows Anything (λ fs done. MachineIn done.1) es (created_asks m op made)
+  joins es m op (Ok socket) i =
+      let now : Machine = record m { store = with_record m.store socket } in
+      allows_then Anything (λ fs made. ⊤) (λ fs done. MachineIn done.1) es (make_asks m.table op (Tcp2 (length m.store.records)) None (side_of socket)) _
+      (whatever (λ made. ⊤) (λ made. tt) es (make_asks m.table op (Tcp2 (length m.store.records)) None (side_of socket))) (λ fs made k. push_in m.store.records (Record.Tcp2 (new_record socket)) m.store.jobs m.store.standing i)
+  joins es m op (Err c) i = i
+
+  polls_in : (h : Here) (op : Operation) (after : End × List Item → Here) → Held h op after → (end : End × List Item) → In h → In (after end)
+  polls_in h _ _ (walk.BindsOn place r op q g e) end i = put_in h place _ i
+  polls_in h _ _ (walk.Connects place r op g e) end i = put_in h place _ i
+  polls_in h _ _ (walk.Listens place r op q g e c) end i = put_in h place _ i
+  polls_in h _ _ (walk.Awaits place r l op g e a) end i = put_in h place _ i
+  polls_in h _ _ (walk.UdpCreates place create q g) end i = put_udp_in h place _ i
+  polls_in h _ _ (walk.UdpBindsOn place o op q g e) end i = put_udp_in h place _ i
+  polls_in h _ _ (walk.UdpConnectsOn place o op q g e) end i = put_udp_in h place _ i
+  polls_in h _ _ (walk.SendsOn place o out op left g e s settles) end i = put_udp_in h place _ i
+  polls_in h _ _ (walk.ReceivesOn place o inc op g e s) end i = put_udp_in h place _ i
+
+  unfoldable stands_in : Law contexts line origin
+  stands_in = record {
+    P = Anything;
+    Inv = λ es h. In h;
+    moves = λ es h now m i. moves_in h now m i;
+    asks = λ es h place n r side c at g o q i. (tt, λ told fits. i);
+    sets = λ es h place r side b at g s is i. (tt, λ told fits. i);
+    learns = λ es h place r side at g e i. (tt, λ told fits. put_in h place _ i);
+    closes = λ es h place r side q g e i. (tt, λ told fits. put_in h place _ i);
+    marks = λ es h kind parent sock m i. whatever (λ made. In (record h { machine = record h.machine { table = made.1 } })) (λ made. i) es (make_asks h.machine.table (own_of line) kind parent sock);
+    creates = λ es h ctx family c a o m i. allows_then Anything (λ fs made. ⊤) (λ fs done. In (record h { machine = done.1; own = walk.Used })) es (new_asks (own_of line) ctx family) (created_asks h.machine (own_of line)) (whatever (λ made. ⊤) (λ made. tt) es (new_asks (own_of line) ctx family)) (λ fs made k. joins fs h.machine (own_of line) made i);
+    accepted = λ es h c s place r is e o g i. whatever (λ made. In (record h { machine = record h.machine { table = made.1 }; made = walk.made_so place made.0 })) (λ made. i) es (make_asks h.machine.table (own_of line) (Tcp2 place) (Some s) (side_at (tcp2_at h.machine.store.records place)));
+    polls = λ es h op after held i. whatever (λ end. In (after end)) (λ end. polls_in h op after held end i) es (poll_asks op);
+    turns = λ es h place r s g e i. whatever (λ done. In (put h place (with_writer r s done.1))) (λ done. put_in h place _ i) es (turn_asks s.writer);
+    gives_up = λ es h place r q g i. whatever (λ done. In (put h place (with_listening r listening.Not))) (λ done. put_in h place _ i) es (give_up_asks r.listening);
+    udp_asks = λ es h place n o c at g q i. (tt, λ told fits. i);
+    udp_learns = λ es h place part o at g i. (tt, λ told fits. put_udp_in h place _ i);
+    udp_peers = λ es h place o at g i. (tt, λ told fits. put_udp_in h place _ i);
+    udp_closes = λ es h place o q g i. (tt, λ told fits. put_udp_in h place _ i);
+    udp_creates = λ es h ctx family c may t o m i. (tt, λ told fits. begun_in h (udp_after_create (own_of line) ctx.name family (told_done told)) i);
+    udp_marks = λ es h place u g i. whatever (λ made. In (record h { machine = record h.machine { table = made.1 }; made = walk.Past })) (λ made. i) es (make_asks h.machine.table (udp_side u) (Udp2 place) None (Some (udp_side u)));
+    stream_marks = λ es h place n handle reached kind next new of i. whatever (λ made. In (record h { machine = record h.machine { table = made.1 }; made = walk.ToSend n handle reached })) (λ made. i) es (make_asks h.machine.table (own_of n) kind (Some handle) (udp_side_at (udp2_at h.machine.store.records place)));
+    error_marks = λ es h n handle place handles m k e f i. whatever (λ made. In (record h { machine = record h.machine { table = made.1 } })) (λ made. i) es (make_asks h.machine.table (own_of n) ErrorValue (Some handle) (side_at (tcp2_at h.machine.store.records place)));
+    udp_gives_up = λ es h place create q g i. whatever (λ done. In (put_udp h place (Udp2Socket.Closed create.operation.who.side))) (λ done. put_udp_in h place _ i) es (create_cancel_asks create);
+    lookups = λ es h host l i. (tt, λ told fits records same. same_in h records same i);
+    looks = λ es h place op at i. (tt, λ told fits. i);
+  }
+
+  stands_begin : BeginsWrites stands_in
+  unfolding stands_in
+  stands_begin = record { begins = λ es h place n r s half permit bytes at g e w within used i. put_in h place _ i }
+
+  line_stands : (m : Machine) (es : List Entry) → MachineIn m → Allows Anything (λ fs done. MachineIn done.1) es (machine_asks contexts m line origin)
+  unfolding stands_in
+  line_stands m es i = (machine_walks line origin {law = stands_in} stands_begin m m.store.standing refl).along es i
+
+-- == of a run
+-- a handle names what the law of owners says it does
+same_name : (kind : Kind) → record_named kind ≡ named_by kind
+same_name Network = refl
+same_name (Tcp2 place) = refl
+same_name (Udp2 place) = refl
+same_name (Input place) = refl
+same_name (Output place) = refl
+same_name (PlainInput (plain_input.Pipe place)) = refl
+same_name (PlainInput plain_input.Closed) = refl
+same_name (PlainOutput (plain_output.Pipe place)) = refl
+same_name (PlainOutput plain_output.Sink) = refl
+same_name (PlainOutput plain_output.Closed) = refl
+same_name (Incoming place) = refl
+same_name (Outgoing place) = refl
+same_name (Lookup place) = refl
+same_name ErrorValue = refl
+same_name (Pollable (Watched.Socket place)) = refl
+same_name (Pollable (Watched.Input place)) = refl
+same_name (Pollable (Watched.Output place)) = refl
+same_name (Pollable (Watched.Udp place)) = refl
+same_name (Pollable (Watched.Incoming place)) = refl
+same_name (Pollable (Watched.Outgoing place)) = refl
+same_name (Pollable (Watched.Lookup place)) = refl
+same_name (Pollable Watched.Plain) = refl
+
+same_job : (job : HostJob) → job_place job ≡ job_names job
+same_job (job.Write place) = refl
+same_job (job.Datagram place) = refl
+same_job (job.Receive place) = refl
+same_job (job.Lookup place) = refl
+
+module _ (contexts : List WasiSocketsCtx) (steps : List Step) (es : List Entry) (replies : List Reply) (m : Machine) (w : Left (run contexts [] first_state 1 steps) es (Give (replies, m))) where
+  pub handles_name : (handle place : ℕ) (kind : Kind) → kind_at m.table handle ≡ Some kind → record_named kind ≡ Some place → IsGivenBack m place → ⊥
+  handles_name handle place kind e named gone =
+      let k = named_stays m.table m.store.records (runs_stay contexts steps es replies m w).0 handle place kind e (sym (same_name kind) ∙ named) in subst Stays gone k
+
+  all_in : MachineIn m
+  all_in = (run_ends contexts Anything (λ line fs now. MachineIn now) (λ line s now fs i. line_stands contexts line s now fs i) (tt, λ job l. absurd l) steps es replies m w).1
+
+  pub calls_name : (s : Standing) (place : ℕ) → m.store.standing ≡ Some s → call_names s.call ≡ Some place → IsGivenBack m place → ⊥
+  calls_name s place e named gone = let its : CallIn m.store.records s.call = subst (StandsIn m.store.records) e all_in.0 in subst IsRecord gone (its place named)
+
+  pub jobs_name : (job : HostJob) → Has m.store.jobs job → IsGivenBack m (job_names job) → ⊥
+  jobs_name job l gone = subst IsRecord gone (subst (λ (place : ℕ). IsRecord (slice_get m.store.records place)) (same_job job) (all_in.1 job l))

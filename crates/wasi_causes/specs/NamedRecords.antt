@@ -1,0 +1,61 @@
+-- Which records handles, pending calls and jobs name, and which were given back.
+use Rattle.std.specs.Prelude.{◌≡◌, ℕ, Option, Some, None, slice_get}
+use Rattle.wasi_host.specs.declared.jobs.HostJob.{HostJob}
+use Rattle.wasi_host.specs.declared.jobs.HostJob.TheVariants as job
+use Rattle.wasi_host.specs.declared.kind.Kind.{Kind}
+use Rattle.wasi_host.specs.declared.kind.Kind.TheVariants.{Tcp2, Udp2, Input, Output, PlainInput, PlainOutput, Incoming, Outgoing, Pollable, Lookup}
+use Rattle.wasi_host.specs.declared.kind.PlainInput.TheVariants as plain_input
+use Rattle.wasi_host.specs.declared.kind.PlainOutput.TheVariants as plain_output
+use Rattle.wasi_host.specs.declared.kind.Watched.{Watched}
+use Rattle.wasi_host.specs.declared.kind.Watched.TheVariants as watched
+use Rattle.wasi_host.specs.declared.machine.Machine.{Machine}
+use Rattle.wasi_host.specs.declared.records.Record.TheVariants.{Gone}
+use Rattle.wasi_host.specs.declared.store.StandingCall.{StandingCall}
+use Rattle.wasi_host.specs.declared.store.StandingCall.TheVariants as call
+
+-- the record of this number was given back
+abbrev pub IsGivenBack : Machine → ℕ → Type 0
+IsGivenBack m place = slice_get m.store.records place ≡ Some Gone
+
+-- the record in which it is watched, where it is watched in one
+abbrev pub record_watched : Watched → Option ℕ
+record_watched (watched.Socket place) = Some place
+record_watched (watched.Input place) = Some place
+record_watched (watched.Output place) = Some place
+record_watched (watched.Udp place) = Some place
+record_watched (watched.Incoming place) = Some place
+record_watched (watched.Outgoing place) = Some place
+record_watched (watched.Lookup place) = Some place
+record_watched watched.Plain = None
+
+-- the record that a handle of this kind is of; a network, an error, a sink and a closed stream have none
+abbrev pub record_named : Kind → Option ℕ
+record_named (Tcp2 place) = Some place
+record_named (Udp2 place) = Some place
+record_named (Input place) = Some place
+record_named (Output place) = Some place
+record_named (PlainInput (plain_input.Pipe place)) = Some place
+record_named (PlainOutput (plain_output.Pipe place)) = Some place
+record_named (Incoming place) = Some place
+record_named (Outgoing place) = Some place
+record_named (Lookup place) = Some place
+record_named (Pollable w) = record_watched w
+record_named _ = None
+
+-- and that of a pending call; one that blocks is on handles
+abbrev pub call_names : StandingCall → Option ℕ
+call_names (call.Bind place) = Some place
+call_names (call.Listen place) = Some place
+call_names (call.DropOutput place) = Some place
+call_names (call.UdpCreate place) = Some place
+call_names (call.UdpBind place) = Some place
+call_names (call.UdpConnect place handle) = Some place
+call_names (call.DropOutgoing place) = Some place
+call_names (call.Blocking blocks) = None
+
+-- and that of a job
+abbrev pub job_names : HostJob → ℕ
+job_names (job.Write place) = place
+job_names (job.Datagram place) = place
+job_names (job.Receive place) = place
+job_names (job.Lookup place) = place
