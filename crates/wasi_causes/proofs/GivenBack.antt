@@ -3,7 +3,7 @@ use Rattle.std.proofs.Common.{[], suc, zero, slice_set}
 use Rattle.wasi_causes.proofs.Words.{Bool, Handles, Kind, List, Machine, None, OpId, Option, Some, Tcp2, Tcp2Socket, ap, false, if◌then◌else◌, inl, inr, is_some, kind_at, refl, slice_get, sym, true, ℕ, ◌∙◌, ◌≡◌, ◌∷◌}
 use Rattle.wasi_causes.specs.GivenUp.{giving_back}
 use Rattle.wasi_walks.specs.Licence.{Has}
-use Rattle.wasi_host.specs.declared.jobs.HostJob.{HostJob}
+use Rattle.wasi_jobs.specs.declared.job.HostJob.{HostJob}
 use Rattle.wasi_host.specs.GivingBack.{is_on, other_jobs, record_gone}
 use Rattle.wasi_host.specs.Records.{input_pipe_at, input_pipe_of, lookup_at, lookup_of, output_pipe_at, output_pipe_of, tcp2_at, tcp2_of, udp2_at, udp2_of}
 use Rattle.wasi_host.specs.declared.records.Record.{Record}

@@ -32,7 +32,7 @@ use Rattle.wasi_causes.proofs.tables.Routes.{Replied, Says, put_store_same, make
 use Rattle.wasi_causes.specs.Outcomes.{Always, Outcome, Quiet, ReadyAtOnce}
 use Rattle.wasi_causes.proofs.Words.{not, Reply, truth_fields}
 use Rattle.wasi_steps.specs.declared.reply.Reply.TheVariants as reply
-use Rattle.wasi_host.specs.declared.jobs.HostJob.TheVariants.{Receive}
+use Rattle.wasi_jobs.specs.declared.job.HostJob.TheVariants.{Receive}
 use Rattle.wasi_causes.proofs.udp_streams.Routes.{job_there}
 use Rattle.wasi_causes.specs.Udp.{WatchesUdp}
 use Rattle.wasi_host.specs.Machine.{watched_side}

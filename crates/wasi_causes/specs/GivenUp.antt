@@ -25,7 +25,7 @@ use Rattle.wasi_tcp.specs.Job.{Job, closing_job}
 use Rattle.wasi_tcp.specs.Listen.{held_side}
 use Rattle.wasi_tcp.specs.Socket.{side_of}
 use Rattle.wasi_tcp.specs.Writer.{writer_side}
-use Rattle.wasi_host.specs.declared.jobs.HostJob.{HostJob}
+use Rattle.wasi_jobs.specs.declared.job.HostJob.{HostJob}
 use Rattle.wasi_host.specs.declared.kind.Kind.{Kind}
 use Rattle.wasi_host.specs.declared.kind.Kind.TheVariants as kind
 use Rattle.wasi_host.specs.declared.listening.Listening.{Listening}

@@ -1,7 +1,7 @@
 -- Which records handles, pending calls and jobs name, and which were given back.
 use Rattle.std.specs.Prelude.{◌≡◌, ℕ, Option, Some, None, slice_get}
-use Rattle.wasi_host.specs.declared.jobs.HostJob.{HostJob}
-use Rattle.wasi_host.specs.declared.jobs.HostJob.TheVariants as job
+use Rattle.wasi_jobs.specs.declared.job.HostJob.{HostJob}
+use Rattle.wasi_jobs.specs.declared.job.HostJob.TheVariants as job
 use Rattle.wasi_host.specs.declared.kind.Kind.{Kind}
 use Rattle.wasi_host.specs.declared.kind.Kind.TheVariants.{Tcp2, Udp2, Input, Output, PlainInput, PlainOutput, Incoming, Outgoing, Pollable, Lookup}
 use Rattle.wasi_host.specs.declared.kind.PlainInput.TheVariants as plain_input

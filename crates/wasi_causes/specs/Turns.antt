@@ -10,8 +10,8 @@ use Rattle.wasi_host.specs.declared.datagrams.Receiving.{Receiving}
 use Rattle.wasi_host.specs.declared.datagrams.Receiving.TheVariants as receiving
 use Rattle.wasi_host.specs.declared.datagrams.Sending.{Sending}
 use Rattle.wasi_host.specs.declared.datagrams.Sending.TheVariants as sending
-use Rattle.wasi_host.specs.declared.jobs.HostJob.{HostJob}
-use Rattle.wasi_host.specs.declared.jobs.HostJob.TheVariants.{Write, Datagram, Receive, Lookup as LookupJob}
+use Rattle.wasi_jobs.specs.declared.job.HostJob.{HostJob}
+use Rattle.wasi_jobs.specs.declared.job.HostJob.TheVariants.{Write, Datagram, Receive, Lookup as LookupJob}
 use Rattle.wasi_host.specs.declared.name_lookup.Lookup.{Lookup}
 use Rattle.wasi_host.specs.declared.name_lookup.Lookup.TheVariants as lookup
 use Rattle.wasi_host.specs.declared.records.Record.{Record}

@@ -7,7 +7,7 @@ use Rattle.wasi_world.specs.Seen.{Seen}
 use Rattle.wasi_world.proofs.Walks.{asks_end, asks_exit}
 use Rattle.wasi_common.specs.Rounds.{is_going}
 use Rattle.wasi_udp.specs.Create.{Create, create_cancel_asks}
-use Rattle.wasi_host.specs.declared.jobs.HostJob.{HostJob}
+use Rattle.wasi_jobs.specs.declared.job.HostJob.{HostJob}
 use Rattle.wasi_host.specs.declared.listening.Listening.TheVariants.{Not}
 use Rattle.wasi_host.specs.declared.socket.Tcp2Socket.{Tcp2Socket}
 use Rattle.wasi_host.specs.Cancel.{is_datagram_on, other_than_datagram, listen_gone}

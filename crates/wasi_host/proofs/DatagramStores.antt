@@ -8,7 +8,7 @@ use Rattle.wasi_world.specs.declared.outcome.TrapKind.TheVariants.{NoSuchHandle}
 use Rattle.wasi_world.specs.Asks.{Asks, Give, AsksFor}
 use Rattle.wasi_world.specs.Seen.{Seen}
 use Rattle.wasi_host.specs.declared.datagrams.Outgoing.{Outgoing}
-use Rattle.wasi_host.specs.declared.jobs.HostJob.{HostJob}
+use Rattle.wasi_jobs.specs.declared.job.HostJob.{HostJob}
 use Rattle.wasi_host.specs.declared.records.Record.{Record}
 use Rattle.wasi_host.specs.declared.store.StandingCall.{StandingCall}
 use Rattle.wasi_host.specs.declared.udp.OpenUdp.{OpenUdp}

@@ -12,8 +12,8 @@ use Rattle.wasi_streams.specs.StreamStop as stop
 use Rattle.wasi_world.proofs.Walks.{reaches_on, reaches_in, reaches_then}
 use Rattle.wasi_host.specs.Records.{tcp2_at, tcp2_put}
 use Rattle.wasi_host.specs.declared.records.Record.{Record}
-use Rattle.wasi_host.specs.declared.jobs.HostJob.{HostJob}
-use Rattle.wasi_host.specs.declared.jobs.HostJob.TheVariants.{Write}
+use Rattle.wasi_jobs.specs.declared.job.HostJob.{HostJob}
+use Rattle.wasi_jobs.specs.declared.job.HostJob.TheVariants.{Write}
 use Rattle.wasi_host.specs.declared.socket.Tcp2Socket.{Tcp2Socket}
 use Rattle.wasi_host.specs.Store.{Records, with_socket}
 use Rattle.wasi_host.specs.Jobs.{works_in, jobs_with, with_job, begins_job, is_going, is_on, turn_job, turn_jobs, still_going, other_jobs, write_at}

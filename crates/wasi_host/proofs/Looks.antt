@@ -27,7 +27,7 @@ use Rattle.wasi_tcp.specs.Job.{Job, finish_in, finish_asks}
 use Rattle.wasi_tcp.specs.Reader.{reader_ready_asks, reader_shutdown_asks}
 use Rattle.wasi_tcp.specs.Shape.{Socket}
 use Rattle.wasi_tcp.specs.Writer.{collected, look_asks, writer_side, writer_shutdown_asks, side_up_asks}
-use Rattle.wasi_host.specs.declared.jobs.HostJob.{HostJob}
+use Rattle.wasi_jobs.specs.declared.job.HostJob.{HostJob}
 use Rattle.wasi_host.specs.declared.socket.Streams.{Streams}
 use Rattle.wasi_host.specs.declared.socket.Tcp2Socket.{Tcp2Socket}
 use Rattle.wasi_host.specs.Dropping.{give_streams_up, wait_answer, waits_told, wait_writer}

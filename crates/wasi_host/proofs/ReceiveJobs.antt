@@ -1,7 +1,7 @@
 -- Receives in the list of jobs.
 use Rattle.std.specs.Prelude.{filter}
 use Rattle.std.proofs.Common.{◌≡◌, ℕ, not, Bool, true, false, if◌then◌else◌, cond, List, [], ◌∷◌, refl, ap}
-use Rattle.wasi_host.specs.declared.jobs.HostJob.{HostJob}
+use Rattle.wasi_jobs.specs.declared.job.HostJob.{HostJob}
 use Rattle.wasi_host.specs.Jobs.{is_receive_on, other_than_receive}
 
 -- those that are left where a record's receive goes

@@ -3,8 +3,7 @@ use Rattle.std.specs.Prelude.{ℕ, ◌==◌, Bool, true, false, if◌then◌else
 use Rattle.wasi_world.specs.Asks.{Asks, Give, bind}
 use Rattle.wasi_udp.specs.Create.{create_cancel_asks}
 use Rattle.wasi_host.specs.declared.binding.InProgress.TheVariants as doing
-use Rattle.wasi_host.specs.declared.jobs.HostJob.{HostJob}
-use Rattle.wasi_host.specs.declared.jobs.HostJob.TheVariants.{Datagram}
+pub use Rattle.wasi_jobs.specs.Jobs.{is_datagram_on, other_than_datagram}
 use Rattle.wasi_host.specs.declared.listening.Listening.TheVariants.{Not}
 use Rattle.wasi_host.specs.declared.machine.Machine.{Machine}
 use Rattle.wasi_host.specs.declared.socket.Tcp2Socket.{Tcp2Socket}
@@ -56,14 +55,6 @@ cancel_udp_connect_at store place None = store
 cancel_udp_connect_at store place (Some o) = with_open_udp store place (record o { connecting = None })
 
 -- == an outgoing datagram stream goes, and its datagram is lost
-abbrev pub is_datagram_on : ℕ → HostJob → Bool
-is_datagram_on place (Datagram p) = p == place
-is_datagram_on place _ = false
-
-abbrev pub other_than_datagram : ℕ → List HostJob → List HostJob
-other_than_datagram place [] = []
-other_than_datagram place (job ∷ jobs) = if is_datagram_on place job then other_than_datagram place jobs else job ∷ other_than_datagram place jobs
-
 abbrev pub without_datagrams : ℕ → Records → Records
 without_datagrams place store = record store { jobs = other_than_datagram place store.jobs }
 

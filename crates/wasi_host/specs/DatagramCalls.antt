@@ -10,7 +10,7 @@ use Rattle.wasi_world.specs.declared.outcome.Answer.TheVariants.{Ready, Pending}
 use Rattle.wasi_world.specs.declared.outcome.TrapKind.TheVariants.{NoSuchHandle, StreamsAlive}
 use Rattle.wasi_world.specs.Asks.{Asks, Give, bind}
 use Rattle.wasi_host.specs.declared.datagrams.Outgoing.{Outgoing}
-use Rattle.wasi_host.specs.declared.jobs.HostJob.TheVariants.{Datagram, Receive}
+use Rattle.wasi_jobs.specs.declared.job.HostJob.TheVariants.{Datagram, Receive}
 use Rattle.wasi_host.specs.declared.kind.Kind.TheVariants as kind
 use Rattle.wasi_host.specs.declared.machine.Machine.{Machine}
 use Rattle.wasi_host.specs.declared.store.StandingCall.TheVariants.{UdpConnect, DropOutgoing}

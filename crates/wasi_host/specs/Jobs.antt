@@ -11,9 +11,9 @@ use Rattle.wasi_host.specs.NameLookup.{looks_on, turn_lookup_at}
 use Rattle.wasi_host.specs.Receiving.{receives, turn_incoming}
 use Rattle.wasi_host.specs.Records.{tcp2_at, tcp2_put, open_at, open_put, lookup_at}
 use Rattle.wasi_host.specs.declared.records.Record.{Record}
-pub use Rattle.wasi_host.specs.GivingBack.{is_on, other_jobs}
-use Rattle.wasi_host.specs.declared.jobs.HostJob.{HostJob}
-use Rattle.wasi_host.specs.declared.jobs.HostJob.TheVariants.{Write, Datagram, Receive, Lookup}
+pub use Rattle.wasi_jobs.specs.Jobs.{is_on, other_jobs, is_receive_on, other_than_receive}
+use Rattle.wasi_jobs.specs.declared.job.HostJob.{HostJob}
+use Rattle.wasi_jobs.specs.declared.job.HostJob.TheVariants.{Write, Datagram, Receive, Lookup}
 use Rattle.wasi_host.specs.declared.socket.Streams.{Streams}
 use Rattle.wasi_host.specs.declared.socket.Tcp2Socket.{Tcp2Socket}
 use Rattle.wasi_host.specs.declared.udp.OpenUdp.{OpenUdp}
@@ -88,11 +88,6 @@ turn_job records (Datagram place) = turn_datagram_at records place (open_at reco
 turn_job records (Receive place) = turn_receive_at records place (open_at records place)
 turn_job records (Lookup place) = turn_lookup_at records place (lookup_at records place)
 
--- these, in order
-abbrev pub turn_jobs : List HostJob → List Record → Asks (List Record)
-turn_jobs [] records = Give records
-turn_jobs (job ∷ jobs) records = bind (turn_job records job) (λ now. turn_jobs jobs now)
-
 abbrev pub sends_on : Option OpenUdp → Bool
 sends_on None = false
 sends_on (Some o) = sends o.outgoing
@@ -107,23 +102,14 @@ is_going records (Datagram place) = sends_on (open_at records place)
 is_going records (Receive place) = receives_on (open_at records place)
 is_going records (Lookup place) = looks_on (lookup_at records place)
 
--- a job that is over is none
-abbrev pub still_going : List Record → List HostJob → List HostJob
-still_going records [] = []
-still_going records (job ∷ jobs) = if is_going records job then job ∷ still_going records jobs else still_going records jobs
+-- these, in order; a job that is over once it was polled is none any more
+abbrev pub turn_jobs : List HostJob → List HostJob → List Record → Asks (List HostJob × List Record)
+turn_jobs kept [] records = Give (kept, records)
+turn_jobs kept (job ∷ jobs) records = bind (turn_job records job) (λ now. turn_jobs (jobs_with kept job (is_going now job)) jobs now)
 
-abbrev pub after_turn : Records → List Record → Records
-after_turn store records = record store { records = records; jobs = still_going records store.jobs }
+abbrev pub after_turn : Records → List HostJob × List Record → Records
+after_turn store done = record store { records = done.1; jobs = done.0 }
 
 -- each job is polled once, in the order of making
 abbrev pub turn_store_asks : Records → Asks (Unit {0} × Records)
-turn_store_asks store = bind (turn_jobs store.jobs store.records) (λ records. Give (tt, after_turn store records))
-
--- == an incoming stream that goes takes its receive with it
-abbrev pub is_receive_on : ℕ → HostJob → Bool
-is_receive_on place (Receive p) = p == place
-is_receive_on place _ = false
-
-abbrev pub other_than_receive : ℕ → List HostJob → List HostJob
-other_than_receive place [] = []
-other_than_receive place (job ∷ jobs) = if is_receive_on place job then other_than_receive place jobs else job ∷ other_than_receive place jobs
+turn_store_asks store = bind (turn_jobs [] store.jobs store.records) (λ done. Give (tt, after_turn store done))

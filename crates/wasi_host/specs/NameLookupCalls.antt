@@ -7,7 +7,7 @@ use Rattle.wasi_names.specs.declared.name.HostName.TheVariants.{Address, Domain}
 use Rattle.wasi_world.specs.declared.ids.OpId.{OpId}
 use Rattle.wasi_world.specs.declared.outcome.TrapKind.TheVariants.{NoSuchHandle}
 use Rattle.wasi_world.specs.Asks.{Asks, Give, bind}
-use Rattle.wasi_host.specs.declared.jobs.HostJob.TheVariants as job
+use Rattle.wasi_jobs.specs.declared.job.HostJob.TheVariants as job
 use Rattle.wasi_host.specs.declared.kind.Kind.TheVariants as kind
 use Rattle.wasi_host.specs.declared.name_lookup.Lookup.{Lookup}
 use Rattle.wasi_host.specs.declared.name_lookup.Lookup.TheVariants.{Found, Failed}

@@ -5,7 +5,7 @@ use Rattle.wasi_tcp.specs.Connecting.{finish_connect_asks}
 use Rattle.wasi_tcp.specs.Listener.{listener_ready_asks}
 use Rattle.wasi_tcp.specs.Reader.{reader_ready_asks}
 use Rattle.wasi_tcp.specs.Writer.{look_asks}
-use Rattle.wasi_host.specs.declared.jobs.HostJob.TheVariants.{Receive}
+use Rattle.wasi_jobs.specs.declared.job.HostJob.TheVariants.{Receive}
 use Rattle.wasi_host.specs.declared.kind.Watched.TheVariants as watched
 use Rattle.wasi_host.specs.declared.listening.Listening.TheVariants as listening
 use Rattle.wasi_host.specs.declared.polling.Look.{Look}

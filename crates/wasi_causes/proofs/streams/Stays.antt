@@ -5,8 +5,8 @@ use Rattle.wasi_host.specs.Jobs.{turn_datagram_at, turn_receive_at}
 use Rattle.wasi_host.specs.NameLookup.{turn_lookup, turn_lookup_at}
 use Rattle.wasi_host.specs.Receiving.{turn_incoming}
 use Rattle.wasi_host.specs.Records.{input_pipe_at, lookup_at, lookup_put, open_at, open_of, open_put, output_pipe_at, tcp2_at, tcp2_put, udp2_at}
-use Rattle.wasi_host.specs.declared.jobs.HostJob.{HostJob}
-use Rattle.wasi_host.specs.declared.jobs.HostJob.TheVariants as job
+use Rattle.wasi_jobs.specs.declared.job.HostJob.{HostJob}
+use Rattle.wasi_jobs.specs.declared.job.HostJob.TheVariants as job
 use Rattle.wasi_host.specs.declared.name_lookup.Lookup.{Lookup}
 use Rattle.wasi_host.specs.declared.records.Record.{Record}
 use Rattle.wasi_host.specs.declared.udp.OpenUdp.{OpenUdp}

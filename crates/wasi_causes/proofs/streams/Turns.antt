@@ -18,8 +18,8 @@ use Rattle.wasi_host.specs.declared.datagrams.Receiving.{Receiving}
 use Rattle.wasi_host.specs.declared.datagrams.Sending.{Sending}
 use Rattle.wasi_host.specs.declared.records.Record.{Record}
 use Rattle.wasi_host.specs.declared.udp.OpenUdp.{OpenUdp}
-use Rattle.wasi_host.specs.declared.jobs.HostJob.{HostJob}
-use Rattle.wasi_host.specs.declared.jobs.HostJob.TheVariants.{Write, Datagram, Receive, Lookup as LookupJob}
+use Rattle.wasi_jobs.specs.declared.job.HostJob.{HostJob}
+use Rattle.wasi_jobs.specs.declared.job.HostJob.TheVariants.{Write, Datagram, Receive, Lookup as LookupJob}
 use Rattle.wasi_tcp.specs.declared.writer.WriteState.TheVariants as writing
 use Rattle.wasi_steps.specs.declared.reply.Reply.TheVariants as reply
 use Rattle.wasi_steps.specs.declared.step.Step.TheVariants as step

@@ -3,7 +3,7 @@ use Rattle.wasi_causes.proofs.Words.{Asks, Bool, Entry, Err, Give, List, Machine
 use Rattle.wasi_causes.proofs.Words.{⊤, false, no_such_handle, not, refl, subst, sym, true, with_job, with_store, ℕ, ◌&&◌, ◌∙◌, ◌≡◌}
 use Rattle.wasi_host.specs.Records.{open_at, open_of, udp2_at}
 use Rattle.wasi_host.specs.UdpCalls.{with_open_udp}
-use Rattle.wasi_host.specs.declared.jobs.HostJob.{HostJob}
+use Rattle.wasi_jobs.specs.declared.job.HostJob.{HostJob}
 use Rattle.wasi_host.specs.declared.records.Record.{Record}
 use Rattle.wasi_host.specs.declared.udp.OpenUdp.{OpenUdp}
 use Rattle.wasi_host.specs.declared.udp.Udp2Socket.TheVariants as udp

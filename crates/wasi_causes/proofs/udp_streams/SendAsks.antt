@@ -16,7 +16,7 @@ use Rattle.wasi_udp.specs.declared.send.Destination.{Destination}
 use Rattle.wasi_host.specs.Datagrams.{all_sent, count_told, one_sent, poll_send_asks, send_after, send_all, send_datagrams_asks, send_ended, send_next_asks, send_one_asks, send_permitted, send_some}
 use Rattle.wasi_host.specs.DatagramCalls.{begins_send, datagrams_sent, send_datagrams_at}
 use Rattle.wasi_host.specs.Host.{Code}
-use Rattle.wasi_host.specs.declared.jobs.HostJob.TheVariants.{Datagram}
+use Rattle.wasi_jobs.specs.declared.job.HostJob.TheVariants.{Datagram}
 use Rattle.wasi_causes.proofs.udp_streams.Routes.{job_there}
 use Rattle.wasi_causes.specs.Turns.{datagram_of, outgoing_asks_by, sends_by}
 use Rattle.wasi_host.specs.Machine.{outgoing_at}

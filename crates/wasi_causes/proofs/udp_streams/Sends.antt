@@ -15,7 +15,7 @@ use Rattle.wasi_host.specs.Names.{names_after, next_name}
 use Rattle.wasi_host.specs.Records.{open_at}
 use Rattle.wasi_host.specs.declared.datagrams.Outgoing.{Outgoing}
 use Rattle.wasi_host.specs.declared.datagrams.Sending.{Sending}
-use Rattle.wasi_host.specs.declared.jobs.HostJob.TheVariants.{Datagram}
+use Rattle.wasi_jobs.specs.declared.job.HostJob.TheVariants.{Datagram}
 use Rattle.wasi_host.specs.declared.udp.OpenUdp.{OpenUdp}
 use Rattle.wasi_p2.specs.Udp.{check_send_on, send_datagrams_on}
 use Rattle.wasi_steps.specs.declared.step.Step.TheVariants as step

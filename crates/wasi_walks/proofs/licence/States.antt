@@ -8,7 +8,7 @@ use Rattle.wasi_host.specs.Kinds.{name_of}
 use Rattle.wasi_host.specs.Udp.{udp_side}
 use Rattle.wasi_walks.specs.Licence.{IsMarkedAs}
 use Rattle.wasi_host.specs.UdpCalls.{with_udp}
-use Rattle.wasi_host.specs.declared.jobs.HostJob.{HostJob}
+use Rattle.wasi_jobs.specs.declared.job.HostJob.{HostJob}
 use Rattle.wasi_host.specs.declared.records.Record.TheVariants.{Tcp2, Udp2}
 use Rattle.wasi_host.specs.declared.udp.Udp2Socket.{Udp2Socket}
 use Rattle.wasi_walks.proofs.Lists.{has_last, marks_in-push, get_split, get_set, value_split}

@@ -8,7 +8,7 @@ use Rattle.wasi_host.specs.Host.{Code}
 use Rattle.wasi_host.specs.Machine.{incoming_at}
 use Rattle.wasi_host.specs.Jobs.{with_job}
 use Rattle.wasi_host.specs.UdpCalls.{with_open_udp}
-use Rattle.wasi_host.specs.declared.jobs.HostJob.TheVariants.{Receive}
+use Rattle.wasi_jobs.specs.declared.job.HostJob.TheVariants.{Receive}
 use Rattle.wasi_host.specs.Receiving.{receive_datagrams_asks}
 use Rattle.wasi_host.specs.Records.{open_at, udp2_at, udp2_put}
 use Rattle.wasi_host.specs.Store.{Records}

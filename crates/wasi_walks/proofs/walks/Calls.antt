@@ -6,7 +6,7 @@ use Rattle.wasi_world.specs.declared.outcome.TrapKind.TheVariants.{NoSuchHandle}
 use Rattle.wasi_walks.proofs.Words.{Asks, ErrorValue, Give, Has, Kind, Machine, Records, Step, Stop, Streams, StreamStop, Tcp2Socket, WasiSocketsCtx, allows_weaker}
 use Rattle.wasi_walks.proofs.Words.{ap, bind, check_write_asks, flush_asks, input_at, input_of, kind_at, make_asks, output_at, output_of, own_of, read_state_asks, reader_asks, refl, side_at, stream_at, subst, sym, with_store, write_state_asks, writer_asks, writer_of}
 use Rattle.wasi_host.specs.Host.{CallStop}
-use Rattle.wasi_host.specs.declared.jobs.HostJob.TheVariants.{Write}
+use Rattle.wasi_jobs.specs.declared.job.HostJob.TheVariants.{Write}
 use Rattle.wasi_host.specs.declared.kind.Kind.TheVariants as kind
 use Rattle.wasi_host.specs.declared.kind.PlainInput.{PlainInput}
 use Rattle.wasi_host.specs.declared.kind.PlainOutput.{PlainOutput}

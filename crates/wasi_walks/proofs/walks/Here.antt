@@ -15,8 +15,8 @@ use Rattle.wasi_host.specs.declared.kind.PlainInput.TheVariants as plain_input
 use Rattle.wasi_host.specs.declared.kind.PlainOutput.TheVariants as plain_output
 use Rattle.wasi_host.specs.declared.name_lookup.Lookup.{Lookup as NameLookup}
 use Rattle.wasi_host.specs.declared.datagrams.Receiving.{Receiving}
-use Rattle.wasi_host.specs.declared.jobs.HostJob.{HostJob}
-use Rattle.wasi_host.specs.declared.jobs.HostJob.TheVariants as jobs
+use Rattle.wasi_jobs.specs.declared.job.HostJob.{HostJob}
+use Rattle.wasi_jobs.specs.declared.job.HostJob.TheVariants as jobs
 use Rattle.wasi_host.specs.declared.records.Record.{Record}
 use Rattle.wasi_host.specs.declared.records.Record.TheVariants.{Gone}
 use Rattle.wasi_walks.specs.Licence.{Has}

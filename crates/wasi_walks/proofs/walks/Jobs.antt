@@ -4,7 +4,7 @@ use Rattle.std.specs.Prelude.{is_some, not, ◌&&◌}
 use Rattle.wasi_host.specs.Cancel.{is_datagram_on, other_than_datagram}
 use Rattle.wasi_host.specs.Jobs.{begins_job, has_job, is_going, is_receive_on, jobs_with, other_than_receive, still_going}
 use Rattle.wasi_host.specs.Records.{lookup_of, tcp2_at, tcp2_of, udp2_of}
-use Rattle.wasi_host.specs.declared.jobs.HostJob.{HostJob}
+use Rattle.wasi_jobs.specs.declared.job.HostJob.{HostJob}
 use Rattle.wasi_host.specs.declared.records.Record.{Record}
 use Rattle.wasi_host.specs.declared.records.Record.TheVariants.{Lookup as LookupRecord, Tcp2, Udp2}
 use Rattle.wasi_host.specs.declared.udp.Udp2Socket.{Udp2Socket}

@@ -16,7 +16,7 @@ use Rattle.wasi_host.specs.Records.{open_at, tcp2_at, udp2_at}
 use Rattle.wasi_host.specs.UdpCalls.{with_open_udp}
 use Rattle.wasi_host.specs.declared.datagrams.Incoming.{Incoming}
 use Rattle.wasi_host.specs.declared.datagrams.Receiving.{Receiving}
-use Rattle.wasi_host.specs.declared.jobs.HostJob.TheVariants.{Receive}
+use Rattle.wasi_jobs.specs.declared.job.HostJob.TheVariants.{Receive}
 use Rattle.wasi_host.specs.declared.udp.OpenUdp.{OpenUdp}
 use Rattle.wasi_host.specs.declared.udp.Udp2Socket.{Udp2Socket}
 use Rattle.wasi_tcp.specs.Listener.{has_accept}

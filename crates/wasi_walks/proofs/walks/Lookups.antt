@@ -26,7 +26,7 @@ use Rattle.wasi_walks.proofs.walks.Moves.{ALookup, Emptied, Finds, GivesBack, He
 use Rattle.wasi_walks.proofs.walks.Law.{Law, Walks, and_then, by_if, give, gives, mark, move}
 use Rattle.wasi_walks.proofs.walks.Jobs.{lookup_is_record, may_begin_one}
 use Rattle.wasi_host.specs.NameLookup.{is_looking}
-use Rattle.wasi_host.specs.declared.jobs.HostJob.TheVariants as jobs
+use Rattle.wasi_jobs.specs.declared.job.HostJob.TheVariants as jobs
 use Rattle.std.specs.Prelude.{length, slice_get}
 use Rattle.wasi_walks.proofs.walks.States.{Numbering, Over, OverWith, Sets, Starts}
 

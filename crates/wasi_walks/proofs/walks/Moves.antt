@@ -49,7 +49,7 @@ use Rattle.wasi_udp.specs.Create.{Create}
 use Rattle.wasi_udp.specs.Socket.{asker_of}
 use Rattle.wasi_udp.specs.declared.bind.UdpBindStage.{UdpBindStage}
 use Rattle.wasi_host.specs.declared.records.Record.{Record}
-use Rattle.wasi_host.specs.declared.jobs.HostJob.{HostJob}
+use Rattle.wasi_jobs.specs.declared.job.HostJob.{HostJob}
 use Rattle.wasi_walks.specs.Licence.{IsGetOf, IsSetTo, IsSendOf, IsDisconnect, IsUdpBindTo, IsUdpConnectTo, Receives}
 use Rattle.wasi_walks.specs.Answered.{streams_in}
 use Rattle.wasi_walks.specs.Waiting.{StartsTold}

@@ -15,7 +15,7 @@ use Rattle.wasi_host.specs.Records.{open_at, udp2_at}
 use Rattle.wasi_host.specs.UdpCalls.{with_open_udp}
 use Rattle.wasi_host.specs.declared.datagrams.Incoming.{Incoming}
 use Rattle.wasi_host.specs.declared.datagrams.Receiving.{Receiving}
-use Rattle.wasi_host.specs.declared.jobs.HostJob.TheVariants.{Receive}
+use Rattle.wasi_jobs.specs.declared.job.HostJob.TheVariants.{Receive}
 use Rattle.wasi_host.specs.declared.kind.Kind.TheVariants as kinds
 use Rattle.wasi_host.specs.declared.records.Record.{Record}
 use Rattle.wasi_host.specs.declared.udp.OpenUdp.{OpenUdp}

@@ -19,9 +19,9 @@ use Rattle.wasi_addr.specs.declared.address.ShutdownType.TheVariants.{Receive, S
 use Rattle.wasi_tcp.specs.Job.{finish_in as finish_job}
 use Rattle.wasi_host.specs.Records.{tcp2_at, udp2_at, open_at, lookup_at}
 use Rattle.wasi_host.specs.declared.records.Record.{Record}
-use Rattle.wasi_host.specs.declared.jobs.HostJob.{HostJob}
-use Rattle.wasi_host.specs.declared.jobs.HostJob.TheVariants.{Write, Datagram}
-use Rattle.wasi_host.specs.declared.jobs.HostJob.TheVariants as jobs
+use Rattle.wasi_jobs.specs.declared.job.HostJob.{HostJob}
+use Rattle.wasi_jobs.specs.declared.job.HostJob.TheVariants.{Write, Datagram}
+use Rattle.wasi_jobs.specs.declared.job.HostJob.TheVariants as jobs
 use Rattle.wasi_host.specs.Shutdowns.{with_streams}
 use Rattle.wasi_walks.proofs.walks.Writes.{may_begin, MayWrite, AsLet, AsNone, AsAny}
 use Rattle.wasi_walks.proofs.walks.Moves.{Own, Used, Unused, ToWrite, Here, put, OfReader, OfWriter, Collects, Permits, Lasts, LastsAfter, Closes, Spends, ClosesReader, Writes, BeginsWrite, record_of, APlainPollable, Reaches, Leaves, IsGone, Lists, Takes, Stands, APollable, AUdpPollable, ALookupPollable, ReachesUdp, udp_record_of}

@@ -1,6 +1,6 @@
 use Rattle.std.proofs.Common.{◌≡◌, not, ap, sym, ◌∙◌, refl}
 use Rattle.wasi_world.proofs.Walks.{asks_gives}
-use Rattle.wasi_host.specs.declared.jobs.HostJob.TheVariants.{Receive}
+use Rattle.wasi_jobs.specs.declared.job.HostJob.TheVariants.{Receive}
 use Rattle.wasi_host.specs.DatagramCalls.{begins_receive, with_receive}
 use Rattle.wasi_host.specs.Records.{open_put}
 use Rattle.wasi_host.specs.Sides.{held_in}

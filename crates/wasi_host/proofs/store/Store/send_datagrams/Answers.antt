@@ -1,6 +1,6 @@
 use Rattle.std.proofs.Common.{◌≡◌, not, ap, sym, ◌∙◌, refl}
 use Rattle.wasi_world.proofs.Walks.{asks_gives}
-use Rattle.wasi_host.specs.declared.jobs.HostJob.TheVariants.{Datagram}
+use Rattle.wasi_jobs.specs.declared.job.HostJob.TheVariants.{Datagram}
 use Rattle.wasi_host.specs.DatagramCalls.{begins_send, datagrams_sent}
 use Rattle.wasi_host.specs.Records.{open_put}
 use Rattle.wasi_host.specs.Sides.{held_in}

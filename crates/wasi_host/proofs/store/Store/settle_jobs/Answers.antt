@@ -2,7 +2,7 @@ use Rattle.std.proofs.Common.{◌≡◌, ◌∙◌, ap, rules, List}
 use Rattle.std.specs.Prelude.{filter}
 use Rattle.std.proofs.lemmas.Fn.{filter_same}
 use Rattle.wasi_host.specs.Jobs.{is_going}
-use Rattle.wasi_host.specs.declared.jobs.HostJob.{HostJob}
+use Rattle.wasi_jobs.specs.declared.job.HostJob.{HostJob}
 use Rattle.wasi_host.specs.Store.{Records}
 use Rattle.wasi_host.proofs.JobLists.{still_going-filter}
 use Rattle.wasi_host.proofs.store.Store.settle_jobs.Goals as goal

@@ -1,0 +1,6 @@
+//! The host's background work: what a job is, and the list of those that go on.
+#![tactic(auto)]
+
+pub mod job;
+
+pub use job::HostJob;
