@@ -3,30 +3,18 @@
 ghost use Rattle.std.specs.Prelude.{◌≡◌, false};
 ghost use Rattle.wasi_world.specs.Asks.{AsksFor};
 ghost use Rattle.wasi_world.specs.Seen.{Seen};
-ghost use Rattle.wasi_host.specs.Cancel.{is_datagram_on, other_than_datagram, cancel_bind_at, cancel_udp_bind_at, cancel_listen_at, cancel_create, cancel_create_at, cancel_udp_connect_at, cancel_drop_outgoing_at, cancel_on, cancel_asks};
+ghost use Rattle.wasi_host.specs.Cancel.{other_than_datagram, cancel_bind_at, cancel_udp_bind_at, cancel_listen_at, cancel_create, cancel_create_at, cancel_udp_connect_at, cancel_drop_outgoing_at, cancel_on, cancel_asks};
 ghost use Rattle.wasi_host.specs.Records.{tcp2_at, udp2_at, open_at};
 ghost use Rattle.wasi_host.specs.Sides.{KnowsSides};
 ghost use Rattle.wasi_host.specs.Views.{SameView, state_of};
 
 use crate::binding::InProgress;
-use crate::jobs::HostJob;
 use crate::records::{open_udp_mut, tcp2_mut, udp2};
 use crate::store::{StandingCall, Store};
 use crate::udp::{Udp2Socket, UdpInProgress};
 use crate::view::WasiSocketsCtxView;
 use std::alloc::AllocError;
 use wasi_world::World;
-
-/// Whether a job is the datagram in the background of the record of this number.
-fn is_datagram_on(job: HostJob, place: usize) -> bool
-    ensures { result ≡ is_datagram_on place job }
-{
-    match job {
-        HostJob::Datagram { socket } => socket == place,
-        HostJob::Write { .. } | HostJob::Receive { .. } | HostJob::Lookup { .. } => false,
-    }
-}
-
 impl Store {
     /// The bind of the socket of this number is forgotten: the socket is as it was, and in the middle of nothing.
     fn cancel_bind(&mut self, place: usize)
@@ -108,7 +96,7 @@ impl Store {
     fn forget_datagrams(&mut self, place: usize)
         ensures { self.new ≡ record self.old { jobs = other_than_datagram place self.old.jobs } }
     {
-        self.jobs.retain(|job| !is_datagram_on(*job, place));
+        self.jobs.forget_datagrams(place);
     }
 
     /// What is left of the records when this call is given up. An output whose drop waits is gone already, and what a blocking

@@ -12,12 +12,13 @@ ghost use Rattle.wasi_host.specs.Sides.{KnowsSides};
 
 use crate::error::SocketError;
 use crate::handles;
-use crate::jobs::HostJob;
+use crate::jobs::keep_job;
 use crate::kind::Kind;
 use crate::records::{open_udp, open_udp_mut};
-use crate::store::{StandingCall, Store, note_job};
+use crate::store::{StandingCall, Store};
 use std::alloc::Global;
 use wasi_addr::IpSocketAddress;
+use wasi_jobs::HostJob;
 use wasi_streams::Fault;
 use wasi_table::Table;
 use wasi_world::{Answer, Handle, Ids, IncomingDatagrams, OpId, OutgoingDatagram, TrapKind, World};
@@ -172,15 +173,15 @@ impl Store {
         ensures sides { KnowsSides (W.seen world.old) self.old → KnowsSides (W.seen world.new) self.new }
         ensures open { (W.seen world.new).ended ≡ false }
     {
-        // Room for the job comes first, so that a datagram in the background has its job.
-        self.jobs.reserve(1)?;
         let Some(socket) = open_udp_mut(&mut self.records, place) else {
             return Err(SocketError::Trap(TrapKind::NoSuchHandle));
         };
+        // The job comes first, so that a datagram in the background has its job whatever memory there is.
+        self.jobs.push(HostJob::Datagram { socket: place })?;
         let before = socket.sends();
         let sent = socket.send_datagrams(world, ids, datagrams);
         let begins = !before && socket.sends();
-        note_job(&mut self.jobs, HostJob::Datagram { socket: place }, begins);
+        keep_job(&mut self.jobs, begins);
         sent
     }
 
@@ -202,15 +203,15 @@ impl Store {
         ensures sides { KnowsSides (W.seen world.old) self.old → KnowsSides (W.seen world.new) self.new }
         ensures open { (W.seen world.new).ended ≡ false }
     {
-        // Room for the job comes first, so that a receive in progress has its job.
-        self.jobs.reserve(1)?;
         let Some(socket) = open_udp_mut(&mut self.records, place) else {
             return Err(SocketError::Trap(TrapKind::NoSuchHandle));
         };
+        // The job comes first, so that a receive in progress has its job whatever memory there is.
+        self.jobs.push(HostJob::Receive { socket: place })?;
         let before = socket.receives();
         let received = socket.receive_datagrams(alloc, world, ids, most);
         let begins = !before && socket.receives();
-        note_job(&mut self.jobs, HostJob::Receive { socket: place }, begins);
+        keep_job(&mut self.jobs, begins);
         received
     }
 
@@ -230,15 +231,14 @@ impl Store {
         ensures sides { KnowsSides (W.seen world.old) self.old → KnowsSides (W.seen world.new) self.new }
         ensures open { (W.seen world.new).ended ≡ false }
     {
-        self.jobs.reserve(1)?;
         let Some(socket) = open_udp_mut(&mut self.records, place) else {
             return Err(Fault::Trap(TrapKind::NoSuchHandle));
         };
+        self.jobs.push(HostJob::Receive { socket: place })?;
         let before = socket.receives();
         let looked = socket.look_incoming(world, ids);
         let waits = socket.receives();
-        let job = HostJob::Receive { socket: place };
-        note_job(&mut self.jobs, job, !before && waits);
+        keep_job(&mut self.jobs, !before && waits);
         looked?;
         Ok(!waits)
     }

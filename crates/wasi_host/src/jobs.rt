@@ -1,12 +1,14 @@
 //! The host's background work, and its turn.
 
-ghost use Rattle.std.specs.Prelude.{◌≡◌, false};
+ghost use Rattle.std.specs.Prelude.{◌≡◌, ◌++◌, ◌∷◌, [], List, false};
 ghost use Rattle.wasi_world.specs.Asks.{AsksFor};
 ghost use Rattle.wasi_world.specs.Seen.{Seen};
 ghost use Rattle.wasi_host.specs.Records.{tcp2_at, open_at, lookup_at};
 ghost use Rattle.wasi_host.specs.NameLookup.{looks_on, turn_lookup_at};
-ghost use Rattle.wasi_host.specs.Jobs.{turn_at, turn_datagram_at, turn_receive_at, sends_on, receives_on, is_receive_on, other_than_receive, turn_job, turn_jobs, turn_store_asks, still_going, has_job, is_going};
-ghost use Rattle.wasi_host.specs.GivingBack.{given_back, is_on};
+ghost use Rattle.wasi_jobs.specs.declared.job.HostJob.{HostJob};
+ghost use Rattle.wasi_jobs.specs.Jobs.{other_than_receive};
+ghost use Rattle.wasi_host.specs.Jobs.{turn_at, turn_datagram_at, turn_receive_at, sends_on, receives_on, turn_job, turn_jobs, turn_store_asks, jobs_with, has_job, is_going};
+ghost use Rattle.wasi_host.specs.GivingBack.{given_back};
 ghost use Rattle.wasi_host.specs.Numbered.{item_at};
 ghost use Rattle.wasi_host.specs.Machine.{turn_machine_asks};
 ghost use Rattle.wasi_host.specs.Sides.{KnowsSides, MakesNone, held_by, held_in};
@@ -18,46 +20,8 @@ use crate::socket::Tcp2Socket;
 use crate::store::Store;
 use crate::view::WasiSocketsCtxView;
 use std::alloc::AllocError;
+use wasi_jobs::{HostJob, JobList};
 use wasi_world::World;
-
-/// Background work of the host, which continues by itself until it is over.
-#[derive(Clone, Copy, Debug, PartialEq, Eq)]
-pub enum HostJob {
-    /// The write in progress of the socket of this number.
-    Write { socket: usize },
-    /// The datagram in the background of the UDP socket of this number.
-    Datagram { socket: usize },
-    /// The receive in progress of the UDP socket of this number.
-    Receive { socket: usize },
-    /// The lookup of this number, which the network hasn't answered yet.
-    Lookup { lookup: usize },
-}
-
-impl HostJob {
-    /// Whether it is work for the record of this number.
-    fn is_on(self, place: usize) -> bool
-        ensures { result ≡ is_on place self }
-    {
-        match self {
-            HostJob::Write { socket }
-            | HostJob::Datagram { socket }
-            | HostJob::Receive { socket } => socket == place,
-            HostJob::Lookup { lookup } => lookup == place,
-        }
-    }
-}
-
-impl HostJob {
-    /// Whether it is a receive of the record of this number.
-    fn is_receive_on(self, place: usize) -> bool
-        ensures { result ≡ is_receive_on place self }
-    {
-        match self {
-            HostJob::Receive { socket } => socket == place,
-            HostJob::Write { .. } | HostJob::Datagram { .. } | HostJob::Lookup { .. } => false,
-        }
-    }
-}
 
 /// Polls the write of the socket of this number once, where one is in progress.
 fn turn_socket<W: World>(
@@ -151,24 +115,6 @@ fn turn_job<W: World>(
     }
 }
 
-/// Polls these jobs, in order.
-fn turn_jobs<W: World>(
-    records: &mut RecordList,
-    world: &mut W,
-    jobs: &[HostJob],
-) -> Result<(), AllocError>
-    requires { (W.seen world.old).ended ≡ false }
-    ensures asked { AsksFor (turn_jobs jobs.now records.old.items) (W.seen world.old) (W.seen world.new) (λ done. records.new.items) result }
-    ensures held { held_in records.new.items ≡ held_in records.old.items }
-    ensures none { MakesNone (W.seen world.old) (W.seen world.new) }
-    ensures open { (W.seen world.new).ended ≡ false }
-{
-    for job in jobs {
-        turn_job(records, world, *job)?;
-    }
-    Ok(())
-}
-
 /// Whether the socket of this number has a write in progress.
 fn has_job(records: &RecordList, place: usize) -> bool
     ensures { result ≡ has_job (tcp2_at records.now.items place) }
@@ -221,6 +167,38 @@ fn is_going(records: &RecordList, job: HostJob) -> bool
     }
 }
 
+/// Polls each of these jobs once, in the order of making; one that is over then is none any more.
+fn turn_jobs<W: World>(
+    records: &mut RecordList,
+    world: &mut W,
+    jobs: &mut JobList,
+) -> Result<(), AllocError>
+    requires { (W.seen world.old).ended ≡ false }
+    ensures asked { AsksFor (turn_jobs [] jobs.old.items records.old.items) (W.seen world.old) (W.seen world.new) (λ done. (jobs.new.items, records.new.items)) result }
+    ensures held { held_in records.new.items ≡ held_in records.old.items }
+    ensures none { MakesNone (W.seen world.old) (W.seen world.new) }
+    ensures open { (W.seen world.new).ended ≡ false }
+{
+    let mut next = 0;
+    while let Some((number, job)) = jobs.first_from(next) {
+        turn_job(records, world, job)?;
+        if !is_going(records, job) {
+            jobs.remove(number);
+        }
+        next = number + 1;
+    }
+    Ok(())
+}
+
+/// The job that was made last goes on where it begins, and else is none.
+pub(crate) fn keep_job(jobs: &mut JobList, begins: bool)
+    ensures { (before : List HostJob) (job : HostJob) → jobs.old.items ≡ before ++ job ∷ [] → jobs.new.items ≡ jobs_with before job begins }
+{
+    if !begins {
+        jobs.withdraw();
+    }
+}
+
 impl Store {
     /// Polls each job once, in the order of making; one that is over is none any more.
     pub(crate) fn turn<W: World>(&mut self, world: &mut W) -> Result<(), AllocError>
@@ -229,24 +207,14 @@ impl Store {
         ensures sides { KnowsSides (W.seen world.old) self.old → KnowsSides (W.seen world.new) self.new }
         ensures open { (W.seen world.new).ended ≡ false }
     {
-        turn_jobs(&mut self.records, world, self.jobs.as_slice())?;
-        self.settle_jobs();
-        Ok(())
-    }
-
-    /// Takes out the jobs that are over.
-    fn settle_jobs(&mut self)
-        ensures { self.new ≡ record self.old { jobs = still_going self.old.records self.old.jobs } }
-    {
-        let records = &self.records;
-        self.jobs.retain(|job| is_going(records, *job));
+        turn_jobs(&mut self.records, world, &mut self.jobs)
     }
 
     /// No receive of this record is left.
     pub(crate) fn forget_receives(&mut self, place: usize)
         ensures { self.new ≡ record self.old { jobs = other_than_receive place self.old.jobs } }
     {
-        self.jobs.retain(|job| !job.is_receive_on(place));
+        self.jobs.forget_receives(place);
     }
 
     /// Gives the record of this number back, to which nothing refers any more, and its jobs with it.
@@ -255,7 +223,7 @@ impl Store {
         ensures sides { (s : Seen) → held_by (item_at self.old.records place) ≡ 0 → KnowsSides s self.old → KnowsSides s self.new }
     {
         self.records.give_back(place);
-        self.jobs.retain(|job| !job.is_on(place));
+        self.jobs.forget(place);
     }
 }
 

@@ -44,7 +44,7 @@ pub use cancelling::cancel;
 pub use datagrams::{Incoming, Outgoing, Receiving, Sending};
 pub use dropping::drop_handle;
 pub use error::{CallError, SocketError};
-pub use jobs::{HostJob, turn};
+pub use jobs::turn;
 pub use kind::{Kind, PlainInput, PlainOutput, Watched};
 pub use listening::Listening;
 pub use machine::Machine;
@@ -66,3 +66,4 @@ pub use udp::{OpenUdp, Udp2Socket, UdpInProgress};
 pub use view::{
     NamedId, WasiCtxNamedView, WasiSocketsCtxView, WasiSocketsNamedView, WasiSocketsView,
 };
+pub use wasi_jobs::HostJob;

@@ -1,6 +1,6 @@
 //! Lookups of host names: how one is begun and asked about, and how the addresses that it found are handed out.
 
-ghost use Rattle.std.specs.Prelude.{◌≡◌, ◌∷◌, [], ◌<◌, IfOk, OnErr, true, false, length, map, Ok, vec_capacity, vec_len};
+ghost use Rattle.std.specs.Prelude.{◌≡◌, ◌∷◌, [], ◌<◌, IfOk, OnErr, OnOk, true, false, length, map, Ok};
 ghost use Rattle.wasi_addr.specs.Address.{canonical};
 ghost use Rattle.wasi_world.specs.Asks.{AsksFor};
 ghost use Rattle.wasi_world.specs.Typed.{ask_lookup};
@@ -14,15 +14,15 @@ ghost use Rattle.wasi_host.specs.Sides.{KnowsSides, MakesNone};
 
 use crate::error::SocketError;
 use crate::handles;
-use crate::jobs::HostJob;
 use crate::kind::Kind;
 use crate::record_list::RecordList;
 use crate::records::{Record, lookup, lookup_mut};
-use crate::store::{Store, note_job};
+use crate::store::Store;
 use std::alloc::{AllocError, Global};
 use std::collections::VecDeque;
 use std::marker::Model;
 use wasi_addr::{IpAddress, lookup as lookup_code, p2};
+use wasi_jobs::{HostJob, JobList};
 use wasi_names::HostName;
 use wasi_table::Table;
 use wasi_world::asks::Polled;
@@ -170,19 +170,24 @@ fn unresolvable() -> p2::ErrorCode
     p2::ErrorCode::from_lookup(lookup_code::ErrorCode::NameUnresolvable)
 }
 
-/// Adds the record of a lookup, and its job, where it isn't answered yet; there is room for both. Its number is returned.
-fn add_lookup(records: &mut RecordList, jobs: &mut Vec<HostJob>, lookup: Lookup) -> usize
-    requires record { records.old.room ≡ true }
-    requires job { vec_len jobs.old < vec_capacity jobs.old }
-    ensures place { result ≡ length records.old.items }
-    ensures records { records.new.items ≡ lookup_pushed records.old.items lookup }
-    ensures jobs { jobs.new.items ≡ jobs_with jobs.old.items (HostJob.Lookup result) (is_looking lookup) }
+/// Adds the record of a lookup, and its job, where it isn't answered yet. Its number is returned. Out of memory, nothing is added.
+fn add_lookup(
+    records: &mut RecordList,
+    jobs: &mut JobList,
+    lookup: Lookup,
+) -> Result<usize, AllocError>
+    ensures place { IfOk result (λ place. place ≡ length records.old.items) }
+    ensures records { OnOk result (records.new.items ≡ lookup_pushed records.old.items lookup) }
+    ensures jobs { IfOk result (λ place. jobs.new.items ≡ jobs_with jobs.old.items (HostJob.Lookup place) (is_looking lookup)) }
+    ensures err { OnErr result ((records.new.items ≡ records.old.items) × (jobs.new.items ≡ jobs.old.items)) }
 {
+    records.reserve()?;
     let place = records.len();
-    let begins = lookup.is_in_progress();
+    if lookup.is_in_progress() {
+        jobs.push(HostJob::Lookup { lookup: place })?;
+    }
     records.push_reserved(Record::Lookup(lookup));
-    note_job(jobs, HostJob::Lookup { lookup: place }, begins);
-    place
+    Ok(place)
 }
 
 impl Store {
@@ -249,12 +254,16 @@ impl Store {
         ensures sides { KnowsSides (W.seen world.old) self.old → KnowsSides (W.seen world.new) self.new }
         ensures open { (W.seen world.new).ended ≡ false }
     {
-        self.records.reserve()?;
-        self.jobs.reserve(1)?;
-        let place = add_lookup(&mut self.records, &mut self.jobs, lookup);
+        let place = add_lookup(&mut self.records, &mut self.jobs, lookup)?;
         let kind = Kind::Lookup(place);
-        let handle = handles::make(table, world, own, kind, Some(network), None)?;
-        Ok(handle)
+        match handles::make(table, world, own, kind, Some(network), None) {
+            Ok(handle) => Ok(handle),
+            Err(fault) => {
+                // No handle names the lookup, so it is over.
+                self.give_back(place);
+                Err(SocketError::from(fault))
+            }
+        }
     }
 
     /// Takes the next address that the lookup of this number found; none once all were handed out.

@@ -24,12 +24,13 @@ pub struct Streams {
 /// The socket, its operation in progress, how far it is with listening, and its streams once they were made.
 #[derive(Drop)]
 pub struct Tcp2Socket {
+    // First, since each turn looks here: fields lie in this order, and a record is several cache lines long.
+    pub streams: Option<Streams>,
     pub inner: TcpSocket,
     /// The network socket that it was made with, also once that is closed: its handles are marked with it.
     pub side: Option<Sock>,
     pub in_progress: InProgress,
     pub listening: Listening,
-    pub streams: Option<Streams>,
 }
 
 impl Tcp2Socket {

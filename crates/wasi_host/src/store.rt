@@ -1,11 +1,11 @@
 //! The records that handles name, and the pending call.
 
-ghost use Rattle.std.specs.Prelude.{◌≡◌, true, is_some, ◌<◌, false, IfOk, Ok, OnErr, length, vec_capacity, vec_len};
+ghost use Rattle.std.specs.Prelude.{◌≡◌, true, is_some, false, IfOk, Ok, OnErr, length};
 ghost use Rattle.wasi_world.specs.Asks.{AsksFor};
 ghost use Rattle.wasi_world.specs.Seen.{Seen};
 ghost use Rattle.wasi_host.specs.Records.{tcp2_at};
 ghost use Rattle.wasi_host.specs.Host.{host_outcome};
-ghost use Rattle.wasi_host.specs.Jobs.{jobs_with, write_at};
+ghost use Rattle.wasi_host.specs.Jobs.{write_at};
 ghost use Rattle.wasi_host.specs.Standing.{exclusive_of, stands_as, stood};
 ghost use Rattle.wasi_host.specs.Shutdowns.{shutdown_at};
 ghost use Rattle.wasi_host.specs.Store.{no_records, start_connect_at, finish_connect_at, local_address_at, remote_address_at, is_listening_at, address_family_at, reader_asks, writer_asks, flush_asks, stream_at, with_record};
@@ -18,7 +18,7 @@ use crate::blocking::BlockingCall;
 use crate::closing::close_sides;
 use crate::error::SocketError;
 use crate::handles;
-use crate::jobs::HostJob;
+use crate::jobs::keep_job;
 use crate::kind::Kind;
 use crate::record_list::RecordList;
 use crate::records::{Record, tcp2, tcp2_mut};
@@ -26,6 +26,7 @@ use crate::socket::Tcp2Socket;
 use std::alloc::{AllocError, Global};
 use std::marker::Model;
 use wasi_addr::{IpSocketAddress, ShutdownType, SocketAddressFamily, p2};
+use wasi_jobs::{HostJob, JobList};
 use wasi_streams::StreamError;
 use wasi_table::Table;
 use wasi_tcp::TcpSocket;
@@ -67,7 +68,7 @@ pub struct Standing {
 #[derive(Drop)]
 pub struct Store {
     pub(crate) records: RecordList,
-    pub(crate) jobs: Vec<HostJob>,
+    pub(crate) jobs: JobList,
     pub(crate) standing: Option<Standing>,
 }
 
@@ -89,7 +90,7 @@ impl Store {
     {
         Store {
             records: RecordList::new(alloc),
-            jobs: Vec::new(alloc),
+            jobs: JobList::new(alloc),
             standing: None,
         }
     }
@@ -279,13 +280,13 @@ impl Store {
         ensures sides { KnowsSides (W.seen world.old) self.old → KnowsSides (W.seen world.new) self.new }
         ensures open { (W.seen world.new).ended ≡ false }
     {
-        // Room for the job comes first, so that a write that is in progress has its job.
-        self.jobs.reserve(1)?;
         let Some(record) = tcp2_mut(&mut self.records, place) else {
             return Err(StreamError::Trap(TrapKind::NoSuchHandle));
         };
+        // The job comes before the write, so that a write in progress has its job whatever memory there is.
+        self.jobs.push(HostJob::Write { socket: place })?;
         let (written, begins) = record.write_noting(world, op, bytes);
-        note_job(&mut self.jobs, HostJob::Write { socket: place }, begins);
+        keep_job(&mut self.jobs, begins);
         written
     }
 
@@ -361,15 +362,5 @@ impl Store {
                 Answer::Pending
             }
         }
-    }
-}
-
-/// Notes a job that begins, for which there is room.
-pub(crate) fn note_job(jobs: &mut Vec<HostJob>, job: HostJob, begins: bool)
-    requires { vec_len jobs.old < vec_capacity jobs.old }
-    ensures { jobs.new.items ≡ jobs_with jobs.old.items job begins }
-{
-    if begins {
-        jobs.push_reserved(job);
     }
 }
