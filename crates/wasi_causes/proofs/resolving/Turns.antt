@@ -86,9 +86,9 @@ module _ (m : Machine) where
   job_so (job.Receive place) records es so = receive_so records place (open_at records place) refl es so
   job_so (job.Lookup place) records es so = lookup_so records place es so (lookup_at records place) refl
 
-  jobs_so : (jobs : List HostJob) (records : List Record) (es : List Entry) → LooksSo es records → Meets LooksSo es (turn_jobs jobs records)
-  jobs_so [] records es so = ends so
-  jobs_so (its ∷ jobs) records es so = chain (job_so its records es so) (λ fs now k. jobs_so jobs now fs k)
+  jobs_so : (kept jobs : List HostJob) (records : List Record) (es : List Entry) → LooksSo es records → Meets (λ fs done. LooksSo fs done.1) es (turn_jobs kept jobs records)
+  jobs_so kept [] records es so = ends so
+  jobs_so kept (its ∷ jobs) records es so = chain (job_so its records es so) (λ fs now k. jobs_so _ jobs now fs k)
 
   pub lookups_turned : Meets (λ es done. LooksSo es done.1.store.records) [] (turn_machine_asks m)
-  lookups_turned = onto _ (onto _ (jobs_so m.store.jobs m.store.records [] (λ place l at. IsAsItWas l at)))
+  lookups_turned = onto _ (onto _ (jobs_so [] m.store.jobs m.store.records [] (λ place l at. IsAsItWas l at)))

@@ -123,9 +123,9 @@ job_stays xs (job.Receive place) = receive_stays xs place (open_at xs place) ref
 job_stays xs (job.Lookup place) = lookup_stays xs place (lookup_at xs place) refl
 
 -- == all of them
-jobs_stay : (jobs : List HostJob) (xs : List Record) → Meets (λ es now. StreamsStay xs now) [] (turn_jobs jobs xs)
-jobs_stay [] xs = ends (stay_same xs)
-jobs_stay (its ∷ jobs) xs = chain {Mid = λ es now. StreamsStay xs now} (job_stays xs its) (λ es now k. widen (λ fs done a. stay_then xs now done k a.row) (shifted es (jobs_stay jobs now)))
+jobs_stay : (kept jobs : List HostJob) (xs : List Record) → Meets (λ es done. StreamsStay xs done.1) [] (turn_jobs kept jobs xs)
+jobs_stay kept [] xs = ends (stay_same xs)
+jobs_stay kept (its ∷ jobs) xs = chain {Mid = λ es now. StreamsStay xs now} (job_stays xs its) (λ es now k. widen (λ fs done a. stay_then xs now done.1 k a.row) (shifted es (jobs_stay _ jobs now)))
 
 pub streams_turned : (m : Machine) → Meets (λ es done. StreamsStay m.store.records done.1.store.records) [] (turn_machine_asks m)
-streams_turned m = onto _ (onto _ (jobs_stay m.store.jobs m.store.records))
+streams_turned m = onto _ (onto _ (jobs_stay [] m.store.jobs m.store.records))

@@ -277,12 +277,15 @@ module _ (m : Machine) where
   host_job_by (Receive place) listed records es same = take_by records place (open_at records place) refl listed es same
   host_job_by (LookupJob place) listed records es same = look_by records place (lookup_at records place) refl listed es same
 
-  jobs_by : (jobs : List HostJob) → ((j : HostJob) → Has jobs j → Has m.store.jobs j) → (records : List Record) (es : List Entry) → SameJobs es records → Allows TurnAsks SameJobs es (turn_jobs jobs records)
-  jobs_by [] listed records es same = same
-  jobs_by (job ∷ jobs) listed records es same =
-      allows_then TurnAsks SameJobs SameJobs es (turn_job records job) _
+  abbrev SameTurned : List Entry → List HostJob × List Record → Type 0
+  SameTurned es done = SameJobs es done.1
+
+  jobs_by : (kept jobs : List HostJob) → ((j : HostJob) → Has jobs j → Has m.store.jobs j) → (records : List Record) (es : List Entry) → SameJobs es records → Allows TurnAsks SameTurned es (turn_jobs kept jobs records)
+  jobs_by kept [] listed records es same = same
+  jobs_by kept (job ∷ jobs) listed records es same =
+      allows_then TurnAsks SameJobs SameTurned es (turn_job records job) _
       (host_job_by job (listed job (inl refl)) records es same)
-      (λ fs now k. jobs_by jobs (λ j h. listed j (inr h)) now fs k)
+      (λ fs now k. jobs_by _ jobs (λ j h. listed j (inr h)) now fs k)
 
   abbrev SameTable : List Entry → Unit {0} × Machine → Type 0
   SameTable es done = (done.1.table ≡ m.table) × (done.1.store.standing ≡ m.store.standing)
@@ -293,7 +296,7 @@ module _ (m : Machine) where
   turn_by : Allows TurnAsks SameTable [] (turn_machine_asks m)
   turn_by =
       allows_then TurnAsks SameStanding SameTable [] (turn_store_asks m.store) _
-      (allows_then TurnAsks SameJobs SameStanding [] (turn_jobs m.store.jobs m.store.records) _ (jobs_by m.store.jobs (λ p h. h) m.store.records [] (λ job. inl refl)) (λ es records k. refl))
+      (allows_then TurnAsks SameTurned SameStanding [] (turn_jobs [] m.store.jobs m.store.records) _ (jobs_by [] m.store.jobs (λ p h. h) m.store.records [] (λ job. inl refl)) (λ es done k. refl))
       (λ es done k. (refl, k))
 
   abbrev AllByJobs : List Entry → Type 0

@@ -2,7 +2,7 @@
 use Rattle.wasi_walks.proofs.Words.{Bool, List, Option, Some, Tcp2Socket, [], false, if◌then◌else◌, inl, inr, slice_get, subst, true, ℕ, ◌++◌, ◌∷◌, ◌≡◌, ◌⊎◌}
 use Rattle.std.specs.Prelude.{is_some, not, ◌&&◌}
 use Rattle.wasi_host.specs.Cancel.{is_datagram_on, other_than_datagram}
-use Rattle.wasi_host.specs.Jobs.{begins_job, has_job, is_going, is_receive_on, jobs_with, other_than_receive, still_going}
+use Rattle.wasi_host.specs.Jobs.{begins_job, has_job, is_receive_on, jobs_with, other_than_receive}
 use Rattle.wasi_host.specs.Records.{lookup_of, tcp2_at, tcp2_of, udp2_of}
 use Rattle.wasi_jobs.specs.declared.job.HostJob.{HostJob}
 use Rattle.wasi_host.specs.declared.records.Record.{Record}
@@ -63,11 +63,7 @@ datagrams_end records place (j ∷ jobs) job l = by_test (is_datagram_on place j
     by_test false rest (inl is) = inl (inl is)
     by_test false rest (inr k) = elim (rest k) [ inl was ↦ inl (inr was) | inr there ↦ inr there ]
 
-pub some_end : (records still : List Record) (jobs : List HostJob) → KeepsJobs records jobs (still_going still jobs)
-some_end records still [] job l = absurd l
-some_end records still (j ∷ jobs) job l = by_test (is_going still j) (some_end records still jobs job) l
-  where
-    by_test : (b : Bool) → (Has (still_going still jobs) job → Has jobs job ⊎ IsRecord (slice_get records (job_place job))) → Has (if b then j ∷ still_going still jobs else still_going still jobs) job → ((j ≡ job) ⊎ Has jobs job) ⊎ IsRecord (slice_get records (job_place job))
-    by_test false rest k = elim (rest k) [ inl was ↦ inl (inr was) | inr there ↦ inr there ]
-    by_test true rest (inl is) = inl (inl is)
-    by_test true rest (inr k) = elim (rest k) [ inl was ↦ inl (inr was) | inr there ↦ inr there ]
+-- what a turn keeps was there
+pub one_turned : (all kept : List HostJob) (job : HostJob) (going : Bool) → ((j : HostJob) → Has kept j → Has all j) → Has all job → (j : HostJob) → Has (jobs_with kept job going) j → Has all j
+one_turned all kept job true before here j l = elim (has_split kept job j l) [ inl was ↦ before j was | inr is ↦ subst (Has all) is here ]
+one_turned all kept job false before here j l = before j l

@@ -2,7 +2,7 @@
 -- and turns.
 use Rattle.wasi_walks.proofs.walks.Moves.{Empties, GivesBack, OfTcp, NoStartStands, Releases}
 use Rattle.wasi_walks.proofs.walks.States.{Emptying}
-use Rattle.wasi_walks.proofs.Words.{Answer, Asks, Bool, Done, End, Err, ErrorCode, ErrorValue, Give, Has, HasChildren, Input, Job, Kind}
+use Rattle.wasi_walks.proofs.Words.{inl, inr, Answer, Asks, Bool, Done, End, Err, ErrorCode, ErrorValue, Give, Has, HasChildren, Input, Job, Kind}
 use Rattle.wasi_walks.proofs.Words.{List, Machine, Network, None, Not, NotPermitted, Ok, OpId, Option, Output, Pending, Pollable}
 use Rattle.wasi_walks.proofs.Words.{ReadState, Ready, Refused, Result, ShutdownType, Some, StandingCall, Step, StreamStop, Streams, Tcp2}
 use Rattle.wasi_walks.proofs.Words.{Tcp2Socket, TcpReceiveStream, TcpSendStream, Trap, Waits, WasiSocketsCtx, Watched, WriteState, [], after_read}
@@ -28,9 +28,9 @@ use Rattle.wasi_walks.proofs.walks.Moves.{Own, Used, Unused, ToWrite, Here, put,
 use Rattle.wasi_walks.proofs.walks.Law.{Law, HasRecord, spent, put_put, Walks, give, and_then, by_if, move, gives, from, found, on, ask, turn, put_same, ends, close, mark, give_up, and_so}
 use Rattle.wasi_tcp.specs.Closing.{close_in}
 use Rattle.wasi_host.specs.Readiness.{ready_reader, ready_writer}
-use Rattle.wasi_host.specs.Jobs.{turned, turn_at, turn_job, turn_jobs}
-use Rattle.wasi_walks.proofs.walks.States.{watched_record, OverWith, At, Starts, streams_are, none_stands, Put, there, Sets, watched_udp, watched_lookup}
-use Rattle.wasi_walks.proofs.walks.Jobs.{some_end}
+use Rattle.wasi_host.specs.Jobs.{after_turn, is_going, jobs_with, turned, turn_at, turn_job, turn_jobs}
+use Rattle.wasi_walks.proofs.walks.States.{Over, watched_record, OverWith, At, Starts, streams_are, none_stands, Put, there, Sets, watched_udp, watched_lookup}
+use Rattle.wasi_walks.proofs.walks.Jobs.{one_turned}
 use Rattle.wasi_walks.proofs.walks.Pipes.{drop_input_walks, drop_output_walks as drop_plain_output_walks}
 use Rattle.wasi_walks.proofs.walks.Udp.{release_udp_walks}
 use Rattle.wasi_walks.proofs.walks.Lookups.{drop_lookup_walks, turn_lookup_walks}
@@ -268,12 +268,15 @@ module _ {contexts : List WasiSocketsCtx} {line : ℕ} {origin : Step} {law : La
   turn_job_walks m records (jobs.Receive place) = turn_receive_walks m records place (open_at records place) refl
   turn_job_walks m records (jobs.Lookup place) = turn_lookup_walks m records place (lookup_at records place) refl
 
-  turn_jobs_walks : (m : Machine) (jobs : List HostJob) (records : List Record) → Walks law (Sets m records) (Sets m) (turn_jobs jobs records)
-  turn_jobs_walks m [] records = give _
-  turn_jobs_walks m (job ∷ jobs) records = and_then (turn_job_walks m records job) (turn_jobs_walks m jobs)
+  -- what is kept, and what is ahead, was there before the turn
+  turn_jobs_walks : (m : Machine) (kept jobs : List HostJob) (records : List Record) → ((j : HostJob) → Has kept j → Has m.store.jobs j) → ((j : HostJob) → Has jobs j → Has m.store.jobs j)
+      → Walks law (Sets m records) (λ done. Over (record m { store = after_turn m.store done })) (turn_jobs kept jobs records)
+  turn_jobs_walks m kept [] records before ahead = gives _ (Lists _ kept (λ j l. inl (before j l)))
+  turn_jobs_walks m kept (job ∷ jobs) records before ahead =
+      and_then (turn_job_walks m records job) (λ now. turn_jobs_walks m (jobs_with kept job (is_going now job)) jobs now (one_turned m.store.jobs kept job (is_going now job) before (ahead job (inl refl))) (λ j l. ahead j (inr l)))
 
   pub turn_walks : (m : Machine) → Walks law (Starts m Unused) OverWith (turn_machine_asks m)
-  turn_walks m = move (Spends _ refl) (and_then (and_then (turn_jobs_walks m m.store.jobs m.store.records) (λ records. gives _ (Lists _ _ (some_end _ records _)))) (λ done. give _))
+  turn_walks m = move (Spends _ refl) (and_then (and_then (turn_jobs_walks m [] m.store.jobs m.store.records (λ j l. absurd l) (λ j l. l)) (λ done. give _)) (λ done. give _))
 
   -- == pollables
   pub subscribe_walks : (c s : ℕ) (m : Machine) (o : Option Watched) → watched_by (kind_at m.table s) ≡ o → origin ≡ Step.Subscribe c s → Walks law (Starts m Unused) OverWith (subscribe_on m (own_of line) s o)
