@@ -45,8 +45,8 @@ left_all which place (e ∷ jobs) low next rise none =
     let here : goes which place e.1 ≡ false = none e.0 e.1 (ap (λ (b : Bool). cond b (Some e.1) (job_at jobs e.0)) (at_itself e.0)) in
     left_at which place e.1 (values_of jobs) false here
     ∙ ap (λ (js : List HostJob). e.1 ∷ js) (left_all which place jobs _ next rise.1 (λ n job found. (
-        let past = below_next jobs _ next n job rise.1 found in
-        none n job (ap (λ (b : Bool). cond b (Some e.1) (job_at jobs n)) (at_another n e.0 (λ same. omega (arith, same, past.0))) ∙ found))))
+    let past = below_next jobs _ next n job rise.1 found in
+    none n job (ap (λ (b : Bool). cond b (Some e.1) (job_at jobs n)) (at_another n e.0 (λ same. omega (arith, same, past.0))) ∙ found))))
 
 -- one that goes is not missed
 left_but : (which : Which) (place : ℕ) (jobs : List (ℕ × HostJob)) (n : ℕ) (job : HostJob) → job_at jobs n ≡ Some job → goes which place job ≡ true → left_of which place (values_of (but n jobs)) ≡ left_of which place (values_of jobs)

@@ -1,7 +1,9 @@
--- What callers need of the jobs below a number, and of those from it on.
-use Rattle.std.proofs.Common.{◌≡◌, ℕ, List, [], ◌∷◌, refl, arith}
+-- What callers need of jobs and their list.
+use Rattle.std.proofs.Common.{◌≡◌, ℕ, ◌==◌, List, [], ◌∷◌, refl, arith}
 use Rattle.std.proofs.lemmas.Bool.{le-ltb}
 use Rattle.wasi_jobs.specs.declared.job.HostJob.{HostJob}
+use Rattle.wasi_jobs.specs.declared.job.HostJob.TheVariants.{Write, Datagram, Receive, Lookup}
+use Rattle.wasi_jobs.specs.Jobs.{place_of, is_on}
 use Rattle.wasi_jobs.specs.JobList.{Work, below, items_below}
 
 none_below_in : (numbers : List ℕ) (items : List HostJob) → items_below 0 numbers items ≡ []
@@ -12,3 +14,10 @@ none_below_in (n ∷ numbers) (job ∷ items) = rw (le-ltb n 0 (omega arith)) (n
 -- no number is below the first
 pub none_below : (w : Work) → below 0 w ≡ []
 none_below w = none_below_in w.numbers w.items
+
+-- a job is of the record that it is for
+pub on_place : (place : ℕ) (job : HostJob) → is_on place job ≡ (place_of job == place)
+on_place place (Write p) = refl
+on_place place (Datagram p) = refl
+on_place place (Receive p) = refl
+on_place place (Lookup p) = refl

@@ -7,21 +7,14 @@ use Rattle.std.specs.BTreeSet.{BTreeSet, IsKeyRangeOf}
 use Rattle.std.specs.declared.ops.Bound.TheVariants.{Included, Unbounded}
 use Rattle.std.proofs.lemmas.Bool.{eqb-true, eq-eqb, ne_eqb, and_parts, and_from, and_left, and_right, cases_eq, cases_Bool, false_from_ne_true}
 use Rattle.wasi_jobs.specs.declared.job.HostJob.{HostJob}
-use Rattle.wasi_jobs.specs.declared.job.HostJob.TheVariants.{Write, Datagram, Receive, Lookup}
 use Rattle.wasi_jobs.specs.declared.job_list.Mark.{Mark}
-use Rattle.wasi_jobs.specs.Jobs.{is_on}
-use Rattle.wasi_jobs.specs.Marks.{job_at, mark_cmp, has_mark, is_one_on, place_of, AreMarked, HasNoneFrom, IsNextOn}
+use Rattle.wasi_jobs.specs.Jobs.{place_of, is_on}
+use Rattle.wasi_jobs.specs.Marks.{job_at, mark_cmp, has_mark, is_one_on, AreMarked, HasNoneFrom, IsNextOn}
+use Rattle.wasi_jobs.proofs.Jobs.{on_place}
 use Rattle.wasi_jobs.proofs.Orders.{at_is, mark_is, places_rise, numbers_rise, marks_rise}
 
 abbrev mark : ℕ → ℕ → Mark
 mark place number = record { place = place; number = number }
-
--- a job is of the record that it is for
-pub on_place : (place : ℕ) (job : HostJob) → is_on place job ≡ (place_of job == place)
-on_place place (Write p) = refl
-on_place place (Datagram p) = refl
-on_place place (Receive p) = refl
-on_place place (Lookup p) = refl
 
 on_own : (job : HostJob) → is_on (place_of job) job ≡ true
 on_own job = on_place _ job ∙ eq-eqb _ _ refl
@@ -101,10 +94,10 @@ pub next_other : (s : BTreeSet Mark) (place from : ℕ) (r : List Mark) (k : Mar
 next_other s place from r k rest range is apart number after =
     let q = subst (Ranges s place from) is range in
     false_from_ne_true _ (λ has. (
-        let le = q.2 (mark place number) (marks_rise (mark place from) (mark place number) refl after, tt) has in
-        let low : place ≤ k.place = places_rise (mark place from) k q.1.0.0 in
-        let high : k.place ≤ place = places_rise k (mark place number) le in
-        apart (omega (arith, low, high))))
+    let le = q.2 (mark place number) (marks_rise (mark place from) (mark place number) refl after, tt) has in
+    let low : place ≤ k.place = places_rise (mark place from) k q.1.0.0 in
+    let high : k.place ≤ place = places_rise k (mark place number) le in
+    apart (omega (arith, low, high))))
 
 pub next_none : (s : BTreeSet Mark) (place from : ℕ) (r : List Mark) → Ranges s place from r → r ≡ [] → HasNoneFrom s.keys place from
 next_none s place from r range is number after = range.5 is (mark place number) (marks_rise (mark place from) (mark place number) refl after, tt)

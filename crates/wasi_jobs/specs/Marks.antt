@@ -6,7 +6,7 @@ use Rattle.std.specs.declared.cmp.Ordering.{Ordering}
 use Rattle.std.specs.BTreeMap.{is_at}
 use Rattle.std.specs.Map.{keys_of, values_of, lookup, remove_entry}
 use Rattle.wasi_jobs.specs.declared.job.HostJob.{HostJob}
-use Rattle.wasi_jobs.specs.declared.job.HostJob.TheVariants.{Write, Datagram, Receive, Lookup}
+use Rattle.wasi_jobs.specs.declared.job.HostJob.TheVariants.{Datagram, Receive}
 use Rattle.wasi_jobs.specs.declared.job_list.Mark.{Mark}
 use Rattle.wasi_jobs.specs.declared.job_list.Which.{Which}
 use Rattle.wasi_jobs.specs.declared.job_list.Which.TheVariants.{All, Receives, Datagrams}
@@ -76,10 +76,3 @@ abbrev pub left_of : Which → ℕ → List HostJob → List HostJob
 left_of All place jobs = other_jobs place jobs
 left_of Receives place jobs = other_than_receive place jobs
 left_of Datagrams place jobs = other_than_datagram place jobs
-
--- the number of the record that a job is for
-abbrev pub place_of : HostJob → ℕ
-place_of (Write p) = p
-place_of (Datagram p) = p
-place_of (Receive p) = p
-place_of (Lookup p) = p

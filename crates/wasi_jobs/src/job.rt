@@ -1,7 +1,7 @@
 //! A piece of background work.
 
 ghost use Rattle.std.specs.Prelude.{◌≡◌};
-ghost use Rattle.wasi_jobs.specs.Marks.{place_of};
+ghost use Rattle.wasi_jobs.specs.Jobs.{place_of};
 
 /// Background work of the host, which continues by itself until it is over.
 #[derive(Clone, Copy, Debug, PartialEq, Eq)]

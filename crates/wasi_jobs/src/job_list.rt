@@ -4,7 +4,7 @@
 //! number, so that a record's jobs are found together. So a call's time grows with the logarithm of the number of jobs, and, where
 //! a record's jobs go, with how many that record has; memory follows how many jobs there are, however many were made.
 
-ghost use Rattle.std.specs.Prelude.{◌≡◌, ◌+◌, ◌<◌, ◌^◌, List, [], ◌∷◌, ◌++◌, Some, None, IfSome, IfNone, OnOk, OnErr, IsNone};
+ghost use Rattle.std.specs.Prelude.{◌≡◌, ◌+◌, ◌<◌, ◌≤◌, ◌^◌, List, [], ◌∷◌, ◌++◌, Some, None, IfSome, IfNone, OnOk, OnErr};
 ghost use Rattle.std.specs.BTreeMap.{insert_entry};
 ghost use Rattle.std.specs.Ordering.{nat_cmp};
 ghost use Rattle.wasi_jobs.specs.declared.job.HostJob.{HostJob};
@@ -99,7 +99,10 @@ impl JobList {
         let Some((number, job)) = self.jobs.pop_last() else {
             return;
         };
-        self.marks.remove(&Mark { place: job.place(), number });
+        self.marks.remove(&Mark {
+            place: job.place(),
+            number,
+        });
     }
 
     /// The first job with this number or a higher one, with its number. Takes no memory.
@@ -110,6 +113,7 @@ impl JobList {
             × (below (found.0 + 1) self.now ≡ below number self.now ++ found.1 ∷ [])
             × (below found.0 self.now ≡ below number self.now)) }
         ensures fits { IfSome result (λ found. found.0 + 1 < 2 ^ 64) }
+        ensures after { IfSome result (λ found. number ≤ found.0) }
     {
         match self.jobs.range(number..).next() {
             Some((number, job)) => Some((*number, *job)),
@@ -173,7 +177,10 @@ fn put(
     ensures err { OnErr result (jobs.new.entries ≡ jobs.old.entries) }
     ensures marked { AreMarked jobs.new.entries marks.new.keys }
 {
-    let mark = Mark { place: job.place(), number };
+    let mark = Mark {
+        place: job.place(),
+        number,
+    };
     marks.insert(mark)?;
     if let Err(error) = jobs.insert(number, job) {
         marks.remove(&mark);
@@ -189,7 +196,10 @@ fn take_out(jobs: &mut BTreeMap<u64, HostJob>, marks: &mut BTreeSet<Mark>, numbe
     ensures marked { AreMarked jobs.new.entries marks.new.keys }
 {
     if let Some(job) = jobs.remove(&number) {
-        marks.remove(&Mark { place: job.place(), number });
+        marks.remove(&Mark {
+            place: job.place(),
+            number,
+        });
     }
 }
 
@@ -198,7 +208,15 @@ fn next_on(marks: &BTreeSet<Mark>, place: usize, from: u64) -> Option<u64>
     ensures some { IfSome result (IsNextOn marks.now.keys place from) }
     ensures none { IfNone result (HasNoneFrom marks.now.keys place from) }
 {
-    match marks.range(Mark { place, number: from }..).next() {
+    match marks
+        .range(
+            Mark {
+                place,
+                number: from,
+            }..,
+        )
+        .next()
+    {
         Some(mark) if mark.place == place => Some(mark.number),
         _ => None,
     }
