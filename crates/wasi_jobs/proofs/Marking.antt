@@ -54,24 +54,28 @@ module _ (old new : List (ℕ × HostJob)) (marks remarked : List Mark) (place n
             turned b p n false turn (and_right _ _ (ne_eqb n number apart)) ∙ before p n ∙ ap (is_one_on p) (sym (reached w n false reach (ne_eqb n number apart)))
       ]
 
-  -- a job came with its mark
-  pub marked_put : (job : HostJob) → place ≡ place_of job → job_at old number ≡ None → Reaches old new number (Some job) → Turns marks remarked (mark place number) true → AreMarked old marks → AreMarked new remarked
-  marked_put job its fresh reach turn before =
-      marked (Some job) true reach turn before (ap (λ (p : ℕ). is_on p job) its ∙ on_own job) (λ p other. on_other p job (λ same. other (same ∙ sym its)) ∙ ap (is_one_on p) (sym fresh))
+-- a job came with its mark
+pub marked_put : (old new : List (ℕ × HostJob)) (marks remarked : List Mark) (number : ℕ) (job : HostJob) (m : Mark) → m ≡ mark (place_of job) number
+    → job_at old number ≡ None → Reaches old new number (Some job) → Turns marks remarked m true → AreMarked old marks → AreMarked new remarked
+marked_put old new marks remarked number job m is fresh reach turn before =
+    marked old new marks remarked (place_of job) number (Some job) true reach (subst (λ (z : Mark). Turns marks remarked z true) is turn) before (on_own job)
+    (λ p other. on_other p job other ∙ ap (is_one_on p) (sym fresh))
 
-  -- a job went with its mark
-  pub marked_out : (job : HostJob) → place ≡ place_of job → job_at old number ≡ Some job → Reaches old new number None → Turns marks remarked (mark place number) false → AreMarked old marks → AreMarked new remarked
-  marked_out job its was reach turn before =
-      marked None false reach turn before refl (λ p other. sym (ap (is_one_on p) was ∙ on_other p job (λ same. other (same ∙ sym its))))
+-- a job went with its mark
+pub marked_out : (old new : List (ℕ × HostJob)) (marks remarked : List Mark) (number : ℕ) (job : HostJob) (m : Mark) → m ≡ mark (place_of job) number
+    → job_at old number ≡ Some job → Reaches old new number None → Turns marks remarked m false → AreMarked old marks → AreMarked new remarked
+marked_out old new marks remarked number job m is was reach turn before =
+    marked old new marks remarked (place_of job) number None false reach (subst (λ (z : Mark). Turns marks remarked z false) is turn) before refl
+    (λ p other. sym (ap (is_one_on p) was ∙ on_other p job other))
 
 -- a mark that came and went again leaves the marks as they were
-pub marked_undone : (jobs : List (ℕ × HostJob)) (marks more again : List Mark) (place number : ℕ) → job_at jobs number ≡ None → Turns marks more (mark place number) true → Turns more again (mark place number) false → AreMarked jobs marks → AreMarked jobs again
-marked_undone jobs marks more again place number fresh came went before p n =
-    elim (cases_Bool (p == place && n == number)) [
+pub marked_undone : (jobs : List (ℕ × HostJob)) (marks more again : List Mark) (number : ℕ) (m : Mark) → m.number ≡ number → job_at jobs number ≡ None → Turns marks more m true → Turns more again m false → AreMarked jobs marks → AreMarked jobs again
+marked_undone jobs marks more again number m its fresh came went before p n =
+    elim (cases_Bool (p == m.place && n == m.number)) [
       | inl here ↦
-          let same : n ≡ number = eqb-true _ _ (and_parts _ _ here).1 in
-          turned jobs jobs more again place number false p n true went here ∙ ap (is_one_on p) (sym fresh) ∙ ap (λ (k : ℕ). is_one_on p (job_at jobs k)) (sym same)
-      | inr other ↦ turned jobs jobs more again place number false p n false went other ∙ turned jobs jobs marks more place number true p n false came other ∙ before p n
+          let same : n ≡ number = eqb-true _ _ (and_parts _ _ here).1 ∙ its in
+          turned jobs jobs more again m.place m.number false p n true went here ∙ ap (is_one_on p) (sym fresh) ∙ ap (λ (k : ℕ). is_one_on p (job_at jobs k)) (sym same)
+      | inr other ↦ turned jobs jobs more again m.place m.number false p n false went other ∙ turned jobs jobs marks more m.place m.number true p n false came other ∙ before p n
     ]
 
 -- == the next job of a record

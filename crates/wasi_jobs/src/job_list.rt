@@ -8,7 +8,7 @@ ghost use Rattle.std.specs.Prelude.{◌≡◌, ◌+◌, ◌<◌, ◌≤◌, ◌^
 ghost use Rattle.std.specs.BTreeMap.{insert_entry};
 ghost use Rattle.std.specs.Ordering.{nat_cmp};
 ghost use Rattle.wasi_jobs.specs.declared.job.HostJob.{HostJob};
-ghost use Rattle.wasi_jobs.specs.Jobs.{other_jobs, other_than_receive, other_than_datagram};
+ghost use Rattle.wasi_jobs.specs.Jobs.{place_of, other_jobs, other_than_receive, other_than_datagram};
 ghost use Rattle.wasi_jobs.specs.JobList.{no_work, below, from_on};
 ghost use Rattle.wasi_jobs.specs.Marks.{job_at, AreMarked, IsWithout, HasNoneFrom, IsNextOn, is_among, left_of};
 
@@ -17,11 +17,24 @@ use std::alloc::{AllocError, Global};
 use std::collections::{BTreeMap, BTreeSet};
 use std::marker::Model;
 
-/// What finds a job from its record: the number of the record, and then that of the job.
+/// What finds a job from its record: the number of the record, and then that of the job. The order is by the first, so that the
+/// marks of a record stand together.
 #[derive(Clone, Copy, PartialEq, Eq, PartialOrd, Ord)]
 struct Mark {
     place: usize,
     number: u64,
+}
+
+impl Mark {
+    /// The mark of a job.
+    fn of(job: HostJob, number: u64) -> Mark
+        ensures { result ≡ record { place = place_of job; number = number } }
+    {
+        Mark {
+            place: job.place(),
+            number,
+        }
+    }
 }
 
 /// Which jobs of a record.
@@ -49,7 +62,7 @@ impl Which {
 #[derive(Drop)]
 pub struct JobList {
     jobs: BTreeMap<u64, HostJob>,
-    /// One for each job.
+    /// The mark of each job.
     marks: BTreeSet<Mark>,
     /// The number of the next job.
     next: u64,
@@ -99,10 +112,7 @@ impl JobList {
         let Some((number, job)) = self.jobs.pop_last() else {
             return;
         };
-        self.marks.remove(&Mark {
-            place: job.place(),
-            number,
-        });
+        self.marks.remove(&Mark::of(job, number));
     }
 
     /// The first job with this number or a higher one, with its number. Takes no memory.
@@ -177,10 +187,7 @@ fn put(
     ensures err { OnErr result (jobs.new.entries ≡ jobs.old.entries) }
     ensures marked { AreMarked jobs.new.entries marks.new.keys }
 {
-    let mark = Mark {
-        place: job.place(),
-        number,
-    };
+    let mark = Mark::of(job, number);
     marks.insert(mark)?;
     if let Err(error) = jobs.insert(number, job) {
         marks.remove(&mark);
@@ -196,10 +203,7 @@ fn take_out(jobs: &mut BTreeMap<u64, HostJob>, marks: &mut BTreeSet<Mark>, numbe
     ensures marked { AreMarked jobs.new.entries marks.new.keys }
 {
     if let Some(job) = jobs.remove(&number) {
-        marks.remove(&Mark {
-            place: job.place(),
-            number,
-        });
+        marks.remove(&Mark::of(job, number));
     }
 }
 
@@ -208,15 +212,11 @@ fn next_on(marks: &BTreeSet<Mark>, place: usize, from: u64) -> Option<u64>
     ensures some { IfSome result (IsNextOn marks.now.keys place from) }
     ensures none { IfNone result (HasNoneFrom marks.now.keys place from) }
 {
-    match marks
-        .range(
-            Mark {
-                place,
-                number: from,
-            }..,
-        )
-        .next()
-    {
+    let first = Mark {
+        place,
+        number: from,
+    };
+    match marks.range(first..).next() {
         Some(mark) if mark.place == place => Some(mark.number),
         _ => None,
     }

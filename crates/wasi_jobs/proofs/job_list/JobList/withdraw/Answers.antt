@@ -8,5 +8,5 @@ pub invariant_of-self-2 : goal.invariant_of-self-2
 invariant_of-self-2 c = record {
   rise = rise_before _ _ _ _ (subst (λ jobs. Rise jobs 0 c.self.inside.next) c.in-Some.ensures.removal c.self.invariant.rise);
   fits = c.self.invariant.fits;
-  marked = marked_out _ _ _ _ _ _ c.in-Some.job c.place.ensures c.in-Some.ensures.value c.in-Some.ensures.updates.0 c.remove.ensures.updates.0 c.self.invariant.marked;
+  marked = marked_out _ _ _ _ _ c.in-Some.job _ c.of.ensures c.in-Some.ensures.value c.in-Some.ensures.updates.0 c.remove.ensures.updates.0 c.self.invariant.marked;
 }
