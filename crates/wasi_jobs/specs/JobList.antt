@@ -16,9 +16,9 @@ items_below number [] jobs = []
 items_below number (n ∷ numbers) [] = []
 items_below number (n ∷ numbers) (job ∷ jobs) = if nat_lt n number then job ∷ items_below number numbers jobs else items_below number numbers jobs
 
--- and those whose number is this one or above
+-- and those whose number is this one or above, or that have none, as no job of a list has
 abbrev pub items_from : ℕ → List ℕ → List HostJob → List HostJob
-items_from number [] jobs = []
+items_from number [] jobs = jobs
 items_from number (n ∷ numbers) [] = []
 items_from number (n ∷ numbers) (job ∷ jobs) = if nat_le number n then job ∷ items_from number numbers jobs else items_from number numbers jobs
 
