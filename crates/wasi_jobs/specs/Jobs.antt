@@ -3,6 +3,13 @@ use Rattle.std.specs.Prelude.{ℕ, Bool, false, ◌==◌, if◌then◌else◌, L
 use Rattle.wasi_jobs.specs.declared.job.HostJob.{HostJob}
 use Rattle.wasi_jobs.specs.declared.job.HostJob.TheVariants.{Write, Datagram, Receive, Lookup}
 
+-- the number of the record that a job is for
+abbrev pub place_of : HostJob → ℕ
+place_of (Write p) = p
+place_of (Datagram p) = p
+place_of (Receive p) = p
+place_of (Lookup p) = p
+
 -- a job of the record of this number
 abbrev pub is_on : ℕ → HostJob → Bool
 is_on place (Write p) = p == place

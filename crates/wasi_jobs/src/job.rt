@@ -1,5 +1,8 @@
 //! A piece of background work.
 
+ghost use Rattle.std.specs.Prelude.{◌≡◌};
+ghost use Rattle.wasi_jobs.specs.Jobs.{place_of};
+
 /// Background work of the host, which continues by itself until it is over.
 #[derive(Clone, Copy, Debug, PartialEq, Eq)]
 pub enum HostJob {
@@ -11,4 +14,18 @@ pub enum HostJob {
     Receive { socket: usize },
     /// The lookup of this number, which the network hasn't answered yet.
     Lookup { lookup: usize },
+}
+
+impl HostJob {
+    /// The number of the record that it is for, a socket or a lookup.
+    pub fn place(self) -> usize
+        ensures { result ≡ place_of self }
+    {
+        match self {
+            HostJob::Write { socket } => socket,
+            HostJob::Datagram { socket } => socket,
+            HostJob::Receive { socket } => socket,
+            HostJob::Lookup { lookup } => lookup,
+        }
+    }
 }

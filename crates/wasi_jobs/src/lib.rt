@@ -2,5 +2,7 @@
 #![tactic(auto)]
 
 pub mod job;
+pub mod job_list;
 
 pub use job::HostJob;
+pub use job_list::JobList;

@@ -1,0 +1,5 @@
+mod Forgets
+pub mod Jobs
+mod Marking
+mod Orders
+mod Rising

@@ -1,0 +1,78 @@
+-- What the code keeps of the jobs: a map from their numbers, and a mark for each job, by which it is found from its record.
+use Rattle.std.specs.Prelude.{◌≡◌, ℕ, ◌+◌, ◌<◌, ◌≤◌, ◌^◌, Bool, true, false, cond, List, [], ◌∷◌, Option, Some, None}
+use Rattle.std.specs.List.{list_any}
+use Rattle.std.specs.Ordering.{nat_cmp, ordering_then}
+use Rattle.std.specs.declared.cmp.Ordering.{Ordering}
+use Rattle.std.specs.BTreeMap.{is_at}
+use Rattle.std.specs.Map.{keys_of, values_of, lookup, remove_entry}
+use Rattle.wasi_jobs.specs.declared.job.HostJob.{HostJob}
+use Rattle.wasi_jobs.specs.declared.job.HostJob.TheVariants.{Datagram, Receive}
+use Rattle.wasi_jobs.specs.declared.job_list.Mark.{Mark}
+use Rattle.wasi_jobs.specs.declared.job_list.Which.{Which}
+use Rattle.wasi_jobs.specs.declared.job_list.Which.TheVariants.{All, Receives, Datagrams}
+use Rattle.wasi_jobs.specs.Jobs.{is_on, other_jobs, other_than_receive, other_than_datagram}
+use Rattle.wasi_jobs.specs.JobList.{Work}
+
+-- what the map shows
+abbrev pub work_in : List (ℕ × HostJob) → Work
+work_in jobs = record { numbers = keys_of jobs; items = values_of jobs }
+
+-- the job of a number
+abbrev pub job_at : List (ℕ × HostJob) → ℕ → Option HostJob
+job_at jobs number = lookup (is_at (nat_cmp number)) jobs
+
+-- the numbers rise strictly from `low` on and are below `next`
+abbrev pub Rise : List (ℕ × HostJob) → ℕ → ℕ → Type 0
+Rise [] low next = low ≤ next
+Rise (e ∷ jobs) low next = (low ≤ e.0) × Rise jobs (e.0 + 1) next
+
+-- marks stand by the record first, then by the job
+abbrev pub mark_cmp : Mark → Mark → Ordering
+mark_cmp a b = ordering_then (nat_cmp a.place b.place) (nat_cmp a.number b.number)
+
+abbrev pub has_mark : List Mark → ℕ → ℕ → Bool
+has_mark marks place number = list_any (is_at (mark_cmp (record { place = place; number = number }))) marks
+
+-- there is a job, and it is of this record
+abbrev pub is_one_on : ℕ → Option HostJob → Bool
+is_one_on place None = false
+is_one_on place (Some job) = is_on place job
+
+-- each job has its mark, and each mark its job
+abbrev pub AreMarked : List (ℕ × HostJob) → List Mark → Type 0
+AreMarked jobs marks = (place number : ℕ) → has_mark marks place number ≡ is_one_on place (job_at jobs number)
+
+-- what is true of the fields of every list of jobs
+pub record AreSound (jobs : List (ℕ × HostJob)) (marks : List Mark) (next : ℕ) : Type 0 where
+  pub rise : Rise jobs 0 next
+  pub fits : next < 2 ^ 64
+  pub marked : AreMarked jobs marks
+
+-- the job of a number went
+pub record IsWithout (old new : List (ℕ × HostJob)) (number : ℕ) : Type 0 where
+  pub entries : new ≡ remove_entry (is_at (nat_cmp number)) old
+  pub found : (other : ℕ) → job_at new other ≡ cond (is_at (nat_cmp number) other) None (job_at old other)
+
+-- no mark of this record is at `from` or after it
+abbrev pub HasNoneFrom : List Mark → ℕ → ℕ → Type 0
+HasNoneFrom marks place from = (number : ℕ) → from ≤ number → has_mark marks place number ≡ false
+
+-- the first mark of this record at `from` or after it
+pub record IsNextOn (marks : List Mark) (place from number : ℕ) : Type 0 where
+  pub after : from ≤ number
+  pub here : has_mark marks place number ≡ true
+  pub none : (other : ℕ) → from ≤ other → other < number → has_mark marks place other ≡ false
+
+-- a job is one of those that are to go, if it is of the record
+abbrev pub is_among : Which → HostJob → Bool
+is_among All job = true
+is_among Receives (Receive p) = true
+is_among Receives _ = false
+is_among Datagrams (Datagram p) = true
+is_among Datagrams _ = false
+
+-- the jobs that are left where those of a record go
+abbrev pub left_of : Which → ℕ → List HostJob → List HostJob
+left_of All place jobs = other_jobs place jobs
+left_of Receives place jobs = other_than_receive place jobs
+left_of Datagrams place jobs = other_than_datagram place jobs
