@@ -17,16 +17,6 @@ use Rattle.wasi_host.specs.Store.{Records, with_socket}
 use Rattle.wasi_host.proofs.Releases.{given_up_closes, unclosed_holds}
 use Rattle.wasi_host.proofs.UdpPolls.{open_closes}
 
--- == the datagrams of a record among the jobs
-pub other_than_datagram-filter : (place : ℕ) (jobs : List HostJob) → filter (λ job. not (is_datagram_on place job)) jobs ≡ other_than_datagram place jobs
-other_than_datagram-filter place [] = refl
-other_than_datagram-filter place (job ∷ jobs) = by (is_datagram_on place job) (other_than_datagram-filter place jobs)
-  where
-    by : (b : Bool) → filter (λ j. not (is_datagram_on place j)) jobs ≡ other_than_datagram place jobs
-        → cond (not b) (job ∷ filter (λ j. not (is_datagram_on place j)) jobs) (filter (λ j. not (is_datagram_on place j)) jobs) ≡ (if b then other_than_datagram place jobs else job ∷ other_than_datagram place jobs)
-    by true h = h
-    by false h = ap (λ (l : List HostJob). job ∷ l) h
-
 -- == a listen
 pub listen_cancelled : (store : Records) (place : ℕ) (r now : Tcp2Socket) {s t : Seen} (result : Result (Unit {0}) AllocError) → AsksFor (give_up_asks r.listening) s t (λ done. done) result → IfOk result (λ done. now ≡ with_listening r Not)
     → AsksFor (bind (give_up_asks r.listening) (λ done. Give (listen_gone store place r))) s t (λ done. with_socket store place now) result

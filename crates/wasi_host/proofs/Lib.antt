@@ -30,7 +30,6 @@ pub mod Releases
 pub mod JobLists
 pub mod Closings
 pub mod ReceiveCalms
-pub mod ReceiveJobs
 pub mod ReceiveLists
 pub mod Receives
 pub mod Pipes
