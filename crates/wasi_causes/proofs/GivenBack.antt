@@ -11,7 +11,7 @@ use Rattle.wasi_host.specs.declared.udp.OpenUdp.{OpenUdp}
 use Rattle.wasi_host.specs.declared.udp.Udp2Socket.{Udp2Socket}
 use Rattle.wasi_walks.proofs.GoneLists.{stays_there}
 use Rattle.wasi_walks.proofs.owners.Owned.{NoneOf, Owned, named_by, none_named}
-use Rattle.wasi_walks.proofs.walks.Moves.{Emptied, Here, IsLeft, OfInput, OfLookup, OfOutput, OfTcp, OfUdp}
+use Rattle.wasi_walks.proofs.walks.Moves.{Emptied, Here, IsLeft, OfInput, OfLookup, OfOutput, OfTcp, OfUdp, OfUnnamed}
 
 -- == the record of a place is of one kind
 tcp_is : (o : Option Record) (r : Tcp2Socket) → tcp2_of o ≡ Some r → o ≡ Some (Record.Tcp2 r)
@@ -27,6 +27,7 @@ pub left_tcp : (h : Here) (place : ℕ) → IsLeft h place → (r : Tcp2Socket) 
 left_tcp h place (OfTcp q made g) r e = made
 left_tcp h place (OfUdp side g) r e = let n : udp2_at h.machine.store.records place ≡ None = ap udp2_of (tcp_is (slice_get h.machine.store.records place) r e) in absurd (cc)
 left_tcp h place (OfLookup l made g) r e = let n : lookup_at h.machine.store.records place ≡ None = ap lookup_of (tcp_is (slice_get h.machine.store.records place) r e) in absurd (cc)
+left_tcp h place (OfUnnamed l made g) r e = let n : lookup_at h.machine.store.records place ≡ None = ap lookup_of (tcp_is (slice_get h.machine.store.records place) r e) in absurd (cc)
 left_tcp h place (OfInput bytes made g) r e = let n : input_pipe_at h.machine.store.records place ≡ None = ap input_pipe_of (tcp_is (slice_get h.machine.store.records place) r e) in absurd (cc)
 left_tcp h place (OfOutput pipe made g) r e = let n : output_pipe_at h.machine.store.records place ≡ None = ap output_pipe_of (tcp_is (slice_get h.machine.store.records place) r e) in absurd (cc)
 
@@ -35,6 +36,7 @@ pub left_udp : (h : Here) (place : ℕ) → IsLeft h place → (u : Udp2Socket) 
 left_udp h place (OfUdp side g) u e = (side, cc)
 left_udp h place (OfTcp q made g) u e = let n : tcp2_at h.machine.store.records place ≡ None = ap tcp2_of (udp_is (slice_get h.machine.store.records place) u e) in absurd (cc)
 left_udp h place (OfLookup l made g) u e = let n : lookup_at h.machine.store.records place ≡ None = ap lookup_of (udp_is (slice_get h.machine.store.records place) u e) in absurd (cc)
+left_udp h place (OfUnnamed l made g) u e = let n : lookup_at h.machine.store.records place ≡ None = ap lookup_of (udp_is (slice_get h.machine.store.records place) u e) in absurd (cc)
 left_udp h place (OfInput bytes made g) u e = let n : input_pipe_at h.machine.store.records place ≡ None = ap input_pipe_of (udp_is (slice_get h.machine.store.records place) u e) in absurd (cc)
 left_udp h place (OfOutput pipe made g) u e = let n : output_pipe_at h.machine.store.records place ≡ None = ap output_pipe_of (udp_is (slice_get h.machine.store.records place) u e) in absurd (cc)
 

@@ -20,6 +20,7 @@ use Rattle.wasi_host.specs.declared.machine.Machine.{Machine}
 use Rattle.wasi_host.specs.declared.name_lookup.Lookup.{Lookup}
 use Rattle.wasi_host.specs.declared.name_lookup.Lookup.TheVariants.{InProgress, Found, Failed}
 use Rattle.wasi_host.specs.declared.name_lookup.LookupOp.{LookupOp}
+use Rattle.wasi_host.specs.GivingBack.{given_back}
 use Rattle.wasi_host.specs.Jobs.{is_on}
 use Rattle.wasi_host.specs.Kinds.{kind_at, watch_of, with_handle}
 use Rattle.wasi_host.specs.Machine.{lookup_number}
@@ -91,12 +92,12 @@ pub record Resolves (m : Machine) (own : OpId) (ctx : WasiSocketsCtx) (network :
   pub marked : entries ≡ asked ++ entry own (call.Made m.table.next handle_kind.Lookup (Some network) None) told.Done ∷ []
   pub left : after ≡ record m { table = with_handle m.table (kind.Lookup (length m.store.records)) None; store = with_lookup m.store lookup }
 
--- It was begun, and there is no room for its handle: its record is the last.
-pub record LeavesLookup (m : Machine) (own : OpId) (name : List ℕ) (entries : List Entry) (after : Machine) : Type 0 where
+-- It was begun, and there is no room for its handle: its record is given back, and its job goes with it.
+pub record LosesLookup (m : Machine) (own : OpId) (name : List ℕ) (entries : List Entry) (after : Machine) : Type 0 where
   pub lookup : Lookup
   pub full : is_full m.table ≡ true
   pub begins : BeginsLookup own name entries lookup
-  pub left : after ≡ record m { store = with_lookup m.store lookup }
+  pub left : after ≡ record m { store = given_back (length m.store.records) (with_lookup m.store lookup) }
 
 -- == addresses are handed out
 -- What is replied, by the lookup: nothing is asked.

@@ -73,7 +73,7 @@ use Rattle.wasi_host.specs.Store.{with_record}
 use Rattle.wasi_walks.specs.Licence.{entry, Has, marks_in}
 use Rattle.wasi_walks.specs.Listens.{AcceptsAt, closed_by_listen, AcceptTakes, HasNoListenInProgress, RefusedAccept, RefusedListen}
 use Rattle.wasi_steps.specs.Settings.{chosen, udp_opt}
-use Rattle.wasi_causes.specs.Lookups.{found_lookup, HandsOut, LeavesLookup, LookedOn, LookupGone, LookupWaits, OfLookup, RefusesNames, ResolveRefusal, Resolves, TellsNext, WatchesLookup}
+use Rattle.wasi_causes.specs.Lookups.{found_lookup, HandsOut, LookedOn, LookupGone, LookupWaits, LosesLookup, OfLookup, RefusesNames, ResolveRefusal, Resolves, TellsNext, WatchesLookup}
 use Rattle.wasi_causes.specs.Options.{GetsOption, RefusedGet, RefusedSet, SetsChosen}
 use Rattle.wasi_causes.specs.Reached.{FinishesAt, ListensLateAt}
 use Rattle.wasi_causes.specs.Turns.{IsOfJob}
@@ -333,7 +333,7 @@ LeftFull contexts m line (step.UdpCreate c family) es after =
     let its = context_at contexts c in
     (is_full m.table ≡ true) × (es ≡ udp_create_entry (own_of line) its family told.Done ∷ writable_entry (own_of line) told.Done ∷ []) × (after ≡ with_udp_record m (new_udp (own_of line) its family))
 LeftFull contexts m line (step.UdpStream c s remote) es after = IsSomeAnd (udp_socket_at m s) (λ place. LacksRoomForBoth m.table place s)
-LeftFull contexts m line (step.Resolve c n name) es after = LeavesLookup m (own_of line) name es after
+LeftFull contexts m line (step.Resolve c n name) es after = LosesLookup m (own_of line) name es after
 LeftFull contexts m line (step.PipeIn c bytes) es after = Quiet m es after
 LeftFull contexts m line (step.PipeOut c capacity) es after = Quiet m es after
 LeftFull contexts m line (step.Sink c) es after = Quiet m es after

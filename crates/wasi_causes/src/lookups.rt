@@ -28,7 +28,7 @@ ghost use Rattle.wasi_steps.specs.declared.step.Step.{Step};
 ghost use Rattle.wasi_steps.specs.declared.step.Step.TheVariants as Step;
 ghost use Rattle.wasi_steps.specs.Reply.{found_values, truth_fields};
 ghost use Rattle.wasi_walks.specs.Answered.{Answered};
-ghost use Rattle.wasi_causes.specs.Lookups.{found_lookup, HandsOut, LeavesLookup, LookupGone, OfLookup, ResolveRefusal, Resolves, WatchesLookup};
+ghost use Rattle.wasi_causes.specs.Lookups.{found_lookup, HandsOut, LookupGone, LosesLookup, OfLookup, ResolveRefusal, Resolves, WatchesLookup};
 
 /// A lookup is refused with `permanent-resolver-failure` exactly where the context of its line may not look names up, and with
 /// `invalid-argument` exactly where it may and the name is none; either way nothing is asked. Else the name is a domain, and the
@@ -51,14 +51,15 @@ pub fn resolve_refusals()
 /// A lookup that is done answers with the number of the next handle, and its context may look names up. Where the name is an
 /// address, that is what is found, and nothing was asked. Where it is a domain, the line's own operation asked for it once: the
 /// lookup is in progress, and has the last of the jobs, or has found what was told, each address in its canonical form and in
-/// their order. Where there is no room for the handle, it traps with `Full`, and its record is the last.
+/// their order. Where there is no room for the handle, it traps with `Full`, and its record is given back,
+/// with its job.
 pub fn resolves_make_a_handle()
     ensures done { (contexts : List WasiSocketsCtx) (m : Machine) (line ctx network : ℕ) (name : List ℕ) (fields : List Field) (entries : List Entry) (after : Machine)
         → Answered contexts m line (Step.Resolve ctx network name) entries (Reply.Ok fields) after
         → Resolves m (own_of line) (context_at contexts ctx) network name entries fields after }
     ensures full { (contexts : List WasiSocketsCtx) (m : Machine) (line ctx network : ℕ) (name : List ℕ) (entries : List Entry) (after : Machine)
         → Answered contexts m line (Step.Resolve ctx network name) entries (Reply.Trap TrapKind.Full) after
-        → LeavesLookup m (own_of line) name entries after }
+        → LosesLookup m (own_of line) name entries after }
 {}
 
 /// A `resolve-next` asks nothing. It is refused with `would-block` exactly while the lookup is in progress, and with

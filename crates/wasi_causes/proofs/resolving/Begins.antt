@@ -10,6 +10,7 @@ use Rattle.wasi_names.specs.declared.name.HostName.TheVariants.{Address, Domain}
 use Rattle.wasi_world.specs.Fits.{IsNames}
 use Rattle.wasi_world.specs.Typed.{told_names}
 use Rattle.wasi_world.specs.declared.call.Told.TheVariants as told
+use Rattle.wasi_host.specs.GivingBack.{given_back}
 use Rattle.wasi_host.specs.NameLookup.{lookup_told}
 use Rattle.wasi_host.specs.NameLookupCalls.{lookup_handle, resolve_host, resolved, with_lookup}
 use Rattle.wasi_host.specs.declared.kind.Kind.TheVariants as kind
@@ -49,7 +50,7 @@ module _ (contexts : List WasiSocketsCtx) (m : Machine) (line c network : ℕ) (
     -- it is there, and gets its handle
     begun : (l : Lookup) (es : List Entry) → BeginsLookup own name es l → Meets ResolveRow es (lookup_handle m own network l)
     begun l es begins =
-        let left : Machine = record m { store = with_lookup m.store l } in
+        let left : Machine = record m { store = given_back (length m.store.records) (with_lookup m.store l) } in
         onto _ (makes m.table own (kind.Lookup (length m.store.records)) (Some network) None
         (λ full. (allowed es _ left (λ e. cc) (λ e. cc), (tt, full_so m left es full refl (unmarked es l begins), record { lookup = l; full = full; begins = begins; left = refl })))
         (allowed _ _ _ (λ e. cc) (λ e. cc), ((tt, tt), record { asked = es; lookup = l; allowed = may; begins = begins; number = refl; marked = refl; left = refl })))

@@ -47,11 +47,12 @@ put_none h place now none i = set_owns h place (Record.Udp2 now) (λ a l e. absu
 pub none_open : (h : Here) (place : ℕ) (u : Udp2Socket) → FoundUdp h place u → IsNotOpen u → Owns h → NoneOf h.machine.table place
 none_open h place u g n i a l e = not_open (slice_get h.machine.store.records place) u g n (i.0.there a place l e)
 
--- nor of what was just dropped
+-- nor of what was just dropped, or has no handle yet
 pub left_none : (h : Here) (place : ℕ) → IsLeft h place → Owns h → NoneOf h.machine.table place
 left_none h place (walk.OfTcp r made g) i = (subst (MadeSo h.machine.table) made i.1) place refl
 left_none h place (walk.OfUdp side g) i = none_open h place (Udp2Socket.Closed side) g tt i
 left_none h place (walk.OfLookup l made g) i = (subst (MadeSo h.machine.table) made i.1) place refl
+left_none h place (walk.OfUnnamed l made g) i = (subst (MadeSo h.machine.table) made i.1).1 refl
 left_none h place (walk.OfInput bytes made g) i = (subst (MadeSo h.machine.table) made i.1) place refl
 left_none h place (walk.OfOutput pipe made g) i = (subst (MadeSo h.machine.table) made i.1) place refl
 

@@ -159,11 +159,13 @@ abbrev pub KeepsJobs : List Record → List HostJob → List HostJob → Type 0
 KeepsJobs records old now = (job : HostJob) → Has now job → Has old job ⊎ IsRecord (slice_get records (job_place job))
 
 -- == what is given back
--- a record to which no handle is any more: the one that it had was just dropped, or it is a UDP socket whose network socket is closed
+-- a record to which no handle is any more: the one that it had was just dropped, or it is a UDP socket whose network socket is closed,
+-- or a lookup whose handle wasn't made
 pub data IsLeft (h : Here) (place : ℕ) : Type 0 where
   OfTcp : (r : Tcp2Socket) → h.made ≡ Emptied (Tcp2 place) → Found h place r → IsLeft h place
   OfUdp : (side : OpId) → FoundUdp h place (Udp2Socket.Closed side) → IsLeft h place
   OfLookup : (l : NameLookup) → h.made ≡ Emptied (Lookup place) → lookup_at h.machine.store.records place ≡ Some l → IsLeft h place
+  OfUnnamed : (l : NameLookup) → h.made ≡ Numbered place h.machine.table.next → lookup_at h.machine.store.records place ≡ Some l → IsLeft h place
   OfInput : (bytes : List ℕ) → h.made ≡ Emptied (PlainInput (plain_input.Pipe place)) → input_pipe_at h.machine.store.records place ≡ Some bytes → IsLeft h place
   OfOutput : (pipe : Contents) → h.made ≡ Emptied (PlainOutput (plain_output.Pipe place)) → output_pipe_at h.machine.store.records place ≡ Some pipe → IsLeft h place
 

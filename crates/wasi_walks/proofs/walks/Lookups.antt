@@ -1,5 +1,5 @@
 -- Lookups of host names, as moves: one begins, a turn asks about it, its addresses are handed out, and it is dropped.
-use Rattle.std.specs.Prelude.{◌≡◌, ℕ, Bool, true, false, if◌then◌else◌, List, [], ◌∷◌, ◌++◌, Option, Some, None, is_some, Result, Ok, Err}
+use Rattle.std.specs.Prelude.{◌≡◌, ⊤, ℕ, Bool, true, false, if◌then◌else◌, List, [], ◌∷◌, ◌++◌, Option, Some, None, is_some, Result, Ok, Err}
 use Rattle.wasi_memory.specs.Plain.{Contents}
 use Rattle.wasi_addr.specs.declared.address.IpAddress.{IpAddress}
 use Rattle.wasi_addr.specs.declared.lookup.ErrorCode.{ErrorCode}
@@ -7,23 +7,25 @@ use Rattle.wasi_addr.specs.declared.lookup.ErrorCode.TheVariants.{PermanentResol
 use Rattle.wasi_names.specs.declared.name.HostName.{HostName}
 use Rattle.wasi_names.specs.declared.name.HostName.TheVariants.{Address, Domain}
 use Rattle.wasi_names.specs.Names.{found_host, host_for, name_is}
-use Rattle.wasi_walks.proofs.Words.{Asks, Ask, Call, Give, Machine, Step, Told, WasiSocketsCtx}
-use Rattle.wasi_walks.proofs.Words.{ap, bind, context_at, entry, inl, inr, is_network, kind_at, own_of, refl, subst, sym, with_store, ◌∙◌}
+use Rattle.wasi_walks.proofs.Words.{Asks, Ask, Call, Full, Give, Handles, Kind, Machine, OpId, Step, Stop, Told, Trap, WasiSocketsCtx}
+use Rattle.wasi_walks.proofs.Words.{ap, ask_made, bind, context_at, entry, inl, inr, is_full, is_network, kind_at, make_asks, name_of, own_of, refl, subst, sym, with_handle, with_store, ◌∙◌}
 use Rattle.wasi_world.specs.declared.asks.Polled.{Polled}
 use Rattle.wasi_world.specs.Typed.{told_names}
 use Rattle.wasi_host.specs.Machine.{answered, at_once}
 use Rattle.wasi_host.specs.NameLookup.{lookup_told, next_of, turn_lookup_at}
-use Rattle.wasi_host.specs.NameLookupCalls.{drop_lookup_at, lookup_handle, next_at, resolve_host, resolved}
-use Rattle.wasi_host.specs.Records.{lookup_at, lookup_put, lookup_pushed}
+use Rattle.wasi_host.specs.NameLookupCalls.{drop_lookup_at, looked_up, lookup_handle, next_at, resolve_host, resolved, with_lookup}
+use Rattle.wasi_host.specs.Records.{lookup_at, lookup_of, lookup_put, lookup_pushed}
 use Rattle.wasi_host.specs.declared.name_lookup.Lookup.{Lookup}
 use Rattle.wasi_host.specs.declared.name_lookup.Lookup.TheVariants.{InProgress, Found, Failed}
 use Rattle.wasi_host.specs.declared.name_lookup.LookupOp.{LookupOp}
 use Rattle.wasi_host.specs.declared.kind.Kind.TheVariants.{Lookup as LookupHandle}
 use Rattle.wasi_host.specs.declared.records.Record.{Record}
+use Rattle.wasi_host.specs.declared.records.Record.TheVariants.{Lookup as LookupRecord}
 use Rattle.wasi_p2.specs.Lookup.{next_address_on, resolve_asks, resolved_host}
+use Rattle.wasi_walks.proofs.Lists.{get_seam}
 use Rattle.wasi_walks.proofs.LookupLists.{input_lookup_push, input_lookup_put, lookup_front, lookup_get_set, lookup_last, lookup_split, lookup_stays, output_lookup_push, output_lookup_put, tcp_lookup_push, tcp_lookup_put, udp_lookup_push, udp_lookup_put}
-use Rattle.wasi_walks.proofs.walks.Moves.{ALookup, Emptied, Finds, GivesBack, Here, Leaves, Lists, LooksUp, Numbers, OfLookup, SameSockets, Spends, Unused, with_records}
-use Rattle.wasi_walks.proofs.walks.Law.{Law, Walks, and_then, by_if, give, gives, mark, move}
+use Rattle.wasi_walks.proofs.walks.Moves.{ALookup, Emptied, Finds, GivesBack, Here, KeepsJobs, Leaves, Lists, LooksUp, Numbered, Numbers, OfLookup, OfUnnamed, SameSockets, Spends, Unused, with_records}
+use Rattle.wasi_walks.proofs.walks.Law.{Given, Law, Walks, and_given, by_if, give, gives, mark, move}
 use Rattle.wasi_walks.proofs.walks.Jobs.{lookup_is_record, may_begin_one}
 use Rattle.wasi_host.specs.NameLookup.{is_looking}
 use Rattle.wasi_jobs.specs.declared.job.HostJob.TheVariants as jobs
@@ -87,6 +89,30 @@ begun_same : {new : LookupOp → Type 0} (xs : List Record) (l : Lookup) → ((o
 begun_same xs Failed n = same_sockets xs
 begun_same xs l n = same_by_push xs l n
 
+-- its record is there before its handle
+abbrev Recorded : Machine → Lookup → Handles → Here
+Recorded m l t = let h : Here = with_records (Numbering m) (lookup_pushed m.store.records l) in record h { machine = record h.machine { table = t } }
+
+-- the job that it may have is of that record
+job_begins : (m : Machine) (l : Lookup) → KeepsJobs (lookup_pushed m.store.records l) m.store.jobs (with_lookup m.store l).jobs
+job_begins m l =
+    let records = lookup_pushed m.store.records l in
+    let n = length m.store.records in
+    may_begin_one records m.store.jobs (jobs.Lookup n) (is_looking l) (lookup_is_record (slice_get records n) (lookup_last m.store.records l))
+
+-- where no handle is made the next one is the same
+abbrev SameNext : Handles → Result ℕ Stop × Handles → Type 0
+SameNext t (Ok handle, now) = ⊤
+SameNext t (Err why, now) = now.next ≡ t.next
+
+full_given : (t : Handles) (op : OpId) (kind : Kind) (parent : Option ℕ) (sock : Option OpId) → Given (SameNext t) (make_asks t op kind parent sock)
+unfolding bind
+full_given t op kind parent sock = by_test (is_full t)
+  where
+    by_test : (b : Bool) → Given (SameNext t) (if b then Give (Err (Trap Full), t) else bind (ask_made op t.next (name_of kind) parent sock) (λ done. Give (Ok t.next, with_handle t kind parent)))
+    by_test true = refl
+    by_test false = λ told. tt
+
 module _ {contexts : List WasiSocketsCtx} {line : ℕ} {origin : Step} {law : Law contexts line origin} where
   -- == a lookup begins
   -- the network is asked for a host, and a record may be made of what it answers
@@ -98,10 +124,19 @@ module _ {contexts : List WasiSocketsCtx} {line : ℕ} {origin : Step} {law : La
         (a.0, λ told fits. (k told).along (es ++ entry (own_of line) (Call.Lookup host) told ∷ []) (a.1 told fits (records told) (s told)));
   }
 
-  module _ (m : Machine) (c network : ℕ) (name : List ℕ) (is : origin ≡ Step.Resolve c network name) where
+  module _ (m : Machine) (idle : m.store.standing ≡ None) (c network : ℕ) (name : List ℕ) (is : origin ≡ Step.Resolve c network name) where
+    -- where it has no handle it is given back
+    looked_up_walks : (l : Lookup) (made : Result ℕ Stop × Handles) → SameNext m.table made → Walks law (Recorded m l made.1) OverWith (Give (looked_up m l made))
+    looked_up_walks l (Ok handle, t) k = move (Lists _ _ (job_begins m l)) (gives _ (Leaves _))
+    looked_up_walks l (Err why, t) k =
+        let n : ℕ = length m.store.records in
+        move (Lists _ _ (job_begins m l)) (move (GivesBack _ n idle (OfUnnamed l (ap (λ (next : ℕ). Numbered n next) (sym k)) (ap lookup_of (get_seam m.store.records (LookupRecord l))))) (gives _ (Leaves _)))
+
     -- its record was made, and it gets its handle
-    handle_walks : (l : Lookup) → Walks law (with_records (Numbering m) (lookup_pushed m.store.records l)) OverWith (lookup_handle m (own_of line) network l)
-    handle_walks l = and_then (mark (ALookup c network _ name is (lookup_last m.store.records l) refl)) (λ made. move (Leaves _) (gives _ (Lists _ _ (may_begin_one (lookup_pushed m.store.records l) m.store.jobs (jobs.Lookup (length m.store.records)) (is_looking l) (lookup_is_record (slice_get (lookup_pushed m.store.records l) (length m.store.records)) (lookup_last m.store.records l))))))
+    handle_walks : (l : Lookup) → Walks law (Recorded m l m.table) OverWith (lookup_handle m (own_of line) network l)
+    handle_walks l =
+        and_given (SameNext m.table) (full_given m.table (own_of line) (LookupHandle (length m.store.records)) (Some network) None)
+        (mark {h = Recorded m l m.table} (ALookup c network _ name is (lookup_last m.store.records l) refl)) (looked_up_walks l)
 
     resolved_walks : (l : Lookup) → Walks law (with_records (Numbering m) (begun_in m.store.records l)) OverWith (resolved m (own_of line) network l)
     resolved_walks Failed = gives _ (Leaves _)
