@@ -1,7 +1,6 @@
 -- Jobs: what is kept of their list.
-use Rattle.std.specs.Prelude.{filter}
-use Rattle.std.proofs.Common.{◌≡◌, ℕ, not, Bool, true, false, if◌then◌else◌, cond, ◌&&◌, List, [], ◌∷◌, ◌+◌, ◌<◌, length, drop, get_or, Option, Some, None, refl, sym, ap, ◌∙◌}
-use Rattle.std.proofs.lemmas.List.{drop_more}
+use Rattle.std.proofs.Common.{◌≡◌, ℕ, not, Bool, true, false, ◌&&◌, List, [], ◌∷◌, ◌++◌, ◌<◌, length, Option, Some, None, refl, sym, ap, tt, ◌∙◌, arith}
+use Rattle.std.proofs.lemmas.List.{append-nil}
 use Rattle.wasi_world.specs.Seen.{Seen}
 use Rattle.std.specs.Prelude.{IsErrAnd, Result, Ok, Err}
 use Rattle.std.specs.declared.alloc.AllocError.{AllocError}
@@ -36,6 +35,24 @@ noted_as store place old now b jobs g e h =
 pub turn_next : {s t : Seen} (kept jobs rest after before : List HostJob) (job : HostJob) (records now : List Record) → jobs ≡ job ∷ rest → before ≡ jobs_with kept job (is_going now job) → after ≡ rest
     → Reaches (turn_job records job) (Give now) s t → Reaches (turn_jobs kept jobs records) (turn_jobs before after now) s t
 turn_next kept jobs rest after before job records now e k r h = rw (e, k, r) (reaches_on (λ found. turn_jobs (jobs_with kept job (is_going found job)) rest found) h)
+
+-- a job that is over is kept no more, and one that goes on is the last of those that are
+pub kept_over : {now : List HostJob} (kept : List HostJob) (job : HostJob) (going : Bool) → not going ≡ true → now ≡ kept → now ≡ jobs_with kept job going
+kept_over kept job true h e = absurd (cc)
+kept_over kept job false h e = e
+
+pub kept_going : {now : List HostJob} (kept : List HostJob) (job : HostJob) (going : Bool) → not going ≡ false → now ≡ kept ++ job ∷ [] → now ≡ jobs_with kept job going
+kept_going kept job true h e = e
+kept_going kept job false h e = absurd (cc)
+
+-- one fewer is ahead
+pub fewer_ahead : {ahead rest now : List HostJob} {job : HostJob} → ahead ≡ job ∷ rest → now ≡ rest → length now < length ahead
+fewer_ahead e r = rw (e, r) (omega arith)
+
+-- where none is ahead, the turn is over
+pub asks_over : {s t : Seen} {first jobs kept ahead : List HostJob} {records now : List Record} → jobs ≡ kept ++ ahead → ahead ≡ [] → Reaches (turn_jobs [] first records) (turn_jobs kept ahead now) s t
+    → AsksFor (turn_jobs [] first records) s t (λ (done : Unit {0}). (jobs, now)) (Ok tt)
+asks_over {kept} e n h = rw (e, n, append-nil kept) (record { ok = rw n at h; err = tt })
 
 -- where memory is wanted in it, the turn has begun
 pub turn_stops : {s t u : Seen} {view : Unit {0} → List HostJob × List Record} (first : List HostJob) (records : List Record) (kept jobs rest : List HostJob) (job : HostJob) (before : List Record) (Q : AllocError → Type 0) (r : Result (Unit {0}) AllocError) → IsErrAnd r Q → jobs ≡ job ∷ rest

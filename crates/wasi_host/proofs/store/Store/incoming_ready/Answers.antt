@@ -10,8 +10,8 @@ use Rattle.wasi_host.proofs.UdpLookups.{open_found}
 use Rattle.wasi_host.proofs.store.Store.incoming_ready.Goals.{then-not-before, else-not-before}
 use Rattle.wasi_host.proofs.store.Store.incoming_ready.Goals as goal
 
-pub returns-in_err-reserve-clause-asked : goal.returns-in_err-reserve-clause-asked
-returns-in_err-reserve-clause-asked g c = fault_none c.from_residual.result c.from_residual.ensures.1 refl
+pub returns-in_err-push-clause-asked : goal.returns-in_err-push-clause-asked
+returns-in_err-push-clause-asked g c = fault_none c.from_residual.result c.from_residual.ensures.1 refl
 
 pub returns-in_err-looked-clause-asked : goal.returns-in_err-looked-clause-asked
 returns-in_err-looked-clause-asked g c =

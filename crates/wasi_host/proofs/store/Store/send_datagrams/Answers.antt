@@ -12,8 +12,8 @@ use Rattle.wasi_host.proofs.UdpLookups.{open_found, held_in-open}
 use Rattle.wasi_host.proofs.store.Store.send_datagrams.Goals.{then-not-before, else-not-before}
 use Rattle.wasi_host.proofs.store.Store.send_datagrams.Goals as goal
 
-pub returns-in_err-reserve-clause-asked : goal.returns-in_err-reserve-clause-asked
-returns-in_err-reserve-clause-asked g c = host_none c.from_residual.result c.from_residual.ensures.1 refl
+pub returns-in_err-push-clause-asked : goal.returns-in_err-push-clause-asked
+returns-in_err-push-clause-asked g c = host_none c.from_residual.result c.from_residual.ensures.1 refl
 
 pub returns-clause-asked : goal.returns-clause-asked
 returns-clause-asked g c =

@@ -1,6 +1,7 @@
 use Rattle.std.proofs.Common.{Some, refl}
 use Rattle.wasi_world.proofs.Walks.{asks_at, asks_gives, asks_given}
 use Rattle.wasi_streams.proofs.Streams.{stream_none}
+use Rattle.wasi_jobs.specs.declared.job.HostJob.TheVariants.{Write}
 use Rattle.wasi_tcp.specs.Writer.{write_state_asks}
 use Rattle.wasi_host.specs.Jobs.{noted, write_at}
 use Rattle.wasi_host.specs.Store.{Records, with_record_put, writer_asks}
@@ -14,16 +15,17 @@ pub returns-in_default-clause-asked : goal.returns-in_default-clause-asked
 returns-in_default-clause-asked g c =
     let store : Records = record { records = c.self.inside.records.items; jobs = c.self.inside.jobs.items; standing = c.self.inside.standing } in
     let none = none_at c.self.inside.records.items c.args.place c.in_default.ensures.item in
-    rw (← c.self.view_is, c.reserve.ensures.items) (asks_at (write_at store c.args.place (writer_asks (λ w. write_state_asks c.args.op w c.args.bytes))) none (asks_given _ _ refl (noted_none store c.args.place (writer_asks (λ w. write_state_asks c.args.op w c.args.bytes)) none)))
+    rw (← c.self.view_is) (asks_at (write_at store c.args.place (writer_asks (λ w. write_state_asks c.args.op w c.args.bytes))) none (asks_given _ _ refl (noted_none store c.args.place (writer_asks (λ w. write_state_asks c.args.op w c.args.bytes)) none)))
 
-pub returns-in_err-reserve-clause-asked : goal.returns-in_err-reserve-clause-asked
-returns-in_err-reserve-clause-asked g c = stream_none c.from_residual.result c.from_residual.ensures.1 refl
+pub returns-in_err-push-clause-asked : goal.returns-in_err-push-clause-asked
+returns-in_err-push-clause-asked g c = stream_none c.from_residual.result c.from_residual.ensures.1 refl
 
 pub returns-clause-asked : goal.returns-clause-asked
 returns-clause-asked g c =
     let store : Records = record { records = c.self.inside.records.items; jobs = c.self.inside.jobs.items; standing = c.self.inside.standing } in
     let found = found_at c.self.inside.records.items c.args.place c.in-Some.record c.in-Some.ensures.item in
-    let is = noted_as store c.args.place c.in-Some.record.now c.write_noting-written.new.self c.write_noting-written.result.1 c.note_job.new.jobs.items found c.write_noting-written.ensures.begins (rw c.reserve.ensures.items at c.note_job.ensures) in
+    let jobs = c.keep_job.ensures store.jobs (Write c.args.place) c.in_ok-push.ensures.ok in
+    let is = noted_as store c.args.place c.in-Some.record.now c.write_noting-written.new.self c.write_noting-written.result.1 c.keep_job.new.jobs.items found c.write_noting-written.ensures.begins jobs in
     rw (← c.self.view_is, found, ← is) (asks_gives (noted c.args.place (Some c.in-Some.record.now)) (asks_gives (with_record_put store c.args.place) c.write_noting-written.ensures.asked))
 
 pub returns-clause-sides : goal.returns-clause-sides
