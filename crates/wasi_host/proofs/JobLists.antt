@@ -1,5 +1,5 @@
 -- Jobs: what is kept of their list.
-use Rattle.std.proofs.Common.{◌≡◌, ℕ, not, Bool, true, false, ◌&&◌, List, [], ◌∷◌, ◌++◌, ◌<◌, length, Option, Some, None, refl, sym, ap, tt, ◌∙◌, arith}
+use Rattle.std.proofs.Common.{◌≡◌, ℕ, not, Bool, true, false, ◌&&◌, List, [], ◌∷◌, ◌++◌, ◌<◌, length, Option, Some, None, refl, sym, ap, ◌∙◌, arith}
 use Rattle.std.proofs.lemmas.List.{append-nil}
 use Rattle.wasi_world.specs.Seen.{Seen}
 use Rattle.std.specs.Prelude.{IsErrAnd, Result, Ok, Err}
@@ -37,11 +37,11 @@ pub turn_next : {s t : Seen} (kept jobs rest after before : List HostJob) (job :
 turn_next kept jobs rest after before job records now e k r h = rw (e, k, r) (reaches_on (λ found. turn_jobs (jobs_with kept job (is_going found job)) rest found) h)
 
 -- a job that is over is kept no more, and one that goes on is the last of those that are
-pub kept_over : {now : List HostJob} (kept : List HostJob) (job : HostJob) (going : Bool) → not going ≡ true → now ≡ kept → now ≡ jobs_with kept job going
+pub kept_over : {now : List HostJob} (kept : List HostJob) (job : HostJob) (going : Bool) → going ≡ false → now ≡ kept → now ≡ jobs_with kept job going
 kept_over kept job true h e = absurd (cc)
 kept_over kept job false h e = e
 
-pub kept_going : {now : List HostJob} (kept : List HostJob) (job : HostJob) (going : Bool) → not going ≡ false → now ≡ kept ++ job ∷ [] → now ≡ jobs_with kept job going
+pub kept_going : {now : List HostJob} (kept : List HostJob) (job : HostJob) (going : Bool) → going ≡ true → now ≡ kept ++ job ∷ [] → now ≡ jobs_with kept job going
 kept_going kept job true h e = e
 kept_going kept job false h e = absurd (cc)
 
@@ -50,9 +50,9 @@ pub fewer_ahead : {ahead rest now : List HostJob} {job : HostJob} → ahead ≡ 
 fewer_ahead e r = rw (e, r) (omega arith)
 
 -- where none is ahead, the turn is over
-pub asks_over : {s t : Seen} {first jobs kept ahead : List HostJob} {records now : List Record} → jobs ≡ kept ++ ahead → ahead ≡ [] → Reaches (turn_jobs [] first records) (turn_jobs kept ahead now) s t
+pub asks_over : {s t : Seen} {jobs ahead : List HostJob} (first : List HostJob) (records : List Record) (kept : List HostJob) (now : List Record) → jobs ≡ kept ++ ahead → ahead ≡ [] → Reaches (turn_jobs [] first records) (turn_jobs kept ahead now) s t
     → AsksFor (turn_jobs [] first records) s t (λ (done : Unit {0}). (jobs, now)) (Ok tt)
-asks_over {kept} e n h = rw (e, n, append-nil kept) (record { ok = rw n at h; err = tt })
+asks_over first records kept now e n h = rw (e, n, append-nil kept) (record { ok = rw n at h; err = tt })
 
 -- where memory is wanted in it, the turn has begun
 pub turn_stops : {s t u : Seen} {view : Unit {0} → List HostJob × List Record} (first : List HostJob) (records : List Record) (kept jobs rest : List HostJob) (job : HostJob) (before : List Record) (Q : AllocError → Type 0) (r : Result (Unit {0}) AllocError) → IsErrAnd r Q → jobs ≡ job ∷ rest

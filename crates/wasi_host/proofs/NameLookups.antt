@@ -1,8 +1,8 @@
 -- Lookups of names: what is asked of one, which are in the store, and the network sockets of the records where one is replaced.
 use Rattle.std.specs.Borrow.{Bor, MutBor}
-use Rattle.std.proofs.Common.{◌≡◌, ℕ, zero, suc, ◌+◌, ◌<◌, List, [], ◌∷◌, Some, None, sym, ap, tt, refl, map, length, slice_set, get_or, arith}
+use Rattle.std.proofs.Common.{◌≡◌, ℕ, zero, suc, ◌+◌, ◌<◌, List, [], ◌∷◌, Some, None, sym, ap, refl, map, length, slice_set, get_or, arith}
 use Rattle.wasi_host.specs.declared.name_lookup.Lookup.{Lookup as NameLookup}
-use Rattle.std.specs.Prelude.{Result, Ok, Err, Unit}
+use Rattle.std.specs.Prelude.{Result, Ok, Err}
 use Rattle.std.specs.declared.alloc.AllocError.{AllocError}
 use Rattle.wasi_world.specs.Asks.{AsksFor, Give}
 use Rattle.wasi_world.specs.Seen.{Seen}
@@ -22,6 +22,7 @@ use Rattle.wasi_host.specs.NameLookup.{is_looking}
 use Rattle.wasi_host.specs.NameLookupCalls.{looked_up, lookup_handle}
 use Rattle.wasi_host.specs.declared.records.Record.{Record}
 use Rattle.wasi_host.specs.declared.records.Record.TheVariants.{Tcp2, Udp2, Lookup, InputPipe, OutputPipe, Gone}
+use Rattle.wasi_host.specs.Numbered.{item_at}
 use Rattle.wasi_host.specs.Records.{lookup_at, lookup_put, lookup_pushed}
 use Rattle.wasi_host.specs.Sides.{held_by, held_in}
 use Rattle.wasi_addr.specs.Address.{canonical}
@@ -79,6 +80,11 @@ held_in-lookup (x ∷ rs) (suc i) old now h = ap (λ n. held_by x + n) (held_in-
 pub held_in-lookup_more : (rs : List Record) (l : NameLookup) → held_in (lookup_pushed rs l) ≡ held_in rs
 held_in-lookup_more [] l = refl
 held_in-lookup_more (x ∷ rs) l = ap (λ n. held_by x + n) (held_in-lookup_more rs l)
+
+-- the last of the records, which holds none
+pub lookup_held : (rs : List Record) (l : NameLookup) → held_by (item_at (lookup_pushed rs l) (length rs)) ≡ 0
+lookup_held [] l = refl
+lookup_held (x ∷ rs) l = lookup_held rs l
 
 -- == the handle of a lookup that was begun
 pub lookup_made : (m : Machine) (own : OpId) (network : ℕ) (l : NameLookup) {handle place : ℕ} {records : List Record} {jobs : List HostJob} {table : Handles} {s t : Seen}

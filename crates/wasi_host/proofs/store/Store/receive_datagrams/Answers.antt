@@ -1,4 +1,4 @@
-use Rattle.std.proofs.Common.{◌≡◌, not, ap, sym, ◌∙◌, refl}
+use Rattle.std.proofs.Common.{◌≡◌, not, ap, sym, ◌∙◌, refl, [], ◌∷◌, ◌++◌}
 use Rattle.wasi_world.proofs.Walks.{asks_gives}
 use Rattle.wasi_jobs.specs.declared.job.HostJob.TheVariants.{Receive}
 use Rattle.wasi_host.specs.DatagramCalls.{begins_receive, with_receive}
@@ -7,23 +7,28 @@ use Rattle.wasi_host.specs.Sides.{held_in}
 use Rattle.wasi_host.specs.Store.{Records}
 use Rattle.wasi_host.proofs.DatagramStores.{asks_as, begins_now, begins_none, job_noted}
 use Rattle.wasi_host.proofs.Hosts.{host_none}
-use Rattle.wasi_host.proofs.SideCounts.{knows_none}
-use Rattle.wasi_host.proofs.UdpLookups.{open_found, held_in-open}
+use Rattle.wasi_host.proofs.SideCounts.{knows_none, knows_same}
+use Rattle.wasi_host.proofs.UdpLookups.{open_back, open_found, held_in-open}
 use Rattle.wasi_host.proofs.store.Store.receive_datagrams.Goals.{then-not-before, else-not-before}
 use Rattle.wasi_host.proofs.store.Store.receive_datagrams.Goals as goal
 
 pub returns-in_err-push-clause-asked : goal.returns-in_err-push-clause-asked
 returns-in_err-push-clause-asked g c = host_none c.from_residual.result c.from_residual.ensures.1 refl
 
+pub returns-in_err-push-clause-sides : goal.returns-in_err-push-clause-sides
+returns-in_err-push-clause-sides g c = λ k.
+    let store : Records = record { records = c.self.inside.records.items; jobs = c.self.inside.jobs.items; standing = c.self.inside.standing } in
+    knows_same store _ (ap held_in (open_back c.self.inside.records.items c.args.place c.in-Some.socket c.in-Some.ensures.item)) (rw (← c.self.view_is) at k)
+
 pub returns-clause-asked : goal.returns-clause-asked
 returns-clause-asked g c =
     let store : Records = record { records = c.self.inside.records.items; jobs = c.self.inside.jobs.items; standing = c.self.inside.standing } in
     let recs : c.if-not-before.self-inside.records.items ≡ open_put store.records c.args.place c.receive_datagrams-received.new.self = elim c.if-not-before.branch [ then-not-before w ↦ rw w.self-inside-is refl | else-not-before w ↦ rw w.self-inside-is refl ] in
-    let kept : c.if-not-before.self-inside.jobs.items ≡ store.jobs = elim c.if-not-before.branch [ then-not-before w ↦ rw w.self-inside-is c.reserve.ensures.items | else-not-before w ↦ rw w.self-inside-is c.reserve.ensures.items ] in
+    let pushed : c.if-not-before.self-inside.jobs.items ≡ store.jobs ++ Receive c.args.place ∷ [] = elim c.if-not-before.branch [ then-not-before w ↦ rw w.self-inside-is c.in_ok-push.ensures.ok | else-not-before w ↦ rw w.self-inside-is c.in_ok-push.ensures.ok ] in
     let stands : c.if-not-before.self-inside.standing ≡ store.standing = elim c.if-not-before.branch [ then-not-before w ↦ rw w.self-inside-is refl | else-not-before w ↦ rw w.self-inside-is refl ] in
     let began : c.if-not-before.begins ≡ begins_receive c.in-Some.socket.now c.receive_datagrams-received.new.self = elim c.if-not-before.branch [ then-not-before w ↦ begins_now _ _ _ (sym c.receives-before.ensures ∙ w.if-not-before.true) (w.begins-is ∙ w.receives-begins.ensures) | else-not-before w ↦ begins_none _ _ _ (sym c.receives-before.ensures ∙ w.if-not-before.false) (w.begins-is ∙ ap not w.if-not-before.false) ] in
     rw (← c.self.view_is, open_found c.self.inside.records.items c.args.place c.in-Some.socket c.in-Some.ensures.item, recs, stands)
-    (asks_as (job_noted store c.args.place c.receive_datagrams-received.new.self (Receive c.args.place) c.if-not-before.begins (begins_receive c.in-Some.socket.now c.receive_datagrams-received.new.self) c.if-not-before.self-inside.jobs.items c.note_job.new.jobs.items c.note_job.ensures kept began)
+    (asks_as (job_noted store c.args.place c.receive_datagrams-received.new.self (Receive c.args.place) c.if-not-before.begins (begins_receive c.in-Some.socket.now c.receive_datagrams-received.new.self) store.jobs c.keep_job.new.jobs.items (c.keep_job.ensures store.jobs (Receive c.args.place) pushed) refl began)
     (asks_gives (λ d. (d.0, with_receive store c.args.place c.in-Some.socket.now d.1)) c.receive_datagrams-received.ensures.asked))
 
 pub returns-clause-sides : goal.returns-clause-sides

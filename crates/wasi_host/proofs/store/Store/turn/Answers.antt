@@ -1,4 +1,3 @@
-use Rattle.std.proofs.Common.{tt}
 use Rattle.wasi_world.proofs.Walks.{asks_gives}
 use Rattle.wasi_host.specs.Jobs.{after_turn}
 use Rattle.wasi_host.specs.Store.{Records}

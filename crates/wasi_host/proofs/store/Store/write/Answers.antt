@@ -1,13 +1,14 @@
-use Rattle.std.proofs.Common.{Some, refl}
+use Rattle.std.proofs.Common.{Some, refl, ap}
 use Rattle.wasi_world.proofs.Walks.{asks_at, asks_gives, asks_given}
 use Rattle.wasi_streams.proofs.Streams.{stream_none}
 use Rattle.wasi_jobs.specs.declared.job.HostJob.TheVariants.{Write}
 use Rattle.wasi_tcp.specs.Writer.{write_state_asks}
 use Rattle.wasi_host.specs.Jobs.{noted, write_at}
+use Rattle.wasi_host.specs.Sides.{held_in}
 use Rattle.wasi_host.specs.Store.{Records, with_record_put, writer_asks}
 use Rattle.wasi_host.proofs.JobLists.{noted_as, noted_none}
-use Rattle.wasi_host.proofs.Lookups.{found_at, none_at}
-use Rattle.wasi_host.proofs.SideCounts.{Any, knows_asked, held_in-set}
+use Rattle.wasi_host.proofs.Lookups.{found_at, none_at, set_back}
+use Rattle.wasi_host.proofs.SideCounts.{Any, knows_asked, knows_same, held_in-set}
 use Rattle.wasi_host.proofs.StreamCounts.{calm_writer, calm_write}
 use Rattle.wasi_host.proofs.store.Store.write.Goals as goal
 
@@ -19,6 +20,11 @@ returns-in_default-clause-asked g c =
 
 pub returns-in_err-push-clause-asked : goal.returns-in_err-push-clause-asked
 returns-in_err-push-clause-asked g c = stream_none c.from_residual.result c.from_residual.ensures.1 refl
+
+pub returns-in_err-push-clause-sides : goal.returns-in_err-push-clause-sides
+returns-in_err-push-clause-sides g c = λ k.
+    let store : Records = record { records = c.self.inside.records.items; jobs = c.self.inside.jobs.items; standing = c.self.inside.standing } in
+    knows_same store _ (ap held_in (set_back c.self.inside.records.items c.args.place c.in-Some.record c.in-Some.ensures.item)) (rw (← c.self.view_is) at k)
 
 pub returns-clause-asked : goal.returns-clause-asked
 returns-clause-asked g c =
