@@ -6,11 +6,11 @@ use Rattle.std.specs.Map.{values_of}
 use Rattle.std.proofs.lemmas.Bool.{cases_lt, cases_eq, and_from, and_left, and_right, eq-eqb, ne_eqb, false≢true}
 use Rattle.wasi_jobs.specs.declared.job.HostJob.{HostJob}
 use Rattle.wasi_jobs.specs.declared.job.HostJob.TheVariants.{Write, Datagram, Receive, Lookup}
-use Rattle.wasi_jobs.specs.declared.job_list.Mark.{Mark}
+use Rattle.wasi_jobs.specs.declared.job_list.Key.{Key}
 use Rattle.wasi_jobs.specs.declared.job_list.Which.{Which}
 use Rattle.wasi_jobs.specs.declared.job_list.Which.TheVariants.{All, Receives, Datagrams}
 use Rattle.wasi_jobs.specs.Jobs.{is_on}
-use Rattle.wasi_jobs.specs.Marks.{job_at, has_mark, is_one_on, is_among, left_of, Rise, AreMarked, AreSound, IsWithout, HasNoneFrom, IsNextOn}
+use Rattle.wasi_jobs.specs.Keys.{job_at, has_key, is_one_on, is_among, left_of, Rise, AreKeyed, AreSound, IsWithout, HasNoneFrom, IsNextOn}
 use Rattle.wasi_jobs.proofs.Orders.{at_is, at_itself, at_another}
 use Rattle.wasi_jobs.proofs.Rising.{but, rise_but, below_next}
 
@@ -68,44 +68,44 @@ left_but which place (e ∷ jobs) n job found it = by (left_but which place jobs
         ∙ sym (left_more which place e.1 (values_of jobs))
 
 -- the jobs of a record are gone over as far as `from`: those of `start` that are to be left are still there
-pub record IsForgetting (which : Which) (place from : ℕ) (start : List HostJob) (jobs : List (ℕ × HostJob)) (marks : List Mark) (next : ℕ) : Type 0 where
-  pub sound : AreSound jobs marks next
+pub record IsForgetting (which : Which) (place from : ℕ) (start : List HostJob) (jobs : List (ℕ × HostJob)) (keys : List Key) (next : ℕ) : Type 0 where
+  pub sound : AreSound jobs keys next
   pub same : left_of which place (values_of jobs) ≡ left_of which place start
   pub done : (n : ℕ) (job : HostJob) → n < from → job_at jobs n ≡ Some job → goes which place job ≡ false
 
--- the job of a mark
+-- the job of a key
 pub record IsJobOn (jobs : List (ℕ × HostJob)) (place n : ℕ) : Type 0 where
   pub job : HostJob
   pub there : job_at jobs n ≡ Some job
   pub of_it : is_on place job ≡ true
 
-pub job_of : (jobs : List (ℕ × HostJob)) (marks : List Mark) (place n : ℕ) → AreMarked jobs marks → has_mark marks place n ≡ true → IsJobOn jobs place n
-job_of jobs marks place n marked has = by (job_at jobs n) refl
+pub job_of : (jobs : List (ℕ × HostJob)) (keys : List Key) (place n : ℕ) → AreKeyed jobs keys → has_key keys place n ≡ true → IsJobOn jobs place n
+job_of jobs keys place n keyed has = by (job_at jobs n) refl
   where
     by : (o : Option HostJob) → job_at jobs n ≡ o → IsJobOn jobs place n
-    by None is = absurd (false≢true (sym (ap (is_one_on place) is) ∙ sym (marked place n) ∙ has))
-    by (Some job) is = record { job = job; there = is; of_it = sym (ap (is_one_on place) is) ∙ sym (marked place n) ∙ has }
+    by None is = absurd (false≢true (sym (ap (is_one_on place) is) ∙ sym (keyed place n) ∙ has))
+    by (Some job) is = record { job = job; there = is; of_it = sym (ap (is_one_on place) is) ∙ sym (keyed place n) ∙ has }
 
-pub begins : (which : Which) (place : ℕ) (jobs : List (ℕ × HostJob)) (marks : List Mark) (next : ℕ) → AreSound jobs marks next → IsForgetting which place 0 (values_of jobs) jobs marks next
-begins which place jobs marks next sound = record { sound = sound; same = refl; done = λ n job under found. absurd (omega (arith, under)) }
+pub begins : (which : Which) (place : ℕ) (jobs : List (ℕ × HostJob)) (keys : List Key) (next : ℕ) → AreSound jobs keys next → IsForgetting which place 0 (values_of jobs) jobs keys next
+begins which place jobs keys next sound = record { sound = sound; same = refl; done = λ n job under found. absurd (omega (arith, under)) }
 
-module _ (which : Which) (place from : ℕ) (start : List HostJob) (jobs : List (ℕ × HostJob)) (marks : List Mark) (next : ℕ) (so : IsForgetting which place from start jobs marks next) where
-  -- a job without a mark doesn't go
-  spared : (n : ℕ) (job : HostJob) → job_at jobs n ≡ Some job → has_mark marks place n ≡ false → goes which place job ≡ false
-  spared n job found none = and_right _ _ (sym (ap (is_one_on place) found) ∙ sym (so.sound.marked place n) ∙ none)
+module _ (which : Which) (place from : ℕ) (start : List HostJob) (jobs : List (ℕ × HostJob)) (keys : List Key) (next : ℕ) (so : IsForgetting which place from start jobs keys next) where
+  -- a job without a key doesn't go
+  spared : (n : ℕ) (job : HostJob) → job_at jobs n ≡ Some job → has_key keys place n ≡ false → goes which place job ≡ false
+  spared n job found none = and_right _ _ (sym (ap (is_one_on place) found) ∙ sym (so.sound.keyed place n) ∙ none)
 
   -- where the record has no more jobs, it is done
-  pub ends : HasNoneFrom marks place from → values_of jobs ≡ left_of which place start
+  pub ends : HasNoneFrom keys place from → values_of jobs ≡ left_of which place start
   ends none = sym (left_all which place jobs 0 next so.sound.rise (λ n job found.
       elim (cases_lt n from) [
         | inl under ↦ so.done n job under found
         | inr past ↦ spared n job found (none n past)
       ])) ∙ so.same
 
-  module _ (number : ℕ) (it : IsNextOn marks place from number) where
+  module _ (number : ℕ) (it : IsNextOn keys place from number) where
     -- the next job, and that no number comes after the next of all
     pub next_job : IsJobOn jobs place number
-    next_job = job_of jobs marks place number so.sound.marked it.here
+    next_job = job_of jobs keys place number so.sound.keyed it.here
 
     pub in_bounds : number < next
     in_bounds = let j = next_job in let l = below_next jobs 0 next number j.job so.sound.rise j.there in l.1
@@ -119,7 +119,7 @@ module _ (which : Which) (place from : ℕ) (start : List HostJob) (jobs : List 
 
     module _ (job : HostJob) (there : job_at jobs number ≡ Some job) where
       -- it stays
-      pub stays : is_among which job ≡ false → IsForgetting which place (number + 1) start jobs marks next
+      pub stays : is_among which job ≡ false → IsForgetting which place (number + 1) start jobs keys next
       stays none = record {
         sound = so.sound;
         same = so.same;
@@ -134,13 +134,13 @@ module _ (which : Which) (place from : ℕ) (start : List HostJob) (jobs : List 
       }
 
       -- it goes
-      pub leaves : (left : List (ℕ × HostJob)) (unmarked : List Mark) → is_among which job ≡ true → IsWithout jobs left number → AreMarked left unmarked → IsForgetting which place (number + 1) start left unmarked next
-      leaves left unmarked one out marked =
+      pub leaves : (left : List (ℕ × HostJob)) (unkeyed : List Key) → is_among which job ≡ true → IsWithout jobs left number → AreKeyed left unkeyed → IsForgetting which place (number + 1) start left unkeyed next
+      leaves left unkeyed one out keyed =
           let j = next_job in
           let is : Some j.job ≡ Some job = sym j.there ∙ there in
           let same : j.job ≡ job = cc in
           record {
-            sound = record { rise = subst (λ (l : List (ℕ × HostJob)). Rise l 0 next) (sym out.entries) (rise_but jobs 0 next number so.sound.rise); fits = so.sound.fits; marked = marked };
+            sound = record { rise = subst (λ (l : List (ℕ × HostJob)). Rise l 0 next) (sym out.entries) (rise_but jobs 0 next number so.sound.rise); fits = so.sound.fits; keyed = keyed };
             same = ap (λ (l : List (ℕ × HostJob)). left_of which place (values_of l)) out.entries
                 ∙ left_but which place jobs number job there (and_from _ _ one (ap (is_on place) (sym same) ∙ j.of_it)) ∙ so.same;
             done = λ n other under found.

@@ -1,5 +1,5 @@
 mod Forgets
 pub mod Jobs
-mod Marking
+mod Keying
 mod Orders
 mod Rising

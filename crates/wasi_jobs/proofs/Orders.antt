@@ -1,4 +1,4 @@
--- How numbers and marks compare.
+-- How numbers and keys compare.
 use Rattle.std.proofs.Common.{◌≡◌, ◌≢◌, ℕ, ◌<◌, ◌≤◌, ◌==◌, true, false, ◌&&◌, refl, ◌∙◌, sym, subst, arith, inl, inr}
 use Rattle.std.specs.Cmp.{nat_cmp_is, ranked}
 use Rattle.std.specs.Ordering.{nat_cmp, ordering_then, is_eq, is_gt, MatchOrdering}
@@ -7,8 +7,8 @@ use Rattle.std.specs.declared.cmp.Ordering.{Ordering}
 use Rattle.std.specs.declared.cmp.Ordering.TheVariants.{Less, Equal, Greater}
 use Rattle.std.proofs.lemmas.Bool.{eq-eqb, ne_eqb, false≢true}
 use Rattle.std.proofs.lemmas.Bool.Decides.{eqb_tells}
-use Rattle.wasi_jobs.specs.declared.job_list.Mark.{Mark}
-use Rattle.wasi_jobs.specs.Marks.{mark_cmp}
+use Rattle.wasi_jobs.specs.declared.job_list.Key.{Key}
+use Rattle.wasi_jobs.specs.Keys.{key_cmp}
 
 pub above : (a b : ℕ) → b < a → nat_cmp a b ≡ Greater
 above a b h = sym (nat_cmp_is a b Greater h)
@@ -31,9 +31,9 @@ at_itself h = at_is h h ∙ eq-eqb h h refl
 pub at_another : (h x : ℕ) → x ≢ h → is_at (nat_cmp h) x ≡ false
 at_another h x other = at_is h x ∙ ne_eqb x h other
 
--- the mark that is found is the one that is looked for
-pub mark_is : (a b : Mark) → is_at (mark_cmp a) b ≡ (b.place == a.place && b.number == a.number)
-mark_is a b = by (nat_cmp a.place b.place) (ranked a.place b.place _ refl)
+-- the key that is found is the one that is looked for
+pub key_is : (a b : Key) → is_at (key_cmp a) b ≡ (b.place == a.place && b.number == a.number)
+key_is a b = by (nat_cmp a.place b.place) (ranked a.place b.place _ refl)
   where
     by : (r : Ordering) → MatchOrdering r (a.place < b.place) (a.place ≡ b.place) (b.place < a.place)
         → is_eq (ordering_then r (nat_cmp a.number b.number)) ≡ (b.place == a.place && b.number == a.number)
@@ -41,8 +41,8 @@ mark_is a b = by (nat_cmp a.place b.place) (ranked a.place b.place _ refl)
     by Equal e = rw (eq-eqb b.place a.place (sym e)) (at_is a.number b.number)
     by Greater gt = rw (ne_eqb b.place a.place (λ e. omega (arith, e, gt))) refl
 
--- marks in order have their records in order
-pub places_rise : (a b : Mark) → is_gt (mark_cmp a b) ≡ false → a.place ≤ b.place
+-- keys in order have their records in order
+pub places_rise : (a b : Key) → is_gt (key_cmp a b) ≡ false → a.place ≤ b.place
 places_rise a b = by (nat_cmp a.place b.place) (ranked a.place b.place _ refl)
   where
     by : (r : Ordering) → MatchOrdering r (a.place < b.place) (a.place ≡ b.place) (b.place < a.place)
@@ -60,7 +60,7 @@ up_to x y = by (nat_cmp x y) (ranked x y _ refl)
     by Greater gt h = absurd (false≢true (sym h))
 
 -- those of one record have their jobs in order
-pub numbers_rise : (a b : Mark) → a.place ≡ b.place → is_gt (mark_cmp a b) ≡ false → a.number ≤ b.number
+pub numbers_rise : (a b : Key) → a.place ≡ b.place → is_gt (key_cmp a b) ≡ false → a.number ≤ b.number
 numbers_rise a b same = by (nat_cmp a.place b.place) (ranked a.place b.place _ refl)
   where
     by : (r : Ordering) → MatchOrdering r (a.place < b.place) (a.place ≡ b.place) (b.place < a.place)
@@ -70,8 +70,8 @@ numbers_rise a b same = by (nat_cmp a.place b.place) (ranked a.place b.place _ r
     by Greater gt h = absurd (omega (arith, gt, same))
 
 -- and the other way round
-pub marks_rise : (a b : Mark) → a.place ≡ b.place → a.number ≤ b.number → is_gt (mark_cmp a b) ≡ false
-marks_rise a b same le = by (nat_cmp a.place b.place) (ranked a.place b.place _ refl)
+pub keys_rise : (a b : Key) → a.place ≡ b.place → a.number ≤ b.number → is_gt (key_cmp a b) ≡ false
+keys_rise a b same le = by (nat_cmp a.place b.place) (ranked a.place b.place _ refl)
   where
     in_order : (r : Ordering) → MatchOrdering r (a.number < b.number) (a.number ≡ b.number) (b.number < a.number) → is_gt r ≡ false
     in_order Less lt = refl

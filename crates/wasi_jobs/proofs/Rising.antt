@@ -12,7 +12,7 @@ use Rattle.std.specs.Map.{keys_of, values_of, remove_entry}
 use Rattle.std.proofs.lemmas.Bool.{eqb-true, eq-eqb, lt-ltb, le-ltb, le-leb, lt-leb, cases_lt, cases_eq}
 use Rattle.wasi_jobs.specs.declared.job.HostJob.{HostJob}
 use Rattle.wasi_jobs.specs.JobList.{items_below, items_from}
-use Rattle.wasi_jobs.specs.Marks.{job_at, Rise}
+use Rattle.wasi_jobs.specs.Keys.{job_at, Rise}
 use Rattle.wasi_jobs.proofs.Orders.{above, at_is, at_another}
 
 -- the jobs below a number, and those from it on

@@ -1,6 +1,6 @@
 //! The host's background jobs, in the order of their making.
 //!
-//! Each job stands in an ordered map under a number that rises. A mark in an ordered set names its record first and then its
+//! Each job stands in an ordered map under a number that rises. A key in an ordered set names its record first and then its
 //! number, so that a record's jobs are found together. So a call's time grows with the logarithm of the number of jobs, and, where
 //! a record's jobs go, with how many that record has; memory follows how many jobs there are, however many were made.
 
@@ -10,7 +10,7 @@ ghost use Rattle.std.specs.Ordering.{nat_cmp};
 ghost use Rattle.wasi_jobs.specs.declared.job.HostJob.{HostJob};
 ghost use Rattle.wasi_jobs.specs.Jobs.{place_of, other_jobs, other_than_receive, other_than_datagram};
 ghost use Rattle.wasi_jobs.specs.JobList.{no_work, below, from_on};
-ghost use Rattle.wasi_jobs.specs.Marks.{job_at, AreMarked, IsWithout, HasNoneFrom, IsNextOn, is_among, left_of};
+ghost use Rattle.wasi_jobs.specs.Keys.{job_at, AreKeyed, IsWithout, HasNoneFrom, IsNextOn, is_among, left_of};
 
 use crate::job::HostJob;
 use std::alloc::{AllocError, Global};
@@ -18,19 +18,19 @@ use std::collections::{BTreeMap, BTreeSet};
 use std::marker::Model;
 
 /// What finds a job from its record: the number of the record, and then that of the job. The order is by the first, so that the
-/// marks of a record stand together.
+/// keys of a record stand together.
 #[derive(Clone, Copy, PartialEq, Eq, PartialOrd, Ord)]
-struct Mark {
+struct Key {
     place: usize,
     number: u64,
 }
 
-impl Mark {
-    /// The mark of a job.
-    fn of(job: HostJob, number: u64) -> Mark
+impl Key {
+    /// The key of a job.
+    fn of(job: HostJob, number: u64) -> Key
         ensures { result ≡ record { place = place_of job; number = number } }
     {
-        Mark {
+        Key {
             place: job.place(),
             number,
         }
@@ -62,8 +62,8 @@ impl Which {
 #[derive(Drop)]
 pub struct JobList {
     jobs: BTreeMap<u64, HostJob>,
-    /// The mark of each job.
-    marks: BTreeSet<Mark>,
+    /// The key of each job.
+    by_record: BTreeSet<Key>,
     /// The number of the next job.
     next: u64,
 }
@@ -73,11 +73,11 @@ impl Model for JobList {
 
     ghost Value = { Work };
 
-    ghost use Rattle.wasi_jobs.specs.Marks.{work_in, AreSound};
+    ghost use Rattle.wasi_jobs.specs.Keys.{work_in, AreSound};
 
     ghost view = { λ l. work_in l.jobs.entries };
 
-    ghost invariant = { λ l. AreSound l.jobs.entries l.marks.keys l.next };
+    ghost invariant = { λ l. AreSound l.jobs.entries l.by_record.keys l.next };
 }
 
 impl JobList {
@@ -87,7 +87,7 @@ impl JobList {
     {
         JobList {
             jobs: BTreeMap::new(alloc),
-            marks: BTreeSet::new(alloc),
+            by_record: BTreeSet::new(alloc),
             next: 0,
         }
     }
@@ -100,7 +100,7 @@ impl JobList {
         if self.next == u64::MAX {
             return Err(AllocError);
         }
-        put(&mut self.jobs, &mut self.marks, self.next, job)?;
+        put(&mut self.jobs, &mut self.by_record, self.next, job)?;
         self.next += 1;
         Ok(())
     }
@@ -112,7 +112,7 @@ impl JobList {
         let Some((number, job)) = self.jobs.pop_last() else {
             return;
         };
-        self.marks.remove(&Mark::of(job, number));
+        self.by_record.remove(&Key::of(job, number));
     }
 
     /// The first job with this number or a higher one, with its number. Takes no memory.
@@ -136,7 +136,7 @@ impl JobList {
         ensures below { below (number + 1) self.new ≡ below number self.old }
         ensures after { from_on (number + 1) self.new ≡ from_on (number + 1) self.old }
     {
-        take_out(&mut self.jobs, &mut self.marks, number);
+        take_out(&mut self.jobs, &mut self.by_record, number);
     }
 
     /// Takes the jobs of a record out. Takes no memory.
@@ -165,59 +165,59 @@ impl JobList {
         ensures { self.new.items ≡ left_of which place self.old.items }
     {
         let mut from = 0;
-        while let Some(number) = next_on(&self.marks, place, from) {
+        while let Some(number) = next_on(&self.by_record, place, from) {
             if which.has(self.jobs[&number]) {
-                take_out(&mut self.jobs, &mut self.marks, number);
+                take_out(&mut self.jobs, &mut self.by_record, number);
             }
             from = number + 1;
         }
     }
 }
 
-/// Puts a job under a number that none has, and its mark beside it. Where there is no room for one of them, neither comes.
+/// Puts a job under a number that none has, and its key beside it. Where there is no room for one of them, neither comes.
 fn put(
     jobs: &mut BTreeMap<u64, HostJob>,
-    marks: &mut BTreeSet<Mark>,
+    by_record: &mut BTreeSet<Key>,
     number: u64,
     job: HostJob,
 ) -> Result<(), AllocError>
-    requires marked { AreMarked jobs.old.entries marks.old.keys }
+    requires keyed { AreKeyed jobs.old.entries by_record.old.keys }
     requires fresh { job_at jobs.old.entries number ≡ None }
     ensures ok { OnOk result (jobs.new.entries ≡ insert_entry nat_cmp jobs.old.entries number job) }
     ensures err { OnErr result (jobs.new.entries ≡ jobs.old.entries) }
-    ensures marked { AreMarked jobs.new.entries marks.new.keys }
+    ensures keyed { AreKeyed jobs.new.entries by_record.new.keys }
 {
-    let mark = Mark::of(job, number);
-    marks.insert(mark)?;
+    let key = Key::of(job, number);
+    by_record.insert(key)?;
     if let Err(error) = jobs.insert(number, job) {
-        marks.remove(&mark);
+        by_record.remove(&key);
         return Err(error.into());
     }
     Ok(())
 }
 
-/// Takes the job of this number out, if there is one, and its mark.
-fn take_out(jobs: &mut BTreeMap<u64, HostJob>, marks: &mut BTreeSet<Mark>, number: u64)
-    requires marked { AreMarked jobs.old.entries marks.old.keys }
+/// Takes the job of this number out, if there is one, and its key.
+fn take_out(jobs: &mut BTreeMap<u64, HostJob>, by_record: &mut BTreeSet<Key>, number: u64)
+    requires keyed { AreKeyed jobs.old.entries by_record.old.keys }
     ensures out { IsWithout jobs.old.entries jobs.new.entries number }
-    ensures marked { AreMarked jobs.new.entries marks.new.keys }
+    ensures keyed { AreKeyed jobs.new.entries by_record.new.keys }
 {
     if let Some(job) = jobs.remove(&number) {
-        marks.remove(&Mark::of(job, number));
+        by_record.remove(&Key::of(job, number));
     }
 }
 
 /// The number of the first of a record's jobs with this number or a higher one.
-fn next_on(marks: &BTreeSet<Mark>, place: usize, from: u64) -> Option<u64>
-    ensures some { IfSome result (IsNextOn marks.now.keys place from) }
-    ensures none { IfNone result (HasNoneFrom marks.now.keys place from) }
+fn next_on(by_record: &BTreeSet<Key>, place: usize, from: u64) -> Option<u64>
+    ensures some { IfSome result (IsNextOn by_record.now.keys place from) }
+    ensures none { IfNone result (HasNoneFrom by_record.now.keys place from) }
 {
-    let first = Mark {
+    let first = Key {
         place,
         number: from,
     };
-    match marks.range(first..).next() {
-        Some(mark) if mark.place == place => Some(mark.number),
+    match by_record.range(first..).next() {
+        Some(key) if key.place == place => Some(key.number),
         _ => None,
     }
 }

@@ -19,9 +19,9 @@ loop-number-smaller c =
 
 pub loop-number-preserved : goal.loop-number-preserved
 loop-number-preserved c =
-    let so = λ (i : Inside). IsForgetting c.args.which c.args.place (c.in-Some.number + 1) c.args.self.now.items i.jobs.entries i.marks.keys i.next in
+    let so = λ (i : Inside). IsForgetting c.args.which c.args.place (c.in-Some.number + 1) c.args.self.now.items i.jobs.entries i.by_record.keys i.next in
     elim c.if-has.branch [
-      | then-has w ↦ subst so (sym w.self-inside-is) (leaves _ _ _ _ _ _ _ c.loop-number.invariant _ c.in-Some.ensures.some c.index.result.now c.index.ensures _ _ (sym c.has.ensures ∙ w.if-has.true) w.take_out.ensures.out w.take_out.ensures.marked)
+      | then-has w ↦ subst so (sym w.self-inside-is) (leaves _ _ _ _ _ _ _ c.loop-number.invariant _ c.in-Some.ensures.some c.index.result.now c.index.ensures _ _ (sym c.has.ensures ∙ w.if-has.true) w.take_out.ensures.out w.take_out.ensures.keyed)
       | else-has w ↦ subst so (sym w.self-inside-is) (stays _ _ _ _ _ _ _ c.loop-number.invariant _ c.in-Some.ensures.some c.index.result.now c.index.ensures (sym c.has.ensures ∙ w.if-has.false))
     ]
 

@@ -1,7 +1,7 @@
 use Rattle.std.proofs.Common.{◌+◌, ap, ◌∙◌, subst, sym, arith}
 use Rattle.std.specs.Map.{values_of}
 use Rattle.std.proofs.lemmas.List.{map_push}
-use Rattle.wasi_jobs.specs.Marks.{Rise}
+use Rattle.wasi_jobs.specs.Keys.{Rise}
 use Rattle.wasi_jobs.proofs.Rising.{none_next, insert_last, rise_last}
 use Rattle.wasi_jobs.proofs.job_list.JobList.push.Goals as goal
 
@@ -14,7 +14,7 @@ invariant_of-self-2 c =
     record {
       rise = subst (λ jobs. Rise jobs 0 (c.self.inside.next + 1)) (sym last) (rise_last _ _ _ c.args.job c.self.invariant.rise);
       fits = omega (arith, c.self.invariant.fits);
-      marked = c.in_ok-put.ensures.marked;
+      keyed = c.in_ok-put.ensures.keyed;
     }
 
 pub returns-clause-ok : goal.returns-clause-ok

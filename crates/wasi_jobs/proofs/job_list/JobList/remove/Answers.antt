@@ -1,5 +1,5 @@
 use Rattle.std.proofs.Common.{◌+◌, ap, ◌∙◌, subst, sym}
-use Rattle.wasi_jobs.specs.Marks.{Rise}
+use Rattle.wasi_jobs.specs.Keys.{Rise}
 use Rattle.wasi_jobs.proofs.Rising.{lower, upper, rise_but, lower_but, upper_but}
 use Rattle.wasi_jobs.proofs.job_list.JobList.remove.Goals as goal
 
@@ -7,7 +7,7 @@ pub invariant_of-self : goal.invariant_of-self
 invariant_of-self c = record {
   rise = subst (λ jobs. Rise jobs 0 c.self.inside.next) (sym c.take_out.ensures.out.entries) (rise_but _ _ _ c.args.number c.self.invariant.rise);
   fits = c.self.invariant.fits;
-  marked = c.take_out.ensures.marked;
+  keyed = c.take_out.ensures.keyed;
 }
 
 pub returns-clause-below : goal.returns-clause-below

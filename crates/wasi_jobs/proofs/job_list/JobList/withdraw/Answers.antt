@@ -1,6 +1,6 @@
 use Rattle.std.proofs.Common.{subst}
-use Rattle.wasi_jobs.specs.Marks.{Rise}
-use Rattle.wasi_jobs.proofs.Marking.{marked_out}
+use Rattle.wasi_jobs.specs.Keys.{Rise}
+use Rattle.wasi_jobs.proofs.Keying.{keyed_out}
 use Rattle.wasi_jobs.proofs.Rising.{rise_before}
 use Rattle.wasi_jobs.proofs.job_list.JobList.withdraw.Goals as goal
 
@@ -8,5 +8,5 @@ pub invariant_of-self-2 : goal.invariant_of-self-2
 invariant_of-self-2 c = record {
   rise = rise_before _ _ _ _ (subst (λ jobs. Rise jobs 0 c.self.inside.next) c.in-Some.ensures.removal c.self.invariant.rise);
   fits = c.self.invariant.fits;
-  marked = marked_out _ _ _ _ _ c.in-Some.job _ c.of.ensures c.in-Some.ensures.value c.in-Some.ensures.updates.0 c.remove.ensures.updates.0 c.self.invariant.marked;
+  keyed = keyed_out _ _ _ _ _ c.in-Some.job _ c.of.ensures c.in-Some.ensures.value c.in-Some.ensures.updates.0 c.remove.ensures.updates.0 c.self.invariant.keyed;
 }

@@ -1,4 +1,4 @@
--- What the code keeps of the jobs: a map from their numbers, and a mark for each job, by which it is found from its record.
+-- What the code keeps of the jobs: a map from their numbers, and a key for each job, by which it is found from its record.
 use Rattle.std.specs.Prelude.{◌≡◌, ℕ, ◌+◌, ◌<◌, ◌≤◌, ◌^◌, Bool, true, false, cond, List, [], ◌∷◌, Option, Some, None}
 use Rattle.std.specs.List.{list_any}
 use Rattle.std.specs.Ordering.{nat_cmp, ordering_then}
@@ -7,7 +7,7 @@ use Rattle.std.specs.BTreeMap.{is_at}
 use Rattle.std.specs.Map.{keys_of, values_of, lookup, remove_entry}
 use Rattle.wasi_jobs.specs.declared.job.HostJob.{HostJob}
 use Rattle.wasi_jobs.specs.declared.job.HostJob.TheVariants.{Datagram, Receive}
-use Rattle.wasi_jobs.specs.declared.job_list.Mark.{Mark}
+use Rattle.wasi_jobs.specs.declared.job_list.Key.{Key}
 use Rattle.wasi_jobs.specs.declared.job_list.Which.{Which}
 use Rattle.wasi_jobs.specs.declared.job_list.Which.TheVariants.{All, Receives, Datagrams}
 use Rattle.wasi_jobs.specs.Jobs.{is_on, other_jobs, other_than_receive, other_than_datagram}
@@ -26,42 +26,42 @@ abbrev pub Rise : List (ℕ × HostJob) → ℕ → ℕ → Type 0
 Rise [] low next = low ≤ next
 Rise (e ∷ jobs) low next = (low ≤ e.0) × Rise jobs (e.0 + 1) next
 
--- marks stand by the record first, then by the job
-abbrev pub mark_cmp : Mark → Mark → Ordering
-mark_cmp a b = ordering_then (nat_cmp a.place b.place) (nat_cmp a.number b.number)
+-- keys stand by the record first, then by the job
+abbrev pub key_cmp : Key → Key → Ordering
+key_cmp a b = ordering_then (nat_cmp a.place b.place) (nat_cmp a.number b.number)
 
-abbrev pub has_mark : List Mark → ℕ → ℕ → Bool
-has_mark marks place number = list_any (is_at (mark_cmp (record { place = place; number = number }))) marks
+abbrev pub has_key : List Key → ℕ → ℕ → Bool
+has_key keys place number = list_any (is_at (key_cmp (record { place = place; number = number }))) keys
 
 -- there is a job, and it is of this record
 abbrev pub is_one_on : ℕ → Option HostJob → Bool
 is_one_on place None = false
 is_one_on place (Some job) = is_on place job
 
--- each job has its mark, and each mark its job
-abbrev pub AreMarked : List (ℕ × HostJob) → List Mark → Type 0
-AreMarked jobs marks = (place number : ℕ) → has_mark marks place number ≡ is_one_on place (job_at jobs number)
+-- each job has its key, and each key its job
+abbrev pub AreKeyed : List (ℕ × HostJob) → List Key → Type 0
+AreKeyed jobs keys = (place number : ℕ) → has_key keys place number ≡ is_one_on place (job_at jobs number)
 
 -- what is true of the fields of every list of jobs
-pub record AreSound (jobs : List (ℕ × HostJob)) (marks : List Mark) (next : ℕ) : Type 0 where
+pub record AreSound (jobs : List (ℕ × HostJob)) (keys : List Key) (next : ℕ) : Type 0 where
   pub rise : Rise jobs 0 next
   pub fits : next < 2 ^ 64
-  pub marked : AreMarked jobs marks
+  pub keyed : AreKeyed jobs keys
 
 -- the job of a number went
 pub record IsWithout (old new : List (ℕ × HostJob)) (number : ℕ) : Type 0 where
   pub entries : new ≡ remove_entry (is_at (nat_cmp number)) old
   pub found : (other : ℕ) → job_at new other ≡ cond (is_at (nat_cmp number) other) None (job_at old other)
 
--- no mark of this record is at `from` or after it
-abbrev pub HasNoneFrom : List Mark → ℕ → ℕ → Type 0
-HasNoneFrom marks place from = (number : ℕ) → from ≤ number → has_mark marks place number ≡ false
+-- no key of this record is at `from` or after it
+abbrev pub HasNoneFrom : List Key → ℕ → ℕ → Type 0
+HasNoneFrom keys place from = (number : ℕ) → from ≤ number → has_key keys place number ≡ false
 
--- the first mark of this record at `from` or after it
-pub record IsNextOn (marks : List Mark) (place from number : ℕ) : Type 0 where
+-- the first key of this record at `from` or after it
+pub record IsNextOn (keys : List Key) (place from number : ℕ) : Type 0 where
   pub after : from ≤ number
-  pub here : has_mark marks place number ≡ true
-  pub none : (other : ℕ) → from ≤ other → other < number → has_mark marks place other ≡ false
+  pub here : has_key keys place number ≡ true
+  pub none : (other : ℕ) → from ≤ other → other < number → has_key keys place other ≡ false
 
 -- a job is one of those that are to go, if it is of the record
 abbrev pub is_among : Which → HostJob → Bool
