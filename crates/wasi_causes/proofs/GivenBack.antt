@@ -1,6 +1,6 @@
 -- What is left of a record that is given back, by what was known of it, and what of the others is as it was.
 use Rattle.std.proofs.Common.{[], suc, zero, slice_set}
-use Rattle.wasi_causes.proofs.Words.{Bool, Handles, Kind, List, Machine, None, OpId, Option, Some, Tcp2, Tcp2Socket, ap, false, if◌then◌else◌, inl, inr, is_some, kind_at, refl, slice_get, sym, true, ℕ, ◌∙◌, ◌≡◌, ◌∷◌}
+use Rattle.wasi_causes.proofs.Words.{Bool, HandleTable, Kind, List, Machine, None, OpId, Option, Some, Tcp2, Tcp2Socket, ap, false, if◌then◌else◌, inl, inr, is_some, kind_at, refl, slice_get, sym, true, ℕ, ◌∙◌, ◌≡◌, ◌∷◌}
 use Rattle.wasi_causes.specs.GivenUp.{giving_back}
 use Rattle.wasi_walks.specs.Licence.{Has}
 use Rattle.wasi_jobs.specs.declared.job.HostJob.{HostJob}
@@ -45,7 +45,7 @@ pub open_stays : (h : Here) (place : ℕ) → IsLeft h place → (k : ℕ) (o : 
 open_stays h place left k o e = stays_there udp2_of h.machine.store.records place k (Udp2Socket.Open o) (λ same. let c = left_udp h place left (Udp2Socket.Open o) (ap (udp2_at h.machine.store.records) (sym same) ∙ e) in let never = c.1 in absurd (cc)) e
 
 -- == what is live is of other records
-module _ (t : Handles) (records : List Record) (place : ℕ) (none : NoneOf t place) (owned : Owned t records) where
+module _ (t : HandleTable) (records : List Record) (place : ℕ) (none : NoneOf t place) (owned : Owned t records) where
   -- by a reading of handles which says what they name
   pub another : (of : Option Kind → Option ℕ) → of None ≡ None → ((kind : Kind) (k : ℕ) → of (Some kind) ≡ Some k → named_by kind ≡ Some k) → (handle k : ℕ) → of (kind_at t handle) ≡ Some k → k ≡ place → ⊥
   another of nothing names handle k e same = by_kind (kind_at t handle) refl e

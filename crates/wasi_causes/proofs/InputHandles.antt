@@ -1,6 +1,6 @@
 -- Of the machines that runs lead to: each live input or output of a connection is under the one handle of its socket, and the streams
 -- of its record are there, since a socket is dropped only where nothing is live under its handle.
-use Rattle.wasi_causes.proofs.Words.{Allows, End, Entry, Err, ErrorCode, Handles, Input, Item, Kind, List, Machine, None, Ok, OpId, Operation, Option, Output, Result, Socket, Some, Step, Tcp2, Tcp2Socket, WasiSocketsCtx}
+use Rattle.wasi_causes.proofs.Words.{Allows, End, Entry, Err, ErrorCode, HandleTable, Input, Item, Kind, List, Machine, None, Ok, OpId, Operation, Option, Output, Result, Socket, Some, Step, Tcp2, Tcp2Socket, WasiSocketsCtx}
 use Rattle.wasi_causes.proofs.Words.{[], allows_if, allows_then, ap, bind, created_asks, first_state, gives_more, give_up_asks, inl, inr, is_full, kind_at, length, machine_asks, make_asks, new_asks, new_record, own_of, poll_asks, refl, set_get, side_at, side_of, streams_in, subst, sym, table_parent, told_done, true, turn_asks, with_handle, with_listening, with_record, with_writer, without_handle}
 use Rattle.wasi_causes.proofs.Words.{Done, IsSome, Refused, Waits, ℕ, ⊤, ◌∷◌, ◌∙◌, ◌≡◌, ◌⊎◌}
 use Rattle.wasi_table.specs.Table.{Live}
@@ -39,7 +39,7 @@ abbrev pub StreamOf : Kind → ℕ → Type 0
 StreamOf kind place = (kind ≡ Input place) ⊎ (kind ≡ Output place)
 
 -- A record's socket has one handle, and its streams are under that; a stream's record has them, and a socket's is there.
-pub record InputsThere (t : Handles) (records : List Record) : Type 0 where
+pub record InputsThere (t : HandleTable) (records : List Record) : Type 0 where
   pub one : (a b : Live Kind) (place : ℕ) → Has t.live a → Has t.live b → a.value ≡ Tcp2 place → b.value ≡ Tcp2 place → a.handle ≡ b.handle
   pub under : (a b : Live Kind) (place : ℕ) → Has t.live a → Has t.live b → StreamOf a.value place → b.value ≡ Tcp2 place → a.parent ≡ Some b.handle
   pub streams : (a : Live Kind) (place : ℕ) → Has t.live a → StreamOf a.value place → HasStreams records place
@@ -49,17 +49,17 @@ abbrev pub HasInputs : Machine → Type 0
 HasInputs m = InputsThere m.table m.store.records
 
 -- no socket of the record is live, or but for this handle; no stream of it is
-abbrev NoSocket : Handles → ℕ → Type 0
+abbrev NoSocket : HandleTable → ℕ → Type 0
 NoSocket t place = (a : Live Kind) → Has t.live a → a.value ≡ Tcp2 place → ⊥
 
-abbrev OneSocket : Handles → ℕ → ℕ → Type 0
+abbrev OneSocket : HandleTable → ℕ → ℕ → Type 0
 OneSocket t handle place = (a : Live Kind) → Has t.live a → a.value ≡ Tcp2 place → a.handle ≡ handle
 
-abbrev NoStream : Handles → ℕ → Type 0
+abbrev NoStream : HandleTable → ℕ → Type 0
 NoStream t place = (a : Live Kind) → Has t.live a → StreamOf a.value place → ⊥
 
 -- what an accept has made so far is new, and of a socket that is dropped nothing is live
-abbrev MadeSo : Handles → List Record → Made → Type 0
+abbrev MadeSo : HandleTable → List Record → Made → Type 0
 MadeSo t records (Joined place) = NoSocket t place × NoStream t place × HasStreams records place
 MadeSo t records (Marked handle place) = OneSocket t handle place × HasStreams records place
 MadeSo t records (Emptied (Tcp2 place)) = NoSocket t place × NoStream t place
@@ -100,10 +100,10 @@ stays_put xs i r now g keeps = record {
   sockets = λ k there. there_put xs i now k there;
 }
 
-inputs_stay : (t : Handles) (old now : List Record) → Stays old now → InputsThere t old → InputsThere t now
+inputs_stay : (t : HandleTable) (old now : List Record) → Stays old now → InputsThere t old → InputsThere t now
 inputs_stay t old now s i = record { one = i.one; under = i.under; streams = λ a place l e. s.streams place (i.streams a place l e); sockets = λ a place l e. s.sockets place (i.sockets a place l e) }
 
-made_stays : (t : Handles) (old now : List Record) → Stays old now → (made : Made) → MadeSo t old made → MadeSo t now made
+made_stays : (t : HandleTable) (old now : List Record) → Stays old now → (made : Made) → MadeSo t old made → MadeSo t now made
 made_stays t old now s (Joined place) k = (k.0, k.1, s.streams place k.2)
 made_stays t old now s (Marked handle place) k = (k.0, s.streams place k.1)
 made_stays t old now s (Emptied (Tcp2 place)) k = k
@@ -177,10 +177,10 @@ given_back_inputs h place left i = (
 
 -- == a handle is made
 -- what the new handle has to be: the first of its record's socket, or a stream under that
-abbrev NewStream : Handles → List Record → ℕ → Option ℕ → Type 0
+abbrev NewStream : HandleTable → List Record → ℕ → Option ℕ → Type 0
 NewStream t records place parent = ((b : Live Kind) → Has t.live b → b.value ≡ Tcp2 place → parent ≡ Some b.handle) × HasStreams records place
 
-abbrev IsNew : Handles → List Record → Kind → Option ℕ → Type 0
+abbrev IsNew : HandleTable → List Record → Kind → Option ℕ → Type 0
 IsNew t records (Tcp2 place) parent = NoSocket t place × NoStream t place × IsThere records place
 IsNew t records (Input place) parent = NewStream t records place parent
 IsNew t records (Output place) parent = NewStream t records place parent
@@ -193,14 +193,14 @@ IsOther (Input place) = ⊥
 IsOther (Output place) = ⊥
 IsOther _ = ⊤
 
-other_fits : (t : Handles) (records : List Record) (kind : Kind) (parent : Option ℕ) → IsOther kind → IsNew t records kind parent
+other_fits : (t : HandleTable) (records : List Record) (kind : Kind) (parent : Option ℕ) → IsOther kind → IsNew t records kind parent
 other_fits t records (Tcp2 place) parent other = absurd other
 other_fits t records (Input place) parent other = absurd other
 other_fits t records (Output place) parent other = absurd other
 other_fits t records _ parent other = tt
 
-module _ (t : Handles) (records : List Record) (kind : Kind) (parent : Option ℕ) where
-  abbrev after : Handles
+module _ (t : HandleTable) (records : List Record) (kind : Kind) (parent : Option ℕ) where
+  abbrev after : HandleTable
   after = with_handle t kind parent
 
   abbrev new : Live Kind
@@ -286,7 +286,7 @@ module _ (es : List Entry) (h : Here) (op : OpId) (kind : Kind) (parent : Option
   mark_other other i = mark_inputs (other_fits h.machine.table h.machine.store.records kind (table_parent kind parent) other) (still_made h.machine.table h.machine.store.records kind parent h.made other) i
 
 -- == a handle is taken out
-module _ (t : Handles) (records : List Record) (handle : ℕ) where
+module _ (t : HandleTable) (records : List Record) (handle : ℕ) where
   taken_there : InputsThere t records → InputsThere (without_handle t handle) records
   taken_there i = record {
     one = λ a b place l k d e. i.one a b place (has_without t.live handle a l) (has_without t.live handle b k) d e;
@@ -302,7 +302,7 @@ module _ (t : Handles) (records : List Record) (handle : ℕ) where
   taken_made _ k = tt
 
 -- what is taken out has no child, so where it is a socket nothing of its record is left
-emptied_so : (t : Handles) (records : List Record) (handle : ℕ) (kind : Kind) → kind_at t handle ≡ Some kind → has_no_child t handle ≡ true → InputsThere t records → MadeSo (without_handle t handle) records (Emptied kind)
+emptied_so : (t : HandleTable) (records : List Record) (handle : ℕ) (kind : Kind) → kind_at t handle ≡ Some kind → has_no_child t handle ≡ true → InputsThere t records → MadeSo (without_handle t handle) records (Emptied kind)
 emptied_so t records handle (Tcp2 place) e none i =
     let s = slot_of t.live handle (Tcp2 place) e in (
       λ a l is. is_another t.live handle a l (i.one a s.slot place (has_without t.live handle a l) s.live_one is s.value ∙ s.its),
@@ -316,7 +316,7 @@ past_end [] (r, e) = absurd (cc)
 past_end (x ∷ xs) there = past_end xs there
 
 -- nothing is live of a record that isn't there
-none_at_end : (t : Handles) (records : List Record) → InputsThere t records → NoSocket t (length records) × NoStream t (length records)
+none_at_end : (t : HandleTable) (records : List Record) → InputsThere t records → NoSocket t (length records) × NoStream t (length records)
 none_at_end t records i = (
   λ a l e. past_end records (i.sockets a (length records) l e),
   λ a l e. let f = found_by (tcp2_at records (length records)) (i.streams a (length records) l e) in past_end records (f.0, f.1),

@@ -25,13 +25,12 @@ use Rattle.wasi_walks.proofs.walks.Moves.{GoesOn, Held, Here, Move, SameSockets,
 use Rattle.wasi_walks.proofs.walks.Runs.{run_ends}
 use Rattle.wasi_walks.proofs.walks.Steps.{machine_walks}
 use Rattle.wasi_causes.proofs.Steady.{runs_stay}
-use Rattle.wasi_causes.specs.NamedRecords.{IsGivenBack, call_names, job_names, record_named}
+use Rattle.wasi_causes.specs.NamedRecords.{IsGivenBack, call_names, record_named}
 use Rattle.wasi_causes.proofs.GivenBack.{no_job}
 use Rattle.wasi_causes.proofs.Words.{Bool, false, if◌then◌else◌, inl, inr, ◌⊎◌}
 use Rattle.std.proofs.lemmas.Bool.{eq-eqb}
 use Rattle.wasi_host.specs.GivingBack.{is_on, other_jobs, record_gone}
 use Rattle.wasi_jobs.specs.declared.job.HostJob.{HostJob}
-use Rattle.wasi_jobs.specs.declared.job.HostJob.TheVariants as job
 use Rattle.wasi_walks.specs.Licence.{Has}
 use Rattle.wasi_walks.proofs.walks.Moves.{IsRecord, KeepsJobs, job_place}
 
@@ -282,12 +281,6 @@ same_name (Pollable (Watched.Outgoing place)) = refl
 same_name (Pollable (Watched.Lookup place)) = refl
 same_name (Pollable Watched.Plain) = refl
 
-same_job : (job : HostJob) → job_place job ≡ job_names job
-same_job (job.Write place) = refl
-same_job (job.Datagram place) = refl
-same_job (job.Receive place) = refl
-same_job (job.Lookup place) = refl
-
 module _ (contexts : List WasiSocketsCtx) (steps : List Step) (es : List Entry) (replies : List Reply) (m : Machine) (w : Left (run contexts [] first_state 1 steps) es (Give (replies, m))) where
   pub handles_name : (handle place : ℕ) (kind : Kind) → kind_at m.table handle ≡ Some kind → record_named kind ≡ Some place → IsGivenBack m place → ⊥
   handles_name handle place kind e named gone =
@@ -299,5 +292,5 @@ module _ (contexts : List WasiSocketsCtx) (steps : List Step) (es : List Entry) 
   pub calls_name : (s : Standing) (place : ℕ) → m.store.standing ≡ Some s → call_names s.call ≡ Some place → IsGivenBack m place → ⊥
   calls_name s place e named gone = let its : CallIn m.store.records s.call = subst (StandsIn m.store.records) e all_in.0 in subst IsRecord gone (its place named)
 
-  pub jobs_name : (job : HostJob) → Has m.store.jobs job → IsGivenBack m (job_names job) → ⊥
-  jobs_name job l gone = subst IsRecord gone (subst (λ (place : ℕ). IsRecord (slice_get m.store.records place)) (same_job job) (all_in.1 job l))
+  pub jobs_name : (job : HostJob) → Has m.store.jobs job → IsGivenBack m (job_place job) → ⊥
+  jobs_name job l gone = subst IsRecord gone (all_in.1 job l)

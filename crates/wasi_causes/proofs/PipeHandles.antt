@@ -1,5 +1,5 @@
 -- Of the machines that runs lead to: each live handle of a pipe's end is of a pipe that is there.
-use Rattle.wasi_causes.proofs.Words.{Allows, End, Entry, Err, ErrorCode, Handles, Input, Item, Kind, List, Machine, None, Ok, OpId, Operation, Option, Output, Result, Socket, Some, Step, Tcp2, Tcp2Socket, WasiSocketsCtx}
+use Rattle.wasi_causes.proofs.Words.{Allows, End, Entry, Err, ErrorCode, HandleTable, Input, Item, Kind, List, Machine, None, Ok, OpId, Operation, Option, Output, Result, Socket, Some, Step, Tcp2, Tcp2Socket, WasiSocketsCtx}
 use Rattle.wasi_causes.proofs.Words.{[], allows_then, ap, bind, created_asks, first_state, give_up_asks, inl, inr, is_some, kind_at, length, machine_asks, make_asks, new_asks, new_record, own_of, poll_asks, refl, side_at, side_of, slice_get, subst, sym, told_done, true, turn_asks, with_handle, with_listening, with_record, with_writer, without_handle, is_full, allows_if}
 use Rattle.wasi_causes.proofs.Words.{ℕ, ⊤, ◌++◌, ◌∷◌, ◌∙◌, ◌≡◌, ◌⊎◌}
 use Rattle.wasi_udp.specs.Create.{Create, after_create as udp_after_create, create_cancel_asks}
@@ -46,7 +46,7 @@ InThere records place = is_some (input_pipe_at records place) ≡ true
 abbrev OutThere : List Record → ℕ → Type 0
 OutThere records place = is_some (output_pipe_at records place) ≡ true
 
-pub record PipesThere (t : Handles) (records : List Record) : Type 0 where
+pub record PipesThere (t : HandleTable) (records : List Record) : Type 0 where
   pub inputs : (handle place : ℕ) → pipe_in_of (kind_at t handle) ≡ Some place → InThere records place
   pub outputs : (handle place : ℕ) → pipe_out_of (kind_at t handle) ≡ Some place → OutThere records place
 
@@ -55,7 +55,7 @@ abbrev pub HasPipes : Machine → Type 0
 HasPipes m = Owned m.table m.store.records × PipesThere m.table m.store.records
 
 -- == a record changes, one joins
-module _ (t : Handles) (records : List Record) where
+module _ (t : HandleTable) (records : List Record) where
   put_there : (i : ℕ) (r : Tcp2Socket) → tcp2_at records i ≡ Some r → (now : Tcp2Socket) → PipesThere t records → PipesThere t (tcp2_put records i now)
   put_there i r g now p = record {
     inputs = λ handle k e. input_stays records i (Record.Tcp2 now) k (λ is. absurd (tcp_no_input (slice_get records i) r g is)) (p.inputs handle k e);

@@ -1,6 +1,6 @@
 -- Of the machines that runs lead to: each live pollable is under a live handle of what it watches, since that handle isn't dropped
 -- before.
-use Rattle.wasi_causes.proofs.Words.{Allows, End, Entry, Item, Operation, Err, ErrorCode, ErrorValue, Handles, Input, Kind, List, Machine, None, Ok, OpId, Option, Output, Pollable, Result, Socket, Some, Step, Tcp2, WasiSocketsCtx, Watched}
+use Rattle.wasi_causes.proofs.Words.{Allows, End, Entry, Item, Operation, Err, ErrorCode, ErrorValue, HandleTable, Input, Kind, List, Machine, None, Ok, OpId, Option, Output, Pollable, Result, Socket, Some, Step, Tcp2, WasiSocketsCtx, Watched}
 use Rattle.wasi_causes.proofs.Words.{allows_if, allows_then, ap, bind, created_asks, first_state, inl, inr, is_full, kind_at, length, machine_asks, make_asks, new_asks, own_of, poll_asks, refl, side_at, side_of, subst, sym, table_parent, told_done, true, turn_asks, give_up_asks, with_handle, without_handle, ℕ, ⊤, ◌∙◌, ◌≡◌, ◌⊎◌}
 use Rattle.wasi_table.specs.Table.{Live}
 use Rattle.wasi_udp.specs.Create.{Create, after_create as udp_after_create, create_cancel_asks}
@@ -20,21 +20,21 @@ use Rattle.wasi_causes.proofs.Slots.{has_still, has_without, new_slot, no_child,
 use Rattle.wasi_causes.proofs.Steady.{IsPlain, makes_plain}
 
 -- Of a pollable that watches this: its parent is a live handle of it.
-pub record Above (t : Handles) (parent : Option ℕ) (w : Watched) : Type 0 where
+pub record Above (t : HandleTable) (parent : Option ℕ) (w : Watched) : Type 0 where
   pub slot : Live Kind
   pub live_one : Has t.live slot
   pub its : parent ≡ Some slot.handle
   pub watched : watched_by (Some slot.value) ≡ Some w
 
-abbrev pub HasParents : Handles → Type 0
+abbrev pub HasParents : HandleTable → Type 0
 HasParents t = (a : Live Kind) (w : Watched) → Has t.live a → a.value ≡ Pollable w → Above t a.parent w
 
 -- what a pollable is made under
-abbrev IsUnder : Handles → Kind → Option ℕ → Type 0
+abbrev IsUnder : HandleTable → Kind → Option ℕ → Type 0
 IsUnder t (Pollable w) parent = Above t parent w
 IsUnder t _ parent = ⊤
 
-made_parents : (t : Handles) (kind : Kind) (parent : Option ℕ) → IsUnder t kind parent → HasParents t → HasParents (with_handle t kind parent)
+made_parents : (t : HandleTable) (kind : Kind) (parent : Option ℕ) → IsUnder t kind parent → HasParents t → HasParents (with_handle t kind parent)
 made_parents t kind parent under i a w l e = elim (one_of t kind parent a l) [ inl old ↦ still (i a w old e) | inr n ↦ new n ]
   where
     still : Above t a.parent w → Above (with_handle t kind parent) a.parent w
@@ -47,7 +47,7 @@ made_parents t kind parent under i a w l e = elim (one_of t kind parent a l) [ i
         let k : Above t parent w = subst (λ (k : Kind). IsUnder t k parent) its under in
         still (record { slot = k.slot; live_one = k.live_one; its = above ∙ k.its; watched = k.watched })
 
-taken_parents : (t : Handles) (handle : ℕ) → has_no_child t handle ≡ true → HasParents t → HasParents (without_handle t handle)
+taken_parents : (t : HandleTable) (handle : ℕ) → has_no_child t handle ≡ true → HasParents t → HasParents (without_handle t handle)
 taken_parents t handle none i a w l e =
     let was = has_without t.live handle a l in
     let k = i a w was e in
@@ -59,22 +59,22 @@ taken_parents t handle none i a w l e =
     }
 
 -- a handle of what is watched is a parent
-pub parent_of : (t : Handles) (handle : ℕ) (w : Watched) → watched_by (kind_at t handle) ≡ Some w → Above t (Some handle) w
+pub parent_of : (t : HandleTable) (handle : ℕ) (w : Watched) → watched_by (kind_at t handle) ≡ Some w → Above t (Some handle) w
 parent_of t handle w by = by_kind (kind_at t handle) refl by
   where
     by_kind : (o : Option Kind) → kind_at t handle ≡ o → watched_by o ≡ Some w → Above t (Some handle) w
     by_kind None e is = absurd (cc)
     by_kind (Some kind) e is = let s = slot_of t.live handle kind e in record { slot = s.slot; live_one = s.live_one; its = ap (λ (x : ℕ). Some x) (sym s.its); watched = ap (λ (k : Kind). watched_by (Some k)) s.value ∙ is }
 
-plain_under : (t : Handles) (kind : Kind) (parent : Option ℕ) → IsPlain kind → IsUnder t kind parent
+plain_under : (t : HandleTable) (kind : Kind) (parent : Option ℕ) → IsPlain kind → IsUnder t kind parent
 plain_under t (Pollable w) parent plain = absurd plain
 plain_under t _ parent plain = tt
 
-is_one : (t : Handles) (kind a b : Kind) (parent : Option ℕ) → (kind ≡ a) ⊎ (kind ≡ b) → IsUnder t a parent → IsUnder t b parent → IsUnder t kind parent
+is_one : (t : HandleTable) (kind a b : Kind) (parent : Option ℕ) → (kind ≡ a) ⊎ (kind ≡ b) → IsUnder t a parent → IsUnder t b parent → IsUnder t kind parent
 is_one t kind a b parent (inl e) x y = subst (λ (k : Kind). IsUnder t k parent) (sym e) x
 is_one t kind a b parent (inr e) x y = subst (λ (k : Kind). IsUnder t k parent) (sym e) y
 
-marks_parents : (es : List Entry) (t : Handles) (op : OpId) (kind : Kind) (parent : Option ℕ) (sock : Option OpId) → IsUnder t kind parent → HasParents t → Allows Anything (λ fs made. HasParents made.1) es (make_asks t op kind parent sock)
+marks_parents : (es : List Entry) (t : HandleTable) (op : OpId) (kind : Kind) (parent : Option ℕ) (sock : Option OpId) → IsUnder t kind parent → HasParents t → Allows Anything (λ fs made. HasParents made.1) es (make_asks t op kind parent sock)
 unfolding bind
 marks_parents es t op kind parent sock under i = allows_if Anything (λ fs made. HasParents made.1) es (is_full t) _ _ (λ full. i) (λ room. (tt, λ told fits. made_parents t kind parent under i))
 
@@ -149,5 +149,5 @@ pub first_parents : HasParents first_state.table
 first_parents a w l e = absurd l
 
 -- a live pollable is under what it watches
-pub watches_live : (t : Handles) (handle : ℕ) (w : Watched) → HasParents t → kind_at t handle ≡ Some (Pollable w) → (parent : Option ℕ) × Above t parent w
+pub watches_live : (t : HandleTable) (handle : ℕ) (w : Watched) → HasParents t → kind_at t handle ≡ Some (Pollable w) → (parent : Option ℕ) × Above t parent w
 watches_live t handle w i e = let s = slot_of t.live handle (Pollable w) e in (s.slot.parent, i s.slot w s.live_one s.value)

@@ -8,7 +8,7 @@ use Rattle.wasi_host.specs.UdpCreates.{with_create}
 use Rattle.wasi_udp.specs.Create.{Create, after_create as udp_after_create, create_cancel_asks}
 use Rattle.wasi_walks.proofs.UdpLists.{udp_set_get, udp_front, udp_in_put, udp_in_push, tcp_of_put, tcp_of_push, tcp_in_put, tcp_in_push}
 use Rattle.wasi_walks.proofs.walks.Moves.{put_udp, FoundUdp, udp_begun, udp_record_of, tcp_place, UdpChanges, BeginsUdpBind, StandsUdpBind, StandsUdpCreate, UdpCreates, UdpBindsOn, AUdpPollable}
-use Rattle.wasi_causes.proofs.Words.{Handles}
+use Rattle.wasi_causes.proofs.Words.{HandleTable}
 use Rattle.wasi_host.specs.declared.records.Record.{Record}
 use Rattle.wasi_causes.proofs.Words.{Accepting, Allows, Bool, Done, End, Entry, Err}
 use Rattle.wasi_causes.proofs.Words.{ErrorCode, Give, Input}
@@ -178,7 +178,7 @@ stand_steady : (m : Machine) (o : Option Standing) → Steady m → Steady (reco
 stand_steady m o i = record { records = i.records; handles = i.handles; udps = i.udps; lookups = i.lookups }
 
 -- the records that handles are of, by one reading of them
-module _ (of : Option Kind → Option ℕ) (none : of None ≡ None) (There : ℕ → Type 0) (t : Handles) (live : (handle place : ℕ) → of (kind_at t handle) ≡ Some place → There place) where
+module _ (of : Option Kind → Option ℕ) (none : of None ≡ None) (There : ℕ → Type 0) (t : HandleTable) (live : (handle place : ℕ) → of (kind_at t handle) ≡ Some place → There place) where
   pub where_made : (kind : Kind) (parent : Option ℕ) → ((place : ℕ) → of (Some kind) ≡ Some place → There place) → (handle place : ℕ) → of (kind_at (with_handle t kind parent) handle) ≡ Some place → There place
   where_made kind parent new handle place e = by_kind (kind_at (with_handle t kind parent) handle) refl e
     where

@@ -1,6 +1,6 @@
 -- Of the machines that runs lead to: a live incoming datagram stream has its stream in the record of an open UDP socket, no other
 -- handle of that record is one, and a socket whose connect is in progress has no streams.
-use Rattle.wasi_causes.proofs.Words.{Allows, End, Entry, Err, ErrorCode, ErrorValue, Give, Handles, Input, Item, Kind, Left, List, Machine, None, Ok, OpId, Operation, Option, Output, Reply, Result, Socket, Some, StandingCall, Step, Stop, Tcp2, Tcp2Socket, WasiSocketsCtx, []}
+use Rattle.wasi_causes.proofs.Words.{Allows, End, Entry, Err, ErrorCode, ErrorValue, Give, HandleTable, Input, Item, Kind, Left, List, Machine, None, Ok, OpId, Operation, Option, Output, Reply, Result, Socket, Some, StandingCall, Step, Stop, Tcp2, Tcp2Socket, WasiSocketsCtx, []}
 use Rattle.wasi_causes.proofs.Words.{allows_then, created_asks, first_state, gives_more, give_up_asks, inl, inr, is_some, kind_at, length, machine_asks, make_asks, new_asks, new_record, own_of, poll_asks, refl, run, side_at, side_of, standing_as, subst, sym, told_done, false, turn_asks, with_listening, with_writer, ℕ, ◌≡◌, ◌⊎◌}
 use Rattle.std.specs.Prelude.{◌||◌}
 use Rattle.wasi_table.specs.Table.{Live}
@@ -38,7 +38,7 @@ use Rattle.wasi_causes.proofs.StreamsLive.{Both, HasIncoming, IsOther, CallSo, M
 
 -- == what is live
 -- A live incoming stream is there, and is one of its own; a socket whose connect is in progress has no streams.
-pub record StreamsApart (t : Handles) (records : List Record) : Type 0 where
+pub record StreamsApart (t : HandleTable) (records : List Record) : Type 0 where
   pub there : (a : Live Kind) (place : ℕ) → Has t.live a → a.value ≡ Incoming place → HasIncoming records place
   pub single : (a b : Live Kind) (place : ℕ) → Has t.live a → Has t.live b → a.value ≡ Incoming place → b.value ≡ Incoming place → a.handle ≡ b.handle
   pub quiet : (place : ℕ) (o : OpenUdp) (op : Operation) → udp2_at records place ≡ Some (Udp2Socket.Open o) → o.connecting ≡ Some op → (o.incoming ≡ None) × (o.outgoing ≡ None)
@@ -60,7 +60,7 @@ no_streams o e = by_streams o.incoming o.outgoing e
 
 -- == of the moves
 -- what goes on in a TCP record is no connect of this kind
-goes_so : (t : Handles) (call : StandingCall) (r : Tcp2Socket) → GoesOn call r → CallSo t call
+goes_so : (t : HandleTable) (call : StandingCall) (r : Tcp2Socket) → GoesOn call r → CallSo t call
 goes_so t (StandingCall.UdpConnect place handle) r k = absurd k
 goes_so t _ r k = tt
 
@@ -133,7 +133,7 @@ module _ (contexts : List WasiSocketsCtx) (line : ℕ) (origin : Step) where
       allows_then Anything (λ fs made. Both (record next { machine = record next.machine { table = made.1 } })) (λ fs done. Both (record h { machine = done.1; own = Own.Used })) es (make_asks h.machine.table (own_of line) (Tcp2 (length h.machine.store.records)) None (side_of socket)) _
       (mark_other es next (own_of line) (Tcp2 (length h.machine.store.records)) None (side_of socket) tt (push_tcp h.machine.table h.machine.store.records (new_record socket) h.made h.machine.store.standing i.0, i.1)) (λ fs made k. k)
 
-  accepted_so : (t : Handles) (place : ℕ) (made : Result ℕ Stop) → MadeSo t (made_so place made)
+  accepted_so : (t : HandleTable) (place : ℕ) (made : Result ℕ Stop) → MadeSo t (made_so place made)
   accepted_so t place (Ok handle) = tt
   accepted_so t place (Err why) = tt
 

@@ -1,7 +1,7 @@
 -- The handles of incoming datagram streams: what is live has its stream in the record of an open UDP socket, and no other handle of
 -- that record is one. While a line makes the streams of a socket, or a pending call is to, none of them has its handle. It is kept where
 -- records change, and where handles are made and taken out.
-use Rattle.wasi_causes.proofs.Words.{Allows, End, Entry, Err, ErrorCode, Full, Handles, Item, Kind, List, None, Ok, OpId, Operation, Option, Result, Some, Standing, StandingCall, Stop, Tcp2Socket, Trap}
+use Rattle.wasi_causes.proofs.Words.{Allows, End, Entry, Err, ErrorCode, Full, HandleTable, Item, Kind, List, None, Ok, OpId, Operation, Option, Result, Some, Standing, StandingCall, Stop, Tcp2Socket, Trap}
 use Rattle.wasi_causes.proofs.Words.{allows_if, ap, bind, inl, inr, is_full, is_some, kind_at, make_asks, own_of, refl, subst, sym, true, false, with_handle, without_handle, ℕ, ⊤, ◌∙◌, ◌≡◌, ◌⊎◌}
 use Rattle.wasi_table.specs.Table.{Live}
 use Rattle.wasi_udp.specs.Create.{Create}
@@ -31,30 +31,30 @@ pub record HasIncoming (records : List Record) (place : ℕ) : Type 0 where
   pub has : socket.incoming ≡ Some stream
 
 -- A live incoming stream is there, and is one of its own.
-pub record StreamsLive (t : Handles) (records : List Record) : Type 0 where
+pub record StreamsLive (t : HandleTable) (records : List Record) : Type 0 where
   pub there : (a : Live Kind) (place : ℕ) → Has t.live a → a.value ≡ Incoming place → HasIncoming records place
   pub single : (a b : Live Kind) (place : ℕ) → Has t.live a → Has t.live b → a.value ≡ Incoming place → b.value ≡ Incoming place → a.handle ≡ b.handle
 
 -- no incoming stream of the record is live
-abbrev pub NoIncoming : Handles → ℕ → Type 0
+abbrev pub NoIncoming : HandleTable → ℕ → Type 0
 NoIncoming t place = (a : Live Kind) → Has t.live a → a.value ≡ Incoming place → ⊥
 
 -- streams that are made have no handle yet, and one that is dropped has none any more
-abbrev pub MadeSo : Handles → Made → Type 0
+abbrev pub MadeSo : HandleTable → Made → Type 0
 MadeSo t (Made.ToStream n handle place) = NoIncoming t place
 MadeSo t (Made.Emptied (Incoming place)) = NoIncoming t place
 MadeSo t _ = ⊤
 
-abbrev pub CallSo : Handles → StandingCall → Type 0
+abbrev pub CallSo : HandleTable → StandingCall → Type 0
 CallSo t (StandingCall.UdpConnect place handle) = NoIncoming t place
 CallSo t _ = ⊤
 
-abbrev pub StandsSo : Handles → Option Standing → Type 0
+abbrev pub StandsSo : HandleTable → Option Standing → Type 0
 StandsSo t None = ⊤
 StandsSo t (Some s) = CallSo t s.call
 
 -- All of this.
-pub record Streams (t : Handles) (records : List Record) (made : Made) (standing : Option Standing) : Type 0 where
+pub record Streams (t : HandleTable) (records : List Record) (made : Made) (standing : Option Standing) : Type 0 where
   pub apart : StreamsLive t records
   pub makes : MadeSo t made
   pub stands : StandsSo t standing
@@ -71,24 +71,24 @@ pub some_is : {A : Type 0} (o : Option A) → is_some o ≡ true → (x : A) × 
 some_is None e = absurd (cc)
 some_is (Some x) e = (x, refl)
 
-abbrev pub Stays : Handles → List Record → List Record → Type 0
+abbrev pub Stays : HandleTable → List Record → List Record → Type 0
 Stays t old now = (a : Live Kind) (place : ℕ) → Has t.live a → a.value ≡ Incoming place → HasIncoming old place → HasIncoming now place
 
-pub stay : (t : Handles) (old now : List Record) (made : Made) (standing : Option Standing) → Stays t old now → Streams t old made standing → Streams t now made standing
+pub stay : (t : HandleTable) (old now : List Record) (made : Made) (standing : Option Standing) → Stays t old now → Streams t old made standing → Streams t now made standing
 stay t old now made standing still i = record { apart = record { there = λ a k l e. still a k l e (i.apart.there a k l e); single = i.apart.single }; makes = i.makes; stands = i.stands }
 
 -- with something else made
-pub remade : (t : Handles) (records : List Record) (was made : Made) (standing : Option Standing) → MadeSo t made → Streams t records was standing → Streams t records made standing
+pub remade : (t : HandleTable) (records : List Record) (was made : Made) (standing : Option Standing) → MadeSo t made → Streams t records was standing → Streams t records made standing
 remade t records was made standing so i = record { apart = i.apart; makes = so; stands = i.stands }
 
 -- and another call pending
-pub restood : (t : Handles) (records : List Record) (made : Made) (was standing : Option Standing) → StandsSo t standing → Streams t records made was → Streams t records made standing
+pub restood : (t : HandleTable) (records : List Record) (made : Made) (was standing : Option Standing) → StandsSo t standing → Streams t records made was → Streams t records made standing
 restood t records made was standing so i = record { apart = i.apart; makes = i.makes; stands = so }
 
 pub put_tcp : (h : Here) (place : ℕ) (r : Tcp2Socket) → Found h place r → (now : Tcp2Socket) → Parts h → Parts (put h place now)
 put_tcp h place r g now i = stay h.machine.table _ _ h.made h.machine.store.standing (λ a k l e has. record { socket = has.socket; at = udp_in_put h.machine.store.records place r now k _ g has.at; stream = has.stream; has = has.has }) i
 
-pub push_tcp : (t : Handles) (records : List Record) (new : Tcp2Socket) (made : Made) (standing : Option Standing) → Streams t records made standing → Streams t (tcp2_pushed records new) made standing
+pub push_tcp : (t : HandleTable) (records : List Record) (new : Tcp2Socket) (made : Made) (standing : Option Standing) → Streams t records made standing → Streams t (tcp2_pushed records new) made standing
 push_tcp t records new made standing i = stay t _ _ made standing (λ a k l e has. record { socket = has.socket; at = udp_in_push records new k _ has.at; stream = has.stream; has = has.has }) i
 
 -- where a stream of it is live, the record keeps that
@@ -148,8 +148,8 @@ abbrev pub IsOther : Kind → Type 0
 IsOther (Incoming place) = ⊥
 IsOther _ = ⊤
 
-module _ (t : Handles) (kind : Kind) (parent : Option ℕ) where
-  abbrev after : Handles
+module _ (t : HandleTable) (kind : Kind) (parent : Option ℕ) where
+  abbrev after : HandleTable
   after = with_handle t kind parent
 
   -- of another kind
@@ -181,8 +181,8 @@ module _ (t : Handles) (kind : Kind) (parent : Option ℕ) where
     }
 
 -- the first handle of a stream that is there, where no start is pending
-module _ (t : Handles) (place : ℕ) (parent : Option ℕ) (none : NoIncoming t place) where
-  abbrev more : Handles
+module _ (t : HandleTable) (place : ℕ) (parent : Option ℕ) (none : NoIncoming t place) where
+  abbrev more : HandleTable
   more = with_handle t (Incoming place) parent
 
   its_place : (a : Live Kind) (k : ℕ) → new_slot t (Incoming place) parent ≡ a → a.value ≡ Incoming k → place ≡ k
@@ -201,7 +201,7 @@ module _ (t : Handles) (place : ℕ) (parent : Option ℕ) (none : NoIncoming t 
   }
 
 module _ (es : List Entry) (h : Here) (op : OpId) (kind : Kind) (parent : Option ℕ) (sock : Option OpId) (other : IsOther kind) where
-  abbrev pub fuller : Handles
+  abbrev pub fuller : HandleTable
   fuller = with_handle h.machine.table kind parent
 
   -- with what the line has made afterwards
@@ -218,7 +218,7 @@ module _ (es : List Entry) (h : Here) (op : OpId) (kind : Kind) (parent : Option
 
 -- that of a new stream, which the handle is of
 module _ (es : List Entry) (h : Here) (n handle reached : ℕ) (sock : Option OpId) (new : HasNewStream h.machine.store reached) where
-  no_start : (t : Handles) (standing : Option Standing) → NoStartStands standing → StandsSo t standing
+  no_start : (t : HandleTable) (standing : Option Standing) → NoStartStands standing → StandsSo t standing
   no_start t None q = tt
   no_start t (Some s) q = by_call s.call q
     where
@@ -253,7 +253,7 @@ mark_next es h place n handle reached kind (inl (e, made)) new of sock i =
 mark_next es h place n handle reached kind (inr (e, made)) new of sock i = mark_so es h (own_of n) kind (Some handle) sock (subst IsOther (sym e) tt) (λ made. ToSend n handle reached) tt tt tt tt i
 
 -- == a handle is taken out
-module _ (t : Handles) (records : List Record) (handle : ℕ) where
+module _ (t : HandleTable) (records : List Record) (handle : ℕ) where
   none_left : (place : ℕ) → NoIncoming t place → NoIncoming (without_handle t handle) place
   none_left place none a l e = none a (has_without t.live handle a l) e
 

@@ -1,6 +1,6 @@
 -- Of the machines that runs lead to: each live incoming datagram stream is under the one handle of its socket, and that socket is
 -- open, since it is closed only where it is dropped, and nothing is live under its handle.
-use Rattle.wasi_causes.proofs.Words.{Allows, End, Entry, Err, ErrorCode, ErrorValue, Handles, Input, Item, Kind, List, Machine, None, Ok, OpId, Operation, Option, Output, Result, Socket, Some, Step, Stop, Tcp2, Tcp2Socket, WasiSocketsCtx}
+use Rattle.wasi_causes.proofs.Words.{Allows, End, Entry, Err, ErrorCode, ErrorValue, HandleTable, Input, Item, Kind, List, Machine, None, Ok, OpId, Operation, Option, Output, Result, Socket, Some, Step, Stop, Tcp2, Tcp2Socket, WasiSocketsCtx}
 use Rattle.wasi_causes.proofs.Words.{allows_if, allows_then, ap, bind, created_asks, first_state, gives_more, give_up_asks, inl, inr, is_full, kind_at, length, machine_asks, make_asks, new_asks, new_record, own_of, poll_asks, refl, side_at, side_of, subst, sym, table_parent, told_done, true, turn_asks, with_handle, with_listening, with_writer, without_handle, ℕ, ⊤, ◌∙◌, ◌≡◌, ◌⊎◌}
 use Rattle.wasi_table.specs.Table.{Live}
 use Rattle.wasi_tcp.specs.declared.listener.Accepting.TheVariants as accepting
@@ -37,7 +37,7 @@ abbrev pub OfUdp : Kind → ℕ → Type 0
 OfUdp kind place = (kind ≡ Udp2 place) ⊎ (kind ≡ Incoming place)
 
 -- A record's socket has one handle, and its incoming stream is under that; their record is open.
-pub record UdpThere (t : Handles) (records : List Record) : Type 0 where
+pub record UdpThere (t : HandleTable) (records : List Record) : Type 0 where
   pub one : (a b : Live Kind) (place : ℕ) → Has t.live a → Has t.live b → a.value ≡ Udp2 place → b.value ≡ Udp2 place → a.handle ≡ b.handle
   pub under : (a b : Live Kind) (place : ℕ) → Has t.live a → Has t.live b → a.value ≡ Incoming place → b.value ≡ Udp2 place → a.parent ≡ Some b.handle
   pub opens : (a : Live Kind) (place : ℕ) → Has t.live a → OfUdp a.value place → IsOpenAt records place
@@ -46,11 +46,11 @@ abbrev pub HasUdps : Machine → Type 0
 HasUdps m = UdpThere m.table m.store.records
 
 -- nothing of the record is live
-abbrev pub NoneOf : Handles → ℕ → Type 0
+abbrev pub NoneOf : HandleTable → ℕ → Type 0
 NoneOf t place = (a : Live Kind) → Has t.live a → OfUdp a.value place → ⊥
 
 -- a create that is polled has no handle yet, and a socket that is dropped has none any more
-abbrev pub MadeSo : Handles → Made → Type 0
+abbrev pub MadeSo : HandleTable → Made → Type 0
 MadeSo t (Awaited place) = NoneOf t place
 MadeSo t (Emptied (Udp2 place)) = NoneOf t place
 MadeSo t _ = ⊤
@@ -60,7 +60,7 @@ Udps h = UdpThere h.machine.table h.machine.store.records × MadeSo h.machine.ta
 
 -- == records change
 -- where what is of a live handle stays open
-udps_stay : (t : Handles) (old now : List Record) → ((a : Live Kind) (place : ℕ) → Has t.live a → OfUdp a.value place → IsOpenAt old place → IsOpenAt now place) → UdpThere t old → UdpThere t now
+udps_stay : (t : HandleTable) (old now : List Record) → ((a : Live Kind) (place : ℕ) → Has t.live a → OfUdp a.value place → IsOpenAt old place → IsOpenAt now place) → UdpThere t old → UdpThere t now
 udps_stay t old now still i = record { one = i.one; under = i.under; opens = λ a place l e. still a place l e (i.opens a place l e) }
 
 pub put_udps : (h : Here) (place : ℕ) (r : Tcp2Socket) → Found h place r → (now : Tcp2Socket) → Udps h → Udps (put h place now)
@@ -87,7 +87,7 @@ not_yet h place create g i a l e = let has = i.0.opens a place l e in absurd (le
 pub found_udps : {new : LookupOp → Type 0} (h : Here) (records : List Record) → SameSockets new h.machine.store.records records → Udps h → UdpThere h.machine.table records × MadeSo h.machine.table h.made
 found_udps h records same i = (udps_stay h.machine.table _ _ (λ a k l e has. (has.0, same.udp k ∙ has.1)) i.0, i.1)
 
-push_udps : (t : Handles) (records : List Record) (new : Tcp2Socket) → UdpThere t records → UdpThere t (tcp2_pushed records new)
+push_udps : (t : HandleTable) (records : List Record) (new : Tcp2Socket) → UdpThere t records → UdpThere t (tcp2_pushed records new)
 push_udps t records new i = udps_stay t _ _ (λ a k l e has. (has.0, udp_in_push records new k _ has.1)) i
 
 pub begun_udps : (h : Here) (made : Result Create ErrorCode) → Udps h → Udps (udp_begun h made)
@@ -96,7 +96,7 @@ begun_udps h (Err c) i = i
 
 -- == a handle is made
 -- what the new handle has to be: the first of its record, or an incoming stream under that
-abbrev IsNew : Handles → List Record → Kind → Option ℕ → Type 0
+abbrev IsNew : HandleTable → List Record → Kind → Option ℕ → Type 0
 IsNew t records (Udp2 place) parent = NoneOf t place × IsOpenAt records place
 IsNew t records (Incoming place) parent = ((b : Live Kind) → Has t.live b → b.value ≡ Udp2 place → parent ≡ Some b.handle) × IsOpenAt records place
 IsNew t records _ parent = ⊤
@@ -107,13 +107,13 @@ IsOther (Udp2 place) = ⊥
 IsOther (Incoming place) = ⊥
 IsOther _ = ⊤
 
-other_fits : (t : Handles) (records : List Record) (kind : Kind) (parent : Option ℕ) → IsOther kind → IsNew t records kind parent
+other_fits : (t : HandleTable) (records : List Record) (kind : Kind) (parent : Option ℕ) → IsOther kind → IsNew t records kind parent
 other_fits t records (Udp2 place) parent other = absurd other
 other_fits t records (Incoming place) parent other = absurd other
 other_fits t records _ parent other = tt
 
-module _ (t : Handles) (records : List Record) (kind : Kind) (parent : Option ℕ) where
-  abbrev after : Handles
+module _ (t : HandleTable) (records : List Record) (kind : Kind) (parent : Option ℕ) where
+  abbrev after : HandleTable
   after = with_handle t kind parent
 
   abbrev new : Live Kind
@@ -177,7 +177,7 @@ module _ (es : List Entry) (h : Here) (op : OpId) (kind : Kind) (parent : Option
   mark_other other i = mark_so h.made (other_fits h.machine.table h.machine.store.records kind (table_parent kind parent) other) i.1 (still_made h.machine.table h.machine.store.records kind parent h.made other i.1) i
 
 -- == a handle is taken out
-module _ (t : Handles) (records : List Record) (handle : ℕ) where
+module _ (t : HandleTable) (records : List Record) (handle : ℕ) where
   taken_there : UdpThere t records → UdpThere (without_handle t handle) records
   taken_there i = record {
     one = λ a b place l k d e. i.one a b place (has_without t.live handle a l) (has_without t.live handle b k) d e;
@@ -279,7 +279,7 @@ module _ (contexts : List WasiSocketsCtx) (line : ℕ) (origin : Step) where
       (mark_other es over op (Tcp2 (length m.store.records)) None (side_of socket) tt (push_udps m.table m.store.records (new_record socket) i, tt)) (λ fs made so. so.0)
   joins es m op (Err c) i = i
 
-  pub accepted_so : (t : Handles) (place : ℕ) (made : Result ℕ Stop) → MadeSo t (made_so place made)
+  pub accepted_so : (t : HandleTable) (place : ℕ) (made : Result ℕ Stop) → MadeSo t (made_so place made)
   accepted_so t place (Ok handle) = tt
   accepted_so t place (Err why) = tt
 

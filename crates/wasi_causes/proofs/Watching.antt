@@ -1,6 +1,6 @@
 -- In a run what a live pollable watches is there: the socket, the streams of a connection, or the UDP socket of an incoming datagram
 -- stream, since the pollable is under a live handle of it.
-use Rattle.wasi_causes.proofs.Words.{Allows, Entry, ErrorValue, Give, Handles, Input, IsSome, Kind, Left, List, Machine, Network, None, Option, Output, Pollable, Reply, Some, Step, Tcp2, WasiSocketsCtx, Watched, [], ap, first_state, gives_more, inl, inr, kind_at, machine_asks, refl, run, streams_in, subst, sym, ℕ, ◌∙◌, ◌∷◌, ◌≡◌}
+use Rattle.wasi_causes.proofs.Words.{Allows, Entry, ErrorValue, Give, HandleTable, Input, IsSome, Kind, Left, List, Machine, Network, None, Option, Output, Pollable, Reply, Some, Step, Tcp2, WasiSocketsCtx, Watched, [], ap, first_state, gives_more, inl, inr, kind_at, machine_asks, refl, run, streams_in, subst, sym, ℕ, ◌∙◌, ◌∷◌, ◌≡◌}
 use Rattle.wasi_host.specs.Kinds.{watch_of, watched_by}
 use Rattle.wasi_host.specs.Records.{open_at, open_of, tcp2_at}
 use Rattle.wasi_host.specs.declared.kind.Kind.TheVariants.{Incoming, Lookup, Outgoing, PlainInput, PlainOutput, Udp2}
@@ -79,7 +79,7 @@ module _ (m after : Machine) (table : after.table ≡ m.table) (i : HasWatched a
   still_watched handle had = by_watch (watch_of (kind_at after.table handle)) refl
     where
       by_watch : (o : Option Watched) → watch_of (kind_at after.table handle) ≡ o → MissesWatched after o → ⊥
-      by_watch None e misses = had (subst (λ (x : Option Watched). MissesWatched m x) (sym (ap (λ (t : Handles). watch_of (kind_at t handle)) (sym table) ∙ e)) tt)
+      by_watch None e misses = had (subst (λ (x : Option Watched). MissesWatched m x) (sym (ap (λ (t : HandleTable). watch_of (kind_at t handle)) (sym table) ∙ e)) tt)
       by_watch (Some w) e misses = what_is_watched after i handle (subst IsSome (sym e) refl) (subst (λ (x : Option Watched). MissesWatched after x) (sym e) misses)
 
   pub still_each : (pollables : List ℕ) → (MissesOneOf m pollables → ⊥) → MissesOneOf after pollables → ⊥

@@ -1,7 +1,7 @@
 -- The words that the proofs speak, passed on from the crates below.
 pub use Rattle.wasi_walks.proofs.Words.{Accept, Accepting, AccessDenied, Allows, AnOption, Answer, Ask, AskWrite, Asks, Bind, Bool, Call, Check}
 pub use Rattle.wasi_walks.proofs.Words.{CheckArrival, CheckLocal, Chosen, CloseLast, Connect, Connection, Done, End, Entry, Err, ErrorCode}
-pub use Rattle.wasi_walks.proofs.Words.{ErrorValue, Fits, Front, FrontKeeps, Full, Give, Given, Handles, Has, HasChildren, HoldsAccept, HoldsConnect}
+pub use Rattle.wasi_walks.proofs.Words.{ErrorValue, Fits, Front, FrontKeeps, Full, Give, Given, HandleTable, Has, HasChildren, HoldsAccept, HoldsConnect}
 pub use Rattle.wasi_walks.proofs.Words.{InProgress, Input, InvalidArgument, InvalidState, IpSocketAddress, IsAccept, IsAcceptOn, IsAddr, IsArrival}
 pub use Rattle.wasi_walks.proofs.Words.{IsConnect, IsDoneOrCode, IsLeftOfAccept, IsLeftOfBind, IsLeftOfConnect, IsLeftOfListen, IsRestOfBind}
 pub use Rattle.wasi_walks.proofs.Words.{IsVerdict, Item, Job, Kind, Last, LastAsk, Left, List, Listen, Listener, Listening, Machine, Network, None}

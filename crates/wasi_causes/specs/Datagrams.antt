@@ -13,7 +13,7 @@ use Rattle.wasi_host.specs.declared.store.StandingCall.TheVariants as standing
 use Rattle.wasi_host.specs.declared.udp.OpenUdp.{OpenUdp}
 use Rattle.wasi_host.specs.DatagramCalls.{without_receives}
 use Rattle.wasi_host.specs.Datagrams.{has_streams, permit_of, permitted, sends}
-use Rattle.wasi_host.specs.Kinds.{Handles, kind_at, watch_of, with_handle, without_handle}
+use Rattle.wasi_host.specs.Kinds.{HandleTable, kind_at, watch_of, with_handle, without_handle}
 use Rattle.wasi_host.specs.Machine.{udp_socket_at}
 use Rattle.wasi_host.specs.Receiving.{receives}
 use Rattle.wasi_host.specs.Records.{open_at}
@@ -67,14 +67,14 @@ IsSpent m handle = IsSomeAnd (outgoing_in m handle) (λ out. out.permit ≡ 0)
 
 -- == the two handles that are made
 -- the incoming stream's comes first; both are under the socket's
-abbrev pub with_incoming : Handles → ℕ → ℕ → Handles
+abbrev pub with_incoming : HandleTable → ℕ → ℕ → HandleTable
 with_incoming t place handle = with_handle t (kind.Incoming place) (Some handle)
 
-abbrev pub with_both : Handles → ℕ → ℕ → Handles
+abbrev pub with_both : HandleTable → ℕ → ℕ → HandleTable
 with_both t place handle = with_handle (with_incoming t place handle) (kind.Outgoing place) (Some handle)
 
 -- there is no room for the first of them, or none for the second
-abbrev pub LacksRoomForBoth : Handles → ℕ → ℕ → Type 0
+abbrev pub LacksRoomForBoth : HandleTable → ℕ → ℕ → Type 0
 LacksRoomForBoth t place handle = (is_full t ≡ true) ⊎ (is_full (with_incoming t place handle) ≡ true)
 
 -- what is pending is a call that makes datagram streams, and there is no room for their handles

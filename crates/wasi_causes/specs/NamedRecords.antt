@@ -1,7 +1,5 @@
 -- Which records handles, pending calls and jobs name, and which were given back.
 use Rattle.std.specs.Prelude.{◌≡◌, ℕ, Option, Some, None, slice_get}
-use Rattle.wasi_jobs.specs.declared.job.HostJob.{HostJob}
-use Rattle.wasi_jobs.specs.declared.job.HostJob.TheVariants as job
 use Rattle.wasi_host.specs.declared.kind.Kind.{Kind}
 use Rattle.wasi_host.specs.declared.kind.Kind.TheVariants.{Tcp2, Udp2, Input, Output, PlainInput, PlainOutput, Incoming, Outgoing, Pollable, Lookup}
 use Rattle.wasi_host.specs.declared.kind.PlainInput.TheVariants as plain_input
@@ -52,10 +50,3 @@ call_names (call.UdpBind place) = Some place
 call_names (call.UdpConnect place handle) = Some place
 call_names (call.DropOutgoing place) = Some place
 call_names (call.Blocking blocks) = None
-
--- and that of a job
-abbrev pub job_names : HostJob → ℕ
-job_names (job.Write place) = place
-job_names (job.Datagram place) = place
-job_names (job.Receive place) = place
-job_names (job.Lookup place) = place

@@ -51,8 +51,7 @@ pub fn resolve_refusals()
 /// A lookup that is done answers with the number of the next handle, and its context may look names up. Where the name is an
 /// address, that is what is found, and nothing was asked. Where it is a domain, the line's own operation asked for it once: the
 /// lookup is in progress, and has the last of the jobs, or has found what was told, each address in its canonical form and in
-/// their order. Where there is no room for the handle, it traps with `Full`, and its record is given back,
-/// with its job.
+/// their order. Where there is no room for the handle, it traps with `Full`, and its record is given back, with its job.
 pub fn resolves_make_a_handle()
     ensures done { (contexts : List WasiSocketsCtx) (m : Machine) (line ctx network : ℕ) (name : List ℕ) (fields : List Field) (entries : List Entry) (after : Machine)
         → Answered contexts m line (Step.Resolve ctx network name) entries (Reply.Ok fields) after

@@ -15,7 +15,8 @@ ghost use Rattle.wasi_machine.specs.Machine.{run};
 ghost use Rattle.wasi_steps.specs.declared.reply.Reply.{Reply};
 ghost use Rattle.wasi_steps.specs.declared.step.Step.{Step};
 ghost use Rattle.wasi_walks.specs.Licence.{Has};
-ghost use Rattle.wasi_causes.specs.NamedRecords.{call_names, IsGivenBack, job_names, record_named};
+ghost use Rattle.wasi_causes.specs.NamedRecords.{call_names, IsGivenBack, record_named};
+ghost use Rattle.wasi_jobs.specs.Jobs.{job_place};
 
 /// After the lines of any script, no live handle is of a record that was given back, no pending call is on one, and no job is.
 pub fn what_is_given_back_has_no_name()
@@ -24,5 +25,5 @@ pub fn what_is_given_back_has_no_name()
     ensures calls { (contexts : List WasiSocketsCtx) (steps : List Step) (log : List Entry) (replies : List Reply) (m : Machine) (place : ℕ) (s : Standing)
         → Left (run contexts [] first_state 1 steps) log (Give (replies, m)) → m.store.standing ≡ Some s → call_names s.call ≡ Some place → IsGivenBack m place → ⊥ }
     ensures jobs { (contexts : List WasiSocketsCtx) (steps : List Step) (log : List Entry) (replies : List Reply) (m : Machine) (job : HostJob)
-        → Left (run contexts [] first_state 1 steps) log (Give (replies, m)) → Has m.store.jobs job → IsGivenBack m (job_names job) → ⊥ }
+        → Left (run contexts [] first_state 1 steps) log (Give (replies, m)) → Has m.store.jobs job → IsGivenBack m (job_place job) → ⊥ }
 {}

@@ -17,7 +17,7 @@ use Rattle.wasi_host.specs.declared.machine.Machine.{Machine}
 use Rattle.wasi_host.specs.declared.kind.Kind.TheVariants.{Tcp2}
 use Rattle.wasi_host.specs.Host.{SocketError}
 use Rattle.wasi_streams.specs.declared.fault.HostError.TheVariants.{Code, Trap, Memory}
-use Rattle.wasi_host.specs.Kinds.{Handles, make_asks}
+use Rattle.wasi_host.specs.Kinds.{HandleTable, make_asks}
 use Rattle.wasi_host.specs.Store.{new_record, with_record}
 use Rattle.wasi_host.specs.Machine.{with_table, create_handle}
 use Rattle.wasi_streams.specs.declared.fault.Fault.{Fault}
@@ -53,7 +53,7 @@ fault_told (fault.Trap k) (Err y) h = ap (λ (z : SocketError). host_outcome (Er
 fault_told (fault.Memory d) (Err y) h = ap (λ (z : SocketError). host_outcome (Err z)) h
 
 -- the handle of a socket that was made
-pub handle_asks : (m : Machine) (own : OpId) (socket : Socket) {place : ℕ} {side : Option OpId} {records : List Record} {table : Handles} {s t : Seen} {o : Result (Result ℕ Stop) AllocError} → place ≡ length m.store.records → side ≡ side_of socket → records ≡ tcp2_pushed m.store.records (new_record socket) → AsksFor (make_asks m.table own (Tcp2 place) None side) s t (λ (made : Result ℕ Stop). (made, table)) o → AsksFor (create_handle m own socket) s t (λ (made : Result ℕ Stop). let n : Machine = record { table = table; store = record { records = records; jobs = m.store.jobs; standing = m.store.standing } } in (made, n)) o
+pub handle_asks : (m : Machine) (own : OpId) (socket : Socket) {place : ℕ} {side : Option OpId} {records : List Record} {table : HandleTable} {s t : Seen} {o : Result (Result ℕ Stop) AllocError} → place ≡ length m.store.records → side ≡ side_of socket → records ≡ tcp2_pushed m.store.records (new_record socket) → AsksFor (make_asks m.table own (Tcp2 place) None side) s t (λ (made : Result ℕ Stop). (made, table)) o → AsksFor (create_handle m own socket) s t (λ (made : Result ℕ Stop). let n : Machine = record { table = table; store = record { records = records; jobs = m.store.jobs; standing = m.store.standing } } in (made, n)) o
 handle_asks m own socket p q r h = rw r (asks_gives (with_table (record m { store = with_record m.store socket })) (rw (p, q) at h))
 
 -- an error that is passed on by a `?`

@@ -7,7 +7,7 @@ use Rattle.wasi_host.specs.declared.kind.Kind.{Kind}
 use Rattle.wasi_host.specs.declared.records.Record.{Record}
 use Rattle.wasi_host.specs.declared.records.Record.TheVariants.{Tcp2, Udp2, Lookup, InputPipe, OutputPipe, Gone}
 use Rattle.wasi_host.specs.declared.socket.Tcp2Socket.{Tcp2Socket}
-use Rattle.wasi_host.specs.Kinds.{Handles, kind_at}
+use Rattle.wasi_host.specs.Kinds.{HandleTable, kind_at}
 use Rattle.wasi_host.specs.Records.{tcp2_at, tcp2_put}
 use Rattle.std.specs.Borrow.{Bor, MutBor}
 use Rattle.std.proofs.lemmas.Bool.{eq-eqb}
@@ -34,7 +34,7 @@ set_back xs i x h = put_same xs i x.now (sym h)
     put_same (y ∷ ys) (suc k) r e = ap (λ (l : List Record). y ∷ l) (put_same ys k r e)
 
 -- what is live stays so where a handle is made
-pub stays_live : (t n : Handles) (kind : Kind) (parent : Option ℕ) (h : ℕ) → n ≡ pushed t kind parent → IsSome (kind_at t h) → IsSome (kind_at n h)
+pub stays_live : (t n : HandleTable) (kind : Kind) (parent : Option ℕ) (h : ℕ) → n ≡ pushed t kind parent → IsSome (kind_at t h) → IsSome (kind_at n h)
 stays_live t n kind parent h e live = by (kind_at t h) refl
   where
     by : (k : Option Kind) → kind_at t h ≡ k → IsSome (kind_at n h)
@@ -50,7 +50,7 @@ last_live : (live : List (Live Kind)) (n : ℕ) (kind : Kind) (parent : Option �
 last_live [] n kind parent = rw (eq-eqb n n refl) refl
 last_live (s ∷ live) n kind parent = slot_live live s n kind parent (s.handle == n) refl (last_live live n kind parent)
 
-pub comes_live : (t n : Handles) (kind : Kind) (parent : Option ℕ) (h : ℕ) → h ≡ t.next → n ≡ pushed t kind parent → IsSome (kind_at n h)
+pub comes_live : (t n : HandleTable) (kind : Kind) (parent : Option ℕ) (h : ℕ) → h ≡ t.next → n ≡ pushed t kind parent → IsSome (kind_at n h)
 comes_live t n kind parent h e k = rw (k, e) (last_live t.live t.next kind parent)
 
 -- what was put is there

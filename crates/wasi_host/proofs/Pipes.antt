@@ -19,7 +19,7 @@ use Rattle.wasi_host.specs.declared.machine.Machine.{Machine}
 use Rattle.wasi_host.specs.declared.records.Record.{Record}
 use Rattle.wasi_host.specs.declared.records.Record.TheVariants.{Tcp2, Udp2, Lookup, InputPipe, OutputPipe, Gone}
 use Rattle.wasi_host.specs.Host.{CallStop, Stop, call_outcome, fault_outcome, plain_outcome}
-use Rattle.wasi_host.specs.Kinds.{Handles, make_asks}
+use Rattle.wasi_host.specs.Kinds.{HandleTable, make_asks}
 use Rattle.wasi_host.specs.PlainStreams.{pipe_asks, piped, with_contents, with_input_bytes}
 use Rattle.wasi_host.specs.Records.{input_pipe_at, input_pipe_put, output_pipe_at, output_pipe_put}
 use Rattle.wasi_host.specs.Sides.{KnowsSides, held_by, held_in}
@@ -92,12 +92,12 @@ on_err (Ok x) f h = h
 on_err (Err x) f h = f h
 
 -- == a pipe that is made
-pub pipe_made : (m : Machine) (own : OpId) (k : Kind) (r : Record) {records : List Record} {table : Handles} {s t : Seen} (x : ℕ) → records ≡ m.store.records ++ r ∷ [] → AsksFor (make_asks m.table own k None None) s t (λ (made : Result ℕ Stop). (made, table)) (Ok (Ok x))
+pub pipe_made : (m : Machine) (own : OpId) (k : Kind) (r : Record) {records : List Record} {table : HandleTable} {s t : Seen} (x : ℕ) → records ≡ m.store.records ++ r ∷ [] → AsksFor (make_asks m.table own k None None) s t (λ (made : Result ℕ Stop). (made, table)) (Ok (Ok x))
     → AsksFor (pipe_asks m own k r) s t (λ (made : Result ℕ Stop). let n : Machine = record { table = table; store = record { records = records; jobs = m.store.jobs; standing = m.store.standing } } in (made, n)) (Ok (Ok x))
 pipe_made m own k r x e h = rw e (asks_end (λ made. Give (piped m r made)) h.ok refl)
 
 -- no handle was made for it
-pub pipe_refused : (m : Machine) (own : OpId) (k : Kind) (r : Record) {records : List Record} {table : Handles} {s t : Seen} (x : Fault) (q : Result ℕ Fault) → records ≡ m.store.records → IsErrAnd q (λ y. y ≡ x)
+pub pipe_refused : (m : Machine) (own : OpId) (k : Kind) (r : Record) {records : List Record} {table : HandleTable} {s t : Seen} (x : Fault) (q : Result ℕ Fault) → records ≡ m.store.records → IsErrAnd q (λ y. y ≡ x)
     → AsksFor (make_asks m.table own k None None) s t (λ (made : Result ℕ Stop). (made, table)) (fault_outcome {T = ℕ} (Err x))
     → AsksFor (pipe_asks m own k r) s t (λ (made : Result ℕ Stop). let n : Machine = record { table = table; store = record { records = records; jobs = m.store.jobs; standing = m.store.standing } } in (made, n)) (fault_outcome q)
 pipe_refused m own k r x (Ok y) e i h = absurd i

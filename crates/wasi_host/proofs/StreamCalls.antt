@@ -20,7 +20,7 @@ use Rattle.wasi_host.specs.declared.machine.Machine.{Machine}
 use Rattle.wasi_host.specs.declared.kind.Kind.{Kind}
 use Rattle.wasi_host.specs.declared.kind.Kind.TheVariants.{Network, Tcp2, Udp2, Input, Output, PlainInput, PlainOutput, Incoming, Outgoing, Pollable, ErrorValue, Lookup}
 use Rattle.wasi_host.specs.Host.{CallStop, fault_outcome, call_outcome, error_outcome, failed_outcome, IsStreamStop, IfStreamMemory}
-use Rattle.wasi_host.specs.Kinds.{Handles, input_of, output_of, stream_of, make_asks}
+use Rattle.wasi_host.specs.Kinds.{HandleTable, input_of, output_of, stream_of, make_asks}
 use Rattle.wasi_host.specs.Store.{Records}
 use Rattle.wasi_host.specs.Machine.{with_store, side_at}
 use Rattle.wasi_host.specs.StreamCalls.{convert_asks, stopped, converted}
@@ -58,7 +58,7 @@ output_stream (Some ErrorValue) place q = absurd (cc)
 
 module _ (m : Machine) (own : OpId) (handle place : ℕ) where
   -- the handle of an error
-  pub made_failed : (c : ErrorCode) {table : Handles} (made : Result ℕ Fault) {side : Option OpId} {s t : Seen} → side ≡ side_at (tcp2_at m.store.records place)
+  pub made_failed : (c : ErrorCode) {table : HandleTable} (made : Result ℕ Fault) {side : Option OpId} {s t : Seen} → side ≡ side_at (tcp2_at m.store.records place)
       → AsksFor (make_asks m.table own ErrorValue (Some handle) side) s t (λ x. (x, table)) (fault_outcome made)
       → AsksFor (convert_asks m own handle place (stop.Failed c)) s t (λ x. let after : Machine = record m { table = table } in (x, after)) (failed_outcome c made)
   made_failed c (Ok e) p h = asks_end _ (rw p at h).ok refl

@@ -18,7 +18,7 @@ use Rattle.wasi_host.specs.declared.udp.OpenUdp.{OpenUdp}
 use Rattle.wasi_host.specs.Datagrams.{has_streams, begin_streams_asks, poll_udp_connect_asks, sends, permit_of, permitted, send_datagrams_asks}
 use Rattle.wasi_host.specs.Host.{Stop, Trap}
 use Rattle.wasi_host.specs.Jobs.{with_job, other_than_receive}
-use Rattle.wasi_host.specs.Kinds.{Handles, kind_at, udp_of, make_asks}
+use Rattle.wasi_host.specs.Kinds.{HandleTable, kind_at, udp_of, make_asks}
 use Rattle.wasi_host.specs.Names.{own_of}
 use Rattle.wasi_host.specs.Receiving.{receives, receive_datagrams_asks, look_incoming, look_names}
 use Rattle.wasi_host.specs.Records.{open_at, udp2_at}
@@ -44,11 +44,11 @@ reconnect_udp_at store ids place handle (Some o) = bind (poll_udp_connect_asks o
 
 -- == their handles
 -- two handles that were made, or why one was not
-abbrev pub second_made : Machine → ℕ → Result ℕ Stop × Handles → Result (Answer (ℕ × ℕ)) Stop × Machine
+abbrev pub second_made : Machine → ℕ → Result ℕ Stop × HandleTable → Result (Answer (ℕ × ℕ)) Stop × Machine
 second_made m first (Ok second, t) = (Ok (Ready (first, second)), record m { table = t })
 second_made m first (Err stop, t) = (Err stop, record m { table = t })
 
-abbrev pub outgoing_made : Machine → OpId → ℕ → ℕ → Option OpId → Result ℕ Stop × Handles → Asks (Result (Answer (ℕ × ℕ)) Stop × Machine)
+abbrev pub outgoing_made : Machine → OpId → ℕ → ℕ → Option OpId → Result ℕ Stop × HandleTable → Asks (Result (Answer (ℕ × ℕ)) Stop × Machine)
 outgoing_made m own handle place side (Ok incoming, t) = bind (make_asks t own (kind.Outgoing place) (Some handle) side) (λ made. Give (second_made m incoming made))
 outgoing_made m own handle place side (Err stop, t) = Give (Err stop, record m { table = t })
 

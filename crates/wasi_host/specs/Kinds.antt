@@ -18,8 +18,8 @@ use Rattle.wasi_host.specs.declared.kind.Watched.TheVariants as watched
 use Rattle.wasi_host.specs.Host.{Stop, Trap}
 
 -- the table of handles
-abbrev pub Handles : Type 0
-Handles = Shown Kind
+abbrev pub HandleTable : Type 0
+HandleTable = Shown Kind
 
 abbrev pub name_of : Kind → HandleKind
 name_of Network = name.Network
@@ -36,7 +36,7 @@ name_of (Lookup n) = name.Lookup
 name_of ErrorValue = name.ErrorValue
 
 -- what a live handle stands for
-abbrev pub kind_at : Handles → ℕ → Option Kind
+abbrev pub kind_at : HandleTable → ℕ → Option Kind
 kind_at t h = value_at t.live h
 
 -- == what each kind names
@@ -153,17 +153,17 @@ table_parent (Outgoing n) parent = parent
 table_parent (Pollable w) parent = parent
 table_parent _ parent = None
 
-abbrev pub with_handle : Handles → Kind → Option ℕ → Handles
+abbrev pub with_handle : HandleTable → Kind → Option ℕ → HandleTable
 with_handle t kind parent = pushed t kind (table_parent kind parent)
 
 -- there is room and the mark is asked, or it is a trap
-abbrev pub make_asks : Handles → OpId → Kind → Option ℕ → Option OpId → Asks (Result ℕ Stop × Handles)
+abbrev pub make_asks : HandleTable → OpId → Kind → Option ℕ → Option OpId → Asks (Result ℕ Stop × HandleTable)
 make_asks t op kind parent side =
     if is_full t then Give (Err (Trap Full), t)
     else bind (ask_made op t.next (name_of kind) parent side) (λ done. Give (Ok t.next, with_handle t kind parent))
 
 -- a handle is taken out of the table
-abbrev pub without_handle : Handles → ℕ → Handles
+abbrev pub without_handle : HandleTable → ℕ → HandleTable
 without_handle t h = record t { live = without t.live h }
 
 -- nothing is made under a handle
@@ -171,10 +171,10 @@ abbrev pub none_in : List ℕ → Bool
 none_in [] = true
 none_in (h ∷ hs) = false
 
-abbrev pub has_no_child : Handles → ℕ → Bool
+abbrev pub has_no_child : HandleTable → ℕ → Bool
 has_no_child t h = none_in (children_of t.live h)
 
 -- a handle is taken out, with what it stands for; what was made under it goes before
-abbrev pub taken_out : Handles → ℕ → Option Kind → Result Kind Stop × Handles
+abbrev pub taken_out : HandleTable → ℕ → Option Kind → Result Kind Stop × HandleTable
 taken_out t h None = (Err (Trap NoSuchHandle), t)
 taken_out t h (Some kind) = if has_no_child t h then (Ok kind, without_handle t h) else (Err (Trap HasChildren), t)

@@ -20,7 +20,7 @@ use Rattle.wasi_host.specs.declared.kind.Watched.TheVariants as watched
 use Rattle.wasi_host.specs.declared.machine.Machine.{Machine}
 use Rattle.wasi_host.specs.declared.socket.Tcp2Socket.{Tcp2Socket}
 use Rattle.wasi_host.specs.Host.{Stop, Trap, code_stop}
-use Rattle.wasi_host.specs.Kinds.{Handles, kind_at, place_of, udp_of, input_of, output_of, incoming_of, outgoing_of, lookup_of, watched_by, watch_of, place_in, make_asks, taken_out}
+use Rattle.wasi_host.specs.Kinds.{HandleTable, kind_at, place_of, udp_of, input_of, output_of, incoming_of, outgoing_of, lookup_of, watched_by, watch_of, place_in, make_asks, taken_out}
 pub use Rattle.wasi_host.specs.Names.{own_of}
 use Rattle.wasi_host.specs.Store.{Records, no_records, with_record}
 use Rattle.wasi_host.specs.Jobs.{turn_store_asks}
@@ -36,7 +36,7 @@ use Rattle.wasi_host.specs.UdpCreates.{udp_side_at}
 abbrev pub first_state : Machine
 first_state = record { table = empty; store = no_records }
 
-abbrev pub with_table : Machine → Result ℕ Stop × Handles → Result ℕ Stop × Machine
+abbrev pub with_table : Machine → Result ℕ Stop × HandleTable → Result ℕ Stop × Machine
 with_table m made = (made.0, record m { table = made.1 })
 
 abbrev pub with_store : {A : Type 0} → Machine → A × Records → A × Machine
@@ -155,7 +155,7 @@ drop_kind m ids (PlainInput i) = Give (Ok (Ready tt), record m { store = drop_pl
 drop_kind m ids (PlainOutput o) = Give (Ok (Ready tt), record m { store = drop_plain_output m.store o })
 drop_kind m ids _ = Give (Ok (Ready tt), m)
 
-abbrev pub drop_taken : Machine → Ids → Result Kind Stop × Handles → Asks (Result (Answer (Unit {0})) Stop × Machine)
+abbrev pub drop_taken : Machine → Ids → Result Kind Stop × HandleTable → Asks (Result (Answer (Unit {0})) Stop × Machine)
 drop_taken m ids (Ok kind, t) = drop_kind (record m { table = t }) ids kind
 drop_taken m ids (Err stop, t) = Give (Err stop, record m { table = t })
 

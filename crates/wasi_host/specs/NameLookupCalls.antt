@@ -15,7 +15,7 @@ use Rattle.wasi_host.specs.declared.machine.Machine.{Machine}
 use Rattle.wasi_host.specs.Host.{Stop, Code, Trap}
 use Rattle.wasi_host.specs.GivingBack.{given_back}
 use Rattle.wasi_host.specs.Jobs.{jobs_with}
-use Rattle.wasi_host.specs.Kinds.{Handles, make_asks}
+use Rattle.wasi_host.specs.Kinds.{HandleTable, make_asks}
 use Rattle.wasi_host.specs.NameLookup.{is_looking, looks_on, unresolvable, poll_lookup_asks, next_of}
 use Rattle.wasi_host.specs.Records.{lookup_put, lookup_pushed}
 use Rattle.wasi_host.specs.Store.{Records}
@@ -26,7 +26,7 @@ abbrev pub with_lookup : Records → Lookup → Records
 with_lookup store l = record store { records = lookup_pushed store.records l; jobs = jobs_with store.jobs (job.Lookup (length store.records)) (is_looking l) }
 
 -- where no handle can be made for it, it is over
-abbrev pub looked_up : Machine → Lookup → Result ℕ Stop × Handles → Result ℕ Stop × Machine
+abbrev pub looked_up : Machine → Lookup → Result ℕ Stop × HandleTable → Result ℕ Stop × Machine
 looked_up m l (Ok handle, t) = (Ok handle, record { table = t; store = with_lookup m.store l })
 looked_up m l (Err stop, t) = (Err stop, record { table = t; store = given_back (length m.store.records) (with_lookup m.store l) })
 

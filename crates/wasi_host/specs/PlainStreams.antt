@@ -17,7 +17,7 @@ use Rattle.wasi_host.specs.declared.records.Record.{Record}
 use Rattle.wasi_host.specs.declared.records.Record.TheVariants.{InputPipe, OutputPipe}
 use Rattle.wasi_host.specs.GivingBack.{given_back}
 use Rattle.wasi_host.specs.Host.{Stop, Trap}
-use Rattle.wasi_host.specs.Kinds.{Handles, kind_at, plain_output_of, make_asks}
+use Rattle.wasi_host.specs.Kinds.{HandleTable, kind_at, plain_output_of, make_asks}
 use Rattle.wasi_host.specs.Records.{input_pipe_at, input_pipe_put, output_pipe_at, output_pipe_put}
 use Rattle.wasi_host.specs.Store.{Records}
 
@@ -72,7 +72,7 @@ abbrev pub with_record_more : Records → Record → Records
 with_record_more store r = record store { records = store.records ++ r ∷ [] }
 
 -- the record comes once its handle was made
-abbrev pub piped : Machine → Record → Result ℕ Stop × Handles → Result ℕ Stop × Machine
+abbrev pub piped : Machine → Record → Result ℕ Stop × HandleTable → Result ℕ Stop × Machine
 piped m r (Ok handle, t) = (Ok handle, record { table = t; store = with_record_more m.store r })
 piped m r (Err stop, t) = (Err stop, record m { table = t })
 

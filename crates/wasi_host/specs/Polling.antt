@@ -22,7 +22,7 @@ use Rattle.wasi_host.specs.declared.store.StandingCall.TheVariants.{Blocking}
 use Rattle.wasi_host.specs.declared.udp.OpenUdp.{OpenUdp}
 use Rattle.wasi_host.specs.Host.{Stop, Trap}
 use Rattle.wasi_host.specs.InProgress.{is_nothing}
-use Rattle.wasi_host.specs.Kinds.{Handles, kind_at, watch_of}
+use Rattle.wasi_host.specs.Kinds.{HandleTable, kind_at, watch_of}
 use Rattle.wasi_host.specs.Machine.{ready_asks, ids_after_ready}
 use Rattle.wasi_host.specs.Records.{tcp2_at, open_at}
 use Rattle.wasi_host.specs.Standing.{standing_as}
@@ -144,7 +144,7 @@ abbrev pub poll_by : Look → Machine → Ids → List ℕ → Asks (Result (Ans
 poll_by look m ids pollables = bind (look_each look pollables m ids []) (λ done. Give (polled_each ids pollables done))
 
 -- each of them is a pollable's handle
-abbrev pub pollables_in : Handles → List ℕ → Bool
+abbrev pub pollables_in : HandleTable → List ℕ → Bool
 pollables_in t [] = true
 pollables_in t (p ∷ pollables) = if is_some (watch_of (kind_at t p)) then pollables_in t pollables else false
 

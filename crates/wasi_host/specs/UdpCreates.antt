@@ -16,7 +16,7 @@ use Rattle.wasi_host.specs.declared.store.StandingCall.TheVariants.{UdpCreate}
 use Rattle.wasi_host.specs.declared.udp.Udp2Socket.{Udp2Socket}
 use Rattle.wasi_host.specs.declared.udp.Udp2Socket.TheVariants.{Creating}
 use Rattle.wasi_host.specs.Host.{Stop, Trap, code_stop}
-use Rattle.wasi_host.specs.Kinds.{Handles, make_asks}
+use Rattle.wasi_host.specs.Kinds.{HandleTable, make_asks}
 use Rattle.wasi_host.specs.Names.{own_of}
 use Rattle.wasi_host.specs.Records.{udp2_at, udp2_pushed}
 use Rattle.wasi_host.specs.Standing.{standing_as}
@@ -43,7 +43,7 @@ poll_create_at store place None = Give (Err (Trap NoSuchHandle), store)
 poll_create_at store place (Some u) = bind (poll_create_asks u) (λ done. Give (create_answered store place done))
 
 -- the handle that was made, or why none was
-abbrev pub handle_made : Machine → Result ℕ Stop × Handles → Result (Answer ℕ) Stop × Machine
+abbrev pub handle_made : Machine → Result ℕ Stop × HandleTable → Result (Answer ℕ) Stop × Machine
 handle_made m (Ok handle, t) = (Ok (Ready handle), record m { table = t })
 handle_made m (Err stop, t) = (Err stop, record m { table = t })
 

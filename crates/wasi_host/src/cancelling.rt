@@ -3,7 +3,7 @@
 ghost use Rattle.std.specs.Prelude.{◌≡◌, false};
 ghost use Rattle.wasi_world.specs.Asks.{AsksFor};
 ghost use Rattle.wasi_world.specs.Seen.{Seen};
-ghost use Rattle.wasi_host.specs.Cancel.{other_than_datagram, cancel_bind_at, cancel_udp_bind_at, cancel_listen_at, cancel_create, cancel_create_at, cancel_udp_connect_at, cancel_drop_outgoing_at, cancel_on, cancel_asks};
+ghost use Rattle.wasi_host.specs.Cancel.{other_than_datagram, cancel_bind_at, cancel_udp_bind_at, cancel_listen_at, cancel_create_at, cancel_udp_connect_at, cancel_drop_outgoing_at, cancel_on, cancel_asks};
 ghost use Rattle.wasi_host.specs.Records.{tcp2_at, udp2_at, open_at};
 ghost use Rattle.wasi_host.specs.Sides.{KnowsSides};
 ghost use Rattle.wasi_host.specs.Views.{SameView, state_of};
@@ -15,6 +15,7 @@ use crate::udp::{Udp2Socket, UdpInProgress};
 use crate::view::WasiSocketsCtxView;
 use std::alloc::AllocError;
 use wasi_world::World;
+
 impl Store {
     /// The bind of the socket of this number is forgotten: the socket is as it was, and in the middle of nothing.
     fn cancel_bind(&mut self, place: usize)

@@ -234,6 +234,7 @@ impl Store {
         let Some(socket) = open_udp_mut(&mut self.records, place) else {
             return Err(Fault::Trap(TrapKind::NoSuchHandle));
         };
+        // As before a receive.
         self.jobs.push(HostJob::Receive { socket: place })?;
         let before = socket.receives();
         let looked = socket.look_incoming(world, ids);

@@ -16,7 +16,7 @@ use crate::records::tcp2_mut;
 use crate::store::{StandingCall, Store};
 use crate::view::WasiSocketsCtxView;
 use std::alloc::AllocError;
-use wasi_streams::{Fault, TrapKind};
+use wasi_streams::Fault;
 use wasi_world::{Answer, Handle, Ids, OpId, World};
 
 impl Store {

@@ -16,7 +16,6 @@ ghost use Rattle.wasi_host.specs.Views.{SameView, state_of};
 
 use crate::record_list::RecordList;
 use crate::records::{lookup, lookup_mut, open_udp, open_udp_mut, tcp2, tcp2_mut};
-use crate::socket::Tcp2Socket;
 use crate::store::Store;
 use crate::view::WasiSocketsCtxView;
 use std::alloc::AllocError;

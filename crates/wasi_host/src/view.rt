@@ -20,14 +20,14 @@ pub struct WasiSocketsCtxView<'a> {
 /// What has a context, a table and a store gives a view of them (`WasiSocketsView` of the crate).
 pub trait WasiSocketsView {
     ghost use Rattle.wasi_world.specs.declared.outcome.WasiSocketsCtx.{WasiSocketsCtx};
-    ghost use Rattle.wasi_host.specs.Kinds.{Handles};
+    ghost use Rattle.wasi_host.specs.Kinds.{HandleTable};
     ghost use Rattle.wasi_host.specs.Store.{Records};
 
     /// Its context.
     ghost ctx: { Self → WasiSocketsCtx };
 
     /// Its table.
-    ghost table: { Self → Handles };
+    ghost table: { Self → HandleTable };
 
     /// Its store.
     ghost store: { Self → Records };
@@ -45,14 +45,14 @@ pub struct NamedId(pub u32);
 /// What has several contexts, over one table and one store, gives a view of one of them (`WasiSocketsNamedView` of the crate).
 pub trait WasiSocketsNamedView {
     ghost use Rattle.std.specs.Prelude.{ℕ, List};
-    ghost use Rattle.wasi_host.specs.Kinds.{Handles};
+    ghost use Rattle.wasi_host.specs.Kinds.{HandleTable};
     ghost use Rattle.wasi_host.specs.Store.{Records};
 
     /// The numbers of its contexts.
     ghost ids: { Self → List ℕ };
 
     /// Its table.
-    ghost table: { Self → Handles };
+    ghost table: { Self → HandleTable };
 
     /// Its store.
     ghost store: { Self → Records };

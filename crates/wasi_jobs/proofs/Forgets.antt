@@ -10,13 +10,13 @@ use Rattle.wasi_jobs.specs.declared.job_list.Key.{Key}
 use Rattle.wasi_jobs.specs.declared.job_list.Which.{Which}
 use Rattle.wasi_jobs.specs.declared.job_list.Which.TheVariants.{All, Receives, Datagrams}
 use Rattle.wasi_jobs.specs.Jobs.{is_on}
-use Rattle.wasi_jobs.specs.Keys.{job_at, has_key, is_one_on, is_among, left_of, Rise, AreKeyed, AreSound, IsWithout, HasNoneFrom, IsNextOn}
+use Rattle.wasi_jobs.specs.Keys.{job_at, has_key, is_one_on, is_of_kind, left_of, Rise, AreKeyed, AreSound, IsWithout, HasNoneFrom, IsNextOn}
 use Rattle.wasi_jobs.proofs.Orders.{at_is, at_itself, at_another}
 use Rattle.wasi_jobs.proofs.Rising.{but, rise_but, below_next}
 
 -- whether a job is to go
 abbrev pub goes : Which → ℕ → HostJob → Bool
-goes which place job = is_among which job && is_on place job
+goes which place job = is_of_kind which job && is_on place job
 
 -- those that are left are those that don't go
 left_more : (which : Which) (place : ℕ) (job : HostJob) (jobs : List HostJob) → left_of which place (job ∷ jobs) ≡ cond (goes which place job) (left_of which place jobs) (job ∷ left_of which place jobs)
@@ -119,7 +119,7 @@ module _ (which : Which) (place from : ℕ) (start : List HostJob) (jobs : List 
 
     module _ (job : HostJob) (there : job_at jobs number ≡ Some job) where
       -- it stays
-      pub stays : is_among which job ≡ false → IsForgetting which place (number + 1) start jobs keys next
+      pub stays : is_of_kind which job ≡ false → IsForgetting which place (number + 1) start jobs keys next
       stays none = record {
         sound = so.sound;
         same = so.same;
@@ -128,13 +128,13 @@ module _ (which : Which) (place from : ℕ) (start : List HostJob) (jobs : List 
               | inl last ↦
                   let one : Some other ≡ Some job = sym found ∙ ap (job_at jobs) last ∙ there in
                   let same : other ≡ job = cc in
-                  and_left _ _ (ap (is_among which) same ∙ none)
+                  and_left _ _ (ap (is_of_kind which) same ∙ none)
               | inr apart ↦ passed n other (omega (arith, under, apart)) found
             ];
       }
 
       -- it goes
-      pub leaves : (left : List (ℕ × HostJob)) (unkeyed : List Key) → is_among which job ≡ true → IsWithout jobs left number → AreKeyed left unkeyed → IsForgetting which place (number + 1) start left unkeyed next
+      pub leaves : (left : List (ℕ × HostJob)) (unkeyed : List Key) → is_of_kind which job ≡ true → IsWithout jobs left number → AreKeyed left unkeyed → IsForgetting which place (number + 1) start left unkeyed next
       leaves left unkeyed one out keyed =
           let j = next_job in
           let is : Some j.job ≡ Some job = sym j.there ∙ there in

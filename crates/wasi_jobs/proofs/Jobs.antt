@@ -3,7 +3,7 @@ use Rattle.std.proofs.Common.{◌≡◌, ℕ, ◌==◌, List, [], ◌∷◌, ref
 use Rattle.std.proofs.lemmas.Bool.{le-ltb, le-leb}
 use Rattle.wasi_jobs.specs.declared.job.HostJob.{HostJob}
 use Rattle.wasi_jobs.specs.declared.job.HostJob.TheVariants.{Write, Datagram, Receive, Lookup}
-use Rattle.wasi_jobs.specs.Jobs.{place_of, is_on}
+use Rattle.wasi_jobs.specs.Jobs.{job_place, is_on}
 use Rattle.wasi_jobs.specs.JobList.{Work, below, from_on, items_below, items_from}
 
 none_below_in : (numbers : List ℕ) (items : List HostJob) → items_below 0 numbers items ≡ []
@@ -25,7 +25,7 @@ pub all_from : (w : Work) → from_on 0 w ≡ w.items
 all_from w = all_from_in w.numbers w.items
 
 -- a job is of the record that it is for
-pub on_place : (place : ℕ) (job : HostJob) → is_on place job ≡ (place_of job == place)
+pub on_place : (place : ℕ) (job : HostJob) → is_on place job ≡ (job_place job == place)
 on_place place (Write p) = refl
 on_place place (Datagram p) = refl
 on_place place (Receive p) = refl

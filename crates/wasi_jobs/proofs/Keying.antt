@@ -8,7 +8,7 @@ use Rattle.std.specs.declared.ops.Bound.TheVariants.{Included, Unbounded}
 use Rattle.std.proofs.lemmas.Bool.{eqb-true, eq-eqb, ne_eqb, and_parts, and_from, and_left, and_right, cases_eq, cases_Bool, false_from_ne_true}
 use Rattle.wasi_jobs.specs.declared.job.HostJob.{HostJob}
 use Rattle.wasi_jobs.specs.declared.job_list.Key.{Key}
-use Rattle.wasi_jobs.specs.Jobs.{place_of, is_on}
+use Rattle.wasi_jobs.specs.Jobs.{job_place, is_on}
 use Rattle.wasi_jobs.specs.Keys.{job_at, key_cmp, has_key, is_one_on, AreKeyed, HasNoneFrom, IsNextOn}
 use Rattle.wasi_jobs.proofs.Jobs.{on_place}
 use Rattle.wasi_jobs.proofs.Orders.{at_is, key_is, places_rise, numbers_rise, keys_rise}
@@ -16,10 +16,10 @@ use Rattle.wasi_jobs.proofs.Orders.{at_is, key_is, places_rise, numbers_rise, ke
 abbrev key : ℕ → ℕ → Key
 key place number = record { place = place; number = number }
 
-on_own : (job : HostJob) → is_on (place_of job) job ≡ true
+on_own : (job : HostJob) → is_on (job_place job) job ≡ true
 on_own job = on_place _ job ∙ eq-eqb _ _ refl
 
-on_other : (place : ℕ) (job : HostJob) → place ≢ place_of job → is_on place job ≡ false
+on_other : (place : ℕ) (job : HostJob) → place ≢ job_place job → is_on place job ≡ false
 on_other place job other = on_place place job ∙ ne_eqb _ _ (λ same. other (sym same))
 
 -- a number's job becomes `w`, and its key is there or not; no other changes
@@ -55,17 +55,17 @@ module _ (old new : List (ℕ × HostJob)) (keys rekeyed : List Key) (place numb
       ]
 
 -- a job came with its key
-pub keyed_put : (old new : List (ℕ × HostJob)) (keys rekeyed : List Key) (number : ℕ) (job : HostJob) (m : Key) → m ≡ key (place_of job) number
+pub keyed_put : (old new : List (ℕ × HostJob)) (keys rekeyed : List Key) (number : ℕ) (job : HostJob) (m : Key) → m ≡ key (job_place job) number
     → job_at old number ≡ None → Reaches old new number (Some job) → Turns keys rekeyed m true → AreKeyed old keys → AreKeyed new rekeyed
 keyed_put old new keys rekeyed number job m is fresh reach turn before =
-    keyed old new keys rekeyed (place_of job) number (Some job) true reach (subst (λ (z : Key). Turns keys rekeyed z true) is turn) before (on_own job)
+    keyed old new keys rekeyed (job_place job) number (Some job) true reach (subst (λ (z : Key). Turns keys rekeyed z true) is turn) before (on_own job)
     (λ p other. on_other p job other ∙ ap (is_one_on p) (sym fresh))
 
 -- a job went with its key
-pub keyed_out : (old new : List (ℕ × HostJob)) (keys rekeyed : List Key) (number : ℕ) (job : HostJob) (m : Key) → m ≡ key (place_of job) number
+pub keyed_out : (old new : List (ℕ × HostJob)) (keys rekeyed : List Key) (number : ℕ) (job : HostJob) (m : Key) → m ≡ key (job_place job) number
     → job_at old number ≡ Some job → Reaches old new number None → Turns keys rekeyed m false → AreKeyed old keys → AreKeyed new rekeyed
 keyed_out old new keys rekeyed number job m is was reach turn before =
-    keyed old new keys rekeyed (place_of job) number None false reach (subst (λ (z : Key). Turns keys rekeyed z false) is turn) before refl
+    keyed old new keys rekeyed (job_place job) number None false reach (subst (λ (z : Key). Turns keys rekeyed z false) is turn) before refl
     (λ p other. sym (ap (is_one_on p) was ∙ on_other p job other))
 
 -- a key that came and went again leaves the keys as they were

@@ -16,7 +16,7 @@ items_below number [] jobs = []
 items_below number (n ∷ numbers) [] = []
 items_below number (n ∷ numbers) (job ∷ jobs) = if nat_lt n number then job ∷ items_below number numbers jobs else items_below number numbers jobs
 
--- and those whose number is this one or above, or that have none, as no job of a list has
+-- and those whose number is this one or above; a job without a number would count too, and no list has one
 abbrev pub items_from : ℕ → List ℕ → List HostJob → List HostJob
 items_from number [] jobs = jobs
 items_from number (n ∷ numbers) [] = []

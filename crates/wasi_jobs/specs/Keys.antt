@@ -64,12 +64,12 @@ pub record IsNextOn (keys : List Key) (place from number : ℕ) : Type 0 where
   pub none : (other : ℕ) → from ≤ other → other < number → has_key keys place other ≡ false
 
 -- a job is one of those that are to go, if it is of the record
-abbrev pub is_among : Which → HostJob → Bool
-is_among All job = true
-is_among Receives (Receive p) = true
-is_among Receives _ = false
-is_among Datagrams (Datagram p) = true
-is_among Datagrams _ = false
+abbrev pub is_of_kind : Which → HostJob → Bool
+is_of_kind All job = true
+is_of_kind Receives (Receive p) = true
+is_of_kind Receives _ = false
+is_of_kind Datagrams (Datagram p) = true
+is_of_kind Datagrams _ = false
 
 -- the jobs that are left where those of a record go
 abbrev pub left_of : Which → ℕ → List HostJob → List HostJob

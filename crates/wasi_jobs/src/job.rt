@@ -1,7 +1,7 @@
 //! A piece of background work.
 
 ghost use Rattle.std.specs.Prelude.{◌≡◌};
-ghost use Rattle.wasi_jobs.specs.Jobs.{place_of};
+ghost use Rattle.wasi_jobs.specs.Jobs.{job_place};
 
 /// Background work of the host, which continues by itself until it is over.
 #[derive(Clone, Copy, Debug, PartialEq, Eq)]
@@ -19,7 +19,7 @@ pub enum HostJob {
 impl HostJob {
     /// The number of the record that it is for, a socket or a lookup.
     pub fn place(self) -> usize
-        ensures { result ≡ place_of self }
+        ensures { result ≡ job_place self }
     {
         match self {
             HostJob::Write { socket } => socket,

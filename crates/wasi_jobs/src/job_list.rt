@@ -8,9 +8,9 @@ ghost use Rattle.std.specs.Prelude.{◌≡◌, ◌+◌, ◌<◌, ◌≤◌, ◌^
 ghost use Rattle.std.specs.BTreeMap.{insert_entry};
 ghost use Rattle.std.specs.Ordering.{nat_cmp};
 ghost use Rattle.wasi_jobs.specs.declared.job.HostJob.{HostJob};
-ghost use Rattle.wasi_jobs.specs.Jobs.{place_of, other_jobs, other_than_receive, other_than_datagram};
+ghost use Rattle.wasi_jobs.specs.Jobs.{job_place, other_jobs, other_than_receive, other_than_datagram};
 ghost use Rattle.wasi_jobs.specs.JobList.{no_work, below, from_on};
-ghost use Rattle.wasi_jobs.specs.Keys.{job_at, AreKeyed, IsWithout, HasNoneFrom, IsNextOn, is_among, left_of};
+ghost use Rattle.wasi_jobs.specs.Keys.{job_at, AreKeyed, IsWithout, HasNoneFrom, IsNextOn, is_of_kind, left_of};
 
 use crate::job::HostJob;
 use std::alloc::{AllocError, Global};
@@ -28,7 +28,7 @@ struct Key {
 impl Key {
     /// The key of a job.
     fn of(job: HostJob, number: u64) -> Key
-        ensures { result ≡ record { place = place_of job; number = number } }
+        ensures { result ≡ record { place = job_place job; number = number } }
     {
         Key {
             place: job.place(),
@@ -48,7 +48,7 @@ enum Which {
 impl Which {
     /// Whether a job of the record is one of them.
     fn has(self, job: HostJob) -> bool
-        ensures { result ≡ is_among self job }
+        ensures { result ≡ is_of_kind self job }
     {
         match self {
             Which::All => true,

@@ -1,7 +1,7 @@
 -- The words that the laws speak, passed on from the crates below.
 pub use Rattle.wasi_walks.proofs.Words.{Accept, Accepting, Accepts, Allows, Ask, AskWrite, Asks, Begins, Bind, Bool, Call, Check, CheckArrival}
 pub use Rattle.wasi_walks.proofs.Words.{CheckLocal, CloseLast, Connect, Done, End, Entry, Err, ErrorCode, ErrorValue, Fits, Front, FrontKeeps, Give}
-pub use Rattle.wasi_walks.proofs.Words.{Given, Handles, Has, HoldsAccept, HoldsConnect, InProgress, IpSocketAddress, IsAcceptOn, IsConnect}
+pub use Rattle.wasi_walks.proofs.Words.{Given, HandleTable, Has, HoldsAccept, HoldsConnect, InProgress, IpSocketAddress, IsAcceptOn, IsConnect}
 pub use Rattle.wasi_walks.proofs.Words.{IsDoneOrCode, IsLeftOfConnect, IsLeftOfListen, Item, Job, Kind, Last, LastAsk, Left, List, Listen, Listener}
 pub use Rattle.wasi_walks.proofs.Words.{Listening, Machine, None, Not, Nothing, NothingLast, Ok, OpId, Operation, Option, Refuse, Refused, Reply}
 pub use Rattle.wasi_walks.proofs.Words.{Result, ShutdownLast, ShutdownSend, Socket, SocketAddressFamily, Some, Standing, Step, StreamStop, Streams}

@@ -1,5 +1,5 @@
 -- Live handles: the slot that a handle has, what is under it, and which slots are left where one is made or taken out.
-use Rattle.wasi_walks.proofs.Words.{Bool, Handles, Kind, List, Option, Some, [], ap, eqb-true, false, if◌then◌else◌, inl, inr, refl, subst, sym, table_parent, true, with_handle, ℕ, ◌==◌, ◌∷◌, ◌∙◌, ◌≡◌, ◌⊎◌}
+use Rattle.wasi_walks.proofs.Words.{Bool, HandleTable, Kind, List, Option, Some, [], ap, eqb-true, false, if◌then◌else◌, inl, inr, refl, subst, sym, table_parent, true, with_handle, ℕ, ◌==◌, ◌∷◌, ◌∙◌, ◌≡◌, ◌⊎◌}
 use Rattle.std.proofs.lemmas.Bool.{eq-eqb}
 use Rattle.wasi_table.specs.Table.{Live, children_of, is_child, value_at, without}
 use Rattle.wasi_host.specs.Kinds.{none_in}
@@ -67,7 +67,7 @@ has_still (s ∷ live) handle a l other = by_test (s.handle == handle) refl (has
     by_test false q more (inr k) = inr (more k other)
 
 -- == a handle is made
-module _ (t : Handles) (kind : Kind) (parent : Option ℕ) where
+module _ (t : HandleTable) (kind : Kind) (parent : Option ℕ) where
   abbrev pub new_slot : Live Kind
   new_slot = record { handle = t.next; value = kind; parent = table_parent kind parent }
 

@@ -67,7 +67,7 @@ pub use Rattle.wasi_tcp.specs.declared.socket.TcpState.{TcpState}
 pub use Rattle.wasi_tcp.specs.declared.writer.WriteState.{WriteState}
 pub use Rattle.wasi_host.specs.Dropping.{drop_output_at, give_streams_up, gone, release_asks, release_at, drop_waits, wait_put, wait_writer}
 pub use Rattle.wasi_host.specs.Host.{Stop, Trap}
-pub use Rattle.wasi_host.specs.Kinds.{Handles, has_no_child, input_of, is_network, is_readable, is_writable, kind_at, make_asks, name_of, output_of, place_in, place_of}
+pub use Rattle.wasi_host.specs.Kinds.{HandleTable, has_no_child, input_of, is_network, is_readable, is_writable, kind_at, make_asks, name_of, output_of, place_in, place_of}
 pub use Rattle.wasi_host.specs.Kinds.{table_parent, taken_out, watch_of, watched_by, with_handle, without_handle}
 pub use Rattle.wasi_host.specs.Listening.{accept_answered, accept_at, accept_listening, accept_record_asks, accepted_record, begin_listen_asks}
 pub use Rattle.wasi_host.specs.Listening.{closed_listening, give_up_asks, kept_accepted, listen_begun, listen_bound, listen_once}

@@ -1,5 +1,5 @@
 -- A look at a pollable: it finds something out where what is watched is there, and keeps what others watch.
-use Rattle.wasi_causes.proofs.Words.{◌≡◌, ◌∙◌, ℕ, Bool, true, false, List, [], ◌∷◌, Option, Some, None, Result, Ok, Err, refl, sym, subst, ap, inl, inr, Entry, Give, Handles, Left, Listening, Machine, NoSuchHandle, Records, Stop, Streams, Tcp2Socket, Trap, Watched, is_connect, is_nothing, kind_at, own_of, ready_asks, ready_on, set_get, streams_in, watch_of, with_job, with_socket, with_store}
+use Rattle.wasi_causes.proofs.Words.{◌≡◌, ◌∙◌, ℕ, Bool, true, false, List, [], ◌∷◌, Option, Some, None, Result, Ok, Err, refl, sym, subst, ap, inl, inr, Entry, Give, HandleTable, Left, Listening, Machine, NoSuchHandle, Records, Stop, Streams, Tcp2Socket, Trap, Watched, is_connect, is_nothing, kind_at, own_of, ready_asks, ready_on, set_get, streams_in, watch_of, with_job, with_socket, with_store}
 use Rattle.wasi_world.specs.declared.ids.Ids.{Ids}
 use Rattle.wasi_tcp.specs.Connecting.{finish_connect_asks}
 use Rattle.wasi_tcp.specs.Listener.{listener_ready_asks}
@@ -106,7 +106,7 @@ module _ (m after : Machine) (there : WatchedStay m.store.records after.store.re
   module _ (table : after.table ≡ m.table) where
     -- what isn't there afterwards wasn't before
     pub missed_before : (p : ℕ) → MissesWatched after (watch_of (kind_at after.table p)) → MissesWatched m (watch_of (kind_at m.table p))
-    missed_before p h = missed_on (watch_of (kind_at m.table p)) (subst (λ (t : Handles). MissesWatched after (watch_of (kind_at t p))) table h)
+    missed_before p h = missed_on (watch_of (kind_at m.table p)) (subst (λ (t : HandleTable). MissesWatched after (watch_of (kind_at t p))) table h)
 
     pub missed_one : (ps : List ℕ) → MissesOneOf after ps → MissesOneOf m ps
     missed_one [] h = h

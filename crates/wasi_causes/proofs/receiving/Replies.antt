@@ -1,6 +1,6 @@
 -- The reply to each line hands out, on the handle of an incoming stream, what the line takes from that: nothing, or what a receive gives.
 use Rattle.std.specs.Prelude.{flat_map}
-use Rattle.wasi_causes.proofs.Words.{Allows, Bool, Entry, Err, Handles, IpSocketAddress, List, Machine, None, Ok, OpId, Option, Reply, Result, Some, Standing, Step, Stop, Trap, WasiSocketsCtx, [], allows_keep, allows_then, ap, append-nil, append_assoc, arith, asks_while, entry, eq-eqb, false, first_ids, if◌then◌else◌, inl, inr, kind_at, machine_asks, refl, subst, sym, true, ℕ, ◌+◌, ◌++◌, ◌==◌, ◌∙◌, ◌∷◌, ◌≡◌, ◌⊎◌}
+use Rattle.wasi_causes.proofs.Words.{Allows, Bool, Entry, Err, HandleTable, IpSocketAddress, List, Machine, None, Ok, OpId, Option, Reply, Result, Some, Standing, Step, Stop, Trap, WasiSocketsCtx, [], allows_keep, allows_then, ap, append-nil, append_assoc, arith, asks_while, entry, eq-eqb, false, first_ids, if◌then◌else◌, inl, inr, kind_at, machine_asks, refl, subst, sym, true, ℕ, ◌+◌, ◌++◌, ◌==◌, ◌∙◌, ◌∷◌, ◌≡◌, ◌⊎◌}
 use Rattle.std.proofs.lemmas.Bool.{eqb-true}
 use Rattle.wasi_world.specs.declared.datagram.IncomingDatagram.{IncomingDatagram}
 use Rattle.wasi_host.specs.DatagramCalls.{begins_receive, receive_datagrams_at, with_receive}
@@ -114,7 +114,7 @@ module _ (handle : ℕ) where
   -- == a line that does
   module _ (ctx most line : ℕ) (list : List IncomingDatagram) where
     -- What its call leaves of the stream.
-    record Says (t : Handles) (es : List Entry) (done : Result (List IncomingDatagram) Stop × Records) : Type 0 where
+    record Says (t : HandleTable) (es : List Entry) (done : Result (List IncomingDatagram) Stop × Records) : Type 0 where
       pub new : List IncomingDatagram
       pub gives : handed_by handle (step.UdpReceive ctx handle most) (reply_of datagram_values done.0) ≡ flat_map received_values new
       pub stream : StreamIs handle (list ++ new) es t done.1.records

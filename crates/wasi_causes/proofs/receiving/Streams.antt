@@ -1,5 +1,5 @@
 -- The incoming stream of one handle, while it is live: all that it received was taken or waits.
-use Rattle.wasi_causes.proofs.Words.{Allows, Asks, Call, Entry, Handles, Kind, List, None, OpId, Option, Some, Tcp2Socket, Told, ap, arith, entry, eqb-false, eqb-true, false, inl, inr, kind_at, refl, subst, sym, true, with_handle, without_handle, Bool, ℕ, ⊤, ◌++◌, ◌==◌, ◌∙◌, ◌∷◌, ◌≡◌, ◌⊎◌, []}
+use Rattle.wasi_causes.proofs.Words.{Allows, Asks, Call, Entry, HandleTable, Kind, List, None, OpId, Option, Some, Tcp2Socket, Told, ap, arith, entry, eqb-false, eqb-true, false, inl, inr, kind_at, refl, subst, sym, true, with_handle, without_handle, Bool, ℕ, ⊤, ◌++◌, ◌==◌, ◌∙◌, ◌∷◌, ◌≡◌, ◌⊎◌, []}
 use Rattle.wasi_table.proofs.Tables.{value_without}
 use Rattle.wasi_world.specs.declared.datagram.IncomingDatagram.{IncomingDatagram}
 use Rattle.wasi_world.specs.Operation.{CheckPeer}
@@ -73,21 +73,21 @@ module _ (handle : ℕ) (list : List IncomingDatagram) where
     pub knows : Knows es socket stream
 
   -- while the handle is live
-  abbrev pub StreamIs : List Entry → Handles → List Record → Type 0
+  abbrev pub StreamIs : List Entry → HandleTable → List Record → Type 0
   StreamIs es t records = (place : ℕ) → kind_at t handle ≡ Some (Incoming place) → StreamAt es records place
 
   -- and before it is made nothing was handed out on it
-  abbrev pub IsFresh : Handles → Type 0
+  abbrev pub IsFresh : HandleTable → Type 0
   IsFresh t = t.next ≤ handle → list ≡ []
 
   -- == more entries
-  pub stream_more : (es : List Entry) (op : OpId) (c : Call) (told : Told) (t : Handles) (records : List Record) → IsElse c → StreamIs es t records → StreamIs (es ++ entry op c told ∷ []) t records
+  pub stream_more : (es : List Entry) (op : OpId) (c : Call) (told : Told) (t : HandleTable) (records : List Record) → IsElse c → StreamIs es t records → StreamIs (es ++ entry op c told ∷ []) t records
   stream_more es op c told t records n k place e =
       let s = k place e in
       record { socket = s.socket; at = s.at; stream = s.stream; has = s.has; knows = along_quiet handle s.socket.inner.side s.stream.remote es (entry op c told) (with_waiting list s.stream.receiving) (hand_of s.stream.receiving) (quiet s.socket.inner.side s.stream.remote (hand_of s.stream.receiving) op c told (spares_else s.socket.inner.side (HandName (hand_of s.stream.receiving)) op c n)) s.knows }
 
   -- along a tree, by the place of the stream
-  pub stream_along : {A : Type 0} (t : Handles) (end : A → List Record) (es : List Entry) (asks : Asks A) → ((place : ℕ) → kind_at t handle ≡ Some (Incoming place) → Allows Anything (λ fs a. StreamAt fs (end a) place) es asks) → Allows Anything (λ fs a. StreamIs fs t (end a)) es asks
+  pub stream_along : {A : Type 0} (t : HandleTable) (end : A → List Record) (es : List Entry) (asks : Asks A) → ((place : ℕ) → kind_at t handle ≡ Some (Incoming place) → Allows Anything (λ fs a. StreamAt fs (end a) place) es asks) → Allows Anything (λ fs a. StreamIs fs t (end a)) es asks
   stream_along {A} t end es asks f = by_place (incoming_of (kind_at t handle)) refl
     where
       its : (place : ℕ) → kind_at t handle ≡ Some (Incoming place) → (fs : List Entry) (a : A) → StreamAt fs (end a) place → StreamIs fs t (end a)
@@ -141,37 +141,37 @@ module _ (handle : ℕ) (list : List IncomingDatagram) where
     | inr its ↦ absurd (n (sym its.0))
   ]
 
-  pub put_at : (es : List Entry) (t : Handles) (records : List Record) (k place : ℕ) (u now : Udp2Socket) → udp2_at records k ≡ Some u → kind_at t handle ≡ Some (Incoming place) → (kind_at t handle ≡ Some (Incoming k) → Becomes es u now) → StreamAt es records place → StreamAt es (udp2_put records k now) place
+  pub put_at : (es : List Entry) (t : HandleTable) (records : List Record) (k place : ℕ) (u now : Udp2Socket) → udp2_at records k ≡ Some u → kind_at t handle ≡ Some (Incoming place) → (kind_at t handle ≡ Some (Incoming k) → Becomes es u now) → StreamAt es records place → StreamAt es (udp2_put records k now) place
   put_at es t records k place u now g e becomes s = at_put es records k place u now g (λ same. becomes (e ∙ ap (λ (x : ℕ). Some (Incoming x)) same)) s
 
-  pub stream_put : (es : List Entry) (t : Handles) (records : List Record) (k : ℕ) (u now : Udp2Socket) → udp2_at records k ≡ Some u → (kind_at t handle ≡ Some (Incoming k) → Becomes es u now) → StreamIs es t records → StreamIs es t (udp2_put records k now)
+  pub stream_put : (es : List Entry) (t : HandleTable) (records : List Record) (k : ℕ) (u now : Udp2Socket) → udp2_at records k ≡ Some u → (kind_at t handle ≡ Some (Incoming k) → Becomes es u now) → StreamIs es t records → StreamIs es t (udp2_put records k now)
   stream_put es t records k u now g becomes i place e = put_at es t records k place u now g e becomes (i place e)
 
   pub tcp_at : (es : List Entry) (records : List Record) (k place : ℕ) (r now : Tcp2Socket) → tcp2_at records k ≡ Some r → StreamAt es records place → StreamAt es (tcp2_put records k now) place
   tcp_at es records k place r now g s = record { socket = s.socket; at = udp_in_put records k r now place _ g s.at; stream = s.stream; has = s.has; knows = s.knows }
 
-  pub stream_put_tcp : (es : List Entry) (t : Handles) (records : List Record) (k : ℕ) (r now : Tcp2Socket) → tcp2_at records k ≡ Some r → StreamIs es t records → StreamIs es t (tcp2_put records k now)
+  pub stream_put_tcp : (es : List Entry) (t : HandleTable) (records : List Record) (k : ℕ) (r now : Tcp2Socket) → tcp2_at records k ≡ Some r → StreamIs es t records → StreamIs es t (tcp2_put records k now)
   stream_put_tcp es t records k r now g i place e = tcp_at es records k place r now g (i place e)
 
-  pub stream_push_tcp : (es : List Entry) (t : Handles) (records : List Record) (now : Tcp2Socket) → StreamIs es t records → StreamIs es t (tcp2_pushed records now)
+  pub stream_push_tcp : (es : List Entry) (t : HandleTable) (records : List Record) (now : Tcp2Socket) → StreamIs es t records → StreamIs es t (tcp2_pushed records now)
   stream_push_tcp es t records now i place e = let s = i place e in record { socket = s.socket; at = udp_in_push records now place _ s.at; stream = s.stream; has = s.has; knows = s.knows }
 
-  pub stream_push : (es : List Entry) (t : Handles) (records : List Record) (now : Udp2Socket) → StreamIs es t records → StreamIs es t (udp2_pushed records now)
+  pub stream_push : (es : List Entry) (t : HandleTable) (records : List Record) (now : Udp2Socket) → StreamIs es t records → StreamIs es t (udp2_pushed records now)
   stream_push es t records now i place e = let s = i place e in record { socket = s.socket; at = udp_front records now place _ s.at; stream = s.stream; has = s.has; knows = s.knows }
 
-  pub stream_same : {new : LookupOp → Type 0} (es : List Entry) (t : Handles) (records now : List Record) → SameSockets new records now → StreamIs es t records → StreamIs es t now
+  pub stream_same : {new : LookupOp → Type 0} (es : List Entry) (t : HandleTable) (records now : List Record) → SameSockets new records now → StreamIs es t records → StreamIs es t now
   stream_same es t records now same i place e = let s = i place e in record { socket = s.socket; at = same.udp place ∙ s.at; stream = s.stream; has = s.has; knows = s.knows }
 
   -- what is open stays
-  pub stream_stays : (es : List Entry) (t : Handles) (records now : List Record) → ((k : ℕ) (o : OpenUdp) → udp2_at records k ≡ Some (Udp2Socket.Open o) → udp2_at now k ≡ Some (Udp2Socket.Open o)) → StreamIs es t records → StreamIs es t now
+  pub stream_stays : (es : List Entry) (t : HandleTable) (records now : List Record) → ((k : ℕ) (o : OpenUdp) → udp2_at records k ≡ Some (Udp2Socket.Open o) → udp2_at now k ≡ Some (Udp2Socket.Open o)) → StreamIs es t records → StreamIs es t now
   stream_stays es t records now stays i place e = let s = i place e in record { socket = s.socket; at = stays place s.socket s.at; stream = s.stream; has = s.has; knows = s.knows }
 
   -- == the table changes
-  pub stream_without : (es : List Entry) (t : Handles) (records : List Record) (gone : ℕ) → StreamIs es t records → StreamIs es (without_handle t gone) records
+  pub stream_without : (es : List Entry) (t : HandleTable) (records : List Record) (gone : ℕ) → StreamIs es t records → StreamIs es (without_handle t gone) records
   stream_without es t records gone i place e = i place (value_without t.live gone handle (Incoming place) e)
 
-  pub stream_with : (es : List Entry) (t : Handles) (records : List Record) (kind : Kind) (parent : Option ℕ) → NotStream kind → StreamIs es t records → StreamIs es (with_handle t kind parent) records
+  pub stream_with : (es : List Entry) (t : HandleTable) (records : List Record) (kind : Kind) (parent : Option ℕ) → NotStream kind → StreamIs es t records → StreamIs es (with_handle t kind parent) records
   stream_with es t records kind parent other i place e = elim (was_or_new t kind parent handle (Incoming place) e) [ inl was ↦ i place was | inr new ↦ absurd (subst (NotStream) new.1 other) ]
 
-  pub fresh_with : (t : Handles) (kind : Kind) (parent : Option ℕ) → IsFresh t → IsFresh (with_handle t kind parent)
+  pub fresh_with : (t : HandleTable) (kind : Kind) (parent : Option ℕ) → IsFresh t → IsFresh (with_handle t kind parent)
   fresh_with t kind parent f l = f (omega arith)

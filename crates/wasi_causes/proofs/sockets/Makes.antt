@@ -1,6 +1,6 @@
 -- The steps that make handles of sockets and of streams: a network, a create, the finish of a connect, and an accept.
 use Rattle.wasi_causes.proofs.Words.{AcceptFailed, AcceptGives, AcceptWaits, Accepting, AcceptsAt, Answer, Bool, ClosedBy, Closes, Connection}
-use Rattle.wasi_causes.proofs.Words.{ConnectsAt, CreateRefusal, Done, End, Entry, Err, ErrorCode, FinishRefusal, Give, Handles}
+use Rattle.wasi_causes.proofs.Words.{ConnectsAt, CreateRefusal, Done, End, Entry, Err, ErrorCode, FinishRefusal, Give, HandleTable}
 use Rattle.wasi_causes.proofs.Words.{HasNoConnectInProgress, HoldsAccept, Input, InvalidState, IpSocketAddress, IsDoneOrCode, Item, List}
 use Rattle.wasi_causes.proofs.Words.{Listener, Listening, Machine, Network, NoConnect, NoListener, NoSuchHandle, None, NotAllowed}
 use Rattle.wasi_causes.proofs.Words.{Ok, OpId, Operation, Option, Output, Records, Refused, Result}
@@ -232,13 +232,13 @@ module _ (contexts : List WasiSocketsCtx) (m : Machine) (line c handle : ℕ) wh
     abbrev side : Option OpId
     side = Some t.side
 
-    abbrev one : Handles
+    abbrev one : HandleTable
     one = with_handle m.table (Tcp2 place) (Some handle)
 
-    abbrev two : Handles
+    abbrev two : HandleTable
     two = with_handle one (Input place) (Some next)
 
-    abbrev now : Handles → Machine
+    abbrev now : HandleTable → Machine
     now table = record m { store = store; table = table }
 
     abbrev first : Entry

@@ -1,5 +1,5 @@
 -- What isn't there after a call of a stream wasn't there before.
-use Rattle.wasi_causes.proofs.Words.{◌≡◌, ℕ, Option, Some, None, true, refl, subst, ap, Handles, IsSome, List, Machine, is_some, kind_at, record_in, streams_in}
+use Rattle.wasi_causes.proofs.Words.{◌≡◌, ℕ, Option, Some, None, true, refl, subst, ap, HandleTable, IsSome, List, Machine, is_some, kind_at, record_in, streams_in}
 use Rattle.wasi_host.specs.declared.kind.PlainInput.{PlainInput}
 use Rattle.wasi_host.specs.declared.kind.PlainInput.TheVariants as input
 use Rattle.wasi_host.specs.declared.kind.PlainOutput.{PlainOutput}
@@ -43,14 +43,14 @@ module _ (m mid : Machine) (table : mid.table ≡ m.table) (there : PartsThere m
 
   pub missed_input : MissesInput mid h → MissesInput m h
   missed_input k = (
-    streams_before (input_at m h) (subst (λ (t : Handles). streams_in (record_in mid (input_of (kind_at t h))) ≡ None) table k.0),
-    input_before (plain_input_at m h) (subst (λ (t : Handles). MissesInputPipe mid (plain_input_of (kind_at t h))) table k.1),
+    streams_before (input_at m h) (subst (λ (t : HandleTable). streams_in (record_in mid (input_of (kind_at t h))) ≡ None) table k.0),
+    input_before (plain_input_at m h) (subst (λ (t : HandleTable). MissesInputPipe mid (plain_input_of (kind_at t h))) table k.1),
   )
 
   pub missed_output : MissesOutput mid h → MissesOutput m h
   missed_output k = (
-    streams_before (output_at m h) (subst (λ (t : Handles). streams_in (record_in mid (output_of (kind_at t h))) ≡ None) table k.0),
-    output_before (plain_output_at m h) (subst (λ (t : Handles). MissesOutputPipe mid (plain_output_of (kind_at t h))) table k.1),
+    streams_before (output_at m h) (subst (λ (t : HandleTable). streams_in (record_in mid (output_of (kind_at t h))) ≡ None) table k.0),
+    output_before (plain_output_at m h) (subst (λ (t : HandleTable). MissesOutputPipe mid (plain_output_of (kind_at t h))) table k.1),
   )
 
 -- == where something may be written, the output is there

@@ -18,7 +18,7 @@ use Rattle.wasi_host.specs.PlainStreams.{check_pipe_at, read_pipe_at}
 use Rattle.wasi_host.specs.Records.{input_pipe_at, output_pipe_at, tcp2_at, tcp2_put}
 use Rattle.wasi_host.specs.StreamCalls.{check_by, plain_answer, plain_done, plain_input_at, plain_output_at, read_by}
 use Rattle.wasi_walks.specs.Missing.{pipe_of}
-use Rattle.wasi_host.specs.Kinds.{Handles, kind_at, output_of, plain_output_of}
+use Rattle.wasi_host.specs.Kinds.{HandleTable, kind_at, output_of, plain_output_of}
 use Rattle.wasi_world.specs.Fits.{IsReady as FitsReady}
 use Rattle.wasi_world.specs.declared.call.Told.TheVariants as told
 use Rattle.wasi_causes.proofs.streams.Pipes.{input_no_tcp, output_set, tcp_no_pipe, tcp_set}
@@ -166,8 +166,8 @@ pipe_as m after same _ = refl
 
 pub still_may : (m after : Machine) (h n : ℕ) → SameWriters m after → MayWrite m h n → MayWrite after h n
 still_may m after h n same may = (
-  by_writer n (output_streams m h) (output_streams after h) (ap (λ (t : Handles). writer_in (streams_in (record_in after (output_of (kind_at t h))))) same.table ∙ writer_at m after same (output_at m h)) may.0,
-  subst (λ (o : Option Contents). MayWriteInto o n) (sym (ap (λ (t : Handles). pipe_of after (plain_output_of (kind_at t h))) same.table ∙ pipe_as m after same (plain_output_at m h))) may.1,
+  by_writer n (output_streams m h) (output_streams after h) (ap (λ (t : HandleTable). writer_in (streams_in (record_in after (output_of (kind_at t h))))) same.table ∙ writer_at m after same (output_at m h)) may.0,
+  subst (λ (o : Option Contents). MayWriteInto o n) (sym (ap (λ (t : HandleTable). pipe_of after (plain_output_of (kind_at t h))) same.table ∙ pipe_as m after same (plain_output_at m h))) may.1,
 )
 
 same_writers : (m : Machine) → SameWriters m m

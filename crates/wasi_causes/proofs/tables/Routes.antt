@@ -1,6 +1,6 @@
 -- How a call finds its record, and how a handle is made: what every step shares that does so.
 use Rattle.wasi_walks.proofs.Lists.{set_same}
-use Rattle.wasi_causes.proofs.Words.{AccessDenied, Asks, Bool, Code, CodeWord, Entry, Err, ErrorCode, Full, Give, Handles, Input, IsDone, IsSomeAnd}
+use Rattle.wasi_causes.proofs.Words.{AccessDenied, Asks, Bool, Code, CodeWord, Entry, Err, ErrorCode, Full, Give, HandleTable, Input, IsDone, IsSomeAnd}
 use Rattle.wasi_causes.proofs.Words.{Kind, List, Machine, NoSuchHandle, None, OfRecord, Ok, OpId, Option, Output, Records, Reply, Result, Some, Step}
 use Rattle.wasi_causes.proofs.Words.{Stop, Tcp2Socket, Told, Trap, WasiSocketsCtx, [], ap, arith, bind, entry, false, is_full, is_nothing, make_asks}
 use Rattle.wasi_causes.proofs.Words.{marks_in, marks_in-push, name_of, no_such_handle, output_asks, putting, record_at, record_in, refl}
@@ -91,7 +91,7 @@ on_idle {A} {Row} m handle on call by gone calls lost goes conflicts missing bus
     by_progress place r n true e = begun place r n e
 
 -- == a handle that is made
-pub makes : {Row : Rows (Result ℕ Stop × Handles)} {es : List Entry} (t : Handles) (op : OpId) (made : Kind) (parent : Option ℕ) (side : Option OpId)
+pub makes : {Row : Rows (Result ℕ Stop × HandleTable)} {es : List Entry} (t : HandleTable) (op : OpId) (made : Kind) (parent : Option ℕ) (side : Option OpId)
     → (is_full t ≡ true → Row es (Err (Trap Full), t)) → Row (es ++ entry op (call.Made t.next (name_of made) parent side) told.Done ∷ []) (Ok t.next, with_handle t made parent) → Meets Row es (make_asks t op made parent side)
 unfolding bind
 makes {Row} {es} t op made parent side full row = branch (is_full t) (λ e. ends (full e)) (λ room. asks (λ u fits. by_told u fits))
@@ -102,8 +102,8 @@ makes {Row} {es} t op made parent side full row = branch (is_full t) (λ e. ends
 
 -- the two streams of a connection, under its socket's handle; so many handles were made before
 pub makes_streams : {Row : Rows (Result (ℕ × ℕ) Stop × Machine)} (now : Machine) (es : List Entry) (own : OpId) (handle place : ℕ) (side : Option OpId) (start : ℕ) → now.table.next ≡ start + marks_in es
-    → ((fs : List Entry) (table : Handles) → is_full table ≡ true → table.next ≡ start + marks_in fs → Row fs (Err (Trap Full), record now { table = table }))
-    → let one : Handles = with_handle now.table (Input place) (Some handle) in
+    → ((fs : List Entry) (table : HandleTable) → is_full table ≡ true → table.next ≡ start + marks_in fs → Row fs (Err (Trap Full), record now { table = table }))
+    → let one : HandleTable = with_handle now.table (Input place) (Some handle) in
     Row ((es ++ entry own (call.Made now.table.next name.Input (Some handle) side) told.Done ∷ []) ++ entry own (call.Made one.next name.Output (Some handle) side) told.Done ∷ []) (Ok (now.table.next, one.next), record now { table = with_handle one (Output place) (Some handle) })
     → Meets Row es (streams_asks now own handle place side)
 makes_streams {Row} now es own handle place side start count full row =
@@ -115,7 +115,7 @@ makes_streams {Row} now es own handle place side start count full row =
     next = let p = marks_in-push es (entry own (call.Made now.table.next name.Input (Some handle) side) told.Done) in omega arith
 
 pub full_so : (m after : Machine) (es : List Entry) → is_full after.table ≡ true → after.table ≡ m.table → marks_in es ≡ 0 → FullAfter m es after
-full_so m after es full same none = (full, let next = ap (λ (t : Handles). t.next) same in omega (arith, next, none))
+full_so m after es full same none = (full, let next = ap (λ (t : HandleTable). t.next) same in omega (arith, next, none))
 
 -- == one reply that comes of one thing
 pub apart : {A B : Type 0} → (A → ⊥) → (B → ⊥) → A ↔ B

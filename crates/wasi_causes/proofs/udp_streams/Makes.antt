@@ -1,5 +1,5 @@
 -- The two handles of datagram streams that are made.
-use Rattle.wasi_causes.proofs.Words.{Answer, Entry, Err, Full, Handles, List, Machine, Ok, OpId, Option, Ready, Result, Some, Stop, Trap, [], arith, entry, is_full}
+use Rattle.wasi_causes.proofs.Words.{Answer, Entry, Err, Full, HandleTable, List, Machine, Ok, OpId, Option, Ready, Result, Some, Stop, Trap, [], arith, entry, is_full}
 use Rattle.wasi_causes.proofs.Words.{inl, inr, kind_at, marks_in, marks_in-push, subst, sym, true, ℕ, ◌+◌, ◌++◌, ◌∷◌, ◌≡◌}
 use Rattle.wasi_world.specs.declared.call.Call.TheVariants as call
 use Rattle.wasi_world.specs.declared.call.HandleKind.TheVariants as name
@@ -24,7 +24,7 @@ module _ (now : Machine) (own : OpId) (handle place : ℕ) where
 
   -- they are made, or one of them finds the table full, after those that were made so far
   pub makes_both : {Row : Rows (Result (Answer (ℕ × ℕ)) Stop × Machine)} (es : List Entry) → udp_of (kind_at now.table handle) ≡ Some place → marks_in es ≡ 0
-      → ((fs : List Entry) (table : Handles) → is_full table ≡ true → table.next ≡ now.table.next + marks_in fs → LacksRoomForBoth now.table place handle → Row fs (Err (Trap Full), record now { table = table }))
+      → ((fs : List Entry) (table : HandleTable) → is_full table ≡ true → table.next ≡ now.table.next + marks_in fs → LacksRoomForBoth now.table place handle → Row fs (Err (Trap Full), record now { table = table }))
       → Row (marks_of es) (Ok (Ready (now.table.next, now.table.next + 1)), record now { table = with_both now.table place handle }) → Meets Row es (mark_streams now own handle)
   makes_both {Row} es names unmarked full row =
       subst (λ (o : Option ℕ). Meets Row es (mark_streams_of now own handle o)) (sym names)

@@ -3,7 +3,7 @@
 use Rattle.wasi_world.specs.declared.call.Call.TheVariants as call
 use Rattle.wasi_tcp.specs.declared.listener.Accepting.TheVariants as accepting
 use Rattle.wasi_tcp.specs.declared.writer.WriteState.TheVariants as writing
-use Rattle.wasi_laws.proofs.Words.{◌≡◌, ℕ, List, [], ◌∷◌, ◌++◌, Option, Some, None, refl, IpSocketAddress, OpId, Call, Told, Entry, bind, End, Waits, Operation, Who, poll_asks, Allows, allows_then, allows_if, is_full, Accepting, TcpState, WriteState, in_hand, refuse_in, Job, job_after, job_in, job_asks, is_over, Listener, give_up_in, turn_asks, Kind, Listening, Not, Begins, Accepts, Unclosed, Handles, name_of, make_asks, give_up_asks, entry}
+use Rattle.wasi_laws.proofs.Words.{◌≡◌, ℕ, List, [], ◌∷◌, ◌++◌, Option, Some, None, refl, IpSocketAddress, OpId, Call, Told, Entry, bind, End, Waits, Operation, Who, poll_asks, Allows, allows_then, allows_if, is_full, Accepting, TcpState, WriteState, in_hand, refuse_in, Job, job_after, job_in, job_asks, is_over, Listener, give_up_in, turn_asks, Kind, Listening, Not, Begins, Accepts, Unclosed, HandleTable, name_of, make_asks, give_up_asks, entry}
 use Rattle.wasi_laws.proofs.shapes.Shape.{ListenerShape}
 
 -- a write that a writer continues with, and the writer that has such a job
@@ -22,7 +22,7 @@ module _ (P : List Entry → OpId → Call → Type 0) where
   abbrev pub Then : (List Entry → Type 0) → List Entry → OpId → Call → Type 0
   Then Q es op c = P es op c × ((told : Told) → Q (es ++ entry op c told ∷ []))
 
-  pub makes_by : (Q : List Entry → Type 0) (es : List Entry) (t : Handles) (op : OpId) (kind : Kind) (parent : Option ℕ) (sock : Option OpId) → Q es → Then Q es op (call.Made t.next (name_of kind) parent sock) → Allows P (λ fs made. Q fs) es (make_asks t op kind parent sock)
+  pub makes_by : (Q : List Entry → Type 0) (es : List Entry) (t : HandleTable) (op : OpId) (kind : Kind) (parent : Option ℕ) (sock : Option OpId) → Q es → Then Q es op (call.Made t.next (name_of kind) parent sock) → Allows P (λ fs made. Q fs) es (make_asks t op kind parent sock)
   unfolding bind
   makes_by Q es t op kind parent sock q k = allows_if P (λ fs made. Q fs) es (is_full t) _ _ (λ full. q) (λ room. (k.0, λ told fits. k.1 told))
 

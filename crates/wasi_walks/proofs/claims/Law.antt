@@ -25,7 +25,7 @@ use Rattle.wasi_walks.proofs.fits.UdpPolls.{create_side}
 use Rattle.wasi_walks.proofs.fits.UdpFits.{connected_side, learnt_side}
 use Rattle.wasi_tcp.specs.Accept as accept
 use Rattle.wasi_host.specs.Datagrams.{udp_connect_left, with_sending}
-use Rattle.wasi_host.specs.Kinds.{Handles}
+use Rattle.wasi_host.specs.Kinds.{HandleTable}
 use Rattle.wasi_host.specs.Receiving.{receive_left, with_receiving}
 use Rattle.wasi_host.specs.Records.{tcp2_at, tcp2_of, tcp2_put, tcp2_pushed, udp2_at, udp2_of, udp2_pushed}
 use Rattle.wasi_host.specs.declared.name_lookup.LookupOp.{LookupOp}
@@ -417,7 +417,7 @@ module _ (contexts : List WasiSocketsCtx) (line : ℕ) (origin : Step) where
           record { one = j.one; apart = j.apart; older = j.older; named = j.named; held = j.held; udps = record { one = j.udps.one; apart = j.udps.apart; older = j.udps.older } })
 
   -- a handle is made
-  marked : {A : Type 0} (es : List Entry) (h : Here) (so : Made) (asks : Asks (A × Handles)) → Pair h → Allows Anything (λ fs made. Pair (record h { machine = record h.machine { table = made.1 }; made = so })) es asks
+  marked : {A : Type 0} (es : List Entry) (h : Here) (so : Made) (asks : Asks (A × HandleTable)) → Pair h → Allows Anything (λ fs made. Pair (record h { machine = record h.machine { table = made.1 }; made = so })) es asks
   marked es h so asks i = whatever (λ made. Pair (record h { machine = record h.machine { table = made.1 }; made = so })) (λ made. let k = i.1 in (record { records = i.0.records; udps = i.0.udps; stands = i.0.stands }, record { one = k.one; apart = k.apart; older = k.older; named = k.named; held = k.held; udps = record { one = k.udps.one; apart = k.udps.apart; older = k.udps.older } })) es asks
 
   -- this and that the records fit, of which it takes that an accept is one

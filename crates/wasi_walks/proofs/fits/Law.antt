@@ -20,7 +20,7 @@ use Rattle.wasi_walks.proofs.walks.Law.{BeginsWrites, Law, Walks}
 use Rattle.wasi_tcp.specs.Accept as accept
 use Rattle.wasi_tcp.specs.Listen as listen
 use Rattle.wasi_walks.specs.Waiting as binding
-use Rattle.wasi_host.specs.Kinds.{Handles}
+use Rattle.wasi_host.specs.Kinds.{HandleTable}
 use Rattle.wasi_host.specs.Records.{tcp2_at, tcp2_of, tcp2_put, tcp2_pushed, udp2_at, udp2_of, udp2_put, udp2_pushed}
 use Rattle.wasi_walks.proofs.GoneLists.{was_there}
 use Rattle.wasi_host.specs.declared.name_lookup.LookupOp.{LookupOp}
@@ -395,7 +395,7 @@ module _ (contexts : List WasiSocketsCtx) (line : ℕ) (origin : Step) where
   udp_inner_fit h place o socket g e i = put_udp_fit h place (Udp2Socket.Open o) _ g (inr (stays_open o (with_udp_inner o socket) refl refl)) (inner_fits o socket e (i.udps place (Udp2Socket.Open o) g)) i
 
   -- a handle is made
-  pub marked_fit : {A : Type 0} (es : List Entry) (h : Here) (so : Made) (asks : Asks (A × Handles)) → Fit h → Allows Anything (λ fs made. Fit (record h { machine = record h.machine { table = made.1 }; made = so })) es asks
+  pub marked_fit : {A : Type 0} (es : List Entry) (h : Here) (so : Made) (asks : Asks (A × HandleTable)) → Fit h → Allows Anything (λ fs made. Fit (record h { machine = record h.machine { table = made.1 }; made = so })) es asks
   marked_fit es h so asks i = whatever (λ made. Fit (record h { machine = record h.machine { table = made.1 }; made = so })) (λ made. record { records = i.records; udps = i.udps; stands = i.stands }) es asks
 
   unfoldable pub fits : Law contexts line origin

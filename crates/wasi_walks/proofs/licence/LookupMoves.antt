@@ -1,5 +1,5 @@
 -- Where lookups change, the sockets among the records are the same, and the state still fits the log.
-use Rattle.wasi_walks.proofs.Words.{Entry, Handles, Kind, List, Machine, None, Option, Some, Step, Tcp2Socket, WasiSocketsCtx, ap, kind_at, refl, sym, ℕ, ◌∙◌, ◌≡◌}
+use Rattle.wasi_walks.proofs.Words.{Entry, HandleTable, Kind, List, Machine, None, Option, Some, Step, Tcp2Socket, WasiSocketsCtx, ap, kind_at, refl, sym, ℕ, ◌∙◌, ◌≡◌}
 use Rattle.wasi_walks.proofs.GoneLists.{stays_there, was_there}
 use Rattle.wasi_walks.proofs.owners.Owned.{NoneOf, Owned, named_by, none_named, tcp_names, udp_names}
 use Rattle.wasi_host.specs.GivingBack.{given_back, record_gone}
@@ -54,7 +54,7 @@ module _ {contexts : List WasiSocketsCtx} {steps : List Step} (new : LookupOp �
 
 -- == a record is given back
 -- a live handle is of another record
-module _ (es : List Entry) (t : Handles) (old : List Record) (place : ℕ) (none : NoneOf t place) (live : Owned t old) (handle : ℕ) (kind : Kind) (e : kind_at t handle ≡ Some kind) where
+module _ (es : List Entry) (t : HandleTable) (old : List Record) (place : ℕ) (none : NoneOf t place) (live : Owned t old) (handle : ℕ) (kind : Kind) (e : kind_at t handle ≡ Some kind) where
   another : (k : ℕ) → named_by kind ≡ Some k → k ≡ place → ⊥
   another k named same = none_named t old live place none handle kind e (named ∙ ap (λ (x : ℕ). Some x) same)
 

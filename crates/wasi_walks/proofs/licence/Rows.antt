@@ -1,5 +1,5 @@
 -- The definitions on logs of the machine's own runs, which are licensed.
-use Rattle.wasi_walks.proofs.Words.{BeganBy, Call, Created, Entry, Give, Handles, Has, InProgress, IpSocketAddress, IsLicensed, Left, List, Machine}
+use Rattle.wasi_walks.proofs.Words.{BeganBy, Call, Created, Entry, Give, HandleTable, Has, InProgress, IpSocketAddress, IsLicensed, Left, List, Machine}
 use Rattle.wasi_walks.proofs.Words.{NamesSide, None, Option, Reply, SocketAddrUse, SocketAddressFamily, Some, Standing, StandingCall, Step, Told}
 use Rattle.wasi_walks.proofs.Words.{WasiSocketsCtx, [], bind, bind_operation, entry, false, first_state, inl, inr, new_record, new_socket, no_fields}
 use Rattle.wasi_walks.proofs.Words.{number_fields, own_of, polls, refl, run, standing_as, true, wildcard, with_progress, ℕ, ◌++◌, ◌∷◌}
@@ -30,7 +30,7 @@ abbrev pub local_80 : IpSocketAddress
 local_80 = IpSocketAddress.Ipv4 (record { port = 80; address = (127, 0, 0, 1) })
 
 -- the table with a network and a socket
-abbrev pub two_handles : Handles
+abbrev pub two_handles : HandleTable
 two_handles = record { next = 3; live = record { handle = 1; value = slot.Network; parent = None } ∷ record { handle = 2; value = slot.Tcp2 0; parent = None } ∷ [] }
 
 -- the machine with these, the socket by this context, which is in the middle of this, and a call that may stand

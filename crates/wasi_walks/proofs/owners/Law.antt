@@ -1,5 +1,5 @@
 -- The law of it: each move and each ask keeps what is live of the records.
-use Rattle.wasi_walks.proofs.Words.{Allows, End, Entry, Err, ErrorCode, ErrorValue, Handles, Input, Item, Kind, List, Network, None, Not, Ok, OpId, Operation, Option, Output, Pollable, Result, Socket, Some, Step, Stop, Tcp2, Tcp2Socket, WasiSocketsCtx, Watched}
+use Rattle.wasi_walks.proofs.Words.{Allows, End, Entry, Err, ErrorCode, ErrorValue, HandleTable, Input, Item, Kind, List, Network, None, Not, Ok, OpId, Operation, Option, Output, Pollable, Result, Socket, Some, Step, Stop, Tcp2, Tcp2Socket, WasiSocketsCtx, Watched}
 use Rattle.wasi_walks.proofs.Words.{[], allows_if, allows_then, ap, arith, bind, created_asks, give_up_asks, inl, inr, is_full, kind_at, length, make_asks, new_asks, new_record, own_of, poll_asks, refl, side_at, side_of, slice_get, slice_set, subst, sym, table_parent, told_done, turn_asks, watched_by, with_handle, with_listening, with_record, with_writer, ℕ, ⊤, ◌++◌, ◌∷◌, ◌∙◌, ◌≡◌, ◌⊎◌}
 use Rattle.wasi_table.specs.Table.{Live}
 use Rattle.wasi_udp.specs.Create.{Create, after_create as udp_after_create, create_cancel_asks}
@@ -60,10 +60,10 @@ given_back_owns : (h : Here) (place : ℕ) → IsLeft h place → Owns h → Own
 given_back_owns h place left i = set_owns h place Record.Gone (λ a l e. absurd (left_none h place left i a l e)) i
 
 -- nothing is of a record that is to join
-none_at_end : (t : Handles) (records : List Record) → Owned t records → NoneOf t (length records)
+none_at_end : (t : HandleTable) (records : List Record) → Owned t records → NoneOf t (length records)
 none_at_end t records i a l e = there_end records (i.there a (length records) l e)
 
-push_owned : (t : Handles) (records : List Record) (new : Record) → Owned t records → Owned t (records ++ new ∷ [])
+push_owned : (t : HandleTable) (records : List Record) (new : Record) → Owned t records → Owned t (records ++ new ∷ [])
 push_owned t records new i = owned_still t records _ (λ a k l e s. there_push records new k s) i
 
 pub same_owns : {new : LookupOp → Type 0} (h : Here) (records : List Record) → SameSockets new h.machine.store.records records → Owns h → Owns (with_records h records)
@@ -96,7 +96,7 @@ IsOther (PlainOutput plain_output.Sink) = ⊤
 IsOther (PlainOutput plain_output.Closed) = ⊤
 IsOther _ = ⊥
 
-other_fits : (t : Handles) (records : List Record) (kind : Kind) (parent : Option ℕ) → IsOther kind → IsNew t records kind parent
+other_fits : (t : HandleTable) (records : List Record) (kind : Kind) (parent : Option ℕ) → IsOther kind → IsNew t records kind parent
 other_fits t records Network parent other = record { owner = λ place e. absurd (cc); stream = λ place e. absurd (cc); watch = λ w e. absurd (cc) }
 other_fits t records ErrorValue parent other = record { owner = λ place e. absurd (cc); stream = λ place e. absurd (cc); watch = λ w e. absurd (cc) }
 other_fits t records (PlainInput plain_input.Closed) parent other = record { owner = λ place e. absurd (cc); stream = λ place e. absurd (cc); watch = λ w e. absurd (cc) }
@@ -117,7 +117,7 @@ no_record (PlainOutput plain_output.Closed) place other (inl e) = absurd (cc)
 no_record (PlainOutput plain_output.Closed) place other (inr e) = absurd (cc)
 no_record _ place other e = other
 
-pollable_fits : (t : Handles) (records : List Record) (w : Watched) (parent : Option ℕ) → Above t parent w → IsNew t records (Pollable w) parent
+pollable_fits : (t : HandleTable) (records : List Record) (w : Watched) (parent : Option ℕ) → Above t parent w → IsNew t records (Pollable w) parent
 pollable_fits t records w parent above = record { owner = λ place e. absurd (cc); stream = λ place e. absurd (cc); watch = λ x e. (let same : w ≡ x = cc in subst (Above t parent) same above) }
 
 no_pollable : (w : Watched) (place : ℕ) → IsOf (Pollable w) place → ⊥
@@ -125,7 +125,7 @@ no_pollable w place (inl e) = absurd (cc)
 no_pollable w place (inr e) = absurd (cc)
 
 -- the one of its record
-owner_fits : (t : Handles) (records : List Record) (kind : Kind) (place : ℕ) (parent : Option ℕ) → owner_of kind ≡ Some place → ((w : Watched) → kind ≡ Pollable w → ⊥) → NoneOf t place → Stays (slice_get records place) → IsNew t records kind parent
+owner_fits : (t : HandleTable) (records : List Record) (kind : Kind) (place : ℕ) (parent : Option ℕ) → owner_of kind ≡ Some place → ((w : Watched) → kind ≡ Pollable w → ⊥) → NoneOf t place → Stays (slice_get records place) → IsNew t records kind parent
 owner_fits t records kind place parent owns not none stays = record {
   owner = λ k e. (let same : place ≡ k = (let p : Some place ≡ Some k = sym owns ∙ e in cc) in (subst (NoneOf t) same none, subst (λ (x : ℕ). Stays (slice_get records x)) same stays));
   stream = λ k e. absurd (one_way kind k place e owns);
@@ -133,7 +133,7 @@ owner_fits t records kind place parent owns not none stays = record {
 }
 
 -- a stream under that
-stream_fits : (t : Handles) (records : List Record) (kind : Kind) (place handle : ℕ) → stream_place kind ≡ Some place → ((w : Watched) → kind ≡ Pollable w → ⊥) → OneOwner t handle place → Stays (slice_get records place) → IsNew t records kind (Some handle)
+stream_fits : (t : HandleTable) (records : List Record) (kind : Kind) (place handle : ℕ) → stream_place kind ≡ Some place → ((w : Watched) → kind ≡ Pollable w → ⊥) → OneOwner t handle place → Stays (slice_get records place) → IsNew t records kind (Some handle)
 stream_fits t records kind place handle its not one stays = record {
   owner = λ k e. absurd (one_way kind place k its e);
   stream = λ k e. (let same : place ≡ k = (let p : Some place ≡ Some k = sym its ∙ e in cc) in (λ b l f. ap (λ (x : ℕ). Some x) (sym (one b l (f ∙ ap (λ (x : ℕ). Some x) (sym same)))), subst (λ (x : ℕ). Stays (slice_get records x)) same stays));
@@ -141,14 +141,14 @@ stream_fits t records kind place handle its not one stays = record {
 }
 
 -- the handle of a socket is the one of its record
-one_of_handle : (t : Handles) (records : List Record) (handle place : ℕ) (kind : Kind) → kind_at t handle ≡ Some kind → owner_of kind ≡ Some place → Owned t records → OneOwner t handle place
+one_of_handle : (t : HandleTable) (records : List Record) (handle place : ℕ) (kind : Kind) → kind_at t handle ≡ Some kind → owner_of kind ≡ Some place → Owned t records → OneOwner t handle place
 one_of_handle t records handle place kind e owns i a l f = let s = slot_of t.live handle kind e in i.one a s.slot place l s.live_one f (ap owner_of s.value ∙ owns) ∙ s.its
 
-owner_there : (t : Handles) (records : List Record) (handle place : ℕ) (kind : Kind) → kind_at t handle ≡ Some kind → owner_of kind ≡ Some place → Owned t records → Stays (slice_get records place)
+owner_there : (t : HandleTable) (records : List Record) (handle place : ℕ) (kind : Kind) → kind_at t handle ≡ Some kind → owner_of kind ≡ Some place → Owned t records → Stays (slice_get records place)
 owner_there t records handle place kind e owns i = let s = slot_of t.live handle kind e in i.there s.slot place s.live_one (inl (ap owner_of s.value ∙ owns))
 
 -- the streams of a connection, and those of datagrams
-two_fits : (t : Handles) (records : List Record) (kind a b : Kind) (place handle : ℕ) → (kind ≡ a) ⊎ (kind ≡ b) → IsNew t records a (table_parent a (Some handle)) → IsNew t records b (table_parent b (Some handle)) → IsNew t records kind (table_parent kind (Some handle))
+two_fits : (t : HandleTable) (records : List Record) (kind a b : Kind) (place handle : ℕ) → (kind ≡ a) ⊎ (kind ≡ b) → IsNew t records a (table_parent a (Some handle)) → IsNew t records b (table_parent b (Some handle)) → IsNew t records kind (table_parent kind (Some handle))
 two_fits t records kind a b place handle (inl e) x y = subst (λ (k : Kind). IsNew t records k (table_parent k (Some handle))) (sym e) x
 two_fits t records kind a b place handle (inr e) x y = subst (λ (k : Kind). IsNew t records k (table_parent k (Some handle))) (sym e) y
 
@@ -278,7 +278,7 @@ module _ (contexts : List WasiSocketsCtx) (line : ℕ) (origin : Step) where
   marks_owns es h _ _ sock (walk.APlainPollable c handle is e) i = mark_pollable es h (own_of line) Watched.Plain handle None e i
 
   -- a socket that is created, and what an accept took, are the first of their records
-  first_fits : (t : Handles) (records : List Record) (place : ℕ) → NoneOf t place → Stays (slice_get records place) → IsNew t records (Tcp2 place) None
+  first_fits : (t : HandleTable) (records : List Record) (place : ℕ) → NoneOf t place → Stays (slice_get records place) → IsNew t records (Tcp2 place) None
   first_fits t records place none stays = owner_fits t records (Tcp2 place) place None refl (λ w e. absurd (cc)) none stays
 
   pub joins : (es : List Entry) (h : Here) (made : Result Socket ErrorCode) → h.made ≡ Past → Owns h → Allows Anything (λ fs done. Owns (record h { machine = done.1; own = walk.Used })) es (created_asks h.machine (own_of line) made)

@@ -1,5 +1,5 @@
 -- What is live of each record: one handle is of it, and its streams and what watches them are under that.
-use Rattle.wasi_walks.proofs.Words.{Handles, Input, Kind, List, None, Option, Output, Pollable, Some, Tcp2, Watched, ap, arith, inl, inr, kind_at, refl, slice_get, subst, sym, table_parent, true, watched_by, with_handle, without_handle, ℕ, ⊤, ◌∙◌, ◌≡◌, ◌≤◌, ◌⊎◌}
+use Rattle.wasi_walks.proofs.Words.{HandleTable, Input, Kind, List, None, Option, Output, Pollable, Some, Tcp2, Watched, ap, arith, inl, inr, kind_at, refl, slice_get, subst, sym, table_parent, true, watched_by, with_handle, without_handle, ℕ, ⊤, ◌∙◌, ◌≡◌, ◌≤◌, ◌⊎◌}
 use Rattle.wasi_table.specs.Table.{Live}
 use Rattle.wasi_host.specs.Kinds.{has_no_child}
 use Rattle.wasi_host.specs.Machine.{first_state}
@@ -35,28 +35,28 @@ abbrev pub IsOf : Kind → ℕ → Type 0
 IsOf kind place = (owner_of kind ≡ Some place) ⊎ (stream_place kind ≡ Some place)
 
 -- Of a pollable that watches this: its parent is a live handle of it.
-pub record Above (t : Handles) (parent : Option ℕ) (w : Watched) : Type 0 where
+pub record Above (t : HandleTable) (parent : Option ℕ) (w : Watched) : Type 0 where
   pub slot : Live Kind
   pub live_one : Has t.live slot
   pub its : parent ≡ Some slot.handle
   pub watched : watched_by (Some slot.value) ≡ Some w
 
 -- Each record has one handle at most, its streams are under that, and a pollable is under what it watches; the records are there.
-pub record Owned (t : Handles) (records : List Record) : Type 0 where
+pub record Owned (t : HandleTable) (records : List Record) : Type 0 where
   pub one : (a b : Live Kind) (place : ℕ) → Has t.live a → Has t.live b → owner_of a.value ≡ Some place → owner_of b.value ≡ Some place → a.handle ≡ b.handle
   pub under : (a b : Live Kind) (place : ℕ) → Has t.live a → Has t.live b → stream_place a.value ≡ Some place → owner_of b.value ≡ Some place → a.parent ≡ Some b.handle
   pub there : (a : Live Kind) (place : ℕ) → Has t.live a → IsOf a.value place → Stays (slice_get records place)
   pub watches : (a : Live Kind) (w : Watched) → Has t.live a → a.value ≡ Pollable w → Above t a.parent w
 
 -- nothing of the record is live, or but for this handle
-abbrev pub NoneOf : Handles → ℕ → Type 0
+abbrev pub NoneOf : HandleTable → ℕ → Type 0
 NoneOf t place = (a : Live Kind) → Has t.live a → IsOf a.value place → ⊥
 
-abbrev pub OneOwner : Handles → ℕ → ℕ → Type 0
+abbrev pub OneOwner : HandleTable → ℕ → ℕ → Type 0
 OneOwner t handle place = (a : Live Kind) → Has t.live a → owner_of a.value ≡ Some place → a.handle ≡ handle
 
 -- what is made has no handle yet, and what was dropped has none any more
-abbrev pub MadeSo : Handles → Made → Type 0
+abbrev pub MadeSo : HandleTable → Made → Type 0
 MadeSo t (Joined place) = NoneOf t place
 MadeSo t (Marked handle place) = OneOwner t handle place
 MadeSo t (Emptied kind) = (place : ℕ) → owner_of kind ≡ Some place → NoneOf t place
@@ -69,12 +69,12 @@ pub first_owned : {records : List Record} → Owned first_state.table records
 first_owned = record { one = λ a b place l k d e. absurd l; under = λ a b place l k d e. absurd l; there = λ a place l e. absurd l; watches = λ a w l e. absurd l }
 
 -- == records change
-pub owned_still : (t : Handles) (old now : List Record) → ((a : Live Kind) (place : ℕ) → Has t.live a → IsOf a.value place → Stays (slice_get old place) → Stays (slice_get now place)) → Owned t old → Owned t now
+pub owned_still : (t : HandleTable) (old now : List Record) → ((a : Live Kind) (place : ℕ) → Has t.live a → IsOf a.value place → Stays (slice_get old place) → Stays (slice_get now place)) → Owned t old → Owned t now
 owned_still t old now still i = record { one = i.one; under = i.under; there = λ a place l e. still a place l e (i.there a place l e); watches = i.watches }
 
 -- == a handle is made
 -- What a new handle has to be: the first of its record, a stream under that, or a pollable under what it watches.
-pub record IsNew (t : Handles) (records : List Record) (kind : Kind) (parent : Option ℕ) : Type 0 where
+pub record IsNew (t : HandleTable) (records : List Record) (kind : Kind) (parent : Option ℕ) : Type 0 where
   pub owner : (place : ℕ) → owner_of kind ≡ Some place → NoneOf t place × Stays (slice_get records place)
   pub stream : (place : ℕ) → stream_place kind ≡ Some place → ((b : Live Kind) → Has t.live b → owner_of b.value ≡ Some place → parent ≡ Some b.handle) × Stays (slice_get records place)
   pub watch : (w : Watched) → kind ≡ Pollable w → Above t parent w
@@ -87,8 +87,8 @@ one_way (Incoming n) place other s o = absurd (cc)
 one_way (Outgoing n) place other s o = absurd (cc)
 one_way _ place other s o = absurd (cc)
 
-module _ (t : Handles) (records : List Record) (kind : Kind) (parent : Option ℕ) where
-  abbrev after : Handles
+module _ (t : HandleTable) (records : List Record) (kind : Kind) (parent : Option ℕ) where
+  abbrev after : HandleTable
   after = with_handle t kind parent
 
   abbrev new : Live Kind
@@ -153,7 +153,7 @@ module _ (t : Handles) (records : List Record) (kind : Kind) (parent : Option �
   other_still _ other k = tt
 
 -- == a handle is taken out
-module _ (t : Handles) (records : List Record) (handle : ℕ) (none : has_no_child t handle ≡ true) where
+module _ (t : HandleTable) (records : List Record) (handle : ℕ) (none : has_no_child t handle ≡ true) where
   pub taken_owned : Owned t records → Owned (without_handle t handle) records
   taken_owned i = record {
     one = λ a b place l k d e. i.one a b place (has_without t.live handle a l) (has_without t.live handle b k) d e;
@@ -193,7 +193,7 @@ module _ (t : Handles) (records : List Record) (handle : ℕ) (none : has_no_chi
 
 -- == of a live handle
 -- a handle of what is watched is a parent
-pub parent_of : (t : Handles) (handle : ℕ) (w : Watched) → watched_by (kind_at t handle) ≡ Some w → Above t (Some handle) w
+pub parent_of : (t : HandleTable) (handle : ℕ) (w : Watched) → watched_by (kind_at t handle) ≡ Some w → Above t (Some handle) w
 parent_of t handle w by = by_kind (kind_at t handle) refl by
   where
     by_kind : (o : Option Kind) → kind_at t handle ≡ o → watched_by o ≡ Some w → Above t (Some handle) w
@@ -237,7 +237,7 @@ watched_is_of (PlainInput n) w place e f = absurd (let p : Watched.Plain ≡ w =
 watched_is_of (PlainOutput n) w place e f = absurd (let p : Watched.Plain ≡ w = cc in let none : None ≡ Some place = ap watched_place p ∙ f in cc)
 watched_is_of _ w place e f = absurd (cc)
 
-module _ (t : Handles) (records : List Record) (i : Owned t records) where
+module _ (t : HandleTable) (records : List Record) (i : Owned t records) where
   -- what names the record is of it, or watches what is
   pub names_live : (handle place : ℕ) (kind : Kind) → kind_at t handle ≡ Some kind → named_by kind ≡ Some place → (a : Live Kind) × (Has t.live a × IsOf a.value place)
   names_live handle place kind e named = let s = slot_of t.live handle kind e in by_kind kind s named

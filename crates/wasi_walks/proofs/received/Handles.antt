@@ -1,6 +1,6 @@
 -- Handles in the table: each is older than the next one; and the handle under which datagram streams are made, or are to be made by a
 -- pending call, is of no other UDP socket than theirs.
-use Rattle.wasi_walks.proofs.Words.{End, Err, ErrorCode, Handles, Item, Kind, List, None, Ok, Operation, Option, Result, Some, Standing, StandingCall, Stop, Step, Tcp2Socket}
+use Rattle.wasi_walks.proofs.Words.{End, Err, ErrorCode, HandleTable, Item, Kind, List, None, Ok, Operation, Option, Result, Some, Standing, StandingCall, Stop, Step, Tcp2Socket}
 use Rattle.wasi_walks.proofs.Words.{ap, arith, inl, inr, kind_at, refl, standing_as, subst, sym, table_parent, with_handle, without_handle, ℕ, ⊤, ◌<◌, ◌≤◌, ◌≡◌, ◌∙◌, ◌⊎◌}
 use Rattle.wasi_table.proofs.Tables.{value_without}
 use Rattle.wasi_udp.specs.Create.{Create}
@@ -10,28 +10,28 @@ use Rattle.wasi_walks.proofs.walks.Moves as walk
 use Rattle.wasi_walks.proofs.walks.Moves.{GoesOn, Held, Here, Made, Move, Past, ToStream, made_so, udp_begun}
 
 -- each is older than the next one
-abbrev pub AreOlder : Handles → Type 0
+abbrev pub AreOlder : HandleTable → Type 0
 AreOlder t = (k : ℕ) (kind : Kind) → kind_at t k ≡ Some kind → k < t.next
 
 -- The handle is older, and of no other UDP socket than the one with this record.
-pub record IsUnder (t : Handles) (handle place : ℕ) : Type 0 where
+pub record IsUnder (t : HandleTable) (handle place : ℕ) : Type 0 where
   pub older : handle < t.next
   pub of : (other : ℕ) → udp_of (kind_at t handle) ≡ Some other → other ≡ place
 
-abbrev pub MakesUnder : Handles → Made → Type 0
+abbrev pub MakesUnder : HandleTable → Made → Type 0
 MakesUnder t (ToStream n handle place) = IsUnder t handle place
 MakesUnder t _ = ⊤
 
-abbrev pub CallUnder : Handles → StandingCall → Type 0
+abbrev pub CallUnder : HandleTable → StandingCall → Type 0
 CallUnder t (StandingCall.UdpConnect place handle) = IsUnder t handle place
 CallUnder t _ = ⊤
 
-abbrev pub StandsUnder : Handles → Option Standing → Type 0
+abbrev pub StandsUnder : HandleTable → Option Standing → Type 0
 StandsUnder t None = ⊤
 StandsUnder t (Some s) = CallUnder t s.call
 
 -- All of this.
-pub record AreUnder (t : Handles) (made : Made) (standing : Option Standing) : Type 0 where
+pub record AreUnder (t : HandleTable) (made : Made) (standing : Option Standing) : Type 0 where
   pub older : AreOlder t
   pub makes : MakesUnder t made
   pub stands : StandsUnder t standing
@@ -41,7 +41,7 @@ Under h = AreUnder h.machine.table h.made h.machine.store.standing
 
 -- == the table changes
 -- where each handle is of what it was, and the next one no older
-module _ (t now : Handles) (later : t.next ≤ now.next) (same : (handle : ℕ) (kind : Kind) → handle < t.next → kind_at now handle ≡ Some kind → kind_at t handle ≡ Some kind) where
+module _ (t now : HandleTable) (later : t.next ≤ now.next) (same : (handle : ℕ) (kind : Kind) → handle < t.next → kind_at now handle ≡ Some kind → kind_at t handle ≡ Some kind) where
   is_under : (handle place : ℕ) → IsUnder t handle place → IsUnder now handle place
   is_under handle place i = record {
     older = (let p = i.older in omega arith);
@@ -65,8 +65,8 @@ module _ (t now : Handles) (later : t.next ≤ now.next) (same : (handle : ℕ) 
   stands_under (Some s) i = call_under s.call i
 
 -- with one handle more
-module _ (t : Handles) (kind : Kind) (parent : Option ℕ) where
-  abbrev pub more : Handles
+module _ (t : HandleTable) (kind : Kind) (parent : Option ℕ) where
+  abbrev pub more : HandleTable
   more = with_handle t kind parent
 
   -- a handle is one of before, or the new one
@@ -86,30 +86,30 @@ module _ (t : Handles) (kind : Kind) (parent : Option ℕ) where
   makes_more made i = makes_under t more (omega arith) same_older made i
 
 -- with one handle less
-pub under_without : (t : Handles) (handle : ℕ) (made now : Made) (standing : Option Standing) → (MakesUnder t made → MakesUnder (without_handle t handle) now) → AreUnder t made standing → AreUnder (without_handle t handle) now standing
+pub under_without : (t : HandleTable) (handle : ℕ) (made now : Made) (standing : Option Standing) → (MakesUnder t made → MakesUnder (without_handle t handle) now) → AreUnder t made standing → AreUnder (without_handle t handle) now standing
 under_without t handle made now standing f i = record {
   older = λ k kind e. i.older k kind (value_without t.live handle k kind e);
   makes = f i.makes;
   stands = stands_under t (without_handle t handle) (omega arith) (λ k kind l e. value_without t.live handle k kind e) standing i.stands;
 }
 
-pub makes_without : (t : Handles) (handle : ℕ) (made : Made) → MakesUnder t made → MakesUnder (without_handle t handle) made
+pub makes_without : (t : HandleTable) (handle : ℕ) (made : Made) → MakesUnder t made → MakesUnder (without_handle t handle) made
 makes_without t handle made i = makes_under t (without_handle t handle) (omega arith) (λ k kind l e. value_without t.live handle k kind e) made i
 
 -- == moves
 -- what was made is nothing of streams
-pub nothing_made : (t : Handles) (made : Made) (standing : Option Standing) → AreUnder t made standing → AreUnder t Past standing
+pub nothing_made : (t : HandleTable) (made : Made) (standing : Option Standing) → AreUnder t made standing → AreUnder t Past standing
 nothing_made t made standing i = record { older = i.older; makes = tt; stands = i.stands }
 
-stands_so : (t : Handles) (made : Made) (was now : Option Standing) → StandsUnder t now → AreUnder t made was → AreUnder t made now
+stands_so : (t : HandleTable) (made : Made) (was now : Option Standing) → StandsUnder t now → AreUnder t made was → AreUnder t made now
 stands_so t made was now s i = record { older = i.older; makes = i.makes; stands = s }
 
-goes_under : (t : Handles) (call : StandingCall) (r : Tcp2Socket) → GoesOn call r → CallUnder t call
+goes_under : (t : HandleTable) (call : StandingCall) (r : Tcp2Socket) → GoesOn call r → CallUnder t call
 goes_under t (StandingCall.UdpConnect place handle) r k = absurd k
 goes_under t _ r k = tt
 
 -- the handle that the line names is of this record
-reached_under : (t : Handles) (handle place : ℕ) → AreOlder t → udp_of (kind_at t handle) ≡ Some place → IsUnder t handle place
+reached_under : (t : HandleTable) (handle place : ℕ) → AreOlder t → udp_of (kind_at t handle) ≡ Some place → IsUnder t handle place
 reached_under t handle place older e = by_kind (kind_at t handle) refl e
   where
     by_kind : (o : Option Kind) → kind_at t handle ≡ o → udp_of o ≡ Some place → IsUnder t handle place
@@ -139,7 +139,7 @@ moves_under _ _ _ i = i
 
 -- == what leaves all of it
 -- a poll
-pub polled_same : (P : Handles → Made → Option Standing → Type 0) (h : Here) (op : Operation) (after : End × List Item → Here) → Held h op after → (end : End × List Item) → P h.machine.table h.made h.machine.store.standing → P (after end).machine.table (after end).made (after end).machine.store.standing
+pub polled_same : (P : HandleTable → Made → Option Standing → Type 0) (h : Here) (op : Operation) (after : End × List Item → Here) → Held h op after → (end : End × List Item) → P h.machine.table h.made h.machine.store.standing → P (after end).machine.table (after end).made (after end).machine.store.standing
 polled_same P h _ _ (walk.BindsOn place r op q g e) end i = i
 polled_same P h _ _ (walk.Connects place r op g e) end i = i
 polled_same P h _ _ (walk.Listens place r op q g e c) end i = i
@@ -151,11 +151,11 @@ polled_same P h _ _ (walk.SendsOn place o out op left g e s settles) end i = i
 polled_same P h _ _ (walk.ReceivesOn place o inc op g e s) end i = i
 
 -- a create
-pub begun_same : (P : Handles → Made → Option Standing → Type 0) (h : Here) (made : Result Create ErrorCode) → P h.machine.table h.made h.machine.store.standing → P (udp_begun h made).machine.table (udp_begun h made).made (udp_begun h made).machine.store.standing
+pub begun_same : (P : HandleTable → Made → Option Standing → Type 0) (h : Here) (made : Result Create ErrorCode) → P h.machine.table h.made h.machine.store.standing → P (udp_begun h made).machine.table (udp_begun h made).made (udp_begun h made).machine.store.standing
 begun_same P h (Ok create) i = i
 begun_same P h (Err c) i = i
 
 -- what an accept has made
-pub accept_makes : (t : Handles) (place : ℕ) (made : Result ℕ Stop) → MakesUnder t (made_so place made)
+pub accept_makes : (t : HandleTable) (place : ℕ) (made : Result ℕ Stop) → MakesUnder t (made_so place made)
 accept_makes t place (Ok handle) = tt
 accept_makes t place (Err why) = tt

@@ -1,5 +1,5 @@
 -- The law that what the incoming stream of a network socket holds was received from a place of the log on.
-use Rattle.wasi_walks.proofs.Words.{refl, Option, HoldsAccept, HoldsConnect, IsAcceptOn, Job, Handles, Kind, Streams, WriteState, allows_keep, arith, inl, inr, ⊤, ◌⊎◌, ◌≤◌, Allows, Asks, Call, Done, End, Entry, Err, ErrorCode, ErrorValue, IsDoneOrCode, Item, List, Machine}
+use Rattle.wasi_walks.proofs.Words.{refl, Option, HoldsAccept, HoldsConnect, IsAcceptOn, Job, HandleTable, Kind, Streams, WriteState, allows_keep, arith, inl, inr, ⊤, ◌⊎◌, ◌≤◌, Allows, Asks, Call, Done, End, Entry, Err, ErrorCode, ErrorValue, IsDoneOrCode, Item, List, Machine}
 use Rattle.wasi_walks.proofs.Words.{None, Not, Ok, OpId, Operation, Refused, Result, Socket, SocketAddressFamily, Some, Step, Tcp2, Tcp2Socket, Told, Waits}
 use Rattle.wasi_walks.proofs.Words.{WasiSocketsCtx, [], allows_then, allows_weaker, ap, bind_progress, connect_ended, accept_ended, create_asks, created_asks, entry, give_up_asks, length, make_asks}
 use Rattle.wasi_walks.proofs.Words.{new_asks, new_record, own_of, poll_asks, side_of, subst, sym, told_addr, told_done, turn_asks}
@@ -50,7 +50,7 @@ module _ (side : OpId) (from : ℕ) where
   along records es asks i n = allows_weaker Anything (λ fs a. It fs records × ⊤) (λ fs a. It fs records) (λ fs a k. k.0) es asks (late_along side from records (λ fs a. ⊤) es asks i n)
 
   -- a mark
-  pub marks_late : (records : List Record) (es : List Entry) (t : Handles) (op : OpId) (kind : Kind) (parent : Option ℕ) (sock : Option OpId) → It es records → Allows Anything (λ fs made. It fs records) es (make_asks t op kind parent sock)
+  pub marks_late : (records : List Record) (es : List Entry) (t : HandleTable) (op : OpId) (kind : Kind) (parent : Option ℕ) (sock : Option OpId) → It es records → Allows Anything (λ fs made. It fs records) es (make_asks t op kind parent sock)
   marks_late records es t op kind parent sock i = along records es (make_asks t op kind parent sock) i (made_silent side (IsHeld side records) NoName es t op kind parent sock)
 
   -- a socket that is created joins the records

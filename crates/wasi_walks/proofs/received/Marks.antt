@@ -1,5 +1,5 @@
 -- The handle of an incoming stream was marked before the place from which on its network socket's datagrams are handed out.
-use Rattle.wasi_walks.proofs.Words.{Call, Entry, Handles, IsSide, Kind, List, OpId, Option, Some, Step, Told, [], append-nil, append_assoc, ap, arith}
+use Rattle.wasi_walks.proofs.Words.{Call, Entry, HandleTable, IsSide, Kind, List, OpId, Option, Some, Step, Told, [], append-nil, append_assoc, ap, arith}
 use Rattle.wasi_walks.proofs.Words.{entry, inl, inr, kind_at, length, length-append, name_of, subst, sym, with_handle, without_handle, ℕ, ⊤, ◌+◌, ◌++◌, ◌∙◌, ◌∷◌, ◌≡◌, ◌≤◌, ◌⊎◌}
 use Rattle.wasi_table.proofs.Tables.{value_without}
 use Rattle.wasi_host.specs.declared.kind.Kind.TheVariants.{Incoming, Input, Output}
@@ -26,11 +26,11 @@ pub record IsEarly (side : OpId) (start : ℕ) (es : List Entry) (handle : ℕ) 
   pub early : its ≡ side → Early start es side handle
 
 -- so are all incoming streams
-abbrev pub AreEarly : OpId → ℕ → List Entry → Handles → Type 0
+abbrev pub AreEarly : OpId → ℕ → List Entry → HandleTable → Type 0
 AreEarly side start es t = (handle place : ℕ) → kind_at t handle ≡ Some (Incoming place) → IsEarly side start es handle
 
 -- from this place on the datagrams of the network socket are handed out: what its streams hold was received later
-pub record Since (side : OpId) (from : ℕ) (es : List Entry) (records : List Record) (t : Handles) : Type 0 where
+pub record Since (side : OpId) (from : ℕ) (es : List Entry) (records : List Record) (t : HandleTable) : Type 0 where
   pub start : ℕ
   pub on : from ≤ start
   pub late : Late side start es records
@@ -44,10 +44,10 @@ module _ (side : OpId) where
   is_early_more : (start later : ℕ) (es fs : List Entry) (handle : ℕ) → start ≤ later → IsEarly side start es handle → IsEarly side later (es ++ fs) handle
   is_early_more start later es fs handle l k = record { its = k.its; marked = side_more es fs handle k.its k.marked; early = λ e. early_more start later es fs handle l (k.early e) }
 
-  pub are_early_more : (start later : ℕ) (es fs : List Entry) (t : Handles) → start ≤ later → AreEarly side start es t → AreEarly side later (es ++ fs) t
+  pub are_early_more : (start later : ℕ) (es fs : List Entry) (t : HandleTable) → start ≤ later → AreEarly side start es t → AreEarly side later (es ++ fs) t
   are_early_more start later es fs t l k = λ handle place e. is_early_more start later es fs handle l (k handle place e)
 
-  pub are_early_later : (start later : ℕ) (es : List Entry) (t : Handles) → start ≤ later → AreEarly side start es t → AreEarly side later es t
+  pub are_early_later : (start later : ℕ) (es : List Entry) (t : HandleTable) → start ≤ later → AreEarly side start es t → AreEarly side later es t
   are_early_later start later es t l k = λ handle place e. (
       let i = k handle place e in
       record { its = i.its; marked = i.marked; early = λ q. (let j = i.early q in record { front = j.front; back = j.back; cut = j.cut; marked = j.marked; before = (let p = j.before in omega arith) }) })
@@ -57,14 +57,14 @@ module _ (side : OpId) where
   NotIncoming (Incoming place) = ⊥
   NotIncoming _ = ⊤
 
-  pub early_other : (start : ℕ) (es : List Entry) (t : Handles) (kind : Kind) (parent : Option ℕ) → NotIncoming kind → AreEarly side start es t → AreEarly side start es (with_handle t kind parent)
+  pub early_other : (start : ℕ) (es : List Entry) (t : HandleTable) (kind : Kind) (parent : Option ℕ) → NotIncoming kind → AreEarly side start es t → AreEarly side start es (with_handle t kind parent)
   early_other start es t kind parent not k handle place e = elim (was_or_new t kind parent handle (Incoming place) e) [ inl was ↦ k handle place was | inr new ↦ absurd (subst NotIncoming new.1 not) ]
 
-  pub early_without : (start : ℕ) (es : List Entry) (t : Handles) (gone : ℕ) → AreEarly side start es t → AreEarly side start es (without_handle t gone)
+  pub early_without : (start : ℕ) (es : List Entry) (t : HandleTable) (gone : ℕ) → AreEarly side start es t → AreEarly side start es (without_handle t gone)
   early_without start es t gone k handle place e = k handle place (value_without t.live gone handle (Incoming place) e)
 
   -- the handle of a new stream is marked
-  pub early_new : (start later : ℕ) (es : List Entry) (t : Handles) (op : OpId) (kind : Kind) (parent : Option ℕ) (its : OpId) (told : Told) → start ≤ later → (its ≡ side → length es + 1 ≤ later) → AreEarly side start es t
+  pub early_new : (start later : ℕ) (es : List Entry) (t : HandleTable) (op : OpId) (kind : Kind) (parent : Option ℕ) (its : OpId) (told : Told) → start ≤ later → (its ≡ side → length es + 1 ≤ later) → AreEarly side start es t
       → (let e : Entry = entry op (Call.Made t.next (name_of kind) parent (Some its)) told in AreEarly side later (es ++ e ∷ []) (with_handle t kind parent))
   early_new start later es t op kind parent its told l last k = λ handle place d. elim (was_or_new t kind parent handle (Incoming place) d) [ inl was ↦ is_early_more start later es _ handle l (k handle place was) | inr new ↦ subst (IsEarly side later (es ++ e ∷ [])) new.0 now ]
     where

@@ -1,5 +1,5 @@
 -- What asks for no datagram of a network socket: the items of each operation but a receive, marks, creates, what is released, and writes.
-use Rattle.wasi_walks.proofs.Words.{Accepting, Accepts, Allows, Begins, Bool, Check, End, Entry, Give, Handles, IpSocketAddress, IsLeftOfAccept, IsLeftOfBind, IsLeftOfConnect, IsLeftOfListen, Item, Job}
+use Rattle.wasi_walks.proofs.Words.{Accepting, Accepts, Allows, Begins, Bool, Check, End, Entry, Give, HandleTable, IpSocketAddress, IsLeftOfAccept, IsLeftOfBind, IsLeftOfConnect, IsLeftOfListen, Item, Job}
 use Rattle.wasi_walks.proofs.Words.{Kind, List, Listening, Not, OpId, Option, SocketAddressFamily, Some, None, Unclosed, Waits, WasiSocketsCtx, Who, WriteState, [], allows_if, allows_then, ask_close, bind}
 use Rattle.wasi_walks.proofs.Words.{false, give_up_asks, give_up_in, if◌then◌else◌, in_hand, is_full, is_over, job_asks, job_in, make_asks, new_asks, poll_asks, refuse_in, true, turn_asks, ℕ, ⊤, ◌∷◌}
 use Rattle.wasi_tcp.specs.Accept as accept
@@ -78,7 +78,7 @@ module _ (side : OpId) (Held : Type 0) (Names : OpId → Type 0) (who : Who) whe
 
 module _ (side : OpId) (Held : Type 0) (Names : OpId → Type 0) where
   -- a mark
-  pub made_silent : (es : List Entry) (t : Handles) (op : OpId) (kind : Kind) (parent : Option ℕ) (sock : Option OpId) → Allows (Elsewhere side Held Names) (λ fs made. ⊤) es (make_asks t op kind parent sock)
+  pub made_silent : (es : List Entry) (t : HandleTable) (op : OpId) (kind : Kind) (parent : Option ℕ) (sock : Option OpId) → Allows (Elsewhere side Held Names) (λ fs made. ⊤) es (make_asks t op kind parent sock)
   unfolding bind
   made_silent es t op kind parent sock = allows_if (Elsewhere side Held Names) (λ fs made. ⊤) es (is_full t) _ _ (λ full. tt) (λ free. ((λ x. tt), λ told f. tt))
 

@@ -1,5 +1,5 @@
 -- The law that what the incoming streams of a network socket hold was received after the marks of their handles.
-use Rattle.wasi_walks.proofs.Words.{Allows, Asks, Call, Entry, Err, ErrorCode, ErrorValue, Full, Handles, Kind, List, None, Not, Ok, OpId, Option, Result, Socket, Some, Step, Stop, Tcp2, Told, Trap, WasiSocketsCtx, []}
+use Rattle.wasi_walks.proofs.Words.{Allows, Asks, Call, Entry, Err, ErrorCode, ErrorValue, Full, HandleTable, Kind, List, None, Not, Ok, OpId, Option, Result, Socket, Some, Step, Stop, Tcp2, Told, Trap, WasiSocketsCtx, []}
 use Rattle.wasi_walks.proofs.Words.{allows_if, allows_keep, allows_then, allows_weaker, ap, arith, bind, created_asks, entry, give_up_asks, inl, inr, is_full, kind_at, length, length-append, make_asks, name_of, new_asks, new_record, own_of, poll_asks}
 use Rattle.wasi_walks.proofs.Words.{refl, side_of, subst, sym, told_done, turn_asks, with_handle, with_listening, with_writer, ℕ, ◌++◌, ◌∷◌, ◌≡◌, ◌⊎◌}
 use Rattle.wasi_udp.specs.Create.{create_cancel_asks, after_create as udp_after_create}
@@ -35,7 +35,7 @@ module _ (side : OpId) (from : ℕ) where
   Inv es h = SinceIn es h × Under h
 
   -- under more entries, where the table stays
-  longer : (es fs : List Entry) (records now : List Record) (t : Handles) (s : Since side from es records t) → Late side s.start (es ++ fs) now → Since side from (es ++ fs) now t
+  longer : (es fs : List Entry) (records now : List Record) (t : HandleTable) (s : Since side from es records t) → Late side s.start (es ++ fs) now → Since side from (es ++ fs) now t
   longer es fs records now t s l = record { start = s.start; on = s.on; late = l; early = are_early_more side s.start s.start es fs t (omega arith) s.early }
 
   -- along a tree
@@ -76,7 +76,7 @@ module _ (side : OpId) (from : ℕ) where
     abbrev marked : Option OpId → Told → Entry
     marked sock told = entry (own_of n) (Call.Made h.machine.table.next (name_of (Incoming place)) (Some handle) sock) told
 
-    abbrev table : Handles
+    abbrev table : HandleTable
     table = with_handle h.machine.table (Incoming place) (Some handle)
 
     -- nothing is held, so any later place will do

@@ -1,5 +1,5 @@
 -- The law that the remote address that an open UDP socket keeps is what the network reported last.
-use Rattle.wasi_walks.proofs.Words.{Accepting, Accepts, Allows, Begins, Bool, Call, Done, End, Entry, Err, ErrorCode, Give, Handles}
+use Rattle.wasi_walks.proofs.Words.{Accepting, Accepts, Allows, Begins, Bool, Call, Done, End, Entry, Err, ErrorCode, Give, HandleTable}
 use Rattle.wasi_walks.proofs.Words.{ErrorValue, IpSocketAddress, IsDoneOrCode, Job, Kind, List, Listening, Machine, None, Not, Ok, OpId, Option}
 use Rattle.wasi_walks.proofs.Words.{ReadState, Refused, Result, Socket, SocketAddressFamily, Some, Step, Streams, Tcp2, Tcp2Socket, TcpSendStream, Told, Unclosed}
 use Rattle.wasi_walks.proofs.Words.{Waits, WasiSocketsCtx, Who, WriteState, [], allows_if, allows_then, allows_weaker, ap, ask_close, bind}
@@ -67,12 +67,12 @@ tcp_spares line origin n es h place r side c g on q names i k o f e =
 
 -- == marks and creates
 -- a mark asks for no remote address
-made_quiet : (es : List Entry) (t : Handles) (op : OpId) (kind : Kind) (parent : Option ℕ) (sock : Option OpId) → Allows Unpeered (λ fs made. ⊤) es (make_asks t op kind parent sock)
+made_quiet : (es : List Entry) (t : HandleTable) (op : OpId) (kind : Kind) (parent : Option ℕ) (sock : Option OpId) → Allows Unpeered (λ fs made. ⊤) es (make_asks t op kind parent sock)
 unfolding bind
 made_quiet es t op kind parent sock = allows_if Unpeered (λ fs made. ⊤) es (is_full t) _ _ (λ full. tt) (λ free. (tt, λ told f. tt))
 
 -- it leaves the records
-pub marks_keep : (es : List Entry) (records : List Record) (t : Handles) (op : OpId) (kind : Kind) (parent : Option ℕ) (sock : Option OpId) → Keeps es records → Allows Anything (λ fs made. Keeps fs records) es (make_asks t op kind parent sock)
+pub marks_keep : (es : List Entry) (records : List Record) (t : HandleTable) (op : OpId) (kind : Kind) (parent : Option ℕ) (sock : Option OpId) → Keeps es records → Allows Anything (λ fs made. Keeps fs records) es (make_asks t op kind parent sock)
 marks_keep es records t op kind parent sock i =
     allows_weaker Anything (λ fs made. Keeps fs records × ⊤) (λ fs made. Keeps fs records) (λ fs made k. k.0) es _ (kept records (λ fs made. ⊤) es (make_asks t op kind parent sock) i (made_quiet es t op kind parent sock))
 

@@ -3,7 +3,7 @@ use Rattle.std.specs.Prelude.{is_some, ◌||◌, ◌≡◌, ⊤, ℕ, Bool, true
 use Rattle.wasi_addr.specs.declared.address.IpSocketAddress.{IpSocketAddress}
 use Rattle.wasi_addr.specs.Address.{is_wildcard}
 use Rattle.wasi_walks.proofs.Words.{Answer, ErrorCode, Give, Has, Item, End, Waits, Done, Refused, Machine, Operation, Pending, Ready, Records, StandingCall, Step, Stop, WasiSocketsCtx, List}
-use Rattle.wasi_walks.proofs.Words.{ap, bind, handles_of, kind_at, left_of, own_of, poll_asks, refl, sym, subst, told_done, Handles, Kind, inl, inr, is_full, make_asks, name_of, with_handle, table_parent, ask_made, Full, Trap, InvalidArgument}
+use Rattle.wasi_walks.proofs.Words.{ap, bind, handles_of, kind_at, left_of, own_of, poll_asks, refl, sym, subst, told_done, HandleTable, Kind, inl, inr, is_full, make_asks, name_of, with_handle, table_parent, ask_made, Full, Trap, InvalidArgument}
 use Rattle.wasi_machine.specs.Machine.{first_ids}
 use Rattle.wasi_world.specs.declared.ids.Ids.{Ids}
 use Rattle.wasi_world.specs.declared.ids.OpId.{OpId}
@@ -98,11 +98,11 @@ bound_given op socket = by_bound socket.bound refl
     by_bound false e = λ t. told _
 
 -- a handle that is live stays so where another is made
-pub kind_given : (t : Handles) (op : OpId) (kind : Kind) (parent : Option ℕ) (sock : Option OpId) (handle : ℕ) (its : Kind) → kind_at t handle ≡ Some its → Given (λ made. kind_at made.1 handle ≡ Some its) (make_asks t op kind parent sock)
+pub kind_given : (t : HandleTable) (op : OpId) (kind : Kind) (parent : Option ℕ) (sock : Option OpId) (handle : ℕ) (its : Kind) → kind_at t handle ≡ Some its → Given (λ made. kind_at made.1 handle ≡ Some its) (make_asks t op kind parent sock)
 unfolding bind
 kind_given t op kind parent sock handle its e = by_test (is_full t)
   where
-    by_test : (b : Bool) → Given (λ (made : Result ℕ Stop × Handles). kind_at made.1 handle ≡ Some its) (if b then Give (Err (Trap Full), t) else bind (ask_made op t.next (name_of kind) parent sock) (λ done. Give (Ok t.next, with_handle t kind parent)))
+    by_test : (b : Bool) → Given (λ (made : Result ℕ Stop × HandleTable). kind_at made.1 handle ≡ Some its) (if b then Give (Err (Trap Full), t) else bind (ask_made op t.next (name_of kind) parent sock) (λ done. Give (Ok t.next, with_handle t kind parent)))
     by_test true = e
     by_test false = λ told. value_front t.live (record { handle = t.next; value = kind; parent = table_parent kind parent }) handle its e
 
@@ -269,11 +269,11 @@ module _ {contexts : List WasiSocketsCtx} {line : ℕ} {origin : Step} {law : La
 
   -- == their handles
   module _ (n place handle : ℕ) where
-    second_walks : (m : Machine) (first : ℕ) (made : Result ℕ Stop × Handles) → Walks law (Sending n (record m { table = made.1 }) place handle) OverWith (Give (second_made m first made))
+    second_walks : (m : Machine) (first : ℕ) (made : Result ℕ Stop × HandleTable) → Walks law (Sending n (record m { table = made.1 }) place handle) OverWith (Give (second_made m first made))
     second_walks m first (Ok second, t) = gives _ (Leaves _)
     second_walks m first (Err stop, t) = gives _ (Leaves _)
 
-    outgoing_walks : (m : Machine) (of : ℕ) (made : Result ℕ Stop × Handles) → HasNewStream m.store place → udp_of (kind_at made.1 handle) ≡ Some of → Walks law (Sending n (record m { table = made.1 }) place handle) OverWith (outgoing_made m (own_of n) handle of (udp_side_at (udp2_at m.store.records of)) made)
+    outgoing_walks : (m : Machine) (of : ℕ) (made : Result ℕ Stop × HandleTable) → HasNewStream m.store place → udp_of (kind_at made.1 handle) ≡ Some of → Walks law (Sending n (record m { table = made.1 }) place handle) OverWith (outgoing_made m (own_of n) handle of (udp_side_at (udp2_at m.store.records of)) made)
     outgoing_walks m of (Ok incoming, t) new e = and_then (mark_stream {h = Sending n (record m { table = t }) place handle} of n handle place (kinds.Outgoing of) (inr (refl, refl)) new e) (second_walks m incoming)
     outgoing_walks m of (Err stop, t) new e = gives _ (Leaves _)
 

@@ -1,6 +1,6 @@
 -- What a line works on: the state, the record that one of its handles stands for, what it has made so far, and which names its
 -- operations were given.
-use Rattle.wasi_walks.proofs.Words.{Bool, Handles, Kind, List, Machine, None, OpId, Operation, Option, Records, Some, Standing, StandingCall, Step, Tcp2, Tcp2Socket, ap, arith, inl, kind_at, inr, refl, standing_as, subst, sym, true, false, with_socket, ℕ, ⊤, ◌+◌, ◌<◌, ◌≡◌, ◌≤◌, ◌⊎◌}
+use Rattle.wasi_walks.proofs.Words.{Bool, HandleTable, Kind, List, Machine, None, OpId, Operation, Option, Records, Some, Standing, StandingCall, Step, Tcp2, Tcp2Socket, ap, arith, inl, kind_at, inr, refl, standing_as, subst, sym, true, false, with_socket, ℕ, ⊤, ◌+◌, ◌<◌, ◌≡◌, ◌≤◌, ◌⊎◌}
 use Rattle.std.specs.Prelude.{is_some, slice_get, ◌||◌}
 use Rattle.wasi_world.specs.declared.ids.Ids.{Ids}
 use Rattle.wasi_host.specs.Datagrams.{has_streams}
@@ -16,7 +16,7 @@ use Rattle.wasi_host.specs.declared.kind.PlainOutput.TheVariants as plain_output
 use Rattle.wasi_host.specs.declared.name_lookup.Lookup.{Lookup as NameLookup}
 use Rattle.wasi_host.specs.declared.datagrams.Receiving.{Receiving}
 use Rattle.wasi_jobs.specs.declared.job.HostJob.{HostJob}
-use Rattle.wasi_jobs.specs.declared.job.HostJob.TheVariants as jobs
+pub use Rattle.wasi_jobs.specs.Jobs.{job_place}
 use Rattle.wasi_host.specs.declared.records.Record.{Record}
 use Rattle.wasi_host.specs.declared.records.Record.TheVariants.{Gone}
 use Rattle.wasi_walks.specs.Licence.{Has}
@@ -147,13 +147,6 @@ IsRecord None = ⊥
 IsRecord (Some Gone) = ⊥
 IsRecord _ = ⊤
 
--- the record that a job is of
-abbrev pub job_place : HostJob → ℕ
-job_place (jobs.Write place) = place
-job_place (jobs.Datagram place) = place
-job_place (jobs.Receive place) = place
-job_place (jobs.Lookup place) = place
-
 -- each job was one of these, or its record is there
 abbrev pub KeepsJobs : List Record → List HostJob → List HostJob → Type 0
 KeepsJobs records old now = (job : HostJob) → Has now job → Has old job ⊎ IsRecord (slice_get records (job_place job))
@@ -187,7 +180,7 @@ pub record IsCreated (h : Here) (place : ℕ) (u : Udp2Socket) : Type 0 where
 
 -- == datagram streams
 -- The step receives on the incoming stream of this record.
-pub record TakesFrom (origin : Step) (t : Handles) (place : ℕ) : Type 0 where
+pub record TakesFrom (origin : Step) (t : HandleTable) (place : ℕ) : Type 0 where
   pub ctx : ℕ
   pub handle : ℕ
   pub most : ℕ

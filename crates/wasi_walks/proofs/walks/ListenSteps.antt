@@ -1,5 +1,5 @@
 -- The steps of listens and accepts, as moves.
-use Rattle.wasi_walks.proofs.Words.{Accepts, Answer, Bool, Err, ErrorCode, Give, Handles, Has, IsListenStep, List, Listening, Machine, None, Ok, Option}
+use Rattle.wasi_walks.proofs.Words.{Accepts, Answer, Bool, Err, ErrorCode, Give, HandleTable, Has, IsListenStep, List, Listening, Machine, None, Ok, Option}
 use Rattle.wasi_walks.proofs.Words.{Ready, Records, Result, Socket, Some, StandingCall, Step, Stop, Tcp2Socket, WasiSocketsCtx, accept_answered}
 use Rattle.wasi_walks.proofs.Words.{accept_at, accept_end, accept_listening, accept_on, accepted_asks, accepted_record, accepted_streams, false}
 use Rattle.wasi_walks.proofs.Words.{first_ids, handles_of, is_nothing, kept_accepted, kind_at, make_asks, own_of, refl, side_at}
@@ -48,7 +48,7 @@ module _ {contexts : List WasiSocketsCtx} {line : ℕ} {origin : Step} {law : La
     accept_at_walks (Some r) g = from (put_same (Watching line m place (Names 1)) place r g) (and_then (accept_listening_walks r r.listening refl g) accept_answered_walks)
 
   -- the handles of what was accepted
-  accepted_streams_walks : (c s p : ℕ) (m : Machine) (made : Result ℕ Stop × Handles) → origin ≡ Step.TcpAccept c s → HasRecord (Over m) p
+  accepted_streams_walks : (c s p : ℕ) (m : Machine) (made : Result ℕ Stop × HandleTable) → origin ≡ Step.TcpAccept c s → HasRecord (Over m) p
       → Walks law (Between None (made_so p made.0) (record m { table = made.1 })) OverWith (accepted_streams (own_of line) p (side_at (tcp2_at m.store.records p)) (with_table m made))
   accepted_streams_walks c s p m (Ok socket, t) is here =
       let now : Machine = record m { table = t } in

@@ -7,7 +7,7 @@ use Rattle.wasi_addr.specs.declared.lookup.ErrorCode.TheVariants.{PermanentResol
 use Rattle.wasi_names.specs.declared.name.HostName.{HostName}
 use Rattle.wasi_names.specs.declared.name.HostName.TheVariants.{Address, Domain}
 use Rattle.wasi_names.specs.Names.{found_host, host_for, name_is}
-use Rattle.wasi_walks.proofs.Words.{Asks, Ask, Call, Full, Give, Handles, Kind, Machine, OpId, Step, Stop, Told, Trap, WasiSocketsCtx}
+use Rattle.wasi_walks.proofs.Words.{Asks, Ask, Call, Full, Give, HandleTable, Kind, Machine, OpId, Step, Stop, Told, Trap, WasiSocketsCtx}
 use Rattle.wasi_walks.proofs.Words.{ap, ask_made, bind, context_at, entry, inl, inr, is_full, is_network, kind_at, make_asks, name_of, own_of, refl, subst, sym, with_handle, with_store, ◌∙◌}
 use Rattle.wasi_world.specs.declared.asks.Polled.{Polled}
 use Rattle.wasi_world.specs.Typed.{told_names}
@@ -90,7 +90,7 @@ begun_same xs Failed n = same_sockets xs
 begun_same xs l n = same_by_push xs l n
 
 -- its record is there before its handle
-abbrev Recorded : Machine → Lookup → Handles → Here
+abbrev Recorded : Machine → Lookup → HandleTable → Here
 Recorded m l t = let h : Here = with_records (Numbering m) (lookup_pushed m.store.records l) in record h { machine = record h.machine { table = t } }
 
 -- the job that it may have is of that record
@@ -101,11 +101,11 @@ job_begins m l =
     may_begin_one records m.store.jobs (jobs.Lookup n) (is_looking l) (lookup_is_record (slice_get records n) (lookup_last m.store.records l))
 
 -- where no handle is made the next one is the same
-abbrev SameNext : Handles → Result ℕ Stop × Handles → Type 0
+abbrev SameNext : HandleTable → Result ℕ Stop × HandleTable → Type 0
 SameNext t (Ok handle, now) = ⊤
 SameNext t (Err why, now) = now.next ≡ t.next
 
-full_given : (t : Handles) (op : OpId) (kind : Kind) (parent : Option ℕ) (sock : Option OpId) → Given (SameNext t) (make_asks t op kind parent sock)
+full_given : (t : HandleTable) (op : OpId) (kind : Kind) (parent : Option ℕ) (sock : Option OpId) → Given (SameNext t) (make_asks t op kind parent sock)
 unfolding bind
 full_given t op kind parent sock = by_test (is_full t)
   where
@@ -126,7 +126,7 @@ module _ {contexts : List WasiSocketsCtx} {line : ℕ} {origin : Step} {law : La
 
   module _ (m : Machine) (idle : m.store.standing ≡ None) (c network : ℕ) (name : List ℕ) (is : origin ≡ Step.Resolve c network name) where
     -- where it has no handle it is given back
-    looked_up_walks : (l : Lookup) (made : Result ℕ Stop × Handles) → SameNext m.table made → Walks law (Recorded m l made.1) OverWith (Give (looked_up m l made))
+    looked_up_walks : (l : Lookup) (made : Result ℕ Stop × HandleTable) → SameNext m.table made → Walks law (Recorded m l made.1) OverWith (Give (looked_up m l made))
     looked_up_walks l (Ok handle, t) k = move (Lists _ _ (job_begins m l)) (gives _ (Leaves _))
     looked_up_walks l (Err why, t) k =
         let n : ℕ = length m.store.records in

@@ -1,7 +1,7 @@
 -- Inputs and outputs of no connection, as moves: they are made, read, written and dropped, and nothing is asked of the network.
 use Rattle.std.specs.Prelude.{◌≡◌, ℕ, length, List, [], ◌∷◌, ◌++◌, Bool, if◌then◌else◌, Option, Some, None, is_some, Result, Ok, Err}
 use Rattle.wasi_memory.specs.Plain.{Contents, no_contents, pipe_read, pipe_write}
-use Rattle.wasi_walks.proofs.Words.{Allows, Full, Give, Handles, Kind, Machine, Step, Stop, Trap, WasiSocketsCtx, ap, ask_made, bind, is_full, make_asks, name_of, own_of, refl, subst, with_handle}
+use Rattle.wasi_walks.proofs.Words.{Allows, Full, Give, HandleTable, Kind, Machine, Step, Stop, Trap, WasiSocketsCtx, ap, ask_made, bind, is_full, make_asks, name_of, own_of, refl, subst, with_handle}
 use Rattle.wasi_walks.proofs.Lists.{get_seam}
 use Rattle.wasi_host.specs.PlainStreams.{read_plain, read_pipe_at, write_plain, write_pipe_at, piped, input_pipe_asks, output_pipe_asks, plain_asks, drop_input_pipe_at, drop_output_pipe_at, with_record_more, drop_plain_input, drop_plain_output}
 use Rattle.wasi_host.specs.Records.{input_pipe_at, input_pipe_of, output_pipe_at, output_pipe_of}
@@ -27,7 +27,7 @@ abbrev pub LeftPast : {A : Type 0} → Here → A × Machine → Here
 LeftPast h done = record (Left h done) { at = None; made = Past }
 
 -- a pipe that has its handle has its record
-abbrev HandledSo : Machine → Record → Result ℕ Stop × Handles → Here
+abbrev HandledSo : Machine → Record → Result ℕ Stop × HandleTable → Here
 HandledSo m r (Ok handle, t) = record (Over (record { table = t; store = with_record_more m.store r })) { made = Numbered (length m.store.records) m.table.next }
 HandledSo m r (Err why, t) = Over (record m { table = t })
 
@@ -76,9 +76,9 @@ module _ {contexts : List WasiSocketsCtx} {line : ℕ} {origin : Step} {law : La
   handled_walks m kind r p makes numbered =
       let now : Here = with_records (Numbering m) (m.store.records ++ r ∷ []) in
       let w = move {law = law} (Numbers (Over m)) (move (Finds (Numbering m) _ (pipe_push m.store.records r p)) (mark (APlain kind makes numbered))) in
-      by_if (is_full m.table) (λ full. give _) (λ room. record { along = λ es i. subst (λ (full : Bool). Allows {A = Result ℕ Stop × Handles} law.P (λ fs made. law.Inv fs (record now { machine = record now.machine { table = made.1 } })) es (if full then Give (Err (Trap Full), m.table) else bind (ask_made (own_of line) m.table.next (name_of kind) None None) (λ done. Give (Ok m.table.next, with_handle m.table kind None)))) room (w.along es i) })
+      by_if (is_full m.table) (λ full. give _) (λ room. record { along = λ es i. subst (λ (full : Bool). Allows {A = Result ℕ Stop × HandleTable} law.P (λ fs made. law.Inv fs (record now { machine = record now.machine { table = made.1 } })) es (if full then Give (Err (Trap Full), m.table) else bind (ask_made (own_of line) m.table.next (name_of kind) None None) (λ done. Give (Ok m.table.next, with_handle m.table kind None)))) room (w.along es i) })
 
-  piped_walks : (m : Machine) (r : Record) (made : Result ℕ Stop × Handles) → Walks law (HandledSo m r made) OverWith (Give (piped m r made))
+  piped_walks : (m : Machine) (r : Record) (made : Result ℕ Stop × HandleTable) → Walks law (HandledSo m r made) OverWith (Give (piped m r made))
   piped_walks m r (Ok handle, t) = gives _ (Leaves _)
   piped_walks m r (Err why, t) = give _
 

@@ -1,5 +1,5 @@
 -- The steps on sockets, as moves: the handle is looked up, its record does the call, and is put back.
-use Rattle.wasi_walks.proofs.Words.{AnOption, Answer, Asks, Bool, Chosen, Err, ErrorCode, Give, Handles, Has, InProgress, Input, IpSocketAddress}
+use Rattle.wasi_walks.proofs.Words.{AnOption, Answer, Asks, Bool, Chosen, Err, ErrorCode, Give, HandleTable, Has, InProgress, Input, IpSocketAddress}
 use Rattle.wasi_walks.proofs.Words.{IsBacklogSet, IsBindTo, IsConnectTo, Kind, List, Machine, None, Ok, Option, Output, Pending, Records, Result}
 use Rattle.wasi_walks.proofs.Words.{ShutdownType, Socket, Some, StandingCall, Step, Stop, Streams, Tcp2Socket, TheBacklog, WasiSocketsCtx, bind}
 use Rattle.wasi_walks.proofs.Words.{call_answered, call_place, connected_asks, false, finish_at, finish_by, finish_connect_at, finish_connect_by}
@@ -94,13 +94,13 @@ module _ {contexts : List WasiSocketsCtx} {line : ℕ} {origin : Step} {law : La
   finish_at_walks m place (Some r) g = finish_by_walks m place r (is_connect r.in_progress) refl g
 
   -- the two streams, under a socket's handle, by whatever is known of the table
-  module _ (at : Option (ℕ × ℕ)) (made : Made) (s place : ℕ) (m : Machine) (G : Handles → Type 0) (more : (t : Handles) (kind : Kind) → G t → Given (λ x. G x.1) (make_asks t (own_of line) kind (Some s) (side_at (tcp2_at m.store.records place))))
-      (marks : (t : Handles) (kind : Kind) → (kind ≡ Input place) ⊎ (kind ≡ Output place) → G t → Marks origin (record { machine = record m { table = t }; at = at; made = made; own = Used }) kind (Some s) (side_at (tcp2_at m.store.records place))) where
-    second : (input : ℕ) (t : Handles) (done : Result ℕ Stop × Handles) → Walks law (Between at made (record m { table = done.1 })) OverWith (Give (with_output input (with_table (record m { table = t }) done)))
+  module _ (at : Option (ℕ × ℕ)) (made : Made) (s place : ℕ) (m : Machine) (G : HandleTable → Type 0) (more : (t : HandleTable) (kind : Kind) → G t → Given (λ x. G x.1) (make_asks t (own_of line) kind (Some s) (side_at (tcp2_at m.store.records place))))
+      (marks : (t : HandleTable) (kind : Kind) → (kind ≡ Input place) ⊎ (kind ≡ Output place) → G t → Marks origin (record { machine = record m { table = t }; at = at; made = made; own = Used }) kind (Some s) (side_at (tcp2_at m.store.records place))) where
+    second : (input : ℕ) (t : HandleTable) (done : Result ℕ Stop × HandleTable) → Walks law (Between at made (record m { table = done.1 })) OverWith (Give (with_output input (with_table (record m { table = t }) done)))
     second input t (Ok n, x) = gives _ (Leaves _)
     second input t (Err why, x) = gives _ (Leaves _)
 
-    output_walks : (done : Result ℕ Stop × Handles) → G done.1 → Walks law (Between at made (record m { table = done.1 })) OverWith (output_asks (own_of line) s place (side_at (tcp2_at m.store.records place)) (with_table m done))
+    output_walks : (done : Result ℕ Stop × HandleTable) → G done.1 → Walks law (Between at made (record m { table = done.1 })) OverWith (output_asks (own_of line) s place (side_at (tcp2_at m.store.records place)) (with_table m done))
     output_walks (Ok input, t) g = and_then (mark (marks t (Output place) (inr refl) g)) (second input t)
     output_walks (Err why, t) g = gives _ (Leaves _)
 

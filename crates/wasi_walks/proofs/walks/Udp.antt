@@ -3,7 +3,7 @@ use Rattle.std.specs.Prelude.{◌≡◌, ⊤, ℕ, length, Bool, true, false, if
 use Rattle.wasi_addr.specs.declared.address.IpSocketAddress.{IpSocketAddress}
 use Rattle.wasi_addr.specs.Address.{is_of_family, is_wildcard, ip_of}
 use Rattle.wasi_walks.proofs.Words.{Answer, Asks, ErrorCode, Give, Has, Item, End, Waits, Done, Refused, Machine, Operation, Pending, Ready, Records, SocketAddressFamily, StandingCall, Step, Stop, WasiSocketsCtx}
-use Rattle.wasi_walks.proofs.Words.{ap, bind, subst, ◌∙◌, handles_of, is_network, kind_at, left_of, own_of, poll_asks, refl, sym, with_store, Handles, InvalidArgument, inl, inr}
+use Rattle.wasi_walks.proofs.Words.{ap, bind, subst, ◌∙◌, handles_of, is_network, kind_at, left_of, own_of, poll_asks, refl, sym, with_store, HandleTable, InvalidArgument, inl, inr}
 use Rattle.wasi_machine.specs.Machine.{first_ids}
 use Rattle.wasi_world.specs.declared.ids.Ids.{Ids}
 use Rattle.wasi_world.specs.declared.call.Opt.{Opt}
@@ -297,7 +297,7 @@ module _ {contexts : List WasiSocketsCtx} {line : ℕ} {origin : Step} {law : La
       (and_then (close_by (udp_there {h = Emptying line m place (Udp2 place) Unused} g) (none_stands q, refl) u) (λ done. move (Spends _ refl) (left_walks (udp_there {h = Emptying line m place (Udp2 place) Used} g) q done.1 (give _))))
 
   -- == a create
-  created_by : (m : Machine) (made : Result ℕ Stop × Handles) → Walks law (Over (record m { table = made.1 })) OverWith (Give (handle_made m made))
+  created_by : (m : Machine) (made : Result ℕ Stop × HandleTable) → Walks law (Over (record m { table = made.1 })) OverWith (Give (handle_made m made))
   created_by m (Ok handle, t) = give _
   created_by m (Err why, t) = give _
 

@@ -35,8 +35,8 @@ loop-number-preserved g c =
     let kept : List HostJob = below c.loop-number.next c.loop-number.jobs in
     let ahead : from_on (c.in-Some.number + 1) c.if-not-is_going.jobs ≡ from_on (c.in-Some.number + 1) c.loop-number.jobs = elim c.if-not-is_going.branch [ then-not-is_going w ↦ rw w.jobs-is w.remove.ensures.after | else-not-is_going w ↦ rw w.jobs-is refl ] in
     let behind : below (c.in-Some.number + 1) c.if-not-is_going.jobs ≡ jobs_with kept c.in-Some.job (is_going c.turn_job.new.records.items c.in-Some.job) = elim c.if-not-is_going.branch [
-      then-not-is_going w ↦ rw (w.jobs-is, ← c.is_going.ensures) (kept_over kept c.in-Some.job c.is_going.result w.if-not-is_going.true (w.remove.ensures.below ∙ c.in-Some.ensures.some.2))
-    | else-not-is_going w ↦ rw (w.jobs-is, ← c.is_going.ensures) (kept_going kept c.in-Some.job c.is_going.result w.if-not-is_going.false c.in-Some.ensures.some.1)
+      | then-not-is_going w ↦ rw (w.jobs-is, ← c.is_going.ensures) (kept_over kept c.in-Some.job c.is_going.result w.if-not-is_going.true (w.remove.ensures.below ∙ c.in-Some.ensures.some.2))
+      | else-not-is_going w ↦ rw (w.jobs-is, ← c.is_going.ensures) (kept_going kept c.in-Some.job c.is_going.result w.if-not-is_going.false c.in-Some.ensures.some.1)
     ] in
     record {
       reached = reaches_then c.loop-number.invariant.reached (turn_next kept _ (from_on (c.in-Some.number + 1) c.loop-number.jobs) _ _ c.in-Some.job c.loop-number.records.items c.turn_job.new.records.items c.in-Some.ensures.some.0 behind ahead c.in_ok-turn_job.ensures.asked.ok);
