@@ -1,5 +1,5 @@
 -- How a pending call is given up.
-use Rattle.std.specs.Prelude.{ℕ, ◌==◌, Bool, true, false, if◌then◌else◌, List, [], ◌∷◌, Option, Some, None}
+use Rattle.std.specs.Prelude.{ℕ, Bool, true, false, Option, Some, None}
 use Rattle.wasi_world.specs.Asks.{Asks, Give, bind}
 use Rattle.wasi_udp.specs.Create.{create_cancel_asks}
 use Rattle.wasi_host.specs.declared.binding.InProgress.TheVariants as doing
