@@ -31,6 +31,7 @@ use Rattle.wasi_causes.proofs.Words.{Bool, false, if◌then◌else◌, inl, inr,
 use Rattle.std.proofs.lemmas.Bool.{eq-eqb}
 use Rattle.wasi_host.specs.GivingBack.{is_on, other_jobs, record_gone}
 use Rattle.wasi_jobs.specs.declared.job.HostJob.{HostJob}
+use Rattle.wasi_jobs.specs.declared.job.HostJob.TheVariants as job
 use Rattle.wasi_walks.specs.Licence.{Has}
 use Rattle.wasi_walks.proofs.walks.Moves.{IsRecord, KeepsJobs, job_place}
 
