@@ -36,6 +36,7 @@ pub mod Pipes
 pub mod Blocks
 pub mod Cancels
 pub mod PollLists
+pub mod FoundMaps
 pub mod Numbers
 pub mod RecordMaps
 pub mod HeldMaps

@@ -23,6 +23,7 @@ pub mod PlainStreams
 pub mod StreamCalls
 pub mod Blocking
 pub mod Polling
+pub mod FoundMap
 pub mod Cancel
 pub mod Pending
 pub mod Udp

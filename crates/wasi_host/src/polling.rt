@@ -24,6 +24,7 @@ use crate::store::Store;
 use crate::udp::OpenUdp;
 use crate::view::WasiSocketsCtxView;
 use std::alloc::{AllocError, Global};
+use std::collections::BTreeMap;
 use std::marker::Model;
 use wasi_streams::{Fault, TrapKind};
 use wasi_table::Table;
@@ -39,10 +40,13 @@ pub enum Look {
     Later,
 }
 
-/// What looks found: each pollable that was looked at, and whether it was ready, in the order of the looks.
+/// What looks found: each pollable that was looked at, and whether it was ready, in the order of the looks. A map beside them finds
+/// a pollable in a time that grows with the logarithm of how many were looked at.
 #[derive(Drop)]
 pub struct Found {
     looks: Vec<(Handle, bool)>,
+    /// What the first look at each pollable found.
+    first: BTreeMap<Handle, bool>,
 }
 
 impl Model for Found {
@@ -50,7 +54,11 @@ impl Model for Found {
 
     ghost Value = { List (ℕ × Bool) };
 
+    ghost use Rattle.wasi_host.specs.FoundMap.{KeepsFirst};
+
     ghost view = { λ found. found.looks.items };
+
+    ghost invariant = { λ found. KeepsFirst found.looks.items found.first.entries };
 }
 
 impl Found {
@@ -59,6 +67,7 @@ impl Found {
     {
         Found {
             looks: Vec::new(alloc),
+            first: BTreeMap::new(alloc),
         }
     }
 
@@ -66,20 +75,20 @@ impl Found {
     fn of(&self, pollable: Handle) -> Option<bool>
         ensures { result ≡ found_of self.now pollable }
     {
-        for (handle, ready) in self.looks.iter() {
-            if *handle == pollable {
-                return Some(*ready);
-            }
-        }
-        None
+        self.first.get(&pollable).copied()
     }
 
-    /// Takes memory for one look more.
+    /// Takes memory for one look more. Out of memory, what was found stays as it is.
     fn push(&mut self, pollable: Handle, ready: bool) -> Result<(), AllocError>
         ensures ok { OnOk result (self.new ≡ self.old ++ (pollable, ready) ∷ []) }
         ensures err { OnErr result (self.new ≡ self.old) }
     {
-        self.looks.push((pollable, ready))?;
+        self.looks.reserve(1)?;
+        // What the first look found stays.
+        if !self.first.contains_key(&pollable) {
+            self.first.insert(pollable, ready)?;
+        }
+        self.looks.push_reserved((pollable, ready));
         Ok(())
     }
 
