@@ -1,16 +1,15 @@
 -- Calls that are given up: what becomes of the records, and of the network sockets that they hold.
-use Rattle.std.specs.Prelude.{filter, IfOk, OnErr}
+use Rattle.std.specs.Prelude.{IfOk, OnErr}
 use Rattle.std.specs.declared.alloc.AllocError.{AllocError}
-use Rattle.std.proofs.Common.{◌≡◌, ℕ, not, Bool, true, false, if◌then◌else◌, cond, List, [], ◌∷◌, Result, Ok, Err, refl, sym, ap}
+use Rattle.std.proofs.Common.{◌≡◌, ℕ, true, Result, Ok, Err, sym, ap}
 use Rattle.wasi_world.specs.Asks.{Give, bind, AsksFor}
 use Rattle.wasi_world.specs.Seen.{Seen}
 use Rattle.wasi_world.proofs.Walks.{asks_end, asks_exit}
 use Rattle.wasi_common.specs.Rounds.{is_going}
 use Rattle.wasi_udp.specs.Create.{Create, create_cancel_asks}
-use Rattle.wasi_jobs.specs.declared.job.HostJob.{HostJob}
 use Rattle.wasi_host.specs.declared.listening.Listening.TheVariants.{Not}
 use Rattle.wasi_host.specs.declared.socket.Tcp2Socket.{Tcp2Socket}
-use Rattle.wasi_host.specs.Cancel.{is_datagram_on, other_than_datagram, listen_gone}
+use Rattle.wasi_host.specs.Cancel.{listen_gone}
 use Rattle.wasi_host.specs.Listening.{give_up_asks, side_in, unclosed, with_listening}
 use Rattle.wasi_host.specs.Sides.{Balances, HoldsFewer}
 use Rattle.wasi_host.specs.Store.{Records, with_socket}

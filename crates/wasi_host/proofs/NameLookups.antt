@@ -3,7 +3,6 @@ use Rattle.std.specs.Borrow.{Bor, MutBor}
 use Rattle.std.proofs.Common.{◌≡◌, ℕ, zero, suc, ◌+◌, ◌<◌, List, [], ◌∷◌, Some, None, sym, ap, refl, map, length, slice_set, get_or, arith}
 use Rattle.wasi_host.specs.declared.name_lookup.Lookup.{Lookup as NameLookup}
 use Rattle.std.specs.Prelude.{Result, Ok, Err}
-use Rattle.std.specs.declared.alloc.AllocError.{AllocError}
 use Rattle.wasi_world.specs.Asks.{AsksFor, Give}
 use Rattle.wasi_world.specs.Seen.{Seen}
 use Rattle.wasi_world.proofs.Walks.{asks_end, asks_exit}
@@ -65,6 +64,12 @@ lookup_got xs i x h = sym h
 
 pub no_lookup : (xs : List Record) (i : ℕ) → None ≡ lookup_at xs i → lookup_at xs i ≡ None
 no_lookup xs i h = sym h
+
+-- and what it became is there
+pub lookup_there : (xs : List Record) (i : ℕ) (now old : NameLookup) → lookup_at xs i ≡ Some old → lookup_at (lookup_put xs i now) i ≡ Some now
+lookup_there [] i now old h = absurd (cc)
+lookup_there (x ∷ xs) zero now old h = refl
+lookup_there (x ∷ xs) (suc i) now old h = lookup_there xs i now old h
 
 -- == the network sockets of the records
 pub held_in-lookup : (rs : List Record) (i : ℕ) (old now : NameLookup) → lookup_at rs i ≡ Some old → held_in (lookup_put rs i now) ≡ held_in rs

@@ -1,19 +1,21 @@
--- The records by number, as the map of those that are there changes.
-use borrow.Follows.Closed.{read_of}
-use Rattle.std.proofs.Common.{◌≡◌, ◌≢◌, ℕ, zero, suc, ◌+◌, ◌-◌, ◌<◌, ◌≤◌, ◌^◌, Bool, true, false, cond, ◌&&◌, is_some, nat_lt, Option, None, Some, IsSome, List, [], ◌∷◌, ◌++◌, length, length-append, get_or, refl, ap, ◌∙◌, sym, arith, inl, inr}
+-- The records by number, as the slots and the map to their keys change.
+use Rattle.std.proofs.Common.{◌≡◌, ◌≢◌, ◌⊎◌, ℕ, zero, suc, ◌+◌, ◌-◌, ◌<◌, ◌≤◌, ◌^◌, ◌==◌, Bool, true, false, cond, ◌&&◌, is_some, nat_lt, Option, None, Some, IsSome, List, [], ◌∷◌, ◌++◌, length, length-append, get_or, refl, ap, ◌∙◌, sym, arith, inl, inr}
 use Rattle.std.specs.Prelude.{slice_set, slice_index_or}
-use Rattle.std.specs.Borrow.{MutBor}
-use Rattle.std.specs.Option.{option_copied_mut, ghost_name_of}
+use Rattle.std.specs.Option.{unwrap_or}
 use Rattle.std.specs.Ordering.{nat_cmp}
 use Rattle.std.specs.BTreeMap.{is_at}
-use Rattle.std.specs.Map.{lookup, set_value}
-use Rattle.std.proofs.lemmas.Bool.{cases_lt, and_parts, eqb-true}
+use Rattle.std.specs.Map.{lookup}
+use Rattle.std.proofs.lemmas.Bool.{cases_eq, cases_lt, and_parts, eqb-true, eq-eqb, ne_eqb}
 use Rattle.std.proofs.lemmas.List.{get_or_append_left, get_or-append_right, get_or_past, set-append_left, set-append_right}
+use Rattle.std.proofs.lemmas.List.Sums.{sum_by-set}
+use Rattle.slab.specs.Slab.{Slab, get, slab_len, Updates, with_value}
+use Rattle.slab.proofs.SlabLemmas.{ContainsKey-within, Updates-with_value}
 use Rattle.wasi_host.specs.declared.records.Record.{Record}
 use Rattle.wasi_host.specs.declared.records.Record.TheVariants.{Gone}
-use Rattle.wasi_host.specs.Numbered.{or_gone, item_at}
-use Rattle.wasi_host.specs.RecordMap.{record_in, numbered, has_room, IsSound}
-use Rattle.wasi_host.proofs.Numbers.{at_is, at_itself, at_another}
+use Rattle.wasi_host.specs.declared.record_list.Slot.{Slot}
+use Rattle.wasi_host.specs.Numbered.{Numbered, or_gone, item_at, with_item}
+use Rattle.wasi_host.specs.RecordMap.{key_at, of_number, record_under, record_in, numbered, has_room, IsSound}
+use Rattle.wasi_host.proofs.Numbers.{at_itself, at_another}
 
 -- == the records by number
 pub length_numbered : (f : ℕ → Record) (n : ℕ) → length (numbered f n) ≡ n
@@ -65,56 +67,247 @@ at_numbered f n p none =
       | inr upper ↦ none upper ∙ sym (get_or_past (numbered f n) p Gone (rw l upper))
     ]
 
--- == the map of those that are there, which has something else at one number
-abbrev pub Changes : List (ℕ × Record) → List (ℕ × Record) → ℕ → Option Record → Type 0
+-- == what is in a slot
+-- a record of another number isn't in it
+pub not_in : (number : ℕ) (o : Option Slot) → ((x : Slot) → o ≡ Some x → x.number ≢ number) → of_number number o ≡ None
+not_in number None other = refl
+not_in number (Some x) other = rw (ne_eqb x.number number (other x refl)) refl
+
+pub in_itself : (number : ℕ) (x : Slot) → x.number ≡ number → of_number number (Some x) ≡ Some x.value
+in_itself number x same = rw (eq-eqb x.number number same) refl
+
+-- a record of this number is in it
+pub record In (o : Option Slot) (number : ℕ) : Type 0 where
+  pub slot : Slot
+  pub stands : o ≡ Some slot
+  pub named : slot.number ≡ number
+
+pub is_in : (number : ℕ) (o : Option Slot) → is_some (of_number number o) ≡ true → In o number
+is_in number None some = absurd (cc)
+is_in number (Some x) some = by (x.number == number) refl
+  where
+    by : (b : Bool) → (x.number == number) ≡ b → In (Some x) number
+    by true same = record { slot = x; stands = refl; named = eqb-true _ _ same }
+    by false other = absurd (let no = rw other at some in cc)
+
+pub none_in : (number : ℕ) (o : Option Slot) → is_some (of_number number o) ≡ false → of_number number o ≡ None
+none_in number o none = by (of_number number o) refl
+  where
+    by : (r : Option Record) → of_number number o ≡ r → of_number number o ≡ None
+    by None e = e
+    by (Some x) e = absurd (let no = rw e at none in cc)
+
+pub one_slot : (s : Slab Slot) (key : ℕ) (a b : Slot) → get s key ≡ Some a → get s key ≡ Some b → a ≡ b
+one_slot s key a b first second = let e : Some a ≡ Some b = sym first ∙ second in cc
+
+-- the slot that has the record of this number
+pub named_in : (s : Slab Slot) (key number : ℕ) (x : Slot) → is_some (of_number number (get s key)) ≡ true → get s key ≡ Some x → x.number ≡ number
+named_in s key number x some stood =
+    let it = is_in number (get s key) some in
+    ap (λ (z : Slot). z.number) (one_slot s key x it.slot stood it.stands) ∙ it.named
+
+-- == the map, which leads somewhere else at one number
+abbrev pub Changes : List (ℕ × ℕ) → List (ℕ × ℕ) → ℕ → Option ℕ → Type 0
 Changes old new p w = (q : ℕ) → lookup (is_at (nat_cmp q)) new ≡ cond (is_at (nat_cmp p) q) w (lookup (is_at (nat_cmp q)) old)
 
-module _ (old new : List (ℕ × Record)) (p : ℕ) (w : Option Record) (change : Changes old new p w) where
-  pub found_here : lookup (is_at (nat_cmp p)) new ≡ w
-  found_here = change p ∙ ap (λ (b : Bool). cond b w (lookup (is_at (nat_cmp p)) old)) (at_itself p)
+module _ (old new : List (ℕ × ℕ)) (p : ℕ) (w : Option ℕ) (change : Changes old new p w) where
+  pub led_here : lookup (is_at (nat_cmp p)) new ≡ w
+  led_here = change p ∙ ap (λ (b : Bool). cond b w (lookup (is_at (nat_cmp p)) old)) (at_itself p)
 
-  pub found_other : (q : ℕ) → q ≢ p → lookup (is_at (nat_cmp q)) new ≡ lookup (is_at (nat_cmp q)) old
-  found_other q other = change q ∙ ap (λ (b : Bool). cond b w (lookup (is_at (nat_cmp q)) old)) (at_another p q other)
+  pub led_other : (q : ℕ) → q ≢ p → lookup (is_at (nat_cmp q)) new ≡ lookup (is_at (nat_cmp q)) old
+  led_other q other = change q ∙ ap (λ (b : Bool). cond b w (lookup (is_at (nat_cmp q)) old)) (at_another p q other)
 
-  pub changed : (n : ℕ) → numbered (record_in new) n ≡ slice_set (numbered (record_in old) n) p (or_gone w)
-  changed n = set_numbered (record_in old) (record_in new) n p (or_gone w) (λ b. ap or_gone found_here) (λ k other. ap or_gone (found_other k other))
+  pub key_other : (q : ℕ) → q ≢ p → key_at new q ≡ key_at old q
+  key_other q other = ap (λ (o : Option ℕ). unwrap_or o 0) (led_other q other)
 
-  -- the record of the next number comes
-  pub pushed : (n : ℕ) → p ≡ n → numbered (record_in new) (n + 1) ≡ numbered (record_in old) n ++ or_gone w ∷ []
-  pushed n last =
-      let next : n + 1 ≡ suc n = omega arith in
-      let before = numbered_same (record_in old) (record_in new) n (λ k b. ap or_gone (found_other k (λ e. omega (arith, e, b, last)))) in
-      let here : record_in new n ≡ or_gone w = ap (record_in new) (sym last) ∙ ap or_gone found_here in
-      ap (numbered (record_in new)) next ∙ ap (λ (l : List Record). l ++ record_in new n ∷ []) before ∙ ap (λ (r : Record). numbered (record_in old) n ++ r ∷ []) here
+-- two lends are the same where they write the same
+pub same_lend : {N D E : Type 0} (name : N) (F G : E → D) → ((w : E) → F w ≡ G w) → ◌≡◌ {A = (N × (E → D)) ⊎ D} (inl (name, F)) (inl (name, G))
+same_lend {N} {D} {E} name F G writes = ap (λ (H : E → D). inl (name, H)) (λ i w. writes w i)
 
--- a write at one number isn't seen at another
-pub set_other : (es : List (ℕ × Record)) (p q : ℕ) (w : Record) → q ≢ p → lookup (is_at (nat_cmp q)) (set_value (is_at (nat_cmp p)) es w) ≡ lookup (is_at (nat_cmp q)) es
-set_other [] p q w other = refl
-set_other (e ∷ es) p q w other = by (set_other es p q w other) (is_at (nat_cmp p) e.0) (is_at (nat_cmp q) e.0) refl refl
-  where
-    by : lookup (is_at (nat_cmp q)) (set_value (is_at (nat_cmp p)) es w) ≡ lookup (is_at (nat_cmp q)) es → (a b : Bool) → is_at (nat_cmp p) e.0 ≡ a → is_at (nat_cmp q) e.0 ≡ b
-        → lookup (is_at (nat_cmp q)) (set_value (is_at (nat_cmp p)) (e ∷ es) w) ≡ lookup (is_at (nat_cmp q)) (e ∷ es)
-    by later true true i j = absurd (other (sym (eqb-true _ _ (sym (at_is q e.0) ∙ j)) ∙ eqb-true _ _ (sym (at_is p e.0) ∙ i)))
-    by later true false i j = rw (i, j) refl
-    by later false b i j = rw (i, j) (ap (λ (o : Option Record). cond b (Some e.1) o) later)
+abbrev numbered_of : List Record → Bool → Numbered
+numbered_of items room = record { items = items; room = room }
 
--- what is written below the next number leaves the numbers from there on free
-pub sound_written : (es fs : List (ℕ × Record)) (n p : ℕ) (w : Record) → p < n → fs ≡ set_value (is_at (nat_cmp p)) es w → IsSound es n → IsSound fs n
-sound_written es fs n p w below written sound = record {
-  none = λ q from. ap (λ (l : List (ℕ × Record)). record_in l q) written ∙ ap or_gone (set_other es p q w (λ same. omega (arith, same, from, below))) ∙ sound.none q from;
-}
+-- what contracts see
+abbrev pub shown : Slab Slot → List (ℕ × ℕ) → ℕ → Numbered
+shown s keys n = numbered_of (numbered (record_in s keys) n) (has_room s keys n)
 
-pub sound_kept : (es fs : List (ℕ × Record)) (n : ℕ) → fs ≡ es → IsSound es n → IsSound fs n
-sound_kept es fs n same sound = record { none = λ q from. ap (λ (l : List (ℕ × Record)). record_in l q) same ∙ sound.none q from }
+-- the slots are as they were, but for one of this number
+pub record IsWithout (s t : Slab Slot) (p : ℕ) : Type 0 where
+  pub was : (k : ℕ) (y : Slot) → get t k ≡ Some y → (get s k ≡ Some y) × (y.number ≢ p)
+  pub stays : (k : ℕ) (y : Slot) → get s k ≡ Some y → y.number ≢ p → get t k ≡ Some y
 
--- where there is room, something stands at the next number
-pub room_found : (es : List (ℕ × Record)) (n : ℕ) → has_room es n ≡ true → IsSome (lookup (is_at (nat_cmp n)) es)
-room_found es n room = let parts = and_parts _ _ room in parts.0
+-- == the slots and the keys of all records
+module _ (s : Slab Slot) (keys : List (ℕ × ℕ)) (n : ℕ) (sound : IsSound s keys n) where
+  -- a number that leads nowhere has no record
+  pub none_led : (p : ℕ) → lookup (is_at (nat_cmp p)) keys ≡ None → record_in s keys p ≡ Gone
+  none_led p nowhere = ap or_gone (not_in p (get s (key_at keys p)) (λ x found same. (let led = sound.led _ x found in
+      let e : None ≡ Some (key_at keys p) = sym nowhere ∙ ap (λ (q : ℕ). lookup (is_at (nat_cmp q)) keys) (sym same) ∙ led in cc)))
 
-pub room_kept : (es fs : List (ℕ × Record)) (n p : ℕ) (w : Record) → p < n → fs ≡ set_value (is_at (nat_cmp p)) es w → has_room fs n ≡ has_room es n
-room_kept es fs n p w below written = ap (λ (o : Option Record). is_some o && nat_lt (n + 1) (2 ^ 64)) (ap (λ (l : List (ℕ × Record)). lookup (is_at (nat_cmp n)) l) written ∙ set_other es p n w (λ same. omega (arith, same, below)))
+  -- nor has one that wasn't given
+  pub none_given : (p : ℕ) → n ≤ p → record_in s keys p ≡ Gone
+  none_given p from = ap or_gone (not_in p (get s (key_at keys p)) (λ x found same. (let below = sound.given _ x found in omega (arith, below, same, from))))
 
--- two lends of the same are the same, where what is lent was found
-pub same_lend : {D E : Type 0} (r : Option (MutBor E)) (found : Option E) (F G : E → D) (x y : D) → option_copied_mut r ≡ found → ((w : E) → IsSome found → F w ≡ G w) → x ≡ y → read_of (ghost_name_of r) F x ≡ read_of (ghost_name_of r) G y
-same_lend {D} {E} None found F G x y is writes stays = ap (λ (z : D). inr z) stays
-same_lend {D} {E} (Some b) found F G x y is writes stays = ap (λ (H : E → D). inl (b.ghost_name, H)) (λ i w. writes w (ap is_some (sym is)) i)
+  -- the record of a number is in the slot to which it leads, and in no other
+  pub key_of_slot : (key : ℕ) (x : Slot) → get s key ≡ Some x → key_at keys x.number ≡ key
+  key_of_slot key x found = ap (λ (o : Option ℕ). unwrap_or o 0) (sound.led key x found)
+
+  pub item_in : (key p : ℕ) (x : Slot) → get s key ≡ Some x → x.number ≡ p → Some x.value ≡ of_number p (get s (key_at keys p))
+  item_in key p x found named =
+      let led : key_at keys p ≡ key = ap (key_at keys) (sym named) ∙ key_of_slot key x found in
+      sym (ap (λ (q : ℕ). of_number p (get s q)) led ∙ ap (of_number p) found ∙ in_itself p x named)
+
+  pub item : (p : ℕ) → record_in s keys p ≡ item_at (numbered (record_in s keys) n) p
+  item p = at_numbered (record_in s keys) n p (none_given p)
+
+  -- == a record is written in its slot
+  module _ (key : ℕ) (x : Slot) (w : Record) (stood : get s key ≡ Some x) where
+    abbrev written_slot : Slot
+    written_slot = record x { value = w }
+
+    abbrev written_slots : Slab Slot
+    written_slots = with_value s key written_slot
+
+    write : Updates s written_slots key (Some written_slot)
+    write = Updates-with_value s key written_slot (rw stood refl)
+
+    -- what a slot was before
+    before : (k : ℕ) (y : Slot) → get written_slots k ≡ Some y → (z : Slot) × (get s k ≡ Some z) × (y.number ≡ z.number)
+    before k y found =
+        elim (cases_eq k key) [
+          | inl same ↦
+              let it : y ≡ written_slot = one_slot written_slots key y written_slot (ap (get written_slots) (sym same) ∙ found) write.changed in
+              (x, ap (get s) same ∙ stood, ap (λ (z : Slot). z.number) it)
+          | inr other ↦ (y, sym (write.others k other) ∙ found, refl)
+        ]
+
+    pub sound_written : IsSound written_slots keys n
+    sound_written = record {
+      led = λ k y found. (let was = before k y found in ap (λ (q : ℕ). lookup (is_at (nat_cmp q)) keys) was.2 ∙ sound.led k was.0 was.1);
+      given = λ k y found. (let was = before k y found in let below = sound.given k was.0 was.1 in omega (arith, below, was.2));
+    }
+
+    written_here : record_in written_slots keys x.number ≡ w
+    written_here =
+        ap (λ (q : ℕ). record_under written_slots q x.number) (key_of_slot key x stood) ∙ ap (λ (o : Option Slot). or_gone (of_number x.number o)) write.changed ∙ ap or_gone (in_itself x.number written_slot refl)
+
+    written_other : (k : ℕ) → k ≢ x.number → record_in written_slots keys k ≡ record_in s keys k
+    written_other k apart =
+        elim (cases_eq (key_at keys k) key) [
+          | inl same ↦
+              let now : of_number k (get written_slots (key_at keys k)) ≡ None = ap (λ (q : ℕ). of_number k (get written_slots q)) same ∙ ap (of_number k) write.changed ∙ not_in k (Some written_slot) (λ y e l. apart (sym l ∙ ap (λ (o : Slot). o.number) (let it : Some y ≡ Some written_slot = sym e in let i : y ≡ written_slot = cc in i))) in
+              let was : of_number k (get s (key_at keys k)) ≡ None = ap (λ (q : ℕ). of_number k (get s q)) same ∙ ap (of_number k) stood ∙ not_in k (Some x) (λ y e l. apart (sym l ∙ ap (λ (o : Slot). o.number) (let it : Some y ≡ Some x = sym e in let i : y ≡ x = cc in i))) in
+              ap or_gone (now ∙ sym was)
+          | inr other ↦ ap (λ (o : Option Slot). or_gone (of_number k o)) (write.others (key_at keys k) other)
+        ]
+
+    pub written : (p : ℕ) → x.number ≡ p → numbered (record_in written_slots keys) n ≡ slice_set (numbered (record_in s keys) n) p w
+    written p named = set_numbered (record_in s keys) (record_in written_slots keys) n p w (λ b. ap (record_in written_slots keys) (sym named) ∙ written_here) (λ k other. written_other k (λ e. other (e ∙ named)))
+
+    pub room_written : has_room written_slots keys n ≡ has_room s keys n
+    room_written =
+        let counted = sum_by-set (λ (o : Option Slot). cond (is_some o) 1 0) s.slots key (Some written_slot) None (ContainsKey-within s key (rw stood refl)) in
+        let stands : ◌≡◌ {A = ℕ} (cond (is_some (get s key)) 1 0) 1 = rw stood refl in
+        let len : slab_len written_slots ≡ slab_len s = omega (arith, counted, stands) in
+        ap (λ (l : ℕ). is_some (lookup (is_at (nat_cmp n)) keys) && nat_lt l s.capacity && nat_lt (n + 1) (2 ^ 64)) len
+
+    pub lent : (p : ℕ) → x.number ≡ p → shown written_slots keys n ≡ with_item (shown s keys n) p w
+    lent p named =
+        ap (λ (l : List Record). numbered_of l (has_room written_slots keys n)) (written p named)
+        ∙ ap (λ (b : Bool). numbered_of (slice_set (numbered (record_in s keys) n) p w) b) room_written
+
+  -- == slots with more room, and a map that may lead somewhere else at the next number
+  module _ (t : Slab Slot) (fs : List (ℕ × ℕ)) (same : (k : ℕ) → get t k ≡ get s k) (stays : (q : ℕ) → q < n → lookup (is_at (nat_cmp q)) fs ≡ lookup (is_at (nat_cmp q)) keys) where
+    pub sound_reserved : IsSound t fs n
+    sound_reserved = record {
+      led = λ k y found. (let was = sym (same k) ∙ found in stays y.number (sound.given k y was) ∙ sound.led k y was);
+      given = λ k y found. sound.given k y (sym (same k) ∙ found);
+    }
+
+    pub reserved : numbered (record_in t fs) n ≡ numbered (record_in s keys) n
+    reserved = numbered_same (record_in s keys) (record_in t fs) n (λ k below. ap (λ (o : Option ℕ). record_under t (unwrap_or o 0) k) (stays k below) ∙ ap (λ (o : Option Slot). or_gone (of_number k o)) (same (key_at keys k)))
+
+  -- == the record of the next number comes
+  module _ (t : Slab Slot) (fs : List (ℕ × ℕ)) (key : ℕ) (w : Record) (vacant : get s key ≡ None) (put : Updates s t key (Some (record { number = n; value = w }))) (change : Changes keys fs n (Some key)) where
+    abbrev pushed_slot : Slot
+    pushed_slot = record { number = n; value = w }
+
+    pub sound_pushed : IsSound t fs (n + 1)
+    sound_pushed = record {
+      led = λ k y found. (elim (cases_eq k key) [
+        | inl here ↦
+            let it : y ≡ pushed_slot = one_slot t key y pushed_slot (ap (get t) (sym here) ∙ found) put.changed in
+            ap (λ (z : Slot). lookup (is_at (nat_cmp z.number)) fs) it ∙ led_here keys fs n (Some key) change ∙ ap (λ (q : ℕ). Some q) (sym here)
+        | inr other ↦
+            let was = sym (put.others k other) ∙ found in
+            let below = sound.given k y was in
+            led_other keys fs n (Some key) change y.number (λ e. omega (arith, e, below)) ∙ sound.led k y was
+      ]);
+      given = λ k y found. (elim (cases_eq k key) [
+        | inl here ↦
+            let it : y ≡ pushed_slot = one_slot t key y pushed_slot (ap (get t) (sym here) ∙ found) put.changed in
+            let named = ap (λ (z : Slot). z.number) it in omega (arith, named)
+        | inr other ↦ let below = sound.given k y (sym (put.others k other) ∙ found) in omega (arith, below)
+      ]);
+    }
+
+    pushed_here : record_in t fs n ≡ w
+    pushed_here =
+        ap (λ (o : Option ℕ). record_under t (unwrap_or o 0) n) (led_here keys fs n (Some key) change) ∙ ap (λ (o : Option Slot). or_gone (of_number n o)) put.changed ∙ ap or_gone (in_itself n pushed_slot refl)
+
+    pushed_other : (k : ℕ) → k < n → record_in t fs k ≡ record_in s keys k
+    pushed_other k below =
+        ap (λ (q : ℕ). record_under t q k) (key_other keys fs n (Some key) change k (λ e. omega (arith, e, below)))
+        ∙ elim (cases_eq (key_at keys k) key) [
+          | inl here ↦
+              let now : of_number k (get t (key_at keys k)) ≡ None = ap (λ (q : ℕ). of_number k (get t q)) here ∙ ap (of_number k) put.changed ∙ not_in k (Some pushed_slot) (λ y e l. (let it : Some y ≡ Some pushed_slot = sym e in let i : y ≡ pushed_slot = cc in let m = ap (λ (o : Slot). o.number) i in omega (arith, m, l, below))) in
+              let was : of_number k (get s (key_at keys k)) ≡ None = ap (λ (q : ℕ). of_number k (get s q)) here ∙ ap (of_number k) vacant in
+              ap or_gone (now ∙ sym was)
+          | inr other ↦ ap (λ (o : Option Slot). or_gone (of_number k o)) (put.others (key_at keys k) other)
+        ]
+
+    pub pushed : numbered (record_in t fs) (n + 1) ≡ numbered (record_in s keys) n ++ w ∷ []
+    pushed =
+        let next : n + 1 ≡ suc n = omega arith in
+        let before = numbered_same (record_in s keys) (record_in t fs) n pushed_other in
+        ap (numbered (record_in t fs)) next ∙ ap (λ (l : List Record). l ++ record_in t fs n ∷ []) before ∙ ap (λ (r : Record). numbered (record_in s keys) n ++ r ∷ []) pushed_here
+
+  -- == the record of a number goes
+  module _ (t : Slab Slot) (fs : List (ℕ × ℕ)) (p : ℕ) (change : Changes keys fs p None) (without : IsWithout s t p) where
+    pub sound_gone : IsSound t fs n
+    sound_gone = record {
+      led = λ k y found. (let was = without.was k y found in led_other keys fs p None change y.number was.1 ∙ sound.led k y was.0);
+      given = λ k y found. (let was = without.was k y found in sound.given k y was.0);
+    }
+
+    kept : (k q : ℕ) → k ≢ p → of_number k (get t q) ≡ of_number k (get s q)
+    kept k q apart = by (get t q) refl
+      where
+        by : (o : Option Slot) → get t q ≡ o → of_number k (get t q) ≡ of_number k (get s q)
+        by (Some y) found = let was = without.was q y found in ap (of_number k) found ∙ ap (of_number k) (sym was.0)
+        by None found = ap (of_number k) found ∙ sym (not_in k (get s q) (λ y stood named. (let now = without.stays q y stood (λ e. apart (sym named ∙ e)) in let e : None ≡ Some y = sym found ∙ now in cc)))
+
+  -- its slot was taken
+  pub taken_without : (t : Slab Slot) (key p : ℕ) → In (get s key) p → Updates s t key None → IsWithout s t p
+  taken_without t key p there taken = record {
+    was = λ k y found. (let other : k ≢ key = λ here. (let e : Some y ≡ None = sym found ∙ ap (get t) here ∙ taken.changed in cc) in
+        let old = sym (taken.others k other) ∙ found in
+        (old, λ named. other (sym (key_of_slot k y old) ∙ ap (key_at keys) (named ∙ sym there.named) ∙ key_of_slot key there.slot there.stands)));
+    stays = λ k y stood apart. taken.others k (λ here. apart (ap (λ (z : Slot). z.number) (one_slot s key y there.slot (ap (get s) (sym here) ∙ stood) there.stands) ∙ there.named)) ∙ stood;
+  }
+
+  -- or it had none
+  pub none_without : (p : ℕ) → is_some (of_number p (get s (key_at keys p))) ≡ false → IsWithout s s p
+  none_without p none = record {
+    was = λ k y found. (found, λ named. (let e : Some y.value ≡ None = item_in k p y found named ∙ none_in p (get s (key_at keys p)) none in cc));
+    stays = λ k y stood apart. stood;
+  }
+
+pub gone : (s t : Slab Slot) (keys fs : List (ℕ × ℕ)) (n p : ℕ) → IsSound s keys n → Changes keys fs p None → IsWithout s t p → numbered (record_in t fs) n ≡ slice_set (numbered (record_in s keys) n) p Gone
+gone s t keys fs n p sound change without =
+    set_numbered (record_in s keys) (record_in t fs) n p Gone
+    (λ b. none_led t fs n (sound_gone s keys n sound t fs p change without) p (led_here keys fs p None change))
+    (λ k apart. ap (λ (q : ℕ). record_under t q k) (key_other keys fs p None change k apart) ∙ ap or_gone (kept s keys n sound t fs p change without k (key_at keys k) apart))
+
+-- where there is room, the next number leads somewhere, and one more slot fits
+pub room_found : (s : Slab Slot) (keys : List (ℕ × ℕ)) (n : ℕ) → has_room s keys n ≡ true → IsSome (lookup (is_at (nat_cmp n)) keys)
+room_found s keys n room = let both = and_parts _ _ room in let first = and_parts _ _ both.0 in first.0

@@ -1,6 +1,6 @@
 -- Look-ups of UDP sockets in the store, and the network sockets of the records where one of them is replaced.
 use Rattle.std.specs.Borrow.{Bor, MutBor}
-use Rattle.std.proofs.Common.{◌≡◌, ℕ, zero, suc, ◌+◌, List, [], ◌∷◌, Option, Some, None, sym, ap, arith}
+use Rattle.std.proofs.Common.{◌≡◌, ℕ, zero, suc, ◌+◌, List, [], ◌∷◌, Option, Some, None, refl, sym, ap, arith}
 use Rattle.wasi_host.specs.declared.records.Record.{Record}
 use Rattle.wasi_host.specs.declared.records.Record.TheVariants.{Tcp2, Udp2, Lookup, InputPipe, OutputPipe, Gone}
 use Rattle.wasi_host.specs.declared.udp.OpenUdp.{OpenUdp}
@@ -49,6 +49,12 @@ udp_put_same (x ∷ xs) (suc i) u h = ap (λ (l : List Record). x ∷ l) (udp_pu
 
 pub open_back : (xs : List Record) (i : ℕ) (x : MutBor OpenUdp) → Some x.now ≡ open_at xs i → open_put xs i x.now ≡ xs
 open_back xs i x h = udp_put_same xs i (Open x.now) (open_there xs i x.now (sym h))
+
+-- == and what it became is there
+pub open_put_there : (xs : List Record) (i : ℕ) (now old : OpenUdp) → open_at xs i ≡ Some old → open_at (open_put xs i now) i ≡ Some now
+open_put_there [] i now old h = absurd (cc)
+open_put_there (x ∷ xs) zero now old h = refl
+open_put_there (x ∷ xs) (suc i) now old h = open_put_there xs i now old h
 
 -- == the network sockets of the records
 pub held_in-udp_swap : (rs : List Record) (i : ℕ) (old now : Udp2Socket) → udp2_at rs i ≡ Some old → held_in (udp2_put rs i now) + udp_holds old ≡ held_in rs + udp_holds now

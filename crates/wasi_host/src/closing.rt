@@ -1,13 +1,15 @@
 //! Closes network sockets after the end mark.
 
 ghost use Rattle.std.specs.Prelude.{◌≡◌, true};
-ghost use Rattle.std.specs.BTreeMap.{values, IsOrdered};
+ghost use Rattle.std.specs.BTreeMap.{IsOrdered};
 ghost use Rattle.std.specs.Ordering.{nat_cmp};
 ghost use Rattle.wasi_host.specs.Sides.{held_by, held_in, one_if_some};
 ghost use Rattle.wasi_host.specs.Closing.{ClosesMore, ClosesSides};
+ghost use Rattle.wasi_host.specs.RecordMap.{record_under, records_of};
 
-use crate::record_list::RecordList;
+use crate::record_list::{RecordList, Slot, record_of};
 use crate::records::Record;
+use slab::Slab;
 use std::collections::BTreeMap;
 use wasi_world::{Sock, World};
 
@@ -41,16 +43,26 @@ pub fn close_sides<W: World>(world: &mut W, records: &RecordList)
     requires { (W.seen world.old).ended ≡ true }
     ensures { ClosesSides (W.seen world.old) (W.seen world.new) (held_in records.now.items) }
 {
-    close_live(world, &records.live);
+    close_live(world, &records.slots, &records.keys);
 }
 
-/// Closes the network sockets that these records hold.
-fn close_live<W: World>(world: &mut W, live: &BTreeMap<usize, Record>)
+/// Closes the network sockets that the records of these numbers hold.
+fn close_live<W: World>(world: &mut W, slots: &Slab<Slot>, keys: &BTreeMap<usize, usize>)
     requires { (W.seen world.old).ended ≡ true }
-    ensures closed { ClosesSides (W.seen world.old) (W.seen world.new) (held_in (values live.now)) }
-    ensures ordered { IsOrdered nat_cmp live.now }
+    ensures closed { ClosesSides (W.seen world.old) (W.seen world.new) (held_in (records_of slots.now keys.now.entries)) }
+    ensures ordered { IsOrdered nat_cmp keys.now }
 {
-    for record in live.values() {
+    for (number, slot) in keys.iter() {
+        close_in(world, slots, *slot, *number);
+    }
+}
+
+/// Closes the network sockets that the record of this number holds, where it is in this slot.
+fn close_in<W: World>(world: &mut W, slots: &Slab<Slot>, slot: usize, number: usize)
+    requires { (W.seen world.old).ended ≡ true }
+    ensures { ClosesMore (W.seen world.old) (W.seen world.new) (held_by (record_under slots.now slot number)) }
+{
+    if let Some(record) = record_of(slots, slot, number) {
         close_record(world, record);
     }
 }

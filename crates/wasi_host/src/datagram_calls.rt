@@ -14,7 +14,7 @@ use crate::error::SocketError;
 use crate::handles;
 use crate::jobs::keep_job;
 use crate::kind::Kind;
-use crate::records::{open_udp, open_udp_mut};
+use crate::records::{open_udp, open_udp_mut, open_udp_mut_in};
 use crate::store::{StandingCall, Store};
 use std::alloc::Global;
 use wasi_addr::IpSocketAddress;
@@ -173,11 +173,12 @@ impl Store {
         ensures sides { KnowsSides (W.seen world.old) self.old → KnowsSides (W.seen world.new) self.new }
         ensures open { (W.seen world.new).ended ≡ false }
     {
-        let Some(socket) = open_udp_mut(&mut self.records, place) else {
+        let slot = self.records.slot_of(place);
+        let Some(socket) = open_udp_mut_in(&mut self.records, slot, place) else {
             return Err(SocketError::Trap(TrapKind::NoSuchHandle));
         };
         // The job comes first, so that a datagram in the background has its job whatever memory there is.
-        self.jobs.push(HostJob::Datagram { socket: place })?;
+        self.jobs.push(HostJob::Datagram { socket: place }, slot)?;
         let before = socket.sends();
         let sent = socket.send_datagrams(world, ids, datagrams);
         let begins = !before && socket.sends();
@@ -203,11 +204,12 @@ impl Store {
         ensures sides { KnowsSides (W.seen world.old) self.old → KnowsSides (W.seen world.new) self.new }
         ensures open { (W.seen world.new).ended ≡ false }
     {
-        let Some(socket) = open_udp_mut(&mut self.records, place) else {
+        let slot = self.records.slot_of(place);
+        let Some(socket) = open_udp_mut_in(&mut self.records, slot, place) else {
             return Err(SocketError::Trap(TrapKind::NoSuchHandle));
         };
         // The job comes first, so that a receive in progress has its job whatever memory there is.
-        self.jobs.push(HostJob::Receive { socket: place })?;
+        self.jobs.push(HostJob::Receive { socket: place }, slot)?;
         let before = socket.receives();
         let received = socket.receive_datagrams(alloc, world, ids, most);
         let begins = !before && socket.receives();
@@ -231,11 +233,12 @@ impl Store {
         ensures sides { KnowsSides (W.seen world.old) self.old → KnowsSides (W.seen world.new) self.new }
         ensures open { (W.seen world.new).ended ≡ false }
     {
-        let Some(socket) = open_udp_mut(&mut self.records, place) else {
+        let slot = self.records.slot_of(place);
+        let Some(socket) = open_udp_mut_in(&mut self.records, slot, place) else {
             return Err(Fault::Trap(TrapKind::NoSuchHandle));
         };
-        // As before a receive.
-        self.jobs.push(HostJob::Receive { socket: place })?;
+        // The job comes first here too.
+        self.jobs.push(HostJob::Receive { socket: place }, slot)?;
         let before = socket.receives();
         let looked = socket.look_incoming(world, ids);
         let waits = socket.receives();

@@ -1,6 +1,6 @@
 //! The host's background work, and its turn.
 
-ghost use Rattle.std.specs.Prelude.{◌≡◌, ◌++◌, ◌∷◌, [], List, false};
+ghost use Rattle.std.specs.Prelude.{◌≡◌, ◌++◌, ◌∷◌, [], List, false, IfOk};
 ghost use Rattle.wasi_world.specs.Asks.{AsksFor};
 ghost use Rattle.wasi_world.specs.Seen.{Seen};
 ghost use Rattle.wasi_host.specs.Records.{tcp2_at, open_at, lookup_at};
@@ -15,154 +15,116 @@ ghost use Rattle.wasi_host.specs.Sides.{KnowsSides, MakesNone, held_by, held_in}
 ghost use Rattle.wasi_host.specs.Views.{SameView, state_of};
 
 use crate::record_list::RecordList;
-use crate::records::{lookup, lookup_mut, open_udp, open_udp_mut, tcp2, tcp2_mut};
+use crate::records::{lookup_mut_in, open_udp_mut_in, tcp2_mut_in};
 use crate::store::Store;
 use crate::view::WasiSocketsCtxView;
 use std::alloc::AllocError;
-use wasi_jobs::{HostJob, JobList};
+use wasi_jobs::{HostJob, JobList, Listed};
 use wasi_world::World;
 
-/// Polls the write of the socket of this number once, where one is in progress.
+/// Polls the write of the socket of this number once, where one is in progress. Returns whether one is then.
 fn turn_socket<W: World>(
     records: &mut RecordList,
     world: &mut W,
+    slot: usize,
     place: usize,
-) -> Result<(), AllocError>
+) -> Result<bool, AllocError>
     requires { (W.seen world.old).ended ≡ false }
-    ensures asked { AsksFor (turn_at records.old.items place (tcp2_at records.old.items place)) (W.seen world.old) (W.seen world.new) (λ done. records.new.items) result }
+    ensures asked { AsksFor (turn_at records.old.items place (tcp2_at records.old.items place)) (W.seen world.old) (W.seen world.new) (λ goes_on. records.new.items) result }
+    ensures goes_on { IfOk result (λ goes_on. goes_on ≡ has_job (tcp2_at records.new.items place)) }
     ensures held { held_in records.new.items ≡ held_in records.old.items }
     ensures none { MakesNone (W.seen world.old) (W.seen world.new) }
     ensures open { (W.seen world.new).ended ≡ false }
 {
-    let Some(record) = tcp2_mut(records, place) else {
-        return Ok(());
+    let Some(record) = tcp2_mut_in(records, slot, place) else {
+        return Ok(false);
     };
-    record.turn(world)
+    record.turn(world)?;
+    Ok(record.has_job())
 }
 
-/// Polls the datagram in the background of the UDP socket of this number once, where there is one.
+/// Polls the datagram in the background of the UDP socket of this number once, where there is one. Returns whether there is one then.
 fn turn_datagram<W: World>(
     records: &mut RecordList,
     world: &mut W,
+    slot: usize,
     place: usize,
-) -> Result<(), AllocError>
+) -> Result<bool, AllocError>
     requires { (W.seen world.old).ended ≡ false }
-    ensures asked { AsksFor (turn_datagram_at records.old.items place (open_at records.old.items place)) (W.seen world.old) (W.seen world.new) (λ done. records.new.items) result }
+    ensures asked { AsksFor (turn_datagram_at records.old.items place (open_at records.old.items place)) (W.seen world.old) (W.seen world.new) (λ goes_on. records.new.items) result }
+    ensures goes_on { IfOk result (λ goes_on. goes_on ≡ sends_on (open_at records.new.items place)) }
     ensures held { held_in records.new.items ≡ held_in records.old.items }
     ensures none { MakesNone (W.seen world.old) (W.seen world.new) }
     ensures open { (W.seen world.new).ended ≡ false }
 {
-    let Some(socket) = open_udp_mut(records, place) else {
-        return Ok(());
+    let Some(socket) = open_udp_mut_in(records, slot, place) else {
+        return Ok(false);
     };
-    socket.turn_outgoing(world)
+    socket.turn_outgoing(world)?;
+    Ok(socket.sends())
 }
 
-/// Polls the receive in progress of the UDP socket of this number once, where there is one.
+/// Polls the receive in progress of the UDP socket of this number once, where there is one. Returns whether there is one then.
 fn turn_receive<W: World>(
     records: &mut RecordList,
     world: &mut W,
+    slot: usize,
     place: usize,
-) -> Result<(), AllocError>
+) -> Result<bool, AllocError>
     requires { (W.seen world.old).ended ≡ false }
-    ensures asked { AsksFor (turn_receive_at records.old.items place (open_at records.old.items place)) (W.seen world.old) (W.seen world.new) (λ done. records.new.items) result }
+    ensures asked { AsksFor (turn_receive_at records.old.items place (open_at records.old.items place)) (W.seen world.old) (W.seen world.new) (λ goes_on. records.new.items) result }
+    ensures goes_on { IfOk result (λ goes_on. goes_on ≡ receives_on (open_at records.new.items place)) }
     ensures held { held_in records.new.items ≡ held_in records.old.items }
     ensures none { MakesNone (W.seen world.old) (W.seen world.new) }
     ensures open { (W.seen world.new).ended ≡ false }
 {
-    let Some(socket) = open_udp_mut(records, place) else {
-        return Ok(());
+    let Some(socket) = open_udp_mut_in(records, slot, place) else {
+        return Ok(false);
     };
-    socket.turn_incoming(world)
+    socket.turn_incoming(world)?;
+    Ok(socket.receives())
 }
 
-/// Asks the network again about the lookup of this number, where it is in progress.
+/// Asks the network again about the lookup of this number, where it is in progress. Returns whether it is then.
 fn turn_lookup<W: World>(
     records: &mut RecordList,
     world: &mut W,
+    slot: usize,
     place: usize,
-) -> Result<(), AllocError>
+) -> Result<bool, AllocError>
     requires { (W.seen world.old).ended ≡ false }
-    ensures asked { AsksFor (turn_lookup_at records.old.items place (lookup_at records.old.items place)) (W.seen world.old) (W.seen world.new) (λ done. records.new.items) result }
+    ensures asked { AsksFor (turn_lookup_at records.old.items place (lookup_at records.old.items place)) (W.seen world.old) (W.seen world.new) (λ goes_on. records.new.items) result }
+    ensures goes_on { IfOk result (λ goes_on. goes_on ≡ looks_on (lookup_at records.new.items place)) }
     ensures held { held_in records.new.items ≡ held_in records.old.items }
     ensures none { MakesNone (W.seen world.old) (W.seen world.new) }
     ensures open { (W.seen world.new).ended ≡ false }
 {
-    match lookup_mut(records, place) {
-        Some(lookup) => lookup.turn(world),
-        None => Ok(()),
-    }
+    let Some(lookup) = lookup_mut_in(records, slot, place) else {
+        return Ok(false);
+    };
+    lookup.turn(world)?;
+    Ok(lookup.is_in_progress())
 }
 
-/// Polls a job once.
+/// Polls a job once. Returns whether it isn't over then. Its record is looked for in its slot first.
 fn turn_job<W: World>(
     records: &mut RecordList,
     world: &mut W,
-    job: HostJob,
-) -> Result<(), AllocError>
+    listed: Listed,
+) -> Result<bool, AllocError>
     requires { (W.seen world.old).ended ≡ false }
-    ensures asked { AsksFor (turn_job records.old.items job) (W.seen world.old) (W.seen world.new) (λ done. records.new.items) result }
+    ensures asked { AsksFor (turn_job records.old.items listed.job) (W.seen world.old) (W.seen world.new) (λ goes_on. records.new.items) result }
+    ensures goes_on { IfOk result (λ goes_on. goes_on ≡ is_going records.new.items listed.job) }
     ensures held { held_in records.new.items ≡ held_in records.old.items }
     ensures none { MakesNone (W.seen world.old) (W.seen world.new) }
     ensures open { (W.seen world.new).ended ≡ false }
 {
-    match job {
-        HostJob::Write { socket } => turn_socket(records, world, socket),
-        HostJob::Datagram { socket } => turn_datagram(records, world, socket),
-        HostJob::Receive { socket } => turn_receive(records, world, socket),
-        HostJob::Lookup { lookup } => turn_lookup(records, world, lookup),
-    }
-}
-
-/// Whether the socket of this number has a write in progress.
-fn has_job(records: &RecordList, place: usize) -> bool
-    ensures { result ≡ has_job (tcp2_at records.now.items place) }
-{
-    match tcp2(records, place) {
-        Some(record) => record.has_job(),
-        None => false,
-    }
-}
-
-/// Whether the UDP socket of this number has a datagram in the background.
-fn sends_on(records: &RecordList, place: usize) -> bool
-    ensures { result ≡ sends_on (open_at records.now.items place) }
-{
-    match open_udp(records, place) {
-        Some(socket) => socket.sends(),
-        None => false,
-    }
-}
-
-/// Whether the UDP socket of this number has a receive in progress.
-fn receives_on(records: &RecordList, place: usize) -> bool
-    ensures { result ≡ receives_on (open_at records.now.items place) }
-{
-    match open_udp(records, place) {
-        Some(socket) => socket.receives(),
-        None => false,
-    }
-}
-
-/// Whether the lookup of this number is in progress.
-fn looks_on(records: &RecordList, place: usize) -> bool
-    ensures { result ≡ looks_on (lookup_at records.now.items place) }
-{
-    match lookup(records, place) {
-        Some(lookup) => lookup.is_in_progress(),
-        None => false,
-    }
-}
-
-/// Whether a job isn't over.
-fn is_going(records: &RecordList, job: HostJob) -> bool
-    ensures { result ≡ is_going records.now.items job }
-{
-    match job {
-        HostJob::Write { socket } => has_job(records, socket),
-        HostJob::Datagram { socket } => sends_on(records, socket),
-        HostJob::Receive { socket } => receives_on(records, socket),
-        HostJob::Lookup { lookup } => looks_on(records, lookup),
+    let slot = listed.slot;
+    match listed.job {
+        HostJob::Write { socket } => turn_socket(records, world, slot, socket),
+        HostJob::Datagram { socket } => turn_datagram(records, world, slot, socket),
+        HostJob::Receive { socket } => turn_receive(records, world, slot, socket),
+        HostJob::Lookup { lookup } => turn_lookup(records, world, slot, lookup),
     }
 }
 
@@ -179,12 +141,12 @@ fn turn_jobs<W: World>(
     ensures open { (W.seen world.new).ended ≡ false }
 {
     let mut next = 0;
-    while let Some((number, job)) = jobs.first_from(next) {
-        turn_job(records, world, job)?;
-        if !is_going(records, job) {
-            jobs.remove(number);
+    while let Some(listed) = jobs.first_from(next) {
+        let goes_on = turn_job(records, world, listed)?;
+        if !goes_on {
+            jobs.remove(listed.number);
         }
-        next = number + 1;
+        next = listed.number + 1;
     }
     Ok(())
 }

@@ -184,7 +184,7 @@ fn add_lookup(
     records.reserve()?;
     let place = records.len();
     if lookup.is_in_progress() {
-        jobs.push(HostJob::Lookup { lookup: place })?;
+        jobs.push(HostJob::Lookup { lookup: place }, records.slot_of(place))?;
     }
     records.push_reserved(Record::Lookup(lookup));
     Ok(place)

@@ -148,7 +148,20 @@ pub(crate) fn tcp2_mut(records: &mut RecordList, place: usize) -> Option<&mut Tc
     ensures* writes_back { sem 𝓛 (LendsIf records_row socket_row records.entry result (with_tcp2 records.old place) records.old) }
     ensures item { option_map (λ r. r.now) result ≡ tcp2_at records.old.items place }
 {
-    records.get_mut(place)?.as_tcp2_mut()
+    let slot = records.slot_of(place);
+    tcp2_mut_in(records, slot, place)
+}
+
+/// The same, which is looked for in this slot first.
+pub(crate) fn tcp2_mut_in(
+    records: &mut RecordList,
+    slot: usize,
+    place: usize,
+) -> Option<&mut Tcp2Socket>
+    ensures* writes_back { sem 𝓛 (LendsIf records_row socket_row records.entry result (with_tcp2 records.old place) records.old) }
+    ensures item { option_map (λ r. r.now) result ≡ tcp2_at records.old.items place }
+{
+    records.get_mut_in(slot, place)?.as_tcp2_mut()
 }
 
 /// The UDP socket of this number.
@@ -163,7 +176,20 @@ pub(crate) fn udp2_mut(records: &mut RecordList, place: usize) -> Option<&mut Ud
     ensures* writes_back { sem 𝓛 (LendsIf records_row udp_row records.entry result (with_udp2 records.old place) records.old) }
     ensures item { option_map (λ u. u.now) result ≡ udp2_at records.old.items place }
 {
-    records.get_mut(place)?.as_udp2_mut()
+    let slot = records.slot_of(place);
+    udp2_mut_in(records, slot, place)
+}
+
+/// The same, which is looked for in this slot first.
+pub(crate) fn udp2_mut_in(
+    records: &mut RecordList,
+    slot: usize,
+    place: usize,
+) -> Option<&mut Udp2Socket>
+    ensures* writes_back { sem 𝓛 (LendsIf records_row udp_row records.entry result (with_udp2 records.old place) records.old) }
+    ensures item { option_map (λ u. u.now) result ≡ udp2_at records.old.items place }
+{
+    records.get_mut_in(slot, place)?.as_udp2_mut()
 }
 
 /// The UDP socket of this number, where it is open.
@@ -178,7 +204,20 @@ pub(crate) fn open_udp_mut(records: &mut RecordList, place: usize) -> Option<&mu
     ensures* writes_back { sem 𝓛 (LendsIf records_row open_row records.entry result (with_open records.old place) records.old) }
     ensures item { option_map (λ o. o.now) result ≡ open_at records.old.items place }
 {
-    udp2_mut(records, place)?.as_open_mut()
+    let slot = records.slot_of(place);
+    open_udp_mut_in(records, slot, place)
+}
+
+/// The same, which is looked for in this slot first.
+pub(crate) fn open_udp_mut_in(
+    records: &mut RecordList,
+    slot: usize,
+    place: usize,
+) -> Option<&mut OpenUdp>
+    ensures* writes_back { sem 𝓛 (LendsIf records_row open_row records.entry result (with_open records.old place) records.old) }
+    ensures item { option_map (λ o. o.now) result ≡ open_at records.old.items place }
+{
+    udp2_mut_in(records, slot, place)?.as_open_mut()
 }
 
 /// The lookup of this number.
@@ -193,7 +232,20 @@ pub(crate) fn lookup_mut(records: &mut RecordList, place: usize) -> Option<&mut 
     ensures* writes_back { sem 𝓛 (LendsIf records_row lookup_row records.entry result (with_lookup_at records.old place) records.old) }
     ensures item { option_map (λ l. l.now) result ≡ lookup_at records.old.items place }
 {
-    records.get_mut(place)?.as_lookup_mut()
+    let slot = records.slot_of(place);
+    lookup_mut_in(records, slot, place)
+}
+
+/// The same, which is looked for in this slot first.
+pub(crate) fn lookup_mut_in(
+    records: &mut RecordList,
+    slot: usize,
+    place: usize,
+) -> Option<&mut Lookup>
+    ensures* writes_back { sem 𝓛 (LendsIf records_row lookup_row records.entry result (with_lookup_at records.old place) records.old) }
+    ensures item { option_map (λ l. l.now) result ≡ lookup_at records.old.items place }
+{
+    records.get_mut_in(slot, place)?.as_lookup_mut()
 }
 
 /// The pipe of this number that a guest reads.

@@ -21,7 +21,7 @@ use crate::handles;
 use crate::jobs::keep_job;
 use crate::kind::Kind;
 use crate::record_list::RecordList;
-use crate::records::{Record, tcp2, tcp2_mut};
+use crate::records::{Record, tcp2, tcp2_mut, tcp2_mut_in};
 use crate::socket::Tcp2Socket;
 use std::alloc::{AllocError, Global};
 use std::marker::Model;
@@ -63,8 +63,8 @@ pub struct Standing {
 }
 
 /// The records by number, the jobs in the order of making, and the pending call. A record is given back once nothing refers to it
-/// any more, so memory follows how many sockets, lookups and pipes are there, and not how many were made. A record for which no
-/// handle could be made stays.
+/// any more, so memory follows how many sockets, lookups and pipes are there, and not how many were made. The record of a socket for
+/// which no handle could be made stays.
 #[derive(Drop)]
 pub struct Store {
     pub(crate) records: RecordList,
@@ -280,11 +280,12 @@ impl Store {
         ensures sides { KnowsSides (W.seen world.old) self.old → KnowsSides (W.seen world.new) self.new }
         ensures open { (W.seen world.new).ended ≡ false }
     {
-        let Some(record) = tcp2_mut(&mut self.records, place) else {
+        let slot = self.records.slot_of(place);
+        let Some(record) = tcp2_mut_in(&mut self.records, slot, place) else {
             return Err(StreamError::Trap(TrapKind::NoSuchHandle));
         };
         // The job comes before the write, so that a write in progress has its job whatever memory there is.
-        self.jobs.push(HostJob::Write { socket: place })?;
+        self.jobs.push(HostJob::Write { socket: place }, slot)?;
         let (written, begins) = record.write_noting(world, op, bytes);
         keep_job(&mut self.jobs, begins);
         written

@@ -134,14 +134,15 @@ impl UdpInProgress {
 /// A UDP socket that was made and isn't dropped, what it is in the middle of, and its datagram streams.
 #[derive(Drop)]
 pub struct OpenUdp {
+    // These come first, since each turn looks here: fields lie in this order, and a record is several cache lines long.
     pub inner: UdpSocket,
-    pub in_progress: UdpInProgress,
-    /// The connect by which its datagram streams are made, while that is pending.
-    pub connecting: Option<PendingUdpConnect>,
     /// Its incoming datagram stream, while that is live.
     pub incoming: Option<Incoming>,
     /// Its outgoing datagram stream, likewise.
     pub outgoing: Option<Outgoing>,
+    pub in_progress: UdpInProgress,
+    /// The connect by which its datagram streams are made, while that is pending.
+    pub connecting: Option<PendingUdpConnect>,
 }
 
 /// A UDP socket of the 0.2 interface.

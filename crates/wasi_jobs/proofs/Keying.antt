@@ -7,6 +7,7 @@ use Rattle.std.specs.BTreeSet.{BTreeSet, IsKeyRangeOf}
 use Rattle.std.specs.declared.ops.Bound.TheVariants.{Included, Unbounded}
 use Rattle.std.proofs.lemmas.Bool.{eqb-true, eq-eqb, ne_eqb, and_parts, and_from, and_left, and_right, cases_eq, cases_Bool, false_from_ne_true}
 use Rattle.wasi_jobs.specs.declared.job.HostJob.{HostJob}
+use Rattle.wasi_jobs.specs.declared.ahead.Hinted.{Hinted}
 use Rattle.wasi_jobs.specs.declared.job_list.Key.{Key}
 use Rattle.wasi_jobs.specs.Jobs.{job_place, is_on}
 use Rattle.wasi_jobs.specs.Keys.{job_at, key_cmp, has_key, is_one_on, AreKeyed, HasNoneFrom, IsNextOn}
@@ -23,20 +24,20 @@ on_other : (place : ℕ) (job : HostJob) → place ≢ job_place job → is_on p
 on_other place job other = on_place place job ∙ ne_eqb _ _ (λ same. other (sym same))
 
 -- a number's job becomes `w`, and its key is there or not; no other changes
-abbrev Reaches : List (ℕ × HostJob) → List (ℕ × HostJob) → ℕ → Option HostJob → Type 0
+abbrev Reaches : List (ℕ × Hinted) → List (ℕ × Hinted) → ℕ → Option Hinted → Type 0
 Reaches old new number w = (q : ℕ) → job_at new q ≡ cond (is_at (nat_cmp number) q) w (job_at old q)
 
 abbrev Turns : List Key → List Key → Key → Bool → Type 0
 Turns old new m b = (q : Key) → list_any (is_at (key_cmp q)) new ≡ cond (is_at (key_cmp m) q) b (list_any (is_at (key_cmp q)) old)
 
-module _ (old new : List (ℕ × HostJob)) (keys rekeyed : List Key) (place number : ℕ) where
+module _ (old new : List (ℕ × Hinted)) (keys rekeyed : List Key) (place number : ℕ) where
   turned : (b : Bool) (p n : ℕ) (c : Bool) → Turns keys rekeyed (key place number) b → (p == place && n == number) ≡ c → has_key rekeyed p n ≡ cond c b (has_key keys p n)
   turned b p n c turn is = turn (key p n) ∙ ap (λ (z : Bool). cond z b (has_key keys p n)) (key_is (key place number) (key p n) ∙ is)
 
-  reached : (w : Option HostJob) (n : ℕ) (c : Bool) → Reaches old new number w → (n == number) ≡ c → job_at new n ≡ cond c w (job_at old n)
+  reached : (w : Option Hinted) (n : ℕ) (c : Bool) → Reaches old new number w → (n == number) ≡ c → job_at new n ≡ cond c w (job_at old n)
   reached w n c reach is = reach n ∙ ap (λ (z : Bool). cond z w (job_at old n)) (at_is number n ∙ is)
 
-  keyed : (w : Option HostJob) (b : Bool) → Reaches old new number w → Turns keys rekeyed (key place number) b → AreKeyed old keys
+  keyed : (w : Option Hinted) (b : Bool) → Reaches old new number w → Turns keys rekeyed (key place number) b → AreKeyed old keys
       → is_one_on place w ≡ b → ((p : ℕ) → p ≢ place → is_one_on p w ≡ is_one_on p (job_at old number)) → AreKeyed new rekeyed
   keyed w b reach turn before own others p n =
       elim (cases_eq n number) [
@@ -55,21 +56,21 @@ module _ (old new : List (ℕ × HostJob)) (keys rekeyed : List Key) (place numb
       ]
 
 -- a job came with its key
-pub keyed_put : (old new : List (ℕ × HostJob)) (keys rekeyed : List Key) (number : ℕ) (job : HostJob) (m : Key) → m ≡ key (job_place job) number
-    → job_at old number ≡ None → Reaches old new number (Some job) → Turns keys rekeyed m true → AreKeyed old keys → AreKeyed new rekeyed
-keyed_put old new keys rekeyed number job m is fresh reach turn before =
-    keyed old new keys rekeyed (job_place job) number (Some job) true reach (subst (λ (z : Key). Turns keys rekeyed z true) is turn) before (on_own job)
-    (λ p other. on_other p job other ∙ ap (is_one_on p) (sym fresh))
+pub keyed_put : (old new : List (ℕ × Hinted)) (keys rekeyed : List Key) (number : ℕ) (hinted : Hinted) (m : Key) → m ≡ key (job_place hinted.job) number
+    → job_at old number ≡ None → Reaches old new number (Some hinted) → Turns keys rekeyed m true → AreKeyed old keys → AreKeyed new rekeyed
+keyed_put old new keys rekeyed number hinted m is fresh reach turn before =
+    keyed old new keys rekeyed (job_place hinted.job) number (Some hinted) true reach (subst (λ (z : Key). Turns keys rekeyed z true) is turn) before (on_own hinted.job)
+    (λ p other. on_other p hinted.job other ∙ ap (is_one_on p) (sym fresh))
 
 -- a job went with its key
-pub keyed_out : (old new : List (ℕ × HostJob)) (keys rekeyed : List Key) (number : ℕ) (job : HostJob) (m : Key) → m ≡ key (job_place job) number
-    → job_at old number ≡ Some job → Reaches old new number None → Turns keys rekeyed m false → AreKeyed old keys → AreKeyed new rekeyed
-keyed_out old new keys rekeyed number job m is was reach turn before =
-    keyed old new keys rekeyed (job_place job) number None false reach (subst (λ (z : Key). Turns keys rekeyed z false) is turn) before refl
-    (λ p other. sym (ap (is_one_on p) was ∙ on_other p job other))
+pub keyed_out : (old new : List (ℕ × Hinted)) (keys rekeyed : List Key) (number : ℕ) (hinted : Hinted) (m : Key) → m ≡ key (job_place hinted.job) number
+    → job_at old number ≡ Some hinted → Reaches old new number None → Turns keys rekeyed m false → AreKeyed old keys → AreKeyed new rekeyed
+keyed_out old new keys rekeyed number hinted m is was reach turn before =
+    keyed old new keys rekeyed (job_place hinted.job) number None false reach (subst (λ (z : Key). Turns keys rekeyed z false) is turn) before refl
+    (λ p other. sym (ap (is_one_on p) was ∙ on_other p hinted.job other))
 
 -- a key that came and went again leaves the keys as they were
-pub keyed_undone : (jobs : List (ℕ × HostJob)) (keys more again : List Key) (number : ℕ) (m : Key) → m.number ≡ number → job_at jobs number ≡ None → Turns keys more m true → Turns more again m false → AreKeyed jobs keys → AreKeyed jobs again
+pub keyed_undone : (jobs : List (ℕ × Hinted)) (keys more again : List Key) (number : ℕ) (m : Key) → m.number ≡ number → job_at jobs number ≡ None → Turns keys more m true → Turns more again m false → AreKeyed jobs keys → AreKeyed jobs again
 keyed_undone jobs keys more again number m its fresh came went before p n =
     elim (cases_Bool (p == m.place && n == m.number)) [
       | inl here ↦

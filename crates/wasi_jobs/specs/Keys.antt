@@ -4,25 +4,29 @@ use Rattle.std.specs.List.{list_any}
 use Rattle.std.specs.Ordering.{nat_cmp, ordering_then}
 use Rattle.std.specs.declared.cmp.Ordering.{Ordering}
 use Rattle.std.specs.BTreeMap.{is_at}
-use Rattle.std.specs.Map.{keys_of, values_of, lookup, remove_entry}
+use Rattle.std.specs.Map.{keys_of, lookup}
 use Rattle.wasi_jobs.specs.declared.job.HostJob.{HostJob}
 use Rattle.wasi_jobs.specs.declared.job.HostJob.TheVariants.{Datagram, Receive}
+use Rattle.wasi_jobs.specs.declared.ahead.Ahead.{Ahead}
+use Rattle.wasi_jobs.specs.declared.ahead.Hinted.{Hinted}
 use Rattle.wasi_jobs.specs.declared.job_list.Key.{Key}
 use Rattle.wasi_jobs.specs.declared.job_list.Which.{Which}
 use Rattle.wasi_jobs.specs.declared.job_list.Which.TheVariants.{All, Receives, Datagrams}
 use Rattle.wasi_jobs.specs.Jobs.{is_on, other_jobs, other_than_receive, other_than_datagram}
 use Rattle.wasi_jobs.specs.JobList.{Work}
+use Rattle.wasi_jobs.specs.Entries.{jobs_of, without}
+use Rattle.wasi_jobs.specs.Ahead.{IsAhead}
 
 -- what the map shows
-abbrev pub work_in : List (ℕ × HostJob) → Work
-work_in jobs = record { numbers = keys_of jobs; items = values_of jobs }
+abbrev pub work_in : List (ℕ × Hinted) → Work
+work_in jobs = record { numbers = keys_of jobs; items = jobs_of jobs }
 
--- the job of a number
-abbrev pub job_at : List (ℕ × HostJob) → ℕ → Option HostJob
+-- the job of a number, with its hint
+abbrev pub job_at : List (ℕ × Hinted) → ℕ → Option Hinted
 job_at jobs number = lookup (is_at (nat_cmp number)) jobs
 
 -- the numbers rise strictly from `low` on and are below `next`
-abbrev pub Rise : List (ℕ × HostJob) → ℕ → ℕ → Type 0
+abbrev pub Rise : List (ℕ × Hinted) → ℕ → ℕ → Type 0
 Rise [] low next = low ≤ next
 Rise (e ∷ jobs) low next = (low ≤ e.0) × Rise jobs (e.0 + 1) next
 
@@ -34,23 +38,28 @@ abbrev pub has_key : List Key → ℕ → ℕ → Bool
 has_key keys place number = list_any (is_at (key_cmp (record { place = place; number = number }))) keys
 
 -- there is a job, and it is of this record
-abbrev pub is_one_on : ℕ → Option HostJob → Bool
+abbrev pub is_one_on : ℕ → Option Hinted → Bool
 is_one_on place None = false
-is_one_on place (Some job) = is_on place job
+is_one_on place (Some hinted) = is_on place hinted.job
 
 -- each job has its key, and each key its job
-abbrev pub AreKeyed : List (ℕ × HostJob) → List Key → Type 0
+abbrev pub AreKeyed : List (ℕ × Hinted) → List Key → Type 0
 AreKeyed jobs keys = (place number : ℕ) → has_key keys place number ≡ is_one_on place (job_at jobs number)
 
--- what is true of the fields of every list of jobs
-pub record AreSound (jobs : List (ℕ × HostJob)) (keys : List Key) (next : ℕ) : Type 0 where
+-- what is true of the jobs and keys of every list
+pub record AreSound (jobs : List (ℕ × Hinted)) (keys : List Key) (next : ℕ) : Type 0 where
   pub rise : Rise jobs 0 next
   pub fits : next < 2 ^ 64
   pub keyed : AreKeyed jobs keys
 
+-- what is true of them and of what is read ahead
+pub record IsKept (jobs : List (ℕ × Hinted)) (keys : List Key) (next : ℕ) (ahead : Ahead) : Type 0 where
+  pub sound : AreSound jobs keys next
+  pub coming : IsAhead jobs ahead
+
 -- the job of a number went
-pub record IsWithout (old new : List (ℕ × HostJob)) (number : ℕ) : Type 0 where
-  pub entries : new ≡ remove_entry (is_at (nat_cmp number)) old
+pub record IsWithout (old new : List (ℕ × Hinted)) (number : ℕ) : Type 0 where
+  pub entries : new ≡ without number old
   pub found : (other : ℕ) → job_at new other ≡ cond (is_at (nat_cmp number) other) None (job_at old other)
 
 -- no key of this record is at `from` or after it

@@ -29,3 +29,13 @@ impl HostJob {
         }
     }
 }
+
+/// A job as the list has it.
+#[derive(Clone, Copy, Debug, PartialEq, Eq)]
+pub struct Listed {
+    /// Its number: a later job has a higher one.
+    pub number: u64,
+    pub job: HostJob,
+    /// The slot that its record stood in when it was added. It is a hint: no clause speaks of it, and who uses it tests it.
+    pub slot: usize,
+}

@@ -3,6 +3,9 @@
 //! Each job stands in an ordered map under a number that rises. A key in an ordered set names its record first and then its
 //! number, so that a record's jobs are found together. So a call's time grows with the logarithm of the number of jobs, and, where
 //! a record's jobs go, with how many that record has; memory follows how many jobs there are, however many were made.
+//!
+//! A walk, which asks for the first job after the one that it was handed, searches the map once for 16 jobs: these are read ahead,
+//! and handed out one by one without a search.
 
 ghost use Rattle.std.specs.Prelude.{◌≡◌, ◌+◌, ◌<◌, ◌≤◌, ◌^◌, List, [], ◌∷◌, ◌++◌, Some, None, IfSome, IfNone, OnOk, OnErr};
 ghost use Rattle.std.specs.BTreeMap.{insert_entry};
@@ -12,7 +15,8 @@ ghost use Rattle.wasi_jobs.specs.Jobs.{job_place, other_jobs, other_than_receive
 ghost use Rattle.wasi_jobs.specs.JobList.{no_work, below, from_on};
 ghost use Rattle.wasi_jobs.specs.Keys.{job_at, AreKeyed, IsWithout, HasNoneFrom, IsNextOn, is_of_kind, left_of};
 
-use crate::job::HostJob;
+use crate::ahead::{Ahead, Hinted};
+use crate::job::{HostJob, Listed};
 use std::alloc::{AllocError, Global};
 use std::collections::{BTreeMap, BTreeSet};
 use std::marker::Model;
@@ -61,11 +65,13 @@ impl Which {
 /// The host's background jobs, in the order of their making. Each has a number, which rises and is not given twice.
 #[derive(Drop)]
 pub struct JobList {
-    jobs: BTreeMap<u64, HostJob>,
+    jobs: BTreeMap<u64, Hinted>,
     /// The key of each job.
     by_record: BTreeSet<Key>,
     /// The number of the next job.
     next: u64,
+    /// What a walk comes to next.
+    ahead: Ahead,
 }
 
 impl Model for JobList {
@@ -73,11 +79,11 @@ impl Model for JobList {
 
     ghost Value = { Work };
 
-    ghost use Rattle.wasi_jobs.specs.Keys.{work_in, AreSound};
+    ghost use Rattle.wasi_jobs.specs.Keys.{work_in, IsKept};
 
     ghost view = { λ l. work_in l.jobs.entries };
 
-    ghost invariant = { λ l. AreSound l.jobs.entries l.by_record.keys l.next };
+    ghost invariant = { λ l. IsKept l.jobs.entries l.by_record.keys l.next l.ahead };
 }
 
 impl JobList {
@@ -89,19 +95,23 @@ impl JobList {
             jobs: BTreeMap::new(alloc),
             by_record: BTreeSet::new(alloc),
             next: 0,
+            ahead: Ahead::nothing(),
         }
     }
 
-    /// Adds a job as the last. Out of memory, as also where no number is left, the jobs stay as they are.
-    pub fn push(&mut self, job: HostJob) -> Result<(), AllocError>
+    /// Adds a job as the last, with the slot in which its record stands. Out of memory, as also where no number is left, the jobs
+    /// stay as they are.
+    pub fn push(&mut self, job: HostJob, slot: usize) -> Result<(), AllocError>
         ensures ok { OnOk result (self.new.items ≡ self.old.items ++ job ∷ []) }
         ensures err { OnErr result (self.new ≡ self.old) }
     {
         if self.next == u64::MAX {
             return Err(AllocError);
         }
-        put(&mut self.jobs, &mut self.by_record, self.next, job)?;
+        let hinted = Hinted { job, slot };
+        put(&mut self.jobs, &mut self.by_record, self.next, hinted)?;
         self.next += 1;
+        // What is read ahead stays: the new job comes after it.
         Ok(())
     }
 
@@ -109,26 +119,32 @@ impl JobList {
     pub fn withdraw(&mut self)
         ensures { (jobs : List HostJob) (job : HostJob) → self.old.items ≡ jobs ++ job ∷ [] → self.new.items ≡ jobs }
     {
-        let Some((number, job)) = self.jobs.pop_last() else {
+        let Some((number, hinted)) = self.jobs.pop_last() else {
             return;
         };
-        self.by_record.remove(&Key::of(job, number));
+        self.by_record.remove(&Key::of(hinted.job, number));
+        self.ahead.clear();
     }
 
-    /// The first job with this number or a higher one, with its number. Takes no memory.
-    pub fn first_from(&self, number: u64) -> Option<(u64, HostJob)>
-        ensures whole { self.now.items ≡ below number self.now ++ from_on number self.now }
-        ensures none { result ≡ None → from_on number self.now ≡ [] }
-        ensures some { IfSome result (λ found. (from_on number self.now ≡ found.1 ∷ from_on (found.0 + 1) self.now)
-            × (below (found.0 + 1) self.now ≡ below number self.now ++ found.1 ∷ [])
-            × (below found.0 self.now ≡ below number self.now)) }
-        ensures fits { IfSome result (λ found. found.0 + 1 < 2 ^ 64) }
-        ensures after { IfSome result (λ found. number ≤ found.0) }
+    /// The first job with this number or a higher one. A walk, which asks for the number after the one that it was handed, searches
+    /// once for 16 jobs. Takes no memory.
+    pub fn first_from(&mut self, number: u64) -> Option<Listed>
+        ensures whole { self.old.items ≡ below number self.old ++ from_on number self.old }
+        ensures none { result ≡ None → from_on number self.old ≡ [] }
+        ensures some { IfSome result (λ found. (from_on number self.old ≡ found.job ∷ from_on (found.number + 1) self.old)
+            × (below (found.number + 1) self.old ≡ below number self.old ++ found.job ∷ [])
+            × (below found.number self.old ≡ below number self.old)) }
+        ensures fits { IfSome result (λ found. found.number + 1 < 2 ^ 64) }
+        ensures after { IfSome result (λ found. number ≤ found.number) }
+        ensures same { self.new ≡ self.old }
     {
-        match self.jobs.range(number..).next() {
-            Some((number, job)) => Some((*number, *job)),
-            None => None,
-        }
+        self.ahead.reach(&self.jobs, number);
+        let (number, hinted) = self.ahead.next()?;
+        Some(Listed {
+            number,
+            job: hinted.job,
+            slot: hinted.slot,
+        })
     }
 
     /// Takes the job of this number out, if there is one. Takes no memory.
@@ -137,6 +153,7 @@ impl JobList {
         ensures after { from_on (number + 1) self.new ≡ from_on (number + 1) self.old }
     {
         take_out(&mut self.jobs, &mut self.by_record, number);
+        self.ahead.clear_if_among(number);
     }
 
     /// Takes the jobs of a record out. Takes no memory.
@@ -166,30 +183,31 @@ impl JobList {
     {
         let mut from = 0;
         while let Some(number) = next_on(&self.by_record, place, from) {
-            if which.has(self.jobs[&number]) {
+            if which.has(self.jobs[&number].job) {
                 take_out(&mut self.jobs, &mut self.by_record, number);
             }
             from = number + 1;
         }
+        self.ahead.clear();
     }
 }
 
 /// Puts a job under a number that none has, and its key beside it. Where there is no room for one of them, neither comes.
 fn put(
-    jobs: &mut BTreeMap<u64, HostJob>,
+    jobs: &mut BTreeMap<u64, Hinted>,
     by_record: &mut BTreeSet<Key>,
     number: u64,
-    job: HostJob,
+    hinted: Hinted,
 ) -> Result<(), AllocError>
     requires keyed { AreKeyed jobs.old.entries by_record.old.keys }
     requires fresh { job_at jobs.old.entries number ≡ None }
-    ensures ok { OnOk result (jobs.new.entries ≡ insert_entry nat_cmp jobs.old.entries number job) }
+    ensures ok { OnOk result (jobs.new.entries ≡ insert_entry nat_cmp jobs.old.entries number hinted) }
     ensures err { OnErr result (jobs.new.entries ≡ jobs.old.entries) }
     ensures keyed { AreKeyed jobs.new.entries by_record.new.keys }
 {
-    let key = Key::of(job, number);
+    let key = Key::of(hinted.job, number);
     by_record.insert(key)?;
-    if let Err(error) = jobs.insert(number, job) {
+    if let Err(error) = jobs.insert(number, hinted) {
         by_record.remove(&key);
         return Err(error.into());
     }
@@ -197,13 +215,13 @@ fn put(
 }
 
 /// Takes the job of this number out, if there is one, and its key.
-fn take_out(jobs: &mut BTreeMap<u64, HostJob>, by_record: &mut BTreeSet<Key>, number: u64)
+fn take_out(jobs: &mut BTreeMap<u64, Hinted>, by_record: &mut BTreeSet<Key>, number: u64)
     requires keyed { AreKeyed jobs.old.entries by_record.old.keys }
     ensures out { IsWithout jobs.old.entries jobs.new.entries number }
     ensures keyed { AreKeyed jobs.new.entries by_record.new.keys }
 {
-    if let Some(job) = jobs.remove(&number) {
-        by_record.remove(&Key::of(job, number));
+    if let Some(hinted) = jobs.remove(&number) {
+        by_record.remove(&Key::of(hinted.job, number));
     }
 }
 

@@ -1,7 +1,9 @@
-use Rattle.std.specs.BTreeMap.{values}
+use Rattle.wasi_host.specs.RecordMap.{records_of}
 use Rattle.wasi_host.proofs.Closings.{ClosedFirst}
 use Rattle.wasi_host.proofs.closing.close_live.Given as goal
 
 -- the network sockets of the records so far were closed
-abbrev pub invariant-loop-record : goal.invariant-loop-record
-invariant-loop-record g l = (goal.iterator-loop-record g).can_next l.record-iterator × (goal.iterator-loop-record g).is_finite l.record-iterator × ClosedFirst (g.W.World.seen l.fn.world) (g.W.World.seen l.world) (values l.fn.live) l.record-iterator
+abbrev pub invariant-loop-number : goal.invariant-loop-number
+invariant-loop-number g l =
+    (goal.iterator-loop-number g).can_next l.number-iterator × (goal.iterator-loop-number g).is_finite l.number-iterator
+    × ClosedFirst (g.W.World.seen l.fn.world) (g.W.World.seen l.world) (records_of l.fn.slots l.fn.keys.entries) (records_of l.fn.slots l.number-iterator)

@@ -6,13 +6,13 @@ use Rattle.wasi_host.specs.Sides.{MakesNone, held_in}
 use Rattle.wasi_host.proofs.jobs.turn_jobs.Given as goal
 
 -- the jobs below the number are polled, and those that are left of them are kept
-abbrev pub invariant-loop-number : goal.invariant-loop-number
-invariant-loop-number g l = record {
+abbrev pub invariant-loop-listed : goal.invariant-loop-listed
+invariant-loop-listed g l = record {
   reached : Reaches (turn_jobs [] l.fn.jobs.items l.fn.records.items) (turn_jobs (below l.next l.jobs) (from_on l.next l.jobs) l.records.items) (g.W.World.seen l.fn.world) (g.W.World.seen l.world);
   held : held_in l.records.items ≡ held_in l.fn.records.items;
   none : MakesNone (g.W.World.seen l.fn.world) (g.W.World.seen l.world);
   still : (g.W.World.seen l.world).ended ≡ false;
 }
 
-abbrev pub decreases-loop-number : goal.decreases-loop-number
-decreases-loop-number g l = length (from_on l.next l.jobs)
+abbrev pub decreases-loop-listed : goal.decreases-loop-listed
+decreases-loop-listed g l = length (from_on l.next l.jobs)

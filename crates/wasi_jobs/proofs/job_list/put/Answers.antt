@@ -9,4 +9,4 @@ returns-in-Err-clause-keyed c =
     subst (λ jobs. AreKeyed jobs c.remove.new.self.keys) (sym c.in-Err.ensures.err) (keyed_undone _ _ _ _ _ _ (ap (λ (m : Key). m.number) c.of-key.ensures) c.requires.fresh c.in_ok-insert.ensures.updates.0 c.remove.ensures.updates.0 c.requires.keyed)
 
 pub returns-clause-keyed : goal.returns-clause-keyed
-returns-clause-keyed c = keyed_put _ _ _ _ _ c.args.job _ c.of-key.ensures c.requires.fresh c.in_default.ensures.updates.0 c.in_ok-insert.ensures.updates.0 c.requires.keyed
+returns-clause-keyed c = keyed_put _ _ _ _ _ c.args.hinted _ c.of-key.ensures c.requires.fresh c.in_default.ensures.updates.0 c.in_ok-insert.ensures.updates.0 c.requires.keyed

@@ -1,7 +1,13 @@
-use Rattle.std.proofs.Common.{ap, ◌∙◌}
+use Rattle.std.proofs.Common.{◌∙◌, ap}
+use Rattle.slab.specs.Slab.{get}
 use Rattle.wasi_host.specs.Numbered.{or_gone}
-use Rattle.wasi_host.proofs.RecordMaps.{at_numbered}
+use Rattle.wasi_host.specs.RecordMap.{of_number}
+use Rattle.wasi_host.proofs.RecordMaps.{item}
 use Rattle.wasi_host.proofs.record_list.RecordList.get.Goals as goal
 
 pub returns : goal.returns
-returns c = rw (← c.self.view_is) (ap or_gone c.get.ensures.value ∙ at_numbered _ _ _ (c.self.invariant.none c.args.place))
+returns c =
+    rw (← c.self.view_is) (
+    ap or_gone c.record_of.ensures ∙ ap (λ key. or_gone (of_number c.args.place (get c.self.inside.slots key))) c.key_of.ensures
+    ∙ item c.self.inside.slots c.self.inside.keys.entries c.self.inside.next c.self.invariant c.args.place
+    )

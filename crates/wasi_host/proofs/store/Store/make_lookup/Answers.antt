@@ -1,4 +1,4 @@
-use Rattle.std.proofs.Common.{ap, refl, ◌∙◌, length}
+use Rattle.std.proofs.Common.{ap, refl}
 use Rattle.wasi_host.specs.declared.machine.Machine.{Machine}
 use Rattle.wasi_host.specs.NameLookupCalls.{with_lookup}
 use Rattle.wasi_host.specs.Sides.{held_in}

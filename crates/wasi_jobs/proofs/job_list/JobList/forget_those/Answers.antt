@@ -1,6 +1,7 @@
 use Rattle.std.proofs.Common.{◌≡◌, ◌+◌, ap, ◌∙◌, sym, subst, arith}
 use Rattle.wasi_jobs.specs.declared.job_list.JobList.TheInside.{Inside}
 use Rattle.wasi_jobs.proofs.Forgets.{IsForgetting, stays, leaves, ends, in_bounds}
+use Rattle.wasi_jobs.proofs.Reading.{nothing_first}
 use Rattle.wasi_jobs.proofs.job_list.JobList.forget_those.Goals as goal
 use Rattle.wasi_jobs.proofs.job_list.JobList.forget_those.Goals.{then-has, else-has}
 
@@ -27,3 +28,6 @@ loop-number-preserved c =
 
 pub returns : goal.returns
 returns c = ends _ _ _ _ _ _ _ c.loop-number.invariant c.in_default.ensures.none
+
+pub invariant_of-self : goal.invariant_of-self
+invariant_of-self c = record { sound = c.loop-number.invariant.sound; coming = nothing_first _ _ _ c.clear.ensures }
