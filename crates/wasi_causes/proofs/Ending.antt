@@ -1,22 +1,22 @@
 -- What is released: by a shutdown, by a drop of a handle, and what a drop leaves.
 use Rattle.wasi_causes.proofs.Words.{◌≡◌, Bool, true, false, if◌then◌else◌, List, [], ◌∷◌, ◌++◌, Option, Some, None, refl, sym, ap, ◌∙◌, ⊤, ◌⊎◌, append-nil, append_assoc, ℕ, Result, inl, inr, Ok, Err, subst, ◌≢◌, IsSome, IpSocketAddress, ShutdownType, Receive, Send, Both, give_streams_up, gone, release_asks, released, release_at, Stop, Trap, kind_at, output_of, has_no_child, without_handle, taken_out, place_of, give_up_asks, socket_at, own_of, with_store, answered, at_once, drop_kind, drop_taken, drop_asks, shut_streams, shut_record, shutdown_at, Records, Kind, Tcp2, Output, Listening, Machine, Streams, Tcp2Socket, shutdown_on, record_at, putting, record_in, OfRecord, done_reply, answer_reply, Each, no_fields, OutputWaits, WritesOn, ToldToWait, WriterWaits, Field, Reply, in_hand, refuse_in, Job, is_over, held_side, give_up_in, reader_shutdown_asks, Socket, side_of, writer_side, writer_shutdown_asks, side_up_asks, Accepting, ReadState, WriteState, Give, bind, End, Done, Who, Operation, ask_close, Entry, OpId, Answer, Ready, Pending, HasChildren, NoSuchHandle, Full, NotPermitted, WasiSocketsCtx}
 use Rattle.wasi_machine.specs.Machine.{first_ids}
-use Rattle.wasi_host.specs.Records.{tcp2_at, udp2_at, open_at, lookup_at, input_pipe_at, output_pipe_at}
+use Rattle.wasi_records.specs.Records.{tcp2_at, udp2_at, open_at, lookup_at, input_pipe_at, output_pipe_at}
 use Rattle.wasi_host.specs.NameLookupCalls.{drop_lookup_at}
-use Rattle.wasi_host.specs.declared.name_lookup.Lookup.{Lookup}
+use Rattle.wasi_records.specs.declared.name_lookup.Lookup.{Lookup}
 use Rattle.wasi_host.specs.declared.kind.Kind.TheVariants as kinds
-use Rattle.wasi_host.specs.Datagrams.{sends as still_sends}
+use Rattle.wasi_records.specs.Datagrams.{sends as still_sends}
 use Rattle.wasi_host.specs.DatagramCalls.{drop_incoming_at, drop_outgoing_at, drop_outgoing_by, without_receives}
-use Rattle.wasi_host.specs.declared.udp.OpenUdp.{OpenUdp}
-use Rattle.wasi_host.specs.Udp.{close_udp_asks}
+use Rattle.wasi_records.specs.declared.udp.OpenUdp.{OpenUdp}
+use Rattle.wasi_records.specs.Udp.{close_udp_asks}
 use Rattle.wasi_host.specs.UdpCalls.{release_udp_at, udp_closed, with_open_udp, with_udp}
 use Rattle.wasi_host.specs.declared.kind.Kind.TheVariants.{Udp2, Incoming, Outgoing}
-use Rattle.wasi_host.specs.declared.udp.Udp2Socket.{Udp2Socket}
-use Rattle.wasi_host.specs.declared.udp.Udp2Socket.TheVariants as udp
+use Rattle.wasi_records.specs.declared.udp.Udp2Socket.{Udp2Socket}
+use Rattle.wasi_records.specs.declared.udp.Udp2Socket.TheVariants as udp
 use Rattle.wasi_causes.specs.Udp.{udp_given_up, udp_left}
 use Rattle.wasi_causes.proofs.GivenBack.{no_job, put_gone}
 use Rattle.wasi_host.specs.UdpCalls as calls
-use Rattle.wasi_host.specs.declared.records.Record.{Record}
+use Rattle.wasi_records.specs.declared.records.Record.{Record}
 use Rattle.wasi_walks.proofs.UdpLists.{udp_set_same}
 use Rattle.wasi_causes.proofs.streams.Halves.{OutputRow, outputs}
 use Rattle.wasi_causes.proofs.tables.Meets.{Rows, Meets, ends, asks, chain, onto, told_so, widen}
@@ -24,8 +24,9 @@ use Rattle.wasi_causes.proofs.tables.Routes.{Replied, Says, put_back, Names, its
 use Rattle.wasi_causes.specs.GivenUp.{receive_given_up, send_given_up, streams_given_up, side_closed, arrival_given_up, accept_given_up, listen_given_up, listening_given_up, socket_given_up, ended_side, shut_at_once, last_write, shut_writer, shutdown_entries, shut_down, HasLiveChildren, without, LooksOnce, NoLook, OneLook, IsDropped, GoesAtOnce, IsGone}
 use Rattle.wasi_causes.specs.Outcomes.{Outcome, AsksOnce, AreLike, Gone}
 use Rattle.wasi_host.specs.Kinds.{none_in, outgoing_of}
-use Rattle.wasi_host.specs.Shutdowns.{shut_receive, shut_send, with_streams, shut_put}
-use Rattle.wasi_host.specs.declared.listening.Listening.TheVariants as listening
+use Rattle.wasi_records.specs.Shutdowns.{shut_receive, shut_send, with_streams}
+use Rattle.wasi_host.specs.TcpCalls.{shut_put}
+use Rattle.wasi_records.specs.declared.listening.Listening.TheVariants as listening
 use Rattle.wasi_steps.specs.declared.reply.CodeWord.TheVariants as word
 use Rattle.wasi_steps.specs.declared.reply.Reply.TheVariants as reply
 use Rattle.wasi_steps.specs.declared.step.Step.TheVariants as step

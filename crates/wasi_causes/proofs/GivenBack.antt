@@ -4,11 +4,12 @@ use Rattle.wasi_causes.proofs.Words.{Bool, HandleTable, Kind, List, Machine, Non
 use Rattle.wasi_causes.specs.GivenUp.{giving_back}
 use Rattle.wasi_walks.specs.Licence.{Has}
 use Rattle.wasi_jobs.specs.declared.job.HostJob.{HostJob}
-use Rattle.wasi_host.specs.GivingBack.{is_on, other_jobs, record_gone}
-use Rattle.wasi_host.specs.Records.{input_pipe_at, input_pipe_of, lookup_at, lookup_of, output_pipe_at, output_pipe_of, tcp2_at, tcp2_of, udp2_at, udp2_of}
-use Rattle.wasi_host.specs.declared.records.Record.{Record}
-use Rattle.wasi_host.specs.declared.udp.OpenUdp.{OpenUdp}
-use Rattle.wasi_host.specs.declared.udp.Udp2Socket.{Udp2Socket}
+use Rattle.wasi_host.specs.GivingBack.{is_on, other_jobs}
+use Rattle.wasi_records.specs.Numbered.{record_gone}
+use Rattle.wasi_records.specs.Records.{input_pipe_at, input_pipe_of, lookup_at, lookup_of, output_pipe_at, output_pipe_of, tcp2_at, tcp2_of, udp2_at, udp2_of}
+use Rattle.wasi_records.specs.declared.records.Record.{Record}
+use Rattle.wasi_records.specs.declared.udp.OpenUdp.{OpenUdp}
+use Rattle.wasi_records.specs.declared.udp.Udp2Socket.{Udp2Socket}
 use Rattle.wasi_walks.proofs.GoneLists.{stays_there}
 use Rattle.wasi_walks.proofs.owners.Owned.{NoneOf, Owned, named_by, none_named}
 use Rattle.wasi_walks.proofs.walks.Moves.{Emptied, Here, IsLeft, OfInput, OfLookup, OfOutput, OfTcp, OfUdp, OfUnnamed}

@@ -7,14 +7,14 @@ use Rattle.wasi_table.specs.Table.{Live}
 use Rattle.wasi_tcp.specs.declared.listener.Accepting.TheVariants as accepting
 use Rattle.wasi_udp.specs.Create.{Create, after_create as udp_after_create, create_cancel_asks}
 use Rattle.wasi_host.specs.Kinds.{has_no_child}
-use Rattle.wasi_host.specs.Records.{tcp2_at, tcp2_of, tcp2_put, tcp2_pushed, udp2_at, udp2_put, udp2_pushed}
-use Rattle.wasi_host.specs.Udp.{udp_side}
+use Rattle.wasi_records.specs.Records.{tcp2_at, tcp2_of, tcp2_put, tcp2_pushed, udp2_at, udp2_put, udp2_pushed}
+use Rattle.wasi_records.specs.Udp.{udp_side}
 use Rattle.wasi_host.specs.UdpCreates.{udp_side_at}
 use Rattle.wasi_host.specs.declared.kind.Kind.TheVariants.{ErrorValue, Incoming, Outgoing, Udp2}
-use Rattle.wasi_host.specs.declared.listening.Listening.TheVariants as listening
-use Rattle.wasi_host.specs.declared.name_lookup.LookupOp.{LookupOp}
-use Rattle.wasi_host.specs.declared.records.Record.{Record}
-use Rattle.wasi_host.specs.declared.udp.Udp2Socket.{Udp2Socket}
+use Rattle.wasi_records.specs.declared.listening.Listening.TheVariants as listening
+use Rattle.wasi_records.specs.declared.name_lookup.LookupOp.{LookupOp}
+use Rattle.wasi_records.specs.declared.records.Record.{Record}
+use Rattle.wasi_records.specs.declared.udp.Udp2Socket.{Udp2Socket}
 use Rattle.wasi_walks.specs.Licence.{Has}
 use Rattle.wasi_walks.proofs.Lists.{tcp2_front, tcp2_seam}
 use Rattle.wasi_walks.proofs.UdpLists.{tcp_in_push, tcp_in_put}
@@ -25,7 +25,7 @@ use Rattle.wasi_walks.proofs.walks.Moves.{GivesBack, IsLeft, Numbers, without_re
 use Rattle.wasi_walks.proofs.walks.Steps.{machine_walks}
 use Rattle.wasi_causes.proofs.GivenBack.{left_tcp}
 use Rattle.wasi_walks.proofs.GoneLists.{stays_there}
-use Rattle.wasi_host.specs.GivingBack.{record_gone}
+use Rattle.wasi_records.specs.Numbered.{record_gone}
 use Rattle.wasi_causes.proofs.Slots.{has_without, is_another, new_slot, no_child, one_of, slot_of, value_of}
 use Rattle.wasi_causes.proofs.Steady.{IsPlain, IsThere, makes_plain}
 

@@ -5,16 +5,16 @@ use Rattle.wasi_causes.proofs.Words.{allows_then, ap, call_place, created_asks, 
 use Rattle.std.proofs.Common.{slice_set, suc, zero}
 use Rattle.wasi_tcp.specs.declared.listener.Accepting.TheVariants as accepting
 use Rattle.wasi_udp.specs.Create.{Create, after_create as udp_after_create, create_cancel_asks}
-use Rattle.wasi_host.specs.Records.{input_pipe_of, lookup_of, output_pipe_of, tcp2_at, tcp2_of, tcp2_put, udp2_at, udp2_of}
-use Rattle.wasi_host.specs.Udp.{udp_side}
+use Rattle.wasi_records.specs.Records.{input_pipe_of, lookup_of, output_pipe_of, tcp2_at, tcp2_of, tcp2_put, udp2_at, udp2_of}
+use Rattle.wasi_records.specs.Udp.{udp_side}
 use Rattle.wasi_host.specs.UdpCreates.{udp_side_at}
 use Rattle.wasi_host.specs.declared.kind.Kind.TheVariants.{Incoming, Input, Lookup, Network, Outgoing, Output, PlainInput, PlainOutput, Pollable, Udp2}
 use Rattle.wasi_host.specs.declared.kind.PlainInput.TheVariants as plain_input
 use Rattle.wasi_host.specs.declared.kind.PlainOutput.TheVariants as plain_output
-use Rattle.wasi_host.specs.declared.listening.Listening.TheVariants as listening
-use Rattle.wasi_host.specs.declared.name_lookup.LookupOp.{LookupOp}
-use Rattle.wasi_host.specs.declared.records.Record.{Record}
-use Rattle.wasi_host.specs.declared.udp.Udp2Socket.{Udp2Socket}
+use Rattle.wasi_records.specs.declared.listening.Listening.TheVariants as listening
+use Rattle.wasi_records.specs.declared.name_lookup.LookupOp.{LookupOp}
+use Rattle.wasi_records.specs.declared.records.Record.{Record}
+use Rattle.wasi_records.specs.declared.udp.Udp2Socket.{Udp2Socket}
 use Rattle.wasi_walks.proofs.fits.Law.{whatever}
 use Rattle.wasi_walks.proofs.fits.Polls.{Anything}
 use Rattle.wasi_walks.proofs.owners.Owned.{named_by, named_stays}
@@ -29,7 +29,8 @@ use Rattle.wasi_causes.specs.NamedRecords.{IsGivenBack, call_names, record_named
 use Rattle.wasi_causes.proofs.GivenBack.{no_job}
 use Rattle.wasi_causes.proofs.Words.{Bool, false, if◌then◌else◌, inl, inr, ◌⊎◌}
 use Rattle.std.proofs.lemmas.Bool.{eq-eqb}
-use Rattle.wasi_host.specs.GivingBack.{is_on, other_jobs, record_gone}
+use Rattle.wasi_host.specs.GivingBack.{is_on, other_jobs}
+use Rattle.wasi_records.specs.Numbered.{record_gone}
 use Rattle.wasi_jobs.specs.declared.job.HostJob.{HostJob}
 use Rattle.wasi_jobs.specs.declared.job.HostJob.TheVariants as job
 use Rattle.wasi_walks.specs.Licence.{Has}

@@ -11,9 +11,9 @@ use Rattle.wasi_world.specs.declared.ids.Ids.{Ids}
 use Rattle.wasi_streams.specs.Streams.{zeros}
 use Rattle.wasi_host.specs.declared.blocking.BlockingCall.{BlockingCall}
 use Rattle.wasi_host.specs.declared.blocking.BlockingCall.TheVariants as blocking
-use Rattle.wasi_host.specs.Kinds.{udp_of}
-use Rattle.wasi_host.specs.Udp.{udp_side}
-use Rattle.wasi_host.specs.declared.kind.Kind.TheVariants.{Udp2}
+use Rattle.wasi_host.specs.Kinds.{udp_of, input_of, is_readable, is_writable, plain_input_of}
+use Rattle.wasi_records.specs.Udp.{udp_side}
+use Rattle.wasi_host.specs.declared.kind.Kind.TheVariants.{Udp2, PlainInput}
 use Rattle.wasi_udp.specs.Create.{Create, after_create as udp_after_create, create_cancel_asks}
 use Rattle.wasi_walks.proofs.fits.Law.{whatever}
 use Rattle.wasi_walks.proofs.fits.Polls.{Anything}
@@ -43,9 +43,7 @@ use Rattle.wasi_causes.proofs.InputHandles.{HasInputs, first_inputs, input_strea
 use Rattle.wasi_causes.proofs.PipeHandles.{HasPipes, first_pipes, line_pipes, pipe_in_of}
 use Rattle.wasi_causes.proofs.Words.{Input, Kind, asks_while, record_in, streams_in}
 use Rattle.wasi_host.specs.Blocking.{blocking_splice_when}
-use Rattle.wasi_host.specs.Kinds.{input_of, is_readable, is_writable, plain_input_of}
-use Rattle.wasi_host.specs.Records.{input_pipe_at, open_at, tcp2_at}
-use Rattle.wasi_host.specs.declared.kind.Kind.TheVariants.{PlainInput}
+use Rattle.wasi_records.specs.Records.{input_pipe_at, open_at, tcp2_at}
 use Rattle.wasi_host.specs.declared.kind.PlainInput.TheVariants as plain_input
 use Rattle.wasi_walks.specs.Missing.{MissesInputPipe}
 

@@ -3,15 +3,15 @@ use Rattle.wasi_causes.proofs.Words.{Allows, End, Entry, Err, ErrorCode, HandleT
 use Rattle.wasi_causes.proofs.Words.{[], allows_then, ap, bind, created_asks, first_state, give_up_asks, inl, inr, is_some, kind_at, length, machine_asks, make_asks, new_asks, new_record, own_of, poll_asks, refl, side_at, side_of, slice_get, subst, sym, told_done, true, turn_asks, with_handle, with_listening, with_record, with_writer, without_handle, is_full, allows_if}
 use Rattle.wasi_causes.proofs.Words.{ℕ, ⊤, ◌++◌, ◌∷◌, ◌∙◌, ◌≡◌, ◌⊎◌}
 use Rattle.wasi_udp.specs.Create.{Create, after_create as udp_after_create, create_cancel_asks}
-use Rattle.wasi_host.specs.Records.{input_pipe_at, input_pipe_of, output_pipe_at, output_pipe_of, tcp2_at, tcp2_put, udp2_at, udp2_put}
-use Rattle.wasi_host.specs.Udp.{udp_side}
+use Rattle.wasi_records.specs.Records.{input_pipe_at, input_pipe_of, output_pipe_at, output_pipe_of, tcp2_at, tcp2_put, udp2_at, udp2_put}
+use Rattle.wasi_records.specs.Udp.{udp_side}
 use Rattle.wasi_host.specs.UdpCreates.{udp_side_at}
 use Rattle.wasi_host.specs.declared.kind.Kind.TheVariants.{ErrorValue, Incoming, Outgoing, PlainInput, PlainOutput, Udp2}
 use Rattle.wasi_host.specs.declared.kind.PlainInput.TheVariants as plain_input
 use Rattle.wasi_host.specs.declared.kind.PlainOutput.TheVariants as plain_output
-use Rattle.wasi_host.specs.declared.name_lookup.LookupOp.{LookupOp}
-use Rattle.wasi_host.specs.declared.records.Record.{Record}
-use Rattle.wasi_host.specs.declared.udp.Udp2Socket.{Udp2Socket}
+use Rattle.wasi_records.specs.declared.name_lookup.LookupOp.{LookupOp}
+use Rattle.wasi_records.specs.declared.records.Record.{Record}
+use Rattle.wasi_records.specs.declared.udp.Udp2Socket.{Udp2Socket}
 use Rattle.wasi_causes.proofs.PipeLists.{input_push, input_stays, output_push, output_stays, tcp_no_input, tcp_no_output, udp_no_input, udp_no_output}
 use Rattle.wasi_walks.proofs.fits.Law.{whatever}
 use Rattle.wasi_walks.proofs.fits.Polls.{Anything}
@@ -28,7 +28,7 @@ use Rattle.wasi_walks.proofs.walks.Moves.{GivesBack, IsNumbered, without_record}
 use Rattle.wasi_walks.proofs.walks.OnBase.{Above, stand}
 use Rattle.wasi_causes.proofs.Steady.{where_made, where_taken}
 use Rattle.wasi_tcp.specs.declared.listener.Accepting.TheVariants as accepting
-use Rattle.wasi_host.specs.declared.listening.Listening.TheVariants as listening
+use Rattle.wasi_records.specs.declared.listening.Listening.TheVariants as listening
 
 -- == what holds
 -- the pipe that a handle reads, and that it writes

@@ -2,12 +2,12 @@
 use Rattle.std.proofs.Common.{◌≡◌, ℕ, zero, suc, List, [], ◌∷◌, ◌++◌, Option, Some, true, slice_set}
 use Rattle.std.specs.Prelude.{is_some}
 use Rattle.wasi_memory.specs.Plain.{Contents}
-use Rattle.wasi_host.specs.declared.name_lookup.Lookup.{Lookup as NameLookup}
-use Rattle.wasi_host.specs.declared.records.Record.{Record}
-use Rattle.wasi_host.specs.declared.records.Record.TheVariants.{InputPipe, OutputPipe}
-use Rattle.wasi_host.specs.declared.socket.Tcp2Socket.{Tcp2Socket}
-use Rattle.wasi_host.specs.declared.udp.Udp2Socket.{Udp2Socket}
-use Rattle.wasi_host.specs.Records.{tcp2_of, udp2_of, lookup_of, input_pipe_of, output_pipe_of, input_pipe_at, output_pipe_at}
+use Rattle.wasi_records.specs.declared.name_lookup.Lookup.{Lookup as NameLookup}
+use Rattle.wasi_records.specs.declared.records.Record.{Record}
+use Rattle.wasi_records.specs.declared.records.Record.TheVariants.{InputPipe, OutputPipe}
+use Rattle.wasi_records.specs.declared.socket.Tcp2Socket.{Tcp2Socket}
+use Rattle.wasi_records.specs.declared.udp.Udp2Socket.{Udp2Socket}
+use Rattle.wasi_records.specs.Records.{tcp2_of, udp2_of, lookup_of, input_pipe_of, output_pipe_of, input_pipe_at, output_pipe_at}
 
 -- == a record is replaced: where it was a pipe it is one
 pub input_stays : (xs : List Record) (i : ℕ) (now : Record) (k : ℕ) → (is_some (input_pipe_at xs i) ≡ true → is_some (input_pipe_of (Some now)) ≡ true) → is_some (input_pipe_at xs k) ≡ true → is_some (input_pipe_at (slice_set xs i now) k) ≡ true

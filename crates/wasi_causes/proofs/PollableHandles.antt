@@ -5,8 +5,8 @@ use Rattle.wasi_causes.proofs.Words.{allows_if, allows_then, ap, bind, created_a
 use Rattle.wasi_table.specs.Table.{Live}
 use Rattle.wasi_udp.specs.Create.{Create, after_create as udp_after_create, create_cancel_asks}
 use Rattle.wasi_host.specs.Kinds.{has_no_child, watched_by}
-use Rattle.wasi_host.specs.Records.{tcp2_at, udp2_at}
-use Rattle.wasi_host.specs.Udp.{udp_side}
+use Rattle.wasi_records.specs.Records.{tcp2_at, udp2_at}
+use Rattle.wasi_records.specs.Udp.{udp_side}
 use Rattle.wasi_host.specs.UdpCreates.{udp_side_at}
 use Rattle.wasi_host.specs.declared.kind.Kind.TheVariants.{Incoming, Outgoing, Udp2}
 use Rattle.wasi_walks.specs.Licence.{Has}

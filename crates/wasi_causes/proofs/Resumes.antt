@@ -3,8 +3,8 @@ use Rattle.wasi_host.specs.declared.blocking.BlockingCall.{BlockingCall}
 use Rattle.wasi_causes.proofs.pollables.Polls.{blocked_goes_on}
 use Rattle.wasi_causes.specs.Blocking.{IsBlocking}
 use Rattle.wasi_causes.specs.Outcomes.{BlockedGoesOn}
-use Rattle.wasi_host.specs.Records.{tcp2_at, udp2_at, open_at, open_of}
-use Rattle.wasi_host.specs.declared.binding.InProgress.TheVariants.{Binding}
+use Rattle.wasi_records.specs.Records.{tcp2_at, udp2_at, open_at, open_of}
+use Rattle.wasi_records.specs.declared.binding.InProgress.TheVariants.{Binding}
 use Rattle.wasi_walks.proofs.walks.States.{stands_so as stands_under}
 use Rattle.wasi_causes.proofs.Words.{Answer, BindFailed, BindFails, BindWaits, Bool, CallFails, CallWaits, Done, End, EndsPending, Entry, Err, ErrorCode, Full, Give, IfSome, InProgress, InvalidState, IsBinding, IsListening, IsOnNothing, IsRestOfBind}
 use Rattle.wasi_causes.proofs.Words.{IsSome, IsSomeAnd, Item, List, ListenEnds, ListenFailed, ListenWaits, Listening, Machine, NoSuchHandle, None, Ok, OpId, Operation, Option, Pending, PendingCallsFit, Ready, Records, Refused, Reply, Result, Some}
@@ -25,30 +25,30 @@ use Rattle.wasi_causes.proofs.operations.ConnectPolls.{ConnectRow, udp_connect_g
 use Rattle.wasi_causes.proofs.operations.Marks.{poll_marks_none}
 use Rattle.wasi_causes.specs.Datagrams.{LacksRoomForStreams, PendingHandleIsLive, with_both}
 use Rattle.wasi_host.specs.DatagramCalls.{drop_outgoing_at, drop_outgoing_by, mark_streams, mark_streams_of, reconnect_udp_at, remake_streams_asks, streams_so}
-use Rattle.wasi_host.specs.Datagrams.{poll_udp_connecting, sends, udp_connect_ended, udp_connect_left}
+use Rattle.wasi_records.specs.Datagrams.{poll_udp_connecting, sends, udp_connect_ended, udp_connect_left}
 use Rattle.wasi_host.specs.Machine.{udp_socket_at}
 use Rattle.wasi_steps.specs.Reply.{pair_fields}
 use Rattle.wasi_causes.proofs.operations.Polls.{CreateFails, create_ends, udp_bind_ends}
 use Rattle.wasi_causes.proofs.sockets.UdpCreates.{marks_udp}
 use Rattle.wasi_causes.proofs.tables.Meets.{chain, both}
 use Rattle.wasi_causes.specs.Udp.{IsPendingCreate}
-use Rattle.wasi_host.specs.Udp.{opened_udp, poll_create_asks, udp_create_ended, udp_bind_ended, poll_udp_binding}
+use Rattle.wasi_records.specs.Udp.{opened_udp, poll_create_asks, udp_create_ended, udp_bind_ended, poll_udp_binding}
 use Rattle.wasi_host.specs.GivingBack.{given_back}
-use Rattle.wasi_host.specs.declared.records.Record.{Record}
+use Rattle.wasi_records.specs.declared.records.Record.{Record}
 use Rattle.wasi_causes.proofs.GivenBack.{put_gone}
 use Rattle.wasi_host.specs.UdpCalls.{udp_left, with_udp, with_open_udp, udp_call_answered, rebind_udp_at}
 use Rattle.wasi_host.specs.UdpCreates.{create_answered, poll_create_at, create_so, create_on}
 use Rattle.wasi_host.specs.declared.kind.Kind.TheVariants.{Udp2}
-use Rattle.wasi_host.specs.declared.udp.OpenUdp.{OpenUdp}
-use Rattle.wasi_host.specs.declared.udp.Udp2Socket.{Udp2Socket}
-use Rattle.wasi_host.specs.declared.udp.Udp2Socket.TheVariants as udp
-use Rattle.wasi_host.specs.declared.udp.UdpInProgress.{UdpInProgress}
-use Rattle.wasi_host.specs.declared.udp.UdpInProgress.TheVariants as doing
+use Rattle.wasi_records.specs.declared.udp.OpenUdp.{OpenUdp}
+use Rattle.wasi_records.specs.declared.udp.Udp2Socket.{Udp2Socket}
+use Rattle.wasi_records.specs.declared.udp.Udp2Socket.TheVariants as udp
+use Rattle.wasi_records.specs.declared.udp.UdpInProgress.{UdpInProgress}
+use Rattle.wasi_records.specs.declared.udp.UdpInProgress.TheVariants as doing
 use Rattle.wasi_udp.specs.Bind.{IsBind as IsUdpBind}
 use Rattle.wasi_udp.specs.Create.{Create, made_by, with_left}
 use Rattle.wasi_walks.proofs.UdpLists.{udp_set_there}
 use Rattle.wasi_walks.specs.Waiting.{CreateFailed, CreateWaits, IsCreating, IsRestOfUdpConnect, IsUdpBinding, IsUdpConnecting, UdpConnectFailed, UdpConnectWaits, UdpBindFailed, UdpBindFails, UdpBindWaits}
-use Rattle.wasi_host.specs.declared.listening.Listening.TheVariants as listening
+use Rattle.wasi_records.specs.declared.listening.Listening.TheVariants as listening
 use Rattle.wasi_host.specs.declared.pending.Outcome.{Outcome as Given}
 use Rattle.wasi_udp.specs.Connect.{with_given}
 use Rattle.wasi_world.specs.Operation.{Given as GivenByConnect}

@@ -1,21 +1,21 @@
 -- Of the machines that runs lead to: what a socket connects by is a connect, what a listener accepts by an accept, what is
 -- pending as a bind is a bind, as a listen a listen, and as a create a create; each live handle is of a record that is there, a
 -- connect in progress may be finished, and a socket that does nothing yet doesn't listen.
-use Rattle.wasi_host.specs.Records.{tcp2_at, open_at, open_of, lookup_at}
-use Rattle.wasi_host.specs.declared.kind.Kind.TheVariants.{Udp2, Lookup}
+use Rattle.wasi_records.specs.Records.{tcp2_at, open_at, open_of, lookup_at}
+use Rattle.wasi_host.specs.declared.kind.Kind.TheVariants.{Udp2, Lookup, Incoming, Outgoing, PlainInput, PlainOutput, Network, ErrorValue}
 use Rattle.wasi_host.specs.Kinds.{lookup_of}
 use Rattle.wasi_host.specs.Machine.{lookup_number}
-use Rattle.wasi_host.specs.declared.name_lookup.Lookup.{Lookup as NameLookup}
+use Rattle.wasi_records.specs.declared.name_lookup.Lookup.{Lookup as NameLookup}
 use Rattle.wasi_walks.specs.Answered.{lookup_in}
 use Rattle.wasi_causes.proofs.Words.{is_some}
 use Rattle.wasi_causes.specs.Lookups.{found_lookup}
-use Rattle.wasi_host.specs.declared.udp.OpenUdp.{OpenUdp}
-use Rattle.wasi_host.specs.declared.udp.Udp2Socket.{Udp2Socket}
-use Rattle.wasi_host.specs.declared.udp.UdpInProgress.{UdpInProgress}
+use Rattle.wasi_records.specs.declared.udp.OpenUdp.{OpenUdp}
+use Rattle.wasi_records.specs.declared.udp.Udp2Socket.{Udp2Socket}
+use Rattle.wasi_records.specs.declared.udp.UdpInProgress.{UdpInProgress}
 use Rattle.wasi_walks.proofs.walks.Moves.{udp_record_of}
 use Rattle.wasi_causes.specs.Udp.{IsPendingCreate}
 use Rattle.wasi_walks.specs.Waiting.{IsCreating, IsUdpBinding}
-use Rattle.wasi_host.specs.declared.binding.InProgress.TheVariants.{Binding}
+use Rattle.wasi_records.specs.declared.binding.InProgress.TheVariants.{Binding}
 use Rattle.wasi_causes.proofs.Words.{AcceptsAt, AcceptsIn, Allows, Answered, Bool, CodeWord, ConnectsAt, Entry}
 use Rattle.wasi_causes.proofs.Words.{FinishRefusal, Full, Give, HasChildren, HoldsCall, IfSome, InProgress, Input, IsBinding, IsListening}
 use Rattle.wasi_causes.proofs.Words.{IsOnNothing, IsSome, IsSomeAnd, Item, Kind, Left, List, Listening, Machine}
@@ -32,7 +32,7 @@ use Rattle.wasi_causes.proofs.Words.{ℕ, ◌==◌, ◌≡◌, ◌⊎◌}
 use Rattle.wasi_causes.proofs.tables.Steps.{its_own}
 use Rattle.wasi_causes.specs.Outcomes.{InputIsThere, Traps}
 use Rattle.wasi_causes.specs.Reached.{Finishes, MayFinish, ListensLate, HasRecord, HasUdpRecord, OfItsRecord}
-use Rattle.wasi_host.specs.declared.listening.Listening.TheVariants as listening
+use Rattle.wasi_records.specs.declared.listening.Listening.TheVariants as listening
 use Rattle.wasi_host.specs.declared.store.StandingCall.TheVariants as standing
 use Rattle.wasi_walks.proofs.fits.Law.{Fit, begins_fit, fits_along}
 use Rattle.wasi_walks.proofs.fits.Lines.{first_fit, starts_fit}
@@ -64,7 +64,6 @@ use Rattle.wasi_host.specs.declared.kind.PlainInput.TheVariants as plain_input
 use Rattle.wasi_host.specs.declared.kind.PlainOutput.TheVariants as plain_output
 use Rattle.wasi_causes.proofs.Steady.{AsksToConnect, AsksToListen, IsThere, IsUdpThere, Steady, lookup_record_of, runs_are_steady}
 use Rattle.wasi_causes.specs.Datagrams.{HasItsHandle, HasItsSocket, LacksRoomForStreams, PendingHandleIsLive}
-use Rattle.wasi_host.specs.declared.kind.Kind.TheVariants.{Incoming, Outgoing, PlainInput, PlainOutput, Network, ErrorValue}
 use Rattle.wasi_world.specs.declared.outcome.TrapKind.TheVariants.{Capacity, StreamsAlive, EmptyList, TooLong}
 use Rattle.wasi_walks.proofs.fits.Records.{FitConnecting}
 use Rattle.wasi_walks.specs.Waiting.{IsUdpConnecting}

@@ -1,15 +1,15 @@
 -- Of the machines that runs lead to: each live handle is of a record that is there, of a connect and of a listen in progress only asks
 -- are left, a connect in progress may be finished, and a socket that does nothing yet doesn't listen.
-use Rattle.wasi_host.specs.Records.{tcp2_at, tcp2_put, tcp2_pushed, udp2_at, udp2_put, lookup_at}
-use Rattle.wasi_host.specs.declared.kind.Kind.TheVariants.{Udp2, Lookup, ErrorValue, PlainInput, PlainOutput}
-use Rattle.wasi_host.specs.declared.udp.Udp2Socket.{Udp2Socket}
-use Rattle.wasi_host.specs.Udp.{udp_side, udp_bind_progress, udp_create_left, with_udp_progress}
-use Rattle.wasi_host.specs.UdpCreates.{with_create}
+use Rattle.wasi_records.specs.Records.{tcp2_at, tcp2_put, tcp2_pushed, udp2_at, udp2_put, lookup_at, tcp2_of, udp2_of, lookup_of}
+use Rattle.wasi_host.specs.declared.kind.Kind.TheVariants.{Udp2, Lookup, ErrorValue, PlainInput, PlainOutput, Incoming, Outgoing}
+use Rattle.wasi_records.specs.declared.udp.Udp2Socket.{Udp2Socket}
+use Rattle.wasi_records.specs.Udp.{udp_side, udp_bind_progress, udp_create_left, with_udp_progress}
+use Rattle.wasi_host.specs.UdpCreates.{with_create, udp_side_at}
 use Rattle.wasi_udp.specs.Create.{Create, after_create as udp_after_create, create_cancel_asks}
 use Rattle.wasi_walks.proofs.UdpLists.{udp_set_get, udp_front, udp_in_put, udp_in_push, tcp_of_put, tcp_of_push, tcp_in_put, tcp_in_push}
 use Rattle.wasi_walks.proofs.walks.Moves.{put_udp, FoundUdp, udp_begun, udp_record_of, tcp_place, UdpChanges, BeginsUdpBind, StandsUdpBind, StandsUdpCreate, UdpCreates, UdpBindsOn, AUdpPollable}
 use Rattle.wasi_causes.proofs.Words.{HandleTable}
-use Rattle.wasi_host.specs.declared.records.Record.{Record}
+use Rattle.wasi_records.specs.declared.records.Record.{Record}
 use Rattle.wasi_causes.proofs.Words.{Accepting, Allows, Bool, Done, End, Entry, Err}
 use Rattle.wasi_causes.proofs.Words.{ErrorCode, Give, Input}
 use Rattle.wasi_causes.proofs.Words.{Item, Kind, Left, List, Listener, Listening, Machine}
@@ -25,7 +25,7 @@ use Rattle.wasi_causes.proofs.Words.{value_without, with_handle, with_inner, wit
 use Rattle.wasi_causes.proofs.Words.{with_state, with_writer, without_handle, ℕ, ⊤, ◌∙◌, ◌≡◌, ◌⊎◌}
 use Rattle.wasi_causes.proofs.sockets.Starts.{IsPastNot}
 use Rattle.wasi_causes.specs.Reached.{Finishes, MayFinish, ListensLate}
-use Rattle.wasi_host.specs.declared.listening.Listening.TheVariants as listening
+use Rattle.wasi_records.specs.declared.listening.Listening.TheVariants as listening
 use Rattle.wasi_host.specs.declared.store.StandingCall.TheVariants as standing
 use Rattle.wasi_walks.proofs.Lists.{tcp2_front, tcp2_seam}
 use Rattle.wasi_walks.proofs.fits.Law.{told_same, whatever}
@@ -43,20 +43,17 @@ use Rattle.wasi_walks.specs.Waiting.{IsAskOfListen}
 use Rattle.wasi_causes.proofs.Words.{IpSocketAddress, SocketAddressFamily, after_create, gives_more, told_done, wildcard}
 use Rattle.wasi_tcp.specs.declared.listener.Accepting.TheVariants as accepting
 use Rattle.wasi_tcp.specs.declared.socket.TcpState.TheVariants as state
-use Rattle.wasi_host.specs.Datagrams.{udp_connect_left, with_sending}
-use Rattle.wasi_host.specs.Receiving.{receive_left, with_receiving}
-use Rattle.wasi_host.specs.UdpCreates.{udp_side_at}
-use Rattle.wasi_host.specs.declared.kind.Kind.TheVariants.{Incoming, Outgoing}
+use Rattle.wasi_records.specs.Datagrams.{udp_connect_left, with_sending}
+use Rattle.wasi_records.specs.Receiving.{receive_left, with_receiving}
 use Rattle.wasi_udp.specs.Receive.{wanting}
 use Rattle.wasi_udp.specs.Send.{at_remote}
 use Rattle.wasi_walks.proofs.walks.Moves.{BeginsReceive, BeginsSend, BeginsUdpConnect, ReceivesOn, SendsOn, StandsDropOutgoing, StandsUdpConnect, UdpConnectsOn, one_stream, udp_place}
 use Rattle.wasi_walks.proofs.walks.States.{udp_record}
 use Rattle.wasi_walks.proofs.walks.Moves.{ALookup, ALookupPollable, Finds, SameSockets, with_records}
-use Rattle.wasi_host.specs.declared.name_lookup.LookupOp.{LookupOp}
+use Rattle.wasi_records.specs.declared.name_lookup.LookupOp.{LookupOp}
 use Rattle.wasi_causes.proofs.Words.{is_some}
 use Rattle.wasi_causes.proofs.GivenBack.{another, some_stays}
 use Rattle.wasi_causes.proofs.Words.{Asks}
-use Rattle.wasi_host.specs.Records.{tcp2_of, udp2_of, lookup_of}
 use Rattle.wasi_walks.proofs.GoneLists.{stays_there, was_there}
 use Rattle.wasi_walks.proofs.owners.Law.{Owns, left_none, owners, owners_begin}
 use Rattle.wasi_walks.proofs.owners.Owned.{NoneOf, Owned, first_owned, named_by, tcp_names, udp_names}

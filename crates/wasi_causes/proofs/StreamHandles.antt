@@ -6,16 +6,16 @@ use Rattle.std.specs.Prelude.{◌||◌}
 use Rattle.wasi_table.specs.Table.{Live}
 use Rattle.wasi_tcp.specs.declared.listener.Accepting.TheVariants as accepting
 use Rattle.wasi_udp.specs.Create.{after_create as udp_after_create, create_cancel_asks}
-use Rattle.wasi_host.specs.Datagrams.{has_streams}
-use Rattle.wasi_host.specs.Records.{tcp2_at, tcp2_put, tcp2_pushed, udp2_at}
-use Rattle.wasi_host.specs.Udp.{udp_side}
-use Rattle.wasi_host.specs.declared.datagrams.Incoming.{Incoming as IncomingStream}
-use Rattle.wasi_host.specs.declared.datagrams.Outgoing.{Outgoing as OutgoingStream}
+use Rattle.wasi_records.specs.Datagrams.{has_streams}
+use Rattle.wasi_records.specs.Records.{tcp2_at, tcp2_put, tcp2_pushed, udp2_at}
+use Rattle.wasi_records.specs.Udp.{udp_side}
+use Rattle.wasi_records.specs.declared.datagrams.Incoming.{Incoming as IncomingStream}
+use Rattle.wasi_records.specs.declared.datagrams.Outgoing.{Outgoing as OutgoingStream}
 use Rattle.wasi_host.specs.declared.kind.Kind.TheVariants.{Incoming, Udp2}
-use Rattle.wasi_host.specs.declared.listening.Listening.TheVariants as listening
-use Rattle.wasi_host.specs.declared.records.Record.{Record}
-use Rattle.wasi_host.specs.declared.udp.OpenUdp.{OpenUdp}
-use Rattle.wasi_host.specs.declared.udp.Udp2Socket.{Udp2Socket}
+use Rattle.wasi_records.specs.declared.listening.Listening.TheVariants as listening
+use Rattle.wasi_records.specs.declared.records.Record.{Record}
+use Rattle.wasi_records.specs.declared.udp.OpenUdp.{OpenUdp}
+use Rattle.wasi_records.specs.declared.udp.Udp2Socket.{Udp2Socket}
 use Rattle.wasi_walks.specs.Licence.{Has}
 use Rattle.wasi_walks.proofs.fits.Law.{whatever}
 use Rattle.wasi_walks.proofs.fits.Polls.{Anything}

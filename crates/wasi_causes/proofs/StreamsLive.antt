@@ -6,15 +6,15 @@ use Rattle.wasi_causes.proofs.Words.{allows_if, ap, bind, inl, inr, is_full, is_
 use Rattle.wasi_table.specs.Table.{Live}
 use Rattle.wasi_udp.specs.Create.{Create}
 use Rattle.wasi_world.specs.Operation.{Done, Refused, Waits}
-use Rattle.wasi_host.specs.Datagrams.{has_streams, udp_connect_left}
+use Rattle.wasi_records.specs.Datagrams.{has_streams, udp_connect_left}
 use Rattle.wasi_host.specs.Kinds.{udp_of}
-use Rattle.wasi_host.specs.Records.{tcp2_pushed, udp2_at, udp2_put}
-use Rattle.wasi_host.specs.declared.datagrams.Incoming.{Incoming as IncomingStream}
+use Rattle.wasi_records.specs.Records.{tcp2_pushed, udp2_at, udp2_put}
+use Rattle.wasi_records.specs.declared.datagrams.Incoming.{Incoming as IncomingStream}
 use Rattle.wasi_host.specs.declared.kind.Kind.TheVariants.{Incoming}
-use Rattle.wasi_host.specs.declared.name_lookup.LookupOp.{LookupOp}
-use Rattle.wasi_host.specs.declared.records.Record.{Record}
-use Rattle.wasi_host.specs.declared.udp.OpenUdp.{OpenUdp}
-use Rattle.wasi_host.specs.declared.udp.Udp2Socket.{Udp2Socket}
+use Rattle.wasi_records.specs.declared.name_lookup.LookupOp.{LookupOp}
+use Rattle.wasi_records.specs.declared.records.Record.{Record}
+use Rattle.wasi_records.specs.declared.udp.OpenUdp.{OpenUdp}
+use Rattle.wasi_records.specs.declared.udp.Udp2Socket.{Udp2Socket}
 use Rattle.wasi_walks.specs.Licence.{Has}
 use Rattle.wasi_walks.proofs.UdpLists.{udp_front, udp_in_push, udp_in_put, udp_set_get}
 use Rattle.wasi_walks.proofs.fits.Polls.{Anything}

@@ -2,7 +2,7 @@
 -- stream, since the pollable is under a live handle of it.
 use Rattle.wasi_causes.proofs.Words.{Allows, Entry, ErrorValue, Give, HandleTable, Input, IsSome, Kind, Left, List, Machine, Network, None, Option, Output, Pollable, Reply, Some, Step, Tcp2, WasiSocketsCtx, Watched, [], ap, first_state, gives_more, inl, inr, kind_at, machine_asks, refl, run, streams_in, subst, sym, ℕ, ◌∙◌, ◌∷◌, ◌≡◌}
 use Rattle.wasi_host.specs.Kinds.{watch_of, watched_by}
-use Rattle.wasi_host.specs.Records.{open_at, open_of, tcp2_at}
+use Rattle.wasi_records.specs.Records.{open_at, open_of, tcp2_at}
 use Rattle.wasi_host.specs.declared.kind.Kind.TheVariants.{Incoming, Lookup, Outgoing, PlainInput, PlainOutput, Udp2}
 use Rattle.wasi_walks.specs.Missing.{MissesOneOf, MissesWatched}
 use Rattle.wasi_walks.proofs.fits.Polls.{Anything}

@@ -55,13 +55,17 @@ pub use Rattle.wasi_table.proofs.Tables.{value_without, value_without_it}
 pub use Rattle.wasi_tcp.specs.Addresses.{after_peer, is_listening, local_asks, local_from, local_where, peer_known, remote_in, still_connected}
 pub use Rattle.wasi_tcp.specs.Addresses.{usable_side}
 pub use Rattle.wasi_tcp.specs.Listen.{IsListen, held_side}
-pub use Rattle.wasi_host.specs.Dropping.{released, wait_answer, wait_at}
-pub use Rattle.wasi_host.specs.Host.{CallStop, Code, code_stop}
-pub use Rattle.wasi_host.specs.Jobs.{begins_job, has_job, is_on, other_jobs, turn_at, turn_job, turn_jobs, turn_record, turn_store_asks, turned, with_job}
+pub use Rattle.wasi_host.specs.Dropping.{released, wait_at}
+pub use Rattle.wasi_records.specs.Looks.{wait_answer}
+pub use Rattle.wasi_host.specs.CallStops.{CallStop}
+pub use Rattle.wasi_records.specs.Stops.{Code, code_stop}
+pub use Rattle.wasi_records.specs.Halves.{begins_job, has_job, turn_record, turned}
+pub use Rattle.wasi_host.specs.Jobs.{is_on, other_jobs, turn_at, turn_job, turn_jobs, turn_store_asks, with_job}
 pub use Rattle.wasi_host.specs.Machine.{answered, at_once, drop_asks, drop_kind, no_such_handle, ready_asks, subscribe_asks}
 pub use Rattle.wasi_host.specs.Pending.{resume_asks}
 pub use Rattle.wasi_host.specs.Standing.{allowed_answer, stands_as}
-pub use Rattle.wasi_host.specs.Store.{address_family_at, is_listening_at, with_record_put}
+pub use Rattle.wasi_host.specs.TcpCalls.{address_family_at, is_listening_at}
+pub use Rattle.wasi_host.specs.Store.{with_record_put}
 pub use Rattle.wasi_host.specs.StreamCalls.{check_asks, converted, flushed_asks, read_asks, stream_on, write_asks, write_on}
 pub use Rattle.wasi_p2.specs.Tcp.{accepted_handles, address_family_on, finish_connect_asks, is_listening_on, local_address_on, network_asks}
 pub use Rattle.wasi_p2.specs.Tcp.{remote_address_on, shutdown_on, start_listen_on}

@@ -19,7 +19,7 @@ use Rattle.wasi_host.specs.declared.store.StandingCall.{StandingCall}
 use Rattle.wasi_host.specs.declared.store.StandingCall.TheVariants.{Blocking}
 use Rattle.wasi_host.specs.Kinds.{kind_at, is_writable}
 use Rattle.wasi_host.specs.Machine.{input_at, own_of}
-use Rattle.wasi_host.specs.Names.{first_ids}
+use Rattle.wasi_records.specs.Names.{first_ids}
 use Rattle.wasi_host.specs.StreamCalls.{plain_input_at}
 use Rattle.wasi_steps.specs.declared.reply.Field.{Field}
 use Rattle.wasi_steps.specs.declared.reply.Reply.{Reply}

@@ -5,21 +5,21 @@ use Rattle.wasi_world.specs.declared.call.Entry.{Entry}
 use Rattle.wasi_world.specs.declared.call.Told.TheVariants as told
 use Rattle.wasi_tcp.specs.Socket.{side_of}
 use Rattle.wasi_udp.specs.Create.{Create}
-use Rattle.wasi_host.specs.declared.binding.InProgress.TheVariants as doing
+use Rattle.wasi_records.specs.declared.binding.InProgress.TheVariants as doing
 use Rattle.wasi_jobs.specs.declared.job.HostJob.TheVariants.{Datagram}
-use Rattle.wasi_host.specs.declared.listening.Listening.TheVariants.{Not}
+use Rattle.wasi_records.specs.declared.listening.Listening.TheVariants.{Not}
 use Rattle.wasi_host.specs.declared.machine.Machine.{Machine}
-use Rattle.wasi_host.specs.declared.socket.Tcp2Socket.{Tcp2Socket}
+use Rattle.wasi_records.specs.declared.socket.Tcp2Socket.{Tcp2Socket}
 use Rattle.wasi_host.specs.declared.store.StandingCall.{StandingCall}
 use Rattle.wasi_host.specs.declared.store.StandingCall.TheVariants.{Bind, Listen, DropOutput, UdpCreate, UdpBind, UdpConnect, DropOutgoing, Blocking}
-use Rattle.wasi_host.specs.declared.udp.OpenUdp.{OpenUdp}
-use Rattle.wasi_host.specs.declared.udp.Udp2Socket.TheVariants as udp
-use Rattle.wasi_host.specs.declared.udp.UdpInProgress.TheVariants as udp_doing
+use Rattle.wasi_records.specs.declared.udp.OpenUdp.{OpenUdp}
+use Rattle.wasi_records.specs.declared.udp.Udp2Socket.TheVariants as udp
+use Rattle.wasi_records.specs.declared.udp.UdpInProgress.TheVariants as udp_doing
 use Rattle.wasi_host.specs.Cancel.{without_datagrams}
-use Rattle.wasi_host.specs.Listening.{with_listening}
-use Rattle.wasi_host.specs.Records.{tcp2_at, udp2_at, open_at}
-use Rattle.wasi_host.specs.Store.{with_progress}
-use Rattle.wasi_host.specs.Udp.{with_udp_progress}
+use Rattle.wasi_records.specs.Listening.{with_listening}
+use Rattle.wasi_records.specs.Records.{tcp2_at, udp2_at, open_at}
+use Rattle.wasi_records.specs.Sockets.{with_progress}
+use Rattle.wasi_records.specs.Udp.{with_udp_progress}
 use Rattle.wasi_host.specs.UdpCalls.{with_open_udp}
 use Rattle.wasi_steps.specs.declared.step.Step.{Step}
 use Rattle.wasi_steps.specs.declared.step.Step.TheVariants as step

@@ -28,11 +28,11 @@ use Rattle.wasi_tcp.specs.Writer.{writer_side}
 use Rattle.wasi_jobs.specs.declared.job.HostJob.{HostJob}
 use Rattle.wasi_host.specs.declared.kind.Kind.{Kind}
 use Rattle.wasi_host.specs.declared.kind.Kind.TheVariants as kind
-use Rattle.wasi_host.specs.declared.listening.Listening.{Listening}
-use Rattle.wasi_host.specs.declared.listening.Listening.TheVariants as listening
+use Rattle.wasi_records.specs.declared.listening.Listening.{Listening}
+use Rattle.wasi_records.specs.declared.listening.Listening.TheVariants as listening
 use Rattle.wasi_host.specs.declared.machine.Machine.{Machine}
-use Rattle.wasi_host.specs.declared.socket.Streams.{Streams}
-use Rattle.wasi_host.specs.declared.socket.Tcp2Socket.{Tcp2Socket}
+use Rattle.wasi_records.specs.declared.socket.Streams.{Streams}
+use Rattle.wasi_records.specs.declared.socket.Tcp2Socket.{Tcp2Socket}
 use Rattle.wasi_host.specs.Kinds.{kind_at, without_handle}
 use Rattle.wasi_host.specs.Jobs.{is_on}
 use Rattle.wasi_steps.specs.declared.reply.Reply.{Reply}

@@ -7,7 +7,7 @@ use Rattle.wasi_host.specs.declared.kind.PlainOutput.TheVariants as plain_output
 use Rattle.wasi_host.specs.declared.kind.Watched.{Watched}
 use Rattle.wasi_host.specs.declared.kind.Watched.TheVariants as watched
 use Rattle.wasi_host.specs.declared.machine.Machine.{Machine}
-use Rattle.wasi_host.specs.declared.records.Record.TheVariants.{Gone}
+use Rattle.wasi_records.specs.declared.records.Record.TheVariants.{Gone}
 use Rattle.wasi_host.specs.declared.store.StandingCall.{StandingCall}
 use Rattle.wasi_host.specs.declared.store.StandingCall.TheVariants as call
 

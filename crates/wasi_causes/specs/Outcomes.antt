@@ -2,7 +2,7 @@
 -- afterwards.
 pub use Rattle.wasi_causes.specs.MayAnswer.{AreLike, EachMayAnswer, IsBlockingWrite, IsCodeWord, IsStreamCall, MayMiss, MayRefuse, MayTrap, MayWait, may_answer}
 pub use Rattle.wasi_causes.specs.Plain.{Quiet}
-use Rattle.wasi_host.specs.Records.{input_pipe_at, output_pipe_at}
+use Rattle.wasi_records.specs.Records.{input_pipe_at, output_pipe_at, tcp2_at, udp2_at, open_at, lookup_at}
 use Rattle.std.specs.Prelude.{IsSome}
 use Rattle.wasi_walks.specs.Answered.{streams_in}
 use Rattle.std.specs.Prelude.{IfSome}
@@ -13,11 +13,11 @@ use Rattle.wasi_host.specs.declared.blocking.BlockingCall.{BlockingCall}
 use Rattle.wasi_host.specs.declared.blocking.BlockingCall.TheVariants as blocking
 use Rattle.wasi_host.specs.declared.kind.PlainInput.TheVariants as input
 use Rattle.wasi_host.specs.declared.kind.PlainOutput.TheVariants as output
-use Rattle.wasi_host.specs.declared.records.Record.TheVariants.{InputPipe, OutputPipe}
+use Rattle.wasi_records.specs.declared.records.Record.TheVariants.{InputPipe, OutputPipe}
 use Rattle.wasi_host.specs.declared.store.StandingCall.TheVariants as standing
-use Rattle.wasi_host.specs.Kinds.{is_readable}
+use Rattle.wasi_host.specs.Kinds.{is_readable, kind_at, is_network, watched_by, with_handle, without_handle}
 use Rattle.wasi_host.specs.PlainStreams.{with_record_more}
-use Rattle.wasi_host.specs.Standing.{standing_as}
+use Rattle.wasi_host.specs.Standing.{standing_as, stands_as}
 use Rattle.wasi_host.specs.StreamCalls.{plain_output_at}
 use Rattle.wasi_steps.specs.Reply.{bytes_fields}
 use Rattle.wasi_walks.specs.Answered.{Answered}
@@ -56,19 +56,16 @@ use Rattle.wasi_world.specs.declared.outcome.WasiSocketsCtx.{WasiSocketsCtx}
 use Rattle.wasi_table.specs.Table.{is_full}
 use Rattle.wasi_tcp.specs.declared.writer.WriteError.TheVariants as error
 use Rattle.wasi_tcp.specs.Socket.{new_socket}
-use Rattle.wasi_host.specs.Records.{tcp2_at, udp2_at, open_at, lookup_at}
-use Rattle.wasi_host.specs.declared.name_lookup.Lookup.{Lookup}
+use Rattle.wasi_records.specs.declared.name_lookup.Lookup.{Lookup}
 use Rattle.wasi_host.specs.NameLookupCalls.{lookup_ready}
-use Rattle.wasi_host.specs.declared.udp.OpenUdp.{OpenUdp}
-use Rattle.wasi_host.specs.declared.udp.Udp2Socket.{Udp2Socket}
+use Rattle.wasi_records.specs.declared.udp.OpenUdp.{OpenUdp}
+use Rattle.wasi_records.specs.declared.udp.Udp2Socket.{Udp2Socket}
 use Rattle.wasi_host.specs.declared.kind.Kind.{Kind}
 use Rattle.wasi_host.specs.declared.kind.Kind.TheVariants as kind
 use Rattle.wasi_host.specs.declared.machine.Machine.{Machine}
-use Rattle.wasi_host.specs.declared.socket.Tcp2Socket.{Tcp2Socket}
-use Rattle.wasi_host.specs.Kinds.{kind_at, is_network, watched_by, with_handle, without_handle}
+use Rattle.wasi_records.specs.declared.socket.Tcp2Socket.{Tcp2Socket}
 use Rattle.wasi_host.specs.Machine.{incoming_at, input_at, output_at, outgoing_at, own_of, socket_at, udp_socket_at}
-use Rattle.wasi_host.specs.Standing.{stands_as}
-use Rattle.wasi_host.specs.Shutdowns.{with_streams}
+use Rattle.wasi_records.specs.Shutdowns.{with_streams}
 use Rattle.wasi_host.specs.Store.{with_record}
 use Rattle.wasi_walks.specs.Licence.{entry, Has, marks_in}
 use Rattle.wasi_walks.specs.Listens.{AcceptsAt, closed_by_listen, AcceptTakes, HasNoListenInProgress, RefusedAccept, RefusedListen}
@@ -78,7 +75,7 @@ use Rattle.wasi_causes.specs.Options.{GetsOption, RefusedGet, RefusedSet, SetsCh
 use Rattle.wasi_causes.specs.Reached.{FinishesAt, ListensLateAt}
 use Rattle.wasi_causes.specs.Turns.{IsOfJob}
 use Rattle.wasi_host.specs.DatagramCalls.{outgoing_ready}
-use Rattle.wasi_host.specs.Names.{next_name}
+use Rattle.wasi_records.specs.Names.{next_name}
 use Rattle.wasi_causes.specs.SendCauses.{ReceivesSome, SendsSome, UdpReceiveRefusal, UdpSendRefusal}
 use Rattle.wasi_causes.specs.StreamCauses.{HasNewStreams, MakesStreams, UdpStreamRefusal, StreamsStand}
 use Rattle.wasi_causes.specs.Datagrams.{IsUdpSend, IsUdpStream, HasUdpStreams, IsSpent, OfIncoming, OfOutgoing, LacksRoomForBoth, MadeBoth, PermitsSend, PendingHandleIsLive, LacksRoomForStreams, IsReceiving, WatchesDatagrams, WatchesIncoming, WatchesOutgoing, OutgoingWaits, IncomingGone, OutgoingGone}

@@ -16,7 +16,7 @@ use Rattle.wasi_host.specs.declared.machine.Machine.{Machine}
 use Rattle.wasi_host.specs.Kinds.{kind_at, name_of, watch_of, with_handle}
 use Rattle.wasi_host.specs.Machine.{own_of}
 use Rattle.wasi_host.specs.PlainStreams.{with_contents, with_input_bytes}
-use Rattle.wasi_host.specs.Records.{input_pipe_at, output_pipe_at}
+use Rattle.wasi_records.specs.Records.{input_pipe_at, output_pipe_at}
 use Rattle.wasi_host.specs.Store.{Records}
 use Rattle.wasi_host.specs.StreamCalls.{plain_input_at, plain_output_at}
 use Rattle.wasi_steps.specs.declared.reply.Field.{Field}

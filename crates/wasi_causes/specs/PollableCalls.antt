@@ -14,7 +14,7 @@ use Rattle.wasi_host.specs.declared.polling.Look.TheVariants.{First, Later}
 use Rattle.wasi_host.specs.declared.store.StandingCall.TheVariants.{Blocking}
 use Rattle.wasi_host.specs.Kinds.{kind_at, watch_of}
 use Rattle.wasi_host.specs.Machine.{ready_asks}
-use Rattle.wasi_host.specs.Names.{first_ids}
+use Rattle.wasi_records.specs.Names.{first_ids}
 use Rattle.wasi_host.specs.Polling.{Found, are_pollables, begins_at, ids_after_look, ready_places}
 use Rattle.wasi_host.specs.Standing.{standing_as}
 use Rattle.wasi_steps.specs.declared.reply.Reply.{Reply}

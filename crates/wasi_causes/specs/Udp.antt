@@ -26,16 +26,16 @@ use Rattle.wasi_host.specs.declared.kind.Watched.TheVariants as watched
 use Rattle.wasi_host.specs.declared.machine.Machine.{Machine}
 use Rattle.wasi_host.specs.declared.store.StandingCall.{StandingCall}
 use Rattle.wasi_host.specs.declared.store.StandingCall.TheVariants as standing
-use Rattle.wasi_host.specs.declared.udp.OpenUdp.{OpenUdp}
-use Rattle.wasi_host.specs.declared.udp.Udp2Socket.{Udp2Socket}
-use Rattle.wasi_host.specs.declared.udp.Udp2Socket.TheVariants as udp
-use Rattle.wasi_host.specs.declared.udp.UdpInProgress.TheVariants as doing
-use Rattle.wasi_host.specs.Datagrams.{has_streams}
+use Rattle.wasi_records.specs.declared.udp.OpenUdp.{OpenUdp}
+use Rattle.wasi_records.specs.declared.udp.Udp2Socket.{Udp2Socket}
+use Rattle.wasi_records.specs.declared.udp.Udp2Socket.TheVariants as udp
+use Rattle.wasi_records.specs.declared.udp.UdpInProgress.TheVariants as doing
+use Rattle.wasi_records.specs.Datagrams.{has_streams}
 use Rattle.wasi_host.specs.Kinds.{kind_at, watch_of, with_handle}
 use Rattle.wasi_host.specs.Machine.{udp_socket_at}
-use Rattle.wasi_host.specs.Records.{udp2_pushed, open_at, open_put}
+use Rattle.wasi_records.specs.Records.{udp2_pushed, open_at, open_put}
 use Rattle.wasi_host.specs.Standing.{standing_as}
-use Rattle.wasi_host.specs.Udp.{is_udp_idle, is_udp_bound, opened_udp, with_udp_inner, with_udp_progress}
+use Rattle.wasi_records.specs.Udp.{is_udp_idle, is_udp_bound, opened_udp, with_udp_inner, with_udp_progress}
 use Rattle.wasi_host.specs.UdpCalls.{with_open_udp}
 use Rattle.wasi_machine.specs.Machine.{first_ids}
 use Rattle.wasi_steps.specs.declared.reply.CodeWord.{CodeWord}

@@ -10,12 +10,12 @@ ghost use Rattle.wasi_world.specs.declared.outcome.WasiSocketsCtx.{WasiSocketsCt
 ghost use Rattle.wasi_world.specs.Asks.{Give, Left};
 ghost use Rattle.wasi_host.specs.declared.kind.Kind.{Kind};
 ghost use Rattle.wasi_host.specs.declared.machine.Machine.{Machine};
-ghost use Rattle.wasi_host.specs.declared.udp.OpenUdp.{OpenUdp};
+ghost use Rattle.wasi_records.specs.declared.udp.OpenUdp.{OpenUdp};
 ghost use Rattle.wasi_host.specs.Kinds.{kind_at};
 ghost use Rattle.wasi_host.specs.DatagramCalls.{outgoing_ready};
 ghost use Rattle.wasi_host.specs.Machine.{first_state, incoming_at, outgoing_at, own_of, udp_socket_at};
-ghost use Rattle.wasi_host.specs.Names.{next_name};
-ghost use Rattle.wasi_host.specs.Records.{open_at};
+ghost use Rattle.wasi_records.specs.Names.{next_name};
+ghost use Rattle.wasi_records.specs.Records.{open_at};
 ghost use Rattle.wasi_machine.specs.Machine.{first_ids, run};
 ghost use Rattle.wasi_steps.specs.declared.reply.CodeWord.{CodeWord};
 ghost use Rattle.wasi_steps.specs.declared.reply.Field.{Field};

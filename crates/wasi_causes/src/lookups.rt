@@ -11,13 +11,13 @@ ghost use Rattle.wasi_world.specs.declared.outcome.WasiSocketsCtx.{WasiSocketsCt
 ghost use Rattle.wasi_world.specs.Asks.{Give, Left};
 ghost use Rattle.wasi_host.specs.declared.kind.Kind.{Kind};
 ghost use Rattle.wasi_host.specs.declared.machine.Machine.{Machine};
-ghost use Rattle.wasi_host.specs.declared.name_lookup.Lookup.{Lookup};
-ghost use Rattle.wasi_host.specs.declared.name_lookup.Lookup.TheVariants as Lookup;
+ghost use Rattle.wasi_records.specs.declared.name_lookup.Lookup.{Lookup};
+ghost use Rattle.wasi_records.specs.declared.name_lookup.Lookup.TheVariants as Lookup;
 ghost use Rattle.wasi_host.specs.Kinds.{is_network, kind_at};
 ghost use Rattle.wasi_host.specs.Machine.{first_state, lookup_number, own_of};
-ghost use Rattle.wasi_host.specs.NameLookup.{looks_on};
+ghost use Rattle.wasi_records.specs.NameLookup.{looks_on};
 ghost use Rattle.wasi_host.specs.NameLookupCalls.{lookup_ready};
-ghost use Rattle.wasi_host.specs.Records.{lookup_at};
+ghost use Rattle.wasi_records.specs.Records.{lookup_at};
 ghost use Rattle.wasi_machine.specs.Machine.{context_at, run};
 ghost use Rattle.wasi_steps.specs.declared.reply.CodeWord.{CodeWord};
 ghost use Rattle.wasi_steps.specs.declared.reply.CodeWord.TheVariants as CodeWord;

@@ -14,7 +14,7 @@ ghost use Rattle.wasi_host.specs.declared.kind.Kind.{Kind};
 ghost use Rattle.wasi_host.specs.declared.kind.PlainInput.{PlainInput};
 ghost use Rattle.wasi_host.specs.declared.kind.PlainOutput.{PlainOutput};
 ghost use Rattle.wasi_host.specs.declared.machine.Machine.{Machine};
-ghost use Rattle.wasi_host.specs.declared.records.Record.{Record};
+ghost use Rattle.wasi_records.specs.declared.records.Record.{Record};
 ghost use Rattle.wasi_host.specs.Machine.{input_at, output_at, own_of};
 ghost use Rattle.wasi_host.specs.PlainStreams.{with_record_more};
 ghost use Rattle.wasi_host.specs.StreamCalls.{plain_output_at};

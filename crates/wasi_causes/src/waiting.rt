@@ -13,7 +13,7 @@ ghost use Rattle.wasi_host.specs.declared.machine.Machine.{Machine};
 ghost use Rattle.wasi_host.specs.declared.polling.Look.{Look};
 ghost use Rattle.wasi_host.specs.declared.store.StandingCall.{StandingCall};
 ghost use Rattle.wasi_host.specs.Machine.{first_state, ids_after_ready, ready_asks};
-ghost use Rattle.wasi_host.specs.Names.{names_after};
+ghost use Rattle.wasi_records.specs.Names.{names_after};
 ghost use Rattle.wasi_host.specs.Polling.{Found, are_pollables, begins_at, found_of, ready_places};
 ghost use Rattle.wasi_host.specs.Standing.{standing_as};
 ghost use Rattle.wasi_machine.specs.Machine.{first_ids, run};

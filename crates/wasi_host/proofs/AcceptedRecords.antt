@@ -7,15 +7,18 @@ use Rattle.wasi_world.specs.Seen.{Seen}
 use Rattle.wasi_tcp.specs.Shape.{Socket}
 use Rattle.wasi_tcp.specs.Socket.{side_of}
 use Rattle.wasi_tcp.specs.Listener.{accepted_socket, accepted_state}
-use Rattle.wasi_host.specs.Records.{tcp2_at, tcp2_put}
-use Rattle.wasi_host.specs.declared.records.Record.{Record}
-use Rattle.wasi_host.specs.declared.socket.Tcp2Socket.{Tcp2Socket}
-use Rattle.wasi_host.specs.Listening.{IsAccepted, Connects, Fails, with_accepted_in, accepted_record, ids_of, accept_ids_at}
-use Rattle.wasi_host.specs.Sides.{one_if_some, held_in, Balances, KnowsSides}
+use Rattle.wasi_records.specs.Records.{tcp2_at, tcp2_put}
+use Rattle.wasi_records.specs.declared.records.Record.{Record}
+use Rattle.wasi_records.specs.declared.socket.Tcp2Socket.{Tcp2Socket}
+use Rattle.wasi_records.specs.Listening.{IsAccepted, Connects, Fails, with_accepted_in, accepted_record, ids_of}
+use Rattle.wasi_host.specs.TcpCalls.{accept_ids_at}
+use Rattle.wasi_records.specs.Sides.{one_if_some, held_in, Balances}
+use Rattle.wasi_host.specs.KnownSides.{KnowsSides}
 use Rattle.wasi_host.specs.Store.{Records}
-use Rattle.wasi_host.proofs.SideCounts.{held_in-append, knows_then}
-use Rattle.wasi_host.proofs.ConnectCounts.{held_in-swap}
-use Rattle.wasi_host.proofs.Lookups.{found_at, none_at}
+use Rattle.wasi_records.proofs.SideCounts.{held_in-append}
+use Rattle.wasi_host.proofs.KnownSides.{knows_then}
+use Rattle.wasi_records.proofs.ConnectCounts.{held_in-swap}
+use Rattle.wasi_records.proofs.Lookups.{found_at, none_at}
 
 -- the network socket of what was accepted is held by its record; what is closed has none, and is not kept
 held_accepted : (records : List Record) (socket : Socket) → IsAccepted socket → held_in (with_accepted_in records socket).1 ≡ held_in records + one_if_some (side_of socket)

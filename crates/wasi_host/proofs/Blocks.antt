@@ -18,9 +18,10 @@ use Rattle.wasi_host.specs.declared.pending.Outcome.{Outcome}
 use Rattle.wasi_host.specs.Blocking.{Blocked, Again, waits_as, looked, look_asks, read_answer, skip_answer, flush_checked, last_checked, write_ended, write_rounds, round_checked, round_written, splice_count, splice_looked, splice_given, splice_written, splice_permitted}
 use Rattle.wasi_streams.specs.declared.fault.Fault.{Fault}
 use Rattle.wasi_streams.specs.declared.fault.Fault.TheVariants as fault
-use Rattle.wasi_host.specs.Host.{Stop, CallStop, Closed, Failed, Traps, call_outcome, call_fault, fault_outcome}
+use Rattle.wasi_records.specs.Stops.{Stop, fault_outcome}
+use Rattle.wasi_host.specs.CallStops.{CallStop, Closed, Failed, Traps, call_outcome, call_fault}
 use Rattle.wasi_host.specs.Store.{Records}
-use Rattle.wasi_host.specs.Names.{own_of}
+use Rattle.wasi_records.specs.Names.{own_of}
 use Rattle.wasi_host.specs.Pending.{blocked_outcome, blocked_told, write_told}
 use Rattle.wasi_host.specs.StreamCalls.{splice_some, splice_read, spliced, check_asks, read_asks, write_asks}
 

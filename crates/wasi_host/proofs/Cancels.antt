@@ -1,20 +1,17 @@
 -- Calls that are given up: what becomes of the records, and of the network sockets that they hold.
 use Rattle.std.specs.Prelude.{IfOk, OnErr}
 use Rattle.std.specs.declared.alloc.AllocError.{AllocError}
-use Rattle.std.proofs.Common.{◌≡◌, ℕ, true, Result, Ok, Err, sym, ap}
+use Rattle.std.proofs.Common.{◌≡◌, ℕ, Result, Ok, Err, sym, ap}
 use Rattle.wasi_world.specs.Asks.{Give, bind, AsksFor}
 use Rattle.wasi_world.specs.Seen.{Seen}
 use Rattle.wasi_world.proofs.Walks.{asks_end, asks_exit}
-use Rattle.wasi_common.specs.Rounds.{is_going}
-use Rattle.wasi_udp.specs.Create.{Create, create_cancel_asks}
-use Rattle.wasi_host.specs.declared.listening.Listening.TheVariants.{Not}
-use Rattle.wasi_host.specs.declared.socket.Tcp2Socket.{Tcp2Socket}
+use Rattle.wasi_records.specs.declared.listening.Listening.TheVariants.{Not}
+use Rattle.wasi_records.specs.declared.socket.Tcp2Socket.{Tcp2Socket}
 use Rattle.wasi_host.specs.Cancel.{listen_gone}
-use Rattle.wasi_host.specs.Listening.{give_up_asks, side_in, unclosed, with_listening}
-use Rattle.wasi_host.specs.Sides.{Balances, HoldsFewer}
+use Rattle.wasi_records.specs.Listening.{give_up_asks, side_in, unclosed, with_listening}
+use Rattle.wasi_records.specs.Sides.{Balances}
 use Rattle.wasi_host.specs.Store.{Records, with_socket}
-use Rattle.wasi_host.proofs.Releases.{given_up_closes, unclosed_holds}
-use Rattle.wasi_host.proofs.UdpPolls.{open_closes}
+use Rattle.wasi_records.proofs.Releases.{given_up_closes, unclosed_holds}
 
 -- == a listen
 pub listen_cancelled : (store : Records) (place : ℕ) (r now : Tcp2Socket) {s t : Seen} (result : Result (Unit {0}) AllocError) → AsksFor (give_up_asks r.listening) s t (λ done. done) result → IfOk result (λ done. now ≡ with_listening r Not)
@@ -26,8 +23,3 @@ pub listen_balances : (r now : Tcp2Socket) {s t : Seen} (result : Result (Unit {
     → OnErr result (now ≡ with_listening r (unclosed (side_in r.listening))) → OnErr result (t ≡ s) → Balances s t 0 r now
 listen_balances r now (Ok done) h e f u = rw e (given_up_closes r h.ok)
 listen_balances r now {s} (Err d) h e f u = rw (f, u) (unclosed_holds r s)
-
--- == a create
-pub create_closes : (create : Create) {s t : Seen} (result : Result (Unit {0}) AllocError) → is_going create.operation ≡ true → AsksFor (create_cancel_asks create) s t (λ done. done) result → IfOk result (λ done. HoldsFewer s t 1 0)
-create_closes create (Ok done) g h = let k = rw g at h in open_closes create.operation.who.id create.operation.who.side k.ok
-create_closes create (Err d) g h = tt

@@ -7,23 +7,24 @@ use Rattle.wasi_world.specs.declared.outcome.Answer.{Answer}
 use Rattle.wasi_world.specs.declared.outcome.TrapKind.TheVariants.{NoSuchHandle}
 use Rattle.wasi_world.specs.Asks.{Asks, Give, AsksFor}
 use Rattle.wasi_world.specs.Seen.{Seen}
-use Rattle.wasi_host.specs.declared.datagrams.Outgoing.{Outgoing}
+use Rattle.wasi_records.specs.declared.datagrams.Outgoing.{Outgoing}
 use Rattle.wasi_jobs.specs.declared.job.HostJob.{HostJob}
-use Rattle.wasi_host.specs.declared.records.Record.{Record}
+use Rattle.wasi_records.specs.declared.records.Record.{Record}
 use Rattle.wasi_host.specs.declared.store.StandingCall.{StandingCall}
-use Rattle.wasi_host.specs.declared.udp.OpenUdp.{OpenUdp}
+use Rattle.wasi_records.specs.declared.udp.OpenUdp.{OpenUdp}
 use Rattle.wasi_host.specs.DatagramCalls.{check_send_by, incoming_looked, with_receive}
-use Rattle.wasi_host.specs.Host.{Trap}
+use Rattle.wasi_records.specs.Stops.{Trap}
 use Rattle.wasi_host.specs.Jobs.{jobs_with, with_job}
-use Rattle.wasi_host.specs.Receiving.{receives}
-use Rattle.wasi_host.specs.Records.{open_at, open_put}
-use Rattle.wasi_host.specs.Sides.{KnowsSides, MakesNone, held_in}
+use Rattle.wasi_records.specs.Receiving.{receives}
+use Rattle.wasi_records.specs.Records.{open_at, open_put}
+use Rattle.wasi_host.specs.KnownSides.{KnowsSides}
+use Rattle.wasi_records.specs.Sides.{MakesNone, held_in}
 use Rattle.wasi_host.specs.Standing.{stood}
 use Rattle.wasi_host.specs.Store.{Records}
 use Rattle.wasi_host.specs.UdpCalls.{with_open_udp}
 use Rattle.wasi_host.proofs.JobLists.{with_job_is}
-use Rattle.wasi_host.proofs.SideCounts.{knows_none, knows_same, knows_stood}
-use Rattle.wasi_host.proofs.UdpLookups.{open_found, open_back, held_in-open}
+use Rattle.wasi_host.proofs.KnownSides.{knows_none, knows_same, knows_stood}
+use Rattle.wasi_records.proofs.UdpLookups.{open_found, open_back, held_in-open}
 
 -- == the network sockets
 -- a call on the socket made none and closed none

@@ -5,7 +5,7 @@ use Rattle.std.specs.Ordering.{nat_cmp}
 use Rattle.std.specs.BTreeMap.{is_at}
 use Rattle.wasi_host.specs.Polling.{Found, found_of}
 use Rattle.wasi_host.specs.FoundMap.{first_at, KeepsFirst}
-use Rattle.wasi_host.proofs.Numbers.{at_itself, at_another}
+use Rattle.wasi_records.proofs.Numbers.{at_itself, at_another}
 
 -- a look more finds nothing of another pollable
 found_other : (looks : Found) (p q : ℕ) (ready : Bool) → q ≢ p → found_of (looks ++ (p, ready) ∷ []) q ≡ found_of looks q

@@ -4,19 +4,20 @@ use Rattle.std.specs.Prelude.{slice_set}
 use Rattle.wasi_world.specs.Seen.{Seen}
 use Rattle.wasi_world.specs.declared.ids.OpId.{OpId}
 use Rattle.wasi_udp.specs.Create.{Create}
-use Rattle.wasi_host.specs.declared.records.Record.{Record}
-use Rattle.wasi_host.specs.declared.records.Record.TheVariants.{Udp2}
-use Rattle.wasi_host.specs.declared.udp.Udp2Socket.{Udp2Socket}
-use Rattle.wasi_host.specs.declared.udp.Udp2Socket.TheVariants.{Creating, Open, Closed}
-use Rattle.wasi_host.specs.GivingBack.{record_gone, given_back}
-use Rattle.wasi_host.specs.Numbered.{item_at}
-use Rattle.wasi_host.specs.Records.{udp2_at, udp2_put}
-use Rattle.wasi_host.specs.Sides.{held_by, held_in, HoldsFewer, KnowsSides}
+use Rattle.wasi_records.specs.declared.records.Record.{Record}
+use Rattle.wasi_records.specs.declared.records.Record.TheVariants.{Udp2}
+use Rattle.wasi_records.specs.declared.udp.Udp2Socket.{Udp2Socket}
+use Rattle.wasi_records.specs.declared.udp.Udp2Socket.TheVariants.{Creating, Open, Closed}
+use Rattle.wasi_records.specs.Numbered.{record_gone, item_at}
+use Rattle.wasi_host.specs.GivingBack.{given_back}
+use Rattle.wasi_records.specs.Records.{udp2_at, udp2_put}
+use Rattle.wasi_records.specs.Sides.{held_by, held_in, HoldsFewer}
+use Rattle.wasi_host.specs.KnownSides.{KnowsSides}
 use Rattle.wasi_host.specs.Store.{Records}
 use Rattle.wasi_host.specs.UdpCalls.{with_udp, udp_left}
-use Rattle.wasi_host.specs.Udp.{udp_holds, udp_side}
-use Rattle.wasi_host.proofs.SideCounts.{knows_then}
-use Rattle.wasi_host.proofs.UdpLookups.{held_in-udp_swap, udp_put_same}
+use Rattle.wasi_records.specs.Udp.{udp_holds, udp_side}
+use Rattle.wasi_host.proofs.KnownSides.{knows_then}
+use Rattle.wasi_records.proofs.UdpLookups.{held_in-udp_swap, udp_put_same}
 
 -- what is left of a record that goes holds none
 pub held_gone : (rs : List Record) (i : ℕ) → held_in (record_gone rs i) + held_by (item_at rs i) ≡ held_in rs

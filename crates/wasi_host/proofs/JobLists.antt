@@ -9,14 +9,15 @@ use Rattle.wasi_world.specs.Asks.{Asks, Give, bind, Reaches, Started, AsksFor}
 use Rattle.wasi_streams.specs.StreamStop.{StreamStop}
 use Rattle.wasi_streams.specs.StreamStop as stop
 use Rattle.wasi_world.proofs.Walks.{reaches_on, reaches_in, reaches_then}
-use Rattle.wasi_host.specs.Records.{tcp2_at, tcp2_put}
-use Rattle.wasi_host.specs.declared.records.Record.{Record}
+use Rattle.wasi_records.specs.Records.{tcp2_at, tcp2_put}
+use Rattle.wasi_records.specs.declared.records.Record.{Record}
 use Rattle.wasi_jobs.specs.declared.job.HostJob.{HostJob}
 use Rattle.wasi_jobs.specs.declared.job.HostJob.TheVariants.{Write}
-use Rattle.wasi_host.specs.declared.socket.Tcp2Socket.{Tcp2Socket}
+use Rattle.wasi_records.specs.declared.socket.Tcp2Socket.{Tcp2Socket}
 use Rattle.wasi_host.specs.Store.{Records, with_socket}
-use Rattle.wasi_host.specs.Jobs.{works_in, jobs_with, with_job, begins_job, is_going, turn_job, turn_jobs, write_at}
-use Rattle.wasi_host.proofs.Lookups.{set_there}
+use Rattle.wasi_records.specs.Halves.{works_in, begins_job}
+use Rattle.wasi_host.specs.Jobs.{jobs_with, with_job, is_going, turn_job, turn_jobs, write_at}
+use Rattle.wasi_records.proofs.Lookups.{set_there}
 
 -- a write that was noted on the record that it left
 pub with_job_is : (store : Records) (job : HostJob) (b : Bool) → with_job store job b ≡ record store { jobs = jobs_with store.jobs job b }

@@ -1,7 +1,7 @@
 -- Pipes among the records: the network sockets of the records, and the answers of calls that ask nothing.
 use Rattle.std.specs.Borrow.{MutBor}
 use Rattle.std.specs.declared.alloc.AllocError.{AllocError}
-use Rattle.std.proofs.Common.{◌≡◌, ◌∙◌, ℕ, zero, suc, ◌+◌, List, [], ◌∷◌, ◌++◌, Some, None, Result, Ok, Err, IfOk, sym, ap, refl}
+use Rattle.std.proofs.Common.{◌≡◌, ◌∙◌, ℕ, zero, suc, List, [], ◌∷◌, ◌++◌, Some, None, Result, Ok, Err, IfOk, sym, ap, refl}
 use Rattle.std.specs.Prelude.{IsErrAnd, OnErr}
 use Rattle.wasi_world.specs.declared.ids.OpId.{OpId}
 use Rattle.wasi_world.specs.Asks.{Give, bind, AsksFor}
@@ -16,42 +16,18 @@ use Rattle.wasi_memory.specs.Plain.{Contents}
 use Rattle.wasi_host.specs.declared.error.CallError.{CallError}
 use Rattle.wasi_host.specs.declared.kind.Kind.{Kind}
 use Rattle.wasi_host.specs.declared.machine.Machine.{Machine}
-use Rattle.wasi_host.specs.declared.records.Record.{Record}
-use Rattle.wasi_host.specs.declared.records.Record.TheVariants.{Tcp2, Udp2, Lookup, InputPipe, OutputPipe, Gone}
-use Rattle.wasi_host.specs.Host.{CallStop, Stop, call_outcome, fault_outcome, plain_outcome}
+use Rattle.wasi_records.specs.declared.records.Record.{Record}
+use Rattle.wasi_records.specs.declared.records.Record.TheVariants.{Tcp2, Udp2, Lookup, InputPipe, OutputPipe, Gone}
+use Rattle.wasi_host.specs.CallStops.{CallStop, call_outcome, plain_outcome}
+use Rattle.wasi_records.specs.Stops.{Stop, fault_outcome}
 use Rattle.wasi_host.specs.Kinds.{HandleTable, make_asks}
 use Rattle.wasi_host.specs.PlainStreams.{pipe_asks, piped, with_contents, with_input_bytes}
-use Rattle.wasi_host.specs.Records.{input_pipe_at, input_pipe_put, output_pipe_at, output_pipe_put}
-use Rattle.wasi_host.specs.Sides.{KnowsSides, held_by, held_in}
+use Rattle.wasi_records.specs.Records.{input_pipe_at, input_pipe_put, output_pipe_at, output_pipe_put}
+use Rattle.wasi_host.specs.KnownSides.{KnowsSides}
 use Rattle.wasi_host.specs.Store.{Records}
 use Rattle.wasi_host.specs.StreamCalls.{plain_done}
-use Rattle.wasi_host.proofs.SideCounts.{knows_same}
-
--- == a pipe that is replaced holds no network socket, as before
-pub held_in-input : (rs : List Record) (i : ℕ) (old now : List ℕ) → input_pipe_at rs i ≡ Some old → held_in (input_pipe_put rs i now) ≡ held_in rs
-held_in-input [] i old now h = refl
-held_in-input (Tcp2 r ∷ rs) zero old now h = absurd (cc)
-held_in-input (Udp2 u ∷ rs) zero old now h = absurd (cc)
-held_in-input (Lookup l ∷ rs) zero old now h = absurd (cc)
-held_in-input (OutputPipe p ∷ rs) zero old now h = absurd (cc)
-held_in-input (Gone ∷ rs) zero old now h = absurd (cc)
-held_in-input (InputPipe b ∷ rs) zero old now h = refl
-held_in-input (x ∷ rs) (suc i) old now h = ap (λ n. held_by x + n) (held_in-input rs i old now h)
-
-pub held_in-output : (rs : List Record) (i : ℕ) (old now : Contents) → output_pipe_at rs i ≡ Some old → held_in (output_pipe_put rs i now) ≡ held_in rs
-held_in-output [] i old now h = refl
-held_in-output (Tcp2 r ∷ rs) zero old now h = absurd (cc)
-held_in-output (Udp2 u ∷ rs) zero old now h = absurd (cc)
-held_in-output (Lookup l ∷ rs) zero old now h = absurd (cc)
-held_in-output (InputPipe b ∷ rs) zero old now h = absurd (cc)
-held_in-output (OutputPipe p ∷ rs) zero old now h = refl
-held_in-output (Gone ∷ rs) zero old now h = absurd (cc)
-held_in-output (x ∷ rs) (suc i) old now h = ap (λ n. held_by x + n) (held_in-output rs i old now h)
-
--- nor does one more
-pub held_in-more : (rs : List Record) (r : Record) → held_by r ≡ 0 → held_in (rs ++ r ∷ []) ≡ held_in rs
-held_in-more [] r e = rw e refl
-held_in-more (x ∷ rs) r e = ap (λ n. held_by x + n) (held_in-more rs r e)
+use Rattle.wasi_host.proofs.KnownSides.{knows_same}
+use Rattle.wasi_records.proofs.PipeCounts.{held_in-input, held_in-output}
 
 -- what the records know of their network sockets is kept
 pub knows_input : {s : Seen} (store : Records) (place : ℕ) (x : MutBor (List ℕ)) (now : List ℕ) → Some x.now ≡ input_pipe_at store.records place → KnowsSides s store → KnowsSides s (with_input_bytes store place now)

@@ -14,11 +14,11 @@ use Rattle.wasi_host.specs.declared.machine.Machine.{Machine}
 use Rattle.wasi_host.specs.declared.store.StandingCall.TheVariants.{Blocking}
 use Rattle.wasi_host.specs.Standing.{standing_as}
 use Rattle.wasi_host.specs.declared.polling.Look.{Look}
-use Rattle.wasi_host.specs.Host.{Stop, fault_outcome}
+use Rattle.wasi_records.specs.Stops.{Stop, fault_outcome}
 use Rattle.wasi_host.specs.Polling.{Found, found_of, look_at_pollable, ids_after_look, look_each, looked_at, ready_places, places_given, polled_each}
 use Rattle.wasi_host.specs.Views.{SameView}
 use Rattle.wasi_host.specs.declared.view.WasiSocketsCtxView.{WasiSocketsCtxView}
-use Rattle.wasi_host.proofs.Hosts.{fault_passed}
+use Rattle.wasi_records.proofs.Hosts.{fault_passed}
 
 -- what is asked after the first of the asks were made
 asks_after : {A T : Type 0} {first mid : Asks A} {o p q : Seen} {view : T → A} {r : Result T AllocError} → Reaches first mid o p → AsksFor mid p q view r → AsksFor first o q view r

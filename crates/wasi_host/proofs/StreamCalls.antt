@@ -11,7 +11,7 @@ use Rattle.wasi_streams.specs.declared.error.StreamError.{StreamError}
 use Rattle.wasi_streams.specs.declared.error.StreamError.TheVariants as told
 use Rattle.wasi_streams.specs.StreamStop.{StreamStop, stream_outcome}
 use Rattle.wasi_streams.specs.StreamStop as stop
-use Rattle.wasi_host.specs.Records.{tcp2_at}
+use Rattle.wasi_records.specs.Records.{tcp2_at}
 use Rattle.wasi_host.specs.declared.error.CallError.{CallError}
 use Rattle.wasi_host.specs.declared.error.CallError.TheVariants as call
 use Rattle.wasi_streams.specs.declared.fault.Fault.{Fault}
@@ -19,7 +19,8 @@ use Rattle.wasi_streams.specs.declared.fault.Fault.TheVariants as fault
 use Rattle.wasi_host.specs.declared.machine.Machine.{Machine}
 use Rattle.wasi_host.specs.declared.kind.Kind.{Kind}
 use Rattle.wasi_host.specs.declared.kind.Kind.TheVariants.{Network, Tcp2, Udp2, Input, Output, PlainInput, PlainOutput, Incoming, Outgoing, Pollable, ErrorValue, Lookup}
-use Rattle.wasi_host.specs.Host.{CallStop, fault_outcome, call_outcome, error_outcome, failed_outcome, IsStreamStop, IfStreamMemory}
+use Rattle.wasi_host.specs.CallStops.{CallStop, call_outcome, error_outcome, failed_outcome, IsStreamStop, IfStreamMemory}
+use Rattle.wasi_records.specs.Stops.{fault_outcome}
 use Rattle.wasi_host.specs.Kinds.{HandleTable, input_of, output_of, stream_of, make_asks}
 use Rattle.wasi_host.specs.Store.{Records}
 use Rattle.wasi_host.specs.Machine.{with_store, side_at}

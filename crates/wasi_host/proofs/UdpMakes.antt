@@ -20,18 +20,19 @@ use Rattle.wasi_world.specs.Typed.{told_done, ask_udp_create}
 use Rattle.wasi_udp.specs.Create.{Create, after_create, new_asks}
 use Rattle.wasi_host.specs.declared.kind.Kind.TheVariants.{Udp2}
 use Rattle.wasi_host.specs.declared.machine.Machine.{Machine}
-use Rattle.wasi_host.specs.declared.records.Record.{Record}
-use Rattle.wasi_host.specs.declared.udp.Udp2Socket.{Udp2Socket}
-use Rattle.wasi_host.specs.declared.udp.Udp2Socket.TheVariants.{Creating}
-use Rattle.wasi_host.specs.Host.{Stop}
+use Rattle.wasi_records.specs.declared.records.Record.{Record}
+use Rattle.wasi_records.specs.declared.udp.Udp2Socket.{Udp2Socket}
+use Rattle.wasi_records.specs.declared.udp.Udp2Socket.TheVariants.{Creating}
+use Rattle.wasi_records.specs.Stops.{Stop}
 use Rattle.wasi_host.specs.Kinds.{make_asks}
-use Rattle.wasi_host.specs.Records.{udp2_pushed}
-use Rattle.wasi_host.specs.Sides.{one_if_done, made_in, closed_in, KnowsSides}
+use Rattle.wasi_records.specs.Records.{udp2_pushed}
+use Rattle.wasi_records.specs.Sides.{one_if_done, made_in, closed_in}
+use Rattle.wasi_host.specs.KnownSides.{KnowsSides}
 use Rattle.wasi_host.specs.Store.{Records}
-use Rattle.wasi_host.specs.Udp.{udp_side}
+use Rattle.wasi_records.specs.Udp.{udp_side}
 use Rattle.wasi_host.specs.UdpCreates.{with_create, udp_side_at, handle_made, mark_udp, create_on}
-use Rattle.wasi_host.proofs.SideCounts.{knows_then}
-use Rattle.wasi_host.proofs.UdpLookups.{held_in-udp_more}
+use Rattle.wasi_host.proofs.KnownSides.{knows_then}
+use Rattle.wasi_records.proofs.UdpLookups.{held_in-udp_more}
 
 -- == a create makes one network socket where it begins, and none where it is refused
 abbrev begun_or_not : Result Create ErrorCode → ℕ

@@ -6,9 +6,9 @@ use Rattle.wasi_host.specs.declared.kind.Watched.{Watched}
 use Rattle.wasi_host.specs.declared.kind.Watched.TheVariants as watched
 use Rattle.wasi_host.specs.declared.machine.Machine.{Machine}
 use Rattle.wasi_host.specs.Machine.{ready_on, with_store}
-use Rattle.wasi_host.specs.Names.{own_of}
+use Rattle.wasi_records.specs.Names.{own_of}
 use Rattle.wasi_host.specs.Readiness.{ready_at}
-use Rattle.wasi_host.specs.Records.{tcp2_at}
+use Rattle.wasi_records.specs.Records.{tcp2_at}
 
 -- it is a TCP socket or a stream of one
 abbrev pub IsAsked : Watched → ℕ → Type 0

@@ -9,16 +9,18 @@ use Rattle.wasi_streams.specs.StreamStop as stream
 use Rattle.wasi_streams.specs.Streams.{zeros}
 use Rattle.wasi_tcp.specs.Reader.{read_state_asks}
 use Rattle.wasi_tcp.specs.Writer.{check_write_asks, write_state_asks}
-use Rattle.wasi_host.specs.Records.{tcp2_at}
+use Rattle.wasi_records.specs.Records.{tcp2_at}
 use Rattle.wasi_host.specs.declared.kind.Kind.TheVariants.{ErrorValue}
 use Rattle.wasi_host.specs.declared.machine.Machine.{Machine}
-use Rattle.wasi_host.specs.declared.socket.Tcp2Socket.{Tcp2Socket}
-use Rattle.wasi_host.specs.Host.{Stop, CallStop, Closed, Traps, failed_with}
+use Rattle.wasi_records.specs.declared.socket.Tcp2Socket.{Tcp2Socket}
+use Rattle.wasi_records.specs.Stops.{Stop}
+use Rattle.wasi_host.specs.CallStops.{CallStop, Closed, Traps, failed_with}
 use Rattle.wasi_host.specs.declared.kind.PlainInput.{PlainInput}
 use Rattle.wasi_host.specs.declared.kind.PlainOutput.{PlainOutput}
 use Rattle.wasi_host.specs.Kinds.{kind_at, make_asks, is_readable, is_writable, plain_input_of, plain_output_of}
 use Rattle.wasi_host.specs.PlainStreams.{read_plain, check_plain, write_plain, flush_plain}
-use Rattle.wasi_host.specs.Store.{Records, reader_asks, writer_asks, flush_asks, stream_at}
+use Rattle.wasi_host.specs.Store.{Records, stream_at}
+use Rattle.wasi_records.specs.Halves.{reader_asks, writer_asks, flush_asks}
 use Rattle.wasi_host.specs.Jobs.{write_at}
 use Rattle.wasi_host.specs.Machine.{with_table, with_store, input_at, output_at, side_at}
 

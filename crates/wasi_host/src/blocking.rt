@@ -5,21 +5,22 @@ ghost use Rattle.wasi_world.specs.declared.outcome.Answer.TheVariants.{Pending};
 ghost use Rattle.wasi_world.specs.Asks.{AsksFor};
 ghost use Rattle.wasi_world.specs.Seen.{Seen};
 ghost use Rattle.wasi_host.specs.Blocking.{look_at, look_on, look_asks, blocking_read_asks, blocking_skip_asks, blocking_flush_asks, last_check_asks, finish_write_asks, write_rounds, blocking_write_asks, blocking_zeroes_asks, blocking_splice_asks};
-ghost use Rattle.wasi_host.specs.Host.{fault_outcome, call_outcome};
+ghost use Rattle.wasi_records.specs.Stops.{fault_outcome};
+ghost use Rattle.wasi_host.specs.CallStops.{call_outcome};
 ghost use Rattle.wasi_host.specs.Machine.{own_of, input_at};
 ghost use Rattle.wasi_host.specs.Pending.{write_told};
-ghost use Rattle.wasi_host.specs.Records.{tcp2_at};
-ghost use Rattle.wasi_host.specs.Sides.{KnowsSides};
+ghost use Rattle.wasi_records.specs.Records.{tcp2_at};
+ghost use Rattle.wasi_host.specs.KnownSides.{KnowsSides};
 ghost use Rattle.wasi_host.specs.Standing.{standing_as};
 ghost use Rattle.wasi_host.specs.Views.{SameView, state_of};
 
 use crate::error::CallError;
 use crate::handles;
-use crate::records::tcp2_mut;
 use crate::store::{Standing, StandingCall, Store};
 use crate::streams::{check_write, flush, read, skip, write, zeros};
 use crate::view::WasiSocketsCtxView;
 use std::alloc::{AllocError, Global};
+use wasi_records::tcp2_mut;
 use wasi_streams::Fault;
 use wasi_world::{Answer, Handle, Ids, NumberList, Octets, OpId, TrapKind, World};
 

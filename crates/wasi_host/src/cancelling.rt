@@ -4,16 +4,14 @@ ghost use Rattle.std.specs.Prelude.{◌≡◌, false};
 ghost use Rattle.wasi_world.specs.Asks.{AsksFor};
 ghost use Rattle.wasi_world.specs.Seen.{Seen};
 ghost use Rattle.wasi_host.specs.Cancel.{other_than_datagram, cancel_bind_at, cancel_udp_bind_at, cancel_listen_at, cancel_create_at, cancel_udp_connect_at, cancel_drop_outgoing_at, cancel_on, cancel_asks};
-ghost use Rattle.wasi_host.specs.Records.{tcp2_at, udp2_at, open_at};
-ghost use Rattle.wasi_host.specs.Sides.{KnowsSides};
+ghost use Rattle.wasi_records.specs.Records.{tcp2_at, udp2_at, open_at};
+ghost use Rattle.wasi_host.specs.KnownSides.{KnowsSides};
 ghost use Rattle.wasi_host.specs.Views.{SameView, state_of};
 
-use crate::binding::InProgress;
-use crate::records::{open_udp_mut, tcp2_mut, udp2};
 use crate::store::{StandingCall, Store};
-use crate::udp::{Udp2Socket, UdpInProgress};
 use crate::view::WasiSocketsCtxView;
 use std::alloc::AllocError;
+use wasi_records::{InProgress, Udp2Socket, UdpInProgress, open_udp_mut, tcp2_mut, udp2};
 use wasi_world::World;
 
 impl Store {

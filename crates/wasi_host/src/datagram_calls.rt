@@ -4,21 +4,20 @@ ghost use Rattle.std.specs.Prelude.{◌≡◌, ◌+◌, ◌<◌, ◌^◌, false,
 ghost use Rattle.wasi_world.specs.Asks.{AsksFor};
 ghost use Rattle.wasi_world.specs.Seen.{Seen};
 ghost use Rattle.wasi_host.specs.DatagramCalls.{start_streams_at, reconnect_udp_at, mark_streams, make_streams_asks, remake_streams_asks, check_send_at, send_datagrams_at, receive_datagrams_at, ready_incoming_at, incoming_names, drop_incoming_at, drop_outgoing_at, outgoing_ready};
-ghost use Rattle.wasi_host.specs.Listening.{TakesOne};
-ghost use Rattle.wasi_host.specs.Host.{fault_outcome, host_outcome};
+ghost use Rattle.wasi_records.specs.Listening.{TakesOne};
+ghost use Rattle.wasi_records.specs.Stops.{fault_outcome, host_outcome};
 ghost use Rattle.wasi_host.specs.Machine.{own_of};
-ghost use Rattle.wasi_host.specs.Records.{open_at};
-ghost use Rattle.wasi_host.specs.Sides.{KnowsSides};
+ghost use Rattle.wasi_records.specs.Records.{open_at};
+ghost use Rattle.wasi_host.specs.KnownSides.{KnowsSides};
 
-use crate::error::SocketError;
 use crate::handles;
 use crate::jobs::keep_job;
 use crate::kind::Kind;
-use crate::records::{open_udp, open_udp_mut, open_udp_mut_in};
 use crate::store::{StandingCall, Store};
 use std::alloc::Global;
 use wasi_addr::IpSocketAddress;
 use wasi_jobs::HostJob;
+use wasi_records::{SocketError, open_udp, open_udp_mut, open_udp_mut_in};
 use wasi_streams::Fault;
 use wasi_table::Table;
 use wasi_world::{Answer, Handle, Ids, IncomingDatagrams, OpId, OutgoingDatagram, TrapKind, World};

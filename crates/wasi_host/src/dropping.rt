@@ -2,20 +2,20 @@
 
 ghost use Rattle.std.specs.Prelude.{◌≡◌, is_some, false, Ok, OnErr};
 ghost use Rattle.wasi_world.specs.Asks.{AsksFor};
-ghost use Rattle.wasi_host.specs.Records.{tcp2_at};
+ghost use Rattle.wasi_records.specs.Records.{tcp2_at};
 ghost use Rattle.wasi_host.specs.Dropping.{release_at, released, wait_at, drop_output_at};
-ghost use Rattle.wasi_host.specs.Host.{fault_outcome};
+ghost use Rattle.wasi_records.specs.Stops.{fault_outcome};
 ghost use Rattle.wasi_host.specs.Kinds.{without_handle};
 ghost use Rattle.wasi_host.specs.Machine.{drop_asks, drop_kind};
-ghost use Rattle.wasi_host.specs.Sides.{KnowsSides};
+ghost use Rattle.wasi_host.specs.KnownSides.{KnowsSides};
 ghost use Rattle.wasi_host.specs.Views.{SameView, state_of};
 
 use crate::handles;
 use crate::kind::Kind;
-use crate::records::tcp2_mut;
 use crate::store::{StandingCall, Store};
 use crate::view::WasiSocketsCtxView;
 use std::alloc::AllocError;
+use wasi_records::tcp2_mut;
 use wasi_streams::Fault;
 use wasi_world::{Answer, Handle, Ids, OpId, World};
 

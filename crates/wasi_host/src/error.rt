@@ -1,13 +1,10 @@
-//! How host calls end.
+//! How calls of streams end.
 
 use std::alloc::AllocError;
 use thiserror::Error;
-use wasi_addr::{ErrorCode, p2};
-use wasi_streams::{Fault, HostError};
+use wasi_addr::ErrorCode;
+use wasi_streams::Fault;
 use wasi_world::{Handle, TrapKind};
-
-/// The error of a 0.2 call (`SocketError` of the crate wasmtime-wasi).
-pub type SocketError = HostError<p2::ErrorCode>;
 
 /// Why a call of a stream gave no value: its last operation failed, with a handle of the new error; the stream is at its end
 /// or closed; a trap; or out of memory.
@@ -36,7 +33,7 @@ impl From<AllocError> for CallError {
 
 impl From<Fault> for CallError {
     ghost use Rattle.std.specs.Prelude.{◌≡◌};
-    ghost use Rattle.wasi_host.specs.Host.{call_fault};
+    ghost use Rattle.wasi_host.specs.CallStops.{call_fault};
 
     ghost from_gives = { λ fault error. error ≡ call_fault fault };
 

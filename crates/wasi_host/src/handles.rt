@@ -4,9 +4,9 @@
 ghost use Rattle.std.specs.Prelude.{◌≡◌, ℕ, IfErr, IfOk, IfSome, IsSome, Ok, OnErr, OnOk, false, true};
 ghost use Rattle.wasi_world.specs.Asks.{AsksFor};
 ghost use Rattle.wasi_table.specs.Table.{is_full, pushed};
-ghost use Rattle.wasi_host.specs.Host.{fault_outcome};
+ghost use Rattle.wasi_records.specs.Stops.{fault_outcome};
 ghost use Rattle.wasi_host.specs.Store.{Records};
-ghost use Rattle.wasi_host.specs.Sides.{KnowsSides};
+ghost use Rattle.wasi_host.specs.KnownSides.{KnowsSides};
 ghost use Rattle.wasi_host.specs.Kinds.{kind_at, place_of, udp_of, input_of, output_of, incoming_of, outgoing_of, stream_of, lookup_of, is_network, is_error, is_readable, is_writable, plain_input_of, plain_output_of, watched_by, watch_of, table_parent, make_asks, taken_out, with_handle, Names};
 
 use crate::kind::{Kind, PlainInput, PlainOutput, Watched};

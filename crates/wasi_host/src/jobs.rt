@@ -3,23 +3,24 @@
 ghost use Rattle.std.specs.Prelude.{◌≡◌, ◌++◌, ◌∷◌, [], List, false, IfOk};
 ghost use Rattle.wasi_world.specs.Asks.{AsksFor};
 ghost use Rattle.wasi_world.specs.Seen.{Seen};
-ghost use Rattle.wasi_host.specs.Records.{tcp2_at, open_at, lookup_at};
-ghost use Rattle.wasi_host.specs.NameLookup.{looks_on, turn_lookup_at};
+ghost use Rattle.wasi_records.specs.Records.{tcp2_at, open_at, lookup_at};
+ghost use Rattle.wasi_records.specs.NameLookup.{looks_on, turn_lookup_at};
 ghost use Rattle.wasi_jobs.specs.declared.job.HostJob.{HostJob};
 ghost use Rattle.wasi_jobs.specs.Jobs.{other_than_receive};
-ghost use Rattle.wasi_host.specs.Jobs.{turn_at, turn_datagram_at, turn_receive_at, sends_on, receives_on, turn_job, turn_jobs, turn_store_asks, jobs_with, has_job, is_going};
+ghost use Rattle.wasi_host.specs.Jobs.{turn_at, turn_datagram_at, turn_receive_at, sends_on, receives_on, turn_job, turn_jobs, turn_store_asks, jobs_with, is_going};
+ghost use Rattle.wasi_records.specs.Halves.{has_job};
 ghost use Rattle.wasi_host.specs.GivingBack.{given_back};
-ghost use Rattle.wasi_host.specs.Numbered.{item_at};
+ghost use Rattle.wasi_records.specs.Numbered.{item_at};
 ghost use Rattle.wasi_host.specs.Machine.{turn_machine_asks};
-ghost use Rattle.wasi_host.specs.Sides.{KnowsSides, MakesNone, held_by, held_in};
+ghost use Rattle.wasi_host.specs.KnownSides.{KnowsSides};
+ghost use Rattle.wasi_records.specs.Sides.{MakesNone, held_by, held_in};
 ghost use Rattle.wasi_host.specs.Views.{SameView, state_of};
 
-use crate::record_list::RecordList;
-use crate::records::{lookup_mut_in, open_udp_mut_in, tcp2_mut_in};
 use crate::store::Store;
 use crate::view::WasiSocketsCtxView;
 use std::alloc::AllocError;
 use wasi_jobs::{HostJob, JobList, Listed};
+use wasi_records::{RecordList, lookup_mut_in, open_udp_mut_in, tcp2_mut_in};
 use wasi_world::World;
 
 /// Polls the write of the socket of this number once, where one is in progress. Returns whether one is then.

@@ -3,13 +3,12 @@
 ghost use Rattle.std.specs.Prelude.{◌≡◌, ◌≤◌, false, IfOk};
 ghost use Rattle.wasi_world.specs.Asks.{AsksFor};
 ghost use Rattle.wasi_common.specs.Options.{largest_value, option_of, number_of};
-ghost use Rattle.wasi_host.specs.Records.{tcp2_at};
-ghost use Rattle.wasi_host.specs.Host.{host_outcome};
-ghost use Rattle.wasi_host.specs.Sides.{KnowsSides};
+ghost use Rattle.wasi_records.specs.Records.{tcp2_at};
+ghost use Rattle.wasi_records.specs.Stops.{host_outcome};
+ghost use Rattle.wasi_host.specs.KnownSides.{KnowsSides};
 
-use crate::error::SocketError;
-use crate::records::{tcp2, tcp2_mut};
 use crate::store::Store;
+use wasi_records::{SocketError, tcp2, tcp2_mut};
 use wasi_tcp::Setting;
 use wasi_world::{OpId, Opt, TrapKind, World};
 

@@ -2,10 +2,10 @@
 
 ghost use Rattle.std.specs.Prelude.{◌≡◌, IfNone, IsSome, false};
 ghost use Rattle.wasi_world.specs.Asks.{AsksFor};
-ghost use Rattle.wasi_host.specs.Records.{tcp2_at};
-ghost use Rattle.wasi_host.specs.Host.{host_outcome};
+ghost use Rattle.wasi_records.specs.Records.{tcp2_at};
+ghost use Rattle.wasi_records.specs.Stops.{host_outcome};
 ghost use Rattle.wasi_host.specs.Pending.{outcome_of, handle_outcome, pair_outcome, places_outcome, rebind_at, relisten_at, stop_told, blocked_told, nothing_given, unblock_asks, go_on, resume_asks};
-ghost use Rattle.wasi_host.specs.Sides.{KnowsSides};
+ghost use Rattle.wasi_host.specs.KnownSides.{KnowsSides};
 ghost use Rattle.wasi_host.specs.Standing.{call_of, unstood};
 ghost use Rattle.wasi_host.specs.Views.{SameView, state_of};
 
@@ -13,13 +13,13 @@ use crate::blocking::{
     BlockingCall, MOST_ROUNDS, blocking_flush, blocking_read, blocking_skip, blocking_splice,
     last_check, write_rounds,
 };
-use crate::error::{CallError, SocketError};
+use crate::error::CallError;
 use crate::polling::{Look, block_by, poll_by};
-use crate::records::tcp2_mut;
 use crate::store::{Standing, StandingCall, Store};
 use crate::view::WasiSocketsCtxView;
 use std::alloc::Global;
 use wasi_addr::ErrorCode;
+use wasi_records::{SocketError, tcp2_mut};
 use wasi_world::{Answer, Handle, Ids, NumberList, Octets, TrapKind, World};
 
 /// What a resumed call answers: what it gives, and of a call of a stream also why it gives nothing.

@@ -2,21 +2,48 @@
 
 ghost use Rattle.std.specs.Prelude.{◌≡◌, ◌+◌, ◌<◌, ◌^◌, false, IfOk};
 ghost use Rattle.wasi_world.specs.Asks.{AsksFor};
-ghost use Rattle.wasi_host.specs.Records.{tcp2_at};
-ghost use Rattle.wasi_host.specs.Listening.{TakesOne};
-ghost use Rattle.wasi_host.specs.Host.{fault_outcome};
+ghost use Rattle.wasi_records.specs.Records.{tcp2_at};
+ghost use Rattle.wasi_records.specs.Listening.{TakesOne};
+ghost use Rattle.wasi_records.specs.Stops.{fault_outcome};
 ghost use Rattle.wasi_host.specs.Machine.{own_of, subscribe_asks, ready_asks, ids_after_ready, watches_incoming, watched_side};
-ghost use Rattle.wasi_host.specs.Readiness.{ready_at, ready_ids_at};
-ghost use Rattle.wasi_host.specs.Sides.{KnowsSides};
+ghost use Rattle.wasi_host.specs.Readiness.{ready_at, ready_ids_at, ready_record, ready_ids};
+ghost use Rattle.wasi_records.specs.Sides.{Balances};
+ghost use Rattle.wasi_host.specs.KnownSides.{KnowsSides};
 ghost use Rattle.wasi_host.specs.Views.{SameView, state_of};
 
 use crate::handles;
 use crate::kind::{Kind, Watched};
-use crate::records::tcp2_mut;
 use crate::store::Store;
 use crate::view::WasiSocketsCtxView;
+use wasi_records::{Tcp2Socket, tcp2_mut};
 use wasi_streams::{Fault, TrapKind};
 use wasi_world::{Handle, Ids, Sock, World};
+
+/// One look at what is watched of a TCP socket.
+fn poll_ready<W: World>(
+    record: &mut Tcp2Socket,
+    world: &mut W,
+    ids: &mut Ids,
+    watched: Watched,
+) -> Result<bool, Fault>
+    requires open { (W.seen world.old).ended ≡ false }
+    requires names { ids.old.next_part + 1 < 2 ^ 64 }
+    ensures asked { AsksFor (ready_record (own_of ids.old.line) ids.old watched record.old) (W.seen world.old) (W.seen world.new) (λ ready. (ready, record.new)) (fault_outcome result) }
+    ensures ids { ids.new ≡ ready_ids ids.old watched record.old }
+    ensures sides { Balances (W.seen world.old) (W.seen world.new) 0 record.old record.new }
+    ensures open { (W.seen world.new).ended ≡ false }
+{
+    match watched {
+        Watched::Socket(_) => record.socket_ready(world, ids),
+        Watched::Input(_) => record.input_ready(world, ids.own()),
+        Watched::Output(_) => record.output_ready(world, ids.own()),
+        Watched::Udp(_)
+        | Watched::Incoming(_)
+        | Watched::Outgoing(_)
+        | Watched::Lookup(_)
+        | Watched::Plain => { Err(Fault::Trap(TrapKind::NoSuchHandle)) }
+    }
+}
 
 impl Store {
     /// The network socket of what is watched.
@@ -52,7 +79,7 @@ impl Store {
         let Some(record) = tcp2_mut(&mut self.records, place) else {
             return Err(Fault::Trap(TrapKind::NoSuchHandle));
         };
-        record.poll_ready(world, ids, watched)
+        poll_ready(record, world, ids, watched)
     }
 }
 

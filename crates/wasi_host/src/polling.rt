@@ -4,28 +4,24 @@
 ghost use Rattle.std.specs.Prelude.{◌≡◌, ◌+◌, ◌<◌, ◌^◌, false, true, length, IfOk, OnOk, OnErr, [], ◌∷◌, ◌++◌};
 ghost use Rattle.wasi_world.specs.Asks.{AsksFor};
 ghost use Rattle.wasi_world.specs.Seen.{Seen};
-ghost use Rattle.wasi_host.specs.Host.{fault_outcome};
+ghost use Rattle.wasi_records.specs.Stops.{fault_outcome};
 ghost use Rattle.wasi_host.specs.Kinds.{kind_at, watch_of};
-ghost use Rattle.wasi_host.specs.Listening.{TakesOne};
-ghost use Rattle.wasi_host.specs.Polling.{begins_accept, socket_begins, has_none, begins_receive, begins_on, look_at_pollable, ids_after_look, found_of, is_ready, look_each, ready_places, poll_by, pollables_in, poll_asks, block_by, blocked_answer, blocked_store};
-ghost use Rattle.wasi_host.specs.Records.{tcp2_at, open_at};
-ghost use Rattle.wasi_host.specs.Sides.{KnowsSides};
+ghost use Rattle.wasi_records.specs.Listening.{TakesOne};
+ghost use Rattle.wasi_host.specs.Polling.{begins_on, look_at_pollable, ids_after_look, found_of, is_ready, look_each, ready_places, poll_by, pollables_in, poll_asks, block_by, blocked_answer, blocked_store};
+ghost use Rattle.wasi_records.specs.Records.{tcp2_at, open_at};
+ghost use Rattle.wasi_host.specs.KnownSides.{KnowsSides};
 ghost use Rattle.wasi_host.specs.Views.{SameView, state_of};
 
 use crate::blocking::BlockingCall;
-use crate::datagrams::Receiving;
 use crate::handles;
 use crate::kind::{Kind, Watched};
-use crate::listening::Listening;
 use crate::pollables::ready;
-use crate::records::{open_udp, tcp2};
-use crate::socket::Tcp2Socket;
 use crate::store::Store;
-use crate::udp::OpenUdp;
 use crate::view::WasiSocketsCtxView;
 use std::alloc::{AllocError, Global};
 use std::collections::BTreeMap;
 use std::marker::Model;
+use wasi_records::{open_udp, tcp2};
 use wasi_streams::{Fault, TrapKind};
 use wasi_table::Table;
 use wasi_world::{Answer, Handle, Ids, NumberList, World};
@@ -111,35 +107,6 @@ impl Found {
             }
         }
         Ok(NumberList::from_vec(places))
-    }
-}
-
-impl Tcp2Socket {
-    /// Whether a look at it would begin an accept: it is a listener in the middle of nothing, and no accept was begun.
-    fn would_accept(&self) -> bool
-        ensures { result ≡ socket_begins self.now }
-    {
-        if !self.in_progress.is_nothing() {
-            return false;
-        }
-        match &self.listening {
-            Listening::Accepts(listener) => !listener.has_accept(),
-            Listening::Not => false,
-            Listening::Begins(_) => false,
-            Listening::Unclosed(_) => false,
-        }
-    }
-}
-
-impl OpenUdp {
-    /// Whether a look at its incoming stream would begin a receive.
-    fn would_receive(&self) -> bool
-        ensures { result ≡ begins_receive self.now.incoming }
-    {
-        match &self.incoming {
-            Some(incoming) => matches!(incoming.receiving, Receiving::Nothing),
-            None => false,
-        }
     }
 }
 

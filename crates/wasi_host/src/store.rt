@@ -3,30 +3,27 @@
 ghost use Rattle.std.specs.Prelude.{◌≡◌, true, is_some, false, IfOk, Ok, OnErr, length};
 ghost use Rattle.wasi_world.specs.Asks.{AsksFor};
 ghost use Rattle.wasi_world.specs.Seen.{Seen};
-ghost use Rattle.wasi_host.specs.Records.{tcp2_at};
-ghost use Rattle.wasi_host.specs.Host.{host_outcome};
+ghost use Rattle.wasi_records.specs.Records.{tcp2_at};
+ghost use Rattle.wasi_records.specs.Stops.{host_outcome};
 ghost use Rattle.wasi_host.specs.Jobs.{write_at};
 ghost use Rattle.wasi_host.specs.Standing.{exclusive_of, stands_as, stood};
-ghost use Rattle.wasi_host.specs.Shutdowns.{shutdown_at};
-ghost use Rattle.wasi_host.specs.Store.{no_records, start_connect_at, finish_connect_at, local_address_at, remote_address_at, is_listening_at, address_family_at, reader_asks, writer_asks, flush_asks, stream_at, with_record};
+ghost use Rattle.wasi_host.specs.Store.{no_records, stream_at, with_record};
+ghost use Rattle.wasi_records.specs.Halves.{reader_asks, writer_asks, flush_asks};
 ghost use Rattle.wasi_streams.specs.StreamStop.{stream_outcome};
 ghost use Rattle.wasi_tcp.specs.Reader.{read_state_asks};
 ghost use Rattle.wasi_tcp.specs.Writer.{check_write_asks, write_state_asks};
 
-use crate::binding::AsyncOperation;
 use crate::blocking::BlockingCall;
-use crate::closing::close_sides;
-use crate::error::SocketError;
 use crate::handles;
 use crate::jobs::keep_job;
 use crate::kind::Kind;
-use crate::record_list::RecordList;
-use crate::records::{Record, tcp2, tcp2_mut, tcp2_mut_in};
-use crate::socket::Tcp2Socket;
 use std::alloc::{AllocError, Global};
 use std::marker::Model;
-use wasi_addr::{IpSocketAddress, ShutdownType, SocketAddressFamily, p2};
+use wasi_addr::SocketAddressFamily;
 use wasi_jobs::{HostJob, JobList};
+use wasi_records::{
+    Record, RecordList, SocketError, Tcp2Socket, close_sides, tcp2, tcp2_mut, tcp2_mut_in,
+};
 use wasi_streams::StreamError;
 use wasi_table::Table;
 use wasi_tcp::TcpSocket;
@@ -82,8 +79,9 @@ impl Model for Store {
 
 impl Store {
     ghost use Rattle.wasi_host.specs.Machine.{create_asks, side_at};
-    ghost use Rattle.wasi_host.specs.Closing.{ClosesSides};
-    ghost use Rattle.wasi_host.specs.Sides.{KnowsSides, held_in};
+    ghost use Rattle.wasi_records.specs.Closing.{ClosesSides};
+    ghost use Rattle.wasi_host.specs.KnownSides.{KnowsSides};
+    ghost use Rattle.wasi_records.specs.Sides.{held_in};
 
     pub fn new(alloc: Global) -> Store
         ensures { result ≡ no_records }
@@ -118,108 +116,6 @@ impl Store {
             .push_reserved(Record::Tcp2(Tcp2Socket::new(socket)));
         let handle = handles::make(table, world, own, Kind::Tcp2(place), None, side)?;
         Ok(handle)
-    }
-
-    /// Begins a connect of the socket of this number. An operation in progress: `ConcurrencyConflict`.
-    pub fn start_connect<W: World>(
-        &mut self,
-        world: &mut W,
-        op: OpId,
-        place: usize,
-        addr: IpSocketAddress,
-    ) -> Result<(), SocketError>
-        requires { (W.seen world.old).ended ≡ false }
-        ensures asked { AsksFor (start_connect_at self.old op place addr (tcp2_at self.old.records place)) (W.seen world.old) (W.seen world.new) (λ done. (done, self.new)) (host_outcome result) }
-        ensures sides { KnowsSides (W.seen world.old) self.old → KnowsSides (W.seen world.new) self.new }
-        ensures open { (W.seen world.new).ended ≡ false }
-    {
-        let Some(record) = tcp2_mut(&mut self.records, place) else {
-            return Err(SocketError::Trap(TrapKind::NoSuchHandle));
-        };
-        if !record.in_progress.is_nothing() {
-            return Err(SocketError::Code(p2::ErrorCode::ConcurrencyConflict));
-        }
-        record.begin_connect(world, op, addr)?;
-        Ok(())
-    }
-
-    /// Polls the connect in progress. None is: `NotInProgress`. It is pending: `WouldBlock`. Once it has ended, either
-    /// way, it is in progress no more.
-    pub fn finish_connect<W: World>(
-        &mut self,
-        world: &mut W,
-        place: usize,
-    ) -> Result<(), SocketError>
-        requires { (W.seen world.old).ended ≡ false }
-        ensures asked { AsksFor (finish_connect_at self.old place (tcp2_at self.old.records place)) (W.seen world.old) (W.seen world.new) (λ done. (done, self.new)) (host_outcome result) }
-        ensures sides { KnowsSides (W.seen world.old) self.old → KnowsSides (W.seen world.new) self.new }
-        ensures open { (W.seen world.new).ended ≡ false }
-    {
-        let Some(record) = tcp2_mut(&mut self.records, place) else {
-            return Err(SocketError::Trap(TrapKind::NoSuchHandle));
-        };
-        if !record.in_progress.is_started(AsyncOperation::Connect) {
-            return Err(SocketError::Code(p2::ErrorCode::NotInProgress));
-        }
-        record.poll_connect(world)
-    }
-
-    /// The local address of the socket of this number.
-    pub fn local_address<W: World>(
-        &mut self,
-        world: &mut W,
-        op: OpId,
-        place: usize,
-    ) -> Result<IpSocketAddress, SocketError>
-        requires { (W.seen world.old).ended ≡ false }
-        ensures asked { AsksFor (local_address_at self.old op place (tcp2_at self.old.records place)) (W.seen world.old) (W.seen world.new) (λ told. (told, self.new)) (host_outcome result) }
-        ensures sides { KnowsSides (W.seen world.old) self.old → KnowsSides (W.seen world.new) self.new }
-        ensures open { (W.seen world.new).ended ≡ false }
-    {
-        let Some(record) = tcp2_mut(&mut self.records, place) else {
-            return Err(SocketError::Trap(TrapKind::NoSuchHandle));
-        };
-        let addr = record.local_address(world, op)?;
-        Ok(addr)
-    }
-
-    /// The remote address of the socket of this number.
-    pub fn remote_address<W: World>(
-        &mut self,
-        world: &mut W,
-        op: OpId,
-        place: usize,
-    ) -> Result<IpSocketAddress, SocketError>
-        requires { (W.seen world.old).ended ≡ false }
-        ensures asked { AsksFor (remote_address_at self.old op place (tcp2_at self.old.records place)) (W.seen world.old) (W.seen world.new) (λ told. (told, self.new)) (host_outcome result) }
-        ensures sides { KnowsSides (W.seen world.old) self.old → KnowsSides (W.seen world.new) self.new }
-        ensures open { (W.seen world.new).ended ≡ false }
-    {
-        let Some(record) = tcp2_mut(&mut self.records, place) else {
-            return Err(SocketError::Trap(TrapKind::NoSuchHandle));
-        };
-        let addr = record.remote_address(world, op)?;
-        Ok(addr)
-    }
-
-    /// Whether the socket of this number is listening.
-    pub fn is_listening(&self, place: usize) -> Result<bool, SocketError>
-        ensures { host_outcome result ≡ Ok (is_listening_at (tcp2_at self.now.records place)) }
-    {
-        match tcp2(&self.records, place) {
-            Some(record) => Ok(record.inner.is_listening()),
-            None => Err(SocketError::Trap(TrapKind::NoSuchHandle)),
-        }
-    }
-
-    /// The family of the socket of this number.
-    pub fn address_family(&self, place: usize) -> Result<SocketAddressFamily, SocketError>
-        ensures { host_outcome result ≡ Ok (address_family_at (tcp2_at self.now.records place)) }
-    {
-        match tcp2(&self.records, place) {
-            Some(record) => Ok(record.inner.address_family()),
-            None => Err(SocketError::Trap(TrapKind::NoSuchHandle)),
-        }
     }
 
     /// The network socket that the socket of this number was made with, where there is one.
@@ -302,25 +198,6 @@ impl Store {
             return Err(StreamError::Trap(TrapKind::NoSuchHandle));
         };
         record.flush(world)
-    }
-
-    /// Releases one half of the connection of the socket of this number, or both.
-    pub fn shutdown<W: World>(
-        &mut self,
-        world: &mut W,
-        op: OpId,
-        place: usize,
-        how: ShutdownType,
-    ) -> Result<(), SocketError>
-        requires { (W.seen world.old).ended ≡ false }
-        ensures asked { AsksFor (shutdown_at self.old op how place (tcp2_at self.old.records place)) (W.seen world.old) (W.seen world.new) (λ done. (done, self.new)) (host_outcome result) }
-        ensures sides { KnowsSides (W.seen world.old) self.old → KnowsSides (W.seen world.new) self.new }
-        ensures open { (W.seen world.new).ended ≡ false }
-    {
-        let Some(record) = tcp2_mut(&mut self.records, place) else {
-            return Err(SocketError::Trap(TrapKind::NoSuchHandle));
-        };
-        record.shutdown(world, op, how)
     }
 
     /// Closes the network sockets that the records hold, after the end mark; takes no memory.

@@ -4,21 +4,22 @@ ghost use Rattle.std.specs.Prelude.{◌≡◌, ◌≤◌, false, IfOk, Ok, Some}
 ghost use Rattle.wasi_world.specs.Asks.{AsksFor};
 ghost use Rattle.wasi_world.specs.Seen.{Seen};
 ghost use Rattle.wasi_common.specs.Options.{largest_value, option_of, number_of};
-ghost use Rattle.wasi_host.specs.Host.{host_outcome};
-ghost use Rattle.wasi_host.specs.Records.{open_at, udp2_at};
-ghost use Rattle.wasi_host.specs.Sides.{KnowsSides};
+ghost use Rattle.wasi_records.specs.Stops.{host_outcome};
+ghost use Rattle.wasi_records.specs.Records.{open_at, udp2_at};
+ghost use Rattle.wasi_host.specs.KnownSides.{KnowsSides};
 ghost use Rattle.wasi_host.specs.UdpCalls.{start_udp_bind_at, rebind_udp_at, finish_udp_bind_at, udp_local_at, udp_remote_at, udp_family_at, get_udp_option_at, set_udp_option_at, release_udp_at, udp_left};
 ghost use Rattle.wasi_host.specs.UdpCreates.{create_udp_asks, create_on, mark_udp, poll_create_at, udp_side_at};
 
-use crate::error::SocketError;
 use crate::handles;
 use crate::kind::Kind;
-use crate::records::{Record, open_udp, open_udp_mut, udp2, udp2_mut};
 use crate::store::{Standing, StandingCall, Store};
-use crate::udp::{PendingCreate, Udp2Socket, UdpInProgress};
 use std::alloc::AllocError;
 use wasi_addr::{IpSocketAddress, SocketAddressFamily, p2};
 use wasi_common::Setting;
+use wasi_records::{
+    PendingCreate, Record, SocketError, Udp2Socket, UdpInProgress, open_udp, open_udp_mut, udp2,
+    udp2_mut,
+};
 use wasi_table::Table;
 use wasi_udp::UdpSocket;
 use wasi_world::{Answer, Handle, Ids, OpId, Opt, Sock, TrapKind, WasiSocketsCtx, World};

@@ -11,16 +11,16 @@ use Rattle.wasi_tcp.specs.Writer.{writer_side}
 use Rattle.wasi_host.specs.declared.blocking.BlockingCall.{BlockingCall}
 use Rattle.wasi_host.specs.declared.blocking.BlockingCall.TheVariants.{Write, Splice}
 use Rattle.wasi_host.specs.declared.machine.Machine.{Machine}
-use Rattle.wasi_host.specs.declared.socket.Streams.{Streams}
-use Rattle.wasi_host.specs.declared.socket.Tcp2Socket.{Tcp2Socket}
+use Rattle.wasi_records.specs.declared.socket.Streams.{Streams}
+use Rattle.wasi_records.specs.declared.socket.Tcp2Socket.{Tcp2Socket}
 use Rattle.wasi_host.specs.declared.store.Standing.{Standing}
 use Rattle.wasi_host.specs.declared.store.StandingCall.{StandingCall}
 use Rattle.wasi_host.specs.declared.store.StandingCall.TheVariants.{Blocking}
 use Rattle.wasi_host.specs.Blocking.{look_asks}
-use Rattle.wasi_host.specs.Host.{CallStop}
+use Rattle.wasi_host.specs.CallStops.{CallStop}
 use Rattle.wasi_host.specs.Kinds.{kind_at, is_readable, is_writable}
 use Rattle.wasi_host.specs.Machine.{output_at}
-use Rattle.wasi_host.specs.Names.{own_of}
+use Rattle.wasi_records.specs.Names.{own_of}
 use Rattle.wasi_host.specs.Standing.{unstood}
 use Rattle.wasi_host.specs.StreamCalls.{read_asks, check_asks, write_asks}
 use Rattle.wasi_walks.specs.Answered.{record_in}

@@ -15,7 +15,8 @@ use Rattle.wasi_host.specs.declared.pending.Outcome.{Outcome}
 use Rattle.wasi_host.specs.declared.pending.Outcome.TheVariants.{Nothing, One, Two, Count, Bytes, Places}
 use Rattle.wasi_host.specs.declared.pending.Outcome.TheVariants as outcome
 use Rattle.wasi_host.specs.declared.store.Standing.{Standing}
-use Rattle.wasi_host.specs.Host.{Stop, Code, Trap, CallStop, Failed, Closed, Traps}
+use Rattle.wasi_records.specs.Stops.{Stop, Code, Trap}
+use Rattle.wasi_host.specs.CallStops.{CallStop, Failed, Closed, Traps}
 use Rattle.wasi_host.specs.Machine.{first_state, own_of, socket_at, udp_socket_at, incoming_at, outgoing_at, lookup_number, create_asks, subscribe_asks, ready_asks, drop_asks, turn_machine_asks}
 use Rattle.wasi_host.specs.declared.kind.Kind.TheVariants.{PlainInput, PlainOutput}
 use Rattle.wasi_host.specs.declared.kind.PlainInput.TheVariants as plain_input
@@ -24,8 +25,8 @@ use Rattle.wasi_host.specs.PlainStreams.{input_pipe_asks, output_pipe_asks, plai
 use Rattle.wasi_host.specs.StreamCalls.{read_asks, skip_asks, check_asks, write_asks, write_zeroes_asks, flushed_asks, splice_asks}
 use Rattle.wasi_host.specs.Blocking.{blocking_read_asks, blocking_skip_asks, blocking_write_asks, blocking_zeroes_asks, blocking_flush_asks, blocking_splice_asks}
 use Rattle.wasi_host.specs.Cancel.{cancel_asks}
-pub use Rattle.wasi_host.specs.Names.{first_ids}
-use Rattle.wasi_host.specs.InProgress.{is_bind, is_listen}
+pub use Rattle.wasi_records.specs.Names.{first_ids}
+use Rattle.wasi_records.specs.InProgress.{is_bind, is_listen}
 use Rattle.wasi_host.specs.Pending.{resume_asks}
 use Rattle.wasi_host.specs.Polling.{block_by, poll_asks}
 use Rattle.wasi_host.specs.declared.polling.Look.TheVariants.{First}

@@ -1,7 +1,8 @@
 //! The replies of calls.
 
 ghost use Rattle.std.specs.Prelude.{◌≡◌, IfOk, IsOkAnd};
-ghost use Rattle.wasi_host.specs.Host.{Failed, host_outcome, call_outcome, IsStop, IsCallStop};
+ghost use Rattle.wasi_host.specs.CallStops.{Failed, call_outcome, IsCallStop};
+ghost use Rattle.wasi_records.specs.Stops.{host_outcome, IsStop};
 ghost use Rattle.wasi_machine.specs.Machine.{reply_of, stream_reply_of, answer_reply_of, blocked_reply_of, cancelled_reply, stop_reply, call_stop_reply, outcome_reply, resumed_reply};
 
 use std::alloc::{AllocError, Global};

@@ -4,9 +4,9 @@
 ghost use Rattle.std.specs.Prelude.{◌≡◌, Ok, false};
 ghost use Rattle.wasi_world.specs.Asks.{AsksFor};
 ghost use Rattle.wasi_world.specs.Seen.{Seen};
-ghost use Rattle.wasi_host.specs.Host.{host_outcome};
+ghost use Rattle.wasi_records.specs.Stops.{host_outcome};
 ghost use Rattle.wasi_host.specs.Machine.{own_of, lookup_number};
-ghost use Rattle.wasi_host.specs.Sides.{KnowsSides};
+ghost use Rattle.wasi_host.specs.KnownSides.{KnowsSides};
 ghost use Rattle.wasi_host.specs.Views.{SameView, state_of};
 ghost use Rattle.wasi_p2.specs.Lookup.{resolve_asks, resolved_host, next_address_on};
 

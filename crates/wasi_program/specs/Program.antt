@@ -20,7 +20,7 @@ use Rattle.wasi_program.specs.declared.program.Status.TheVariants as status
 use Rattle.wasi_pump.specs.declared.error.PumpError.{PumpError}
 use Rattle.wasi_pump.specs.declared.error.PumpError.TheVariants as pump
 use Rattle.wasi_pump.specs.Pumped.{PumpEnds}
-use Rattle.wasi_host.specs.Closing.{HasClosedAll}
+use Rattle.wasi_records.specs.Closing.{HasClosedAll}
 use Rattle.wasi_run.specs.Headline.{RunsLicensed}
 use Rattle.wasi_run.specs.Counted.{CountsRun, summary}
 use Rattle.wasi_run.specs.Written.{TookAll, TookFront}

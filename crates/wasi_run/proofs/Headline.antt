@@ -1,12 +1,13 @@
 -- What a script's record says of the run of its lines, and of the closings after it.
 use Rattle.wasi_run.proofs.Words.{◌∙◌, refl, ap, sym, append-nil, ℕ, List, [], ◌∷◌, ◌++◌, ◌+◌, length, Some, Result, Ok, Err, false, ◌≡◌, OnOk, Entry, WasiSocketsCtx, Seen, Reading, Writing, Machine, HasRun, Step, RunError, Memory, LinesEnd, Met, Beyond, first_state, IsFresh, HasClosedAll, stays_open}
 use Rattle.wasi_run.specs.declared.run.RunEnd.{RunEnd}
-use Rattle.wasi_host.specs.Sides.{KnowsSides, ClosesAll}
+use Rattle.wasi_host.specs.KnownSides.{KnowsSides}
+use Rattle.wasi_records.specs.Sides.{ClosesAll}
 use Rattle.wasi_run.specs.Script.{RanOver, RanScript}
 use Rattle.wasi_run.specs.Causes.{BeginsRun, DoneLines}
 use Rattle.wasi_run.specs.Headline.{RunsLicensed}
 use Rattle.wasi_walks.proofs.licence.Runs as licence
-use Rattle.wasi_host.proofs.Closings.{empty_known}
+use Rattle.wasi_records.proofs.Closings.{empty_known}
 use Rattle.wasi_run.proofs.CauseLaws.{whole_by}
 
 -- at every return what was asked is a prefix of the run of the lines done and the one met

@@ -12,7 +12,7 @@ pub use Rattle.wasi_world.specs.Fields.{bytes_text, is_space}
 pub use Rattle.wasi_world.specs.Io.{CountRose, Gave, GaveNone, GaveSome, HasEnded, Reading, SameCounts, Took, Writing}
 pub use Rattle.wasi_world.specs.Lines.{lines_from, lines_of, rest_from, rest_of}
 pub use Rattle.wasi_world.specs.Seen.{Rose, Seen}
-pub use Rattle.wasi_host.specs.Closing.{AsksNothing, HasClosedAll, IsFresh}
+pub use Rattle.wasi_records.specs.Closing.{AsksNothing, HasClosedAll, IsFresh}
 pub use Rattle.wasi_steps.specs.Steps.{IsStep, line_of, step_of}
 pub use Rattle.wasi_steps.specs.declared.step.Step.TheVariants.{CheckWrite, Drop, Network, TcpCreate, TcpFinishConnect, TcpShutdown, TcpStartConnect}
 pub use Rattle.wasi_steps.specs.declared.step.Step.TheVariants.{Write}

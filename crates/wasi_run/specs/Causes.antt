@@ -11,7 +11,7 @@ use Rattle.wasi_host.specs.Machine.{first_state}
 use Rattle.wasi_machine.specs.Machine.{run}
 use Rattle.wasi_world.specs.Lines.{lines_of, rest_of}
 use Rattle.wasi_run.specs.Lines.{after_lines, StartWith, BadAfter}
-use Rattle.wasi_host.specs.Closing.{AsksNothing}
+use Rattle.wasi_records.specs.Closing.{AsksNothing}
 use Rattle.wasi_run.specs.Ran.{texts, NoTrap, OneTrap, CutLast, Met}
 
 -- What was asked is a prefix of the run of the first lines that the reader gave.

@@ -14,7 +14,7 @@ use Rattle.wasi_run.specs.declared.error.RunError.TheVariants.{Memory, BadStep, 
 use Rattle.wasi_steps.specs.Reply.{is_trap}
 use Rattle.wasi_steps.specs.Replies.{text_of}
 use Rattle.wasi_machine.specs.Machine.{machine_asks, run}
-use Rattle.wasi_host.specs.Sides.{KnowsSides}
+use Rattle.wasi_host.specs.KnownSides.{KnowsSides}
 use Rattle.wasi_run.specs.Lines.{StartWith, BadAfter}
 
 abbrev pub texts : List Reply → List ℕ

@@ -13,7 +13,7 @@ use Rattle.wasi_run.specs.declared.error.RunError.TheVariants.{Memory, BadStep, 
 use Rattle.wasi_host.specs.Machine.{first_state}
 use Rattle.wasi_world.specs.Lines.{lines_of, rest_of}
 use Rattle.wasi_run.specs.Lines.{after_lines, AllSteps}
-use Rattle.wasi_host.specs.Closing.{AsksNothing}
+use Rattle.wasi_records.specs.Closing.{AsksNothing}
 use Rattle.wasi_run.specs.Ran.{LinesRan}
 
 -- what it answers, and why, where the whole lines within the limit ended so

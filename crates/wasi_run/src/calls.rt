@@ -3,9 +3,9 @@
 ghost use Rattle.std.specs.Result.{result_map_both};
 ghost use Rattle.std.specs.Prelude.{◌≡◌, ◌&&◌, is_some, false};
 ghost use Rattle.wasi_world.specs.Asks.{AsksFor};
-ghost use Rattle.wasi_host.specs.Host.{fault_outcome, host_outcome};
+ghost use Rattle.wasi_records.specs.Stops.{fault_outcome, host_outcome};
 ghost use Rattle.wasi_host.specs.Machine.{own_of, socket_at, udp_socket_at};
-ghost use Rattle.wasi_host.specs.Sides.{KnowsSides};
+ghost use Rattle.wasi_host.specs.KnownSides.{KnowsSides};
 ghost use Rattle.wasi_host.specs.Views.{SameView, state_of};
 ghost use Rattle.wasi_machine.specs.Machine.{without_code, first_ids, machine_asks, set_chosen, is_guest_call, call_asks, context_at, context_for};
 ghost use Rattle.wasi_p2.specs.Udp.{set_udp_option_on};

@@ -3,7 +3,7 @@
 ghost use Rattle.std.specs.Prelude.{◌≡◌, ℕ, ◌<◌, ◌^◌, OnOk, length, false, true};
 ghost use Rattle.wasi_world.specs.Scenario.{AreNumbered};
 ghost use Rattle.wasi_host.specs.Machine.{first_state};
-ghost use Rattle.wasi_host.specs.Closing.{IsFresh, HasClosedAll};
+ghost use Rattle.wasi_records.specs.Closing.{IsFresh, HasClosedAll};
 ghost use Rattle.wasi_run.specs.Script.{RanOver, RanScript, Completes};
 ghost use Rattle.wasi_run.specs.Headline.{RunsLicensed};
 ghost use Rattle.wasi_run.specs.Causes.{BeginsRun, DoneLines, ReadsAll, StopsAtTrap, StopsAtBadStep, StopsTooLong, StopsAtReadFault, StopsAtWriteFault, StopsForMemory};

@@ -3,8 +3,9 @@
 ghost use Rattle.std.specs.Prelude.{◌≡◌, ◌+◌, ◌<◌, ◌^◌, false, true};
 ghost use Rattle.wasi_world.specs.Asks.{AsksFor};
 ghost use Rattle.wasi_host.specs.Machine.{first_state};
-ghost use Rattle.wasi_host.specs.Sides.{KnowsSides, ClosesAll};
-ghost use Rattle.wasi_host.specs.Closing.{AsksNothing};
+ghost use Rattle.wasi_host.specs.KnownSides.{KnowsSides};
+ghost use Rattle.wasi_records.specs.Sides.{ClosesAll};
+ghost use Rattle.wasi_records.specs.Closing.{AsksNothing};
 ghost use Rattle.wasi_machine.specs.Machine.{machine_asks};
 
 use crate::calls::do_step;

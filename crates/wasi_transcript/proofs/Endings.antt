@@ -4,10 +4,11 @@ use Rattle.wasi_world.specs.declared.outcome.WasiSocketsCtx.{WasiSocketsCtx}
 use Rattle.wasi_world.specs.Io.{Reading, Writing}
 use Rattle.wasi_world.specs.Seen.{Seen}
 use Rattle.wasi_host.specs.declared.machine.Machine.{Machine}
-use Rattle.wasi_host.specs.Closing.{AsksNothing, IsFresh, HasClosedAll}
+use Rattle.wasi_records.specs.Closing.{AsksNothing, IsFresh, HasClosedAll}
 use Rattle.wasi_host.specs.Machine.{first_state}
-use Rattle.wasi_host.specs.Sides.{KnowsSides, ClosesAll}
-use Rattle.wasi_host.proofs.Closings.{empty_known}
+use Rattle.wasi_host.specs.KnownSides.{KnowsSides}
+use Rattle.wasi_records.specs.Sides.{ClosesAll}
+use Rattle.wasi_records.proofs.Closings.{empty_known}
 use Rattle.wasi_run.specs.declared.run.RunEnd.{RunEnd}
 use Rattle.wasi_run.specs.declared.run.RunEnd.TheVariants as end
 use Rattle.wasi_run.specs.declared.error.RunError.{RunError}

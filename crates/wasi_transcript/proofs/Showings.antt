@@ -11,7 +11,7 @@ use Rattle.wasi_world.specs.Seen.{Seen}
 use Rattle.wasi_world.proofs.LinesOf.{count_lines}
 use Rattle.wasi_host.specs.declared.machine.Machine.{Machine}
 use Rattle.wasi_host.specs.Machine.{first_state}
-use Rattle.wasi_host.specs.Sides.{KnowsSides}
+use Rattle.wasi_host.specs.KnownSides.{KnowsSides}
 use Rattle.wasi_run.specs.declared.run.RunEnd.TheVariants as end
 use Rattle.wasi_run.specs.declared.error.RunError.{RunError}
 use Rattle.wasi_run.specs.declared.error.RunError.TheVariants.{Memory, BadStep, TooLong, ReadFault, WriteFault}

@@ -5,7 +5,7 @@ use Rattle.wasi_world.specs.Io.{Reading, Writing, Took}
 use Rattle.wasi_world.specs.Seen.{Seen}
 use Rattle.wasi_host.specs.declared.machine.Machine.{Machine}
 use Rattle.wasi_host.specs.Machine.{first_state}
-use Rattle.wasi_host.specs.Sides.{KnowsSides}
+use Rattle.wasi_host.specs.KnownSides.{KnowsSides}
 use Rattle.wasi_run.specs.declared.run.RunEnd.{RunEnd}
 use Rattle.wasi_run.specs.declared.error.RunError.{RunError}
 use Rattle.wasi_run.specs.declared.error.RunError.TheVariants.{Memory, WriteFault}

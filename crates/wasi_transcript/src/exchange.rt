@@ -2,7 +2,7 @@
 
 ghost use Rattle.std.specs.Prelude.{◌≡◌, ◌++◌, ◌+◌, ◌<◌, ◌^◌, IfOk, OnOk, string_bytes, length, true, false};
 ghost use Rattle.wasi_world.specs.Scripted.{seen_by};
-ghost use Rattle.wasi_host.specs.Sides.{KnowsSides};
+ghost use Rattle.wasi_host.specs.KnownSides.{KnowsSides};
 ghost use Rattle.wasi_transcript.specs.Transcript.{line_text, calls_text, answered_text, no_step_text};
 ghost use Rattle.wasi_transcript.specs.Done.{LineDone};
 

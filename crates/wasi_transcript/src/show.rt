@@ -4,7 +4,7 @@ ghost use Rattle.std.specs.Prelude.{◌≡◌, ◌++◌, ◌<◌, ◌^◌, IfOk,
 ghost use Rattle.wasi_world.specs.Script.{GoesByPlan};
 ghost use Rattle.wasi_world.specs.Scripted.{seen_by};
 ghost use Rattle.wasi_host.specs.Machine.{first_state};
-ghost use Rattle.wasi_host.specs.Closing.{IsFresh, HasClosedAll};
+ghost use Rattle.wasi_records.specs.Closing.{IsFresh, HasClosedAll};
 ghost use Rattle.wasi_run.specs.Written.{TookAll, TookFront};
 ghost use Rattle.wasi_transcript.specs.Shown.{stop_text, ending_text, IsShown};
 ghost use Rattle.wasi_transcript.specs.Showing.{LinesShown, IsHalt, ended};

@@ -1,8 +1,8 @@
 -- The records of which one was given back: what is there was there before, and of another number it still is.
 use Rattle.std.proofs.Common.{◌≡◌, ℕ, zero, suc, List, [], ◌∷◌, Option, Some, None, refl, slice_get}
-use Rattle.wasi_host.specs.declared.records.Record.{Record}
-use Rattle.wasi_host.specs.declared.records.Record.TheVariants.{Gone}
-use Rattle.wasi_host.specs.GivingBack.{record_gone}
+use Rattle.wasi_records.specs.declared.records.Record.{Record}
+use Rattle.wasi_records.specs.declared.records.Record.TheVariants.{Gone}
+use Rattle.wasi_records.specs.Numbered.{record_gone}
 
 -- by a reading of records by which one that is given back is nothing
 module _ {A : Type 0} (f : Option Record → Option A) (none : f (Some Gone) ≡ None) where

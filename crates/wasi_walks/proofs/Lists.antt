@@ -3,10 +3,10 @@ use Rattle.std.proofs.Common.{◌≡◌, ℕ, zero, suc, ◌+◌, ◌⊎◌, inl
 use Rattle.std.proofs.lemmas.Bool.{eqb-true}
 use Rattle.wasi_world.specs.declared.call.Entry.{Entry}
 use Rattle.wasi_table.specs.Table.{Live, value_at}
-use Rattle.wasi_host.specs.declared.records.Record.{Record}
-use Rattle.wasi_host.specs.declared.records.Record.TheVariants.{Tcp2, Udp2, Lookup, InputPipe, OutputPipe, Gone}
-use Rattle.wasi_host.specs.declared.socket.Tcp2Socket.{Tcp2Socket}
-use Rattle.wasi_host.specs.Records.{tcp2_at, tcp2_put, tcp2_pushed}
+use Rattle.wasi_records.specs.declared.records.Record.{Record}
+use Rattle.wasi_records.specs.declared.records.Record.TheVariants.{Tcp2, Udp2, Lookup, InputPipe, OutputPipe, Gone}
+use Rattle.wasi_records.specs.declared.socket.Tcp2Socket.{Tcp2Socket}
+use Rattle.wasi_records.specs.Records.{tcp2_at, tcp2_put, tcp2_pushed}
 use Rattle.wasi_walks.specs.Licence.{Has, marked_by, marks_in}
 
 -- == entries

@@ -2,11 +2,11 @@
 use Rattle.std.proofs.Common.{◌≡◌, ℕ, zero, suc, ◌⊎◌, inl, inr, List, [], ◌∷◌, ◌++◌, Option, Some, None, Bool, true, false, length, refl, ap, sym, slice_get, slice_set, ◌∙◌}
 use Rattle.std.specs.Prelude.{is_some, ⊤}
 use Rattle.wasi_memory.specs.Plain.{Contents}
-use Rattle.wasi_host.specs.declared.records.Record.{Record}
-use Rattle.wasi_host.specs.declared.records.Record.TheVariants.{Lookup as LookupRecord, InputPipe, OutputPipe}
-use Rattle.wasi_host.specs.declared.name_lookup.Lookup.{Lookup}
-use Rattle.wasi_host.specs.declared.name_lookup.LookupOp.{LookupOp}
-use Rattle.wasi_host.specs.Records.{tcp2_at, tcp2_of, udp2_at, udp2_of, lookup_at, lookup_of, lookup_put, lookup_pushed, input_pipe_of, input_pipe_at, input_pipe_put, output_pipe_of, output_pipe_at, output_pipe_put}
+use Rattle.wasi_records.specs.declared.records.Record.{Record}
+use Rattle.wasi_records.specs.declared.records.Record.TheVariants.{Lookup as LookupRecord, InputPipe, OutputPipe}
+use Rattle.wasi_records.specs.declared.name_lookup.Lookup.{Lookup}
+use Rattle.wasi_records.specs.declared.name_lookup.LookupOp.{LookupOp}
+use Rattle.wasi_records.specs.Records.{tcp2_at, tcp2_of, udp2_at, udp2_of, lookup_at, lookup_of, lookup_put, lookup_pushed, input_pipe_of, input_pipe_at, input_pipe_put, output_pipe_of, output_pipe_at, output_pipe_put}
 use Rattle.wasi_walks.proofs.walks.Moves.{SameSockets}
 
 -- == among any records

@@ -17,13 +17,13 @@ use Rattle.wasi_tcp.specs.declared.listener.Accepting.TheVariants as accepting
 use Rattle.wasi_tcp.specs.declared.socket.TcpState.TheVariants as state
 use Rattle.wasi_tcp.specs.Connecting.{with_state}
 use Rattle.wasi_tcp.specs.Listener.{Listener, with_accept, accepted_socket, accepted_state, HoldsAccept}
-use Rattle.wasi_host.specs.Records.{tcp2_pushed}
-use Rattle.wasi_host.specs.declared.listening.Listening.{Listening}
-use Rattle.wasi_host.specs.declared.listening.Listening.TheVariants as listening
+use Rattle.wasi_records.specs.Records.{tcp2_pushed}
+use Rattle.wasi_records.specs.declared.listening.Listening.{Listening}
+use Rattle.wasi_records.specs.declared.listening.Listening.TheVariants as listening
 use Rattle.wasi_host.specs.declared.machine.Machine.{Machine}
-use Rattle.wasi_host.specs.declared.socket.Tcp2Socket.{Tcp2Socket}
-use Rattle.wasi_host.specs.Listening.{with_listening, accepted_record}
-use Rattle.wasi_host.specs.InProgress.{is_listen}
+use Rattle.wasi_records.specs.declared.socket.Tcp2Socket.{Tcp2Socket}
+use Rattle.wasi_records.specs.Listening.{with_listening, accepted_record}
+use Rattle.wasi_records.specs.InProgress.{is_listen}
 use Rattle.wasi_steps.specs.declared.reply.CodeWord.{CodeWord}
 use Rattle.wasi_steps.specs.declared.reply.CodeWord.TheVariants as word
 use Rattle.wasi_walks.specs.Answered.{record_at, putting, word_of_code, EndsPending, StartRefusal, RefusedOf, IsBound, IsFoundUnbound, IsPastDefault, knowing_bound}

@@ -11,12 +11,12 @@ use Rattle.wasi_host.specs.declared.kind.PlainOutput.TheVariants as plain_output
 use Rattle.wasi_host.specs.declared.kind.Watched.{Watched}
 use Rattle.wasi_host.specs.declared.kind.Watched.TheVariants as watched
 use Rattle.wasi_host.specs.declared.machine.Machine.{Machine}
-use Rattle.wasi_host.specs.declared.socket.Tcp2Socket.{Tcp2Socket}
+use Rattle.wasi_records.specs.declared.socket.Tcp2Socket.{Tcp2Socket}
 use Rattle.wasi_host.specs.declared.store.StandingCall.{StandingCall}
 use Rattle.wasi_host.specs.declared.store.StandingCall.TheVariants as standing
 use Rattle.wasi_host.specs.Kinds.{kind_at, is_network, is_error, udp_of, watched_by, watch_of, place_in}
 use Rattle.wasi_host.specs.Machine.{lookup_number}
-use Rattle.wasi_host.specs.Records.{tcp2_at, udp2_at, open_at, input_pipe_at, output_pipe_at}
+use Rattle.wasi_records.specs.Records.{tcp2_at, udp2_at, open_at, input_pipe_at, output_pipe_at}
 use Rattle.wasi_host.specs.Standing.{call_of}
 use Rattle.wasi_host.specs.StreamCalls.{plain_input_at, plain_output_at}
 use Rattle.wasi_steps.specs.Steps.{Kind, HandleOf, ALine, ANetwork, ASocket, ADatagramSocket, AnInput, AnOutput, AnIncoming, AnOutgoing, ALookup, AnError, Watchable, APollable, Anything, SomePollables, Value, Values, signature}

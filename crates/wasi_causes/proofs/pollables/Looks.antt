@@ -7,18 +7,19 @@ use Rattle.wasi_tcp.specs.Reader.{reader_ready_asks}
 use Rattle.wasi_tcp.specs.Writer.{look_asks}
 use Rattle.wasi_jobs.specs.declared.job.HostJob.TheVariants.{Receive}
 use Rattle.wasi_host.specs.declared.kind.Watched.TheVariants as watched
-use Rattle.wasi_host.specs.declared.listening.Listening.TheVariants as listening
+use Rattle.wasi_records.specs.declared.listening.Listening.TheVariants as listening
 use Rattle.wasi_host.specs.declared.polling.Look.{Look}
 use Rattle.wasi_host.specs.declared.polling.Look.TheVariants.{First, Later}
-use Rattle.wasi_host.specs.declared.records.Record.{Record}
-use Rattle.wasi_host.specs.declared.udp.OpenUdp.{OpenUdp}
-use Rattle.wasi_host.specs.declared.udp.Udp2Socket.{Udp2Socket}
-use Rattle.wasi_host.specs.declared.udp.Udp2Socket.TheVariants.{Open}
+use Rattle.wasi_records.specs.declared.records.Record.{Record}
+use Rattle.wasi_records.specs.declared.udp.OpenUdp.{OpenUdp}
+use Rattle.wasi_records.specs.declared.udp.Udp2Socket.{Udp2Socket}
+use Rattle.wasi_records.specs.declared.udp.Udp2Socket.TheVariants.{Open}
 use Rattle.wasi_host.specs.DatagramCalls.{begins_receive, ready_incoming_at}
 use Rattle.wasi_host.specs.Polling.{begins_at, begins_on, look_at_pollable, look_later, tcp_begins, udp_begins}
-use Rattle.wasi_host.specs.Readiness.{ready_at, ready_idle, ready_listening, ready_put, ready_reader, ready_record, ready_socket, ready_socket_by, ready_writer}
-use Rattle.wasi_host.specs.Receiving.{look_incoming}
-use Rattle.wasi_host.specs.Records.{open_at, open_of, open_put, tcp2_at, tcp2_put, udp2_at}
+use Rattle.wasi_host.specs.Readiness.{ready_at, ready_put, ready_record}
+use Rattle.wasi_records.specs.Looks.{ready_idle, ready_listening, ready_reader, ready_socket, ready_socket_by, ready_writer}
+use Rattle.wasi_records.specs.Receiving.{look_incoming}
+use Rattle.wasi_records.specs.Records.{open_at, open_of, open_put, tcp2_at, tcp2_put, udp2_at}
 use Rattle.wasi_host.specs.UdpCalls.{with_open_udp}
 use Rattle.wasi_walks.proofs.UdpLists.{tcp_in_put, udp_in_put, udp_set_get}
 use Rattle.wasi_walks.proofs.walks.Udp.{open_is}

@@ -4,19 +4,22 @@ use Rattle.wasi_world.specs.declared.ids.Ids.{Ids}
 use Rattle.wasi_tcp.specs.Listener.{accept_asks, begun, has_accept}
 use Rattle.wasi_tcp.specs.declared.listener.Accepting.{Accepting}
 use Rattle.wasi_tcp.specs.declared.listener.Accepting.TheVariants as accepting
-use Rattle.wasi_host.specs.declared.datagrams.Incoming.{Incoming}
-use Rattle.wasi_host.specs.declared.datagrams.Receiving.{Receiving}
-use Rattle.wasi_host.specs.declared.datagrams.Receiving.TheVariants as receiving
+use Rattle.wasi_records.specs.declared.datagrams.Incoming.{Incoming}
+use Rattle.wasi_records.specs.declared.datagrams.Receiving.{Receiving}
+use Rattle.wasi_records.specs.declared.datagrams.Receiving.TheVariants as receiving
 use Rattle.wasi_host.specs.declared.kind.Watched.TheVariants as watched
-use Rattle.wasi_host.specs.declared.listening.Listening.TheVariants as listening
-use Rattle.wasi_host.specs.declared.udp.OpenUdp.{OpenUdp}
+use Rattle.wasi_records.specs.declared.listening.Listening.TheVariants as listening
+use Rattle.wasi_records.specs.declared.udp.OpenUdp.{OpenUdp}
 use Rattle.wasi_udp.specs.Shape.{Socket}
 use Rattle.wasi_host.specs.DatagramCalls.{incoming_looked, ready_incoming_at}
-use Rattle.wasi_host.specs.Names.{next_name}
-use Rattle.wasi_host.specs.Polling.{begins_accept, begins_at, begins_on, begins_receive, has_none, socket_begins, tcp_begins, udp_begins}
-use Rattle.wasi_host.specs.Readiness.{accept_looked, ready_at, ready_idle, ready_listening, ready_put, ready_socket_by}
-use Rattle.wasi_host.specs.Receiving.{fetch_asks, look_incoming, with_incoming}
-use Rattle.wasi_host.specs.Records.{open_at, tcp2_at}
+use Rattle.wasi_records.specs.Names.{next_name}
+use Rattle.wasi_records.specs.Looks.{begins_accept, socket_begins}
+use Rattle.wasi_records.specs.Receiving.{would_receive, has_none}
+use Rattle.wasi_host.specs.Polling.{begins_at, begins_on, tcp_begins, udp_begins}
+use Rattle.wasi_records.specs.Looks.{accept_looked, ready_idle, ready_listening, ready_socket_by}
+use Rattle.wasi_host.specs.Readiness.{ready_at, ready_put}
+use Rattle.wasi_records.specs.Receiving.{fetch_asks, look_incoming, with_incoming}
+use Rattle.wasi_records.specs.Records.{open_at, tcp2_at}
 use Rattle.wasi_host.specs.Store.{Records}
 
 module _ (ids : Ids) (part : ℕ) where
@@ -59,7 +62,7 @@ module _ (ids : Ids) (part : ℕ) where
   same_fetch receiving.Nothing o inc e = absurd (cc)
   same_fetch _ o inc e = refl
 
-  same_look : (o : OpenUdp) (inc : Option Incoming) → begins_receive inc ≡ false → look_incoming ids o inc ≡ look_incoming other o inc
+  same_look : (o : OpenUdp) (inc : Option Incoming) → would_receive inc ≡ false → look_incoming ids o inc ≡ look_incoming other o inc
   same_look o None e = refl
   same_look o (Some inc) e = ap (λ (t : Asks (Socket × Incoming)). bind t (λ s. Give (with_incoming o s))) (same_fetch inc.receiving o inc e)
 

@@ -1,7 +1,7 @@
 -- What each line leaves of the stream of a handle, and what its reply hands out on it.
 use Rattle.wasi_causes.proofs.Words.{Allows, Bool, Entry, List, Machine, None, Option, Some, Standing, Step, WasiSocketsCtx, [], false, first_state, if◌then◌else◌, length, machine_asks, nat_lt, refl, true, ℕ, ◌+◌, ◌∷◌, ◌≡◌}
 use Rattle.wasi_world.specs.declared.datagram.IncomingDatagram.{IncomingDatagram}
-use Rattle.wasi_host.specs.Records.{tcp2_at}
+use Rattle.wasi_records.specs.Records.{tcp2_at}
 use Rattle.wasi_steps.specs.declared.step.Step.TheVariants as step
 use Rattle.wasi_walks.proofs.Words.{allows_weaker}
 use Rattle.wasi_walks.proofs.claims.Law.{Base, begins_on_two, on_two, on_two_along}

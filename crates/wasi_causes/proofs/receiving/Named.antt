@@ -3,12 +3,12 @@
 use Rattle.wasi_causes.proofs.Words.{Done, End, Given, Item, List, None, OpId, Operation, Option, Refused, Some, Streams, Tcp2Socket, Waits, WriteState, ap, collected, inl, inr, refl, subst, sym, ℕ, ⊤, ◌∙◌, ◌≡◌, ◌⊎◌}
 use Rattle.wasi_walks.proofs.Words.{closed_by, written_by, ◌≤◌}
 use Rattle.wasi_world.specs.Operation as item
-use Rattle.wasi_host.specs.Receiving.{receive_left}
-use Rattle.wasi_host.specs.GivingBack.{record_gone}
-use Rattle.wasi_host.specs.Records.{tcp2_at, tcp2_of, tcp2_put, tcp2_pushed, udp2_at, udp2_of, udp2_put, udp2_pushed}
-use Rattle.wasi_host.specs.declared.name_lookup.LookupOp.{LookupOp}
-use Rattle.wasi_host.specs.declared.records.Record.{Record}
-use Rattle.wasi_host.specs.declared.udp.Udp2Socket.{Udp2Socket}
+use Rattle.wasi_records.specs.Receiving.{receive_left}
+use Rattle.wasi_records.specs.Numbered.{record_gone}
+use Rattle.wasi_records.specs.Records.{tcp2_at, tcp2_of, tcp2_put, tcp2_pushed, udp2_at, udp2_of, udp2_put, udp2_pushed}
+use Rattle.wasi_records.specs.declared.name_lookup.LookupOp.{LookupOp}
+use Rattle.wasi_records.specs.declared.records.Record.{Record}
+use Rattle.wasi_records.specs.declared.udp.Udp2Socket.{Udp2Socket}
 use Rattle.wasi_walks.proofs.GoneLists.{was_there}
 use Rattle.wasi_walks.proofs.Lists.{get_set, get_split}
 use Rattle.wasi_walks.proofs.UdpLists.{tcp_of_put, tcp_of_push, udp_get_set, udp_of_put, udp_of_push, udp_split}

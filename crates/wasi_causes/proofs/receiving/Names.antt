@@ -1,15 +1,15 @@
 -- The law that names of receives in progress are apart, from one another and from those of connects and writes.
 use Rattle.wasi_causes.proofs.Words.{Allows, Done, End, Entry, Err, ErrorCode, ErrorValue, Item, Job, List, None, Ok, OpId, Operation, Option, Refused, Result, Socket, Some, Step, Tcp2, Tcp2Socket, Waits, WasiSocketsCtx, WriteState, allows_then, ap, arith, created_asks, give_up_asks, inl, inr, job_asks, job_in, length, make_asks, new_asks, new_record, own_of, poll_asks, refl, side_at, side_of, subst, sym, told_done, turn_asks, with_listening, with_writer, ℕ, ⊤, ◌+◌, ◌∙◌, ◌≡◌}
 use Rattle.wasi_udp.specs.Create.{Create, after_create as udp_after_create, create_cancel_asks}
-use Rattle.wasi_host.specs.Datagrams.{udp_connect_left}
-use Rattle.wasi_host.specs.Receiving.{receive_left, with_receiving}
-use Rattle.wasi_host.specs.Records.{tcp2_at}
-use Rattle.wasi_host.specs.Udp.{udp_create_left, udp_side}
-use Rattle.wasi_host.specs.declared.datagrams.Receiving.{Receiving}
+use Rattle.wasi_records.specs.Datagrams.{udp_connect_left}
+use Rattle.wasi_records.specs.Receiving.{receive_left, with_receiving}
+use Rattle.wasi_records.specs.Records.{tcp2_at}
+use Rattle.wasi_records.specs.Udp.{udp_create_left, udp_side}
+use Rattle.wasi_records.specs.declared.datagrams.Receiving.{Receiving}
 use Rattle.wasi_host.specs.declared.kind.Kind.TheVariants.{Udp2}
-use Rattle.wasi_host.specs.declared.listening.Listening.TheVariants as listening
-use Rattle.wasi_host.specs.declared.udp.OpenUdp.{OpenUdp}
-use Rattle.wasi_host.specs.declared.udp.Udp2Socket.{Udp2Socket}
+use Rattle.wasi_records.specs.declared.listening.Listening.TheVariants as listening
+use Rattle.wasi_records.specs.declared.udp.OpenUdp.{OpenUdp}
+use Rattle.wasi_records.specs.declared.udp.Udp2Socket.{Udp2Socket}
 use Rattle.wasi_walks.proofs.Words.{allows_weaker}
 use Rattle.wasi_walks.proofs.fits.Law.{whatever}
 use Rattle.wasi_walks.proofs.fits.Polls.{Anything}

@@ -6,12 +6,12 @@ use Rattle.wasi_addr.specs.declared.address.IpAddress.{IpAddress}
 use Rattle.wasi_addr.specs.declared.address.IpAddress.TheVariants as ip
 use Rattle.wasi_host.specs.Kinds.{is_error}
 use Rattle.wasi_host.specs.Machine.{lookup_number}
-use Rattle.wasi_host.specs.NameLookup.{next_of}
+use Rattle.wasi_records.specs.NameLookup.{next_of}
 use Rattle.wasi_host.specs.NameLookupCalls.{next_at, next_told}
-use Rattle.wasi_host.specs.Records.{lookup_at}
-use Rattle.wasi_host.specs.declared.name_lookup.Lookup.{Lookup}
-use Rattle.wasi_host.specs.declared.name_lookup.Lookup.TheVariants.{InProgress, Found, Failed}
-use Rattle.wasi_host.specs.declared.records.Record.{Record}
+use Rattle.wasi_records.specs.Records.{lookup_at}
+use Rattle.wasi_records.specs.declared.name_lookup.Lookup.{Lookup}
+use Rattle.wasi_records.specs.declared.name_lookup.Lookup.TheVariants.{InProgress, Found, Failed}
+use Rattle.wasi_records.specs.declared.records.Record.{Record}
 use Rattle.wasi_machine.specs.Machine.{reply_of, without_code}
 use Rattle.wasi_p2.specs.Lookup.{error_code_on, next_address_on}
 use Rattle.wasi_steps.specs.Reply.{absent_values, found_values}

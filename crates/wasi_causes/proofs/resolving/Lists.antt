@@ -1,12 +1,12 @@
 -- The lookups among the records by place, where another record changes or joins.
 use Rattle.std.proofs.Common.{◌≡◌, ℕ, zero, suc, ◌⊎◌, inl, inr, List, [], ◌∷◌, ◌++◌, Some, true, refl, ap}
 use Rattle.std.specs.Prelude.{is_some}
-use Rattle.wasi_host.specs.Records.{tcp2_at, tcp2_put, udp2_at, udp2_put, lookup_at, lookup_put}
-use Rattle.wasi_host.specs.declared.name_lookup.Lookup.{Lookup}
-use Rattle.wasi_host.specs.declared.records.Record.{Record}
-use Rattle.wasi_host.specs.declared.records.Record.TheVariants as rec
-use Rattle.wasi_host.specs.declared.socket.Tcp2Socket.{Tcp2Socket}
-use Rattle.wasi_host.specs.declared.udp.Udp2Socket.{Udp2Socket}
+use Rattle.wasi_records.specs.Records.{tcp2_at, tcp2_put, udp2_at, udp2_put, lookup_at, lookup_put}
+use Rattle.wasi_records.specs.declared.name_lookup.Lookup.{Lookup}
+use Rattle.wasi_records.specs.declared.records.Record.{Record}
+use Rattle.wasi_records.specs.declared.records.Record.TheVariants as rec
+use Rattle.wasi_records.specs.declared.socket.Tcp2Socket.{Tcp2Socket}
+use Rattle.wasi_records.specs.declared.udp.Udp2Socket.{Udp2Socket}
 
 -- == a socket changes: each lookup stays
 pub lookup_tcp_put : (xs : List Record) (i : ℕ) (r now : Tcp2Socket) (k : ℕ) → tcp2_at xs i ≡ Some r → lookup_at (tcp2_put xs i now) k ≡ lookup_at xs k

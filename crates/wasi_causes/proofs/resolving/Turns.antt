@@ -3,19 +3,19 @@ use Rattle.wasi_causes.proofs.Words.{Entry, List, Machine, None, Option, Some, T
 use Rattle.wasi_world.specs.Fits.{IsNames}
 use Rattle.wasi_world.specs.Typed.{told_names}
 use Rattle.wasi_world.specs.declared.call.Told.TheVariants as told
-use Rattle.wasi_host.specs.Datagrams.{turn_outgoing}
+use Rattle.wasi_records.specs.Datagrams.{turn_outgoing}
 use Rattle.wasi_host.specs.Jobs.{turn_datagram_at, turn_receive_at}
-use Rattle.wasi_host.specs.NameLookup.{lookup_told, turn_lookup, turn_lookup_at}
-use Rattle.wasi_host.specs.Receiving.{turn_incoming}
-use Rattle.wasi_host.specs.Records.{lookup_at, lookup_put, open_at, open_put, tcp2_at, tcp2_put, udp2_at}
+use Rattle.wasi_records.specs.NameLookup.{lookup_told, turn_lookup, turn_lookup_at}
+use Rattle.wasi_records.specs.Receiving.{turn_incoming}
+use Rattle.wasi_records.specs.Records.{lookup_at, lookup_put, open_at, open_put, tcp2_at, tcp2_put, udp2_at}
 use Rattle.wasi_jobs.specs.declared.job.HostJob.{HostJob}
 use Rattle.wasi_jobs.specs.declared.job.HostJob.TheVariants as job
-use Rattle.wasi_host.specs.declared.name_lookup.Lookup.{Lookup}
-use Rattle.wasi_host.specs.declared.name_lookup.Lookup.TheVariants.{InProgress, Found, Failed}
-use Rattle.wasi_host.specs.declared.name_lookup.LookupOp.{LookupOp}
-use Rattle.wasi_host.specs.declared.records.Record.{Record}
-use Rattle.wasi_host.specs.declared.udp.OpenUdp.{OpenUdp}
-use Rattle.wasi_host.specs.declared.udp.Udp2Socket.TheVariants.{Open}
+use Rattle.wasi_records.specs.declared.name_lookup.Lookup.{Lookup}
+use Rattle.wasi_records.specs.declared.name_lookup.Lookup.TheVariants.{InProgress, Found, Failed}
+use Rattle.wasi_records.specs.declared.name_lookup.LookupOp.{LookupOp}
+use Rattle.wasi_records.specs.declared.records.Record.{Record}
+use Rattle.wasi_records.specs.declared.udp.OpenUdp.{OpenUdp}
+use Rattle.wasi_records.specs.declared.udp.Udp2Socket.TheVariants.{Open}
 use Rattle.wasi_walks.proofs.Lists.{has_front, has_last}
 use Rattle.wasi_walks.proofs.LookupLists.{lookup_get_set}
 use Rattle.wasi_walks.proofs.walks.Udp.{open_is}

@@ -23,8 +23,8 @@ use Rattle.wasi_causes.proofs.tables.Routes.{Replied, Says, makes, full_so, code
 use Rattle.wasi_causes.proofs.Words.{CodeWord}
 use Rattle.wasi_causes.specs.Outcomes.{OnlyWhere, Outcome}
 use Rattle.wasi_causes.specs.Reached.{Finishes, FinishesAt, MayFinish}
-use Rattle.wasi_host.specs.Records.{tcp2_at, tcp2_put, tcp2_pushed}
-use Rattle.wasi_host.specs.declared.listening.Listening.TheVariants as listening
+use Rattle.wasi_records.specs.Records.{tcp2_at, tcp2_put, tcp2_pushed}
+use Rattle.wasi_records.specs.declared.listening.Listening.TheVariants as listening
 use Rattle.wasi_p2.specs.Tcp.{accept_asks}
 use Rattle.wasi_walks.proofs.Lists.{tcp2_seam}
 use Rattle.wasi_walks.specs.Answered.{ConnectsOn, StillConnects, WasClosed}

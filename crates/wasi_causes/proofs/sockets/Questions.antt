@@ -7,7 +7,7 @@ use Rattle.wasi_causes.proofs.tables.Meets.{Rows, Meets, ends, asks, chain, onto
 use Rattle.wasi_causes.proofs.tables.Routes.{Replied, on_number, Says, put_back, Names, here, on_record, code_word}
 use Rattle.wasi_causes.specs.Options.{GetRefusal, GetConnects, GetClosed, GetTold, ToldTooLarge, SetRefusal, ZeroBefore, SetConnects, SetClosed, ZeroAfter, SetTold, BacklogRefusal, ZeroBacklog, StillConnects, IsConnected, WasClosed, BacklogTold, GetsOption, SetsOption, SetsBacklog, KeptForListen, ToldListener}
 use Rattle.wasi_causes.specs.Outcomes.{AreLike, Outcome}
-use Rattle.wasi_host.specs.Records.{tcp2_at}
+use Rattle.wasi_records.specs.Records.{tcp2_at}
 use Rattle.wasi_host.specs.Options.{code_told, get_option_at, set_option_at, set_backlog_at}
 use Rattle.wasi_host.specs.Store.{put_back as answer_put}
 use Rattle.wasi_p2.specs.Options.{get_option_on, set_option_on, set_backlog_on}

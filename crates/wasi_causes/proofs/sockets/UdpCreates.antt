@@ -6,14 +6,14 @@ use Rattle.wasi_causes.proofs.tables.Routes.{Replied, Says, makes, full_so, code
 use Rattle.wasi_causes.specs.Outcomes.{OnlyWhere}
 use Rattle.wasi_causes.specs.Polls.{WritableToldDone, WritableToldPending, WritableToldCode, Polled, WasOver, GoesOn, Stays, Stops}
 use Rattle.wasi_causes.specs.Udp.{udp_create_entry, writable_entry, with_udp_record, new_udp, UdpCreateRefusal, UdpNotAllowed, UdpCreateTold, UdpWritableTold}
-use Rattle.wasi_host.specs.Records.{udp2_at, udp2_put, udp2_pushed}
-use Rattle.wasi_host.specs.Udp.{udp_side, udp_create_ended}
+use Rattle.wasi_records.specs.Records.{udp2_at, udp2_put, udp2_pushed}
+use Rattle.wasi_records.specs.Udp.{udp_side, udp_create_ended}
 use Rattle.wasi_host.specs.UdpCreates.{with_create, create_answered, poll_create_at, mark_udp, create_so, create_on, create_begun, create_udp_asks}
 use Rattle.wasi_host.specs.declared.kind.Kind.TheVariants.{Udp2}
 use Rattle.wasi_causes.specs.GivenUp.{giving_back}
-use Rattle.wasi_host.specs.declared.records.Record.{Record}
-use Rattle.wasi_host.specs.declared.udp.Udp2Socket.{Udp2Socket}
-use Rattle.wasi_host.specs.declared.udp.Udp2Socket.TheVariants as udp
+use Rattle.wasi_records.specs.declared.records.Record.{Record}
+use Rattle.wasi_records.specs.declared.udp.Udp2Socket.{Udp2Socket}
+use Rattle.wasi_records.specs.declared.udp.Udp2Socket.TheVariants as udp
 use Rattle.wasi_machine.specs.Machine.{answer_reply_of}
 use Rattle.wasi_steps.specs.declared.step.Step.TheVariants as step
 use Rattle.wasi_udp.specs.Create.{Create, new_create, after_create, new_asks, with_left}

@@ -4,7 +4,7 @@ use Rattle.wasi_world.specs.declared.ids.Ids.{Ids}
 use Rattle.wasi_host.specs.declared.blocking.BlockingCall.{BlockingCall}
 use Rattle.wasi_host.specs.declared.blocking.BlockingCall.TheVariants as blocking
 use Rattle.wasi_host.specs.Blocking.{Blocked, blocking_read_asks, blocking_skip_asks, read_answer, read_looked, skip_answer, skip_looked}
-use Rattle.wasi_host.specs.Host.{Closed, Failed, Traps as TrapsBy}
+use Rattle.wasi_host.specs.CallStops.{Closed, Failed, Traps as TrapsBy}
 use Rattle.wasi_host.specs.StreamCalls.{counted, skip_asks}
 use Rattle.wasi_machine.specs.Machine.{blocked_reply_of, call_stop_reply, stream_reply_of}
 use Rattle.wasi_steps.specs.declared.reply.Field.{Field}

@@ -10,11 +10,11 @@ use Rattle.wasi_walks.specs.Waiting.{IsCreating}
 use Rattle.wasi_host.specs.Cancel.{cancel_asks, cancel_call, cancel_on, cancel_bind_at, cancel_create_at, cancel_drop_outgoing_at, cancel_listen_at, cancel_udp_bind_at, cancel_udp_connect_at, is_datagram_on, listen_gone, other_than_datagram}
 use Rattle.wasi_jobs.specs.declared.job.HostJob.{HostJob}
 use Rattle.wasi_jobs.specs.declared.job.HostJob.TheVariants.{Datagram}
-use Rattle.wasi_host.specs.declared.listening.Listening.TheVariants as listening
-use Rattle.wasi_host.specs.declared.udp.OpenUdp.{OpenUdp}
-use Rattle.wasi_host.specs.declared.udp.Udp2Socket.{Udp2Socket}
-use Rattle.wasi_host.specs.declared.udp.Udp2Socket.TheVariants as udp
-use Rattle.wasi_host.specs.Records.{tcp2_at, udp2_at, open_at}
+use Rattle.wasi_records.specs.declared.listening.Listening.TheVariants as listening
+use Rattle.wasi_records.specs.declared.udp.OpenUdp.{OpenUdp}
+use Rattle.wasi_records.specs.declared.udp.Udp2Socket.{Udp2Socket}
+use Rattle.wasi_records.specs.declared.udp.Udp2Socket.TheVariants as udp
+use Rattle.wasi_records.specs.Records.{tcp2_at, udp2_at, open_at}
 use Rattle.wasi_machine.specs.Machine.{cancelled_reply}
 use Rattle.wasi_steps.specs.declared.step.Step.TheVariants as step
 use Rattle.wasi_walks.proofs.walks.States.{stands_so as stands_under}
@@ -24,7 +24,7 @@ use Rattle.wasi_causes.proofs.tables.Meets.{Meets, Rows, asks, branch, ends, ont
 use Rattle.wasi_causes.proofs.tables.Routes.{Says, apart}
 use Rattle.wasi_causes.specs.Cancelled.{CancelsBy, CreateGivenUp, ListenGivenUp}
 use Rattle.wasi_host.specs.GivingBack.{given_back}
-use Rattle.wasi_host.specs.declared.records.Record.{Record}
+use Rattle.wasi_records.specs.declared.records.Record.{Record}
 use Rattle.wasi_causes.proofs.GivenBack.{put_gone}
 use Rattle.wasi_host.specs.UdpCalls.{with_udp}
 use Rattle.wasi_causes.proofs.Words.{◌∷◌}

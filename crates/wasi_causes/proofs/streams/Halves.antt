@@ -9,9 +9,9 @@ use Rattle.wasi_causes.proofs.streams.Plain.{plain_reads, plain_checks, plain_wr
 use Rattle.wasi_causes.specs.Plain.{PastCapacity, PlainCheck, PlainFlush, PlainRead, PlainWrite}
 use Rattle.wasi_world.specs.declared.outcome.TrapKind.TheVariants.{Capacity}
 use Rattle.wasi_steps.specs.declared.reply.Reply.TheVariants as reply
-use Rattle.wasi_host.specs.Records.{tcp2_at}
+use Rattle.wasi_records.specs.Records.{tcp2_at}
 use Rattle.wasi_jobs.specs.declared.job.HostJob.TheVariants as HostJob
-use Rattle.wasi_host.specs.declared.records.Record.{Record}
+use Rattle.wasi_records.specs.declared.records.Record.{Record}
 use Rattle.wasi_host.specs.declared.store.StandingCall.TheVariants.{DropOutput}
 use Rattle.wasi_causes.proofs.Words.{Again, AlreadyClosed, Answer, Asks, Bool, CheckFails, CodeTold, Done, End, Ends, Entry, Err, ErrorCode}
 use Rattle.wasi_causes.proofs.Words.{ErrorKept, Front, Give, IsDone, IsRead, IsSomeAnd, IsUnpermitted, Item, LengthZero, List, Machine, None}

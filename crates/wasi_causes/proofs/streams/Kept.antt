@@ -7,13 +7,12 @@ use Rattle.wasi_host.specs.declared.kind.PlainInput.{PlainInput}
 use Rattle.wasi_host.specs.declared.kind.PlainInput.TheVariants as input
 use Rattle.wasi_host.specs.declared.kind.PlainOutput.{PlainOutput}
 use Rattle.wasi_host.specs.declared.kind.PlainOutput.TheVariants as output
-use Rattle.wasi_host.specs.declared.records.Record.{Record}
-use Rattle.wasi_host.specs.Host.{Closed}
-use Rattle.wasi_host.specs.PlainStreams.{flush_plain, read_pipe_at, check_plain, write_pipe_at}
-use Rattle.wasi_host.specs.Records.{input_pipe_at, input_pipe_put, output_pipe_at, output_pipe_put, tcp2_at, tcp2_put}
+use Rattle.wasi_records.specs.declared.records.Record.{Record}
+use Rattle.wasi_host.specs.CallStops.{Closed}
+use Rattle.wasi_host.specs.PlainStreams.{flush_plain, read_pipe_at, check_plain, write_pipe_at, contents_put}
+use Rattle.wasi_records.specs.Records.{input_pipe_at, input_pipe_put, output_pipe_at, output_pipe_put, tcp2_at, tcp2_put}
 use Rattle.std.specs.Prelude.{drop}
 use Rattle.wasi_causes.proofs.Words.{ReadsNone, begins_job, with_socket}
-use Rattle.wasi_host.specs.PlainStreams.{contents_put}
 use Rattle.wasi_causes.proofs.streams.Pipes.{input_no_tcp, output_no_tcp, tcp_set}
 use Rattle.wasi_world.specs.declared.outcome.TrapKind.TheVariants.{Capacity}
 use Rattle.wasi_host.specs.StreamCalls.{check_by, flush_by, plain_answer, plain_done, plain_input_at, plain_output_at, read_by, write_by}

@@ -3,9 +3,10 @@ use Rattle.wasi_causes.proofs.Words.{◌≡◌, ◌∙◌, ℕ, Bool, true, List
 use Rattle.wasi_tcp.specs.declared.reader.ReadState.TheVariants as reading
 use Rattle.wasi_host.specs.Blocking.{look_asks, look_at, look_by, look_on, looked}
 use Rattle.wasi_host.specs.declared.kind.PlainInput.{PlainInput}
-use Rattle.wasi_host.specs.Host.{Traps}
-use Rattle.wasi_host.specs.Readiness.{is_done, ready_put, ready_reader}
-use Rattle.wasi_host.specs.Records.{tcp2_at}
+use Rattle.wasi_host.specs.CallStops.{Traps}
+use Rattle.wasi_records.specs.Looks.{is_done, ready_reader}
+use Rattle.wasi_host.specs.Readiness.{ready_put}
+use Rattle.wasi_records.specs.Records.{tcp2_at}
 use Rattle.wasi_host.specs.StreamCalls.{plain_input_at}
 use Rattle.wasi_walks.specs.Missing.{MissesInput}
 use Rattle.wasi_world.specs.Fits.{IsReady as FitsReady}

@@ -6,7 +6,7 @@ use Rattle.wasi_host.specs.declared.kind.PlainInput.TheVariants as input
 use Rattle.wasi_host.specs.declared.kind.PlainOutput.{PlainOutput}
 use Rattle.wasi_host.specs.declared.kind.PlainOutput.TheVariants as output
 use Rattle.wasi_host.specs.PlainStreams.{contents_asks, contents_at, contents_on, input_pipe_asks, output_pipe_asks, plain_asks}
-use Rattle.wasi_host.specs.Records.{output_pipe_at}
+use Rattle.wasi_records.specs.Records.{output_pipe_at}
 use Rattle.wasi_host.specs.StreamCalls.{plain_output_at}
 use Rattle.wasi_machine.specs.Machine.{reply_of}
 use Rattle.wasi_steps.specs.declared.step.Step.TheVariants as step

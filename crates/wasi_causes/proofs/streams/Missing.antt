@@ -6,7 +6,7 @@ use Rattle.wasi_host.specs.declared.kind.PlainOutput.{PlainOutput}
 use Rattle.wasi_host.specs.declared.kind.PlainOutput.TheVariants as output
 use Rattle.wasi_host.specs.Kinds.{input_of, output_of, plain_input_of, plain_output_of}
 use Rattle.wasi_host.specs.Machine.{input_at, output_at}
-use Rattle.wasi_host.specs.Records.{input_pipe_at, output_pipe_at, tcp2_at}
+use Rattle.wasi_records.specs.Records.{input_pipe_at, output_pipe_at, tcp2_at}
 use Rattle.wasi_host.specs.StreamCalls.{plain_input_at, plain_output_at}
 use Rattle.wasi_walks.specs.Missing.{MissesInput, MissesInputPipe, MissesOutput, MissesOutputPipe}
 use Rattle.wasi_causes.proofs.streams.Kept.{PartsThere}

@@ -12,10 +12,10 @@ use Rattle.wasi_host.specs.declared.kind.PlainInput.{PlainInput}
 use Rattle.wasi_host.specs.declared.kind.PlainInput.TheVariants as input
 use Rattle.wasi_host.specs.declared.kind.PlainOutput.{PlainOutput}
 use Rattle.wasi_host.specs.declared.kind.PlainOutput.TheVariants as output
-use Rattle.wasi_host.specs.declared.records.Record.{Record}
-use Rattle.wasi_host.specs.declared.records.Record.TheVariants.{Tcp2, Udp2, Lookup, InputPipe, OutputPipe, Gone}
+use Rattle.wasi_records.specs.declared.records.Record.{Record}
+use Rattle.wasi_records.specs.declared.records.Record.TheVariants.{Tcp2, Udp2, Lookup, InputPipe, OutputPipe, Gone}
 use Rattle.wasi_host.specs.PlainStreams.{check_pipe_at, read_pipe_at}
-use Rattle.wasi_host.specs.Records.{input_pipe_at, output_pipe_at, tcp2_at, tcp2_put}
+use Rattle.wasi_records.specs.Records.{input_pipe_at, output_pipe_at, tcp2_at, tcp2_put}
 use Rattle.wasi_host.specs.StreamCalls.{check_by, plain_answer, plain_done, plain_input_at, plain_output_at, read_by}
 use Rattle.wasi_walks.specs.Missing.{pipe_of}
 use Rattle.wasi_host.specs.Kinds.{HandleTable, kind_at, output_of, plain_output_of}

@@ -5,13 +5,13 @@ use Rattle.wasi_host.specs.declared.kind.Kind.{Kind}
 use Rattle.wasi_host.specs.declared.kind.Kind.TheVariants as kind
 use Rattle.wasi_host.specs.declared.kind.PlainInput.{PlainInput}
 use Rattle.wasi_host.specs.declared.kind.PlainOutput.{PlainOutput}
-use Rattle.wasi_host.specs.declared.records.Record.{Record}
-use Rattle.wasi_host.specs.declared.records.Record.TheVariants.{Tcp2, Udp2, Lookup, InputPipe, OutputPipe, Gone}
+use Rattle.wasi_records.specs.declared.records.Record.{Record}
+use Rattle.wasi_records.specs.declared.records.Record.TheVariants.{Tcp2, Udp2, Lookup, InputPipe, OutputPipe, Gone}
 use Rattle.wasi_host.specs.Kinds.{input_of, is_readable, is_writable, output_of, plain_input_of, plain_output_of}
-use Rattle.wasi_host.specs.declared.name_lookup.Lookup.{Lookup as NameLookup}
-use Rattle.wasi_host.specs.declared.socket.Tcp2Socket.{Tcp2Socket}
-use Rattle.wasi_host.specs.declared.udp.Udp2Socket.{Udp2Socket}
-use Rattle.wasi_host.specs.Records.{tcp2_of, udp2_of, lookup_of, input_pipe_of, output_pipe_of, tcp2_at, input_pipe_at, input_pipe_put, output_pipe_at, output_pipe_put}
+use Rattle.wasi_records.specs.declared.name_lookup.Lookup.{Lookup as NameLookup}
+use Rattle.wasi_records.specs.declared.socket.Tcp2Socket.{Tcp2Socket}
+use Rattle.wasi_records.specs.declared.udp.Udp2Socket.{Udp2Socket}
+use Rattle.wasi_records.specs.Records.{tcp2_of, udp2_of, lookup_of, input_pipe_of, output_pipe_of, tcp2_at, input_pipe_at, input_pipe_put, output_pipe_at, output_pipe_put}
 
 -- == a pipe that is put back is as it was
 pub input_same : (xs : List Record) (i : ℕ) (bytes : List ℕ) → input_pipe_at xs i ≡ Some bytes → input_pipe_put xs i bytes ≡ xs

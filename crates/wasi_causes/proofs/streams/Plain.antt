@@ -9,11 +9,11 @@ use Rattle.wasi_host.specs.declared.kind.PlainOutput.{PlainOutput}
 use Rattle.wasi_host.specs.declared.kind.PlainOutput.TheVariants as output
 use Rattle.wasi_host.specs.Kinds.{kind_at}
 use Rattle.wasi_host.specs.PlainStreams.{check_pipe_at, check_plain, contents_put, flush_plain, read_pipe_at, read_plain, write_pipe_at, write_plain}
-use Rattle.wasi_host.specs.Records.{input_pipe_at, output_pipe_at}
+use Rattle.wasi_records.specs.Records.{input_pipe_at, output_pipe_at}
 use Rattle.wasi_host.specs.StreamCalls.{plain_answer, plain_done, plain_input_at, plain_output_at}
 use Rattle.wasi_steps.specs.declared.step.Step.TheVariants as step
 use Rattle.wasi_walks.specs.Answered.{input_streams}
-use Rattle.wasi_host.specs.declared.records.Record.{Record}
+use Rattle.wasi_records.specs.declared.records.Record.{Record}
 use Rattle.wasi_causes.proofs.tables.Meets.{Rows}
 use Rattle.wasi_causes.proofs.tables.Routes.{Replied, apart, none_has}
 use Rattle.wasi_causes.proofs.streams.Pipes.{input_same, output_same, plain_no_input, plain_no_output, take_none}

@@ -7,7 +7,7 @@ use Rattle.wasi_host.specs.declared.blocking.BlockingCall.TheVariants as blockin
 use Rattle.wasi_host.specs.declared.pending.Outcome.{Outcome as Given}
 use Rattle.wasi_host.specs.declared.pending.Outcome.TheVariants as given
 use Rattle.wasi_host.specs.Blocking.{Blocked}
-use Rattle.wasi_host.specs.Host.{Closed, Failed, Traps as TrapsBy}
+use Rattle.wasi_host.specs.CallStops.{Closed, Failed, Traps as TrapsBy}
 use Rattle.wasi_host.specs.Pending.{blocked_outcome, nothing_given, resumed, unblock_asks}
 use Rattle.wasi_machine.specs.Machine.{blocked_reply_of, outcome_reply, resumed_reply}
 use Rattle.wasi_steps.specs.Reply.{bytes_fields, no_values}

@@ -1,17 +1,17 @@
 -- What a turn leaves of sockets, of the streams of connections, and of pipes.
 use Rattle.wasi_causes.proofs.Words.{◌≡◌, ◌∙◌, ℕ, List, [], ◌∷◌, Option, Some, None, IsSome, inl, inr, refl, sym, subst, ap, Machine, Streams, Tcp2Socket, set_get, slice_get, streams_in, turn_asks, turn_at, turn_job, turn_jobs, turn_machine_asks, turned}
-use Rattle.wasi_host.specs.Datagrams.{turn_outgoing}
+use Rattle.wasi_records.specs.Datagrams.{turn_outgoing}
 use Rattle.wasi_host.specs.Jobs.{turn_datagram_at, turn_receive_at}
-use Rattle.wasi_host.specs.NameLookup.{turn_lookup, turn_lookup_at}
-use Rattle.wasi_host.specs.Receiving.{turn_incoming}
-use Rattle.wasi_host.specs.Records.{input_pipe_at, lookup_at, lookup_put, open_at, open_of, open_put, output_pipe_at, tcp2_at, tcp2_put, udp2_at}
+use Rattle.wasi_records.specs.NameLookup.{turn_lookup, turn_lookup_at}
+use Rattle.wasi_records.specs.Receiving.{turn_incoming}
+use Rattle.wasi_records.specs.Records.{input_pipe_at, lookup_at, lookup_put, open_at, open_of, open_put, output_pipe_at, tcp2_at, tcp2_put, udp2_at}
 use Rattle.wasi_jobs.specs.declared.job.HostJob.{HostJob}
 use Rattle.wasi_jobs.specs.declared.job.HostJob.TheVariants as job
-use Rattle.wasi_host.specs.declared.name_lookup.Lookup.{Lookup}
-use Rattle.wasi_host.specs.declared.records.Record.{Record}
-use Rattle.wasi_host.specs.declared.udp.OpenUdp.{OpenUdp}
-use Rattle.wasi_host.specs.declared.udp.Udp2Socket.{Udp2Socket}
-use Rattle.wasi_host.specs.declared.udp.Udp2Socket.TheVariants.{Open}
+use Rattle.wasi_records.specs.declared.name_lookup.Lookup.{Lookup}
+use Rattle.wasi_records.specs.declared.records.Record.{Record}
+use Rattle.wasi_records.specs.declared.udp.OpenUdp.{OpenUdp}
+use Rattle.wasi_records.specs.declared.udp.Udp2Socket.{Udp2Socket}
+use Rattle.wasi_records.specs.declared.udp.Udp2Socket.TheVariants.{Open}
 use Rattle.wasi_walks.proofs.LookupLists.{tcp_lookup_put, udp_lookup_put}
 use Rattle.wasi_walks.proofs.UdpLists.{tcp_in_put, udp_in_put, udp_set_get}
 use Rattle.wasi_walks.proofs.walks.Udp.{open_is}

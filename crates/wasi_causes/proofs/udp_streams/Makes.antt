@@ -6,7 +6,7 @@ use Rattle.wasi_world.specs.declared.call.HandleKind.TheVariants as name
 use Rattle.wasi_world.specs.declared.call.Told.TheVariants as told
 use Rattle.wasi_host.specs.DatagramCalls.{mark_streams, mark_streams_of, outgoing_made}
 use Rattle.wasi_host.specs.Kinds.{udp_of}
-use Rattle.wasi_host.specs.Records.{udp2_at}
+use Rattle.wasi_records.specs.Records.{udp2_at}
 use Rattle.wasi_host.specs.UdpCreates.{udp_side_at}
 use Rattle.wasi_host.specs.declared.kind.Kind.TheVariants.{Incoming, Outgoing}
 use Rattle.wasi_causes.proofs.tables.Meets.{Meets, Rows, chain, ends, onto}

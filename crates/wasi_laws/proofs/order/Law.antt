@@ -7,26 +7,26 @@ use Rattle.wasi_tcp.specs.declared.listener.Accepting.TheVariants as accepting
 use Rattle.wasi_tcp.specs.declared.writer.WriteState.TheVariants as writing
 use Rattle.wasi_tcp.specs.declared.accept.AcceptStage.TheVariants as accept
 use Rattle.wasi_tcp.specs.declared.socket.TcpState.TheVariants as state
-use Rattle.wasi_host.specs.Records.{tcp2_put}
-use Rattle.wasi_host.specs.declared.records.Record.{Record}
-use Rattle.wasi_host.specs.declared.udp.OpenUdp.{OpenUdp}
-use Rattle.wasi_host.specs.declared.udp.Udp2Socket.{Udp2Socket}
-use Rattle.wasi_host.specs.declared.udp.UdpInProgress.{UdpInProgress}
-use Rattle.wasi_host.specs.Udp.{udp_bind_progress, udp_create_left, udp_side, with_udp_progress}
+use Rattle.wasi_records.specs.Records.{tcp2_put}
+use Rattle.wasi_records.specs.declared.records.Record.{Record}
+use Rattle.wasi_records.specs.declared.udp.OpenUdp.{OpenUdp}
+use Rattle.wasi_records.specs.declared.udp.Udp2Socket.{Udp2Socket}
+use Rattle.wasi_records.specs.declared.udp.UdpInProgress.{UdpInProgress}
+use Rattle.wasi_records.specs.Udp.{udp_bind_progress, udp_create_left, udp_side, with_udp_progress}
 use Rattle.wasi_host.specs.UdpCreates.{with_create}
 use Rattle.wasi_udp.specs.Create.{Create, new_create}
 use Rattle.wasi_walks.proofs.walks.Moves.{put_udp, with_records, Finds, FoundUdp, udp_begun, begun_udp_bind, begun_udp_connect, sending_now, receiving_now, part_of, Names, IsUdpSettled, KeepsOp, SettlesSend, UdpPlain, receive_op, receiving_in, send_op, sending_in}
 use Rattle.wasi_walks.proofs.walks.Moves.{CancelsBind, EndsConnect, RecallsStreams, ToStream, CancelsUdpBind, CancelsUdpConnect, UdpChanges, BeginsUdpBind, BeginsUdpConnect, Counts, SpendsNames, BeginsSend, BeginsReceive, UdpCreates, UdpBindsOn, UdpConnectsOn, SendsOn, ReceivesOn, GivesBack, without_record}
 use Rattle.wasi_world.specs.Operation.{Datagram}
-use Rattle.wasi_host.specs.Datagrams.{udp_connect_left, with_sending}
-use Rattle.wasi_host.specs.Receiving.{receive_left, with_receiving}
-use Rattle.wasi_host.specs.declared.datagrams.Incoming.{Incoming}
-use Rattle.wasi_host.specs.declared.datagrams.Outgoing.{Outgoing}
-use Rattle.wasi_host.specs.declared.datagrams.Receiving.{Receiving}
-use Rattle.wasi_host.specs.declared.datagrams.Sending.{Sending}
+use Rattle.wasi_records.specs.Datagrams.{udp_connect_left, with_sending}
+use Rattle.wasi_records.specs.Receiving.{receive_left, with_receiving}
+use Rattle.wasi_records.specs.declared.datagrams.Incoming.{Incoming}
+use Rattle.wasi_records.specs.declared.datagrams.Outgoing.{Outgoing}
+use Rattle.wasi_records.specs.declared.datagrams.Receiving.{Receiving}
+use Rattle.wasi_records.specs.declared.datagrams.Sending.{Sending}
 use Rattle.wasi_udp.specs.Receive.{receive_start, wanted_in, wanting}
 use Rattle.wasi_udp.specs.Send.{at_remote, send_start, send_to}
-use Rattle.wasi_host.specs.declared.binding.InProgress.TheVariants as progress
+use Rattle.wasi_records.specs.declared.binding.InProgress.TheVariants as progress
 use Rattle.wasi_laws.proofs.Words.{Accepting, Allows, Asks, Awaits, BeginsAccept, BeginsBind, BeginsConnect, BeginsListen, BeginsWrite, BindsOn, Bool, Call, Changes, ChecksFirst, ClosesReader, Connection, Connects, Done, End, Entry, Forgets, Found, Given, Held, Here, InProgress, IpSocketAddress, IsGone, Item, Job, Joins, KeepsBinding, Left, List, Listening, Listens, Machine, Move, OpId, Opens, Operation, Option, Own, Plain, Reconnects, Refused, Reply, Some, Spends, Starts, Step, Streams, Tcp2Socket, TcpState, ToConnect, ToWrite, Told, Unlistens, Unused, Used, Waits, WasiSocketsCtx, WriteState, Writes, [], accept_ended, accept_operation, accepting_now, allows_weaker, ap, arith, arrived, asked_by, beginning_listen, begun_bind, begun_listen, bind_progress, connect_ended, connect_first, connect_left, connect_operation, entry, false, first_state, inl, inr, is_same, job_after, joined, joining, listen_after, new_accept, new_job, new_record, new_socket, own_of, poll_asks, put, refl, run, subst, sym, true, with_inner, with_progress, with_state, with_writer, ℕ, ◌++◌, ◌+◌, ◌∙◌, ◌∷◌, ◌≡◌, ◌≤◌, Ok, ◌⊎◌}
 use Rattle.wasi_laws.proofs.asks.Single.{each_ask, KeepsWrites, Single, Closing, ClosesSocket, ClosesListen, ClosesArrived, creating}
 use Rattle.wasi_laws.proofs.asks.Trees.{GoesOn}

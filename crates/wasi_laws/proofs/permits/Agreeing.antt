@@ -4,12 +4,12 @@ use Rattle.wasi_world.specs.declared.outcome.Answer.{Answer}
 use Rattle.wasi_world.specs.declared.outcome.Answer.TheVariants.{Ready, Pending}
 use Rattle.wasi_laws.proofs.Words.{◌≡◌, ◌⊎◌, inl, inr, ℕ, List, [], ◌∷◌, ◌++◌, Option, Some, None, sym, ap, subst, ◌∙◌, ◌<◌, Ok, Err, Result, refl, arith, ⊤, OpId, Item, End, Waits, Done, Refused, WriteState, IsFrontOf, bytes_left, Streams, Tcp2Socket, get_set, get_split, set_get, set_there, Entry, bind, told_ready, Write, StreamStop, Job, then_closed, written_by, closed_by, collected, look_in, look_asks, permitted, check_write_asks, Quiet, quiet_then, WriterMoves, Collects, Permits, Lasts, LastsAfter}
 use Rattle.wasi_laws.proofs.shapes.Shape.{some_same, Lives}
-use Rattle.wasi_host.specs.GivingBack.{record_gone}
-use Rattle.wasi_host.specs.Records.{tcp2_at, tcp2_of, tcp2_put, tcp2_pushed}
+use Rattle.wasi_records.specs.Numbered.{record_gone}
+use Rattle.wasi_records.specs.Records.{tcp2_at, tcp2_of, tcp2_put, tcp2_pushed}
 use Rattle.std.proofs.Common.{Bool, true, false, ◌==◌, eqb-true}
 use Rattle.std.proofs.lemmas.Bool.{eq-eqb}
 use Rattle.wasi_walks.proofs.GoneLists.{stays_there, was_there}
-use Rattle.wasi_host.specs.declared.records.Record.{Record}
+use Rattle.wasi_records.specs.declared.records.Record.{Record}
 use Rattle.wasi_walks.proofs.Lists.{tcp2_front}
 
 -- what was taken, with what a job is still to write, is what was permitted; after a code it is the front, of any length

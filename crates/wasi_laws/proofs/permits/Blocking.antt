@@ -5,7 +5,7 @@ use Rattle.wasi_world.specs.declared.outcome.Answer.TheVariants.{Ready}
 use Rattle.wasi_world.specs.declared.outcome.TrapKind.TheVariants.{NoSuchHandle, TooLong}
 use Rattle.wasi_streams.specs.Streams.{zeros}
 use Rattle.wasi_host.specs.Blocking.{Again, Blocked, blocking_splice_asks, blocking_splice_when, blocking_write_asks, blocking_zeroes_asks, look_asks, round_checked, round_written, splice_count, splice_given, splice_looked, splice_permitted, splice_written, stops, waits_as, write_rest_asks, write_rounds, write_when, zeroes_when}
-use Rattle.wasi_host.specs.Host.{CallStop, Traps}
+use Rattle.wasi_host.specs.CallStops.{CallStop, Traps}
 use Rattle.wasi_host.specs.Kinds.{is_readable, is_writable, kind_at}
 use Rattle.wasi_host.specs.Machine.{input_at, output_at}
 use Rattle.wasi_host.specs.StreamCalls.{check_asks, read_asks, write_asks}

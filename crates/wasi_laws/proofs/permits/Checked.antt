@@ -1,7 +1,7 @@
 -- Where a check-write answers a permit, all that was permitted was taken.
 use Rattle.wasi_streams.specs.StreamStop as stop
-use Rattle.wasi_host.specs.Records.{tcp2_at}
-use Rattle.wasi_host.specs.Host.{CallStop, Failed, Closed, Traps}
+use Rattle.wasi_records.specs.Records.{tcp2_at}
+use Rattle.wasi_host.specs.CallStops.{CallStop, Failed, Closed, Traps}
 use Rattle.wasi_host.specs.Kinds.{kind_at, output_of, plain_output_of}
 use Rattle.wasi_host.specs.StreamCalls.{check_asks, check_by, convert_asks, converted, plain_output_at, stream_on}
 use Rattle.wasi_host.specs.declared.kind.Kind.TheVariants as kind

@@ -12,8 +12,8 @@ use Rattle.wasi_tcp.specs.Listen as listen
 use Rattle.wasi_udp.specs.Bind as udp
 use Rattle.wasi_udp.specs.Create.{new_create}
 use Rattle.wasi_udp.specs.Receive.{wanted_in}
-use Rattle.wasi_host.specs.declared.udp.Udp2Socket.{Udp2Socket}
-use Rattle.wasi_host.specs.Udp.{udp_create_left, udp_side}
+use Rattle.wasi_records.specs.declared.udp.Udp2Socket.{Udp2Socket}
+use Rattle.wasi_records.specs.Udp.{udp_create_left, udp_side}
 use Rattle.wasi_walks.proofs.UdpLists.{tcp_of_put, tcp_of_push, tcp_in_put, tcp_in_push}
 use Rattle.wasi_walks.proofs.claims.Polls.{send_plain, receive_plain, udp_connect_plain}
 use Rattle.wasi_walks.proofs.fits.DatagramPolls.{wanted_left}
@@ -35,8 +35,8 @@ use Rattle.wasi_walks.proofs.claims.Polls.{GivesOwn, own_poll}
 use Rattle.wasi_walks.proofs.walks.Here.{older_used, own_not_given}
 use Rattle.wasi_walks.proofs.walks.Moves.{GivesBack, udp_begun}
 use Rattle.wasi_laws.proofs.permits.Taken.{After, write_law, taken_push, Fronts, quiet_keep, Accounts}
-use Rattle.wasi_host.specs.Records.{tcp2_put, udp2_put, udp2_pushed}
-use Rattle.wasi_host.specs.declared.records.Record.{Record}
+use Rattle.wasi_records.specs.Records.{tcp2_put, udp2_put, udp2_pushed}
+use Rattle.wasi_records.specs.declared.records.Record.{Record}
 
 -- == what is in progress besides a write writes nothing
 bind_plain : (items : List Item) → IsLeftOfBind items → ArePlain items

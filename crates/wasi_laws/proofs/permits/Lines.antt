@@ -2,7 +2,8 @@
 use Rattle.wasi_world.specs.declared.ids.Ids.{Ids}
 use Rattle.wasi_streams.specs.Streams.{zeros}
 use Rattle.wasi_host.specs.Blocking.{Blocked}
-use Rattle.wasi_host.specs.Host.{Closed, Failed, Stop, Traps}
+use Rattle.wasi_host.specs.CallStops.{Closed, Failed, Traps}
+use Rattle.wasi_records.specs.Stops.{Stop}
 use Rattle.wasi_host.specs.Pending.{blocked_outcome, nothing_given, resume_call, resumed}
 use Rattle.wasi_host.specs.Standing.{call_of, standing_as, unstood}
 use Rattle.wasi_host.specs.declared.blocking.BlockingCall.{BlockingCall}

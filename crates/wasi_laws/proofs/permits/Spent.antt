@@ -1,9 +1,9 @@
 -- A network socket whose record was given back: its name was given, and no record claims it any more, nor will one.
 use Rattle.wasi_laws.proofs.Words.{Claims, End, Here, Item, List, None, OpId, Operation, Some, Step, Tcp2Socket, WasiSocketsCtx, accept_name, ap, inl, inr, name_in, no_some, refl, subst, sym, ℕ, ◌+◌, ◌∙◌, ◌≡◌}
 use Rattle.wasi_tcp.specs.declared.listener.Accepting.TheVariants as accepting
-use Rattle.wasi_host.specs.Records.{tcp2_at, tcp2_of, tcp2_put, tcp2_pushed}
-use Rattle.wasi_host.specs.GivingBack.{record_gone}
-use Rattle.wasi_host.specs.declared.records.Record.{Record}
+use Rattle.wasi_records.specs.Records.{tcp2_at, tcp2_of, tcp2_put, tcp2_pushed}
+use Rattle.wasi_records.specs.Numbered.{record_gone}
+use Rattle.wasi_records.specs.declared.records.Record.{Record}
 use Rattle.wasi_world.specs.Operation.{Done, Refused, Waits}
 use Rattle.wasi_walks.proofs.GoneLists.{is_gone, was_there}
 use Rattle.wasi_walks.proofs.Lists.{get_set, get_split}

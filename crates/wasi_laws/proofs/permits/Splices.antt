@@ -1,7 +1,7 @@
 -- What a splice that doesn't block is let write: what was read, once it is read.
 use Rattle.std.specs.Prelude.{min}
 use Rattle.wasi_world.specs.declared.outcome.TrapKind.TheVariants.{NoSuchHandle}
-use Rattle.wasi_host.specs.Host.{CallStop, Traps}
+use Rattle.wasi_host.specs.CallStops.{CallStop, Traps}
 use Rattle.wasi_host.specs.Kinds.{is_readable, is_writable, kind_at}
 use Rattle.wasi_host.specs.Machine.{input_at, output_at}
 use Rattle.wasi_host.specs.StreamCalls.{check_asks, read_asks, splice_asks, splice_checked, splice_read, splice_some, splice_when, spliced}

@@ -9,14 +9,14 @@ use Rattle.wasi_laws.proofs.Words.{Accepts, Allows, Awaits, BeginsAccept, Begins
 use Rattle.wasi_laws.proofs.asks.Fronts.{Becomes, ToldAddress, PollLaw, polls_by}
 use Rattle.wasi_laws.proofs.asks.Trees.{GoesOn, InWriting, InClosing, turns_by}
 use Rattle.wasi_laws.proofs.shapes.Shape.{IsOfWrite, AreOfWrite, end_write, JobIs, WriterIs, writer_moves, HasStreams, StreamsShape, ListenerShape, RecordShape, Unconnected, bare, sideless, restated, SocketsStay, sockets_stay}
-use Rattle.wasi_host.specs.Records.{tcp2_at, tcp2_of, tcp2_put, tcp2_pushed}
+use Rattle.wasi_records.specs.Records.{tcp2_at, tcp2_of, tcp2_put, tcp2_pushed}
 use Rattle.wasi_walks.proofs.GoneLists.{was_there}
-use Rattle.wasi_host.specs.declared.udp.Udp2Socket.{Udp2Socket}
-use Rattle.wasi_host.specs.Udp.{udp_create_left}
+use Rattle.wasi_records.specs.declared.udp.Udp2Socket.{Udp2Socket}
+use Rattle.wasi_records.specs.Udp.{udp_create_left}
 use Rattle.wasi_udp.specs.Create.{Create}
 use Rattle.wasi_walks.proofs.UdpLists.{tcp_of_put, tcp_of_push}
 use Rattle.wasi_walks.proofs.walks.Moves.{GivesBack, CancelsBind, CancelsUdpBind, CancelsUdpConnect, put_udp, udp_begun, with_records, Finds, UdpChanges, BeginsUdpBind, BeginsUdpConnect, BeginsSend, BeginsReceive, UdpCreates, UdpBindsOn, UdpConnectsOn, SendsOn, ReceivesOn}
-use Rattle.wasi_host.specs.declared.records.Record.{Record}
+use Rattle.wasi_records.specs.declared.records.Record.{Record}
 
 -- what is left of a write takes no other form
 pub never : (i j : Item) → Becomes i j → IsOfWrite i → ⊥

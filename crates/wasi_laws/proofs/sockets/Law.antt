@@ -11,9 +11,9 @@ use Rattle.wasi_laws.proofs.asks.Single.{each_ask, KeepsWrites, OnUdp, Single, C
 use Rattle.wasi_laws.proofs.asks.Trees.{GoesOn}
 use Rattle.wasi_laws.proofs.shapes.Shape.{some_same, WriterIs, HasStreams, StreamsShape, ListenerShape, IsBegun, Follows, follows_plain, follows_same, follows_state, follows_quiet, follows_begun, gone_lacks, follows_gone, sockets_stay}
 use Rattle.wasi_laws.proofs.shapes.Law.{job_of}
-use Rattle.wasi_host.specs.declared.udp.OpenUdp.{OpenUdp}
-use Rattle.wasi_host.specs.declared.udp.Udp2Socket.{Udp2Socket}
-use Rattle.wasi_host.specs.Udp.{udp_create_left, udp_side}
+use Rattle.wasi_records.specs.declared.udp.OpenUdp.{OpenUdp}
+use Rattle.wasi_records.specs.declared.udp.Udp2Socket.{Udp2Socket}
+use Rattle.wasi_records.specs.Udp.{udp_create_left, udp_side}
 use Rattle.wasi_udp.specs.Create.{Create, new_create}
 use Rattle.wasi_walks.proofs.fits.Records.{FitConnecting, FitUdpProgress, ReceiveOn, SendOn, UdpBindOn, UdpConnectOn}
 use Rattle.wasi_walks.proofs.fits.UdpFits.{connected_side, receives_on, sends_on}

@@ -5,15 +5,15 @@ use Rattle.wasi_tcp.specs.declared.listener.Accepting.TheVariants as accepting
 use Rattle.wasi_walks.proofs.walks.Here.{IsOlder}
 use Rattle.wasi_laws.proofs.Words.{Accepts, Call, Claims, Created, Entry, Found, HandedOver, Here, IpSocketAddress, IsClosed, IsMade, IsOpen, List, Listener, Named, None, OpId, Some, Tcp2Socket, Told, [], accept_name, ap, entry, get_set, get_split, has_front, has_split, inl, inr, name_in, no_some, put, refl, set_there, subst, sym, ℕ, ◌++◌, ◌∙◌, ◌∷◌, ◌≡◌, ◌⊎◌, ⊤}
 use Rattle.wasi_laws.proofs.shapes.Shape.{some_same, Lives, Follows, SocketsStay, UdpLives}
-use Rattle.wasi_host.specs.GivingBack.{record_gone}
-use Rattle.wasi_host.specs.Records.{tcp2_at, tcp2_of, tcp2_put, tcp2_pushed, udp2_at, udp2_of, udp2_put, udp2_pushed}
+use Rattle.wasi_records.specs.Numbered.{record_gone}
+use Rattle.wasi_records.specs.Records.{tcp2_at, tcp2_of, tcp2_put, tcp2_pushed, udp2_at, udp2_of, udp2_put, udp2_pushed}
 use Rattle.wasi_walks.proofs.GoneLists.{was_there}
-use Rattle.wasi_host.specs.declared.udp.Udp2Socket.{Udp2Socket}
-use Rattle.wasi_host.specs.Udp.{udp_side}
+use Rattle.wasi_records.specs.declared.udp.Udp2Socket.{Udp2Socket}
+use Rattle.wasi_records.specs.Udp.{udp_side}
 use Rattle.wasi_laws.specs.Opened.{UdpCreated}
 use Rattle.wasi_walks.proofs.UdpLists.{udp_of_put, udp_of_push, tcp_of_put, tcp_of_push, udp_get_set, udp_set_there, udp_split}
 use Rattle.wasi_walks.proofs.walks.Moves.{put_udp, FoundUdp}
-use Rattle.wasi_host.specs.declared.records.Record.{Record}
+use Rattle.wasi_records.specs.declared.records.Record.{Record}
 
 -- a close, of this socket
 abbrev pub Closes : Call → OpId → Type 0

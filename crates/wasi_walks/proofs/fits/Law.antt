@@ -21,15 +21,15 @@ use Rattle.wasi_tcp.specs.Accept as accept
 use Rattle.wasi_tcp.specs.Listen as listen
 use Rattle.wasi_walks.specs.Waiting as binding
 use Rattle.wasi_host.specs.Kinds.{HandleTable}
-use Rattle.wasi_host.specs.Records.{tcp2_at, tcp2_of, tcp2_put, tcp2_pushed, udp2_at, udp2_of, udp2_put, udp2_pushed}
+use Rattle.wasi_records.specs.Records.{tcp2_at, tcp2_of, tcp2_put, tcp2_pushed, udp2_at, udp2_of, udp2_put, udp2_pushed}
 use Rattle.wasi_walks.proofs.GoneLists.{was_there}
-use Rattle.wasi_host.specs.declared.name_lookup.LookupOp.{LookupOp}
-use Rattle.wasi_host.specs.declared.udp.OpenUdp.{OpenUdp}
-use Rattle.wasi_host.specs.declared.udp.Udp2Socket.{Udp2Socket}
-use Rattle.wasi_host.specs.declared.udp.UdpInProgress.{UdpInProgress}
-use Rattle.wasi_host.specs.Datagrams.{udp_connect_left, with_sending}
-use Rattle.wasi_host.specs.Receiving.{receive_left, with_receiving}
-use Rattle.wasi_host.specs.Udp.{udp_bind_progress, udp_create_left, with_udp_inner, with_udp_progress}
+use Rattle.wasi_records.specs.declared.name_lookup.LookupOp.{LookupOp}
+use Rattle.wasi_records.specs.declared.udp.OpenUdp.{OpenUdp}
+use Rattle.wasi_records.specs.declared.udp.Udp2Socket.{Udp2Socket}
+use Rattle.wasi_records.specs.declared.udp.UdpInProgress.{UdpInProgress}
+use Rattle.wasi_records.specs.Datagrams.{udp_connect_left, with_sending}
+use Rattle.wasi_records.specs.Receiving.{receive_left, with_receiving}
+use Rattle.wasi_records.specs.Udp.{udp_bind_progress, udp_create_left, with_udp_inner, with_udp_progress}
 use Rattle.wasi_udp.specs.Bind as udp
 use Rattle.wasi_udp.specs.Receive.{IsLeftOfReceive, receive_start, wanting}
 use Rattle.wasi_udp.specs.Send.{IsLeftOfSend, at_remote, send_start}
@@ -42,7 +42,7 @@ use Rattle.wasi_walks.proofs.fits.DatagramPolls.{LeavesConnect, datagram_left, r
 use Rattle.wasi_walks.proofs.fits.TcpFits.{first_of, ended_fits, listened_fits, bound_fits, accepted_fits, joined_fits}
 use Rattle.wasi_walks.proofs.fits.UdpFits.{KeepsOpen, same_udp, same_open, no_open, stays_open, idle_keeps, plain_open, plain_fits, inner_fits, learnt_side, bound_udp, connected_udp, begun_send, sends_on, sent_udp, begun_receive, receives_on, received_udp}
 use Rattle.wasi_walks.proofs.walks.Moves.{ToConnect, with_records, SameSockets, Finds, put_udp, FoundUdp, udp_begun, begun_udp_bind, begun_udp_connect, sending_now, receiving_now, part_of, UdpChanges, BeginsUdpBind, StandsUdpBind, StandsUdpCreate, BeginsUdpConnect, StandsUdpConnect, StandsDropOutgoing, BeginsSend, BeginsReceive, UdpCreates, UdpBindsOn, UdpConnectsOn, SendsOn, ReceivesOn, GivesBack, without_record}
-use Rattle.wasi_host.specs.declared.records.Record.{Record}
+use Rattle.wasi_records.specs.declared.records.Record.{Record}
 
 -- Each record fits, and so does the pending call.
 pub record Fit (h : Here) : Type 0 where

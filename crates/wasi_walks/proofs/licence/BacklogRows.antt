@@ -11,7 +11,7 @@ use Rattle.wasi_walks.proofs.licence.ListenRows.{listening_record, listens_by}
 use Rattle.wasi_addr.specs.declared.code.ErrorCode.TheVariants as code
 use Rattle.wasi_world.specs.declared.call.HandleKind.TheVariants as kind
 use Rattle.wasi_world.specs.declared.call.Opt.TheVariants as opt
-use Rattle.wasi_host.specs.declared.records.Record.TheVariants as rec
+use Rattle.wasi_records.specs.declared.records.Record.TheVariants as rec
 
 -- == a backlog is set before the listen, which takes it, and again after it; and an option is set and reported
 abbrev script : List Step

@@ -2,7 +2,7 @@
 -- names.
 use Rattle.wasi_walks.proofs.Words.{Allows, Entry, ErrorValue, Has, IsMarkOf, IsMarkedWith, List, MayAsk, OpId, Option, Some, Step, WasiSocketsCtx}
 use Rattle.wasi_walks.proofs.Words.{[], ap, inl, inr, handles_of, kind_at, make_asks, own_of, refl, side_at, step_at, subst, sym, ℕ, ◌∙◌, ◌∷◌, ◌≡◌, ◌⊎◌}
-use Rattle.wasi_host.specs.Records.{tcp2_at}
+use Rattle.wasi_records.specs.Records.{tcp2_at}
 use Rattle.wasi_world.specs.declared.call.HandleKind.TheVariants as name
 use Rattle.wasi_walks.specs.Licence.{HasFailed, InputFailed, IsErrorMark, OutputFailed, WriteFailed}
 use Rattle.wasi_walks.proofs.Words.{Input, Output, WriteState}

@@ -7,8 +7,8 @@ use Rattle.wasi_walks.proofs.Words.{append_assoc, arith, entry, inl, inr, marked
 use Rattle.wasi_walks.proofs.Words.{step_at, subst, sym, ℕ, ⊤, ◌++◌}
 use Rattle.wasi_walks.proofs.Words.{◌∙◌, ◌∷◌, ◌≡◌, ◌⊎◌}
 use Rattle.wasi_world.specs.declared.call.Call.TheVariants.{Accept}
-use Rattle.wasi_host.specs.Records.{tcp2_at, tcp2_put, tcp2_pushed}
-use Rattle.wasi_host.specs.declared.records.Record.{Record}
+use Rattle.wasi_records.specs.Records.{tcp2_at, tcp2_put, tcp2_pushed}
+use Rattle.wasi_records.specs.declared.records.Record.{Record}
 use Rattle.wasi_tcp.specs.declared.socket.TcpState.TheVariants.{Connected}
 use Rattle.wasi_walks.proofs.Lists.{has_front, get_split, get_set, set_get, has_split}
 use Rattle.wasi_walks.specs.Licence.{IsMarkedAs, MakesTcp, WriteFailed}

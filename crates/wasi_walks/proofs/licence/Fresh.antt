@@ -9,7 +9,7 @@ use Rattle.wasi_walks.proofs.licence.State.{name_in, accept_name, AcceptingIsFin
 use Rattle.wasi_walks.proofs.licence.Frames.{Spared, Free}
 use Rattle.wasi_walks.specs.Licence.{UdpCreated}
 use Rattle.wasi_world.specs.declared.call.HandleKind.TheVariants as name
-use Rattle.wasi_host.specs.declared.records.Record.{Record}
+use Rattle.wasi_records.specs.declared.records.Record.{Record}
 
 -- no mark is by this operation
 abbrev pub NoMadeBy : List Entry → OpId → Type 0

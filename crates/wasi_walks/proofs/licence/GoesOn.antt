@@ -32,7 +32,7 @@ use Rattle.wasi_walks.proofs.remotes.State.{Keeps, remotes_in}
 use Rattle.wasi_tcp.specs.Listen as listen
 use Rattle.wasi_tcp.specs.Connect as connecting
 use Rattle.wasi_walks.specs.Waiting as binding
-use Rattle.wasi_host.specs.Records.{tcp2_at, tcp2_put}
+use Rattle.wasi_records.specs.Records.{tcp2_at, tcp2_put}
 
 module _ (contexts : List WasiSocketsCtx) (steps : List Step) (line : ℕ) (origin : Step) (is_line : step_at steps line ≡ Some origin) where
   -- == what is in progress

@@ -14,10 +14,10 @@ use Rattle.wasi_walks.proofs.licence.State.{NamesIf, NamesRecord, NamesUdp, Name
 use Rattle.wasi_walks.proofs.licence.Frames.{KeepsListening, KeepsRecord, same_record}
 use Rattle.wasi_walks.proofs.licence.States.{state_put, state_put_udp}
 use Rattle.wasi_world.specs.declared.call.HandleKind.TheVariants as name
-use Rattle.wasi_host.specs.Records.{tcp2_at, tcp2_pushed, udp2_at}
-use Rattle.wasi_host.specs.Udp.{udp_side}
-use Rattle.wasi_host.specs.declared.records.Record.{Record}
-use Rattle.wasi_host.specs.declared.udp.Udp2Socket.{Udp2Socket}
+use Rattle.wasi_records.specs.Records.{tcp2_at, tcp2_pushed, udp2_at}
+use Rattle.wasi_records.specs.Udp.{udp_side}
+use Rattle.wasi_records.specs.declared.records.Record.{Record}
+use Rattle.wasi_records.specs.declared.udp.Udp2Socket.{Udp2Socket}
 
 pub names_record : (es : List Entry) (records : List Record) (handle place : ℕ) (k : Option Kind) → record_of k ≡ Some place → ((kind : Kind) → k ≡ Some kind → HandleIsFine es records handle kind) → NamesRecord es records handle place
 names_record es records handle place None e h = absurd (cc)

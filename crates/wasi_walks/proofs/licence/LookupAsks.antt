@@ -7,10 +7,10 @@ use Rattle.wasi_walks.proofs.licence.Lookups.{LookupIsFine}
 use Rattle.wasi_walks.proofs.licence.Line.{Licensed}
 use Rattle.wasi_walks.proofs.licence.LookupMoves.{records_fine}
 use Rattle.wasi_walks.proofs.licence.Asked.{asked_fine, spares}
-use Rattle.wasi_host.specs.Records.{lookup_at}
-use Rattle.wasi_host.specs.declared.name_lookup.Lookup.{Lookup}
-use Rattle.wasi_host.specs.declared.name_lookup.LookupOp.{LookupOp}
-use Rattle.wasi_host.specs.declared.records.Record.{Record}
+use Rattle.wasi_records.specs.Records.{lookup_at}
+use Rattle.wasi_records.specs.declared.name_lookup.Lookup.{Lookup}
+use Rattle.wasi_records.specs.declared.name_lookup.LookupOp.{LookupOp}
+use Rattle.wasi_records.specs.declared.records.Record.{Record}
 
 module _ (contexts : List WasiSocketsCtx) (steps : List Step) (line : ℕ) (origin : Step) (is_line : step_at steps line ≡ Some origin) where
   -- a context that isn't there may look no name up

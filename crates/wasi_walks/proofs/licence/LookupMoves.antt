@@ -2,16 +2,17 @@
 use Rattle.wasi_walks.proofs.Words.{Entry, HandleTable, Kind, List, Machine, None, Option, Some, Step, Tcp2Socket, WasiSocketsCtx, ap, kind_at, refl, sym, ℕ, ◌∙◌, ◌≡◌}
 use Rattle.wasi_walks.proofs.GoneLists.{stays_there, was_there}
 use Rattle.wasi_walks.proofs.owners.Owned.{NoneOf, Owned, named_by, none_named, tcp_names, udp_names}
-use Rattle.wasi_host.specs.GivingBack.{given_back, record_gone}
-use Rattle.wasi_host.specs.Records.{lookup_of, tcp2_at, tcp2_of, udp2_of}
-use Rattle.wasi_host.specs.declared.name_lookup.Lookup.{Lookup}
+use Rattle.wasi_host.specs.GivingBack.{given_back}
+use Rattle.wasi_records.specs.Numbered.{record_gone}
+use Rattle.wasi_records.specs.Records.{lookup_of, tcp2_at, tcp2_of, udp2_of}
+use Rattle.wasi_records.specs.declared.name_lookup.Lookup.{Lookup}
 use Rattle.wasi_walks.proofs.walks.Moves.{Found, Here, SameSockets, record_of, udp_record_of, with_records, without_record}
 use Rattle.wasi_walks.proofs.licence.Lookups.{LookupIsFine, lookups_same}
 use Rattle.wasi_walks.proofs.licence.State.{HandleIsFine, NamesIf, NamesUdpIf, StateIsFine}
 use Rattle.wasi_walks.proofs.licence.UdpFrames.{KeepsSides, handle_kept, standing_kept}
 use Rattle.wasi_walks.proofs.licence.Line.{Licensed}
-use Rattle.wasi_host.specs.declared.name_lookup.LookupOp.{LookupOp}
-use Rattle.wasi_host.specs.declared.records.Record.{Record}
+use Rattle.wasi_records.specs.declared.name_lookup.LookupOp.{LookupOp}
+use Rattle.wasi_records.specs.declared.records.Record.{Record}
 
 -- each socket is still there
 sides_same : {new : LookupOp → Type 0} (old now : List Record) → SameSockets new old now → KeepsSides old now

@@ -2,10 +2,10 @@
 -- its handle says no network socket. So do those of the handles of pipes, sinks and closed streams.
 use Rattle.wasi_walks.proofs.Words.{BeganBy, Entry, IsMarkedWith, Kind, List, None, Pollable, Some, Step, Watched, WasiSocketsCtx, [], slice_set}
 use Rattle.wasi_walks.proofs.Words.{inl, inr, suc, zero, ℕ, ⊤, ◌++◌, ◌∷◌, ◌≡◌}
-use Rattle.wasi_host.specs.Records.{lookup_at, lookup_of}
-use Rattle.wasi_host.specs.declared.name_lookup.Lookup.{Lookup}
-use Rattle.wasi_host.specs.declared.name_lookup.LookupOp.{LookupOp}
-use Rattle.wasi_host.specs.declared.records.Record.{Record}
+use Rattle.wasi_records.specs.Records.{lookup_at, lookup_of}
+use Rattle.wasi_records.specs.declared.name_lookup.Lookup.{Lookup}
+use Rattle.wasi_records.specs.declared.name_lookup.LookupOp.{LookupOp}
+use Rattle.wasi_records.specs.declared.records.Record.{Record}
 use Rattle.wasi_walks.specs.Licence.{IsLookupOf}
 use Rattle.wasi_walks.proofs.walks.Moves.{SameSockets}
 

@@ -18,15 +18,15 @@ use Rattle.wasi_walks.proofs.licence.Line.{names_record, names_udp, NotMarked, M
 use Rattle.wasi_walks.proofs.licence.Asked.{listens_on, joined_on}
 use Rattle.wasi_walks.proofs.licence.Binds.{MayQuietly}
 use Rattle.wasi_world.specs.declared.call.HandleKind.TheVariants as name
-use Rattle.wasi_host.specs.Records.{tcp2_at, udp2_at}
-use Rattle.wasi_host.specs.Udp.{udp_side}
+use Rattle.wasi_records.specs.Records.{tcp2_at, udp2_at}
+use Rattle.wasi_records.specs.Udp.{udp_side}
 use Rattle.wasi_host.specs.UdpCreates.{udp_side_at}
 use Rattle.wasi_host.specs.declared.kind.PlainInput.TheVariants as plain_input
 use Rattle.wasi_host.specs.declared.kind.PlainOutput.TheVariants as plain_output
 use Rattle.wasi_host.specs.Kinds.{watched_by}
 use Rattle.wasi_host.specs.declared.kind.Watched.{Watched}
-use Rattle.wasi_host.specs.declared.udp.Udp2Socket.{Udp2Socket}
-use Rattle.wasi_host.specs.declared.records.Record.{Record}
+use Rattle.wasi_records.specs.declared.udp.Udp2Socket.{Udp2Socket}
+use Rattle.wasi_records.specs.declared.records.Record.{Record}
 
 not_used : Used ≡ Unused → ⊥
 not_used e = absurd (cc)

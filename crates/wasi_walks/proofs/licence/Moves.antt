@@ -21,8 +21,8 @@ use Rattle.wasi_walks.proofs.licence.Line.{put_with, keeps_plain, seam, no_liste
 use Rattle.wasi_walks.proofs.licence.LookupMoves.{fewer_fine, records_fine}
 use Rattle.wasi_walks.proofs.licence.UdpMoves.{begins_receive, begins_send, begins_udp_connect, recalls_streams, remembers_streams, reaches_udp, resumes, udp_changes, begins_udp_bind, cancels_udp_bind, cancels_udp_connect}
 use Rattle.wasi_walks.proofs.licence.StreamMoves.{calls_handles, is_side, reaches, reaches_handle, recalls_call, stands_blocking}
-use Rattle.wasi_host.specs.Records.{tcp2_put}
-use Rattle.wasi_host.specs.declared.udp.Udp2Socket.{Udp2Socket}
+use Rattle.wasi_records.specs.Records.{tcp2_put}
+use Rattle.wasi_records.specs.declared.udp.Udp2Socket.{Udp2Socket}
 use Rattle.wasi_addr.specs.declared.code.ErrorCode.{ErrorCode}
 use Rattle.wasi_tcp.specs.Writer.{error_of_code}
 use Rattle.wasi_walks.specs.Licence.{WriteFailed}

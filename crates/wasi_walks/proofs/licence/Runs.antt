@@ -34,7 +34,7 @@ use Rattle.wasi_walks.proofs.licence.ErrorMarks.{error_marked}
 use Rattle.wasi_walks.proofs.licence.UdpGoesOn.{udp_given_up}
 use Rattle.wasi_walks.proofs.licence.LookupAsks.{looked_up, looked_on}
 use Rattle.wasi_walks.proofs.licence.GoesOn.{taken_out, turned_fine, given_up, polls_fine}
-use Rattle.wasi_host.specs.Records.{tcp2_at}
+use Rattle.wasi_records.specs.Records.{tcp2_at}
 
 module _ (contexts : List WasiSocketsCtx) (steps : List Step) (line : ℕ) (origin : Step) (is_line : step_at steps line ≡ Some origin) where
   licences : Above contexts line origin (λ es h. Base contexts line origin h × Keeps es h.machine.store.records)

@@ -3,14 +3,14 @@ use Rattle.wasi_walks.proofs.Words.{Call, Entry, Kind, List, Machine, Made, None
 use Rattle.wasi_walks.proofs.Words.{Told, WasiSocketsCtx, [], arith, entry, inl, inr, marked_by, new_record, refl, subst, table_parent, with_handle}
 use Rattle.wasi_walks.proofs.Words.{with_record, with_socket, without_handle, ℕ, ◌++◌, ◌∷◌, ◌≡◌}
 use Rattle.wasi_table.proofs.Tables.{value_without}
-use Rattle.wasi_host.specs.Records.{tcp2_at, tcp2_pushed, udp2_at, udp2_pushed}
+use Rattle.wasi_records.specs.Records.{tcp2_at, tcp2_pushed, udp2_at, udp2_pushed}
 use Rattle.wasi_host.specs.Kinds.{name_of}
-use Rattle.wasi_host.specs.Udp.{udp_side}
+use Rattle.wasi_records.specs.Udp.{udp_side}
 use Rattle.wasi_walks.specs.Licence.{IsMarkedAs}
 use Rattle.wasi_host.specs.UdpCalls.{with_udp}
 use Rattle.wasi_jobs.specs.declared.job.HostJob.{HostJob}
-use Rattle.wasi_host.specs.declared.records.Record.TheVariants.{Tcp2, Udp2}
-use Rattle.wasi_host.specs.declared.udp.Udp2Socket.{Udp2Socket}
+use Rattle.wasi_records.specs.declared.records.Record.TheVariants.{Tcp2, Udp2}
+use Rattle.wasi_records.specs.declared.udp.Udp2Socket.{Udp2Socket}
 use Rattle.wasi_walks.proofs.Lists.{has_last, marks_in-push, get_split, get_set, value_split}
 use Rattle.wasi_walks.proofs.UdpLists.{udp_get_set, udp_split, udp_of_put, udp_of_push, tcp_of_put, tcp_of_push}
 use Rattle.wasi_walks.proofs.licence.Lookups.{lookups_put, lookups_push}

@@ -6,7 +6,7 @@ use Rattle.wasi_walks.proofs.Words.{subst, sym, ℕ, ◌∙◌, ◌≡◌}
 use Rattle.wasi_world.specs.declared.ids.Ids.{Ids}
 use Rattle.wasi_world.specs.declared.ids.OpId.{OpId}
 use Rattle.wasi_host.specs.Blocking.{blocking_handles}
-use Rattle.wasi_host.specs.Records.{tcp2_at}
+use Rattle.wasi_records.specs.Records.{tcp2_at}
 use Rattle.wasi_host.specs.declared.blocking.BlockingCall.{BlockingCall}
 use Rattle.wasi_walks.proofs.walks.Moves.{CallKind, Calls, Found, Here, IsCall, kind_of, record_of}
 use Rattle.wasi_walks.proofs.licence.State.{MakesCalls}

@@ -8,7 +8,7 @@ use Rattle.wasi_host.specs.declared.kind.Kind.TheVariants as slot
 use Rattle.wasi_host.specs.declared.kind.PlainInput.TheVariants as plain_input
 use Rattle.wasi_host.specs.declared.kind.PlainOutput.TheVariants as plain_output
 use Rattle.wasi_host.specs.declared.kind.Watched.TheVariants as watched
-use Rattle.wasi_host.specs.declared.records.Record.TheVariants as rec
+use Rattle.wasi_records.specs.declared.records.Record.TheVariants as rec
 use Rattle.wasi_steps.specs.Reply.{bytes_fields, pair_fields}
 use Rattle.wasi_steps.specs.declared.reply.CodeWord.TheVariants as word
 use Rattle.wasi_world.specs.declared.call.HandleKind.TheVariants as kind

@@ -4,18 +4,18 @@ use Rattle.wasi_walks.proofs.Words.{allows_then, allows_weaker, ap, created_asks
 use Rattle.wasi_walks.proofs.Words.{with_listening, with_writer, ℕ, ⊤, ◌+◌, ◌∙◌, ◌≡◌}
 use Rattle.wasi_udp.specs.Create.{Create, create_cancel_asks, after_create as udp_after_create}
 use Rattle.wasi_udp.specs.Receive.{wanting}
-use Rattle.wasi_host.specs.Datagrams.{udp_connect_left}
-use Rattle.wasi_host.specs.Receiving.{receive_left, with_receiving}
-use Rattle.wasi_host.specs.Records.{tcp2_at, tcp2_put, tcp2_pushed, udp2_at, udp2_of, udp2_put}
+use Rattle.wasi_records.specs.Datagrams.{udp_connect_left}
+use Rattle.wasi_records.specs.Receiving.{receive_left, with_receiving}
+use Rattle.wasi_records.specs.Records.{tcp2_at, tcp2_put, tcp2_pushed, udp2_at, udp2_of, udp2_put}
 use Rattle.wasi_walks.proofs.GoneLists.{was_there}
-use Rattle.wasi_host.specs.Udp.{udp_create_left, udp_side}
+use Rattle.wasi_records.specs.Udp.{udp_create_left, udp_side}
 use Rattle.wasi_host.specs.declared.kind.Kind.TheVariants.{Udp2}
-use Rattle.wasi_host.specs.declared.datagrams.Incoming.{Incoming}
-use Rattle.wasi_host.specs.declared.datagrams.Receiving.{Receiving}
-use Rattle.wasi_host.specs.declared.name_lookup.LookupOp.{LookupOp}
-use Rattle.wasi_host.specs.declared.records.Record.{Record}
-use Rattle.wasi_host.specs.declared.udp.OpenUdp.{OpenUdp}
-use Rattle.wasi_host.specs.declared.udp.Udp2Socket.{Udp2Socket}
+use Rattle.wasi_records.specs.declared.datagrams.Incoming.{Incoming}
+use Rattle.wasi_records.specs.declared.datagrams.Receiving.{Receiving}
+use Rattle.wasi_records.specs.declared.name_lookup.LookupOp.{LookupOp}
+use Rattle.wasi_records.specs.declared.records.Record.{Record}
+use Rattle.wasi_records.specs.declared.udp.OpenUdp.{OpenUdp}
+use Rattle.wasi_records.specs.declared.udp.Udp2Socket.{Udp2Socket}
 use Rattle.wasi_world.specs.Operation.{is_wanted}
 use Rattle.wasi_walks.proofs.UdpLists.{udp_get_set, udp_of_put, udp_of_push, udp_split}
 use Rattle.wasi_walks.proofs.claims.Law.{Base, begins_on_names, on_along, on_names}

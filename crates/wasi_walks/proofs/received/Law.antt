@@ -8,16 +8,16 @@ use Rattle.wasi_udp.specs.Create.{Create, create_cancel_asks, new_create, after_
 use Rattle.wasi_udp.specs.Connect.{with_given}
 use Rattle.wasi_udp.specs.Receive.{receive_first, receive_left as left_of_receive, wanting}
 use Rattle.wasi_udp.specs.Send.{at_remote}
-use Rattle.wasi_host.specs.Datagrams.{udp_connect_left, with_sending}
-use Rattle.wasi_host.specs.Receiving.{receive_left, with_receiving}
+use Rattle.wasi_records.specs.Datagrams.{udp_connect_left, with_sending}
+use Rattle.wasi_records.specs.Receiving.{receive_left, with_receiving}
 use Rattle.wasi_host.specs.declared.kind.Kind.TheVariants.{Udp2}
-use Rattle.wasi_host.specs.Records.{tcp2_put, udp2_put}
-use Rattle.wasi_host.specs.Udp.{udp_side, udp_bind_progress, udp_create_left, with_udp_progress}
-use Rattle.wasi_host.specs.declared.datagrams.Incoming.{Incoming}
-use Rattle.wasi_host.specs.declared.datagrams.Receiving.{Receiving}
-use Rattle.wasi_host.specs.declared.records.Record.{Record}
-use Rattle.wasi_host.specs.declared.udp.OpenUdp.{OpenUdp}
-use Rattle.wasi_host.specs.declared.udp.Udp2Socket.{Udp2Socket}
+use Rattle.wasi_records.specs.Records.{tcp2_put, udp2_put}
+use Rattle.wasi_records.specs.Udp.{udp_side, udp_bind_progress, udp_create_left, with_udp_progress}
+use Rattle.wasi_records.specs.declared.datagrams.Incoming.{Incoming}
+use Rattle.wasi_records.specs.declared.datagrams.Receiving.{Receiving}
+use Rattle.wasi_records.specs.declared.records.Record.{Record}
+use Rattle.wasi_records.specs.declared.udp.OpenUdp.{OpenUdp}
+use Rattle.wasi_records.specs.declared.udp.Udp2Socket.{Udp2Socket}
 use Rattle.wasi_world.specs.Operation.{Given, Remote}
 use Rattle.wasi_walks.proofs.claims.Law.{begins_on_two, Named, Base, on_two, on_two_along}
 use Rattle.wasi_walks.proofs.fits.Polls.{Anything}

@@ -4,18 +4,18 @@ use Rattle.wasi_walks.proofs.Words.{Step, Stop, Trap, WasiSocketsCtx, allows_kee
 use Rattle.wasi_walks.proofs.Words.{first_ids, inl, inr, kind_at, machine_asks, refl, subst, sym, ℕ, ◌∙◌, ◌≡◌, ◌≤◌, ◌⊎◌}
 use Rattle.wasi_world.specs.declared.datagram.IncomingDatagram.{IncomingDatagram}
 use Rattle.wasi_host.specs.DatagramCalls.{begins_receive, receive_datagrams_at, with_receive}
-use Rattle.wasi_host.specs.Host.{Code}
+use Rattle.wasi_records.specs.Stops.{Code}
 use Rattle.wasi_host.specs.Machine.{incoming_at}
 use Rattle.wasi_host.specs.Jobs.{with_job}
 use Rattle.wasi_host.specs.UdpCalls.{with_open_udp}
 use Rattle.wasi_jobs.specs.declared.job.HostJob.TheVariants.{Receive}
-use Rattle.wasi_host.specs.Receiving.{receive_datagrams_asks}
-use Rattle.wasi_host.specs.Records.{open_at, udp2_at, udp2_put}
+use Rattle.wasi_records.specs.Receiving.{receive_datagrams_asks}
+use Rattle.wasi_records.specs.Records.{open_at, udp2_at, udp2_put}
 use Rattle.wasi_host.specs.Store.{Records}
-use Rattle.wasi_host.specs.Udp.{udp_side}
-use Rattle.wasi_host.specs.declared.records.Record.{Record}
-use Rattle.wasi_host.specs.declared.udp.OpenUdp.{OpenUdp}
-use Rattle.wasi_host.specs.declared.udp.Udp2Socket.{Udp2Socket}
+use Rattle.wasi_records.specs.Udp.{udp_side}
+use Rattle.wasi_records.specs.declared.records.Record.{Record}
+use Rattle.wasi_records.specs.declared.udp.OpenUdp.{OpenUdp}
+use Rattle.wasi_records.specs.declared.udp.Udp2Socket.{Udp2Socket}
 use Rattle.wasi_p2.specs.Udp.{receive_datagrams_on}
 use Rattle.wasi_machine.specs.Machine.{reply_of}
 use Rattle.wasi_steps.specs.Reply.{datagram_values}

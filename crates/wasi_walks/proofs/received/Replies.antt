@@ -3,12 +3,12 @@ use Rattle.wasi_walks.proofs.Words.{⊤, Allows, Entry, Err, IsSide, List, Machi
 use Rattle.wasi_walks.proofs.Words.{WasiSocketsCtx, allows_then, asks_while, first_ids, kind_at, machine_asks, refl, ℕ, ◌≡◌}
 use Rattle.wasi_world.specs.declared.datagram.IncomingDatagram.{IncomingDatagram}
 use Rattle.wasi_host.specs.DatagramCalls.{receive_datagrams_at}
-use Rattle.wasi_host.specs.Host.{Code}
+use Rattle.wasi_records.specs.Stops.{Code}
 use Rattle.wasi_host.specs.Machine.{incoming_at}
-use Rattle.wasi_host.specs.Receiving.{receive_datagrams_asks}
-use Rattle.wasi_host.specs.Records.{open_at, udp2_at}
-use Rattle.wasi_host.specs.declared.udp.OpenUdp.{OpenUdp}
-use Rattle.wasi_host.specs.declared.udp.Udp2Socket.{Udp2Socket}
+use Rattle.wasi_records.specs.Receiving.{receive_datagrams_asks}
+use Rattle.wasi_records.specs.Records.{open_at, udp2_at}
+use Rattle.wasi_records.specs.declared.udp.OpenUdp.{OpenUdp}
+use Rattle.wasi_records.specs.declared.udp.Udp2Socket.{Udp2Socket}
 use Rattle.wasi_p2.specs.Udp.{receive_datagrams_on}
 use Rattle.wasi_machine.specs.Machine.{reply_of}
 use Rattle.wasi_steps.specs.Reply.{datagram_values}

@@ -4,13 +4,13 @@ use Rattle.wasi_walks.proofs.Words.{allows_if, allows_keep, allows_then, allows_
 use Rattle.wasi_walks.proofs.Words.{refl, side_of, subst, sym, told_done, turn_asks, with_handle, with_listening, with_writer, ℕ, ◌++◌, ◌∷◌, ◌≡◌, ◌⊎◌}
 use Rattle.wasi_udp.specs.Create.{create_cancel_asks, after_create as udp_after_create}
 use Rattle.wasi_host.specs.Kinds.{udp_of}
-use Rattle.wasi_host.specs.Records.{tcp2_pushed, udp2_at}
-use Rattle.wasi_host.specs.Udp.{udp_side}
+use Rattle.wasi_records.specs.Records.{tcp2_pushed, udp2_at}
+use Rattle.wasi_records.specs.Udp.{udp_side}
 use Rattle.wasi_host.specs.UdpCreates.{udp_side_at}
 use Rattle.wasi_host.specs.declared.kind.Kind.TheVariants.{Incoming, Udp2}
-use Rattle.wasi_host.specs.declared.records.Record.{Record}
-use Rattle.wasi_host.specs.declared.udp.OpenUdp.{OpenUdp}
-use Rattle.wasi_host.specs.declared.udp.Udp2Socket.{Udp2Socket}
+use Rattle.wasi_records.specs.declared.records.Record.{Record}
+use Rattle.wasi_records.specs.declared.udp.OpenUdp.{OpenUdp}
+use Rattle.wasi_records.specs.declared.udp.Udp2Socket.{Udp2Socket}
 use Rattle.wasi_walks.proofs.UdpLists.{udp_set_same}
 use Rattle.wasi_walks.proofs.claims.Law.{begins_on_two, Base, on_two, on_two_along}
 use Rattle.wasi_walks.proofs.fits.Polls.{Anything}

@@ -11,12 +11,12 @@ use Rattle.wasi_common.specs.Rounds.{is_going}
 use Rattle.wasi_udp.specs.Create.{Create, create_cancel_asks, new_create, after_create as udp_after_create}
 use Rattle.wasi_udp.specs.Shape.{Socket as UdpSocket}
 use Rattle.wasi_udp.specs.Socket.{after_local as udp_after_local}
-use Rattle.wasi_host.specs.Records.{tcp2_put, udp2_put}
+use Rattle.wasi_records.specs.Records.{tcp2_put, udp2_put}
 use Rattle.wasi_host.specs.declared.kind.Kind.TheVariants.{Udp2}
-use Rattle.wasi_host.specs.Udp.{udp_side, with_udp_inner}
-use Rattle.wasi_host.specs.declared.records.Record.{Record}
-use Rattle.wasi_host.specs.declared.udp.OpenUdp.{OpenUdp}
-use Rattle.wasi_host.specs.declared.udp.Udp2Socket.{Udp2Socket}
+use Rattle.wasi_records.specs.Udp.{udp_side, with_udp_inner}
+use Rattle.wasi_records.specs.declared.records.Record.{Record}
+use Rattle.wasi_records.specs.declared.udp.OpenUdp.{OpenUdp}
+use Rattle.wasi_records.specs.declared.udp.Udp2Socket.{Udp2Socket}
 use Rattle.wasi_walks.proofs.Lists.{has_last}
 use Rattle.wasi_walks.proofs.claims.Law.{Named, Base}
 use Rattle.wasi_walks.proofs.fits.Polls.{Anything}

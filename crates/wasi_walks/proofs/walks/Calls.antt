@@ -5,22 +5,22 @@ use Rattle.std.specs.Prelude.{◌≡◌, ℕ, Bool, true, false, List, Option, S
 use Rattle.wasi_world.specs.declared.outcome.TrapKind.TheVariants.{NoSuchHandle}
 use Rattle.wasi_walks.proofs.Words.{Asks, ErrorValue, Give, Has, Kind, Machine, Records, Step, Stop, Streams, StreamStop, Tcp2Socket, WasiSocketsCtx, allows_weaker}
 use Rattle.wasi_walks.proofs.Words.{ap, bind, check_write_asks, flush_asks, input_at, input_of, kind_at, make_asks, output_at, output_of, own_of, read_state_asks, reader_asks, refl, side_at, stream_at, subst, sym, with_store, write_state_asks, writer_asks, writer_of}
-use Rattle.wasi_host.specs.Host.{CallStop}
+use Rattle.wasi_host.specs.CallStops.{CallStop}
 use Rattle.wasi_jobs.specs.declared.job.HostJob.TheVariants.{Write}
 use Rattle.wasi_host.specs.declared.kind.Kind.TheVariants as kind
 use Rattle.wasi_host.specs.declared.kind.PlainInput.{PlainInput}
 use Rattle.wasi_host.specs.declared.kind.PlainOutput.{PlainOutput}
 use Rattle.wasi_host.specs.Blocking.{look_asks, look_at, look_by, look_on, looked}
-use Rattle.wasi_host.specs.Jobs.{begins_job, with_job}
+use Rattle.wasi_records.specs.Halves.{begins_job}
+use Rattle.wasi_host.specs.Jobs.{with_job}
 use Rattle.wasi_host.specs.Kinds.{plain_input_of, plain_output_of}
-use Rattle.wasi_host.specs.Records.{tcp2_at}
-use Rattle.wasi_host.specs.StreamCalls.{check_asks, check_by, converted, counted, flush_by, flushed_asks, plain_input_at, plain_output_at, read_asks, read_by, skip_asks, stream_on, write_asks, write_by, write_on}
+use Rattle.wasi_records.specs.Records.{tcp2_at}
+use Rattle.wasi_host.specs.StreamCalls.{check_asks, check_by, converted, counted, flush_by, flushed_asks, plain_input_at, plain_output_at, read_asks, read_by, skip_asks, stream_on, write_asks, write_by, write_on, failed_made}
 use Rattle.wasi_streams.specs.StreamStop as stop
 use Rattle.std.specs.Prelude.{⊤}
 use Rattle.wasi_walks.proofs.Words.{Allows, Entry, allows_then}
 use Rattle.wasi_walks.proofs.Gives.{Gives}
 use Rattle.wasi_host.specs.Machine.{with_table}
-use Rattle.wasi_host.specs.StreamCalls.{failed_made}
 use Rattle.wasi_walks.proofs.walks.Failures.{Why, check_why, flush_why, input_why, output_why, written_why}
 use Rattle.wasi_walks.proofs.walks.OnBase.{both}
 use Rattle.wasi_walks.proofs.walks.Moves.{Calls, Here, Leaves, Lists, OfStreams, Own, ReachesHandle, Used, put, record_of}

@@ -3,10 +3,10 @@ use Rattle.std.specs.Prelude.{◌≡◌, ℕ, List, Option, Some, None}
 use Rattle.wasi_walks.proofs.Words.{Give, InProgress, ap, call_of, standing_as, Machine, Records, Standing, StandingCall, Step, Tcp2Socket, WasiSocketsCtx, refl, subst, sym, unstood, with_progress, inl, inr}
 use Rattle.wasi_world.specs.declared.ids.Ids.{Ids}
 use Rattle.wasi_host.specs.Cancel.{cancel_bind_at, cancel_call, cancel_create, cancel_create_at, cancel_drop_outgoing_at, cancel_listen_at, cancel_on, cancel_udp_bind_at, cancel_udp_connect_at}
-use Rattle.wasi_host.specs.Records.{tcp2_at, udp2_at, open_at}
-use Rattle.wasi_host.specs.declared.udp.OpenUdp.{OpenUdp}
-use Rattle.wasi_host.specs.declared.udp.Udp2Socket.{Udp2Socket}
-use Rattle.wasi_host.specs.declared.udp.UdpInProgress.{UdpInProgress}
+use Rattle.wasi_records.specs.Records.{tcp2_at, udp2_at, open_at}
+use Rattle.wasi_records.specs.declared.udp.OpenUdp.{OpenUdp}
+use Rattle.wasi_records.specs.declared.udp.Udp2Socket.{Udp2Socket}
+use Rattle.wasi_records.specs.declared.udp.UdpInProgress.{UdpInProgress}
 use Rattle.wasi_udp.specs.Create.{Create, create_cancel_asks}
 use Rattle.wasi_walks.proofs.walks.Here.{ConnectStands, NoConnectIn, no_open, out_gone, takes_none}
 use Rattle.wasi_walks.proofs.walks.Moves.{GivesBack, OfUdp, StreamStays, Used, CancelsBind, CancelsUdpBind, CancelsUdpConnect, Changes, EndsConnect, Found, FoundUdp, Here, Leaves, RecallsStreams, ToConnect, ToStream, IsSettled, IsUdpSettled, Lists, NoStartStands, Spends, UdpChanges, Unstands, Unused, put_udp}

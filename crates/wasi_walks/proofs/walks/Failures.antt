@@ -3,13 +3,14 @@ use Rattle.wasi_walks.proofs.Words.{Answer, Asks, Entry, Err, ErrorCode, Input, 
 use Rattle.wasi_walks.proofs.Words.{Bool, after_read, allows_if, begun, bind, check_write_asks, collected, entry, false, flush_asks, kind_at, length, look_asks, look_in, min, nat_lt, new_job, own_of, permitted, polled_answer, read_state_asks, reader_asks, refl, stream_at, true, turn_asks, write_on_asks, write_state_asks, writer_asks, writer_of, reader_of, ℕ, ⊤, ◌++◌, ◌==◌, ◌∷◌, ◌≡◌}
 use Rattle.wasi_world.specs.Typed.{told_bytes}
 use Rattle.wasi_world.specs.declared.call.Call.{Call}
-use Rattle.wasi_host.specs.Records.{tcp2_at, tcp2_put}
-use Rattle.wasi_host.specs.declared.records.Record.{Record}
+use Rattle.wasi_records.specs.Records.{tcp2_at, tcp2_put}
+use Rattle.wasi_records.specs.declared.records.Record.{Record}
 use Rattle.wasi_streams.specs.StreamStop as stop
 use Rattle.wasi_tcp.specs.Halves.{read_asks}
 use Rattle.wasi_tcp.specs.declared.halves.TcpReceiveStream.{TcpReceiveStream}
 use Rattle.wasi_tcp.specs.declared.writer.WriteError.{WriteError}
-use Rattle.wasi_host.specs.Jobs.{begins_job, with_job, write_at}
+use Rattle.wasi_records.specs.Halves.{begins_job}
+use Rattle.wasi_host.specs.Jobs.{with_job, write_at}
 use Rattle.wasi_jobs.specs.declared.job.HostJob.TheVariants as jobs
 use Rattle.wasi_walks.proofs.Words.{Kind, Machine, ap, input_at, input_of, output_at, output_of}
 use Rattle.wasi_walks.specs.Licence.{ReadFailed}

@@ -10,18 +10,18 @@ use Rattle.wasi_walks.proofs.walks.Moves.{HasNewStream, Here, MarksNext, ToSend,
 use Rattle.wasi_walks.proofs.walks.Failures.{Fails}
 use Rattle.wasi_walks.proofs.Lists.{set_there, set_set, set_same}
 use Rattle.wasi_host.specs.Kinds.{kind_at, udp_of}
-use Rattle.wasi_host.specs.Records.{tcp2_at, udp2_at, lookup_at}
-use Rattle.wasi_host.specs.declared.name_lookup.Lookup.TheVariants as lookup
-use Rattle.wasi_host.specs.declared.name_lookup.LookupOp.{LookupOp}
+use Rattle.wasi_records.specs.Records.{tcp2_at, udp2_at, lookup_at}
+use Rattle.wasi_records.specs.declared.name_lookup.Lookup.TheVariants as lookup
+use Rattle.wasi_records.specs.declared.name_lookup.LookupOp.{LookupOp}
 use Rattle.wasi_host.specs.UdpCreates.{udp_side_at}
 use Rattle.wasi_host.specs.declared.kind.Kind.TheVariants.{Udp2}
-use Rattle.wasi_host.specs.declared.udp.OpenUdp.{OpenUdp}
-use Rattle.wasi_host.specs.declared.udp.Udp2Socket.{Udp2Socket}
-use Rattle.wasi_host.specs.Udp.{udp_side, with_udp_inner}
+use Rattle.wasi_records.specs.declared.udp.OpenUdp.{OpenUdp}
+use Rattle.wasi_records.specs.declared.udp.Udp2Socket.{Udp2Socket}
+use Rattle.wasi_records.specs.Udp.{udp_side, with_udp_inner}
 use Rattle.wasi_udp.specs.Create.{Create, create_cancel_asks, after_create as udp_after_create}
 use Rattle.wasi_walks.proofs.Words.{ErrorValue, Has, TcpSendStream, WriteState, length, nat_lt, new_job}
 use Rattle.wasi_udp.specs.Socket.{after_local as udp_after_local, after_peer}
-use Rattle.wasi_host.specs.declared.records.Record.{Record}
+use Rattle.wasi_records.specs.declared.records.Record.{Record}
 
 pub record Law (contexts : List WasiSocketsCtx) (line : ℕ) (origin : Step) : Type 1 where
   pub P : List Entry → OpId → Call → Type 0

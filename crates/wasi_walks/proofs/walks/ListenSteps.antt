@@ -12,7 +12,7 @@ use Rattle.wasi_walks.proofs.walks.Law.{Law, HasRecord, put_same, Walks, give, a
 use Rattle.wasi_walks.proofs.walks.Sockets.{joined_if, Took, takes_walks, listener_walks, begin_listen_walks, begun_listen_given, WaitsSo}
 use Rattle.wasi_walks.proofs.walks.States.{Watching, OverWith, Between, socket_record, JoinedSo, At, Starts, given_any, AcceptedSo, Put, joined_given, Over, there}
 use Rattle.wasi_walks.proofs.walks.SocketSteps.{answered_walks, streams_walks}
-use Rattle.wasi_host.specs.Records.{tcp2_at, tcp2_put}
+use Rattle.wasi_records.specs.Records.{tcp2_at, tcp2_put}
 
 module _ {contexts : List WasiSocketsCtx} {line : ℕ} {origin : Step} {law : Law contexts line origin} where
   -- == a listen

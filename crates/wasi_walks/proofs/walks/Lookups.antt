@@ -12,22 +12,21 @@ use Rattle.wasi_walks.proofs.Words.{ap, ask_made, bind, context_at, entry, inl, 
 use Rattle.wasi_world.specs.declared.asks.Polled.{Polled}
 use Rattle.wasi_world.specs.Typed.{told_names}
 use Rattle.wasi_host.specs.Machine.{answered, at_once}
-use Rattle.wasi_host.specs.NameLookup.{lookup_told, next_of, turn_lookup_at}
+use Rattle.wasi_records.specs.NameLookup.{lookup_told, next_of, turn_lookup_at, is_looking}
 use Rattle.wasi_host.specs.NameLookupCalls.{drop_lookup_at, looked_up, lookup_handle, next_at, resolve_host, resolved, with_lookup}
-use Rattle.wasi_host.specs.Records.{lookup_at, lookup_of, lookup_put, lookup_pushed}
-use Rattle.wasi_host.specs.declared.name_lookup.Lookup.{Lookup}
-use Rattle.wasi_host.specs.declared.name_lookup.Lookup.TheVariants.{InProgress, Found, Failed}
-use Rattle.wasi_host.specs.declared.name_lookup.LookupOp.{LookupOp}
+use Rattle.wasi_records.specs.Records.{lookup_at, lookup_of, lookup_put, lookup_pushed}
+use Rattle.wasi_records.specs.declared.name_lookup.Lookup.{Lookup}
+use Rattle.wasi_records.specs.declared.name_lookup.Lookup.TheVariants.{InProgress, Found, Failed}
+use Rattle.wasi_records.specs.declared.name_lookup.LookupOp.{LookupOp}
 use Rattle.wasi_host.specs.declared.kind.Kind.TheVariants.{Lookup as LookupHandle}
-use Rattle.wasi_host.specs.declared.records.Record.{Record}
-use Rattle.wasi_host.specs.declared.records.Record.TheVariants.{Lookup as LookupRecord}
+use Rattle.wasi_records.specs.declared.records.Record.{Record}
+use Rattle.wasi_records.specs.declared.records.Record.TheVariants.{Lookup as LookupRecord}
 use Rattle.wasi_p2.specs.Lookup.{next_address_on, resolve_asks, resolved_host}
 use Rattle.wasi_walks.proofs.Lists.{get_seam}
 use Rattle.wasi_walks.proofs.LookupLists.{input_lookup_push, input_lookup_put, lookup_front, lookup_get_set, lookup_last, lookup_split, lookup_stays, output_lookup_push, output_lookup_put, tcp_lookup_push, tcp_lookup_put, udp_lookup_push, udp_lookup_put}
 use Rattle.wasi_walks.proofs.walks.Moves.{ALookup, Emptied, Finds, GivesBack, Here, KeepsJobs, Leaves, Lists, LooksUp, Numbered, Numbers, OfLookup, OfUnnamed, SameSockets, Spends, Unused, with_records}
 use Rattle.wasi_walks.proofs.walks.Law.{Given, Law, Walks, and_given, by_if, give, gives, mark, move}
 use Rattle.wasi_walks.proofs.walks.Jobs.{lookup_is_record, may_begin_one}
-use Rattle.wasi_host.specs.NameLookup.{is_looking}
 use Rattle.wasi_jobs.specs.declared.job.HostJob.TheVariants as jobs
 use Rattle.std.specs.Prelude.{length, slice_get}
 use Rattle.wasi_walks.proofs.walks.States.{Numbering, Over, OverWith, Sets, Starts}

@@ -14,7 +14,7 @@ use Rattle.wasi_addr.specs.Clamp.{clamped_backlog}
 use Rattle.wasi_world.specs.declared.call.Opt.{Opt}
 use Rattle.wasi_common.specs.Options.{value_set}
 use Rattle.wasi_walks.specs.Licence.{IsSetTo}
-use Rattle.wasi_host.specs.Records.{tcp2_at}
+use Rattle.wasi_records.specs.Records.{tcp2_at}
 use Rattle.wasi_walks.proofs.Words.{Tcp2}
 use Rattle.wasi_host.specs.Options.{looked_at, set_backlog_at}
 use Rattle.wasi_p2.specs.Options.{record_asks}

@@ -1,7 +1,7 @@
 -- The calls on a socket, and those of a listen and of a listener, as moves of the record that holds it.
 use Rattle.std.specs.Prelude.{IsSome}
 use Rattle.wasi_tcp.specs.Halves.{take_send}
-use Rattle.wasi_host.specs.Records.{tcp2_at}
+use Rattle.wasi_records.specs.Records.{tcp2_at, tcp2_put}
 use Rattle.wasi_host.specs.Store.{with_record_put}
 use Rattle.wasi_walks.specs.Answered.{streams_in}
 use Rattle.wasi_walks.proofs.Lists.{set_there}
@@ -33,8 +33,7 @@ use Rattle.std.specs.Prelude.{not, ◌+◌}
 use Rattle.wasi_walks.proofs.walks.Here.{MayBegin, after}
 use Rattle.wasi_tcp.specs.Listener.{begun as accept_begun, has_accept}
 use Rattle.wasi_walks.proofs.Lists.{set_set}
-use Rattle.wasi_host.specs.Records.{tcp2_put}
-use Rattle.wasi_host.specs.declared.records.Record.{Record}
+use Rattle.wasi_records.specs.declared.records.Record.{Record}
 
 -- what a call on the record's socket, its reader or its writer leaves
 abbrev pub Inner : {A : Type 0} → Here → ℕ → Tcp2Socket → A × Socket → Here

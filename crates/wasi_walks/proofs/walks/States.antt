@@ -11,8 +11,8 @@ use Rattle.wasi_host.specs.declared.kind.Kind.TheVariants.{Udp2, PlainInput, Pla
 use Rattle.wasi_host.specs.Kinds.{udp_of, incoming_of, outgoing_of}
 use Rattle.wasi_walks.proofs.Lists.{value_front, tcp2_seam}
 use Rattle.wasi_walks.proofs.walks.Law.{HasRecord, Given, given_then}
-use Rattle.wasi_host.specs.Records.{tcp2_at, tcp2_put}
-use Rattle.wasi_host.specs.declared.records.Record.{Record}
+use Rattle.wasi_records.specs.Records.{tcp2_at, tcp2_put}
+use Rattle.wasi_records.specs.declared.records.Record.{Record}
 
 -- a line begins, and is over
 abbrev pub Starts : Machine → Own → Here

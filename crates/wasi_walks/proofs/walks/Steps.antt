@@ -22,7 +22,7 @@ use Rattle.wasi_walks.proofs.walks.Streams.{subscribe_walks, drop_walks, turn_wa
 use Rattle.wasi_walks.proofs.walks.States.{At, Over, OverWith, udp_record, Put, Starts, socket_record, stands_so, there, none_stands}
 use Rattle.wasi_walks.proofs.walks.SocketSteps.{finish_started_walks, local_at_walks, shutdown_at_walks, start_connect_walks, start_bind_walks, looked_walks, set_chosen_walks, remote_at_walks, on_socket, finish_on_walks, as_left, answered_walks}
 use Rattle.wasi_walks.proofs.walks.ListenSteps.{accept_on_walks, start_listen_at_walks}
-use Rattle.wasi_host.specs.Records.{tcp2_at, open_at}
+use Rattle.wasi_records.specs.Records.{tcp2_at, open_at}
 use Rattle.wasi_host.specs.declared.pending.Outcome.{Outcome}
 use Rattle.wasi_host.specs.Machine.{udp_socket_at, outgoing_at, lookup_number}
 use Rattle.wasi_host.specs.Pending.{gone_on, created_on, streams_on}

@@ -17,18 +17,19 @@ use Rattle.wasi_walks.proofs.Words.{writer_shutdown_asks, writer_side, writing_s
 use Rattle.wasi_world.specs.declared.ids.Ids.{Ids}
 use Rattle.wasi_addr.specs.declared.address.ShutdownType.TheVariants.{Receive, Send, Both}
 use Rattle.wasi_tcp.specs.Job.{finish_in as finish_job}
-use Rattle.wasi_host.specs.Records.{tcp2_at, udp2_at, open_at, lookup_at}
-use Rattle.wasi_host.specs.declared.records.Record.{Record}
+use Rattle.wasi_records.specs.Records.{tcp2_at, udp2_at, open_at, lookup_at}
+use Rattle.wasi_records.specs.declared.records.Record.{Record}
 use Rattle.wasi_jobs.specs.declared.job.HostJob.{HostJob}
 use Rattle.wasi_jobs.specs.declared.job.HostJob.TheVariants.{Write, Datagram}
 use Rattle.wasi_jobs.specs.declared.job.HostJob.TheVariants as jobs
-use Rattle.wasi_host.specs.Shutdowns.{with_streams}
+use Rattle.wasi_records.specs.Shutdowns.{with_streams}
 use Rattle.wasi_walks.proofs.walks.Writes.{may_begin, MayWrite, AsLet, AsNone, AsAny}
 use Rattle.wasi_walks.proofs.walks.Moves.{Own, Used, Unused, ToWrite, Here, put, OfReader, OfWriter, Collects, Permits, Lasts, LastsAfter, Closes, Spends, ClosesReader, Writes, BeginsWrite, record_of, APlainPollable, Reaches, Leaves, IsGone, Lists, Takes, Stands, APollable, AUdpPollable, ALookupPollable, ReachesUdp, udp_record_of}
 use Rattle.wasi_walks.proofs.walks.Law.{Law, HasRecord, spent, put_put, Walks, give, and_then, by_if, move, gives, from, found, on, ask, turn, put_same, ends, close, mark, give_up, and_so}
 use Rattle.wasi_tcp.specs.Closing.{close_in}
-use Rattle.wasi_host.specs.Readiness.{ready_reader, ready_writer}
-use Rattle.wasi_host.specs.Jobs.{after_turn, is_going, jobs_with, turned, turn_at, turn_job, turn_jobs}
+use Rattle.wasi_records.specs.Looks.{ready_reader, ready_writer}
+use Rattle.wasi_host.specs.Jobs.{after_turn, is_going, jobs_with, turn_at, turn_job, turn_jobs}
+use Rattle.wasi_records.specs.Halves.{turned}
 use Rattle.wasi_walks.proofs.walks.States.{Over, watched_record, OverWith, At, Starts, streams_are, none_stands, Put, there, Sets, watched_udp, watched_lookup}
 use Rattle.wasi_walks.proofs.walks.Jobs.{one_turned}
 use Rattle.wasi_walks.proofs.walks.Pipes.{drop_input_walks, drop_output_walks as drop_plain_output_walks}

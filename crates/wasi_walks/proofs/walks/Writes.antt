@@ -6,7 +6,7 @@ use Rattle.wasi_walks.proofs.Words.{WasiSocketsCtx, ◌≡◌}
 use Rattle.wasi_streams.specs.Streams.{zeros}
 use Rattle.wasi_walks.proofs.walks.Moves.{Own, Used, Unused, ToWrite}
 use Rattle.wasi_walks.proofs.walks.Law.{Law, BeginsWrites}
-use Rattle.wasi_host.specs.Records.{tcp2_at}
+use Rattle.wasi_records.specs.Records.{tcp2_at}
 
 -- what the writer lets a write begin
 abbrev pub may_begin : WriteState → List ℕ → Own

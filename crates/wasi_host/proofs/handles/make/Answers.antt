@@ -1,8 +1,9 @@
 use Rattle.std.proofs.Common.{refl}
 use Rattle.wasi_world.proofs.Walks.{asks_end}
-use Rattle.wasi_host.proofs.Hosts.{fault_exit, fault_on}
-use Rattle.wasi_host.proofs.Lookups.{stays_live, comes_live}
-use Rattle.wasi_host.proofs.SideCounts.{Any, knows_calm, calm_made}
+use Rattle.wasi_records.proofs.Hosts.{fault_exit, fault_on}
+use Rattle.wasi_host.proofs.LiveHandles.{stays_live, comes_live}
+use Rattle.wasi_records.proofs.SideCounts.{Any, calm_made}
+use Rattle.wasi_host.proofs.KnownSides.{knows_calm}
 use Rattle.wasi_host.proofs.handles.make.Goals as goal
 
 pub returns-in_err-made-clause-asked : goal.returns-in_err-made-clause-asked

@@ -1,6 +1,6 @@
 use Rattle.std.proofs.Common.{refl}
 use Rattle.wasi_world.proofs.Walks.{asks_end}
-use Rattle.wasi_host.proofs.Hosts.{host_passed}
+use Rattle.wasi_records.proofs.Hosts.{host_passed}
 use Rattle.wasi_host.proofs.pending.resume.Goals as goal
 
 pub returns-in_err-answer-clause-asked : goal.returns-in_err-answer-clause-asked

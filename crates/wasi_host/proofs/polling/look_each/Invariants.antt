@@ -1,7 +1,7 @@
 use Rattle.std.proofs.Common.{◌≡◌, ◌+◌, ◌≤◌, false, drop, []}
 use Rattle.wasi_world.specs.Asks.{Reaches}
 use Rattle.wasi_host.specs.Polling.{look_each}
-use Rattle.wasi_host.specs.Sides.{KnowsSides}
+use Rattle.wasi_host.specs.KnownSides.{KnowsSides}
 use Rattle.wasi_host.specs.Views.{SameView, state_of}
 use Rattle.wasi_host.proofs.polling.look_each.Given as goal
 

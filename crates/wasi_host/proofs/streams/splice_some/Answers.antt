@@ -1,6 +1,6 @@
 use Rattle.std.proofs.Common.{refl}
 use Rattle.wasi_world.proofs.Walks.{asks_end, asks_then}
-use Rattle.wasi_host.specs.Names.{own_of}
+use Rattle.wasi_records.specs.Names.{own_of}
 use Rattle.wasi_host.specs.Views.{state_of}
 use Rattle.wasi_host.proofs.Blocks.{never, call_passed, some_count, read_some}
 use Rattle.wasi_host.proofs.streams.splice_some.Goals as goal

@@ -3,14 +3,15 @@ use Rattle.wasi_addr.specs.declared.p2.ErrorCode.TheVariants.{WouldBlock}
 use Rattle.wasi_world.specs.declared.outcome.TrapKind.TheVariants.{NoSuchHandle}
 use Rattle.wasi_world.specs.Asks.{Give}
 use Rattle.wasi_world.proofs.Walks.{asks_end, asks_given}
-use Rattle.wasi_host.specs.Records.{tcp2_put}
-use Rattle.wasi_host.specs.declared.records.Record.{Record}
-use Rattle.wasi_host.specs.Host.{Code, Trap, code_stop, host_outcome}
-use Rattle.wasi_host.specs.Listening.{with_accepted_in, with_records}
+use Rattle.wasi_records.specs.Records.{tcp2_put}
+use Rattle.wasi_records.specs.declared.records.Record.{Record}
+use Rattle.wasi_records.specs.Stops.{Code, Trap, code_stop, host_outcome}
+use Rattle.wasi_records.specs.Listening.{with_accepted_in}
+use Rattle.wasi_host.specs.TcpCalls.{with_records}
 use Rattle.wasi_host.specs.Store.{Records}
 use Rattle.wasi_host.proofs.AcceptedRecords.{knows_accepted, found_still, none_still, names_left}
-use Rattle.wasi_host.proofs.ConnectCounts.{knows_polled}
-use Rattle.wasi_host.proofs.Hosts.{host_none, host_refused}
+use Rattle.wasi_host.proofs.KnownSides.{knows_polled}
+use Rattle.wasi_records.proofs.Hosts.{host_none, host_refused}
 use Rattle.wasi_host.proofs.store.Store.accept.Goals as goal
 
 pub returns-in_err-reserve-clause-asked : goal.returns-in_err-reserve-clause-asked

@@ -1,8 +1,9 @@
 use Rattle.std.proofs.Common.{refl}
 use Rattle.wasi_host.specs.Store.{Records}
-use Rattle.wasi_host.proofs.ConnectCounts.{balances_as, knows_polled}
-use Rattle.wasi_host.proofs.Lookups.{found_at}
-use Rattle.wasi_host.proofs.SideCounts.{balances_none}
+use Rattle.wasi_records.proofs.ConnectCounts.{balances_as}
+use Rattle.wasi_host.proofs.KnownSides.{knows_polled}
+use Rattle.wasi_records.proofs.Lookups.{found_at}
+use Rattle.wasi_records.proofs.SideCounts.{balances_none}
 use Rattle.wasi_host.proofs.store.Store.cancel_bind.Goals as goal
 
 pub returns-clause-sides : goal.returns-clause-sides

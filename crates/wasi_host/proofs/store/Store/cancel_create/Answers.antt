@@ -3,9 +3,9 @@ use Rattle.wasi_world.specs.Asks.{Give}
 use Rattle.wasi_world.proofs.Walks.{asks_end, asks_exit}
 use Rattle.wasi_host.specs.GivingBack.{given_back}
 use Rattle.wasi_host.specs.Store.{Records}
-use Rattle.wasi_host.specs.declared.records.Record.TheVariants.{Udp2}
-use Rattle.wasi_host.specs.declared.udp.Udp2Socket.{Udp2Socket}
-use Rattle.wasi_host.specs.declared.udp.Udp2Socket.TheVariants.{Closed}
+use Rattle.wasi_records.specs.declared.records.Record.TheVariants.{Udp2}
+use Rattle.wasi_records.specs.declared.udp.Udp2Socket.{Udp2Socket}
+use Rattle.wasi_records.specs.declared.udp.Udp2Socket.TheVariants.{Closed}
 use Rattle.wasi_host.proofs.GivenBack.{given_back_put, knows_cancelled}
 use Rattle.wasi_host.proofs.store.Store.cancel_create.Goals as goal
 

@@ -1,6 +1,6 @@
 use Rattle.wasi_host.specs.Store.{Records}
 use Rattle.wasi_host.proofs.DatagramStores.{knows_put}
-use Rattle.wasi_host.proofs.Looks.{knows_jobs}
+use Rattle.wasi_host.proofs.KnownSides.{knows_jobs}
 use Rattle.wasi_host.proofs.store.Store.cancel_drop_outgoing.Goals as goal
 
 pub returns-clause-sides : goal.returns-clause-sides

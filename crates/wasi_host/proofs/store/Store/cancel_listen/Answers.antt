@@ -2,8 +2,8 @@ use Rattle.std.proofs.Common.{refl}
 use Rattle.wasi_world.proofs.Walks.{asks_given}
 use Rattle.wasi_host.specs.Store.{Records}
 use Rattle.wasi_host.proofs.Cancels.{listen_balances, listen_cancelled}
-use Rattle.wasi_host.proofs.ConnectCounts.{knows_polled}
-use Rattle.wasi_host.proofs.Lookups.{found_at, none_at}
+use Rattle.wasi_host.proofs.KnownSides.{knows_polled}
+use Rattle.wasi_records.proofs.Lookups.{found_at, none_at}
 use Rattle.wasi_host.proofs.store.Store.cancel_listen.Goals as goal
 
 pub returns-in_default-clause-asked : goal.returns-in_default-clause-asked

@@ -1,7 +1,7 @@
 use Rattle.std.proofs.Common.{sym, ap, ◌∙◌}
 use Rattle.wasi_host.specs.Store.{Records}
 use Rattle.wasi_host.proofs.DatagramStores.{given_back, knows_back, knows_put, not_permitted}
-use Rattle.wasi_host.proofs.UdpLookups.{open_found}
+use Rattle.wasi_records.proofs.UdpLookups.{open_found}
 use Rattle.wasi_host.proofs.store.Store.check_send.Goals as goal
 
 pub returns-in_default-outgoing-clause-sides : goal.returns-in_default-outgoing-clause-sides

@@ -1,9 +1,10 @@
 use Rattle.std.proofs.Common.{refl}
 use Rattle.wasi_world.proofs.Walks.{asks_gives, asks_given}
 use Rattle.wasi_host.specs.Store.{Records, with_record_put}
-use Rattle.wasi_host.proofs.Lookups.{found_at, none_at}
-use Rattle.wasi_host.proofs.SideCounts.{Any, knows_asked, held_in-set}
-use Rattle.wasi_host.proofs.StreamCounts.{calm_writer, calm_check}
+use Rattle.wasi_records.proofs.Lookups.{found_at, none_at}
+use Rattle.wasi_records.proofs.SideCounts.{Any, held_in-set}
+use Rattle.wasi_host.proofs.KnownSides.{knows_asked}
+use Rattle.wasi_records.proofs.StreamCounts.{calm_writer, calm_check}
 use Rattle.wasi_host.proofs.store.Store.check_write.Goals as goal
 
 pub returns-clause-asked : goal.returns-clause-asked

@@ -1,6 +1,6 @@
 use Rattle.std.proofs.Common.{refl}
 use Rattle.wasi_world.proofs.Walks.{asks_end, asks_then}
-use Rattle.wasi_host.proofs.Hosts.{host_passed}
+use Rattle.wasi_records.proofs.Hosts.{host_passed}
 use Rattle.wasi_host.proofs.store.Store.create_on.Goals as goal
 
 pub returns-in_err-poll_create-clause-asked : goal.returns-in_err-poll_create-clause-asked

@@ -1,13 +1,14 @@
 use Rattle.std.proofs.Common.{List, length, Err, ap, sym, ◌∙◌, subst, refl}
 use Rattle.wasi_world.specs.Asks.{Give}
 use Rattle.wasi_world.proofs.Walks.{asks_then}
-use Rattle.wasi_host.specs.declared.records.Record.{Record}
+use Rattle.wasi_records.specs.declared.records.Record.{Record}
 use Rattle.wasi_host.specs.declared.machine.Machine.{Machine}
-use Rattle.wasi_host.specs.Host.{code_stop}
+use Rattle.wasi_records.specs.Stops.{code_stop}
 use Rattle.wasi_host.specs.Store.{Records, with_record}
-use Rattle.wasi_host.specs.Sides.{KnowsSides}
-use Rattle.wasi_host.proofs.Hosts.{fault_told, host_none, host_refused, handle_asks}
-use Rattle.wasi_host.proofs.SideCounts.{knows_created, knows_refused}
+use Rattle.wasi_host.specs.KnownSides.{KnowsSides}
+use Rattle.wasi_records.proofs.Hosts.{fault_told, host_none, host_refused}
+use Rattle.wasi_host.proofs.TcpHandles.{handle_asks}
+use Rattle.wasi_host.proofs.KnownSides.{knows_created, knows_refused}
 use Rattle.wasi_host.proofs.store.Store.create_socket.Goals as goal
 
 pub returns-in_err-reserve-clause-asked : goal.returns-in_err-reserve-clause-asked

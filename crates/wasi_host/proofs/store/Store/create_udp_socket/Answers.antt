@@ -2,11 +2,11 @@ use Rattle.std.proofs.Common.{List, length, Err, ap, sym, ◌∙◌, subst, refl
 use Rattle.wasi_world.specs.Asks.{Give}
 use Rattle.wasi_world.proofs.Walks.{asks_then}
 use Rattle.wasi_host.specs.declared.machine.Machine.{Machine}
-use Rattle.wasi_host.specs.declared.records.Record.{Record}
-use Rattle.wasi_host.specs.Host.{code_stop}
-use Rattle.wasi_host.specs.Sides.{KnowsSides}
+use Rattle.wasi_records.specs.declared.records.Record.{Record}
+use Rattle.wasi_records.specs.Stops.{code_stop}
+use Rattle.wasi_host.specs.KnownSides.{KnowsSides}
 use Rattle.wasi_host.specs.Store.{Records}
-use Rattle.wasi_host.proofs.Hosts.{host_none, host_refused}
+use Rattle.wasi_records.proofs.Hosts.{host_none, host_refused}
 use Rattle.wasi_host.proofs.UdpMakes.{begun_on, knows_begun, knows_refused}
 use Rattle.wasi_host.proofs.store.Store.create_udp_socket.Goals as goal
 

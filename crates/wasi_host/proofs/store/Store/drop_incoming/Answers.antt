@@ -1,7 +1,7 @@
 use Rattle.wasi_host.specs.Store.{Records}
 use Rattle.std.proofs.Common.{refl}
 use Rattle.wasi_host.proofs.DatagramStores.{knows_put}
-use Rattle.wasi_host.proofs.SideCounts.{knows_same}
+use Rattle.wasi_host.proofs.KnownSides.{knows_same}
 use Rattle.wasi_host.proofs.store.Store.drop_incoming.Goals as goal
 
 pub returns-in-Some-clause-sides : goal.returns-in-Some-clause-sides

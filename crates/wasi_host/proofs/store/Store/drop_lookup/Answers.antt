@@ -1,8 +1,8 @@
 use Rattle.std.proofs.Common.{refl, sym}
-use Rattle.wasi_host.specs.declared.name_lookup.Lookup.TheVariants.{Failed}
-use Rattle.wasi_host.specs.declared.records.Record.TheVariants.{Lookup}
+use Rattle.wasi_records.specs.declared.name_lookup.Lookup.TheVariants.{Failed}
+use Rattle.wasi_records.specs.declared.records.Record.TheVariants.{Lookup}
 use Rattle.wasi_host.proofs.GivenBack.{was_none}
-use Rattle.wasi_host.proofs.NameLookups.{held_in-lookup}
+use Rattle.wasi_records.proofs.NameLookups.{held_in-lookup}
 use Rattle.wasi_host.proofs.store.Store.drop_lookup.Goals as goal
 
 pub returns-clause-sides : goal.returns-clause-sides

@@ -5,8 +5,8 @@ use Rattle.wasi_host.specs.DatagramCalls.{drop_outgoing_by}
 use Rattle.wasi_host.specs.Store.{Records}
 use Rattle.wasi_host.specs.UdpCalls.{with_open_udp}
 use Rattle.wasi_host.proofs.DatagramStores.{given_back, knows_back, knows_put}
-use Rattle.wasi_host.proofs.SideCounts.{knows_stood}
-use Rattle.wasi_host.proofs.UdpLookups.{open_found}
+use Rattle.wasi_host.proofs.KnownSides.{knows_stood}
+use Rattle.wasi_records.proofs.UdpLookups.{open_found}
 use Rattle.wasi_host.proofs.store.Store.drop_outgoing.Goals as goal
 
 pub returns-then-sends-clause-sides : goal.returns-then-sends-clause-sides

@@ -1,7 +1,7 @@
 use Rattle.std.proofs.Common.{ap, sym}
 use Rattle.wasi_world.specs.Asks.{Give}
 use Rattle.wasi_world.proofs.Walks.{asks_exit, asks_end}
-use Rattle.wasi_host.proofs.SideCounts.{knows_stood}
+use Rattle.wasi_host.proofs.KnownSides.{knows_stood}
 use Rattle.wasi_host.proofs.store.Store.drop_output.Goals as goal
 
 pub returns-in_err-answer-clause-asked : goal.returns-in_err-answer-clause-asked

@@ -1,7 +1,7 @@
 use Rattle.std.proofs.Common.{[], refl, sym}
-use Rattle.wasi_host.specs.declared.records.Record.TheVariants.{InputPipe}
+use Rattle.wasi_records.specs.declared.records.Record.TheVariants.{InputPipe}
 use Rattle.wasi_host.proofs.GivenBack.{was_none}
-use Rattle.wasi_host.proofs.Pipes.{held_in-input}
+use Rattle.wasi_records.proofs.PipeCounts.{held_in-input}
 use Rattle.wasi_host.proofs.store.Store.drop_plain_input.Goals as goal
 
 pub returns-clause-sides : goal.returns-clause-sides

@@ -1,8 +1,8 @@
 use Rattle.std.proofs.Common.{refl, sym}
 use Rattle.wasi_memory.specs.Plain.{no_contents}
-use Rattle.wasi_host.specs.declared.records.Record.TheVariants.{OutputPipe}
+use Rattle.wasi_records.specs.declared.records.Record.TheVariants.{OutputPipe}
 use Rattle.wasi_host.proofs.GivenBack.{was_none}
-use Rattle.wasi_host.proofs.Pipes.{held_in-output}
+use Rattle.wasi_records.proofs.PipeCounts.{held_in-output}
 use Rattle.wasi_host.proofs.store.Store.drop_plain_output.Goals as goal
 
 pub returns-clause-sides : goal.returns-clause-sides

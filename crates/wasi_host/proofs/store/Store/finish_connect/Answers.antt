@@ -2,13 +2,13 @@ use Rattle.std.proofs.Common.{List, Err, ap, sym, ◌∙◌, refl}
 use Rattle.wasi_addr.specs.declared.p2.ErrorCode.TheVariants.{NotInProgress}
 use Rattle.wasi_world.specs.Asks.{Give}
 use Rattle.wasi_world.proofs.Walks.{asks_at, asks_gives, asks_given}
-use Rattle.wasi_host.proofs.SideCounts.{knows_same}
-use Rattle.wasi_host.specs.Sides.{held_in}
-use Rattle.wasi_host.specs.declared.records.Record.{Record}
-use Rattle.wasi_host.specs.Host.{Code}
-use Rattle.wasi_host.specs.Store.{Records, finish_connect_by, with_record_put}
-use Rattle.wasi_host.proofs.ConnectCounts.{knows_polled}
-use Rattle.wasi_host.proofs.Lookups.{found_at, none_at, set_back}
+use Rattle.wasi_host.proofs.KnownSides.{knows_same, knows_polled}
+use Rattle.wasi_records.specs.Sides.{held_in}
+use Rattle.wasi_records.specs.declared.records.Record.{Record}
+use Rattle.wasi_records.specs.Stops.{Code}
+use Rattle.wasi_host.specs.Store.{Records, with_record_put}
+use Rattle.wasi_host.specs.TcpCalls.{finish_connect_by}
+use Rattle.wasi_records.proofs.Lookups.{found_at, none_at, set_back}
 use Rattle.wasi_host.proofs.store.Store.finish_connect.Goals as goal
 
 pub returns-in_default-clause-asked : goal.returns-in_default-clause-asked

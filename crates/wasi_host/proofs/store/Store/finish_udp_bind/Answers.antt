@@ -1,11 +1,11 @@
 use Rattle.std.proofs.Common.{Bool, List, ap, sym, ◌∙◌, refl}
-use Rattle.wasi_host.specs.declared.records.Record.{Record}
-use Rattle.wasi_host.specs.declared.udp.UdpInProgress.TheVariants.{Nothing}
-use Rattle.wasi_host.specs.Sides.{held_in}
+use Rattle.wasi_records.specs.declared.records.Record.{Record}
+use Rattle.wasi_records.specs.declared.udp.UdpInProgress.TheVariants.{Nothing}
+use Rattle.wasi_records.specs.Sides.{held_in}
 use Rattle.wasi_host.specs.Store.{Records}
 use Rattle.wasi_host.specs.UdpCalls.{finish_udp_bind_by}
-use Rattle.wasi_host.proofs.SideCounts.{knows_same}
-use Rattle.wasi_host.proofs.UdpLookups.{open_found, open_back, held_in-open}
+use Rattle.wasi_host.proofs.KnownSides.{knows_same}
+use Rattle.wasi_records.proofs.UdpLookups.{open_found, open_back, held_in-open}
 use Rattle.wasi_host.proofs.store.Store.finish_udp_bind.Goals as goal
 
 pub returns-then-not-is_bound-clause-state : goal.returns-then-not-is_bound-clause-state

@@ -1,9 +1,10 @@
 use Rattle.std.proofs.Common.{refl}
 use Rattle.wasi_world.proofs.Walks.{asks_end, asks_given}
-use Rattle.wasi_host.proofs.Hosts.{host_refused}
-use Rattle.wasi_host.proofs.Lookups.{got_at, not_got}
-use Rattle.wasi_host.proofs.SideCounts.{Any, knows_asked, knows_calm}
-use Rattle.wasi_host.proofs.OptionSides.{calm_get}
+use Rattle.wasi_records.proofs.Hosts.{host_refused}
+use Rattle.wasi_records.proofs.Lookups.{got_at, not_got}
+use Rattle.wasi_records.proofs.SideCounts.{Any}
+use Rattle.wasi_host.proofs.KnownSides.{knows_asked, knows_calm}
+use Rattle.wasi_records.proofs.OptionSides.{calm_get}
 use Rattle.wasi_host.proofs.store.Store.get_option.Goals as goal
 
 pub returns-in_default-clause-asked : goal.returns-in_default-clause-asked

@@ -1,7 +1,7 @@
 use Rattle.std.proofs.Common.{refl}
 use Rattle.wasi_host.specs.Store.{Records}
 use Rattle.wasi_host.proofs.GivenBack.{held_still}
-use Rattle.wasi_host.proofs.SideCounts.{knows_same}
+use Rattle.wasi_host.proofs.KnownSides.{knows_same}
 use Rattle.wasi_host.proofs.store.Store.give_back.Goals as goal
 
 pub returns-clause-state : goal.returns-clause-state

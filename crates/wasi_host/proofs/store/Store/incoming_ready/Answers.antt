@@ -2,12 +2,12 @@ use Rattle.std.proofs.Common.{◌≡◌, not, ap, sym, ◌∙◌, refl}
 use Rattle.wasi_world.proofs.Walks.{asks_end}
 use Rattle.wasi_jobs.specs.declared.job.HostJob.TheVariants.{Receive}
 use Rattle.wasi_host.specs.DatagramCalls.{begins_receive}
-use Rattle.wasi_host.specs.Sides.{held_in}
+use Rattle.wasi_records.specs.Sides.{held_in}
 use Rattle.wasi_host.specs.Store.{Records}
 use Rattle.wasi_host.proofs.DatagramStores.{begins_now, begins_none, job_noted, knows_open, looked_so}
-use Rattle.wasi_host.proofs.Hosts.{fault_exit, fault_none}
-use Rattle.wasi_host.proofs.SideCounts.{knows_same}
-use Rattle.wasi_host.proofs.UdpLookups.{open_back, open_found}
+use Rattle.wasi_records.proofs.Hosts.{fault_exit, fault_none}
+use Rattle.wasi_host.proofs.KnownSides.{knows_same}
+use Rattle.wasi_records.proofs.UdpLookups.{open_back, open_found}
 use Rattle.wasi_host.proofs.store.Store.incoming_ready.Goals.{then-not-before, else-not-before}
 use Rattle.wasi_host.proofs.store.Store.incoming_ready.Goals as goal
 

@@ -3,9 +3,10 @@ use Rattle.wasi_world.proofs.Walks.{asks_gives, asks_given}
 use Rattle.wasi_tcp.specs.Socket.{side_of}
 use Rattle.wasi_host.specs.Store.{Records}
 use Rattle.wasi_host.specs.Readiness.{ready_put}
-use Rattle.wasi_host.proofs.SideCounts.{Any, knows_asked, held_in-set}
-use Rattle.wasi_host.proofs.Looks.{calm_ready_reader}
-use Rattle.wasi_host.proofs.Lookups.{found_at, none_at}
+use Rattle.wasi_records.proofs.SideCounts.{Any, held_in-set}
+use Rattle.wasi_host.proofs.KnownSides.{knows_asked}
+use Rattle.wasi_records.proofs.Looks.{calm_ready_reader}
+use Rattle.wasi_records.proofs.Lookups.{found_at, none_at}
 use Rattle.wasi_host.proofs.store.Store.input_ready.Goals as goal
 
 pub returns-in_default-clause-asked : goal.returns-in_default-clause-asked

@@ -1,5 +1,5 @@
 use Rattle.std.proofs.Common.{refl}
-use Rattle.wasi_host.proofs.Hosts.{fault_none}
+use Rattle.wasi_records.proofs.Hosts.{fault_none}
 use Rattle.wasi_host.proofs.store.Store.make_input_pipe.Goals as goal
 
 pub returns-in_err-chunk-clause-asked : goal.returns-in_err-chunk-clause-asked

@@ -1,10 +1,11 @@
 use Rattle.std.proofs.Common.{ap, refl, ◌∙◌}
 use Rattle.wasi_host.specs.declared.machine.Machine.{Machine}
-use Rattle.wasi_host.specs.Sides.{held_in}
+use Rattle.wasi_records.specs.Sides.{held_in}
 use Rattle.wasi_host.specs.Store.{Records}
-use Rattle.wasi_host.proofs.Hosts.{fault_none}
-use Rattle.wasi_host.proofs.Pipes.{held_in-more, pipe_made, pipe_refused}
-use Rattle.wasi_host.proofs.SideCounts.{knows_same}
+use Rattle.wasi_records.proofs.Hosts.{fault_none}
+use Rattle.wasi_records.proofs.PipeCounts.{held_in-more}
+use Rattle.wasi_host.proofs.Pipes.{pipe_made, pipe_refused}
+use Rattle.wasi_host.proofs.KnownSides.{knows_same}
 use Rattle.wasi_host.proofs.store.Store.make_pipe.Goals as goal
 
 pub returns-in_err-reserve-clause-asked : goal.returns-in_err-reserve-clause-asked

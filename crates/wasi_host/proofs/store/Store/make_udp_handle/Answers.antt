@@ -1,7 +1,7 @@
 use Rattle.std.proofs.Common.{refl}
 use Rattle.wasi_world.proofs.Walks.{asks_at, asks_end}
 use Rattle.wasi_host.specs.declared.machine.Machine.{Machine}
-use Rattle.wasi_host.proofs.Hosts.{host_fault}
+use Rattle.wasi_records.proofs.Hosts.{host_fault}
 use Rattle.wasi_host.proofs.UdpMakes.{marked}
 use Rattle.wasi_host.proofs.store.Store.make_udp_handle.Goals as goal
 

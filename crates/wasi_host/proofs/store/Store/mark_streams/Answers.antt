@@ -2,7 +2,7 @@ use Rattle.std.proofs.Common.{refl}
 use Rattle.wasi_world.proofs.Walks.{asks_at, asks_end, asks_then}
 use Rattle.wasi_host.specs.declared.machine.Machine.{Machine}
 use Rattle.wasi_host.specs.DatagramCalls.{mark_streams_of}
-use Rattle.wasi_host.proofs.Hosts.{host_fault}
+use Rattle.wasi_records.proofs.Hosts.{host_fault}
 use Rattle.wasi_host.proofs.store.Store.mark_streams.Goals as goal
 
 pub returns-in_err-incoming-clause-asked : goal.returns-in_err-incoming-clause-asked

@@ -1,5 +1,5 @@
-use Rattle.wasi_host.proofs.NameLookups.{lookup_found, held_in-lookup}
-use Rattle.wasi_host.proofs.SideCounts.{knows_same}
+use Rattle.wasi_records.proofs.NameLookups.{lookup_found, held_in-lookup}
+use Rattle.wasi_host.proofs.KnownSides.{knows_same}
 use Rattle.wasi_host.proofs.store.Store.next_address.Goals as goal
 
 pub returns-clause-sides : goal.returns-clause-sides

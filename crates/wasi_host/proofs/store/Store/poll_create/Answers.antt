@@ -1,12 +1,12 @@
 use Rattle.std.proofs.Common.{Err, refl, ap, sym, ◌∙◌}
 use Rattle.wasi_world.specs.Asks.{Give}
 use Rattle.wasi_world.proofs.Walks.{asks_end}
-use Rattle.wasi_host.specs.Host.{code_stop}
+use Rattle.wasi_records.specs.Stops.{code_stop}
 use Rattle.wasi_host.specs.Store.{Records}
 use Rattle.wasi_host.proofs.GivenBack.{udp_there, left_put}
-use Rattle.wasi_host.proofs.Hosts.{host_refused}
-use Rattle.wasi_host.proofs.UdpLookups.{udp_at}
-use Rattle.wasi_host.proofs.UdpPolls.{knows_fewer}
+use Rattle.wasi_records.proofs.Hosts.{host_refused}
+use Rattle.wasi_records.proofs.UdpLookups.{udp_at}
+use Rattle.wasi_host.proofs.KnownSides.{knows_fewer}
 use Rattle.wasi_host.proofs.store.Store.poll_create.Goals as goal
 
 pub returns-in-Ok-clause-asked : goal.returns-in-Ok-clause-asked

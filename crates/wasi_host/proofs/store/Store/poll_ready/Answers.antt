@@ -2,8 +2,8 @@ use Rattle.std.proofs.Common.{refl}
 use Rattle.wasi_world.proofs.Walks.{asks_gives, asks_given}
 use Rattle.wasi_host.specs.Store.{Records}
 use Rattle.wasi_host.specs.Readiness.{ready_put}
-use Rattle.wasi_host.proofs.ConnectCounts.{knows_polled}
-use Rattle.wasi_host.proofs.Lookups.{found_at, none_at}
+use Rattle.wasi_host.proofs.KnownSides.{knows_polled}
+use Rattle.wasi_records.proofs.Lookups.{found_at, none_at}
 use Rattle.wasi_host.proofs.store.Store.poll_ready.Goals as goal
 
 pub returns-in_default-clause-asked : goal.returns-in_default-clause-asked
@@ -18,4 +18,4 @@ returns-clause-asked g c =
 pub returns-clause-sides : goal.returns-clause-sides
 returns-clause-sides g c = λ k.
     let store : Records = record { records = c.self.inside.records.items; jobs = c.self.inside.jobs.items; standing = c.self.inside.standing } in
-    knows_polled store c.args.place c.in-Some.record.now c.poll_ready.new.self (found_at c.self.inside.records.items c.args.place c.in-Some.record c.in-Some.ensures.item) c.poll_ready.ensures.sides (rw (← c.self.view_is) at k)
+    knows_polled store c.args.place c.in-Some.record.now c.poll_ready.new.record (found_at c.self.inside.records.items c.args.place c.in-Some.record c.in-Some.ensures.item) c.poll_ready.ensures.sides (rw (← c.self.view_is) at k)

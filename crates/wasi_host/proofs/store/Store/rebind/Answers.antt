@@ -3,9 +3,10 @@ use Rattle.wasi_world.specs.Asks.{Give}
 use Rattle.wasi_world.proofs.Walks.{asks_end, asks_given}
 use Rattle.wasi_host.specs.Standing.{allowed_answer}
 use Rattle.wasi_host.specs.Store.{Records, with_socket}
-use Rattle.wasi_host.proofs.Hosts.{host_refused}
-use Rattle.wasi_host.proofs.Lookups.{found_at, none_at}
-use Rattle.wasi_host.proofs.SideCounts.{knows_none, held_in-set, knows_stood}
+use Rattle.wasi_records.proofs.Hosts.{host_refused}
+use Rattle.wasi_records.proofs.Lookups.{found_at, none_at}
+use Rattle.wasi_host.proofs.KnownSides.{knows_none, knows_stood}
+use Rattle.wasi_records.proofs.SideCounts.{held_in-set}
 use Rattle.wasi_host.proofs.store.Store.rebind.Goals as goal
 
 pub returns-in_default-clause-asked : goal.returns-in_default-clause-asked

@@ -4,9 +4,9 @@ use Rattle.wasi_world.proofs.Walks.{asks_end, asks_given}
 use Rattle.wasi_host.specs.Standing.{allowed_answer}
 use Rattle.wasi_host.specs.Store.{Records}
 use Rattle.wasi_host.specs.UdpCalls.{with_open_udp}
-use Rattle.wasi_host.proofs.Hosts.{host_refused}
-use Rattle.wasi_host.proofs.SideCounts.{knows_none, knows_stood}
-use Rattle.wasi_host.proofs.UdpLookups.{open_found, not_open, held_in-open}
+use Rattle.wasi_records.proofs.Hosts.{host_refused}
+use Rattle.wasi_host.proofs.KnownSides.{knows_none, knows_stood}
+use Rattle.wasi_records.proofs.UdpLookups.{open_found, not_open, held_in-open}
 use Rattle.wasi_host.proofs.store.Store.rebind_udp.Goals as goal
 
 pub returns-in_default-clause-asked : goal.returns-in_default-clause-asked

@@ -2,13 +2,13 @@ use Rattle.std.proofs.Common.{◌≡◌, not, ap, sym, ◌∙◌, refl, [], ◌�
 use Rattle.wasi_world.proofs.Walks.{asks_gives}
 use Rattle.wasi_jobs.specs.declared.job.HostJob.TheVariants.{Receive}
 use Rattle.wasi_host.specs.DatagramCalls.{begins_receive, with_receive}
-use Rattle.wasi_host.specs.Records.{open_put}
-use Rattle.wasi_host.specs.Sides.{held_in}
+use Rattle.wasi_records.specs.Records.{open_put}
+use Rattle.wasi_records.specs.Sides.{held_in}
 use Rattle.wasi_host.specs.Store.{Records}
 use Rattle.wasi_host.proofs.DatagramStores.{asks_as, begins_now, begins_none, job_noted}
-use Rattle.wasi_host.proofs.Hosts.{host_none}
-use Rattle.wasi_host.proofs.SideCounts.{knows_none, knows_same}
-use Rattle.wasi_host.proofs.UdpLookups.{open_back, open_found, held_in-open}
+use Rattle.wasi_records.proofs.Hosts.{host_none}
+use Rattle.wasi_host.proofs.KnownSides.{knows_none, knows_same}
+use Rattle.wasi_records.proofs.UdpLookups.{open_back, open_found, held_in-open}
 use Rattle.wasi_host.proofs.store.Store.receive_datagrams.Goals.{then-not-before, else-not-before}
 use Rattle.wasi_host.proofs.store.Store.receive_datagrams.Goals as goal
 

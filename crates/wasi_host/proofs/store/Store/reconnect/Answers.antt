@@ -4,8 +4,8 @@ use Rattle.wasi_world.proofs.Walks.{asks_end}
 use Rattle.wasi_host.specs.Standing.{allowed_answer}
 use Rattle.wasi_host.specs.Store.{Records}
 use Rattle.wasi_host.proofs.DatagramStores.{knows_open, knows_open-stood}
-use Rattle.wasi_host.proofs.Hosts.{host_refused}
-use Rattle.wasi_host.proofs.UdpLookups.{open_found}
+use Rattle.wasi_records.proofs.Hosts.{host_refused}
+use Rattle.wasi_records.proofs.UdpLookups.{open_found}
 use Rattle.wasi_host.proofs.store.Store.reconnect.Goals as goal
 
 pub returns-in_err-answer-clause-asked : goal.returns-in_err-answer-clause-asked

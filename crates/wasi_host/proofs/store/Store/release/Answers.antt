@@ -1,9 +1,9 @@
 use Rattle.std.proofs.Common.{refl}
 use Rattle.wasi_world.proofs.Walks.{asks_exit, asks_end, asks_given}
-use Rattle.wasi_host.specs.declared.records.Record.TheVariants.{Tcp2}
+use Rattle.wasi_records.specs.declared.records.Record.TheVariants.{Tcp2}
 use Rattle.wasi_host.specs.Store.{Records}
-use Rattle.wasi_host.proofs.ConnectCounts.{knows_polled}
-use Rattle.wasi_host.proofs.Lookups.{found_at, none_at}
+use Rattle.wasi_host.proofs.KnownSides.{knows_polled}
+use Rattle.wasi_records.proofs.Lookups.{found_at, none_at}
 use Rattle.wasi_host.proofs.GivenBack.{put_none}
 use Rattle.wasi_host.proofs.store.Store.release.Goals as goal
 

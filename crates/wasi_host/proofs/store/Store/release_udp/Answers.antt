@@ -3,8 +3,8 @@ use Rattle.wasi_world.specs.Asks.{Give}
 use Rattle.wasi_world.proofs.Walks.{asks_end, asks_exit, asks_given}
 use Rattle.wasi_host.specs.Store.{Records}
 use Rattle.wasi_host.proofs.GivenBack.{udp_there, left_put}
-use Rattle.wasi_host.proofs.UdpLookups.{udp_at, no_udp}
-use Rattle.wasi_host.proofs.UdpPolls.{knows_fewer}
+use Rattle.wasi_records.proofs.UdpLookups.{udp_at, no_udp}
+use Rattle.wasi_host.proofs.KnownSides.{knows_fewer}
 use Rattle.wasi_host.proofs.store.Store.release_udp.Goals as goal
 
 pub returns-in_default-clause-asked : goal.returns-in_default-clause-asked

@@ -1,7 +1,7 @@
 use Rattle.std.proofs.Common.{refl}
 use Rattle.wasi_world.proofs.Walks.{asks_then}
-use Rattle.wasi_host.proofs.Hosts.{host_exit, host_none}
-use Rattle.wasi_host.proofs.SideCounts.{knows_none}
+use Rattle.wasi_records.proofs.Hosts.{host_exit, host_none}
+use Rattle.wasi_host.proofs.KnownSides.{knows_none}
 use Rattle.wasi_host.proofs.store.Store.resolve.Goals as goal
 
 pub returns-in_err-found-in-Address-clause-asked : goal.returns-in_err-found-in-Address-clause-asked

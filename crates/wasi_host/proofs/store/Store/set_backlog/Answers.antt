@@ -1,10 +1,11 @@
 use Rattle.std.proofs.Common.{refl}
 use Rattle.wasi_world.proofs.Walks.{asks_given, asks_end}
-use Rattle.wasi_host.specs.Store.{with_inner}
-use Rattle.wasi_host.proofs.Hosts.{host_refused}
-use Rattle.wasi_host.proofs.Lookups.{found_at, none_at}
-use Rattle.wasi_host.proofs.SideCounts.{Any, knows_asked, knows_calm, held_in-set}
-use Rattle.wasi_host.proofs.OptionSides.{calm_backlog}
+use Rattle.wasi_records.specs.Sockets.{with_inner}
+use Rattle.wasi_records.proofs.Hosts.{host_refused}
+use Rattle.wasi_records.proofs.Lookups.{found_at, none_at}
+use Rattle.wasi_records.proofs.SideCounts.{Any, held_in-set}
+use Rattle.wasi_host.proofs.KnownSides.{knows_asked, knows_calm}
+use Rattle.wasi_records.proofs.OptionSides.{calm_backlog}
 use Rattle.wasi_host.proofs.store.Store.set_backlog.Goals as goal
 
 pub returns-in_default-clause-asked : goal.returns-in_default-clause-asked

@@ -1,10 +1,11 @@
 use Rattle.std.proofs.Common.{refl}
 use Rattle.wasi_world.proofs.Walks.{asks_given, asks_end}
 use Rattle.wasi_common.specs.Options.{option_of, number_of}
-use Rattle.wasi_host.proofs.Hosts.{host_refused}
-use Rattle.wasi_host.proofs.Lookups.{found_at, none_at, set_back}
-use Rattle.wasi_host.proofs.SideCounts.{Any, knows_asked, knows_calm}
-use Rattle.wasi_host.proofs.OptionSides.{calm_set}
+use Rattle.wasi_records.proofs.Hosts.{host_refused}
+use Rattle.wasi_records.proofs.Lookups.{found_at, none_at, set_back}
+use Rattle.wasi_records.proofs.SideCounts.{Any}
+use Rattle.wasi_host.proofs.KnownSides.{knows_asked, knows_calm}
+use Rattle.wasi_records.proofs.OptionSides.{calm_set}
 use Rattle.wasi_host.proofs.store.Store.set_option.Goals as goal
 
 pub returns-in_default-clause-asked : goal.returns-in_default-clause-asked

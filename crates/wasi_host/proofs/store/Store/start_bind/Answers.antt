@@ -3,15 +3,17 @@ use Rattle.wasi_addr.specs.declared.p2.ErrorCode.TheVariants.{ConcurrencyConflic
 use Rattle.wasi_world.specs.declared.ids.OpId.{OpId}
 use Rattle.wasi_world.specs.Asks.{Give}
 use Rattle.wasi_world.proofs.Walks.{asks_at, asks_end, asks_given}
-use Rattle.wasi_host.specs.Sides.{held_in}
-use Rattle.wasi_host.specs.declared.records.Record.{Record}
-use Rattle.wasi_host.specs.Binding.{begin_bind_asks, start_bind_by}
-use Rattle.wasi_host.specs.Host.{Code}
+use Rattle.wasi_records.specs.Sides.{held_in}
+use Rattle.wasi_records.specs.declared.records.Record.{Record}
+use Rattle.wasi_records.specs.Binding.{begin_bind_asks}
+use Rattle.wasi_host.specs.TcpCalls.{start_bind_by}
+use Rattle.wasi_records.specs.Stops.{Code}
 use Rattle.wasi_host.specs.Standing.{allowed_answer}
 use Rattle.wasi_host.specs.Store.{Records, with_socket}
-use Rattle.wasi_host.proofs.Hosts.{host_refused}
-use Rattle.wasi_host.proofs.Lookups.{found_at, none_at, set_back}
-use Rattle.wasi_host.proofs.SideCounts.{knows_none, held_in-set, knows_stood, knows_same}
+use Rattle.wasi_records.proofs.Hosts.{host_refused}
+use Rattle.wasi_records.proofs.Lookups.{found_at, none_at, set_back}
+use Rattle.wasi_host.proofs.KnownSides.{knows_none, knows_stood, knows_same}
+use Rattle.wasi_records.proofs.SideCounts.{held_in-set}
 use Rattle.wasi_host.proofs.store.Store.start_bind.Goals as goal
 
 pub returns-in_default-clause-asked : goal.returns-in_default-clause-asked

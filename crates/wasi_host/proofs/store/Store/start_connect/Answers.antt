@@ -2,13 +2,15 @@ use Rattle.std.proofs.Common.{List, Err, ap, sym, ◌∙◌, refl}
 use Rattle.wasi_addr.specs.declared.p2.ErrorCode.TheVariants.{ConcurrencyConflict}
 use Rattle.wasi_world.specs.Asks.{Give}
 use Rattle.wasi_world.proofs.Walks.{asks_at, asks_end, asks_given}
-use Rattle.wasi_host.specs.Sides.{held_in}
-use Rattle.wasi_host.specs.declared.records.Record.{Record}
-use Rattle.wasi_host.specs.Host.{Code}
-use Rattle.wasi_host.specs.Store.{Records, start_connect_by}
-use Rattle.wasi_host.proofs.Hosts.{host_refused}
-use Rattle.wasi_host.proofs.Lookups.{found_at, none_at, set_back}
-use Rattle.wasi_host.proofs.SideCounts.{Any, knows_asked, knows_calm, held_in-set, calm_begin_connect, knows_same}
+use Rattle.wasi_records.specs.Sides.{held_in}
+use Rattle.wasi_records.specs.declared.records.Record.{Record}
+use Rattle.wasi_records.specs.Stops.{Code}
+use Rattle.wasi_host.specs.Store.{Records}
+use Rattle.wasi_host.specs.TcpCalls.{start_connect_by}
+use Rattle.wasi_records.proofs.Hosts.{host_refused}
+use Rattle.wasi_records.proofs.Lookups.{found_at, none_at, set_back}
+use Rattle.wasi_records.proofs.SideCounts.{Any, held_in-set, calm_begin_connect}
+use Rattle.wasi_host.proofs.KnownSides.{knows_asked, knows_calm, knows_same}
 use Rattle.wasi_host.proofs.store.Store.start_connect.Goals as goal
 
 pub returns-in_default-clause-asked : goal.returns-in_default-clause-asked

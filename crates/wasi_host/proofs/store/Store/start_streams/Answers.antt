@@ -4,13 +4,13 @@ use Rattle.wasi_world.specs.declared.outcome.TrapKind.TheVariants.{StreamsAlive}
 use Rattle.wasi_world.specs.Asks.{Give}
 use Rattle.wasi_world.proofs.Walks.{asks_at, asks_end, asks_given}
 use Rattle.wasi_host.specs.DatagramCalls.{start_streams_by}
-use Rattle.wasi_host.specs.Datagrams.{begin_streams_asks}
-use Rattle.wasi_host.specs.Host.{Trap}
+use Rattle.wasi_records.specs.Datagrams.{begin_streams_asks}
+use Rattle.wasi_records.specs.Stops.{Trap}
 use Rattle.wasi_host.specs.Standing.{allowed_answer}
 use Rattle.wasi_host.specs.Store.{Records}
 use Rattle.wasi_host.proofs.DatagramStores.{knows_open, knows_open-stood, knows_back, given_back}
-use Rattle.wasi_host.proofs.Hosts.{host_refused}
-use Rattle.wasi_host.proofs.UdpLookups.{open_found}
+use Rattle.wasi_records.proofs.Hosts.{host_refused}
+use Rattle.wasi_records.proofs.UdpLookups.{open_found}
 use Rattle.wasi_host.proofs.store.Store.start_streams.Goals as goal
 
 pub returns-then-has_streams-clause-asked : goal.returns-then-has_streams-clause-asked

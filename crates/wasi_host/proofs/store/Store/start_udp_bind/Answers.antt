@@ -3,16 +3,16 @@ use Rattle.wasi_addr.specs.declared.p2.ErrorCode.TheVariants.{ConcurrencyConflic
 use Rattle.wasi_world.specs.declared.ids.OpId.{OpId}
 use Rattle.wasi_world.specs.Asks.{Give}
 use Rattle.wasi_world.proofs.Walks.{asks_at, asks_end, asks_given}
-use Rattle.wasi_host.specs.declared.records.Record.{Record}
-use Rattle.wasi_host.specs.Host.{Code}
-use Rattle.wasi_host.specs.Sides.{held_in}
+use Rattle.wasi_records.specs.declared.records.Record.{Record}
+use Rattle.wasi_records.specs.Stops.{Code}
+use Rattle.wasi_records.specs.Sides.{held_in}
 use Rattle.wasi_host.specs.Standing.{allowed_answer}
 use Rattle.wasi_host.specs.Store.{Records}
-use Rattle.wasi_host.specs.Udp.{begin_udp_bind_asks}
+use Rattle.wasi_records.specs.Udp.{begin_udp_bind_asks}
 use Rattle.wasi_host.specs.UdpCalls.{start_udp_bind_by, start_udp_bind_unless, with_open_udp}
-use Rattle.wasi_host.proofs.Hosts.{host_refused}
-use Rattle.wasi_host.proofs.SideCounts.{knows_none, knows_stood, knows_same}
-use Rattle.wasi_host.proofs.UdpLookups.{open_found, not_open, open_back, held_in-open}
+use Rattle.wasi_records.proofs.Hosts.{host_refused}
+use Rattle.wasi_host.proofs.KnownSides.{knows_none, knows_stood, knows_same}
+use Rattle.wasi_records.proofs.UdpLookups.{open_found, not_open, open_back, held_in-open}
 use Rattle.wasi_host.proofs.store.Store.start_udp_bind.Goals as goal
 
 pub returns-in_default-clause-asked : goal.returns-in_default-clause-asked

@@ -1,7 +1,7 @@
 use Rattle.wasi_world.proofs.Walks.{asks_gives}
 use Rattle.wasi_host.specs.Jobs.{after_turn}
 use Rattle.wasi_host.specs.Store.{Records}
-use Rattle.wasi_host.proofs.SideCounts.{knows_none}
+use Rattle.wasi_host.proofs.KnownSides.{knows_none}
 use Rattle.wasi_host.proofs.store.Store.turn.Goals as goal
 
 pub returns-clause-asked : goal.returns-clause-asked

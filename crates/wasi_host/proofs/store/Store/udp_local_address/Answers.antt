@@ -1,9 +1,10 @@
 use Rattle.std.proofs.Common.{refl}
 use Rattle.wasi_world.proofs.Walks.{asks_end, asks_given}
-use Rattle.wasi_host.proofs.Hosts.{host_refused}
-use Rattle.wasi_host.proofs.SideCounts.{Any, knows_asked, knows_calm}
-use Rattle.wasi_host.proofs.UdpCalms.{calm_udp_local}
-use Rattle.wasi_host.proofs.UdpLookups.{open_found, not_open, held_in-open}
+use Rattle.wasi_records.proofs.Hosts.{host_refused}
+use Rattle.wasi_records.proofs.SideCounts.{Any}
+use Rattle.wasi_host.proofs.KnownSides.{knows_asked, knows_calm}
+use Rattle.wasi_records.proofs.UdpCalms.{calm_udp_local}
+use Rattle.wasi_records.proofs.UdpLookups.{open_found, not_open, held_in-open}
 use Rattle.wasi_host.proofs.store.Store.udp_local_address.Goals as goal
 
 pub returns-in_default-clause-asked : goal.returns-in_default-clause-asked

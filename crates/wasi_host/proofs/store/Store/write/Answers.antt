@@ -4,12 +4,14 @@ use Rattle.wasi_streams.proofs.Streams.{stream_none}
 use Rattle.wasi_jobs.specs.declared.job.HostJob.TheVariants.{Write}
 use Rattle.wasi_tcp.specs.Writer.{write_state_asks}
 use Rattle.wasi_host.specs.Jobs.{noted, write_at}
-use Rattle.wasi_host.specs.Sides.{held_in}
-use Rattle.wasi_host.specs.Store.{Records, with_record_put, writer_asks}
+use Rattle.wasi_records.specs.Sides.{held_in}
+use Rattle.wasi_host.specs.Store.{Records, with_record_put}
+use Rattle.wasi_records.specs.Halves.{writer_asks}
 use Rattle.wasi_host.proofs.JobLists.{noted_as, noted_none}
-use Rattle.wasi_host.proofs.Lookups.{found_at, none_at, set_back}
-use Rattle.wasi_host.proofs.SideCounts.{Any, knows_asked, knows_same, held_in-set}
-use Rattle.wasi_host.proofs.StreamCounts.{calm_writer, calm_write}
+use Rattle.wasi_records.proofs.Lookups.{found_at, none_at, set_back}
+use Rattle.wasi_records.proofs.SideCounts.{Any, held_in-set}
+use Rattle.wasi_host.proofs.KnownSides.{knows_asked, knows_same}
+use Rattle.wasi_records.proofs.StreamCounts.{calm_writer, calm_write}
 use Rattle.wasi_host.proofs.store.Store.write.Goals as goal
 
 pub returns-in_default-clause-asked : goal.returns-in_default-clause-asked

@@ -1,6 +1,0 @@
-use Rattle.std.proofs.Common.{sym}
-use Rattle.wasi_host.proofs.RecordMaps.{length_numbered}
-use Rattle.wasi_host.proofs.record_list.RecordList.len.Goals as goal
-
-pub returns : goal.returns
-returns c = rw (← c.self.view_is) (sym (length_numbered _ _))

@@ -1,0 +1,157 @@
+//! Lookups of host names, by the numbers of their records.
+
+ghost use Rattle.std.specs.Prelude.{◌≡◌, IfOk, OnErr, OnOk, false, length, Ok};
+ghost use Rattle.wasi_world.specs.Asks.{AsksFor};
+ghost use Rattle.wasi_world.specs.Seen.{Seen};
+ghost use Rattle.wasi_records.specs.NameLookup.{is_looking};
+ghost use Rattle.wasi_records.specs.Records.{lookup_at, lookup_pushed};
+ghost use Rattle.wasi_records.specs.Stops.{host_outcome};
+ghost use Rattle.wasi_host.specs.Jobs.{jobs_with};
+ghost use Rattle.wasi_host.specs.KnownSides.{KnowsSides};
+ghost use Rattle.wasi_host.specs.NameLookupCalls.{resolve_host, resolved, lookup_handle, next_at, drop_lookup_at, lookup_ready};
+
+use crate::handles;
+use crate::kind::Kind;
+use crate::store::Store;
+use std::alloc::{AllocError, Global};
+use wasi_addr::IpAddress;
+use wasi_jobs::{HostJob, JobList};
+use wasi_names::HostName;
+use wasi_records::{
+    Addresses, Lookup, Record, RecordList, SocketError, lookup, lookup_mut, unresolvable,
+};
+use wasi_table::Table;
+use wasi_world::{Handle, OpId, TrapKind, World};
+
+/// Adds the record of a lookup, and its job, where it isn't answered yet. Its number is returned. Out of memory, nothing is added.
+fn add_lookup(
+    records: &mut RecordList,
+    jobs: &mut JobList,
+    lookup: Lookup,
+) -> Result<usize, AllocError>
+    ensures place { IfOk result (λ place. place ≡ length records.old.items) }
+    ensures records { OnOk result (records.new.items ≡ lookup_pushed records.old.items lookup) }
+    ensures jobs { IfOk result (λ place. jobs.new.items ≡ jobs_with jobs.old.items (HostJob.Lookup place) (is_looking lookup)) }
+    ensures err { OnErr result ((records.new.items ≡ records.old.items) × (jobs.new.items ≡ jobs.old.items)) }
+{
+    records.reserve()?;
+    let place = records.len();
+    if lookup.is_in_progress() {
+        jobs.push(HostJob::Lookup { lookup: place }, records.slot_of(place))?;
+    }
+    records.push_reserved(Record::Lookup(lookup));
+    Ok(place)
+}
+
+impl Store {
+    /// Looks up a host (`resolve-addresses`), and makes the handle of its lookup, whose mark names the handle of the network as
+    /// its parent. An address is its own answer, and nothing is asked. A lookup that the network doesn't answer at once is a job;
+    /// one that fails at once is `NameUnresolvable`, and has no handle.
+    pub fn resolve<W: World>(
+        &mut self,
+        alloc: Global,
+        table: &mut Table<Kind>,
+        world: &mut W,
+        own: OpId,
+        network: Handle,
+        host: HostName,
+    ) -> Result<Handle, SocketError>
+        requires { (W.seen world.old).ended ≡ false }
+        ensures asked { AsksFor (resolve_host (record { table = table.old; store = self.old }) own network host) (W.seen world.old) (W.seen world.new) (λ made. (made, record { table = table.new; store = self.new })) (host_outcome result) }
+        ensures sides { KnowsSides (W.seen world.old) self.old → KnowsSides (W.seen world.new) self.new }
+        ensures open { (W.seen world.new).ended ≡ false }
+    {
+        match host {
+            HostName::Address(address) => {
+                let found = Addresses::one(alloc, address)?;
+                self.make_lookup(table, world, own, network, Lookup::Found(found))
+            }
+            HostName::Domain(host) => {
+                let lookup = Lookup::begin(world, own, host)?;
+                self.keep_lookup(table, world, own, network, lookup)
+            }
+        }
+    }
+
+    /// Makes the handle of a lookup that was begun; one that failed has none.
+    fn keep_lookup<W: World>(
+        &mut self,
+        table: &mut Table<Kind>,
+        world: &mut W,
+        own: OpId,
+        network: Handle,
+        lookup: Lookup,
+    ) -> Result<Handle, SocketError>
+        requires { (W.seen world.old).ended ≡ false }
+        ensures asked { AsksFor (resolved (record { table = table.old; store = self.old }) own network lookup) (W.seen world.old) (W.seen world.new) (λ made. (made, record { table = table.new; store = self.new })) (host_outcome result) }
+        ensures sides { KnowsSides (W.seen world.old) self.old → KnowsSides (W.seen world.new) self.new }
+        ensures open { (W.seen world.new).ended ≡ false }
+    {
+        match lookup {
+            Lookup::Failed => Err(SocketError::Code(unresolvable())),
+            lookup => self.make_lookup(table, world, own, network, lookup),
+        }
+    }
+
+    /// Makes the record of a lookup and its handle, and its job, where it isn't answered yet.
+    fn make_lookup<W: World>(
+        &mut self,
+        table: &mut Table<Kind>,
+        world: &mut W,
+        own: OpId,
+        network: Handle,
+        lookup: Lookup,
+    ) -> Result<Handle, SocketError>
+        requires { (W.seen world.old).ended ≡ false }
+        ensures asked { AsksFor (lookup_handle (record { table = table.old; store = self.old }) own network lookup) (W.seen world.old) (W.seen world.new) (λ made. (made, record { table = table.new; store = self.new })) (host_outcome result) }
+        ensures sides { KnowsSides (W.seen world.old) self.old → KnowsSides (W.seen world.new) self.new }
+        ensures open { (W.seen world.new).ended ≡ false }
+    {
+        let place = add_lookup(&mut self.records, &mut self.jobs, lookup)?;
+        let kind = Kind::Lookup(place);
+        match handles::make(table, world, own, kind, Some(network), None) {
+            Ok(handle) => Ok(handle),
+            Err(fault) => {
+                // No handle names the lookup, so it is over.
+                self.give_back(place);
+                Err(SocketError::from(fault))
+            }
+        }
+    }
+
+    /// Takes the next address that the lookup of this number found; none once all were handed out.
+    pub fn next_address(&mut self, place: usize) -> Result<Option<IpAddress>, SocketError>
+        ensures answer { host_outcome result ≡ Ok (next_at self.old place (lookup_at self.old.records place)).0 }
+        ensures state { self.new ≡ (next_at self.old place (lookup_at self.old.records place)).1 }
+        ensures sides { (s : Seen) → KnowsSides s self.old → KnowsSides s self.new }
+    {
+        let Some(lookup) = lookup_mut(&mut self.records, place) else {
+            return Err(SocketError::Trap(TrapKind::NoSuchHandle));
+        };
+        match lookup.next() {
+            Ok(address) => Ok(address),
+            Err(code) => Err(SocketError::Code(code)),
+        }
+    }
+
+    /// Whether the lookup of this number has ended.
+    pub(crate) fn lookup_ready(&self, place: usize) -> bool
+        ensures { result ≡ lookup_ready (lookup_at self.now.records place) }
+    {
+        match lookup(&self.records, place) {
+            Some(lookup) => !lookup.is_in_progress(),
+            None => true,
+        }
+    }
+
+    /// Gives the lookup of this number up: it isn't asked about any more, and its record is given back.
+    pub(crate) fn drop_lookup(&mut self, place: usize)
+        ensures state { self.new ≡ (drop_lookup_at self.old place (lookup_at self.old.records place)).1 }
+        ensures sides { (s : Seen) → KnowsSides s self.old → KnowsSides s self.new }
+    {
+        let Some(_dropped) = lookup(&self.records, place) else {
+            return;
+        };
+        self.give_back(place);
+    }
+}

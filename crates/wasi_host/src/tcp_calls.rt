@@ -1,0 +1,230 @@
+//! The calls on a TCP socket, by the number of its record: a bind, a connect, a listen, an accept, its addresses and a shutdown.
+
+ghost use Rattle.std.specs.Prelude.{◌≡◌, ◌+◌, ◌<◌, ◌^◌, false, Ok, IfOk};
+ghost use Rattle.wasi_world.specs.Asks.{AsksFor};
+ghost use Rattle.wasi_world.specs.Seen.{Seen};
+ghost use Rattle.wasi_records.specs.InProgress.{is_started};
+ghost use Rattle.wasi_records.specs.Listening.{TakesOne};
+ghost use Rattle.wasi_records.specs.Records.{tcp2_at};
+ghost use Rattle.wasi_records.specs.Stops.{host_outcome};
+ghost use Rattle.wasi_host.specs.KnownSides.{KnowsSides};
+ghost use Rattle.wasi_host.specs.TcpCalls.{start_bind_at, finish_at, start_connect_at, finish_connect_at, local_address_at, remote_address_at, is_listening_at, address_family_at, start_listen_at, accept_at, accept_ids_at, shutdown_at};
+
+use crate::store::{StandingCall, Store};
+use wasi_addr::{IpSocketAddress, ShutdownType, SocketAddressFamily, p2};
+use wasi_records::{AsyncOperation, InProgress, SocketError, keep_accepted, tcp2, tcp2_mut};
+use wasi_world::{Answer, Ids, OpId, TrapKind, World};
+
+impl Store {
+    /// Begins a bind of the socket of this number. An operation in progress: `ConcurrencyConflict`. A bind whose check is
+    /// pending is a pending call.
+    pub fn start_bind<W: World>(
+        &mut self,
+        world: &mut W,
+        ids: Ids,
+        place: usize,
+        addr: IpSocketAddress,
+    ) -> Result<Answer<()>, SocketError>
+        requires { (W.seen world.old).ended ≡ false }
+        ensures asked { AsksFor (start_bind_at self.old ids place addr (tcp2_at self.old.records place)) (W.seen world.old) (W.seen world.new) (λ answer. (answer, self.new)) (host_outcome result) }
+        ensures sides { KnowsSides (W.seen world.old) self.old → KnowsSides (W.seen world.new) self.new }
+        ensures open { (W.seen world.new).ended ≡ false }
+    {
+        let Some(record) = tcp2_mut(&mut self.records, place) else {
+            return Err(SocketError::Trap(TrapKind::NoSuchHandle));
+        };
+        if !record.in_progress.is_nothing() {
+            return Err(SocketError::Code(p2::ErrorCode::ConcurrencyConflict));
+        }
+        let answer = record.begin_bind(world, ids.own(), addr)?;
+        Ok(self.stand(ids, StandingCall::Bind { socket: place }, answer))
+    }
+
+    /// Finishes an operation that was started. It wasn't: `NotInProgress`.
+    pub fn finish(&mut self, place: usize, operation: AsyncOperation) -> Result<(), SocketError>
+        ensures sides { (s : Seen) → KnowsSides s self.old → KnowsSides s self.new }
+        ensures answer { host_outcome result ≡ Ok (finish_at (is_started operation) self.old place (tcp2_at self.old.records place)).0 }
+        ensures state { self.new ≡ (finish_at (is_started operation) self.old place (tcp2_at self.old.records place)).1 }
+    {
+        let Some(record) = tcp2_mut(&mut self.records, place) else {
+            return Err(SocketError::Trap(TrapKind::NoSuchHandle));
+        };
+        if !record.in_progress.is_started(operation) {
+            return Err(SocketError::Code(p2::ErrorCode::NotInProgress));
+        }
+        record.in_progress = InProgress::Nothing;
+        Ok(())
+    }
+
+    /// Begins a connect of the socket of this number. An operation in progress: `ConcurrencyConflict`.
+    pub fn start_connect<W: World>(
+        &mut self,
+        world: &mut W,
+        op: OpId,
+        place: usize,
+        addr: IpSocketAddress,
+    ) -> Result<(), SocketError>
+        requires { (W.seen world.old).ended ≡ false }
+        ensures asked { AsksFor (start_connect_at self.old op place addr (tcp2_at self.old.records place)) (W.seen world.old) (W.seen world.new) (λ done. (done, self.new)) (host_outcome result) }
+        ensures sides { KnowsSides (W.seen world.old) self.old → KnowsSides (W.seen world.new) self.new }
+        ensures open { (W.seen world.new).ended ≡ false }
+    {
+        let Some(record) = tcp2_mut(&mut self.records, place) else {
+            return Err(SocketError::Trap(TrapKind::NoSuchHandle));
+        };
+        if !record.in_progress.is_nothing() {
+            return Err(SocketError::Code(p2::ErrorCode::ConcurrencyConflict));
+        }
+        record.begin_connect(world, op, addr)?;
+        Ok(())
+    }
+
+    /// Polls the connect in progress. None is: `NotInProgress`. It is pending: `WouldBlock`. Once it has ended, either
+    /// way, it is in progress no more.
+    pub fn finish_connect<W: World>(
+        &mut self,
+        world: &mut W,
+        place: usize,
+    ) -> Result<(), SocketError>
+        requires { (W.seen world.old).ended ≡ false }
+        ensures asked { AsksFor (finish_connect_at self.old place (tcp2_at self.old.records place)) (W.seen world.old) (W.seen world.new) (λ done. (done, self.new)) (host_outcome result) }
+        ensures sides { KnowsSides (W.seen world.old) self.old → KnowsSides (W.seen world.new) self.new }
+        ensures open { (W.seen world.new).ended ≡ false }
+    {
+        let Some(record) = tcp2_mut(&mut self.records, place) else {
+            return Err(SocketError::Trap(TrapKind::NoSuchHandle));
+        };
+        if !record.in_progress.is_started(AsyncOperation::Connect) {
+            return Err(SocketError::Code(p2::ErrorCode::NotInProgress));
+        }
+        record.poll_connect(world)
+    }
+
+    /// The local address of the socket of this number.
+    pub fn local_address<W: World>(
+        &mut self,
+        world: &mut W,
+        op: OpId,
+        place: usize,
+    ) -> Result<IpSocketAddress, SocketError>
+        requires { (W.seen world.old).ended ≡ false }
+        ensures asked { AsksFor (local_address_at self.old op place (tcp2_at self.old.records place)) (W.seen world.old) (W.seen world.new) (λ told. (told, self.new)) (host_outcome result) }
+        ensures sides { KnowsSides (W.seen world.old) self.old → KnowsSides (W.seen world.new) self.new }
+        ensures open { (W.seen world.new).ended ≡ false }
+    {
+        let Some(record) = tcp2_mut(&mut self.records, place) else {
+            return Err(SocketError::Trap(TrapKind::NoSuchHandle));
+        };
+        let addr = record.local_address(world, op)?;
+        Ok(addr)
+    }
+
+    /// The remote address of the socket of this number.
+    pub fn remote_address<W: World>(
+        &mut self,
+        world: &mut W,
+        op: OpId,
+        place: usize,
+    ) -> Result<IpSocketAddress, SocketError>
+        requires { (W.seen world.old).ended ≡ false }
+        ensures asked { AsksFor (remote_address_at self.old op place (tcp2_at self.old.records place)) (W.seen world.old) (W.seen world.new) (λ told. (told, self.new)) (host_outcome result) }
+        ensures sides { KnowsSides (W.seen world.old) self.old → KnowsSides (W.seen world.new) self.new }
+        ensures open { (W.seen world.new).ended ≡ false }
+    {
+        let Some(record) = tcp2_mut(&mut self.records, place) else {
+            return Err(SocketError::Trap(TrapKind::NoSuchHandle));
+        };
+        let addr = record.remote_address(world, op)?;
+        Ok(addr)
+    }
+
+    /// Whether the socket of this number is listening.
+    pub fn is_listening(&self, place: usize) -> Result<bool, SocketError>
+        ensures { host_outcome result ≡ Ok (is_listening_at (tcp2_at self.now.records place)) }
+    {
+        match tcp2(&self.records, place) {
+            Some(record) => Ok(record.inner.is_listening()),
+            None => Err(SocketError::Trap(TrapKind::NoSuchHandle)),
+        }
+    }
+
+    /// The family of the socket of this number.
+    pub fn address_family(&self, place: usize) -> Result<SocketAddressFamily, SocketError>
+        ensures { host_outcome result ≡ Ok (address_family_at (tcp2_at self.now.records place)) }
+    {
+        match tcp2(&self.records, place) {
+            Some(record) => Ok(record.inner.address_family()),
+            None => Err(SocketError::Trap(TrapKind::NoSuchHandle)),
+        }
+    }
+
+    /// Begins a listen of the socket of this number. An operation in progress: `ConcurrencyConflict`. A listen whose check is
+    /// pending is a pending call.
+    pub fn start_listen<W: World>(
+        &mut self,
+        world: &mut W,
+        ids: Ids,
+        place: usize,
+    ) -> Result<Answer<()>, SocketError>
+        requires { (W.seen world.old).ended ≡ false }
+        ensures asked { AsksFor (start_listen_at self.old ids place (tcp2_at self.old.records place)) (W.seen world.old) (W.seen world.new) (λ answer. (answer, self.new)) (host_outcome result) }
+        ensures sides { KnowsSides (W.seen world.old) self.old → KnowsSides (W.seen world.new) self.new }
+        ensures open { (W.seen world.new).ended ≡ false }
+    {
+        let Some(record) = tcp2_mut(&mut self.records, place) else {
+            return Err(SocketError::Trap(TrapKind::NoSuchHandle));
+        };
+        if !record.in_progress.is_nothing() {
+            return Err(SocketError::Code(p2::ErrorCode::ConcurrencyConflict));
+        }
+        let answer = record.begin_listen(world, ids.own())?;
+        Ok(self.stand(ids, StandingCall::Listen { socket: place }, answer))
+    }
+
+    /// Accepts a connection of the listener of this number, and gives the number of its record, which has its streams. Room for
+    /// the record is taken before anything is asked, so that a network socket that was handed over is always known. Nothing has
+    /// arrived that may be taken: `WouldBlock`. No listener: `InvalidState`. The code of a fault is reported.
+    pub fn accept<W: World>(
+        &mut self,
+        world: &mut W,
+        ids: &mut Ids,
+        place: usize,
+    ) -> Result<usize, SocketError>
+        requires open { (W.seen world.old).ended ≡ false }
+        requires names { ids.old.next_part + 1 < 2 ^ 64 }
+        ensures asked { AsksFor (accept_at self.old ids.old place (tcp2_at self.old.records place)) (W.seen world.old) (W.seen world.new) (λ accepted. (accepted, self.new)) (host_outcome result) }
+        ensures sides { KnowsSides (W.seen world.old) self.old → KnowsSides (W.seen world.new) self.new }
+        ensures ids { TakesOne ids.old ids.new }
+        ensures names { IfOk (host_outcome result) (λ answer. ids.new ≡ accept_ids_at ids.old (tcp2_at self.old.records place)) }
+        ensures open { (W.seen world.new).ended ≡ false }
+    {
+        self.records.reserve()?;
+        let Some(record) = tcp2_mut(&mut self.records, place) else {
+            return Err(SocketError::Trap(TrapKind::NoSuchHandle));
+        };
+        let answer = record.poll_accept(world, ids)?;
+        match answer {
+            Answer::Pending => Err(SocketError::Code(p2::ErrorCode::WouldBlock)),
+            Answer::Ready(socket) => keep_accepted(&mut self.records, socket),
+        }
+    }
+
+    /// Releases one half of the connection of the socket of this number, or both.
+    pub fn shutdown<W: World>(
+        &mut self,
+        world: &mut W,
+        op: OpId,
+        place: usize,
+        how: ShutdownType,
+    ) -> Result<(), SocketError>
+        requires { (W.seen world.old).ended ≡ false }
+        ensures asked { AsksFor (shutdown_at self.old op how place (tcp2_at self.old.records place)) (W.seen world.old) (W.seen world.new) (λ done. (done, self.new)) (host_outcome result) }
+        ensures sides { KnowsSides (W.seen world.old) self.old → KnowsSides (W.seen world.new) self.new }
+        ensures open { (W.seen world.new).ended ≡ false }
+    {
+        let Some(record) = tcp2_mut(&mut self.records, place) else {
+            return Err(SocketError::Trap(TrapKind::NoSuchHandle));
+        };
+        record.shutdown(world, op, how)
+    }
+}

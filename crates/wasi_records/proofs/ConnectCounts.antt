@@ -1,0 +1,258 @@
+-- What a connect makes of the network sockets that are held: one that is refused closes its network socket.
+use Rattle.std.proofs.Common.{◌≡◌, Bool, true, false, ℕ, zero, suc, ◌+◌, List, [], ◌∷◌, Some, refl, sym, ap, subst, ◌∙◌, arith}
+use Rattle.wasi_addr.specs.declared.address.IpSocketAddress.{IpSocketAddress}
+use Rattle.wasi_addr.specs.declared.address.SocketAddrUse.TheVariants.{TcpBind, TcpConnect}
+use Rattle.wasi_addr.specs.declared.code.ErrorCode.{ErrorCode}
+use Rattle.wasi_addr.specs.declared.code.ErrorCode.TheVariants.{AccessDenied}
+use Rattle.std.specs.Prelude.{Result, Ok, Err, OnErr}
+use Rattle.wasi_world.specs.declared.call.Told.{Told}
+use Rattle.wasi_world.specs.declared.call.Told.TheVariants as told
+use Rattle.wasi_world.specs.declared.call.Entry.{Entry}
+use Rattle.wasi_world.specs.declared.outcome.Answer.{Answer}
+use Rattle.wasi_world.specs.declared.outcome.Answer.TheVariants.{Ready, Pending}
+use Rattle.wasi_world.specs.declared.outcome.Refusal.{Refusal}
+use Rattle.wasi_world.specs.declared.outcome.Refusal.TheVariants as refusal
+use Rattle.wasi_world.specs.Seen.{Seen}
+use Rattle.wasi_world.specs.Asks.{Asks, Give, Ask, AskWrite, bind, Left, Reaches, AsksFor, outcome}
+use Rattle.wasi_world.specs.Typed.{told_verdict, told_polled}
+use Rattle.wasi_world.specs.Operation.{Given, Nothing, Item, Check, Connect, LastAsk, CloseLast, Who, Operation, End, Waits, Done, Refused, last_ask, after, round, polls, poll_asks, verdict_front, polled_front}
+use Rattle.wasi_tcp.specs.declared.halves.TcpReceiveStream.{TcpReceiveStream}
+use Rattle.wasi_tcp.specs.declared.halves.TcpSendStream.{TcpSendStream}
+use Rattle.wasi_tcp.specs.declared.socket.Connection.{Connection}
+use Rattle.wasi_tcp.specs.declared.socket.TcpState.{TcpState}
+use Rattle.wasi_tcp.specs.declared.socket.TcpState.TheVariants as state
+use Rattle.wasi_tcp.specs.Shape.{Socket}
+use Rattle.wasi_tcp.specs.Socket.{side_in, side_of}
+use Rattle.wasi_tcp.specs.Addresses.{still_connected}
+use Rattle.wasi_tcp.specs.Halves.{taken_receive, taken_send, take_receive, take_send}
+use Rattle.wasi_tcp.specs.Connect.{IsConnect, IsLeftOfConnect, Unbound, Unchecked, Checked, ToClose, Ended}
+use Rattle.wasi_tcp.specs.Connecting.{HoldsConnect, connect_ended, finish_in, in_socket, finish_connect_asks}
+use Rattle.wasi_records.specs.Records.{tcp2_at, tcp2_put}
+use Rattle.wasi_records.specs.declared.records.Record.{Record}
+use Rattle.wasi_records.specs.declared.records.Record.TheVariants.{Tcp2, Udp2, Lookup, InputPipe, OutputPipe, Gone}
+use Rattle.wasi_records.specs.declared.socket.Tcp2Socket.{Tcp2Socket}
+use Rattle.wasi_world.proofs.Walks.{asks_end, reaches_in}
+use Rattle.wasi_records.specs.Sockets.{with_inner, opened_send, opened_receive, opened, connect_polled, connect_settled, connect_told, poll_connect_asks}
+use Rattle.wasi_records.specs.Sides.{made_by, closed_by, made_in, closed_in, one_if_some, holds, held_in, Balances}
+use Rattle.wasi_records.proofs.SideCounts.{holds-same}
+
+-- == trees that make no network socket: so many were closed before, and this holds of how many there are at the end
+abbrev pub Counted : {A : Type 0} → (ℕ → A → Type 0) → ℕ → Asks A → Type 0
+Counted Q n (Give a) = Q n a
+Counted Q n (Ask op call next) = ((t : Told) → made_by call t ≡ 0) × ((t : Told) → Counted Q (n + closed_by call) (next t))
+Counted Q n (AskWrite op sock bytes next) = (t : Told) → Counted Q n (next t)
+
+pub counted_then : {A B : Type 0} (R : ℕ → A → Type 0) (Q : ℕ → B → Type 0) (n : ℕ) (asks : Asks A) (f : A → Asks B) → Counted R n asks → ((k : ℕ) (a : A) → R k a → Counted Q k (f a)) → Counted Q n (bind asks f)
+unfolding bind
+counted_then R Q n (Give a) f h k = k n a h
+counted_then R Q n (Ask op call next) f h k = (h.0, λ t. counted_then R Q (n + closed_by call) (next t) f (h.1 t) k)
+counted_then R Q n (AskWrite op sock bytes next) f h k = λ t. counted_then R Q n (next t) f (h t) k
+
+-- what was made and closed on a walk, and what is left of the tree
+pub record Walked {A : Type 0} (Q : ℕ → A → Type 0) (n : ℕ) (es : List Entry) (rest : Asks A) : Type 0 where
+  pub made : made_in es ≡ 0
+  pub left : Counted Q (n + closed_in es) rest
+
+pub counted_left : {A : Type 0} (Q : ℕ → A → Type 0) (n : ℕ) (asks : Asks A) (es : List Entry) (rest : Asks A) → Counted Q n asks → Left asks es rest → Walked Q n es rest
+counted_left Q n asks [] rest h w = record { made = refl; left = let z : n ≡ n + 0 = omega arith in subst (λ (k : ℕ). Counted Q k rest) z (subst (Counted Q n) w h) }
+counted_left Q n (Give a) (e ∷ es) rest h w = absurd w
+counted_left Q n (Ask op call next) (e ∷ es) rest h w =
+    let r = counted_left Q (n + closed_by call) (next e.answer) es rest (h.1 e.answer) w.1 in
+    let m : made_by e.call e.answer ≡ 0 = rw w.0.1 (h.0 e.answer) in
+    let c : closed_by e.call ≡ closed_by call = ap closed_by w.0.1 in
+    let q = r.made in
+    let z : n + closed_by call + closed_in es ≡ n + (closed_by e.call + closed_in es) = omega arith in
+    record { made = omega arith; left = subst (λ (k : ℕ). Counted Q k rest) z r.left }
+counted_left Q n (AskWrite op sock bytes next) (e ∷ es) rest h w =
+    let r = counted_left Q n (next e.answer) es rest (h e.answer) w.2 in
+    let m : made_by e.call e.answer ≡ 0 = rw w.0.1 refl in
+    let c : closed_by e.call ≡ 0 = rw w.0.1 refl in
+    let q = r.made in
+    let z : n + closed_in es ≡ n + (closed_by e.call + closed_in es) = omega arith in
+    record { made = omega arith; left = subst (λ (k : ℕ). Counted Q k rest) z r.left }
+
+-- where the end reports how many were closed before, there is one such number
+pub counted_once : {A : Type 0} (Q : ℕ → A → Type 0) → ((n m : ℕ) (a : A) → Q n a → Q m a → n ≡ m) → (n m : ℕ) (asks : Asks A) → Counted Q n asks → Counted Q m asks → n ≡ m
+counted_once Q one n m (Give a) h k = one n m a h k
+counted_once Q one n m (Ask op call next) h k = let e = counted_once Q one (n + closed_by call) (m + closed_by call) (next told.Done) (h.1 told.Done) (k.1 told.Done) in omega arith
+counted_once Q one n m (AskWrite op sock bytes next) h k = counted_once Q one n m (next told.Done) (h told.Done) (k told.Done)
+
+-- == a poll of a connect
+-- refused, it closed its network socket; else it closed none
+abbrev Closes : ℕ → End × List Item → Type 0
+Closes n (Waits, items) = n ≡ 0
+Closes n (Done given, items) = n ≡ 0
+Closes n (Refused c given, items) = n ≡ 1
+
+module _ (who : Who) (last : who.last ≡ CloseLast) (again : List Item → Asks (End × List Item)) where
+  closes : (c : ErrorCode) → Counted Closes 0 (last_ask who who.last c Nothing)
+  unfolding bind
+  closes c = subst (λ (l : LastAsk). Counted Closes 0 (last_ask who l c Nothing)) (sym last) ((λ t. refl), λ t. refl)
+
+  told_connect : (a : IpSocketAddress) (t : Told) → Counted Closes 0 (after again who [] (λ g. round again who g []) (polled_front (Connect a) (told_polled t)))
+  told_connect a told.Done = refl
+  told_connect a (told.Code c) = closes c
+  told_connect a _ = refl
+
+  connects : (a : IpSocketAddress) (given : Given) → Counted Closes 0 (round again who given (Connect a ∷ []))
+  unfolding bind
+  connects a given = ((λ t. refl), λ t. told_connect a t)
+
+  told_check : (a : IpSocketAddress) (t : Told) → Counted Closes 0 (after again who (Connect a ∷ []) (λ g. round again who g (Connect a ∷ [])) (verdict_front (Check a TcpConnect) (told_verdict t)))
+  told_check a told.Yes = connects a Nothing
+  told_check a told.No = closes AccessDenied
+  told_check a _ = refl
+
+  checks : (a : IpSocketAddress) (given : Given) → Counted Closes 0 (round again who given (Check a TcpConnect ∷ Connect a ∷ []))
+  unfolding bind
+  checks a given = ((λ t. refl), λ t. told_check a t)
+
+  told_wildcard : (wildcard a : IpSocketAddress) (t : Told) → Counted Closes 0 (after again who (Check a TcpConnect ∷ Connect a ∷ []) (λ g. round again who g (Check a TcpConnect ∷ Connect a ∷ [])) (verdict_front (Check wildcard TcpBind) (told_verdict t)))
+  told_wildcard wildcard a told.Yes = checks a Nothing
+  told_wildcard wildcard a told.No = closes AccessDenied
+  told_wildcard wildcard a _ = refl
+
+  count_round : (items : List Item) → IsLeftOfConnect items → Counted Closes 0 (round again who Nothing items)
+  unfolding bind
+  count_round _ (Unbound wildcard a) = ((λ t. refl), λ t. told_wildcard wildcard a t)
+  count_round _ (Unchecked a) = checks a Nothing
+  count_round _ (Checked a) = connects a Nothing
+  count_round _ (ToClose c) = closes c
+  count_round _ Ended = refl
+
+count_poll : (op : Operation) → IsConnect op → Counted Closes 0 (poll_asks op)
+unfolding polls
+count_poll op h = count_round op.who h.last (polls 63 op.who) op.left h.left
+
+-- == the state of a socket
+abbrev held : TcpState → ℕ
+held s = one_if_some (side_in s)
+
+abbrev Balanced : ℕ → ℕ → Result (Answer (Unit {0})) ErrorCode × Socket → Type 0
+Balanced before n done = n + held done.1.state ≡ before
+
+count_ended : (socket : Socket) (op : Operation) (n : ℕ) (end : End × List Item) → Closes n end → Balanced 1 n (in_socket socket (connect_ended op.who end))
+count_ended socket op n (Waits, items) h = rw h refl
+count_ended socket op n (Done given, items) h = rw h refl
+count_ended socket op n (Refused c given, items) h = rw h refl
+
+count_finish : (socket : Socket) (s : TcpState) → HoldsConnect s → Counted (λ n done. Balanced (held s) n (in_socket socket done)) 0 (finish_in s)
+count_finish socket (state.Default side) h = refl
+count_finish socket (state.Listening side) h = refl
+count_finish socket (state.Connecting op) h = counted_then Closes (λ n done. Balanced 1 n (in_socket socket done)) 0 (poll_asks op) _ (count_poll op h) (λ n end c. count_ended socket op n end c)
+count_finish socket (state.Connected c) h = refl
+count_finish socket (state.Closed c) h = refl
+
+count_socket : (socket : Socket) → HoldsConnect socket.state → Counted (Balanced (held socket.state)) 0 (finish_connect_asks socket)
+count_socket socket h =
+    counted_then (λ n done. Balanced (held socket.state) n (in_socket socket done)) (Balanced (held socket.state)) 0 (finish_in socket.state) _ (count_finish socket socket.state h) (λ n done c. c)
+
+-- the poll came to its end
+closes_done : (r : Tcp2Socket) {answer : Result (Answer (Unit {0})) ErrorCode} {now : Socket} {s t : Seen} → HoldsConnect r.inner.state → Reaches (finish_connect_asks r.inner) (Give (answer, now)) s t → Balances s t 0 r (with_inner r now)
+closes_done r h e =
+    let w = counted_left (Balanced (held r.inner.state)) 0 (finish_connect_asks r.inner) e.entries _ (count_socket r.inner h) e.left in
+    let balance = w.left in
+    let made = w.made in
+    record { entries = e.entries; passed = e.passed; balance = omega arith }
+
+-- or memory ran out
+closes_memory : (r : Tcp2Socket) (now : Socket) {s t : Seen} → HoldsConnect r.inner.state → HoldsConnect now.state → side_of now ≡ side_of r.inner → Reaches (finish_connect_asks r.inner) (finish_connect_asks now) s t → Balances s t 0 r (with_inner r now)
+closes_memory r now h k e f =
+    let same : held now.state ≡ held r.inner.state = ap one_if_some e in
+    let w = counted_left (Balanced (held r.inner.state)) 0 (finish_connect_asks r.inner) f.entries (finish_connect_asks now) (count_socket r.inner h) f.left in
+    let own = subst (λ (b : ℕ). Counted (Balanced b) 0 (finish_connect_asks now)) same (count_socket now k) in
+    let none = counted_once (Balanced (held r.inner.state)) (λ n m done p q. omega arith) (0 + closed_in f.entries) 0 (finish_connect_asks now) w.left own in
+    let made = w.made in
+    record { entries = f.entries; passed = f.passed; balance = omega arith }
+
+-- == a record whose connect was polled
+pub poll_asked : (r : Tcp2Socket) (now : Socket) (p : Result (Answer (Unit {0})) Refusal) {s t : Seen} → AsksFor (finish_connect_asks r.inner) s t (λ answer. (answer, now)) (outcome p)
+    → AsksFor (poll_connect_asks r) s t (λ done. (done, connect_settled (with_inner r now) p)) (connect_told (with_inner r now) p)
+poll_asked r now (Ok Pending) h = asks_end _ h.ok refl
+poll_asked r now (Ok (Ready done)) h = asks_end _ h.ok refl
+poll_asked r now (Err (refusal.Code c)) h = asks_end _ h.ok refl
+poll_asked r now (Err (refusal.Memory e)) h = record { ok = tt; err = record { rest = bind h.err.rest (λ done. Give (connect_polled r done)); reached = reaches_in _ h.err.reached } }
+
+-- taking a half leaves the network socket
+receive_keeps : (s : TcpState) → side_in (take_receive s).1 ≡ side_in s
+receive_keeps (state.Default side) = refl
+receive_keeps (state.Listening side) = refl
+receive_keeps (state.Connecting op) = refl
+receive_keeps (state.Connected c) = by_taken c c.receive_taken
+  where
+    by_taken : (c : Connection) (taken : Bool) → side_in (still_connected (taken_receive c taken)).1 ≡ Some c.side
+    by_taken c true = refl
+    by_taken c false = refl
+receive_keeps (state.Closed c) = refl
+
+send_keeps : (s : TcpState) → side_in (take_send s).1 ≡ side_in s
+send_keeps (state.Default side) = refl
+send_keeps (state.Listening side) = refl
+send_keeps (state.Connecting op) = refl
+send_keeps (state.Connected c) = by_taken c c.send_taken
+  where
+    by_taken : (c : Connection) (taken : Bool) → side_in (still_connected (taken_send c taken)).1 ≡ Some c.side
+    by_taken c true = refl
+    by_taken c false = refl
+send_keeps (state.Closed c) = refl
+
+opened_send_side : (r : Tcp2Socket) (receive : TcpReceiveStream) (done : Result TcpSendStream ErrorCode × Socket) → side_of (opened_send r receive done).1.inner ≡ side_of done.1
+opened_send_side r receive (Ok send, socket) = refl
+opened_send_side r receive (Err c, socket) = refl
+
+opened_receive_side : (r : Tcp2Socket) (done : Result TcpReceiveStream ErrorCode × Socket) → side_of (opened_receive r done).1.inner ≡ side_of done.1
+opened_receive_side r (Ok receive, socket) = opened_send_side r receive (in_socket socket (take_send socket.state)) ∙ send_keeps socket.state
+opened_receive_side r (Err c, socket) = refl
+
+pub opened_side : (r : Tcp2Socket) (socket : Socket) → side_of (opened r socket).1.inner ≡ side_of socket
+opened_side r socket = opened_receive_side r (in_socket socket (take_receive socket.state)) ∙ receive_keeps socket.state
+
+settled_side : (r : Tcp2Socket) (p : Result (Answer (Unit {0})) Refusal) → side_of (connect_settled r p).inner ≡ side_of r.inner
+settled_side r (Ok Pending) = refl
+settled_side r (Ok (Ready done)) = opened_side r r.inner
+settled_side r (Err (refusal.Code c)) = refl
+settled_side r (Err (refusal.Memory e)) = refl
+
+-- nor does it touch what the record listens by
+opened_send_listening : (r : Tcp2Socket) (receive : TcpReceiveStream) (done : Result TcpSendStream ErrorCode × Socket) → (opened_send r receive done).1.listening ≡ r.listening
+opened_send_listening r receive (Ok send, socket) = refl
+opened_send_listening r receive (Err c, socket) = refl
+
+opened_receive_listening : (r : Tcp2Socket) (done : Result TcpReceiveStream ErrorCode × Socket) → (opened_receive r done).1.listening ≡ r.listening
+opened_receive_listening r (Ok receive, socket) = opened_send_listening r receive (in_socket socket (take_send socket.state))
+opened_receive_listening r (Err c, socket) = refl
+
+pub opened_listening : (r : Tcp2Socket) (socket : Socket) → (opened r socket).1.listening ≡ r.listening
+opened_listening r socket = opened_receive_listening r (in_socket socket (take_receive socket.state))
+
+settled_listening : (r : Tcp2Socket) (p : Result (Answer (Unit {0})) Refusal) → (connect_settled r p).listening ≡ r.listening
+settled_listening r (Ok Pending) = refl
+settled_listening r (Ok (Ready done)) = opened_listening r r.inner
+settled_listening r (Err (refusal.Code c)) = refl
+settled_listening r (Err (refusal.Memory e)) = refl
+
+-- another record that holds as many network sockets
+pub balances_as : {s t : Seen} {n : ℕ} {old now : Tcp2Socket} (other : Tcp2Socket) → holds other ≡ holds now → Balances s t n old now → Balances s t n old other
+balances_as other e c = let b = c.balance in record { entries = c.entries; passed = c.passed; balance = omega arith }
+
+pub closed_by_poll : (r : Tcp2Socket) (now : Socket) (p : Result (Answer (Unit {0})) Refusal) {s t : Seen} → HoldsConnect r.inner.state → HoldsConnect now.state → AsksFor (finish_connect_asks r.inner) s t (λ answer. (answer, now)) (outcome p)
+    → OnErr (outcome p) (Reaches (finish_connect_asks r.inner) (finish_connect_asks now) s t) → OnErr (outcome p) (side_of now ≡ side_of r.inner) → Balances s t 0 r (with_inner r now)
+closed_by_poll r now (Ok a) h k asked e side = closes_done r h asked.ok
+closed_by_poll r now (Err (refusal.Code c)) h k asked e side = closes_done r h asked.ok
+closed_by_poll r now (Err (refusal.Memory d)) h k asked e side = closes_memory r now h k side e
+
+pub poll_closes : (r : Tcp2Socket) (now : Socket) (p : Result (Answer (Unit {0})) Refusal) {s t : Seen} → HoldsConnect r.inner.state → HoldsConnect now.state → AsksFor (finish_connect_asks r.inner) s t (λ answer. (answer, now)) (outcome p)
+    → OnErr (outcome p) (Reaches (finish_connect_asks r.inner) (finish_connect_asks now) s t) → OnErr (outcome p) (side_of now ≡ side_of r.inner) → Balances s t 0 r (connect_settled (with_inner r now) p)
+poll_closes r now p h k asked e side =
+    balances_as (connect_settled (with_inner r now) p) (holds-same (with_inner r now) (connect_settled (with_inner r now) p) (settled_side (with_inner r now) p) (settled_listening (with_inner r now) p)) (closed_by_poll r now p h k asked e side)
+
+-- == the records, where one of them was polled
+pub held_in-swap : (rs : List Record) (i : ℕ) (old now : Tcp2Socket) → tcp2_at rs i ≡ Some old → held_in (tcp2_put rs i now) + holds old ≡ held_in rs + holds now
+held_in-swap [] i old now h = absurd (cc)
+held_in-swap (Tcp2 x ∷ rs) zero old now h = let k : x ≡ old = cc in let p = ap (λ (r : Tcp2Socket). holds r) k in omega arith
+held_in-swap (Udp2 u ∷ rs) zero r s h = absurd (cc)
+held_in-swap (Lookup l ∷ rs) zero r s h = absurd (cc)
+held_in-swap (InputPipe b ∷ rs) zero r s h = absurd (cc)
+held_in-swap (OutputPipe p ∷ rs) zero r s h = absurd (cc)
+held_in-swap (Gone ∷ rs) zero r s h = absurd (cc)
+held_in-swap (x ∷ rs) (suc i) old now h = let p = held_in-swap rs i old now h in omega arith

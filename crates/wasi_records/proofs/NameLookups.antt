@@ -1,0 +1,75 @@
+-- Lookups of names: what is asked of one, which are in the store, and the network sockets of the records where one is replaced.
+use Rattle.std.specs.Borrow.{Bor, MutBor}
+use Rattle.std.proofs.Common.{◌≡◌, ℕ, zero, suc, ◌+◌, ◌<◌, List, [], ◌∷◌, Some, None, sym, ap, refl, map, length, slice_set, get_or, arith}
+use Rattle.wasi_records.specs.declared.name_lookup.Lookup.{Lookup as NameLookup}
+use Rattle.wasi_records.specs.declared.records.Record.{Record}
+use Rattle.wasi_records.specs.declared.records.Record.TheVariants.{Tcp2, Udp2, Lookup, InputPipe, OutputPipe, Gone}
+use Rattle.wasi_records.specs.Numbered.{item_at}
+use Rattle.wasi_records.specs.Records.{lookup_at, lookup_put, lookup_pushed}
+use Rattle.wasi_records.specs.Sides.{held_by, held_in}
+use Rattle.wasi_addr.specs.Address.{canonical}
+use Rattle.wasi_addr.specs.declared.address.IpAddress.{IpAddress}
+use Rattle.wasi_world.specs.declared.ids.OpId.{OpId}
+use Rattle.wasi_world.specs.Typed.{ask_lookup}
+use Rattle.wasi_records.proofs.SideCounts.{Calm, Any}
+
+-- no network socket is made or closed
+pub calm_lookup : (op : OpId) (host : List ℕ) → Calm Any (ask_lookup op host)
+calm_lookup op host = ((λ t. refl, refl), λ t. tt)
+
+-- == addresses that were found
+-- the first so many in their canonical form, and the others as they are
+abbrev pub converted : ℕ → List IpAddress → List IpAddress
+converted zero xs = xs
+converted (suc n) [] = []
+converted (suc n) (x ∷ xs) = canonical x ∷ converted n xs
+
+pub converted_all : (xs : List IpAddress) → converted (length xs) xs ≡ map canonical xs
+converted_all [] = refl
+converted_all (x ∷ xs) = ap (λ (l : List IpAddress). canonical x ∷ l) (converted_all xs)
+
+pub length_converted : (n : ℕ) (xs : List IpAddress) → length (converted n xs) ≡ length xs
+length_converted zero xs = refl
+length_converted (suc n) [] = refl
+length_converted (suc n) (x ∷ xs) = ap suc (length_converted n xs)
+
+pub converted_next : (n : ℕ) (xs : List IpAddress) (d : IpAddress) → n < length xs → slice_set (converted n xs) n (canonical (get_or (converted n xs) n d)) ≡ converted (suc n) xs
+converted_next n [] d l = absurd (omega (arith, l))
+converted_next zero (x ∷ xs) d l = refl
+converted_next (suc n) (x ∷ xs) d l = ap (λ (l : List IpAddress). canonical x ∷ l) (converted_next n xs d (omega (arith, l)))
+
+-- == what is lent, by its number
+pub lookup_found : (xs : List Record) (i : ℕ) (x : MutBor NameLookup) → Some x.now ≡ lookup_at xs i → lookup_at xs i ≡ Some x.now
+lookup_found xs i x h = sym h
+
+pub lookup_got : (xs : List Record) (i : ℕ) (x : Bor NameLookup) → Some x.now ≡ lookup_at xs i → lookup_at xs i ≡ Some x.now
+lookup_got xs i x h = sym h
+
+pub no_lookup : (xs : List Record) (i : ℕ) → None ≡ lookup_at xs i → lookup_at xs i ≡ None
+no_lookup xs i h = sym h
+
+-- and what it became is there
+pub lookup_there : (xs : List Record) (i : ℕ) (now old : NameLookup) → lookup_at xs i ≡ Some old → lookup_at (lookup_put xs i now) i ≡ Some now
+lookup_there [] i now old h = absurd (cc)
+lookup_there (x ∷ xs) zero now old h = refl
+lookup_there (x ∷ xs) (suc i) now old h = lookup_there xs i now old h
+
+-- == the network sockets of the records
+pub held_in-lookup : (rs : List Record) (i : ℕ) (old now : NameLookup) → lookup_at rs i ≡ Some old → held_in (lookup_put rs i now) ≡ held_in rs
+held_in-lookup [] i old now h = refl
+held_in-lookup (Tcp2 r ∷ rs) zero old now h = absurd (cc)
+held_in-lookup (Udp2 u ∷ rs) zero old now h = absurd (cc)
+held_in-lookup (InputPipe b ∷ rs) zero old now h = absurd (cc)
+held_in-lookup (OutputPipe p ∷ rs) zero old now h = absurd (cc)
+held_in-lookup (Gone ∷ rs) zero old now h = absurd (cc)
+held_in-lookup (Lookup l ∷ rs) zero old now h = refl
+held_in-lookup (x ∷ rs) (suc i) old now h = ap (λ n. held_by x + n) (held_in-lookup rs i old now h)
+
+pub held_in-lookup_more : (rs : List Record) (l : NameLookup) → held_in (lookup_pushed rs l) ≡ held_in rs
+held_in-lookup_more [] l = refl
+held_in-lookup_more (x ∷ rs) l = ap (λ n. held_by x + n) (held_in-lookup_more rs l)
+
+-- the last of the records, which holds none
+pub lookup_held : (rs : List Record) (l : NameLookup) → held_by (item_at (lookup_pushed rs l) (length rs)) ≡ 0
+lookup_held [] l = refl
+lookup_held (x ∷ rs) l = lookup_held rs l

@@ -1,0 +1,111 @@
+-- Datagrams that are received in turn: a datagram more, and how their list ends.
+use Rattle.std.proofs.Common.{◌≡◌, true, false, ◌==◌, ℕ, zero, suc, ◌+◌, ◌-◌, ◌<◌, ◌≤◌, List, [], ◌∷◌, ◌++◌, length, refl, sym, subst, arith}
+use Rattle.std.specs.Prelude.{Result, Ok, Err}
+use Rattle.std.proofs.lemmas.Bool.Decides.{nat_tests}
+use Rattle.wasi_addr.specs.declared.code.ErrorCode.{ErrorCode}
+use Rattle.wasi_world.specs.declared.datagram.IncomingDatagram.{IncomingDatagram}
+use Rattle.wasi_world.specs.declared.ids.Ids.{Ids}
+use Rattle.wasi_world.specs.declared.outcome.Answer.{Answer}
+use Rattle.wasi_world.specs.declared.outcome.Answer.TheVariants.{Ready, Pending}
+use Rattle.wasi_world.specs.Seen.{Seen}
+use Rattle.wasi_world.specs.Asks.{Asks, Give, bind, Reaches, Started}
+use Rattle.wasi_world.proofs.Walks.{reaches_all, reaches_in, reaches_on, reaches_then}
+use Rattle.wasi_udp.specs.Shape.{Socket}
+use Rattle.wasi_records.specs.declared.datagrams.Incoming.{Incoming}
+use Rattle.wasi_records.specs.declared.datagrams.Receiving.{Receiving}
+use Rattle.wasi_records.specs.declared.datagrams.Receiving.TheVariants as receiving
+use Rattle.wasi_records.specs.Names.{next_name}
+use Rattle.wasi_records.specs.Receiving.{fetch_names, receive_next_asks, receive_after, receive_all, received_told}
+
+-- one place is gone, and so many are left
+one_less : (n i : ℕ) → i < n → n - i ≡ suc (n - (i + 1))
+one_less n i h = omega arith
+
+-- no place is left
+none_left : (n i : ℕ) → n ≤ i → n - i ≡ 0
+none_left n i h = omega arith
+
+-- one more and one less
+one_back : (n : ℕ) → suc n - 1 ≡ n
+one_back n = omega arith
+
+-- none is gone
+pub none_less : (n : ℕ) → n - 0 ≡ n
+none_less n = omega arith
+
+-- what is made of the next one
+abbrev Next : ℕ → ℕ → Ids → List IncomingDatagram → Socket × Incoming → Result (Answer IncomingDatagram) ErrorCode × (Socket × Incoming) → Asks (Result (List IncomingDatagram) ErrorCode × (Socket × Incoming))
+Next n room ids so_far x = receive_after so_far (λ d t. receive_all n (room - length d.bytes) (fetch_names x.1.receiving ids) (so_far ++ d ∷ []) t)
+
+-- while there is room, the next one is asked for
+next_asks : {s t : Seen} (most i room : ℕ) (ids : Ids) (so_far : List IncomingDatagram) (x : Socket × Incoming) (told : Result (Answer IncomingDatagram) ErrorCode × (Socket × Incoming)) → i < most → (room ≡ 0 → ⊥)
+    → Reaches (receive_next_asks (next_name ids) x) (Give told) s t → Reaches (receive_all (most - i) room ids so_far x) (Next (most - (i + 1)) (room - 1) ids so_far x told) s t
+next_asks most i zero ids so_far x told l r h = absurd (r refl)
+next_asks {s} {t} most i (suc room) ids so_far x told l r h =
+    let P : ℕ → Type 0 = λ n. Reaches (receive_all n (suc room) ids so_far x) (Next (most - (i + 1)) room ids so_far x told) s t in
+    rw (one_back room) (subst P (sym (one_less most i l)) (reaches_on (Next (most - (i + 1)) room ids so_far x) h))
+
+-- a datagram more
+pub one_more : {s t : Seen} (most i room left : ℕ) (ids now : Ids) (so_far more : List IncomingDatagram) (d : IncomingDatagram) (x y : Socket × Incoming) → i < most → (room ≡ 0 → ⊥)
+    → left ≡ room - 1 - length d.bytes → now ≡ fetch_names x.1.receiving ids → more ≡ so_far ++ d ∷ [] → Reaches (receive_next_asks (next_name ids) x) (Give (Ok (Ready d), y)) s t
+    → Reaches (receive_all (most - i) room ids so_far x) (receive_all (most - (i + 1)) left now more y) s t
+one_more most i room left ids now so_far more d x y l r e f m h = rw (e, f, m) (next_asks most i room ids so_far x (Ok (Ready d), y) l r h)
+
+-- one that hasn't come ends the list
+pub none_came : {s t : Seen} (most i room : ℕ) (ids : Ids) (so_far : List IncomingDatagram) (x y : Socket × Incoming) → i < most → (room ≡ 0 → ⊥)
+    → Reaches (receive_next_asks (next_name ids) x) (Give (Ok Pending, y)) s t → Reaches (receive_all (most - i) room ids so_far x) (Give (Ok so_far, y)) s t
+none_came most i room ids so_far x y l r h = next_asks most i room ids so_far x (Ok Pending, y) l r h
+
+-- and so does a code, which is told where there is no datagram before it
+pub code_came : {s t : Seen} (most i room : ℕ) (ids : Ids) (so_far : List IncomingDatagram) (c : ErrorCode) (x y : Socket × Incoming) (told : Result (List IncomingDatagram) ErrorCode) → i < most → (room ≡ 0 → ⊥) → received_told so_far c ≡ told
+    → Reaches (receive_next_asks (next_name ids) x) (Give (Err c, y)) s t → Reaches (receive_all (most - i) room ids so_far x) (Give (told, y)) s t
+code_came most i room ids so_far c x y told l r e h = rw (← e) (next_asks most i room ids so_far x (Err c, y) l r h)
+
+-- out of memory, the next one was begun
+next_begun : {s t : Seen} (most i room : ℕ) (ids : Ids) (so_far : List IncomingDatagram) (x : Socket × Incoming) → i < most → (room ≡ 0 → ⊥)
+    → Started (receive_next_asks (next_name ids) x) s t → Started (receive_all (most - i) room ids so_far x) s t
+next_begun most i zero ids so_far x l r h = absurd (r refl)
+next_begun {s} {t} most i (suc room) ids so_far x l r h =
+    let P : ℕ → Type 0 = λ n. Started (receive_all n (suc room) ids so_far x) s t in
+    subst P (sym (one_less most i l)) (record { rest = bind h.rest (Next (most - (i + 1)) room ids so_far x); reached = reaches_in (Next (most - (i + 1)) room ids so_far x) h.reached })
+
+-- after the datagrams that were received before
+pub all_begun : {s t u : Seen} {asks : Asks (Result (List IncomingDatagram) ErrorCode × (Socket × Incoming))} (most i room : ℕ) (ids : Ids) (so_far : List IncomingDatagram) (x : Socket × Incoming) → Reaches asks (receive_all (most - i) room ids so_far x) s t → i < most → (room ≡ 0 → ⊥)
+    → Started (receive_next_asks (next_name ids) x) t u → Started asks s u
+all_begun most i room ids so_far x before l r h = let b = next_begun most i room ids so_far x l r h in record { rest = b.rest; reached = reaches_then before b.reached }
+
+-- so many were taken
+pub all_taken : (most i room : ℕ) (ids : Ids) (so_far : List IncomingDatagram) (x : Socket × Incoming) (s : Seen) → most ≤ i → Reaches (receive_all (most - i) room ids so_far x) (Give (Ok so_far, x)) s s
+all_taken most i room ids so_far x s h =
+    let P : ℕ → Type 0 = λ n. Reaches (receive_all n room ids so_far x) (Give (Ok so_far, x)) s s in
+    subst P (sym (none_left most i h)) (reaches_all (Give (Ok so_far, x)) s)
+
+-- there is no room
+pub no_room : (n room : ℕ) (ids : Ids) (so_far : List IncomingDatagram) (x : Socket × Incoming) (s : Seen) → room ≡ 0 → Reaches (receive_all n room ids so_far x) (Give (Ok so_far, x)) s s
+no_room zero room ids so_far x s h = reaches_all (Give (Ok so_far, x)) s
+no_room (suc n) zero ids so_far x s h = reaches_all (Give (Ok so_far, x)) s
+no_room (suc n) (suc room) ids so_far x s h = absurd (cc)
+
+-- with a datagram before it, a code isn't told
+pub some_told : (so_far : List IncomingDatagram) (n : ℕ) (c : ErrorCode) → n ≡ length so_far → false ≡ (n == 0) → received_told so_far c ≡ Ok so_far
+some_told [] n c e h = let k : false ≡ true = rw e at h in absurd (cc)
+some_told (d ∷ ds) n c e h = refl
+
+-- with none before it, it is
+pub none_told : (so_far : List IncomingDatagram) (n : ℕ) (c : ErrorCode) → n ≡ length so_far → true ≡ (n == 0) → received_told so_far c ≡ Err c
+none_told [] n c e h = refl
+none_told (d ∷ ds) n c e h = absurd (grind (arith, nat_tests))
+
+-- the names that are left are of the same line
+pub same_line : (r : Receiving) (ids now : Ids) → now ≡ fetch_names r ids → now.line ≡ ids.line
+same_line receiving.Nothing ids now e = rw e refl
+same_line (receiving.InProgress op) ids now e = rw e refl
+same_line (receiving.Came d) ids now e = rw e refl
+same_line (receiving.Failed c) ids now e = rw e refl
+
+-- of which at most one was taken
+pub name_more : (r : Receiving) (ids now : Ids) → now ≡ fetch_names r ids → now.next_part ≤ ids.next_part + 1
+name_more receiving.Nothing ids now e = rw e (omega arith)
+name_more (receiving.InProgress op) ids now e = rw e (omega arith)
+name_more (receiving.Came d) ids now e = rw e (omega arith)
+name_more (receiving.Failed c) ids now e = rw e (omega arith)

@@ -1,0 +1,13 @@
+use Rattle.std.proofs.Common.{Some, refl, ◌∙◌}
+use Rattle.wasi_records.specs.Records.{input_pipe_of, with_input_pipe}
+use Rattle.wasi_records.proofs.RecordLends.{lent_or_same, item_back, seen}
+use Rattle.wasi_records.proofs.records.input_pipe_mut.Goals as goal
+
+pub returns : goal.returns
+returns c =
+    let xs = c.args.records.now.items in
+    let i = c.args.place in
+    let x = c.in_ok-get_mut.field-0.now in (
+      lent_or_same c.args.records.now i x c.as_input_pipe_mut.result (with_input_pipe c.args.records.now i) (item_back xs i x c.in_ok-get_mut.ensures.item),
+      record { writes_back = tt; item = c.as_input_pipe_mut.ensures.value ∙ seen input_pipe_of xs i (Some x) refl c.in_ok-get_mut.ensures.item },
+    )

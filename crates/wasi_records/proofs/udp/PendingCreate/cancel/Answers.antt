@@ -1,0 +1,5 @@
+use Rattle.wasi_records.proofs.UdpPolls.{create_closes}
+use Rattle.wasi_records.proofs.udp.PendingCreate.cancel.Goals as goal
+
+pub returns-clause-closed : goal.returns-clause-closed
+returns-clause-closed g c = create_closes c.self.inside.create c.cancel.result c.self.invariant c.cancel.ensures.asked

@@ -1,0 +1,68 @@
+//! Closes network sockets after the end mark.
+
+ghost use Rattle.std.specs.Prelude.{◌≡◌, true};
+ghost use Rattle.std.specs.BTreeMap.{IsOrdered};
+ghost use Rattle.std.specs.Ordering.{nat_cmp};
+ghost use Rattle.wasi_records.specs.Sides.{held_by, held_in, one_if_some};
+ghost use Rattle.wasi_records.specs.Closing.{ClosesMore, ClosesSides};
+ghost use Rattle.wasi_records.specs.RecordMap.{record_under, records_of};
+
+use crate::record_list::{NumberedRecord, RecordList, record_of};
+use crate::records::Record;
+use slab::Slab;
+use std::collections::BTreeMap;
+use wasi_world::{Sock, World};
+
+/// Closes a network socket, where there is one.
+fn close_one<W: World>(world: &mut W, side: Option<Sock>)
+    requires { (W.seen world.old).ended ≡ true }
+    ensures { ClosesMore (W.seen world.old) (W.seen world.new) (one_if_some side) }
+{
+    if let Some(side) = side {
+        world.close_after_end(side);
+    }
+}
+
+/// Closes the network sockets that a record holds.
+fn close_record<W: World>(world: &mut W, closed: &Record)
+    requires { (W.seen world.old).ended ≡ true }
+    ensures { ClosesMore (W.seen world.old) (W.seen world.new) (held_by closed.now) }
+{
+    match closed {
+        Record::Tcp2(socket) => {
+            close_one(world, socket.inner.side());
+            close_one(world, socket.listening.side());
+        }
+        Record::Udp2(socket) => close_one(world, socket.held()),
+        Record::Lookup(_) | Record::InputPipe(_) | Record::OutputPipe(_) | Record::Gone => (),
+    }
+}
+
+/// Closes the network sockets that the records hold; takes no memory.
+pub fn close_sides<W: World>(world: &mut W, records: &RecordList)
+    requires { (W.seen world.old).ended ≡ true }
+    ensures { ClosesSides (W.seen world.old) (W.seen world.new) (held_in records.now.items) }
+{
+    close_live(world, &records.slots, &records.keys);
+}
+
+/// Closes the network sockets that the records of these numbers hold.
+fn close_live<W: World>(world: &mut W, slots: &Slab<NumberedRecord>, keys: &BTreeMap<usize, usize>)
+    requires { (W.seen world.old).ended ≡ true }
+    ensures closed { ClosesSides (W.seen world.old) (W.seen world.new) (held_in (records_of slots.now keys.now.entries)) }
+    ensures ordered { IsOrdered nat_cmp keys.now }
+{
+    for (number, slot) in keys.iter() {
+        close_in(world, slots, *slot, *number);
+    }
+}
+
+/// Closes the network sockets that the record of this number holds, where it is in this slot.
+fn close_in<W: World>(world: &mut W, slots: &Slab<NumberedRecord>, slot: usize, number: usize)
+    requires { (W.seen world.old).ended ≡ true }
+    ensures { ClosesMore (W.seen world.old) (W.seen world.new) (held_by (record_under slots.now slot number)) }
+{
+    if let Some(record) = record_of(slots, slot, number) {
+        close_record(world, record);
+    }
+}

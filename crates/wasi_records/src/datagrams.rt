@@ -1,0 +1,388 @@
+//! The datagram streams of a UDP socket, and how datagrams are sent.
+
+ghost use Rattle.std.specs.Prelude.{◌≡◌, ◌+◌, ◌<◌, ◌^◌, true, false, Ok, length};
+ghost use Rattle.wasi_world.specs.Asks.{AsksFor, outcome};
+ghost use Rattle.wasi_common.specs.Rounds.{is_going, stays_going};
+ghost use Rattle.wasi_records.specs.Datagrams.{has_streams, new_outgoing, is_sending, sends, permit_of, permitted, with_sending, send_settled, send_counted, send_one_asks, refusal_told, send_next_asks, send_all, send_datagrams_asks, turn_sending, turn_outgoing, send_turned, turn_told};
+ghost use Rattle.wasi_records.specs.Stops.{host_outcome};
+ghost use Rattle.wasi_records.specs.Names.{next_name, names_after};
+ghost use Rattle.wasi_records.specs.Sides.{MakesNone};
+
+use crate::error::SocketError;
+use crate::udp::OpenUdp;
+use std::alloc::AllocError;
+use std::marker::Model;
+use std::mem;
+use wasi_addr::{ErrorCode, IpSocketAddress, p2};
+use wasi_udp::{RecvOp, SendOp, UdpSocket};
+use wasi_world::{Answer, Ids, IncomingDatagram, OpId, OutgoingDatagram, Refusal, TrapKind, World};
+
+/// A datagram whose send was begun: it isn't over, so a poll of it asks, or refuses it.
+#[derive(Drop)]
+pub struct PendingSend {
+    send: SendOp,
+}
+
+impl Model for PendingSend {
+    ghost use Rattle.std.specs.Prelude.{◌≡◌, true};
+    ghost use Rattle.wasi_common.specs.Rounds.{is_going};
+    ghost use Rattle.wasi_world.specs.Operation.{Operation};
+
+    ghost Value = { Operation };
+
+    ghost view = { λ p. p.send };
+
+    ghost invariant = { λ p. is_going p.send ≡ true };
+}
+
+impl PendingSend {
+    fn new(send: SendOp) -> PendingSend
+        requires { is_going send ≡ true }
+        ensures { result ≡ send }
+    {
+        PendingSend { send }
+    }
+
+    fn into_inner(self) -> SendOp
+        ensures send { result ≡ self }
+        ensures going { is_going result ≡ true }
+    {
+        self.send
+    }
+}
+
+/// A receive that was begun: it isn't over, so a poll of it asks, or refuses it.
+#[derive(Drop)]
+pub struct PendingReceive {
+    receive: RecvOp,
+}
+
+impl Model for PendingReceive {
+    ghost use Rattle.std.specs.Prelude.{◌≡◌, true};
+    ghost use Rattle.wasi_common.specs.Rounds.{is_going};
+    ghost use Rattle.wasi_world.specs.Operation.{Operation};
+
+    ghost Value = { Operation };
+
+    ghost view = { λ p. p.receive };
+
+    ghost invariant = { λ p. is_going p.receive ≡ true };
+}
+
+impl PendingReceive {
+    pub(crate) fn new(receive: RecvOp) -> PendingReceive
+        requires { is_going receive ≡ true }
+        ensures { result ≡ receive }
+    {
+        PendingReceive { receive }
+    }
+
+    pub(crate) fn into_inner(self) -> RecvOp
+        ensures receive { result ≡ self }
+        ensures going { is_going result ≡ true }
+    {
+        self.receive
+    }
+}
+
+/// What an incoming datagram stream receives.
+#[derive(Drop)]
+pub enum Receiving {
+    /// No receive was begun since the last datagram was taken.
+    Nothing,
+    /// A receive was begun, and is polled in the background.
+    InProgress(PendingReceive),
+    /// A datagram has come, and isn't taken yet.
+    Came(IncomingDatagram),
+    /// The receive failed; the code isn't taken yet.
+    Failed(ErrorCode),
+}
+
+/// The incoming datagram stream of a socket (`incoming-datagram-stream`).
+#[derive(Drop)]
+pub struct Incoming {
+    /// The remote address that the socket had when the stream was made: datagrams come from there alone.
+    pub remote: Option<IpSocketAddress>,
+    pub receiving: Receiving,
+}
+
+/// What an outgoing datagram stream has sent last.
+#[derive(Drop)]
+pub enum Sending {
+    /// It was sent, or refused, or nothing was sent yet.
+    Nothing,
+    /// It isn't sent yet, and is polled in the background.
+    InProgress(PendingSend),
+    /// It failed in the background; the next send returns the code.
+    Failed(ErrorCode),
+}
+
+/// The outgoing datagram stream of a socket (`outgoing-datagram-stream`).
+#[derive(Drop)]
+pub struct Outgoing {
+    /// How many datagrams the next send may have: 16 after a `check-send` that allowed them, until the next send.
+    pub permit: u8,
+    pub sending: Sending,
+}
+
+impl Sending {
+    /// Whether a datagram isn't sent yet.
+    fn is_in_progress(&self) -> bool
+        ensures { result ≡ is_sending self.now }
+    {
+        matches!(self, Sending::InProgress(_))
+    }
+}
+
+impl Outgoing {
+    /// A stream on which nothing was sent yet, and nothing is permitted.
+    pub(crate) fn new() -> Outgoing
+        ensures { result ≡ new_outgoing }
+    {
+        Outgoing {
+            permit: 0,
+            sending: Sending::Nothing,
+        }
+    }
+
+    /// Permits 16 datagrams, or none while the last one isn't sent yet, and says how many.
+    pub fn check_send(&mut self) -> u8
+        ensures told { result ≡ permit_of self.old.sending }
+        ensures state { self.new ≡ permitted self.old }
+    {
+        self.permit = if self.sending.is_in_progress() { 0 } else { 16 };
+        self.permit
+    }
+
+    /// Begins to send a datagram of the socket, and polls that. Pending, it is in the background from then on, and counts as
+    /// sent.
+    fn send_one<W: World>(
+        &mut self,
+        world: &mut W,
+        socket: &mut UdpSocket,
+        op: OpId,
+        datagram: OutgoingDatagram,
+    ) -> Result<(), Refusal>
+        requires { (W.seen world.old).ended ≡ false }
+        ensures asked { AsksFor (send_one_asks op socket.old self.old datagram) (W.seen world.old) (W.seen world.new) (λ done. (done, (socket.new, self.new))) (outcome result) }
+        ensures none { MakesNone (W.seen world.old) (W.seen world.new) }
+        ensures side { socket.new.side ≡ socket.old.side }
+        ensures open { (W.seen world.new).ended ≡ false }
+    {
+        let mut send = socket.send(world, op, datagram.bytes, datagram.remote_address)?;
+        let polled = send.poll(world, socket);
+        self.settle_send(send, polled)
+    }
+
+    /// What the first poll of a datagram makes of the stream.
+    fn settle_send(
+        &mut self,
+        send: SendOp,
+        polled: Result<Answer<()>, Refusal>,
+    ) -> Result<(), Refusal>
+        requires { is_going send ≡ stays_going polled }
+        ensures told { result ≡ send_counted polled }
+        ensures settled { self.new ≡ send_settled send self.old polled }
+    {
+        match polled {
+            Ok(Answer::Ready(())) => {
+                self.sending = Sending::Nothing;
+                Ok(())
+            }
+            Ok(Answer::Pending) => {
+                self.sending = Sending::InProgress(PendingSend::new(send));
+                Ok(())
+            }
+            Err(Refusal::Code(code)) => {
+                self.sending = Sending::Nothing;
+                Err(Refusal::Code(code))
+            }
+            Err(Refusal::Memory(e)) => {
+                self.sending = Sending::InProgress(PendingSend::new(send));
+                Err(Refusal::Memory(e))
+            }
+        }
+    }
+
+    /// Sends the next datagram of a list, by the next name of the line. Pending: the one before it isn't sent yet, and nothing was
+    /// begun. The code of one that failed in the background is answered in its place.
+    fn send_next<W: World>(
+        &mut self,
+        world: &mut W,
+        socket: &mut UdpSocket,
+        ids: &mut Ids,
+        datagram: OutgoingDatagram,
+    ) -> Result<Answer<()>, Refusal>
+        requires open { (W.seen world.old).ended ≡ false }
+        requires names { ids.old.next_part + 1 < 2 ^ 64 }
+        ensures asked { AsksFor (send_next_asks (next_name ids.old) socket.old self.old datagram self.old.sending) (W.seen world.old) (W.seen world.new) (λ answer. (answer, (socket.new, self.new))) (outcome result) }
+        ensures line { ids.new.line ≡ ids.old.line }
+        ensures names { result ≡ Ok (Answer.Ready tt) → ids.new ≡ names_after ids.old }
+        ensures none { MakesNone (W.seen world.old) (W.seen world.new) }
+        ensures side { socket.new.side ≡ socket.old.side }
+        ensures open { (W.seen world.new).ended ≡ false }
+    {
+        match mem::replace(&mut self.sending, Sending::Nothing) {
+            Sending::Nothing => {
+                self.send_one(world, socket, ids.begin(), datagram)?;
+                Ok(Answer::Ready(()))
+            }
+            Sending::InProgress(send) => {
+                self.sending = Sending::InProgress(send);
+                Ok(Answer::Pending)
+            }
+            Sending::Failed(code) => Err(Refusal::Code(code)),
+        }
+    }
+
+    /// Sends datagrams in turn, and says how many were sent or are in the background now. One that isn't sent yet ends the list. A
+    /// code ends it too, and is answered where none was counted.
+    fn send_all<W: World>(
+        &mut self,
+        world: &mut W,
+        socket: &mut UdpSocket,
+        ids: &mut Ids,
+        datagrams: Vec<OutgoingDatagram>,
+    ) -> Result<u64, Refusal>
+        requires open { (W.seen world.old).ended ≡ false }
+        requires names { ids.old.next_part + length datagrams.items < 2 ^ 64 }
+        ensures asked { AsksFor (send_all 0 ids.old datagrams.items (socket.old, self.old)) (W.seen world.old) (W.seen world.new) (λ sent. (sent, (socket.new, self.new))) (outcome result) }
+        ensures line { ids.new.line ≡ ids.old.line }
+        ensures none { MakesNone (W.seen world.old) (W.seen world.new) }
+        ensures side { socket.new.side ≡ socket.old.side }
+        ensures open { (W.seen world.new).ended ≡ false }
+    {
+        let mut sent = 0;
+        for datagram in datagrams {
+            match self.send_next(world, socket, ids, datagram) {
+                Ok(Answer::Ready(())) => sent += 1,
+                Ok(Answer::Pending) => return Ok(sent),
+                Err(why) => return refusal_told(sent, why),
+            }
+        }
+        Ok(sent)
+    }
+
+    /// Polls the datagram in the background once, where there is one. Its code is kept for the next send.
+    fn turn<W: World>(&mut self, world: &mut W, socket: &UdpSocket) -> Result<(), AllocError>
+        requires { (W.seen world.old).ended ≡ false }
+        ensures asked { AsksFor (turn_sending socket.now self.old self.old.sending) (W.seen world.old) (W.seen world.new) (λ done. self.new) result }
+        ensures none { MakesNone (W.seen world.old) (W.seen world.new) }
+        ensures open { (W.seen world.new).ended ≡ false }
+    {
+        match mem::replace(&mut self.sending, Sending::Nothing) {
+            Sending::InProgress(send) => {
+                let mut send = send.into_inner();
+                let polled = send.poll(world, socket);
+                self.settle_turn(send, polled)
+            }
+            sending => {
+                self.sending = sending;
+                Ok(())
+            }
+        }
+    }
+
+    /// What a poll of the datagram in the background makes of the stream.
+    fn settle_turn(
+        &mut self,
+        send: SendOp,
+        polled: Result<Answer<()>, Refusal>,
+    ) -> Result<(), AllocError>
+        requires { is_going send ≡ stays_going polled }
+        ensures told { result ≡ turn_told polled }
+        ensures settled { self.new ≡ send_turned send self.old polled }
+    {
+        match polled {
+            Ok(Answer::Ready(())) => {
+                self.sending = Sending::Nothing;
+                Ok(())
+            }
+            Ok(Answer::Pending) => {
+                self.sending = Sending::InProgress(PendingSend::new(send));
+                Ok(())
+            }
+            Err(Refusal::Code(code)) => {
+                self.sending = Sending::Failed(code);
+                Ok(())
+            }
+            Err(Refusal::Memory(e)) => {
+                self.sending = Sending::InProgress(PendingSend::new(send));
+                Err(e)
+            }
+        }
+    }
+}
+
+/// What is answered where a list ends: its count, or the code where nothing was counted.
+fn refusal_told(sent: u64, why: Refusal) -> Result<u64, Refusal>
+    ensures { result ≡ refusal_told sent why }
+{
+    match why {
+        Refusal::Code(_) if sent > 0 => Ok(sent),
+        why => Err(why),
+    }
+}
+
+impl OpenUdp {
+    /// Whether a datagram stream of its is live.
+    pub fn has_streams(&self) -> bool
+        ensures { result ≡ has_streams self.now }
+    {
+        self.incoming.is_some() || self.outgoing.is_some()
+    }
+
+    /// Whether a datagram of its outgoing stream isn't sent yet.
+    pub fn sends(&self) -> bool
+        ensures { result ≡ sends self.now.outgoing }
+    {
+        match &self.outgoing {
+            Some(outgoing) => outgoing.sending.is_in_progress(),
+            None => false,
+        }
+    }
+
+    /// Sends datagrams on the outgoing stream, of which there are no more than are permitted, else `NotPermitted`; nothing is
+    /// permitted afterwards. An empty list sends none, and the permit stays.
+    pub fn send_datagrams<W: World>(
+        &mut self,
+        world: &mut W,
+        ids: &mut Ids,
+        datagrams: Vec<OutgoingDatagram>,
+    ) -> Result<u64, SocketError>
+        requires open { (W.seen world.old).ended ≡ false }
+        requires names { ids.old.next_part + 255 < 2 ^ 64 }
+        ensures asked { AsksFor (send_datagrams_asks ids.old self.old self.old.outgoing datagrams.items) (W.seen world.old) (W.seen world.new) (λ sent. (sent, self.new)) (host_outcome result) }
+        ensures line { ids.new.line ≡ ids.old.line }
+        ensures none { MakesNone (W.seen world.old) (W.seen world.new) }
+        ensures side { self.new.inner.side ≡ self.old.inner.side }
+        ensures open { (W.seen world.new).ended ≡ false }
+    {
+        let Some(outgoing) = &mut self.outgoing else {
+            return Err(SocketError::Trap(TrapKind::NoSuchHandle));
+        };
+        if datagrams.is_empty() {
+            return Ok(0);
+        }
+        if datagrams.len() > usize::from(outgoing.permit) {
+            return Err(SocketError::Trap(TrapKind::NotPermitted));
+        }
+        outgoing.permit = 0;
+        let sent = outgoing.send_all(world, &mut self.inner, ids, datagrams)?;
+        Ok(sent)
+    }
+
+    /// Polls the datagram in the background once, where there is one.
+    pub fn turn_outgoing<W: World>(&mut self, world: &mut W) -> Result<(), AllocError>
+        requires { (W.seen world.old).ended ≡ false }
+        ensures asked { AsksFor (turn_outgoing self.old self.old.outgoing) (W.seen world.old) (W.seen world.new) (λ done. self.new) result }
+        ensures none { MakesNone (W.seen world.old) (W.seen world.new) }
+        ensures side { self.new.inner.side ≡ self.old.inner.side }
+        ensures open { (W.seen world.new).ended ≡ false }
+    {
+        match &mut self.outgoing {
+            Some(outgoing) => outgoing.turn(world, &self.inner),
+            None => Ok(()),
+        }
+    }
+}

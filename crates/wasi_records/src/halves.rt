@@ -1,0 +1,218 @@
+//! What a guest reads and writes through the halves of a connection, and how it shuts them down.
+
+ghost use Rattle.std.specs.Prelude.{◌≡◌, ◌&&◌, not, false, Some};
+ghost use Rattle.wasi_streams.specs.StreamStop.{stream_outcome};
+ghost use Rattle.wasi_tcp.specs.Reader.{read_state_asks};
+ghost use Rattle.wasi_tcp.specs.Writer.{check_write_asks, write_state_asks};
+ghost use Rattle.wasi_world.specs.Asks.{AsksFor};
+ghost use Rattle.wasi_tcp.specs.Socket.{side_of};
+ghost use Rattle.wasi_records.specs.Releasing.{give_streams_up};
+ghost use Rattle.wasi_records.specs.Stops.{host_outcome};
+ghost use Rattle.wasi_records.specs.Halves.{is_working, works_in, turn_record, reader_asks, writer_asks, flush_asks};
+ghost use Rattle.wasi_records.specs.Shutdowns.{shut_receive, shut_send, shut_streams, shut_record};
+ghost use Rattle.wasi_records.specs.Sides.{MakesNone};
+
+use crate::error::SocketError;
+use crate::socket::{Streams, Tcp2Socket};
+use std::alloc::{AllocError, Global};
+use wasi_addr::{ShutdownType, p2};
+use wasi_streams::StreamError;
+use wasi_tcp::WriteState;
+use wasi_world::{Octets, OpId, TrapKind, World};
+
+/// Whether a write is in progress.
+fn is_working(writer: &WriteState) -> bool
+    ensures { result ≡ is_working writer.now }
+{
+    match writer {
+        WriteState::Writing(job) | WriteState::Closing(job) => match job.end() {
+            None => true,
+            Some(_) => false,
+        },
+        WriteState::Ready { .. } | WriteState::Closed(_) => false,
+    }
+}
+
+impl Streams {
+    fn shut_receive<W: World>(&mut self, world: &mut W, op: OpId) -> Result<(), AllocError>
+        requires { (W.seen world.old).ended ≡ false }
+        ensures asked { AsksFor (shut_receive op self.old) (W.seen world.old) (W.seen world.new) (λ done. (done, self.new)) result }
+        ensures open { (W.seen world.new).ended ≡ false }
+    {
+        self.reader.shutdown(world, op)
+    }
+
+    fn shut_send<W: World>(&mut self, world: &mut W, op: OpId) -> Result<(), AllocError>
+        requires { (W.seen world.old).ended ≡ false }
+        ensures asked { AsksFor (shut_send op self.old) (W.seen world.old) (W.seen world.new) (λ done. (done, self.new)) result }
+        ensures open { (W.seen world.new).ended ≡ false }
+    {
+        self.writer.shutdown(world, op)
+    }
+
+    /// Releases the receiving half, the sending half, or the one after the other.
+    pub fn shutdown<W: World>(
+        &mut self,
+        world: &mut W,
+        op: OpId,
+        how: ShutdownType,
+    ) -> Result<(), AllocError>
+        requires { (W.seen world.old).ended ≡ false }
+        ensures asked { AsksFor (shut_streams op how self.old) (W.seen world.old) (W.seen world.new) (λ done. (done, self.new)) result }
+        ensures open { (W.seen world.new).ended ≡ false }
+    {
+        match how {
+            ShutdownType::Receive => self.shut_receive(world, op),
+            ShutdownType::Send => self.shut_send(world, op),
+            ShutdownType::Both => {
+                self.shut_receive(world, op)?;
+                self.shut_send(world, op)
+            }
+        }
+    }
+
+    /// Releases the halves that are open, the receiving one first. A write in progress ends with its rest unwritten.
+    pub(crate) fn give_up<W: World>(self, world: &mut W, op: OpId) -> Result<(), AllocError>
+        requires { (W.seen world.old).ended ≡ false }
+        ensures asked { AsksFor (give_streams_up op (Some self)) (W.seen world.old) (W.seen world.new) (λ done. done) result }
+        ensures open { (W.seen world.new).ended ≡ false }
+    {
+        let Streams { mut reader, writer } = self;
+        reader.shutdown(world, op)?;
+        writer.give_up(world, op)
+    }
+}
+
+impl Tcp2Socket {
+    /// Reads from the connection. A record without streams: a trap, which no handle reaches.
+    pub fn read<W: World>(
+        &mut self,
+        alloc: Global,
+        world: &mut W,
+        op: OpId,
+        len: usize,
+    ) -> Result<Octets, StreamError>
+        requires { (W.seen world.old).ended ≡ false }
+        ensures asked { AsksFor (reader_asks (λ r. read_state_asks op r len) self.old) (W.seen world.old) (W.seen world.new) (λ answer. (answer, self.new)) (stream_outcome result) }
+        ensures side { side_of self.new.inner ≡ side_of self.old.inner }
+        ensures listening { self.new.listening ≡ self.old.listening }
+        ensures open { (W.seen world.new).ended ≡ false }
+    {
+        match &mut self.streams {
+            Some(streams) => streams.reader.read(alloc, world, op, len),
+            None => Err(StreamError::Trap(TrapKind::NoSuchHandle)),
+        }
+    }
+
+    /// How much may be written to the connection.
+    pub fn check_write<W: World>(&mut self, world: &mut W, op: OpId) -> Result<usize, StreamError>
+        requires { (W.seen world.old).ended ≡ false }
+        ensures asked { AsksFor (writer_asks (check_write_asks op) self.old) (W.seen world.old) (W.seen world.new) (λ answer. (answer, self.new)) (stream_outcome result) }
+        ensures side { side_of self.new.inner ≡ side_of self.old.inner }
+        ensures listening { self.new.listening ≡ self.old.listening }
+        ensures open { (W.seen world.new).ended ≡ false }
+    {
+        match &mut self.streams {
+            Some(streams) => streams.writer.check_write(world, op),
+            None => Err(StreamError::Trap(TrapKind::NoSuchHandle)),
+        }
+    }
+
+    /// Writes to the connection.
+    pub fn write<W: World>(
+        &mut self,
+        world: &mut W,
+        op: OpId,
+        bytes: Octets,
+    ) -> Result<(), StreamError>
+        requires { (W.seen world.old).ended ≡ false }
+        ensures asked { AsksFor (writer_asks (λ w. write_state_asks op w bytes) self.old) (W.seen world.old) (W.seen world.new) (λ answer. (answer, self.new)) (stream_outcome result) }
+        ensures side { side_of self.new.inner ≡ side_of self.old.inner }
+        ensures listening { self.new.listening ≡ self.old.listening }
+        ensures open { (W.seen world.new).ended ≡ false }
+    {
+        match &mut self.streams {
+            Some(streams) => streams.writer.write(world, op, bytes),
+            None => Err(StreamError::Trap(TrapKind::NoSuchHandle)),
+        }
+    }
+
+    /// Writes to the connection, and says whether a write began that is in progress.
+    pub fn write_noting<W: World>(
+        &mut self,
+        world: &mut W,
+        op: OpId,
+        bytes: Octets,
+    ) -> (Result<(), StreamError>, bool)
+        requires { (W.seen world.old).ended ≡ false }
+        ensures asked { AsksFor (writer_asks (λ w. write_state_asks op w bytes) self.old) (W.seen world.old) (W.seen world.new) (λ answer. (answer, self.new)) (stream_outcome result.0) }
+        ensures begins { result.1 ≡ (not (works_in self.old.streams) && works_in self.new.streams) }
+        ensures side { side_of self.new.inner ≡ side_of self.old.inner }
+        ensures listening { self.new.listening ≡ self.old.listening }
+        ensures open { (W.seen world.new).ended ≡ false }
+    {
+        let before = self.has_job();
+        let written = self.write(world, op, bytes);
+        let begins = !before && self.has_job();
+        (written, begins)
+    }
+
+    /// Reports a kept error of the writer.
+    pub fn flush<W: World>(&mut self, world: &mut W) -> Result<(), StreamError>
+        requires { (W.seen world.old).ended ≡ false }
+        ensures asked { AsksFor (writer_asks flush_asks self.old) (W.seen world.old) (W.seen world.new) (λ answer. (answer, self.new)) (stream_outcome result) }
+        ensures side { side_of self.new.inner ≡ side_of self.old.inner }
+        ensures listening { self.new.listening ≡ self.old.listening }
+        ensures open { (W.seen world.new).ended ≡ false }
+    {
+        match &mut self.streams {
+            Some(streams) => streams.writer.flush(),
+            None => Err(StreamError::Trap(TrapKind::NoSuchHandle)),
+        }
+    }
+
+    /// Whether a background write is in progress.
+    pub fn has_job(&self) -> bool
+        ensures { result ≡ works_in self.now.streams }
+    {
+        match &self.streams {
+            Some(streams) => is_working(&streams.writer),
+            None => false,
+        }
+    }
+
+    /// Polls a write in progress, once.
+    pub fn turn<W: World>(&mut self, world: &mut W) -> Result<(), AllocError>
+        requires { (W.seen world.old).ended ≡ false }
+        ensures asked { AsksFor (turn_record self.old) (W.seen world.old) (W.seen world.new) (λ done. self.new) result }
+        ensures inner { self.new.inner ≡ self.old.inner }
+        ensures listening { self.new.listening ≡ self.old.listening }
+        ensures none { MakesNone (W.seen world.old) (W.seen world.new) }
+        ensures open { (W.seen world.new).ended ≡ false }
+    {
+        match &mut self.streams {
+            Some(streams) => streams.writer.turn(world),
+            None => Ok(()),
+        }
+    }
+
+    /// Releases one half of the connection, or both. Before its streams were made: `InvalidState`.
+    pub fn shutdown<W: World>(
+        &mut self,
+        world: &mut W,
+        op: OpId,
+        how: ShutdownType,
+    ) -> Result<(), SocketError>
+        requires { (W.seen world.old).ended ≡ false }
+        ensures asked { AsksFor (shut_record op how self.old self.old.streams) (W.seen world.old) (W.seen world.new) (λ done. (done, self.new)) (host_outcome result) }
+        ensures side { side_of self.new.inner ≡ side_of self.old.inner }
+        ensures listening { self.new.listening ≡ self.old.listening }
+        ensures open { (W.seen world.new).ended ≡ false }
+    {
+        let Some(streams) = &mut self.streams else {
+            return Err(SocketError::Code(p2::ErrorCode::InvalidState));
+        };
+        streams.shutdown(world, op, how)?;
+        Ok(())
+    }
+}

@@ -1,0 +1,33 @@
+//! The records that handles name: TCP and UDP sockets of 0.2 with their streams, lookups and pipes, what each asks of the network
+//! and what it is afterwards, and the list of records by number.
+#![tactic(auto)]
+
+pub mod binding;
+pub mod closing;
+pub mod datagrams;
+pub mod error;
+mod halves;
+pub mod listening;
+pub mod name_lookup;
+mod readiness;
+mod receiving;
+pub mod record_list;
+pub mod records;
+mod releasing;
+pub mod socket;
+pub mod udp;
+pub mod udp_connecting;
+
+pub use binding::{AsyncOperation, InProgress};
+pub use closing::close_sides;
+pub use datagrams::{Incoming, Outgoing, Receiving, Sending};
+pub use error::SocketError;
+pub use listening::{Listening, keep_accepted};
+pub use name_lookup::{Addresses, Lookup, LookupOp, unresolvable};
+pub use record_list::RecordList;
+pub use records::{
+    Record, input_pipe, input_pipe_mut, lookup, lookup_mut, lookup_mut_in, open_udp, open_udp_mut,
+    open_udp_mut_in, output_pipe, output_pipe_mut, tcp2, tcp2_mut, tcp2_mut_in, udp2, udp2_mut,
+};
+pub use socket::{Streams, Tcp2Socket};
+pub use udp::{OpenUdp, PendingCreate, Udp2Socket, UdpInProgress};

@@ -1,0 +1,159 @@
+//! Looks at a socket and at its streams: whether they are ready.
+
+ghost use Rattle.std.specs.Prelude.{◌≡◌, ◌+◌, ◌<◌, ◌^◌, false};
+ghost use Rattle.wasi_world.specs.Asks.{AsksFor};
+ghost use Rattle.wasi_records.specs.Looks.{wait_writer, waits_told, look_told, over_told, read_told, ready_socket, ready_listening, ready_reader, ready_writer, socket_ids, socket_begins};
+ghost use Rattle.wasi_records.specs.Stops.{fault_outcome};
+ghost use Rattle.wasi_records.specs.Listening.{ids_of};
+ghost use Rattle.wasi_records.specs.Sides.{Balances};
+ghost use Rattle.wasi_records.specs.InProgress.{is_connect};
+
+use crate::binding::AsyncOperation;
+use crate::listening::Listening;
+use crate::socket::Tcp2Socket;
+use std::alloc::AllocError;
+use wasi_streams::{Fault, StreamError};
+use wasi_world::{Answer, Ids, OpId, Refusal, TrapKind, World};
+
+/// Whether a look at a connect is over; a refusal is ready too.
+fn is_over(polled: Result<Answer<()>, Refusal>) -> Result<bool, Fault>
+    ensures { fault_outcome result ≡ over_told polled }
+{
+    match polled {
+        Ok(Answer::Pending) => Ok(false),
+        Ok(Answer::Ready(())) | Err(Refusal::Code(_)) => Ok(true),
+        Err(Refusal::Memory(e)) => Err(Fault::Memory(e)),
+    }
+}
+
+/// Whether a reader or a listener is ready, by a look at it.
+fn is_read(looked: Result<Answer<()>, AllocError>) -> Result<bool, Fault>
+    ensures { fault_outcome result ≡ read_told looked }
+{
+    match looked {
+        Ok(Answer::Ready(())) => Ok(true),
+        Ok(Answer::Pending) => Ok(false),
+        Err(e) => Err(Fault::Memory(e)),
+    }
+}
+
+/// Whether a writer is ready, by a look at it; an error is ready too.
+fn is_ready(looked: Result<Answer<()>, StreamError>) -> Result<bool, Fault>
+    ensures { fault_outcome result ≡ look_told looked }
+{
+    match looked {
+        Ok(Answer::Pending) => Ok(false),
+        Err(StreamError::Memory(e)) => Err(Fault::Memory(e)),
+        Ok(Answer::Ready(())) | Err(_) => Ok(true),
+    }
+}
+
+/// What a look at a writer answers to one that waits for it; an error doesn't wait.
+fn wait_answer(looked: Result<Answer<()>, StreamError>) -> Result<Answer<()>, AllocError>
+    ensures { result ≡ waits_told looked }
+{
+    match looked {
+        Ok(answer) => Ok(answer),
+        Err(StreamError::Memory(e)) => Err(e),
+        Err(_) => Ok(Answer::Ready(())),
+    }
+}
+
+impl Tcp2Socket {
+    /// Polls a connect in progress, which stays in progress; with nothing in progress the accept of a listener; else it is ready.
+    pub fn socket_ready<W: World>(&mut self, world: &mut W, ids: &mut Ids) -> Result<bool, Fault>
+        requires open { (W.seen world.old).ended ≡ false }
+        requires names { ids.old.next_part + 1 < 2 ^ 64 }
+        ensures asked { AsksFor (ready_socket ids.old self.old) (W.seen world.old) (W.seen world.new) (λ ready. (ready, self.new)) (fault_outcome result) }
+        ensures ids { ids.new ≡ socket_ids self.old ids.old (is_connect self.old.in_progress) }
+        ensures sides { Balances (W.seen world.old) (W.seen world.new) 0 self.old self.new }
+        ensures open { (W.seen world.new).ended ≡ false }
+    {
+        if self.in_progress.is_started(AsyncOperation::Connect) {
+            let polled = self.inner.poll_finish_connect(world);
+            return is_over(polled);
+        }
+        if !self.in_progress.is_nothing() {
+            return Ok(true);
+        }
+        self.accept_ready(world, ids)
+    }
+
+    /// Polls the accept of a listener, and leaves its result; what doesn't listen is ready.
+    fn accept_ready<W: World>(&mut self, world: &mut W, ids: &mut Ids) -> Result<bool, Fault>
+        requires open { (W.seen world.old).ended ≡ false }
+        requires names { ids.old.next_part + 1 < 2 ^ 64 }
+        ensures asked { AsksFor (ready_listening ids.old self.old self.old.listening) (W.seen world.old) (W.seen world.new) (λ ready. (ready, self.new)) (fault_outcome result) }
+        ensures ids { ids.new ≡ ids_of self.old.listening ids.old }
+        ensures sides { Balances (W.seen world.old) (W.seen world.new) 0 self.old self.new }
+        ensures open { (W.seen world.new).ended ≡ false }
+    {
+        match &mut self.listening {
+            Listening::Accepts(listener) => is_read(listener.poll_ready(world, ids)),
+            Listening::Not => Ok(true),
+            Listening::Begins(_) => Ok(true),
+            Listening::Unclosed(_) => Ok(true),
+        }
+    }
+
+    /// Whether there is something to read.
+    pub fn input_ready<W: World>(&mut self, world: &mut W, op: OpId) -> Result<bool, Fault>
+        requires { (W.seen world.old).ended ≡ false }
+        ensures asked { AsksFor (ready_reader op self.old self.old.streams) (W.seen world.old) (W.seen world.new) (λ ready. (ready, self.new)) (fault_outcome result) }
+        ensures inner { self.new.inner ≡ self.old.inner }
+        ensures listening { self.new.listening ≡ self.old.listening }
+        ensures open { (W.seen world.new).ended ≡ false }
+    {
+        match &mut self.streams {
+            Some(streams) => is_read(streams.reader.poll_ready(world, op)),
+            None => Err(Fault::Trap(TrapKind::NoSuchHandle)),
+        }
+    }
+
+    /// Whether something may be written; an error is ready too.
+    pub fn output_ready<W: World>(&mut self, world: &mut W, op: OpId) -> Result<bool, Fault>
+        requires { (W.seen world.old).ended ≡ false }
+        ensures asked { AsksFor (ready_writer op self.old self.old.streams) (W.seen world.old) (W.seen world.new) (λ ready. (ready, self.new)) (fault_outcome result) }
+        ensures inner { self.new.inner ≡ self.old.inner }
+        ensures listening { self.new.listening ≡ self.old.listening }
+        ensures open { (W.seen world.new).ended ≡ false }
+    {
+        match &mut self.streams {
+            Some(streams) => is_ready(streams.writer.poll_ready(world, op)),
+            None => Err(Fault::Trap(TrapKind::NoSuchHandle)),
+        }
+    }
+
+    /// One look at the writer, by an output's drop that waits for it. With no streams nothing is waited for.
+    pub fn poll_writer<W: World>(
+        &mut self,
+        world: &mut W,
+        op: OpId,
+    ) -> Result<Answer<()>, AllocError>
+        requires { (W.seen world.old).ended ≡ false }
+        ensures asked { AsksFor (wait_writer op self.old self.old.streams) (W.seen world.old) (W.seen world.new) (λ answer. (answer, self.new)) result }
+        ensures inner { self.new.inner ≡ self.old.inner }
+        ensures listening { self.new.listening ≡ self.old.listening }
+        ensures open { (W.seen world.new).ended ≡ false }
+    {
+        match &mut self.streams {
+            Some(streams) => wait_answer(streams.writer.poll_ready(world, op)),
+            None => Ok(Answer::Ready(())),
+        }
+    }
+
+    /// Whether a look at it would begin an accept: it is a listener in the middle of nothing, and no accept was begun.
+    pub fn would_accept(&self) -> bool
+        ensures { result ≡ socket_begins self.now }
+    {
+        if !self.in_progress.is_nothing() {
+            return false;
+        }
+        match &self.listening {
+            Listening::Accepts(listener) => !listener.has_accept(),
+            Listening::Not => false,
+            Listening::Begins(_) => false,
+            Listening::Unclosed(_) => false,
+        }
+    }
+}

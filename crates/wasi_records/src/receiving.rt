@@ -1,0 +1,273 @@
+//! How datagrams are received on the incoming stream of a UDP socket.
+
+ghost use Rattle.std.specs.Prelude.{◌≡◌, ◌+◌, ◌<◌, ◌^◌, false, []};
+ghost use Rattle.wasi_world.specs.Asks.{AsksFor, outcome};
+ghost use Rattle.wasi_common.specs.Rounds.{is_going, stays_going};
+ghost use Rattle.wasi_records.specs.Stops.{host_outcome};
+ghost use Rattle.wasi_records.specs.Names.{next_name};
+ghost use Rattle.wasi_records.specs.Receiving.{would_receive, is_receiving, receives, fetch_asks, fetch_names, taken, receive_next_asks, receive_all, receive_datagrams_asks, look_incoming, look_names, turn_receiving, turn_incoming, receive_settled, receive_wants};
+ghost use Rattle.wasi_records.specs.Sides.{MakesNone};
+
+use crate::datagrams::{Incoming, PendingReceive, Receiving};
+use crate::error::SocketError;
+use crate::udp::OpenUdp;
+use std::alloc::{AllocError, Global};
+use std::mem;
+use wasi_addr::{ErrorCode, IpSocketAddress};
+use wasi_udp::{RecvOp, UdpSocket};
+use wasi_world::{
+    Answer, Ids, IncomingDatagram, IncomingDatagrams, Octets, Refusal, TrapKind, World,
+};
+
+/// How many datagrams one call takes at most.
+const MOST: u64 = 16;
+
+/// Until their lengths, with one more each, reach this.
+const ROOM: usize = 65_536;
+
+impl Receiving {
+    fn is_in_progress(&self) -> bool
+        ensures { result ≡ is_receiving self.now }
+    {
+        matches!(self, Receiving::InProgress(_))
+    }
+
+    /// Takes the datagram that has come, or the code of the receive that failed. Pending: neither is there.
+    fn take(&mut self) -> Result<Answer<IncomingDatagram>, ErrorCode>
+        ensures { (result, self.new) ≡ taken self.old }
+    {
+        match mem::replace(self, Receiving::Nothing) {
+            Receiving::Came(datagram) => Ok(Answer::Ready(datagram)),
+            Receiving::Failed(code) => Err(code),
+            receiving => {
+                *self = receiving;
+                Ok(Answer::Pending)
+            }
+        }
+    }
+}
+
+impl Incoming {
+    /// Begins a receive and polls it, where none was begun.
+    fn fetch<W: World>(
+        &mut self,
+        world: &mut W,
+        socket: &mut UdpSocket,
+        ids: &mut Ids,
+    ) -> Result<(), AllocError>
+        requires open { (W.seen world.old).ended ≡ false }
+        requires names { ids.old.next_part + 1 < 2 ^ 64 }
+        ensures asked { AsksFor (fetch_asks (next_name ids.old) self.old.receiving (socket.old, self.old)) (W.seen world.old) (W.seen world.new) (λ done. (socket.new, self.new)) result }
+        ensures names { ids.new ≡ fetch_names self.old.receiving ids.old }
+        ensures none { MakesNone (W.seen world.old) (W.seen world.new) }
+        ensures side { socket.new.side ≡ socket.old.side }
+        ensures open { (W.seen world.new).ended ≡ false }
+    {
+        match self.receiving {
+            Receiving::Nothing => {
+                let mut receive = socket.recv(world, ids.begin())?;
+                let polled = receive.poll(world, self.remote);
+                self.settle(receive, polled)
+            }
+            _ => Ok(()),
+        }
+    }
+
+    /// What a poll of the receive makes of the stream.
+    fn settle(
+        &mut self,
+        receive: RecvOp,
+        polled: Result<Answer<(Octets, IpSocketAddress)>, Refusal>,
+    ) -> Result<(), AllocError>
+        requires { is_going receive ≡ stays_going polled }
+        ensures told { result ≡ receive_wants polled }
+        ensures settled { self.new ≡ receive_settled receive self.old polled }
+    {
+        match polled {
+            Ok(Answer::Ready((bytes, remote_address))) => {
+                self.receiving = Receiving::Came(IncomingDatagram {
+                    bytes,
+                    remote_address,
+                });
+                Ok(())
+            }
+            Ok(Answer::Pending) => {
+                self.receiving = Receiving::InProgress(PendingReceive::new(receive));
+                Ok(())
+            }
+            Err(Refusal::Code(code)) => {
+                self.receiving = Receiving::Failed(code);
+                Ok(())
+            }
+            Err(Refusal::Memory(e)) => {
+                self.receiving = Receiving::InProgress(PendingReceive::new(receive));
+                Err(e)
+            }
+        }
+    }
+
+    /// Takes the next datagram: one that has come, or else that of a receive that is begun. Pending: it hasn't come yet.
+    fn receive_next<W: World>(
+        &mut self,
+        world: &mut W,
+        socket: &mut UdpSocket,
+        ids: &mut Ids,
+    ) -> Result<Answer<IncomingDatagram>, Refusal>
+        requires open { (W.seen world.old).ended ≡ false }
+        requires names { ids.old.next_part + 1 < 2 ^ 64 }
+        ensures asked { AsksFor (receive_next_asks (next_name ids.old) (socket.old, self.old)) (W.seen world.old) (W.seen world.new) (λ answer. (answer, (socket.new, self.new))) (outcome result) }
+        ensures names { ids.new ≡ fetch_names self.old.receiving ids.old }
+        ensures none { MakesNone (W.seen world.old) (W.seen world.new) }
+        ensures side { socket.new.side ≡ socket.old.side }
+        ensures open { (W.seen world.new).ended ≡ false }
+    {
+        self.fetch(world, socket, ids)?;
+        match self.receiving.take() {
+            Ok(answer) => Ok(answer),
+            Err(code) => Err(Refusal::Code(code)),
+        }
+    }
+
+    /// Takes at most so many datagrams, while there is room for them. One that hasn't come ends the list, and so does a code, which
+    /// is answered where there is no datagram before it.
+    fn receive_all<W: World>(
+        &mut self,
+        alloc: Global,
+        world: &mut W,
+        socket: &mut UdpSocket,
+        ids: &mut Ids,
+        most: u64,
+    ) -> Result<IncomingDatagrams, Refusal>
+        requires open { (W.seen world.old).ended ≡ false }
+        requires names { ids.old.next_part + most < 2 ^ 64 }
+        ensures asked { AsksFor (receive_all most 65536 ids.old [] (socket.old, self.old)) (W.seen world.old) (W.seen world.new) (λ received. (received, (socket.new, self.new))) (outcome result) }
+        ensures line { ids.new.line ≡ ids.old.line }
+        ensures none { MakesNone (W.seen world.old) (W.seen world.new) }
+        ensures side { socket.new.side ≡ socket.old.side }
+        ensures open { (W.seen world.new).ended ≡ false }
+    {
+        // Room for the list comes first, so that no datagram is lost for want of memory.
+        let mut datagrams = Vec::with_capacity(alloc, most as usize)?;
+        let mut room = ROOM;
+        for _ in 0..most {
+            if room == 0 {
+                break;
+            }
+            match self.receive_next(world, socket, ids) {
+                Ok(Answer::Ready(datagram)) => {
+                    room = room.saturating_sub(1).saturating_sub(datagram.bytes.len());
+                    datagrams.push_reserved(datagram);
+                }
+                Ok(Answer::Pending) => break,
+                Err(Refusal::Code(code)) => {
+                    if datagrams.is_empty() {
+                        return Err(Refusal::Code(code));
+                    }
+                    break;
+                }
+                Err(Refusal::Memory(e)) => return Err(Refusal::Memory(e)),
+            }
+        }
+        Ok(IncomingDatagrams::from_vec(datagrams))
+    }
+
+    /// Polls the receive in progress once, where there is one.
+    fn turn<W: World>(&mut self, world: &mut W) -> Result<(), AllocError>
+        requires { (W.seen world.old).ended ≡ false }
+        ensures asked { AsksFor (turn_receiving self.old self.old.receiving) (W.seen world.old) (W.seen world.new) (λ done. self.new) result }
+        ensures none { MakesNone (W.seen world.old) (W.seen world.new) }
+        ensures open { (W.seen world.new).ended ≡ false }
+    {
+        match mem::replace(&mut self.receiving, Receiving::Nothing) {
+            Receiving::InProgress(receive) => {
+                let mut receive = receive.into_inner();
+                let polled = receive.poll(world, self.remote);
+                self.settle(receive, polled)
+            }
+            receiving => {
+                self.receiving = receiving;
+                Ok(())
+            }
+        }
+    }
+}
+
+impl OpenUdp {
+    /// Whether its incoming stream has a receive in progress.
+    pub fn receives(&self) -> bool
+        ensures { result ≡ receives self.now.incoming }
+    {
+        match &self.incoming {
+            Some(incoming) => incoming.receiving.is_in_progress(),
+            None => false,
+        }
+    }
+
+    /// Takes at most so many datagrams from the incoming stream, and at most 16, until their lengths with one more each reach 65,536.
+    /// A code is answered where there is no datagram before it.
+    pub fn receive_datagrams<W: World>(
+        &mut self,
+        alloc: Global,
+        world: &mut W,
+        ids: &mut Ids,
+        most: u64,
+    ) -> Result<IncomingDatagrams, SocketError>
+        requires open { (W.seen world.old).ended ≡ false }
+        requires names { ids.old.next_part + 16 < 2 ^ 64 }
+        ensures asked { AsksFor (receive_datagrams_asks ids.old most self.old self.old.incoming) (W.seen world.old) (W.seen world.new) (λ received. (received, self.new)) (host_outcome result) }
+        ensures line { ids.new.line ≡ ids.old.line }
+        ensures none { MakesNone (W.seen world.old) (W.seen world.new) }
+        ensures side { self.new.inner.side ≡ self.old.inner.side }
+        ensures open { (W.seen world.new).ended ≡ false }
+    {
+        let Some(incoming) = &mut self.incoming else {
+            return Err(SocketError::Trap(TrapKind::NoSuchHandle));
+        };
+        let datagrams = incoming.receive_all(alloc, world, &mut self.inner, ids, most.min(MOST))?;
+        Ok(datagrams)
+    }
+
+    /// Begins a receive on the incoming stream and polls it, where none was begun; what comes isn't taken.
+    pub fn look_incoming<W: World>(
+        &mut self,
+        world: &mut W,
+        ids: &mut Ids,
+    ) -> Result<(), AllocError>
+        requires open { (W.seen world.old).ended ≡ false }
+        requires names { ids.old.next_part + 1 < 2 ^ 64 }
+        ensures asked { AsksFor (look_incoming ids.old self.old self.old.incoming) (W.seen world.old) (W.seen world.new) (λ done. self.new) result }
+        ensures names { ids.new ≡ look_names ids.old self.old.incoming }
+        ensures none { MakesNone (W.seen world.old) (W.seen world.new) }
+        ensures side { self.new.inner.side ≡ self.old.inner.side }
+        ensures open { (W.seen world.new).ended ≡ false }
+    {
+        match &mut self.incoming {
+            Some(incoming) => incoming.fetch(world, &mut self.inner, ids),
+            None => Ok(()),
+        }
+    }
+
+    /// Polls the receive in progress of its incoming stream once, where there is one.
+    pub fn turn_incoming<W: World>(&mut self, world: &mut W) -> Result<(), AllocError>
+        requires { (W.seen world.old).ended ≡ false }
+        ensures asked { AsksFor (turn_incoming self.old self.old.incoming) (W.seen world.old) (W.seen world.new) (λ done. self.new) result }
+        ensures none { MakesNone (W.seen world.old) (W.seen world.new) }
+        ensures side { self.new.inner.side ≡ self.old.inner.side }
+        ensures open { (W.seen world.new).ended ≡ false }
+    {
+        match &mut self.incoming {
+            Some(incoming) => incoming.turn(world),
+            None => Ok(()),
+        }
+    }
+
+    /// Whether a look at its incoming stream would begin a receive.
+    pub fn would_receive(&self) -> bool
+        ensures { result ≡ would_receive self.now.incoming }
+    {
+        match &self.incoming {
+            Some(incoming) => matches!(incoming.receiving, Receiving::Nothing),
+            None => false,
+        }
+    }
+}

@@ -1,0 +1,178 @@
+//! The records of a store, by number.
+
+ghost use Rattle.std.specs.Prelude.{◌≡◌, ◌∷◌, [], ◌++◌, true, is_some, length, option_map, None, IfSome, IfNone, OnOk};
+ghost use Rattle.std.specs.Borrow.{LendsIf, sem};
+ghost use Rattle.slab.specs.Slab.{get};
+ghost use Rattle.wasi_records.specs.Numbered.{record_gone, no_items, item_at, or_gone, with_item};
+ghost use Rattle.wasi_records.specs.RecordMap.{key_at, of_number};
+
+use crate::records::Record;
+use slab::Slab;
+use std::alloc::{AllocError, Global};
+use std::collections::BTreeMap;
+use std::marker::Model;
+
+/// A record in the slab, with its number.
+#[derive(Drop)]
+pub(crate) struct NumberedRecord {
+    number: usize,
+    value: Record,
+}
+
+/// Records by number. They are numbered from 0 on in the order of making, and no number is given twice. Memory follows the most that
+/// were there at a time, however many were made. Who knows the slot of a record finds it without a search.
+#[derive(Drop)]
+pub struct RecordList {
+    pub(crate) slots: Slab<NumberedRecord>,
+    /// From the number of each record to the key of its slot.
+    pub(crate) keys: BTreeMap<usize, usize>,
+    next: usize,
+}
+
+impl Model for RecordList {
+    ghost use Rattle.wasi_records.specs.Numbered.{Numbered};
+
+    ghost Value = { Numbered };
+
+    ghost use Rattle.wasi_records.specs.RecordMap.{numbered, record_in, has_room, IsSound};
+
+    ghost view = { λ l. record { items = numbered (record_in l.slots l.keys.entries) l.next; room = has_room l.slots l.keys.entries l.next } };
+
+    ghost invariant = { λ l. IsSound l.slots l.keys.entries l.next };
+}
+
+impl RecordList {
+    ghost use Rattle.wasi_records.specs.Rows.{record_row, records_row};
+
+    /// No record was made. Takes no memory.
+    pub fn new(alloc: Global) -> RecordList
+        ensures { result ≡ no_items }
+    {
+        RecordList {
+            slots: Slab::new(alloc),
+            keys: BTreeMap::new(alloc),
+            next: 0,
+        }
+    }
+
+    /// How many records were made, which is the number of the next.
+    pub fn len(&self) -> usize
+        ensures { result ≡ length self.now.items }
+    {
+        self.next
+    }
+
+    /// Takes room for one more record. Out of memory, as also where no number is left, the records stay as they are.
+    pub fn reserve(&mut self) -> Result<(), AllocError>
+        ensures items { self.new.items ≡ self.old.items }
+        ensures room { OnOk result (self.new.room ≡ true) }
+    {
+        if self.next == usize::MAX {
+            return Err(AllocError);
+        }
+        self.slots.reserve(1)?;
+        // The map has no reserve, so an entry keeps the room of the next record. It goes into this slot, unless one is given back first.
+        self.keys.insert(self.next, self.slots.vacant_key())?;
+        Ok(())
+    }
+
+    /// Adds a record, for which there is room. Takes no memory.
+    pub fn push_reserved(&mut self, added: Record)
+        requires { self.old.room ≡ true }
+        ensures items { self.new.items ≡ self.old.items ++ added ∷ [] }
+    {
+        let record = NumberedRecord {
+            number: self.next,
+            value: added,
+        };
+        *self.keys.get_mut(&self.next).unwrap() = self.slots.insert_reserved(record);
+        self.next += 1;
+    }
+
+    /// The record of this number: none, or `Gone`, where it was given back or wasn't made.
+    pub fn get(&self, place: usize) -> Option<&Record>
+        ensures { or_gone (option_map (λ r. r.now) result) ≡ item_at self.now.items place }
+    {
+        record_of(&self.slots, key_of(&self.keys, place), place)
+    }
+
+    /// The same, to be changed where it is.
+    pub fn get_mut(&mut self, place: usize) -> Option<&mut Record>
+        ensures* writes_back { sem 𝓛 (LendsIf records_row record_row self.entry result (with_item self.old place) self.old) }
+        ensures item { or_gone (option_map (λ r. r.now) result) ≡ item_at self.old.items place }
+    {
+        let slot = self.slot_of(place);
+        self.get_mut_in(slot, place)
+    }
+
+    /// The slot of the record of this number, as a hint for `get_mut_in`; of a number with no record it is any. Takes no memory.
+    pub fn slot_of(&self, place: usize) -> usize {
+        key_of(&self.keys, place)
+    }
+
+    /// The record of this number, to be changed where it is. It is looked for in this slot first, which takes no search, and by its
+    /// number where it isn't there.
+    pub(crate) fn get_mut_in(&mut self, slot: usize, place: usize) -> Option<&mut Record>
+        ensures* writes_back { sem 𝓛 (LendsIf records_row record_row self.entry result (with_item self.old place) self.old) }
+        ensures item { or_gone (option_map (λ r. r.now) result) ≡ item_at self.old.items place }
+    {
+        let found = find(&self.slots, &self.keys, slot, place)?;
+        Some(&mut self.slots[found].value)
+    }
+
+    /// Gives the record of this number back: nothing is left of it. Takes no memory.
+    pub fn give_back(&mut self, place: usize)
+        ensures { self.new.items ≡ record_gone self.old.items place }
+    {
+        let slot = key_of(&self.keys, place);
+        self.keys.remove(&place);
+        if is_in(&self.slots, slot, place) {
+            drop(self.slots.remove(slot));
+        }
+    }
+}
+
+/// The key to which a number leads, or 0 where it leads nowhere.
+fn key_of(keys: &BTreeMap<usize, usize>, number: usize) -> usize
+    ensures { result ≡ key_at keys.now.entries number }
+{
+    keys.get(&number).copied().unwrap_or(0)
+}
+
+/// The record in a slot, where it is of this number.
+pub(crate) fn record_of(slots: &Slab<NumberedRecord>, slot: usize, number: usize) -> Option<&Record>
+    ensures { option_map (λ r. r.now) result ≡ of_number number (get slots.now slot) }
+{
+    match slots.get(slot) {
+        Some(found) if found.number == number => Some(&found.value),
+        _ => None,
+    }
+}
+
+/// Whether the record in a slot is of this number.
+fn is_in(slots: &Slab<NumberedRecord>, slot: usize, number: usize) -> bool
+    ensures { result ≡ is_some (of_number number (get slots.now slot)) }
+{
+    record_of(slots, slot, number).is_some()
+}
+
+/// The slot of the record of a number: this one, where it is in it, and else the one to which the number leads.
+fn find(
+    slots: &Slab<NumberedRecord>,
+    keys: &BTreeMap<usize, usize>,
+    first: usize,
+    number: usize,
+) -> Option<usize>
+    ensures found { IfSome result (λ slot. is_some (of_number number (get slots.now slot)) ≡ true) }
+    ensures none { IfNone result (of_number number (get slots.now (key_at keys.now.entries number)) ≡ None) }
+{
+    if is_in(slots, first, number) {
+        return Some(first);
+    }
+    let led = key_of(keys, number);
+    if is_in(slots, led, number) {
+        Some(led)
+    } else {
+        None
+    }
+}

@@ -1,0 +1,152 @@
+//! A TCP socket as the guest of the 0.2 interface has it: its record, its connect and its addresses.
+
+ghost use Rattle.std.specs.Prelude.{◌≡◌, false, Ok};
+ghost use Rattle.wasi_world.specs.Asks.{AsksFor, outcome};
+ghost use Rattle.wasi_tcp.specs.Socket.{side_of};
+ghost use Rattle.wasi_records.specs.Stops.{host_outcome};
+ghost use Rattle.wasi_records.specs.Sides.{Balances};
+ghost use Rattle.wasi_records.specs.Sockets.{begin_connect_asks, poll_connect_asks, connect_told, connect_settled, opened, tell_local_asks, tell_remote_asks, new_record};
+
+use crate::binding::{AsyncOperation, InProgress};
+use crate::error::SocketError;
+use crate::listening::Listening;
+use wasi_addr::{IpSocketAddress, p2};
+use wasi_tcp::{ReadState, TcpSocket, WriteState};
+use wasi_world::{Answer, OpId, Refusal, Sock, World};
+
+/// What a guest reads from a connection by, and what it writes to it by.
+#[derive(Drop)]
+pub struct Streams {
+    pub reader: ReadState,
+    pub writer: WriteState,
+}
+
+/// The socket, its operation in progress, how far it is with listening, and its streams once they were made.
+#[derive(Drop)]
+pub struct Tcp2Socket {
+    // First, since each turn looks here: fields lie in this order, and a record is several cache lines long.
+    pub streams: Option<Streams>,
+    pub inner: TcpSocket,
+    /// The network socket that it was made with, also once that is closed: its handles are marked with it.
+    pub side: Option<Sock>,
+    pub in_progress: InProgress,
+    pub listening: Listening,
+}
+
+impl Tcp2Socket {
+    /// The record of a socket that does nothing yet, and has no streams. Takes no memory.
+    pub fn new(inner: TcpSocket) -> Tcp2Socket
+        ensures { result ≡ new_record inner }
+    {
+        let side = inner.side();
+        Tcp2Socket {
+            inner,
+            side,
+            in_progress: InProgress::Nothing,
+            listening: Listening::Not,
+            streams: None,
+        }
+    }
+
+    /// Begins a connect, which is in progress then.
+    pub fn begin_connect<W: World>(
+        &mut self,
+        world: &mut W,
+        op: OpId,
+        addr: IpSocketAddress,
+    ) -> Result<(), Refusal>
+        requires { (W.seen world.old).ended ≡ false }
+        ensures asked { AsksFor (begin_connect_asks op self.old addr) (W.seen world.old) (W.seen world.new) (λ done. (done, self.new)) (outcome result) }
+        ensures side { side_of self.new.inner ≡ side_of self.old.inner }
+        ensures listening { self.new.listening ≡ self.old.listening }
+        ensures open { (W.seen world.new).ended ≡ false }
+    {
+        self.inner.start_connect(world, op, addr)?;
+        self.in_progress = InProgress::Started(AsyncOperation::Connect);
+        Ok(())
+    }
+
+    /// Polls the connect in progress. Pending: `WouldBlock`. Ended, either way, it is in progress no more.
+    pub fn poll_connect<W: World>(&mut self, world: &mut W) -> Result<(), SocketError>
+        requires { (W.seen world.old).ended ≡ false }
+        ensures asked { AsksFor (poll_connect_asks self.old) (W.seen world.old) (W.seen world.new) (λ done. (done, self.new)) (host_outcome result) }
+        ensures sides { Balances (W.seen world.old) (W.seen world.new) 0 self.old self.new }
+        ensures open { (W.seen world.new).ended ≡ false }
+    {
+        let polled = self.inner.poll_finish_connect(world);
+        self.settle_connect(polled)
+    }
+
+    /// What a poll of the connect makes of the record, and of the answer.
+    fn settle_connect(&mut self, polled: Result<Answer<()>, Refusal>) -> Result<(), SocketError>
+        ensures told { host_outcome result ≡ connect_told self.old polled }
+        ensures settled { self.new ≡ connect_settled self.old polled }
+    {
+        match polled {
+            Ok(Answer::Pending) => Err(SocketError::Code(p2::ErrorCode::WouldBlock)),
+            Ok(Answer::Ready(())) => {
+                self.in_progress = InProgress::Nothing;
+                self.open_streams()
+            }
+            Err(Refusal::Code(code)) => {
+                self.in_progress = InProgress::Nothing;
+                Err(SocketError::Code(p2::ErrorCode::from_code(code)))
+            }
+            Err(Refusal::Memory(e)) => Err(SocketError::Memory(e)),
+        }
+    }
+
+    /// Takes the two halves of the connection. With no operation in progress.
+    pub(crate) fn open_streams(&mut self) -> Result<(), SocketError>
+        requires { self.old.in_progress ≡ InProgress.Nothing }
+        ensures told { host_outcome result ≡ Ok (opened self.old self.old.inner).0 }
+        ensures record { self.new ≡ (opened self.old self.old.inner).1 }
+    {
+        let receive = match self.inner.take_receive_stream() {
+            Ok(receive) => receive,
+            Err(code) => return Err(SocketError::Code(p2::ErrorCode::from_code(code))),
+        };
+        let send = match self.inner.take_send_stream() {
+            Ok(send) => send,
+            Err(code) => return Err(SocketError::Code(p2::ErrorCode::from_code(code))),
+        };
+        self.streams = Some(Streams {
+            reader: ReadState::Open(receive),
+            writer: WriteState::Ready {
+                half: send,
+                permit: 0,
+            },
+        });
+        Ok(())
+    }
+
+    /// The local address.
+    pub fn local_address<W: World>(
+        &mut self,
+        world: &mut W,
+        op: OpId,
+    ) -> Result<IpSocketAddress, Refusal>
+        requires { (W.seen world.old).ended ≡ false }
+        ensures asked { AsksFor (tell_local_asks op self.old) (W.seen world.old) (W.seen world.new) (λ told. (told, self.new)) (outcome result) }
+        ensures side { side_of self.new.inner ≡ side_of self.old.inner }
+        ensures listening { self.new.listening ≡ self.old.listening }
+        ensures open { (W.seen world.new).ended ≡ false }
+    {
+        self.inner.local_address(world, op)
+    }
+
+    /// The remote address.
+    pub fn remote_address<W: World>(
+        &mut self,
+        world: &mut W,
+        op: OpId,
+    ) -> Result<IpSocketAddress, Refusal>
+        requires { (W.seen world.old).ended ≡ false }
+        ensures asked { AsksFor (tell_remote_asks op self.old) (W.seen world.old) (W.seen world.new) (λ told. (told, self.new)) (outcome result) }
+        ensures side { side_of self.new.inner ≡ side_of self.old.inner }
+        ensures listening { self.new.listening ≡ self.old.listening }
+        ensures open { (W.seen world.new).ended ≡ false }
+    {
+        self.inner.remote_address(world, op)
+    }
+}

@@ -1,0 +1,371 @@
+//! A UDP socket as a guest of the 0.2 interface has it: how it is made, what it is in the middle of, and how it ends.
+
+ghost use Rattle.std.specs.Prelude.{◌≡◌, true, false, option_map, Some, IfOk, OnErr};
+ghost use Rattle.std.specs.Borrow.{LendsIf, sem};
+ghost use Rattle.wasi_world.specs.Asks.{AsksFor, Reaches, outcome};
+ghost use Rattle.wasi_common.specs.Rounds.{is_going, stays_going};
+ghost use Rattle.wasi_records.specs.Records.{open_of};
+ghost use Rattle.wasi_records.specs.Rows.{udp_row, open_row};
+ghost use Rattle.wasi_udp.specs.Create.{create_cancel_asks};
+ghost use Rattle.wasi_records.specs.Sides.{HoldsFewer, MakesNone, one_if_some};
+ghost use Rattle.wasi_records.specs.Udp.{udp_side, udp_holds, opened_udp, poll_create_asks, udp_create_settled, udp_create_done, is_udp_idle, is_udp_bound, begin_udp_bind_asks, poll_udp_bind_asks, udp_bind_settled, with_udp_progress, udp_local_asks, close_udp_asks};
+ghost use Rattle.wasi_records.specs.declared.udp.Udp2Socket.TheVariants.{Open};
+
+use crate::datagrams::{Incoming, Outgoing};
+use crate::udp_connecting::PendingUdpConnect;
+use std::alloc::AllocError;
+use std::marker::Model;
+use std::mem;
+use wasi_addr::{ErrorCode, IpSocketAddress};
+use wasi_udp::{CreateOp, UdpBindOp, UdpSocket};
+use wasi_world::{Answer, OpId, Refusal, Sock, World, asks};
+
+/// A create that was begun: it isn't over, so a poll of it asks.
+#[derive(Drop)]
+pub struct PendingCreate {
+    create: CreateOp,
+}
+
+impl Model for PendingCreate {
+    ghost use Rattle.std.specs.Prelude.{◌≡◌, true};
+    ghost use Rattle.wasi_common.specs.Rounds.{is_going};
+    ghost use Rattle.wasi_udp.specs.Create.{Create};
+
+    ghost Value = { Create };
+
+    ghost view = { λ p. p.create };
+
+    ghost invariant = { λ p. is_going p.create.operation ≡ true };
+}
+
+impl PendingCreate {
+    /// Keeps a create that isn't over. Takes no memory.
+    pub fn new(create: CreateOp) -> PendingCreate
+        requires { is_going create.operation ≡ true }
+        ensures { result ≡ create }
+    {
+        PendingCreate { create }
+    }
+
+    fn side(&self) -> Sock
+        ensures { result ≡ self.now.operation.who.side }
+    {
+        self.create.side()
+    }
+
+    /// Gives it up: its network socket is closed. Out of memory nothing was asked.
+    pub fn cancel<W: World>(&self, world: &mut W) -> Result<(), AllocError>
+        requires { (W.seen world.old).ended ≡ false }
+        ensures asked { AsksFor (create_cancel_asks self.now) (W.seen world.old) (W.seen world.new) (λ done. done) result }
+        ensures closed { IfOk result (λ done. HoldsFewer (W.seen world.old) (W.seen world.new) 1 0) }
+        ensures unasked { OnErr result (W.seen world.new ≡ W.seen world.old) }
+        ensures open { (W.seen world.new).ended ≡ false }
+    {
+        self.create.cancel(world)
+    }
+
+    fn into_inner(self) -> CreateOp
+        ensures create { result ≡ self }
+        ensures going { is_going result.operation ≡ true }
+    {
+        self.create
+    }
+}
+
+/// A bind that was begun: it isn't over, so a poll of it asks.
+#[derive(Drop)]
+pub struct PendingUdpBind {
+    bind: UdpBindOp,
+}
+
+impl Model for PendingUdpBind {
+    ghost use Rattle.std.specs.Prelude.{◌≡◌, true};
+    ghost use Rattle.wasi_common.specs.Rounds.{is_going};
+    ghost use Rattle.wasi_world.specs.Operation.{Operation};
+
+    ghost Value = { Operation };
+
+    ghost view = { λ p. p.bind };
+
+    ghost invariant = { λ p. is_going p.bind ≡ true };
+}
+
+impl PendingUdpBind {
+    fn new(bind: UdpBindOp) -> PendingUdpBind
+        requires { is_going bind ≡ true }
+        ensures { result ≡ bind }
+    {
+        PendingUdpBind { bind }
+    }
+
+    fn into_inner(self) -> UdpBindOp
+        ensures bind { result ≡ self }
+        ensures going { is_going result ≡ true }
+    {
+        self.bind
+    }
+}
+
+/// What a UDP socket is in the middle of.
+#[derive(Drop)]
+pub enum UdpInProgress {
+    /// Nothing was started, or it was finished.
+    Nothing,
+    /// A bind was begun, and its start is pending.
+    Binding(PendingUdpBind),
+    /// A bind was started, and isn't finished.
+    Bound,
+}
+
+impl UdpInProgress {
+    /// Whether nothing is in progress. Takes no memory.
+    pub fn is_nothing(&self) -> bool
+        ensures { result ≡ is_udp_idle self.now }
+    {
+        matches!(self, UdpInProgress::Nothing)
+    }
+
+    /// Whether a bind was started and isn't finished.
+    pub fn is_bound(&self) -> bool
+        ensures { result ≡ is_udp_bound self.now }
+    {
+        matches!(self, UdpInProgress::Bound)
+    }
+}
+
+/// A UDP socket that was made and isn't dropped, what it is in the middle of, and its datagram streams.
+#[derive(Drop)]
+pub struct OpenUdp {
+    // These come first, since each turn looks here: fields lie in this order, and a record is several cache lines long.
+    pub inner: UdpSocket,
+    /// Its incoming datagram stream, while that is live.
+    pub incoming: Option<Incoming>,
+    /// Its outgoing datagram stream, likewise.
+    pub outgoing: Option<Outgoing>,
+    pub in_progress: UdpInProgress,
+    /// The connect by which its datagram streams are made, while that is pending.
+    pub connecting: Option<PendingUdpConnect>,
+}
+
+/// A UDP socket of the 0.2 interface.
+#[derive(Drop)]
+pub enum Udp2Socket {
+    /// Its network socket was made, and is waited for; it has no handle yet.
+    Creating(PendingCreate),
+    /// It is there.
+    Open(OpenUdp),
+    /// Its network socket, with which its handles were marked, was closed.
+    Closed(Sock),
+}
+
+impl Udp2Socket {
+    /// The network socket that it was made with, also once that is closed.
+    pub fn side(&self) -> Sock
+        ensures { result ≡ udp_side self.now }
+    {
+        match self {
+            Udp2Socket::Creating(create) => create.side(),
+            Udp2Socket::Open(open) => open.inner.side(),
+            Udp2Socket::Closed(side) => *side,
+        }
+    }
+
+    /// The network socket that it holds: none once it is closed.
+    pub(crate) fn held(&self) -> Option<Sock>
+        ensures { one_if_some result ≡ udp_holds self.now }
+    {
+        match self {
+            Udp2Socket::Creating(create) => Some(create.side()),
+            Udp2Socket::Open(open) => Some(open.inner.side()),
+            Udp2Socket::Closed(_) => None,
+        }
+    }
+
+    /// The socket, where it is there.
+    pub(crate) fn as_open(&self) -> Option<&OpenUdp>
+        ensures { option_map (λ o. o.now) result ≡ open_of (Some self.now) }
+    {
+        match self {
+            Udp2Socket::Open(open) => Some(open),
+            Udp2Socket::Creating(_) | Udp2Socket::Closed(_) => None,
+        }
+    }
+
+    /// The socket, where it is there, to be changed.
+    pub(crate) fn as_open_mut(&mut self) -> Option<&mut OpenUdp>
+        ensures* writes_back { sem 𝓛 (LendsIf udp_row open_row self.entry result Open self.old) }
+        ensures value { option_map (λ o. o.now) result ≡ open_of (Some self.old) }
+    {
+        match self {
+            Udp2Socket::Open(open) => Some(open),
+            Udp2Socket::Creating(_) | Udp2Socket::Closed(_) => None,
+        }
+    }
+
+    /// Waits for the network socket: done, the socket is there; pending, the create is kept; refused, the network socket was
+    /// closed. No create was begun: `InvalidState`. Out of memory, the create is kept as after its last answered ask: a poll of it
+    /// asks what is left.
+    pub fn poll_create<W: World>(&mut self, world: &mut W) -> Result<Answer<()>, Refusal>
+        requires { (W.seen world.old).ended ≡ false }
+        ensures asked { AsksFor (poll_create_asks self.old) (W.seen world.old) (W.seen world.new) (λ answer. (answer, self.new)) (outcome result) }
+        ensures left { OnErr (outcome result) (Reaches (poll_create_asks self.old) (poll_create_asks self.new) (W.seen world.old) (W.seen world.new)) }
+        ensures held { HoldsFewer (W.seen world.old) (W.seen world.new) (udp_holds self.old) (udp_holds self.new) }
+        ensures open { (W.seen world.new).ended ≡ false }
+    {
+        let side = self.side();
+        match mem::replace(self, Udp2Socket::Closed(side)) {
+            Udp2Socket::Creating(create) => {
+                let mut create = create.into_inner();
+                let polled = create.poll(world);
+                self.settle_create(create, polled)
+            }
+            Udp2Socket::Open(open) => {
+                *self = Udp2Socket::Open(open);
+                Err(Refusal::Code(ErrorCode::InvalidState))
+            }
+            Udp2Socket::Closed(_) => Err(Refusal::Code(ErrorCode::InvalidState)),
+        }
+    }
+
+    /// What a poll of a create, which was taken out for it, makes of the record.
+    fn settle_create(
+        &mut self,
+        create: CreateOp,
+        polled: Result<Answer<UdpSocket>, Refusal>,
+    ) -> Result<Answer<()>, Refusal>
+        requires going { is_going create.operation ≡ stays_going polled }
+        ensures told { result ≡ udp_create_done polled }
+        ensures settled { self.new ≡ udp_create_settled create polled }
+    {
+        match polled {
+            Ok(Answer::Ready(inner)) => {
+                *self = Udp2Socket::Open(OpenUdp {
+                    inner,
+                    in_progress: UdpInProgress::Nothing,
+                    connecting: None,
+                    incoming: None,
+                    outgoing: None,
+                });
+                Ok(Answer::Ready(()))
+            }
+            Ok(Answer::Pending) => {
+                *self = Udp2Socket::Creating(PendingCreate::new(create));
+                Ok(Answer::Pending)
+            }
+            Err(Refusal::Code(code)) => {
+                *self = Udp2Socket::Closed(create.side());
+                Err(Refusal::Code(code))
+            }
+            Err(Refusal::Memory(e)) => {
+                *self = Udp2Socket::Creating(PendingCreate::new(create));
+                Err(Refusal::Memory(e))
+            }
+        }
+    }
+
+    /// Closes the network socket, where the socket is there, as its drop does. Out of memory, nothing was asked, and it is as
+    /// it was.
+    pub fn close<W: World>(&mut self, world: &mut W, op: OpId) -> Result<(), AllocError>
+        requires { (W.seen world.old).ended ≡ false }
+        ensures asked { AsksFor (close_udp_asks op self.old) (W.seen world.old) (W.seen world.new) (λ done. (done, self.new)) result }
+        ensures held { HoldsFewer (W.seen world.old) (W.seen world.new) (udp_holds self.old) (udp_holds self.new) }
+        ensures err { OnErr result (self.new ≡ self.old) }
+        ensures unasked { OnErr result (W.seen world.new ≡ W.seen world.old) }
+        ensures open { (W.seen world.new).ended ≡ false }
+    {
+        let Some(open) = self.as_open() else {
+            return Ok(());
+        };
+        let side = open.inner.side();
+        asks::close(world, op, side)?;
+        *self = Udp2Socket::Closed(side);
+        Ok(())
+    }
+}
+
+impl OpenUdp {
+    /// Begins a bind and polls it.
+    pub fn begin_bind<W: World>(
+        &mut self,
+        world: &mut W,
+        op: OpId,
+        addr: IpSocketAddress,
+    ) -> Result<Answer<()>, Refusal>
+        requires { (W.seen world.old).ended ≡ false }
+        ensures asked { AsksFor (begin_udp_bind_asks op self.old addr) (W.seen world.old) (W.seen world.new) (λ answer. (answer, self.new)) (outcome result) }
+        ensures none { MakesNone (W.seen world.old) (W.seen world.new) }
+        ensures side { self.new.inner.side ≡ self.old.inner.side }
+        ensures open { (W.seen world.new).ended ≡ false }
+    {
+        let bind = self.inner.bind(world, op, addr)?;
+        self.in_progress = UdpInProgress::Binding(PendingUdpBind::new(bind));
+        self.poll_bind(world)
+    }
+
+    /// Polls the bind that was begun: done, it was started; pending, it is kept; refused, nothing is in progress. Out of memory, it
+    /// is kept as after its last answered ask: a poll of it asks what is left.
+    /// None was begun: `InvalidState`.
+    pub fn poll_bind<W: World>(&mut self, world: &mut W) -> Result<Answer<()>, Refusal>
+        requires { (W.seen world.old).ended ≡ false }
+        ensures asked { AsksFor (poll_udp_bind_asks self.old) (W.seen world.old) (W.seen world.new) (λ answer. (answer, self.new)) (outcome result) }
+        ensures left { OnErr (outcome result) (Reaches (poll_udp_bind_asks self.old) (poll_udp_bind_asks self.new) (W.seen world.old) (W.seen world.new)) }
+        ensures none { MakesNone (W.seen world.old) (W.seen world.new) }
+        ensures side { self.new.inner.side ≡ self.old.inner.side }
+        ensures open { (W.seen world.new).ended ≡ false }
+    {
+        match mem::replace(&mut self.in_progress, UdpInProgress::Nothing) {
+            UdpInProgress::Binding(bind) => {
+                let mut bind = bind.into_inner();
+                let polled = bind.poll(world);
+                self.settle_bind(bind, polled)
+            }
+            UdpInProgress::Nothing => Err(Refusal::Code(ErrorCode::InvalidState)),
+            UdpInProgress::Bound => {
+                self.in_progress = UdpInProgress::Bound;
+                Err(Refusal::Code(ErrorCode::InvalidState))
+            }
+        }
+    }
+
+    /// What a poll of a bind, which was taken out for it, makes of the record.
+    fn settle_bind(
+        &mut self,
+        bind: UdpBindOp,
+        polled: Result<Answer<()>, Refusal>,
+    ) -> Result<Answer<()>, Refusal>
+        requires nothing { self.old.in_progress ≡ UdpInProgress.Nothing }
+        requires going { is_going bind ≡ stays_going polled }
+        ensures told { result ≡ polled }
+        ensures settled { self.new ≡ udp_bind_settled (with_udp_progress self.old (UdpInProgress.Binding bind)) polled }
+    {
+        match polled {
+            Ok(Answer::Ready(())) => {
+                self.in_progress = UdpInProgress::Bound;
+                Ok(Answer::Ready(()))
+            }
+            Ok(Answer::Pending) => {
+                self.in_progress = UdpInProgress::Binding(PendingUdpBind::new(bind));
+                Ok(Answer::Pending)
+            }
+            Err(Refusal::Code(code)) => Err(Refusal::Code(code)),
+            Err(Refusal::Memory(e)) => {
+                self.in_progress = UdpInProgress::Binding(PendingUdpBind::new(bind));
+                Err(Refusal::Memory(e))
+            }
+        }
+    }
+
+    /// The local address.
+    pub fn local_address<W: World>(
+        &mut self,
+        world: &mut W,
+        op: OpId,
+    ) -> Result<IpSocketAddress, Refusal>
+        requires { (W.seen world.old).ended ≡ false }
+        ensures asked { AsksFor (udp_local_asks op self.old) (W.seen world.old) (W.seen world.new) (λ told. (told, self.new)) (outcome result) }
+        ensures side { self.new.inner.side ≡ self.old.inner.side }
+        ensures open { (W.seen world.new).ended ≡ false }
+    {
+        self.inner.local_address(world, op)
+    }
+}

@@ -1,0 +1,165 @@
+//! How the datagram streams of a UDP socket are made: after a connect, or a disconnect.
+
+ghost use Rattle.std.specs.Prelude.{◌≡◌, true, false, None, OnErr, Some};
+ghost use Rattle.wasi_world.specs.Asks.{AsksFor, Reaches, outcome};
+ghost use Rattle.wasi_common.specs.Rounds.{is_going, stays_going};
+ghost use Rattle.wasi_records.specs.Datagrams.{with_streams, udp_connect_settled, poll_udp_connect_asks, streams_to, begin_streams_asks};
+ghost use Rattle.wasi_records.specs.Sides.{MakesNone};
+
+use crate::datagrams::{Incoming, Outgoing, Receiving};
+use crate::udp::OpenUdp;
+use std::marker::Model;
+use wasi_addr::{ErrorCode, IpSocketAddress};
+use wasi_udp::UdpConnectOp;
+use wasi_world::{Answer, OpId, Refusal, World};
+
+/// A connect that was begun: it isn't over, so a poll of it asks.
+#[derive(Drop)]
+pub struct PendingUdpConnect {
+    connect: UdpConnectOp,
+}
+
+impl Model for PendingUdpConnect {
+    ghost use Rattle.std.specs.Prelude.{◌≡◌, true};
+    ghost use Rattle.wasi_common.specs.Rounds.{is_going};
+    ghost use Rattle.wasi_world.specs.Operation.{Operation};
+
+    ghost Value = { Operation };
+
+    ghost view = { λ p. p.connect };
+
+    ghost invariant = { λ p. is_going p.connect ≡ true };
+}
+
+impl PendingUdpConnect {
+    fn new(connect: UdpConnectOp) -> PendingUdpConnect
+        requires { is_going connect ≡ true }
+        ensures { result ≡ connect }
+    {
+        PendingUdpConnect { connect }
+    }
+
+    fn into_inner(self) -> UdpConnectOp
+        ensures connect { result ≡ self }
+        ensures going { is_going result ≡ true }
+    {
+        self.connect
+    }
+}
+
+impl OpenUdp {
+    /// Makes both streams; the incoming one keeps the remote address of now.
+    fn open_streams(&mut self)
+        ensures { self.new ≡ with_streams self.old }
+    {
+        self.incoming = Some(Incoming {
+            remote: self.inner.remote(),
+            receiving: Receiving::Nothing,
+        });
+        self.outgoing = Some(Outgoing::new());
+    }
+
+    /// Begins to make both streams. The socket isn't bound: `InvalidState`. With an address it is connected to it first, which is
+    /// polled; without one it is disconnected, where it was connected.
+    pub fn begin_streams<W: World>(
+        &mut self,
+        world: &mut W,
+        op: OpId,
+        remote: Option<IpSocketAddress>,
+    ) -> Result<Answer<()>, Refusal>
+        requires { (W.seen world.old).ended ≡ false }
+        ensures asked { AsksFor (begin_streams_asks op self.old remote) (W.seen world.old) (W.seen world.new) (λ answer. (answer, self.new)) (outcome result) }
+        ensures none { MakesNone (W.seen world.old) (W.seen world.new) }
+        ensures side { self.new.inner.side ≡ self.old.inner.side }
+        ensures open { (W.seen world.new).ended ≡ false }
+    {
+        if !self.inner.is_bound(world, op)? {
+            return Err(Refusal::Code(ErrorCode::InvalidState));
+        }
+        match remote {
+            Some(addr) => self.begin_connect(world, op, addr),
+            None => self.disconnect(world, op),
+        }
+    }
+
+    /// Begins a connect and polls it.
+    fn begin_connect<W: World>(
+        &mut self,
+        world: &mut W,
+        op: OpId,
+        addr: IpSocketAddress,
+    ) -> Result<Answer<()>, Refusal>
+        requires { (W.seen world.old).ended ≡ false }
+        ensures asked { AsksFor (streams_to op self.old (Some addr)) (W.seen world.old) (W.seen world.new) (λ answer. (answer, self.new)) (outcome result) }
+        ensures none { MakesNone (W.seen world.old) (W.seen world.new) }
+        ensures side { self.new.inner.side ≡ self.old.inner.side }
+        ensures open { (W.seen world.new).ended ≡ false }
+    {
+        let connect = self.inner.connect(world, op, addr)?;
+        self.connecting = Some(PendingUdpConnect::new(connect));
+        self.poll_connect(world)
+    }
+
+    /// Takes the remote address away, where there is one, and makes the streams.
+    fn disconnect<W: World>(&mut self, world: &mut W, op: OpId) -> Result<Answer<()>, Refusal>
+        requires { (W.seen world.old).ended ≡ false }
+        ensures asked { AsksFor (streams_to op self.old None) (W.seen world.old) (W.seen world.new) (λ answer. (answer, self.new)) (outcome result) }
+        ensures none { MakesNone (W.seen world.old) (W.seen world.new) }
+        ensures side { self.new.inner.side ≡ self.old.inner.side }
+        ensures open { (W.seen world.new).ended ≡ false }
+    {
+        if self.inner.is_connected() {
+            self.inner.disconnect(world, op)?;
+        }
+        self.open_streams();
+        Ok(Answer::Ready(()))
+    }
+
+    /// Polls the connect that was begun: done, the streams are made; pending, it is kept; refused, there are no streams. None was
+    /// begun: `InvalidState`. Out of memory, it is kept as after its last answered ask: a poll of it asks what is left.
+    pub fn poll_connect<W: World>(&mut self, world: &mut W) -> Result<Answer<()>, Refusal>
+        requires { (W.seen world.old).ended ≡ false }
+        ensures asked { AsksFor (poll_udp_connect_asks self.old) (W.seen world.old) (W.seen world.new) (λ answer. (answer, self.new)) (outcome result) }
+        ensures left { OnErr (outcome result) (Reaches (poll_udp_connect_asks self.old) (poll_udp_connect_asks self.new) (W.seen world.old) (W.seen world.new)) }
+        ensures none { MakesNone (W.seen world.old) (W.seen world.new) }
+        ensures side { self.new.inner.side ≡ self.old.inner.side }
+        ensures open { (W.seen world.new).ended ≡ false }
+    {
+        match self.connecting.take() {
+            Some(connect) => {
+                let mut connect = connect.into_inner();
+                let polled = connect.poll(world, &mut self.inner);
+                self.settle_connect(connect, polled)
+            }
+            None => Err(Refusal::Code(ErrorCode::InvalidState)),
+        }
+    }
+
+    /// What a poll of a connect, which was taken out for it, makes of the record.
+    fn settle_connect(
+        &mut self,
+        connect: UdpConnectOp,
+        polled: Result<Answer<()>, Refusal>,
+    ) -> Result<Answer<()>, Refusal>
+        requires none { self.old.connecting ≡ None }
+        requires going { is_going connect ≡ stays_going polled }
+        ensures told { result ≡ polled }
+        ensures settled { self.new ≡ udp_connect_settled connect self.old polled }
+    {
+        match polled {
+            Ok(Answer::Ready(())) => {
+                self.open_streams();
+                Ok(Answer::Ready(()))
+            }
+            Ok(Answer::Pending) => {
+                self.connecting = Some(PendingUdpConnect::new(connect));
+                Ok(Answer::Pending)
+            }
+            Err(Refusal::Code(code)) => Err(Refusal::Code(code)),
+            Err(Refusal::Memory(e)) => {
+                self.connecting = Some(PendingUdpConnect::new(connect));
+                Err(Refusal::Memory(e))
+            }
+        }
+    }
+}
