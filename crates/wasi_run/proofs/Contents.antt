@@ -1,7 +1,7 @@
 -- The reply of a call that asks nothing and may run out of memory.
 use Rattle.std.proofs.Common.{◌≡◌, IfOk, IsOkAnd, Result, Ok, Err, ap}
 use Rattle.std.specs.declared.alloc.AllocError.{AllocError}
-use Rattle.wasi_world.specs.Asks.{Asks, Give, AsksFor}
+use Rattle.wasi_world.specs.Asks.{Give, AsksFor}
 use Rattle.wasi_world.specs.Seen.{Seen}
 use Rattle.wasi_world.proofs.Walks.{given_answered, reaches_all}
 

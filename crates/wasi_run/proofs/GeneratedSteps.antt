@@ -1,5 +1,5 @@
 -- Each line of a generated script is a step.
-use Rattle.wasi_run.proofs.Words.{◌/◌, ◌%◌, ◌^◌, ◌||◌, ◌==◌, replicate, slice_index_or, ◌≡◌, ℕ, zero, suc, ◌+◌, ◌*◌, ◌<◌, ◌≤◌, true, false, List, [], ◌∷◌, ◌++◌, Some, length, refl, ap, sym, ◌∙◌, append_assoc, append-nil, length-append, add-one, arith, and_parts, nat_tests, is_space, lines_from, lines_of, rest_from, rest_of, Step, Drop, IsStep, line_of, step_of, AllSteps}
+use Rattle.wasi_run.proofs.Words.{◌/◌, ◌%◌, ◌^◌, ◌==◌, replicate, slice_index_or, ◌≡◌, ℕ, zero, suc, ◌+◌, ◌*◌, ◌<◌, ◌≤◌, true, false, List, [], ◌∷◌, ◌++◌, Some, length, refl, ap, sym, ◌∙◌, append_assoc, append-nil, length-append, add-one, arith, and_parts, nat_tests, lines_from, lines_of, rest_from, rest_of, Step, Drop, IsStep, line_of, step_of, AllSteps}
 use Rattle.std.proofs.Common.{IsTrue}
 use Rattle.std.specs.List.{list_all}
 use Rattle.wasi_world.specs.Written.{AreBytes}
