@@ -2,7 +2,7 @@
 //! call that is pending, what handles stand for, and the end.
 
 ghost use Rattle.std.specs.Prelude.{◌≡◌, false};
-ghost use Rattle.wasi_world.specs.Scripted.{seen_by};
+ghost use Rattle.world_scripted.specs.Scripted.{seen_by};
 
 use crate::guest::{Guest, line, world};
 use crate::same::same;
@@ -13,7 +13,8 @@ use wasi_host::{Kind, Outcome, WasiSocketsCtxView, WasiSocketsView, Watched, han
 use wasi_p2::tcp;
 use wasi_streams::Fault;
 use wasi_table::Table;
-use wasi_world::{Answer, HandleKind, OpId, ScriptedWorld, Sock, World};
+use wasi_world::{Answer, HandleKind, OpId, Sock, World};
+use world_scripted::ScriptedWorld;
 
 const ADDRESS: IpSocketAddress = IpSocketAddress::Ipv4(Ipv4SocketAddress {
     port: 80,

@@ -3,15 +3,16 @@
 ghost use Rattle.std.specs.Prelude.{◌≡◌, IfOk, List, Ok, false, true};
 ghost use Rattle.wasi_host.specs.Store.{no_records};
 ghost use Rattle.wasi_table.specs.Table.{empty};
-ghost use Rattle.wasi_world.specs.Scenario.{scenario_of};
+ghost use Rattle.world_scripted.specs.Scenario.{scenario_of};
 ghost use Rattle.wasi_world.specs.declared.outcome.WasiSocketsCtx.{WasiSocketsCtx};
-ghost use Rattle.wasi_world.specs.Scripted.{seen_by, started};
+ghost use Rattle.world_scripted.specs.Scripted.{seen_by, started};
 
 use std::alloc::Global;
 use std::test::Fail;
 use wasi_host::{Kind, Store, WasiSocketsCtxView, WasiSocketsView};
 use wasi_table::Table;
-use wasi_world::{Ids, ScriptedWorld, WasiSocketsCtx};
+use wasi_world::{Ids, WasiSocketsCtx};
+use world_scripted::ScriptedWorld;
 
 /// A guest of one context, with a table and a store of its own.
 #[derive(Drop)]

@@ -1,7 +1,7 @@
 //! Views by the number of a context: two contexts share one table and one store.
 
 ghost use Rattle.std.specs.Prelude.{◌≡◌, false};
-ghost use Rattle.wasi_world.specs.Scripted.{seen_by};
+ghost use Rattle.world_scripted.specs.Scripted.{seen_by};
 
 use crate::guest::{line, world};
 use crate::same::same;
@@ -13,7 +13,8 @@ use wasi_host::{
 };
 use wasi_p2::tcp;
 use wasi_table::Table;
-use wasi_world::{ScriptedWorld, WasiSocketsCtx};
+use wasi_world::WasiSocketsCtx;
+use world_scripted::ScriptedWorld;
 
 /// Two contexts: one may use TCP, the other nothing.
 #[derive(Drop)]

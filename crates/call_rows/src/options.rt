@@ -1,7 +1,7 @@
 //! The getter and the setter of each option of a socket, which have its own type.
 
 ghost use Rattle.std.specs.Prelude.{◌≡◌, false};
-ghost use Rattle.wasi_world.specs.Scripted.{seen_by};
+ghost use Rattle.world_scripted.specs.Scripted.{seen_by};
 
 use crate::calls::make_socket;
 use crate::guest::{Guest, line, world};
@@ -9,7 +9,8 @@ use crate::same::same;
 use std::test::Fail;
 use wasi_host::{WasiSocketsCtxView, WasiSocketsView};
 use wasi_p2::tcp;
-use wasi_world::{Opt, ScriptedWorld};
+use wasi_world::Opt;
+use world_scripted::ScriptedWorld;
 
 /// Sets the times of the socket 2 to the least and the most, and asks for them.
 fn times(view: &mut WasiSocketsCtxView<'_>, world: &mut ScriptedWorld) -> Result<(u64, u64), Fail>

@@ -2,7 +2,7 @@
 //! script shows.
 
 ghost use Rattle.std.specs.Prelude.{◌≡◌, false};
-ghost use Rattle.wasi_world.specs.Scripted.{seen_by};
+ghost use Rattle.world_scripted.specs.Scripted.{seen_by};
 
 use crate::calls::connect;
 use crate::guest::{Guest, line, world};
@@ -15,7 +15,8 @@ use wasi_memory::{
     ClosedInputStream, ClosedOutputStream, InputPipeCore, OutputPipe, SinkOutputStream,
 };
 use wasi_streams::{InputStream, OutputStream, Pollable, StreamError, TrapKind};
-use wasi_world::{Answer, Octets, OpId, ScriptedWorld};
+use wasi_world::{Answer, Octets, OpId};
+use world_scripted::ScriptedWorld;
 
 /// The operation of each call of a trait.
 const OP: OpId = OpId { step: 1, part: 0 };

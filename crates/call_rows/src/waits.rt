@@ -1,7 +1,7 @@
 //! Waits for pollables: what they give, which names they take, and which call is pending meanwhile.
 
 ghost use Rattle.std.specs.Prelude.{◌≡◌, false};
-ghost use Rattle.wasi_world.specs.Scripted.{seen_by};
+ghost use Rattle.world_scripted.specs.Scripted.{seen_by};
 
 use crate::calls::listen;
 use crate::guest::{Guest, line, world};
@@ -9,7 +9,8 @@ use crate::same::same;
 use std::alloc::{AllocError, Global};
 use std::test::Fail;
 use wasi_host::{Outcome, WasiSocketsCtxView, WasiSocketsView};
-use wasi_world::{Answer, NumberList, ScriptedWorld};
+use wasi_world::{Answer, NumberList};
+use world_scripted::ScriptedWorld;
 
 /// Makes the listener 2 and the pollable 3 of it, and the sink 4 and the pollable 5 of that.
 fn make_pollables(

@@ -3,7 +3,7 @@ use Rattle.std.specs.Prelude.{option_map, map, take, drop}
 use Rattle.std.specs.Option.{option_and_then}
 use Rattle.std.proofs.Common.{◌≡◌, ℕ, List, [], ◌∷◌, ◌++◌, Option, Some, None, refl, ap, sym, ◌∙◌, ◌+◌, ◌<◌, length, get_or, append_assoc}
 use Rattle.std.proofs.lemmas.List.{take_more, take-append-drop, map-append}
-use Rattle.wasi_world.specs.Fields.{number_in}
+use Rattle.world_text.specs.Fields.{number_in}
 use Rattle.live.specs.Commands.{ports_in}
 
 -- the ports of more words after some

@@ -1,7 +1,7 @@
 -- What the program's words ask for.
 use Rattle.std.specs.Prelude.{ℕ, List, [], ◌∷◌, Option, Some, None, option_map}
 use Rattle.std.specs.Option.{option_and_then}
-use Rattle.wasi_world.specs.Fields.{number_in}
+use Rattle.world_text.specs.Fields.{number_in}
 use Rattle.live.specs.declared.command.Command.{Command}
 
 -- the ports that the words are

@@ -1,8 +1,8 @@
 -- What became of a script over std's sockets.
 use Rattle.std.specs.Prelude.{◌≡◌, ◌⊎◌, ℕ, [], ◌∷◌, false, true, Result, Err}
 use Rattle.wasi_world.specs.Seen.{Seen}
-use Rattle.wasi_world.specs.Io.{Reading, Writing}
-use Rattle.wasi_world.specs.Scenario.{free_context}
+use Rattle.world_io.specs.Io.{Reading, Writing}
+use Rattle.wasi_world.specs.Contexts.{free_context}
 use Rattle.wasi_run.specs.declared.run.RunEnd.{RunEnd}
 use Rattle.wasi_run.specs.declared.error.RunError.{RunError}
 use Rattle.wasi_run.specs.declared.error.RunError.TheVariants.{Memory}

@@ -1,11 +1,11 @@
 //! What the program's words ask for.
 
 ghost use Rattle.std.specs.Prelude.{◌≡◌, Some, IfOk, map, option_map, string_bytes};
-ghost use Rattle.wasi_world.specs.Fields.{number_in};
+ghost use Rattle.world_text.specs.Fields.{number_in};
 ghost use Rattle.live.specs.Commands.{ports_in, command_in, shown};
 
 use std::alloc::{AllocError, Global};
-use wasi_world::fields::number;
+use world_text::fields::number;
 
 /// `LIMIT PORT..`: a script of at most so many bytes, and the ports that it may use.
 #[derive(Drop)]

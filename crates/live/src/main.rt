@@ -11,7 +11,7 @@ use std::process::ExitCode;
 use wasi_console::{LineSource, end, print, words};
 use wasi_program::Status;
 use wasi_run::RunError;
-use wasi_world::{StdSink, StdSource};
+use world_io::{StdSink, StdSource};
 
 const VERSION: &str = "live 0.1.0\n";
 

@@ -1,8 +1,8 @@
 //! The script's run over std's sockets.
 
 ghost use Rattle.std.specs.Prelude.{◌≡◌, [], ◌∷◌, IfOk};
-ghost use Rattle.wasi_world.specs.Scenario.{free_context};
-ghost use Rattle.wasi_program.specs.Program.{status_of};
+ghost use Rattle.wasi_world.specs.Contexts.{free_context};
+ghost use Rattle.wasi_program.specs.Status.{status_of};
 ghost use Rattle.live.specs.Live.{RanLive};
 
 use crate::command::Command;
@@ -12,7 +12,8 @@ use std::time::Clock;
 use wasi_net::NetWorld;
 use wasi_program::Status;
 use wasi_run::{RunEnd, RunError, run_script};
-use wasi_world::{Sink, Source, WasiSocketsCtx};
+use wasi_world::WasiSocketsCtx;
+use world_io::{Sink, Source};
 
 /// The one context, which may use all that is built. Its check goes by the ports.
 const FREE: WasiSocketsCtx = WasiSocketsCtx {

@@ -1,13 +1,14 @@
 //! Scripts that connect to themselves over 127.0.0.1.
 
 ghost use Rattle.std.specs.Prelude.{◌≡◌, [], ◌∷◌, IfOk};
-ghost use Rattle.wasi_world.specs.Scenario.{free_context};
+ghost use Rattle.wasi_world.specs.Contexts.{free_context};
 
 use std::alloc::{AllocError, Global};
 use std::test::Fail;
 use wasi_net::NetWorld;
 use wasi_run::{RunEnd, run_script};
-use wasi_world::{MemorySink, MemorySource, WasiSocketsCtx};
+use wasi_world::WasiSocketsCtx;
+use world_io::{MemorySink, MemorySource};
 
 /// Binds and listens, connects, accepts, writes a byte and reads it.
 const CARRIES: (&[u8], &[u8]) = (

@@ -10,7 +10,7 @@ use std::test::Fail;
 use std::time::Clock;
 use wasi_addr::{IpSocketAddress, Ipv4SocketAddress, SocketAddrUse, SocketAddressFamily};
 use wasi_net::NetWorld;
-use wasi_world::fields::push_octets;
+use world_text::fields::push_octets;
 use wasi_world::{Call, OpId, Sock, Told, World};
 
 /// A network that has not ended.

@@ -5,7 +5,7 @@ use std::alloc::{AllocError, Global};
 use std::test::*;
 use wasi_pump::{PumpError, pump};
 use wasi_spawn::ThreadSpawner;
-use wasi_world::{MemorySink, MemorySource};
+use world_io::{MemorySink, MemorySource};
 
 /// Some bytes, in which no two neighbours are the same.
 fn pattern(alloc: Global, len: usize) -> Result<Vec<u8>, AllocError> {

@@ -1,6 +1,6 @@
 //! The workers of a pump run beside each other: a read and a write that wait for each other.
 
-ghost use Rattle.wasi_world.specs.Io.{HasRead, HasWritten, HasFlushed};
+ghost use Rattle.world_io.specs.Io.{HasRead, HasWritten, HasFlushed};
 
 use crate::same::same;
 use std::alloc::{AllocError, Global};
@@ -10,7 +10,7 @@ use std::test::*;
 use std::thread;
 use wasi_pump::pump;
 use wasi_spawn::ThreadSpawner;
-use wasi_world::{Failed, Sink, Source};
+use world_io::{Failed, Sink, Source};
 
 /// How often one looks for the other.
 const TURNS: u32 = 1_000_000;

@@ -7,7 +7,8 @@ use wasi_locked::{MemoryInputPipe, MemoryOutputPipe};
 use wasi_pump::pump;
 use wasi_spawn::ThreadSpawner;
 use wasi_streams::StreamError;
-use wasi_world::{Sink, Source, TrapKind};
+use wasi_world::TrapKind;
+use world_io::{Sink, Source};
 
 #[test]
 fn an_output_pipe_holds_no_more_than_its_capacity(rt: HostRuntime) -> Result<(), Fail> {

@@ -5,9 +5,9 @@ use std::alloc::{AllocError, Global};
 use std::sync::Wait;
 use std::test::*;
 use std::thread::Threads;
-use wasi_program::{Done, run_main};
+use wasi_commands::{Done, run_main};
 use wasi_spawn::{FakeSpawner, Spawner, ThreadSpawner};
-use wasi_world::{MemorySink, MemorySource};
+use world_io::{MemorySink, MemorySource};
 
 fn memory(alloc: Global, bytes: &[u8]) -> Result<MemorySource, AllocError> {
     Ok(MemorySource::new(bytes.to_vec(alloc)?, 4096, Vec::new(alloc)))

@@ -12,7 +12,7 @@ use wasi_reader::{AsyncReadStream, Names, ReadParts};
 use wasi_shared::Finished;
 use wasi_spawn::{Spawner, StartError};
 use wasi_streams::StreamError;
-use wasi_world::Source;
+use world_io::Source;
 
 /// How a stream is used.
 #[derive(Clone, Copy)]

@@ -7,7 +7,7 @@ use wasi_addr::ErrorCode;
 use wasi_shared::Ended;
 use wasi_spawn::{FakeSpawner, StartError, ThreadSpawner};
 use wasi_streams::StreamError;
-use wasi_world::MemorySource;
+use world_io::MemorySource;
 
 /// Whatever call of the source fails, reads give what it gave before, the fault once, and then `Closed`.
 #[test]

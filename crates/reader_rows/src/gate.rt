@@ -1,13 +1,13 @@
 //! A source whose first read waits until its stream's owner opens a gate.
 
 ghost use Rattle.std.specs.Prelude.{◌≡◌};
-ghost use Rattle.wasi_world.specs.Io.{HasRead};
+ghost use Rattle.world_io.specs.Io.{HasRead};
 
 use std::alloc::{AllocError, Global};
 use std::sync::Arc;
 use std::sync::atomic::{AtomicBool, Ordering};
 use std::thread;
-use wasi_world::{Failed, MemorySource, Source};
+use world_io::{Failed, MemorySource, Source};
 
 /// How often one side looks for the other.
 pub const TURNS: u32 = 1_000_000;
@@ -81,7 +81,7 @@ impl GatedSource {
 }
 
 impl Source for GatedSource {
-    ghost use Rattle.wasi_world.specs.Memory.{reading_of};
+    ghost use Rattle.world_io.specs.Memory.{reading_of};
 
     ghost reading = { λ s. reading_of s.source };
 

@@ -12,7 +12,7 @@ use std::thread::Threads;
 use wasi_addr::ErrorCode;
 use wasi_shared::Ended;
 use wasi_streams::StreamError;
-use wasi_world::MemorySource;
+use world_io::MemorySource;
 
 const CLOSED: Answer = Answer::Error(StreamError::Closed);
 

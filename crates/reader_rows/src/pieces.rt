@@ -5,7 +5,7 @@ use crate::same::same;
 use std::test::*;
 use wasi_spawn::ThreadSpawner;
 use wasi_streams::StreamError;
-use wasi_world::MemorySource;
+use world_io::MemorySource;
 
 /// The number of bytes, and the sizes of pieces and of the source's reads: small, odd and large.
 const SIZES: [(usize, usize, usize); 9] = [

@@ -15,7 +15,7 @@ use wasi_reader::{AsyncReadStream, Names, ReadParts};
 use wasi_shared::Finished;
 use wasi_spawn::{StartError, ThreadSpawner};
 use wasi_streams::StreamError;
-use wasi_world::MemorySource;
+use world_io::MemorySource;
 
 /// One call of the owner.
 #[derive(Clone, Copy)]

@@ -5,7 +5,7 @@ use std::alloc::{AllocError, Global};
 use std::fmt::Write;
 use wasi_program::Status;
 use wasi_transcript::program::{End, check};
-use wasi_world::GrowingSink;
+use world_io::GrowingSink;
 
 /// A case that makes a socket.
 const HOLDS: &str = "\

@@ -7,9 +7,9 @@ use std::process::Abort;
 use std::sync::Wait;
 use std::test::Fail;
 use std::thread::Threads;
-use wasi_program::{Done, run_main};
+use wasi_commands::{Done, run_main};
 use wasi_spawn::ThreadSpawner;
-use wasi_world::{MemorySink, MemorySource};
+use world_io::{MemorySink, MemorySource};
 
 /// Binds a socket: 81 bytes.
 pub const BIND: &[u8] =

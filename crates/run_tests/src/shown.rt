@@ -6,7 +6,7 @@ use crate::same::same;
 use std::alloc::Global;
 use std::test::Fail;
 use wasi_console::line_of;
-use wasi_world::MemorySource;
+use world_io::MemorySource;
 
 /// The line of this number as it is shown, read in pieces of at most so many bytes, or `none`.
 fn shown(alloc: Global, text: &[u8], number: u64, most: usize) -> Result<String, Fail>

@@ -5,7 +5,8 @@ use crate::same::same;
 use std::alloc::Global;
 use std::test::Fail;
 use wasi_run::{RunEnd, run_script};
-use wasi_world::{MemorySink, MemorySource, ScriptedWorld};
+use world_io::{MemorySink, MemorySource};
+use world_scripted::ScriptedWorld;
 
 type Case<'a> = (&'a [&'a str], &'a [u8], &'a [u8], &'a str);
 

@@ -15,7 +15,7 @@ use std::sync::Wait;
 use std::thread::Threads;
 use std::time::{Clock, Duration, Instant};
 use wasi_spawn::ThreadSpawner;
-use wasi_world::MemorySink;
+use world_io::MemorySink;
 use wasi_writer::{AsyncWriteStream, Names, WriteParts};
 
 /// How many bytes are copied and sent.

@@ -8,7 +8,7 @@ use std::{fs, io};
 use wasi_console::{LineSource, end, line_of, print, words};
 use wasi_program::{Choice, Status, choice_in, scenario_path};
 use wasi_transcript::program::{End, Words, check, show, words_in};
-use wasi_world::{FileSource, StdSink, StdSource};
+use world_io::{FileSource, StdSink, StdSource};
 
 const VERSION: &str = "transcripts 0.1.0\n";
 

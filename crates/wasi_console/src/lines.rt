@@ -3,7 +3,7 @@
 ghost use Rattle.std.specs.Prelude.{◌≤◌, length};
 
 use std::fmt::{self, Display, Formatter, Write};
-use wasi_world::{Failed, Source};
+use world_io::{Failed, Source};
 
 /// At most so many bytes of a line are shown.
 const MOST_SHOWN: usize = 80;

@@ -2,7 +2,7 @@
 
 ghost use Rattle.std.specs.Prelude.{◌≡◌};
 ghost use Rattle.std.specs.Process.{exit_status};
-ghost use Rattle.wasi_program.specs.Program.{number_of};
+ghost use Rattle.wasi_program.specs.Status.{number_of};
 ghost use Rattle.wasi_program.specs.Choices.{IsEndOfPrint};
 
 use crate::lines::Front;

@@ -1,6 +1,6 @@
 -- What the calls of locked pipes may answer, whatever other owners do.
 use Rattle.std.specs.Prelude.{◌≡◌, ◌<◌, ◌≤◌, ℕ, Bool, List, length, None, Result, Ok, Err}
-use Rattle.wasi_world.specs.Io.{Reading, Writing}
+use Rattle.world_io.specs.Io.{Reading, Writing}
 use Rattle.wasi_world.specs.declared.outcome.TrapKind.TheVariants as trap
 use Rattle.wasi_streams.specs.declared.error.StreamError.{StreamError}
 use Rattle.wasi_streams.specs.declared.error.StreamError.TheVariants.{Closed, Trap, Memory}

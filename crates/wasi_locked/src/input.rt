@@ -1,7 +1,7 @@
 //! Bytes in memory that several owners read.
 
 ghost use Rattle.std.specs.Prelude.{◌≡◌, ◌≤◌, IfOk, IsOk, false, length};
-ghost use Rattle.wasi_world.specs.Io.{HasRead};
+ghost use Rattle.world_io.specs.Io.{HasRead};
 ghost use Rattle.wasi_locked.specs.Shares.{MayRead, reading_of};
 
 use bytes::Bytes;
@@ -9,7 +9,7 @@ use std::alloc::{AllocError, Global};
 use std::sync::{Arc, Mutex, Wait};
 use wasi_memory::InputPipeCore;
 use wasi_streams::StreamError;
-use wasi_world::{Failed, Source};
+use world_io::{Failed, Source};
 
 /// Bytes in memory that are read from their front, each by one of the owners (`MemoryInputPipe` of the crate
 /// wasmtime-wasi). Each call takes the lock of the pipe, so it may wait for another owner's.

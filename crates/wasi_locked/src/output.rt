@@ -1,7 +1,7 @@
 //! Bytes that several owners write to memory.
 
 ghost use Rattle.std.specs.Prelude.{◌≡◌, ◌≤◌, IfOk, IsOk};
-ghost use Rattle.wasi_world.specs.Io.{HasWritten, HasFlushed};
+ghost use Rattle.world_io.specs.Io.{HasWritten, HasFlushed};
 ghost use Rattle.wasi_locked.specs.Shares.{MayWrite, MayCheck, writing_of};
 
 use crate::room::Room;
@@ -9,7 +9,7 @@ use bytes::{Bytes, BytesMut};
 use std::alloc::{AllocError, Global};
 use std::sync::{Arc, Mutex, Wait};
 use wasi_streams::StreamError;
-use wasi_world::{Failed, Sink};
+use world_io::{Failed, Sink};
 
 /// Bytes that are written to memory, and no more than a capacity, each by one of the owners (`MemoryOutputPipe` of the
 /// crate wasmtime-wasi). The memory for the whole capacity is taken at the start. Each call takes the lock of the pipe, so

@@ -4,9 +4,9 @@ use Rattle.wasi_program.specs.declared.choices.Choice.{Choice}
 use Rattle.wasi_program.specs.declared.choices.Choice.TheVariants as choice
 use Rattle.wasi_program.specs.declared.choices.ShownLine.{ShownLine}
 use Rattle.wasi_program.specs.declared.choices.ShownLine.TheVariants as shown
-use Rattle.wasi_program.specs.declared.program.Status.{Status}
-use Rattle.wasi_program.specs.declared.program.Status.TheVariants as status
-use Rattle.wasi_program.specs.Program.{number_of}
+use Rattle.wasi_program.specs.declared.status.Status.{Status}
+use Rattle.wasi_program.specs.declared.status.Status.TheVariants as status
+use Rattle.wasi_program.specs.Status.{number_of}
 
 -- what a word asks for that stands alone
 abbrev pub choice_by : List ℕ → Choice

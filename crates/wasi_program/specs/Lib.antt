@@ -1,4 +1,3 @@
-pub mod Program
-pub mod Parsed
-pub mod Completeness
+pub mod Status
+pub mod Scenario
 pub mod Choices

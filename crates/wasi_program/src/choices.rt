@@ -3,7 +3,7 @@
 ghost use Rattle.std.specs.Prelude.{◌≡◌, map, string_bytes};
 ghost use Rattle.wasi_program.specs.Choices.{choice_by, choice_in, scenario_file, shown_line};
 
-use crate::program::Status;
+use crate::status::Status;
 
 /// What the words ask for.
 #[derive(Clone, Copy, Debug, PartialEq, Eq)]

@@ -1,9 +1,10 @@
-//! The program's words, and what it does with them: it runs a script, pumps, or runs a generated script; and what it decides
-//! beside that.
+//! What several programs share: how they end, what they do with `--help` and `--version`, where their scenario is,
+//! and how it is read.
 #![tactic(auto)]
 
 pub mod choices;
-pub mod program;
+pub mod scenario;
+pub mod status;
 
 pub use choices::{Choice, ShownLine, choice_in, scenario_path, shown_line};
-pub use program::{Done, Status, run_main};
+pub use status::Status;

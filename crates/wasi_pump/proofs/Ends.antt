@@ -2,7 +2,7 @@
 use Rattle.std.proofs.Common.{◌≡◌, ℕ, List, [], ◌++◌, length, Option, None, Some, option_map, Result, Ok, Err, refl, ap, ◌∙◌, sym, subst, append_assoc, append-nil, length-append, arith}
 use Rattle.std.proofs.lemmas.List.{nil_from_length}
 use Rattle.std.specs.List.{concat}
-use Rattle.wasi_world.specs.Io.{Reading, Writing, Gave, Took}
+use Rattle.world_io.specs.Io.{Reading, Writing, Gave, Took}
 use Rattle.wasi_shared.specs.declared.finished.Ended.{Ended}
 use Rattle.wasi_shared.specs.declared.finished.Ended.TheVariants as ended
 use Rattle.wasi_reader.specs.Stream.{ReadStream}

@@ -1,6 +1,6 @@
 -- What a pump makes of its source and its sink.
 use Rattle.std.specs.Prelude.{◌≡◌, ℕ, List, [], length, Option, Some, Result, Ok, Err}
-use Rattle.wasi_world.specs.Io.{Reading, Writing, Gave, Took, HasEnded, CountRose}
+use Rattle.world_io.specs.Io.{Reading, Writing, Gave, Took, HasEnded, CountRose}
 use Rattle.wasi_world.specs.Seen.{Rose}
 use Rattle.wasi_shared.specs.declared.finished.Ended.{Ended}
 use Rattle.wasi_shared.specs.declared.finished.Ended.TheVariants as ended

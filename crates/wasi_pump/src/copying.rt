@@ -8,7 +8,7 @@ use bytes::Bytes;
 use std::sync::Wait;
 use wasi_reader::AsyncReadStream;
 use wasi_streams::StreamError;
-use wasi_world::{Sink, Source};
+use world_io::{Sink, Source};
 use wasi_writer::AsyncWriteStream;
 
 /// Copies until the source's end is read, and asks for a flush. Returns how many bytes were copied, or none where a stream

@@ -16,7 +16,7 @@ use std::sync::Wait;
 use std::thread::Threads;
 use wasi_reader::{AsyncReadStream, ReadParts};
 use wasi_spawn::{Spawner, StartError};
-use wasi_world::{Sink, Source};
+use world_io::{Sink, Source};
 use wasi_writer::{AsyncWriteStream, WriteParts};
 
 /// Moves all bytes of the source to the sink, by a read stream and a write stream with this budget, in bytes. Each has

@@ -4,7 +4,7 @@ use Rattle.std.specs.List.{concat}
 use Rattle.std.specs.declared.alloc.Global.{Global}
 use Rattle.std.proofs.lemmas.List.Folds.{concat-append}
 use Rattle.crossbeam_queue.specs.SegTies.{SegId}
-use Rattle.wasi_world.specs.Io.{Reading, Gave}
+use Rattle.world_io.specs.Io.{Reading, Gave}
 use Rattle.wasi_shared.specs.declared.finished.Ended.{Ended}
 use Rattle.wasi_shared.specs.Ends.{End}
 use Rattle.wasi_reader.specs.declared.stage.Stage.{Stage}

@@ -5,7 +5,7 @@ use Rattle.std.proofs.Math.Seq.{take-append_seam}
 use Rattle.std.specs.List.{concat}
 use Rattle.std.specs.declared.alloc.Global.{Global}
 use Rattle.crossbeam_queue.specs.SegTies.{SegId}
-use Rattle.wasi_world.specs.Io.{Reading}
+use Rattle.world_io.specs.Io.{Reading}
 use Rattle.wasi_shared.specs.Ends.{End}
 use Rattle.wasi_reader.specs.Knows.{OwnerKnows, nothing_yet}
 use Rattle.wasi_reader.specs.Answers.{with_chunk}

@@ -1,7 +1,7 @@
 -- What a worker made of its source, read by read.
 use Rattle.std.proofs.Common.{◌≡◌, ℕ, List, [], ◌∷◌, ◌++◌, Option, None, Some, option_map, refl, ap, ◌∙◌, sym, subst, append_assoc, append-nil}
 use Rattle.std.specs.List.{concat}
-use Rattle.wasi_world.specs.Io.{Reading, Gave}
+use Rattle.world_io.specs.Io.{Reading, Gave}
 use Rattle.wasi_world.specs.Seen.{Rose}
 use Rattle.wasi_reader.specs.declared.stage.Stage.{Stage}
 use Rattle.wasi_reader.specs.declared.stage.Stage.TheVariants.{Open, Ended, Failed, Starved}

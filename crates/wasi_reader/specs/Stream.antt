@@ -1,7 +1,7 @@
 -- What contracts see of a read stream, and how it ends.
 use Rattle.std.specs.Prelude.{◌≡◌, ◌≤◌, ◌<◌, ◌-◌, ◌⊎◌, ℕ, Bool, true, false, if◌then◌else◌, List, [], ◌++◌, length, take, min, Result, Ok, Err}
 use Rattle.std.specs.List.{concat}
-use Rattle.wasi_world.specs.Io.{Reading, Gave, HasEnded}
+use Rattle.world_io.specs.Io.{Reading, Gave, HasEnded}
 use Rattle.wasi_world.specs.Seen.{Rose}
 use Rattle.wasi_streams.specs.declared.error.StreamError.{StreamError}
 use Rattle.wasi_streams.specs.declared.error.StreamError.TheVariants.{LastOperationFailed, Closed, Trap, Memory}

@@ -1,7 +1,7 @@
 -- What a worker made of its source.
 use Rattle.std.specs.Prelude.{◌≡◌, ℕ, List, [], ◌∷◌, ◌++◌, Option, None, Some}
 use Rattle.std.specs.List.{concat}
-use Rattle.wasi_world.specs.Io.{Reading, Gave, HasEnded}
+use Rattle.world_io.specs.Io.{Reading, Gave, HasEnded}
 use Rattle.wasi_world.specs.Seen.{Rose}
 use Rattle.wasi_reader.specs.declared.stage.Stage.{Stage}
 use Rattle.wasi_reader.specs.declared.stage.Stage.TheVariants.{Open, Ended, Failed, Starved}

@@ -1,13 +1,13 @@
 //! The buffer that the worker of a read stream reads into.
 
 ghost use Rattle.std.specs.Prelude.{◌≡◌, ◌<◌, ◌≤◌, length, take, IfOk, IfSome, IfNone};
-ghost use Rattle.wasi_world.specs.Io.{HasRead};
+ghost use Rattle.world_io.specs.Io.{HasRead};
 
 use bytes::{Bytes, BytesMut};
 use std::alloc::{AllocError, Global};
 use std::marker::Model;
 use std::mem;
-use wasi_world::{Failed, Source};
+use world_io::{Failed, Source};
 
 /// The most bytes of one read.
 pub const MOST_READ: usize = 65536;

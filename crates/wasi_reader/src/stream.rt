@@ -26,7 +26,7 @@ use wasi_pipes::ReadCore;
 use wasi_shared::{Ended, Finished, PopEnd};
 use wasi_spawn::{Handle, Spawner, StartError};
 use wasi_streams::StreamError;
-use wasi_world::Source;
+use world_io::Source;
 
 /// A stream whose reads a worker makes, beside its owner (`AsyncReadStream` of the crate wasmtime-wasi).
 ///

@@ -19,7 +19,7 @@ use std::thread::Threads;
 use wasi_addr::ErrorCode;
 use wasi_shared::PushEnd;
 use wasi_spawn::Job;
-use wasi_world::{Failed, Source};
+use world_io::{Failed, Source};
 
 /// The worker's side of a read stream.
 #[derive(Drop)]

@@ -2,7 +2,7 @@
 use Rattle.wasi_run.proofs.Words.{◌/◌, ◌%◌, ◌^◌, ◌==◌, replicate, slice_index_or, ◌≡◌, ℕ, zero, suc, ◌+◌, ◌*◌, ◌<◌, ◌≤◌, true, false, List, [], ◌∷◌, ◌++◌, Some, length, refl, ap, sym, ◌∙◌, append_assoc, append-nil, length-append, add-one, arith, and_parts, nat_tests, lines_from, lines_of, rest_from, rest_of, Step, Drop, IsStep, line_of, step_of, AllSteps}
 use Rattle.std.proofs.Common.{IsTrue}
 use Rattle.std.specs.List.{list_all}
-use Rattle.wasi_world.specs.Written.{AreBytes}
+use Rattle.world_text.specs.Written.{AreBytes}
 use Rattle.wasi_steps.specs.Names.{ends_no_line}
 use Rattle.wasi_steps.proofs.NameLaws.{text_unbroken}
 use Rattle.wasi_run.specs.Script.{IsValid}

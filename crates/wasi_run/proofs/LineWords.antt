@@ -6,12 +6,12 @@ pub use Rattle.std.proofs.lemmas.List.{drop-drop, length-take, take_rest}
 pub use Rattle.std.proofs.lemmas.Result.{err_from_is_err_and}
 pub use Rattle.std.specs.List.{position}
 pub use Rattle.std.specs.Prelude.{Err, IfOk, Ok, Result, option_map}
-pub use Rattle.wasi_world.proofs.LinesOf.{Cut, NoCut, cut_after, cut_at, cut_line, cut_within, no_cut}
+pub use Rattle.world_text.proofs.LinesOf.{Cut, NoCut, cut_after, cut_at, cut_line, cut_within, no_cut}
 pub use Rattle.wasi_world.proofs.Walks.{asks_answered, asks_end, asks_exit, asks_given, given_answered, reaches_all, reaches_in, reaches_on}
 pub use Rattle.wasi_world.proofs.Walks.{reaches_then}
 pub use Rattle.wasi_world.specs.Asks.{Asks, AsksFor, Give, Reaches, Started, bind}
-pub use Rattle.wasi_world.specs.Io.{CountRose, Gave, GaveNone, GaveSome, Reading, SameCounts, Took, TookSome, Writing}
-pub use Rattle.wasi_world.specs.Lines.{lines_from, lines_of, rest_from, rest_of}
+pub use Rattle.world_io.specs.Io.{CountRose, Gave, GaveNone, GaveSome, Reading, SameCounts, Took, TookSome, Writing}
+pub use Rattle.world_text.specs.Lines.{lines_from, lines_of, rest_from, rest_of}
 pub use Rattle.wasi_world.specs.Seen.{Rose, Seen}
 pub use Rattle.wasi_world.specs.declared.outcome.WasiSocketsCtx.{WasiSocketsCtx}
 pub use Rattle.wasi_host.specs.KnownSides.{KnowsSides}

@@ -7,10 +7,10 @@ pub use Rattle.std.proofs.lemmas.Bool.{and_parts, eqb-false, eqb-true}
 pub use Rattle.std.proofs.lemmas.Bool.Decides.{nat_tests}
 pub use Rattle.std.proofs.lemmas.List.{drop-drop, nil_from_length, take-append-le, take-replicate, take_all}
 pub use Rattle.std.specs.Prelude.{IfSome, OnOk, codes, count_by, decimal, is_ok, option_map, replicate, slice_index_or, ◌%◌, ◌/◌, ◌^◌, ◌||◌}
-pub use Rattle.wasi_world.proofs.LinesOf.{count_lines, lines-append, rest-append}
-pub use Rattle.wasi_world.specs.Fields.{bytes_text, is_space}
-pub use Rattle.wasi_world.specs.Io.{CountRose, Gave, GaveNone, GaveSome, HasEnded, Reading, SameCounts, Took, Writing}
-pub use Rattle.wasi_world.specs.Lines.{lines_from, lines_of, rest_from, rest_of}
+pub use Rattle.world_text.proofs.LinesOf.{count_lines, lines-append, rest-append}
+pub use Rattle.world_text.specs.Fields.{bytes_text, is_space}
+pub use Rattle.world_io.specs.Io.{CountRose, Gave, GaveNone, GaveSome, HasEnded, Reading, SameCounts, Took, Writing}
+pub use Rattle.world_text.specs.Lines.{lines_from, lines_of, rest_from, rest_of}
 pub use Rattle.wasi_world.specs.Seen.{Rose, Seen}
 pub use Rattle.wasi_records.specs.Closing.{AsksNothing, HasClosedAll, IsFresh}
 pub use Rattle.wasi_steps.specs.Steps.{IsStep, line_of, step_of}

@@ -4,11 +4,11 @@ use Rattle.wasi_world.specs.declared.call.Told.{Told}
 use Rattle.wasi_world.specs.declared.call.Told.TheVariants.{Took}
 use Rattle.wasi_world.specs.declared.call.Entry.{Entry}
 use Rattle.wasi_world.specs.Seen.{Seen}
-use Rattle.wasi_world.specs.Io.{Reading, Writing}
-use Rattle.wasi_world.specs.Lines.{lines_of}
-use Rattle.wasi_world.specs.Queued.{no_answers}
-use Rattle.wasi_world.specs.Scenario.{free_context}
-use Rattle.wasi_world.specs.Scripted.{at_start}
+use Rattle.world_io.specs.Io.{Reading, Writing}
+use Rattle.world_text.specs.Lines.{lines_of}
+use Rattle.world_scripted.specs.Queued.{no_answers}
+use Rattle.wasi_world.specs.Contexts.{free_context}
+use Rattle.world_scripted.specs.Scripted.{at_start}
 use Rattle.wasi_run.specs.declared.error.RunError.{RunError}
 use Rattle.wasi_run.specs.declared.error.RunError.TheVariants.{Memory, WriteFault}
 use Rattle.wasi_run.specs.Causes.{DoneLines}

@@ -2,7 +2,7 @@
 use Rattle.std.specs.Prelude.{◌≡◌, ℕ, List, [], ◌++◌, Some, IfSome, Result}
 use Rattle.wasi_world.specs.declared.outcome.WasiSocketsCtx.{WasiSocketsCtx}
 use Rattle.wasi_world.specs.Seen.{Seen}
-use Rattle.wasi_world.specs.Io.{Reading, Writing}
+use Rattle.world_io.specs.Io.{Reading, Writing}
 use Rattle.wasi_machine.specs.Machine.{HasRun}
 use Rattle.wasi_run.specs.declared.error.RunError.{RunError}
 use Rattle.wasi_walks.specs.Licence.{IsLicensed}

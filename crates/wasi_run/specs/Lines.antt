@@ -1,6 +1,6 @@
 -- The steps that the lines of a text spell where so many contexts are there.
 use Rattle.std.specs.Prelude.{◌≡◌, ℕ, zero, suc, List, [], ◌∷◌, if◌then◌else◌, ◌==◌, ◌+◌, ◌≤◌, Some, None, length, drop}
-use Rattle.wasi_world.specs.Lines.{lines_of, rest_of, lines_from, rest_from}
+use Rattle.world_text.specs.Lines.{lines_of, rest_of, lines_from, rest_from}
 use Rattle.wasi_steps.specs.declared.step.Step.{Step}
 use Rattle.wasi_steps.specs.Steps.{step_of}
 

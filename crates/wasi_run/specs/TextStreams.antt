@@ -1,6 +1,6 @@
 -- What is known of a text as a source.
 use Rattle.std.specs.Prelude.{Some, drop}
-use Rattle.wasi_world.specs.Io.{Reading}
+use Rattle.world_io.specs.Io.{Reading}
 use Rattle.wasi_run.specs.declared.text_source.TextSource.{TextSource}
 
 -- no read of it fails

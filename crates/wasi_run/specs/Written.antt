@@ -1,6 +1,6 @@
 -- What a write of all bytes leaves.
 use Rattle.std.specs.Prelude.{ℕ, List, ◌<◌, take, length}
-use Rattle.wasi_world.specs.Io.{Writing, Took, SameCounts, CountRose}
+use Rattle.world_io.specs.Io.{Writing, Took, SameCounts, CountRose}
 
 -- The sink took all the bytes.
 pub record TookAll (old new : Writing) (bytes : List ℕ) : Type 0 where

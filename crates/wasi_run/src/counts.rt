@@ -1,7 +1,7 @@
 //! The run of a generated script over the empty scenario, and its counts.
 
 ghost use Rattle.std.specs.Prelude.{◌≡◌, min, IfOk, length, string_bytes, sum_by};
-ghost use Rattle.wasi_world.specs.Lines.{lines_of};
+ghost use Rattle.world_text.specs.Lines.{lines_of};
 ghost use Rattle.wasi_run.specs.Counted.{took_count, taken_bytes, CountsRun, IsOwn, summary};
 
 use crate::error::RunError;
@@ -10,7 +10,9 @@ use crate::run::run_script;
 use crate::text_source::TextSource;
 use std::alloc::{AllocError, Global};
 use std::fmt::Write;
-use wasi_world::{Entry, GrowingSink, Lists, ScriptedWorld, Told, WasiSocketsCtx};
+use wasi_world::{Entry, Told, WasiSocketsCtx};
+use world_io::GrowingSink;
+use world_scripted::{Lists, ScriptedWorld};
 
 /// The context of a scenario that has no line about contexts.
 const FREE: WasiSocketsCtx = WasiSocketsCtx {

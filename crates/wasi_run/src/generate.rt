@@ -1,14 +1,14 @@
 //! Scripts that are generated from a seed.
 
 ghost use Rattle.std.specs.Prelude.{◌≡◌, ◌==◌, ◌+◌, ◌<◌, ◌≤◌, ◌^◌, ◌++◌, if◌then◌else◌, IfOk, OnOk, length, string_bytes};
-ghost use Rattle.wasi_world.specs.Lines.{lines_of};
+ghost use Rattle.world_text.specs.Lines.{lines_of};
 ghost use Rattle.wasi_run.specs.Script.{IsValid};
 ghost use Rattle.wasi_steps.specs.declared.step.Step.TheVariants as Step;
 ghost use Rattle.wasi_run.specs.Generate.{next_drawn, port_of, count_of, byte_of, step_in, generated_steps, generated, script_line, script_text};
 
 use std::alloc::{AllocError, Global};
 use std::fmt::Write;
-use wasi_world::fields::push_octets;
+use world_text::fields::push_octets;
 
 /// How many lines a block has.
 const BLOCK: u32 = 9;

@@ -1,7 +1,7 @@
 //! Does the lines of a script, and writes their replies.
 
 ghost use Rattle.std.specs.Prelude.{◌≡◌, ◌∷◌, ◌+◌, ◌<◌, ◌≤◌, ◌^◌, [], Ok, OnOk, OnErr, length, take, drop, false};
-ghost use Rattle.wasi_world.specs.Lines.{lines_of, lines_from};
+ghost use Rattle.world_text.specs.Lines.{lines_of, lines_from};
 ghost use Rattle.wasi_run.specs.Lines.{LeftAt, KeptOf};
 ghost use Rattle.wasi_run.specs.Written.{TookAll, TookFront};
 ghost use Rattle.wasi_run.specs.Ran.{LinesRan};
@@ -11,8 +11,9 @@ use crate::session::Session;
 use std::alloc::Global;
 use wasi_steps::parse::parse_step;
 use wasi_steps::reply::reply_text;
-use wasi_world::scenario::newline_at;
-use wasi_world::{Failed, Sink, WasiSocketsCtx, World};
+use world_text::lines::newline_at;
+use wasi_world::{WasiSocketsCtx, World};
+use world_io::{Failed, Sink};
 
 /// How lines ended that were done.
 #[derive(Clone, Copy, Debug, PartialEq, Eq)]

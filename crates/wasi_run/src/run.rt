@@ -1,7 +1,7 @@
 //! Runs a script: reads its lines, does them in order, and writes one reply per line.
 
 ghost use Rattle.std.specs.Prelude.{◌≡◌, ℕ, ◌<◌, ◌^◌, OnOk, length, false, true};
-ghost use Rattle.wasi_world.specs.Scenario.{AreNumbered};
+ghost use Rattle.wasi_world.specs.Contexts.{AreNumbered};
 ghost use Rattle.wasi_host.specs.Machine.{first_state};
 ghost use Rattle.wasi_records.specs.Closing.{IsFresh, HasClosedAll};
 ghost use Rattle.wasi_run.specs.Script.{RanOver, RanScript, Completes};
@@ -12,7 +12,8 @@ use crate::error::RunError;
 use crate::lines::{LinesEnd, do_piece};
 use crate::session::Session;
 use std::alloc::Global;
-use wasi_world::{Sink, Source, WasiSocketsCtx, World};
+use wasi_world::{WasiSocketsCtx, World};
+use world_io::{Sink, Source};
 
 /// How many bytes are read at a time.
 const PIECE_SIZE: usize = 4096;

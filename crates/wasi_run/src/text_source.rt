@@ -1,9 +1,9 @@
 //! A text as a source.
 
 ghost use Rattle.std.specs.Prelude.{◌≡◌, ◌≤◌, drop, length};
-ghost use Rattle.wasi_world.specs.Memory.{ended_after};
+ghost use Rattle.world_io.specs.Memory.{ended_after};
 
-use wasi_world::{Failed, Source};
+use world_io::{Failed, Source};
 
 /// A text that is read from its start to its end. No read fails.
 #[derive(Drop)]

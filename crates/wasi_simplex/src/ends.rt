@@ -5,7 +5,7 @@ ghost use Rattle.std.specs.Prelude.{◌≡◌, ◌<◌, ◌≤◌, IfSome, lengt
 use crate::buffer::Buffer;
 use std::alloc::{AllocError, Global};
 use std::sync::{Arc, Condvar, Mutex, Wait};
-use wasi_world::{Failed, Sink, Source};
+use world_io::{Failed, Sink, Source};
 
 /// What the ends share.
 #[derive(Drop)]

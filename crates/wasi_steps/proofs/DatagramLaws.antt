@@ -4,12 +4,12 @@ use Rattle.std.proofs.lemmas.List.{length-append}
 use Rattle.wasi_addr.specs.declared.address.IpSocketAddress.{IpSocketAddress}
 use Rattle.wasi_addr.specs.declared.address.IpSocketAddress.TheVariants as socket
 use Rattle.wasi_world.specs.declared.datagram.OutgoingDatagram.{OutgoingDatagram}
-use Rattle.wasi_world.specs.Written.{ReadsExactly, AreVisible, address_fields}
-use Rattle.wasi_world.proofs.UpTo.{before}
-use Rattle.wasi_world.proofs.ReadBack.{word_exactly, address_exactly, bytes_exactly}
-use Rattle.wasi_world.proofs.Visible.{visible_utf8, address_visible, bytes_visible}
-use Rattle.wasi_world.proofs.Exactly.{All, exactly, all_give, only_give, all_then, only_then, all_last, only_last, same_found}
-use Rattle.wasi_world.proofs.Words.{only_word}
+use Rattle.world_text.specs.Written.{ReadsExactly, AreVisible, address_fields}
+use Rattle.world_text.proofs.UpTo.{before}
+use Rattle.world_text.proofs.ReadBack.{word_exactly, address_exactly, bytes_exactly}
+use Rattle.world_text.proofs.Visible.{visible_utf8, address_visible, bytes_visible}
+use Rattle.world_text.proofs.Exactly.{All, exactly, all_give, only_give, all_then, only_then, all_last, only_last, same_found}
+use Rattle.world_text.proofs.Words.{only_word}
 use Rattle.wasi_steps.specs.Datagrams.{remote_fields, FitsRemote, some_address_at, remote_at, destination_fields, destination_words, destination_at, datagram_fields, FitsDatagram, datagram_at, datagrams_fields, FitsDatagrams, datagrams_at}
 use Rattle.wasi_steps.proofs.LineEnds.{IsWrittenSo, ReadsLast, both_visible}
 use Rattle.wasi_steps.proofs.UpTo.{shrinks, up_to_next, up_to_none, up_to_all, up_to_is}

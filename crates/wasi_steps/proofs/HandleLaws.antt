@@ -1,11 +1,11 @@
 -- The handles of a poll-list are read exactly, and written in visible characters.
 use Rattle.std.proofs.Common.{◌≡◌, ℕ, ◌<◌, List, [], ◌∷◌, ◌++◌, length, decimal, Some, None, arith}
 use Rattle.std.proofs.lemmas.List.Concat.{flat_map_single}
-use Rattle.wasi_world.specs.Fields.{number_at}
-use Rattle.wasi_world.specs.Written.{AreVisible, number_fields}
-use Rattle.wasi_world.proofs.UpTo.{before}
-use Rattle.wasi_world.proofs.ReadBack.{u32_exactly}
-use Rattle.wasi_world.proofs.Visible.{number_visible}
+use Rattle.world_text.specs.Fields.{number_at}
+use Rattle.world_text.specs.Written.{AreVisible, number_fields}
+use Rattle.world_text.proofs.UpTo.{before}
+use Rattle.world_text.proofs.ReadBack.{u32_exactly}
+use Rattle.world_text.proofs.Visible.{number_visible}
 use Rattle.wasi_steps.specs.HandleLists.{handles_fields, IsHandle, FitsHandles, handles_at}
 use Rattle.wasi_steps.proofs.LineEnds.{ReadsLast}
 use Rattle.wasi_steps.proofs.UpTo.{shrinks, up_to_next, up_to_none, up_to_all, up_to_is}

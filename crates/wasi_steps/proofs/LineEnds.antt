@@ -1,8 +1,8 @@
 -- What is read at the end of a line.
 use Rattle.std.proofs.Common.{◌≡◌, ℕ, List, [], ◌∷◌, ◌++◌, Option, Some, None, append-nil, append_assoc, ap, sym, ◌∙◌, refl, option_and_then}
-use Rattle.wasi_world.specs.Fields.{Reader, read_then, give}
-use Rattle.wasi_world.specs.Written.{ReadsExactly, AreVisible}
-use Rattle.wasi_world.proofs.Exactly.{Only, only_give}
+use Rattle.world_text.specs.Fields.{Reader, read_then, give}
+use Rattle.world_text.specs.Written.{ReadsExactly, AreVisible}
+use Rattle.world_text.proofs.Exactly.{Only, only_give}
 
 -- what is read is written so
 abbrev pub IsWrittenSo : {A : Type 0} → Reader A → (A → List (List ℕ)) → (A → Type 0) → Type 0

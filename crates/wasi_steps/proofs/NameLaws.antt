@@ -7,10 +7,10 @@ use Rattle.std.proofs.lemmas.Bool.Decides.{nat_tests}
 use Rattle.std.proofs.lemmas.List.Folds.{list_all-append}
 use Rattle.std.proofs.lemmas.List.Splits.{join_with_byte-slice_split}
 use Rattle.std.proofs.lemmas.Str.{IsUtf8-append, IsUtf8-from_ascii, IsUtf8-from_is_utf8, is_utf8-from_IsUtf8}
-use Rattle.wasi_world.specs.Fields.{is_space, fields_of, line_with, read_then, give_some, rest_at}
-use Rattle.wasi_world.specs.Written.{is_visible, IsVisible}
-use Rattle.wasi_world.proofs.Exactly.{only_some}
-use Rattle.wasi_world.proofs.FieldsOf.{rest_all, rest_only}
+use Rattle.world_text.specs.Fields.{is_space, fields_of, line_with, read_then, give_some, rest_at}
+use Rattle.world_text.specs.Written.{is_visible, IsVisible}
+use Rattle.world_text.proofs.Exactly.{only_some}
+use Rattle.world_text.proofs.FieldsOf.{rest_all, rest_only}
 use Rattle.wasi_steps.specs.Names.{ends_no_line, IsText, is_name, IsName, name_at}
 use Rattle.wasi_steps.proofs.LineEnds.{ReadsLast, Last, lastly, only_next}
 

@@ -7,11 +7,11 @@ use Rattle.wasi_addr.specs.declared.address.IpAddress.TheVariants as ip
 use Rattle.wasi_world.specs.declared.datagram.IncomingDatagram.{IncomingDatagram}
 use Rattle.wasi_world.specs.declared.outcome.TrapKind.{TrapKind}
 use Rattle.wasi_world.specs.declared.outcome.TrapKind.TheVariants as trap
-use Rattle.wasi_world.specs.Fields.{Reader, ◌>>=◌, Row, row, read_then, give, give_some, after_word, named, field_at, word_at, number_at, bytes_at, ip_at, address_at, line_with, fields_of}
-use Rattle.wasi_world.specs.Written.{AreVisible, is_visible, ip_numbers, address_numbers, ip_fields, address_fields, bytes_fields, FitsIp}
-use Rattle.wasi_world.proofs.Exactly.{All, all_give, all_some, all_then, all_both, all_end, all_last, same_found, field_exactly, number_exactly}
-use Rattle.wasi_world.proofs.ReadBack.{named_passes, u32_exactly, word_exactly, bytes_exactly, ip_exactly, address_exactly}
-use Rattle.wasi_world.proofs.Visible.{visible_utf8, number_visible, bytes_visible, address_visible, fields_of_line}
+use Rattle.world_text.specs.Fields.{Reader, ◌>>=◌, Row, row, read_then, give, give_some, after_word, named, field_at, word_at, number_at, bytes_at, ip_at, address_at, line_with, fields_of}
+use Rattle.world_text.specs.Written.{AreVisible, is_visible, ip_numbers, address_numbers, ip_fields, address_fields, bytes_fields, FitsIp}
+use Rattle.world_text.proofs.Exactly.{All, all_give, all_some, all_then, all_both, all_end, all_last, same_found, field_exactly, number_exactly}
+use Rattle.world_text.proofs.ReadBack.{named_passes, u32_exactly, word_exactly, bytes_exactly, ip_exactly, address_exactly}
+use Rattle.world_text.proofs.Visible.{visible_utf8, number_visible, bytes_visible, address_visible, fields_of_line}
 use Rattle.wasi_steps.specs.declared.reply.CodeWord.{CodeWord}
 use Rattle.wasi_steps.specs.declared.reply.CodeWord.TheVariants as word
 use Rattle.wasi_steps.specs.declared.reply.Field.{Field}

@@ -1,8 +1,8 @@
 -- The texts of replies, a field at a time, and that a step's replies are told apart by them.
 use Rattle.std.proofs.Common.{◌≡◌, ℕ, ◌+◌, ◌<◌, List, ◌∷◌, ◌++◌, map, take, get_or, length, codes, append_assoc}
 use Rattle.std.proofs.lemmas.List.{map_more}
-use Rattle.wasi_world.specs.Fields.{line_with}
-use Rattle.wasi_world.proofs.FieldsOf.{line_with-push}
+use Rattle.world_text.specs.Fields.{line_with}
+use Rattle.world_text.proofs.FieldsOf.{line_with-push}
 use Rattle.wasi_steps.specs.declared.reply.Field.{Field}
 use Rattle.wasi_steps.specs.Replies.{field_text}
 

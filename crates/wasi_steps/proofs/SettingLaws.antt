@@ -3,12 +3,12 @@ use Rattle.std.proofs.Common.{◌≡◌, ℕ, zero, suc, ◌≤◌, ◌==◌, Bo
 use Rattle.std.specs.Int.{from_bool}
 use Rattle.wasi_world.specs.declared.call.Opt.{Opt}
 use Rattle.wasi_world.specs.declared.call.Opt.TheVariants as opt
-use Rattle.wasi_world.specs.Fields.{◌>>=◌, give, after_word, number_at}
-use Rattle.wasi_world.specs.Written.{ReadsExactly, AreVisible, number_fields}
-use Rattle.wasi_world.proofs.ReadBack.{u32_exactly, word_exactly}
-use Rattle.wasi_world.proofs.Visible.{visible_utf8, number_visible}
-use Rattle.wasi_world.proofs.Exactly.{All, Only, exactly, all_give, only_give, all_then, only_then, all_last, only_last, number_exactly}
-use Rattle.wasi_world.proofs.Words.{only_word}
+use Rattle.world_text.specs.Fields.{◌>>=◌, give, after_word, number_at}
+use Rattle.world_text.specs.Written.{ReadsExactly, AreVisible, number_fields}
+use Rattle.world_text.proofs.ReadBack.{u32_exactly, word_exactly}
+use Rattle.world_text.proofs.Visible.{visible_utf8, number_visible}
+use Rattle.world_text.proofs.Exactly.{All, Only, exactly, all_give, only_give, all_then, only_then, all_last, only_last, number_exactly}
+use Rattle.world_text.proofs.Words.{only_word}
 use Rattle.wasi_steps.specs.declared.setting.TcpSetting.{TcpSetting}
 use Rattle.wasi_steps.specs.declared.setting.TcpSetting.TheVariants as setting
 use Rattle.wasi_steps.specs.declared.setting.UdpOption.{UdpOption}

@@ -1,17 +1,17 @@
 -- Each step is read from exactly its line.
 use Rattle.std.proofs.Common.{◌≡◌, ℕ, ◌<◌, ◌≤◌, List, [], ◌∷◌, ◌++◌, ◌&&◌, slice_index, decimal, Option, Some, None, refl, arith, inl, inr, Bool, true, false, ◌||◌, cond, nat_lt, IsTrue, append-nil, append_assoc, ap, sym, subst, ◌∙◌}
-use Rattle.wasi_world.specs.Fields.{read_then, give_some, after_word, whole, has_no_space, fields_of, line_with, field_at, number_in, word_at, BeginsPlain}
+use Rattle.world_text.specs.Fields.{read_then, give_some, after_word, whole, has_no_space, fields_of, line_with, field_at, number_in, word_at, BeginsPlain}
 use Rattle.std.specs.Prelude.{IfSome}
 use Rattle.std.specs.List.{AllByRecursion, list_all, list_any}
 use Rattle.std.proofs.lemmas.Bool.{ltb-true, lt-ltb, and_parts}
 use Rattle.std.proofs.lemmas.List.Folds.{list_all-append}
-use Rattle.wasi_world.specs.Written.{ReadsExactly, AreVisible, IsVisible, is_visible}
-use Rattle.wasi_world.proofs.FieldsOf.{no_spaces, fields_of_joined}
-use Rattle.wasi_world.proofs.Numbers.{number_in_is, number_in_decimal, begins_otherwise}
-use Rattle.wasi_world.proofs.ReadBack.{u32_exactly, family_exactly, address_exactly, bytes_exactly, word_exactly}
-use Rattle.wasi_world.proofs.Visible.{visible_utf8, visible_no_space, visible_line, number_visible, family_visible, address_visible, bytes_visible, line_of_fields}
-use Rattle.wasi_world.proofs.Exactly.{All, Only, exactly, number_exactly, all_give, only_give, only_some, only_then, all_last}
-use Rattle.wasi_world.proofs.Words.{only_word}
+use Rattle.world_text.specs.Written.{ReadsExactly, AreVisible, IsVisible, is_visible}
+use Rattle.world_text.proofs.FieldsOf.{no_spaces, fields_of_joined}
+use Rattle.world_text.proofs.Numbers.{number_in_is, number_in_decimal, begins_otherwise}
+use Rattle.world_text.proofs.ReadBack.{u32_exactly, family_exactly, address_exactly, bytes_exactly, word_exactly}
+use Rattle.world_text.proofs.Visible.{visible_utf8, visible_no_space, visible_line, number_visible, family_visible, address_visible, bytes_visible, line_of_fields}
+use Rattle.world_text.proofs.Exactly.{All, Only, exactly, number_exactly, all_give, only_give, only_some, only_then, all_last}
+use Rattle.world_text.proofs.Words.{only_word}
 use Rattle.wasi_addr.specs.declared.address.ShutdownType.{ShutdownType}
 use Rattle.wasi_addr.specs.declared.address.ShutdownType.TheVariants.{Receive, Send, Both}
 use Rattle.wasi_steps.specs.declared.step.Step.{Step}

@@ -3,7 +3,7 @@ use Rattle.std.proofs.Common.{◌≡◌, ℕ, true, false, if◌then◌else◌, 
 use Rattle.std.specs.List.{AllByRecursion}
 use Rattle.std.proofs.lemmas.Bool.{false_from_ne_true}
 use Rattle.std.proofs.lemmas.Slice.Eq.{bytes_eq-Decides}
-use Rattle.wasi_world.specs.Fields.{Row, after_word, give_some}
+use Rattle.world_text.specs.Fields.{Row, after_word, give_some}
 
 other_row : {A : Type 0} (r : Row A) (rows : List (Row A)) (word : List ℕ) (fields : List (List ℕ)) → (word ≡ r.word → ⊥) → after_word (r ∷ rows) word fields ≡ after_word rows word fields
 other_row r rows word fields other = rw (false_from_ne_true (bytes_eq r.word word) (λ same. other (sym ((bytes_eq-Decides r.word word).0 same))))

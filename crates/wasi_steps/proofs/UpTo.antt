@@ -2,11 +2,11 @@
 use Rattle.std.proofs.Common.{◌≡◌, ℕ, zero, suc, ◌<◌, ◌≤◌, List, [], ◌∷◌, ◌++◌, length, flat_map, Option, Some, None, refl, sym, ap, ◌∙◌, append_assoc, arith, subst}
 use Rattle.std.specs.Prelude.{option_and_then}
 use Rattle.std.specs.List.{AllByRecursion}
-use Rattle.wasi_world.specs.Fields.{Reader, give, read_then}
-use Rattle.wasi_world.specs.Written.{ReadsExactly}
-use Rattle.wasi_world.specs.Scenario.{up_to}
-use Rattle.wasi_world.proofs.Exactly.{Only, only_then, same_found}
-use Rattle.wasi_world.proofs.UpTo.{before}
+use Rattle.world_text.specs.Fields.{Reader, give, read_then}
+use Rattle.world_text.specs.Written.{ReadsExactly}
+use Rattle.world_text.specs.Fields.{up_to}
+use Rattle.world_text.proofs.Exactly.{Only, only_then, same_found}
+use Rattle.world_text.proofs.UpTo.{before}
 use Rattle.wasi_steps.proofs.LineEnds.{only_made}
 
 before_all : {A : Type 0} (values more : List A) (found : Option (List A × List (List ℕ))) → before values (before more found) ≡ before (values ++ more) found

@@ -1,6 +1,6 @@
 -- How the help writes a step's line: its context, its word, and letters for its arguments.
 use Rattle.std.specs.Prelude.{ℕ, Bool, true, false, ◌==◌, List, [], ◌∷◌, ◌++◌, map, codes, Option, Some, None}
-use Rattle.wasi_world.specs.Fields.{line_with}
+use Rattle.world_text.specs.Fields.{line_with}
 use Rattle.wasi_steps.specs.declared.step.Step.{Step}
 use Rattle.wasi_steps.specs.Arguments.{Target, ANetwork, ASocket, ADatagramSocket, AnInput, AnOutput, AnIncoming, AnOutgoing, ALookup, AnError, Watchable, APollable, Anything, Kind, HandleOf, ALine, ACount, ACapacity, AFamily, ASocketAddress, AnOption, ASetting, AUdpOption, AUdpSetting, AHalf, AllBytes, ARemote, SomeDatagrams, SomePollables, AName}
 use Rattle.wasi_steps.specs.Steps.{signature}

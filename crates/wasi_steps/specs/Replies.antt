@@ -3,11 +3,11 @@ use Rattle.std.specs.List.{AllByRecursion}
 use Rattle.std.specs.Prelude.{◌≡◌, ℕ, ◌<◌, ◌≤◌, ◌^◌, Bool, true, false, length, List, [], ◌∷◌, ◌++◌, map, codes, decimal, ◌⊎◌}
 use Rattle.wasi_world.specs.declared.outcome.TrapKind.{TrapKind}
 use Rattle.wasi_world.specs.declared.outcome.TrapKind.TheVariants as trap
-use Rattle.wasi_world.specs.Fields.{line_with, bytes_text}
+use Rattle.world_text.specs.Fields.{line_with, bytes_text}
 use Rattle.wasi_addr.specs.declared.address.IpAddress.{IpAddress}
 use Rattle.wasi_addr.specs.declared.address.IpSocketAddress.{IpSocketAddress}
 use Rattle.wasi_world.specs.declared.datagram.IncomingDatagram.{IncomingDatagram}
-use Rattle.wasi_world.specs.Written.{AreBytes, FitsIp, FitsAddress}
+use Rattle.world_text.specs.Written.{AreBytes, FitsIp, FitsAddress}
 use Rattle.wasi_steps.specs.declared.reply.CodeWord.{CodeWord}
 use Rattle.wasi_steps.specs.declared.reply.CodeWord.TheVariants as word
 use Rattle.wasi_steps.specs.declared.reply.Field.{Field}

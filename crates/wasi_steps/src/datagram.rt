@@ -1,15 +1,16 @@
 //! Reads the arguments of the steps of datagrams: a remote address or none, and datagrams to send.
 
 ghost use Rattle.std.specs.Prelude.{IfOk};
-ghost use Rattle.wasi_world.specs.Fields.{Reads};
+ghost use Rattle.world_text.specs.Fields.{Reads};
 ghost use Rattle.wasi_steps.specs.Datagrams.{remote_at, destination_at, datagram_at, datagrams_at};
 
 use std::alloc::{AllocError, Global};
 use wasi_addr::IpSocketAddress;
-use wasi_world::{Fields, OutgoingDatagram, OutgoingDatagrams};
+use wasi_world::{OutgoingDatagram, OutgoingDatagrams};
+use world_text::Fields;
 
 /// Takes an address, or none where the line is at its end.
-#[tactic(auto, unfolding(wasi_world::specs::Fields::read_then, wasi_world::specs::Fields::give))]
+#[tactic(auto, unfolding(world_text::specs::Fields::read_then, world_text::specs::Fields::give))]
 pub(crate) fn remote(fields: &mut Fields<'_>) -> Option<Option<IpSocketAddress>>
     ensures { Reads remote_at fields.old result fields.new }
 {
@@ -20,7 +21,7 @@ pub(crate) fn remote(fields: &mut Fields<'_>) -> Option<Option<IpSocketAddress>>
 }
 
 /// Takes where a datagram goes: `to` and an address, or `peer` for the one that its socket is connected to.
-#[tactic(auto, unfolding(crate::specs::Datagrams::destination_at, wasi_world::specs::Fields::read_then, wasi_world::specs::Fields::give))]
+#[tactic(auto, unfolding(crate::specs::Datagrams::destination_at, world_text::specs::Fields::read_then, world_text::specs::Fields::give))]
 fn destination(fields: &mut Fields<'_>) -> Option<Option<IpSocketAddress>>
     ensures { Reads destination_at fields.old result fields.new }
 {
@@ -32,7 +33,7 @@ fn destination(fields: &mut Fields<'_>) -> Option<Option<IpSocketAddress>>
 }
 
 /// Takes a datagram: where it goes, and its bytes.
-#[tactic(auto, unfolding(crate::specs::Datagrams::datagram_at, wasi_world::specs::Fields::read_then, wasi_world::specs::Fields::give))]
+#[tactic(auto, unfolding(crate::specs::Datagrams::datagram_at, world_text::specs::Fields::read_then, world_text::specs::Fields::give))]
 fn datagram(alloc: Global, fields: &mut Fields<'_>) -> Result<Option<OutgoingDatagram>, AllocError>
     ensures { IfOk result (λ datagram. Reads datagram_at fields.old datagram fields.new) }
 {

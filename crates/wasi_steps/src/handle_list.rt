@@ -1,11 +1,12 @@
 //! Reads the handles of a poll-list.
 
 ghost use Rattle.std.specs.Prelude.{IfOk};
-ghost use Rattle.wasi_world.specs.Fields.{Reads};
+ghost use Rattle.world_text.specs.Fields.{Reads};
 ghost use Rattle.wasi_steps.specs.HandleLists.{handles_at};
 
 use std::alloc::{AllocError, Global};
-use wasi_world::{Fields, NumberList};
+use wasi_world::NumberList;
+use world_text::Fields;
 
 /// Takes handles up to the end of the line.
 pub(crate) fn pollables(

@@ -1,7 +1,7 @@
 //! Reads the arguments of the steps whose bytes, datagrams, handles or name take memory.
 
 ghost use Rattle.std.specs.Prelude.{IfOk};
-ghost use Rattle.wasi_world.specs.Fields.{Reads};
+ghost use Rattle.world_text.specs.Fields.{Reads};
 ghost use Rattle.wasi_steps.specs.Steps.{pipe_step, write_step, blocking_write_step, send_step, poll_list_step, resolve_step, row_of};
 
 use crate::datagram::datagrams;
@@ -9,10 +9,10 @@ use crate::handle_list::pollables;
 use crate::name::name;
 use crate::step::Step;
 use std::alloc::{AllocError, Global};
-use wasi_world::Fields;
+use world_text::Fields;
 
 /// Takes the bytes of a pipe-in.
-#[tactic(auto, unfolding(wasi_world::specs::Fields::read_then, wasi_world::specs::Fields::give, wasi_world::specs::Fields::give_some))]
+#[tactic(auto, unfolding(world_text::specs::Fields::read_then, world_text::specs::Fields::give, world_text::specs::Fields::give_some))]
 pub(crate) fn pipe_arguments(
     alloc: Global,
     fields: &mut Fields<'_>,
@@ -27,7 +27,7 @@ pub(crate) fn pipe_arguments(
 }
 
 /// Takes the arguments of a write.
-#[tactic(auto, unfolding(wasi_world::specs::Fields::read_then, wasi_world::specs::Fields::give, wasi_world::specs::Fields::give_some))]
+#[tactic(auto, unfolding(world_text::specs::Fields::read_then, world_text::specs::Fields::give, world_text::specs::Fields::give_some))]
 pub(crate) fn write_arguments(
     alloc: Global,
     fields: &mut Fields<'_>,
@@ -49,7 +49,7 @@ pub(crate) fn write_arguments(
 }
 
 /// Takes the arguments of a blocking-write.
-#[tactic(auto, unfolding(wasi_world::specs::Fields::read_then, wasi_world::specs::Fields::give, wasi_world::specs::Fields::give_some))]
+#[tactic(auto, unfolding(world_text::specs::Fields::read_then, world_text::specs::Fields::give, world_text::specs::Fields::give_some))]
 pub(crate) fn blocking_write_arguments(
     alloc: Global,
     fields: &mut Fields<'_>,
@@ -71,7 +71,7 @@ pub(crate) fn blocking_write_arguments(
 }
 
 /// Takes the arguments of a send.
-#[tactic(auto, unfolding(wasi_world::specs::Fields::read_then, wasi_world::specs::Fields::give, wasi_world::specs::Fields::give_some))]
+#[tactic(auto, unfolding(world_text::specs::Fields::read_then, world_text::specs::Fields::give, world_text::specs::Fields::give_some))]
 pub(crate) fn send_arguments(
     alloc: Global,
     fields: &mut Fields<'_>,
@@ -93,7 +93,7 @@ pub(crate) fn send_arguments(
 }
 
 /// Takes the handles of a poll-list, up to the end of the line.
-#[tactic(auto, unfolding(wasi_world::specs::Fields::read_then, wasi_world::specs::Fields::give, wasi_world::specs::Fields::give_some))]
+#[tactic(auto, unfolding(world_text::specs::Fields::read_then, world_text::specs::Fields::give, world_text::specs::Fields::give_some))]
 pub(crate) fn poll_list_arguments(
     alloc: Global,
     fields: &mut Fields<'_>,
@@ -108,7 +108,7 @@ pub(crate) fn poll_list_arguments(
 }
 
 /// Takes the arguments of a resolve.
-#[tactic(auto, unfolding(wasi_world::specs::Fields::read_then, wasi_world::specs::Fields::give, wasi_world::specs::Fields::give_some))]
+#[tactic(auto, unfolding(world_text::specs::Fields::read_then, world_text::specs::Fields::give, world_text::specs::Fields::give_some))]
 pub(crate) fn resolve_arguments(
     alloc: Global,
     fields: &mut Fields<'_>,

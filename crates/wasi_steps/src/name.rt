@@ -2,11 +2,12 @@
 
 ghost use Rattle.std.specs.Prelude.{◌≡◌, IfOk};
 ghost use Rattle.std.specs.List.{list_all};
-ghost use Rattle.wasi_world.specs.Fields.{Reads};
+ghost use Rattle.world_text.specs.Fields.{Reads};
 ghost use Rattle.wasi_steps.specs.Names.{ends_no_line, is_name, name_at};
 
 use std::alloc::{AllocError, Global};
-use wasi_world::{Fields, NameText};
+use wasi_world::NameText;
+use world_text::Fields;
 
 /// Whether no newline and no carriage return is in the bytes.
 fn is_unbroken(text: &[u8]) -> bool
@@ -23,7 +24,7 @@ fn is_name(text: &[u8]) -> bool
 }
 
 /// Takes a host name, for which it takes memory: all that is left of the line, with the spaces in it.
-#[tactic(auto, unfolding(crate::specs::Names::name_at, wasi_world::specs::Fields::read_then, wasi_world::specs::Fields::give_some))]
+#[tactic(auto, unfolding(crate::specs::Names::name_at, world_text::specs::Fields::read_then, world_text::specs::Fields::give_some))]
 pub(crate) fn name(alloc: Global, fields: &mut Fields<'_>) -> Result<Option<NameText>, AllocError>
     ensures { IfOk result (λ name. Reads name_at fields.old name fields.new) }
 {

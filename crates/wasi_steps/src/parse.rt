@@ -1,8 +1,8 @@
 //! Reads a line of a script.
 
 ghost use Rattle.std.specs.Prelude.{◌≡◌, ◌↔◌, ℕ, false, List, Some, IfOk, ◌++◌};
-ghost use Rattle.wasi_world.specs.Fields.{Reads, after_word, number_in};
-ghost use Rattle.wasi_world.specs.Written.{IsVisible};
+ghost use Rattle.world_text.specs.Fields.{Reads, after_word, number_in};
+ghost use Rattle.world_text.specs.Written.{IsVisible};
 ghost use Rattle.wasi_steps.specs.declared.step.Step.{Step};
 ghost use Rattle.wasi_steps.specs.Arguments.{shutdown_at};
 ghost use Rattle.wasi_steps.specs.Names.{IsText};
@@ -19,11 +19,12 @@ use crate::step::Step;
 use crate::stream::stream_arguments;
 use std::alloc::{AllocError, Global};
 use wasi_addr::ShutdownType;
-use wasi_world::fields::number;
-use wasi_world::{Fields, Opt};
+use world_text::fields::number;
+use wasi_world::Opt;
+use world_text::Fields;
 
 /// Takes the word of what is shut down.
-#[tactic(auto, unfolding(crate::specs::Arguments::shutdown_at, wasi_world::specs::Fields::read_then, wasi_world::specs::Fields::give))]
+#[tactic(auto, unfolding(crate::specs::Arguments::shutdown_at, world_text::specs::Fields::read_then, world_text::specs::Fields::give))]
 fn shutdown_type(fields: &mut Fields<'_>) -> Option<ShutdownType>
     ensures { Reads shutdown_at fields.old result fields.new }
 {
@@ -36,7 +37,7 @@ fn shutdown_type(fields: &mut Fields<'_>) -> Option<ShutdownType>
 }
 
 /// Takes the word of an option.
-#[tactic(auto, unfolding(crate::specs::Settings::option_at, wasi_world::specs::Fields::read_then, wasi_world::specs::Fields::give))]
+#[tactic(auto, unfolding(crate::specs::Settings::option_at, world_text::specs::Fields::read_then, world_text::specs::Fields::give))]
 fn option(fields: &mut Fields<'_>) -> Option<Opt>
     ensures { Reads option_at fields.old result fields.new }
 {
@@ -53,7 +54,7 @@ fn option(fields: &mut Fields<'_>) -> Option<Opt>
 }
 
 /// What this word says is set, to a number of 64 bits.
-#[tactic(auto, unfolding(wasi_world::specs::Fields::read_then, wasi_world::specs::Fields::give, wasi_world::specs::Fields::give_some))]
+#[tactic(auto, unfolding(world_text::specs::Fields::read_then, world_text::specs::Fields::give, world_text::specs::Fields::give_some))]
 fn wide_setting(word: &str, value: u64) -> Option<TcpSetting>
     ensures { ReadsNumber 18446744073709551615 wide_words word.now value result }
 {
@@ -69,7 +70,7 @@ fn wide_setting(word: &str, value: u64) -> Option<TcpSetting>
 }
 
 /// Takes the value of what this word says is set.
-#[tactic(auto, unfolding(wasi_world::specs::Fields::read_then, wasi_world::specs::Fields::give, wasi_world::specs::Fields::give_some))]
+#[tactic(auto, unfolding(world_text::specs::Fields::read_then, world_text::specs::Fields::give, world_text::specs::Fields::give_some))]
 fn setting_of(fields: &mut Fields<'_>, word: &str) -> Option<TcpSetting>
     ensures { Reads (after_word setting_words word.now) fields.old result fields.new }
 {
@@ -83,7 +84,7 @@ fn setting_of(fields: &mut Fields<'_>, word: &str) -> Option<TcpSetting>
 }
 
 /// Takes what is set, and its value.
-#[tactic(auto, unfolding(crate::specs::Settings::setting_at, wasi_world::specs::Fields::read_then))]
+#[tactic(auto, unfolding(crate::specs::Settings::setting_at, world_text::specs::Fields::read_then))]
 fn setting(fields: &mut Fields<'_>) -> Option<TcpSetting>
     ensures { Reads setting_at fields.old result fields.new }
 {
@@ -92,7 +93,7 @@ fn setting(fields: &mut Fields<'_>) -> Option<TcpSetting>
 }
 
 /// Takes the word of an option of a UDP socket.
-#[tactic(auto, unfolding(crate::specs::Settings::udp_option_at, wasi_world::specs::Fields::read_then, wasi_world::specs::Fields::give))]
+#[tactic(auto, unfolding(crate::specs::Settings::udp_option_at, world_text::specs::Fields::read_then, world_text::specs::Fields::give))]
 fn udp_option(fields: &mut Fields<'_>) -> Option<UdpOption>
     ensures { Reads udp_option_at fields.old result fields.new }
 {
@@ -105,7 +106,7 @@ fn udp_option(fields: &mut Fields<'_>) -> Option<UdpOption>
 }
 
 /// Takes what is set of a UDP socket, and its value.
-#[tactic(auto, unfolding(crate::specs::Settings::udp_setting_at, wasi_world::specs::Fields::read_then, wasi_world::specs::Fields::give))]
+#[tactic(auto, unfolding(crate::specs::Settings::udp_setting_at, world_text::specs::Fields::read_then, world_text::specs::Fields::give))]
 fn udp_setting(fields: &mut Fields<'_>) -> Option<UdpSetting>
     ensures { Reads udp_setting_at fields.old result fields.new }
 {
@@ -120,7 +121,7 @@ fn udp_setting(fields: &mut Fields<'_>) -> Option<UdpSetting>
 
 /// Takes what follows the handle of a step word: more arguments where the word is a UDP socket's or a stream's and has them, else
 /// nothing.
-#[tactic(auto, unfolding(wasi_world::specs::Fields::read_then, wasi_world::specs::Fields::give, wasi_world::specs::Fields::give_some))]
+#[tactic(auto, unfolding(world_text::specs::Fields::read_then, world_text::specs::Fields::give, world_text::specs::Fields::give_some))]
 fn udp_arguments(fields: &mut Fields<'_>, context: u32, word: &str, handle: u32) -> Option<Step>
     ensures { ReadsAfter 4294967295 (rows_of (udp_value_steps context ++ input_value_steps context ++ output_value_steps context ++ handle_steps context)) word.now handle fields.old result fields.new }
 {
@@ -157,7 +158,7 @@ fn udp_arguments(fields: &mut Fields<'_>, context: u32, word: &str, handle: u32)
 
 /// Takes what follows the handle of a step word: more arguments where the word is a socket's or a stream's and has them, else
 /// nothing.
-#[tactic(auto, unfolding(wasi_world::specs::Fields::read_then, wasi_world::specs::Fields::give, wasi_world::specs::Fields::give_some))]
+#[tactic(auto, unfolding(world_text::specs::Fields::read_then, world_text::specs::Fields::give, world_text::specs::Fields::give_some))]
 fn tcp_arguments(fields: &mut Fields<'_>, context: u32, word: &str, handle: u32) -> Option<Step>
     ensures { ReadsAfter 4294967295 (rows_of (value_steps context ++ handle_steps context)) word.now handle fields.old result fields.new }
 {
@@ -194,7 +195,7 @@ fn tcp_arguments(fields: &mut Fields<'_>, context: u32, word: &str, handle: u32)
 }
 
 /// Takes the arguments of a step word whose first one is a handle: that alone, or more after it.
-#[tactic(auto, unfolding(wasi_world::specs::Fields::read_then, wasi_world::specs::Fields::give, wasi_world::specs::Fields::give_some))]
+#[tactic(auto, unfolding(world_text::specs::Fields::read_then, world_text::specs::Fields::give, world_text::specs::Fields::give_some))]
 fn handle_arguments(fields: &mut Fields<'_>, context: u32, word: &str) -> Option<Step>
     ensures { Reads (after_word (rows_of (value_steps context ++ handle_steps context)) word.now) fields.old result fields.new }
 {
@@ -203,7 +204,7 @@ fn handle_arguments(fields: &mut Fields<'_>, context: u32, word: &str) -> Option
 }
 
 /// Takes the arguments of a step word, where they take no memory.
-#[tactic(auto, unfolding(wasi_world::specs::Fields::read_then, wasi_world::specs::Fields::give, wasi_world::specs::Fields::give_some))]
+#[tactic(auto, unfolding(world_text::specs::Fields::read_then, world_text::specs::Fields::give, world_text::specs::Fields::give_some))]
 fn plain_arguments(fields: &mut Fields<'_>, context: u32, word: &str) -> Option<Step>
     ensures { Reads (after_word (rows_of (plain_steps context)) word.now) fields.old result fields.new }
 {
@@ -249,7 +250,7 @@ fn arguments(
 }
 
 /// Takes the guest call of this context, if it is one of so many.
-#[tactic(auto, unfolding(crate::specs::Steps::guest_call_at, wasi_world::specs::Fields::read_then, wasi_world::specs::Fields::give_some))]
+#[tactic(auto, unfolding(crate::specs::Steps::guest_call_at, world_text::specs::Fields::read_then, world_text::specs::Fields::give_some))]
 fn guest_call(
     alloc: Global,
     fields: &mut Fields<'_>,
@@ -268,7 +269,7 @@ fn guest_call(
 }
 
 /// Takes the arguments of a step word that no context's number comes before.
-#[tactic(auto, unfolding(wasi_world::specs::Fields::read_then, wasi_world::specs::Fields::give))]
+#[tactic(auto, unfolding(world_text::specs::Fields::read_then, world_text::specs::Fields::give))]
 fn bare_arguments(fields: &mut Fields<'_>, word: &str) -> Option<Step>
     ensures { Reads (after_word (rows_of bare_steps) word.now) fields.old result fields.new }
 {
@@ -292,7 +293,7 @@ fn context_number(word: &str) -> Option<u32>
 }
 
 /// Takes a step: a guest call of one of so many contexts, or a step that no context makes.
-#[tactic(auto, unfolding(crate::specs::Steps::step_reader, wasi_world::specs::Fields::read_then))]
+#[tactic(auto, unfolding(crate::specs::Steps::step_reader, world_text::specs::Fields::read_then))]
 fn step(alloc: Global, fields: &mut Fields<'_>, contexts: u32) -> Result<Option<Step>, AllocError>
     ensures { IfOk result (λ step. Reads (step_reader contexts) fields.old step fields.new) }
 {

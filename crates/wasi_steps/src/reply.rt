@@ -1,7 +1,7 @@
 //! The replies to steps.
 
 ghost use Rattle.std.specs.Prelude.{◌≡◌, false, List, IfOk, OnOk, Contains, [], ◌∷◌, ◌++◌, map, codes, string_bytes};
-ghost use Rattle.wasi_world.specs.Fields.{line_with};
+ghost use Rattle.world_text.specs.Fields.{line_with};
 ghost use Rattle.wasi_steps.specs.declared.reply.Reply.{Reply};
 ghost use Rattle.wasi_steps.specs.declared.step.Step.{Step};
 ghost use Rattle.wasi_steps.specs.Replies.{FieldKinds, polled_fields, GivesAs, Gives, is_poll, code_text, trap_text, field_text, fields_of_reply, text_of};
@@ -12,7 +12,7 @@ use std::fmt;
 use std::fmt::Write;
 use std::marker::Model;
 use wasi_addr::p2;
-use wasi_world::fields::push_octets;
+use world_text::fields::push_octets;
 use wasi_world::{Handle, Octets, TrapKind};
 
 /// One field of an `ok` reply.

@@ -6,10 +6,10 @@ ghost use Rattle.wasi_steps.specs.Steps.{handle_steps, input_value_steps, output
 
 use crate::handle::handle_step;
 use crate::step::Step;
-use wasi_world::Fields;
+use world_text::Fields;
 
 /// Takes what follows the handle of a step word: more arguments where the word is an output's and has them, else nothing.
-#[tactic(auto, unfolding(wasi_world::specs::Fields::read_then, wasi_world::specs::Fields::give, wasi_world::specs::Fields::give_some))]
+#[tactic(auto, unfolding(world_text::specs::Fields::read_then, world_text::specs::Fields::give, world_text::specs::Fields::give_some))]
 fn output_arguments(fields: &mut Fields<'_>, context: u32, word: &str, handle: u32) -> Option<Step>
     ensures { ReadsAfter 4294967295 (rows_of (output_value_steps context ++ handle_steps context)) word.now handle fields.old result fields.new }
 {
@@ -43,7 +43,7 @@ fn output_arguments(fields: &mut Fields<'_>, context: u32, word: &str, handle: u
 
 /// Takes what follows the handle of a step word: more arguments where the word is an input's or an output's and has them, else
 /// nothing.
-#[tactic(auto, unfolding(wasi_world::specs::Fields::read_then, wasi_world::specs::Fields::give, wasi_world::specs::Fields::give_some))]
+#[tactic(auto, unfolding(world_text::specs::Fields::read_then, world_text::specs::Fields::give, world_text::specs::Fields::give_some))]
 pub(crate) fn stream_arguments(
     fields: &mut Fields<'_>,
     context: u32,

@@ -1,17 +1,17 @@
 -- The cases of a file, one after another: those that hold, and the first that doesn't.
 use Rattle.std.proofs.Common.{arith, ◌≡◌, ◌∙◌, ap, sym, refl, subst, ℕ, ◌+◌, min, List, [], ◌∷◌, ◌++◌, length-append, Option, Some, Result}
 use Rattle.std.specs.List.{AllByRecursion}
-use Rattle.wasi_world.specs.Lines.{lines_of}
-use Rattle.wasi_world.specs.Io.{Reading, Writing}
+use Rattle.world_text.specs.Lines.{lines_of}
+use Rattle.world_io.specs.Io.{Reading, Writing}
 use Rattle.wasi_world.specs.Script.{GoesByPlan}
-use Rattle.wasi_world.specs.Scripted.{seen_by}
+use Rattle.world_scripted.specs.Scripted.{seen_by}
 use Rattle.wasi_world.specs.Seen.{Seen}
 use Rattle.wasi_world.specs.declared.outcome.WasiSocketsCtx.{WasiSocketsCtx}
-use Rattle.wasi_world.specs.declared.scripted.ScriptedWorld.{ScriptedWorld}
+use Rattle.world_scripted.specs.declared.scripted.ScriptedWorld.{ScriptedWorld}
 use Rattle.wasi_run.specs.declared.run.RunEnd.{RunEnd}
 use Rattle.wasi_run.specs.declared.error.RunError.{RunError}
-use Rattle.wasi_program.specs.declared.program.Scenario.{Scenario}
-use Rattle.wasi_program.specs.Parsed.{IsPlanned, IsParsed}
+use Rattle.wasi_program.specs.declared.scenario.Scenario.{Scenario}
+use Rattle.wasi_program.specs.Scenario.{IsPlanned, IsParsed}
 use Rattle.wasi_transcript.specs.Shown.{IsShown}
 use Rattle.wasi_transcript.specs.declared.cases.Case.{Case}
 use Rattle.wasi_transcript.specs.declared.check.Checked.{Checked}

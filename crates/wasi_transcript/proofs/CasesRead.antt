@@ -5,7 +5,7 @@ use Rattle.std.specs.Prelude.{option_map, option_and_then}
 use Rattle.std.specs.List.{cons_option}
 use Rattle.std.proofs.lemmas.List.{flat_map_more}
 use Rattle.std.proofs.lemmas.List.Elements.{filter_map-append}
-use Rattle.wasi_world.specs.Lines.{lines_of, rest_of}
+use Rattle.world_text.specs.Lines.{lines_of, rest_of}
 use Rattle.wasi_transcript.specs.Cases.{after, unlines, script_of, planned_at, next_planned, shown_at, titled, case_at}
 use Rattle.wasi_transcript.specs.declared.cases.Shown.{Shown}
 use Rattle.wasi_transcript.specs.CaseRead.{TakesAfter, ReadsPlanned, ReadsShown, PushesStep}

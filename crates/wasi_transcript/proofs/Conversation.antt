@@ -6,9 +6,9 @@ use Rattle.std.proofs.lemmas.Bool.{cases_lt}
 use Rattle.std.proofs.lemmas.List.{flat_map_more, take_all, take-append-le}
 use Rattle.wasi_world.specs.declared.call.Entry.{Entry}
 use Rattle.wasi_world.specs.declared.outcome.WasiSocketsCtx.{WasiSocketsCtx}
-use Rattle.wasi_world.specs.Lines.{lines_of, rest_of, lines_from, rest_from}
+use Rattle.world_text.specs.Lines.{lines_of, rest_of, lines_from, rest_from}
 use Rattle.wasi_world.specs.Seen.{Seen}
-use Rattle.wasi_world.proofs.LinesOf.{lines-append, rest-append}
+use Rattle.world_text.proofs.LinesOf.{lines-append, rest-append}
 use Rattle.wasi_host.specs.declared.machine.Machine.{Machine}
 use Rattle.wasi_run.specs.Ran.{NoTrap}
 use Rattle.wasi_steps.specs.Reply.{is_trap}

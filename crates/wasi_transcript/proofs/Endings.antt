@@ -1,7 +1,7 @@
 -- How a transcript ends, once its lines are done.
 use Rattle.std.proofs.Common.{◌≡◌, ◌∙◌, ap, refl, ℕ, List, [], ◌++◌, take, Result, Ok, Err, inl, inr}
 use Rattle.wasi_world.specs.declared.outcome.WasiSocketsCtx.{WasiSocketsCtx}
-use Rattle.wasi_world.specs.Io.{Reading, Writing}
+use Rattle.world_io.specs.Io.{Reading, Writing}
 use Rattle.wasi_world.specs.Seen.{Seen}
 use Rattle.wasi_host.specs.declared.machine.Machine.{Machine}
 use Rattle.wasi_records.specs.Closing.{AsksNothing, IsFresh, HasClosedAll}

@@ -3,8 +3,8 @@ use Rattle.std.proofs.Common.{◌≡◌, ◌∙◌, ap, sym, ℕ, ◌+◌, ◌-�
 use Rattle.std.proofs.Math.Seq.{drop-length}
 use Rattle.std.specs.List.{position}
 use Rattle.std.proofs.lemmas.List.{drop-drop, take_rest}
-use Rattle.wasi_world.specs.Lines.{lines_of, rest_of, lines_from, rest_from}
-use Rattle.wasi_world.proofs.LinesOf.{Cut, cut_at, no_cut, cut_line, cut_after, cut_within}
+use Rattle.world_text.specs.Lines.{lines_of, rest_of, lines_from, rest_from}
+use Rattle.world_text.proofs.LinesOf.{Cut, cut_at, no_cut, cut_line, cut_after, cut_within}
 
 -- nothing is behind the last byte
 pub nothing_after : (n : ℕ) (piece : List ℕ) → n ≡ length piece → drop n piece ≡ []

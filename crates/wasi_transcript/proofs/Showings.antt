@@ -5,10 +5,10 @@ use Rattle.std.specs.declared.alloc.AllocError.{AllocError}
 use Rattle.wasi_world.specs.declared.call.Entry.{Entry}
 use Rattle.wasi_world.specs.declared.outcome.WasiSocketsCtx.{WasiSocketsCtx}
 use Rattle.wasi_world.specs.Asks.{Asks, Left}
-use Rattle.wasi_world.specs.Io.{Reading, Writing, Gave, Took, SameCounts}
-use Rattle.wasi_world.specs.Lines.{lines_of, rest_of}
+use Rattle.world_io.specs.Io.{Reading, Writing, Gave, Took, SameCounts}
+use Rattle.world_text.specs.Lines.{lines_of, rest_of}
 use Rattle.wasi_world.specs.Seen.{Seen}
-use Rattle.wasi_world.proofs.LinesOf.{count_lines}
+use Rattle.world_text.proofs.LinesOf.{count_lines}
 use Rattle.wasi_host.specs.declared.machine.Machine.{Machine}
 use Rattle.wasi_host.specs.Machine.{first_state}
 use Rattle.wasi_host.specs.KnownSides.{KnowsSides}

@@ -2,11 +2,11 @@
 use Rattle.std.specs.Prelude.{◌≡◌, ◌≢◌, ℕ, false, List, [], ◌∷◌, min, length, Some, None, Result, Ok, Err}
 use Rattle.std.specs.List.{AllByRecursion}
 use Rattle.wasi_world.specs.declared.outcome.WasiSocketsCtx.{WasiSocketsCtx}
-use Rattle.wasi_world.specs.Io.{Reading, Writing}
-use Rattle.wasi_world.specs.Lines.{lines_of, rest_of}
-use Rattle.wasi_world.specs.Scenario.{scenario_of}
+use Rattle.world_io.specs.Io.{Reading, Writing}
+use Rattle.world_text.specs.Lines.{lines_of, rest_of}
+use Rattle.world_scripted.specs.Scenario.{scenario_of}
 use Rattle.wasi_world.specs.Script.{GoesByPlan}
-use Rattle.wasi_world.specs.Scripted.{at_start}
+use Rattle.world_scripted.specs.Scripted.{at_start}
 use Rattle.wasi_world.specs.Seen.{Plan, Seen}
 use Rattle.wasi_run.specs.declared.run.RunEnd.{RunEnd}
 use Rattle.wasi_run.specs.declared.error.RunError.{RunError}

@@ -1,6 +1,6 @@
 -- What was read of a file of transcripts.
 use Rattle.std.specs.Prelude.{◌≡◌, ℕ, ◌<◌, ◌≤◌, ◌∷◌, ◌++◌, codes, length, List, Option, Some, None}
-use Rattle.wasi_world.specs.Lines.{lines_of, rest_of}
+use Rattle.world_text.specs.Lines.{lines_of, rest_of}
 use Rattle.wasi_transcript.specs.declared.cases.Case.{Case}
 use Rattle.wasi_transcript.specs.declared.cases.Shown.{Shown}
 use Rattle.wasi_transcript.specs.Cases.{CaseText, unlines, script_of, script_lines, planned_at, shown_at, case_at, after}

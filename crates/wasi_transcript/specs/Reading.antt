@@ -2,8 +2,8 @@
 use Rattle.std.specs.Prelude.{◌≡◌, ◌≢◌, ℕ, ◌+◌, ◌-◌, ◌<◌, ◌≤◌, Bool, true, false, List, [], ◌∷◌, ◌++◌, length, take, Result, IfOk}
 use Rattle.std.specs.declared.alloc.AllocError.{AllocError}
 use Rattle.wasi_world.specs.Seen.{Rose}
-use Rattle.wasi_world.specs.Io.{Reading, Gave, HasEnded}
-use Rattle.wasi_world.specs.Lines.{lines_of, rest_of, lines_from, rest_from}
+use Rattle.world_io.specs.Io.{Reading, Gave, HasEnded}
+use Rattle.world_text.specs.Lines.{lines_of, rest_of, lines_from, rest_from}
 use Rattle.wasi_transcript.specs.declared.lines.NextLine.{NextLine}
 use Rattle.wasi_transcript.specs.declared.lines.Piece.{Piece}
 use Rattle.wasi_transcript.specs.declared.lines.Piece.TheVariants as piece

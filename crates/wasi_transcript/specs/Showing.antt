@@ -1,7 +1,7 @@
 -- What became of the lines of a script, before its end.
 use Rattle.std.specs.Prelude.{◌≡◌, ℕ, List, Result, Ok, Err}
 use Rattle.wasi_world.specs.declared.outcome.WasiSocketsCtx.{WasiSocketsCtx}
-use Rattle.wasi_world.specs.Io.{Reading, Writing, Took}
+use Rattle.world_io.specs.Io.{Reading, Writing, Took}
 use Rattle.wasi_world.specs.Seen.{Seen}
 use Rattle.wasi_host.specs.declared.machine.Machine.{Machine}
 use Rattle.wasi_host.specs.Machine.{first_state}

@@ -3,8 +3,8 @@ use Rattle.std.specs.Prelude.{◌≡◌, ◌≢◌, ℕ, ◌+◌, ◌<◌, ◌�
 use Rattle.wasi_world.specs.declared.call.Entry.{Entry}
 use Rattle.wasi_world.specs.declared.outcome.WasiSocketsCtx.{WasiSocketsCtx}
 use Rattle.wasi_world.specs.Asks.{Asks, Left}
-use Rattle.wasi_world.specs.Io.{Reading, Writing, Gave, HasEnded, Took, SameCounts, CountRose}
-use Rattle.wasi_world.specs.Lines.{lines_of, rest_of}
+use Rattle.world_io.specs.Io.{Reading, Writing, Gave, HasEnded, Took, SameCounts, CountRose}
+use Rattle.world_text.specs.Lines.{lines_of, rest_of}
 use Rattle.wasi_world.specs.Seen.{Seen, Rose}
 use Rattle.wasi_host.specs.declared.machine.Machine.{Machine}
 use Rattle.wasi_host.specs.Machine.{first_state}

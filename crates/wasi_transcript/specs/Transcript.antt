@@ -4,7 +4,7 @@ use Rattle.std.specs.List.{flat_map}
 use Rattle.wasi_world.specs.declared.call.Entry.{Entry}
 use Rattle.wasi_world.specs.declared.outcome.WasiSocketsCtx.{WasiSocketsCtx}
 use Rattle.wasi_world.specs.Asks.{Give, Left}
-use Rattle.wasi_world.specs.EntryText.{entry_text}
+use Rattle.world_text.specs.EntryText.{entry_text}
 use Rattle.wasi_world.specs.Seen.{Seen}
 use Rattle.wasi_host.specs.declared.machine.Machine.{Machine}
 use Rattle.wasi_steps.specs.declared.reply.Reply.{Reply}

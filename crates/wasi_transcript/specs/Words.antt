@@ -1,17 +1,18 @@
 -- What the program's words ask for, and how it ends.
 use Rattle.std.specs.Prelude.{◌≡◌, ◌≢◌, ◌⊎◌, ℕ, if◌then◌else◌, bytes_eq, codes, List, [], ◌∷◌, map, string_bytes, Option, Some, None, Result, Ok, Err}
-use Rattle.wasi_world.specs.Fields.{number_in}
-use Rattle.wasi_world.specs.Io.{Reading, Writing}
-use Rattle.wasi_world.specs.Scenario.{scenario_of}
-use Rattle.wasi_world.specs.Scripted.{at_start}
+use Rattle.world_text.specs.Fields.{number_in}
+use Rattle.world_io.specs.Io.{Reading, Writing}
+use Rattle.world_scripted.specs.Scenario.{scenario_of}
+use Rattle.world_scripted.specs.Scripted.{at_start}
 use Rattle.wasi_world.specs.Seen.{Plan, Seen, Rose}
 use Rattle.wasi_world.specs.declared.outcome.WasiSocketsCtx.{WasiSocketsCtx}
-use Rattle.wasi_program.specs.declared.program.Status.{Status}
-use Rattle.wasi_program.specs.declared.program.Status.TheVariants as status
+use Rattle.wasi_program.specs.declared.status.Status.{Status}
+use Rattle.wasi_program.specs.declared.status.Status.TheVariants as status
 use Rattle.wasi_run.specs.declared.run.RunEnd.{RunEnd}
 use Rattle.wasi_run.specs.declared.error.RunError.{RunError}
-use Rattle.wasi_program.specs.Program as run
-use Rattle.wasi_program.specs.Program.{ReadScenario, status_of, bad_line_of}
+use Rattle.wasi_program.specs.Status as run
+use Rattle.wasi_program.specs.Scenario.{ReadScenario}
+use Rattle.wasi_program.specs.Status.{status_of, bad_line_of}
 use Rattle.wasi_transcript.specs.declared.check.Checked.TheVariants.{Holds, Fails, NotCases}
 use Rattle.wasi_transcript.specs.declared.check.Failed.{Failed}
 use Rattle.wasi_transcript.specs.declared.program.End.{End}

@@ -1,13 +1,13 @@
 //! Files of transcripts: what one says of each of its scripts.
 
 ghost use Rattle.std.specs.Prelude.{◌≡◌, ◌++◌, ◌∷◌, ◌<◌, ◌↔◌, ℕ, [], Some, None, IsTrue, IfSome, IfNone, IfOk, OnOk, codes, length, option_copied};
-ghost use Rattle.wasi_world.specs.Lines.{lines_of, rest_of};
+ghost use Rattle.world_text.specs.Lines.{lines_of, rest_of};
 ghost use Rattle.wasi_transcript.specs.Cases.{after};
 ghost use Rattle.wasi_transcript.specs.CaseRead.{ReadsCase, ReadsPlanned, ReadsShown, PushesStep, TakesAfter};
 
 use std::alloc::{AllocError, Global};
 use std::marker::Model;
-use wasi_world::scenario::newline_at;
+use world_text::lines::newline_at;
 
 /// The lines of a text that are left, each of which a newline ends.
 #[derive(Drop)]

@@ -6,9 +6,9 @@ ghost use Rattle.wasi_transcript.specs.CaseHolds.{IsWhole, CameOf, CameAs, Check
 use crate::cases::{Case, TextLines, read_case};
 use crate::show::show_script;
 use std::alloc::{AllocError, Global};
-use wasi_program::program::{Scenario, parse_scenario};
+use wasi_program::scenario::{Scenario, parse_scenario};
 use wasi_run::{RunEnd, RunError};
-use wasi_world::{GrowingSink, MemorySource};
+use world_io::{GrowingSink, MemorySource};
 
 /// How many bytes of a script are read at a time.
 const PIECE_SIZE: usize = 4096;

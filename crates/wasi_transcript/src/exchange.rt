@@ -1,7 +1,7 @@
 //! One line of a script with the calls that it makes and its reply, as text.
 
 ghost use Rattle.std.specs.Prelude.{◌≡◌, ◌++◌, ◌+◌, ◌<◌, ◌^◌, IfOk, OnOk, string_bytes, length, true, false};
-ghost use Rattle.wasi_world.specs.Scripted.{seen_by};
+ghost use Rattle.world_scripted.specs.Scripted.{seen_by};
 ghost use Rattle.wasi_host.specs.KnownSides.{KnowsSides};
 ghost use Rattle.wasi_transcript.specs.Transcript.{line_text, calls_text, answered_text, no_step_text};
 ghost use Rattle.wasi_transcript.specs.Done.{LineDone};
@@ -11,7 +11,9 @@ use std::fmt::Write;
 use wasi_run::parse::parse_step;
 use wasi_run::reply::reply_text;
 use wasi_run::{Reply, Session};
-use wasi_world::{Entry, ScriptedWorld, WasiSocketsCtx};
+use wasi_world::{Entry, WasiSocketsCtx};
+use world_scripted::ScriptedWorld;
+use world_text::EntryText;
 
 /// What became of a line, with its part of the transcript.
 #[derive(Drop)]
@@ -28,7 +30,7 @@ fn push_calls(text: &mut String, calls: &[Entry]) -> Result<(), AllocError>
     ensures { OnOk result (string_bytes text.new ≡ string_bytes text.old ++ calls_text calls.now) }
 {
     for call in calls {
-        write!(text, "    {call}\n")?;
+        write!(text, "    {}\n", EntryText(call))?;
     }
     Ok(())
 }

@@ -1,13 +1,13 @@
 //! The lines of a source, one after another.
 
 ghost use Rattle.std.specs.Prelude.{◌≡◌, ◌+◌, ◌-◌, ◌<◌, ◌≤◌, ◌∷◌, [], ℕ, length, take, IfOk, OnOk};
-ghost use Rattle.wasi_world.specs.Lines.{lines_of, rest_of, lines_from, rest_from};
+ghost use Rattle.world_text.specs.Lines.{lines_of, rest_of, lines_from, rest_from};
 ghost use Rattle.wasi_transcript.specs.Reading.{TakesLine, ReadsPiece, Reads};
 
 use std::alloc::{AllocError, Global};
 use std::marker::Model;
-use wasi_world::Source;
-use wasi_world::scenario::newline_at;
+use world_io::Source;
+use world_text::lines::newline_at;
 
 /// How many bytes are read at a time.
 const PIECE_SIZE: usize = 4096;

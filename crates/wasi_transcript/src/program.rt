@@ -8,10 +8,11 @@ use crate::report::report;
 use crate::show::show_script;
 use std::alloc::{AllocError, Global};
 use wasi_program::Status;
-use wasi_program::program::{Scenario, Unread, bad_line, parse_scenario, read_scenario};
+use wasi_program::scenario::{Scenario, Unread, parse_scenario, read_scenario};
+use wasi_program::status::bad_line;
 use wasi_run::write_all;
-use wasi_world::fields::number;
-use wasi_world::{Sink, Source};
+use world_io::{Sink, Source};
+use world_text::fields::number;
 
 /// How the program ended.
 #[derive(Clone, Copy, Debug, PartialEq, Eq)]

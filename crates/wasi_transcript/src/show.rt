@@ -2,7 +2,7 @@
 
 ghost use Rattle.std.specs.Prelude.{◌≡◌, ◌++◌, ◌<◌, ◌^◌, IfOk, IfErr, OnOk, OnErr, length, true, false};
 ghost use Rattle.wasi_world.specs.Script.{GoesByPlan};
-ghost use Rattle.wasi_world.specs.Scripted.{seen_by};
+ghost use Rattle.world_scripted.specs.Scripted.{seen_by};
 ghost use Rattle.wasi_host.specs.Machine.{first_state};
 ghost use Rattle.wasi_records.specs.Closing.{IsFresh, HasClosedAll};
 ghost use Rattle.wasi_run.specs.Written.{TookAll, TookFront};
@@ -14,7 +14,9 @@ use crate::lines::{LineReader, NextLine};
 use std::alloc::{AllocError, Global};
 use std::fmt::Write;
 use wasi_run::{RunEnd, RunError, Session, write_all};
-use wasi_world::{ScriptedWorld, Sink, Source, WasiSocketsCtx};
+use wasi_world::WasiSocketsCtx;
+use world_io::{Sink, Source};
+use world_scripted::ScriptedWorld;
 
 /// Why no more lines are done, where neither memory ran out nor a write failed.
 #[derive(Clone, Copy, Debug, PartialEq, Eq)]

@@ -3,16 +3,7 @@ pub mod Seen
 pub mod Asks
 pub mod Typed
 pub mod Operation
-pub mod Io
-pub mod Fields
-pub mod Written
 pub mod Kinds
 pub mod Sides
 pub mod Script
-pub mod Queued
-pub mod Scripted
-pub mod Memory
-pub mod Standard
-pub mod Lines
-pub mod Scenario
-pub mod EntryText
+pub mod Contexts

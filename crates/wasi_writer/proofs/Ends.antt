@@ -3,7 +3,7 @@ use Rattle.std.proofs.Common.{◌≡◌, ℕ, Bool, true, false, not, ◌||◌, 
 use Rattle.std.specs.List.{concat}
 use Rattle.std.proofs.lemmas.List.Folds.{concat-append}
 use Rattle.std.proofs.lemmas.List.{nil_from_length}
-use Rattle.wasi_world.specs.Io.{Writing}
+use Rattle.world_io.specs.Io.{Writing}
 use Rattle.wasi_shared.specs.Ends.{IsLeft}
 use Rattle.wasi_shared.specs.declared.finished.Ended.{Ended}
 use Rattle.wasi_writer.specs.Knows.{OwnerKnows, WorkerKnows}

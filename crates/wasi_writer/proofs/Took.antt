@@ -1,7 +1,7 @@
 -- What a sink took, step by step.
 use Rattle.std.proofs.Common.{◌≡◌, ◌<◌, ◌≤◌, ◌-◌, ℕ, Bool, false, List, [], ◌++◌, length, take, drop, Option, None, Some, is_some, option_map, refl, ap, ◌∙◌, sym, subst, ◌⊎◌, inl, inr, append_assoc, append-nil, arith, length-drop}
 use Rattle.std.proofs.lemmas.List.{take_all}
-use Rattle.wasi_world.specs.Io.{Writing, Took, TookSome, TookNone, SameCounts, CountRose}
+use Rattle.world_io.specs.Io.{Writing, Took, TookSome, TookNone, SameCounts, CountRose}
 use Rattle.wasi_world.specs.Seen.{Rose}
 use Rattle.wasi_writer.specs.Worked.{TookAll, TookFault}
 

@@ -1,7 +1,7 @@
 -- What a worker made of its sink, task by task.
 use Rattle.std.proofs.Common.{◌≡◌, ℕ, Bool, true, false, List, [], ◌∷◌, ◌++◌, ap, ◌∙◌, sym, subst, append_assoc, append-nil, true≢false}
 use Rattle.std.specs.List.{concat}
-use Rattle.wasi_world.specs.Io.{Writing}
+use Rattle.world_io.specs.Io.{Writing}
 use Rattle.wasi_writer.specs.Knows.{WorkerKnows}
 use Rattle.wasi_writer.specs.Worked.{TookAll, TookFault, TookTo, IsFlushed, Worked}
 use Rattle.wasi_writer.proofs.Took.{all_none, all_more, fault_more}

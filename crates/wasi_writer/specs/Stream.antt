@@ -1,7 +1,7 @@
 -- What contracts see of a write stream, and how it ends.
 use Rattle.std.specs.Prelude.{◌≡◌, ◌-◌, ℕ, Bool, true, false, List, [], ◌∷◌, ◌++◌, ◌==◌, if◌then◌else◌, length, Result, Ok, Err, OnOk, IfErr}
 use Rattle.std.specs.List.{concat}
-use Rattle.wasi_world.specs.Io.{Writing, CountRose}
+use Rattle.world_io.specs.Io.{Writing, CountRose}
 use Rattle.wasi_streams.specs.declared.error.StreamError.{StreamError}
 use Rattle.wasi_streams.specs.declared.error.StreamError.TheVariants.{LastOperationFailed, Closed, Trap, Memory}
 use Rattle.wasi_shared.specs.declared.finished.Ended.{Ended}

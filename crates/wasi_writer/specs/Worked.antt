@@ -1,7 +1,7 @@
 -- What a worker made of its sink.
 use Rattle.std.specs.Prelude.{◌≡◌, ℕ, Bool, true, false, List, ◌++◌, is_some, IfSome}
 use Rattle.std.specs.List.{concat}
-use Rattle.wasi_world.specs.Io.{Writing, Took, SameCounts, CountRose}
+use Rattle.world_io.specs.Io.{Writing, Took, SameCounts, CountRose}
 use Rattle.wasi_writer.specs.Knows.{WorkerKnows}
 
 -- it reports flushes as it did

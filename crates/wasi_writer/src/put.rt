@@ -3,7 +3,7 @@
 ghost use Rattle.std.specs.Prelude.{OnOk, OnErr};
 ghost use Rattle.wasi_writer.specs.Worked.{TookAll, TookFault};
 
-use wasi_world::{Failed, Sink};
+use world_io::{Failed, Sink};
 
 /// Writes all of the bytes, some at a time. Fails where a write fails, or takes nothing of what is left.
 pub fn write_all<K: Sink>(sink: &mut K, bytes: &[u8]) -> Result<(), Failed>

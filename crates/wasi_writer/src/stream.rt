@@ -24,7 +24,7 @@ use wasi_pipes::WriteCore;
 use wasi_shared::{Ended, Finished, PushEnd};
 use wasi_spawn::{Handle, Spawner, StartError};
 use wasi_streams::StreamError;
-use wasi_world::Sink;
+use world_io::Sink;
 
 /// A stream whose writes a worker makes, beside its owner (`AsyncWriteStream` of the crate wasmtime-wasi).
 ///

@@ -1,7 +1,7 @@
 //! The worker of a write stream.
 
 ghost use Rattle.std.specs.Prelude.{◌≡◌, OnOk, OnErr, true, false, [], length, is_err};
-ghost use Rattle.wasi_world.specs.Io.{Writing, HasFlushed};
+ghost use Rattle.world_io.specs.Io.{Writing, HasFlushed};
 ghost use Rattle.wasi_writer.specs.Knows.{idle};
 ghost use Rattle.wasi_writer.specs.Answers.{HasTask};
 ghost use Rattle.wasi_writer.specs.Worked.{Worked, TookAll, TookFault};
@@ -18,7 +18,7 @@ use std::thread::Threads;
 use wasi_addr::ErrorCode;
 use wasi_shared::PopEnd;
 use wasi_spawn::Job;
-use wasi_world::{Failed, Sink};
+use world_io::{Failed, Sink};
 
 /// The worker's side of a write stream.
 #[derive(Drop)]

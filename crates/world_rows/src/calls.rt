@@ -1,11 +1,12 @@
 //! A call of each kind that no script makes yet, and a check.
 
 ghost use Rattle.std.specs.Prelude.{◌≡◌, false};
-ghost use Rattle.wasi_world.specs.Scripted.{seen_by};
+ghost use Rattle.world_scripted.specs.Scripted.{seen_by};
 
 use std::alloc::{AllocError, Global};
 use wasi_addr::{IpSocketAddress, Ipv4SocketAddress, SocketAddrUse, SocketAddressFamily};
-use wasi_world::{Call, NameText, OpId, ScriptedWorld, Sock, Told, World};
+use wasi_world::{Call, NameText, OpId, Sock, Told, World};
+use world_scripted::ScriptedWorld;
 
 /// The network socket that the first line makes.
 pub const SIDE: Sock = OpId { step: 1, part: 0 };

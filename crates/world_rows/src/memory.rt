@@ -5,7 +5,7 @@ use std::alloc::Global;
 use std::io::{Stdin, Stdout};
 use std::process::Abort;
 use std::test::Fail;
-use wasi_world::{Failed, MemorySink, MemorySource, Sink, Source, StdSink, StdSource};
+use world_io::{Failed, MemorySink, MemorySource, Sink, Source, StdSink, StdSource};
 
 type Answers = &'static [Result<usize, Failed>];
 

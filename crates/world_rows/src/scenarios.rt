@@ -2,7 +2,7 @@
 //! that are no scenario's.
 
 ghost use Rattle.std.specs.Prelude.{◌≡◌, false};
-ghost use Rattle.wasi_world.specs.Scripted.{seen_by};
+ghost use Rattle.world_scripted.specs.Scripted.{seen_by};
 
 use crate::calls::{SIDE, ask};
 use crate::same::same;
@@ -10,7 +10,8 @@ use std::alloc::{AllocError, Global};
 use std::process::Abort;
 use std::test::Fail;
 use wasi_addr::IpAddress;
-use wasi_world::{Kind, Lists, Planned, ScenarioError, ScriptedWorld, Told, World};
+use wasi_world::{Kind, Planned, Told, World};
+use world_scripted::{Lists, ScenarioError, ScriptedWorld};
 
 // The lines of a scenario, all of one kind, and the answers then: each of them in turn, and then the default.
 const CASES: &str = "\
@@ -36,7 +37,7 @@ fn expect_answers(
 {
     for answer in answers.split(", ") {
         let told = ask(alloc, world, SIDE, word)?;
-        let text = format!(in alloc; "{told}")?;
+        let text = format!(in alloc; "{}", ToldText(&told))?;
         same(rt, text.as_str(), answer);
     }
     Ok(())

@@ -3,14 +3,16 @@
 
 ghost use Rattle.std.specs.Prelude.{◌≡◌, false};
 ghost use Rattle.wasi_world.specs.Fits.{IsPlain};
-ghost use Rattle.wasi_world.specs.Scripted.{seen_by};
+ghost use Rattle.world_scripted.specs.Scripted.{seen_by};
 
 use crate::calls::{SIDE, local};
 use crate::same::same;
 use std::alloc::{AllocError, Global};
 use std::test::Fail;
 use wasi_addr::SocketAddressFamily;
-use wasi_world::{Call, Fields, OpId, Opt, ScriptedWorld, Sock, Told, World};
+use wasi_world::{Call, OpId, Opt, Sock, Told, World};
+use world_scripted::ScriptedWorld;
+use world_text::Fields;
 
 fn family(number: u16) -> SocketAddressFamily {
     match number {
@@ -60,7 +62,7 @@ fn told(alloc: Global, world: &mut ScriptedWorld, call: Call) -> Result<String, 
     ensures { (seen_by world.new).ended ≡ false }
 {
     let told = world.call(SIDE, call)?;
-    format!(in alloc; "{told}")
+    format!(in alloc; "{}", ToldText(&told))
 }
 
 /// What `local`, `peer` and `get-option` report of a network socket.

@@ -2,7 +2,7 @@
 
 use crate::same::same;
 use std::io::{self, Error, ErrorKind, Read, Write};
-use wasi_world::{Failed, Sink, Source, StdSink, StdSource};
+use world_io::{Failed, Sink, Source, StdSink, StdSource};
 
 // Tests run with an empty input.
 #[test]

@@ -5,7 +5,7 @@ use crate::same::same;
 use std::test::*;
 use wasi_shared::Ended;
 use wasi_spawn::{FakeSpawner, StartError, ThreadSpawner};
-use wasi_world::MemorySink;
+use world_io::MemorySink;
 
 /// Whatever call of the sink fails, the sink has a front of what was accepted.
 #[test]

@@ -1,13 +1,13 @@
 //! A sink whose first write waits until its stream's owner opens a gate.
 
 ghost use Rattle.std.specs.Prelude.{◌≡◌};
-ghost use Rattle.wasi_world.specs.Io.{HasWritten, HasFlushed};
+ghost use Rattle.world_io.specs.Io.{HasWritten, HasFlushed};
 
 use std::alloc::{AllocError, Global};
 use std::sync::Arc;
 use std::sync::atomic::{AtomicBool, Ordering};
 use std::thread;
-use wasi_world::{Failed, Sink};
+use world_io::{Failed, Sink};
 
 /// How often one side looks for the other.
 pub const TURNS: u32 = 1_000_000;

@@ -4,7 +4,7 @@ use crate::pour::{Use, pattern, pour};
 use crate::same::same;
 use std::test::*;
 use wasi_spawn::ThreadSpawner;
-use wasi_world::MemorySink;
+use world_io::MemorySink;
 
 /// The sizes of pieces and of the sink's writes, small, odd and large, and how many bytes go through the stream so: a
 /// million, and fewer in pieces or writes of a few bytes.

@@ -16,7 +16,8 @@ use wasi_shared::Finished;
 use wasi_simplex::{SimplexReader, SimplexWriter, simplex};
 use wasi_spawn::{StartError, ThreadSpawner};
 use wasi_streams::StreamError;
-use wasi_world::{Failed, Sink, Source, TrapKind};
+use wasi_world::TrapKind;
+use world_io::{Failed, Sink, Source};
 use wasi_writer::put::write_all;
 use wasi_writer::{AsyncWriteStream, Names, WriteParts};
 

@@ -10,7 +10,7 @@ use std::test::*;
 use std::thread::Threads;
 use wasi_shared::Finished;
 use wasi_spawn::{Spawner, StartError};
-use wasi_world::Sink;
+use world_io::Sink;
 use wasi_writer::{AsyncWriteStream, Names, WriteParts};
 
 /// How a stream is used.

@@ -2,7 +2,8 @@ use super::*;
 use crate::same::same;
 use std::test::Fail;
 use wasi_run::{RunEnd, run_script};
-use wasi_world::{MemorySink, MemorySource, WasiSocketsCtx};
+use wasi_world::WasiSocketsCtx;
+use world_io::{MemorySink, MemorySource};
 
 #[test]
 fn a_script_runs_without_a_log(rt: HostRuntime) -> Result<(), Fail> {

@@ -1,6 +1,6 @@
 use Rattle.std.specs.Prelude.{string_bytes}
 use Rattle.std.proofs.Common.{rules, ◌≡◌, Some, None, ap, sym, ◌∙◌}
-use Rattle.wasi_world.specs.Fields.{number_in}
+use Rattle.world_text.specs.Fields.{number_in}
 use Rattle.live.specs.Commands.{ports_in}
 use Rattle.live.proofs.Ports.{ports_push, ports_stop, words_more, words_round}
 use Rattle.live.proofs.command.ports_in.Goals as goal

@@ -1,6 +1,6 @@
 use Rattle.std.proofs.Common.{◌≡◌, length}
 use Rattle.wasi_steps.specs.Datagrams.{datagrams_at}
-use Rattle.wasi_world.proofs.UpTo.{before}
+use Rattle.world_text.proofs.UpTo.{before}
 use Rattle.wasi_steps.proofs.datagram.datagrams.Given as goal
 
 abbrev pub invariant-loop-alloc : goal.invariant-loop-alloc

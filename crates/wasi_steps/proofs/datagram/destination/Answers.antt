@@ -1,6 +1,6 @@
 use Rattle.wasi_steps.specs.Datagrams.{destination_words, destination_at}
-use Rattle.wasi_world.specs.Fields.{read_then}
-use Rattle.wasi_world.proofs.Words.{no_word}
+use Rattle.world_text.specs.Fields.{read_then}
+use Rattle.world_text.proofs.Words.{no_word}
 use Rattle.wasi_steps.proofs.datagram.destination.Goals as goal
 
 pub returns-in_default : goal.returns-in_default

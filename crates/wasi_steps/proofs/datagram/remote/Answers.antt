@@ -1,6 +1,6 @@
 use Rattle.std.proofs.Common.{refl, ◌∙◌}
 use Rattle.std.proofs.lemmas.Bool.{false≢true}
-use Rattle.wasi_world.specs.Fields.{read_then, give}
+use Rattle.world_text.specs.Fields.{read_then, give}
 use Rattle.wasi_steps.proofs.DatagramLaws.{remote_at_none, remote_at_some}
 use Rattle.wasi_steps.proofs.datagram.remote.Goals as goal
 

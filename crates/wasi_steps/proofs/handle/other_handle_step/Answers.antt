@@ -1,5 +1,5 @@
 use Rattle.wasi_steps.specs.Steps.{rows_of, other_handle_steps}
-use Rattle.wasi_world.proofs.Words.{no_word}
+use Rattle.world_text.proofs.Words.{no_word}
 use Rattle.wasi_steps.proofs.handle.other_handle_step.Goals as goal
 
 pub returns-in_default : goal.returns-in_default

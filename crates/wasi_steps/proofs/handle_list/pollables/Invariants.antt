@@ -1,6 +1,6 @@
 use Rattle.std.proofs.Common.{◌≡◌, length}
 use Rattle.wasi_steps.specs.HandleLists.{handles_at}
-use Rattle.wasi_world.proofs.UpTo.{before}
+use Rattle.world_text.proofs.UpTo.{before}
 use Rattle.wasi_steps.proofs.handle_list.pollables.Given as goal
 
 abbrev pub invariant-loop-fields : goal.invariant-loop-fields

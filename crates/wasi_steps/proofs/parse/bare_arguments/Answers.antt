@@ -1,5 +1,5 @@
 use Rattle.wasi_steps.specs.Steps.{rows_of, bare_steps}
-use Rattle.wasi_world.proofs.Words.{no_word}
+use Rattle.world_text.proofs.Words.{no_word}
 use Rattle.wasi_steps.proofs.parse.bare_arguments.Goals as goal
 
 pub returns-in_default : goal.returns-in_default

@@ -1,5 +1,5 @@
 use Rattle.std.proofs.Common.{◌++◌, rules}
-use Rattle.wasi_world.specs.Fields.{read_then}
+use Rattle.world_text.specs.Fields.{read_then}
 use Rattle.wasi_steps.specs.Steps.{rows_of, value_steps, handle_steps}
 use Rattle.wasi_steps.proofs.StepWords.{none_reads}
 use Rattle.wasi_steps.proofs.parse.handle_arguments.Goals as goal

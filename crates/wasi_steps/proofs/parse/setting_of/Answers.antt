@@ -1,5 +1,5 @@
 use Rattle.std.proofs.Common.{refl, ◌∙◌}
-use Rattle.wasi_world.specs.Fields.{read_then}
+use Rattle.world_text.specs.Fields.{read_then}
 use Rattle.wasi_steps.specs.Settings.{narrow_words, wide_words}
 use Rattle.wasi_steps.proofs.SettingLaws.{◌and◌}
 use Rattle.wasi_steps.proofs.StepWords.{past_words, none_reads}

@@ -1,6 +1,6 @@
 use Rattle.wasi_steps.specs.Arguments.{shutdown_words, shutdown_at}
-use Rattle.wasi_world.specs.Fields.{read_then}
-use Rattle.wasi_world.proofs.Words.{no_word}
+use Rattle.world_text.specs.Fields.{read_then}
+use Rattle.world_text.proofs.Words.{no_word}
 use Rattle.wasi_steps.proofs.parse.shutdown_type.Goals as goal
 
 pub returns-in_default : goal.returns-in_default

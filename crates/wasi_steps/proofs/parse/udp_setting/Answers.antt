@@ -1,6 +1,6 @@
 use Rattle.wasi_steps.specs.Settings.{udp_setting_words, udp_setting_at}
-use Rattle.wasi_world.specs.Fields.{read_then}
-use Rattle.wasi_world.proofs.Words.{no_word}
+use Rattle.world_text.specs.Fields.{read_then}
+use Rattle.world_text.proofs.Words.{no_word}
 use Rattle.wasi_steps.proofs.parse.udp_setting.Goals as goal
 
 pub returns-in_default : goal.returns-in_default

@@ -1,5 +1,5 @@
 use Rattle.wasi_steps.specs.Settings.{wide_words}
-use Rattle.wasi_world.proofs.Words.{no_word}
+use Rattle.world_text.proofs.Words.{no_word}
 use Rattle.wasi_steps.proofs.parse.wide_setting.Goals as goal
 
 pub returns-in_default : goal.returns-in_default

@@ -1,5 +1,5 @@
 use Rattle.std.proofs.Common.{◌≡◌, ◌++◌, ◌∷◌, map, take, codes, string_bytes}
-use Rattle.wasi_world.specs.Fields.{line_with}
+use Rattle.world_text.specs.Fields.{line_with}
 use Rattle.wasi_steps.specs.Replies.{field_text}
 use Rattle.wasi_steps.proofs.reply.push_ok.Given as goal
 

@@ -1,5 +1,5 @@
 use Rattle.std.proofs.Common.{arith, ◌∙◌, ap, refl}
-use Rattle.wasi_world.specs.Lines.{lines_of}
+use Rattle.world_text.specs.Lines.{lines_of}
 use Rattle.wasi_transcript.specs.Cases.{planned_at, case_at}
 use Rattle.wasi_transcript.proofs.CasesRead.{case_whole, as_shown}
 use Rattle.wasi_transcript.proofs.cases.read_case.Goals as goal

@@ -1,5 +1,5 @@
 use Rattle.std.proofs.Common.{ap}
-use Rattle.wasi_world.specs.Memory.{reading_of}
+use Rattle.world_io.specs.Memory.{reading_of}
 use Rattle.wasi_transcript.proofs.CasesHeld.{transcribed, as_planned}
 use Rattle.wasi_transcript.proofs.check.run_case.Goals as goal
 

@@ -1,5 +1,5 @@
 use Rattle.std.proofs.Common.{◌≡◌, false, ◌+◌, ◌-◌, length}
-use Rattle.wasi_world.specs.Scripted.{seen_by}
+use Rattle.world_scripted.specs.Scripted.{seen_by}
 use Rattle.wasi_transcript.proofs.Showings.{Between}
 use Rattle.wasi_transcript.proofs.show.show_lines.Given as goal
 

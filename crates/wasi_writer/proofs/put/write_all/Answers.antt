@@ -1,7 +1,7 @@
 use Rattle.std.proofs.Common.{◌<◌, ◌≤◌, ◌-◌, ◌+◌, ℕ, List, length, take, drop, sym, ap, Result, Ok, Err, OnErr, subst, arith, length-drop}
 use Rattle.std.proofs.lemmas.List.{take_all, take-append-drop}
 use Rattle.std.proofs.Math.Seq.{take-add}
-use Rattle.wasi_world.specs.Io.{Writing, TookSome}
+use Rattle.world_io.specs.Io.{Writing, TookSome}
 use Rattle.wasi_writer.specs.Worked.{TookAll, TookFault}
 use Rattle.wasi_writer.proofs.Took.{all_none, all_more, all_some, fault_more, fault_failed, fault_refused, piece_is}
 use Rattle.wasi_writer.proofs.put.write_all.Goals as goal

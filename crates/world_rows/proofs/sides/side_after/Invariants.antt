@@ -1,5 +1,5 @@
 use Rattle.std.proofs.Common.{◌≡◌, false}
-use Rattle.wasi_world.specs.Scripted.{seen_by}
+use Rattle.world_scripted.specs.Scripted.{seen_by}
 use Rattle.world_rows.proofs.sides.side_after.Given as goal
 
 abbrev pub invariant-loop-step : goal.invariant-loop-step

@@ -1,5 +1,5 @@
 use Rattle.wasi_run.proofs.Words.{◌+◌, ◌∙◌, ap, sym, take, length, arith, drop-drop}
-use Rattle.wasi_world.proofs.Pieces.{gives_piece}
+use Rattle.world_io.proofs.Pieces.{gives_piece}
 use Rattle.wasi_run.proofs.text_source.TextSourceSource.read.Goals as goal
 
 pub returns : goal.returns

@@ -1,5 +1,0 @@
-use Rattle.std.proofs.Common.{refl, arith}
-use Rattle.wasi_program.proofs.program.pump_in.Goals as goal
-
-pub overflow_cast-result : goal.overflow_cast-result
-overflow_cast-result c = let most = ((c.in_ok-budget.ensures.exact c.in_ok-budget.budget).0 refl).1 in omega (arith, most)

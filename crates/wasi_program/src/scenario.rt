@@ -1,0 +1,63 @@
+//! Reads a scenario from a source, and its grammar.
+
+ghost use Rattle.std.specs.Prelude.{◌≡◌, IfOk};
+ghost use Rattle.wasi_world.specs.Seen.{Rose};
+ghost use Rattle.wasi_program.specs.Scenario.{ReadScenario, IsParsed};
+
+use std::alloc::{AllocError, Global};
+use wasi_world::WasiSocketsCtx;
+use world_io::Source;
+use world_scripted::{ScenarioError, ScriptedWorld};
+
+/// A scenario has at most so many bytes.
+const MOST_SCENARIO: usize = 1_048_576;
+
+/// How many bytes are read at a time.
+const PIECE_SIZE: usize = 4096;
+
+/// Why a scenario wasn't read.
+#[derive(Clone, Copy, Debug, PartialEq, Eq)]
+pub enum Unread {
+    Fault,
+    Memory(AllocError),
+}
+
+/// Reads a scenario to its end, or to one byte past the 1,048,576 that it may have. Takes memory for its bytes.
+pub fn read_scenario<C: Source>(alloc: Global, scenario: &mut C) -> Result<Vec<u8>, Unread>
+    ensures read { IfOk result (λ text. ReadScenario (C.reading scenario.old) (C.reading scenario.new) text.items) }
+    ensures fault { result ≡ Err Unread.Fault → Rose (C.reading scenario.old).faults (C.reading scenario.new).faults }
+{
+    let mut text = Vec::new(alloc);
+    let mut piece = [0u8; PIECE_SIZE];
+    'reading: while text.len() <= MOST_SCENARIO {
+        let room = (MOST_SCENARIO + 1 - text.len()).min(PIECE_SIZE);
+        let Ok(count) = scenario.read(&mut piece[..room]) else {
+            return Err(Unread::Fault);
+        };
+        if count == 0 {
+            return Ok(text);
+        }
+        let Ok(()) = text.extend_from_slice(&piece[..count]) else {
+            return Err(Unread::Memory(AllocError));
+        };
+    }
+    Ok(text)
+}
+
+/// What a scenario plans and its contexts, or the first line that isn't in its grammar.
+#[derive(Drop)]
+pub enum Scenario {
+    Planned(ScriptedWorld, Vec<WasiSocketsCtx>),
+    BadLine(u32),
+}
+
+/// Reads the grammar of scenarios. Takes memory for what is planned.
+pub fn parse_scenario(alloc: Global, text: &[u8]) -> Result<Scenario, AllocError>
+    ensures { IfOk result (λ scenario. IsParsed text.now scenario) }
+{
+    match ScriptedWorld::parse(alloc, text) {
+        Ok((world, contexts)) => Ok(Scenario::Planned(world, contexts)),
+        Err(ScenarioError::BadScenario(line)) => Ok(Scenario::BadLine(line)),
+        Err(ScenarioError::Memory(e)) => Err(e),
+    }
+}

@@ -1,5 +1,0 @@
-use Rattle.wasi_world.proofs.ContextLines.{no_context}
-use Rattle.wasi_world.proofs.scenario.context.Goals as goal
-
-pub returns-in_default-clause-context : goal.returns-in_default-clause-context
-returns-in_default-clause-context c = no_context c.args.number c.args.line.now c.of-fields.result c.word.new.self c.in_ok-word.field-0.now c.of-fields.ensures c.in_ok-word.ensures.read (assumption c)

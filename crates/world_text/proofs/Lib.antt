@@ -1,0 +1,12 @@
+pub mod FieldsOf
+pub mod Numbers
+pub mod Reading
+pub mod Exactly
+pub mod BytesBack
+pub mod BytesText
+pub mod ReadBack
+pub mod Visible
+pub mod Words
+pub mod UpTo
+pub mod LinesOf
+pub mod EntryTexts
