@@ -40,6 +40,7 @@ impl Options {
         }
     }
 
+    /// The value of an option, in the unit of [`Opt`]: 64 where it wasn't set.
     pub fn value(&self, option: Opt) -> u64
         ensures { result ≡ value_of self.now option }
     {
@@ -176,6 +177,7 @@ impl Side {
 /// What is known of each network socket that was made or changed.
 pub type Sides = BTreeMap<OpId, Side>;
 
+/// What is known of a network socket; one that wasn't made is IPv4, unbound and not connected.
 pub fn known(sides: &Sides, sock: Sock) -> Side
     ensures { result ≡ known sides.now sock }
 {
