@@ -21,23 +21,24 @@ pub fn clamp_keep_alive_count(value: u32) -> u32
     value.clamp(1, 127)
 }
 
-/// A length of the queue of arrivals, brought into 1 to 2,147,483,647, the positive numbers of a C `int`.
-/// The crate `wasmtime-wasi` has no such call.
+/// A backlog (the length of the queue of arrivals), brought into 1 to 2,147,483,647, the positive
+/// numbers of a C `int`. The crate `wasmtime-wasi` has no such call.
 pub fn clamp_backlog(value: u64) -> u32
     ensures { result ≡ clamped_backlog value }
 {
     value.clamp(1, LARGEST_INT) as u32
 }
 
-/// The buffer size that is set for one that is asked for, in bytes: brought into 1 to 2,147,483,647.
+/// The buffer size to set, in bytes, for a size that the guest asks for: brought into 1 to
+/// 2,147,483,647.
 pub fn normalize_set_buffer_size(value: u64) -> u64
     ensures { result ≡ clamped_buffer_size value }
 {
     value.clamp(1, LARGEST_INT)
 }
 
-/// The buffer size that is reported for one that the system reported, in bytes: Linux doubles what is set, so it is
-/// halved.
+/// The buffer size to report to the guest, in bytes, for a size that the system reports: half of
+/// it, since Linux doubles what is set.
 pub fn normalize_get_buffer_size(value: u64) -> u64
     ensures { result ≡ halved_buffer_size value }
 {

@@ -44,7 +44,7 @@ pub fn from_ipv6_addr(addr: Ipv6Addr) -> (u16, u16, u16, u16, u16, u16, u16, u16
 }
 
 impl IpAddress {
-    /// The same address of std.
+    /// This address as std's `IpAddr`.
     pub fn to_std(self) -> IpAddr
         ensures { result ≡ ip_to_std self }
     {
@@ -54,7 +54,7 @@ impl IpAddress {
         }
     }
 
-    /// The same address as std's.
+    /// std's `IpAddr` as an address of the interface.
     pub fn from_std(addr: IpAddr) -> IpAddress
         ensures value { result ≡ ip_from_std addr }
         ensures given_back { ip_to_std result ≡ addr }
@@ -67,14 +67,14 @@ impl IpAddress {
 }
 
 impl Ipv4SocketAddress {
-    /// The same address of std.
+    /// This address and its port as std's `SocketAddrV4`.
     pub fn to_std(self) -> SocketAddrV4
         ensures { result ≡ ipv4_socket_to_std self }
     {
         SocketAddrV4::new(to_ipv4_addr(self.address), self.port)
     }
 
-    /// The same address as std's.
+    /// std's `SocketAddrV4` as an address of the interface, port included.
     pub fn from_std(addr: SocketAddrV4) -> Ipv4SocketAddress
         ensures value { result ≡ ipv4_socket_from_std addr }
         ensures given_back { ipv4_socket_to_std result ≡ addr }
@@ -85,7 +85,7 @@ impl Ipv4SocketAddress {
         }
     }
 
-    /// The address of `to_std`, among those of both families.
+    /// This address and its port as std's `SocketAddr::V4`.
     pub fn to_socket_addr(self) -> SocketAddr
         ensures { result ≡ SocketAddr.V4 (ipv4_socket_to_std self) }
     {
@@ -94,7 +94,7 @@ impl Ipv4SocketAddress {
 }
 
 impl Ipv6SocketAddress {
-    /// The same address of std, with its flow info and scope.
+    /// This address as std's `SocketAddrV6`, with its port, flow info and scope.
     pub fn to_std(self) -> SocketAddrV6
         ensures { result ≡ ipv6_socket_to_std self }
     {
@@ -106,7 +106,7 @@ impl Ipv6SocketAddress {
         )
     }
 
-    /// The same address as std's, with its flow info and scope.
+    /// std's `SocketAddrV6` as an address of the interface, with its port, flow info and scope.
     pub fn from_std(addr: SocketAddrV6) -> Ipv6SocketAddress
         ensures value { result ≡ ipv6_socket_from_std addr }
         ensures given_back { ipv6_socket_to_std result ≡ addr }
@@ -119,7 +119,7 @@ impl Ipv6SocketAddress {
         }
     }
 
-    /// The address of `to_std`, among those of both families.
+    /// This address as std's `SocketAddr::V6`, with its port, flow info and scope.
     pub fn to_socket_addr(self) -> SocketAddr
         ensures { result ≡ SocketAddr.V6 (ipv6_socket_to_std self) }
     {
@@ -128,7 +128,7 @@ impl Ipv6SocketAddress {
 }
 
 impl IpSocketAddress {
-    /// The same address of std, with its flow info and scope.
+    /// This address as std's `SocketAddr`; an IPv6 address keeps its flow info and scope.
     pub fn to_std(self) -> SocketAddr
         ensures { result ≡ socket_to_std self }
     {
@@ -138,7 +138,8 @@ impl IpSocketAddress {
         }
     }
 
-    /// The same address as std's, with its flow info and scope.
+    /// std's `SocketAddr` as an address of the interface; an IPv6 address keeps its flow info and
+    /// scope.
     pub fn from_std(addr: SocketAddr) -> IpSocketAddress
         ensures value { result ≡ socket_from_std addr }
         ensures given_back { socket_to_std result ≡ addr }
@@ -149,7 +150,7 @@ impl IpSocketAddress {
         }
     }
 
-    /// The address of `to_std`.
+    /// This address as std's `SocketAddr`, under the name that the two families' types use too.
     pub fn to_socket_addr(self) -> SocketAddr
         ensures { result ≡ socket_to_std self }
     {

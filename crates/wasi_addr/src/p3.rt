@@ -6,7 +6,7 @@ ghost use Rattle.wasi_addr.specs.Code.{p3_of_code, codes_of_kind};
 use crate::code;
 use crate::kind::NetKind;
 
-/// `error-code` of `wasi:sockets/types@0.3`. `Other` has no text here.
+/// `error-code` of `wasi:sockets/types@0.3`. The text that 0.3 gives its `other` isn't kept here.
 #[derive(Clone, Copy, Debug, PartialEq, Eq)]
 pub enum ErrorCode {
     AccessDenied,
@@ -27,7 +27,7 @@ pub enum ErrorCode {
 }
 
 impl ErrorCode {
-    /// The 0.3 code of the same name.
+    /// The 0.3 code of a base code: each base code has a 0.3 code with its name.
     pub fn from_code(code: code::ErrorCode) -> ErrorCode
         ensures { result ≡ p3_of_code code }
     {

@@ -54,7 +54,8 @@ fn bytes_of(segment: u16) -> (u8, u8)
     ((segment / 256) as u8, (segment % 256) as u8)
 }
 
-/// IPv6 with its first six segments 0, and neither `::` nor `::1`.
+/// Whether this is a deprecated IPv4-compatible address: IPv6 with its first six segments 0, and
+/// neither `::` nor `::1`.
 pub fn is_deprecated_ipv4_compatible(addr: IpAddress) -> bool
     ensures { result ≡ is_deprecated addr }
 {
@@ -78,14 +79,15 @@ pub fn is_valid_address_family(addr: IpAddress, socket_family: SocketAddressFami
     }
 }
 
-/// Whether one may connect or send to it: its canonical address isn't all zeros and its port isn't 0.
+/// Whether one may connect or send to this address: its IP address, in canonical form, isn't all
+/// zeros, and its port isn't 0.
 pub fn is_valid_remote_address(addr: IpSocketAddress) -> bool
     ensures { result ≡ is_remote addr }
 {
     !is_unspecified(addr.ip().to_canonical()) && addr.port() != 0
 }
 
-/// Whether its canonical address is neither multicast nor the IPv4 broadcast.
+/// Whether this address, in canonical form, is neither multicast nor the IPv4 broadcast address.
 pub fn is_valid_unicast_address(addr: IpAddress) -> bool
     ensures { result ≡ is_unicast addr }
 {
@@ -97,7 +99,7 @@ pub fn is_valid_unicast_address(addr: IpAddress) -> bool
     }
 }
 
-/// The wildcard of a family: all zeros, port, flow and scope too.
+/// The wildcard of a family: all zeros, port, flow info and scope too.
 pub fn unspecified_addr(family: SocketAddressFamily) -> IpSocketAddress
     ensures { result ≡ wildcard family }
 {
@@ -115,7 +117,8 @@ pub fn unspecified_addr(family: SocketAddressFamily) -> IpSocketAddress
     }
 }
 
-/// Whether it is the wildcard of this family, and not that of the other one.
+/// Whether this address is exactly the wildcard of this family: all zeros, port, flow info and
+/// scope too.
 pub fn is_unspecified_addr(addr: IpSocketAddress, family: SocketAddressFamily) -> bool
     ensures { result ≡ is_wildcard family addr }
 {
@@ -133,8 +136,10 @@ pub fn is_unspecified_addr(addr: IpSocketAddress, family: SocketAddressFamily) -
     }
 }
 
-/// The test for a wildcard is true of that family's wildcard alone, and two addresses are taken for the same exactly
-/// where they are equal.
+/// The tests for a wildcard and for equal addresses are exact.
+///
+/// - `wildcard`: `is_wildcard` is true of the wildcard of its family and of no other address.
+/// - `same`: two addresses pass `same_address` exactly where they are equal.
 ///
 /// It runs no code: its contract is a law about the definitions that contracts cite.
 pub fn address_tests_are_exact()

@@ -2,8 +2,8 @@
 
 use wasi_world::{OpId, Sock};
 
-/// Who asks: an operation's name, the network socket that it works on, and the network socket's creator, which its
-/// checks name.
+/// Who asks: the name of an operation, the network socket that it works on, and the number of the
+/// context that created that socket, which its checks name.
 #[derive(Clone, Copy, Debug, PartialEq, Eq)]
 pub struct Asker {
     pub op: OpId,

@@ -5,8 +5,8 @@ ghost use Rattle.wasi_common.specs.Bound.{tells_bound};
 
 use wasi_addr::{ErrorCode, IpSocketAddress, SocketAddressFamily, is_unspecified_addr};
 
-/// Whether what the network answers of a socket's local address says that it is bound: any address but the wildcard
-/// does, and a code doesn't.
+/// Whether the network's answer about a socket's local address says that the socket is bound: it
+/// does if it is an address other than the wildcard, and not if it is a code.
 pub fn tells_bound(told: Result<IpSocketAddress, ErrorCode>, family: SocketAddressFamily) -> bool
     ensures { result ≡ tells_bound family told }
 {

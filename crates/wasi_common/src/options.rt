@@ -23,7 +23,7 @@ pub fn largest_value(option: Opt) -> u64
     }
 }
 
-/// The value that is answered for one that is reported, where it isn't too large.
+/// The value that is answered for one that the network reports, where it isn't too large.
 fn value_told(option: Opt, told: u64) -> u64
     ensures { result ≡ value_told option told }
 {
@@ -35,7 +35,7 @@ fn value_told(option: Opt, told: u64) -> u64
     }
 }
 
-/// A value that is too large for its option is `NotSupported`.
+/// The value, or `NotSupported` where it is too large for its option.
 fn within(option: Opt, value: u64) -> Result<u64, ErrorCode>
     ensures answer { result ≡ option_within option value }
     ensures within { IfOk result (λ answer. answer ≤ largest_value option) }
@@ -47,7 +47,7 @@ fn within(option: Opt, value: u64) -> Result<u64, ErrorCode>
     }
 }
 
-/// What is answered for what was reported.
+/// What is answered for what the network reports.
 fn answer(option: Opt, told: Result<u64, ErrorCode>) -> Result<u64, Refusal>
     ensures answer { outcome result ≡ Ok (option_answer option told) }
     ensures within { IfOk result (λ answer. answer ≤ largest_value option) }
@@ -61,9 +61,12 @@ fn answer(option: Opt, told: Result<u64, ErrorCode>) -> Result<u64, Refusal>
     }
 }
 
-/// The value of an option of a network socket: yes is 1 and no is 0, a time is in nanoseconds, a size in bytes. A code that is
-/// reported is returned. A reported size is halved, any reported number but 0 is yes, and a reported value above the option's
-/// `largest_value` is `NotSupported`. After running out of memory nothing was asked.
+/// Reads an option of a socket: yes is 1 and no is 0, a time is in nanoseconds, a size in bytes.
+///
+/// - A code that the network reports is returned.
+/// - A reported size is halved, and any reported number but 0 is yes.
+/// - A reported value above the option's [`largest_value`] is `NotSupported`.
+/// - Out of memory nothing was asked.
 pub fn get_of_side<W: World>(
     world: &mut W,
     op: OpId,
@@ -80,9 +83,12 @@ pub fn get_of_side<W: World>(
     answer(option, told)
 }
 
-/// Sets an option of a network socket. 0 for the hop limit or a size: `InvalidArgument`, and nothing is asked. Times, sizes and
-/// numbers of probes are brought into their ranges first. A code that is reported is returned. After running out of memory
-/// nothing was asked.
+/// Sets an option of a socket.
+///
+/// - 0 for the hop limit or a size is `InvalidArgument`, and nothing is asked.
+/// - Times, sizes and numbers of probes are brought into their ranges first.
+/// - A code that the network reports is returned.
+/// - Out of memory nothing was asked.
 pub fn set_of_side<W: World>(
     world: &mut W,
     op: OpId,

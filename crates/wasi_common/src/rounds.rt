@@ -6,7 +6,7 @@ ghost use Rattle.wasi_common.specs.Rounds.{PollsRounds, is_going};
 
 use wasi_world::{Answer, Refusal, World};
 
-/// How many rounds one poll has at most: so many arrivals or datagrams it refuses.
+/// How many rounds one poll has at most, and so how many arrivals or datagrams it refuses.
 const MOST_ROUNDS: usize = 64;
 
 /// An operation that is polled in rounds: an accept, or a receive. A round ends the poll, or is refused.
@@ -24,7 +24,7 @@ pub trait InRounds {
     /// What it gives, as the rule for operations has it.
     ghost gives: { Self.Out → Given };
 
-    /// One round: none where it was refused.
+    /// One round. `None`: what it came to was refused, and another round follows.
     fn round<W: World>(&mut self, world: &mut W) -> Result<Option<Answer<Self::Out>>, Refusal>
         requires open { (W.seen world.old).ended ≡ false }
         requires going { is_going (operation self.old) ≡ true }
@@ -32,8 +32,8 @@ pub trait InRounds {
         ensures open { (W.seen world.new).ended ≡ false };
 }
 
-/// Polls an operation in progress: rounds follow each other until one ends the poll. After the 64th that was refused it is
-/// pending. After running out of memory it may be polled again.
+/// Polls an operation in progress: one round after another, until one ends the poll. After the 64th
+/// that was refused it is pending. Out of memory the operation may be polled again.
 pub fn poll_rounds<O: InRounds, W: World>(
     world: &mut W,
     operation: &mut O,

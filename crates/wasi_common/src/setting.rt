@@ -6,15 +6,22 @@ ghost use Rattle.wasi_common.specs.Options.{zero_test, refused_before, refused_a
 use wasi_addr::{clamp_keep_alive_count, clamp_keep_alive_time, normalize_set_buffer_size};
 use wasi_world::Opt;
 
-/// An option and the value that it is set to, in the option's own type: a time in nanoseconds, a number, a size in bytes.
+/// An option with the value to set, in the type that the interface gives it.
 #[derive(Clone, Copy, Debug, PartialEq, Eq)]
 pub enum Setting {
+    /// Whether keep-alive probes are sent.
     KeepAliveEnabled(bool),
+    /// How long a connection is idle before the first probe, in nanoseconds.
     KeepAliveIdleTime(u64),
+    /// The time between probes, in nanoseconds.
     KeepAliveInterval(u64),
+    /// How many probes are sent.
     KeepAliveCount(u32),
+    /// How many hops a packet may take.
     HopLimit(u8),
+    /// The size of the receive buffer, in bytes.
     ReceiveBufferSize(u64),
+    /// The size of the send buffer, in bytes.
     SendBufferSize(u64),
 }
 
@@ -34,7 +41,8 @@ impl Setting {
         }
     }
 
-    /// Whether it is refused whatever the socket's state: 0 for a time or a number of probes.
+    /// Whether the value is refused before the socket's state is looked at: 0 for a time or a
+    /// number of probes.
     pub fn refused_before_state(self) -> bool
         ensures { result ≡ refused_before (zero_test (option_of self)) (number_of self) }
     {
@@ -48,7 +56,8 @@ impl Setting {
         }
     }
 
-    /// Whether it is refused where the socket's state allows a set: 0 for the hop limit or a size.
+    /// Whether the value is refused once the socket's state allows a set: 0 for the hop limit or a
+    /// size.
     pub(crate) fn refused_after_state(self) -> bool
         ensures { result ≡ refused_after (zero_test (option_of self)) (number_of self) }
     {
@@ -62,7 +71,8 @@ impl Setting {
         }
     }
 
-    /// The number that the network is told: a time, a size and a number of probes are brought into their ranges, and yes is 1.
+    /// The number that the network is given: times, sizes and numbers of probes are brought into
+    /// their ranges, and yes is 1.
     pub(crate) fn value_set(self) -> u64
         ensures { result ≡ value_set (option_of self) (number_of self) }
     {

@@ -3,21 +3,21 @@
 ghost use Rattle.std.specs.Prelude.{◌≡◌};
 ghost use Rattle.wasi_jobs.specs.Jobs.{job_place};
 
-/// Background work of the host, which continues by itself until it is over.
+/// Background work of the host. It goes on without a call of the guest, until it is over.
 #[derive(Clone, Copy, Debug, PartialEq, Eq)]
 pub enum HostJob {
-    /// The write in progress of the socket of this number.
+    /// The write in progress of the TCP socket in this record.
     Write { socket: usize },
-    /// The datagram in the background of the UDP socket of this number.
+    /// The send in progress, in the background, of the UDP socket in this record.
     Datagram { socket: usize },
-    /// The receive in progress of the UDP socket of this number.
+    /// The receive in progress of the UDP socket in this record.
     Receive { socket: usize },
-    /// The lookup of this number, which the network hasn't answered yet.
+    /// The lookup in this record, which the network hasn't answered yet.
     Lookup { lookup: usize },
 }
 
 impl HostJob {
-    /// The number of the record that it is for, a socket or a lookup.
+    /// The number of the record that the job works on, a socket's or a lookup's.
     pub fn place(self) -> usize
         ensures { result ≡ job_place self }
     {
@@ -36,6 +36,7 @@ pub struct Listed {
     /// Its number: a later job has a higher one.
     pub number: u64,
     pub job: HostJob,
-    /// The slot that its record stood in when it was added. It is a hint: no clause speaks of it, and who uses it tests it.
+    /// A hint: the slot that its record stood in when the job was added. No clause speaks of it,
+    /// and its users test it.
     pub slot: usize,
 }

@@ -99,8 +99,8 @@ impl JobList {
         }
     }
 
-    /// Adds a job as the last, with the slot in which its record stands. Out of memory, as also where no number is left, the jobs
-    /// stay as they are.
+    /// Adds a job as the last, with the slot in which its record stands. Takes memory for it. Out
+    /// of memory, or with no number left, the list stays as it was.
     pub fn push(&mut self, job: HostJob, slot: usize) -> Result<(), AllocError>
         ensures ok { OnOk result (self.new.items ≡ self.old.items ++ job ∷ []) }
         ensures err { OnErr result (self.new ≡ self.old) }
@@ -126,8 +126,10 @@ impl JobList {
         self.ahead.clear();
     }
 
-    /// The first job with this number or a higher one. A walk, which asks for the number after the one that it was handed, searches
-    /// once for 16 jobs. Takes no memory.
+    /// The first job with this number or a higher one. Takes no memory.
+    ///
+    /// A walk, which asks each time for the number after the one that it was handed, searches the
+    /// map once for 16 jobs.
     pub fn first_from(&mut self, number: u64) -> Option<Listed>
         ensures whole { self.old.items ≡ below number self.old ++ from_on number self.old }
         ensures none { result ≡ None → from_on number self.old ≡ [] }
@@ -156,28 +158,28 @@ impl JobList {
         self.ahead.clear_if_among(number);
     }
 
-    /// Takes the jobs of a record out. Takes no memory.
+    /// Takes all jobs of a record out. Takes no memory.
     pub fn forget(&mut self, place: usize)
         ensures { self.new.items ≡ other_jobs place self.old.items }
     {
         self.forget_those(place, Which::All);
     }
 
-    /// Takes the receives of a record out. Takes no memory.
+    /// Takes the receives of a record out of the list. Takes no memory.
     pub fn forget_receives(&mut self, place: usize)
         ensures { self.new.items ≡ other_than_receive place self.old.items }
     {
         self.forget_those(place, Which::Receives);
     }
 
-    /// Takes the datagrams of a record out. Takes no memory.
+    /// Takes the sends in the background of a record out of the list. Takes no memory.
     pub fn forget_datagrams(&mut self, place: usize)
         ensures { self.new.items ≡ other_than_datagram place self.old.items }
     {
         self.forget_those(place, Which::Datagrams);
     }
 
-    /// Takes those of a record's jobs out. It looks at no other record's.
+    /// Takes the jobs of a record out that are of this kind. It looks at no other record's.
     fn forget_those(&mut self, place: usize, which: Which)
         ensures { self.new.items ≡ left_of which place self.old.items }
     {

@@ -41,10 +41,10 @@ impl InputPipeCore {
         self.bytes.is_empty()
     }
 
-    /// Takes out the first `size` bytes, or all where fewer are left. No byte is copied. `Closed` exactly where none is
-    /// left.
+    /// Takes the first `size` bytes out, or all where fewer are left, without copying a byte.
+    /// `Closed` exactly where none is left.
     ///
-    /// Takes memory to hand out a part of what is left; want of it leaves all in the pipe.
+    /// Takes memory to hand out a part of what is left; out of memory all stays in the pipe.
     pub fn read(&mut self, size: usize) -> Result<Bytes, StreamError>
         ensures { HasRead self.old size result self.new }
     {
@@ -55,9 +55,10 @@ impl InputPipeCore {
         Ok(self.bytes.split_to(count)?)
     }
 
-    /// The same as bytes of their own: what is handed out is copied, and what is left is cut off its front.
+    /// Takes the first `size` bytes out, or all where fewer are left, as a copy. `Closed` exactly
+    /// where none is left.
     ///
-    /// Takes memory for what is handed out; want of it leaves all in the pipe.
+    /// Takes memory for the copy; out of memory all stays in the pipe.
     pub fn read_octets(&mut self, alloc: Global, size: usize) -> Result<Octets, StreamError>
         ensures given { IfOk (stream_outcome result) (λ answer. (answer, self.new) ≡ pipe_read size self.old) }
         ensures memory { OnErr (stream_outcome result) (self.new ≡ self.old) }
@@ -71,7 +72,8 @@ impl InputPipeCore {
         Ok(given)
     }
 
-    /// Moves as many bytes as fit to the front of `buf`, and returns how many. Takes no memory.
+    /// Moves as many of the first bytes as fit into the front of `buf`, and returns how many. Takes
+    /// no memory.
     pub fn take_into(&mut self, buf: &mut [u8]) -> usize
         ensures count { result ≡ min (length buf.old) (length self.old) }
         ensures given { buf.new ≡ take result self.old ++ drop result buf.old }

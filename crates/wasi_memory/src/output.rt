@@ -29,7 +29,7 @@ impl Model for OutputPipeCore {
 }
 
 impl OutputPipeCore {
-    /// An empty pipe that holds at most so many bytes. Takes no memory yet.
+    /// An empty pipe that holds at most this many bytes. Takes no memory yet.
     pub fn new(alloc: Global, capacity: usize) -> OutputPipeCore
         ensures held { result.held ≡ [] }
         ensures capacity { result.capacity ≡ capacity }
@@ -40,7 +40,8 @@ impl OutputPipeCore {
         }
     }
 
-    /// The same, with memory for its whole capacity.
+    /// An empty pipe that holds at most this many bytes. Takes memory for all of them at once, so
+    /// that no write takes any.
     pub fn with_room(alloc: Global, capacity: usize) -> Result<OutputPipeCore, AllocError>
         ensures held { IfOk result (λ pipe. pipe.held ≡ []) }
         ensures capacity { IfOk result (λ pipe. pipe.capacity ≡ capacity) }
@@ -52,7 +53,7 @@ impl OutputPipeCore {
         })
     }
 
-    /// What was written.
+    /// The bytes that were written.
     pub fn contents(&self) -> &[u8]
         ensures { result.now ≡ self.now.held }
     {
@@ -66,9 +67,10 @@ impl OutputPipeCore {
         self.capacity - self.bytes.len()
     }
 
-    /// Writes the bytes. More than are [`free`](OutputPipeCore::free) are `Trap(Capacity)`, which changes nothing.
+    /// Writes the bytes. More than are [`free`](OutputPipeCore::free) are `Trap(Capacity)`, and
+    /// nothing changes.
     ///
-    /// Takes memory only where the pipe hasn't enough; want of it leaves what is held as it was.
+    /// Takes memory where the pipe hasn't enough; out of memory what it holds stays as it was.
     pub fn write(&mut self, bytes: &[u8]) -> Result<(), StreamError>
         ensures { HasWritten self.old bytes.now result self.new }
     {
@@ -95,7 +97,7 @@ impl OutputPipeCore {
         Ok(())
     }
 
-    /// Gives back what was written and its memory, and holds nothing from now on. Takes no memory.
+    /// Drops what was written and its memory; the pipe holds nothing from now on. Takes no memory.
     pub fn discard(&mut self)
         ensures held { self.new.held ≡ [] }
         ensures capacity { self.new.capacity ≡ 0 }
@@ -105,7 +107,7 @@ impl OutputPipeCore {
         self.capacity = 0;
     }
 
-    /// What was written, with the memory for it. Takes no memory.
+    /// The bytes that were written, with their memory. Takes no memory.
     pub fn into_bytes(self) -> BytesMut
         ensures { result.items ≡ self.held }
     {

@@ -10,8 +10,8 @@ use std::marker::Model;
 use wasi_streams::{OutputStream, Pollable, StreamError};
 use wasi_world::{Octets, OpId, World};
 
-/// An [`OutputPipeCore`] of which contracts see what was written and the capacity, and not how much memory it has: so what its
-/// calls answer is fixed by what was written before.
+/// An [`OutputPipeCore`] of which contracts see what was written and the capacity, but not how much
+/// memory it has: so what was written before fixes what its calls answer.
 #[derive(Drop)]
 pub struct OutputPipe {
     core: OutputPipeCore,
@@ -26,7 +26,7 @@ impl Model for OutputPipe {
 }
 
 impl OutputPipe {
-    /// An empty pipe that holds at most so many bytes. Takes no memory yet.
+    /// An empty pipe that holds at most this many bytes. Takes no memory yet.
     pub fn new(alloc: Global, capacity: usize) -> OutputPipe
         ensures { result ≡ no_contents capacity }
     {
@@ -35,15 +35,15 @@ impl OutputPipe {
         }
     }
 
-    /// What was written.
+    /// The bytes that were written.
     pub fn contents(&self) -> &[u8]
         ensures { result.now ≡ self.now.held }
     {
         self.core.contents()
     }
 
-    /// Writes the bytes. More than it may still hold are `Trap(Capacity)`, which changes nothing. Takes memory for them; want of it
-    /// changes nothing either.
+    /// Writes the bytes. More than it can still hold are `Trap(Capacity)`, and nothing changes.
+    /// Takes memory for them; out of memory nothing changes.
     pub fn write(&mut self, bytes: &[u8]) -> Result<(), StreamError>
         ensures given { IfOk (stream_outcome result) (λ answer. (answer, self.new) ≡ pipe_write self.old bytes.now) }
         ensures memory { OnErr (stream_outcome result) (self.new ≡ self.old) }
@@ -51,14 +51,14 @@ impl OutputPipe {
         self.core.write(bytes)
     }
 
-    /// Gives back what was written and its memory, and holds nothing from now on. Takes no memory.
+    /// Drops what was written and its memory; the pipe holds nothing from now on. Takes no memory.
     pub fn discard(&mut self)
         ensures { self.new ≡ no_contents 0 }
     {
         self.core.discard();
     }
 
-    /// How many bytes may be written: as many as it may still hold. `Closed` where it is full.
+    /// How many bytes may be written: as many as it can still hold. `Closed` where it is full.
     pub fn check_write(&self) -> Result<usize, StreamError>
         ensures { stream_outcome result ≡ Ok (pipe_check self.now) }
     {

@@ -17,7 +17,9 @@ use wasi_world::{NameText, WasiSocketsCtx};
 /// percent escapes decoded, and what isn't ASCII in the form of IDNA. A label `xn--` of the name itself isn't checked.
 #[derive(Drop)]
 pub enum HostName {
+    /// The name is an address, in text.
     Address(IpAddress),
+    /// The name is a domain, in the text that is to be looked up.
     Domain(NameText),
 }
 
@@ -32,7 +34,7 @@ fn name_of(host: Host<String>) -> HostName
     }
 }
 
-/// The address that a name is as IPv6 text with no brackets around it.
+/// The address that the name is as IPv6 text without brackets.
 fn bare_name(alloc: Global, name: &str) -> Result<Option<HostName>, AllocError>
     ensures { IfOk result (λ host. host ≡ option_map named (bare_ipv6 name.now)) }
 {
@@ -47,7 +49,7 @@ fn bare_name(alloc: Global, name: &str) -> Result<Option<HostName>, AllocError>
     }
 }
 
-/// What a name is that isn't bare IPv6 text.
+/// What a name is that isn't IPv6 text without brackets.
 fn written_name(alloc: Global, name: &str) -> Result<Option<HostName>, AllocError>
     ensures { IfOk result (λ host. host ≡ option_map named (read_as_written name.now)) }
 {
@@ -63,18 +65,24 @@ fn written_name(alloc: Global, name: &str) -> Result<Option<HostName>, AllocErro
     }
 }
 
-/// What the host name that a guest gives is; None where it is refused, which is `invalid-argument` (the parse of
-/// `resolve-addresses` of `wasi:sockets/ip-name-lookup`).
+/// Reads the host name that a guest gives (the parse of `resolve-addresses` of
+/// `wasi:sockets/ip-name-lookup`). `None` is a name that is refused, which the interface calls
+/// `invalid-argument`.
 ///
-/// The name is UTF-8 text of any length. One of hex digits, `:` and `.` alone is tried as IPv6 text first, since `::1`
-/// needs no brackets. Else a name is refused that is empty, that holds a tab, a line feed, a carriage return or one of
-/// `/\?#@`, that holds a `:` without beginning with `[` and ending with `]`, or where the library `url` refuses
-/// `http://NAME/`. So IPv4 is read in each spelling that a URL may have (`0x7f.1`), and a name with a zone is refused.
+/// The name is UTF-8 text of any length:
+///
+/// - One of hex digits, `:` and `.` alone is tried as IPv6 text first, since `::1` needs no
+///   brackets.
+/// - One is refused that is empty, that holds a tab, a line feed, a carriage return or one of
+///   `/\?#@`, or that holds a `:` without beginning with `[` and ending with `]`.
+/// - Any other is what the library `url` reads in `http://NAME/`, and is refused where `url`
+///   refuses that. So IPv4 is read in each spelling that a URL may have (`0x7f.1`), and a name with
+///   a zone is refused.
 ///
 /// # Errors
 ///
-/// `AllocError` where memory ran out, or where the text is too long for `url` (4 GB). Memory is taken in proportion to the
-/// name, and all is given back but a domain's text.
+/// `AllocError` where memory ran out, or where the text is too long for `url` (4 GB). Memory is
+/// taken in proportion to the name, and all is given back but a domain's text.
 pub fn read_name(alloc: Global, name: &str) -> Result<Option<HostName>, AllocError>
     ensures { IfOk result (λ host. host ≡ host_named name.now) }
 {
@@ -84,11 +92,11 @@ pub fn read_name(alloc: Global, name: &str) -> Result<Option<HostName>, AllocErr
     }
 }
 
-/// The same of a name's bytes; a name that isn't UTF-8 is refused.
+/// Reads the bytes of a host name by [`read_name`]; `None`, too, where they aren't UTF-8.
 ///
 /// # Errors
 ///
-/// As [`read_name`].
+/// `AllocError` where memory ran out, or where the text is too long for `url` (4 GB).
 pub fn read_name_bytes(alloc: Global, name: &[u8]) -> Result<Option<HostName>, AllocError>
     ensures { IfOk result (λ host. host ≡ name_is name.now) }
 {
@@ -98,12 +106,12 @@ pub fn read_name_bytes(alloc: Global, name: &[u8]) -> Result<Option<HostName>, A
     }
 }
 
-/// The host that a context may look up by this name. It may look nothing up: `PermanentResolverFailure`. The name is refused:
-/// `InvalidArgument`.
+/// The host that a context may look up by this name (the checks of `resolve-addresses`). A context
+/// without name lookup gets `PermanentResolverFailure`, a name that is refused `InvalidArgument`.
 ///
 /// # Errors
 ///
-/// `AllocError` as [`read_name`]; the codes inside.
+/// `AllocError` where [`read_name_bytes`] runs out of memory; the codes are in the inner `Result`.
 pub fn host_for(
     alloc: Global,
     ctx: &WasiSocketsCtx,

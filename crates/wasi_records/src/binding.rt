@@ -19,15 +19,18 @@ use wasi_addr::{ErrorCode, IpSocketAddress};
 use wasi_tcp::BindOp;
 use wasi_world::{Answer, OpId, Refusal, World};
 
-/// An operation that one call starts and another finishes.
+/// An operation that one call starts and another one finishes.
 #[derive(Clone, Copy, Debug, PartialEq, Eq)]
 pub enum AsyncOperation {
+    /// `start-bind` and `finish-bind`.
     Bind,
+    /// `start-connect` and `finish-connect`.
     Connect,
+    /// `start-listen` and `finish-listen`.
     Listen,
 }
 
-/// A bind that was begun: it isn't over, so a poll of it asks.
+/// A bind in progress. It has a call left to make, so a poll of it asks the network.
 #[derive(Drop)]
 pub struct PendingBind {
     bind: BindOp,
@@ -61,14 +64,14 @@ impl PendingBind {
     }
 }
 
-/// What a socket is in the middle of.
+/// The operation that a TCP socket has in progress.
 #[derive(Drop)]
 pub enum InProgress {
-    /// Nothing was started, or it was finished.
+    /// None was started, or it was finished.
     Nothing,
-    /// A bind was begun, and its start is pending.
+    /// A bind, whose start is pending.
     Binding(PendingBind),
-    /// This was started, and isn't finished.
+    /// This one was started, and isn't finished.
     Started(AsyncOperation),
 }
 
@@ -92,7 +95,7 @@ impl InProgress {
 }
 
 impl Tcp2Socket {
-    /// Begins a bind and polls it.
+    /// Begins a bind (`tcp-socket.start-bind`) and polls it once.
     pub fn begin_bind<W: World>(
         &mut self,
         world: &mut W,
@@ -111,9 +114,9 @@ impl Tcp2Socket {
         self.poll_bind(world)
     }
 
-    /// Polls the bind that was begun: done, it was started; pending, it is kept; refused, nothing is in progress. Out of memory, it
-    /// is kept as after its last answered ask: a poll of it asks what is left.
-    /// None was begun: `InvalidState`.
+    /// Polls the bind in progress once. Done: it is started, and `finish-bind` ends it. Pending: it
+    /// is kept. Refused: nothing is in progress. None in progress: `InvalidState`. Out of memory it
+    /// is kept after its last answered call, and the next poll goes on from there.
     pub fn poll_bind<W: World>(&mut self, world: &mut W) -> Result<Answer<()>, Refusal>
         requires { (W.seen world.old).ended ≡ false }
         ensures asked { AsksFor (poll_bind_asks self.old) (W.seen world.old) (W.seen world.new) (λ answer. (answer, self.new)) (outcome result) }
@@ -137,7 +140,7 @@ impl Tcp2Socket {
         }
     }
 
-    /// What a poll of a bind, which was taken out for it, makes of the record.
+    /// Keeps in the record what a poll of its bind came to.
     fn settle_bind(
         &mut self,
         bind: BindOp,

@@ -38,7 +38,7 @@ fn close_record<W: World>(world: &mut W, closed: &Record)
     }
 }
 
-/// Closes the network sockets that the records hold; takes no memory.
+/// Closes every network socket that a record holds, after the end mark. Takes no memory.
 pub fn close_sides<W: World>(world: &mut W, records: &RecordList)
     requires { (W.seen world.old).ended ≡ true }
     ensures { ClosesSides (W.seen world.old) (W.seen world.new) (held_in records.now.items) }

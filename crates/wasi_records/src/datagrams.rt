@@ -17,7 +17,7 @@ use wasi_addr::{ErrorCode, IpSocketAddress, p2};
 use wasi_udp::{RecvOp, SendOp, UdpSocket};
 use wasi_world::{Answer, Ids, IncomingDatagram, OpId, OutgoingDatagram, Refusal, TrapKind, World};
 
-/// A datagram whose send was begun: it isn't over, so a poll of it asks, or refuses it.
+/// A send in progress. It hasn't ended, so a poll of it asks the network, or refuses the datagram.
 #[derive(Drop)]
 pub struct PendingSend {
     send: SendOp,
@@ -51,7 +51,8 @@ impl PendingSend {
     }
 }
 
-/// A receive that was begun: it isn't over, so a poll of it asks, or refuses it.
+/// A receive in progress. It hasn't ended, so a poll of it asks the network, or refuses the
+/// receive.
 #[derive(Drop)]
 pub struct PendingReceive {
     receive: RecvOp,
@@ -85,7 +86,7 @@ impl PendingReceive {
     }
 }
 
-/// What an incoming datagram stream receives.
+/// How far an incoming datagram stream is with its next datagram.
 #[derive(Drop)]
 pub enum Receiving {
     /// No receive was begun since the last datagram was taken.
@@ -101,19 +102,20 @@ pub enum Receiving {
 /// The incoming datagram stream of a socket (`incoming-datagram-stream`).
 #[derive(Drop)]
 pub struct Incoming {
-    /// The remote address that the socket had when the stream was made: datagrams come from there alone.
+    /// The remote address that the socket had when the stream was made; with one, datagrams are
+    /// received from there alone.
     pub remote: Option<IpSocketAddress>,
     pub receiving: Receiving,
 }
 
-/// What an outgoing datagram stream has sent last.
+/// How far an outgoing datagram stream is with the last datagram that it sent.
 #[derive(Drop)]
 pub enum Sending {
-    /// It was sent, or refused, or nothing was sent yet.
+    /// It was sent or refused, or there was none yet.
     Nothing,
     /// It isn't sent yet, and is polled in the background.
     InProgress(PendingSend),
-    /// It failed in the background; the next send returns the code.
+    /// It failed in the background; the next send returns this code.
     Failed(ErrorCode),
 }
 
@@ -135,7 +137,7 @@ impl Sending {
 }
 
 impl Outgoing {
-    /// A stream on which nothing was sent yet, and nothing is permitted.
+    /// A stream that has sent nothing yet, and permits nothing.
     pub(crate) fn new() -> Outgoing
         ensures { result ≡ new_outgoing }
     {
@@ -145,7 +147,8 @@ impl Outgoing {
         }
     }
 
-    /// Permits 16 datagrams, or none while the last one isn't sent yet, and says how many.
+    /// Permits 16 datagrams, or none while the last one isn't sent yet, and returns how many
+    /// (`outgoing-datagram-stream.check-send`).
     pub fn check_send(&mut self) -> u8
         ensures told { result ≡ permit_of self.old.sending }
         ensures state { self.new ≡ permitted self.old }
@@ -154,8 +157,8 @@ impl Outgoing {
         self.permit
     }
 
-    /// Begins to send a datagram of the socket, and polls that. Pending, it is in the background from then on, and counts as
-    /// sent.
+    /// Begins to send a datagram and polls it once. Pending, it goes on in the background, and
+    /// counts as sent.
     fn send_one<W: World>(
         &mut self,
         world: &mut W,
@@ -174,7 +177,7 @@ impl Outgoing {
         self.settle_send(send, polled)
     }
 
-    /// What the first poll of a datagram makes of the stream.
+    /// Keeps in the stream what the first poll of a datagram came to.
     fn settle_send(
         &mut self,
         send: SendOp,
@@ -204,8 +207,9 @@ impl Outgoing {
         }
     }
 
-    /// Sends the next datagram of a list, by the next name of the line. Pending: the one before it isn't sent yet, and nothing was
-    /// begun. The code of one that failed in the background is answered in its place.
+    /// Sends the next datagram of a list, under the next name of the line. Pending: the one before
+    /// isn't sent yet, and this one isn't begun. The code of one that failed in the background is
+    /// returned in place of this one.
     fn send_next<W: World>(
         &mut self,
         world: &mut W,
@@ -235,8 +239,9 @@ impl Outgoing {
         }
     }
 
-    /// Sends datagrams in turn, and says how many were sent or are in the background now. One that isn't sent yet ends the list. A
-    /// code ends it too, and is answered where none was counted.
+    /// Sends datagrams one after another, and returns how many are sent or in the background now.
+    /// The list ends where the one before isn't sent yet, and at a code; the code is returned where
+    /// none was counted.
     fn send_all<W: World>(
         &mut self,
         world: &mut W,
@@ -263,7 +268,8 @@ impl Outgoing {
         Ok(sent)
     }
 
-    /// Polls the datagram in the background once, where there is one. Its code is kept for the next send.
+    /// Polls the datagram in the background once, if there is one. Its code is kept for the next
+    /// send.
     fn turn<W: World>(&mut self, world: &mut W, socket: &UdpSocket) -> Result<(), AllocError>
         requires { (W.seen world.old).ended ≡ false }
         ensures asked { AsksFor (turn_sending socket.now self.old self.old.sending) (W.seen world.old) (W.seen world.new) (λ done. self.new) result }
@@ -283,7 +289,7 @@ impl Outgoing {
         }
     }
 
-    /// What a poll of the datagram in the background makes of the stream.
+    /// Keeps in the stream what a poll of the datagram in the background came to.
     fn settle_turn(
         &mut self,
         send: SendOp,
@@ -314,7 +320,8 @@ impl Outgoing {
     }
 }
 
-/// What is answered where a list ends: its count, or the code where nothing was counted.
+/// What is returned where a list ends at an error: the count, or the code where nothing was
+/// counted.
 fn refusal_told(sent: u64, why: Refusal) -> Result<u64, Refusal>
     ensures { result ≡ refusal_told sent why }
 {
@@ -325,14 +332,14 @@ fn refusal_told(sent: u64, why: Refusal) -> Result<u64, Refusal>
 }
 
 impl OpenUdp {
-    /// Whether a datagram stream of its is live.
+    /// Whether one of its datagram streams is live.
     pub fn has_streams(&self) -> bool
         ensures { result ≡ has_streams self.now }
     {
         self.incoming.is_some() || self.outgoing.is_some()
     }
 
-    /// Whether a datagram of its outgoing stream isn't sent yet.
+    /// Whether its outgoing stream has a datagram that isn't sent yet.
     pub fn sends(&self) -> bool
         ensures { result ≡ sends self.now.outgoing }
     {
@@ -342,8 +349,8 @@ impl OpenUdp {
         }
     }
 
-    /// Sends datagrams on the outgoing stream, of which there are no more than are permitted, else `NotPermitted`; nothing is
-    /// permitted afterwards. An empty list sends none, and the permit stays.
+    /// Sends datagrams on the outgoing stream (`outgoing-datagram-stream.send`). More than its
+    /// permit: `NotPermitted`. The permit is used up; an empty list sends nothing and keeps it.
     pub fn send_datagrams<W: World>(
         &mut self,
         world: &mut W,
@@ -372,7 +379,7 @@ impl OpenUdp {
         Ok(sent)
     }
 
-    /// Polls the datagram in the background once, where there is one.
+    /// Polls the datagram in the background once, if there is one.
     pub fn turn_outgoing<W: World>(&mut self, world: &mut W) -> Result<(), AllocError>
         requires { (W.seen world.old).ended ≡ false }
         ensures asked { AsksFor (turn_outgoing self.old self.old.outgoing) (W.seen world.old) (W.seen world.new) (λ done. self.new) result }

@@ -50,7 +50,7 @@ impl Streams {
         self.writer.shutdown(world, op)
     }
 
-    /// Releases the receiving half, the sending half, or the one after the other.
+    /// Releases the receiving half, the sending half, or both, the receiving one first.
     pub fn shutdown<W: World>(
         &mut self,
         world: &mut W,
@@ -71,7 +71,8 @@ impl Streams {
         }
     }
 
-    /// Releases the halves that are open, the receiving one first. A write in progress ends with its rest unwritten.
+    /// Releases the halves that are open, the receiving one first. A write in progress ends with
+    /// its rest unwritten.
     pub(crate) fn give_up<W: World>(self, world: &mut W, op: OpId) -> Result<(), AllocError>
         requires { (W.seen world.old).ended ≡ false }
         ensures asked { AsksFor (give_streams_up op (Some self)) (W.seen world.old) (W.seen world.new) (λ done. done) result }
@@ -84,7 +85,8 @@ impl Streams {
 }
 
 impl Tcp2Socket {
-    /// Reads from the connection. A record without streams: a trap, which no handle reaches.
+    /// Reads from the connection. A record without streams traps; no handle of a stream leads to
+    /// one.
     pub fn read<W: World>(
         &mut self,
         alloc: Global,
@@ -104,7 +106,7 @@ impl Tcp2Socket {
         }
     }
 
-    /// How much may be written to the connection.
+    /// The permit: how many bytes may be written to the connection.
     pub fn check_write<W: World>(&mut self, world: &mut W, op: OpId) -> Result<usize, StreamError>
         requires { (W.seen world.old).ended ≡ false }
         ensures asked { AsksFor (writer_asks (check_write_asks op) self.old) (W.seen world.old) (W.seen world.new) (λ answer. (answer, self.new)) (stream_outcome result) }
@@ -118,7 +120,7 @@ impl Tcp2Socket {
         }
     }
 
-    /// Writes to the connection.
+    /// Writes bytes to the connection, no more than its permit.
     pub fn write<W: World>(
         &mut self,
         world: &mut W,
@@ -137,7 +139,7 @@ impl Tcp2Socket {
         }
     }
 
-    /// Writes to the connection, and says whether a write began that is in progress.
+    /// Writes bytes to the connection, and returns whether the write is in progress now.
     pub fn write_noting<W: World>(
         &mut self,
         world: &mut W,
@@ -157,7 +159,7 @@ impl Tcp2Socket {
         (written, begins)
     }
 
-    /// Reports a kept error of the writer.
+    /// Returns the error with which the writer is closed, if it is; asks nothing.
     pub fn flush<W: World>(&mut self, world: &mut W) -> Result<(), StreamError>
         requires { (W.seen world.old).ended ≡ false }
         ensures asked { AsksFor (writer_asks flush_asks self.old) (W.seen world.old) (W.seen world.new) (λ answer. (answer, self.new)) (stream_outcome result) }
@@ -171,7 +173,7 @@ impl Tcp2Socket {
         }
     }
 
-    /// Whether a background write is in progress.
+    /// Whether a write is in progress.
     pub fn has_job(&self) -> bool
         ensures { result ≡ works_in self.now.streams }
     {
@@ -181,7 +183,7 @@ impl Tcp2Socket {
         }
     }
 
-    /// Polls a write in progress, once.
+    /// Polls the write in progress once, if there is one.
     pub fn turn<W: World>(&mut self, world: &mut W) -> Result<(), AllocError>
         requires { (W.seen world.old).ended ≡ false }
         ensures asked { AsksFor (turn_record self.old) (W.seen world.old) (W.seen world.new) (λ done. self.new) result }
@@ -196,7 +198,8 @@ impl Tcp2Socket {
         }
     }
 
-    /// Releases one half of the connection, or both. Before its streams were made: `InvalidState`.
+    /// Releases one half of the connection, or both (`tcp-socket.shutdown`). A socket without
+    /// streams: `InvalidState`.
     pub fn shutdown<W: World>(
         &mut self,
         world: &mut W,

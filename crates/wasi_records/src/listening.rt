@@ -27,12 +27,13 @@ pub enum Listening {
     Begins(ListenOp),
     /// It listens.
     Accepts(TcpListenStream),
-    /// It was released, and memory ran out: this network socket isn't closed yet.
+    /// It was released, and memory ran out before this network socket was closed.
     Unclosed(Sock),
 }
 
 impl Listening {
-    /// The network socket that it holds beside the socket's own: of a listen in progress, or of a connection that isn't taken.
+    /// The network socket that it holds beside the socket's own: that of a listen in progress, or
+    /// of a connection that isn't taken.
     pub fn side(&self) -> Option<Sock>
         ensures { result ≡ side_in self.now }
     {
@@ -44,7 +45,7 @@ impl Listening {
         }
     }
 
-    /// What is left of it where memory is wanted.
+    /// What stays of it where its release ran out of memory.
     fn unclosed(&self) -> Listening
         ensures { result ≡ unclosed (side_in self.now) }
     {
@@ -54,8 +55,8 @@ impl Listening {
         }
     }
 
-    /// Releases it: a listen in progress closes its network socket, and a listener refuses an arrival in hand and closes a
-    /// connection that isn't taken. Out of memory nothing was asked.
+    /// Releases it: a listen in progress closes its network socket; a listener refuses an arrival
+    /// in hand, and closes a connection that isn't taken. Out of memory nothing was asked.
     fn give_up<W: World>(self, world: &mut W) -> Result<(), AllocError>
         requires { (W.seen world.old).ended ≡ false }
         ensures asked { AsksFor (give_up_asks self) (W.seen world.old) (W.seen world.new) (λ done. done) result }
@@ -72,7 +73,8 @@ impl Listening {
 }
 
 impl Tcp2Socket {
-    /// Begins a listen and polls it. A socket that isn't bound, or that listens already: `InvalidState`.
+    /// Begins a listen (`tcp-socket.start-listen`) and polls it once. A socket that isn't bound, or
+    /// that listens already: `InvalidState`.
     pub fn begin_listen<W: World>(&mut self, world: &mut W, op: OpId) -> Result<Answer<()>, Refusal>
         requires { (W.seen world.old).ended ≡ false }
         ensures asked { AsksFor (begin_listen_asks op self.old) (W.seen world.old) (W.seen world.new) (λ answer. (answer, self.new)) (outcome result) }
@@ -85,7 +87,7 @@ impl Tcp2Socket {
         self.listen_once(world, op)
     }
 
-    /// Begins a listen of a socket that is bound, and polls it.
+    /// Begins a listen of a socket that is bound, and polls it once.
     fn listen_once<W: World>(&mut self, world: &mut W, op: OpId) -> Result<Answer<()>, Refusal>
         requires { (W.seen world.old).ended ≡ false }
         ensures asked { AsksFor (listen_once op self.old self.old.listening) (W.seen world.old) (W.seen world.new) (λ answer. (answer, self.new)) (outcome result) }
@@ -103,8 +105,8 @@ impl Tcp2Socket {
         self.poll_listen(world)
     }
 
-    /// Polls the listen that was begun: done, the socket listens, and the listen is in progress. None was, or the socket has a
-    /// network socket of its own: `InvalidState`.
+    /// Polls the listen in progress once. Done: the socket listens, and `finish-listen` ends the
+    /// operation. No listen in progress, or a socket that has a network socket: `InvalidState`.
     pub fn poll_listen<W: World>(&mut self, world: &mut W) -> Result<Answer<()>, Refusal>
         requires { (W.seen world.old).ended ≡ false }
         ensures asked { AsksFor (poll_listen_asks self.old) (W.seen world.old) (W.seen world.new) (λ answer. (answer, self.new)) (outcome result) }
@@ -126,7 +128,7 @@ impl Tcp2Socket {
         }
     }
 
-    /// What a poll of the listen makes of the record, and of the answer.
+    /// Keeps in the record what a poll of its listen came to, and gives the answer.
     fn settle_listen(
         &mut self,
         polled: Result<Answer<TcpListenStream>, Refusal>,
@@ -149,7 +151,8 @@ impl Tcp2Socket {
         }
     }
 
-    /// Accepts a connection, or takes the code of a fault. Nothing to take yet is pending. No listener: `InvalidState`.
+    /// Accepts a connection (`tcp-socket.accept`), or takes the code of a fault. Nothing has
+    /// arrived yet: pending. Not a listener: `InvalidState`.
     pub fn poll_accept<W: World>(
         &mut self,
         world: &mut W,
@@ -174,7 +177,8 @@ impl Tcp2Socket {
         }
     }
 
-    /// Releases what it listens by. Out of memory a network socket that isn't closed is known still.
+    /// Releases its listener or its listen in progress. Out of memory the record keeps a network
+    /// socket that isn't closed yet.
     pub fn give_listening_up<W: World>(&mut self, world: &mut W) -> Result<(), AllocError>
         requires { (W.seen world.old).ended ≡ false }
         ensures asked { AsksFor (give_up_asks self.old.listening) (W.seen world.old) (W.seen world.new) (λ done. done) result }
@@ -191,8 +195,8 @@ impl Tcp2Socket {
     }
 }
 
-/// Keeps the record of what was accepted, for which there is room, and gives its number. A code is reported, and there is no
-/// record.
+/// Adds the record of an accepted socket, for which `reserve` took room, and returns its number. A
+/// socket that failed has no record: its code is returned.
 pub fn keep_accepted(records: &mut RecordList, socket: TcpSocket) -> Result<usize, SocketError>
     requires { records.old.room ≡ true }
     ensures told { host_outcome result ≡ Ok (with_accepted_in records.old.items socket).0 }

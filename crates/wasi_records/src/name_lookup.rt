@@ -33,8 +33,8 @@ impl Model for Addresses {
 }
 
 impl Addresses {
-    /// These, in their order, each in its canonical form: an IPv4 address that is written as one of IPv6 becomes what it is.
-    /// Takes no memory.
+    /// These addresses, in their order, each in its canonical form: an IPv4 address that is mapped
+    /// into IPv6 becomes IPv4. Takes no memory.
     fn found(list: IpList) -> Addresses
         ensures { result ≡ map canonical list }
     {
@@ -47,7 +47,7 @@ impl Addresses {
         }
     }
 
-    /// This one alone, as it is.
+    /// One address, as it is. Takes memory for it.
     pub fn one(alloc: Global, address: IpAddress) -> Result<Addresses, AllocError>
         ensures { IfOk result (λ a. a ≡ address ∷ []) }
     {
@@ -57,7 +57,7 @@ impl Addresses {
     }
 }
 
-/// A lookup that the network hasn't answered yet: its name, and the host that is asked for.
+/// A lookup that the network hasn't answered yet: the operation's name, and the host name.
 #[derive(Drop)]
 pub struct LookupOp {
     pub id: OpId,
@@ -65,7 +65,7 @@ pub struct LookupOp {
 }
 
 impl LookupOp {
-    /// Asks the network once. Out of memory, nothing was asked.
+    /// Asks the network once. Out of memory nothing was asked.
     fn poll<W: World>(&self, world: &mut W) -> Result<Polled<IpList>, AllocError>
         requires { (W.seen world.old).ended ≡ false }
         ensures asked { AsksFor (ask_lookup self.now.id self.now.host) (W.seen world.old) (W.seen world.new) (λ answer. answer) result }
@@ -83,14 +83,14 @@ impl LookupOp {
 pub enum Lookup {
     /// The network hasn't answered yet, and is asked again in the background.
     InProgress(LookupOp),
-    /// It answered: what is left of the addresses.
+    /// The network answered; these addresses aren't handed out yet.
     Found(Addresses),
-    /// It failed.
+    /// The network answered with a code.
     Failed,
 }
 
 impl Lookup {
-    /// Begins a lookup, and asks the network once.
+    /// Begins a lookup and asks the network once. Out of memory there is no lookup.
     pub fn begin<W: World>(world: &mut W, id: OpId, host: NameText) -> Result<Lookup, AllocError>
         requires { (W.seen world.old).ended ≡ false }
         ensures asked { AsksFor (poll_lookup_asks (record { id = id; host = host })) (W.seen world.old) (W.seen world.new) (λ now. now) result }
@@ -104,7 +104,7 @@ impl Lookup {
         Ok(lookup)
     }
 
-    /// What the network's answer makes of a lookup in progress.
+    /// Keeps what the network answered to a lookup in progress.
     fn settle(&mut self, answer: Polled<IpList>)
         ensures { (op : LookupOp) → self.old ≡ Lookup.InProgress op → self.new ≡ lookup_told op answer }
     {
@@ -115,7 +115,8 @@ impl Lookup {
         }
     }
 
-    /// Asks the network again, where it hasn't answered yet. Out of memory, nothing was asked, and it is as it was.
+    /// Asks the network again, if it hasn't answered yet. Out of memory nothing was asked, and the
+    /// lookup stays as it was.
     pub fn turn<W: World>(&mut self, world: &mut W) -> Result<(), AllocError>
         requires { (W.seen world.old).ended ≡ false }
         ensures asked { AsksFor (turn_lookup self.old) (W.seen world.old) (W.seen world.new) (λ done. self.new) result }
@@ -139,8 +140,8 @@ impl Lookup {
         matches!(self, Lookup::InProgress(_))
     }
 
-    /// Takes the next address; none once all were handed out. It isn't answered yet: `WouldBlock`. It failed:
-    /// `NameUnresolvable`, each time.
+    /// Takes the next address (`resolve-next-address`); `None` once all were handed out. Not
+    /// answered yet: `WouldBlock`. Failed: `NameUnresolvable`, each time.
     pub fn next(&mut self) -> Result<Option<IpAddress>, p2::ErrorCode>
         ensures { (result, self.new) ≡ next_of self.old }
     {
@@ -152,7 +153,7 @@ impl Lookup {
     }
 }
 
-/// The 0.2 code of a lookup that failed, whichever code the network gave.
+/// The 0.2 code of a lookup that failed, `NameUnresolvable`, whichever code the network gave.
 pub fn unresolvable() -> p2::ErrorCode
     ensures { result ≡ unresolvable }
 {

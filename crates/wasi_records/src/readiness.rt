@@ -15,7 +15,7 @@ use std::alloc::AllocError;
 use wasi_streams::{Fault, StreamError};
 use wasi_world::{Answer, Ids, OpId, Refusal, TrapKind, World};
 
-/// Whether a look at a connect is over; a refusal is ready too.
+/// Whether a look at a connect found it ended; a refusal is an end, too.
 fn is_over(polled: Result<Answer<()>, Refusal>) -> Result<bool, Fault>
     ensures { fault_outcome result ≡ over_told polled }
 {
@@ -26,7 +26,7 @@ fn is_over(polled: Result<Answer<()>, Refusal>) -> Result<bool, Fault>
     }
 }
 
-/// Whether a reader or a listener is ready, by a look at it.
+/// Whether a look at a reader or a listener found it ready.
 fn is_read(looked: Result<Answer<()>, AllocError>) -> Result<bool, Fault>
     ensures { fault_outcome result ≡ read_told looked }
 {
@@ -37,7 +37,7 @@ fn is_read(looked: Result<Answer<()>, AllocError>) -> Result<bool, Fault>
     }
 }
 
-/// Whether a writer is ready, by a look at it; an error is ready too.
+/// Whether a look at a writer found it ready; an error is ready, too.
 fn is_ready(looked: Result<Answer<()>, StreamError>) -> Result<bool, Fault>
     ensures { fault_outcome result ≡ look_told looked }
 {
@@ -48,7 +48,7 @@ fn is_ready(looked: Result<Answer<()>, StreamError>) -> Result<bool, Fault>
     }
 }
 
-/// What a look at a writer answers to one that waits for it; an error doesn't wait.
+/// What a look at a writer tells a drop that waits for it; an error ends the wait.
 fn wait_answer(looked: Result<Answer<()>, StreamError>) -> Result<Answer<()>, AllocError>
     ensures { result ≡ waits_told looked }
 {
@@ -60,7 +60,9 @@ fn wait_answer(looked: Result<Answer<()>, StreamError>) -> Result<Answer<()>, Al
 }
 
 impl Tcp2Socket {
-    /// Polls a connect in progress, which stays in progress; with nothing in progress the accept of a listener; else it is ready.
+    /// Whether the socket is ready. A connect in progress is polled, and stays in progress. With no
+    /// operation in progress the accept of a listener is polled, and keeps its result. Any other
+    /// socket is ready.
     pub fn socket_ready<W: World>(&mut self, world: &mut W, ids: &mut Ids) -> Result<bool, Fault>
         requires open { (W.seen world.old).ended ≡ false }
         requires names { ids.old.next_part + 1 < 2 ^ 64 }
@@ -79,7 +81,8 @@ impl Tcp2Socket {
         self.accept_ready(world, ids)
     }
 
-    /// Polls the accept of a listener, and leaves its result; what doesn't listen is ready.
+    /// Polls the accept of a listener, which keeps its result; a socket that doesn't listen is
+    /// ready.
     fn accept_ready<W: World>(&mut self, world: &mut W, ids: &mut Ids) -> Result<bool, Fault>
         requires open { (W.seen world.old).ended ≡ false }
         requires names { ids.old.next_part + 1 < 2 ^ 64 }
@@ -96,7 +99,7 @@ impl Tcp2Socket {
         }
     }
 
-    /// Whether there is something to read.
+    /// Whether there is something to read from the connection: bytes, the end or a code.
     pub fn input_ready<W: World>(&mut self, world: &mut W, op: OpId) -> Result<bool, Fault>
         requires { (W.seen world.old).ended ≡ false }
         ensures asked { AsksFor (ready_reader op self.old self.old.streams) (W.seen world.old) (W.seen world.new) (λ ready. (ready, self.new)) (fault_outcome result) }
@@ -110,7 +113,7 @@ impl Tcp2Socket {
         }
     }
 
-    /// Whether something may be written; an error is ready too.
+    /// Whether something may be written to the connection; an error is ready, too.
     pub fn output_ready<W: World>(&mut self, world: &mut W, op: OpId) -> Result<bool, Fault>
         requires { (W.seen world.old).ended ≡ false }
         ensures asked { AsksFor (ready_writer op self.old self.old.streams) (W.seen world.old) (W.seen world.new) (λ ready. (ready, self.new)) (fault_outcome result) }
@@ -124,7 +127,8 @@ impl Tcp2Socket {
         }
     }
 
-    /// One look at the writer, by an output's drop that waits for it. With no streams nothing is waited for.
+    /// Looks at the writer once, for the drop of an output that waits for it. Without streams there
+    /// is nothing to wait for.
     pub fn poll_writer<W: World>(
         &mut self,
         world: &mut W,
@@ -142,7 +146,8 @@ impl Tcp2Socket {
         }
     }
 
-    /// Whether a look at it would begin an accept: it is a listener in the middle of nothing, and no accept was begun.
+    /// Whether a look at the socket would begin an accept: it is a listener with no operation in
+    /// progress, and no accept was begun.
     pub fn would_accept(&self) -> bool
         ensures { result ≡ socket_begins self.now }
     {

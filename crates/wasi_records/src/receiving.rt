@@ -20,7 +20,7 @@ use wasi_world::{Answer, Ids, IncomingDatagram, IncomingDatagrams, Octets, Refus
 /// How many datagrams one call takes at most.
 const MOST: u64 = 16;
 
-/// Until their lengths, with one more each, reach this.
+/// A call takes datagrams until their lengths, with one more for each, reach this many bytes.
 const ROOM: usize = 65_536;
 
 impl Receiving {
@@ -30,7 +30,7 @@ impl Receiving {
         matches!(self, Receiving::InProgress(_))
     }
 
-    /// Takes the datagram that has come, or the code of the receive that failed. Pending: neither is there.
+    /// Takes the datagram that has come, or the code of the receive that failed. Neither: pending.
     fn take(&mut self) -> Result<Answer<IncomingDatagram>, ErrorCode>
         ensures { (result, self.new) ≡ taken self.old }
     {
@@ -46,7 +46,7 @@ impl Receiving {
 }
 
 impl Incoming {
-    /// Begins a receive and polls it, where none was begun.
+    /// Begins a receive and polls it once, where none was begun.
     fn fetch<W: World>(
         &mut self,
         world: &mut W,
@@ -71,7 +71,7 @@ impl Incoming {
         }
     }
 
-    /// What a poll of the receive makes of the stream.
+    /// Keeps in the stream what a poll of the receive came to.
     fn settle(
         &mut self,
         receive: RecvOp,
@@ -104,7 +104,8 @@ impl Incoming {
         }
     }
 
-    /// Takes the next datagram: one that has come, or else that of a receive that is begun. Pending: it hasn't come yet.
+    /// Takes the next datagram: one that has come, or that of a receive that is begun now. Not
+    /// there yet: pending.
     fn receive_next<W: World>(
         &mut self,
         world: &mut W,
@@ -126,8 +127,8 @@ impl Incoming {
         }
     }
 
-    /// Takes at most so many datagrams, while there is room for them. One that hasn't come ends the list, and so does a code, which
-    /// is answered where there is no datagram before it.
+    /// Takes at most this many datagrams, while there is room for them. The list ends at one that
+    /// hasn't come, and at a code; the code is returned where no datagram comes before it.
     fn receive_all<W: World>(
         &mut self,
         alloc: Global,
@@ -169,7 +170,7 @@ impl Incoming {
         Ok(IncomingDatagrams::from_vec(datagrams))
     }
 
-    /// Polls the receive in progress once, where there is one.
+    /// Polls the receive in progress once, if there is one.
     fn turn<W: World>(&mut self, world: &mut W) -> Result<(), AllocError>
         requires { (W.seen world.old).ended ≡ false }
         ensures asked { AsksFor (turn_receiving self.old self.old.receiving) (W.seen world.old) (W.seen world.new) (λ done. self.new) result }
@@ -191,7 +192,7 @@ impl Incoming {
 }
 
 impl OpenUdp {
-    /// Whether its incoming stream has a receive in progress.
+    /// Whether a receive is in progress on its incoming stream.
     pub fn receives(&self) -> bool
         ensures { result ≡ receives self.now.incoming }
     {
@@ -201,8 +202,9 @@ impl OpenUdp {
         }
     }
 
-    /// Takes at most so many datagrams from the incoming stream, and at most 16, until their lengths with one more each reach 65,536.
-    /// A code is answered where there is no datagram before it.
+    /// Takes datagrams from the incoming stream (`incoming-datagram-stream.receive`): at most this
+    /// many, at most 16, and until their lengths, with one more for each, reach 65,536. A code is
+    /// returned where no datagram comes before it.
     pub fn receive_datagrams<W: World>(
         &mut self,
         alloc: Global,
@@ -225,7 +227,8 @@ impl OpenUdp {
         Ok(datagrams)
     }
 
-    /// Begins a receive on the incoming stream and polls it, where none was begun; what comes isn't taken.
+    /// Begins a receive on the incoming stream and polls it once, where none was begun. What has
+    /// come isn't taken.
     pub fn look_incoming<W: World>(
         &mut self,
         world: &mut W,
@@ -245,7 +248,7 @@ impl OpenUdp {
         }
     }
 
-    /// Polls the receive in progress of its incoming stream once, where there is one.
+    /// Polls the receive in progress on its incoming stream once, if there is one.
     pub fn turn_incoming<W: World>(&mut self, world: &mut W) -> Result<(), AllocError>
         requires { (W.seen world.old).ended ≡ false }
         ensures asked { AsksFor (turn_incoming self.old self.old.incoming) (W.seen world.old) (W.seen world.new) (λ done. self.new) result }

@@ -19,12 +19,13 @@ pub(crate) struct NumberedRecord {
     value: Record,
 }
 
-/// Records by number. They are numbered from 0 on in the order of making, and no number is given twice. Memory follows the most that
-/// were there at a time, however many were made. Who knows the slot of a record finds it without a search.
+/// Records by number. They are numbered from 0 on in the order of making, and no number is given
+/// twice. The memory follows the most records that were there at a time, however many were made. A
+/// caller that knows the slot of a record finds it without a search.
 #[derive(Drop)]
 pub struct RecordList {
     pub(crate) slots: Slab<NumberedRecord>,
-    /// From the number of each record to the key of its slot.
+    /// Leads from the number of each record to the key of its slot.
     pub(crate) keys: BTreeMap<usize, usize>,
     next: usize,
 }
@@ -62,7 +63,8 @@ impl RecordList {
         self.next
     }
 
-    /// Takes room for one more record. Out of memory, as also where no number is left, the records stay as they are.
+    /// Takes room for one more record. Out of memory, or with no number left, the records stay as
+    /// they are.
     pub fn reserve(&mut self) -> Result<(), AllocError>
         ensures items { self.new.items ≡ self.old.items }
         ensures room { OnOk result (self.new.room ≡ true) }
@@ -76,7 +78,7 @@ impl RecordList {
         Ok(())
     }
 
-    /// Adds a record, for which there is room. Takes no memory.
+    /// Adds a record, for which `reserve` took room. Takes no memory.
     pub fn push_reserved(&mut self, added: Record)
         requires { self.old.room ≡ true }
         ensures items { self.new.items ≡ self.old.items ++ added ∷ [] }
@@ -89,14 +91,16 @@ impl RecordList {
         self.next += 1;
     }
 
-    /// The record of this number: none, or `Gone`, where it was given back or wasn't made.
+    /// The record of this number. One that was given back or wasn't made is `None` or `Gone`. Takes
+    /// no memory.
     pub fn get(&self, place: usize) -> Option<&Record>
         ensures { or_gone (option_map (λ r. r.now) result) ≡ item_at self.now.items place }
     {
         record_of(&self.slots, key_of(&self.keys, place), place)
     }
 
-    /// The same, to be changed where it is.
+    /// The record of this number, to be changed. One that was given back or wasn't made is `None`.
+    /// Takes no memory.
     pub fn get_mut(&mut self, place: usize) -> Option<&mut Record>
         ensures* writes_back { sem 𝓛 (LendsIf records_row record_row self.entry result (with_item self.old place) self.old) }
         ensures item { or_gone (option_map (λ r. r.now) result) ≡ item_at self.old.items place }
@@ -105,13 +109,13 @@ impl RecordList {
         self.get_mut_in(slot, place)
     }
 
-    /// The slot of the record of this number, as a hint for `get_mut_in`; of a number with no record it is any. Takes no memory.
+    /// The slot of the record of this number, as a hint for `get_mut_in`; any slot where there is
+    /// no such record. Takes no memory.
     pub fn slot_of(&self, place: usize) -> usize {
         key_of(&self.keys, place)
     }
 
-    /// The record of this number, to be changed where it is. It is looked for in this slot first, which takes no search, and by its
-    /// number where it isn't there.
+    /// `get_mut`, with a slot hint that saves the search where the record is in that slot.
     pub(crate) fn get_mut_in(&mut self, slot: usize, place: usize) -> Option<&mut Record>
         ensures* writes_back { sem 𝓛 (LendsIf records_row record_row self.entry result (with_item self.old place) self.old) }
         ensures item { or_gone (option_map (λ r. r.now) result) ≡ item_at self.old.items place }
@@ -120,7 +124,7 @@ impl RecordList {
         Some(&mut self.slots[found].value)
     }
 
-    /// Gives the record of this number back: nothing is left of it. Takes no memory.
+    /// Drops the record of this number and its slot. Takes no memory.
     pub fn give_back(&mut self, place: usize)
         ensures { self.new.items ≡ record_gone self.old.items place }
     {
@@ -139,7 +143,7 @@ fn key_of(keys: &BTreeMap<usize, usize>, number: usize) -> usize
     keys.get(&number).copied().unwrap_or(0)
 }
 
-/// The record in a slot, where it is of this number.
+/// The record in a slot, if it has this number.
 pub(crate) fn record_of(slots: &Slab<NumberedRecord>, slot: usize, number: usize) -> Option<&Record>
     ensures { option_map (λ r. r.now) result ≡ of_number number (get slots.now slot) }
 {
@@ -149,14 +153,15 @@ pub(crate) fn record_of(slots: &Slab<NumberedRecord>, slot: usize, number: usize
     }
 }
 
-/// Whether the record in a slot is of this number.
+/// Whether the record in a slot has this number.
 fn is_in(slots: &Slab<NumberedRecord>, slot: usize, number: usize) -> bool
     ensures { result ≡ is_some (of_number number (get slots.now slot)) }
 {
     record_of(slots, slot, number).is_some()
 }
 
-/// The slot of the record of a number: this one, where it is in it, and else the one to which the number leads.
+/// The slot of the record of this number: the hint, where it is right, and else the slot to which
+/// the number leads.
 fn find(
     slots: &Slab<NumberedRecord>,
     keys: &BTreeMap<usize, usize>,

@@ -12,7 +12,7 @@ use crate::socket::Tcp2Socket;
 use crate::udp::{OpenUdp, Udp2Socket};
 use wasi_memory::{InputPipeCore, OutputPipe};
 
-/// A record of the store: what the number in a handle names. Each kind of record is a case.
+/// What a record number in a handle stands for, a case for each kind.
 #[derive(Drop)]
 pub enum Record {
     /// A TCP socket of the 0.2 interface, with its listener and its streams.
@@ -25,12 +25,13 @@ pub enum Record {
     InputPipe(InputPipeCore),
     /// A pipe that a guest writes.
     OutputPipe(OutputPipe),
-    /// Nothing: what was there is given back, since nothing refers to it any more, or its number isn't given yet.
+    /// Nothing: the record was given back, since nothing refers to it any more, or its number
+    /// wasn't given yet.
     Gone,
 }
 
 impl Record {
-    /// The TCP socket that it is.
+    /// This record as a TCP socket, if it is one.
     fn as_tcp2(&self) -> Option<&Tcp2Socket>
         ensures { option_map (λ r. r.now) result ≡ tcp2_of (Some self.now) }
     {
@@ -40,7 +41,7 @@ impl Record {
         }
     }
 
-    /// The TCP socket that it is, to be changed.
+    /// This record as a TCP socket, to be changed, if it is one.
     fn as_tcp2_mut(&mut self) -> Option<&mut Tcp2Socket>
         ensures* writes_back { sem 𝓛 (LendsIf record_row socket_row self.entry result Tcp2 self.old) }
         ensures value { option_map (λ r. r.now) result ≡ tcp2_of (Some self.old) }
@@ -51,7 +52,7 @@ impl Record {
         }
     }
 
-    /// The UDP socket that it is.
+    /// This record as a UDP socket, if it is one.
     fn as_udp2(&self) -> Option<&Udp2Socket>
         ensures { option_map (λ u. u.now) result ≡ udp2_of (Some self.now) }
     {
@@ -61,7 +62,7 @@ impl Record {
         }
     }
 
-    /// The UDP socket that it is, to be changed.
+    /// This record as a UDP socket, to be changed, if it is one.
     fn as_udp2_mut(&mut self) -> Option<&mut Udp2Socket>
         ensures* writes_back { sem 𝓛 (LendsIf record_row udp_row self.entry result Udp2 self.old) }
         ensures value { option_map (λ u. u.now) result ≡ udp2_of (Some self.old) }
@@ -72,7 +73,7 @@ impl Record {
         }
     }
 
-    /// The lookup that it is.
+    /// This record as a lookup, if it is one.
     fn as_lookup(&self) -> Option<&Lookup>
         ensures { option_map (λ l. l.now) result ≡ lookup_of (Some self.now) }
     {
@@ -82,7 +83,7 @@ impl Record {
         }
     }
 
-    /// The lookup that it is, to be changed.
+    /// This record as a lookup, to be changed, if it is one.
     fn as_lookup_mut(&mut self) -> Option<&mut Lookup>
         ensures* writes_back { sem 𝓛 (LendsIf record_row lookup_row self.entry result LookupRecord self.old) }
         ensures value { option_map (λ l. l.now) result ≡ lookup_of (Some self.old) }
@@ -93,7 +94,7 @@ impl Record {
         }
     }
 
-    /// The pipe that is read that it is.
+    /// This record as a readable pipe, if it is one.
     fn as_input_pipe(&self) -> Option<&InputPipeCore>
         ensures { option_map (λ p. p.now) result ≡ input_pipe_of (Some self.now) }
     {
@@ -103,7 +104,7 @@ impl Record {
         }
     }
 
-    /// The pipe that is read that it is, to be changed.
+    /// This record as a readable pipe, to be changed, if it is one.
     fn as_input_pipe_mut(&mut self) -> Option<&mut InputPipeCore>
         ensures* writes_back { sem 𝓛 (LendsIf record_row input_pipe_row self.entry result ReadPipe self.old) }
         ensures value { option_map (λ p. p.now) result ≡ input_pipe_of (Some self.old) }
@@ -114,7 +115,7 @@ impl Record {
         }
     }
 
-    /// The pipe that is written that it is.
+    /// This record as a writable pipe, if it is one.
     fn as_output_pipe(&self) -> Option<&OutputPipe>
         ensures { option_map (λ p. p.now) result ≡ output_pipe_of (Some self.now) }
     {
@@ -124,7 +125,7 @@ impl Record {
         }
     }
 
-    /// The pipe that is written that it is, to be changed.
+    /// This record as a writable pipe, to be changed, if it is one.
     fn as_output_pipe_mut(&mut self) -> Option<&mut OutputPipe>
         ensures* writes_back { sem 𝓛 (LendsIf record_row output_pipe_row self.entry result WrittenPipe self.old) }
         ensures value { option_map (λ p. p.now) result ≡ output_pipe_of (Some self.old) }
@@ -136,14 +137,14 @@ impl Record {
     }
 }
 
-/// The TCP socket of this number.
+/// The TCP socket of this number, if that record is one.
 pub fn tcp2(records: &RecordList, place: usize) -> Option<&Tcp2Socket>
     ensures item { option_map (λ r. r.now) result ≡ tcp2_at records.now.items place }
 {
     records.get(place)?.as_tcp2()
 }
 
-/// The TCP socket of this number, to be changed where it is.
+/// The TCP socket of this number, to be changed, if that record is one.
 pub fn tcp2_mut(records: &mut RecordList, place: usize) -> Option<&mut Tcp2Socket>
     ensures* writes_back { sem 𝓛 (LendsIf records_row socket_row records.entry result (with_tcp2 records.old place) records.old) }
     ensures item { option_map (λ r. r.now) result ≡ tcp2_at records.old.items place }
@@ -152,7 +153,7 @@ pub fn tcp2_mut(records: &mut RecordList, place: usize) -> Option<&mut Tcp2Socke
     tcp2_mut_in(records, slot, place)
 }
 
-/// The same, which is looked for in this slot first.
+/// [`tcp2_mut`], with a slot hint that saves the search.
 pub fn tcp2_mut_in(records: &mut RecordList, slot: usize, place: usize) -> Option<&mut Tcp2Socket>
     ensures* writes_back { sem 𝓛 (LendsIf records_row socket_row records.entry result (with_tcp2 records.old place) records.old) }
     ensures item { option_map (λ r. r.now) result ≡ tcp2_at records.old.items place }
@@ -160,14 +161,14 @@ pub fn tcp2_mut_in(records: &mut RecordList, slot: usize, place: usize) -> Optio
     records.get_mut_in(slot, place)?.as_tcp2_mut()
 }
 
-/// The UDP socket of this number.
+/// The UDP socket of this number, if that record is one.
 pub fn udp2(records: &RecordList, place: usize) -> Option<&Udp2Socket>
     ensures item { option_map (λ u. u.now) result ≡ udp2_at records.now.items place }
 {
     records.get(place)?.as_udp2()
 }
 
-/// The UDP socket of this number, to be changed where it is.
+/// The UDP socket of this number, to be changed, if that record is one.
 pub fn udp2_mut(records: &mut RecordList, place: usize) -> Option<&mut Udp2Socket>
     ensures* writes_back { sem 𝓛 (LendsIf records_row udp_row records.entry result (with_udp2 records.old place) records.old) }
     ensures item { option_map (λ u. u.now) result ≡ udp2_at records.old.items place }
@@ -176,7 +177,7 @@ pub fn udp2_mut(records: &mut RecordList, place: usize) -> Option<&mut Udp2Socke
     udp2_mut_in(records, slot, place)
 }
 
-/// The same, which is looked for in this slot first.
+/// [`udp2_mut`], with a slot hint that saves the search.
 pub(crate) fn udp2_mut_in(
     records: &mut RecordList,
     slot: usize,
@@ -188,14 +189,14 @@ pub(crate) fn udp2_mut_in(
     records.get_mut_in(slot, place)?.as_udp2_mut()
 }
 
-/// The UDP socket of this number, where it is open.
+/// The UDP socket of this number, if that record is one and open.
 pub fn open_udp(records: &RecordList, place: usize) -> Option<&OpenUdp>
     ensures item { option_map (λ o. o.now) result ≡ open_at records.now.items place }
 {
     udp2(records, place)?.as_open()
 }
 
-/// The UDP socket of this number, where it is open, to be changed where it is.
+/// The UDP socket of this number, to be changed, if that record is one and open.
 pub fn open_udp_mut(records: &mut RecordList, place: usize) -> Option<&mut OpenUdp>
     ensures* writes_back { sem 𝓛 (LendsIf records_row open_row records.entry result (with_open records.old place) records.old) }
     ensures item { option_map (λ o. o.now) result ≡ open_at records.old.items place }
@@ -204,7 +205,7 @@ pub fn open_udp_mut(records: &mut RecordList, place: usize) -> Option<&mut OpenU
     open_udp_mut_in(records, slot, place)
 }
 
-/// The same, which is looked for in this slot first.
+/// [`open_udp_mut`], with a slot hint that saves the search.
 pub fn open_udp_mut_in(records: &mut RecordList, slot: usize, place: usize) -> Option<&mut OpenUdp>
     ensures* writes_back { sem 𝓛 (LendsIf records_row open_row records.entry result (with_open records.old place) records.old) }
     ensures item { option_map (λ o. o.now) result ≡ open_at records.old.items place }
@@ -212,14 +213,14 @@ pub fn open_udp_mut_in(records: &mut RecordList, slot: usize, place: usize) -> O
     udp2_mut_in(records, slot, place)?.as_open_mut()
 }
 
-/// The lookup of this number.
+/// The lookup of this number, if that record is one.
 pub fn lookup(records: &RecordList, place: usize) -> Option<&Lookup>
     ensures item { option_map (λ l. l.now) result ≡ lookup_at records.now.items place }
 {
     records.get(place)?.as_lookup()
 }
 
-/// The lookup of this number, to be changed where it is.
+/// The lookup of this number, to be changed, if that record is one.
 pub fn lookup_mut(records: &mut RecordList, place: usize) -> Option<&mut Lookup>
     ensures* writes_back { sem 𝓛 (LendsIf records_row lookup_row records.entry result (with_lookup_at records.old place) records.old) }
     ensures item { option_map (λ l. l.now) result ≡ lookup_at records.old.items place }
@@ -228,7 +229,7 @@ pub fn lookup_mut(records: &mut RecordList, place: usize) -> Option<&mut Lookup>
     lookup_mut_in(records, slot, place)
 }
 
-/// The same, which is looked for in this slot first.
+/// [`lookup_mut`], with a slot hint that saves the search.
 pub fn lookup_mut_in(records: &mut RecordList, slot: usize, place: usize) -> Option<&mut Lookup>
     ensures* writes_back { sem 𝓛 (LendsIf records_row lookup_row records.entry result (with_lookup_at records.old place) records.old) }
     ensures item { option_map (λ l. l.now) result ≡ lookup_at records.old.items place }
@@ -236,14 +237,14 @@ pub fn lookup_mut_in(records: &mut RecordList, slot: usize, place: usize) -> Opt
     records.get_mut_in(slot, place)?.as_lookup_mut()
 }
 
-/// The pipe of this number that a guest reads.
+/// The readable pipe of this number, if that record is one.
 pub fn input_pipe(records: &RecordList, place: usize) -> Option<&InputPipeCore>
     ensures item { option_map (λ p. p.now) result ≡ input_pipe_at records.now.items place }
 {
     records.get(place)?.as_input_pipe()
 }
 
-/// The pipe of this number that a guest reads, to be changed where it is.
+/// The readable pipe of this number, to be changed, if that record is one.
 pub fn input_pipe_mut(records: &mut RecordList, place: usize) -> Option<&mut InputPipeCore>
     ensures* writes_back { sem 𝓛 (LendsIf records_row input_pipe_row records.entry result (with_input_pipe records.old place) records.old) }
     ensures item { option_map (λ p. p.now) result ≡ input_pipe_at records.old.items place }
@@ -251,14 +252,14 @@ pub fn input_pipe_mut(records: &mut RecordList, place: usize) -> Option<&mut Inp
     records.get_mut(place)?.as_input_pipe_mut()
 }
 
-/// The pipe of this number that a guest writes.
+/// The writable pipe of this number, if that record is one.
 pub fn output_pipe(records: &RecordList, place: usize) -> Option<&OutputPipe>
     ensures item { option_map (λ p. p.now) result ≡ output_pipe_at records.now.items place }
 {
     records.get(place)?.as_output_pipe()
 }
 
-/// The pipe of this number that a guest writes, to be changed where it is.
+/// The writable pipe of this number, to be changed, if that record is one.
 pub fn output_pipe_mut(records: &mut RecordList, place: usize) -> Option<&mut OutputPipe>
     ensures* writes_back { sem 𝓛 (LendsIf records_row output_pipe_row records.entry result (with_output_pipe records.old place) records.old) }
     ensures item { option_map (λ p. p.now) result ≡ output_pipe_at records.old.items place }

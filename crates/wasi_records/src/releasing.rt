@@ -12,8 +12,8 @@ use std::alloc::AllocError;
 use wasi_world::{OpId, World};
 
 impl Tcp2Socket {
-    /// Releases what it has: what it listens by, the open halves, the receiving one first, and then its network socket. A write
-    /// in progress ends with its rest unwritten.
+    /// Releases its listener or listen in progress, then the open halves, the receiving one first,
+    /// and then its network socket. A write in progress ends with its rest unwritten.
     pub fn release<W: World>(&mut self, world: &mut W, op: OpId) -> Result<(), AllocError>
         requires { (W.seen world.old).ended ≡ false }
         ensures asked { AsksFor (release_asks op self.old) (W.seen world.old) (W.seen world.new) (λ done. (done, self.new)) result }
@@ -25,7 +25,8 @@ impl Tcp2Socket {
         self.release_connection(world, op)
     }
 
-    /// Releases the open halves, the receiving one first, and then its network socket. It doesn't listen.
+    /// Releases the open halves, the receiving one first, and then the network socket, of a socket
+    /// that doesn't listen.
     fn release_connection<W: World>(&mut self, world: &mut W, op: OpId) -> Result<(), AllocError>
         requires open { (W.seen world.old).ended ≡ false }
         requires not { self.old.listening ≡ Listening.Not }
@@ -51,7 +52,7 @@ impl Tcp2Socket {
         }
     }
 
-    /// Closes the network socket, where there is one.
+    /// Closes the network socket, if it has one.
     fn close<W: World>(&mut self, world: &mut W, op: OpId) -> Result<(), AllocError>
         requires open { (W.seen world.old).ended ≡ false }
         requires not { self.old.listening ≡ Listening.Not }

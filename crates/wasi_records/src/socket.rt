@@ -14,14 +14,15 @@ use wasi_addr::{IpSocketAddress, p2};
 use wasi_tcp::{ReadState, TcpSocket, WriteState};
 use wasi_world::{Answer, OpId, Refusal, Sock, World};
 
-/// What a guest reads from a connection by, and what it writes to it by.
+/// The two ends of a connection: what the guest reads from, and what it writes to.
 #[derive(Drop)]
 pub struct Streams {
     pub reader: ReadState,
     pub writer: WriteState,
 }
 
-/// The socket, its operation in progress, how far it is with listening, and its streams once they were made.
+/// The record of a TCP socket of 0.2: the socket, its operation in progress, how far it is with
+/// listening, and its streams once they were made.
 #[derive(Drop)]
 pub struct Tcp2Socket {
     // First, since each turn looks here: fields lie in this order, and a record is several cache lines long.
@@ -34,7 +35,7 @@ pub struct Tcp2Socket {
 }
 
 impl Tcp2Socket {
-    /// The record of a socket that does nothing yet, and has no streams. Takes no memory.
+    /// The record of a socket with no operation in progress and no streams. Takes no memory.
     pub fn new(inner: TcpSocket) -> Tcp2Socket
         ensures { result ≡ new_record inner }
     {
@@ -48,7 +49,7 @@ impl Tcp2Socket {
         }
     }
 
-    /// Begins a connect, which is in progress then.
+    /// Begins a connect (`tcp-socket.start-connect`), which is in progress from then on.
     pub fn begin_connect<W: World>(
         &mut self,
         world: &mut W,
@@ -66,7 +67,8 @@ impl Tcp2Socket {
         Ok(())
     }
 
-    /// Polls the connect in progress. Pending: `WouldBlock`. Ended, either way, it is in progress no more.
+    /// Polls the connect in progress once (`tcp-socket.finish-connect`). Pending: `WouldBlock`.
+    /// Connected or refused, it is in progress no more.
     pub fn poll_connect<W: World>(&mut self, world: &mut W) -> Result<(), SocketError>
         requires { (W.seen world.old).ended ≡ false }
         ensures asked { AsksFor (poll_connect_asks self.old) (W.seen world.old) (W.seen world.new) (λ done. (done, self.new)) (host_outcome result) }
@@ -77,7 +79,7 @@ impl Tcp2Socket {
         self.settle_connect(polled)
     }
 
-    /// What a poll of the connect makes of the record, and of the answer.
+    /// Keeps in the record what a poll of its connect came to, and gives the answer.
     fn settle_connect(&mut self, polled: Result<Answer<()>, Refusal>) -> Result<(), SocketError>
         ensures told { host_outcome result ≡ connect_told self.old polled }
         ensures settled { self.new ≡ connect_settled self.old polled }
@@ -96,7 +98,7 @@ impl Tcp2Socket {
         }
     }
 
-    /// Takes the two halves of the connection. With no operation in progress.
+    /// Takes the two halves of the connection as its streams, once no operation is in progress.
     pub(crate) fn open_streams(&mut self) -> Result<(), SocketError>
         requires { self.old.in_progress ≡ InProgress.Nothing }
         ensures told { host_outcome result ≡ Ok (opened self.old self.old.inner).0 }
@@ -120,7 +122,8 @@ impl Tcp2Socket {
         Ok(())
     }
 
-    /// The local address.
+    /// The local address (`tcp-socket.local-address`); errors are those of
+    /// `TcpSocket::local_address`.
     pub fn local_address<W: World>(
         &mut self,
         world: &mut W,
@@ -135,7 +138,8 @@ impl Tcp2Socket {
         self.inner.local_address(world, op)
     }
 
-    /// The remote address.
+    /// The remote address (`tcp-socket.remote-address`); errors are those of
+    /// `TcpSocket::remote_address`.
     pub fn remote_address<W: World>(
         &mut self,
         world: &mut W,

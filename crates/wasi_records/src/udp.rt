@@ -20,7 +20,7 @@ use wasi_addr::{ErrorCode, IpSocketAddress};
 use wasi_udp::{CreateOp, UdpBindOp, UdpSocket};
 use wasi_world::{Answer, OpId, Refusal, Sock, World, asks};
 
-/// A create that was begun: it isn't over, so a poll of it asks.
+/// A create in progress. It has a call left to make, so a poll of it asks the network.
 #[derive(Drop)]
 pub struct PendingCreate {
     create: CreateOp,
@@ -39,7 +39,7 @@ impl Model for PendingCreate {
 }
 
 impl PendingCreate {
-    /// Keeps a create that isn't over. Takes no memory.
+    /// Keeps a create that hasn't ended. Takes no memory.
     pub fn new(create: CreateOp) -> PendingCreate
         requires { is_going create.operation ≡ true }
         ensures { result ≡ create }
@@ -53,7 +53,7 @@ impl PendingCreate {
         self.create.side()
     }
 
-    /// Gives it up: its network socket is closed. Out of memory nothing was asked.
+    /// Gives the create up: its network socket is closed. Out of memory nothing was asked.
     pub fn cancel<W: World>(&self, world: &mut W) -> Result<(), AllocError>
         requires { (W.seen world.old).ended ≡ false }
         ensures asked { AsksFor (create_cancel_asks self.now) (W.seen world.old) (W.seen world.new) (λ done. done) result }
@@ -72,7 +72,7 @@ impl PendingCreate {
     }
 }
 
-/// A bind that was begun: it isn't over, so a poll of it asks.
+/// A bind in progress. It has a call left to make, so a poll of it asks the network.
 #[derive(Drop)]
 pub struct PendingUdpBind {
     bind: UdpBindOp,
@@ -106,14 +106,14 @@ impl PendingUdpBind {
     }
 }
 
-/// What a UDP socket is in the middle of.
+/// The operation that a UDP socket has in progress.
 #[derive(Drop)]
 pub enum UdpInProgress {
-    /// Nothing was started, or it was finished.
+    /// None was started, or it was finished.
     Nothing,
-    /// A bind was begun, and its start is pending.
+    /// A bind, whose start is pending.
     Binding(PendingUdpBind),
-    /// A bind was started, and isn't finished.
+    /// A bind that was started, and isn't finished.
     Bound,
 }
 
@@ -133,33 +133,34 @@ impl UdpInProgress {
     }
 }
 
-/// A UDP socket that was made and isn't dropped, what it is in the middle of, and its datagram streams.
+/// A UDP socket that was created and isn't dropped, with its operation in progress and its datagram
+/// streams.
 #[derive(Drop)]
 pub struct OpenUdp {
     // These come first, since each turn looks here: fields lie in this order, and a record is several cache lines long.
     pub inner: UdpSocket,
-    /// Its incoming datagram stream, while that is live.
+    /// Its incoming datagram stream, while that one is live.
     pub incoming: Option<Incoming>,
-    /// Its outgoing datagram stream, likewise.
+    /// Its outgoing datagram stream, while that one is live.
     pub outgoing: Option<Outgoing>,
     pub in_progress: UdpInProgress,
-    /// The connect by which its datagram streams are made, while that is pending.
+    /// The connect that comes before its datagram streams, while that is pending.
     pub connecting: Option<PendingUdpConnect>,
 }
 
 /// A UDP socket of the 0.2 interface.
 #[derive(Drop)]
 pub enum Udp2Socket {
-    /// Its network socket was made, and is waited for; it has no handle yet.
+    /// Its network socket was made, and is waited for until it can send; it has no handle yet.
     Creating(PendingCreate),
-    /// It is there.
+    /// It was created, and isn't dropped.
     Open(OpenUdp),
-    /// Its network socket, with which its handles were marked, was closed.
+    /// It was dropped, and this network socket was closed; its handles are logged with it.
     Closed(Sock),
 }
 
 impl Udp2Socket {
-    /// The network socket that it was made with, also once that is closed.
+    /// The network socket that it was made with, also after that is closed.
     pub fn side(&self) -> Sock
         ensures { result ≡ udp_side self.now }
     {
@@ -170,7 +171,7 @@ impl Udp2Socket {
         }
     }
 
-    /// The network socket that it holds: none once it is closed.
+    /// The network socket that it holds; `None` once that is closed.
     pub(crate) fn held(&self) -> Option<Sock>
         ensures { one_if_some result ≡ udp_holds self.now }
     {
@@ -181,7 +182,7 @@ impl Udp2Socket {
         }
     }
 
-    /// The socket, where it is there.
+    /// The socket, where it is open.
     pub(crate) fn as_open(&self) -> Option<&OpenUdp>
         ensures { option_map (λ o. o.now) result ≡ open_of (Some self.now) }
     {
@@ -191,7 +192,7 @@ impl Udp2Socket {
         }
     }
 
-    /// The socket, where it is there, to be changed.
+    /// The socket, to be changed, where it is open.
     pub(crate) fn as_open_mut(&mut self) -> Option<&mut OpenUdp>
         ensures* writes_back { sem 𝓛 (LendsIf udp_row open_row self.entry result Open self.old) }
         ensures value { option_map (λ o. o.now) result ≡ open_of (Some self.old) }
@@ -202,9 +203,9 @@ impl Udp2Socket {
         }
     }
 
-    /// Waits for the network socket: done, the socket is there; pending, the create is kept; refused, the network socket was
-    /// closed. No create was begun: `InvalidState`. Out of memory, the create is kept as after its last answered ask: a poll of it
-    /// asks what is left.
+    /// Polls the create in progress once. Done: the socket is open. Pending: it is kept. Refused:
+    /// the network socket was closed. None in progress: `InvalidState`. Out of memory it is kept
+    /// after its last answered call, and the next poll goes on from there.
     pub fn poll_create<W: World>(&mut self, world: &mut W) -> Result<Answer<()>, Refusal>
         requires { (W.seen world.old).ended ≡ false }
         ensures asked { AsksFor (poll_create_asks self.old) (W.seen world.old) (W.seen world.new) (λ answer. (answer, self.new)) (outcome result) }
@@ -227,7 +228,7 @@ impl Udp2Socket {
         }
     }
 
-    /// What a poll of a create, which was taken out for it, makes of the record.
+    /// Keeps in the record what a poll of its create came to.
     fn settle_create(
         &mut self,
         create: CreateOp,
@@ -263,8 +264,8 @@ impl Udp2Socket {
         }
     }
 
-    /// Closes the network socket, where the socket is there, as its drop does. Out of memory, nothing was asked, and it is as
-    /// it was.
+    /// Closes the network socket of an open socket, as its drop does. Out of memory nothing was
+    /// asked, and it stays as it was.
     pub fn close<W: World>(&mut self, world: &mut W, op: OpId) -> Result<(), AllocError>
         requires { (W.seen world.old).ended ≡ false }
         ensures asked { AsksFor (close_udp_asks op self.old) (W.seen world.old) (W.seen world.new) (λ done. (done, self.new)) result }
@@ -284,7 +285,7 @@ impl Udp2Socket {
 }
 
 impl OpenUdp {
-    /// Begins a bind and polls it.
+    /// Begins a bind (`udp-socket.start-bind`) and polls it once.
     pub fn begin_bind<W: World>(
         &mut self,
         world: &mut W,
@@ -302,9 +303,9 @@ impl OpenUdp {
         self.poll_bind(world)
     }
 
-    /// Polls the bind that was begun: done, it was started; pending, it is kept; refused, nothing is in progress. Out of memory, it
-    /// is kept as after its last answered ask: a poll of it asks what is left.
-    /// None was begun: `InvalidState`.
+    /// Polls the bind in progress once. Done: it is started, and `finish-bind` ends it. Pending: it
+    /// is kept. Refused: nothing is in progress. None in progress: `InvalidState`. Out of memory it
+    /// is kept after its last answered call, and the next poll goes on from there.
     pub fn poll_bind<W: World>(&mut self, world: &mut W) -> Result<Answer<()>, Refusal>
         requires { (W.seen world.old).ended ≡ false }
         ensures asked { AsksFor (poll_udp_bind_asks self.old) (W.seen world.old) (W.seen world.new) (λ answer. (answer, self.new)) (outcome result) }
@@ -327,7 +328,7 @@ impl OpenUdp {
         }
     }
 
-    /// What a poll of a bind, which was taken out for it, makes of the record.
+    /// Keeps in the record what a poll of its bind came to.
     fn settle_bind(
         &mut self,
         bind: UdpBindOp,
@@ -355,7 +356,8 @@ impl OpenUdp {
         }
     }
 
-    /// The local address.
+    /// The local address (`udp-socket.local-address`); errors are those of
+    /// `UdpSocket::local_address`.
     pub fn local_address<W: World>(
         &mut self,
         world: &mut W,

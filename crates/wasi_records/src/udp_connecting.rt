@@ -13,7 +13,7 @@ use wasi_addr::{ErrorCode, IpSocketAddress};
 use wasi_udp::UdpConnectOp;
 use wasi_world::{Answer, OpId, Refusal, World};
 
-/// A connect that was begun: it isn't over, so a poll of it asks.
+/// A connect in progress. It has a call left to make, so a poll of it asks the network.
 #[derive(Drop)]
 pub struct PendingUdpConnect {
     connect: UdpConnectOp,
@@ -48,7 +48,8 @@ impl PendingUdpConnect {
 }
 
 impl OpenUdp {
-    /// Makes both streams; the incoming one keeps the remote address of now.
+    /// Makes both datagram streams. The incoming one keeps the remote address that the socket has
+    /// now.
     fn open_streams(&mut self)
         ensures { self.new ≡ with_streams self.old }
     {
@@ -59,8 +60,9 @@ impl OpenUdp {
         self.outgoing = Some(Outgoing::new());
     }
 
-    /// Begins to make both streams. The socket isn't bound: `InvalidState`. With an address it is connected to it first, which is
-    /// polled; without one it is disconnected, where it was connected.
+    /// Begins to make both datagram streams (`udp-socket.stream`). A socket that isn't bound:
+    /// `InvalidState`. With an address a connect to it is begun and polled first; without one a
+    /// connected socket is disconnected.
     pub fn begin_streams<W: World>(
         &mut self,
         world: &mut W,
@@ -82,7 +84,7 @@ impl OpenUdp {
         }
     }
 
-    /// Begins a connect and polls it.
+    /// Begins a connect and polls it once.
     fn begin_connect<W: World>(
         &mut self,
         world: &mut W,
@@ -100,7 +102,7 @@ impl OpenUdp {
         self.poll_connect(world)
     }
 
-    /// Takes the remote address away, where there is one, and makes the streams.
+    /// Takes the remote address away, if the socket has one, and makes the streams.
     fn disconnect<W: World>(&mut self, world: &mut W, op: OpId) -> Result<Answer<()>, Refusal>
         requires { (W.seen world.old).ended ≡ false }
         ensures asked { AsksFor (streams_to op self.old None) (W.seen world.old) (W.seen world.new) (λ answer. (answer, self.new)) (outcome result) }
@@ -115,8 +117,9 @@ impl OpenUdp {
         Ok(Answer::Ready(()))
     }
 
-    /// Polls the connect that was begun: done, the streams are made; pending, it is kept; refused, there are no streams. None was
-    /// begun: `InvalidState`. Out of memory, it is kept as after its last answered ask: a poll of it asks what is left.
+    /// Polls the connect in progress once. Done: the streams are made. Pending: it is kept.
+    /// Refused: there are no streams. None in progress: `InvalidState`. Out of memory it is kept
+    /// after its last answered call, and the next poll goes on from there.
     pub fn poll_connect<W: World>(&mut self, world: &mut W) -> Result<Answer<()>, Refusal>
         requires { (W.seen world.old).ended ≡ false }
         ensures asked { AsksFor (poll_udp_connect_asks self.old) (W.seen world.old) (W.seen world.new) (λ answer. (answer, self.new)) (outcome result) }
@@ -135,7 +138,7 @@ impl OpenUdp {
         }
     }
 
-    /// What a poll of a connect, which was taken out for it, makes of the record.
+    /// Keeps in the record what a poll of its connect came to.
     fn settle_connect(
         &mut self,
         connect: UdpConnectOp,

@@ -6,7 +6,7 @@ ghost use Rattle.wasi_steps.specs.Steps.{handle_steps, udp_handle_steps, output_
 
 use crate::step::Step;
 
-/// The step of this word that has no other argument than a handle, among the words of no socket and no output.
+/// The step of this word, which takes a handle alone and is no socket's and no output's.
 #[tactic(auto, unfolding(world_text::specs::Fields::read_then, world_text::specs::Fields::give, world_text::specs::Fields::give_some))]
 fn other_handle_step(context: u32, word: &str, handle: u32) -> Option<Step>
     ensures { ReadsNumber 4294967295 (rows_of (other_handle_steps context)) word.now handle result }
@@ -35,7 +35,7 @@ fn other_handle_step(context: u32, word: &str, handle: u32) -> Option<Step>
     }
 }
 
-/// The step of this word that has no other argument than a handle, among the words of no socket.
+/// The step of this word, which takes a handle alone and is no socket's.
 #[tactic(auto, unfolding(world_text::specs::Fields::read_then, world_text::specs::Fields::give, world_text::specs::Fields::give_some))]
 fn output_handle_step(context: u32, word: &str, handle: u32) -> Option<Step>
     ensures { ReadsNumber 4294967295 (rows_of (output_handle_steps context ++ other_handle_steps context)) word.now handle result }
@@ -51,7 +51,7 @@ fn output_handle_step(context: u32, word: &str, handle: u32) -> Option<Step>
     }
 }
 
-/// The step of this word that has no other argument than a handle, among the words of a UDP socket and of no socket.
+/// The step of this word, which takes a handle alone and is no TCP socket's.
 #[tactic(auto, unfolding(world_text::specs::Fields::read_then, world_text::specs::Fields::give, world_text::specs::Fields::give_some))]
 fn udp_handle_step(context: u32, word: &str, handle: u32) -> Option<Step>
     ensures { ReadsNumber 4294967295 (rows_of (udp_handle_steps context ++ output_handle_steps context ++ other_handle_steps context)) word.now handle result }
@@ -71,7 +71,7 @@ fn udp_handle_step(context: u32, word: &str, handle: u32) -> Option<Step>
     }
 }
 
-/// The step of this word that has no other argument than a handle.
+/// The step of this word, which takes a handle alone; `None` where no step does.
 #[tactic(auto, unfolding(world_text::specs::Fields::read_then, world_text::specs::Fields::give, world_text::specs::Fields::give_some))]
 pub(crate) fn handle_step(context: u32, word: &str, handle: u32) -> Option<Step>
     ensures { ReadsNumber 4294967295 (rows_of (handle_steps context)) word.now handle result }

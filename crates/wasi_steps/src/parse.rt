@@ -119,8 +119,8 @@ fn udp_setting(fields: &mut Fields<'_>) -> Option<UdpSetting>
     }
 }
 
-/// Takes what follows the handle of a step word: more arguments where the word is a UDP socket's or a stream's and has them, else
-/// nothing.
+/// Takes what follows the handle of a step word: more arguments where the word is a UDP socket's or
+/// a stream's and takes them, else nothing.
 #[tactic(auto, unfolding(world_text::specs::Fields::read_then, world_text::specs::Fields::give, world_text::specs::Fields::give_some))]
 fn udp_arguments(fields: &mut Fields<'_>, context: u32, word: &str, handle: u32) -> Option<Step>
     ensures { ReadsAfter 4294967295 (rows_of (udp_value_steps context ++ input_value_steps context ++ output_value_steps context ++ handle_steps context)) word.now handle fields.old result fields.new }
@@ -156,8 +156,8 @@ fn udp_arguments(fields: &mut Fields<'_>, context: u32, word: &str, handle: u32)
     }
 }
 
-/// Takes what follows the handle of a step word: more arguments where the word is a socket's or a stream's and has them, else
-/// nothing.
+/// Takes what follows the handle of a step word: more arguments where the word is a socket's or a
+/// stream's and takes them, else nothing.
 #[tactic(auto, unfolding(world_text::specs::Fields::read_then, world_text::specs::Fields::give, world_text::specs::Fields::give_some))]
 fn tcp_arguments(fields: &mut Fields<'_>, context: u32, word: &str, handle: u32) -> Option<Step>
     ensures { ReadsAfter 4294967295 (rows_of (value_steps context ++ handle_steps context)) word.now handle fields.old result fields.new }
@@ -306,8 +306,9 @@ fn step(alloc: Global, fields: &mut Fields<'_>, contexts: u32) -> Result<Option<
     }
 }
 
-/// The step that a line is, without its newline, where there are so many contexts; none where it is no step of theirs. The
-/// bytes of a pipe or of a write take memory, and so do the datagrams of a send and the name of a resolve.
+/// The step that a line is, given without its newline, where there are `contexts` contexts; `None`
+/// where it is no step. Takes memory for the bytes of a pipe or a write, the datagrams of a send,
+/// the handles of a poll-list and the name of a resolve.
 #[tactic(auto, unfolding(crate::specs::Steps::step_of))]
 pub fn parse_step(alloc: Global, line: &[u8], contexts: u32) -> Result<Option<Step>, AllocError>
     ensures { IfOk result (λ step. step ≡ step_of contexts line.now) }
@@ -317,9 +318,13 @@ pub fn parse_step(alloc: Global, line: &[u8], contexts: u32) -> Result<Option<St
     Ok(if fields.is_done() { step } else { None })
 }
 
-/// A line is a step exactly where it is that step's line, and its context, where it has one, is one of so many. Nothing
-/// but visible ASCII characters and spaces is in it, unless it has a name; and then too it is UTF-8, with no newline and no
-/// carriage return.
+/// A line is read as a step exactly where it is the line that is written for that step.
+///
+/// - `exactly`: a line gives a step exactly where it is that step's line and its context, if it has
+///   one, is one of `contexts`.
+/// - `visible`: the line of a step without a host name has only visible ASCII characters and
+///   spaces.
+/// - `text`: the line of any step is UTF-8, with no newline and no carriage return.
 pub fn steps_are_their_lines()
     ensures exactly { (contexts : ℕ) (line : List ℕ) (s : Step) → (step_of contexts line ≡ Some s) ↔ ((line ≡ line_of s) × IsStep contexts s) }
     ensures visible { (contexts : ℕ) (line : List ℕ) (s : Step) → step_of contexts line ≡ Some s → takes_a_name s ≡ false → IsVisible line }

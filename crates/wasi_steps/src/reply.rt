@@ -18,10 +18,15 @@ use wasi_world::{Handle, Octets, TrapKind};
 /// One field of an `ok` reply.
 #[derive(Drop)]
 pub enum Field {
+    /// A number: a handle, a count or the value of an option.
     Number(u64),
+    /// Bytes, in hexadecimal digits.
     Bytes(Octets),
+    /// `true`.
     True,
+    /// `false`.
     False,
+    /// `none`.
     Absent,
 }
 
@@ -41,12 +46,14 @@ impl Model for ReplyFields {
 }
 
 impl ReplyFields {
+    /// The fields of a vector, in its order. Takes no memory.
     pub fn from_vec(fields: Vec<Field>) -> ReplyFields
         ensures { result ≡ fields.items }
     {
         ReplyFields { fields }
     }
 
+    /// The fields, to be read.
     pub fn as_slice(&self) -> &[Field]
         ensures { result.now ≡ self.now }
     {
@@ -54,7 +61,8 @@ impl ReplyFields {
     }
 }
 
-/// The word of a code: those of every generation.
+/// The word of a code. The codes of every generation and those of a lookup have one, named as the
+/// code.
 #[derive(Clone, Copy, Debug, PartialEq, Eq)]
 pub enum CodeWord {
     Unknown,
@@ -83,7 +91,7 @@ pub enum CodeWord {
 }
 
 impl CodeWord {
-    /// The word of a 0.2 code, by name.
+    /// The word of a 0.2 code, which has the code's name.
     pub fn from_p2(code: p2::ErrorCode) -> CodeWord
         ensures { result ≡ word_of_p2 code }
     {
@@ -127,25 +135,33 @@ impl fmt::Display for CodeWord {
 /// What a step answers; each reply is one line.
 #[derive(Drop)]
 pub enum Reply {
+    /// The call is done, with these fields.
     Ok(ReplyFields),
+    /// The call returned this code.
     Err(CodeWord),
-    /// A stream call answered `Closed`.
+    /// A call of a stream returned `closed`.
     Closed,
-    /// A stream call's last operation failed, with this code; the handle is of the new error.
+    /// A call of a stream returned `last-operation-failed`, with this code; the handle is that of
+    /// the new error.
     Failed(CodeWord, Handle),
-    /// Ends the run.
+    /// The call broke a rule of the interface, which ends the run.
     Trap(TrapKind),
-    /// The call of this line is pending.
+    /// The call is pending under this number, that of its line.
     Pending(u32),
-    /// An exclusive call is pending, and this step is another guest call.
+    /// Another call is pending, so this call of a guest wasn't made.
     Busy,
+    /// No call is pending under the number that a poll or a cancel gives.
     NoSuchCall,
+    /// A word of the grammar that no step answers yet.
     Cancelled,
+    /// A word of the grammar that no step answers yet.
     Dropped,
+    /// A word of the grammar that no step answers yet.
     Unfilled,
 }
 
 impl Reply {
+    /// Whether it is a trap, which ends the run.
     pub fn is_trap(&self) -> bool
         ensures { result ≡ is_trap self.now }
     {
@@ -263,9 +279,12 @@ pub fn reply_text(alloc: Global, reply: &Reply) -> Result<Octets, AllocError>
     Ok(Octets::from_vec(text.into_bytes()))
 }
 
-/// Two different replies of one step have different texts, unless the step is a poll. That may poll any call that can be pending,
-/// and `ok 10` tells a number of one call and a byte of another. But the replies of one call all have fields of the same
-/// kinds, which are one of `polled_fields` where the call can be pending, and two different replies of these have different texts.
+/// Different replies have different texts.
+///
+/// - `of_a_step`: two different replies of one step, unless the step is a poll. A poll may answer
+///   for any call that can be pending, and `ok 10` is a number of one call and a byte of another.
+/// - `of_a_polled_call`: two different replies of one call that can be pending. Its replies have
+///   fields of the kinds in one row of `polled_fields`.
 pub fn replies_are_told_apart()
     ensures of_a_step { (s : Step) (r q : Reply) → is_poll s ≡ false → Gives s r → Gives s q → text_of r ≡ text_of q → r ≡ q }
     ensures of_a_polled_call { (kinds : FieldKinds) (r q : Reply) → Contains polled_fields kinds → GivesAs kinds r → GivesAs kinds q → text_of r ≡ text_of q → r ≡ q }

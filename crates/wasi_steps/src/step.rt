@@ -247,13 +247,14 @@ pub enum Step {
         input: Handle,
         len: u64,
     },
-    /// Reads as [`Step::Read`], once there are bytes to read (`input-stream.blocking-read`).
+    /// Reads at most this many bytes, once there are bytes to read (`input-stream.blocking-read`).
     BlockingRead {
         context: u32,
         input: Handle,
         len: u64,
     },
-    /// Skips as [`Step::Skip`], once there are bytes to skip (`input-stream.blocking-skip`).
+    /// Reads at most this many bytes, once there are bytes to read, and gives only how many they
+    /// were (`input-stream.blocking-skip`).
     BlockingSkip {
         context: u32,
         input: Handle,
@@ -278,8 +279,8 @@ pub enum Step {
         context: u32,
         output: Handle,
     },
-    /// Splices as [`Step::Splice`], once the output permits it and there are bytes to read
-    /// (`output-stream.blocking-splice`).
+    /// Writes to the output at most this many bytes that are read from the input, once the output
+    /// permits it and there are bytes to read (`output-stream.blocking-splice`).
     BlockingSplice {
         context: u32,
         output: Handle,
@@ -291,23 +292,23 @@ pub enum Step {
         context: u32,
         pollable: Handle,
     },
-    /// Waits until what one of the pollables watches is ready (`poll`).
+    /// Polls the pending call with this number, that of the line that began it.
     PollList {
         context: u32,
         pollables: NumberList,
     },
-    /// Which error of the network an error of a stream is; none of them is one (`network-error-code`).
+    /// The network's code in the error of a stream, which is always `none` in 0.2: the code was
+    /// returned when the stream failed (`network-error-code`).
     NetworkErrorCode {
         context: u32,
         error: Handle,
     },
-    /// Makes a pollable of what the handle is of (`subscribe` of the socket, of the input-stream, of the
-    /// output-stream).
+    /// Makes a pollable for what the handle stands for (`subscribe` of the resource).
     Subscribe {
         context: u32,
         handle: Handle,
     },
-    /// Whether what the pollable waits for is there (`pollable.ready`).
+    /// Whether what the pollable watches is ready (`pollable.ready`).
     Ready {
         context: u32,
         pollable: Handle,
@@ -317,20 +318,22 @@ pub enum Step {
         context: u32,
         handle: Handle,
     },
-    /// The host's background work continues: each background write is polled once.
+    /// The host's background work goes on: each write, datagram, receive and lookup in progress is
+    /// polled once.
     Turn,
     /// Polls the pending call under this number, which is that of the line that began it.
     Poll {
         call: u32,
     },
-    /// Gives up the pending call under this number, which is that of the line that began it.
+    /// Gives up the pending call with this number, that of the line that began it.
     Cancel {
         call: u32,
     },
 }
 
 impl Step {
-    /// The number of the context that makes the call; none for a turn, a poll and a cancel, which are no calls of a guest.
+    /// The number of the context that makes the call; `None` for a turn, a poll and a cancel, which
+    /// no guest makes.
     pub fn context(&self) -> Option<u32>
         ensures { result ≡ context_of self.now }
     {
@@ -395,8 +398,8 @@ impl Step {
     }
 }
 
-/// The form of each step's line and what the step does, a line each, for a program's help. In front stands the number of a
-/// context, here 0; each kind of argument has its letters.
+/// The help of a program: for each step, the form of its line and what it does, a line each. In
+/// front stands the number of a context, here 0; each kind of argument has its letters.
 pub const STEP_FORMS: &str = "    0 network                               makes a network
     0 tcp-create F                          makes a TCP socket; F is 4 or 6
     0 tcp-start-bind S N 4 a b c d port     binds socket S by network N
@@ -457,7 +460,10 @@ pub const STEP_FORMS: &str = "    0 network                               makes 
     cancel N                                gives that call up
 ";
 
-/// Each step has its line in [`STEP_FORMS`], with the word and the arguments of its signature, and no other line stands there.
+/// [`STEP_FORMS`] lists the steps and nothing else.
+///
+/// - `each`: each step has a line there, with the word and the arguments of its signature.
+/// - `no_other`: there are no more lines than steps.
 pub fn step_forms_are_of_signatures()
     ensures each { (s : Step) → has_form STEP_FORMS.now s ≡ true }
     ensures no_other { count_by (λ b. b == 10) STEP_FORMS.now ≡ length (steps 0 ++ bare_steps) }

@@ -8,7 +8,7 @@ use wasi_world::TrapKind;
 /// Why a call of a stream failed (`StreamError` of the crate wasmtime-wasi, with out of memory beside it).
 #[derive(Debug, PartialEq, Eq, Drop, Error)]
 pub enum StreamError {
-    /// The operation that went before in the background failed with this code. It is reported once.
+    /// An earlier operation failed in the background with this code. It is reported once.
     #[error("the last operation failed: {0}")]
     LastOperationFailed(ErrorCode),
     /// The stream is at its end, was closed, or its failure was reported.

@@ -6,7 +6,7 @@ use thiserror::Error;
 use wasi_addr::p2;
 use wasi_world::{Refusal, TrapKind};
 
-/// Why a host call that returns no codes gave no value.
+/// Why a host call that returns no codes has no value.
 #[derive(Debug, Drop, Error)]
 pub enum Fault {
     /// The call broke a rule, which ends the guest's run.
@@ -28,8 +28,8 @@ impl From<AllocError> for Fault {
     }
 }
 
-/// Why a host call gave no value (`SocketError` of the crate wasmtime-wasi, with out of memory beside it). The codes are those
-/// of one generation of the interface.
+/// Why a host call has no value (`SocketError` of the crate wasmtime-wasi, with out of memory
+/// beside it). `C` is the type of the codes of one generation of the interface.
 #[derive(Debug, Drop, Error)]
 #[error_bound(C: Debug)]
 pub enum HostError<C> {

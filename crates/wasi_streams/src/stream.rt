@@ -10,7 +10,7 @@ use wasi_world::{Octets, OpId, World};
 /// More than any permit.
 const MOST_ZEROS: usize = 65537;
 
-/// So many zeros, and at most 65537.
+/// So many zeros, at most 65,537. Takes memory for them.
 fn zeros(alloc: Global, size: usize) -> Result<Octets, AllocError>
     ensures { IfOk result (λ bytes. bytes ≡ zeros size) }
 {
@@ -29,8 +29,8 @@ pub trait InputStream {
     /// What a read of so many bytes asks, what it answers, and the stream then.
     ghost reading: { OpId → Self → ℕ → Asks (Result (List ℕ) StreamStop × Self) };
 
-    /// Reads at most `size` bytes; no bytes where there is nothing yet. After running out of memory the stream is as it
-    /// was.
+    /// Reads at most `size` bytes; no bytes where there is nothing yet. Out of memory the stream
+    /// stays as it was.
     fn read<W: World>(
         &mut self,
         alloc: Global,
@@ -43,7 +43,8 @@ pub trait InputStream {
         ensures err { OnErr (stream_outcome result) (self.new ≡ self.old) }
         ensures open { (W.seen world.new).ended ≡ false };
 
-    /// Reads, and returns only how many bytes there were. After running out of memory the stream is as it was.
+    /// Reads at most `size` bytes, discards them, and returns how many there were. Out of memory
+    /// the stream stays as it was.
     fn skip<W: World>(
         &mut self,
         alloc: Global,
@@ -76,28 +77,28 @@ pub trait OutputStream {
 
     ghost flushing: { OpId → Self → Asks (Result (Unit {0}) StreamStop × Self) };
 
-    /// How many bytes the next write may have; none where there is no room yet. After running out of memory nothing was
-    /// asked.
+    /// The permit: how many bytes the next write may have, 0 where there is no room yet. Out of
+    /// memory nothing was asked.
     fn check_write<W: World>(&mut self, world: &mut W, op: OpId) -> Result<usize, StreamError>
         requires { (W.seen world.old).ended ≡ false }
         ensures asked { AsksFor (checking op self.old) (W.seen world.old) (W.seen world.new) (λ answer. (answer, self.new)) (stream_outcome result) }
         ensures unasked { OnErr (stream_outcome result) (W.seen world.new ≡ W.seen world.old) }
         ensures open { (W.seen world.new).ended ≡ false };
 
-    /// Writes bytes, no more than the last check permitted.
+    /// Writes bytes, no more than the permit of the last `check_write`.
     fn write<W: World>(&mut self, world: &mut W, op: OpId, bytes: Octets) -> Result<(), StreamError>
         requires { (W.seen world.old).ended ≡ false }
         ensures asked { AsksFor (writing op self.old bytes) (W.seen world.old) (W.seen world.new) (λ answer. (answer, self.new)) (stream_outcome result) }
         ensures open { (W.seen world.new).ended ≡ false };
 
-    /// Begins a flush. After running out of memory the stream is as it was.
+    /// Begins a flush. Out of memory the stream stays as it was.
     fn flush<W: World>(&mut self, world: &mut W, op: OpId) -> Result<(), StreamError>
         requires { (W.seen world.old).ended ≡ false }
         ensures asked { AsksFor (flushing op self.old) (W.seen world.old) (W.seen world.new) (λ answer. (answer, self.new)) (stream_outcome result) }
         ensures err { OnErr (stream_outcome result) (self.new ≡ self.old) }
         ensures open { (W.seen world.new).ended ≡ false };
 
-    /// Writes zeros; more than 65536 of them are never permitted. Takes memory for the zeros.
+    /// Writes this many zeros. More than 65,536 are never permitted. Takes memory for the zeros.
     fn write_zeroes<W: World>(
         &mut self,
         alloc: Global,
@@ -123,8 +124,8 @@ pub trait Pollable {
     /// What a look asks, what it answers, and the thing then.
     ghost looking: { OpId → Self → Asks (Bool × Self) };
 
-    /// Whether the next call on it gives something: bytes, room, or an error. After running out of memory nothing was
-    /// asked.
+    /// Whether the next call on it gives something: bytes, room, or an error. Out of memory nothing
+    /// was asked.
     fn poll_ready<W: World>(&mut self, world: &mut W, op: OpId) -> Result<bool, AllocError>
         requires { (W.seen world.old).ended ≡ false }
         ensures asked { AsksFor (looking op self.old) (W.seen world.old) (W.seen world.new) (λ ready. (ready, self.new)) result }

@@ -22,7 +22,7 @@ use std::collections::BTreeMap;
 use std::marker::Model;
 use thiserror::Error;
 
-/// At most so many handles are live at a time.
+/// How many handles are live at a time at most.
 const MOST_LIVE: usize = 65536;
 
 /// Why a table refused a call (`ResourceTableError` of the crate wasmtime, with out of memory beside it). A call that is
@@ -44,7 +44,7 @@ pub enum TableError {
 }
 
 impl TableError {
-    /// The number of an error, from 1 on.
+    /// The number of the error: 1 and up, in the order of the variants.
     pub fn number(self) -> u8
         ensures { result ≡ number_of self }
     {
@@ -110,7 +110,8 @@ impl<K> Table<K> {
         self.keys.len() >= MOST_LIVE || self.next == u32::MAX
     }
 
-    /// Makes a handle that is no child. `Full` where the table is full; `Memory` where there is none.
+    /// Makes a handle that is no child. `Full`: the table is full. `Memory`: memory for the slot
+    /// ran out.
     pub fn push(&mut self, value: K) -> Result<u32, TableError>
     where
         K: Drop,
@@ -130,8 +131,8 @@ impl<K> Table<K> {
         }
     }
 
-    /// Makes a handle that is a child of another. `NoSuchHandle` where the parent isn't live, which is tested first; `Full` where
-    /// the table is full; `Memory` where there is none.
+    /// Makes a handle that is a child of another. `NoSuchHandle`: the parent isn't live, which is
+    /// tested first. `Full`: the table is full. `Memory`: memory for the slot ran out.
     pub fn push_child(&mut self, value: K, parent: u32) -> Result<u32, TableError>
     where
         K: Drop,
@@ -155,7 +156,7 @@ impl<K> Table<K> {
         }
     }
 
-    /// The value of a live handle. Takes no memory.
+    /// The value of a live handle. `NoSuchHandle`: the handle isn't live. Takes no memory.
     pub fn get(&self, handle: u32) -> Result<&K, TableError>
         ensures found { IfOk result (λ v. value_at self.now.live handle ≡ Some v.now) }
         ensures missing { IfErr result (λ e. (e ≡ TableError.NoSuchHandle) × (value_at self.now.live handle ≡ None)) }
@@ -166,7 +167,8 @@ impl<K> Table<K> {
         }
     }
 
-    /// The handles of the live children of a live handle, in the order of their making. Takes no memory.
+    /// The live children of a live handle, in the order of their making. `NoSuchHandle`: the handle
+    /// isn't live. Takes no memory.
     pub fn children(&self, handle: u32) -> Result<&Handles, TableError>
         ensures listed { IfOk result (λ ids. ids.now ≡ children_of self.now.live handle) }
         ensures live { OnOk result (IsSome (value_at self.now.live handle)) }
@@ -178,8 +180,8 @@ impl<K> Table<K> {
         }
     }
 
-    /// The slots of the live handles, under keys of no meaning: one for each, with its value, its parent and its live children.
-    /// Takes no memory.
+    /// The slots of the live handles, one each, with its value, its parent and its live children;
+    /// the slab's keys have no meaning. Takes no memory.
     pub fn slots(&self) -> &Slab<Slot<K>>
         ensures live { AreOfLive self.now.live result.now }
         ensures each { HasEach self.now.live result.now }
@@ -188,8 +190,8 @@ impl<K> Table<K> {
         &self.slots
     }
 
-    /// Ends a live handle, takes it out from among its parent's children, and gives its value. `NoSuchHandle` where it isn't
-    /// live; `HasChildren` where it is and has a live child. Takes no memory.
+    /// Ends a live handle: takes it out from among its parent's children and returns its value.
+    /// `NoSuchHandle`: the handle isn't live. `HasChildren`: it has a live child. Takes no memory.
     pub fn delete(&mut self, handle: u32) -> Result<K, TableError>
         ensures value { IfOk result (λ v. value_at self.old.live handle ≡ Some v) }
         ensures childless { OnOk result (children_of self.old.live handle ≡ []) }
@@ -212,7 +214,8 @@ impl<K> Table<K> {
 impl<K> Table<K> {
     ghost use Rattle.wasi_table.specs.Lends.{lends_get, lends_value};
 
-    /// The value of a live handle, to be changed. Takes no memory.
+    /// The value of a live handle, to be changed. `NoSuchHandle`: the handle isn't live. Takes no
+    /// memory.
     pub fn get_mut(&mut self, handle: u32) -> Result<&mut K, TableError>
         ensures* lends { sem 𝓛 (lends_get K.row self.entry handle result) }
         ensures found { IfOk result (λ v. value_at self.old.live handle ≡ Some v.now) }

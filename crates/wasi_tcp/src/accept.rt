@@ -13,18 +13,23 @@ use wasi_common::{Asker, InRounds, poll_rounds};
 use wasi_world::asks::{Polled, Verdict};
 use wasi_world::{Answer, Refusal, Sock, World, asks};
 
-/// The ask that comes next, with the arrival that is in hand.
+/// The next call of an accept, with the arrival that is in hand.
 #[derive(Clone, Copy, Debug, PartialEq, Eq)]
 pub enum AcceptStage {
-    /// None is in hand.
+    /// The accept: no arrival is in hand.
     Accept,
+    /// The check of the arrival's peer.
     Check(IpSocketAddress),
+    /// The hand-over of the arrival: the check said yes.
     Hand(IpSocketAddress),
+    /// The refusal of the arrival: the check said no.
     Refuse(IpSocketAddress),
+    /// None: it ended, with a connection or a code.
     Over,
 }
 
-/// An accept that has begun: an arrival is checked, and then handed over, or refused, and the next is waited for.
+/// An accept in progress: an arrival is checked and handed over, or refused, and then the next one
+/// is waited for.
 #[derive(Drop)]
 pub struct AcceptOp {
     asker: Asker,
@@ -51,10 +56,14 @@ impl AcceptOp {
         }
     }
 
-    /// Asks what comes next. With no arrival in hand that is one accept: pending ends the poll, and a code is answered.
-    /// An arrival is checked for the listener's creator: a yes hands it over, and it is answered as a new network
-    /// socket, which has the accept's name, with the other end's address. A no refuses it, and the next is waited for;
-    /// after the 64th in one poll the answer is pending. After running out of memory it may be polled again.
+    /// Makes the calls that are left, until one is pending.
+    ///
+    /// - No arrival is in hand: one accept. Pending ends the poll, and a code is returned.
+    /// - An arrival is checked for the context that created the listener. A yes hands it over: the
+    ///   answer is the new network socket, which has the accept's name, and the peer's address. A
+    ///   no refuses it, and the next arrival is waited for.
+    /// - After the 64th refusal in one poll the answer is pending.
+    /// - Out of memory it may be polled again.
     pub(crate) fn poll<W: World>(
         &mut self,
         world: &mut W,

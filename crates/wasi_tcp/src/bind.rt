@@ -12,15 +12,18 @@ use wasi_common::Asker;
 use wasi_world::asks::Verdict;
 use wasi_world::{Answer, OpId, Refusal, Sock, World, asks};
 
-/// The ask that comes next.
+/// The next call of a bind.
 #[derive(Clone, Copy, Debug, PartialEq, Eq)]
 pub enum BindStage {
+    /// The check of the address.
     Check,
+    /// The bind.
     Bind,
+    /// None: it ended, bound or with a code.
     Over,
 }
 
-/// A bind that has begun: a check of the address, and then the bind.
+/// A bind in progress: the check of the address, and then the bind.
 #[derive(Drop)]
 pub struct BindOp {
     asker: Asker,
@@ -48,9 +51,12 @@ impl BindOp {
         }
     }
 
-    /// Asks what comes next: a no is `AccessDenied`, and a code is answered. After running out of memory it is as after its
-    /// last answered ask, and may be polled again. One that was done or refused: `InvalidState`, without an ask. The socket
-    /// that began it stays in the state Default; any other is left as it is, too.
+    /// Makes the calls that are left, until one is pending. No socket is changed: the one that
+    /// began it stays in the state Default.
+    ///
+    /// - A no of the check is `AccessDenied`, and a code is returned.
+    /// - Out of memory it stays after its last answered call, and may be polled again.
+    /// - One that has ended is `InvalidState`, and nothing is asked.
     pub fn poll<W: World>(
         &mut self,
         world: &mut W,

@@ -10,19 +10,22 @@ use wasi_common::Asker;
 use wasi_world::asks::{Polled, Verdict};
 use wasi_world::{Answer, Refusal, Sock, World, asks};
 
-/// The ask that comes next.
+/// The next call of a connect.
 #[derive(Clone, Copy, Debug, PartialEq, Eq)]
 pub enum ConnectStage {
+    /// The check of the remote address.
     CheckWildcard,
     Check,
+    /// The connect.
     Connect,
-    /// Refused with this code, and to be closed.
+    /// The close of the network socket: the connect was refused with this code.
     Close(ErrorCode),
+    /// None: it ended, connected or with a code.
     Over,
 }
 
-/// A connect that has begun: a check of the wildcard where the socket wasn't bound, a check of the address, and then
-/// the connect.
+/// A connect in progress: the check of the wildcard where the socket wasn't bound, the check of the
+/// address, and then the connect.
 #[derive(Drop)]
 pub struct ConnectOp {
     asker: Asker,
@@ -70,8 +73,9 @@ impl ConnectOp {
         self.asker.side
     }
 
-    /// Asks what comes next. A no is `AccessDenied`, and a code is answered; both close the network socket first. After
-    /// running out of memory it may be polled again.
+    /// Makes the calls that are left, until one is pending. A no of the check is `AccessDenied`,
+    /// and a code is returned; both close the network socket first. Out of memory it may be polled
+    /// again.
     pub(crate) fn poll<W: World>(&mut self, world: &mut W) -> Result<Answer<()>, Refusal>
         requires { (W.seen world.old).ended ≡ false }
         ensures polled { PollsFor (λ done. Nothing) Nothing self.old self.new (W.seen world.old) (W.seen world.new) result }

@@ -10,7 +10,7 @@ use wasi_addr::{ErrorCode, ShutdownType};
 use wasi_world::asks::Polled;
 use wasi_world::{Answer, Octets, OpId, Refusal, Sock, World, asks};
 
-/// One read asks for at most so many bytes.
+/// How many bytes one read asks for at most.
 const MOST_READ: usize = 65536;
 
 /// What comes in over a connection. It must be released in the end.
@@ -50,7 +50,8 @@ pub(crate) fn answered<T: Drop>(
 }
 
 impl TcpReceiveStream {
-    /// Whether there is something to read.
+    /// Reads at most `size` bytes, and at most 65,536; an answer of no bytes is the end. Where
+    /// `size` is 0 the answer is no bytes, and nothing is asked.
     pub fn poll_ready<W: World>(
         &mut self,
         world: &mut W,
@@ -88,7 +89,7 @@ impl TcpReceiveStream {
         answer(told)
     }
 
-    /// Gives this half up: shuts it down.
+    /// Shuts the receiving half down. Out of memory it isn't shut down.
     pub fn give_up<W: World>(self, world: &mut W, op: OpId) -> Result<(), AllocError>
         requires { (W.seen world.old).ended ≡ false }
         ensures asked { AsksFor (ask_shutdown op self.side ShutdownType.Receive) (W.seen world.old) (W.seen world.new) (λ done. done) result }
@@ -98,7 +99,7 @@ impl TcpReceiveStream {
         self.shut_down(world, op)
     }
 
-    /// Shuts this half down. Whoever keeps it lets it go then.
+    /// Shuts the receiving half down; its owner drops it then.
     pub(crate) fn shut_down<W: World>(&self, world: &mut W, op: OpId) -> Result<(), AllocError>
         requires { (W.seen world.old).ended ≡ false }
         ensures asked { AsksFor (ask_shutdown op self.now.side ShutdownType.Receive) (W.seen world.old) (W.seen world.new) (λ done. done) result }
@@ -110,7 +111,8 @@ impl TcpReceiveStream {
 }
 
 impl TcpSendStream {
-    /// Whether something may be written.
+    /// Whether something may be written, or a write would report a code. Out of memory nothing was
+    /// asked.
     pub fn poll_ready<W: World>(
         &mut self,
         world: &mut W,
@@ -144,7 +146,7 @@ impl TcpSendStream {
         answer(told)
     }
 
-    /// Gives this half up: shuts it down.
+    /// Shuts the sending half down. Out of memory it isn't shut down.
     pub fn give_up<W: World>(self, world: &mut W, op: OpId) -> Result<(), AllocError>
         requires { (W.seen world.old).ended ≡ false }
         ensures asked { AsksFor (ask_shutdown op self.side ShutdownType.Send) (W.seen world.old) (W.seen world.new) (λ done. done) result }
@@ -154,7 +156,7 @@ impl TcpSendStream {
         self.shut_down(world, op)
     }
 
-    /// Shuts this half down. Whoever keeps it lets it go then.
+    /// Shuts the sending half down; its owner drops it then.
     pub(crate) fn shut_down<W: World>(&self, world: &mut W, op: OpId) -> Result<(), AllocError>
         requires { (W.seen world.old).ended ≡ false }
         ensures asked { AsksFor (ask_shutdown op self.now.side ShutdownType.Send) (W.seen world.old) (W.seen world.new) (λ done. done) result }

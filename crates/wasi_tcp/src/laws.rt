@@ -21,9 +21,12 @@ ghost use Rattle.wasi_tcp.specs.Taken.{taken_in, IsFrontOf, IsTakenBy};
 ghost use Rattle.wasi_tcp.specs.Bounds.{IsWrite, HoldsWrite, most_polled, most_turned};
 ghost use Rattle.wasi_tcp.specs.declared.writer.WriteState.TheVariants as WriteState;
 
-/// A remote address, once it is reported, stays while the socket is connected: whatever calls are made on the socket but its
-/// close, and whatever the network answers, it is still connected with this address, which is answered without an ask. A
-/// poll of a listen isn't among them, since it takes only a socket that has no network socket.
+/// A remote address, once it is reported, stays while the socket is connected.
+///
+/// - `told`: where a call reports it, the socket is connected and keeps it.
+/// - `stays`: it is kept after any calls on the socket but its close, whatever the network answers.
+///   A poll of a listen isn't among them, since it takes only a socket without a network socket.
+/// - `answered`: the socket that keeps it answers it without asking.
 ///
 /// It runs no code: its contract is a law about the definitions that contracts cite.
 pub fn remote_address_stays()
@@ -35,9 +38,12 @@ pub fn remote_address_stays()
         KnowsPeer a socket → remote_asks op socket ≡ Give (Ok a, socket) }
 {}
 
-/// A write's bytes are taken in order, each once: at every point of the write, what its network socket took is the first of
-/// them. Where it is over and the half is ready again, all were taken; where it is in progress, it continues with the rest. The
-/// other calls of a stream give a network socket nothing.
+/// A write's bytes are taken in order, each once.
+///
+/// - `front`: at every point of the write, what its network socket took is the first of its bytes.
+/// - `whole`: at the end of the call all were taken where the half is ready again; where the write
+///   is in progress, it continues with the rest.
+/// - `look`, `check_write`, `read`: these calls give a network socket nothing.
 ///
 /// It runs no code: its contract is a law about the definitions that contracts cite.
 pub fn writes_are_taken_in_order()
@@ -55,9 +61,13 @@ pub fn writes_are_taken_in_order()
         Left (read_state_asks op s size) entries rest → taken_in side entries ≡ [] }
 {}
 
-/// One poll of a write makes at most one call for each byte that is left, and one more, which shuts the half down; where no
-/// byte is left, that one at most; of a write that ended, none. That holds whatever the network answers, and at every point of
-/// the poll. A turn of a writing end is a poll of its write, and makes no call where no write is in progress.
+/// A poll of a write makes a bounded number of calls, whatever the network answers, and at every
+/// point of the poll.
+///
+/// - `poll`: at most one call for each byte that is left and one more, which shuts the half down;
+///   none for a write that has ended.
+/// - `turn`: a turn of a writing end makes at most the calls of a poll of its write, and none where
+///   no write is in progress.
 ///
 /// It runs no code: its contract is a law about the definitions that contracts cite.
 pub fn write_jobs_are_bounded()
@@ -75,7 +85,8 @@ pub fn reads_are_within_their_size()
         Left (read_state_asks op s size) entries (Give (Ok bytes, after)) → length bytes ≤ min size 65536 }
 {}
 
-/// A writing end that is closed answers its error on every call, asks nothing, and stays closed with it.
+/// A writing end that is closed answers every call with its error, asks nothing, and stays closed
+/// with that error.
 ///
 /// It runs no code: its contract is a law about the definitions that contracts cite.
 pub fn closed_writers_answer_the_same()

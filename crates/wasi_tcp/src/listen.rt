@@ -17,7 +17,7 @@ use wasi_common::Asker;
 use wasi_world::asks::Verdict;
 use wasi_world::{Answer, Refusal, Sock, World, asks};
 
-/// The ask of a listen that comes next.
+/// The next call of a listen.
 #[derive(Clone, Copy, Debug, PartialEq, Eq)]
 pub enum ListenStage {
     /// The socket was bound at the start: its local address is asked for.
@@ -38,9 +38,9 @@ pub enum ListenStage {
     Over,
 }
 
-/// A listen that has begun, as `tcp-socket.start-listen` begins one. A socket that was bound at the start is asked for its
-/// local address, which is then checked; for one that wasn't, the wildcard is checked for the bind and for the listen, and
-/// bound. Then the socket listens, with the backlog of the start.
+/// A listen in progress (`tcp-socket.start-listen`). A socket that was bound at the start is asked
+/// for its local address, which is then checked. For one that wasn't, the wildcard is checked for
+/// the bind and for the listen, and bound. Then the socket listens, with the backlog of the start.
 #[derive(Drop)]
 pub struct ListenOp {
     asker: Asker,
@@ -99,13 +99,18 @@ impl ListenOp {
         self.asker.side
     }
 
-    /// Continues the listen of the socket that began it (`tcp-socket.start-listen`): done, the socket is Listening on the
-    /// network socket that it had, and the listener is given. A check that is pending is asked again by the next poll. A no is
-    /// `AccessDenied`, and a code is answered; both close the network socket first, and the socket stays Closed. After running
-    /// out of memory it is as after its last answered ask, and may be polled again. After an answer that is pending, and after
-    /// running out of memory, there is an ask left; else it is over. One that is over: `InvalidState`, without an ask. The
-    /// socket must have no network socket, which the listen holds meanwhile; so no other network socket is lost where it gets
-    /// its own back.
+    /// Continues the listen of the socket that began it (`tcp-socket.start-listen`) until a call is
+    /// pending. Once done, the socket is Listening on its network socket again, and the answer is
+    /// the listener.
+    ///
+    /// - A check that is pending is asked again by the next poll.
+    /// - A no is `AccessDenied`, and a code is returned. Both close the network socket first, and
+    ///   the socket stays Closed.
+    /// - Out of memory it stays after its last answered call, and may be polled again.
+    /// - One that has ended is `InvalidState`, and nothing is asked.
+    ///
+    /// The socket must not hold a network socket: the operation owns it until it ends, and then
+    /// puts it back.
     pub fn poll<W: World>(
         &mut self,
         world: &mut W,
@@ -129,9 +134,10 @@ impl ListenOp {
         socket.settle_listen(side, maker, polled)
     }
 
-    /// Asks what comes next. A check that is pending is asked again by the next poll. A no is `AccessDenied`, and a code is
-    /// answered; both close the network socket first. After running out of memory it is as after its last answered ask, and may
-    /// be polled again. One that is over is ready, and asks nothing.
+    /// Makes the calls that are left, until one is pending. A check that is pending is asked again
+    /// by the next poll. A no is `AccessDenied`, and a code is returned; both close the network
+    /// socket first. Out of memory it stays after its last answered call, and may be polled again.
+    /// One that has ended is ready, and nothing is asked.
     pub(crate) fn poll_asks<W: World>(&mut self, world: &mut W) -> Result<Answer<()>, Refusal>
         requires { (W.seen world.old).ended ≡ false }
         ensures polled { PollsFor (λ done. Nothing) Nothing self.old self.new (W.seen world.old) (W.seen world.new) result }
@@ -161,9 +167,9 @@ impl ListenOp {
         }
     }
 
-    /// Releases a listen that `tcp-socket.start-listen` began: its network socket is closed by the operation's own name. One
-    /// that is over asks nothing: a refusal has closed the network socket already, and else the network socket is the
-    /// listener's. The only error is out of memory; then nothing was asked, and the network socket isn't closed.
+    /// Gives a listen up: its network socket is closed, by the operation's own name. One that has
+    /// ended asks nothing: a refusal has closed the network socket already, and else the listener
+    /// has it. Out of memory nothing was asked, and the network socket isn't closed.
     pub fn cancel<W: World>(self, world: &mut W) -> Result<(), AllocError>
         requires { (W.seen world.old).ended ≡ false }
         ensures asked { AsksFor (cancel_asks self) (W.seen world.old) (W.seen world.new) (λ done. done) result }

@@ -155,9 +155,10 @@ impl TcpListenStream {
         self.side
     }
 
-    /// Whether [`poll_accept`](TcpListenStream::poll_accept) has something to take: a connection or a fault. Begins an
-    /// accept where none is in progress, named by the line's next part, and polls it unless it has its result; that is kept.
-    /// After running out of memory the accept is as after its last answered ask, and may be polled again.
+    /// Whether [`poll_accept`](TcpListenStream::poll_accept) has something to take: a connection or
+    /// a fault. Begins an accept where none is in progress, named by the line's next part, and
+    /// polls it unless it has its result, which is kept. Out of memory the accept stays after its
+    /// last answered call, and may be polled again.
     pub fn poll_ready<W: World>(
         &mut self,
         world: &mut W,
@@ -177,11 +178,16 @@ impl TcpListenStream {
         Ok(self.accept.readiness())
     }
 
-    /// Accepts a connection (`tcp-socket.accept`), and the next call begins the next accept. Begins an accept where none is in
-    /// progress, named by the line's next part, polls it unless it has its result, and takes that: a socket that is Connected
-    /// on the network socket that was handed over, whose remote address is kept; or after a fault one that is Closed with its
-    /// code, and so has no network socket. Both are bound, with the listener's family and creator. Pending where there is no
-    /// result. After running out of memory the accept is as after its last answered ask, and may be polled again.
+    /// Accepts a connection (`tcp-socket.accept`): takes the result of the accept in progress, and
+    /// begins one, named by the line's next part, where none is.
+    ///
+    /// - A connection was handed over: the socket is Connected on it and knows its remote address.
+    /// - The accept failed: the socket is Closed with the code, and has no network socket.
+    /// - No result yet: pending, and the accept stays in progress.
+    /// - Out of memory the accept stays after its last answered call, and may be polled again.
+    ///
+    /// The socket is bound, and has the listener's family and creator. The next call begins the
+    /// next accept.
     pub fn poll_accept<W: World>(
         &mut self,
         world: &mut W,
@@ -201,7 +207,7 @@ impl TcpListenStream {
         Ok(self.take())
     }
 
-    /// Whether an accept was begun, and wasn't taken yet: one that is in progress, or has its result. Takes no memory.
+    /// Whether an accept is in progress, or has a result that isn't taken. Takes no memory.
     pub fn has_accept(&self) -> bool
         ensures { result ≡ has_accept self.now.accept }
     {
@@ -245,8 +251,9 @@ impl TcpListenStream {
         }
     }
 
-    /// Releases it, but for its own network socket: an arrival in hand is refused, and a connection that isn't taken is closed,
-    /// both by the accept's name. After running out of memory nothing was asked.
+    /// Releases the listener, but not its own network socket: an arrival in hand is refused, and a
+    /// connection that isn't taken is closed, both by the accept's name. Out of memory nothing was
+    /// asked.
     pub fn give_up<W: World>(self, world: &mut W) -> Result<(), AllocError>
         requires { (W.seen world.old).ended ≡ false }
         ensures asked { AsksFor (listener_give_up_asks self) (W.seen world.old) (W.seen world.new) (λ done. done) result }

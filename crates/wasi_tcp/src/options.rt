@@ -14,10 +14,13 @@ use wasi_world::{OpId, Opt, Refusal, World};
 impl TcpSocket {
     ghost use Rattle.wasi_tcp.specs.Options.{get_option_asks, set_option_asks, truth_answer};
 
-    /// The value of an option: yes is 1 and no is 0, a time is in nanoseconds, a size in bytes. Connecting:
-    /// `InvalidState`. Closed: its code. A code that is reported is returned. A reported size is halved, any reported
-    /// number but 0 is yes, and a reported value above the option's `largest_value` is `NotSupported`. The getters of
-    /// `tcp-socket` in `wasi:sockets/tcp` are this call of their option.
+    /// Reads an option (the getters of `tcp-socket` in `wasi:sockets/tcp`): yes is 1 and no is 0, a
+    /// time is in nanoseconds, a size in bytes.
+    ///
+    /// - Connecting: `InvalidState`. Closed: its code.
+    /// - A code that the network reports is returned.
+    /// - A reported size is halved, and any reported number but 0 is yes.
+    /// - A reported value above the option's `largest_value` is `NotSupported`.
     pub fn get_option<W: World>(&self, world: &mut W, op: OpId, option: Opt) -> Result<u64, Refusal>
         requires { (W.seen world.old).ended ≡ false }
         ensures asked { AsksFor (get_option_asks op self.now option) (W.seen world.old) (W.seen world.new) (λ answer. (answer, self.now)) (outcome result) }
@@ -31,10 +34,14 @@ impl TcpSocket {
         }
     }
 
-    /// Sets an option. Connecting: `InvalidState`. Closed: its code. A code that is reported is returned. 0 is
-    /// `InvalidArgument`: for a time or a number of probes in any state, for the hop limit or a size where the state
-    /// allows a set. Times, sizes and numbers of probes are brought into their ranges first. The socket stays as it is.
-    /// The setters of `tcp-socket` in `wasi:sockets/tcp` are this call of their setting.
+    /// Sets an option (the setters of `tcp-socket` in `wasi:sockets/tcp`). The socket stays as it
+    /// is.
+    ///
+    /// - Connecting: `InvalidState`. Closed: its code.
+    /// - 0 is `InvalidArgument`: for a time or a number of probes in any state, for the hop limit
+    ///   or a size where the state allows a set.
+    /// - Times, sizes and numbers of probes are brought into their ranges first.
+    /// - A code that the network reports is returned.
     pub fn set_option<W: World>(
         &mut self,
         world: &mut W,
@@ -271,22 +278,22 @@ impl TcpSocket {
 pub struct NonInheritedOptions;
 
 impl NonInheritedOptions {
-    /// A time in nanoseconds; nothing changes.
+    /// A time in nanoseconds, which is discarded.
     pub fn set_keep_alive_idle_time(&mut self, _value: u64)
         ensures { self.new ≡ self.old }
     {}
 
-    /// A number of hops; nothing changes.
+    /// A number of hops, which is discarded.
     pub fn set_hop_limit(&mut self, _value: u8)
         ensures { self.new ≡ self.old }
     {}
 
-    /// A size in bytes; nothing changes.
+    /// A size in bytes, which is discarded.
     pub fn set_receive_buffer_size(&mut self, _value: usize)
         ensures { self.new ≡ self.old }
     {}
 
-    /// A size in bytes; nothing changes.
+    /// A size in bytes, which is discarded.
     pub fn set_send_buffer_size(&mut self, _value: usize)
         ensures { self.new ≡ self.old }
     {}

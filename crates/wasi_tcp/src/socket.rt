@@ -94,13 +94,15 @@ impl Connection {
 /// The state of a socket, with its network socket where it has one.
 #[derive(Drop)]
 pub enum TcpState {
+    /// Created, and perhaps bound.
     Default(Sock),
-    /// A listen was done.
+    /// A listen was done; arrivals are accepted.
     Listening(Sock),
-    /// A connect was started; it is polled until it ends.
+    /// A connect was begun, and is polled until it ends.
     Connecting(ConnectOp),
+    /// A connect was done, or the socket was accepted.
     Connected(Connection),
-    /// Closed, and why.
+    /// Without a network socket, and why.
     Closed(ErrorCode),
 }
 
@@ -262,14 +264,16 @@ impl TcpSocket {
         }
     }
 
+    /// The family that the socket was created with (`tcp-socket.address-family`).
     pub fn address_family(&self) -> SocketAddressFamily
         ensures { result ≡ self.now.family }
     {
         self.family
     }
 
-    /// Whether it is bound. That is kept once it is true. Until then in the state Default the network is asked for the
-    /// local address, and any but the wildcard is a yes; in any other state it is bound.
+    /// Whether it is bound. A yes is kept. In the state Default the network is asked for the local
+    /// address, and any but the wildcard is a yes; in any other state the socket is bound. Out of
+    /// memory nothing was asked.
     pub fn is_bound<W: World>(&mut self, world: &mut W, op: OpId) -> Result<bool, AllocError>
         requires { (W.seen world.old).ended ≡ false }
         ensures asked { AsksFor (bound_asks op self.old) (W.seen world.old) (W.seen world.new) (λ bound. (bound, self.new)) result }

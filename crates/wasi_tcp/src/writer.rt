@@ -14,7 +14,7 @@ use wasi_addr::{ErrorCode, ShutdownType};
 use wasi_streams::{StreamError, TrapKind};
 use wasi_world::{Answer, Octets, OpId, Sock, World, asks};
 
-/// A look that is ready permits so many bytes.
+/// How many bytes a look that finds the half ready permits.
 const PERMIT: u32 = 65536;
 
 /// Why a writing end is closed.
@@ -222,7 +222,7 @@ impl WriteState {
         Ok(())
     }
 
-    /// Closed: its error; else nothing is done. Takes no memory.
+    /// Reports the error of a writing end that is closed; asks nothing. Takes no memory.
     pub fn flush(&mut self) -> Result<(), StreamError>
         ensures told { stream_outcome result ≡ Ok (flush_of self.old) }
         ensures same { self.new ≡ self.old }
@@ -272,7 +272,7 @@ impl WriteState {
         }
     }
 
-    /// Makes a write the last.
+    /// Has the half released after the write in progress.
     fn begin_closing(&mut self)
         ensures { self.new ≡ now_closing self.old }
     {
@@ -283,7 +283,8 @@ impl WriteState {
         };
     }
 
-    /// Releases the half now, unless it was before. A write in progress ends with its rest unwritten.
+    /// Releases the half now, unless it was released before. A write in progress ends with its rest
+    /// unwritten. Out of memory the half isn't released.
     pub fn give_up<W: World>(self, world: &mut W, op: OpId) -> Result<(), AllocError>
         requires { (W.seen world.old).ended ≡ false }
         ensures asked { AsksFor (writer_give_up_asks op self) (W.seen world.old) (W.seen world.new) (λ done. done) result }

@@ -6,7 +6,7 @@ ghost use Rattle.wasi_world.specs.Operation.{remote_told};
 
 use wasi_addr::{ErrorCode, IpSocketAddress, SocketAddressFamily, is_unspecified_addr};
 
-/// The remote address that is kept of what the network reports: none after a code, or the wildcard.
+/// The remote address to keep for what the network reports: `None` for a code, or the wildcard.
 pub(crate) fn remote_told(
     told: Result<IpSocketAddress, ErrorCode>,
     family: SocketAddressFamily,
@@ -25,7 +25,7 @@ pub(crate) fn remote_told(
     }
 }
 
-/// Whether two addresses are the same, port, flow info and scope too.
+/// Whether two addresses are equal: IP address, port, flow info and scope.
 pub(crate) fn same_address(a: IpSocketAddress, b: IpSocketAddress) -> bool
     ensures { result ≡ same_address a b }
 {

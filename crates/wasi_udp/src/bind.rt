@@ -13,15 +13,18 @@ use wasi_common::Asker;
 use wasi_world::asks::Verdict;
 use wasi_world::{Answer, OpId, Refusal, World, asks};
 
-/// The ask that comes next.
+/// The next call of a bind.
 #[derive(Clone, Copy, Debug, PartialEq, Eq)]
 pub enum UdpBindStage {
+    /// The check of the address.
     Check,
+    /// The bind.
     Bind,
+    /// None: it ended, bound or with a code.
     Over,
 }
 
-/// A bind that has begun: a check of the address, and then the bind.
+/// A bind in progress: the check of the address, and then the bind.
 #[derive(Drop)]
 pub struct UdpBindOp {
     asker: Asker,
@@ -39,9 +42,10 @@ impl Model for UdpBindOp {
 }
 
 impl UdpSocket {
-    /// Begins a bind to the address (`udp-socket.start-bind`), which `UdpBindOp::poll` continues with; nothing is checked
-    /// yet. Bound: `InvalidState`. Not of the socket's family: `InvalidArgument`. An address that isn't unicast is none of
-    /// its errors. After running out of memory nothing was asked, and the socket is as it was.
+    /// Begins a bind to the address (`udp-socket.start-bind`), which `UdpBindOp::poll` continues;
+    /// nothing is checked yet. Bound already: `InvalidState`. Not of the socket's family:
+    /// `InvalidArgument`. An address that isn't unicast is not refused here. Out of memory nothing
+    /// was asked, and the socket stays as it was.
     pub fn bind<W: World>(
         &mut self,
         world: &mut W,
@@ -82,9 +86,12 @@ impl UdpSocket {
 }
 
 impl UdpBindOp {
-    /// Asks what comes next: a no is `AccessDenied`, and a code is answered. After running out of memory it is as after its
-    /// last answered ask, and may be polled again. One that was done or refused: `InvalidState`, without an ask. The socket
-    /// that began it stays as it was: whether it is bound now, its next call asks.
+    /// Makes the calls that are left, until one is pending. The socket stays as it was: its next
+    /// call asks whether it is bound now.
+    ///
+    /// - A no of the check is `AccessDenied`, and a code is returned.
+    /// - Out of memory it stays after its last answered call, and may be polled again.
+    /// - One that has ended is `InvalidState`, and nothing is asked.
     pub fn poll<W: World>(&mut self, world: &mut W) -> Result<Answer<()>, Refusal>
         requires { (W.seen world.old).ended ≡ false }
         ensures polled { is_going self.old ≡ true → PollsFor (λ done. Nothing) Nothing self.old self.new (W.seen world.old) (W.seen world.new) result }

@@ -18,32 +18,34 @@ use wasi_common::Asker;
 use wasi_world::asks::Verdict;
 use wasi_world::{Answer, OpId, Refusal, World, asks};
 
-/// The ask that comes next.
+/// The next call of a connect.
 #[derive(Clone, Copy, Debug, PartialEq, Eq)]
 pub enum UdpConnectStage {
-    /// The socket wasn't bound at the start: the wildcard is checked for the bind.
+    /// The check of the wildcard, for the bind of a socket that wasn't bound.
     CheckWildcard,
-    /// The address is checked for what is sent.
+    /// The check of the address for what is sent.
     CheckSend,
-    /// The address is checked for what is received.
+    /// The check of the address for what is received.
     CheckReceive,
+    /// The connect.
     Connect,
-    /// The network answered the connect with this, and is asked for the remote address.
+    /// The question for the remote address; the network answered the connect with this.
     Peer(Result<(), ErrorCode>),
-    /// It ended, done or with a code.
+    /// None: it ended, connected or with a code.
     Over,
 }
 
-/// How a connect ended: with a code before the network was asked to connect, or with what the network answered and the
-/// remote address that it reported then.
+/// How a connect ended.
 #[derive(Clone, Copy, Debug, PartialEq, Eq)]
 pub(crate) enum ConnectEnd {
+    /// With this code, before the network was asked to connect.
     Refused(ErrorCode),
+    /// With this answer of the network, and the remote address that it reported then.
     Told(Result<(), ErrorCode>, Option<IpSocketAddress>),
 }
 
-/// A connect that has begun: a check of the wildcard where the socket wasn't bound, two checks of the address, the
-/// connect, and then the remote address.
+/// A connect in progress: the check of the wildcard where the socket wasn't bound, two checks of
+/// the address, the connect, and then the question for the remote address.
 #[derive(Drop)]
 pub struct UdpConnectOp {
     asker: Asker,
@@ -62,10 +64,10 @@ impl Model for UdpConnectOp {
 }
 
 impl UdpSocket {
-    /// Begins a connect to the address, as `udp-socket.stream` with an address does; `UdpConnectOp::poll` continues with
-    /// it, and nothing is checked yet. Not of the socket's family, or not remote: `InvalidArgument`, and nothing is asked.
-    /// Else it is asked whether the socket is bound. After running out of memory nothing was asked, and the socket is as it
-    /// was.
+    /// Begins a connect to the address, as `udp-socket.stream` with an address does; nothing is
+    /// checked yet, and `UdpConnectOp::poll` continues it. Not of the socket's family, or not a
+    /// remote address: `InvalidArgument`, and nothing is asked. Else it is asked whether the socket
+    /// is bound. Out of memory nothing was asked, and the socket stays as it was.
     pub fn connect<W: World>(
         &mut self,
         world: &mut W,
@@ -114,7 +116,7 @@ impl UdpSocket {
         }
     }
 
-    /// What a poll of its connect makes of it, and of the answer.
+    /// Keeps in the socket what a poll of its connect came to, and gives the answer.
     fn settle_connect(
         &mut self,
         polled: Result<Answer<ConnectEnd>, AllocError>,
@@ -139,11 +141,14 @@ impl UdpSocket {
 }
 
 impl UdpConnectOp {
-    /// Continues the connect of the socket that began it. A check that is pending is asked again by the next poll. A no is
-    /// `AccessDenied`, and the remote address stays as it was. Once the network was asked to connect, it is asked for the
-    /// remote address: what it reports is kept, and a code or the wildcard is none; then the connect's code is answered.
-    /// After running out of memory it is as after its last answered ask, and may be polled again. One that was done or
-    /// refused: `InvalidState`, without an ask.
+    /// Continues the connect of the socket that began it, until a call is pending.
+    ///
+    /// - A check that is pending is asked again by the next poll.
+    /// - A no is `AccessDenied`, and the remote address stays as it was.
+    /// - After the connect the network is asked for the remote address: what it reports is kept,
+    ///   and a code or the wildcard is kept as none. Then the connect's code is returned.
+    /// - Out of memory it stays after its last answered call, and may be polled again.
+    /// - One that has ended is `InvalidState`, and nothing is asked.
     pub fn poll<W: World>(
         &mut self,
         world: &mut W,
@@ -180,7 +185,7 @@ impl UdpConnectOp {
         }
     }
 
-    /// Asks what comes next.
+    /// Makes the next calls, until one is pending or none is left.
     fn poll_stage<W: World>(&mut self, world: &mut W) -> Result<Answer<ConnectEnd>, AllocError>
         requires open { (W.seen world.old).ended ≡ false }
         requires going { is_going self.old ≡ true }

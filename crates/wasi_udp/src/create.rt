@@ -14,18 +14,19 @@ use wasi_common::Asker;
 use wasi_world::asks::Polled;
 use wasi_world::{Answer, OpId, Refusal, Sock, WasiSocketsCtx, World, asks};
 
-/// The ask that comes next.
+/// The next call of a create.
 #[derive(Clone, Copy, Debug, PartialEq, Eq)]
 pub enum CreateStage {
-    /// The network socket is waited for.
+    /// Whether the network socket can send.
     Writable,
-    /// Refused with this code, and to be closed.
+    /// The close of the network socket: the create was refused with this code.
     Close(ErrorCode),
-    /// It ended, with a socket or with a code.
+    /// None: it ended, with a socket or with a code.
     Over,
 }
 
-/// A create that has begun (`create-udp-socket`): the network socket was made, and is waited for.
+/// A create in progress (`create-udp-socket`): the network socket was made, and is waited for until
+/// it can send.
 #[derive(Drop)]
 pub struct CreateOp {
     asker: Asker,
@@ -42,9 +43,9 @@ impl Model for CreateOp {
 }
 
 impl UdpSocket {
-    /// Begins to make a socket, where the context may use UDP; else `AccessDenied` without a call. The network socket is
-    /// made now, and `CreateOp::poll` waits for it. A code that is reported is returned. After running out of memory
-    /// nothing was asked.
+    /// Begins to create a socket, for a context that may use UDP; another gets `AccessDenied`, and
+    /// nothing is asked. The network socket is made now, and `CreateOp::poll` waits for it. A code
+    /// that the network reports is returned. Out of memory nothing was asked.
     pub fn new<W: World>(
         world: &mut W,
         op: OpId,
@@ -97,10 +98,11 @@ impl CreateOp {
         }
     }
 
-    /// Waits for the network socket, and gives the socket then. A code is answered, after the network socket is closed.
-    /// After running out of memory it is as after its last answered ask, and may be polled again. After an answer that is
-    /// pending, and after running out of memory, there is an ask left; else it is over. One that is over: `InvalidState`,
-    /// without an ask.
+    /// Waits until the network socket can send, and returns the socket then.
+    ///
+    /// - A code is returned, after the network socket was closed.
+    /// - Out of memory it stays after its last answered call, and may be polled again.
+    /// - One that has ended is `InvalidState`, and nothing is asked.
     pub fn poll<W: World>(&mut self, world: &mut W) -> Result<Answer<UdpSocket>, Refusal>
         requires { (W.seen world.old).ended ≡ false }
         ensures asked { AsksFor (create_poll_asks self.old) (W.seen world.old) (W.seen world.new) (λ answer. (answer, self.new)) (outcome result) }
@@ -151,9 +153,10 @@ impl CreateOp {
         }
     }
 
-    /// Gives the create up: its network socket is closed by the operation's own name. One that is over asks nothing: a
-    /// refusal has closed the network socket already, and else the network socket is the socket's. It isn't polled any more then.
-    /// The only error is out of memory; then nothing was asked, and the network socket isn't closed.
+    /// Gives the create up: its network socket is closed, by the operation's own name. One that has
+    /// ended asks nothing: a refusal has closed the network socket already, and else the socket has
+    /// it. It isn't polled after that. Out of memory nothing was asked, and the network socket
+    /// isn't closed.
     pub fn cancel<W: World>(&self, world: &mut W) -> Result<(), AllocError>
         requires { (W.seen world.old).ended ≡ false }
         ensures asked { AsksFor (create_cancel_asks self.now) (W.seen world.old) (W.seen world.new) (λ done. done) result }

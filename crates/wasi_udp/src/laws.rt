@@ -14,9 +14,9 @@ ghost use Rattle.wasi_udp.specs.Receive.{receive_operation};
 ghost use Rattle.wasi_udp.specs.Send.{send_operation, at_remote};
 ghost use Rattle.wasi_udp.specs.Late.{IsLate, SendsNone};
 
-/// A datagram that was for the remote address of its start is not sent once the socket's remote address is another, or
-/// none: a poll then makes no send, at whatever stage it begins, whatever the network answers, and at every point of the
-/// poll.
+/// A datagram to the remote address that the socket had at its start isn't sent once the socket's
+/// remote address is another, or none: a poll then makes no send, at whatever stage it begins,
+/// whatever the network answers, and at every point of the poll.
 ///
 /// It runs no code: its contract is a law about the definitions that contracts cite.
 pub fn late_datagrams_are_not_sent()

@@ -12,9 +12,12 @@ use wasi_world::{OpId, Opt, Refusal, World};
 impl UdpSocket {
     ghost use Rattle.wasi_udp.specs.Options.{get_option_asks, set_option_asks};
 
-    /// The value of an option: a number of hops, or a size in bytes. A code that is reported is returned. A reported size
-    /// is halved, and a reported value above the option's `largest_value` is `NotSupported`. The getters of `udp-socket`
-    /// in `wasi:sockets/udp` are this call of their option; of another one the network socket is asked all the same.
+    /// Reads an option (the getters of `udp-socket` in `wasi:sockets/udp`): a number of hops, or a
+    /// size in bytes. No option is refused: one that only TCP has is asked for, too.
+    ///
+    /// - A code that the network reports is returned.
+    /// - A reported size is halved.
+    /// - A reported value above the option's `largest_value` is `NotSupported`.
     pub fn get_option<W: World>(&self, world: &mut W, op: OpId, option: Opt) -> Result<u64, Refusal>
         requires { (W.seen world.old).ended ≡ false }
         ensures asked { AsksFor (get_option_asks op self.now option) (W.seen world.old) (W.seen world.new) (λ answer. answer) (outcome result) }
@@ -25,9 +28,12 @@ impl UdpSocket {
         get_of_side(world, op, self.side(), option)
     }
 
-    /// Sets an option. 0: `InvalidArgument`, and nothing is asked. A size is brought into its range first. A code that is
-    /// reported is returned. The socket stays as it is. The setters of `udp-socket` in `wasi:sockets/udp` are this call of
-    /// their setting; another one is set on the network socket all the same.
+    /// Sets an option (the setters of `udp-socket` in `wasi:sockets/udp`). The socket stays as it
+    /// is. No option is refused: one that only TCP has is set, too.
+    ///
+    /// - 0 is `InvalidArgument`, and nothing is asked.
+    /// - A size is brought into its range first.
+    /// - A code that the network reports is returned.
     pub fn set_option<W: World>(
         &mut self,
         world: &mut W,

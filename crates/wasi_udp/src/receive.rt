@@ -17,21 +17,21 @@ use wasi_common::{Asker, InRounds, poll_rounds};
 use wasi_world::asks::{Polled, Verdict};
 use wasi_world::{Answer, Octets, OpId, Refusal, World, asks};
 
-/// The ask that comes next, with the datagram that is in hand.
+/// The next call of a receive, with the datagram that is in hand.
 #[derive(Drop)]
 pub enum RecvStage {
-    /// The socket wasn't bound at the start: it is to be refused with this code.
+    /// None: the socket wasn't bound at the start, and the next poll returns this code.
     Refused(ErrorCode),
-    /// None is in hand.
+    /// The receive: no datagram is in hand.
     Receive,
-    /// Its bytes, and its sender, who is checked.
+    /// The check of the sender; the datagram's bytes, and its sender.
     Check(Octets, IpSocketAddress),
-    /// It ended, with a datagram or with a code.
+    /// None: it ended, with a datagram or with a code.
     Over,
 }
 
-/// A receive that has begun: the sender of each datagram is checked, and then the datagram is handed out, or dropped, and
-/// the next is waited for. The bytes are never copied.
+/// A receive in progress: the sender of each datagram is checked; then the datagram is handed out,
+/// or it is dropped and the next one is waited for. Its bytes are never copied.
 #[derive(Drop)]
 pub struct RecvOp {
     asker: Asker,
@@ -50,9 +50,9 @@ impl Model for RecvOp {
 }
 
 impl UdpSocket {
-    /// Begins to receive a datagram (`incoming-datagram-stream.receive`); it is asked whether the socket is bound, and
-    /// `RecvOp::poll` continues. One that isn't bound is refused by the first poll, with `InvalidState`. After running out
-    /// of memory nothing was asked, and the socket is as it was.
+    /// Begins to receive a datagram (`incoming-datagram-stream.receive`): asks whether the socket
+    /// is bound, and `RecvOp::poll` continues. A socket that isn't bound is refused by the first
+    /// poll, with `InvalidState`. Out of memory nothing was asked, and the socket stays as it was.
     pub fn recv<W: World>(&mut self, world: &mut W, op: OpId) -> Result<RecvOp, AllocError>
         requires { (W.seen world.old).ended ≡ false }
         ensures asked { AsksFor (receive_asks op self.old) (W.seen world.old) (W.seen world.new) (λ begun. (begun, self.new)) result }
@@ -87,11 +87,15 @@ impl UdpSocket {
 }
 
 impl RecvOp {
-    /// Asks what comes next. With no datagram in hand that is one receive: pending ends the poll, and a code is answered.
-    /// The sender of a datagram is checked for the socket's creator: a yes hands the datagram out, with its sender. It is
-    /// dropped after a no, and where only another sender is wanted, and the next is waited for; after the 64th in one poll
-    /// the answer is pending. After running out of memory it is as after its last answered ask, and may be polled again.
-    /// One that ended: `InvalidState`, without an ask.
+    /// Makes the calls that are left, until one is pending.
+    ///
+    /// - No datagram is in hand: one receive. Pending ends the poll, and a code is returned.
+    /// - The sender of a datagram is checked for the context that created the socket. A yes hands
+    ///   the datagram out, with its sender.
+    /// - The datagram is dropped after a no, and where only another sender is wanted. Then the next
+    ///   one is waited for; after the 64th in one poll the answer is pending.
+    /// - Out of memory it stays after its last answered call, and may be polled again.
+    /// - One that has ended is `InvalidState`, and nothing is asked.
     pub fn poll<W: World>(
         &mut self,
         world: &mut W,
@@ -243,7 +247,7 @@ fn poll_check<W: World>(
     Ok(Some(Answer::Ready((take_bytes(stage, peer), peer))))
 }
 
-/// Whether a datagram of this sender is wanted: of any, or of one alone.
+/// Whether a datagram of this sender is wanted: all are where `only` is `None`.
 fn is_wanted(only: Option<IpSocketAddress>, peer: IpSocketAddress) -> bool
     ensures { result ≡ is_wanted only peer }
 {

@@ -29,21 +29,22 @@ pub struct Destination {
     pub kept: bool,
 }
 
-/// The ask that comes next.
+/// The next call of a send.
 #[derive(Clone, Copy, Debug, PartialEq, Eq)]
 pub enum SendStage {
-    /// The datagram can't be sent: it is to be refused with this code.
+    /// None: the datagram can't be sent, and the next poll returns this code.
     Refused(ErrorCode),
-    /// The socket wasn't bound at the start: the wildcard is checked for the bind.
+    /// The check of the address.
     CheckWildcard(Destination),
     Check(Destination),
+    /// The send.
     Send(Destination),
-    /// It ended: sent, or with a code.
+    /// None: it ended, sent or with a code.
     Over,
 }
 
-/// A datagram whose send has begun: a check of the wildcard where the socket wasn't bound, a check of the address, and
-/// then the send. It keeps the bytes, which are never copied.
+/// The send of one datagram, in progress: the check of the wildcard where the socket wasn't bound,
+/// the check of the address, and then the send. It keeps the bytes, which are never copied.
 #[derive(Drop)]
 pub struct SendOp {
     asker: Asker,
@@ -62,12 +63,16 @@ impl Model for SendOp {
 }
 
 impl UdpSocket {
-    /// Begins to send a datagram (`outgoing-datagram-stream.send`), to the address or, where none is given, to the remote
-    /// address. It is asked whether the socket is bound; the answer and the remote address of now stay with the operation,
-    /// which `SendOp::poll` continues. A datagram that can't be sent is refused by its first poll: with more than 65,535
-    /// bytes `DatagramTooLarge`; with an address that isn't remote or not of the socket's family, with another one than the
-    /// socket's remote address, and with neither, `InvalidArgument`. After running out of memory nothing was asked, and the
-    /// socket is as it was.
+    /// Begins to send a datagram (`outgoing-datagram-stream.send`), to the address or, where none
+    /// is given, to the socket's remote address. It is asked whether the socket is bound;
+    /// `SendOp::poll` continues. A datagram that can't be sent is refused by the first poll:
+    ///
+    /// - more than 65,535 bytes: `DatagramTooLarge`;
+    /// - an address that isn't remote, or not of the socket's family: `InvalidArgument`;
+    /// - another address than the socket's remote address, or no address and no remote address:
+    ///   `InvalidArgument`.
+    ///
+    /// Out of memory nothing was asked, and the socket stays as it was.
     pub fn send<W: World>(
         &mut self,
         world: &mut W,
@@ -140,7 +145,8 @@ fn first_stage(to: Result<Destination, ErrorCode>, bound: bool) -> SendStage
     }
 }
 
-/// Where a datagram goes: to the address, which has to be the remote address where there is one, or to the remote address.
+/// Where a datagram goes: to the address, which has to be the remote address where there is one, or
+/// without an address to the remote address.
 fn where_to(
     family: SocketAddressFamily,
     remote: Option<IpSocketAddress>,
@@ -172,11 +178,14 @@ fn where_to(
 }
 
 impl SendOp {
-    /// Asks what comes next, for the socket that began it. A check or a send that is pending is asked again by the next
-    /// poll. A no is `AccessDenied`, and a code is answered. A datagram that goes to the remote address of the start is
-    /// `InvalidState` once the socket's remote address is another, or none: it is not sent. After running out of memory it
-    /// is as after its last answered ask, and may be polled again. One that was sent or refused: `InvalidState`, without an
-    /// ask.
+    /// Makes the calls that are left, until one is pending, for the socket that began it.
+    ///
+    /// - A check or a send that is pending is asked again by the next poll.
+    /// - A no is `AccessDenied`, and a code is returned.
+    /// - A datagram to the remote address that the socket had at the start is `InvalidState`, and
+    ///   not sent, once the socket's remote address is another, or none.
+    /// - Out of memory it stays after its last answered call, and may be polled again.
+    /// - One that has ended is `InvalidState`, and nothing is asked.
     pub fn poll<W: World>(
         &mut self,
         world: &mut W,
@@ -318,7 +327,8 @@ fn poll_send<W: World>(
 impl Destination {
     ghost use Rattle.wasi_udp.specs.Send.{is_late};
 
-    /// Whether it was the socket's remote address, and that is another now, or none.
+    /// Whether it goes to the remote address that the socket had at the start, and that is another
+    /// now, or none.
     fn is_late(self, remote: Option<IpSocketAddress>) -> bool
         ensures { result ≡ is_late self remote }
     {

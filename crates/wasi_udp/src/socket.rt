@@ -11,8 +11,8 @@ use wasi_addr::{ErrorCode, IpSocketAddress, SocketAddressFamily};
 use wasi_common::{Asker, tells_bound};
 use wasi_world::{OpId, Refusal, Sock, World, asks};
 
-/// A UDP socket. It keeps whether it is bound once that is known, its remote address where it has one, and the context
-/// that made it, which its checks name.
+/// A UDP socket. It keeps whether it is bound, once that is known, its remote address, if it has
+/// one, and the number of the context that created it, which its checks name.
 #[derive(Drop)]
 pub struct UdpSocket {
     side: Sock,
@@ -78,8 +78,8 @@ impl UdpSocket {
         self.remote.is_some()
     }
 
-    /// The remote address that is kept (`udp-socket.remote-address`); none: `InvalidState`. Nothing is asked; takes no
-    /// memory.
+    /// The remote address (`udp-socket.remote-address`), or `InvalidState` where it has none.
+    /// Nothing is asked. Takes no memory.
     pub fn remote_address(&self) -> Result<IpSocketAddress, ErrorCode>
         ensures { result ≡ remote_of self.now.remote }
     {
@@ -89,15 +89,15 @@ impl UdpSocket {
         }
     }
 
-    /// The remote address, where it has one; takes no memory.
+    /// The remote address, or `None` where it has none. Takes no memory.
     pub fn remote(&self) -> Option<IpSocketAddress>
         ensures { result ≡ self.now.remote }
     {
         self.remote
     }
 
-    /// Whether it is bound. That is kept once it is true. Until then the network is asked for the local address, and any
-    /// but the wildcard is a yes.
+    /// Whether it is bound. A yes is kept; until then the network is asked for the local address,
+    /// and any but the wildcard is a yes. Out of memory nothing was asked.
     pub fn is_bound<W: World>(&mut self, world: &mut W, op: OpId) -> Result<bool, AllocError>
         requires { (W.seen world.old).ended ≡ false }
         ensures asked { AsksFor (bound_asks op self.old) (W.seen world.old) (W.seen world.new) (λ bound. (bound, self.new)) result }
@@ -127,8 +127,8 @@ impl UdpSocket {
         bound
     }
 
-    /// The local address (`udp-socket.local-address`). Not bound: `InvalidState`. A code that is reported is returned.
-    /// After running out of memory what is left is the same call of the socket as it is then.
+    /// The local address (`udp-socket.local-address`). Not bound: `InvalidState`. A code that the
+    /// network reports is returned. Out of memory it may be called again.
     pub fn local_address<W: World>(
         &mut self,
         world: &mut W,
@@ -167,10 +167,14 @@ impl UdpSocket {
         }
     }
 
-    /// Takes the remote address away (`disconnect` of a `udp-socket`). None kept: `InvalidState`, and nothing is asked.
-    /// Else it is kept that the socket is bound; the network disconnects it, and is asked for the remote address, whatever
-    /// it answered: what it reports is kept, and a code or the wildcard is none. The disconnect's code is returned after
-    /// that. After running out of memory the remote address is as it was.
+    /// Takes the remote address away (`disconnect` of a `udp-socket` of the crate `wasmtime-wasi`).
+    /// Without one: `InvalidState`, and nothing is asked.
+    ///
+    /// - The socket is kept as bound from now on.
+    /// - The network disconnects it, and is asked for the remote address, whatever it answered:
+    ///   what it reports is kept, and a code or the wildcard is kept as none.
+    /// - The disconnect's code is returned after that.
+    /// - Out of memory the remote address stays as it was.
     pub fn disconnect<W: World>(&mut self, world: &mut W, op: OpId) -> Result<(), Refusal>
         requires { (W.seen world.old).ended ≡ false }
         ensures asked { AsksFor (disconnect_asks op self.old) (W.seen world.old) (W.seen world.new) (λ answer. (answer, self.new)) (outcome result) }
@@ -191,7 +195,7 @@ impl UdpSocket {
         }
     }
 
-    /// What the network reports as the remote address is kept: none after a code, or the wildcard.
+    /// Keeps the remote address that the network reports, and none for a code or the wildcard.
     fn learn_remote(&mut self, told: Result<IpSocketAddress, ErrorCode>)
         ensures { self.new ≡ after_peer self.old told }
     {
@@ -205,8 +209,8 @@ impl UdpSocket {
         self.remote = remote;
     }
 
-    /// Closes the network socket, as the drop of a `udp-socket` does. After running out of memory nothing was asked, and
-    /// the network socket isn't closed.
+    /// Closes the network socket, as the drop of a `udp-socket` does. Out of memory nothing was
+    /// asked, and the network socket isn't closed.
     pub fn close<W: World>(self, world: &mut W, op: OpId) -> Result<(), AllocError>
         requires { (W.seen world.old).ended ≡ false }
         ensures asked { AsksFor (ask_close op self.side) (W.seen world.old) (W.seen world.new) (λ done. done) result }

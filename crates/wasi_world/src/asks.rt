@@ -21,23 +21,32 @@ use told::{
 pub use udp::{recv, send, udp_bind, udp_connect, udp_create, udp_disconnect, udp_writable};
 use wasi_addr::{ErrorCode, IpSocketAddress, ShutdownType, SocketAddrUse, SocketAddressFamily};
 
-/// What the check says.
+/// What the embedder's check says of an address and a use.
 #[derive(Clone, Copy, Debug, PartialEq, Eq)]
 pub enum Verdict {
+    /// No answer yet: the check is asked again, with equal arguments, at the next poll of its
+    /// operation.
     Pending,
+    /// The use is allowed.
     Yes,
+    /// The use is denied.
     No,
 }
 
-/// What a call answers that may have to be asked again.
+/// The answer of a call that can be pending.
 #[derive(Drop)]
 pub enum Polled<T> {
+    /// No answer yet: the call is asked again, with equal arguments, at the next poll of its
+    /// operation.
     Pending,
+    /// The call is done and gave this value.
     Ready(T),
+    /// The call failed with this code.
     Code(ErrorCode),
 }
 
-/// Asks the embedder's check about an address and a use.
+/// Asks the embedder's check whether the context numbered `ctx` may use `addr` in this way
+/// (`socket_addr_check` of `wasmtime-wasi`). Out of memory the check wasn't asked.
 pub fn check<W: World>(
     world: &mut W,
     op: OpId,
@@ -54,6 +63,8 @@ pub fn check<W: World>(
     Ok(told_verdict(told))
 }
 
+/// Looks up the IP addresses of a host name: pending, the addresses, or a code. Out of memory the
+/// call wasn't made.
 pub fn lookup<W: World>(
     world: &mut W,
     op: OpId,
@@ -68,6 +79,8 @@ pub fn lookup<W: World>(
     Ok(told_names(told))
 }
 
+/// Creates a TCP socket of this family for the context numbered `ctx`; `op` is its name from then
+/// on. A code: no socket was made. Out of memory the call wasn't made.
 pub fn tcp_create<W: World>(
     world: &mut W,
     op: OpId,
@@ -83,6 +96,7 @@ pub fn tcp_create<W: World>(
     Ok(told_done(told))
 }
 
+/// The local address of a socket (`getsockname`), or a code. Out of memory the call wasn't made.
 pub fn local<W: World>(
     world: &mut W,
     op: OpId,
@@ -97,6 +111,8 @@ pub fn local<W: World>(
     Ok(told_addr(told))
 }
 
+/// The remote address of a connected socket (`getpeername`), or a code. Out of memory the call
+/// wasn't made.
 pub fn peer<W: World>(
     world: &mut W,
     op: OpId,
@@ -111,6 +127,7 @@ pub fn peer<W: World>(
     Ok(told_addr(told))
 }
 
+/// Binds a TCP socket to a local address, or fails with a code. Out of memory the call wasn't made.
 pub fn bind<W: World>(
     world: &mut W,
     op: OpId,
@@ -126,6 +143,8 @@ pub fn bind<W: World>(
     Ok(told_done(told))
 }
 
+/// Makes a TCP socket listen, with a queue of `backlog` arrivals, or fails with a code. Out of
+/// memory the call wasn't made.
 pub fn listen<W: World>(
     world: &mut W,
     op: OpId,
@@ -141,6 +160,8 @@ pub fn listen<W: World>(
     Ok(told_done(told))
 }
 
+/// Sets the backlog of a listener, the length of its queue of arrivals, or fails with a code. Out
+/// of memory the call wasn't made.
 pub fn set_backlog<W: World>(
     world: &mut W,
     op: OpId,
@@ -156,6 +177,8 @@ pub fn set_backlog<W: World>(
     Ok(told_done(told))
 }
 
+/// Connects a TCP socket to a remote address: pending, done, or a code. Out of memory the call
+/// wasn't made.
 pub fn connect<W: World>(
     world: &mut W,
     op: OpId,
@@ -171,6 +194,9 @@ pub fn connect<W: World>(
     Ok(told_polled(told))
 }
 
+/// Takes the next arrival of a listener: pending, the address of the peer, or a code. The
+/// connection is handed over by [`hand`] or closed by [`refuse`]. Out of memory the call wasn't
+/// made.
 pub fn accept<W: World>(
     world: &mut W,
     op: OpId,
@@ -185,7 +211,8 @@ pub fn accept<W: World>(
     Ok(told_arrival(told))
 }
 
-/// Hands over the connection from `peer` at the listener `sock`.
+/// Hands over the arrival from `peer` at the listener `sock`: its connection is a socket named `op`
+/// from then on. Out of memory the call wasn't made.
 pub fn hand<W: World>(
     world: &mut W,
     op: OpId,
@@ -201,6 +228,8 @@ pub fn hand<W: World>(
     Ok(())
 }
 
+/// Closes the arrival from `peer` at the listener `sock`, which the check denied. Out of memory the
+/// call wasn't made.
 pub fn refuse<W: World>(
     world: &mut W,
     op: OpId,
@@ -216,7 +245,8 @@ pub fn refuse<W: World>(
     Ok(())
 }
 
-/// Asks for at most `size` bytes.
+/// Reads at most `size` bytes from a connection: pending, the bytes (none at the end), or a code.
+/// Out of memory the call wasn't made.
 pub fn read<W: World>(
     world: &mut W,
     op: OpId,
@@ -233,6 +263,8 @@ pub fn read<W: World>(
     Ok(told_bytes(told))
 }
 
+/// Whether a read of a connection would be answered now, with bytes, its end or a code. Out of
+/// memory the call wasn't made.
 pub fn read_ready<W: World>(world: &mut W, op: OpId, sock: Sock) -> Result<Answer<()>, AllocError>
     requires { (W.seen world.old).ended ≡ false }
     ensures asked { AsksFor (ask_read_ready op sock) (W.seen world.old) (W.seen world.new) (λ answer. answer) result }
@@ -243,6 +275,8 @@ pub fn read_ready<W: World>(world: &mut W, op: OpId, sock: Sock) -> Result<Answe
     Ok(told_ready(told))
 }
 
+/// Whether a connection would take bytes now, or answer a write with a code. Out of memory the call
+/// wasn't made.
 pub fn write_ready<W: World>(world: &mut W, op: OpId, sock: Sock) -> Result<Answer<()>, AllocError>
     requires { (W.seen world.old).ended ≡ false }
     ensures asked { AsksFor (ask_write_ready op sock) (W.seen world.old) (W.seen world.new) (λ answer. answer) result }
@@ -253,6 +287,8 @@ pub fn write_ready<W: World>(world: &mut W, op: OpId, sock: Sock) -> Result<Answ
     Ok(told_ready(told))
 }
 
+/// Shuts down one half of a connection, the one that is received or the one that is sent; the call
+/// can't fail but for memory, and then it wasn't made.
 pub fn shutdown<W: World>(
     world: &mut W,
     op: OpId,
@@ -268,6 +304,8 @@ pub fn shutdown<W: World>(
     Ok(())
 }
 
+/// Reads an option of a socket, in the unit of [`Opt`], or fails with a code. Out of memory the
+/// call wasn't made.
 pub fn get_option<W: World>(
     world: &mut W,
     op: OpId,
@@ -283,6 +321,8 @@ pub fn get_option<W: World>(
     Ok(told_value(told))
 }
 
+/// Sets an option of a socket to a value in the unit of [`Opt`], or fails with a code. Out of
+/// memory the call wasn't made.
 pub fn set_option<W: World>(
     world: &mut W,
     op: OpId,
@@ -306,6 +346,7 @@ pub fn set_option<W: World>(
     Ok(told_done(told))
 }
 
+/// Closes a socket; the call can't fail but for memory, and then it wasn't made.
 pub fn close<W: World>(world: &mut W, op: OpId, sock: Sock) -> Result<(), AllocError>
     requires { (W.seen world.old).ended ≡ false }
     ensures asked { AsksFor (ask_close op sock) (W.seen world.old) (W.seen world.new) (λ answer. answer) result }
@@ -316,7 +357,8 @@ pub fn close<W: World>(world: &mut W, op: OpId, sock: Sock) -> Result<(), AllocE
     Ok(())
 }
 
-/// Marks a new handle: its kind, the handle that it was made from, and its network socket.
+/// Logs that a handle was made: its kind, the handle that it is a child of, and the socket that it
+/// belongs to. Out of memory it isn't logged.
 pub fn made<W: World>(
     world: &mut W,
     op: OpId,
@@ -342,7 +384,8 @@ pub fn made<W: World>(
     Ok(())
 }
 
-/// Offers bytes; returns how many of them were taken.
+/// Offers bytes to a connection: pending, how many of them were taken, from the front, or a code.
+/// Out of memory the call wasn't made.
 pub fn write<W: World>(
     world: &mut W,
     op: OpId,

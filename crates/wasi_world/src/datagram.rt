@@ -37,18 +37,21 @@ impl Model for IncomingDatagrams {
 }
 
 impl IncomingDatagrams {
+    /// The datagrams of a vector, in its order. Takes no memory.
     pub fn from_vec(datagrams: Vec<IncomingDatagram>) -> IncomingDatagrams
         ensures { result ≡ datagrams.items }
     {
         IncomingDatagrams { datagrams }
     }
 
+    /// The datagrams as a vector, in order. Takes no memory.
     pub fn into_vec(self) -> Vec<IncomingDatagram>
         ensures { result.items ≡ self }
     {
         self.datagrams
     }
 
+    /// The datagrams, to be read.
     pub fn as_slice(&self) -> &[IncomingDatagram]
         ensures { result.now ≡ self.now }
     {
@@ -72,24 +75,28 @@ impl Model for OutgoingDatagrams {
 }
 
 impl OutgoingDatagrams {
+    /// The datagrams of a vector, in its order. Takes no memory.
     pub fn from_vec(datagrams: Vec<OutgoingDatagram>) -> OutgoingDatagrams
         ensures { result ≡ datagrams.items }
     {
         OutgoingDatagrams { datagrams }
     }
 
+    /// The datagrams as a vector, in order. Takes no memory.
     pub fn into_vec(self) -> Vec<OutgoingDatagram>
         ensures { result.items ≡ self }
     {
         self.datagrams
     }
 
+    /// The datagrams, to be read.
     pub fn as_slice(&self) -> &[OutgoingDatagram]
         ensures { result.now ≡ self.now }
     {
         self.datagrams.as_slice()
     }
 
+    /// How many datagrams there are.
     pub fn len(&self) -> usize
         ensures { result ≡ length self.now }
     {

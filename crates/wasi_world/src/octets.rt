@@ -21,6 +21,7 @@ impl Model for Octets {
 }
 
 impl Octets {
+    /// The bytes of a vector. Takes no memory.
     pub fn from_vec(bytes: Vec<u8>) -> Octets
         ensures { result ≡ bytes.items }
     {
@@ -36,6 +37,7 @@ impl Octets {
         Ok(Octets { bytes: copy })
     }
 
+    /// A copy. Takes memory for the bytes.
     pub fn try_clone(&self) -> Result<Octets, AllocError>
         ensures { IfOk result (λ o. o ≡ self.now) }
     {
@@ -43,24 +45,28 @@ impl Octets {
         Ok(Octets { bytes })
     }
 
+    /// The bytes as a vector. Takes no memory.
     pub fn into_vec(self) -> Vec<u8>
         ensures { result.items ≡ self }
     {
         self.bytes
     }
 
+    /// The bytes, to be read.
     pub fn as_slice(&self) -> &[u8]
         ensures { result.now ≡ self.now }
     {
         self.bytes.as_slice()
     }
 
+    /// How many bytes there are.
     pub fn len(&self) -> usize
         ensures { result ≡ length self.now }
     {
         self.bytes.len()
     }
 
+    /// Whether there is no byte.
     pub fn is_empty(&self) -> bool
         ensures { IsTrue result ↔ (self.now ≡ []) }
     {
@@ -68,7 +74,7 @@ impl Octets {
     }
 }
 
-/// The text of a name, as bytes.
+/// The text of a host name, as bytes, which contracts see as a list.
 #[derive(Drop)]
 pub struct NameText {
     bytes: Vec<u8>,
@@ -83,6 +89,7 @@ impl Model for NameText {
 }
 
 impl NameText {
+    /// The name whose bytes are those of a vector. Takes no memory.
     pub fn from_vec(bytes: Vec<u8>) -> NameText
         ensures { result ≡ bytes.items }
     {
@@ -98,6 +105,7 @@ impl NameText {
         Ok(NameText { bytes: copy })
     }
 
+    /// A copy. Takes memory for the bytes.
     pub fn try_clone(&self) -> Result<NameText, AllocError>
         ensures { IfOk result (λ name. name ≡ self.now) }
     {
@@ -105,12 +113,14 @@ impl NameText {
         Ok(NameText { bytes })
     }
 
+    /// The name's bytes as a vector. Takes no memory.
     pub fn into_vec(self) -> Vec<u8>
         ensures { result.items ≡ self }
     {
         self.bytes
     }
 
+    /// The name's bytes, to be read.
     pub fn as_slice(&self) -> &[u8]
         ensures { result.now ≡ self.now }
     {
@@ -133,30 +143,35 @@ impl Model for NumberList {
 }
 
 impl NumberList {
+    /// The numbers of a vector, in its order. Takes no memory.
     pub fn from_vec(numbers: Vec<u32>) -> NumberList
         ensures { result ≡ numbers.items }
     {
         NumberList { numbers }
     }
 
+    /// The numbers as a vector, in order. Takes no memory.
     pub fn into_vec(self) -> Vec<u32>
         ensures { result.items ≡ self }
     {
         self.numbers
     }
 
+    /// The numbers, to be read.
     pub fn as_slice(&self) -> &[u32]
         ensures { result.now ≡ self.now }
     {
         self.numbers.as_slice()
     }
 
+    /// How many numbers there are.
     pub fn len(&self) -> usize
         ensures { result ≡ length self.now }
     {
         self.numbers.len()
     }
 
+    /// Whether there is no number.
     pub fn is_empty(&self) -> bool
         ensures { IsTrue result ↔ (self.now ≡ []) }
     {
@@ -180,12 +195,14 @@ impl Model for IpList {
 }
 
 impl IpList {
+    /// The addresses of a vector, in its order. Takes no memory.
     pub fn from_vec(addresses: Vec<IpAddress>) -> IpList
         ensures { result ≡ addresses.items }
     {
         IpList { addresses }
     }
 
+    /// A copy. Takes memory for the addresses.
     pub fn try_clone(&self) -> Result<IpList, AllocError>
         ensures { IfOk result (λ list. list ≡ self.now) }
     {
@@ -193,12 +210,14 @@ impl IpList {
         Ok(IpList { addresses })
     }
 
+    /// The addresses as a vector, in order. Takes no memory.
     pub fn into_vec(self) -> Vec<IpAddress>
         ensures { result.items ≡ self }
     {
         self.addresses
     }
 
+    /// The addresses, to be read.
     pub fn as_slice(&self) -> &[IpAddress]
         ensures { result.now ≡ self.now }
     {

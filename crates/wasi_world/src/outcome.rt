@@ -7,7 +7,9 @@ use wasi_addr::ErrorCode;
 /// A poll's answer: a value, or nothing yet.
 #[derive(Clone, Copy, Debug, PartialEq, Eq)]
 pub enum Answer<T> {
+    /// The operation is done, with this value.
     Ready(T),
+    /// The operation isn't done: poll again.
     Pending,
 }
 
@@ -55,7 +57,7 @@ pub enum TrapKind {
     /// A blocking write of more than 4096 bytes.
     #[error("more than 4096 bytes in one blocking write")]
     TooLong,
-    /// Datagram streams of the socket are live.
+    /// New datagram streams were asked for while the earlier ones of that socket are live.
     #[error("the socket has live datagram streams")]
     StreamsAlive,
     /// A write of more than the stream's budget.

@@ -9,7 +9,8 @@ use wasi_addr::{ErrorCode, IpSocketAddress};
 /// The most bytes of a datagram.
 const MOST_DATAGRAM: usize = 65535;
 
-/// The kinds of answer; each has a list of its own, used in order over all sockets.
+/// The kinds of call that answers are planned for, each named as its [`crate::Call`]. Each has a
+/// list of answers of its own, used in order over all sockets.
 #[derive(Clone, Copy, Debug, PartialEq, Eq)]
 pub enum Kind {
     Check,
@@ -37,7 +38,7 @@ pub enum Kind {
     GetOption,
 }
 
-/// One planned answer.
+/// One planned answer of a scenario.
 #[derive(Drop)]
 pub enum Planned {
     Pending,
@@ -47,7 +48,7 @@ pub enum Planned {
     Code(ErrorCode),
     Addr(IpSocketAddress),
     Arrived(IpSocketAddress),
-    /// Where they are more than a read asks for, the rest is the next answer.
+    /// A read gives these bytes; those beyond the size that it asks for are the next answer.
     Bytes(Octets),
     /// A write takes at most so many bytes.
     Took(u64),

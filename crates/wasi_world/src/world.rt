@@ -20,7 +20,7 @@ pub trait World {
     /// What is known of it.
     ghost seen: { Self → Seen };
 
-    /// Any call but a write and a send.
+    /// Makes any call but a write and a send. Out of memory the call wasn't made.
     fn call(&mut self, op: OpId, call: Call) -> Result<Told, AllocError>
         requires open { (seen self.old).ended ≡ false }
         requires plain { IsPlain call }
@@ -29,7 +29,8 @@ pub trait World {
         ensures err { OnErr result (seen self.new ≡ seen self.old) }
         ensures open { (seen self.new).ended ≡ false };
 
-    /// Offers bytes to a connection, of which the front may be taken.
+    /// Offers bytes to a connection: pending, the bytes taken, from the front, or a code. Out of
+    /// memory the call wasn't made.
     fn write(&mut self, op: OpId, sock: Sock, bytes: &[u8]) -> Result<Told, AllocError>
         requires open { (seen self.old).ended ≡ false }
         requires some { 1 ≤ length bytes.now }
@@ -39,7 +40,7 @@ pub trait World {
         ensures err { OnErr result (seen self.new ≡ seen self.old) }
         ensures open { (seen self.new).ended ≡ false };
 
-    /// Sends one datagram.
+    /// Sends one datagram: pending, done, or a code. Out of memory the call wasn't made.
     fn send(
         &mut self,
         op: OpId,

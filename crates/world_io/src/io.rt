@@ -30,6 +30,7 @@ pub trait Sink {
     fn write(&mut self, bytes: &[u8]) -> Result<usize, Failed>
         ensures { HasWritten (writing self.old) (writing self.new) bytes.now result };
 
+    /// Flushes what was written. `Failed`: a fault was counted.
     fn flush(&mut self) -> Result<(), Failed>
         ensures { HasFlushed (writing self.old) (writing self.new) result };
 }

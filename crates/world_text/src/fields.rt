@@ -65,7 +65,7 @@ impl<'a> Fields<'a> {
         }
     }
 
-    /// The same fields, to be read without being taken.
+    /// A copy of these fields: reading it takes none of them from these.
     fn copied(&self) -> Fields<'a>
         ensures { result ≡ self.now }
     {

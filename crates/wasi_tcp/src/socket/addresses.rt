@@ -12,7 +12,8 @@ impl TcpSocket {
     ghost use Rattle.wasi_tcp.specs.Socket.{side_of};
     ghost use Rattle.wasi_tcp.specs.Addresses.{usable_side, local_side, local_asks, local_where, remote_asks};
 
-    /// The local address. Not bound, or connecting: `InvalidState`. Closed: its code. A code that is reported is returned.
+    /// The local address (`tcp-socket.local-address`). Not bound, or connecting: `InvalidState`.
+    /// Closed: its code. A code that the network reports is returned.
     pub fn local_address<W: World>(
         &mut self,
         world: &mut W,
@@ -69,8 +70,9 @@ impl TcpSocket {
         }
     }
 
-    /// The remote address of a connection, which is kept once it is reported. Closed: its code. Not Connected: `InvalidState`.
-    /// A code that is reported is returned. After running out of memory nothing was asked, and the socket is as it was.
+    /// The remote address of a connection (`tcp-socket.remote-address`), which is kept once it is
+    /// reported. Closed: its code. Not Connected: `InvalidState`. A code that the network reports
+    /// is returned. Out of memory nothing was asked, and the socket stays as it was.
     pub fn remote_address<W: World>(
         &mut self,
         world: &mut W,

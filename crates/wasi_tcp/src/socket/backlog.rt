@@ -11,11 +11,15 @@ impl TcpSocket {
     ghost use Rattle.wasi_tcp.specs.Socket.{side_of};
     ghost use Rattle.wasi_tcp.specs.Options.{after_backlog, set_backlog_asks};
 
-    /// How many connections may wait at a listener (`tcp-socket.set-listen-backlog-size`): the value is brought into 1
-    /// to 2,147,483,647. 0: `InvalidArgument`, in any state. In the state Default it is kept for the listen to come, and
-    /// nothing is asked. Listening, its network socket is asked for it: done, it is kept; a code is answered as `NotSupported`,
-    /// and the old one stays. Closed: its code. Connecting or Connected: `InvalidState`. After running out of memory the socket
-    /// is as it was.
+    /// Sets how many connections may wait at a listener (`tcp-socket.set-listen-backlog-size`); the
+    /// value is brought into 1 to 2,147,483,647.
+    ///
+    /// - 0: `InvalidArgument`, in any state.
+    /// - Default: it is kept for the listen to come, and nothing is asked.
+    /// - Listening: the network is asked. Done, it is kept; a code is returned as `NotSupported`,
+    ///   and the old one stays.
+    /// - Closed: its code. Connecting or Connected: `InvalidState`.
+    /// - Out of memory the socket stays as it was.
     pub fn set_listen_backlog_size<W: World>(
         &mut self,
         world: &mut W,

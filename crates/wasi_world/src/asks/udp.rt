@@ -13,6 +13,8 @@ use crate::world::World;
 use std::alloc::AllocError;
 use wasi_addr::{ErrorCode, IpSocketAddress, SocketAddressFamily};
 
+/// Creates a UDP socket of this family for the context numbered `ctx`; `op` is its name from then
+/// on. A code: no socket was made. Out of memory the call wasn't made.
 pub fn udp_create<W: World>(
     world: &mut W,
     op: OpId,
@@ -28,6 +30,7 @@ pub fn udp_create<W: World>(
     Ok(told_done(told))
 }
 
+/// Whether a UDP socket can send now: pending, done, or a code. Out of memory the call wasn't made.
 pub fn udp_writable<W: World>(world: &mut W, op: OpId, sock: Sock) -> Result<Polled<()>, AllocError>
     requires { (W.seen world.old).ended ≡ false }
     ensures asked { AsksFor (ask_udp_writable op sock) (W.seen world.old) (W.seen world.new) (λ answer. answer) result }
@@ -38,6 +41,7 @@ pub fn udp_writable<W: World>(world: &mut W, op: OpId, sock: Sock) -> Result<Pol
     Ok(told_polled(told))
 }
 
+/// Binds a UDP socket to a local address, or fails with a code. Out of memory the call wasn't made.
 pub fn udp_bind<W: World>(
     world: &mut W,
     op: OpId,
@@ -53,6 +57,8 @@ pub fn udp_bind<W: World>(
     Ok(told_done(told))
 }
 
+/// Connects a UDP socket to a remote address, or fails with a code. Out of memory the call wasn't
+/// made.
 pub fn udp_connect<W: World>(
     world: &mut W,
     op: OpId,
@@ -68,6 +74,8 @@ pub fn udp_connect<W: World>(
     Ok(told_done(told))
 }
 
+/// Takes its remote address from a connected UDP socket, or fails with a code. Out of memory the
+/// call wasn't made.
 pub fn udp_disconnect<W: World>(
     world: &mut W,
     op: OpId,
@@ -82,6 +90,8 @@ pub fn udp_disconnect<W: World>(
     Ok(told_done(told))
 }
 
+/// Receives one datagram: pending, its bytes and its sender's address, or a code. Out of memory the
+/// call wasn't made.
 pub fn recv<W: World>(
     world: &mut W,
     op: OpId,
@@ -96,7 +106,8 @@ pub fn recv<W: World>(
     Ok(told_datagram(told))
 }
 
-/// Sends one datagram.
+/// Sends `bytes` as one datagram to `addr`: pending, done, or a code. Out of memory the call wasn't
+/// made.
 pub fn send<W: World>(
     world: &mut W,
     op: OpId,
