@@ -19,9 +19,9 @@ use crate::step::Step;
 use crate::stream::stream_arguments;
 use std::alloc::{AllocError, Global};
 use wasi_addr::ShutdownType;
-use world_text::fields::number;
 use wasi_world::Opt;
 use world_text::Fields;
+use world_text::fields::number;
 
 /// Takes the word of what is shut down.
 #[tactic(auto, unfolding(crate::specs::Arguments::shutdown_at, world_text::specs::Fields::read_then, world_text::specs::Fields::give))]

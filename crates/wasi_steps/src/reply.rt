@@ -12,8 +12,8 @@ use std::fmt;
 use std::fmt::Write;
 use std::marker::Model;
 use wasi_addr::p2;
-use world_text::fields::push_octets;
 use wasi_world::{Handle, Octets, TrapKind};
+use world_text::fields::push_octets;
 
 /// One field of an `ok` reply.
 #[derive(Drop)]
