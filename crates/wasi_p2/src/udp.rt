@@ -152,10 +152,15 @@ pub fn check_send(view: &mut WasiSocketsCtxView<'_>, this: Handle) -> Result<u64
     view.store.check_send(place)
 }
 
-/// Sends datagrams in turn, and says how many were sent (`outgoing-datagram-stream.send`). An empty list sends none, and the permit
-/// stays; with more than the permit: `Trap(NotPermitted)`; else the permit is used up. A datagram that isn't sent at once is sent in
-/// the background, counts as sent, and ends the list. One that is refused ends it too: its code is answered where none was sent
-/// before it. The code of one that failed in the background is answered in place of the first.
+/// Sends datagrams one after another, and returns how many were sent
+/// (`outgoing-datagram-stream.send`).
+///
+/// - An empty list sends none, and the permit stays. More than the permit: `Trap(NotPermitted)`.
+///   Else the permit is used up.
+/// - A datagram that isn't sent at once is sent in the background, counts as sent, and ends the
+///   list.
+/// - One that is refused ends the list; its code is returned where none was sent before it.
+/// - The code of one that failed in the background is returned in place of the first.
 pub fn send<W: World>(
     view: &mut WasiSocketsCtxView<'_>,
     world: &mut W,
@@ -175,9 +180,11 @@ pub fn send<W: World>(
     view.store.send_datagrams(world, ids, place, items)
 }
 
-/// Takes the datagrams that have come, at most so many (`incoming-datagram-stream.receive`), and at most 16, until their lengths with
-/// one more each reach 65,536. One that hasn't come yet ends the list, and is received in the background. A code is answered where no
-/// datagram stands before it, and else is dropped.
+/// Takes the datagrams that have come (`incoming-datagram-stream.receive`): at most this many, at
+/// most 16, and until their lengths, with one more for each, reach 65,536.
+///
+/// - One that hasn't come yet ends the list, and is received in the background.
+/// - A code ends the list, too: it is returned where no datagram comes before it, and dropped else.
 pub fn receive<W: World>(
     alloc: Global,
     view: &mut WasiSocketsCtxView<'_>,
