@@ -1,6 +1,7 @@
-//! Where the answers of the calls of streams that block come from, those of the polls that continue them, and those of cancels, as
-//! laws over the definitions of specs/: each is a function that does nothing, whose contract is the law. A call is made of others
-//! that don't block, of its own line also where a poll continues it.
+//! Where the answers of calls of streams that block come from, of the polls that continue them, and
+//! of cancels: laws over the definitions of specs/. Each is a function that does nothing, whose
+//! contract is the law. A call that blocks is made of calls that don't, under the number of its own
+//! line, also where a poll continues it.
 
 ghost use Rattle.std.specs.Prelude.{◌≡◌, ◌↔◌, ◌⊎◌, ℕ, true, false, List, [], ◌∷◌, length, IsSomeAnd, Some, None};
 ghost use Rattle.wasi_world.specs.declared.call.Entry.{Entry};
@@ -25,11 +26,15 @@ ghost use Rattle.wasi_causes.specs.Blocking.{BeginsToWrite, BlocksAs, EndsByRead
 ghost use Rattle.wasi_causes.specs.Cancelled.{CancelsBy};
 ghost use Rattle.wasi_causes.specs.Datagrams.{PendingHandleIsLive};
 
-/// A call of a stream that blocks is made of others: a read and a skip look whether there is something to read, and read then; a
-/// write is made in rounds of a look at what may be written and a write of so much, and flushed and looked at once more; a flush is
-/// flushed and looked at; and a splice looks at both its ends. A part that gives nothing, because it is at an end, failed or traps,
-/// ends the call; one that gives nothing yet leaves it pending under its line's number. A write of more than 4096 bytes traps at
-/// once, once its handle is found to be of an output.
+/// A call of a stream that blocks is made of calls that don't. A part that ends, fails or traps
+/// ends the call; a part that gives nothing yet leaves it pending under its line's number. All of
+/// this is said where no call is pending.
+///
+/// - `read`, `skip`: a look whether there is something to read, and then a read.
+/// - `write`, `zeroes`: rounds of a look at the permit and a write of that much; then a flush and a
+///   last look. More than 4,096 bytes trap at once, where the handle is an output's.
+/// - `flush`: a flush and a look.
+/// - `splice`: a look at both ends, and then a splice.
 pub fn calls_that_block_are_their_parts()
     ensures read { (contexts : List WasiSocketsCtx) (m : Machine) (line ctx input len : ℕ) (entries : List Entry) (reply : Reply) (after : Machine)
         → m.store.standing ≡ None → Answered contexts m line (Step.BlockingRead ctx input len) entries reply after → BlocksAs contexts m ctx (first_ids line) (BlockingCall.Read input len) entries reply after }
@@ -45,11 +50,16 @@ pub fn calls_that_block_are_their_parts()
         → m.store.standing ≡ None → Answered contexts m line (Step.BlockingSplice ctx to from len) entries reply after → BlocksAs contexts m ctx (first_ids line) (BlockingCall.Splice to from len) entries reply after }
 {}
 
-/// A poll of a pending call that blocks continues it, as if nothing were pending, and by the names of the line that began it: a read, a
-/// skip, a flush and a splice begin anew, a write goes on with what isn't written yet, or with its last look, and a wait for pollables
-/// looks again, of which `waiting` says more. That is said of a
-/// write of which no more is left than one call may write, as it is after any lines. It is at an end, or fails with an error, only
-/// where a call of a stream is pending.
+/// What a poll of a pending call that blocks does.
+///
+/// - `goes_on`: it continues the call as if nothing were pending, under the names of the line that
+///   began it. A read, a skip, a flush and a splice begin anew; a write goes on with the bytes that
+///   are left, or with its last look; a wait for pollables looks again (`waiting`).
+/// - `closed`, `failed`: a poll answers that a stream is closed, or failed, only where a call of a
+///   stream is pending.
+///
+/// `goes_on` assumes that a write has at most 4,096 bytes left. Every run keeps that
+/// (`pending_calls_have_their_streams`).
 pub fn polls_continue_calls_of_streams()
     ensures goes_on { (contexts : List WasiSocketsCtx) (m : Machine) (line ctx : ℕ) (ids : Ids) (call : BlockingCall) (entries : List Entry) (reply : Reply) (after : Machine)
         → m.store.standing ≡ Some (standing_as ids (StandingCall.Blocking call)) → IsShort call → Answered contexts m line (Step.Poll ids.line) entries reply after
@@ -60,8 +70,12 @@ pub fn polls_continue_calls_of_streams()
         → Answered contexts m line (Step.Poll n) entries (Reply.Failed word handle) after → StreamCallStands m }
 {}
 
-/// The bytes that a blocking read hands out, at once or by a poll, are those of the last ask, a read of the connection's open half by
-/// the operation of the call's line, or stood first in a pipe; the look before it found that there is something to read.
+/// The bytes that a blocking read hands out are the answer to the last call, a read of the
+/// connection's open half by the operation of the read's line; or they stood first in a pipe. The
+/// look before found something to read.
+///
+/// - `at_once`: in the line of the read.
+/// - `polled`: in a poll of it.
 pub fn blocking_reads_hand_out_what_was_told()
     ensures at_once { (contexts : List WasiSocketsCtx) (m : Machine) (line ctx input len b : ℕ) (bytes : List ℕ) (entries : List Entry) (after : Machine)
         → m.store.standing ≡ None → Answered contexts m line (Step.BlockingRead ctx input len) entries (Reply.Ok (bytes_fields (b ∷ bytes))) after
@@ -71,18 +85,24 @@ pub fn blocking_reads_hand_out_what_was_told()
         → EndsByRead (nothing_stands m) ids.line input len (b ∷ bytes) entries after }
 {}
 
-/// After the lines of any script, a call of a stream that is pending is on streams that are there, with 4096 bytes at most left to
-/// write, a wait that is pending is for pollables that watch what is there, and pending datagram streams have their handle.
+/// After any script the streams of a pending call of a stream are there, with at most 4,096 bytes
+/// left to write; what the pollables of a pending wait watch is there; and pending datagram streams
+/// have a live handle.
 pub fn pending_calls_have_their_streams()
     ensures { (contexts : List WasiSocketsCtx) (steps : List Step) (log : List Entry) (replies : List Reply) (m : Machine)
         → Left (run contexts [] first_state 1 steps) log (Give (replies, m)) → PendingHandleIsLive m }
 {}
 
-/// A cancel finds no such call exactly where none is pending under its number, and asks nothing then and leaves the machine; it is done
-/// exactly where one is, and nothing is pending then and each handle is live as before. What was pending is given up: a bind and a
-/// connect leave their socket as it was with none in progress; a listen and a create close their network socket, and leave the socket
-/// closed and no handle; the drop of an outgoing datagram stream loses its datagram, which no turn sends any more; and the drop of an
-/// output, a call of a stream and a wait for pollables leave all as it was.
+/// What a cancel does.
+///
+/// - `none`, `stays`: `no-such-call` exactly where no call is pending under its number; nothing is
+///   asked then, and the machine is unchanged.
+/// - `exactly`: `ok` exactly where one is.
+/// - `given_up`: a bind or a connect leaves its socket as it was, with none in progress. A listen
+///   or a create closes its network socket, and leaves the socket closed or no handle. The drop of
+///   an outgoing datagram stream loses its datagram. The drop of an output, a call of a stream and
+///   a wait for pollables leave all as it was.
+/// - `none_stands`: no call is pending after an `ok`, and the handles are unchanged.
 pub fn cancels_give_up_their_call()
     ensures none { (contexts : List WasiSocketsCtx) (m : Machine) (line n : ℕ) (entries : List Entry) (reply : Reply) (after : Machine)
         → Answered contexts m line (Step.Cancel n) entries reply after → (reply ≡ Reply.NoSuchCall) ↔ (stands_as m.store.standing n ≡ false) }

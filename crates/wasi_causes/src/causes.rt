@@ -1,7 +1,10 @@
-//! Laws over the definitions of specs/ that say where each answer of a step comes from, and what is left after a refusal:
-//! each is a function that does nothing, whose contract is the law. A socket is a TCP socket here, where nothing else is said;
-//! the calls of streams are in `stream_calls` and `blocking`, waits for pollables in `waiting`, the steps of UDP sockets in `udp`, those
-//! of their datagram streams in `datagrams`, and those of lookups in `lookups`.
+//! Where the answer of each step comes from, and what is left after a refusal: laws over the
+//! definitions of specs/. Each is a function that does nothing, whose contract is the law. A socket
+//! is a TCP socket here, where nothing else is said.
+//!
+//! Other modules have the calls of streams (`stream_calls`, `blocking`), waits for pollables
+//! (`waiting`), UDP sockets (`udp`), their datagram streams (`datagrams`), listens and accepts
+//! (`listens`), options (`options`), and lookups (`lookups`).
 
 ghost use Rattle.std.specs.Prelude.{◌≡◌, ◌↔◌, ◌⊎◌, ℕ, ◌+◌, true, false, List, [], ◌∷◌, length, IsSome, IsSomeAnd, Some, None, slice_get};
 ghost use Rattle.wasi_addr.specs.declared.address.IpSocketAddress.{IpSocketAddress};
@@ -53,9 +56,12 @@ ghost use Rattle.wasi_records.specs.InProgress.{is_connect};
 ghost use Rattle.wasi_host.specs.Store.{with_record};
 ghost use Rattle.wasi_table.specs.Table.{children_of, is_full};
 
-/// Each reply that a step may get is one that the table of replies names for it, and so is each of a run: fields of the step's kinds, a
-/// word that the step may be refused with, an end or a failure for a call of a stream, a trap that the step may end by, pending under its
-/// own number, busy for a guest call, `no-such-call` for a poll and a cancel. No step replies anything else.
+/// Each reply is one that the table of replies allows its step: fields of the step's kinds, a code
+/// that the step may return, a stream's end or failure, a trap that the step may end by, pending,
+/// busy, or `no-such-call`.
+///
+/// - `next`: the reply of one step.
+/// - `all`: every reply of a run.
 pub fn replies_are_of_the_step()
     ensures next { (contexts : List WasiSocketsCtx) (m : Machine) (line : ℕ) (s : Step) (entries : List Entry) (reply : Reply) (after : Machine)
         → Answered contexts m line s entries reply after → may_answer line s reply }
@@ -63,15 +69,17 @@ pub fn replies_are_of_the_step()
         → Left (run contexts [] first_state 1 steps) log (Give (replies, m)) → EachMayAnswer 1 steps replies }
 {}
 
-/// Every answer but `busy` is in the table of outcomes: what the step was told, what it replies and the machine afterwards are a row of
-/// its step's.
+/// Every answer but `busy` is in the table of outcomes: what the step asked and was answered, its
+/// reply, and the machine afterwards are a row of that step.
 pub fn answers_are_in_the_table()
     ensures { (contexts : List WasiSocketsCtx) (m : Machine) (line : ℕ) (s : Step) (entries : List Entry) (reply : Reply) (after : Machine)
         → Answered contexts m line s entries reply after → (reply ≡ Reply.Busy → ⊥) → Outcome contexts m line s entries reply after }
 {}
 
-/// A step is busy exactly where a call is pending and the step is a call of a guest. It asks nothing then, and the machine
-/// stays as it was.
+/// While a call is pending every other call of a guest is `busy`.
+///
+/// - `exactly`: a step is `busy` exactly where a call is pending and the step is a guest's call.
+/// - `stays`: nothing was asked then, and the machine is unchanged.
 pub fn busy_while_a_call_stands()
     ensures exactly { (contexts : List WasiSocketsCtx) (m : Machine) (line : ℕ) (s : Step) (entries : List Entry) (reply : Reply) (after : Machine)
         → Answered contexts m line s entries reply after → (reply ≡ Reply.Busy) ↔ (IsSome m.store.standing × IsSome (context_of s)) }
@@ -79,8 +87,13 @@ pub fn busy_while_a_call_stands()
         → Answered contexts m line s entries Reply.Busy after → (entries ≡ []) × (after ≡ m) }
 {}
 
-/// The finish of a bind asks nothing. It is refused, with `not-in-progress`, exactly where the socket is there and has no
-/// bind in progress, and the machine stays as it was.
+/// Why the finish of a bind is refused.
+///
+/// - `asks_nothing`: the finish of a bind asks nothing.
+/// - `exactly`: it is refused with `not-in-progress` exactly where the socket has no bind in
+///   progress; that is said where no call is pending.
+/// - `no_other`: it is refused with no other code.
+/// - `stays`: after a refusal the machine is unchanged.
 pub fn finish_bind_refusals()
     ensures asks_nothing { (contexts : List WasiSocketsCtx) (m : Machine) (line ctx handle : ℕ) (entries : List Entry) (reply : Reply) (after : Machine)
         → Answered contexts m line (Step.TcpFinishBind ctx handle) entries reply after → entries ≡ [] }
@@ -93,15 +106,28 @@ pub fn finish_bind_refusals()
         → Answered contexts m line (Step.TcpFinishBind ctx handle) entries (Reply.Err word) after → after ≡ m }
 {}
 
-/// A step traps because a handle of it isn't live or is of another kind, and asks nothing then and leaves the machine as it
-/// was, but that a poll leaves nothing pending, which is said where the handle of pending datagram streams is live and what a pending
-/// call is on is there; of a splice where its input, if it is one, is there; and of a wait for several pollables where what those among
-/// its handles watch is there; all of which is so after any lines; or because a
-/// handle is dropped under which others are live, and asks nothing then and leaves the machine; or because the table is full, where it is to make a handle: that was the last of the step, and
-/// the marks are those of the handles that were made before it; or because a write or a send of datagrams isn't permitted; or
-/// because datagram streams are asked for of a socket of which one is live; or because a write is of more bytes than its pipe has
-/// room for; or because a write that blocks is of too many bytes; or because a wait is for no pollable; and asks nothing then and leaves
-/// the machine.
+/// Why a step may trap. In all cases but `Full` and `NotPermitted` nothing was asked, and the
+/// machine is unchanged.
+///
+/// - `kinds`: a step traps with one of the eight kinds below.
+/// - `no_such_handle`: a handle of the step isn't live, or is of another kind.
+/// - `no_such_handle_stays`: nothing was asked then, and the machine is unchanged, but that after a
+///   poll no call is pending.
+/// - `has_children`: a drop traps with `HasChildren` exactly where its handle has a live child;
+///   that is said where no call is pending.
+/// - `has_children_stays`, `only_drops`: nothing is asked then, the machine is unchanged, and no
+///   other step traps so.
+/// - `full`: the step makes a handle, and the table is full.
+/// - `full_marks`: the handles that it made before that are logged, one entry each.
+/// - `not_permitted`: the step is a write, or a send of datagrams.
+/// - `streams_alive`: the step asks for datagram streams.
+/// - `capacity`: the step is a write.
+/// - `too_long`: the step is a write that blocks.
+/// - `empty_list`: the step is a wait for no pollable.
+///
+/// `no_such_handle_stays` assumes that the handle of pending datagram streams is live, that a
+/// pending call's streams are there, that a splice's input is there if it is one, and that what
+/// each pollable of a wait watches is there. Every run keeps that (`runs_keep_their_records`).
 pub fn traps_have_causes()
     ensures kinds { (contexts : List WasiSocketsCtx) (m : Machine) (line : ℕ) (s : Step) (entries : List Entry) (kind : TrapKind) (after : Machine)
         → Answered contexts m line s entries (Reply.Trap kind) after → (kind ≡ TrapKind.NoSuchHandle) ⊎ ((kind ≡ TrapKind.HasChildren) ⊎ ((kind ≡ TrapKind.Full) ⊎ ((kind ≡ TrapKind.NotPermitted) ⊎ ((kind ≡ TrapKind.StreamsAlive) ⊎ ((kind ≡ TrapKind.Capacity) ⊎ ((kind ≡ TrapKind.TooLong) ⊎ (kind ≡ TrapKind.EmptyList))))))) }
@@ -131,16 +157,21 @@ pub fn traps_have_causes()
         → Answered contexts m line s entries (Reply.Trap TrapKind.EmptyList) after → IsEmptyWait s × (entries ≡ []) × (after ≡ m) }
 {}
 
-/// A poll finds no such call exactly where no call is pending under its number. It asks nothing then, and the machine stays as
-/// it was; no other step but a cancel is answered so. A poll of a pending call leaves it pending, or leaves nothing pending. It is refused
-/// with the word of the code by which the bind, the listen, the create or the connect of datagram streams failed: a check was
-/// answered no, or another of its asks was answered with the code, by its own operation, and a listen and a create closed their
-/// network socket last, and a connect that was answered asked for the remote address. Nothing is pending then, and the machine is as it
-/// was but for the call's record: its bind, its listen or its connect is in progress no more, of a create nothing is left, since its
-/// record was given back, and after a connect that was answered with a code the remote address is what was reported. That is said
-/// where what is pending as a bind is a bind, as a listen a listen, as a create a create, and as datagram streams a connect, as it is
-/// after any lines. In a run a poll traps only for lack of room for the handle of a create, for the two of datagram streams, or for
-/// that of a stream's error.
+/// What a poll of a pending call answers.
+///
+/// - `exactly`, `stays`: `no-such-call` exactly where no call is pending under its number; nothing
+///   is asked then, and the machine is unchanged.
+/// - `only_polls`: no other step but a cancel answers that.
+/// - `ends`: a poll of a pending call leaves it pending, or leaves no call pending.
+/// - `refused`: a code is the one by which the bind, the listen, the create or the connect failed:
+///   a check said no, or the network answered with it. A listen and a create closed their network
+///   socket last; a connect that was answered asked for the remote address. The operation is in
+///   progress no more, a create's record is given back, and no call is pending.
+/// - `traps`: in a run a poll traps with `Full` alone: for the handle of a create, the two of
+///   datagram streams, or that of a stream's error.
+///
+/// `refused` assumes `PendingCallsFit`: the pending call and the operation in its record are of one
+/// kind. Every run keeps that (`runs_keep_their_pending_calls`).
 pub fn polls_find_their_call()
     ensures exactly { (contexts : List WasiSocketsCtx) (m : Machine) (line n : ℕ) (entries : List Entry) (reply : Reply) (after : Machine)
         → Answered contexts m line (Step.Poll n) entries reply after → (reply ≡ Reply.NoSuchCall) ↔ (stands_as m.store.standing n ≡ false) }
@@ -157,12 +188,20 @@ pub fn polls_find_their_call()
         → (kind ≡ TrapKind.Full) × (((is_full m.table ≡ true) × IsSomeAnd m.store.standing (λ s. IsPendingCreate s.call)) ⊎ (IsSomeAnd m.store.standing (λ s. LacksRoomForStreams m s.call) ⊎ StreamCallStands m)) }
 {}
 
-/// The start of a bind, that of a listen, a create of a UDP socket, that of its datagram streams, the drop of an output or of an
-/// outgoing datagram stream, a call of a stream that blocks, a wait for pollables and a poll may be pending: all but a poll under their line's number, and a poll under the number that
-/// it polls. A call is pending under that number then. The last ask of a bind and of a listen was answered pending; a drop waits
-/// where its output's write is in progress, or its one ask was answered pending, or where a datagram of its stream isn't sent yet,
-/// which asks nothing; and a poll waits as the call does that it polls, if that is none that blocks, of which `blocking` and `waiting` say it. That is said where what is pending as a bind is a bind, as
-/// a listen a listen, as a create a create, and as datagram streams a connect, as it is after any lines.
+/// When a step may be pending.
+///
+/// - `step`: the start of a bind or of a listen, a create of a UDP socket or of its datagram
+///   streams, the drop of an output or of an outgoing datagram stream, and a call that blocks, all
+///   under their line's number; and a poll, under the number that it polls.
+/// - `stands`: a call is pending under that number then.
+/// - `told`, `listen`: the last call of a bind, or of a listen, was answered pending.
+/// - `output`: a drop waits for its output's write in progress, or its one look was answered
+///   pending; or it waits for a datagram that isn't sent yet, and asks nothing.
+/// - `polled`: a poll is pending for the reason of the call that it polls; `blocking` and `waiting`
+///   say that of calls that block.
+///
+/// `polled` assumes `PendingCallsFit`: the pending call and the operation in its record are of one
+/// kind. Every run keeps that (`runs_keep_their_pending_calls`).
 pub fn pending_where_told()
     ensures step { (contexts : List WasiSocketsCtx) (m : Machine) (line : ℕ) (s : Step) (entries : List Entry) (number : ℕ) (after : Machine)
         → Answered contexts m line s entries (Reply.Pending number) after → MayStand m line s number }
@@ -178,8 +217,11 @@ pub fn pending_where_told()
         → PendingCallsFit m → Answered contexts m line (Step.Poll n) entries (Reply.Pending number) after → StandingWaits m (own_of n) entries }
 {}
 
-/// A create is refused with `access-denied` where the context may not use TCP, and it asks nothing then; or with the word of
-/// the code that its one ask was answered. There is no handle, no record and no network socket then.
+/// Why a create of a TCP socket is refused.
+///
+/// - `cause`: a create is refused with `access-denied` where the context may not use TCP, and then
+///   nothing is asked; or with the code that its one call was answered.
+/// - `stays`: after a refusal the machine is unchanged.
 pub fn create_refusals()
     ensures cause { (contexts : List WasiSocketsCtx) (m : Machine) (line ctx : ℕ) (family : SocketAddressFamily) (entries : List Entry) (word : CodeWord) (after : Machine)
         → Answered contexts m line (Step.TcpCreate ctx family) entries (Reply.Err word) after
@@ -188,7 +230,11 @@ pub fn create_refusals()
         → Answered contexts m line (Step.TcpCreate ctx family) entries (Reply.Err word) after → after ≡ m }
 {}
 
-/// A create that traps with `Full` has made its network socket, which is in the last record, and the table is as it was.
+/// A create that traps with `Full` has made its network socket.
+///
+/// - `full`: the table is full.
+/// - `asked`: its one call created the socket, and was answered done.
+/// - `left`: the socket is in the last record; the rest of the machine is unchanged.
 pub fn create_full()
     ensures full { (contexts : List WasiSocketsCtx) (m : Machine) (line ctx : ℕ) (family : SocketAddressFamily) (entries : List Entry) (after : Machine)
         → Answered contexts m line (Step.TcpCreate ctx family) entries (Reply.Trap TrapKind.Full) after → is_full m.table ≡ true }
@@ -200,8 +246,14 @@ pub fn create_full()
         → after ≡ record m { store = with_record m.store (new_socket (own_of line) (context_at contexts ctx).name family) } }
 {}
 
-/// The start of a bind is refused with `concurrency-conflict` exactly where an operation is in progress, whichever, and else by
-/// its own tests or by what was reported. The machine is as it was then, but that a socket that was found bound is known to be.
+/// Why the start of a bind is refused.
+///
+/// - `exactly`: the start of a bind is refused with `concurrency-conflict` exactly where an
+///   operation is in progress; that is said where no call is pending.
+/// - `cause`: any refusal comes from that, from the tests of a bind, or from what the network
+///   answered.
+/// - `stays`: after a refusal the machine is unchanged, but that a socket that was found bound is
+///   known to be.
 pub fn bind_refusals()
     ensures exactly { (contexts : List WasiSocketsCtx) (m : Machine) (line ctx handle network : ℕ) (a : IpSocketAddress) (entries : List Entry) (reply : Reply) (after : Machine)
         → m.store.standing ≡ None → is_network (kind_at m.table network) ≡ true
@@ -215,8 +267,13 @@ pub fn bind_refusals()
         → (after ≡ m) ⊎ ((word ≡ CodeWord.InvalidState) × KnowsBound m handle after) }
 {}
 
-/// The start of a connect is refused with `concurrency-conflict` exactly where an operation is in progress, whichever, and else
-/// by its own tests. The machine is as it was then, but that a socket that was found bound is known to be.
+/// Why the start of a connect is refused.
+///
+/// - `exactly`: the start of a connect is refused with `concurrency-conflict` exactly where an
+///   operation is in progress; that is said where no call is pending.
+/// - `cause`: any refusal comes from that, or from the tests of a connect.
+/// - `stays`: after a refusal the machine is unchanged, but that a socket that was found bound is
+///   known to be.
 pub fn start_connect_refusals()
     ensures exactly { (contexts : List WasiSocketsCtx) (m : Machine) (line ctx handle network : ℕ) (a : IpSocketAddress) (entries : List Entry) (reply : Reply) (after : Machine)
         → m.store.standing ≡ None → is_network (kind_at m.table network) ≡ true
@@ -230,11 +287,18 @@ pub fn start_connect_refusals()
         → (after ≡ m) ⊎ ((word ≡ CodeWord.InvalidArgument) × KnowsBound m handle after) }
 {}
 
-/// The finish of a connect is refused with `not-in-progress` exactly where the socket is there and has no connect in progress,
-/// and it asks nothing then and leaves the machine as it was. With `would-block` the connect was answered pending and is in
-/// progress; with any other word the socket is closed with that word's code, and nothing is in progress. The causes are those
-/// of a socket that connects by a connect, and where one is in progress connects, or was closed, or is connected and neither
-/// half of it was taken, as all are after any lines. So in a run there are no others.
+/// Why the finish of a connect is refused.
+///
+/// - `exactly`: the finish of a connect is refused with `not-in-progress` exactly where the socket
+///   has no connect in progress; that is said where no call is pending.
+/// - `not_in_progress`: then nothing was asked, and the machine is unchanged.
+/// - `cause`: with `would-block` the connect was answered pending and stays in progress; with any
+///   other code the socket is closed with that code, and nothing is in progress.
+/// - `in_runs`: in a run there are no other causes.
+///
+/// `cause` assumes that a socket connects by a connect, and that one with a connect in progress is
+/// connecting, or was closed, or is connected with neither half taken. Every run keeps that
+/// (`runs_connect_by_connects`, `runs_keep_their_records`).
 pub fn finish_connect_refusals()
     ensures exactly { (contexts : List WasiSocketsCtx) (m : Machine) (line ctx handle : ℕ) (entries : List Entry) (reply : Reply) (after : Machine)
         → m.store.standing ≡ None → Answered contexts m line (Step.TcpFinishConnect ctx handle) entries reply after
@@ -249,8 +313,11 @@ pub fn finish_connect_refusals()
         → RefusedOf m handle (FinishRefusal m) entries word after }
 {}
 
-/// After the lines of any script, what a socket connects by is a connect, of which only checks and the connect itself are left:
-/// that of a handle, and one that a pollable watches.
+/// After any script, what a socket connects by is a connect of which only checks and the connect
+/// itself are left.
+///
+/// - `handles`: for the socket of each handle.
+/// - `pollables`: for the socket that each pollable watches.
 pub fn runs_connect_by_connects()
     ensures handles { (contexts : List WasiSocketsCtx) (steps : List Step) (entries : List Entry) (replies : List Reply) (m : Machine)
         → Left (run contexts [] first_state 1 steps) entries (Give (replies, m)) → (handle : ℕ) → ConnectsAt m handle }
@@ -258,12 +325,18 @@ pub fn runs_connect_by_connects()
         → Left (run contexts [] first_state 1 steps) entries (Give (replies, m)) → (pollable : ℕ) → WatchesConnect m pollable }
 {}
 
-/// After the lines of any script: each live handle of a socket, a stream, a pipe, a lookup or a pollable is of a record that is there,
-/// so a number of which no TCP socket is found isn't live or stands for something else; a pending call is of a socket that is there, one
-/// that makes datagram streams is of a handle that is live, a call of a stream is of streams that are there, and a wait is for pollables
-/// that watch what is there, as each live one does; what a live handle of
-/// an input reads from is there, a connection's streams or a pipe; and where a connect is in progress, the socket connects, or was closed with a code, or is connected and neither half of it was
-/// taken; and a socket that does nothing yet has no listener, and none begins.
+/// What holds of the records after any script.
+///
+/// - `handles`: each live handle of a socket, a stream, a pipe, a lookup or a pollable has its
+///   record.
+/// - `missing`: a handle without a TCP socket isn't live, or is of another kind.
+/// - `inputs`: what an input reads from is there, the streams of a connection or a pipe.
+/// - `pollables`: what a pollable watches is there.
+/// - `stands`: what a pending call is on is there: its socket, its handle, its streams, or what its
+///   pollables watch.
+/// - `connects`: a socket with a connect in progress is connecting, or was closed with a code, or
+///   is connected with neither half taken.
+/// - `listens`: a socket in the state Default has no listener, and no listen in progress.
 pub fn runs_keep_their_records()
     ensures handles { (contexts : List WasiSocketsCtx) (steps : List Step) (log : List Entry) (replies : List Reply) (m : Machine) (handle : ℕ) (kind : Kind)
         → Left (run contexts [] first_state 1 steps) log (Give (replies, m)) → kind_at m.table handle ≡ Some kind → OfItsRecord m kind }
@@ -281,18 +354,25 @@ pub fn runs_keep_their_records()
         → Left (run contexts [] first_state 1 steps) log (Give (replies, m)) → tcp2_at m.store.records place ≡ Some r → ListensLate r }
 {}
 
-/// After the lines of any script, what is pending as a bind is a bind that is in progress in its record, and so is what is pending
-/// as a bind of a UDP socket; what is pending as a listen is a listen that its record has begun, of which only the check of its
-/// address, which was reported, and the listen itself are left, one of them at least, and its socket has no network socket; and
-/// what is pending as a create is a create in its record that waits for its network socket; and what is pending as datagram streams
-/// is a connect in its record, of whose checks one at least isn't answered yet.
+/// After any script the pending call and the operation in its record fit.
+///
+/// - A bind, of a TCP or a UDP socket: its record has a bind in progress.
+/// - A listen: its record has begun a listen, of which at most the check of the address that was
+///   reported and the listen itself are left, and one of them at least. The socket has no network
+///   socket.
+/// - A create: its record has a create that waits for its network socket.
+/// - Datagram streams: the record has a connect of whose checks one at least isn't answered.
 pub fn runs_keep_their_pending_calls()
     ensures { (contexts : List WasiSocketsCtx) (steps : List Step) (entries : List Entry) (replies : List Reply) (m : Machine)
         → Left (run contexts [] first_state 1 steps) entries (Give (replies, m)) → PendingCallsFit m }
 {}
 
-/// The local address is refused where the socket isn't bound or is connecting, with the code with which it is closed, or with
-/// the code that was reported of it. The machine is as it was then, but that a socket that was found bound is known to be.
+/// Why the local address is refused.
+///
+/// - `cause`: the local address is refused where the socket isn't bound or is connecting, with the
+///   code with which it is closed, or with the code that the network reported.
+/// - `stays`: after a refusal the machine is unchanged, but that a socket that was found bound is
+///   known to be.
 pub fn local_address_refusals()
     ensures cause { (contexts : List WasiSocketsCtx) (m : Machine) (line ctx handle : ℕ) (entries : List Entry) (word : CodeWord) (after : Machine)
         → Answered contexts m line (Step.TcpLocalAddress ctx handle) entries (Reply.Err word) after
@@ -301,8 +381,11 @@ pub fn local_address_refusals()
         → Answered contexts m line (Step.TcpLocalAddress ctx handle) entries (Reply.Err word) after → (after ≡ m) ⊎ KnowsBound m handle after }
 {}
 
-/// The remote address is refused where the socket isn't connected, with the code with which it is closed, or with the code that
-/// was reported of it. The machine stays as it was.
+/// Why the remote address is refused.
+///
+/// - `cause`: the remote address is refused where the socket isn't connected, with the code with
+///   which it is closed, or with the code that the network reported.
+/// - `stays`: after a refusal the machine is unchanged.
 pub fn remote_address_refusals()
     ensures cause { (contexts : List WasiSocketsCtx) (m : Machine) (line ctx handle : ℕ) (entries : List Entry) (word : CodeWord) (after : Machine)
         → Answered contexts m line (Step.TcpRemoteAddress ctx handle) entries (Reply.Err word) after
@@ -311,8 +394,10 @@ pub fn remote_address_refusals()
         → Answered contexts m line (Step.TcpRemoteAddress ctx handle) entries (Reply.Err word) after → after ≡ m }
 {}
 
-/// Whether it listens and of which family it is, that of a UDP socket too, is never refused. It asks nothing, and the machine
-/// stays as it was.
+/// Whether a socket is listening, and the family of a TCP or a UDP socket:
+///
+/// - `never`: is never refused.
+/// - `quiet`: asks nothing, and leaves the machine unchanged.
 pub fn listening_and_family_are_never_refused()
     ensures never { (contexts : List WasiSocketsCtx) (m : Machine) (line : ℕ) (s : Step) (entries : List Entry) (word : CodeWord) (after : Machine)
         → IsQuiet s → Answered contexts m line s entries (Reply.Err word) after → ⊥ }
@@ -320,7 +405,11 @@ pub fn listening_and_family_are_never_refused()
         → IsQuiet s → Answered contexts m line s entries reply after → (entries ≡ []) × (after ≡ m) }
 {}
 
-/// The network's code of an error of a stream is none. It is never refused and asks nothing, and the machine stays as it was.
+/// The network's code in the error of a stream:
+///
+/// - `none`: is none.
+/// - `never`: is never refused.
+/// - `quiet`: asks nothing, and leaves the machine unchanged.
 pub fn errors_have_no_network_code()
     ensures none { (contexts : List WasiSocketsCtx) (m : Machine) (line ctx error : ℕ) (fields : List Field) (entries : List Entry) (after : Machine)
         → Answered contexts m line (Step.NetworkErrorCode ctx error) entries (Reply.Ok fields) after → fields ≡ Field.Absent ∷ [] }
@@ -330,12 +419,21 @@ pub fn errors_have_no_network_code()
         → Answered contexts m line (Step.NetworkErrorCode ctx error) entries reply after → (entries ≡ []) × (after ≡ m) }
 {}
 
-/// A drop of a socket is done, unless it traps. It releases what is open: what it listens by, which refuses an arrival in hand
-/// and closes a connection that wasn't taken; the receiving half while that is open, then the sending half while there is one,
-/// and then the socket's network socket, each answered done; and nothing is left of its record, and no job. A drop of a
-/// network, an input, a pollable, an error, a sink or a closed stream asks nothing and takes the handle out, that of a pipe's end
-/// leaves nothing of the pipe's record either, and a drop of an output of a connection looks once at most.
-/// Whatever was dropped, its handle is live no more.
+/// What a drop releases.
+///
+/// - `socket`: a drop of a socket without live children is done; that is said where no call is
+///   pending.
+/// - `given_up`: it releases its listener, which refuses an arrival in hand and closes a connection
+///   that wasn't taken; then the receiving half, if that is open, the sending half, if there is
+///   one, and its network socket. Each call is answered done.
+/// - `gone`: nothing is left of its record, nor a job.
+/// - `plain`, `plain_leaves`: a drop of a network, a pollable, an error, a sink, a closed stream or
+///   the input of a connection asks nothing and takes out its handle alone.
+/// - `input_pipe`, `output_pipe`: a drop of a pipe's end asks nothing, and leaves nothing of the
+///   pipe's record.
+/// - `output`: a drop of a connection's output looks once at most.
+/// - `table`, `not_live`: whatever was dropped, its handle alone is taken out, and isn't live any
+///   more.
 pub fn drops_give_up_what_is_open()
     ensures socket { (contexts : List WasiSocketsCtx) (m : Machine) (line ctx handle place : ℕ) (entries : List Entry) (reply : Reply) (after : Machine)
         → m.store.standing ≡ None → kind_at m.table handle ≡ Some (Kind.Tcp2 place) → children_of m.table.live handle ≡ []
@@ -365,9 +463,14 @@ pub fn drops_give_up_what_is_open()
         → IsDropped reply → Answered contexts m line (Step.Drop ctx handle) entries reply after → kind_at after.table handle ≡ None }
 {}
 
-/// A shutdown is refused, with `invalid-state`, exactly where the socket is there and its streams weren't made yet. It asks
-/// nothing then, and the machine stays as it was. Else it asks for the shutdown of the halves that are released at once, the
-/// receiving one first, and leaves the streams shut down.
+/// Why a shutdown is refused, and what it does else.
+///
+/// - `exactly`: a shutdown is refused with `invalid-state` exactly where the socket's streams
+///   weren't made yet; that is said where no call is pending.
+/// - `no_other`: it is refused with no other code.
+/// - `stays`: after a refusal nothing was asked, and the machine is unchanged.
+/// - `asked`: else it shuts down the halves that are released at once, the receiving one first.
+/// - `left`: and leaves the streams shut down.
 pub fn shutdown_refusals()
     ensures exactly { (contexts : List WasiSocketsCtx) (m : Machine) (line ctx handle : ℕ) (how : ShutdownType) (entries : List Entry) (reply : Reply) (after : Machine)
         → m.store.standing ≡ None → Answered contexts m line (Step.TcpShutdown ctx handle how) entries reply after
@@ -384,12 +487,22 @@ pub fn shutdown_refusals()
         → OfStreams m (socket_at m handle) (λ place r s. after ≡ putting m place (with_streams r (shut_down how s))) }
 {}
 
-/// A pollable of another thing than a datagram stream isn't ready where the connect in progress was answered pending, or with
-/// nothing in progress the accept of a listener waits, or the input that is open was answered pending, or the output's write is in progress or its writer was
-/// answered pending, or the lookup is in progress, of which nothing is asked: that is said where a socket connects by a connect and accepts by an accept, as all do after any lines. A
-/// stream of no connection is always ready, and so is a
-/// socket with no connect in progress, and with no listener unless another operation is in progress; which asks
-/// nothing and leaves the machine as it was. A look never fails.
+/// Whether the pollable of a TCP socket, of a stream of a connection or in memory, or of a lookup
+/// is ready.
+///
+/// - `values`: the answer is `true` or `false`.
+/// - `not_ready`: `false` where the connect in progress was answered pending; where, with nothing
+///   in progress, the accept of a listener waits; where the look at the open input was answered
+///   pending; where the output's write is in progress, or its look was answered pending; or where
+///   the lookup is in progress.
+/// - `idle`: a socket without a connect in progress, and without a listener unless another
+///   operation is in progress, is ready; nothing is asked, and the machine is unchanged.
+/// - `plain`: a stream in memory is ready; nothing is asked, and the machine is unchanged.
+/// - `never_fails`: a look never fails.
+///
+/// `idle` and `plain` are said where no call is pending. `not_ready` assumes that a socket connects
+/// by a connect and accepts by an accept. Every run keeps that (`runs_connect_by_connects`,
+/// `runs_accept_by_accepts`).
 pub fn readiness_has_causes()
     ensures values { (contexts : List WasiSocketsCtx) (m : Machine) (line ctx pollable : ℕ) (fields : List Field) (entries : List Entry) (after : Machine)
         → Answered contexts m line (Step.Ready ctx pollable) entries (Reply.Ok fields) after → (fields ≡ truth_fields true) ⊎ (fields ≡ truth_fields false) }
@@ -406,8 +519,13 @@ pub fn readiness_has_causes()
         → Answered contexts m line (Step.Ready ctx pollable) entries reply after → IsFailure reply → ⊥ }
 {}
 
-/// A subscription answers with the number of the next handle, which its one ask marks as a pollable under the handle that it
-/// was called on, with the network socket of the socket; and that pollable is made. It never fails.
+/// What a `subscribe` makes.
+///
+/// - `number`: a `subscribe` answers with the number of the next handle.
+/// - `marked`: its one entry logs a pollable, a child of the handle that it was called on, with the
+///   network socket of that one.
+/// - `made`: that pollable is made, and the rest of the machine is unchanged.
+/// - `never_fails`: it never fails.
 pub fn subscribe_makes_a_pollable()
     ensures number { (contexts : List WasiSocketsCtx) (m : Machine) (line ctx handle : ℕ) (fields : List Field) (entries : List Entry) (after : Machine)
         → Answered contexts m line (Step.Subscribe ctx handle) entries (Reply.Ok fields) after → fields ≡ number_fields m.table.next }
@@ -421,11 +539,17 @@ pub fn subscribe_makes_a_pollable()
         → Answered contexts m line (Step.Subscribe ctx handle) entries reply after → IsFailure reply → ⊥ }
 {}
 
-/// A turn is always ok, and leaves the handles as they were. Whatever it asks is asked by the operation of a job: of a background
-/// write of a record, of a datagram that is sent in the background or a receive in progress of a UDP socket, or of a lookup in
-/// progress. Each lookup is as it was afterwards; or it was in progress, and has found the names, or failed with a code, that its
-/// operation was told in the turn. The call that is pending stays so, each socket is there still, each that has streams has them
-/// still, and each pipe holds what it held.
+/// What a turn does.
+///
+/// - `ok`: it answers `ok`.
+/// - `asked`: each call is made by the operation of a job: a write, a send, a receive or a lookup
+///   in progress.
+/// - `handles`: the handles are unchanged.
+/// - `lookups`: a lookup is unchanged, or it was in progress, and has found the addresses, or
+///   failed with the code, that its operation was answered in the turn.
+/// - `pending`: the pending call is unchanged.
+/// - `sockets`, `streams`: each socket is still there, and those with streams still have them.
+/// - `pipes`: each pipe holds what it held.
 pub fn turns_are_ok()
     ensures ok { (contexts : List WasiSocketsCtx) (m : Machine) (line : ℕ) (entries : List Entry) (reply : Reply) (after : Machine)
         → Answered contexts m line Step.Turn entries reply after → reply ≡ Reply.Ok no_fields }

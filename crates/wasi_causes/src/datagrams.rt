@@ -1,5 +1,5 @@
-//! Where the answers of the steps of datagram streams come from, and what is left afterwards, as laws over the definitions of
-//! specs/: each is a function that does nothing, whose contract is the law.
+//! Where the answers of the steps of datagram streams come from, and what is left afterwards: laws
+//! over the definitions of specs/. Each is a function that does nothing, whose contract is the law.
 
 ghost use Rattle.std.specs.Prelude.{◌≡◌, ◌↔◌, ◌<◌, ℕ, ◌+◌, List, [], ◌∷◌, ◌++◌, false, Option, IfSome, IsSomeAnd, Some, None, length};
 ghost use Rattle.wasi_addr.specs.declared.address.IpSocketAddress.{IpSocketAddress};
@@ -32,12 +32,18 @@ ghost use Rattle.wasi_causes.specs.Turns.{datagram_of};
 ghost use Rattle.wasi_causes.specs.StreamCauses.{HasNewStreams, MakesStreams, StreamsStand, UdpStreamRefusal};
 ghost use Rattle.wasi_causes.specs.Udp.{OfUdp, RefusedOfUdp};
 
-/// The datagram streams of a UDP socket that are done are the next two handles, the incoming one first, and both are under the
-/// socket's handle; on neither anything was sent or received, and nothing may be sent yet. Before the marks of both, with an
-/// address, two checks of it were answered yes, and the socket was connected to it; with none, it was disconnected where it kept
-/// a remote address. Its remote address is what was reported then, and else it has none; it is known to be bound, and the machine
-/// is as it was in all else. They trap with `StreamsAlive` exactly where one of its streams is live, and ask nothing then and
-/// leave the machine as it was. Where there is no room for both handles, they trap with `Full`.
+/// What a `udp-stream` makes.
+///
+/// - `numbers`, `made`: one that is done answers with the next two handles, the incoming stream's
+///   first; both are children of the socket.
+/// - `new`: nothing was sent or received on either, and nothing may be sent yet.
+/// - `asked`: with an address, two checks of it were answered yes, and the socket was connected to
+///   it. Without one, a socket with a remote address was disconnected. Then both handles were
+///   logged. The remote address is what the network reported, or none; the socket is known to be
+///   bound, and the rest of the machine is unchanged.
+/// - `alive`, `alive_stays`: it traps with `StreamsAlive` exactly where one of the socket's streams
+///   is live (said where no call is pending); nothing is asked then, and the machine is unchanged.
+/// - `full`: it traps with `Full` only where there is no room for both handles.
 pub fn udp_streams_make_two_handles()
     ensures numbers { (contexts : List WasiSocketsCtx) (m : Machine) (line ctx handle : ℕ) (remote : Option IpSocketAddress) (fields : List Field) (entries : List Entry) (after : Machine)
         → Answered contexts m line (Step.UdpStream ctx handle remote) entries (Reply.Ok fields) after
@@ -62,21 +68,30 @@ pub fn udp_streams_make_two_handles()
         → IsSomeAnd (udp_socket_at m handle) (λ place. LacksRoomForBoth m.table place handle) }
 {}
 
-/// Datagram streams are refused with `invalid-state` where the socket isn't bound, as its network socket said; and of one that
-/// is bound with `invalid-argument` for an address that it can't be connected to; with the word of the code by which its
-/// connect ended, a check that was answered no or the code that the connect was answered; or, where no address is given, with
-/// that of the code that its disconnect was answered. A socket that was found bound is known to be then. Its
-/// remote address is as it was where a check said no; and where the connect or the disconnect was answered with a code, it is
-/// what was reported after that, which is none after a code or the wildcard.
+/// Why a `udp-stream` is refused:
+///
+/// - `invalid-state`: the socket isn't bound, as its network socket said.
+/// - `invalid-argument`: the socket can't be connected to this address.
+/// - The code by which its connect ended: a check said no, and the remote address is unchanged; or
+///   the connect was answered with the code.
+/// - Without an address, the code that its disconnect was answered.
+///
+/// After a connect or a disconnect that was answered with a code, the remote address is what the
+/// network reported then, and none after a code or the wildcard. A socket that was found bound is
+/// known to be.
 pub fn udp_stream_refusals()
     ensures cause { (contexts : List WasiSocketsCtx) (m : Machine) (line ctx handle : ℕ) (remote : Option IpSocketAddress) (entries : List Entry) (word : CodeWord) (after : Machine)
         → Answered contexts m line (Step.UdpStream ctx handle remote) entries (Reply.Err word) after
         → RefusedOfUdp m handle (λ place o. UdpStreamRefusal m (own_of line) place o remote) entries word after }
 {}
 
-/// Datagram streams are pending, under their line's number, only with an address that the socket may be connected to: the last
-/// ask, which was answered pending, was one of its connect. The handles stay as they were, and the call is pending for the
-/// handle of the socket. After the lines of any script that handle is live while it is pending.
+/// When a `udp-stream` is pending.
+///
+/// - `waits`: a `udp-stream` is pending, under its line's number, only with an address that the
+///   socket may be connected to; its last call was one of its connect, and was answered pending.
+///   The pending call has the handle of the socket.
+/// - `handles`: the handles are unchanged.
+/// - `live`: after any script that handle is live while the call is pending.
 pub fn udp_streams_wait_for_their_connect()
     ensures waits { (contexts : List WasiSocketsCtx) (m : Machine) (line ctx handle : ℕ) (remote : Option IpSocketAddress) (entries : List Entry) (number : ℕ) (after : Machine)
         → Answered contexts m line (Step.UdpStream ctx handle remote) entries (Reply.Pending number) after
@@ -88,8 +103,12 @@ pub fn udp_streams_wait_for_their_connect()
         → Left (run contexts [] first_state 1 steps) log (Give (replies, m)) → IfSome m.store.standing (λ s. HasItsSocket m s.call) }
 {}
 
-/// How many datagrams may be sent comes of the outgoing stream: none while one isn't sent yet, and else 16; and that is its
-/// permit from then on. It asks nothing and is never refused.
+/// How many datagrams may be sent.
+///
+/// - `asks_nothing`: a `udp-check-send` asks nothing.
+/// - `permit`: it answers 0 while a datagram of the stream isn't sent yet, and else 16; that is the
+///   stream's permit from then on.
+/// - `never`: it is never refused.
 pub fn send_permits_have_causes()
     ensures asks_nothing { (contexts : List WasiSocketsCtx) (m : Machine) (line ctx outgoing : ℕ) (entries : List Entry) (reply : Reply) (after : Machine)
         → Answered contexts m line (Step.UdpCheckSend ctx outgoing) entries reply after → entries ≡ [] }
@@ -100,8 +119,11 @@ pub fn send_permits_have_causes()
         → Answered contexts m line (Step.UdpCheckSend ctx outgoing) entries (Reply.Err word) after → ⊥ }
 {}
 
-/// A send traps, as not permitted, exactly where its list is longer than the permit of the outgoing stream. It asks nothing
-/// then, and the machine stays as it was.
+/// A send of more datagrams than its permit traps.
+///
+/// - `exactly`: a send traps with `NotPermitted` exactly where its list is longer than the permit
+///   of the stream; that is said where no call is pending.
+/// - `stays`: nothing is asked then, and the machine is unchanged.
 pub fn sends_past_the_permit_trap()
     ensures exactly { (contexts : List WasiSocketsCtx) (m : Machine) (line ctx outgoing : ℕ) (datagrams : List OutgoingDatagram) (entries : List Entry) (reply : Reply) (after : Machine)
         → m.store.standing ≡ None → Answered contexts m line (Step.UdpSend ctx outgoing datagrams) entries reply after
@@ -111,8 +133,10 @@ pub fn sends_past_the_permit_trap()
         → (entries ≡ []) × (after ≡ m) }
 {}
 
-/// A drop of a datagram stream asks nothing. That of an incoming stream takes it off its socket, and gives its receive up; that
-/// of an outgoing one is done where each of its datagrams is sent, and is pending else.
+/// A drop of a datagram stream that is done asks nothing.
+///
+/// - `incoming`: an incoming stream is taken off its socket, and its receive given up.
+/// - `outgoing`: an outgoing stream is taken off its socket; each of its datagrams was sent.
 pub fn stream_drops_ask_nothing()
     ensures incoming { (contexts : List WasiSocketsCtx) (m : Machine) (line ctx handle place : ℕ) (o : OpenUdp) (fields : List Field) (entries : List Entry) (after : Machine)
         → kind_at m.table handle ≡ Some (Kind.Incoming place) → open_at m.store.records place ≡ Some o
@@ -122,16 +146,21 @@ pub fn stream_drops_ask_nothing()
         → Answered contexts m line (Step.Drop ctx handle) entries (Reply.Ok fields) after → OutgoingGone m handle place o entries after }
 {}
 
-/// A send that is done answers with how many of its datagrams were sent, or are sent in the background: at most all of them. It
-/// is refused with the code by which a datagram before it failed in the background, and asks nothing then; or, with nothing in
-/// the background, with the code by which its own first datagram ended: one that can't be sent so, one of whose checks was
-/// answered no, one for a remote address that has changed, or one that was answered with the code. Either way nothing is
-/// permitted on the stream afterwards, unless the list was empty. After one that is refused nothing is in the background and no
-/// code waits; the machine is as it was in all else, but that a socket that was found bound is known to be. Whatever the reply is,
-/// each entry is an ask of one of its datagrams, by the operation of that datagram's part and of the stream's socket: whether the
-/// socket is bound, the check of the wildcard of one that isn't, the check of where the datagram goes, and the datagram itself,
-/// right after that was answered yes. Of a send that is done each datagram that it counts was sent, which was answered done, but
-/// that the last may wait: its last ask was answered pending, and it is sent in the background.
+/// What a send of datagrams asks and answers.
+///
+/// - `count`: one that is done answers with how many datagrams were sent or are in the background,
+///   at most all.
+/// - `cause`: it is refused with the code of a datagram that failed in the background before, and
+///   asks nothing then; or, with nothing in the background, with the code of its own first
+///   datagram: it can't be sent so, a check said no, its remote address has changed, or the network
+///   answered with the code. Then nothing is in the background, no code is kept, and the rest of
+///   the machine is unchanged, but that a socket that was found bound is known to be.
+/// - `spends`, `spends_refused`: nothing is permitted afterwards, unless the list was empty.
+/// - `asked`: each call is one of a datagram of the list, by the operation of that datagram's part:
+///   whether the socket is bound, the check of the wildcard, the check of its address, and the
+///   datagram, right after that check was answered yes.
+/// - `sent`: each datagram that is counted was sent and answered done, but that the last may be
+///   pending, and goes on in the background.
 pub fn sends_have_causes()
     ensures count { (contexts : List WasiSocketsCtx) (m : Machine) (line ctx outgoing : ℕ) (datagrams : List OutgoingDatagram) (fields : List Field) (entries : List Entry) (after : Machine)
         → Answered contexts m line (Step.UdpSend ctx outgoing datagrams) entries (Reply.Ok fields) after
@@ -153,15 +182,20 @@ pub fn sends_have_causes()
         → OfOutgoing m (outgoing_at m outgoing) (λ place o out. CountsSent line o.inner datagrams fields entries (datagram_of (open_at after.store.records place))) }
 {}
 
-/// A receive that is done answers with at most as many datagrams as were wanted, and with at most 16. It is refused with the
-/// code by which the receive in progress failed, which wasn't taken yet, and asks nothing then; or, with none in progress, with
-/// the code by which the one that it began ended: `invalid-state` of a socket that isn't bound, or the code that it was answered.
-/// After one that is refused none is in progress and the code is taken; the machine is as it was in all else, but that a socket
-/// that was found bound is known to be. Whatever the reply is, each entry is asked by one of the line's receives, at most as many as
-/// datagrams are wanted and at most 16, and is of the stream's socket: whether it is bound, a datagram, of a socket that is, or the
-/// check of its sender, right after one came. What is handed out came by these receives in turn, one by each from the line's first on,
-/// and its sender's check was answered yes; before that stands the datagram that had come before, where one had. In a run each is from
-/// the remote address that the stream keeps, where it keeps one.
+/// What a receive of datagrams asks and answers.
+///
+/// - `datagrams`: one that is done answers with at most as many datagrams as were wanted, and at
+///   most 16.
+/// - `cause`: it is refused with the code by which the receive in progress failed, and asks nothing
+///   then; or, with none in progress, with the code of the one that it began: `invalid-state` for a
+///   socket that isn't bound, or what the network answered. Then none is in progress, and the rest
+///   of the machine is unchanged, but that a socket that was found bound is known to be.
+/// - `asked`: each call is one of the line's receives, at most as many as are wanted and at most
+///   16: whether the socket is bound, a datagram, or the check of its sender, right after it came.
+/// - `came`: what is handed out came by these receives, one by each from the line's first on, and
+///   the check of its sender was answered yes; before that stands a datagram that had come before,
+///   if there was one.
+/// - `from`: in a run each is from the remote address that the stream keeps, if it keeps one.
 pub fn receives_have_causes()
     ensures datagrams { (contexts : List WasiSocketsCtx) (m : Machine) (line ctx incoming most : ℕ) (fields : List Field) (entries : List Entry) (after : Machine)
         → Answered contexts m line (Step.UdpReceive ctx incoming most) entries (Reply.Ok fields) after
@@ -180,8 +214,12 @@ pub fn receives_have_causes()
         → OfIncoming m (incoming_at m incoming) (λ place o inc. ReceivedFrom inc.remote fields) }
 {}
 
-/// A pollable of an outgoing datagram stream is ready exactly where none of its datagrams is sent in the background. That asks
-/// nothing, and the machine stays as it was. One of an incoming stream isn't ready where a receive is in progress then.
+/// When a datagram stream is ready.
+///
+/// - `outgoing`: the pollable of an outgoing datagram stream is ready exactly where none of its
+///   datagrams is in the background; nothing is asked, and the machine is unchanged. That is said
+///   where no call is pending.
+/// - `incoming`: where that of an incoming one isn't ready, a receive is in progress afterwards.
 pub fn stream_pollables_have_causes()
     ensures outgoing { (contexts : List WasiSocketsCtx) (m : Machine) (line ctx pollable place : ℕ) (entries : List Entry) (reply : Reply) (after : Machine)
         → m.store.standing ≡ None → WatchesOutgoing m pollable place → Answered contexts m line (Step.Ready ctx pollable) entries reply after

@@ -1,5 +1,6 @@
-//! Where the answers of the steps come from, and what is left after a refusal, as laws over the definitions of specs/ and of
-//! the crates below: each is a function that does nothing, whose contract is the law.
+//! Where the answer of each step comes from, and what is left after a refusal: laws over the
+//! definitions of specs/ and of the crates below. Each is a function that does nothing, whose
+//! contract is the law.
 #![tactic(auto)]
 
 pub mod blocking;

@@ -1,5 +1,5 @@
-//! Where the answers of listens and accepts come from, as laws over the definitions of specs/: each is a function that does
-//! nothing, whose contract is the law.
+//! Where the answers of listens and accepts come from: laws over the definitions of specs/. Each is
+//! a function that does nothing, whose contract is the law.
 
 ghost use Rattle.std.specs.Prelude.{◌≡◌, ◌⊎◌, ◌↔◌, ⊤, ℕ, ◌+◌, List, [], ◌∷◌, ◌++◌, None};
 ghost use Rattle.wasi_world.specs.declared.call.Entry.{Entry};
@@ -21,8 +21,13 @@ ghost use Rattle.wasi_steps.specs.Reply.{no_fields, triple_fields};
 ghost use Rattle.wasi_walks.specs.Waiting.{WatchesAccept};
 ghost use Rattle.wasi_causes.specs.Reached.{ListensLateAt};
 
-/// The finish of a listen asks nothing. It is refused, with `not-in-progress`, exactly where the socket is there and has no
-/// listen in progress, and the machine stays as it was.
+/// Why the finish of a listen is refused.
+///
+/// - `asks_nothing`: the finish of a listen asks nothing.
+/// - `exactly`: it is refused with `not-in-progress` exactly where the socket has no listen in
+///   progress; that is said where no call is pending.
+/// - `no_other`: it is refused with no other code.
+/// - `stays`: after a refusal the machine is unchanged.
 pub fn finish_listen_refusals()
     ensures asks_nothing { (contexts : List WasiSocketsCtx) (m : Machine) (line ctx handle : ℕ) (entries : List Entry) (reply : Reply) (after : Machine)
         → Answered contexts m line (Step.TcpFinishListen ctx handle) entries reply after → entries ≡ [] }
@@ -35,11 +40,19 @@ pub fn finish_listen_refusals()
         → Answered contexts m line (Step.TcpFinishListen ctx handle) entries (Reply.Err word) after → after ≡ m }
 {}
 
-/// The start of a listen is refused with `concurrency-conflict` exactly where an operation is in progress, whichever; else by
-/// its own tests, and then the machine is as it was, but that a socket that was found bound is known to be; or by what it was
-/// answered: its local address, the check of that address, or the listen. Then it closed its network socket last, and the
-/// socket stays closed, with the code `unknown` from then on; the refusal reports the true one. The causes are those of a socket
-/// that has no listener while it does nothing yet, as all are after any lines. So in a run there are no others.
+/// Why the start of a listen is refused, and what it leaves then.
+///
+/// - `exactly`: the start of a listen is refused with `concurrency-conflict` exactly where an
+///   operation is in progress; that is said where no call is pending.
+/// - `cause`: any refusal comes from that, from the tests of a listen, or from what the network
+///   answered to its local address, the check of that address, or the listen.
+/// - `stays`: after a refusal the machine is unchanged, but that a socket that was found bound is
+///   known to be; or, after an answer of the network, the network socket was closed last, and the
+///   socket stays closed with the code `unknown`, while the refusal returns the true one.
+/// - `in_runs`: in a run there are no other causes.
+///
+/// `cause` assumes that a socket in the state Default has no listener and no listen in progress.
+/// Every run keeps that (`runs_keep_their_records`).
 pub fn start_listen_refusals()
     ensures exactly { (contexts : List WasiSocketsCtx) (m : Machine) (line ctx handle : ℕ) (entries : List Entry) (reply : Reply) (after : Machine)
         → m.store.standing ≡ None → Answered contexts m line (Step.TcpStartListen ctx handle) entries reply after
@@ -55,19 +68,29 @@ pub fn start_listen_refusals()
         → RefusedListen m (own_of line) handle entries word after }
 {}
 
-/// An accept is refused with `invalid-state` where the socket has no listener, and it asks nothing then; with `would-block`
-/// where the last ask of the accept was answered pending, or it has refused 64 arrivals, and the accept stays in progress; or
-/// with the code that it was answered, now or before, and then it is over. That is said where a listener's accept is one, as it
-/// is after any lines.
+/// Why an accept is refused:
+///
+/// - `invalid-state`: the socket has no listener; nothing is asked.
+/// - `would-block`: the last call of the accept was answered pending, or it has refused 64
+///   arrivals; the accept stays in progress.
+/// - The code that the accept was answered, now or before; the accept is over.
+///
+/// Assumes that a listener accepts by an accept. Every run keeps that (`runs_accept_by_accepts`).
 pub fn accept_refusals()
     ensures { (contexts : List WasiSocketsCtx) (m : Machine) (line ctx handle : ℕ) (entries : List Entry) (word : CodeWord) (after : Machine)
         → AcceptsAt m handle → Answered contexts m line (Step.TcpAccept ctx handle) entries (Reply.Err word) after
         → RefusedAccept m line handle entries word after }
 {}
 
-/// An accept that is done answers with the numbers of the next three handles, the socket's, its input's and its output's. Its
-/// last asks but their marks handed a connection over, or that was handed over before and wasn't taken; and its socket is
-/// connected on the network socket that was handed over, with the address of the other end.
+/// What an accept gives.
+///
+/// - `numbers`: an accept that is done answers with the next three handles: its socket, its input
+///   and its output.
+/// - `takes`: before their entries the last call handed the connection over, or it was handed over
+///   before and wasn't taken. The new socket is connected on it, with the address of the peer.
+///
+/// `takes` assumes that a listener accepts by an accept. Every run keeps that
+/// (`runs_accept_by_accepts`).
 pub fn accepts_take_what_was_handed_over()
     ensures numbers { (contexts : List WasiSocketsCtx) (m : Machine) (line ctx handle : ℕ) (fields : List Field) (entries : List Entry) (after : Machine)
         → Answered contexts m line (Step.TcpAccept ctx handle) entries (Reply.Ok fields) after
@@ -77,7 +100,10 @@ pub fn accepts_take_what_was_handed_over()
         → OfRecord m handle (λ place r. AcceptTakes m (own_of line) line handle place r entries after) }
 {}
 
-/// After the lines of any script, what a listener accepts by is an accept.
+/// After any script, what a listener accepts by is an accept.
+///
+/// - `handles`: for the socket of each handle.
+/// - `pollables`: for the socket that each pollable watches.
 pub fn runs_accept_by_accepts()
     ensures handles { (contexts : List WasiSocketsCtx) (steps : List Step) (entries : List Entry) (replies : List Reply) (m : Machine)
         → Left (run contexts [] first_state 1 steps) entries (Give (replies, m)) → (handle : ℕ) → AcceptsAt m handle }

@@ -1,5 +1,6 @@
-//! Why a lookup of a name is refused, and what it leaves; how its addresses are handed out; and that what a context may not use asks
-//! nothing. Laws over the definitions of specs/: each is a function that does nothing, whose contract is the law.
+//! Why a lookup of a name is refused, what it leaves, and how its addresses are handed out; and
+//! that what a context may not use asks nothing. Laws over the definitions of specs/: each is a
+//! function that does nothing, whose contract is the law.
 
 ghost use Rattle.std.specs.Prelude.{◌≡◌, ◌↔◌, ℕ, true, false, List, [], ◌∷◌, Some, None};
 ghost use Rattle.wasi_addr.specs.declared.address.IpAddress.{IpAddress};
@@ -30,10 +31,15 @@ ghost use Rattle.wasi_steps.specs.Reply.{found_values, truth_fields};
 ghost use Rattle.wasi_walks.specs.Answered.{Answered};
 ghost use Rattle.wasi_causes.specs.Lookups.{found_lookup, HandsOut, LookupGone, LosesLookup, OfLookup, ResolveRefusal, Resolves, WatchesLookup};
 
-/// A lookup is refused with `permanent-resolver-failure` exactly where the context of its line may not look names up, and with
-/// `invalid-argument` exactly where it may and the name is none; either way nothing is asked. Else the name is a domain, and the
-/// lookup is refused with `name-unresolvable` where the network, which was asked for it once, returned a code, whichever. There is
-/// no handle, no record and no job then: the machine is as it was.
+/// Why a lookup of a name is refused.
+///
+/// - `forbidden`: a lookup is refused with `permanent-resolver-failure` exactly where the context
+///   may not look names up; that is said where no call is pending.
+/// - `unnamed`: with `invalid-argument` exactly where it may, and the name is refused; that is said
+///   where no call is pending.
+/// - `cause`: in both cases nothing is asked. Any other refusal is `name-unresolvable`: the name is
+///   a domain, and the network, which was asked for it once, answered with a code.
+/// - `stays`: after a refusal the machine is unchanged: there is no handle, no record and no job.
 pub fn resolve_refusals()
     ensures forbidden { (contexts : List WasiSocketsCtx) (m : Machine) (line ctx network : ℕ) (name : List ℕ) (entries : List Entry) (reply : Reply) (after : Machine)
         → m.store.standing ≡ None → is_network (kind_at m.table network) ≡ true → Answered contexts m line (Step.Resolve ctx network name) entries reply after
@@ -48,10 +54,13 @@ pub fn resolve_refusals()
         → Answered contexts m line (Step.Resolve ctx network name) entries (Reply.Err word) after → after ≡ m }
 {}
 
-/// A lookup that is done answers with the number of the next handle, and its context may look names up. Where the name is an
-/// address, that is what is found, and nothing was asked. Where it is a domain, the line's own operation asked for it once: the
-/// lookup is in progress, and has the last of the jobs, or has found what was told, each address in its canonical form and in
-/// their order. Where there is no room for the handle, it traps with `Full`, and its record is given back, with its job.
+/// What a lookup of a name makes.
+///
+/// - `done`: a lookup that is done answers with the next handle, and its context may look names up.
+///   A name that is an address is what is found, and nothing was asked. For a domain the line's own
+///   operation asked once: the lookup is in progress and has the last of the jobs, or has found the
+///   addresses that were answered, in their order and each in its canonical form.
+/// - `full`: one that traps with `Full` has no handle; its record is given back, with its job.
 pub fn resolves_make_a_handle()
     ensures done { (contexts : List WasiSocketsCtx) (m : Machine) (line ctx network : ℕ) (name : List ℕ) (fields : List Field) (entries : List Entry) (after : Machine)
         → Answered contexts m line (Step.Resolve ctx network name) entries (Reply.Ok fields) after
@@ -61,10 +70,17 @@ pub fn resolves_make_a_handle()
         → LosesLookup m (own_of line) name entries after }
 {}
 
-/// A `resolve-next` asks nothing. It is refused with `would-block` exactly while the lookup is in progress, and with
-/// `name-unresolvable` exactly where it failed; the machine is as it was then, so a lookup that failed says so each time. Else it
-/// hands out the first of the addresses that are left, and then one less is left; exactly where none is left it answers that.
-/// After the lines of any script each handle of a lookup has its lookup.
+/// What a `resolve-next` answers. The clauses `in_progress` to `first` are said where no call is
+/// pending.
+///
+/// - `asks_nothing`: it asks nothing.
+/// - `in_progress`: it is refused with `would-block` exactly while the lookup is in progress.
+/// - `failed`: it is refused with `name-unresolvable` exactly where the lookup failed.
+/// - `stays`: after a refusal the machine is unchanged, so a failed lookup is refused each time.
+/// - `over`: it answers `none` exactly where no address is left.
+/// - `first`, `handed`: else it hands out the first address that is left, and that one is left no
+///   more.
+/// - `missing`: after any script each handle of a lookup has its lookup.
 pub fn addresses_are_handed_out_in_order()
     ensures asks_nothing { (contexts : List WasiSocketsCtx) (m : Machine) (line ctx handle : ℕ) (entries : List Entry) (reply : Reply) (after : Machine)
         → Answered contexts m line (Step.ResolveNext ctx handle) entries reply after → entries ≡ [] }
@@ -89,8 +105,12 @@ pub fn addresses_are_handed_out_in_order()
         → Left (run contexts [] first_state 1 steps) log (Give (replies, m)) → found_lookup m handle ≡ None → lookup_number m handle ≡ None }
 {}
 
-/// A pollable of a lookup is ready exactly where the lookup isn't in progress. That asks nothing, and the machine stays as it was.
-/// A drop of a lookup asks nothing. Nothing is left of its record, and no job is its afterwards, so a turn doesn't ask about it.
+/// When a lookup is ready, and what its drop leaves.
+///
+/// - `watched`: the pollable of a lookup is ready exactly where the lookup isn't in progress;
+///   nothing is asked, and the machine is unchanged. That is said where no call is pending.
+/// - `dropped`: a drop of a lookup asks nothing. Nothing is left of its record, and no job is its
+///   own, so a turn doesn't ask about it.
 pub fn lookups_are_watched_and_dropped()
     ensures watched { (contexts : List WasiSocketsCtx) (m : Machine) (line ctx pollable place : ℕ) (entries : List Entry) (reply : Reply) (after : Machine)
         → m.store.standing ≡ None → WatchesLookup m pollable place → Answered contexts m line (Step.Ready ctx pollable) entries reply after
@@ -100,8 +120,11 @@ pub fn lookups_are_watched_and_dropped()
         → Answered contexts m line (Step.Drop ctx handle) entries (Reply.Ok fields) after → LookupGone m handle place entries after }
 {}
 
-/// What a context may not use asks nothing, and leaves the machine as it was: a `tcp-create` where it may not use TCP, a
-/// `udp-create` where it may not use UDP, and a `resolve` where it may not look names up.
+/// What a context may not use asks nothing, and leaves the machine unchanged:
+///
+/// - `tcp`: a `tcp-create`.
+/// - `udp`: a `udp-create`.
+/// - `lookup`: a `resolve`.
 pub fn what_is_forbidden_asks_nothing()
     ensures tcp { (contexts : List WasiSocketsCtx) (m : Machine) (line ctx : ℕ) (family : SocketAddressFamily) (entries : List Entry) (reply : Reply) (after : Machine)
         → (context_at contexts ctx).tcp ≡ false → Answered contexts m line (Step.TcpCreate ctx family) entries reply after → (entries ≡ []) × (after ≡ m) }

@@ -1,5 +1,5 @@
-//! Where the answers of gets and sets of options and of the backlog come from, as laws over the definitions of specs/: each is a
-//! function that does nothing, whose contract is the law.
+//! Where the answers of gets and sets of options and of the backlog come from: laws over the
+//! definitions of specs/. Each is a function that does nothing, whose contract is the law.
 
 ghost use Rattle.std.specs.Prelude.{◌≡◌, ℕ, List};
 ghost use Rattle.wasi_world.specs.declared.call.Entry.{Entry};
@@ -18,9 +18,12 @@ ghost use Rattle.wasi_causes.specs.Options.{RefusedGet, RefusedSet, GetsOption, 
 ghost use Rattle.wasi_steps.specs.Reply.{no_fields};
 ghost use Rattle.wasi_steps.specs.Settings.{chosen};
 
-/// A get of an option is refused with `invalid-state` while the socket connects, or with the code with which it is closed, and
-/// it asks nothing then; or with the code that its one ask was answered; or with `not-supported` where that returned a value
-/// that is too large for the option. Whatever the answer is, the machine stays as it was.
+/// Why a get of an option is refused.
+///
+/// - `cause`: a get of an option is refused with `invalid-state` while the socket connects, or with
+///   the code with which it is closed, and nothing is asked then; with the code that its one call
+///   was answered; or with `not-supported` where that gave a value too large for the option.
+/// - `stays`: whatever the answer is, the machine is unchanged.
 pub fn get_option_refusals()
     ensures cause { (contexts : List WasiSocketsCtx) (m : Machine) (line ctx handle : ℕ) (option : Opt) (entries : List Entry) (word : CodeWord) (after : Machine)
         → Answered contexts m line (Step.TcpGet ctx handle option) entries (Reply.Err word) after
@@ -29,12 +32,16 @@ pub fn get_option_refusals()
         → Answered contexts m line (Step.TcpGet ctx handle option) entries reply after → after ≡ m }
 {}
 
-/// A set of an option is refused with `invalid-argument` for 0 where that is no value of the option, which is tested before the
-/// state or after it, as the option has it; with `invalid-state` while the socket connects, or with the code with which it is
-/// closed; and with the code that its one ask was answered. A set of the backlog is refused with `invalid-argument` for 0 in
-/// any state, with `invalid-state` where the socket connects or is connected, or with the code with which it is closed; and
-/// with `not-supported` where its one ask, of the network socket that listens, was answered with a code. In all but the last of
-/// each nothing is asked; and the machine stays as it was.
+/// Why a set is refused (`cause`); the machine is unchanged then (`stays`).
+///
+/// - An option: `invalid-argument` for 0 where the option has no such value, before the state is
+///   looked at or after it, as the option has it; `invalid-state` while the socket connects; the
+///   code with which it is closed; or the code that its one call was answered.
+/// - The backlog: `invalid-argument` for 0 in any state; `invalid-state` where the socket connects
+///   or is connected; the code with which it is closed; or `not-supported` where its one call, on
+///   the listener, was answered with a code.
+///
+/// Only in the last case of each is anything asked.
 pub fn set_option_refusals()
     ensures cause { (contexts : List WasiSocketsCtx) (m : Machine) (line ctx handle : ℕ) (setting : TcpSetting) (entries : List Entry) (word : CodeWord) (after : Machine)
         → Answered contexts m line (Step.TcpSet ctx handle setting) entries (Reply.Err word) after
@@ -43,12 +50,17 @@ pub fn set_option_refusals()
         → Answered contexts m line (Step.TcpSet ctx handle setting) entries (Reply.Err word) after → after ≡ m }
 {}
 
-/// A get that is done answers with what its one ask, of the option of the socket's network socket, was answered, as the option
-/// reads it: a size is halved, and for whether probes are sent any number but 0 is 1. It is at most the largest value of the
-/// option. A set that is done answers with nothing. Of an option its one ask was to set it on the socket's network socket, to
-/// the value brought into its range, and was answered done; the machine stays as it was. A backlog that is set isn't 0. The
-/// socket keeps it, brought into its range; and in the state Default nothing was asked, and else the one ask was of the network
-/// socket that listens, and was answered done.
+/// What gets and sets that are done asked and answered.
+///
+/// - `read`: a get answers with what its one call for the option was answered, as the option reads
+///   it: a size is halved, and for whether probes are sent any number but 0 is 1. It is at most the
+///   option's largest value.
+/// - `nothing`: a set answers with no value.
+/// - `written`, for an option: its one call set it to the value brought into its range, and was
+///   answered done; the machine is unchanged.
+/// - `written`, for the backlog: it isn't 0, and the socket keeps it, brought into its range. In
+///   the state Default nothing was asked; else the one call was on the listener, and was answered
+///   done.
 pub fn options_are_read_and_set()
     ensures read { (contexts : List WasiSocketsCtx) (m : Machine) (line ctx handle : ℕ) (option : Opt) (fields : List Field) (entries : List Entry) (after : Machine)
         → Answered contexts m line (Step.TcpGet ctx handle option) entries (Reply.Ok fields) after

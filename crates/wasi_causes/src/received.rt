@@ -1,5 +1,5 @@
-//! That nothing is left out of what an incoming datagram stream received, as a law over the definitions of specs/: a function that
-//! does nothing, whose contract is the law.
+//! An incoming datagram stream hands out all that it received: a law over the definitions of
+//! specs/, that is, a function that does nothing, whose contract is the law.
 
 ghost use Rattle.std.specs.Prelude.{◌≡◌, ◌⊎◌, ℕ, List, [], Some};
 ghost use Rattle.wasi_world.specs.declared.call.Entry.{Entry};
@@ -15,12 +15,16 @@ ghost use Rattle.wasi_steps.specs.declared.step.Step.{Step};
 ghost use Rattle.wasi_causes.specs.Datagrams.{OfIncoming};
 ghost use Rattle.wasi_causes.specs.ReceivedList.{HandsOutFront, HasAllReceived, handed_out};
 
-/// Received, for an incoming stream, is the list of what its network socket was told by `recv` since the handle of the stream was
-/// marked, of which the same operation was answered yes about the sender, and which, where the stream keeps a remote address, came
-/// from there. After the lines of any script what a live stream received is what the replies handed out on its handle, in order, and
-/// then the one datagram that has come and waits, if there is one: none is left out, and none comes twice. None was told while
-/// another one's sender wasn't answered for. What the replies handed out on the handle of any stream, also of one that is gone, is a
-/// front of what such a stream received.
+/// What an incoming datagram stream received are the datagrams that `recv` gave its network socket
+/// since the stream's handle was logged, about whose sender the operation was then answered yes,
+/// and which came from the remote address that the stream keeps, if it keeps one.
+///
+/// - `live`: after any script, what a live stream received is what the replies handed out on its
+///   handle, in order, and then the datagram that waits, if there is one. None is left out, and
+///   none is handed out twice. No datagram was received while the check of another one's sender was
+///   still open.
+/// - `any`: what the replies handed out on any stream, also on one that was dropped, are the first
+///   datagrams that it received.
 pub fn streams_hand_out_all_they_received()
     ensures live { (contexts : List WasiSocketsCtx) (steps : List Step) (log : List Entry) (replies : List Reply) (m : Machine) (handle place : ℕ)
         → Left (run contexts [] first_state 1 steps) log (Give (replies, m))

@@ -1,5 +1,5 @@
-//! Which records are given back: those that nothing names any more. Laws over the definitions of specs/: each is a function that does
-//! nothing, whose contract is the law.
+//! Which records are given back: those that nothing refers to any more. A law over the definitions
+//! of specs/: a function that does nothing, whose contract is the law.
 
 ghost use Rattle.std.specs.Prelude.{◌≡◌, ℕ, List, [], Some};
 ghost use Rattle.wasi_world.specs.declared.call.Entry.{Entry};
@@ -18,7 +18,11 @@ ghost use Rattle.wasi_walks.specs.Licence.{Has};
 ghost use Rattle.wasi_causes.specs.NamedRecords.{call_names, IsGivenBack, record_named};
 ghost use Rattle.wasi_jobs.specs.Jobs.{job_place};
 
-/// After the lines of any script, no live handle is of a record that was given back, no pending call is on one, and no job is.
+/// After any script, nothing refers to a record that was given back:
+///
+/// - `handles`: no live handle.
+/// - `calls`: no pending call.
+/// - `jobs`: no job.
 pub fn what_is_given_back_has_no_name()
     ensures handles { (contexts : List WasiSocketsCtx) (steps : List Step) (log : List Entry) (replies : List Reply) (m : Machine) (handle place : ℕ) (kind : Kind)
         → Left (run contexts [] first_state 1 steps) log (Give (replies, m)) → kind_at m.table handle ≡ Some kind → record_named kind ≡ Some place → IsGivenBack m place → ⊥ }

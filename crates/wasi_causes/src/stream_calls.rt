@@ -1,6 +1,7 @@
-//! Where the answers of the calls of streams come from that don't block, and what is left afterwards, as laws over the definitions
-//! of specs/: each is a function that does nothing, whose contract is the law. A stream is that of a connection, or a pipe's end, a
-//! sink, or one that is closed, which are of no connection; the network is asked nothing of these, but the marks of their handles.
+//! Where the answers of calls of streams that don't block come from, and what is left afterwards:
+//! laws over the definitions of specs/. Each is a function that does nothing, whose contract is the
+//! law. A stream is that of a connection, or one in memory: a pipe's end, a sink, or a closed one.
+//! For a stream in memory nothing is asked but the entry of its handle.
 
 ghost use Rattle.std.specs.Prelude.{◌≡◌, ◌↔◌, ◌⊎◌, ℕ, true, List, [], ◌∷◌, length, IfSome, IsSomeAnd, Some, None};
 ghost use Rattle.wasi_world.specs.declared.call.Entry.{Entry};
@@ -28,9 +29,13 @@ ghost use Rattle.wasi_walks.specs.Missing.{pipe_of};
 ghost use Rattle.wasi_causes.specs.Parts.{Skips, Splices};
 ghost use Rattle.wasi_causes.specs.Plain.{EndsCheck, EndsOutput, EndsPlain, MakesPlain, MakesStream, OfOutputPipe, PastCapacity, PermitsPlain, PlainCheck, PlainFlush, PlainRead, PlainWrite, TakesFront, TakesNothing, WritesPlain};
 
-/// Each read of a connection that hands out at least one byte hands out exactly what its one ask, a read of its open half, was
-/// answered; and with bytes or none the machine stays as it was. A read of a pipe asks nothing, hands out the bytes that stand first in
-/// it, no more than were wanted, and leaves it the others; none are handed out only where none were wanted.
+/// Where the bytes of a read come from.
+///
+/// - `told`: bytes that a read of a connection hands out are the answer to its one call, a read of
+///   the open half, and the machine is unchanged; those of a pipe stood first in it, no more than
+///   were wanted, and the pipe keeps the others.
+/// - `none`: where a read hands out no bytes, it is a connection's with nothing yet, and the
+///   machine is unchanged; or none were wanted of a pipe.
 pub fn reads_hand_out_what_was_told()
     ensures told { (contexts : List WasiSocketsCtx) (m : Machine) (line ctx input len b : ℕ) (bytes : List ℕ) (entries : List Entry) (after : Machine)
         → Answered contexts m line (Step.Read ctx input len) entries (Reply.Ok (bytes_fields (b ∷ bytes))) after
@@ -40,9 +45,15 @@ pub fn reads_hand_out_what_was_told()
         → (OfStreams m (input_at m input) (λ place r s. ReadsNone (own_of line) len s.reader entries) × (after ≡ m)) ⊎ TakesNothing m input len entries after }
 {}
 
-/// A read of a connection is `closed` where the reader is, or the read was answered with no bytes; it failed where the read was
-/// answered with that code, and the error's mark is the last then. The reader is closed then, and its half was released. One of no
-/// connection is `closed` exactly where its input is, or is a pipe in which nothing is left; it asks nothing and never fails.
+/// How a read ends or fails.
+///
+/// - `closed`: the reader of the connection is closed, or its read was answered with no bytes, and
+///   then the half is released and the reader closed; or the stream in memory is closed, or is a
+///   pipe with nothing left.
+/// - `failed`: the read of the connection was answered with that code. The half is released, the
+///   reader is closed, and the error's handle is the last entry.
+/// - `plain`: a stream in memory is `closed` exactly then; a read of it asks nothing and never
+///   fails.
 pub fn reads_end()
     ensures closed { (contexts : List WasiSocketsCtx) (m : Machine) (line ctx input len : ℕ) (entries : List Entry) (after : Machine)
         → Answered contexts m line (Step.Read ctx input len) entries Reply.Closed after
@@ -54,17 +65,21 @@ pub fn reads_end()
         → m.store.standing ≡ None → Answered contexts m line (Step.Read ctx input len) entries reply after → PlainRead m input entries reply }
 {}
 
-/// What may be written to a connection comes of the writer and of what it was answered: nothing where a write isn't finished or the
-/// writer was answered pending, and else 65536 bytes. So many may be written to a sink too, and to a pipe as many as it has room for,
-/// which is at least one.
+/// A permit of a connection is 0 where its write isn't finished or its look was answered pending,
+/// and else 65,536. That of a sink is 65,536, and that of a pipe is the room that it has, at least
+/// 1.
 pub fn permits_have_causes()
     ensures { (contexts : List WasiSocketsCtx) (m : Machine) (line ctx output n : ℕ) (entries : List Entry) (after : Machine)
         → Answered contexts m line (Step.CheckWrite ctx output) entries (Reply.Ok (number_fields n)) after
         → OfStreams m (output_at m output) (λ place r s. Permits (own_of line) s.writer n entries) ⊎ IsSomeAnd (plain_output_at m output) (λ o. PermitsPlain m o n) }
 {}
 
-/// A write traps, as not permitted, exactly where its bytes are past the permit of a connection, or a write before it wasn't collected
-/// yet. It asks nothing then, and the machine stays as it was.
+/// A write of more than its permit traps.
+///
+/// - `exactly`: a write traps with `NotPermitted` exactly where its bytes are more than the permit
+///   of a connection, or an earlier write isn't collected yet; that is said where no call is
+///   pending.
+/// - `stays`: nothing is asked then, and the machine is unchanged.
 pub fn writes_past_the_permit_trap()
     ensures exactly { (contexts : List WasiSocketsCtx) (m : Machine) (line ctx output : ℕ) (bytes : List ℕ) (entries : List Entry) (reply : Reply) (after : Machine)
         → m.store.standing ≡ None → Answered contexts m line (Step.Write ctx output bytes) entries reply after
@@ -73,8 +88,11 @@ pub fn writes_past_the_permit_trap()
         → Answered contexts m line (Step.Write ctx output bytes) entries (Reply.Trap TrapKind.NotPermitted) after → (entries ≡ []) × (after ≡ m) }
 {}
 
-/// A write traps for lack of room exactly where its output is a pipe that has room for less. Nothing is asked then, and the pipe holds
-/// what it held.
+/// A write of more than its pipe has room for traps.
+///
+/// - `exactly`: a write traps with `Capacity` exactly where its output is a pipe with less room;
+///   that is said where no call is pending.
+/// - `stays`: nothing is asked then, and the machine is unchanged.
 pub fn writes_past_the_capacity_trap()
     ensures exactly { (contexts : List WasiSocketsCtx) (m : Machine) (line ctx output : ℕ) (bytes : List ℕ) (entries : List Entry) (reply : Reply) (after : Machine)
         → m.store.standing ≡ None → Answered contexts m line (Step.Write ctx output bytes) entries reply after → PastCapacity m output (length bytes) reply }
@@ -82,8 +100,14 @@ pub fn writes_past_the_capacity_trap()
         → Answered contexts m line (Step.Write ctx output bytes) entries (Reply.Trap TrapKind.Capacity) after → (entries ≡ []) × (after ≡ m) }
 {}
 
-/// A flush only reports the error with which the writer of a connection is closed, or that its output is closed, of no connection:
-/// it is `closed` there exactly where that is. It asks nothing but the mark of that error.
+/// A flush only reports an error that is kept.
+///
+/// - `done`: one that is done asked nothing, and the machine is unchanged.
+/// - `closed`: the writer of the connection was given up, and nothing is asked; or the output in
+///   memory is closed.
+/// - `failed`: the writer of the connection is closed with that code; the one entry is the error's
+///   handle.
+/// - `plain`: an output in memory answers `closed` exactly where it is closed.
 pub fn flushes_tell_the_kept_error()
     ensures done { (contexts : List WasiSocketsCtx) (m : Machine) (line ctx output : ℕ) (fields : List Field) (entries : List Entry) (after : Machine)
         → Answered contexts m line (Step.Flush ctx output) entries (Reply.Ok fields) after → (entries ≡ []) × (after ≡ m) }
@@ -97,9 +121,12 @@ pub fn flushes_tell_the_kept_error()
         → m.store.standing ≡ None → Answered contexts m line (Step.Flush ctx output) entries reply after → PlainFlush m output entries reply after }
 {}
 
-/// A look at an output is `closed`, or fails, with the error that its writer is closed with, once a write that ended is
-/// collected. It asks nothing but the mark of that error. Of no connection, it is `closed` exactly where the output is, or is a pipe
-/// that is full, and changes nothing.
+/// How a look at the permit ends or fails.
+///
+/// - `closed`, `failed`: the writer of the connection is closed with that error, once a write that
+///   ended is collected. Nothing is asked but the entry of the error's handle.
+/// - `closed`, `plain`: an output in memory is `closed` exactly where it is closed, or is a full
+///   pipe, and nothing changes.
 pub fn checks_tell_the_kept_error()
     ensures closed { (contexts : List WasiSocketsCtx) (m : Machine) (line ctx output : ℕ) (entries : List Entry) (after : Machine)
         → Answered contexts m line (Step.CheckWrite ctx output) entries Reply.Closed after
@@ -111,10 +138,15 @@ pub fn checks_tell_the_kept_error()
         → m.store.standing ≡ None → Answered contexts m line (Step.CheckWrite ctx output) entries reply after → PlainCheck m output entries reply after }
 {}
 
-/// A write is `closed`, or fails, with the error that its writer is closed with; or because it was answered with a code itself,
-/// and then its last asks are that write and the shutdown of its half. The writer is closed with the error then. Of no connection, it
-/// is `closed` exactly where the output is, and asks nothing; where it is done a pipe holds its bytes after those that it held, and a
-/// sink keeps nothing.
+/// How a write ends or fails, and what it leaves in a stream in memory.
+///
+/// - `closed`, `failed`: the writer of the connection is closed with that error; or the write was
+///   answered with that code, and then its last calls are that write and the shutdown of its half.
+///   The writer is closed with the error then.
+/// - `closed`, `plain`: an output in memory is `closed` exactly where it is closed; nothing is
+///   asked.
+/// - `taken`: after a write that is done a pipe holds its bytes behind those that it held, and a
+///   sink holds nothing.
 pub fn writes_tell_their_error()
     ensures closed { (contexts : List WasiSocketsCtx) (m : Machine) (line ctx output : ℕ) (bytes : List ℕ) (entries : List Entry) (after : Machine)
         → Answered contexts m line (Step.Write ctx output bytes) entries Reply.Closed after
@@ -128,9 +160,12 @@ pub fn writes_tell_their_error()
         → Answered contexts m line (Step.Write ctx output bytes) entries (Reply.Ok fields) after → IfSome (plain_output_at m output) (λ o. WritesPlain m o bytes after) }
 {}
 
-/// A pipe's end, a sink and a closed stream are made with the next handle, whose mark is their one ask. The end that is read holds the
-/// bytes that the step names, and the end that is written holds none, with room for as many as the step names. Where there is
-/// no room for the handle nothing was asked or made.
+/// A pipe's end, a sink and a closed stream get the next handle, and their one entry logs it.
+///
+/// - `pipe_in`: the end that is read holds the step's bytes.
+/// - `pipe_out`: the end that is written holds none, and has the step's capacity.
+/// - `sink`, `closed_in`, `closed_out`: these have no record.
+/// - `full`: where the table is full nothing is asked or made.
 pub fn pipes_are_made()
     ensures pipe_in { (contexts : List WasiSocketsCtx) (m : Machine) (line ctx : ℕ) (bytes : List ℕ) (fields : List Field) (entries : List Entry) (after : Machine)
         → Answered contexts m line (Step.PipeIn ctx bytes) entries (Reply.Ok fields) after
@@ -148,7 +183,12 @@ pub fn pipes_are_made()
         → MakesStream s → Answered contexts m line s entries (Reply.Trap TrapKind.Full) after → (is_full m.table ≡ true) × (entries ≡ []) × (after ≡ m) }
 {}
 
-/// A pipe tells what it holds; an output that is no pipe's traps. Nothing is asked, and the machine stays as it was.
+/// What `pipe-contents` answers.
+///
+/// - `told`: `pipe-contents` answers with what the pipe holds.
+/// - `exactly`: it traps with `NoSuchHandle` exactly where the handle is no pipe's that is written;
+///   that is said where no call is pending.
+/// - `quiet`: nothing is asked, and the machine is unchanged.
 pub fn contents_are_told()
     ensures told { (contexts : List WasiSocketsCtx) (m : Machine) (line ctx output : ℕ) (fields : List Field) (entries : List Entry) (after : Machine)
         → Answered contexts m line (Step.PipeContents ctx output) entries (Reply.Ok fields) after → OfOutputPipe m output (λ place pipe. fields ≡ bytes_fields pipe.held) }
@@ -158,21 +198,22 @@ pub fn contents_are_told()
         → Answered contexts m line (Step.PipeContents ctx output) entries reply after → (entries ≡ []) × (after ≡ m) }
 {}
 
-/// A skip is a read of the same that tells how many bytes that gave.
+/// A skip of so many bytes is a read of so many that answers with the number of bytes in their
+/// place.
 pub fn skips_are_reads()
     ensures { (contexts : List WasiSocketsCtx) (m : Machine) (line ctx input len : ℕ) (entries : List Entry) (reply : Reply) (after : Machine)
         → m.store.standing ≡ None → Answered contexts m line (Step.Skip ctx input len) entries reply after → Skips contexts m line ctx input len entries reply after }
 {}
 
-/// A write of zeros is a write of so many.
+/// A write of so many zeros is a write of those bytes.
 pub fn zeros_are_written()
     ensures { (contexts : List WasiSocketsCtx) (m : Machine) (line ctx output len : ℕ) (entries : List Entry) (reply : Reply) (after : Machine)
         → m.store.standing ≡ None → Answered contexts m line (Step.WriteZeroes ctx output len) entries reply after → Answered contexts m line (Step.Write ctx output (zeros len)) entries reply after }
 {}
 
-/// A splice traps where one of its handles is of no output or of no input, and asks nothing then. Else it looks at what may be written,
-/// reads no more than that and than was wanted, and writes what it read; a part that gives nothing ends it, and it tells how many bytes
-/// it has written.
+/// A splice traps, and asks nothing, where one of its handles isn't an output's or an input's. Else
+/// it looks at the permit, reads no more than that and than was wanted, and writes what it read. A
+/// part that gives nothing ends it. It answers with how many bytes it wrote.
 pub fn splices_are_their_parts()
     ensures { (contexts : List WasiSocketsCtx) (m : Machine) (line ctx to from len : ℕ) (entries : List Entry) (reply : Reply) (after : Machine)
         → m.store.standing ≡ None → Answered contexts m line (Step.Splice ctx to from len) entries reply after → Splices contexts m line ctx to from len entries reply after }

@@ -1,5 +1,5 @@
-//! Where the answers of the steps of UDP sockets come from, and what is left afterwards, as laws over the definitions of specs/:
-//! each is a function that does nothing, whose contract is the law.
+//! Where the answers of the steps of UDP sockets come from, and what is left afterwards: laws over
+//! the definitions of specs/. Each is a function that does nothing, whose contract is the law.
 
 ghost use Rattle.std.specs.Prelude.{◌≡◌, ◌↔◌, ◌⊎◌, ℕ, true, List, [], ◌∷◌, IsSomeAnd, Some, None};
 ghost use Rattle.wasi_addr.specs.declared.address.IpSocketAddress.{IpSocketAddress};
@@ -31,20 +31,27 @@ ghost use Rattle.wasi_causes.specs.GivenUp.{without};
 ghost use Rattle.wasi_causes.specs.Datagrams.{LacksRoomForStreams};
 ghost use Rattle.wasi_causes.specs.Udp.{OfUdp, RefusedOfUdp, HasUdpInProgress, HasNoUdpBind, KeepsNoRemote, WatchesUdp, udp_create_entry, writable_entry, with_udp_record, new_udp, UdpCreateRefusal, CreatesUdp, CreateStands, KnowsUdpBound, UdpBindRefusal, BindsUdp, UdpBindStands, FinishesUdpBind, UdpLocalRefusal, TellsUdpLocal, TellsUdpRemote, UdpGetRefusal, GetsUdpOption, UdpSetRefusal, SetsUdpOption, udp_given_up, udp_left, GivesBy, IsPendingCreate};
 
-/// A create of a UDP socket is refused with `access-denied` where the context may not use UDP, and it asks nothing then; or
-/// with the word of the code that the create was answered, and the machine is as it was then; or with that of the code that the
-/// network socket returned while it was waited for, and then it was closed, and nothing is left of its record. There is no
-/// handle then.
+/// Why a create of a UDP socket is refused; there is no handle then.
+///
+/// - `access-denied`: the context may not use UDP; nothing is asked.
+/// - The code that the create was answered; the machine is unchanged.
+/// - The code that the network socket gave while it was waited for; it was closed then, and nothing
+///   is left of its record.
 pub fn udp_create_refusals()
     ensures cause { (contexts : List WasiSocketsCtx) (m : Machine) (line ctx : ℕ) (family : SocketAddressFamily) (entries : List Entry) (word : CodeWord) (after : Machine)
         → Answered contexts m line (Step.UdpCreate ctx family) entries (Reply.Err word) after
         → UdpCreateRefusal m (own_of line) (context_at contexts ctx) family entries word after }
 {}
 
-/// A create that is done made its network socket, waited for it, and marked the next handle, by the name of the create; the
-/// socket is in the last record, and in the middle of nothing. One that is pending made its network socket and waits for it:
-/// its record has the create, and the call is pending under its line's number. One for whose handle there is no room traps with
-/// `Full`: its network socket stays open, in the last record, and the table is as it was.
+/// What a create of a UDP socket makes.
+///
+/// - `done`: a create that is done made its network socket, waited for it, and logged the next
+///   handle under the name of the create. The socket is in the last record, with nothing in
+///   progress.
+/// - `pending`: one that is pending made its network socket and waits for it. Its record has the
+///   create, and the call is pending under its line's number.
+/// - `full`, `asked`, `left`: one that traps with `Full` has made its network socket, which stays
+///   open, in the last record; the table is full and unchanged.
 pub fn udp_creates_make_a_handle()
     ensures done { (contexts : List WasiSocketsCtx) (m : Machine) (line ctx : ℕ) (family : SocketAddressFamily) (fields : List Field) (entries : List Entry) (after : Machine)
         → Answered contexts m line (Step.UdpCreate ctx family) entries (Reply.Ok fields) after
@@ -63,12 +70,15 @@ pub fn udp_creates_make_a_handle()
         → after ≡ with_udp_record m (new_udp (own_of line) (context_at contexts ctx) family) }
 {}
 
-/// The start of a bind of a UDP socket is refused with `concurrency-conflict` exactly where an operation is in progress, and
-/// asks nothing then; and else with `invalid-state` where a datagram stream of the socket is live, which asks nothing either, or
-/// where the socket is bound, as it is known to be or its network socket said;
-/// with `invalid-argument` for an address of another family; with `access-denied` after a check that was answered no; and with
-/// the word of the code that the bind was answered. The machine is as it was then, but that a socket that was found bound is
-/// known to be.
+/// Why the start of a bind of a UDP socket is refused.
+///
+/// - `exactly`: the start of a bind is refused with `concurrency-conflict` exactly where an
+///   operation is in progress; that is said where no call is pending.
+/// - `cause`: else with `invalid-state` where a datagram stream of the socket is live, or the
+///   socket is bound; with `invalid-argument` for an address of another family; with
+///   `access-denied` after a check that said no; or with the code that the bind was answered.
+/// - `stays`: after a refusal the machine is unchanged, but that a socket that was found bound is
+///   known to be.
 pub fn udp_bind_refusals()
     ensures exactly { (contexts : List WasiSocketsCtx) (m : Machine) (line ctx handle network : ℕ) (a : IpSocketAddress) (entries : List Entry) (reply : Reply) (after : Machine)
         → m.store.standing ≡ None → is_network (kind_at m.table network) ≡ true
@@ -82,8 +92,11 @@ pub fn udp_bind_refusals()
         → (after ≡ m) ⊎ ((word ≡ CodeWord.InvalidState) × KnowsUdpBound m handle after) }
 {}
 
-/// A bind of a UDP socket that is done was allowed by a check, and then answered done: it is in progress until it is finished.
-/// One that is pending waits for its check.
+/// A UDP socket is bound only after a check said yes.
+///
+/// - `done`: a bind that is done was allowed by a check and then answered done; it is in progress
+///   until it is finished.
+/// - `pending`: one that is pending waits for its check.
 pub fn udp_binds_are_checked()
     ensures done { (contexts : List WasiSocketsCtx) (m : Machine) (line ctx handle network : ℕ) (a : IpSocketAddress) (fields : List Field) (entries : List Entry) (after : Machine)
         → Answered contexts m line (Step.UdpStartBind ctx handle network a) entries (Reply.Ok fields) after
@@ -93,8 +106,14 @@ pub fn udp_binds_are_checked()
         → OfUdp m handle (λ place o. UdpBindStands m line (own_of line) place o a entries after) }
 {}
 
-/// The finish of a bind of a UDP socket asks nothing. It is refused, with `not-in-progress`, exactly where the socket is there
-/// and no bind of it was started, and the machine stays as it was. Else nothing is in progress then.
+/// Why the finish of a bind of a UDP socket is refused.
+///
+/// - `asks_nothing`: the finish of a bind asks nothing.
+/// - `exactly`: it is refused with `not-in-progress` exactly where no bind of the socket was
+///   started; that is said where no call is pending.
+/// - `no_other`: it is refused with no other code.
+/// - `stays`: after a refusal the machine is unchanged.
+/// - `done`: else nothing is in progress afterwards.
 pub fn udp_finish_bind_refusals()
     ensures asks_nothing { (contexts : List WasiSocketsCtx) (m : Machine) (line ctx handle : ℕ) (entries : List Entry) (reply : Reply) (after : Machine)
         → Answered contexts m line (Step.UdpFinishBind ctx handle) entries reply after → entries ≡ [] }
@@ -112,9 +131,14 @@ pub fn udp_finish_bind_refusals()
         → OfUdp m handle (λ place o. FinishesUdpBind m place o after) }
 {}
 
-/// The local address of a UDP socket is refused with `invalid-state` where the socket isn't bound, or with the code that was
-/// reported of it. The machine is as it was then, but that a socket that was found bound is known to be. Else it is the address
-/// that its network socket reported last, and the socket is known to be bound.
+/// What the local address of a UDP socket answers.
+///
+/// - `cause`: the local address is refused with `invalid-state` where the socket isn't bound, or
+///   with the code that the network reported.
+/// - `stays`: after a refusal the machine is unchanged, but that a socket that was found bound is
+///   known to be.
+/// - `told`: else it is the address that the network socket reported last, and the socket is known
+///   to be bound.
 pub fn udp_local_address_refusals()
     ensures cause { (contexts : List WasiSocketsCtx) (m : Machine) (line ctx handle : ℕ) (entries : List Entry) (word : CodeWord) (after : Machine)
         → Answered contexts m line (Step.UdpLocalAddress ctx handle) entries (Reply.Err word) after
@@ -127,8 +151,13 @@ pub fn udp_local_address_refusals()
         → OfUdp m handle (λ place o. TellsUdpLocal m (own_of line) place o entries fields after) }
 {}
 
-/// The remote address of a UDP socket asks nothing, and the machine stays as it was. It is refused, with `invalid-state`,
-/// exactly where the socket is there and keeps none; else it is the one that is kept.
+/// What the remote address of a UDP socket answers.
+///
+/// - `exactly`: the remote address is refused with `invalid-state` exactly where the socket has
+///   none; that is said where no call is pending.
+/// - `no_other`: it is refused with no other code.
+/// - `quiet`: nothing is asked, and the machine is unchanged.
+/// - `told`: else it is the one that the socket keeps.
 pub fn udp_remote_address_refusals()
     ensures exactly { (contexts : List WasiSocketsCtx) (m : Machine) (line ctx handle : ℕ) (entries : List Entry) (reply : Reply) (after : Machine)
         → m.store.standing ≡ None → Answered contexts m line (Step.UdpRemoteAddress ctx handle) entries reply after
@@ -143,7 +172,10 @@ pub fn udp_remote_address_refusals()
         → OfUdp m handle (λ place o. TellsUdpRemote o fields) }
 {}
 
-/// The family of a UDP socket is the one that it was made with; it is never refused.
+/// What the family of a UDP socket answers.
+///
+/// - `told`: the family of a UDP socket is the one that it was created with.
+/// - `never`: it is never refused.
 pub fn udp_family_is_told()
     ensures told { (contexts : List WasiSocketsCtx) (m : Machine) (line ctx handle : ℕ) (fields : List Field) (entries : List Entry) (after : Machine)
         → Answered contexts m line (Step.UdpAddressFamily ctx handle) entries (Reply.Ok fields) after
@@ -153,10 +185,14 @@ pub fn udp_family_is_told()
         → ⊥ }
 {}
 
-/// A get of an option of a UDP socket is refused with the code that its one ask was answered, or with `not-supported` where
-/// that returned a value that is too large for the option, as a hop limit above 255 is. A set is refused with
-/// `invalid-argument` for 0, and asks nothing then, or with the code that its one ask was answered. Whatever the answer is, the
-/// machine stays as it was.
+/// Why a get or a set of an option of a UDP socket is refused.
+///
+/// - `get`: a get of an option is refused with the code that its one call was answered, or with
+///   `not-supported` where that gave a value too large for the option, such as a hop limit above
+///   255.
+/// - `set`: a set is refused with `invalid-argument` for 0, and nothing is asked then, or with the
+///   code that its one call was answered.
+/// - `get_stays`, `set_stays`: whatever the answer is, the machine is unchanged.
 pub fn udp_option_refusals()
     ensures get { (contexts : List WasiSocketsCtx) (m : Machine) (line ctx handle : ℕ) (option : UdpOption) (entries : List Entry) (word : CodeWord) (after : Machine)
         → Answered contexts m line (Step.UdpGet ctx handle option) entries (Reply.Err word) after
@@ -170,9 +206,12 @@ pub fn udp_option_refusals()
         → Answered contexts m line (Step.UdpSet ctx handle setting) entries reply after → after ≡ m }
 {}
 
-/// A get that is done answers with what its one ask, of the option of the socket's network socket, was answered, as the option
-/// reads it: a size is halved. It is at most the largest value of the option. A set that is done wasn't of 0; its one ask was
-/// to set the option on the socket's network socket, to the value brought into its range, and was answered done.
+/// What gets and sets of a UDP socket that are done asked and answered.
+///
+/// - `read`: a get that is done answers with what its one call for the option was answered, as the
+///   option reads it: a size is halved. It is at most the option's largest value.
+/// - `written`: a set that is done wasn't of 0. Its one call set the option to the value brought
+///   into its range, and was answered done.
 pub fn udp_options_are_read_and_set()
     ensures read { (contexts : List WasiSocketsCtx) (m : Machine) (line ctx handle : ℕ) (option : UdpOption) (fields : List Field) (entries : List Entry) (after : Machine)
         → Answered contexts m line (Step.UdpGet ctx handle option) entries (Reply.Ok fields) after
@@ -182,8 +221,13 @@ pub fn udp_options_are_read_and_set()
         → OfUdp m handle (λ place o. SetsUdpOption (own_of line) setting o entries) }
 {}
 
-/// A drop of a UDP socket is done, unless it traps. It closes the network socket of a socket that is there, which is answered
-/// done, and asks nothing else; nothing is left of its record, and the handle is live no more.
+/// What the drop of a UDP socket releases.
+///
+/// - `socket`: a drop of a UDP socket without live children is done; that is said where no call is
+///   pending.
+/// - `closed`: it closes the network socket of an open socket, which is answered done, and asks
+///   nothing else.
+/// - `left`: nothing is left of its record, and its handle isn't live any more.
 pub fn udp_drops_close()
     ensures socket { (contexts : List WasiSocketsCtx) (m : Machine) (line ctx handle place : ℕ) (entries : List Entry) (reply : Reply) (after : Machine)
         → m.store.standing ≡ None → kind_at m.table handle ≡ Some (Kind.Udp2 place) → children_of m.table.live handle ≡ []
@@ -196,10 +240,14 @@ pub fn udp_drops_close()
         → Answered contexts m line (Step.Drop ctx handle) entries (Reply.Ok fields) after → after ≡ udp_left (without m handle) place u }
 {}
 
-/// A poll that is done gives the next handle, of the socket that was made, where what was pending is a create of a UDP socket;
-/// the next two, where it makes datagram streams; the bytes or the number that a call of a stream gives, or the
-/// places that a wait for pollables gives; and else nothing. One that is refused makes no handle. Where there is no room for the
-/// handle of a create, for both handles of datagram streams, or for that of the error of a stream, it traps with `Full`.
+/// What a poll gives.
+///
+/// - `done`: one that is done gives the next handle, after a create of a UDP socket; the next two,
+///   after datagram streams; the bytes or the number of a call of a stream; the places of a wait
+///   for pollables; and else nothing.
+/// - `none`: one that is refused makes no handle.
+/// - `full`: it traps with `Full` where there is no room for the handle of a create, for the two of
+///   datagram streams, or for that of a stream's error.
 pub fn udp_polls_give_a_handle()
     ensures done { (contexts : List WasiSocketsCtx) (m : Machine) (line n : ℕ) (fields : List Field) (entries : List Entry) (after : Machine)
         → Answered contexts m line (Step.Poll n) entries (Reply.Ok fields) after → IsSomeAnd m.store.standing (λ s. GivesBy m fields after s.call) }
@@ -209,7 +257,8 @@ pub fn udp_polls_give_a_handle()
         → Answered contexts m line (Step.Poll n) entries (Reply.Trap TrapKind.Full) after → ((is_full m.table ≡ true) × IsSomeAnd m.store.standing (λ s. IsPendingCreate s.call)) ⊎ (IsSomeAnd m.store.standing (λ s. LacksRoomForStreams m s.call) ⊎ StreamCallStands m) }
 {}
 
-/// A pollable of a UDP socket is ready. That asks nothing, and the machine stays as it was.
+/// The pollable of a UDP socket is ready. Nothing is asked, and the machine is unchanged. That is
+/// said where no call is pending.
 pub fn udp_pollables_are_ready()
     ensures { (contexts : List WasiSocketsCtx) (m : Machine) (line ctx pollable : ℕ) (entries : List Entry) (reply : Reply) (after : Machine)
         → m.store.standing ≡ None → WatchesUdp m pollable → Answered contexts m line (Step.Ready ctx pollable) entries reply after

@@ -1,6 +1,6 @@
-//! Where the answers of waits for pollables come from, and those of the polls that continue them, as laws over the definitions of
-//! specs/: each is a function that does nothing, whose contract is the law. A wait is a `block`, for one pollable, or a `poll-list`, for
-//! several.
+//! Where the answers of waits for pollables come from, and of the polls that continue them: laws
+//! over the definitions of specs/. Each is a function that does nothing, whose contract is the law.
+//! A wait is a `block`, for one pollable, or a `poll-list`, for several.
 
 ghost use Rattle.std.specs.Prelude.{◌≡◌, ◌≢◌, ◌↔◌, ◌⊎◌, ℕ, Bool, true, false, List, [], ◌∷◌, IsSomeAnd, Some, None, slice_get};
 ghost use Rattle.wasi_world.specs.declared.call.Entry.{Entry};
@@ -26,9 +26,15 @@ ghost use Rattle.wasi_walks.specs.Waiting.{nothing_stands};
 ghost use Rattle.wasi_causes.specs.Blocking.{IsCallOfStream};
 ghost use Rattle.wasi_causes.specs.PollableCalls.{AreDifferent, BeginsToWait, BlocksOn, different, Finds, LooksInTurn, pollables_of, RisesFrom, waiting, WaitsOn};
 
-/// A wait for one pollable is a `ready` of it in the same line: with the same asks it is done where that is `true`, pending under its
-/// line's number where that is `false`, and traps where that does; it leaves what that leaves, but for the pending call. It has no other
-/// answer where no call is pending. The handles stay as they were.
+/// A wait for one pollable is a `ready` of it in its line. All of this is said where no call is
+/// pending.
+///
+/// - `looks`: its answer is one of the three below.
+/// - `ready`: it is done where the `ready` is `true`.
+/// - `unready`: it is pending under its line's number where the `ready` is `false`; but for the
+///   pending call it leaves what that leaves.
+/// - `traps`: it traps where the `ready` does.
+/// - `handles`: the handles are unchanged.
 pub fn waits_for_one_are_looks()
     ensures looks { (contexts : List WasiSocketsCtx) (m : Machine) (line ctx pollable : ℕ) (entries : List Entry) (reply : Reply) (after : Machine)
         → m.store.standing ≡ None → Answered contexts m line (Step.Block ctx pollable) entries reply after → BlocksOn contexts m ctx (first_ids line) pollable Look.First entries reply after }
@@ -43,11 +49,17 @@ pub fn waits_for_one_are_looks()
         → m.store.standing ≡ None → Answered contexts m line (Step.Block ctx pollable) entries reply after → after.table ≡ m.table }
 {}
 
-/// A wait for several pollables traps with `empty-list` where it is for none, and with `no-such-handle` where a handle of it is no
-/// pollable's, and asks and changes nothing then. Else each different one is looked at once, in the order of their first places, as
-/// `ready` looks by the names that are left to the line: by its first names that is the step; and it gives the places of those that were found ready, where one was, and is
-/// pending under its line's number where none was. What the looks changed stays so, and the handles stay as they were. After any lines it
-/// traps for nothing else.
+/// What a wait for several pollables does. All but `in_runs` is said where no call is pending.
+///
+/// - `none`: for no pollable it is `empty-list`; nothing is asked, and the machine is unchanged.
+/// - `no_pollable`: with a handle that isn't a pollable's it is `no-such-handle`; nothing is asked,
+///   and the machine is unchanged.
+/// - `looks`: else each different pollable is looked at once, in the order of their first places.
+///   The answer is the places of those that were ready, or pending under its line's number where
+///   none was.
+/// - `as_ready`: a look by the first names of a line is the step `ready`.
+/// - `handles`: the handles are unchanged.
+/// - `in_runs`: in a run it traps for no other reason than those of `none` and `no_pollable`.
 pub fn waits_for_several_look_at_each()
     ensures none { (contexts : List WasiSocketsCtx) (m : Machine) (line ctx : ℕ) (entries : List Entry) (reply : Reply) (after : Machine)
         → m.store.standing ≡ None → Answered contexts m line (Step.PollList ctx []) entries reply after → (reply ≡ Reply.Trap TrapKind.EmptyList) × (entries ≡ []) × (after ≡ m) }
@@ -65,9 +77,12 @@ pub fn waits_for_several_look_at_each()
         → ((pollables ≡ []) ⊎ (are_pollables m pollables ≡ false)) × (entries ≡ []) × (after ≡ m) }
 {}
 
-/// What is looked at and what is answered of several: the different ones are the same as those of the list, and none of them twice; the
-/// looks find something of each of them, in this order. A place is given exactly where the pollable there was found ready, and the places
-/// rise.
+/// What a wait for several pollables looks at, and which places it answers.
+///
+/// - `same`, `once`: the pollables that are looked at are those of the list, each once.
+/// - `each`: the looks find something of each of them, in that order.
+/// - `exactly`: a place is answered exactly where the pollable there was found ready.
+/// - `rising`: the places rise.
 pub fn places_are_of_those_found_ready()
     ensures same { (pollables : List ℕ) (p : ℕ) → Has (different pollables) p ↔ Has pollables p }
     ensures once { (pollables : List ℕ) → AreDifferent (different pollables) }
@@ -77,10 +92,16 @@ pub fn places_are_of_those_found_ready()
     ensures rising { (found : Found) (pollables : List ℕ) → RisesFrom 0 (ready_places found 0 pollables) }
 {}
 
-/// A poll of a pending wait looks again, as if nothing were pending, and by the names of the line that made it. Such a look begins nothing:
-/// where a `ready` would begin an accept or a receive, the pollable is ready and nothing is asked. A `ready` takes the next name of its
-/// line exactly where it begins one, and asks the same whatever names are left to its line where it doesn't. After any lines such a poll
-/// doesn't trap.
+/// A poll of a pending wait looks again, as if nothing were pending, under the names of the line
+/// that made it.
+///
+/// - `one`, `several`: such a look begins nothing: where a `ready` would begin an accept or a
+///   receive, the pollable is ready and nothing is asked.
+/// - `begins`, `begins_none`: a `ready` takes the next name of its line exactly where it begins
+///   one.
+/// - `asks_the_same`: where it begins none its calls don't depend on the names that are left to its
+///   line.
+/// - `in_runs`: in a run such a poll doesn't trap.
 pub fn polls_of_waits_begin_nothing()
     ensures one { (contexts : List WasiSocketsCtx) (m : Machine) (line ctx pollable : ℕ) (ids : Ids) (entries : List Entry) (reply : Reply) (after : Machine)
         → m.store.standing ≡ Some (standing_as ids (StandingCall.Blocking (BlockingCall.Block pollable))) → Answered contexts m line (Step.Poll ids.line) entries reply after
@@ -96,8 +117,12 @@ pub fn polls_of_waits_begin_nothing()
         → Answered contexts m line (Step.Poll ids.line) entries (Reply.Trap kind) after → ⊥ }
 {}
 
-/// While a wait is pending it is that wait, for the same pollables, and under its line's number: where its step is pending, and where a
-/// poll of it is. A cancel of it is done, asks nothing, and leaves all as it is, but that nothing is pending.
+/// A wait that is pending is kept with its pollables, under the number of its line.
+///
+/// - `one`, `several`: after the step that makes it.
+/// - `one_polled`, `several_polled`: after a poll of it.
+/// - `cancelled`: a cancel of it is done and asks nothing; no call is pending then, and the rest is
+///   unchanged.
 pub fn pending_waits_are_for_their_pollables()
     ensures one { (contexts : List WasiSocketsCtx) (m : Machine) (line ctx pollable number : ℕ) (entries : List Entry) (after : Machine)
         → m.store.standing ≡ None → Answered contexts m line (Step.Block ctx pollable) entries (Reply.Pending number) after

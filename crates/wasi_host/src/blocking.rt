@@ -1,4 +1,5 @@
-//! The calls of streams that block. One that has nothing yet is pending, and continued by [`resume`](crate::resume).
+//! The calls of streams that block. One that can't end yet is pending, and
+//! [`resume`](crate::resume) continues it.
 
 ghost use Rattle.std.specs.Prelude.{◌≡◌, false, take, drop, IfOk, Some};
 ghost use Rattle.wasi_world.specs.declared.outcome.Answer.TheVariants.{Pending};
@@ -24,26 +25,26 @@ use wasi_records::tcp2_mut;
 use wasi_streams::Fault;
 use wasi_world::{Answer, Handle, Ids, NumberList, Octets, OpId, TrapKind, World};
 
-/// A blocking write has at most so many bytes.
+/// How many bytes a blocking write has at most.
 const MOST_BYTES: u64 = 4096;
 
-/// It writes at most so often each time that it is polled: a byte at least each time.
+/// How many rounds of a blocking write one poll makes at most. A round writes at least a byte.
 pub(crate) const MOST_ROUNDS: u32 = 4096;
 
-/// A call that blocks, as it continues while it is pending: of a stream, or of pollables.
+/// A pending call that blocks, with what is left of it.
 #[derive(Drop)]
 pub enum BlockingCall {
-    /// Reads at most so many bytes.
+    /// Reads at most this many bytes.
     Read {
         input: Handle,
         len: u64,
     },
-    /// Reads and drops at most so many bytes.
+    /// Reads and discards at most this many bytes.
     Skip {
         input: Handle,
         len: u64,
     },
-    /// Writes these bytes, what is left of all, and then flushes.
+    /// Writes these bytes, the rest of all, and then flushes.
     Write {
         output: Handle,
         rest: Octets,
@@ -56,7 +57,7 @@ pub enum BlockingCall {
     Flush {
         output: Handle,
     },
-    /// Reads at most so many bytes from an input, and writes them to an output.
+    /// Reads at most this many bytes from an input, and writes them to an output.
     Splice {
         output: Handle,
         input: Handle,
@@ -73,7 +74,8 @@ pub enum BlockingCall {
 }
 
 impl Store {
-    /// Whether there is something to read from the connection of the socket of this number.
+    /// Whether there is something to read from the connection of the TCP socket with this record
+    /// number.
     fn input_ready<W: World>(
         &mut self,
         world: &mut W,
@@ -91,7 +93,7 @@ impl Store {
         record.input_ready(world, op)
     }
 
-    /// The call is pending under its line's number, and continues so.
+    /// Stores the call as pending, under its line's number.
     pub(crate) fn block_as<T>(&mut self, ids: Ids, call: BlockingCall) -> Answer<T>
         ensures answer { result ≡ Pending }
         ensures state { self.new ≡ record self.old { standing = Some (standing_as ids (StandingCall.Blocking call)) } }
@@ -103,7 +105,8 @@ impl Store {
     }
 }
 
-/// The first so many bytes, or all where they are fewer, and those after them.
+/// The first `count` bytes, or all where there are fewer, and those after them. Takes memory for
+/// both where it cuts.
 fn cut(alloc: Global, bytes: Octets, count: u64) -> Result<(Octets, Octets), AllocError>
     ensures { IfOk result (λ parts. (parts.0 ≡ take count bytes) × (parts.1 ≡ drop count bytes)) }
 {
@@ -116,7 +119,7 @@ fn cut(alloc: Global, bytes: Octets, count: u64) -> Result<(Octets, Octets), All
     Ok((first, rest))
 }
 
-/// Once all is written, a stream that is closed has taken it.
+/// After the last byte, `Closed` counts as success.
 fn write_end(error: CallError) -> Result<Answer<()>, CallError>
     ensures { call_outcome result ≡ write_told error }
 {
@@ -126,7 +129,8 @@ fn write_end(error: CallError) -> Result<Answer<()>, CallError>
     }
 }
 
-/// Whether there is something to read from an input, or it is at its end; an input of no connection is always ready.
+/// Whether an input is ready to be read: it has bytes, its end or a code. An input in memory is
+/// always ready.
 fn input_ready<W: World>(
     view: &mut WasiSocketsCtxView<'_>,
     world: &mut W,
@@ -146,7 +150,7 @@ fn input_ready<W: World>(
     }
 }
 
-/// The same of a connection.
+/// Whether a connection is ready to be read: it has bytes, its end or a code.
 fn connection_ready<W: World>(
     view: &mut WasiSocketsCtxView<'_>,
     world: &mut W,
@@ -165,8 +169,8 @@ fn connection_ready<W: World>(
     Ok(ready)
 }
 
-/// Reads at most so many bytes from an input (`input-stream.blocking-read`). It is pending while there is nothing; no bytes are an
-/// answer where none were wanted.
+/// Reads at most `len` bytes from an input (`input-stream.blocking-read`). Pending while there is
+/// nothing to read; where `len` is 0 the answer is no bytes.
 pub fn blocking_read<W: World>(
     alloc: Global,
     view: &mut WasiSocketsCtxView<'_>,
@@ -197,8 +201,8 @@ pub fn blocking_read<W: World>(
     Ok(Answer::Ready(bytes))
 }
 
-/// Reads at most so many bytes from an input and drops them (`input-stream.blocking-skip`), and returns how many they were. It is
-/// pending while there is nothing.
+/// Reads at most `len` bytes from an input and discards them; returns how many there were
+/// (`input-stream.blocking-skip`). Pending while there is nothing to read.
 pub fn blocking_skip<W: World>(
     alloc: Global,
     view: &mut WasiSocketsCtxView<'_>,
@@ -229,7 +233,7 @@ pub fn blocking_skip<W: World>(
     Ok(Answer::Ready(count))
 }
 
-/// Flushes an output (`output-stream.blocking-flush`). It is pending while nothing may be written yet.
+/// Flushes an output (`output-stream.blocking-flush`). Pending while nothing may be written.
 pub fn blocking_flush<W: World>(
     view: &mut WasiSocketsCtxView<'_>,
     world: &mut W,
@@ -252,7 +256,7 @@ pub fn blocking_flush<W: World>(
     Ok(Answer::Ready(()))
 }
 
-/// Waits until what was written is flushed.
+/// Waits until what was written is flushed: pending while nothing may be written.
 pub(crate) fn last_check<W: World>(
     view: &mut WasiSocketsCtxView<'_>,
     world: &mut W,
@@ -276,7 +280,7 @@ pub(crate) fn last_check<W: World>(
     }
 }
 
-/// Flushes what was written, and waits for that.
+/// Flushes what was written, and waits until that is done.
 fn finish_write<W: World>(
     view: &mut WasiSocketsCtxView<'_>,
     world: &mut W,
@@ -296,7 +300,7 @@ fn finish_write<W: World>(
     }
 }
 
-/// Writes the bytes, as many each time as are permitted and so often at most, and then flushes.
+/// Writes the bytes in at most this many rounds, each as many as are permitted, and then flushes.
 pub(crate) fn write_rounds<W: World>(
     alloc: Global,
     view: &mut WasiSocketsCtxView<'_>,
@@ -330,9 +334,10 @@ pub(crate) fn write_rounds<W: World>(
     write_rounds(alloc, view, world, ids, output, later, rounds - 1)
 }
 
-/// Writes at most 4096 bytes to an output, all of them, and flushes it (`output-stream.blocking-write-and-flush`). More are
-/// `Trap(TooLong)`. It is pending while nothing may be written, and then until that is flushed. An output that is closed after
-/// all was written has taken it.
+/// Writes all of at most 4,096 bytes to an output, and flushes it
+/// (`output-stream.blocking-write-and-flush`). More bytes: `Trap(TooLong)`. Pending while nothing
+/// may be written, and then until the flush is done. An output that is closed after the last byte
+/// counts as success.
 pub fn blocking_write_and_flush<W: World>(
     alloc: Global,
     view: &mut WasiSocketsCtxView<'_>,
@@ -355,7 +360,10 @@ pub fn blocking_write_and_flush<W: World>(
     write_rounds(alloc, view, world, ids, output, bytes, MOST_ROUNDS)
 }
 
-/// The same of so many zeros (`output-stream.blocking-write-zeroes-and-flush`). Takes memory for them.
+/// Writes at most 4,096 zeros to an output, all of them, and flushes it
+/// (`output-stream.blocking-write-zeroes-and-flush`). More zeros: `Trap(TooLong)`. Pending while
+/// nothing may be written, and then until the flush is done. An output that is closed after the
+/// last zero counts as success. Takes memory for the zeros.
 pub fn blocking_write_zeroes_and_flush<W: World>(
     alloc: Global,
     view: &mut WasiSocketsCtxView<'_>,
@@ -379,9 +387,9 @@ pub fn blocking_write_zeroes_and_flush<W: World>(
     write_rounds(alloc, view, world, ids, output, bytes, MOST_ROUNDS)
 }
 
-/// Reads from an input what an output permits, and at most so many bytes, and writes them there
-/// (`output-stream.blocking-splice`); returns how many they were. It is pending while nothing may be written or nothing is there
-/// to be read.
+/// Reads from an input what an output permits, at most `len` bytes, and writes them there; returns
+/// how many they were (`output-stream.blocking-splice`). Pending while nothing may be written or
+/// there is nothing to read.
 pub fn blocking_splice<W: World>(
     alloc: Global,
     view: &mut WasiSocketsCtxView<'_>,

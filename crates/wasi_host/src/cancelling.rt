@@ -15,7 +15,8 @@ use wasi_records::{InProgress, Udp2Socket, UdpInProgress, open_udp_mut, tcp2_mut
 use wasi_world::World;
 
 impl Store {
-    /// The bind of the socket of this number is forgotten: the socket is as it was, and in the middle of nothing.
+    /// Gives up the bind of the TCP socket with this record number: the socket stays as it was,
+    /// with nothing in progress.
     fn cancel_bind(&mut self, place: usize)
         ensures state { self.new ≡ cancel_bind_at self.old place (tcp2_at self.old.records place) }
         ensures sides { (s : Seen) → KnowsSides s self.old → KnowsSides s self.new }
@@ -26,7 +27,8 @@ impl Store {
         record.in_progress = InProgress::Nothing;
     }
 
-    /// The listen of the socket of this number closes its network socket; the socket stays closed.
+    /// Gives up the listen of the TCP socket with this record number: its network socket is closed,
+    /// and the socket stays closed.
     fn cancel_listen<W: World>(&mut self, world: &mut W, place: usize) -> Result<(), AllocError>
         requires { (W.seen world.old).ended ≡ false }
         ensures asked { AsksFor (cancel_listen_at self.old place (tcp2_at self.old.records place)) (W.seen world.old) (W.seen world.new) (λ done. self.new) result }
@@ -39,7 +41,8 @@ impl Store {
         record.give_listening_up(world)
     }
 
-    /// The create of the UDP socket of this number closes its network socket, and its record is given back: no handle was made.
+    /// Gives up the create of the UDP socket with this record number: its network socket is closed
+    /// and its record given back. It had no handle.
     fn cancel_create<W: World>(&mut self, world: &mut W, place: usize) -> Result<(), AllocError>
         requires { (W.seen world.old).ended ≡ false }
         ensures asked { AsksFor (cancel_create_at self.old place (udp2_at self.old.records place)) (W.seen world.old) (W.seen world.new) (λ done. self.new) result }
@@ -57,7 +60,8 @@ impl Store {
         Ok(())
     }
 
-    /// The bind of the UDP socket of this number is forgotten, as that of a TCP socket is.
+    /// Gives up the bind of the UDP socket with this record number: the socket stays as it was,
+    /// with nothing in progress.
     fn cancel_udp_bind(&mut self, place: usize)
         ensures state { self.new ≡ cancel_udp_bind_at self.old place (open_at self.old.records place) }
         ensures sides { (s : Seen) → KnowsSides s self.old → KnowsSides s self.new }
@@ -68,7 +72,8 @@ impl Store {
         socket.in_progress = UdpInProgress::Nothing;
     }
 
-    /// The connect of the UDP socket of this number is forgotten: the socket is as it was, and has no streams.
+    /// Gives up the connect of the UDP socket with this record number: the socket stays as it was,
+    /// without datagram streams.
     fn cancel_udp_connect(&mut self, place: usize)
         ensures state { self.new ≡ cancel_udp_connect_at self.old place (open_at self.old.records place) }
         ensures sides { (s : Seen) → KnowsSides s self.old → KnowsSides s self.new }
@@ -79,7 +84,8 @@ impl Store {
         socket.connecting = None;
     }
 
-    /// The outgoing stream of the UDP socket of this number goes, and its datagram is lost.
+    /// Gives up the wait for the outgoing stream of the UDP socket with this record number: the
+    /// stream is gone, and its datagram is lost.
     fn cancel_drop_outgoing(&mut self, place: usize)
         ensures state { self.new ≡ cancel_drop_outgoing_at self.old place (open_at self.old.records place) }
         ensures sides { (s : Seen) → KnowsSides s self.old → KnowsSides s self.new }
@@ -91,15 +97,15 @@ impl Store {
         self.forget_datagrams(place);
     }
 
-    /// No datagram of this record is a job any more.
+    /// Takes the sends of this record out of the jobs.
     fn forget_datagrams(&mut self, place: usize)
         ensures { self.new ≡ record self.old { jobs = other_than_datagram place self.old.jobs } }
     {
         self.jobs.forget_datagrams(place);
     }
 
-    /// What is left of the records when this call is given up. An output whose drop waits is gone already, and what a blocking
-    /// call wrote stands.
+    /// Gives this call up. An output whose drop waits is gone already, and what a blocking call
+    /// wrote stays written.
     fn cancel<W: World>(&mut self, world: &mut W, call: StandingCall) -> Result<(), AllocError>
         requires { (W.seen world.old).ended ≡ false }
         ensures asked { AsksFor (cancel_on self.old call) (W.seen world.old) (W.seen world.new) (λ done. self.new) result }
@@ -119,9 +125,13 @@ impl Store {
     }
 }
 
-/// Gives the pending call under this number up; false exactly where none is. A bind or a connect leaves its socket as it was; a
-/// listen closes its network socket, and the socket stays closed; a create closes its network socket; the drop of an outgoing
-/// datagram stream loses its datagram; the drop of an output, and a call that blocks, leave all as it is.
+/// Gives the pending call with this number up; `false` exactly where there is none.
+///
+/// - A bind or a connect leaves its socket as it was.
+/// - A listen closes its network socket, and the socket stays closed.
+/// - A create closes its network socket.
+/// - The drop of an outgoing datagram stream loses its datagram.
+/// - The drop of an output, and a call that blocks, change nothing.
 pub fn cancel<W: World>(
     view: &mut WasiSocketsCtxView<'_>,
     world: &mut W,

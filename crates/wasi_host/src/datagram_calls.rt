@@ -23,9 +23,13 @@ use wasi_table::Table;
 use wasi_world::{Answer, Handle, Ids, IncomingDatagrams, OpId, OutgoingDatagram, TrapKind, World};
 
 impl Store {
-    /// Makes the datagram streams of the UDP socket of this number, under its handle. While a stream of it is live: `StreamsAlive`.
-    /// It isn't bound: `InvalidState`. With an address it is connected to it first, and while that is pending, so is the call;
-    /// without one it is disconnected, where it was connected.
+    /// Makes the datagram streams of the UDP socket with this record number, under its handle
+    /// (`udp-socket.stream`).
+    ///
+    /// - While one of its streams is live: `StreamsAlive`. Not bound: `InvalidState`.
+    /// - With an address the socket is connected to it first; while that is pending, so is the
+    ///   call.
+    /// - Without one a connected socket is disconnected.
     pub fn make_streams<W: World>(
         &mut self,
         table: &mut Table<Kind>,
@@ -46,7 +50,8 @@ impl Store {
         }
     }
 
-    /// Polls the connect of the UDP socket of this number again. Pending, it stays pending; done, the streams get their handles.
+    /// Polls the connect of the UDP socket with this record number. If it is still pending it is
+    /// stored again; done, the streams get their handles.
     pub(crate) fn remake_streams<W: World>(
         &mut self,
         table: &mut Table<Kind>,
@@ -66,7 +71,8 @@ impl Store {
         }
     }
 
-    /// Begins to make the streams of the UDP socket of this number. A connect that is pending is a pending call.
+    /// Begins to make the streams of the UDP socket with this record number. A connect that is
+    /// pending is the pending call.
     fn start_streams<W: World>(
         &mut self,
         world: &mut W,
@@ -94,7 +100,8 @@ impl Store {
         Ok(self.stand(ids, call, answer))
     }
 
-    /// Polls the connect of the UDP socket of this number again. Pending, it stays pending.
+    /// Polls the connect of the UDP socket with this record number. If it is still pending it is
+    /// stored again.
     fn reconnect<W: World>(
         &mut self,
         world: &mut W,
@@ -140,8 +147,9 @@ impl Store {
         Ok(Answer::Ready((incoming, outgoing)))
     }
 
-    /// Permits datagrams on the outgoing stream of the UDP socket of this number, and says how many: 16, or none while the last one
-    /// isn't sent yet. Asks nothing, and takes no memory.
+    /// Permits datagrams on the outgoing stream of the UDP socket with this record number, and
+    /// returns how many (`check-send`): 16, or none while the last one isn't sent yet. Asks
+    /// nothing. Takes no memory.
     pub fn check_send(&mut self, place: usize) -> Result<u64, SocketError>
         ensures sides { (s : Seen) → KnowsSides s self.old → KnowsSides s self.new }
         ensures answer { host_outcome result ≡ Ok (check_send_at self.old place (open_at self.old.records place)).0 }
@@ -156,8 +164,8 @@ impl Store {
         Ok(u64::from(outgoing.check_send()))
     }
 
-    /// Sends datagrams on the outgoing stream of the UDP socket of this number, of which there are no more than are permitted. One
-    /// that isn't sent at once becomes a job.
+    /// Sends datagrams on the outgoing stream of the UDP socket with this record number, no more
+    /// than its permit (`send`). One that isn't sent at once is a job.
     pub fn send_datagrams<W: World>(
         &mut self,
         world: &mut W,
@@ -185,9 +193,10 @@ impl Store {
         sent
     }
 
-    /// Takes at most so many datagrams from the incoming stream of the UDP socket of this number, and at most 16, until their
-    /// lengths with one more each reach 65,536. A code is answered where there is no datagram before it, else it is dropped. A
-    /// receive that is in progress then becomes a job.
+    /// Takes datagrams from the incoming stream of the UDP socket with this record number
+    /// (`receive`): at most this many, at most 16, and until their lengths, with one more for each,
+    /// reach 65,536. A code is returned where no datagram comes before it, and dropped else. A
+    /// receive that is in progress then is a job.
     pub fn receive_datagrams<W: World>(
         &mut self,
         alloc: Global,
@@ -216,8 +225,9 @@ impl Store {
         received
     }
 
-    /// Whether the incoming stream of the UDP socket of this number has something to take, a datagram or a code: a receive is begun
-    /// where none is, and becomes a job where it is in progress then.
+    /// Whether the incoming stream of the UDP socket with this record number has something to take,
+    /// a datagram or a code. Begins a receive where there is none, which is a job while it is in
+    /// progress.
     pub(crate) fn incoming_ready<W: World>(
         &mut self,
         world: &mut W,
@@ -236,7 +246,7 @@ impl Store {
         let Some(socket) = open_udp_mut_in(&mut self.records, slot, place) else {
             return Err(Fault::Trap(TrapKind::NoSuchHandle));
         };
-        // The job comes first here too.
+        // The job comes first, so that a receive in progress has its job whatever memory there is.
         self.jobs.push(HostJob::Receive { socket: place }, slot)?;
         let before = socket.receives();
         let looked = socket.look_incoming(world, ids);
@@ -246,7 +256,8 @@ impl Store {
         Ok(!waits)
     }
 
-    /// The UDP socket of this number has no incoming stream any more: its receive is given up. Takes no memory.
+    /// Drops the incoming stream of the UDP socket with this record number, and gives its receive
+    /// up. Takes no memory.
     pub(crate) fn drop_incoming(&mut self, place: usize)
         ensures sides { (s : Seen) → KnowsSides s self.old → KnowsSides s self.new }
         ensures state { self.new ≡ (drop_incoming_at self.old place (open_at self.old.records place)).1 }
@@ -257,8 +268,8 @@ impl Store {
         }
     }
 
-    /// The UDP socket of this number has no outgoing stream any more. While a datagram of it isn't sent yet, the drop is pending
-    /// under the line of these names.
+    /// Drops the outgoing stream of the UDP socket with this record number. While a datagram of it
+    /// isn't sent yet, the drop is pending, under the line of these names.
     pub(crate) fn drop_outgoing(&mut self, ids: Ids, place: usize) -> Answer<()>
         ensures sides { (s : Seen) → KnowsSides s self.old → KnowsSides s self.new }
         ensures dropped { (result, self.new) ≡ drop_outgoing_at self.old ids place (open_at self.old.records place) }
@@ -274,7 +285,8 @@ impl Store {
         Answer::Ready(())
     }
 
-    /// Whether the outgoing stream of the UDP socket of this number sends nothing in the background; takes no memory.
+    /// Whether the outgoing stream of the UDP socket with this record number has no send in
+    /// progress. Takes no memory.
     pub(crate) fn outgoing_ready(&self, place: usize) -> bool
         ensures { result ≡ outgoing_ready (open_at self.now.records place) }
     {

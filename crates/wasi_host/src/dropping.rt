@@ -1,4 +1,4 @@
-//! What goes with a handle.
+//! What a handle that is dropped takes with it.
 
 ghost use Rattle.std.specs.Prelude.{◌≡◌, is_some, false, Ok, OnErr};
 ghost use Rattle.wasi_world.specs.Asks.{AsksFor};
@@ -20,8 +20,9 @@ use wasi_streams::Fault;
 use wasi_world::{Answer, Handle, Ids, OpId, World};
 
 impl Store {
-    /// Releases what the socket of this number has: its open halves, the receiving one first, and its network socket. A write
-    /// in progress ends with its rest unwritten. Its record is given back.
+    /// Releases what the TCP socket with this record number has: its listener, its open halves, the
+    /// receiving one first, and its network socket. A write in progress ends with its rest
+    /// unwritten. The record is given back.
     pub(crate) fn release<W: World>(
         &mut self,
         world: &mut W,
@@ -41,8 +42,8 @@ impl Store {
         Ok(())
     }
 
-    /// Looks whether the writer of the socket of this number is ready. While it isn't, the drop of its output is pending under
-    /// the line of these names.
+    /// Looks once whether the writer of the TCP socket with this record number is ready. While it
+    /// isn't, the drop of its output is pending, under the line of these names.
     pub(crate) fn drop_output<W: World>(
         &mut self,
         world: &mut W,
@@ -58,7 +59,7 @@ impl Store {
         Ok(self.stand(ids, StandingCall::DropOutput { socket: place }, answer))
     }
 
-    /// One look at the writer of the socket of this number; an error is ready too.
+    /// Looks once at the writer of the TCP socket with this record number; an error is ready, too.
     fn poll_writer<W: World>(
         &mut self,
         world: &mut W,
@@ -77,12 +78,19 @@ impl Store {
     }
 }
 
-/// Drops a handle (`drop` of each resource). Something made under it is live: `HasChildren`. The handle goes at once, also where
-/// memory runs out then. A TCP socket
-/// releases its open halves and its network socket, and a UDP socket its network socket; an output waits until its writer is ready,
-/// and an outgoing datagram stream until its datagram in the background is sent or failed, and while it isn't the call is pending;
-/// nothing else waits. A lookup isn't asked about any more. The record of a socket, a lookup or a pipe is given back. No call is
-/// pending yet: a drop that is continues by [`resume`](crate::resume).
+/// Drops a handle (`drop` of each resource). A handle that has a live child: `HasChildren`. The
+/// handle is gone even where memory runs out after that.
+///
+/// - A TCP socket releases its listener, its open halves and its network socket; a UDP socket its
+///   network socket.
+/// - An output waits until its writer is ready, and an outgoing datagram stream until its datagram
+///   in the background is sent or has failed. The call is pending until then, and
+///   [`resume`](crate::resume) continues it.
+/// - An incoming datagram stream gives up its receive.
+/// - The network isn't asked about a lookup any more.
+/// - The record of a socket, a lookup or a pipe is given back.
+///
+/// No call may be pending before.
 pub fn drop_handle<W: World>(
     view: &mut WasiSocketsCtxView<'_>,
     world: &mut W,
@@ -102,7 +110,7 @@ pub fn drop_handle<W: World>(
     release_kind(view, world, ids, kind)
 }
 
-/// What a kind of handle takes with it.
+/// Releases what a handle of this kind stands for.
 fn release_kind<W: World>(
     view: &mut WasiSocketsCtxView<'_>,
     world: &mut W,

@@ -6,16 +6,19 @@ use wasi_addr::ErrorCode;
 use wasi_streams::Fault;
 use wasi_world::{Handle, TrapKind};
 
-/// Why a call of a stream gave no value: its last operation failed, with a handle of the new error; the stream is at its end
-/// or closed; a trap; or out of memory.
+/// Why a call of a stream has no value.
 #[derive(Debug, Drop, Error)]
 pub enum CallError {
+    /// The stream's last operation failed with this code; the handle is that of the new error.
     #[error("the last operation failed: {0}")]
     Failed(ErrorCode, Handle),
+    /// The stream is at its end, or closed.
     #[error("the stream is closed")]
     Closed,
+    /// The call broke a rule, which ends the guest's run.
     #[error("trap: {0}")]
     Trap(TrapKind),
+    /// Memory ran out.
     #[error("out of memory")]
     Memory(AllocError),
 }

@@ -1,5 +1,5 @@
-//! The table of handles: what one stands for, and how one is made. A handle that isn't live or is of another kind is a trap,
-//! `NoSuchHandle`.
+//! The table of handles: what one stands for, and how one is made. A handle that isn't live, or is
+//! of another kind, is the trap `NoSuchHandle`.
 
 ghost use Rattle.std.specs.Prelude.{◌≡◌, ℕ, IfErr, IfOk, IfSome, IsSome, Ok, OnErr, OnOk, false, true};
 ghost use Rattle.wasi_world.specs.Asks.{AsksFor};
@@ -15,7 +15,7 @@ use wasi_streams::{Fault, TrapKind};
 use wasi_table::{Table, TableError};
 use wasi_world::{Handle, OpId, Sock, World, asks};
 
-/// What a live handle stands for.
+/// What a live handle stands for; `None` where it isn't live.
 pub fn kind(table: &Table<Kind>, handle: Handle) -> Option<Kind>
     ensures { result ≡ kind_at table.now handle }
 {
@@ -25,7 +25,7 @@ pub fn kind(table: &Table<Kind>, handle: Handle) -> Option<Kind>
     }
 }
 
-/// The number of a TCP socket's record.
+/// The record number of a TCP socket.
 pub fn socket(table: &Table<Kind>, handle: Handle) -> Result<usize, Fault>
     ensures { Names result (place_of (kind_at table.now handle)) }
 {
@@ -35,7 +35,7 @@ pub fn socket(table: &Table<Kind>, handle: Handle) -> Result<usize, Fault>
     }
 }
 
-/// The number of a UDP socket's record.
+/// The record number of a UDP socket.
 pub fn udp_socket(table: &Table<Kind>, handle: Handle) -> Result<usize, Fault>
     ensures { Names result (udp_of (kind_at table.now handle)) }
 {
@@ -45,7 +45,7 @@ pub fn udp_socket(table: &Table<Kind>, handle: Handle) -> Result<usize, Fault>
     }
 }
 
-/// That the handle is the network's.
+/// Tests that the handle is the network's.
 pub fn network(table: &Table<Kind>, handle: Handle) -> Result<(), Fault>
     ensures ok { OnOk result (is_network (kind_at table.now handle) ≡ true) }
     ensures err { IfErr result (λ fault. (fault ≡ Fault.Trap TrapKind.NoSuchHandle) × (is_network (kind_at table.now handle) ≡ false)) }
@@ -56,7 +56,7 @@ pub fn network(table: &Table<Kind>, handle: Handle) -> Result<(), Fault>
     }
 }
 
-/// The number of the record that an input reads from.
+/// The record number of the TCP socket that an input reads from.
 pub fn input(table: &Table<Kind>, handle: Handle) -> Result<usize, Fault>
     ensures { Names result (input_of (kind_at table.now handle)) }
 {
@@ -66,7 +66,7 @@ pub fn input(table: &Table<Kind>, handle: Handle) -> Result<usize, Fault>
     }
 }
 
-/// The number of the record that an output writes to.
+/// The record number of the TCP socket that an output writes to.
 pub fn output(table: &Table<Kind>, handle: Handle) -> Result<usize, Fault>
     ensures { Names result (output_of (kind_at table.now handle)) }
 {
@@ -76,7 +76,7 @@ pub fn output(table: &Table<Kind>, handle: Handle) -> Result<usize, Fault>
     }
 }
 
-/// What an input reads from that is no connection's; none where the handle is of no such input.
+/// What an input in memory reads from; `None` where the handle is of another kind.
 pub fn plain_input(table: &Table<Kind>, handle: Handle) -> Option<PlainInput>
     ensures { result ≡ plain_input_of (kind_at table.now handle) }
 {
@@ -86,7 +86,7 @@ pub fn plain_input(table: &Table<Kind>, handle: Handle) -> Option<PlainInput>
     }
 }
 
-/// What an output writes to that is no connection's; none where the handle is of no such output.
+/// What an output in memory writes to; `None` where the handle is of another kind.
 pub fn plain_output(table: &Table<Kind>, handle: Handle) -> Option<PlainOutput>
     ensures { result ≡ plain_output_of (kind_at table.now handle) }
 {
@@ -96,7 +96,7 @@ pub fn plain_output(table: &Table<Kind>, handle: Handle) -> Option<PlainOutput>
     }
 }
 
-/// That the handle is of an input, of a connection or not.
+/// Tests that the handle is an input's, of a connection or in memory.
 pub fn readable(table: &Table<Kind>, handle: Handle) -> Result<(), Fault>
     ensures ok { OnOk result (is_readable (kind_at table.now handle) ≡ true) }
     ensures err { IfErr result (λ fault. (fault ≡ Fault.Trap TrapKind.NoSuchHandle) × (is_readable (kind_at table.now handle) ≡ false)) }
@@ -107,7 +107,7 @@ pub fn readable(table: &Table<Kind>, handle: Handle) -> Result<(), Fault>
     }
 }
 
-/// That the handle is of an output, of a connection or not.
+/// Tests that the handle is an output's, of a connection or in memory.
 pub fn writable(table: &Table<Kind>, handle: Handle) -> Result<(), Fault>
     ensures ok { OnOk result (is_writable (kind_at table.now handle) ≡ true) }
     ensures err { IfErr result (λ fault. (fault ≡ Fault.Trap TrapKind.NoSuchHandle) × (is_writable (kind_at table.now handle) ≡ false)) }
@@ -118,7 +118,7 @@ pub fn writable(table: &Table<Kind>, handle: Handle) -> Result<(), Fault>
     }
 }
 
-/// The number of the record of an incoming datagram stream's socket.
+/// The record number of the UDP socket of an incoming datagram stream.
 pub fn incoming(table: &Table<Kind>, handle: Handle) -> Result<usize, Fault>
     ensures { Names result (incoming_of (kind_at table.now handle)) }
 {
@@ -128,7 +128,7 @@ pub fn incoming(table: &Table<Kind>, handle: Handle) -> Result<usize, Fault>
     }
 }
 
-/// The number of the record of an outgoing datagram stream's socket.
+/// The record number of the UDP socket of an outgoing datagram stream.
 pub fn outgoing(table: &Table<Kind>, handle: Handle) -> Result<usize, Fault>
     ensures { Names result (outgoing_of (kind_at table.now handle)) }
 {
@@ -138,7 +138,7 @@ pub fn outgoing(table: &Table<Kind>, handle: Handle) -> Result<usize, Fault>
     }
 }
 
-/// The number of the record that a stream reads from or writes to.
+/// The record number of the TCP socket that a stream of a connection reads from or writes to.
 pub fn stream(table: &Table<Kind>, handle: Handle) -> Result<usize, Fault>
     ensures { Names result (stream_of (kind_at table.now handle)) }
 {
@@ -148,7 +148,7 @@ pub fn stream(table: &Table<Kind>, handle: Handle) -> Result<usize, Fault>
     }
 }
 
-/// The number of a lookup's record.
+/// The record number of a lookup.
 pub fn lookup(table: &Table<Kind>, handle: Handle) -> Result<usize, Fault>
     ensures { Names result (lookup_of (kind_at table.now handle)) }
 {
@@ -158,7 +158,7 @@ pub fn lookup(table: &Table<Kind>, handle: Handle) -> Result<usize, Fault>
     }
 }
 
-/// That the handle is of an error.
+/// Tests that the handle is an error's.
 pub fn error_value(table: &Table<Kind>, handle: Handle) -> Result<(), Fault>
     ensures ok { OnOk result (is_error (kind_at table.now handle) ≡ true) }
     ensures err { IfErr result (λ fault. (fault ≡ Fault.Trap TrapKind.NoSuchHandle) × (is_error (kind_at table.now handle) ≡ false)) }
@@ -169,7 +169,7 @@ pub fn error_value(table: &Table<Kind>, handle: Handle) -> Result<(), Fault>
     }
 }
 
-/// What a pollable of this handle would watch.
+/// What a pollable made for this handle watches.
 pub fn watched(table: &Table<Kind>, handle: Handle) -> Result<Watched, Fault>
     ensures { Names result (watched_by (kind_at table.now handle)) }
 {
@@ -186,7 +186,7 @@ pub fn watched(table: &Table<Kind>, handle: Handle) -> Result<Watched, Fault>
     }
 }
 
-/// What a pollable watches.
+/// What the pollable with this handle watches.
 pub fn watch(table: &Table<Kind>, handle: Handle) -> Result<Watched, Fault>
     ensures { Names result (watch_of (kind_at table.now handle)) }
 {
@@ -196,7 +196,7 @@ pub fn watch(table: &Table<Kind>, handle: Handle) -> Result<Watched, Fault>
     }
 }
 
-/// Takes a handle out of the table. Something made under it is live: `HasChildren`.
+/// Takes a handle out of the table. A handle that has a live child: `HasChildren`.
 pub fn remove(table: &mut Table<Kind>, handle: Handle) -> Result<Kind, Fault>
     ensures told { fault_outcome result ≡ Ok (taken_out table.old handle (kind_at table.old handle)).0 }
     ensures table { table.new ≡ (taken_out table.old handle (kind_at table.old handle)).1 }
@@ -208,8 +208,8 @@ pub fn remove(table: &mut Table<Kind>, handle: Handle) -> Result<Kind, Fault>
     }
 }
 
-/// Puts a new handle into the table, under a parent where there is one. There is room, and the parent is live, so that it's
-/// refused for running out of memory alone.
+/// Puts a new handle into the table, under its parent, if it has one. There must be room and the
+/// parent live, so that only running out of memory refuses it.
 fn put(table: &mut Table<Kind>, kind: Kind, parent: Option<Handle>) -> Result<Handle, AllocError>
     requires room { is_full table.old ≡ false }
     requires parent { IfSome parent (λ p. IsSome (kind_at table.old p)) }
@@ -227,7 +227,8 @@ fn put(table: &mut Table<Kind>, kind: Kind, parent: Option<Handle>) -> Result<Ha
     }
 }
 
-/// Makes a handle and marks it in the log. Full: a trap, and nothing is asked. A parent in the table is live.
+/// Makes a handle, and logs it. A full table: `Trap(Full)`, and nothing is asked. A parent in the
+/// table must be live.
 pub fn make<W: World>(
     table: &mut Table<Kind>,
     world: &mut W,

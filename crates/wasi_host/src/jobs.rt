@@ -23,7 +23,8 @@ use wasi_jobs::{HostJob, JobList, Listed};
 use wasi_records::{RecordList, lookup_mut_in, open_udp_mut_in, tcp2_mut_in};
 use wasi_world::World;
 
-/// Polls the write of the socket of this number once, where one is in progress. Returns whether one is then.
+/// Polls the write of the TCP socket with this record number once, if one is in progress. Returns
+/// whether it still is.
 fn turn_socket<W: World>(
     records: &mut RecordList,
     world: &mut W,
@@ -44,7 +45,8 @@ fn turn_socket<W: World>(
     Ok(record.has_job())
 }
 
-/// Polls the datagram in the background of the UDP socket of this number once, where there is one. Returns whether there is one then.
+/// Polls the send in the background of the UDP socket with this record number once, if there is
+/// one. Returns whether it is still in progress.
 fn turn_datagram<W: World>(
     records: &mut RecordList,
     world: &mut W,
@@ -65,7 +67,8 @@ fn turn_datagram<W: World>(
     Ok(socket.sends())
 }
 
-/// Polls the receive in progress of the UDP socket of this number once, where there is one. Returns whether there is one then.
+/// Polls the receive of the UDP socket with this record number once, if one is in progress. Returns
+/// whether it still is.
 fn turn_receive<W: World>(
     records: &mut RecordList,
     world: &mut W,
@@ -86,7 +89,8 @@ fn turn_receive<W: World>(
     Ok(socket.receives())
 }
 
-/// Asks the network again about the lookup of this number, where it is in progress. Returns whether it is then.
+/// Asks the network again about the lookup with this record number, if it is in progress. Returns
+/// whether it still is.
 fn turn_lookup<W: World>(
     records: &mut RecordList,
     world: &mut W,
@@ -107,7 +111,7 @@ fn turn_lookup<W: World>(
     Ok(lookup.is_in_progress())
 }
 
-/// Polls a job once. Returns whether it isn't over then. Its record is looked for in its slot first.
+/// Polls a job once, and returns whether it goes on. Its record is looked for in its slot first.
 fn turn_job<W: World>(
     records: &mut RecordList,
     world: &mut W,
@@ -129,7 +133,7 @@ fn turn_job<W: World>(
     }
 }
 
-/// Polls each of these jobs once, in the order of making; one that is over then is none any more.
+/// Polls each of these jobs once, in the order of making, and takes out those that are over.
 fn turn_jobs<W: World>(
     records: &mut RecordList,
     world: &mut W,
@@ -152,7 +156,7 @@ fn turn_jobs<W: World>(
     Ok(())
 }
 
-/// The job that was made last goes on where it begins, and else is none.
+/// Keeps the job that was added last where `begins` is true, and takes it out else.
 pub(crate) fn keep_job(jobs: &mut JobList, begins: bool)
     ensures { (before : List HostJob) (job : HostJob) → jobs.old.items ≡ before ++ job ∷ [] → jobs.new.items ≡ jobs_with before job begins }
 {
@@ -162,7 +166,7 @@ pub(crate) fn keep_job(jobs: &mut JobList, begins: bool)
 }
 
 impl Store {
-    /// Polls each job once, in the order of making; one that is over is none any more.
+    /// Polls each job once, in the order of making, and takes out those that are over.
     pub(crate) fn turn<W: World>(&mut self, world: &mut W) -> Result<(), AllocError>
         requires { (W.seen world.old).ended ≡ false }
         ensures asked { AsksFor (turn_store_asks self.old) (W.seen world.old) (W.seen world.new) (λ done. (done, self.new)) result }
@@ -172,14 +176,15 @@ impl Store {
         turn_jobs(&mut self.records, world, &mut self.jobs)
     }
 
-    /// No receive of this record is left.
+    /// Takes the receives of this record out of the jobs.
     pub(crate) fn forget_receives(&mut self, place: usize)
         ensures { self.new ≡ record self.old { jobs = other_than_receive place self.old.jobs } }
     {
         self.jobs.forget_receives(place);
     }
 
-    /// Gives the record of this number back, to which nothing refers any more, and its jobs with it.
+    /// Gives back the record with this number, to which nothing refers any more, and takes its jobs
+    /// out.
     pub(crate) fn give_back(&mut self, place: usize)
         ensures state { self.new ≡ given_back place self.old }
         ensures sides { (s : Seen) → held_by (item_at self.old.records place) ≡ 0 → KnowsSides s self.old → KnowsSides s self.new }
@@ -189,8 +194,8 @@ impl Store {
     }
 }
 
-/// Lets the host's background work continue: polls each job once, in the order of making. It has no part
-/// of its own in the log: what a job asks carries the job's name.
+/// Lets the host's background work go on: polls each job once, in the order of making. It begins no
+/// operation: what a job asks has the job's name.
 pub fn turn<W: World>(view: &mut WasiSocketsCtxView<'_>, world: &mut W) -> Result<(), AllocError>
     requires { (W.seen world.old).ended ≡ false }
     ensures asked { AsksFor (turn_machine_asks (state_of view.old)) (W.seen world.old) (W.seen world.new) (λ done. (done, state_of view.new)) result }

@@ -5,14 +5,14 @@ ghost use Rattle.wasi_host.specs.Kinds.{name_of, table_parent, watched_by, watch
 
 use wasi_world::{Handle, HandleKind};
 
-/// What a pollable watches, with the number of its socket's record.
+/// What a pollable watches, with a record number.
 #[derive(Clone, Copy, Debug, PartialEq, Eq)]
 pub enum Watched {
-    /// The operation in progress of a socket.
+    /// The connect of a TCP socket in progress, or the accept of a listener.
     Socket(usize),
-    /// Whether there is something to read.
+    /// Whether there is something to read from a connection.
     Input(usize),
-    /// Whether something may be written.
+    /// Whether something may be written to a connection.
     Output(usize),
     /// A UDP socket, which is always ready.
     Udp(usize),
@@ -22,23 +22,23 @@ pub enum Watched {
     Outgoing(usize),
     /// Whether a lookup has ended.
     Lookup(usize),
-    /// An input or an output of no connection, which is always ready.
+    /// A stream in memory, which is always ready.
     Plain,
 }
 
-/// What an input reads from that is no connection's.
+/// What an input in memory reads from.
 #[derive(Clone, Copy, Debug, PartialEq, Eq)]
 pub enum PlainInput {
-    /// A pipe, with the number of its record.
+    /// The pipe with this record number.
     Pipe(usize),
     /// Nothing: it is closed.
     Closed,
 }
 
-/// What an output writes to that is no connection's.
+/// What an output in memory writes to.
 #[derive(Clone, Copy, Debug, PartialEq, Eq)]
 pub enum PlainOutput {
-    /// A pipe, with the number of its record.
+    /// The pipe with this record number.
     Pipe(usize),
     /// A sink, which takes everything and keeps none of it.
     Sink,
@@ -49,6 +49,7 @@ pub enum PlainOutput {
 /// What a handle stands for, with the number of its record in the store.
 #[derive(Clone, Copy, Debug, PartialEq, Eq)]
 pub enum Kind {
+    /// The network.
     Network,
     /// A TCP socket of the 0.2 interface.
     Tcp2(usize),
@@ -58,9 +59,9 @@ pub enum Kind {
     Input(usize),
     /// The output of a connection, with the number of its socket's record.
     Output(usize),
-    /// An input of no connection.
+    /// An input in memory: a pipe, or a closed one.
     PlainInput(PlainInput),
-    /// An output of no connection.
+    /// An output in memory: a pipe, a sink, or a closed one.
     PlainOutput(PlainOutput),
     /// The incoming datagram stream of a UDP socket, with the number of its record.
     Incoming(usize),
@@ -75,7 +76,7 @@ pub enum Kind {
 }
 
 impl Kind {
-    /// The name that a mark gives it.
+    /// The kind that the log has for it.
     pub fn name(self) -> HandleKind
         ensures { result ≡ name_of self }
     {
@@ -93,8 +94,9 @@ impl Kind {
         }
     }
 
-    /// The parent in the table of a handle whose mark names this one: a pollable is a child of what it watches, and the
-    /// streams of a socket are under it; the parent of an error and of a lookup is named in its mark alone, and a pipe has none.
+    /// The parent in the table of a handle that the log gives this parent: a pollable is a child of
+    /// what it watches, and the streams of a socket are its children. The parent of an error and
+    /// that of a lookup are in the log alone, and a pipe has none.
     pub fn table_parent(self, parent: Option<Handle>) -> Option<Handle>
         ensures { result ≡ table_parent self parent }
     {

@@ -23,7 +23,8 @@ use wasi_records::{
 use wasi_table::Table;
 use wasi_world::{Handle, OpId, TrapKind, World};
 
-/// Adds the record of a lookup, and its job, where it isn't answered yet. Its number is returned. Out of memory, nothing is added.
+/// Adds the record of a lookup, and a job where it isn't answered yet, and returns the record's
+/// number. Out of memory nothing is added.
 fn add_lookup(
     records: &mut RecordList,
     jobs: &mut JobList,
@@ -44,9 +45,13 @@ fn add_lookup(
 }
 
 impl Store {
-    /// Looks up a host (`resolve-addresses`), and makes the handle of its lookup, whose mark names the handle of the network as
-    /// its parent. An address is its own answer, and nothing is asked. A lookup that the network doesn't answer at once is a job;
-    /// one that fails at once is `NameUnresolvable`, and has no handle.
+    /// Looks up a host (`resolve-addresses`), and makes the handle of the lookup, which is logged
+    /// with the handle of the network as its parent.
+    ///
+    /// - An address is found without asking the network.
+    /// - A lookup that the network doesn't answer at once is a job.
+    /// - One that fails at once is `NameUnresolvable`, and has no handle.
+    /// - Where no handle can be made the lookup is given back.
     pub fn resolve<W: World>(
         &mut self,
         alloc: Global,
@@ -73,7 +78,7 @@ impl Store {
         }
     }
 
-    /// Makes the handle of a lookup that was begun; one that failed has none.
+    /// Makes the handle of a lookup that was begun; one that failed is `NameUnresolvable`.
     fn keep_lookup<W: World>(
         &mut self,
         table: &mut Table<Kind>,
@@ -93,7 +98,7 @@ impl Store {
         }
     }
 
-    /// Makes the record of a lookup and its handle, and its job, where it isn't answered yet.
+    /// Makes the record of a lookup, a job where it isn't answered yet, and its handle.
     fn make_lookup<W: World>(
         &mut self,
         table: &mut Table<Kind>,
@@ -119,7 +124,8 @@ impl Store {
         }
     }
 
-    /// Takes the next address that the lookup of this number found; none once all were handed out.
+    /// Takes the next address of the lookup with this record number (`resolve-next-address`);
+    /// `None` once all were handed out. Not answered yet: `WouldBlock`. Failed: `NameUnresolvable`.
     pub fn next_address(&mut self, place: usize) -> Result<Option<IpAddress>, SocketError>
         ensures answer { host_outcome result ≡ Ok (next_at self.old place (lookup_at self.old.records place)).0 }
         ensures state { self.new ≡ (next_at self.old place (lookup_at self.old.records place)).1 }
@@ -134,7 +140,7 @@ impl Store {
         }
     }
 
-    /// Whether the lookup of this number has ended.
+    /// Whether the lookup with this record number has ended.
     pub(crate) fn lookup_ready(&self, place: usize) -> bool
         ensures { result ≡ lookup_ready (lookup_at self.now.records place) }
     {
@@ -144,7 +150,8 @@ impl Store {
         }
     }
 
-    /// Gives the lookup of this number up: it isn't asked about any more, and its record is given back.
+    /// Gives up the lookup with this record number: the network isn't asked about it any more, and
+    /// its record is given back.
     pub(crate) fn drop_lookup(&mut self, place: usize)
         ensures state { self.new ≡ (drop_lookup_at self.old place (lookup_at self.old.records place)).1 }
         ensures sides { (s : Seen) → KnowsSides s self.old → KnowsSides s self.new }

@@ -8,7 +8,8 @@ use crate::store::Store;
 use std::alloc::Global;
 use wasi_table::Table;
 
-/// A table of handles and the store of what they name: with a context they make a view, which the calls take.
+/// A table of handles and the store of what they stand for. With a context it makes a view, which
+/// the calls take.
 #[derive(Drop)]
 pub struct Machine {
     pub table: Table<Kind>,
@@ -16,7 +17,7 @@ pub struct Machine {
 }
 
 impl Machine {
-    /// No handle, no record, no job, no pending call. Takes no memory.
+    /// A machine with no handle, no record, no job and no pending call. Takes no memory.
     pub fn new(alloc: Global) -> Machine
         ensures { result ≡ first_state }
     {

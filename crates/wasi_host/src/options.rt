@@ -15,7 +15,7 @@ use wasi_world::{OpId, Opt, TrapKind, World};
 impl Store {
     ghost use Rattle.wasi_host.specs.Options.{get_option_at, set_option_at, set_backlog_at};
 
-    /// The value of an option of the socket of this number (`TcpSocket::get_option`).
+    /// Reads an option of the TCP socket with this record number (`TcpSocket::get_option`).
     pub fn get_option<W: World>(
         &self,
         world: &mut W,
@@ -36,7 +36,8 @@ impl Store {
         Ok(value)
     }
 
-    /// Sets an option of the socket of this number (`TcpSocket::set_option`). The records stay as they were.
+    /// Sets an option of the TCP socket with this record number (`TcpSocket::set_option`). The
+    /// records stay as they were.
     pub fn set_option<W: World>(
         &mut self,
         world: &mut W,
@@ -56,7 +57,8 @@ impl Store {
         Ok(())
     }
 
-    /// Sets the backlog of the socket of this number (`TcpSocket::set_listen_backlog_size`).
+    /// Sets the backlog of the TCP socket with this record number
+    /// (`TcpSocket::set_listen_backlog_size`).
     pub fn set_backlog<W: World>(
         &mut self,
         world: &mut W,

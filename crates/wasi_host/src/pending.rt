@@ -22,29 +22,29 @@ use wasi_addr::ErrorCode;
 use wasi_records::{SocketError, tcp2_mut};
 use wasi_world::{Answer, Handle, Ids, NumberList, Octets, TrapKind, World};
 
-/// What a resumed call answers: what it gives, and of a call of a stream also why it gives nothing.
+/// What a pending call gives once it is polled: its value, or the error of a call of a stream.
 #[derive(Drop)]
 pub enum Outcome {
-    /// The call gives nothing.
+    /// No value.
     Nothing,
-    /// It gives a handle.
+    /// A handle.
     One(Handle),
-    /// It gives two.
+    /// Two handles.
     Two(Handle, Handle),
-    /// It gives a number of bytes.
+    /// A number of bytes.
     Count(u64),
-    /// It gives bytes.
+    /// Bytes.
     Bytes(Octets),
-    /// The stream's last operation failed, with a handle of the new error.
+    /// The stream's last operation failed; the handle is that of the new error.
     Failed(ErrorCode, Handle),
     /// The stream is at its end, or closed.
     Closed,
-    /// It gives the places of the pollables that are ready, counted from 0 and rising.
+    /// The places of the pollables that are ready, counted from 0 and rising.
     Places(NumberList),
 }
 
 impl Outcome {
-    /// The outcome of a call that gives nothing.
+    /// The outcome of a call without a value.
     fn of_nothing(answer: Answer<()>) -> Answer<Outcome>
         ensures { result ≡ outcome_of answer }
     {
@@ -54,7 +54,7 @@ impl Outcome {
         }
     }
 
-    /// The outcome of a call that gives a handle.
+    /// The outcome of a call whose value is a handle.
     fn of_handle(answer: Answer<Handle>) -> Answer<Outcome>
         ensures { result ≡ handle_outcome answer }
     {
@@ -64,7 +64,7 @@ impl Outcome {
         }
     }
 
-    /// The outcome of a call that gives two.
+    /// The outcome of a call whose value is two handles.
     fn of_pair(answer: Answer<(Handle, Handle)>) -> Answer<Outcome>
         ensures { result ≡ pair_outcome answer }
     {
@@ -74,7 +74,7 @@ impl Outcome {
         }
     }
 
-    /// The outcome of a call that gives places of pollables.
+    /// The outcome of a call whose value is places of pollables.
     fn of_places(answer: Answer<NumberList>) -> Answer<Outcome>
         ensures { result ≡ places_outcome answer }
     {
@@ -86,7 +86,7 @@ impl Outcome {
 }
 
 impl Store {
-    /// Takes out the pending call under this number, with the names that it continues by; none where none is.
+    /// Takes the pending call with this number out; `None` where there is none.
     pub(crate) fn take(&mut self, line: u32) -> Option<Standing>
         ensures taken { result ≡ call_of self.old.standing line }
         ensures some { IsSome result → self.new ≡ unstood self.old }
@@ -98,7 +98,8 @@ impl Store {
         self.standing.take()
     }
 
-    /// Polls the bind of the socket of this number again. Pending, it stands on.
+    /// Polls the bind of the TCP socket with this record number. If it is still pending it is
+    /// stored again.
     fn rebind<W: World>(
         &mut self,
         world: &mut W,
@@ -117,7 +118,8 @@ impl Store {
         Ok(self.stand(ids, StandingCall::Bind { socket: place }, answer))
     }
 
-    /// Polls the listen of the socket of this number again. Pending, it stands on.
+    /// Polls the listen of the TCP socket with this record number. If it is still pending it is
+    /// stored again.
     fn relisten<W: World>(
         &mut self,
         world: &mut W,
@@ -137,7 +139,7 @@ impl Store {
     }
 }
 
-/// The error of a call of a stream as an outcome; a trap and out of memory are none.
+/// The outcome of a call of a stream that failed; a trap and out of memory are errors here, too.
 fn of_stop(error: CallError) -> Result<Answer<Outcome>, SocketError>
     ensures { host_outcome result ≡ stop_told error }
 {
@@ -149,7 +151,7 @@ fn of_stop(error: CallError) -> Result<Answer<Outcome>, SocketError>
     }
 }
 
-/// The outcome of a call that gives bytes.
+/// The outcome of a call of a stream whose value is bytes.
 fn of_bytes(answer: Result<Answer<Octets>, CallError>) -> Result<Answer<Outcome>, SocketError>
     ensures { host_outcome result ≡ blocked_told Outcome.Bytes answer }
 {
@@ -160,7 +162,7 @@ fn of_bytes(answer: Result<Answer<Octets>, CallError>) -> Result<Answer<Outcome>
     }
 }
 
-/// The outcome of a call that gives how many they were.
+/// The outcome of a call of a stream whose value is a number of bytes.
 fn of_count(answer: Result<Answer<u64>, CallError>) -> Result<Answer<Outcome>, SocketError>
     ensures { host_outcome result ≡ blocked_told Outcome.Count answer }
 {
@@ -182,7 +184,7 @@ fn of_nothing(answer: Result<Answer<()>, CallError>) -> Result<Answer<Outcome>, 
     }
 }
 
-/// Continues a call that blocks, by the names of its line; one of pollables looks again.
+/// Polls a call that blocks, under the names of its line.
 fn unblock<W: World>(
     alloc: Global,
     view: &mut WasiSocketsCtxView<'_>,
@@ -233,9 +235,8 @@ fn unblock<W: World>(
     }
 }
 
-/// Makes a call that was pending go on, by these names: a bind, a listen and a connect are polled again, the drop of a stream looks
-/// again whether that is done, a create waits on for its network socket, and a call that blocks is done again. Pending, it stays
-/// pending.
+/// Polls the pending call once, under the operation names of the line that began it. If it is still
+/// pending it is stored again.
 fn go_on<W: World>(
     alloc: Global,
     view: &mut WasiSocketsCtxView<'_>,
@@ -284,9 +285,11 @@ fn go_on<W: World>(
     }
 }
 
-/// Polls the pending call under this number, by the names of its line; none exactly where none is. A call that is
-/// pending stays so. A code is that of a bind, of a listen, of a create or of a connect; the error of a call of a stream is an
-/// outcome.
+/// Polls the pending call with this number once, under the operation names of the line that began
+/// it; `None` exactly where there is none. If it is still pending it is stored again.
+///
+/// The error of a call of a stream is an [`Outcome`]. A code is that of a bind, a listen, a create
+/// or a connect.
 pub fn resume<W: World>(
     alloc: Global,
     view: &mut WasiSocketsCtxView<'_>,

@@ -1,4 +1,4 @@
-//! Inputs and outputs of no connection: pipes in memory, sinks, and streams that are closed. They ask nothing of the network.
+//! Streams in memory: pipes, sinks, and streams that are closed. They ask nothing of the network.
 
 ghost use Rattle.std.specs.Prelude.{◌≡◌, false, IfOk, OnErr, Ok};
 ghost use Rattle.wasi_world.specs.Asks.{AsksFor};
@@ -29,7 +29,7 @@ use wasi_world::{Handle, Ids, Octets, OpId, TrapKind, World};
 /// How many bytes a sink permits.
 const SINK_PERMIT: usize = 65536;
 
-/// The answer to the guest of a call of a stream that doesn't fail.
+/// The answer to the guest of a call of a stream in memory, which has no last operation that fails.
 pub(crate) fn plain<T>(answer: Result<T, StreamError>) -> Result<T, CallError>
     ensures { call_outcome result ≡ plain_outcome answer }
 {
@@ -42,7 +42,7 @@ pub(crate) fn plain<T>(answer: Result<T, StreamError>) -> Result<T, CallError>
     }
 }
 
-/// The end of a flush of an output of no connection: what was written is in its place already.
+/// Flushes an output in memory. Nothing is left to do, but a closed output is `Closed`.
 pub(crate) fn flush_plain(output: PlainOutput) -> Result<(), StreamError>
     ensures { stream_outcome result ≡ Ok (flush_plain output) }
 {
@@ -53,7 +53,8 @@ pub(crate) fn flush_plain(output: PlainOutput) -> Result<(), StreamError>
 }
 
 impl Store {
-    /// Reads at most so many bytes from an input of no connection. Out of memory nothing changed.
+    /// Reads at most `len` bytes from an input in memory. Takes memory for them; out of memory
+    /// nothing changes.
     pub(crate) fn read_plain(
         &mut self,
         alloc: Global,
@@ -73,7 +74,7 @@ impl Store {
         pipe.read_octets(alloc, len)
     }
 
-    /// How many bytes may be written to an output of no connection.
+    /// How many bytes may be written to an output in memory.
     pub(crate) fn check_plain(&self, output: PlainOutput) -> Result<usize, StreamError>
         ensures { stream_outcome result ≡ Ok (check_plain self.now output) }
     {
@@ -87,7 +88,7 @@ impl Store {
         }
     }
 
-    /// Writes to an output of no connection. Out of memory nothing changed.
+    /// Writes to an output in memory. Out of memory nothing changes.
     pub(crate) fn write_plain(
         &mut self,
         output: PlainOutput,
@@ -104,7 +105,8 @@ impl Store {
         }
     }
 
-    /// Writes to the pipe of this number. Out of memory nothing changed.
+    /// Writes to the pipe with this record number. Takes memory for the bytes; out of memory
+    /// nothing changes.
     fn write_pipe(&mut self, place: usize, bytes: &[u8]) -> Result<(), StreamError>
         ensures given { IfOk (stream_outcome result) (λ answer. (answer, self.new) ≡ write_pipe_at self.old place bytes.now (output_pipe_at self.old.records place)) }
         ensures memory { OnErr (stream_outcome result) (self.new ≡ self.old) }
@@ -116,7 +118,7 @@ impl Store {
         pipe.write(bytes)
     }
 
-    /// An input of no connection goes: a pipe is given back with its bytes.
+    /// Drops an input in memory: a pipe is given back with its bytes.
     pub(crate) fn drop_plain_input(&mut self, input: PlainInput)
         ensures state { self.new ≡ drop_plain_input self.old input }
         ensures sides { (s : Seen) → KnowsSides s self.old → KnowsSides s self.new }
@@ -130,7 +132,7 @@ impl Store {
         self.give_back(place);
     }
 
-    /// An output of no connection goes: a pipe is given back with its bytes.
+    /// Drops an output in memory: a pipe is given back with its bytes.
     pub(crate) fn drop_plain_output(&mut self, output: PlainOutput)
         ensures state { self.new ≡ drop_plain_output self.old output }
         ensures sides { (s : Seen) → KnowsSides s self.old → KnowsSides s self.new }
@@ -165,7 +167,7 @@ impl Store {
         Ok(handle)
     }
 
-    /// Makes a pipe that reads these bytes; its record is the next one.
+    /// Makes an input that reads these bytes, with its record.
     fn make_input_pipe<W: World>(
         &mut self,
         table: &mut Table<Kind>,
@@ -184,7 +186,7 @@ impl Store {
         self.make_pipe(table, world, own, kind, pipe)
     }
 
-    /// Makes a pipe that keeps so many bytes; its record is the next one.
+    /// Makes an output that keeps at most this many bytes, with its record.
     fn make_output_pipe<W: World>(
         &mut self,
         alloc: Global,
@@ -203,7 +205,7 @@ impl Store {
         self.make_pipe(table, world, own, kind, pipe)
     }
 
-    /// A copy of what was written to the pipe of this number.
+    /// A copy of what was written to the pipe with this record number. Takes memory for it.
     fn pipe_contents(&self, alloc: Global, place: usize) -> Result<Octets, Fault>
         ensures { IfOk (fault_outcome result) (λ answer. answer ≡ contents_at (output_pipe_at self.now.records place)) }
     {
@@ -214,15 +216,15 @@ impl Store {
     }
 }
 
-/// The bytes as a chunk that is cut with no copy.
+/// The bytes as a chunk that can be cut without copying.
 fn chunk_of(bytes: Octets) -> Result<Bytes, AllocError>
     ensures { IfOk result (λ chunk. chunk ≡ bytes) }
 {
     Ok(Bytes::from_vec(bytes.into_vec())?)
 }
 
-/// Makes an input that reads these bytes, and then is at its end (`MemoryInputPipe` of the crate, as an `input-stream`). They
-/// aren't copied.
+/// Makes an input that reads these bytes, without copying them, and then is at its end
+/// (`MemoryInputPipe` of the crate wasmtime-wasi, as an `input-stream`).
 pub fn make_input_pipe<W: World>(
     view: &mut WasiSocketsCtxView<'_>,
     world: &mut W,
@@ -240,8 +242,8 @@ pub fn make_input_pipe<W: World>(
         .make_input_pipe(view.table, world, ids.own(), bytes)
 }
 
-/// Makes an output that keeps what is written to it, and no more than so many bytes (`MemoryOutputPipe` of the crate, as an
-/// `output-stream`). Takes no memory for them yet.
+/// Makes an output that keeps what is written to it, at most this many bytes (`MemoryOutputPipe` of
+/// the crate wasmtime-wasi, as an `output-stream`). Takes no memory for them yet.
 pub fn make_output_pipe<W: World>(
     alloc: Global,
     view: &mut WasiSocketsCtxView<'_>,
@@ -277,7 +279,8 @@ fn make_plain<W: World>(
     handles::make(view.table, world, ids.own(), kind, None, None)
 }
 
-/// Makes an output that takes whatever is written to it, and keeps none of it (`SinkOutputStream` of the crate).
+/// Makes an output that takes whatever is written to it, and keeps none of it (`SinkOutputStream`
+/// of the crate wasmtime-wasi).
 pub fn make_sink<W: World>(
     view: &mut WasiSocketsCtxView<'_>,
     world: &mut W,
@@ -293,7 +296,7 @@ pub fn make_sink<W: World>(
     make_plain(view, world, ids, Kind::PlainOutput(PlainOutput::Sink))
 }
 
-/// Makes an input that is closed (`ClosedInputStream` of the crate).
+/// Makes an input that is closed (`ClosedInputStream` of the crate wasmtime-wasi).
 pub fn make_closed_input<W: World>(
     view: &mut WasiSocketsCtxView<'_>,
     world: &mut W,
@@ -309,7 +312,7 @@ pub fn make_closed_input<W: World>(
     make_plain(view, world, ids, Kind::PlainInput(PlainInput::Closed))
 }
 
-/// Makes an output that is closed (`ClosedOutputStream` of the crate).
+/// Makes an output that is closed (`ClosedOutputStream` of the crate wasmtime-wasi).
 pub fn make_closed_output<W: World>(
     view: &mut WasiSocketsCtxView<'_>,
     world: &mut W,
@@ -325,7 +328,8 @@ pub fn make_closed_output<W: World>(
     make_plain(view, world, ids, Kind::PlainOutput(PlainOutput::Closed))
 }
 
-/// A copy of what was written to a pipe. Where the handle is of no pipe that is written: `NoSuchHandle`.
+/// A copy of what was written to a pipe (`MemoryOutputPipe::contents`). Takes memory for it. A
+/// handle of another kind: `NoSuchHandle`.
 pub fn pipe_contents(
     alloc: Global,
     view: &WasiSocketsCtxView<'_>,

@@ -19,7 +19,7 @@ use wasi_records::{Tcp2Socket, tcp2_mut};
 use wasi_streams::{Fault, TrapKind};
 use wasi_world::{Handle, Ids, Sock, World};
 
-/// One look at what is watched of a TCP socket.
+/// Looks once at what a pollable watches of a TCP socket.
 fn poll_ready<W: World>(
     record: &mut Tcp2Socket,
     world: &mut W,
@@ -61,7 +61,7 @@ impl Store {
         }
     }
 
-    /// One look at what is watched of the TCP socket of this number.
+    /// Looks once at what a pollable watches of the TCP socket with this record number.
     pub(crate) fn poll_ready<W: World>(
         &mut self,
         world: &mut W,
@@ -83,7 +83,7 @@ impl Store {
     }
 }
 
-/// Makes a pollable of a socket, of a stream or of a lookup, under it in the table (`subscribe`).
+/// Makes a pollable for a socket, a stream or a lookup, as its child in the table (`subscribe`).
 pub fn subscribe<W: World>(
     view: &mut WasiSocketsCtxView<'_>,
     world: &mut W,
@@ -103,11 +103,18 @@ pub fn subscribe<W: World>(
     handles::make(view.table, world, ids.own(), kind, Some(this), side)
 }
 
-/// Whether what a pollable watches is ready (`pollable.ready`), by one look: the connect in progress of a socket is polled, or
-/// the accept of a listener with nothing in progress, whose result is left to [`accept`](Store::accept); and of a stream it is
-/// asked whether it is ready. An error is ready too, and so is a UDP socket, a stream of no connection, and an outgoing datagram stream unless its last
-/// datagram isn't sent yet, and a lookup unless it is in progress; of an incoming one a receive is begun, where none is, and left to
-/// [`receive`](Store::receive_datagrams). An accept or a receive that begins takes the next name of the line.
+/// Looks once whether what a pollable watches is ready (`pollable.ready`).
+///
+/// - A TCP socket: its connect in progress is polled, or the accept of a listener, whose result is
+///   left to [`accept`](Store::accept).
+/// - A stream of a connection: whether it can be read or written; an error is ready, too.
+/// - An incoming datagram stream: a receive is begun where there is none, and its datagram is left
+///   to [`receive`](Store::receive_datagrams).
+/// - An outgoing datagram stream is ready unless its last datagram isn't sent yet, and a lookup
+///   unless it is in progress.
+/// - A UDP socket and a stream in memory are always ready.
+///
+/// An accept or a receive that begins takes the next name of the line.
 pub fn ready<W: World>(
     view: &mut WasiSocketsCtxView<'_>,
     world: &mut W,

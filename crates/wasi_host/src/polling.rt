@@ -1,5 +1,5 @@
-//! Waiting for pollables (`wasi:io/poll`): a call that finds none of them ready is pending, and looks again when it is
-//! [resumed](crate::resume).
+//! Waiting for pollables (`wasi:io/poll`). A call that finds none of them ready is pending, and
+//! looks again when it is [resumed](crate::resume).
 
 ghost use Rattle.std.specs.Prelude.{◌≡◌, ◌+◌, ◌<◌, ◌^◌, false, true, length, IfOk, OnOk, OnErr, [], ◌∷◌, ◌++◌};
 ghost use Rattle.wasi_world.specs.Asks.{AsksFor};
@@ -26,18 +26,18 @@ use wasi_streams::{Fault, TrapKind};
 use wasi_table::Table;
 use wasi_world::{Answer, Handle, Ids, NumberList, World};
 
-/// Which of a call's looks at its pollables it is.
+/// When a call looks at its pollables.
 #[derive(Clone, Copy)]
 pub enum Look {
-    /// The one of the line that makes the call. It begins an accept or a receive where none was begun.
+    /// In the line that makes the call. It begins an accept or a receive where none was begun.
     First,
-    /// One of a line that polls the call. It begins nothing: where something would have to begin, what was waited for was taken
-    /// by another call, and the guest may see for itself.
+    /// In a line that polls the call. It begins nothing: where an accept or a receive would have to
+    /// begin, another call took what was waited for, and the pollable counts as ready.
     Later,
 }
 
-/// What looks found: each pollable that was looked at, and whether it was ready, in the order of the looks. A map beside them finds
-/// a pollable in a time that grows with the logarithm of how many were looked at.
+/// What the looks at pollables found, in their order. A map beside them finds a pollable in a time
+/// that grows with the logarithm of how many were looked at.
 #[derive(Drop)]
 pub struct Found {
     looks: Vec<(Handle, bool)>,
@@ -67,14 +67,14 @@ impl Found {
         }
     }
 
-    /// Whether a pollable was found ready; none where it wasn't looked at.
+    /// Whether a pollable was found ready; `None` where it wasn't looked at.
     fn of(&self, pollable: Handle) -> Option<bool>
         ensures { result ≡ found_of self.now pollable }
     {
         self.first.get(&pollable).copied()
     }
 
-    /// Takes memory for one look more. Out of memory, what was found stays as it is.
+    /// Adds a look. Takes memory for it; out of memory what was found stays as it is.
     fn push(&mut self, pollable: Handle, ready: bool) -> Result<(), AllocError>
         ensures ok { OnOk result (self.new ≡ self.old ++ (pollable, ready) ∷ []) }
         ensures err { OnErr result (self.new ≡ self.old) }
@@ -95,7 +95,7 @@ impl Found {
         matches!(self.of(pollable), Some(true))
     }
 
-    /// The places of those that were found ready, among these.
+    /// The places in this list of those that were found ready. Takes memory for them.
     fn ready_places(&self, alloc: Global, pollables: &[Handle]) -> Result<NumberList, AllocError>
         requires { length pollables.now < 2 ^ 32 }
         ensures { IfOk result (λ places. places ≡ ready_places self.now 0 pollables.now) }
@@ -133,7 +133,7 @@ impl Store {
         }
     }
 
-    /// What a call for one pollable answers after a look at it.
+    /// Answers a wait for one pollable after a look at it: ready, or the call is stored as pending.
     fn block_unless(&mut self, ids: Ids, pollable: Handle, ready: bool) -> Answer<()>
         ensures answer { result ≡ blocked_answer ready }
         ensures state { self.new ≡ blocked_store self.old ids pollable ready }
@@ -146,7 +146,7 @@ impl Store {
     }
 }
 
-/// A look of a line that polls a call.
+/// A look in a line that polls a call: what would begin an accept or a receive is ready.
 fn look_again<W: World>(
     view: &mut WasiSocketsCtxView<'_>,
     world: &mut W,
@@ -168,7 +168,7 @@ fn look_again<W: World>(
     ready(view, world, &mut ids, pollable)
 }
 
-/// One look at a pollable.
+/// Looks once at a pollable.
 fn look_at<W: World>(
     view: &mut WasiSocketsCtxView<'_>,
     world: &mut W,
@@ -191,7 +191,7 @@ fn look_at<W: World>(
     }
 }
 
-/// One look at each of the pollables, in the order of their first places.
+/// Looks once at each of the pollables, in the order of their first places.
 fn look_each<W: World>(
     alloc: Global,
     view: &mut WasiSocketsCtxView<'_>,
@@ -218,7 +218,7 @@ fn look_each<W: World>(
     Ok(found)
 }
 
-/// That each of the handles is a pollable's.
+/// Tests that each handle is a pollable's.
 fn test_pollables(table: &Table<Kind>, pollables: &[Handle]) -> Result<(), Fault>
     ensures ok { OnOk result (pollables_in table.now pollables.now ≡ true) }
     ensures err { OnErr result ((pollables_in table.now pollables.now ≡ false) × (result ≡ Err (Fault.Trap TrapKind.NoSuchHandle))) }
@@ -229,7 +229,8 @@ fn test_pollables(table: &Table<Kind>, pollables: &[Handle]) -> Result<(), Fault
     Ok(())
 }
 
-/// One look at each, and the places of those that are ready; where none is, the call is pending.
+/// Looks once at each pollable, and returns the places of those that are ready; the call is pending
+/// where none is.
 pub(crate) fn poll_by<W: World>(
     alloc: Global,
     view: &mut WasiSocketsCtxView<'_>,
@@ -259,7 +260,7 @@ pub(crate) fn poll_by<W: World>(
     Ok(Answer::Ready(places))
 }
 
-/// One look at a pollable; where it isn't ready the call is pending.
+/// Looks once at a pollable; the call is pending where it isn't ready.
 pub(crate) fn block_by<W: World>(
     view: &mut WasiSocketsCtxView<'_>,
     world: &mut W,
@@ -280,8 +281,9 @@ pub(crate) fn block_by<W: World>(
     Ok(view.store.block_unless(names, pollable, ready))
 }
 
-/// Waits until a pollable is ready (`pollable.block`): one look at it as [`ready`](crate::ready) has, and pending where it isn't
-/// ready. An accept or a receive that began by the look goes on, whatever becomes of the call.
+/// Waits until a pollable is ready (`pollable.block`): looks at it once as [`ready`](crate::ready)
+/// does, and is pending where it isn't ready. An accept or a receive that the look begins goes on,
+/// whatever becomes of the call.
 pub fn block<W: World>(
     view: &mut WasiSocketsCtxView<'_>,
     world: &mut W,
@@ -299,10 +301,14 @@ pub fn block<W: World>(
     block_by(view, world, ids, Look::First, pollable)
 }
 
-/// Waits until one of the pollables is ready (`poll`), and returns the places of those that are, counted from 0 and rising. Each
-/// pollable is looked at once, though it may stand in the list more than once. It is pending where none is ready. An empty list is
-/// `Trap(EmptyList)`; every handle is tested before anything is asked. Takes memory for what is found, and for the places; a list
-/// of 4,294,967,296 or more is out of memory.
+/// Waits until one of the pollables is ready (`poll`), and returns the places of those that are,
+/// counted from 0 and rising.
+///
+/// - Each pollable is looked at once, though it may stand in the list more than once.
+/// - Where none is ready the call is pending.
+/// - An empty list: `Trap(EmptyList)`. Every handle is tested before anything is asked.
+/// - Takes memory for what the looks find, and for the places. A list of 4,294,967,296 pollables or
+///   more is out of memory.
 pub fn poll<W: World>(
     alloc: Global,
     view: &mut WasiSocketsCtxView<'_>,

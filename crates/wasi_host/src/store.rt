@@ -29,39 +29,46 @@ use wasi_table::Table;
 use wasi_tcp::TcpSocket;
 use wasi_world::{Answer, Handle, Ids, Octets, OpId, Sock, TrapKind, WasiSocketsCtx, World};
 
-/// What a pending call does.
+/// A pending call, with what it needs to go on.
 #[derive(Drop)]
 pub enum StandingCall {
-    /// Binds the socket of this number, whose record has the operation.
+    /// Binds the TCP socket with this record number; its record has the operation.
     Bind { socket: usize },
-    /// Makes the socket of this number listen, likewise.
+    /// Makes the TCP socket with this record number listen; its record has the operation.
     Listen { socket: usize },
-    /// Drops the output of the socket of this number, and waits until its writer is ready.
+    /// Drops the output of the TCP socket with this record number, and waits until its writer is
+    /// ready.
     DropOutput { socket: usize },
-    /// Makes the UDP socket of this number, whose record has the operation, and then its handle.
+    /// Creates the UDP socket with this record number, and then its handle; its record has the
+    /// operation.
     UdpCreate { socket: usize },
-    /// Binds the UDP socket of this number, likewise.
+    /// Binds the UDP socket with this record number; its record has the operation.
     UdpBind { socket: usize },
-    /// Connects the UDP socket of this number, likewise, and then makes its datagram streams under this handle.
+    /// Connects the UDP socket with this record number, whose record has the operation, and then
+    /// makes its datagram streams under this handle.
     UdpConnect { socket: usize, handle: Handle },
-    /// Drops the outgoing datagram stream of the UDP socket of this number, and waits until its datagram is sent or failed.
+    /// Drops the outgoing datagram stream of the UDP socket with this record number, and waits
+    /// until its datagram is sent or has failed.
     DropOutgoing { socket: usize },
-    /// A call that blocks, of a stream or of pollables.
+    /// A call of a stream or of pollables that blocks.
     Blocking(BlockingCall),
 }
 
-/// A pending call: while it does, every other guest call is busy.
+/// A pending call. While a call is pending every other guest call answers `busy`.
 #[derive(Drop)]
 pub struct Standing {
-    /// The line that began it, whose own name the call's asks carry also when it is polled again. It begins no operation then, so
-    /// the next part of the line isn't taken.
+    /// The names of the line that began it. Its calls on the network have the line's own name, also
+    /// when it is polled again. It begins no operation then, so the next part of the line isn't
+    /// taken.
     pub ids: Ids,
     pub call: StandingCall,
 }
 
-/// The records by number, the jobs in the order of making, and the pending call. A record is given back once nothing refers to it
-/// any more, so memory follows how many sockets, lookups and pipes are there, and not how many were made. The record of a socket for
-/// which no handle could be made stays.
+/// The records by number, the background jobs in the order of making, and the pending call.
+///
+/// A record is given back once nothing refers to it any more, so memory follows how many sockets,
+/// lookups and pipes there are, and not how many were made. Where no handle can be made, a lookup's
+/// record is given back, but a socket's stays.
 #[derive(Drop)]
 pub struct Store {
     pub(crate) records: RecordList,
@@ -83,6 +90,7 @@ impl Store {
     ghost use Rattle.wasi_host.specs.KnownSides.{KnowsSides};
     ghost use Rattle.wasi_records.specs.Sides.{held_in};
 
+    /// A store with no record, no job and no pending call. Takes no memory.
     pub fn new(alloc: Global) -> Store
         ensures { result ≡ no_records }
     {
@@ -93,8 +101,9 @@ impl Store {
         }
     }
 
-    /// Makes a TCP socket, its record and its handle. Room for the record is taken before the network socket is made, so that a
-    /// network socket that was made is always known, also where no handle can be made for it.
+    /// Creates a TCP socket, its record and its handle (`create-tcp-socket`). Takes memory for the
+    /// record before the network socket is made, so that every network socket has a record, also
+    /// where no handle can be made for it.
     pub fn create_socket<W: World>(
         &mut self,
         table: &mut Table<Kind>,
@@ -118,14 +127,15 @@ impl Store {
         Ok(handle)
     }
 
-    /// The network socket that the socket of this number was made with, where there is one.
+    /// The network socket that the TCP socket with this record number was made with; `None` where
+    /// there is no such socket, or it had none.
     pub fn side(&self, place: usize) -> Option<Sock>
         ensures { result ≡ side_at (tcp2_at self.now.records place) }
     {
         tcp2(&self.records, place)?.side
     }
 
-    /// Reads from the connection of the socket of this number.
+    /// Reads from the connection of the TCP socket with this record number.
     pub fn read<W: World>(
         &mut self,
         alloc: Global,
@@ -145,7 +155,8 @@ impl Store {
         record.read(alloc, world, op, len)
     }
 
-    /// How much may be written to the connection of the socket of this number.
+    /// The permit: how many bytes may be written to the connection of the TCP socket with this
+    /// record number.
     pub fn check_write<W: World>(
         &mut self,
         world: &mut W,
@@ -163,7 +174,8 @@ impl Store {
         record.check_write(world, op)
     }
 
-    /// Writes to the connection of the socket of this number. A write in progress becomes a job.
+    /// Writes bytes to the connection of the TCP socket with this record number. A write that is in
+    /// progress afterwards is a job.
     pub fn write<W: World>(
         &mut self,
         world: &mut W,
@@ -187,7 +199,8 @@ impl Store {
         written
     }
 
-    /// Reports a kept error of the writer of the socket of this number.
+    /// Returns the error with which the writer of the TCP socket with this record number is closed,
+    /// if it is; asks nothing.
     pub fn flush<W: World>(&mut self, world: &mut W, place: usize) -> Result<(), StreamError>
         requires { (W.seen world.old).ended ≡ false }
         ensures asked { AsksFor (stream_at self.old place (writer_asks flush_asks) (tcp2_at self.old.records place)) (W.seen world.old) (W.seen world.new) (λ answer. (answer, self.new)) (stream_outcome result) }
@@ -200,7 +213,7 @@ impl Store {
         record.flush(world)
     }
 
-    /// Closes the network sockets that the records hold, after the end mark; takes no memory.
+    /// Closes every network socket that a record holds, after the end mark. Takes no memory.
     pub fn close_all<W: World>(self, world: &mut W)
         requires { (W.seen world.old).ended ≡ true }
         ensures { ClosesSides (W.seen world.old) (W.seen world.new) (held_in self.records) }
@@ -208,8 +221,11 @@ impl Store {
         close_sides(world, &self.records);
     }
 
-    /// The number of the pending call: while it does, every guest call is busy. That is the caller's to test: the calls of
-    /// this crate and of `wasi_p2` don't, and one that becomes pending takes the place of one that was. Takes no memory.
+    /// The number of the pending call, that of the line that began it. Takes no memory.
+    ///
+    /// While a call is pending every guest call has to answer `busy`. The caller has to see to
+    /// that: the calls of this crate and of `wasi_p2` don't test it, and one that becomes pending
+    /// replaces the one before.
     pub fn exclusive(&self) -> Option<u32>
         ensures { result ≡ exclusive_of self.now.standing }
     {
@@ -219,7 +235,7 @@ impl Store {
         }
     }
 
-    /// Whether a pending call has this number. Takes no memory.
+    /// Whether a call is pending under this number. Takes no memory.
     pub fn stands(&self, line: u32) -> bool
         ensures { result ≡ stands_as self.now.standing line }
     {
@@ -229,7 +245,7 @@ impl Store {
         }
     }
 
-    /// A call that is pending is kept under its line's number, with the names that it continues by.
+    /// Keeps a call that is pending, under its line's number and with the names of its line.
     pub(crate) fn stand(&mut self, ids: Ids, call: StandingCall, answer: Answer<()>) -> Answer<()>
         ensures { (result, self.new) ≡ stood self.old ids call answer }
     {

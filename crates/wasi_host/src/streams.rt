@@ -24,7 +24,8 @@ use wasi_addr::ErrorCode;
 use wasi_streams::{Fault, StreamError};
 use wasi_world::{Handle, Ids, Octets, World};
 
-/// Reads at most so many bytes from an input (`input-stream.read`). No bytes: there is nothing yet, or the length is 0.
+/// Reads at most `len` bytes from an input (`input-stream.read`). No bytes: there is nothing yet,
+/// or `len` is 0.
 pub fn read<W: World>(
     alloc: Global,
     view: &mut WasiSocketsCtxView<'_>,
@@ -46,7 +47,7 @@ pub fn read<W: World>(
     }
 }
 
-/// The same of a connection.
+/// Reads at most `len` bytes from a connection.
 fn read_connection<W: World>(
     alloc: Global,
     view: &mut WasiSocketsCtxView<'_>,
@@ -72,7 +73,7 @@ fn read_connection<W: World>(
     }
 }
 
-/// How many bytes may be written to an output (`output-stream.check-write`).
+/// The permit: how many bytes may be written to an output (`output-stream.check-write`).
 pub fn check_write<W: World>(
     view: &mut WasiSocketsCtxView<'_>,
     world: &mut W,
@@ -92,7 +93,7 @@ pub fn check_write<W: World>(
     }
 }
 
-/// The same of a connection.
+/// The permit of a connection.
 fn check_write_connection<W: World>(
     view: &mut WasiSocketsCtxView<'_>,
     world: &mut W,
@@ -113,7 +114,7 @@ fn check_write_connection<W: World>(
     }
 }
 
-/// Writes bytes to an output, of which there are no more than were permitted (`output-stream.write`).
+/// Writes bytes to an output, no more than its permit (`output-stream.write`).
 pub fn write<W: World>(
     view: &mut WasiSocketsCtxView<'_>,
     world: &mut W,
@@ -134,7 +135,7 @@ pub fn write<W: World>(
     }
 }
 
-/// The same of a connection.
+/// Writes bytes to a connection, no more than its permit.
 fn write_connection<W: World>(
     view: &mut WasiSocketsCtxView<'_>,
     world: &mut W,
@@ -156,7 +157,7 @@ fn write_connection<W: World>(
     }
 }
 
-/// Reports a kept error of an output (`output-stream.flush`).
+/// Returns the error of an output that is closed (`output-stream.flush`).
 pub fn flush<W: World>(
     view: &mut WasiSocketsCtxView<'_>,
     world: &mut W,
@@ -176,7 +177,7 @@ pub fn flush<W: World>(
     }
 }
 
-/// The same of a connection.
+/// Returns the error of a connection's writer that is closed.
 fn flush_connection<W: World>(
     view: &mut WasiSocketsCtxView<'_>,
     world: &mut W,
@@ -200,7 +201,7 @@ fn flush_connection<W: World>(
 /// More than any permit.
 const MOST_ZEROS: usize = 65537;
 
-/// So many zeros, and at most 65537.
+/// So many zeros, at most 65,537. Takes memory for them.
 pub(crate) fn zeros(alloc: Global, len: u64) -> Result<Octets, AllocError>
     ensures { IfOk result (λ bytes. bytes ≡ zeros len) }
 {
@@ -208,7 +209,8 @@ pub(crate) fn zeros(alloc: Global, len: u64) -> Result<Octets, AllocError>
     Ok(Octets::from_vec(bytes))
 }
 
-/// Reads at most so many bytes from an input and drops them (`input-stream.skip`), and returns how many there were.
+/// Reads at most `len` bytes from an input and discards them; returns how many there were
+/// (`input-stream.skip`).
 pub fn skip<W: World>(
     alloc: Global,
     view: &mut WasiSocketsCtxView<'_>,
@@ -228,8 +230,8 @@ pub fn skip<W: World>(
     Ok(bytes.len() as u64)
 }
 
-/// Writes so many zeros to an output, of which there are no more than were permitted (`output-stream.write-zeroes`). Takes memory
-/// for them, and for 65537 where there are more: no permit is that high.
+/// Writes zeros to an output, no more than its permit (`output-stream.write-zeroes`). Takes memory
+/// for them, and for 65,537 where there are more: no permit is that high.
 pub fn write_zeroes<W: World>(
     alloc: Global,
     view: &mut WasiSocketsCtxView<'_>,
@@ -249,9 +251,9 @@ pub fn write_zeroes<W: World>(
     write(view, world, ids, this, bytes)
 }
 
-/// Reads from an input what an output permits, and at most so many bytes, and writes them there (`output-stream.splice`); returns
-/// how many they were. None: there is nothing to read yet, or no permit, or the length is 0. An error is that of the stream whose
-/// call failed.
+/// Reads from an input what an output permits, at most `len` bytes, and writes them there; returns
+/// how many they were (`output-stream.splice`). 0: there is nothing to read yet, no permit, or
+/// `len` is 0. An error is that of the stream whose call failed.
 pub fn splice<W: World>(
     alloc: Global,
     view: &mut WasiSocketsCtxView<'_>,
@@ -274,7 +276,7 @@ pub fn splice<W: World>(
     splice_some(alloc, view, world, ids, output, input, permit.min(len))
 }
 
-/// Reads at most so many bytes from the input, which may be written to the output, and writes them there.
+/// Reads at most as many bytes from the input as the output permits, and writes them there.
 fn splice_some<W: World>(
     alloc: Global,
     view: &mut WasiSocketsCtxView<'_>,
@@ -303,8 +305,9 @@ fn splice_some<W: World>(
     Ok(count)
 }
 
-/// Makes the error of a stream's call (`convert_stream_error`): a failure gets the handle of a new error, whose parent is the
-/// stream; where that can't be made, `Trap(Full)` or out of memory, and where the handle is no stream's, `Trap(NoSuchHandle)`.
+/// Makes the error of a stream's call (`convert_stream_error` of the crate wasmtime-wasi). A
+/// failure gets the handle of a new error, whose parent is the stream. Where no handle can be made:
+/// `Trap(Full)` or out of memory. Where the handle is no connection's stream: `Trap(NoSuchHandle)`.
 pub fn convert_stream_error<W: World>(
     view: &mut WasiSocketsCtxView<'_>,
     world: &mut W,
@@ -328,7 +331,7 @@ pub fn convert_stream_error<W: World>(
     }
 }
 
-/// Makes the handle of an error.
+/// Makes the handle of an error, and the error with it.
 fn failed<W: World>(
     view: &mut WasiSocketsCtxView<'_>,
     world: &mut W,
@@ -359,7 +362,7 @@ fn failed<W: World>(
     failed_with(code, made)
 }
 
-/// The error with its handle, where that was made; else the trap.
+/// The error with its handle; where none was made, the trap or out of memory.
 fn failed_with(code: ErrorCode, made: Result<Handle, Fault>) -> CallError
     ensures { error_outcome result ≡ failed_outcome code made }
 {

@@ -1,4 +1,5 @@
-//! The calls on a TCP socket, by the number of its record: a bind, a connect, a listen, an accept, its addresses and a shutdown.
+//! The calls on a TCP socket, by the number of its record: bind, connect, listen, accept, its
+//! addresses and its shutdown.
 
 ghost use Rattle.std.specs.Prelude.{◌≡◌, ◌+◌, ◌<◌, ◌^◌, false, Ok, IfOk};
 ghost use Rattle.wasi_world.specs.Asks.{AsksFor};
@@ -16,8 +17,8 @@ use wasi_records::{AsyncOperation, InProgress, SocketError, keep_accepted, tcp2,
 use wasi_world::{Answer, Ids, OpId, TrapKind, World};
 
 impl Store {
-    /// Begins a bind of the socket of this number. An operation in progress: `ConcurrencyConflict`. A bind whose check is
-    /// pending is a pending call.
+    /// Begins a bind of the TCP socket with this record number (`start-bind`). An operation in
+    /// progress: `ConcurrencyConflict`. While its check is pending it is the pending call.
     pub fn start_bind<W: World>(
         &mut self,
         world: &mut W,
@@ -40,7 +41,8 @@ impl Store {
         Ok(self.stand(ids, StandingCall::Bind { socket: place }, answer))
     }
 
-    /// Finishes an operation that was started. It wasn't: `NotInProgress`.
+    /// Finishes an operation that was started (`finish-bind`, `finish-listen`). It wasn't:
+    /// `NotInProgress`.
     pub fn finish(&mut self, place: usize, operation: AsyncOperation) -> Result<(), SocketError>
         ensures sides { (s : Seen) → KnowsSides s self.old → KnowsSides s self.new }
         ensures answer { host_outcome result ≡ Ok (finish_at (is_started operation) self.old place (tcp2_at self.old.records place)).0 }
@@ -56,7 +58,8 @@ impl Store {
         Ok(())
     }
 
-    /// Begins a connect of the socket of this number. An operation in progress: `ConcurrencyConflict`.
+    /// Begins a connect of the TCP socket with this record number (`start-connect`). An operation
+    /// in progress: `ConcurrencyConflict`.
     pub fn start_connect<W: World>(
         &mut self,
         world: &mut W,
@@ -79,8 +82,9 @@ impl Store {
         Ok(())
     }
 
-    /// Polls the connect in progress. None is: `NotInProgress`. It is pending: `WouldBlock`. Once it has ended, either
-    /// way, it is in progress no more.
+    /// Polls the connect in progress of the TCP socket with this record number once
+    /// (`finish-connect`). None: `NotInProgress`. Pending: `WouldBlock`. Connected or refused, it
+    /// is in progress no more.
     pub fn finish_connect<W: World>(
         &mut self,
         world: &mut W,
@@ -100,7 +104,7 @@ impl Store {
         record.poll_connect(world)
     }
 
-    /// The local address of the socket of this number.
+    /// The local address of the TCP socket with this record number.
     pub fn local_address<W: World>(
         &mut self,
         world: &mut W,
@@ -119,7 +123,7 @@ impl Store {
         Ok(addr)
     }
 
-    /// The remote address of the socket of this number.
+    /// The remote address of the TCP socket with this record number.
     pub fn remote_address<W: World>(
         &mut self,
         world: &mut W,
@@ -138,7 +142,7 @@ impl Store {
         Ok(addr)
     }
 
-    /// Whether the socket of this number is listening.
+    /// Whether the TCP socket with this record number is listening.
     pub fn is_listening(&self, place: usize) -> Result<bool, SocketError>
         ensures { host_outcome result ≡ Ok (is_listening_at (tcp2_at self.now.records place)) }
     {
@@ -148,7 +152,7 @@ impl Store {
         }
     }
 
-    /// The family of the socket of this number.
+    /// The family of the TCP socket with this record number.
     pub fn address_family(&self, place: usize) -> Result<SocketAddressFamily, SocketError>
         ensures { host_outcome result ≡ Ok (address_family_at (tcp2_at self.now.records place)) }
     {
@@ -158,8 +162,8 @@ impl Store {
         }
     }
 
-    /// Begins a listen of the socket of this number. An operation in progress: `ConcurrencyConflict`. A listen whose check is
-    /// pending is a pending call.
+    /// Begins a listen of the TCP socket with this record number (`start-listen`). An operation in
+    /// progress: `ConcurrencyConflict`. While its check is pending it is the pending call.
     pub fn start_listen<W: World>(
         &mut self,
         world: &mut W,
@@ -181,9 +185,11 @@ impl Store {
         Ok(self.stand(ids, StandingCall::Listen { socket: place }, answer))
     }
 
-    /// Accepts a connection of the listener of this number, and gives the number of its record, which has its streams. Room for
-    /// the record is taken before anything is asked, so that a network socket that was handed over is always known. Nothing has
-    /// arrived that may be taken: `WouldBlock`. No listener: `InvalidState`. The code of a fault is reported.
+    /// Accepts a connection of the listener with this record number (`accept`), and returns the
+    /// number of the record of its socket, which has its streams. Takes memory for the record
+    /// before anything is asked, so that every connection that is handed over has a record. Nothing
+    /// has arrived that the check allows: `WouldBlock`. Not a listener: `InvalidState`. The code of
+    /// a fault is returned.
     pub fn accept<W: World>(
         &mut self,
         world: &mut W,
@@ -209,7 +215,8 @@ impl Store {
         }
     }
 
-    /// Releases one half of the connection of the socket of this number, or both.
+    /// Releases one half of the connection of the TCP socket with this record number, or both
+    /// (`shutdown`).
     pub fn shutdown<W: World>(
         &mut self,
         world: &mut W,

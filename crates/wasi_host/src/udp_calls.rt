@@ -1,4 +1,4 @@
-//! The calls on the UDP socket of a number.
+//! The calls on a UDP socket, by the number of its record.
 
 ghost use Rattle.std.specs.Prelude.{◌≡◌, ◌≤◌, false, IfOk, Ok, Some};
 ghost use Rattle.wasi_world.specs.Asks.{AsksFor};
@@ -25,8 +25,9 @@ use wasi_udp::UdpSocket;
 use wasi_world::{Answer, Handle, Ids, OpId, Opt, Sock, TrapKind, WasiSocketsCtx, World};
 
 impl Store {
-    /// Begins to make a UDP socket, and polls that. Room for the record is taken before the network socket is made, so that a
-    /// network socket that was made is always known, also where no handle can be made for it.
+    /// Begins to create a UDP socket and polls that once (`create-udp-socket`). Takes memory for
+    /// the record before the network socket is made, so that every network socket has a record,
+    /// also where no handle can be made for it.
     pub fn create_udp_socket<W: World>(
         &mut self,
         table: &mut Table<Kind>,
@@ -48,8 +49,8 @@ impl Store {
         self.create_on(table, world, ids, place)
     }
 
-    /// Polls the create that the record of this number is in the midst of. Pending, it is a pending call; done, the socket gets
-    /// its handle.
+    /// Polls the create in the record with this number. Pending, it is the pending call; done, the
+    /// socket gets its handle.
     pub(crate) fn create_on<W: World>(
         &mut self,
         table: &mut Table<Kind>,
@@ -72,8 +73,8 @@ impl Store {
         }
     }
 
-    /// Makes the handle of the UDP socket of this number. Its mark has the name of the create, which is that of the network
-    /// socket too.
+    /// Makes the handle of the UDP socket with this record number. It is logged under the name of
+    /// the create, which is the network socket's name, too.
     fn make_udp_handle<W: World>(
         &self,
         table: &mut Table<Kind>,
@@ -93,7 +94,7 @@ impl Store {
         Ok(Answer::Ready(handle))
     }
 
-    /// Waits for the network socket of the record of this number. Refused, the record is given back.
+    /// Polls the create in the record with this number once. Refused, the record is given back.
     fn poll_create<W: World>(
         &mut self,
         world: &mut W,
@@ -116,15 +117,16 @@ impl Store {
         }
     }
 
-    /// The network socket that the UDP socket of this number was made with.
+    /// The network socket that the UDP socket with this record number was made with.
     pub(crate) fn udp_side(&self, place: usize) -> Option<Sock>
         ensures { result ≡ udp_side_at (udp2_at self.now.records place) }
     {
         Some(udp2(&self.records, place)?.side())
     }
 
-    /// Begins a bind of the UDP socket of this number. An operation in progress: `ConcurrencyConflict`. A datagram stream of it is
-    /// live: `InvalidState`. A bind whose check is pending is a pending call.
+    /// Begins a bind of the UDP socket with this record number (`start-bind`). An operation in
+    /// progress: `ConcurrencyConflict`. A live datagram stream: `InvalidState`. While its check is
+    /// pending it is the pending call.
     pub fn start_udp_bind<W: World>(
         &mut self,
         world: &mut W,
@@ -150,7 +152,8 @@ impl Store {
         Ok(self.stand(ids, StandingCall::UdpBind { socket: place }, answer))
     }
 
-    /// Polls the bind of the UDP socket of this number again. Pending, it stays pending.
+    /// Polls the bind of the UDP socket with this record number. If it is still pending it is
+    /// stored again.
     pub(crate) fn rebind_udp<W: World>(
         &mut self,
         world: &mut W,
@@ -169,7 +172,7 @@ impl Store {
         Ok(self.stand(ids, StandingCall::UdpBind { socket: place }, answer))
     }
 
-    /// Finishes a bind that was started. It wasn't: `NotInProgress`.
+    /// Finishes the bind that was started (`finish-bind`). None was: `NotInProgress`.
     pub fn finish_udp_bind(&mut self, place: usize) -> Result<(), SocketError>
         ensures sides { (s : Seen) → KnowsSides s self.old → KnowsSides s self.new }
         ensures answer { host_outcome result ≡ Ok (finish_udp_bind_at self.old place (open_at self.old.records place)).0 }
@@ -185,7 +188,7 @@ impl Store {
         Ok(())
     }
 
-    /// The local address of the UDP socket of this number. Not bound: `InvalidState`.
+    /// The local address of the UDP socket with this record number. Not bound: `InvalidState`.
     pub fn udp_local_address<W: World>(
         &mut self,
         world: &mut W,
@@ -204,7 +207,8 @@ impl Store {
         Ok(addr)
     }
 
-    /// The remote address that is kept of the UDP socket of this number. None: `InvalidState`. Nothing is asked.
+    /// The remote address of the UDP socket with this record number. None: `InvalidState`. Asks
+    /// nothing.
     pub fn udp_remote_address(&self, place: usize) -> Result<IpSocketAddress, SocketError>
         ensures { host_outcome result ≡ Ok (udp_remote_at (open_at self.now.records place)) }
     {
@@ -217,7 +221,7 @@ impl Store {
         }
     }
 
-    /// The family of the UDP socket of this number.
+    /// The family of the UDP socket with this record number.
     pub fn udp_address_family(&self, place: usize) -> Result<SocketAddressFamily, SocketError>
         ensures { host_outcome result ≡ Ok (udp_family_at (open_at self.now.records place)) }
     {
@@ -227,7 +231,7 @@ impl Store {
         }
     }
 
-    /// The value of an option of the UDP socket of this number (`UdpSocket::get_option`).
+    /// Reads an option of the UDP socket with this record number (`UdpSocket::get_option`).
     pub fn get_udp_option<W: World>(
         &self,
         world: &mut W,
@@ -248,7 +252,8 @@ impl Store {
         Ok(value)
     }
 
-    /// Sets an option of the UDP socket of this number (`UdpSocket::set_option`). The records stay as they were.
+    /// Sets an option of the UDP socket with this record number (`UdpSocket::set_option`). The
+    /// records stay as they were.
     pub fn set_udp_option<W: World>(
         &mut self,
         world: &mut W,
@@ -268,7 +273,8 @@ impl Store {
         Ok(())
     }
 
-    /// Closes the network socket of the UDP socket of this number, as its drop does. Its record is given back.
+    /// Closes the network socket of the UDP socket with this record number, as its drop does, and
+    /// gives the record back.
     pub(crate) fn release_udp<W: World>(
         &mut self,
         world: &mut W,
@@ -288,7 +294,7 @@ impl Store {
         Ok(())
     }
 
-    /// Gives the UDP socket of this number back, where its network socket is closed.
+    /// Gives back the record of the UDP socket with this number, if its network socket is closed.
     fn leave_udp(&mut self, place: usize)
         ensures state { (u : Udp2Socket) → udp2_at self.old.records place ≡ Some u → self.new ≡ udp_left self.old place u }
         ensures sides { (s : Seen) → KnowsSides s self.old → KnowsSides s self.new }

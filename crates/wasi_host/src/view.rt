@@ -8,8 +8,9 @@ use crate::store::Store;
 use wasi_table::Table;
 use wasi_world::WasiSocketsCtx;
 
-/// A view of a context, of the table of handles and of the records that they name (`WasiSocketsCtxView` of the crate
-/// wasmtime-wasi, with the store beside the table). A call leaves the context as it was.
+/// What a call is given: a context, the table of handles and the records that they stand for
+/// (`WasiSocketsCtxView` of the crate wasmtime-wasi, with the store beside the table). A call
+/// leaves the context as it was.
 #[derive(Drop)]
 pub struct WasiSocketsCtxView<'a> {
     pub ctx: &'a mut WasiSocketsCtx,
@@ -17,7 +18,8 @@ pub struct WasiSocketsCtxView<'a> {
     pub store: &'a mut Store,
 }
 
-/// What has a context, a table and a store gives a view of them (`WasiSocketsView` of the crate).
+/// A type that has a context, a table and a store, and gives a view of them (`WasiSocketsView` of
+/// the crate wasmtime-wasi).
 pub trait WasiSocketsView {
     ghost use Rattle.wasi_world.specs.declared.outcome.WasiSocketsCtx.{WasiSocketsCtx};
     ghost use Rattle.wasi_host.specs.Kinds.{HandleTable};
@@ -32,17 +34,19 @@ pub trait WasiSocketsView {
     /// Its store.
     ghost store: { Self → Records };
 
+    /// A view of its context, its table and its store.
     fn sockets(&mut self) -> WasiSocketsCtxView<'_>
         ensures ctx { result.ctx.now ≡ ctx self.old }
         ensures table { result.table.now ≡ table self.old }
         ensures store { result.store.now ≡ store self.old };
 }
 
-/// The number of a context, where there are several (the string that names one in the crate).
+/// The number of a context, where there are several (a string in the crate wasmtime-wasi).
 #[derive(Clone, Copy, Debug, PartialEq, Eq, Hash)]
 pub struct NamedId(pub u32);
 
-/// What has several contexts, over one table and one store, gives a view of one of them (`WasiSocketsNamedView` of the crate).
+/// A type that has several contexts over one table and one store, and gives a view of one of them
+/// (`WasiSocketsNamedView` of the crate wasmtime-wasi).
 pub trait WasiSocketsNamedView {
     ghost use Rattle.std.specs.Prelude.{ℕ, List};
     ghost use Rattle.wasi_host.specs.Kinds.{HandleTable};
@@ -57,7 +61,7 @@ pub trait WasiSocketsNamedView {
     /// Its store.
     ghost store: { Self → Records };
 
-    /// The view of the context of this number, which is there.
+    /// A view of the context with this number, which has to be one of its own.
     fn sockets(&mut self, id: NamedId) -> WasiSocketsCtxView<'_>
         requires { Knows (ids self.old) id }
         ensures ctx { result.ctx.now.name ≡ id.0 }
@@ -65,13 +69,13 @@ pub trait WasiSocketsNamedView {
         ensures store { result.store.now ≡ store self.old };
 }
 
-/// What has several contexts, to be called by their numbers: a call of one is the plain call in the view that [`at`](Self::at)
-/// gives (`WasiCtxNamedView` of the crate).
+/// A type with several contexts, to be called by their numbers: a call for one of them is made on
+/// the view that [`at`](Self::at) gives (`WasiCtxNamedView` of the crate wasmtime-wasi).
 #[derive(Drop)]
 pub struct WasiCtxNamedView<'a, T>(pub &'a mut T);
 
 impl<T: WasiSocketsNamedView> WasiCtxNamedView<'_, T> {
-    /// The view of the context of this number, which is there.
+    /// A view of the context with this number, which has to be one of its own.
     pub fn at(&mut self, id: NamedId) -> WasiSocketsCtxView<'_>
         requires { Knows (T.ids self.old.0.now) id }
         ensures ctx { result.ctx.now.name ≡ id.0 }

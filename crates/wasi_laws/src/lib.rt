@@ -1,5 +1,5 @@
-//! Laws of whole runs, over the definitions of specs/ and of the crates below: each is a function that does nothing, whose contract
-//! is the law.
+//! Laws of whole runs, over the definitions of specs/ and of the crates below. Each is a function
+//! that does nothing, whose contract is the law.
 #![tactic(auto)]
 
 pub mod polls;
@@ -28,14 +28,18 @@ ghost use Rattle.wasi_laws.specs.Permitted.{permitted_by, Did, IsOfSteps};
 ghost use Rattle.wasi_laws.specs.Writes.{WritesTo};
 ghost use Rattle.wasi_steps.specs.Reply.{number_fields};
 
-/// The log of a run, at every point of it, is that of the steps that were done and of a prefix of the next.
+/// At every point of a run, its log is that of the steps that were done, and then a prefix of the
+/// next step's.
 pub fn runs_are_of_steps()
     ensures { (contexts : List WasiSocketsCtx) (side : OpId) (steps : List Step) (log : List Entry) (rest : Asks (List Reply × Machine))
         → Left (run contexts [] first_state 1 steps) log rest → IsOfSteps contexts side first_state 1 steps log }
 {}
 
-/// What a network socket took is a prefix of what the machine let the steps write to it, along what their lines asked: once the
-/// steps are done, and in the middle of the next one.
+/// What a network socket took is a prefix of the permitted bytes: those that the steps so far were
+/// allowed to write to it, given the answers so far.
+///
+/// - `done`: after each step.
+/// - `begun`: in the middle of the next step.
 pub fn taken_is_permitted()
     ensures done { (contexts : List WasiSocketsCtx) (side : OpId) (steps : List Step) (log : List Entry) (permitted : List ℕ) (after : Machine)
         → Did contexts side first_state 1 steps log permitted after
@@ -47,8 +51,8 @@ pub fn taken_is_permitted()
         → IsFrontOf (taken_in side (log ++ entries)) (permitted ++ permitted_by after side (1 + length steps) s entries) }
 {}
 
-/// Where a check-write on an output of a network socket answers a permit, the network socket took all that the machine let the
-/// steps write to it.
+/// Where a check-write on an output of a network socket answers a permit, the network socket has
+/// taken all the permitted bytes.
 pub fn permit_means_all_is_taken()
     ensures { (contexts : List WasiSocketsCtx) (side : OpId) (steps : List Step) (log : List Entry) (permitted : List ℕ) (after : Machine)
         (ctx output n : ℕ) (entries : List Entry) (next : Machine)
@@ -59,8 +63,12 @@ pub fn permit_means_all_is_taken()
         → taken_in side (log ++ entries) ≡ permitted }
 {}
 
-/// In one poll of a bind, a connect or a listen, of a bind or a connect of a UDP socket, or of a datagram that is sent, no check
-/// follows a call that goes out; and where one of these was asked, the poll leaves no check to a later one.
+/// An operation asks its checks before its first call that goes out. Such operations are a bind, a
+/// connect or a listen of a TCP socket, a bind or a connect of a UDP socket, and the send of a
+/// datagram.
+///
+/// - `poll`: in one poll no check follows a call that goes out.
+/// - `later`: a poll that has made a call that goes out leaves no check to a later one.
 pub fn operations_check_first()
     ensures poll { (op : Operation) (entries : List Entry) (rest : Asks (End × List Item))
         → IsOutward op → Left (operation_polled op) entries rest → ChecksFirst entries }
@@ -68,16 +76,18 @@ pub fn operations_check_first()
         → IsOutward op → Left (operation_polled op) entries (Give ended) → HasGone entries → NoCheckLeft ended.1 }
 {}
 
-/// At every point of a run, each operation asked its checks before its first call that goes out: a bind, a listen, a connect or a
-/// datagram that is sent.
+/// At every point of a run, each operation has asked its checks before its first call that goes
+/// out: a bind, a listen, a connect or the send of a datagram.
 pub fn checks_come_first()
     ensures { (contexts : List WasiSocketsCtx) (steps : List Step) (log : List Entry) (rest : Asks (List Reply × Machine))
         → Left (run contexts [] first_state 1 steps) log rest → (op : OpId) → ChecksFirst (asked_by op log) }
 {}
 
-/// At every point of a run, each call on a socket, its close too, is asked of one that was made before, by a create that was
-/// done or by being handed over, and that wasn't closed before. So once a socket was closed nothing is asked of it, no second
-/// close either.
+/// Network sockets are used only while they are open.
+///
+/// - `asked`: at every point of a run, each call on a network socket, its close too, comes after a
+///   create or a hand-over made it, and before any close of it.
+/// - `ends`: after the close of a network socket no call is made on it, and no second close.
 pub fn sockets_are_asked_while_open()
     ensures asked { (contexts : List WasiSocketsCtx) (steps : List Step) (log : List Entry) (rest : Asks (List Reply × Machine))
         → Left (run contexts [] first_state 1 steps) log rest → AsksOpenSockets log }

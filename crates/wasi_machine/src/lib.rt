@@ -1,4 +1,4 @@
-//! The machine that does steps: its definition is in specs/, and here the replies of its calls.
+//! The machine that does steps. Its definition is in specs/; here are the replies of its calls.
 #![tactic(auto)]
 
 pub mod replies;

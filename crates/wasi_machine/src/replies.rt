@@ -11,14 +11,15 @@ use wasi_host::{CallError, Outcome, SocketError};
 use wasi_steps::{CodeWord, IntoFields, Reply};
 use wasi_world::{Answer, Handle};
 
-/// `ok` with the fields that say this.
+/// `ok` with the fields of this value. Takes memory for them.
 fn ok<T: IntoFields>(alloc: Global, value: T) -> Result<Reply, AllocError>
     ensures { IfOk result (λ reply. reply ≡ Reply.Ok (T.fields value)) }
 {
     Ok(Reply::Ok(value.into_fields(alloc)?))
 }
 
-/// The reply of a call, by what it gives.
+/// The reply of a call: `ok` with its value, the word of its code, or its trap. Takes memory for
+/// the fields. The only error is out of memory, the call's own too.
 pub fn reply_of<T: IntoFields>(
     alloc: Global,
     answer: Result<T, SocketError>,
@@ -31,7 +32,8 @@ pub fn reply_of<T: IntoFields>(
     }
 }
 
-/// The reply of a call of a stream, by what it gives.
+/// The reply of a call of a stream: `ok` with its value, the end or the failure of its stream, or
+/// its trap. Takes memory for the fields. The only error is out of memory, the call's own too.
 pub fn stream_reply_of<T: IntoFields>(
     alloc: Global,
     answer: Result<T, CallError>,
@@ -44,7 +46,8 @@ pub fn stream_reply_of<T: IntoFields>(
     }
 }
 
-/// The reply of a call of a stream that may be pending under this number, its line's.
+/// The reply of a call of a stream that may be pending, under the number of its line. Takes memory
+/// for the fields. The only error is out of memory, the call's own too.
 pub fn blocked_reply<T: IntoFields>(
     alloc: Global,
     call: u32,
@@ -59,7 +62,8 @@ pub fn blocked_reply<T: IntoFields>(
     }
 }
 
-/// The reply of a call that may be pending; it then is pending under its line's number.
+/// The reply of a call that may be pending, under the number of its line. Takes memory for the
+/// fields. The only error is out of memory, the call's own too.
 pub fn answer_reply<T: IntoFields>(
     alloc: Global,
     line: u32,
@@ -74,7 +78,7 @@ pub fn answer_reply<T: IntoFields>(
     }
 }
 
-/// The reply of a call that gives no value; running out of memory has none.
+/// The reply of a call without a value: its code or its trap. Out of memory has none.
 fn stop_reply(error: SocketError) -> Result<Reply, AllocError>
     ensures { IfOk result (λ reply. IsStop error (λ stop. reply ≡ stop_reply stop)) }
 {
@@ -85,7 +89,7 @@ fn stop_reply(error: SocketError) -> Result<Reply, AllocError>
     }
 }
 
-/// The reply of a stream's call whose last operation failed, with the handle of the error.
+/// The reply of a call whose stream's last operation failed, with the handle of the error.
 fn failed(code: ErrorCode, handle: Handle) -> Reply
     ensures { result ≡ call_stop_reply (Failed code handle) }
 {
@@ -93,7 +97,8 @@ fn failed(code: ErrorCode, handle: Handle) -> Reply
     Reply::Failed(CodeWord::from_p2(code), handle)
 }
 
-/// The reply of a stream's call that gives no value; running out of memory has none.
+/// The reply of a call of a stream without a value: its end, its failure or its trap. Out of memory
+/// has none.
 fn call_stop_reply(error: CallError) -> Result<Reply, AllocError>
     ensures { IfOk result (λ reply. IsCallStop error (λ stop. reply ≡ call_stop_reply stop)) }
 {
@@ -105,7 +110,8 @@ fn call_stop_reply(error: CallError) -> Result<Reply, AllocError>
     }
 }
 
-/// The reply of the call of this line that was resumed: pending, it stays pending.
+/// The reply of a poll of the pending call with this number: its value, or `pending` again. Takes
+/// memory for the fields.
 fn outcome_reply(alloc: Global, line: u32, answer: Answer<Outcome>) -> Result<Reply, AllocError>
     ensures { IfOk result (λ reply. reply ≡ outcome_reply line answer) }
 {
@@ -122,7 +128,7 @@ fn outcome_reply(alloc: Global, line: u32, answer: Answer<Outcome>) -> Result<Re
     }
 }
 
-/// The reply of a cancel, by whether there was such a call.
+/// The reply of a cancel: `ok`, or `no-such-call` where no such call was pending.
 pub fn cancelled_reply(alloc: Global, cancelled: bool) -> Reply
     ensures { result ≡ cancelled_reply cancelled }
 {
@@ -132,7 +138,8 @@ pub fn cancelled_reply(alloc: Global, cancelled: bool) -> Reply
     }
 }
 
-/// The reply of a poll of the call of this line.
+/// The reply of a poll of the call with this number: its answer, or `no-such-call` where none was
+/// pending. Takes memory for the fields. The only error is out of memory, the call's own too.
 pub fn resumed_reply(
     alloc: Global,
     line: u32,

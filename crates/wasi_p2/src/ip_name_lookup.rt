@@ -1,5 +1,5 @@
-//! The calls of name lookup (`wasi:sockets/ip-name-lookup`). Handles are tested first: one that isn't live or is of another kind is a
-//! trap, `NoSuchHandle`.
+//! The calls of name lookup (`wasi:sockets/ip-name-lookup`). Each tests its handle first: one that
+//! isn't live, or is of another kind, is the trap `NoSuchHandle`.
 
 ghost use Rattle.std.specs.Prelude.{◌≡◌, Ok, false};
 ghost use Rattle.wasi_world.specs.Asks.{AsksFor};
@@ -17,11 +17,16 @@ use wasi_host::{WasiSocketsCtxView, handles};
 use wasi_names::{HostName, host_for};
 use wasi_world::{Handle, Ids, NameText, World};
 
-/// Looks up the addresses of a host name (`resolve-addresses`), and makes the handle by which they are taken. The handle of the
-/// network is tested first. Where the context forbids lookup: `PermanentResolverFailure`; a name that is no host:
-/// `InvalidArgument`; and nothing is asked then, nor of a name that is an address. The network is asked about the domain as the
-/// library `url` reads it. Its code, if it answers at once: `NameUnresolvable`, and no handle is made. Takes memory for the name and
-/// for the addresses.
+/// Looks up the addresses of a host name, and makes the handle of the lookup (`resolve-addresses`).
+/// The handle of the network is tested first.
+///
+/// - A context that may look nothing up: `PermanentResolverFailure`. A name that is refused:
+///   `InvalidArgument`. Nothing is asked.
+/// - A name that is an address is found without asking the network.
+/// - For a domain, as the library `url` reads it, the network is asked once. Where it answers with
+///   a code at once: `NameUnresolvable`, and no handle is made.
+///
+/// Takes memory for the name and for the addresses.
 pub fn resolve_addresses<W: World>(
     alloc: Global,
     view: &mut WasiSocketsCtxView<'_>,
@@ -66,9 +71,9 @@ fn resolve<W: World>(
     }
 }
 
-/// The next address that a lookup found (`resolve-next-address`), in the order in which the network told them, each once, and an IPv4
-/// address always as one; none once all were handed out. The network hasn't answered yet: `WouldBlock`. It answered with a code:
-/// `NameUnresolvable`, each time. Asks nothing.
+/// Takes the next address that a lookup found (`resolve-next-address`), in the network's order,
+/// each once, and a mapped IPv4 address as IPv4; `None` once all were handed out. Not answered yet:
+/// `WouldBlock`. Answered with a code: `NameUnresolvable`, each time. Asks nothing.
 pub fn resolve_next_address(
     view: &mut WasiSocketsCtxView<'_>,
     this: Handle,

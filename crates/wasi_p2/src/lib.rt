@@ -39,8 +39,8 @@ pub fn instance_network<W: World>(
     Ok(handle)
 }
 
-/// The code of the network that an error of a stream is of (`network-error-code`). No error of a stream is of one: its code was
-/// told when the stream failed.
+/// The network's code in the error of a stream (`network-error-code`). Always `None` in 0.2: the
+/// code was already returned when the stream failed.
 pub fn network_error_code(
     view: &WasiSocketsCtxView<'_>,
     error: Handle,
@@ -51,8 +51,8 @@ pub fn network_error_code(
     Ok(None)
 }
 
-/// The code that an error of a call tells the guest (`convert_error_code` of the crate). A trap and out of memory tell none, and
-/// are handed back.
+/// The code that the error of a call returns to the guest (`convert_error_code` of the crate
+/// wasmtime-wasi). A trap and out of memory have no code, and are handed back as the error.
 pub fn convert_error_code(error: SocketError) -> Result<p2::ErrorCode, Fault>
     ensures code { IfOk result (λ code. error ≡ HostError.Code code) }
     ensures fault { IfErr result (λ fault. error ≡ of_fault fault) }

@@ -1,5 +1,6 @@
-//! The options of a TCP socket, and its backlog: a getter and a setter of each in `wasi:sockets/tcp`. Handles are tested first:
-//! one that isn't live or is of another kind is a trap, `NoSuchHandle`. A set leaves the records as they were.
+//! The options of a TCP socket, and its backlog: a getter and a setter of each in
+//! `wasi:sockets/tcp`. Each call tests its handle first: one that isn't live, or is of another
+//! kind, is the trap `NoSuchHandle`. A set leaves the records as they were.
 
 ghost use Rattle.std.specs.Prelude.{◌≡◌, ◌≤◌, IfOk, false};
 ghost use Rattle.std.specs.Int.{from_bool};
@@ -16,9 +17,13 @@ use wasi_host::{WasiSocketsCtxView, handles};
 use wasi_tcp::Setting;
 use wasi_world::{Handle, Ids, Opt, World};
 
-/// The value of an option: yes is 1 and no is 0, a time is in nanoseconds, a size in bytes. The getters below are this call of
-/// their option. Connecting: `InvalidState`. Closed: its code. A code that is reported is returned. A reported size is halved,
-/// any reported number but 0 is yes, and a reported value above the option's `largest_value` is `NotSupported`.
+/// Reads an option: yes is 1 and no is 0, a time is in nanoseconds, a size in bytes. The getters
+/// below are this call with their option.
+///
+/// - Connecting: `InvalidState`. Closed: its code.
+/// - A code that the network reports is returned.
+/// - A reported size is halved, and any reported number but 0 is yes.
+/// - A reported value above the option's `largest_value` is `NotSupported`.
 pub fn get_option<W: World>(
     view: &mut WasiSocketsCtxView<'_>,
     world: &mut W,
@@ -38,9 +43,13 @@ pub fn get_option<W: World>(
     view.store.get_option(world, ids.own(), place, option)
 }
 
-/// Sets an option. The setters below are this call of their setting. Connecting: `InvalidState`. Closed: its code. A code that
-/// is reported is returned. 0 is `InvalidArgument`: for a time or a number of probes in any state, for the hop limit or a size
-/// where the state allows a set. Times, sizes and numbers of probes are brought into their ranges first.
+/// Sets an option. The setters below are this call with their setting.
+///
+/// - Connecting: `InvalidState`. Closed: its code.
+/// - 0 is `InvalidArgument`: for a time or a number of probes in any state, for the hop limit or a
+///   size where the state allows a set.
+/// - Times, sizes and numbers of probes are brought into their ranges first.
+/// - A code that the network reports is returned.
 fn set_option<W: World>(
     view: &mut WasiSocketsCtxView<'_>,
     world: &mut W,
@@ -313,10 +322,13 @@ pub fn set_send_buffer_size<W: World>(
     set_option(view, world, ids, this, Setting::SendBufferSize(value))
 }
 
-/// How many connections may wait to be accepted (`set-listen-backlog-size`): brought into 1 to 2,147,483,647. 0:
-/// `InvalidArgument`, in any state. Before the socket listens the number is kept for the listen to come, and nothing is asked;
-/// a listener asks the network, and where that returns a code the old number stays: `NotSupported`. Closed: its code. In any
-/// other state: `InvalidState`.
+/// Sets how many connections may wait to be accepted (`set-listen-backlog-size`); the number is
+/// brought into 1 to 2,147,483,647.
+///
+/// - 0: `InvalidArgument`, in any state.
+/// - Before the socket listens the number is kept for the listen to come, and nothing is asked.
+/// - A listener asks the network; where that returns a code the old number stays: `NotSupported`.
+/// - Closed: its code. In any other state: `InvalidState`.
 pub fn set_listen_backlog_size<W: World>(
     view: &mut WasiSocketsCtxView<'_>,
     world: &mut W,

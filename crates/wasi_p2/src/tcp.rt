@@ -1,5 +1,5 @@
-//! The calls of TCP sockets (`wasi:sockets/tcp` and `tcp-create-socket`). Handles are tested first: one that isn't live or is of
-//! another kind is a trap, `NoSuchHandle`.
+//! The calls of TCP sockets (`wasi:sockets/tcp` and `tcp-create-socket`). Each tests its handles
+//! first: one that isn't live, or is of another kind, is the trap `NoSuchHandle`.
 
 ghost use Rattle.std.specs.Prelude.{◌≡◌, ◌+◌, ◌<◌, ◌^◌, IfOk, IsSome, Ok, false};
 ghost use Rattle.wasi_world.specs.Asks.{AsksFor};
@@ -25,7 +25,8 @@ use wasi_addr::{IpSocketAddress, ShutdownType, SocketAddressFamily};
 use wasi_host::{AsyncOperation, Kind, WasiSocketsCtxView, handles};
 use wasi_world::{Answer, Handle, Ids, Sock, World};
 
-/// Makes a TCP socket of this family (`create-tcp-socket`). Where the context forbids TCP: `AccessDenied`, and nothing is asked.
+/// Creates a TCP socket of this family (`create-tcp-socket`). A context that may not use TCP:
+/// `AccessDenied`, and nothing is asked. Takes memory for its record and its handle.
 pub fn create_tcp_socket<W: World>(
     view: &mut WasiSocketsCtxView<'_>,
     world: &mut W,
@@ -43,8 +44,9 @@ pub fn create_tcp_socket<W: World>(
         .create_socket(view.table, world, ids.own(), view.ctx, family)
 }
 
-/// Begins to bind a socket to an address (`start-bind`). The handle of the network is tested first. With any operation in
-/// progress: `ConcurrencyConflict`. The bind is in progress once it is done; while its check is pending, so is the call.
+/// Begins to bind a socket to an address (`start-bind`). The handle of the network is tested first.
+/// An operation in progress: `ConcurrencyConflict`. While its check is pending, so is the call;
+/// then the bind is in progress until [`finish_bind`].
 pub fn start_bind<W: World>(
     view: &mut WasiSocketsCtxView<'_>,
     world: &mut W,
@@ -65,7 +67,7 @@ pub fn start_bind<W: World>(
     view.store.start_bind(world, *ids, place, addr)
 }
 
-/// Ends a bind in progress (`finish-bind`). None is: `NotInProgress`. Asks nothing.
+/// Ends a bind in progress (`finish-bind`). None in progress: `NotInProgress`. Asks nothing.
 pub fn finish_bind(view: &mut WasiSocketsCtxView<'_>, this: Handle) -> Result<(), SocketError>
     ensures answer { host_outcome result ≡ Ok (finish_on is_bind (state_of view.old) (socket_at (state_of view.old) this)).0 }
     ensures state { state_of view.new ≡ (finish_on is_bind (state_of view.old) (socket_at (state_of view.old) this)).1 }
@@ -76,8 +78,8 @@ pub fn finish_bind(view: &mut WasiSocketsCtxView<'_>, this: Handle) -> Result<()
     view.store.finish(place, AsyncOperation::Bind)
 }
 
-/// Begins to connect a socket to an address (`start-connect`), which is in progress then. With any operation in progress:
-/// `ConcurrencyConflict`.
+/// Begins to connect a socket to an address (`start-connect`). An operation in progress:
+/// `ConcurrencyConflict`. The connect is in progress until [`finish_connect`] ends it.
 pub fn start_connect<W: World>(
     view: &mut WasiSocketsCtxView<'_>,
     world: &mut W,
@@ -98,8 +100,8 @@ pub fn start_connect<W: World>(
     view.store.start_connect(world, ids.own(), place, addr)
 }
 
-/// Polls the connect in progress, and makes the input and the output of the connection once it is done (`finish-connect`). Pending:
-/// `WouldBlock`.
+/// Polls the connect in progress, and makes the input and the output of the connection once it is
+/// done (`finish-connect`). None in progress: `NotInProgress`. Pending: `WouldBlock`.
 pub fn finish_connect<W: World>(
     view: &mut WasiSocketsCtxView<'_>,
     world: &mut W,
@@ -119,7 +121,7 @@ pub fn finish_connect<W: World>(
     make_streams(view, world, ids, this, place, side)
 }
 
-/// Makes the input and the output of a connection, under its socket's handle.
+/// Makes the input and the output of a connection, as children of its socket.
 fn make_streams<W: World>(
     view: &mut WasiSocketsCtxView<'_>,
     world: &mut W,
@@ -149,9 +151,13 @@ fn make_streams<W: World>(
     Ok((input, output))
 }
 
-/// Begins to make a socket listen (`start-listen`). With any operation in progress: `ConcurrencyConflict`. A socket that isn't
-/// bound, or isn't new: `InvalidState`. The listen is in progress once it is done; while its check is pending, so is the call.
-/// One that is refused leaves the socket closed.
+/// Begins to make a socket listen (`start-listen`).
+///
+/// - An operation in progress: `ConcurrencyConflict`. A socket that isn't bound, or was connected
+///   or is listening: `InvalidState`.
+/// - While its check is pending, so is the call; then the listen is in progress until
+///   [`finish_listen`].
+/// - One that is refused leaves the socket closed.
 pub fn start_listen<W: World>(
     view: &mut WasiSocketsCtxView<'_>,
     world: &mut W,
@@ -169,7 +175,7 @@ pub fn start_listen<W: World>(
     view.store.start_listen(world, *ids, place)
 }
 
-/// Ends a listen in progress (`finish-listen`). None is: `NotInProgress`. Asks nothing.
+/// Ends a listen in progress (`finish-listen`). None in progress: `NotInProgress`. Asks nothing.
 pub fn finish_listen(view: &mut WasiSocketsCtxView<'_>, this: Handle) -> Result<(), SocketError>
     ensures answer { host_outcome result ≡ Ok (finish_on is_listen (state_of view.old) (socket_at (state_of view.old) this)).0 }
     ensures state { state_of view.new ≡ (finish_on is_listen (state_of view.old) (socket_at (state_of view.old) this)).1 }
@@ -180,10 +186,14 @@ pub fn finish_listen(view: &mut WasiSocketsCtxView<'_>, this: Handle) -> Result<
     view.store.finish(place, AsyncOperation::Listen)
 }
 
-/// Accepts a connection of a listener (`accept`): its socket, its input and its output. No listener: `InvalidState`. Nothing
-/// has arrived that the check allows: `WouldBlock`, and the accept stays in progress. The code of a fault is reported, and the
-/// next call begins the next accept. An accept that begins takes the next name of the line. Where a handle can't be made,
-/// `Trap(Full)`, the connection is taken all the same.
+/// Accepts a connection of a listener (`accept`): its socket, its input and its output.
+///
+/// - Not a listener: `InvalidState`.
+/// - Nothing has arrived that the check allows: `WouldBlock`, and the accept stays in progress.
+/// - The code of a fault is returned, and the next call begins the next accept.
+/// - Where a handle can't be made, `Trap(Full)`, the connection has been taken.
+///
+/// An accept that begins takes the next name of the line.
 pub fn accept<W: World>(
     view: &mut WasiSocketsCtxView<'_>,
     world: &mut W,
@@ -205,7 +215,8 @@ pub fn accept<W: World>(
     make_accepted(view, world, ids, this, accepted, side)
 }
 
-/// Makes the handles of a connection that was accepted.
+/// Makes the handles of an accepted connection: its socket, a child of the listener, its input and
+/// its output.
 fn make_accepted<W: World>(
     view: &mut WasiSocketsCtxView<'_>,
     world: &mut W,
@@ -227,7 +238,8 @@ fn make_accepted<W: World>(
     Ok((socket, input, output))
 }
 
-/// The address that a socket is bound to (`local-address`).
+/// The address that a socket is bound to (`local-address`). Not bound, or connecting:
+/// `InvalidState`. Closed: its code. A code that the network reports is returned.
 pub fn local_address<W: World>(
     view: &mut WasiSocketsCtxView<'_>,
     world: &mut W,
@@ -245,7 +257,8 @@ pub fn local_address<W: World>(
     view.store.local_address(world, ids.own(), place)
 }
 
-/// The address of the other end of a connection (`remote-address`).
+/// The address of the other end of a connection (`remote-address`). Not connected: `InvalidState`.
+/// Closed: its code. A code that the network reports is returned.
 pub fn remote_address<W: World>(
     view: &mut WasiSocketsCtxView<'_>,
     world: &mut W,
@@ -288,8 +301,9 @@ pub fn address_family(
     view.store.address_family(place)
 }
 
-/// Releases the receiving half of a connection, the sending half, or both in that order (`shutdown`). Before the streams were
-/// made: `InvalidState`. The sending half goes once a write in progress has ended.
+/// Releases the receiving half of a connection, the sending half, or both in that order
+/// (`shutdown`). Before its streams were made: `InvalidState`. While a write is in progress the
+/// sending half is released after it.
 pub fn shutdown<W: World>(
     view: &mut WasiSocketsCtxView<'_>,
     world: &mut W,

@@ -1,5 +1,6 @@
-//! The calls of UDP sockets and of their datagram streams (`wasi:sockets/udp` and `udp-create-socket`). Handles are tested first:
-//! one that isn't live or is of another kind is a trap, `NoSuchHandle`.
+//! The calls of UDP sockets and of their datagram streams (`wasi:sockets/udp` and
+//! `udp-create-socket`). Each tests its handles first: one that isn't live, or is of another kind,
+//! is the trap `NoSuchHandle`.
 
 ghost use Rattle.std.specs.Prelude.{◌≡◌, ◌+◌, ◌<◌, ◌≤◌, ◌^◌, IfOk, Ok, false};
 ghost use Rattle.wasi_world.specs.Asks.{AsksFor};
@@ -19,8 +20,9 @@ use wasi_common::Setting;
 use wasi_host::{WasiSocketsCtxView, handles};
 use wasi_world::{Answer, Handle, Ids, IncomingDatagrams, Opt, OutgoingDatagram, World};
 
-/// Makes a UDP socket of this family (`create-udp-socket`). Where the context forbids UDP: `AccessDenied`, and nothing is asked.
-/// While its network socket is waited for, the call is pending.
+/// Creates a UDP socket of this family (`create-udp-socket`). A context that may not use UDP:
+/// `AccessDenied`, and nothing is asked. The call is pending until the network socket can send.
+/// Takes memory for its record and its handle.
 pub fn create_udp_socket<W: World>(
     view: &mut WasiSocketsCtxView<'_>,
     world: &mut W,
@@ -38,8 +40,9 @@ pub fn create_udp_socket<W: World>(
         .create_udp_socket(view.table, world, *ids, view.ctx, family)
 }
 
-/// Begins to bind a socket to an address (`start-bind`). The handle of the network is tested first. With any operation in
-/// progress: `ConcurrencyConflict`. The bind is in progress once it is done; while its check is pending, so is the call.
+/// Begins to bind a socket to an address (`start-bind`). The handle of the network is tested first.
+/// An operation in progress: `ConcurrencyConflict`. While its check is pending, so is the call;
+/// then the bind is in progress until [`finish_bind`].
 pub fn start_bind<W: World>(
     view: &mut WasiSocketsCtxView<'_>,
     world: &mut W,
@@ -60,7 +63,7 @@ pub fn start_bind<W: World>(
     view.store.start_udp_bind(world, *ids, place, addr)
 }
 
-/// Ends a bind in progress (`finish-bind`). None is: `NotInProgress`. Asks nothing.
+/// Ends a bind in progress (`finish-bind`). None in progress: `NotInProgress`. Asks nothing.
 pub fn finish_bind(view: &mut WasiSocketsCtxView<'_>, this: Handle) -> Result<(), SocketError>
     ensures answer { host_outcome result ≡ Ok (finish_udp_bind_on (state_of view.old) (udp_socket_at (state_of view.old) this)).0 }
     ensures state { state_of view.new ≡ (finish_udp_bind_on (state_of view.old) (udp_socket_at (state_of view.old) this)).1 }
@@ -71,7 +74,8 @@ pub fn finish_bind(view: &mut WasiSocketsCtxView<'_>, this: Handle) -> Result<()
     view.store.finish_udp_bind(place)
 }
 
-/// The local address of a socket (`local-address`). Not bound: `InvalidState`. A code that is reported is returned.
+/// The local address of a socket (`local-address`). Not bound: `InvalidState`. A code that the
+/// network reports is returned.
 pub fn local_address<W: World>(
     view: &mut WasiSocketsCtxView<'_>,
     world: &mut W,
@@ -89,7 +93,7 @@ pub fn local_address<W: World>(
     view.store.udp_local_address(world, ids.own(), place)
 }
 
-/// The remote address of a socket that has one (`remote-address`); else `InvalidState`. Asks nothing.
+/// The remote address of a socket (`remote-address`). None: `InvalidState`. Asks nothing.
 pub fn remote_address(
     view: &WasiSocketsCtxView<'_>,
     this: Handle,
@@ -111,9 +115,12 @@ pub fn address_family(
     view.store.udp_address_family(place)
 }
 
-/// Makes the datagram streams of a socket, its incoming and its outgoing one (`stream`). While one of them is live:
-/// `Trap(StreamsAlive)`. It isn't bound: `InvalidState`. With an address it is connected to it first, and datagrams come from there
-/// alone; while that is pending, so is the call. Without one it is disconnected, where it was connected.
+/// Makes the datagram streams of a socket, its incoming and its outgoing one (`stream`).
+///
+/// - While one of them is live: `Trap(StreamsAlive)`. Not bound: `InvalidState`.
+/// - With an address the socket is connected to it first, and datagrams come from there alone;
+///   while the connect is pending, so is the call.
+/// - Without one a connected socket is disconnected.
 pub fn stream<W: World>(
     view: &mut WasiSocketsCtxView<'_>,
     world: &mut W,
@@ -133,8 +140,8 @@ pub fn stream<W: World>(
         .make_streams(view.table, world, *ids, this, remote, place)
 }
 
-/// How many datagrams the next `send` may have (`outgoing-datagram-stream.check-send`): 16, or none while the last one isn't sent
-/// yet. Asks nothing.
+/// How many datagrams the next [`send`] may have (`outgoing-datagram-stream.check-send`): 16, or
+/// none while the last one isn't sent yet. Asks nothing.
 pub fn check_send(view: &mut WasiSocketsCtxView<'_>, this: Handle) -> Result<u64, SocketError>
     ensures answer { host_outcome result ≡ Ok (check_send_on (state_of view.old) (outgoing_at (state_of view.old) this)).0 }
     ensures state { state_of view.new ≡ (check_send_on (state_of view.old) (outgoing_at (state_of view.old) this)).1 }
@@ -145,10 +152,15 @@ pub fn check_send(view: &mut WasiSocketsCtxView<'_>, this: Handle) -> Result<u64
     view.store.check_send(place)
 }
 
-/// Sends datagrams in turn, and says how many were sent (`outgoing-datagram-stream.send`). An empty list sends none, and the permit
-/// stays; with more than the permit: `Trap(NotPermitted)`; else the permit is used up. A datagram that isn't sent at once is sent in
-/// the background, counts as sent, and ends the list. One that is refused ends it too: its code is answered where none was sent
-/// before it. The code of one that failed in the background is answered in place of the first.
+/// Sends datagrams one after another, and returns how many were sent
+/// (`outgoing-datagram-stream.send`).
+///
+/// - An empty list sends none, and the permit stays. More than the permit: `Trap(NotPermitted)`.
+///   Else the permit is used up.
+/// - A datagram that isn't sent at once is sent in the background, counts as sent, and ends the
+///   list.
+/// - One that is refused ends the list; its code is returned where none was sent before it.
+/// - The code of one that failed in the background is returned in place of the first.
 pub fn send<W: World>(
     view: &mut WasiSocketsCtxView<'_>,
     world: &mut W,
@@ -168,9 +180,11 @@ pub fn send<W: World>(
     view.store.send_datagrams(world, ids, place, items)
 }
 
-/// Takes the datagrams that have come, at most so many (`incoming-datagram-stream.receive`), and at most 16, until their lengths with
-/// one more each reach 65,536. One that hasn't come yet ends the list, and is received in the background. A code is answered where no
-/// datagram stands before it, and else is dropped.
+/// Takes the datagrams that have come (`incoming-datagram-stream.receive`): at most this many, at
+/// most 16, and until their lengths, with one more for each, reach 65,536.
+///
+/// - One that hasn't come yet ends the list, and is received in the background.
+/// - A code ends the list, too: it is returned where no datagram comes before it, and dropped else.
 pub fn receive<W: World>(
     alloc: Global,
     view: &mut WasiSocketsCtxView<'_>,
@@ -192,8 +206,12 @@ pub fn receive<W: World>(
         .receive_datagrams(alloc, world, ids, place, max_results)
 }
 
-/// The value of an option: the hop limit, or a size in bytes. The getters below are this call of their option. A code that is
-/// reported is returned. A reported size is halved, and a reported value above the option's `largest_value` is `NotSupported`.
+/// Reads an option: the hop limit, or a size in bytes. The getters below are this call with their
+/// option.
+///
+/// - A code that the network reports is returned.
+/// - A reported size is halved.
+/// - A reported value above the option's `largest_value` is `NotSupported`.
 pub fn get_option<W: World>(
     view: &mut WasiSocketsCtxView<'_>,
     world: &mut W,
@@ -213,8 +231,11 @@ pub fn get_option<W: World>(
     view.store.get_udp_option(world, ids.own(), place, option)
 }
 
-/// Sets an option. The setters below are this call of their setting. A code that is reported is returned. 0: `InvalidArgument`.
-/// Sizes are brought into their range first.
+/// Sets an option. The setters below are this call with their setting.
+///
+/// - 0 is `InvalidArgument`, and nothing is asked.
+/// - Sizes are brought into their range first.
+/// - A code that the network reports is returned.
 pub fn set_option<W: World>(
     view: &mut WasiSocketsCtxView<'_>,
     world: &mut W,
@@ -233,7 +254,8 @@ pub fn set_option<W: World>(
     view.store.set_udp_option(world, ids.own(), place, setting)
 }
 
-/// How many hops a packet lives (`unicast-hop-limit`).
+/// How many hops a datagram lives (`unicast-hop-limit`). A number above 255 that is reported:
+/// `NotSupported`.
 pub fn unicast_hop_limit<W: World>(
     view: &mut WasiSocketsCtxView<'_>,
     world: &mut W,
@@ -251,7 +273,7 @@ pub fn unicast_hop_limit<W: World>(
     Ok(value as u8)
 }
 
-/// Sets it (`set-unicast-hop-limit`). 0: `InvalidArgument`.
+/// Sets how many hops a datagram lives (`set-unicast-hop-limit`). 0: `InvalidArgument`.
 pub fn set_unicast_hop_limit<W: World>(
     view: &mut WasiSocketsCtxView<'_>,
     world: &mut W,
@@ -269,7 +291,8 @@ pub fn set_unicast_hop_limit<W: World>(
     set_option(view, world, ids, this, Setting::HopLimit(value))
 }
 
-/// The size of the buffer for what comes in, in bytes (`receive-buffer-size`).
+/// The size of the buffer for what comes in, in bytes (`receive-buffer-size`): half of what is
+/// reported.
 pub fn receive_buffer_size<W: World>(
     view: &mut WasiSocketsCtxView<'_>,
     world: &mut W,
@@ -286,7 +309,8 @@ pub fn receive_buffer_size<W: World>(
     get_option(view, world, ids, this, Opt::ReceiveBufferSize)
 }
 
-/// Sets it (`set-receive-buffer-size`). 0: `InvalidArgument`.
+/// Sets the size of the buffer for what comes in, in bytes (`set-receive-buffer-size`): brought
+/// into 1 to 2,147,483,647. 0: `InvalidArgument`.
 pub fn set_receive_buffer_size<W: World>(
     view: &mut WasiSocketsCtxView<'_>,
     world: &mut W,
@@ -304,7 +328,8 @@ pub fn set_receive_buffer_size<W: World>(
     set_option(view, world, ids, this, Setting::ReceiveBufferSize(value))
 }
 
-/// The size of the buffer for what goes out, in bytes (`send-buffer-size`).
+/// The size of the buffer for what goes out, in bytes (`send-buffer-size`): half of what is
+/// reported.
 pub fn send_buffer_size<W: World>(
     view: &mut WasiSocketsCtxView<'_>,
     world: &mut W,
@@ -321,7 +346,8 @@ pub fn send_buffer_size<W: World>(
     get_option(view, world, ids, this, Opt::SendBufferSize)
 }
 
-/// Sets it (`set-send-buffer-size`). 0: `InvalidArgument`.
+/// Sets the size of the buffer for what goes out, in bytes (`set-send-buffer-size`): brought into 1
+/// to 2,147,483,647. 0: `InvalidArgument`.
 pub fn set_send_buffer_size<W: World>(
     view: &mut WasiSocketsCtxView<'_>,
     world: &mut W,

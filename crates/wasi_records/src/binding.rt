@@ -1,4 +1,4 @@
-//! What a socket is in the middle of, and how it is bound.
+//! Which operation a socket has in progress, and how it is bound.
 
 ghost use Rattle.std.specs.Prelude.{◌≡◌, false, Ok, OnErr, true};
 ghost use Rattle.wasi_world.specs.Asks.{AsksFor, Reaches, outcome};

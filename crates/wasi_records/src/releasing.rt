@@ -1,4 +1,4 @@
-//! What a socket releases when it goes.
+//! What a TCP socket releases when it is dropped.
 
 ghost use Rattle.std.specs.Prelude.{◌≡◌, not, OnOk, OnErr, false, None};
 ghost use Rattle.wasi_world.specs.Asks.{AsksFor};

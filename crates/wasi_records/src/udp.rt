@@ -1,4 +1,5 @@
-//! A UDP socket as a guest of the 0.2 interface has it: how it is made, what it is in the middle of, and how it ends.
+//! A UDP socket as a guest of the 0.2 interface has it: how it is created, which operation it has
+//! in progress, and how it is closed.
 
 ghost use Rattle.std.specs.Prelude.{◌≡◌, true, false, option_map, Some, IfOk, OnErr};
 ghost use Rattle.std.specs.Borrow.{LendsIf, sem};

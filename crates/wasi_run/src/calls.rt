@@ -24,14 +24,15 @@ use wasi_streams::Fault;
 use wasi_table::Table;
 use wasi_world::{Handle, Ids, Opt, WasiSocketsCtx, World};
 
-/// Whether the step is a guest call, and a call is pending.
+/// Whether the step is a call of a guest while another call is pending.
 fn is_held_up(store: &Store, step: &Step) -> bool
     ensures { result ≡ (is_some store.now.standing && is_guest_call step.now) }
 {
     store.exclusive().is_some() && step.context().is_some()
 }
 
-/// Does one step, which is the line of this number. While a call is pending every guest call is busy.
+/// Does one step, the line with this number, and returns its reply. While a call is pending every
+/// other guest call answers `busy`. Takes memory for the reply.
 pub fn do_step<W: World>(
     alloc: Global,
     machine: &mut Machine,
@@ -380,7 +381,7 @@ fn socket_result<T: Drop>(done: Result<T, Fault>) -> Result<T, SocketError>
     Ok(done?)
 }
 
-/// What a call that never gives a code tells.
+/// The result of a call that never has a code to give, with that in its type.
 fn without_code(told: Result<Option<p2::ErrorCode>, SocketError>) -> Result<NoCode, SocketError>
     ensures { host_outcome result ≡ result_map_both without_code (λ e. e) (host_outcome told) }
 {
@@ -450,7 +451,7 @@ fn set_udp<W: World>(
     }
 }
 
-/// The context of this number; one that isn't there is allowed nothing.
+/// The context with this number; one that isn't there is allowed nothing.
 fn context_at(contexts: &[WasiSocketsCtx], context: u32) -> WasiSocketsCtx
     ensures { result ≡ context_at contexts.now context }
 {
@@ -460,7 +461,7 @@ fn context_at(contexts: &[WasiSocketsCtx], context: u32) -> WasiSocketsCtx
     }
 }
 
-/// The context of a guest call; a step that is none has one that is allowed nothing.
+/// The context of a guest call; a step that no guest makes has one that is allowed nothing.
 fn context_for(contexts: &[WasiSocketsCtx], context: Option<u32>) -> WasiSocketsCtx
     ensures { result ≡ context_for contexts.now context }
 {

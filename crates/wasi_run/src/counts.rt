@@ -22,16 +22,16 @@ const FREE: WasiSocketsCtx = WasiSocketsCtx {
     tcp: true,
 };
 
-/// What a run came to. It prints as the program's line.
+/// What a run did, in numbers. It prints as the line that a program shows.
 #[derive(Clone, Copy, Debug, PartialEq, Eq)]
 pub struct Counts {
-    /// Lines of the script.
+    /// How many lines the script has.
     pub lines: u64,
-    /// Lines that were written as replies.
+    /// How many lines of replies were written.
     pub replies: u64,
-    /// Entries of the log.
+    /// How many entries the log has.
     pub entries: u64,
-    /// Bytes that answers to writes took. The count stays at its greatest value.
+    /// How many bytes writes took, up to the greatest `u64`.
     pub bytes: u64,
 }
 
@@ -80,8 +80,8 @@ fn no_memory(error: RunError) -> AllocError
     }
 }
 
-/// Runs the script that is generated from the seed, of so many lines, and counts what it came to. Takes memory for the
-/// script, its replies and its log.
+/// Runs the script of this many lines that is generated from the seed, over the empty scenario, and
+/// counts what it did. Takes memory for the script, its replies and its log.
 pub fn run_generated(alloc: Global, seed: u64, steps: u32) -> Result<Counts, AllocError>
     ensures { IfOk result (λ counts. CountsRun seed steps counts) }
 {
@@ -113,7 +113,7 @@ pub fn run_generated(alloc: Global, seed: u64, steps: u32) -> Result<Counts, All
 }
 
 impl Counts {
-    /// The line that reports them, with its newline. Takes memory for it.
+    /// The line that reports the counts, with its newline. Takes memory for it.
     pub fn summary(&self, alloc: Global) -> Result<String, AllocError>
         ensures { IfOk result (λ text. string_bytes text ≡ summary self.now) }
     {

@@ -3,22 +3,23 @@
 use std::alloc::AllocError;
 use thiserror::Error;
 
-/// Why a script was left. The whole lines before were done and answered.
+/// Why a script was left. The whole lines before that were done and answered.
 #[derive(Clone, Copy, Debug, PartialEq, Eq, Error)]
 pub enum RunError {
-    /// The step that it met has no reply.
+    /// Memory ran out; the step at which it did has no reply.
     #[error("memory ran out")]
     Memory,
-    /// That line, counted from 1, isn't a step or names no context, or the input ended inside it.
+    /// The line with this number, counted from 1, isn't a step or names no context, or the input
+    /// ended inside it.
     #[error("line {0} is not a step")]
     BadStep(u32),
-    /// The reader gave a byte past the limit.
+    /// The script is longer than its limit.
     #[error("the script is longer than its limit")]
     TooLong,
     /// The reader counted a fault.
     #[error("a read failed")]
     ReadFault,
-    /// The writer counted a fault or a refused piece; the last reply may be cut.
+    /// The writer counted a fault, or refused a piece; the last reply may be cut.
     #[error("a write failed")]
     WriteFault,
 }

@@ -31,7 +31,7 @@ fn number_at(x: u64, place: u32) -> u64
     if place == 0 { next_drawn(x) } else { x }
 }
 
-/// The port that a number stands for, at least 1.
+/// The port that a number stands for, 1 or more.
 fn port_of(x: u64) -> u16
     ensures { result ≡ port_of x }
 {
@@ -73,7 +73,7 @@ fn push_write(text: &mut String, socket: u32, x: u64) -> Result<(), AllocError>
     text.push_str("\n")
 }
 
-/// The line at this place of a block.
+/// Appends the line at this place of a block.
 fn push_line(text: &mut String, socket: u32, x: u64, place: u32) -> Result<(), AllocError>
     requires room { socket + 2 < 2 ^ 32 }
     requires within { place < 9 }
@@ -93,9 +93,11 @@ fn push_line(text: &mut String, socket: u32, x: u64, place: u32) -> Result<(), A
     }
 }
 
-/// So many lines of guest calls. The first makes a network. Each nine that follow are a block, which makes a socket,
-/// connects it to a port of 127.0.0.1, writes up to 64 bytes to it and drops all that it made; the last block is cut
-/// where the lines are used up. Port and bytes are drawn from the seed. Takes memory for the text.
+/// A script of this many lines of guest calls, drawn from a seed. Takes memory for its text.
+///
+/// The first line makes a network. Each nine that follow are a block: it makes a socket, connects
+/// it to a port of 127.0.0.1, writes up to 64 bytes to it, and drops all that it made. The last
+/// block is cut where the lines are used up.
 pub fn generate(alloc: Global, seed: u64, steps: u32) -> Result<Vec<u8>, AllocError>
     ensures drawn { IfOk result (λ text. text.items ≡ generated seed steps) }
     // Each line is a step of context 0, and there are so many.

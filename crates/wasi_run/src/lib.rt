@@ -1,5 +1,5 @@
-//! Does steps, and the lines of a script: each by its call of the host, and with its reply. Runs a script of guest calls over
-//! one table of handles, and writes one reply per line.
+//! Runs a script of guest calls over one table of handles. Each line is a step; it is done by its
+//! call of the host, and answered by one line.
 #![tactic(auto)]
 
 mod calls;

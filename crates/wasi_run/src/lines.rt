@@ -15,15 +15,17 @@ use world_text::lines::newline_at;
 use wasi_world::{WasiSocketsCtx, World};
 use world_io::{Failed, Sink};
 
-/// How lines ended that were done.
+/// How a piece of a script ended.
 #[derive(Clone, Copy, Debug, PartialEq, Eq)]
 pub enum LinesEnd {
+    /// All its whole lines were done.
     AllDone,
+    /// A line trapped; the lines after it weren't done.
     Trapped,
 }
 
-/// Writes all the bytes, in as many pieces as it takes. It fails where the writer counts a fault or takes nothing of a piece.
-/// Takes no memory.
+/// Writes all the bytes, in as many pieces as it takes. `Failed`: the writer counted a fault, or
+/// took nothing of a piece. Takes no memory.
 pub fn write_all<K: Sink>(writer: &mut K, bytes: &[u8]) -> Result<(), Failed>
     ensures all { OnOk result (TookAll (K.writing writer.old) (K.writing writer.new) bytes.now) }
     ensures front { OnErr result (TookFront (K.writing writer.old) (K.writing writer.new) bytes.now) }
@@ -69,7 +71,7 @@ fn do_line<W: World, K: Sink>(
     Ok(LinesEnd::AllDone)
 }
 
-/// Does the whole lines from a place in the bytes on, and moves the place behind them.
+/// Does the whole lines from a place in the bytes on, and moves the place past them.
 fn do_lines<W: World, K: Sink>(
     alloc: Global,
     session: &mut Session,
@@ -97,7 +99,8 @@ fn do_lines<W: World, K: Sink>(
     Ok(LinesEnd::AllDone)
 }
 
-/// Does the lines that end in the piece, the first of which began before it, and keeps the unfinished one.
+/// Does the lines that end in the piece, the first of which may begin before it, and keeps the
+/// unfinished one.
 pub fn do_piece<W: World, K: Sink>(
     alloc: Global,
     session: &mut Session,

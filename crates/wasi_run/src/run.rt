@@ -21,9 +21,9 @@ const PIECE_SIZE: usize = 4096;
 /// How a script ended.
 #[derive(Clone, Copy, Debug, PartialEq, Eq)]
 pub enum RunEnd {
-    /// The reader gave its end after the last whole line.
+    /// The reader ended after the last whole line.
     AllRead,
-    /// The last reply is a trap.
+    /// A step trapped, which is the last reply.
     Trapped,
 }
 
@@ -80,9 +80,12 @@ fn run_lines<W: World, S: Source, K: Sink>(
 
 /// Runs the script that the reader gives, and writes one reply per line.
 ///
-/// Lines are done in order, each as soon as it is whole, and its reply is written before the next is done. A trap's reply
-/// ends the run. The writer isn't flushed. At every return the end mark is set, and the open network sockets are closed.
-/// Takes memory for the line that isn't whole yet, besides what the steps take.
+/// - Lines are done in order, each as soon as it is whole, and its reply is written before the next
+///   one is done.
+/// - A trap ends the run after its reply.
+/// - At every return the end mark is set and the open network sockets are closed. The writer isn't
+///   flushed.
+/// - Takes memory for the line that isn't whole yet, beside what the steps take.
 pub fn run_script<W: World, S: Source, K: Sink>(
     alloc: Global,
     world: &mut W,

@@ -1,4 +1,4 @@
-//! A run, step by step: what an embedder makes a guest's calls by, one after another.
+//! A run, step by step: an embedder makes a guest's calls through a [`Session`], one after another.
 
 ghost use Rattle.std.specs.Prelude.{◌≡◌, ◌+◌, ◌<◌, ◌^◌, false, true};
 ghost use Rattle.wasi_world.specs.Asks.{AsksFor};
@@ -23,7 +23,7 @@ pub struct Session {
 }
 
 impl Session {
-    /// No handle and no step yet. Takes no memory.
+    /// A session with no handle, before its first step. Takes no memory.
     pub fn new(alloc: Global) -> Session
         ensures machine { result.machine ≡ first_state }
         ensures lines { result.lines ≡ 0 }
@@ -34,8 +34,11 @@ impl Session {
         }
     }
 
-    /// Does a step, which is the next line. After a trap, and where memory ran out, no further step is meant to be done,
-    /// but for `finish`. Takes memory for what the step makes and for its reply.
+    /// Does a step, which is the next line, and returns its reply. Takes memory for what the step
+    /// makes and for its reply.
+    ///
+    /// After a trap, or out of memory, no more steps should be done, but
+    /// [`finish`](Session::finish) should.
     pub fn step<W: World>(
         &mut self,
         alloc: Global,
@@ -53,7 +56,8 @@ impl Session {
         do_step(alloc, &mut self.machine, world, contexts, self.lines, step)
     }
 
-    /// Sets the end mark, and then closes each socket that was made and not closed. Takes no memory.
+    /// Ends the run: sets the end mark, and then closes each network socket that is open. Takes no
+    /// memory.
     pub fn finish<W: World>(self, world: &mut W)
         requires { (W.seen world.old).ended ≡ false }
         ensures quiet { AsksNothing (W.seen world.old) (W.seen world.new) }

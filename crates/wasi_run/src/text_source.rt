@@ -5,7 +5,7 @@ ghost use Rattle.world_io.specs.Memory.{ended_after};
 
 use world_io::{Failed, Source};
 
-/// A text that is read from its start to its end. No read fails.
+/// A text as a source, which is read from its start to its end. No read fails.
 #[derive(Drop)]
 pub struct TextSource {
     text: Vec<u8>,
@@ -14,7 +14,8 @@ pub struct TextSource {
     ghost within: { given ≤ length text.items },
 }
 
-/// Whether the end was given, after a read into a buffer of this size gave so many bytes.
+/// Whether the source has given its end, after a read into a buffer of this size gave this many
+/// bytes.
 fn ended_after(ended: bool, count: usize, size: usize) -> bool
     ensures { result ≡ ended_after ended count size }
 {
@@ -25,6 +26,7 @@ impl TextSource {
     ghost use Rattle.wasi_run.specs.Counted.{unread};
     ghost use Rattle.wasi_run.specs.TextStreams.{reading_of};
 
+    /// A source of this text, from its start. Takes no memory.
     pub fn new(text: Vec<u8>) -> TextSource
         ensures { reading_of result ≡ unread text.items }
     {
@@ -47,7 +49,7 @@ impl Source for TextSource {
 
     ghost reading = { reading_of };
 
-    /// Gives as much as the buffer has room for.
+    /// Gives as many bytes as are left and fit into the buffer.
     fn read(&mut self, buf: &mut [u8]) -> Result<usize, Failed> {
         let size = buf.len();
         let left = self.left();

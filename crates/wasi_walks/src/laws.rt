@@ -1,4 +1,4 @@
-//! Laws of the licence: each is a function that does nothing, whose contract is the law.
+//! Laws of the licence. Each is a function that does nothing, whose contract is the law.
 
 ghost use Rattle.std.specs.Prelude.{◌≡◌, ℕ, ◌+◌, List, [], ◌++◌};
 ghost use Rattle.wasi_addr.specs.declared.address.SocketAddressFamily.{SocketAddressFamily};
@@ -14,8 +14,10 @@ ghost use Rattle.wasi_walks.specs.Received.{HandsOutInOrder};
 ghost use Rattle.wasi_host.specs.Machine.{first_state};
 ghost use Rattle.wasi_machine.specs.Machine.{run, HasRun};
 
-/// The log of a run is licensed for its contexts and steps, whatever is answered, and at every point of the run; and so it is
-/// with the replies that were given by then.
+/// The log of every run is licensed for its contexts and steps, whatever the network answers.
+///
+/// - `begun`: at every point of the run.
+/// - `answered`: together with the replies that were given so far.
 pub fn runs_are_licensed()
     ensures begun { (contexts : List WasiSocketsCtx) (steps : List Step) (log : List Entry) (rest : Asks (List Reply × Machine))
         → Left (run contexts [] first_state 1 steps) log rest → IsLicensed contexts steps log [] }
@@ -23,31 +25,31 @@ pub fn runs_are_licensed()
         → HasRun contexts steps log replies → IsLicensed contexts steps log replies }
 {}
 
-/// A prefix of a licensed log is licensed, before a reply is given.
+/// A prefix of a licensed log is licensed without replies.
 pub fn beginnings_are_licensed()
     ensures { (contexts : List WasiSocketsCtx) (steps : List Step) (front back : List Entry) (replies : List Reply)
         → IsLicensed contexts steps (front ++ back) replies → IsLicensed contexts steps front [] }
 {}
 
-/// What is licensed with some replies is licensed with the first of them.
+/// A log that is licensed with some replies is licensed with any first ones of them.
 pub fn fewer_replies_are_licensed()
     ensures { (contexts : List WasiSocketsCtx) (steps : List Step) (log : List Entry) (replies more : List Reply)
         → IsLicensed contexts steps log (replies ++ more) → IsLicensed contexts steps log replies }
 {}
 
-/// What is licensed by the steps so far is licensed by a script that continues from them.
+/// A log that is licensed by the steps so far is licensed by every script that begins with them.
 pub fn longer_scripts_license()
     ensures { (contexts : List WasiSocketsCtx) (steps more : List Step) (log : List Entry) (replies : List Reply)
         → IsLicensed contexts steps log replies → IsLicensed contexts (steps ++ more) log replies }
 {}
 
-/// In a licensed log a handle has one network socket.
+/// In a licensed log a handle belongs to at most one network socket.
 pub fn handles_have_one_side()
     ensures { (contexts : List WasiSocketsCtx) (steps : List Step) (log : List Entry) (replies : List Reply) (handle : ℕ) (side other : OpId)
         → IsLicensed contexts steps log replies → IsSide log handle side → IsSide log handle other → side ≡ other }
 {}
 
-/// In a licensed log a network socket has one creator and one family.
+/// In a licensed log a network socket has one creator, a context, and one family.
 pub fn sides_have_one_maker()
     ensures { (contexts : List WasiSocketsCtx) (steps : List Step) (log : List Entry) (replies : List Reply) (side : OpId)
         (ctx other : ℕ) (family its : SocketAddressFamily)
@@ -55,10 +57,13 @@ pub fn sides_have_one_maker()
         → (ctx ≡ other) × (family ≡ its) }
 {}
 
-/// What the replies of a run to the receives on a network socket's streams hand out was received on it in this order, and none of it
-/// is handed out twice: each datagram has its own place in the log, where it was received, and its own yes about its sender, which the
-/// same operation was answered after that and before the place of the next. Each was received after the handle of the stream was
-/// marked.
+/// The replies of a run hand out the datagrams of a network socket in the order in which they were
+/// received, and none twice.
+///
+/// - Each has its own place in the log, where it was received, after the handle of its stream was
+///   logged.
+/// - Each has its own yes about its sender: the operation that received it was answered yes after
+///   that place, and before the place of the next.
 pub fn datagrams_are_handed_out_in_order()
     ensures { (contexts : List WasiSocketsCtx) (steps : List Step) (log : List Entry) (replies : List Reply) (side : OpId)
         → HasRun contexts steps log replies → HandsOutInOrder log side steps replies }

@@ -1,5 +1,5 @@
-//! That each step is made of moves, and what rests on that: which record a network socket is the business of, and the licence
-//! of a run's log.
+//! The proof that each step is made of moves, and two things that rest on it: which record holds
+//! each network socket, and the licence of a run's log.
 #![tactic(auto)]
 
 pub mod laws;
