@@ -253,7 +253,8 @@ pub fn write_zeroes<W: World>(
 
 /// Reads from an input what an output permits, at most `len` bytes, and writes them there; returns
 /// how many they were (`output-stream.splice`). 0: there is nothing to read yet, no permit, or
-/// `len` is 0. An error is that of the stream whose call failed.
+/// `len` is 0. An error is that of the stream whose call failed; where the write fails, what was read is
+/// lost.
 pub fn splice<W: World>(
     alloc: Global,
     view: &mut WasiSocketsCtxView<'_>,

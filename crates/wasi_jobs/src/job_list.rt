@@ -115,7 +115,7 @@ impl JobList {
         Ok(())
     }
 
-    /// Takes the last job out, if there is one. Takes no memory.
+    /// Takes the last job out, if there is one; its number isn't given again. Takes no memory.
     pub fn withdraw(&mut self)
         ensures { (jobs : List HostJob) (job : HostJob) → self.old.items ≡ jobs ++ job ∷ [] → self.new.items ≡ jobs }
     {

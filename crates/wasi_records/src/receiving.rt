@@ -204,7 +204,8 @@ impl OpenUdp {
 
     /// Takes datagrams from the incoming stream (`incoming-datagram-stream.receive`): at most this
     /// many, at most 16, and until their lengths, with one more for each, reach 65,536. A code is
-    /// returned where no datagram comes before it.
+    /// returned where no datagram comes before it. Takes memory for as many datagrams as it may hand
+    /// out, before the first.
     pub fn receive_datagrams<W: World>(
         &mut self,
         alloc: Global,

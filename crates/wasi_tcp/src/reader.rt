@@ -39,7 +39,8 @@ impl ReadState {
 
     /// Reads at most `size` bytes, and at most 65536. No bytes: there is nothing yet, or `size` is 0, where nothing is
     /// asked. At the end, and after a code, the half is released, and the answer is `Closed` or that the last operation
-    /// failed. Released before: `Closed`. After running out of memory the state is as it was.
+    /// failed. Released before: `Closed`. After running out of memory the state is as it was; so where it ran out at the shutdown
+    /// after an end or a code, the next read asks the network again.
     pub fn read<W: World>(
         &mut self,
         alloc: Global,

@@ -5,7 +5,7 @@
 pub struct Failed;
 
 /// Gives bytes. What is known of it is its ghost `reading`: the bytes left, where it reports them, whether it gave its end,
-/// and its count of faults, which never falls.
+/// and its count of faults, which never falls. Once it gave its end that stays known, even if it gives more later.
 pub trait Source {
     ghost use Rattle.std.specs.Prelude.{length};
     ghost use Rattle.world_io.specs.Io.{Reading, HasRead};

@@ -87,7 +87,7 @@ pub struct FileSource<F> {
 }
 
 impl<F> FileSource<F> {
-    /// Opens the file at the path; that it can't be opened shows at the first read.
+    /// Opens the file at the path; that it can't be opened shows at the first read. No clause speaks of the path.
     pub fn open<R: Files<File = F>>(rt: &R, path: &str) -> FileSource<F>
         ensures { reading_of_file result ≡ record { left = None; ended = false; faults = 0 } }
     {
