@@ -1,7 +1,9 @@
 //! A guest that gives its views, the names of a line, and a network.
 
-ghost use Rattle.std.specs.Prelude.{◌≡◌, IfOk, false};
-ghost use Rattle.wasi_world.specs.Scripted.{seen_by};
+ghost use Rattle.std.specs.Prelude.{◌≡◌, IfOk, List, Ok, false};
+ghost use Rattle.wasi_world.specs.Scenario.{scenario_of};
+ghost use Rattle.wasi_world.specs.declared.outcome.WasiSocketsCtx.{WasiSocketsCtx};
+ghost use Rattle.wasi_world.specs.Scripted.{seen_by, started};
 
 use std::alloc::Global;
 use std::test::Fail;
@@ -94,7 +96,8 @@ pub fn line(number: u32) -> Ids {
 
 /// The network of this scenario.
 pub fn world(alloc: Global, scenario: &str) -> Result<ScriptedWorld, Fail>
-    ensures { IfOk result (λ world. (seen_by world).ended ≡ false) }
+    ensures planned { IfOk result (λ world. (contexts : List WasiSocketsCtx) × (started (scenario_of scenario.now) ≡ Ok (seen_by world, contexts))) }
+    ensures open { IfOk result (λ world. (seen_by world).ended ≡ false) }
 {
     let (world, _) = ScriptedWorld::parse(alloc, scenario.as_bytes())?;
     Ok(world)

@@ -40,16 +40,20 @@ fn made(table: &mut Table<u32>, call: Call) -> Result<u32, TableError> {
     match call {
         Call::Push(value) => table.push(value),
         Call::PushChild(value, parent) => table.push_child(value, parent),
-        Call::Get(handle) => table.get(handle).copied(),
+        Call::Get(handle) => {
+            let value = table.get(handle)?;
+            Ok(*value)
+        }
         Call::Rewrite(handle, value) => {
             let place = table.get_mut(handle)?;
             *place = value;
             Ok(value)
         }
         Call::Delete(handle) => table.delete(handle),
-        Call::HasChildren(handle, expected) => {
-            Ok(u32::from(has_children(table, handle, expected)?))
-        }
+        Call::HasChildren(handle, expected) => match has_children(table, handle, expected)? {
+            true => Ok(1),
+            false => Ok(0),
+        },
     }
 }
 
