@@ -1,40 +1,44 @@
-//! A guest that gives its view, the names of a line, and a network.
+//! A guest that gives its views, the names of a line, and a network.
 
-ghost use Rattle.std.specs.Prelude.{◌≡◌, IfOk, List, Ok, false, true};
-ghost use Rattle.wasi_host.specs.Store.{no_records};
-ghost use Rattle.wasi_table.specs.Table.{empty};
+ghost use Rattle.std.specs.Prelude.{◌≡◌, IfOk, List, Ok, false};
 ghost use Rattle.world_scripted.specs.Scenario.{scenario_of};
 ghost use Rattle.wasi_world.specs.declared.outcome.WasiSocketsCtx.{WasiSocketsCtx};
 ghost use Rattle.world_scripted.specs.Scripted.{seen_by, started};
 
 use std::alloc::Global;
 use std::test::Fail;
-use wasi_host::{Kind, Store, WasiSocketsCtxView, WasiSocketsView};
+use wasi_host::{Kind, NamedId, Store, WasiSocketsCtxView, WasiSocketsNamedView, WasiSocketsView};
 use wasi_table::Table;
 use wasi_world::{Ids, WasiSocketsCtx};
 use world_scripted::ScriptedWorld;
 
-/// A guest of one context, with a table and a store of its own.
+/// A guest of two contexts, which share a table and a store: one may use TCP and UDP, the other nothing.
 #[derive(Drop)]
 pub struct Guest {
-    pub ctx: WasiSocketsCtx,
-    pub table: Table<Kind>,
-    pub store: Store,
+    open: WasiSocketsCtx,
+    closed: WasiSocketsCtx,
+    table: Table<Kind>,
+    store: Store,
 }
 
 impl Guest {
-    /// Its context allows all three.
+    /// The open context is number 7, the closed one number 9.
     pub fn new(alloc: Global) -> Guest
-        ensures ctx { result.ctx ≡ record { name = 0; ip_name_lookup = true; udp = true; tcp = true } }
-        ensures table { result.table ≡ empty }
-        ensures store { result.store ≡ no_records }
+        ensures open { result.open.name ≡ 7 }
+        ensures closed { result.closed.name ≡ 9 }
     {
         Guest {
-            ctx: WasiSocketsCtx {
-                name: 0,
-                ip_name_lookup: true,
+            open: WasiSocketsCtx {
+                name: 7,
+                ip_name_lookup: false,
                 udp: true,
                 tcp: true,
+            },
+            closed: WasiSocketsCtx {
+                name: 9,
+                ip_name_lookup: false,
+                udp: false,
+                tcp: false,
             },
             table: Table::new(alloc),
             store: Store::new(alloc),
@@ -43,7 +47,7 @@ impl Guest {
 }
 
 impl WasiSocketsView for Guest {
-    ghost ctx = { λ guest. guest.ctx };
+    ghost ctx = { λ guest. guest.open };
 
     ghost table = { λ guest. guest.table };
 
@@ -51,7 +55,32 @@ impl WasiSocketsView for Guest {
 
     fn sockets(&mut self) -> WasiSocketsCtxView<'_> {
         WasiSocketsCtxView {
-            ctx: &mut self.ctx,
+            ctx: &mut self.open,
+            table: &mut self.table,
+            store: &mut self.store,
+        }
+    }
+}
+
+impl WasiSocketsNamedView for Guest {
+    ghost use Rattle.std.specs.Prelude.{[], ◌∷◌};
+
+    ghost ids = { λ guest. guest.open.name ∷ guest.closed.name ∷ [] };
+
+    ghost table = { λ guest. guest.table };
+
+    ghost store = { λ guest. guest.store };
+
+    fn sockets(&mut self, id: NamedId) -> WasiSocketsCtxView<'_> {
+        if self.open.name == id.0 {
+            return WasiSocketsCtxView {
+                ctx: &mut self.open,
+                table: &mut self.table,
+                store: &mut self.store,
+            };
+        }
+        WasiSocketsCtxView {
+            ctx: &mut self.closed,
             table: &mut self.table,
             store: &mut self.store,
         }
@@ -59,9 +88,7 @@ impl WasiSocketsView for Guest {
 }
 
 /// The names of a line.
-pub fn line(number: u32) -> Ids
-    ensures { result ≡ record { line = number; next_part = 1 } }
-{
+pub fn line(number: u32) -> Ids {
     Ids {
         line: number,
         next_part: 1,

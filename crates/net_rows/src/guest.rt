@@ -10,8 +10,8 @@ use std::test::Fail;
 use std::time::Clock;
 use wasi_addr::{IpSocketAddress, Ipv4SocketAddress, SocketAddrUse, SocketAddressFamily};
 use wasi_net::NetWorld;
-use world_text::fields::push_octets;
 use wasi_world::{Call, OpId, Sock, Told, World};
+use world_text::fields::push_octets;
 
 /// A network that has not ended.
 #[derive(Drop)]

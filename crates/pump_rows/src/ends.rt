@@ -1,10 +1,10 @@
-//! Pumps that end early, and a pump of many bytes.
+//! Pumps that end early, and pumps that move all bytes.
 
 use crate::same::same;
+use crate::threads::pumps;
 use std::alloc::{AllocError, Global};
 use std::test::*;
-use wasi_pump::{PumpError, pump};
-use wasi_spawn::ThreadSpawner;
+use wasi_pump::PumpError;
 use world_io::{MemorySink, MemorySource};
 
 /// Some bytes, in which no two neighbours are the same.
@@ -16,63 +16,82 @@ fn pattern(alloc: Global, len: usize) -> Result<Vec<u8>, AllocError> {
     Ok(bytes)
 }
 
-/// The call of the source and the call of the sink that fail, counted from 1, where 0 is none; the sink's room; and how a
-/// pump of 600 bytes ends, of which a read gives at most 20 and a write takes at most 30.
-const CASES: [(u32, u32, usize, Result<u64, PumpError>); 7] = [
-    (0, 0, 600, Ok(600)),
-    (1, 0, 600, Err(PumpError::SourceFault)),
-    (17, 0, 600, Err(PumpError::SourceFault)),
-    (31, 0, 600, Err(PumpError::SourceFault)),
-    (0, 1, 600, Err(PumpError::SinkFault)),
-    (0, 9, 600, Err(PumpError::SinkFault)),
-    (0, 0, 599, Err(PumpError::SinkFault)),
+const BUDGETS: &[usize] = &[1, 7, 1000];
+
+/// How many bytes the source has, how many a read of it gives at most, and how many a write of the sink takes at most; the call
+/// of the source and the call of the sink that fail, counted from 1, where 0 is none; the sink's room; the budgets; and how the
+/// pump ends.
+type Case = (
+    usize,
+    usize,
+    usize,
+    u32,
+    u32,
+    usize,
+    &'static [usize],
+    Result<u64, PumpError>,
+);
+
+const CASES: [Case; 8] = [
+    (600, 20, 30, 0, 0, 600, BUDGETS, Ok(600)),
+    (600, 20, 30, 1, 0, 600, BUDGETS, Err(PumpError::SourceFault)),
+    (
+        600,
+        20,
+        30,
+        17,
+        0,
+        600,
+        BUDGETS,
+        Err(PumpError::SourceFault),
+    ),
+    (
+        600,
+        20,
+        30,
+        31,
+        0,
+        600,
+        BUDGETS,
+        Err(PumpError::SourceFault),
+    ),
+    (600, 20, 30, 0, 1, 600, BUDGETS, Err(PumpError::SinkFault)),
+    (600, 20, 30, 0, 9, 600, BUDGETS, Err(PumpError::SinkFault)),
+    (600, 20, 30, 0, 0, 599, BUDGETS, Err(PumpError::SinkFault)),
+    (
+        1_000_000,
+        70_000,
+        50_000,
+        0,
+        0,
+        1_000_000,
+        &[65_536],
+        Ok(1_000_000),
+    ),
 ];
 
 #[test]
-fn a_pump_ends_by_its_faults(rt: HostRuntime) -> Result<(), Fail> {
+fn a_pump_moves_all_bytes_or_ends_by_its_faults(rt: HostRuntime) -> Result<(), Fail> {
     let alloc = rt.alloc();
-    let bytes = pattern(alloc, 600)?;
-    for (source_fails, sink_fails, room, outcome) in CASES {
-        for budget in [1usize, 7, 1000] {
-            let source = MemorySource::new(pattern(alloc, 600)?, 20, vec![in alloc; source_fails]?);
-            let sink = MemorySink::new(alloc, 30, room, vec![in alloc; sink_fails]?)?;
-            let pumped = pump(
-                &rt,
-                alloc,
-                &mut ThreadSpawner::new(),
-                &mut ThreadSpawner::new(),
-                source,
-                sink,
-                budget,
+    for (len, given, taken, source_fails, sink_fails, room, budgets, outcome) in CASES {
+        let bytes = pattern(alloc, len)?;
+        for budget in budgets {
+            let source = MemorySource::new(
+                pattern(alloc, len)?,
+                given.max(1),
+                vec![in alloc; source_fails]?,
             );
-            same(&rt, (budget, pumped.outcome), (budget, outcome));
+            let sink = MemorySink::new(alloc, taken.max(1), room, vec![in alloc; sink_fails]?)?;
+            let (pumped, _, _) = pumps(&rt, alloc, source, sink, *budget);
+            same(&rt, (*budget, pumped.outcome), (*budget, outcome));
+            let front = bytes.as_slice().starts_with(pumped.sink.bytes());
+            let whole = pumped.sink.bytes().len() == len && pumped.sink.is_flushed();
             same(
                 &rt,
-                (budget, bytes.as_slice().starts_with(pumped.sink.bytes())),
-                (budget, true),
+                (*budget, front, whole || outcome.is_err()),
+                (*budget, true, true),
             );
         }
     }
-    Ok(())
-}
-
-#[test]
-fn a_million_bytes_are_moved(rt: HostRuntime) -> Result<(), Fail> {
-    let alloc = rt.alloc();
-    let bytes = pattern(alloc, 1_000_000)?;
-    let source = MemorySource::new(pattern(alloc, 1_000_000)?, 70_000, Vec::new(alloc));
-    let sink = MemorySink::new(alloc, 50_000, 1_000_000, Vec::new(alloc))?;
-    let pumped = pump(
-        &rt,
-        alloc,
-        &mut ThreadSpawner::new(),
-        &mut ThreadSpawner::new(),
-        source,
-        sink,
-        65_536,
-    );
-    same(&rt, pumped.outcome, Ok(1_000_000));
-    same(&rt, pumped.sink.bytes() == bytes.as_slice(), true);
-    same(&rt, pumped.sink.is_flushed(), true);
     Ok(())
 }

@@ -3,13 +3,12 @@
 ghost use Rattle.world_io.specs.Io.{HasRead, HasWritten, HasFlushed};
 
 use crate::same::same;
+use crate::threads::pumps;
 use std::alloc::{AllocError, Global};
 use std::sync::Arc;
 use std::sync::atomic::{AtomicBool, Ordering};
 use std::test::*;
 use std::thread;
-use wasi_pump::pump;
-use wasi_spawn::ThreadSpawner;
 use world_io::{Failed, Sink, Source};
 
 /// How often one looks for the other.
@@ -134,11 +133,8 @@ fn gate_pump(rt: HostRuntime) -> Result<(), Fail> {
         bytes: 0,
         faults: 0,
     };
-    let (mut writers, mut readers) = (ThreadSpawner::new(), ThreadSpawner::new());
-    let pumped = pump(&rt, rt.alloc(), &mut writers, &mut readers, source, sink, 4);
+    let (pumped, writers, readers) = pumps(&rt, rt.alloc(), source, sink, 4);
     same(&rt, pumped.outcome, Ok(10));
-    same(&rt, pumped.sink.bytes, 10);
-    same(&rt, writers.starts(), 1);
-    same(&rt, readers.starts(), 1);
+    same(&rt, (pumped.sink.bytes, writers, readers), (10, 1, 1));
     Ok(())
 }

@@ -11,4 +11,6 @@ mod pipes;
 #[cfg(test)]
 mod same;
 #[cfg(test)]
+mod threads;
+#[cfg(test)]
 mod words;

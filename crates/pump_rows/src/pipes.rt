@@ -1,11 +1,10 @@
 //! Pipes in memory that several owners share.
 
 use crate::same::same;
+use crate::threads::pumps;
 use bytes::Bytes;
 use std::test::*;
 use wasi_locked::{MemoryInputPipe, MemoryOutputPipe};
-use wasi_pump::pump;
-use wasi_spawn::ThreadSpawner;
 use wasi_streams::StreamError;
 use wasi_world::TrapKind;
 use world_io::{Sink, Source};
@@ -100,15 +99,7 @@ fn a_pump_between_pipes(rt: HostRuntime) -> Result<(), Fail> {
         Bytes::copy_from_slice(rt.alloc(), bytes.as_slice())?,
     )?;
     let sink = MemoryOutputPipe::new(&rt, rt.alloc(), 100_000)?;
-    let pumped = pump(
-        &rt,
-        rt.alloc(),
-        &mut ThreadSpawner::new(),
-        &mut ThreadSpawner::new(),
-        source.share()?,
-        sink.share()?,
-        1000,
-    );
+    let (pumped, _, _) = pumps(&rt, rt.alloc(), source.share()?, sink.share()?, 1000);
     same(&rt, pumped.outcome, Ok(100_000));
     same(&rt, source.is_empty(), true);
     same(&rt, sink.contents()?.as_slice() == bytes.as_slice(), true);

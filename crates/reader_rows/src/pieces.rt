@@ -7,8 +7,10 @@ use wasi_spawn::ThreadSpawner;
 use wasi_streams::StreamError;
 use world_io::MemorySource;
 
-/// The number of bytes, and the sizes of pieces and of the source's reads: small, odd and large.
-const SIZES: [(usize, usize, usize); 9] = [
+/// The number of bytes, and the sizes of pieces and of the source's reads: small, odd and large. A source with no bytes ends at
+/// once.
+const SIZES: [(usize, usize, usize); 10] = [
+    (0, 0, 1),
     (1_000_000, 4096, 700),
     (1_000_000, 1, 700),
     (1_000_000, 1000, 99),
@@ -49,22 +51,5 @@ fn reads_give_all_bytes_in_order(rt: HostRuntime) -> Result<(), Fail> {
         same(&rt, finished.outcome, Ok(()));
         same(&rt, finished.inner.has_ended(), true);
     }
-    Ok(())
-}
-
-/// A source with no bytes ends at once.
-#[test]
-fn an_empty_source_is_closed(rt: HostRuntime) -> Result<(), Fail> {
-    let how = Use {
-        piece: 0,
-        cancel_after: None,
-    };
-    let source = MemorySource::new(Vec::new(rt.alloc()), 1, Vec::new(rt.alloc()));
-    let Ok((finished, drained)) = drain(&rt, rt.alloc(), &mut ThreadSpawner::new(), source, how)
-    else {
-        return Err(Fail::new("no worker"));
-    };
-    same(&rt, drained.error, Some(StreamError::Closed));
-    same(&rt, finished.outcome, Ok(()));
     Ok(())
 }

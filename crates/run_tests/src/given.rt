@@ -11,12 +11,8 @@ use wasi_commands::{Done, run_main};
 use wasi_spawn::ThreadSpawner;
 use world_io::{MemorySink, MemorySource};
 
-/// Binds a socket: 81 bytes.
-pub const BIND: &[u8] =
-    b"0 network\n0 tcp-create 4\n0 tcp-start-bind 2 1 4 127 0 0 1 80\n0 tcp-finish-bind 2\n";
-
-/// The replies to it.
-pub const REPLIES: &str = "ok 1\nok 2\nok\nok\n";
+/// The faults of a source and of a sink, and the pieces that the sink refused.
+pub type Faults = (u64, u64, u64);
 
 /// What is handed to the program, and how its streams behave.
 #[derive(Clone, Copy)]
@@ -33,18 +29,6 @@ pub struct Given<'a> {
     pub failing_reads: &'a [u32],
     pub failing_writes: &'a [u32],
 }
-
-/// The script above, an empty scenario and streams without faults.
-pub const PLAIN: Given<'static> = Given {
-    words: &["run", "1000"],
-    scenario: b"",
-    script: BIND,
-    most: 4096,
-    room: 4096,
-    failing_scenario: &[],
-    failing_reads: &[],
-    failing_writes: &[],
-};
 
 fn source(
     alloc: Global,
@@ -89,30 +73,23 @@ impl<'a> Given<'a> {
         ))
     }
 
-    /// Its status, its line and what it wrote.
+    /// Its status, its bad line, the length of its log, and what it wrote; and the faults of its source and of its sink, and the
+    /// pieces that the sink refused.
     fn end<R: Threads + Wait + Copy + Send + 'static>(
         &self,
         rt: &R,
         alloc: Global,
-    ) -> Result<String, Fail> {
+    ) -> Result<(String, Faults), Fail> {
         let done = self.run(rt, alloc)?;
         let wrote = str::from_utf8(done.sink.bytes()).unwrap_or("no text");
-        let (status, line) = (done.status, done.line);
-        Ok(format!(in alloc; "{status} {line}: {wrote}")?)
-    }
-
-    /// The faults of its source and of its sink, and the pieces that the sink refused.
-    fn faults<R: Threads + Wait + Copy + Send + 'static>(
-        &self,
-        rt: &R,
-        alloc: Global,
-    ) -> Result<(u64, u64, u64), Fail> {
-        let done = self.run(rt, alloc)?;
-        Ok((
+        let (status, line, log) = (done.status, done.line, done.log.len());
+        let text = format!(in alloc; "{status} {line} {log}: {wrote}")?;
+        let faults = (
             done.source.faults(),
             done.sink.faults(),
             done.sink.refused(),
-        ))
+        );
+        Ok((text, faults))
     }
 
     /// The run ends so.
@@ -121,21 +98,10 @@ impl<'a> Given<'a> {
         rt: &R,
         alloc: Global,
         end: &str,
+        faults: Faults,
     ) -> Result<(), Fail> {
-        let came = self.end(rt, alloc)?;
-        same(rt, came.as_str(), end);
-        Ok(())
-    }
-
-    /// Its streams count so many faults, and so many refused pieces.
-    pub fn counts<R: Threads + Wait + Abort + Copy + Send + 'static>(
-        &self,
-        rt: &R,
-        alloc: Global,
-        faults: (u64, u64, u64),
-    ) -> Result<(), Fail> {
-        let came = self.faults(rt, alloc)?;
-        same(rt, came, faults);
+        let (text, counts) = self.end(rt, alloc)?;
+        same(rt, (text.as_str(), counts), (end, faults));
         Ok(())
     }
 }

@@ -1,23 +1,20 @@
-//! Tests of runs that a transcript can't say: statuses, faults of streams, replies that no script reaches, and a network
-//! that keeps no log.
+//! Tests of runs that a transcript can't say: statuses, sources and sinks that fail, a full table of handles, replies that no
+//! script reaches, drawn scripts; what a check of transcripts prints; and the line that a program shows.
 #![tactic(auto)]
 
 #[cfg(test)]
 mod checked_cases;
-#[cfg(test)]
-mod faults;
 #[cfg(test)]
 mod full;
 #[cfg(test)]
 mod generated;
 #[cfg(test)]
 mod given;
-pub mod quiet;
 #[cfg(test)]
 mod replies;
+#[cfg(test)]
+mod runs;
 #[cfg(test)]
 mod same;
 #[cfg(test)]
 mod shown;
-#[cfg(test)]
-mod statuses;

@@ -19,29 +19,31 @@ fn shown(alloc: Global, text: &[u8], number: u64, most: usize) -> Result<String,
     }
 }
 
-#[test]
-fn a_line_is_shown_with_escapes(rt: HostRuntime) -> Result<(), Fail> {
-    let text = b"first\nsec\xffo\tnd\n\nlast";
-    for (number, want) in [
-        (0, "none"),
-        (1, "first"),
-        (2, "sec\\xffo\\tnd"),
-        (3, ""),
-        (4, "last"),
-        (5, "none"),
-    ] {
-        for most in [1, 5, 6, 4096] {
-            let line = shown(rt.alloc(), text, number, most)?;
-            same(&rt, line.as_str(), want);
-        }
-    }
-    Ok(())
-}
+/// Its fifth line is of 81 bytes.
+const TEXT: &[u8] =
+    b"first\nsec\xffo\tnd\n\nfourth\nabcdefghijabcdefghijabcdefghijabcdefghijabcdefghijabcdefghijabcdefghijabcdefghijk\nlast";
+
+const LINES: [(u64, &str); 8] = [
+    (0, "none"),
+    (1, "first"),
+    (2, "sec\\xffo\\tnd"),
+    (3, ""),
+    (4, "fourth"),
+    (
+        5,
+        "abcdefghijabcdefghijabcdefghijabcdefghijabcdefghijabcdefghijabcdefghijabcdefghij",
+    ),
+    (6, "last"),
+    (7, "none"),
+];
 
 #[test]
-fn a_long_line_is_cut(rt: HostRuntime) -> Result<(), Fail> {
-    let long = [b'a'; 100];
-    let line = shown(rt.alloc(), &long, 1, 7)?;
-    same(&rt, line.as_str().len(), 80);
+fn a_line_is_shown_with_escapes_and_cut(rt: HostRuntime) -> Result<(), Fail> {
+    for (number, want) in LINES {
+        for most in [1, 5, 6, 4096] {
+            let line = shown(rt.alloc(), TEXT, number, most)?;
+            same(&rt, (number, line.as_str()), (number, want));
+        }
+    }
     Ok(())
 }

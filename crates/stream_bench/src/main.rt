@@ -15,8 +15,8 @@ use std::sync::Wait;
 use std::thread::Threads;
 use std::time::{Clock, Duration, Instant};
 use wasi_spawn::ThreadSpawner;
-use world_io::MemorySink;
 use wasi_writer::{AsyncWriteStream, Names, WriteParts};
+use world_io::MemorySink;
 
 /// How many bytes are copied and sent.
 const BYTES: usize = 16_777_216;

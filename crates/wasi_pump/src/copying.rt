@@ -8,8 +8,8 @@ use bytes::Bytes;
 use std::sync::Wait;
 use wasi_reader::AsyncReadStream;
 use wasi_streams::StreamError;
-use world_io::{Sink, Source};
 use wasi_writer::AsyncWriteStream;
+use world_io::{Sink, Source};
 
 /// Copies until the source's end is read, and asks for a flush. Returns how many bytes were copied, or none where a stream
 /// told a fault or memory ran out.

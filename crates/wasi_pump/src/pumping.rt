@@ -16,8 +16,8 @@ use std::sync::Wait;
 use std::thread::Threads;
 use wasi_reader::{AsyncReadStream, ReadParts};
 use wasi_spawn::{Spawner, StartError};
-use world_io::{Sink, Source};
 use wasi_writer::{AsyncWriteStream, WriteParts};
+use world_io::{Sink, Source};
 
 /// Moves all bytes of the source to the sink, by a read stream and a write stream with this budget, in bytes. Each has
 /// a worker in a thread of its own, that is started with `readers` and `writers`.

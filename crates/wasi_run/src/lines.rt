@@ -11,9 +11,9 @@ use crate::session::Session;
 use std::alloc::Global;
 use wasi_steps::parse::parse_step;
 use wasi_steps::reply::reply_text;
-use world_text::lines::newline_at;
 use wasi_world::{WasiSocketsCtx, World};
 use world_io::{Failed, Sink};
+use world_text::lines::newline_at;
 
 /// How a piece of a script ended.
 #[derive(Clone, Copy, Debug, PartialEq, Eq)]

@@ -17,9 +17,9 @@ use wasi_simplex::{SimplexReader, SimplexWriter, simplex};
 use wasi_spawn::{StartError, ThreadSpawner};
 use wasi_streams::StreamError;
 use wasi_world::TrapKind;
-use world_io::{Failed, Sink, Source};
 use wasi_writer::put::write_all;
 use wasi_writer::{AsyncWriteStream, Names, WriteParts};
+use world_io::{Failed, Sink, Source};
 
 /// Writes all of the bytes, and lets the end go.
 fn send<R: Wait + Copy>(mut writer: SimplexWriter<R>, bytes: &[u8]) -> bool {

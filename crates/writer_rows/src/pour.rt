@@ -10,8 +10,8 @@ use std::test::*;
 use std::thread::Threads;
 use wasi_shared::Finished;
 use wasi_spawn::{Spawner, StartError};
-use world_io::Sink;
 use wasi_writer::{AsyncWriteStream, Names, WriteParts};
+use world_io::Sink;
 
 /// How a stream is used.
 #[derive(Clone, Copy)]

@@ -1,0 +1,159 @@
+//! How runs end: by their words, limits and scenarios, and over sources and sinks that fail or are full.
+
+use crate::given::{Faults, Given};
+use std::test::Fail;
+
+/// Binds a socket: 81 bytes.
+const BIND: &[u8] =
+    b"0 network\n0 tcp-create 4\n0 tcp-start-bind 2 1 4 127 0 0 1 80\n0 tcp-finish-bind 2\n";
+
+type Words = &'static [&'static str];
+
+const RUN: Words = &["run", "1000"];
+
+/// The words, the scenario and the script; then the status, its line, the length of the log, and the replies.
+const RUNS: [(Words, &[u8], &[u8], &str); 25] = [
+    (RUN, b"", b"", "0 0 0: "),
+    (&["run", "0"], b"", b"", "0 0 0: "),
+    (&["run", "81"], b"", BIND, "0 0 6: ok 1\nok 2\nok\nok\n"),
+    (&["run", "80"], b"", BIND, "4 0 6: ok 1\nok 2\nok\n"),
+    (&["run", "0"], b"", b"0", "4 0 0: "),
+    (RUN, b"", b"0 network", "3 1 0: "),
+    (RUN, b"", &[255, 10], "3 1 0: "),
+    (RUN, b"", b"0 network\n\n", "3 2 1: ok 1\n"),
+    // Nothing is done after a trap.
+    (
+        RUN,
+        b"",
+        b"0 network\n0 tcp-create 4\n0 drop 3\n0 tcp-create 4\n",
+        "0 0 3: ok 1\nok 2\ntrap no-such-handle\n",
+    ),
+    (&["run"], b"", BIND, "1 0 0: "),
+    (&["run", "4294967296"], b"", BIND, "1 0 0: "),
+    (&["run", "01"], b"", BIND, "1 0 0: "),
+    (&["walk", "1000"], b"", BIND, "1 0 0: "),
+    (RUN, b"check maybe\n", BIND, "2 1 0: "),
+    (RUN, b"check no\n\n", BIND, "2 2 0: "),
+    (RUN, b"check no\nbind done", BIND, "2 2 0: "),
+    // A drawn script writes what its run came to, and gives no log.
+    (
+        &["gen", "1", "10"],
+        b"",
+        b"",
+        "0 0 0: lines 10 replies 10 entries 15 bytes 61\n",
+    ),
+    (
+        &["gen", "7", "0"],
+        b"",
+        b"",
+        "0 0 0: lines 0 replies 0 entries 0 bytes 0\n",
+    ),
+    (
+        &["gen", "1", "1"],
+        b"",
+        b"",
+        "0 0 0: lines 1 replies 1 entries 1 bytes 0\n",
+    ),
+    (&["gen", "1", "100001"], b"", b"", "1 0 0: "),
+    (&["gen", "18446744073709551616", "1"], b"", b"", "1 0 0: "),
+    (&["gen", "-1", "1"], b"", b"", "1 0 0: "),
+    (&["gen", "01", "1"], b"", b"", "1 0 0: "),
+    (&["gen", "1", ""], b"", b"", "1 0 0: "),
+    (&["gen", "1"], b"", b"", "1 0 0: "),
+];
+
+// However the streams cut what they give and take.
+#[test]
+fn runs_end_by_their_words_and_texts(rt: HostRuntime) -> Result<(), Fail> {
+    for (words, scenario, script, end) in RUNS {
+        for most in [1, 3, 4096] {
+            let given = Given {
+                words,
+                scenario,
+                script,
+                most,
+                room: 4096,
+                failing_scenario: &[],
+                failing_reads: &[],
+                failing_writes: &[],
+            };
+            given.ends(&rt, rt.alloc(), end, (0, 0, 0))?;
+        }
+    }
+    Ok(())
+}
+
+/// The numbers of calls that fail.
+type Fails = &'static [u32];
+
+/// The words; the reads of the scenario, those of the script and the writes that fail, and the room of the sink; then how the
+/// run of the script above ends, and what its streams counted. A scenario is read before anything is run; the script is read
+/// once, and then its end; each reply is written at once.
+const FAILING: [(Words, Fails, Fails, Fails, usize, &str, Faults); 16] = [
+    (RUN, &[1], &[], &[], 4096, "8 0 0: ", (0, 0, 0)),
+    (RUN, &[], &[1], &[], 4096, "5 0 0: ", (1, 0, 0)),
+    (
+        RUN,
+        &[],
+        &[2],
+        &[],
+        4096,
+        "5 0 6: ok 1\nok 2\nok\nok\n",
+        (1, 0, 0),
+    ),
+    (RUN, &[], &[], &[1], 4096, "6 0 1: ", (0, 1, 0)),
+    (RUN, &[], &[], &[2], 4096, "6 0 3: ok 1\n", (0, 1, 0)),
+    (RUN, &[], &[], &[3], 4096, "6 0 6: ok 1\nok 2\n", (0, 1, 0)),
+    (
+        RUN,
+        &[],
+        &[],
+        &[4],
+        4096,
+        "6 0 6: ok 1\nok 2\nok\n",
+        (0, 1, 0),
+    ),
+    (RUN, &[], &[], &[], 0, "6 0 1: ", (0, 0, 1)),
+    (RUN, &[], &[], &[], 4, "6 0 1: ok 1", (0, 0, 1)),
+    (RUN, &[], &[], &[], 5, "6 0 3: ok 1\n", (0, 0, 1)),
+    (RUN, &[], &[], &[], 9, "6 0 3: ok 1\nok 2", (0, 0, 1)),
+    (RUN, &[], &[], &[], 10, "6 0 6: ok 1\nok 2\n", (0, 0, 1)),
+    (RUN, &[], &[], &[], 12, "6 0 6: ok 1\nok 2\nok", (0, 0, 1)),
+    (RUN, &[], &[], &[], 13, "6 0 6: ok 1\nok 2\nok\n", (0, 0, 1)),
+    (
+        RUN,
+        &[],
+        &[],
+        &[],
+        15,
+        "6 0 6: ok 1\nok 2\nok\nok",
+        (0, 0, 1),
+    ),
+    (
+        &["gen", "1", "1"],
+        &[],
+        &[],
+        &[],
+        5,
+        "6 0 0: lines",
+        (0, 0, 1),
+    ),
+];
+
+#[test]
+fn runs_end_where_a_stream_fails(rt: HostRuntime) -> Result<(), Fail> {
+    for (words, failing_scenario, failing_reads, failing_writes, room, end, faults) in FAILING {
+        let given = Given {
+            words,
+            scenario: b"",
+            script: BIND,
+            most: 4096,
+            room,
+            failing_scenario,
+            failing_reads,
+            failing_writes,
+        };
+        given.ends(&rt, rt.alloc(), end, faults)?;
+    }
+    Ok(())
+}
