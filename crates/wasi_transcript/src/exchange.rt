@@ -16,8 +16,9 @@ use wasi_world::{Entry, ScriptedWorld, WasiSocketsCtx};
 /// What became of a line, with its part of the transcript.
 #[derive(Drop)]
 pub enum LineEnd {
+    /// The step was done, and the script goes on.
     Answered(Vec<u8>),
-    /// The reply is a trap, which ends the run.
+    /// The step trapped, which ends the run.
     Trapped(Vec<u8>),
     /// The line is no step of one of the contexts.
     NoStep,

@@ -16,7 +16,8 @@ use wasi_world::{Sink, Source};
 /// How the program ended.
 #[derive(Clone, Copy, Debug, PartialEq, Eq)]
 pub enum End {
-    /// As a run of the script ends; the line is that of a bad line of the scenario or of the script, else 0.
+    /// The script's run ended with this status; the line is that of a bad line of the scenario or
+    /// of the script, else 0.
     Run(Status, u32),
     /// A case doesn't hold.
     Differs,
