@@ -35,7 +35,7 @@ impl<R: Wait + Copy> MemoryInputPipe<R> {
         })
     }
 
-    /// The same pipe for another owner, who wasn't told the end yet.
+    /// A further owner of this pipe, who wasn't told the end yet. Takes memory for it.
     pub fn share(&self) -> Result<MemoryInputPipe<R>, AllocError>
         ensures { IfOk result (λ pipe. pipe.ended ≡ false) }
     {
@@ -51,9 +51,10 @@ impl<R: Wait + Copy> MemoryInputPipe<R> {
         self.pipe.lock(&self.rt).is_empty()
     }
 
-    /// Takes out the first `size` bytes, or all where fewer are left. `Closed` where none is left.
+    /// Takes the first `size` bytes out, or all where fewer are left. `Closed` where none is left.
+    /// It may wait for another owner's call.
     ///
-    /// Takes memory to hand out a part of what is left; want of it leaves all in the pipe.
+    /// Takes memory to hand out a part of what is left; out of memory all stays in the pipe.
     pub fn read(&self, size: usize) -> Result<Bytes, StreamError>
         ensures { MayRead size result }
     {

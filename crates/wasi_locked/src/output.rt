@@ -38,7 +38,7 @@ impl<R: Wait + Copy> MemoryOutputPipe<R> {
         })
     }
 
-    /// The same pipe for another owner, of whom no piece was refused yet.
+    /// A further owner of this pipe, of whom no piece was refused yet. Takes memory for it.
     pub fn share(&self) -> Result<MemoryOutputPipe<R>, AllocError>
         ensures { IfOk result (λ pipe. pipe.refused ≡ 0) }
     {
@@ -55,7 +55,8 @@ impl<R: Wait + Copy> MemoryOutputPipe<R> {
         Bytes::copy_from_slice(self.alloc, self.pipe.lock(&self.rt).contents())
     }
 
-    /// Writes the bytes. More than are free are `Trap(Capacity)`, which changes nothing. It takes no memory.
+    /// Writes the bytes. More than are free are `Trap(Capacity)`, and nothing changes. It may wait
+    /// for another owner's call. Takes no memory.
     pub fn write(&self, bytes: &[u8]) -> Result<(), StreamError>
         ensures { MayWrite result }
     {

@@ -23,6 +23,7 @@ impl Room {
         })
     }
 
+    /// The bytes that were written.
     pub fn contents(&self) -> &[u8]
         ensures { result.now ≡ self.now.pipe.held }
     {
