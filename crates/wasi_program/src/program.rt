@@ -28,14 +28,21 @@ const PIECE_SIZE: usize = 4096;
 /// How the program ended.
 #[derive(Clone, Copy, Debug, PartialEq, Eq)]
 pub enum Status {
+    /// The script was done, or a step trapped.
     Ok,
     /// The words aren't one of the forms.
     BadWords,
+    /// A line of the scenario isn't in its grammar.
     BadScenario,
+    /// A line of the script is no step.
     BadStep,
+    /// The script is longer than its limit.
     TooLong,
+    /// A read of the script failed.
     ReadFault,
+    /// A write of the replies failed.
     WriteFault,
+    /// Memory ran out.
     Memory,
     /// A read of the scenario failed.
     ScenarioFault,
@@ -257,7 +264,9 @@ fn command_in(words: &[String]) -> Option<Command>
 /// Why a scenario wasn't read.
 #[derive(Clone, Copy, Debug, PartialEq, Eq)]
 pub enum Unread {
+    /// A read failed.
     Fault,
+    /// Memory ran out.
     Memory(AllocError),
 }
 
@@ -286,7 +295,9 @@ pub fn read_scenario<C: Source>(alloc: Global, scenario: &mut C) -> Result<Vec<u
 /// What a scenario plans and its contexts, or the first line that isn't in its grammar.
 #[derive(Drop)]
 pub enum Scenario {
+    /// The network that it plans, and its contexts.
     Planned(ScriptedWorld, Vec<WasiSocketsCtx>),
+    /// The number, counted from 1, of the first line that isn't in its grammar.
     BadLine(u32),
 }
 
