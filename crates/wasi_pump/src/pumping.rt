@@ -75,7 +75,8 @@ fn unmoved<S, K>(source: S, sink: K, error: PumpError) -> Pumped<S, K>
     }
 }
 
-/// The same with streams of these parts, at names that are theirs.
+/// Moves all bytes of the source to the sink by two streams that are made of these parts, whose
+/// names `N` and `M` are.
 fn pump_by<
     S: Source + Drop + Send + 'static,
     K: Sink + Drop + Send + 'static,
