@@ -94,7 +94,8 @@ impl<N: Names> Locked<N> {
         self.worker.agree(worker);
     }
 
-    /// The worker puts a chunk into the slot, where that is empty, and pushes it in the same hold.
+    /// The worker puts a chunk into the slot, if that is empty, and pushes it onto the line, both
+    /// under one hold of the lock.
     pub fn offer<R: Wait>(
         &mut self,
         rt: &R,
