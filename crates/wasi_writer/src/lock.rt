@@ -44,9 +44,10 @@ impl<N: Names> Locked<N> {
         }
     }
 
-    /// The owner writes a chunk, which is pushed in the same hold. An empty one isn't pushed.
+    /// The owner writes a chunk: it is accepted and pushed onto the line, both under one hold of
+    /// the lock. An empty one isn't pushed.
     ///
-    /// Running out of memory changes nothing.
+    /// Out of memory nothing changes.
     pub fn write<R: Wait>(
         &mut self,
         rt: &R,
