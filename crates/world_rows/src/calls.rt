@@ -10,6 +10,7 @@ use wasi_world::{Call, NameText, OpId, ScriptedWorld, Sock, Told, World};
 /// The network socket that the first line makes.
 pub const SIDE: Sock = OpId { step: 1, part: 0 };
 
+/// 127.0.0.1 with this port.
 pub fn local(port: u16) -> IpSocketAddress {
     IpSocketAddress::Ipv4(Ipv4SocketAddress {
         port,
