@@ -11,8 +11,9 @@ use wasi_memory::InputPipeCore;
 use wasi_streams::StreamError;
 use wasi_world::{Failed, Source};
 
-/// Bytes in memory that are read from their front, each by one of the owners (`MemoryInputPipe` of the crate
-/// wasmtime-wasi). Each call takes the lock of the pipe, so it may wait for another owner's.
+/// Bytes in memory that are read from their front, each by one of the owners (`MemoryInputPipe` of
+/// the crate wasmtime-wasi). Each call takes the lock of the pipe, so it may wait for another
+/// owner's.
 ///
 /// As a source it reports no bytes; contracts see whether this owner was told the end.
 #[derive(Drop)]
