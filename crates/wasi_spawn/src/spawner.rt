@@ -76,8 +76,8 @@ pub trait Spawner {
         }
     }
 
-    /// Waits for a started job, and gives one of the results that the job may give. A job that its thread gave back is
-    /// run here.
+    /// Waits for a started job, and gives one of the results that the job may give. A job that its
+    /// thread gave back is run here.
     final fn join<J: Job, R: Threads + Wait>(&mut self, rt: &R, handle: Handle<J>) -> J::Out
     where
         Self: Sized,
