@@ -72,7 +72,8 @@ pub fn no_step_text(alloc: Global, line: &[u8]) -> Result<Vec<u8>, AllocError>
     Ok(text)
 }
 
-/// Does the next line of a script, and gives its part of the transcript. Takes memory for that and for what the step makes.
+/// Does the next line of a script, and gives its part of the transcript. Takes memory for that and
+/// for what the step makes.
 pub fn do_line(
     alloc: Global,
     session: &mut Session,

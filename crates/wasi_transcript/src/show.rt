@@ -60,8 +60,8 @@ fn put<K: Sink>(writer: &mut K, text: &[u8]) -> Result<(), RunError>
     }
 }
 
-/// Does the lines of a script until it stops, and prints what became of each as soon as it is done. `line` is then the
-/// last line that was read.
+/// Does the lines of a script until it stops, and prints what became of each as soon as it is done.
+/// `line` is then the last line that was read.
 fn show_lines<S: Source, K: Sink>(
     alloc: Global,
     session: &mut Session,
