@@ -28,7 +28,7 @@ const PIECE_SIZE: usize = 4096;
 /// How the program ended.
 #[derive(Clone, Copy, Debug, PartialEq, Eq)]
 pub enum Status {
-    /// The script was done, or a step trapped.
+    /// All was done, or a step of the script trapped.
     Ok,
     /// The words aren't one of the forms.
     BadWords,
