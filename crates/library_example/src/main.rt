@@ -3,7 +3,8 @@
 #![tactic(auto)]
 
 use wasi_run::run_script;
-use wasi_world::{GrowingSink, MemorySource, ScriptedWorld};
+use world_io::{GrowingSink, MemorySource};
+use world_scripted::ScriptedWorld;
 
 /// A guest that makes an IPv4 socket, connects it to 127.0.0.1:80, and drops it.
 const SCRIPT: &[u8] = b"\

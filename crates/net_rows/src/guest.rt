@@ -26,6 +26,7 @@ pub fn line(step: u32) -> OpId {
     OpId { step, part: 0 }
 }
 
+/// 127.0.0.1 with this port.
 pub fn loopback(port: u16) -> IpSocketAddress {
     IpSocketAddress::Ipv4(Ipv4SocketAddress {
         port,
@@ -96,6 +97,7 @@ impl<R: Net<Listener = TcpListener, Stream = TcpStream> + Clock> Guest<R> {
         self.compare(told, text)
     }
 
+    /// Compares what the check says of an address and a use with this text.
     pub fn check(
         &mut self,
         usage: SocketAddrUse,

@@ -7,7 +7,7 @@ use std::test::*;
 use wasi_pump::PumpError;
 use world_io::{MemorySink, MemorySource};
 
-/// Some bytes, in which no two neighbours are the same.
+/// This many bytes, of which no two neighbours are equal.
 fn pattern(alloc: Global, len: usize) -> Result<Vec<u8>, AllocError> {
     let mut bytes = Vec::new(alloc);
     for n in 0..len {

@@ -38,7 +38,7 @@ pub struct Drained {
     pub again: Option<StreamError>,
 }
 
-/// Some bytes, in which no two neighbours are the same.
+/// This many bytes, of which no two neighbours are equal.
 pub fn pattern(alloc: Global, len: usize) -> Result<Vec<u8>, AllocError> {
     let mut bytes = Vec::new(alloc);
     for n in 0..len {
@@ -108,7 +108,7 @@ fn drain_by<
     Ok((stream.finish(rt, spawner), drained))
 }
 
-/// The same, at names of its own.
+/// Reads a source to its end through a stream with parts and names of its own, and finishes it.
 pub fn drain<
     S: Source + Drop + Send + 'static,
     P: Spawner,

@@ -123,7 +123,7 @@ fn play_by<N: Names + Send + Sync + 'static, R: Threads + Wait + Copy + Send + '
     Ok((other, stream.finish(rt, &mut spawner)))
 }
 
-/// The same, at names of its own, over the source behind a gate.
+/// Takes the steps on a stream with parts and names of its own, over the source behind a gate.
 pub fn play<R: Threads + Wait + Copy + Send + 'static>(
     rt: &R,
     alloc: Global,

@@ -125,9 +125,9 @@ pub fn finish_bind_refusals()
 /// - `too_long`: the step is a write that blocks.
 /// - `empty_list`: the step is a wait for no pollable.
 ///
-/// `no_such_handle_stays` assumes that the handle of pending datagram streams is live, that a
-/// pending call's streams are there, that a splice's input is there if it is one, and that what
-/// each pollable of a wait watches is there. Every run keeps that (`runs_keep_their_records`).
+/// `no_such_handle_stays` assumes that a pending call's handle or streams are there, that a
+/// splice's input is there if it is one, and that what each pollable of a wait watches is there.
+/// Every run keeps that (`runs_keep_their_records`, `pending_calls_have_their_streams`).
 pub fn traps_have_causes()
     ensures kinds { (contexts : List WasiSocketsCtx) (m : Machine) (line : ℕ) (s : Step) (entries : List Entry) (kind : TrapKind) (after : Machine)
         → Answered contexts m line s entries (Reply.Trap kind) after → (kind ≡ TrapKind.NoSuchHandle) ⊎ ((kind ≡ TrapKind.HasChildren) ⊎ ((kind ≡ TrapKind.Full) ⊎ ((kind ≡ TrapKind.NotPermitted) ⊎ ((kind ≡ TrapKind.StreamsAlive) ⊎ ((kind ≡ TrapKind.Capacity) ⊎ ((kind ≡ TrapKind.TooLong) ⊎ (kind ≡ TrapKind.EmptyList))))))) }

@@ -5,7 +5,7 @@ ghost use Rattle.std.specs.Prelude.{◌≤◌, length};
 use std::fmt::{self, Display, Formatter, Write};
 use world_io::{Failed, Source};
 
-/// At most so many bytes of a line are shown.
+/// How many bytes of a line are shown at most.
 const MOST_SHOWN: usize = 80;
 
 /// The size of the pieces that are remembered; scripts are read in pieces of this size.
@@ -142,7 +142,7 @@ pub struct LineSource<S> {
 }
 
 impl<S> LineSource<S> {
-    /// Nothing was read yet.
+    /// A source that passes on what `inner` gives, before its first read. Takes no memory.
     pub fn new(inner: S) -> LineSource<S> {
         LineSource {
             inner,
@@ -159,7 +159,7 @@ impl<S> LineSource<S> {
 impl<S: Source> Source for LineSource<S> {
     ghost reading = { λ s. S.reading s.inner };
 
-    /// What the source gives that it is made of.
+    /// Reads from the source within, and remembers the piece.
     fn read(&mut self, buf: &mut [u8]) -> Result<usize, Failed> {
         let count = self.inner.read(buf)?;
         self.last.remember(&buf[..count]);
@@ -167,8 +167,8 @@ impl<S: Source> Source for LineSource<S> {
     }
 }
 
-/// The first bytes of this line of what a source gives, counted from 1; none where it has no such line, or a read fails before
-/// it.
+/// The first bytes of the line with this number, counted from 1, of what a source gives; `None`
+/// where it has no such line, or a read fails before it.
 pub fn line_of<S: Source + Drop>(source: S, number: u64) -> Option<Front> {
     let mut lines = LineSource::new(source);
     let mut piece = [0; PIECE_SIZE];

@@ -11,8 +11,9 @@ use wasi_memory::InputPipeCore;
 use wasi_streams::StreamError;
 use world_io::{Failed, Source};
 
-/// Bytes in memory that are read from their front, each by one of the owners (`MemoryInputPipe` of the crate
-/// wasmtime-wasi). Each call takes the lock of the pipe, so it may wait for another owner's.
+/// Bytes in memory that are read from their front, each by one of the owners (`MemoryInputPipe` of
+/// the crate wasmtime-wasi). Each call takes the lock of the pipe, so it may wait for another
+/// owner's.
 ///
 /// As a source it reports no bytes; contracts see whether this owner was told the end.
 #[derive(Drop)]
@@ -35,7 +36,7 @@ impl<R: Wait + Copy> MemoryInputPipe<R> {
         })
     }
 
-    /// The same pipe for another owner, who wasn't told the end yet.
+    /// A further owner of this pipe, who wasn't told the end yet. Takes memory for it.
     pub fn share(&self) -> Result<MemoryInputPipe<R>, AllocError>
         ensures { IfOk result (λ pipe. pipe.ended ≡ false) }
     {
@@ -51,9 +52,10 @@ impl<R: Wait + Copy> MemoryInputPipe<R> {
         self.pipe.lock(&self.rt).is_empty()
     }
 
-    /// Takes out the first `size` bytes, or all where fewer are left. `Closed` where none is left.
+    /// Takes the first `size` bytes out, or all where fewer are left. `Closed` where none is left.
+    /// It may wait for another owner's call.
     ///
-    /// Takes memory to hand out a part of what is left; want of it leaves all in the pipe.
+    /// Takes memory to hand out a part of what is left; out of memory all stays in the pipe.
     pub fn read(&self, size: usize) -> Result<Bytes, StreamError>
         ensures { MayRead size result }
     {

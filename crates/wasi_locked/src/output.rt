@@ -11,9 +11,9 @@ use std::sync::{Arc, Mutex, Wait};
 use wasi_streams::StreamError;
 use world_io::{Failed, Sink};
 
-/// Bytes that are written to memory, and no more than a capacity, each by one of the owners (`MemoryOutputPipe` of the
-/// crate wasmtime-wasi). The memory for the whole capacity is taken at the start. Each call takes the lock of the pipe, so
-/// it may wait for another owner's.
+/// Bytes that are written to memory, and no more than a capacity, each by one of the owners
+/// (`MemoryOutputPipe` of the crate wasmtime-wasi). The memory for the whole capacity is taken at
+/// the start. Each call takes the lock of the pipe, so it may wait for another owner's.
 ///
 /// As a sink it reports no bytes; contracts see how many pieces of this owner it took nothing of.
 #[derive(Drop)]
@@ -38,7 +38,7 @@ impl<R: Wait + Copy> MemoryOutputPipe<R> {
         })
     }
 
-    /// The same pipe for another owner, of whom no piece was refused yet.
+    /// A further owner of this pipe, of whom no piece was refused yet. Takes memory for it.
     pub fn share(&self) -> Result<MemoryOutputPipe<R>, AllocError>
         ensures { IfOk result (λ pipe. pipe.refused ≡ 0) }
     {
@@ -55,7 +55,8 @@ impl<R: Wait + Copy> MemoryOutputPipe<R> {
         Bytes::copy_from_slice(self.alloc, self.pipe.lock(&self.rt).contents())
     }
 
-    /// Writes the bytes. More than are free are `Trap(Capacity)`, which changes nothing. It takes no memory.
+    /// Writes the bytes. More than are free are `Trap(Capacity)`, and nothing changes. It may wait
+    /// for another owner's call. Takes no memory.
     pub fn write(&self, bytes: &[u8]) -> Result<(), StreamError>
         ensures { MayWrite result }
     {
@@ -88,7 +89,8 @@ impl<R: Wait + Copy> Sink for MemoryOutputPipe<R> {
 
     ghost writing = { λ pipe. writing_of pipe.refused };
 
-    /// Takes a prefix of the bytes, as many as are free: none where the pipe is full. It never fails, and takes no memory.
+    /// Takes a prefix of the bytes, as many as are free: none where the pipe is full. It never
+    /// fails, and takes no memory.
     fn write(&mut self, bytes: &[u8]) -> Result<usize, Failed>
         ensures written { HasWritten (writing_of self.old.refused) (writing_of self.new.refused) bytes.now result }
         ensures ok { IsOk result }

@@ -23,6 +23,7 @@ impl Room {
         })
     }
 
+    /// The bytes that were written.
     pub fn contents(&self) -> &[u8]
         ensures { result.now ≡ self.now.pipe.held }
     {
@@ -43,7 +44,8 @@ impl Room {
         self.pipe.check_write()
     }
 
-    /// Writes the front of the bytes, as many as are free, and returns how many. It takes no memory.
+    /// Writes the front of the bytes, as many as are free, and returns how many. It takes no
+    /// memory.
     pub fn put(&mut self, bytes: &[u8]) -> usize
         ensures { result ≤ length bytes.now }
     {

@@ -24,7 +24,8 @@ fn is_loopback(addr: IpAddress) -> bool
     )
 }
 
-/// Whether it leaves address and port to the system, as a socket does that isn't bound before it connects.
+/// Whether this is the wildcard, which leaves the address and the port to the system; it is checked
+/// for the bind of a socket that connects unbound.
 fn is_any(addr: IpSocketAddress) -> bool
     ensures { result ≡ is_any addr }
 {
@@ -33,6 +34,7 @@ fn is_any(addr: IpSocketAddress) -> bool
 }
 
 impl Allowed {
+    /// A check that allows these ports.
     pub fn new(ports: Vec<u16>) -> Allowed
         ensures { result.ports ≡ ports }
     {
@@ -45,9 +47,13 @@ impl Allowed {
         self.ports.contains(&addr.port())
     }
 
-    /// Whether the address may be put to this use. Only loopback addresses may; a bind, a listen and a connect need an
-    /// allowed port besides. An arrival's port is its sender's, and isn't looked at. The wildcard may be bound, since a
-    /// connect that isn't bound asks for it; it may not be listened on. What UDP does isn't allowed.
+    /// Whether the address may be put to this use.
+    ///
+    /// - Only loopback addresses may; a bind, a listen and a connect need an allowed port, too.
+    /// - The wildcard may be bound, since a connect of an unbound socket asks for it. It may not be
+    ///   listened on.
+    /// - An arrival may come from any port.
+    /// - UDP isn't allowed.
     pub fn allows(&self, addr: IpSocketAddress, usage: SocketAddrUse) -> bool
         ensures { result ≡ allows self.now.ports.items addr usage }
     {

@@ -14,7 +14,7 @@ use std::time::Clock;
 use wasi_addr::{ErrorCode, IpSocketAddress, ShutdownType};
 use wasi_world::{Octets, Opt, Told};
 
-/// At most so many bytes go in one call of the system.
+/// How many bytes one call of the system moves at most.
 const MOST_BYTES: usize = 65_536;
 
 /// A connection whose reads and writes don't wait.
@@ -84,12 +84,14 @@ impl Connection {
         Connection::new(stream)
     }
 
+    /// The local address, or the code of a fault.
     pub fn local(&self) -> Told
         ensures { IsAddr result }
     {
         told_address(self.stream.local_addr())
     }
 
+    /// The remote address, or the code of a fault.
     pub fn peer(&self) -> Told
         ensures { IsAddr result }
     {
@@ -151,7 +153,8 @@ impl Connection {
         }
     }
 
-    /// Releases a half, or both. One that the other end released before is released all the same.
+    /// Shuts down one half, or both. A fault of the system is ignored, so a half that the other end
+    /// shut down before counts as shut down.
     pub fn shutdown(&self, how: ShutdownType) {
         let how = match how {
             ShutdownType::Receive => Shutdown::Read,
@@ -179,6 +182,7 @@ impl Connection {
         told_set(self.stream.set_ttl(hop_limit_of(value)))
     }
 
+    /// Reads an option: the hop limit of an IPv4 socket; any other is `NotSupported`.
     pub fn option(&self, option: Opt) -> Told
         ensures { HasOption option IsValue (Connected self.now.fault) result (Connected self.now.fault) }
     {
@@ -188,6 +192,7 @@ impl Connection {
         }
     }
 
+    /// Sets an option: the hop limit of an IPv4 socket; any other is `NotSupported`.
     pub fn set_option(&self, option: Opt, value: u64) -> Told
         ensures { HasOption option IsDoneOrCode (Connected self.now.fault) result (Connected self.now.fault) }
     {

@@ -56,6 +56,7 @@ impl Listening {
         Ok(None)
     }
 
+    /// The local address, or the code of a fault.
     pub fn local(&self) -> Told
         ensures { IsAddr result }
     {
@@ -80,6 +81,7 @@ impl Listening {
         told_set(self.listener.set_ttl(hop_limit_of(value)))
     }
 
+    /// Reads an option: the hop limit of an IPv4 socket; any other is `NotSupported`.
     pub fn option(&self, option: Opt) -> Told
         ensures { HasOption option IsValue Listens result Listens }
     {
@@ -89,6 +91,7 @@ impl Listening {
         }
     }
 
+    /// Sets an option: the hop limit of an IPv4 socket; any other is `NotSupported`.
     pub fn set_option(&self, option: Opt, value: u64) -> Told
         ensures { HasOption option IsDoneOrCode Listens result Listens }
     {

@@ -13,15 +13,18 @@ use std::time::Clock;
 use wasi_addr::{ErrorCode, IpSocketAddress, ShutdownType, SocketAddressFamily, unspecified_addr};
 use wasi_world::{Call, Opt, Told};
 
-/// A network socket. The system has a socket for the last three alone.
+/// A network socket. The system has a socket for an arrival, a listener and a connection alone.
 #[derive(Drop)]
 pub enum Side {
+    /// Created, with this family.
     Unbound(SocketAddressFamily),
     /// The address of a bind, which is bound once the network socket listens.
     Bound(IpSocketAddress),
+    /// A listener.
     Listening(Listening),
     /// A connection that is neither handed over nor refused yet; the network socket has the name of its accept.
     Arrived(Arrival),
+    /// A connection that was made, or handed over.
     Connected(Connection),
 }
 

@@ -17,6 +17,7 @@ pub fn pause<R: Clock>(rt: &R) {
     thread::sleep(rt, Duration::from_millis(PAUSE));
 }
 
+/// How long a connect may take: ten seconds.
 pub fn connect_time() -> Duration {
     Duration::from_secs(CONNECT)
 }

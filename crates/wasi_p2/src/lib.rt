@@ -1,4 +1,5 @@
-//! The calls of the 0.2 interface, one function each, over a view of a context, a table and a store.
+//! The calls of the 0.2 interface, one function each, over a view of a context, a table and a
+//! store.
 #![tactic(auto)]
 
 ghost use Rattle.std.specs.Prelude.{◌≡◌, IfErr, IfOk, Ok, false};

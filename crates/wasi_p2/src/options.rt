@@ -68,7 +68,8 @@ fn set_option<W: World>(
     view.store.set_option(world, ids.own(), place, setting)
 }
 
-/// Whether probes are sent on a connection that is idle (`keep-alive-enabled`): any reported number but 0 is yes.
+/// Whether probes are sent on a connection that is idle (`keep-alive-enabled`): any reported number
+/// but 0 is yes.
 pub fn keep_alive_enabled<W: World>(
     view: &mut WasiSocketsCtxView<'_>,
     world: &mut W,
@@ -121,8 +122,9 @@ pub fn keep_alive_idle_time<W: World>(
     get_option(view, world, ids, this, Opt::KeepAliveIdleTime)
 }
 
-/// How long a connection is to be idle before the first probe, in nanoseconds (`set-keep-alive-idle-time`): brought into one
-/// second to 32,767 seconds. 0: `InvalidArgument`, in any state.
+/// How long a connection is to be idle before the first probe, in nanoseconds
+/// (`set-keep-alive-idle-time`): brought into one second to 32,767 seconds. 0: `InvalidArgument`,
+/// in any state.
 pub fn set_keep_alive_idle_time<W: World>(
     view: &mut WasiSocketsCtxView<'_>,
     world: &mut W,
@@ -157,8 +159,8 @@ pub fn keep_alive_interval<W: World>(
     get_option(view, world, ids, this, Opt::KeepAliveInterval)
 }
 
-/// The time from one probe to the next, in nanoseconds (`set-keep-alive-interval`): brought into one second to 32,767 seconds. 0:
-/// `InvalidArgument`, in any state.
+/// The time from one probe to the next, in nanoseconds (`set-keep-alive-interval`): brought into
+/// one second to 32,767 seconds. 0: `InvalidArgument`, in any state.
 pub fn set_keep_alive_interval<W: World>(
     view: &mut WasiSocketsCtxView<'_>,
     world: &mut W,
@@ -176,8 +178,8 @@ pub fn set_keep_alive_interval<W: World>(
     set_option(view, world, ids, this, Setting::KeepAliveInterval(value))
 }
 
-/// How many probes without an answer end a connection (`keep-alive-count`). A number above 4,294,967,295 that is reported:
-/// `NotSupported`.
+/// How many probes without an answer end a connection (`keep-alive-count`). A number above
+/// 4,294,967,295 that is reported: `NotSupported`.
 pub fn keep_alive_count<W: World>(
     view: &mut WasiSocketsCtxView<'_>,
     world: &mut W,
@@ -195,8 +197,8 @@ pub fn keep_alive_count<W: World>(
     Ok(value as u32)
 }
 
-/// How many probes without an answer are to end a connection (`set-keep-alive-count`): brought into 1 to 127. 0:
-/// `InvalidArgument`, in any state.
+/// How many probes without an answer are to end a connection (`set-keep-alive-count`): brought into
+/// 1 to 127. 0: `InvalidArgument`, in any state.
 pub fn set_keep_alive_count<W: World>(
     view: &mut WasiSocketsCtxView<'_>,
     world: &mut W,
@@ -232,7 +234,8 @@ pub fn hop_limit<W: World>(
     Ok(value as u8)
 }
 
-/// How many hops a packet is to live (`set-hop-limit`): set as it is. 0: `InvalidArgument`, where the state allows a set.
+/// How many hops a packet is to live (`set-hop-limit`): set as it is. 0: `InvalidArgument`, where
+/// the state allows a set.
 pub fn set_hop_limit<W: World>(
     view: &mut WasiSocketsCtxView<'_>,
     world: &mut W,
@@ -250,7 +253,8 @@ pub fn set_hop_limit<W: World>(
     set_option(view, world, ids, this, Setting::HopLimit(value))
 }
 
-/// The size of the buffer for what comes in, in bytes (`receive-buffer-size`): half of what is reported.
+/// The size of the buffer for what comes in, in bytes (`receive-buffer-size`): half of what is
+/// reported.
 pub fn receive_buffer_size<W: World>(
     view: &mut WasiSocketsCtxView<'_>,
     world: &mut W,
@@ -267,8 +271,8 @@ pub fn receive_buffer_size<W: World>(
     get_option(view, world, ids, this, Opt::ReceiveBufferSize)
 }
 
-/// The size of the buffer for what comes in, in bytes (`set-receive-buffer-size`): brought into 1 to 2,147,483,647. 0:
-/// `InvalidArgument`, where the state allows a set.
+/// The size of the buffer for what comes in, in bytes (`set-receive-buffer-size`): brought into 1
+/// to 2,147,483,647. 0: `InvalidArgument`, where the state allows a set.
 pub fn set_receive_buffer_size<W: World>(
     view: &mut WasiSocketsCtxView<'_>,
     world: &mut W,
@@ -286,7 +290,8 @@ pub fn set_receive_buffer_size<W: World>(
     set_option(view, world, ids, this, Setting::ReceiveBufferSize(value))
 }
 
-/// The size of the buffer for what goes out, in bytes (`send-buffer-size`): half of what is reported.
+/// The size of the buffer for what goes out, in bytes (`send-buffer-size`): half of what is
+/// reported.
 pub fn send_buffer_size<W: World>(
     view: &mut WasiSocketsCtxView<'_>,
     world: &mut W,
@@ -303,8 +308,8 @@ pub fn send_buffer_size<W: World>(
     get_option(view, world, ids, this, Opt::SendBufferSize)
 }
 
-/// The size of the buffer for what goes out, in bytes (`set-send-buffer-size`): brought into 1 to 2,147,483,647. 0:
-/// `InvalidArgument`, where the state allows a set.
+/// The size of the buffer for what goes out, in bytes (`set-send-buffer-size`): brought into 1 to
+/// 2,147,483,647. 0: `InvalidArgument`, where the state allows a set.
 pub fn set_send_buffer_size<W: World>(
     view: &mut WasiSocketsCtxView<'_>,
     world: &mut W,

@@ -153,8 +153,8 @@ fn make_streams<W: World>(
 
 /// Begins to make a socket listen (`start-listen`).
 ///
-/// - An operation in progress: `ConcurrencyConflict`. A socket that isn't bound, or was connected
-///   or is listening: `InvalidState`.
+/// - An operation in progress: `ConcurrencyConflict`. A socket that isn't bound, or that is
+///   connected, listening or closed: `InvalidState`.
 /// - While its check is pending, so is the call; then the listen is in progress until
 ///   [`finish_listen`].
 /// - One that is refused leaves the socket closed.

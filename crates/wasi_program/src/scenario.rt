@@ -18,7 +18,9 @@ const PIECE_SIZE: usize = 4096;
 /// Why a scenario wasn't read.
 #[derive(Clone, Copy, Debug, PartialEq, Eq)]
 pub enum Unread {
+    /// A read failed.
     Fault,
+    /// Memory ran out.
     Memory(AllocError),
 }
 
@@ -47,7 +49,9 @@ pub fn read_scenario<C: Source>(alloc: Global, scenario: &mut C) -> Result<Vec<u
 /// What a scenario plans and its contexts, or the first line that isn't in its grammar.
 #[derive(Drop)]
 pub enum Scenario {
+    /// The network that it plans, and its contexts.
     Planned(ScriptedWorld, Vec<WasiSocketsCtx>),
+    /// The number, counted from 1, of the first line that isn't in its grammar.
     BadLine(u32),
 }
 

@@ -8,14 +8,21 @@ use wasi_run::{RunEnd, RunError};
 /// How the program ended.
 #[derive(Clone, Copy, Debug, PartialEq, Eq)]
 pub enum Status {
+    /// All was done, or a step of the script trapped.
     Ok,
     /// The words aren't one of the forms.
     BadWords,
+    /// A line of the scenario isn't in its grammar.
     BadScenario,
+    /// A line of the script is no step.
     BadStep,
+    /// The script is longer than its limit.
     TooLong,
+    /// A read of the script failed.
     ReadFault,
+    /// A write of the replies failed.
     WriteFault,
+    /// Memory ran out.
     Memory,
     /// A read of the scenario failed.
     ScenarioFault,

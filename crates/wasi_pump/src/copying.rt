@@ -11,8 +11,8 @@ use wasi_streams::StreamError;
 use wasi_writer::AsyncWriteStream;
 use world_io::{Sink, Source};
 
-/// Copies until the source's end is read, and asks for a flush. Returns how many bytes were copied, or none where a stream
-/// told a fault or memory ran out.
+/// Copies until the source's end is read, and asks for a flush. Returns how many bytes were copied,
+/// or none where a stream told a fault or memory ran out.
 pub fn copy_all<
     S: Source + Drop + Send + 'static,
     K: Sink + Drop + Send + 'static,

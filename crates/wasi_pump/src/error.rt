@@ -17,6 +17,7 @@ pub enum PumpError {
     /// The sink counted a fault or a refused piece, and the source no fault.
     #[error("a write failed")]
     SinkFault,
+    /// Memory ran out.
     #[error("memory ran out")]
     Memory,
 }

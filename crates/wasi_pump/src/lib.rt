@@ -1,4 +1,5 @@
-//! Moves all bytes of a source to a sink, by a read stream and a write stream, each with a worker in a thread of its own.
+//! Moves all bytes of a source to a sink, by a read stream and a write stream, each with a worker
+//! in a thread of its own.
 #![tactic(auto)]
 
 mod copying;

@@ -15,9 +15,11 @@ pub struct Pumped<S, K> {
     pub outcome: Result<u64, PumpError>,
 }
 
-/// How a pump ends, whose streams ended so. The count is there where the source's end was read and a flush was accepted.
+/// How a pump ends, whose streams ended so. The count is there where the source's end was read and
+/// a flush was accepted.
 ///
-/// A source's fault goes first. Where neither stream met a fault and yet not all was moved, memory ran out.
+/// A source's fault goes first. Where neither stream met a fault and yet not all was moved, memory
+/// ran out.
 pub fn outcome_of(
     moved: Option<u64>,
     read: Result<(), Ended>,

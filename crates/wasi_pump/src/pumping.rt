@@ -19,17 +19,19 @@ use wasi_spawn::{Spawner, StartError};
 use wasi_writer::{AsyncWriteStream, WriteParts};
 use world_io::{Sink, Source};
 
-/// Moves all bytes of the source to the sink, by a read stream and a write stream with this budget, in bytes. Each has
-/// a worker in a thread of its own, that is started with `readers` and `writers`.
+/// Moves all bytes of the source to the sink, by a read stream and a write stream with this budget,
+/// in bytes. Each has a worker in a thread of its own, that is started with `readers` and
+/// `writers`.
 ///
-/// At Ok the source gave its end, the sink took exactly what the source gave, and was flushed. On every error the sink took a
-/// prefix of what the source gave. `NoBudget` is answered exactly where the budget is 0, `NoWorker` only where a spawner
-/// counted a refusal, `SourceFault` only where the source counted a fault, and `SinkFault` only where the sink counted a fault
-/// or a refused piece, and the source no fault.
+/// At Ok the source gave its end, the sink took exactly what the source gave, and was flushed. On
+/// every error the sink took a prefix of what the source gave. `NoBudget` is answered exactly where
+/// the budget is 0, `NoWorker` only where a spawner counted a refusal, `SourceFault` only where the
+/// source counted a fault, and `SinkFault` only where the sink counted a fault or a refused piece,
+/// and the source no fault.
 ///
-/// Takes memory for the streams and for each chunk that is read. At most the budget is held for the sink at a time, beside
-/// two chunks of at most 65536 bytes that were read ahead, and at most four buffers of 65536 bytes for further reads. It waits
-/// for its workers.
+/// Takes memory for the streams and for each chunk that is read. At most the budget is held for the
+/// sink at a time, beside two chunks of at most 65536 bytes that were read ahead, and at most four
+/// buffers of 65536 bytes for further reads. It waits for its workers.
 pub fn pump<
     S: Source + Drop + Send + 'static,
     K: Sink + Drop + Send + 'static,
@@ -75,7 +77,8 @@ fn unmoved<S, K>(source: S, sink: K, error: PumpError) -> Pumped<S, K>
     }
 }
 
-/// The same with streams of these parts, at names that are theirs.
+/// Moves all bytes of the source to the sink by two streams that are made of these parts, whose
+/// names `N` and `M` are.
 fn pump_by<
     S: Source + Drop + Send + 'static,
     K: Sink + Drop + Send + 'static,

@@ -12,8 +12,9 @@ use world_io::{Failed, Source};
 /// The most bytes of one read.
 pub const MOST_READ: usize = 65536;
 
-/// A buffer for reads. One that is full becomes a chunk, with no byte copied, and another takes its place: that of a chunk
-/// that was made so before and is held no more, where there is one. Contracts see its bytes.
+/// A buffer for reads. One that is full becomes a chunk, with no byte copied, and another takes its
+/// place: that of a chunk that was made so before and is held no more, where there is one.
+/// Contracts see its bytes.
 #[derive(Drop)]
 pub struct ReadBuffer {
     bytes: BytesMut,
@@ -66,7 +67,8 @@ impl ReadBuffer {
         Bytes::copy_from_slice(alloc, &self.bytes.as_slice()[..count])
     }
 
-    /// The whole buffer as a chunk. None where there is no memory for another buffer, and then its bytes stay.
+    /// The whole buffer as a chunk. None where there is no memory for another buffer, and then its
+    /// bytes stay.
     fn hand_over(&mut self, alloc: Global) -> Option<Bytes>
         ensures some { IfSome result (λ chunk. chunk ≡ self.old) }
         ensures none { IfNone result (self.new ≡ self.old) }

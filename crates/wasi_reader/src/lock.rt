@@ -18,7 +18,8 @@ use wasi_addr::ErrorCode;
 use wasi_pipes::ReadCore;
 use wasi_shared::{Line, PopEnd, PushEnd};
 
-/// The core of a read stream, beside what each side knows of it. One method is one hold of the lock.
+/// The core of a read stream, beside what each side knows of it. One method is one hold of the
+/// lock.
 #[derive(Drop)]
 pub struct Locked<N: Names> {
     core: ReadCore,
@@ -40,8 +41,8 @@ impl<N: Names> Locked<N> {
         }
     }
 
-    /// The owner takes the chunk in the slot, or is told how the stream ended, where it did. None where the line gave
-    /// no chunk, which is no event.
+    /// The owner takes the chunk in the slot, or is told how the stream ended, where it did. None
+    /// where the line gave no chunk, which is no event.
     pub fn take<R: Wait>(
         &mut self,
         rt: &R,
@@ -94,7 +95,8 @@ impl<N: Names> Locked<N> {
         self.worker.agree(worker);
     }
 
-    /// The worker puts a chunk into the slot, where that is empty, and pushes it in the same hold.
+    /// The worker puts a chunk into the slot, if that is empty, and pushes it onto the line, both
+    /// under one hold of the lock.
     pub fn offer<R: Wait>(
         &mut self,
         rt: &R,

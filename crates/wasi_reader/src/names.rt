@@ -7,8 +7,9 @@ use std::marker::{Brand, PhantomData};
 use std::sync::ledger::{Blank, Ledger};
 use wasi_shared::{Line, PopEnd, PushEnd, make_line};
 
-/// Which stream it is. A caller makes [`ReadParts`] and calls a function that is generic in `Names`, at
-/// [`Brand`], for which its proof picks the names of those parts; the function makes, uses and finishes the stream.
+/// Which stream it is. A caller makes [`ReadParts`] and calls a function that is generic in
+/// `Names`, at [`Brand`], for which its proof picks the names of those parts; the function makes,
+/// uses and finishes the stream.
 pub trait Names: LedgerNames {
     ghost use Rattle.std.specs.declared.alloc.Global.{Global};
     ghost use Rattle.crossbeam_queue.specs.SegTies.{SegId};

@@ -120,7 +120,8 @@ impl<N: LedgerNames> OwnerFacts<N> {
         self.heard.set(&mut keys.heard, stage);
     }
 
-    /// The owner was answered by this error. `Closed` reports the end of the source, unless the stream was stopped.
+    /// The owner was answered by this error. `Closed` reports the end of the source, unless the
+    /// stream was stopped.
     pub fn hear(&mut self, keys: &mut OwnerKeys<N>, error: &StreamError)
         requires agreed { self.old ≡ keys.old }
         requires first { self.old.heard ≡ Open }

@@ -14,7 +14,8 @@ use std::sync::{Condvar, Mutex, Wait};
 use wasi_addr::ErrorCode;
 use wasi_shared::{Line, PopEnd, PushEnd, count_left};
 
-/// The lock of a read stream, and its line beside it: chunks are pushed and popped under the lock alone.
+/// The lock of a read stream, and its line beside it: chunks are pushed and popped under the lock
+/// alone.
 #[derive(Drop)]
 pub struct Shared<N: Names> {
     lock: Mutex<Locked<N>>,
@@ -84,7 +85,8 @@ impl<N: Names> Shared<N> {
         self.room.notify_one();
     }
 
-    /// The worker puts a chunk into the slot, for which it waits until that is empty, or the stream is stopped.
+    /// The worker puts a chunk into the slot, for which it waits until that is empty, or the stream
+    /// is stopped.
     pub fn offer<R: Wait>(
         &self,
         rt: &R,

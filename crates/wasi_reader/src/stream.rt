@@ -28,13 +28,15 @@ use wasi_spawn::{Handle, Spawner, StartError};
 use wasi_streams::StreamError;
 use world_io::Source;
 
-/// A stream whose reads a worker makes, beside its owner (`AsyncReadStream` of the crate wasmtime-wasi).
+/// A stream whose reads a worker makes, beside its owner (`AsyncReadStream` of the crate
+/// wasmtime-wasi).
 ///
-/// The worker reads at most 65536 bytes at a time, one chunk ahead of the one that waits for the owner. Beside those it keeps
-/// a buffer of 65536 bytes, and the memory of at most three earlier chunks for later reads. It must be spent by
-/// [`finish`](AsyncReadStream::finish).
+/// The worker reads at most 65536 bytes at a time, one chunk ahead of the one that waits for the
+/// owner. Beside those it keeps a buffer of 65536 bytes, and the memory of at most three earlier
+/// chunks for later reads. It must be spent by [`finish`](AsyncReadStream::finish).
 ///
-/// Each call but [`new`](AsyncReadStream::new) takes a lock that the worker takes too, so it may wait.
+/// Each call but [`new`](AsyncReadStream::new) takes a lock that the worker takes too, so it may
+/// wait.
 pub struct AsyncReadStream<S: Source + Drop + Send + 'static, N: Names + Send + Sync + 'static> {
     shared: Arc<Shared<N>, Global>,
     pop: PopEnd,
@@ -67,8 +69,8 @@ impl<S: Source + Drop + Send + 'static, N: Names + Send + Sync + 'static> Model
 }
 
 impl<S: Source + Drop + Send + 'static, N: Names + Send + Sync + 'static> AsyncReadStream<S, N> {
-    /// Starts a worker for the source. Where there is none, the source comes back: as `NoWorker` only where the
-    /// spawner counted a refusal, as `Memory` for lack of memory.
+    /// Starts a worker for the source. Where there is none, the source comes back: as `NoWorker`
+    /// only where the spawner counted a refusal, as `Memory` for lack of memory.
     ///
     /// The parts are those of `N`'s names.
     pub fn new<P: Spawner, R: Threads + Wait + Copy + Send + 'static>(
@@ -130,9 +132,10 @@ impl<S: Source + Drop + Send + 'static, N: Names + Send + Sync + 'static> AsyncR
 
     /// Reads at most `size` bytes; no bytes where there is nothing yet.
     ///
-    /// Gives the front of the chunk that was taken last, and takes the next where nothing is left of that. Where there is none,
-    /// reports a fault of the worker once, and then `Closed`, as after the end and after [`cancel`](AsyncReadStream::cancel).
-    /// Where the worker ran out of memory, that is reported like a fault. Takes memory to cut a chunk, and running out of it
+    /// Gives the front of the chunk that was taken last, and takes the next where nothing is left
+    /// of that. Where there is none, reports a fault of the worker once, and then `Closed`, as
+    /// after the end and after [`cancel`](AsyncReadStream::cancel). Where the worker ran out of
+    /// memory, that is reported like a fault. Takes memory to cut a chunk, and running out of it
     /// loses nothing; no byte is copied.
     pub fn read<R: Wait>(&mut self, rt: &R, size: usize) -> Result<Bytes, StreamError>
         ensures read { HasRead self.old size result self.new }
@@ -200,8 +203,8 @@ impl<S: Source + Drop + Send + 'static, N: Names + Send + Sync + 'static> AsyncR
         self.shared.wait_ready(rt, &mut self.keys);
     }
 
-    /// Stops the stream. The worker's current call of the source continues to its end. What was read before is still given,
-    /// and a kept fault reported; later reads are answered `Closed`.
+    /// Stops the stream. The worker's current call of the source continues to its end. What was
+    /// read before is still given, and a kept fault reported; later reads are answered `Closed`.
     pub fn cancel<R: Wait>(&mut self, rt: &R)
         ensures { self.new ≡ record self.old { stopped = true } }
     {
@@ -210,9 +213,9 @@ impl<S: Source + Drop + Send + 'static, N: Names + Send + Sync + 'static> AsyncR
 
     /// Stops the stream, waits for the worker, and gives the source back.
     ///
-    /// In every case what reads gave is a prefix of what the source gave, in order, and all of it where a read reported the
-    /// end. It is Ok where the source gave its end, `Fault` where a read of it failed, `Memory` where the worker found
-    /// none, else `Cancelled`.
+    /// In every case what reads gave is a prefix of what the source gave, in order, and all of it
+    /// where a read reported the end. It is Ok where the source gave its end, `Fault` where a read
+    /// of it failed, `Memory` where the worker found none, else `Cancelled`.
     pub fn finish<P: Spawner, R: Threads + Wait>(self, rt: &R, spawner: &mut P) -> Finished<S>
         ensures finished { HasFinished self (S.reading result.inner) result.outcome }
         ensures starts { P.starts spawner.new ≡ P.starts spawner.old }

@@ -67,8 +67,8 @@ impl<N: Names> WorkerSide<N> {
         shared.offer(rt, keys, push, chunk)
     }
 
-    /// Hands the first bytes of the buffer on as a chunk. Returns how the worker stops, where it does: it is stopped (at
-    /// `Open`), or runs out of memory.
+    /// Hands the first bytes of the buffer on as a chunk. Returns how the worker stops, where it
+    /// does: it is stopped (at `Open`), or runs out of memory.
     fn hand_on<R: Wait>(&mut self, rt: &R, buffer: &mut ReadBuffer, count: usize) -> Option<Stage>
         requires filled { (0 < count) × (count ≤ length buffer.old) }
         requires open { self.old.keys.stage ≡ Open }

@@ -1,4 +1,5 @@
-//! The calls that a script's steps make, over a view of the line's context, the table and the store.
+//! The calls that a script's steps make, over a view of the line's context, the table and the
+//! store.
 
 ghost use Rattle.std.specs.Result.{result_map_both};
 ghost use Rattle.std.specs.Prelude.{◌≡◌, ◌&&◌, is_some, false};

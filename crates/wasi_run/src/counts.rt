@@ -69,8 +69,8 @@ fn taken_bytes(log: &[Entry]) -> u64
     taken
 }
 
-/// A run of a generated script ends with no other error than out of memory: its lines are steps, its source doesn't fail,
-/// and its sink only for lack of it.
+/// A run of a generated script ends with no other error than out of memory: its lines are steps,
+/// its source doesn't fail, and its sink only for lack of it.
 fn no_memory(error: RunError) -> AllocError
     requires { IsOwn error }
 {

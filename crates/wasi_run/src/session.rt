@@ -14,8 +14,8 @@ use wasi_host::Machine;
 use wasi_steps::{Reply, Step};
 use wasi_world::{WasiSocketsCtx, World};
 
-/// The host's state behind a guest's calls, and how many steps it has done. Each step has the number of its line, counted
-/// from 1, which names the operations that it begins.
+/// The host's state behind a guest's calls, and how many steps it has done. Each step has the
+/// number of its line, counted from 1, which names the operations that it begins.
 #[derive(Drop)]
 pub struct Session {
     pub machine: Machine,

@@ -1,6 +1,7 @@
 //! How a worker stream ended.
 
-/// What a stream's `finish` gives back: the source or the sink that it was made with, and how it ended.
+/// What a stream's `finish` gives back: the source or the sink that it was made with, and how it
+/// ended.
 #[derive(Debug, PartialEq, Eq, Drop)]
 pub struct Finished<T> {
     /// The source or the sink.

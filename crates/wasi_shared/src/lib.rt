@@ -1,5 +1,5 @@
-//! What the two sides of a worker stream share: facts and counts under a lock that one side alone changes, a line of
-//! chunks, first in first out, and how a stream ends.
+//! What the two sides of a worker stream share: facts and counts under a lock that one side alone
+//! changes, a line of chunks, first in first out, and how a stream ends.
 #![tactic(auto)]
 
 pub mod count;

@@ -31,7 +31,7 @@ impl Drop for Line {
     }
 }
 
-/// The right to push. Contracts see the line that it is for, and the chunks that were pushed.
+/// The right to push onto a line. Contracts see which line, and the chunks that were pushed.
 #[derive(Drop)]
 pub struct PushEnd {
     pass: Pass,
@@ -50,7 +50,7 @@ impl Model for PushEnd {
     ghost invariant = { λ end. IsSegPassOf (line_at end.pass.web end.pass.heap) end.pass × (end.pass.me.view.client ≡ log true false end.pass.me.view.client.pushed []) };
 }
 
-/// The right to pop. Contracts see the line that it is for, and the chunks that were popped.
+/// The right to pop from a line. Contracts see which line, and the chunks that were popped.
 #[derive(Drop)]
 pub struct PopEnd {
     pass: Pass,

@@ -1,4 +1,5 @@
-//! The rule of a line of chunks: what was pushed is what was popped, and then what the line holds; and each chunk has bytes.
+//! The rule of a line of chunks: what was pushed is what was popped, and then what the line holds;
+//! and each chunk has bytes.
 
 use bytes::Bytes;
 use crossbeam_queue::protocol::{Join, Lesson, Outcome, Protocol, Split};

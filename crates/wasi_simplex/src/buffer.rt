@@ -5,7 +5,8 @@ ghost use Rattle.std.specs.Prelude.{◌≡◌, ◌-◌, ◌++◌, [], IfOk, true
 use std::alloc::{AllocError, Global};
 use std::marker::Model;
 
-/// The bytes that were written and not read, and which ends are gone. It never holds more than its capacity.
+/// The bytes that were written and not read, and which ends are gone. It never holds more than its
+/// capacity.
 #[derive(Drop)]
 pub struct Buffer {
     bytes: Vec<u8>,

@@ -18,7 +18,8 @@ struct Pipe {
 }
 
 impl Pipe {
-    /// Waits for bytes, and moves them to the front of `buf`, which isn't empty. None once the writer is gone.
+    /// Waits for bytes, and moves them to the front of `buf`, which isn't empty. None once the
+    /// writer is gone.
     fn read<R: Wait>(&self, rt: &R, buf: &mut [u8]) -> usize
         ensures fits { result ≤ length buf.old }
         ensures len { length buf.new ≡ length buf.old }
@@ -38,7 +39,8 @@ impl Pipe {
         unreachable!()
     }
 
-    /// Waits for room, and takes in as much of the bytes, which are some, as there is room for. None once the reader is gone.
+    /// Waits for room, and takes in as much of the bytes, which are some, as there is room for.
+    /// None once the reader is gone.
     fn write<R: Wait>(&self, rt: &R, bytes: &[u8]) -> Option<usize>
         ensures { IfSome result (λ count. (0 < count) × (count ≤ length bytes.now)) }
     {
@@ -58,7 +60,8 @@ impl Pipe {
     }
 }
 
-/// A pipe that holds at most so many bytes, which are at least 1: its ends. The memory for all of them is taken here.
+/// A pipe that holds at most so many bytes, which are at least 1: its ends. The memory for all of
+/// them is taken here.
 pub fn simplex<R: Wait + Copy>(
     rt: &R,
     alloc: Global,
@@ -88,7 +91,8 @@ pub fn simplex<R: Wait + Copy>(
     Ok((reader, writer))
 }
 
-/// The reading end. A read waits for bytes; it gives the end once the writer is gone and all was read. None fails.
+/// The reading end. A read waits for bytes; it gives the end once the writer is gone and all was
+/// read. None fails.
 pub struct SimplexReader<R: Wait + Copy> {
     rt: R,
     pipe: Arc<Pipe, Global>,

@@ -6,8 +6,8 @@ ghost use Rattle.wasi_world.specs.Seen.{Rose};
 
 use crate::spawner::{Spawner, one_more};
 
-/// Refuses the starts of these numbers, counted from 1, and starts the others as [`ThreadSpawner`](crate::ThreadSpawner)
-/// does.
+/// Refuses the starts of these numbers, counted from 1, and starts the others as
+/// [`ThreadSpawner`](crate::ThreadSpawner) does.
 #[derive(Drop)]
 pub struct FakeSpawner {
     refuse: Vec<u32>,

@@ -3,8 +3,8 @@
 use std::sync::Wait;
 use std::thread::Threads;
 
-/// Work that is done once, in a thread of its own or in that of its owner. What it means is its ghost `may_give`: the
-/// results that it may give.
+/// Work that is done once, in a thread of its own or in that of its owner. What it means is its
+/// ghost `may_give`: the results that it may give.
 pub trait Job: Drop + Send + 'static {
     /// What it gives.
     type Out: Drop + Send + 'static;

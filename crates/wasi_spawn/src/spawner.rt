@@ -14,11 +14,11 @@ use std::alloc::Global;
 use std::sync::Wait;
 use std::thread::Threads;
 
-/// Starts jobs in threads of their own, and counts its starts and its refusals. Neither count ever falls; each is kept in
-/// 64 bits and stays at its top.
+/// Starts jobs in threads of their own, and counts its starts and its refusals. Neither count ever
+/// falls; each is kept in 64 bits and stays at its top.
 ///
-/// An implementing type decides whether a start is tried, and counts. How a job is started and joined is the same for
-/// all.
+/// An implementing type decides whether a start is tried, and counts. It doesn't change how a job
+/// is started and joined.
 pub trait Spawner {
     ghost refusals: { Self → ℕ };
 
@@ -43,8 +43,8 @@ pub trait Spawner {
         ensures never_falls { starts self.old ≤ starts self.new }
         ensures refusals { refusals self.new ≡ refusals self.old };
 
-    /// Starts a job. Where that isn't Ok the same job comes back: in `NoWorker` only where a refusal was counted, in
-    /// `Memory` for lack of memory alone.
+    /// Starts a job. Where that fails, the job comes back: in `NoWorker` only where a refusal was
+    /// counted, in `Memory` for lack of memory alone.
     final fn start<J: Job, R: Threads + Wait + Copy + Send + 'static>(
         &mut self,
         rt: &R,
@@ -76,8 +76,8 @@ pub trait Spawner {
         }
     }
 
-    /// Waits for a started job, and gives one of the results that the job may give. A job that its thread gave back is
-    /// run here.
+    /// Waits for a started job, and gives one of the results that the job may give. A job that its
+    /// thread gave back is run here.
     final fn join<J: Job, R: Threads + Wait>(&mut self, rt: &R, handle: Handle<J>) -> J::Out
     where
         Self: Sized,

@@ -32,8 +32,9 @@ fn run_unless<J: Job, R: Threads + Wait + Drop>(
 
 /// Starts a job in a thread of its own.
 ///
-/// Std hands back a refused closure and not the job in it. So the closure looks at a flag of this start alone, and gives
-/// its job back where that is set. Should it give a result in place of the job, the result is kept in the handle.
+/// Std hands back a refused closure and not the job in it. So the closure looks at a flag of this
+/// start alone, and gives its job back where that is set. Should it give a result in place of the
+/// job, the result is kept in the handle.
 pub fn start_thread<J: Job, R: Threads + Wait + Copy + Send + 'static>(
     rt: &R,
     alloc: Global,

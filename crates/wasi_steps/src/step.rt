@@ -292,7 +292,7 @@ pub enum Step {
         context: u32,
         pollable: Handle,
     },
-    /// Polls the pending call with this number, that of the line that began it.
+    /// Waits until what one of the pollables watches is ready (`poll`).
     PollList {
         context: u32,
         pollables: NumberList,
@@ -321,7 +321,7 @@ pub enum Step {
     /// The host's background work goes on: each write, datagram, receive and lookup in progress is
     /// polled once.
     Turn,
-    /// Polls the pending call under this number, which is that of the line that began it.
+    /// Polls the pending call with this number, that of the line that began it.
     Poll {
         call: u32,
     },

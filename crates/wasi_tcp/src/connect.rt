@@ -13,8 +13,9 @@ use wasi_world::{Answer, Refusal, Sock, World, asks};
 /// The next call of a connect.
 #[derive(Clone, Copy, Debug, PartialEq, Eq)]
 pub enum ConnectStage {
-    /// The check of the remote address.
+    /// The check of the wildcard, for the bind of a socket that wasn't bound.
     CheckWildcard,
+    /// The check of the remote address.
     Check,
     /// The connect.
     Connect,

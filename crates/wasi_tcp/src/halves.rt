@@ -50,8 +50,8 @@ pub(crate) fn answered<T: Drop>(
 }
 
 impl TcpReceiveStream {
-    /// Reads at most `size` bytes, and at most 65,536; an answer of no bytes is the end. Where
-    /// `size` is 0 the answer is no bytes, and nothing is asked.
+    /// Whether there is something to read: bytes, the end or a code. Out of memory nothing was
+    /// asked.
     pub fn poll_ready<W: World>(
         &mut self,
         world: &mut W,
@@ -66,8 +66,8 @@ impl TcpReceiveStream {
         asks::read_ready(world, op, self.side)
     }
 
-    /// Reads at most `size` bytes, and at most 65536; no bytes that are ready are the end. Where `size` is 0 there are
-    /// no bytes, and nothing is asked.
+    /// Reads at most `size` bytes, and at most 65,536; an answer of no bytes is the end. Where
+    /// `size` is 0 the answer is no bytes, and nothing is asked.
     pub fn poll_read<W: World>(
         &mut self,
         alloc: Global,

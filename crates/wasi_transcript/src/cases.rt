@@ -40,7 +40,7 @@ impl<'a> TextLines<'a> {
         self.number
     }
 
-    /// Takes the next line, without its newline. There is none where no newline is left.
+    /// Takes the next line, without its newline; `None` where no newline is left.
     pub fn next(&mut self) -> Option<&'a [u8]>
         ensures line { IfSome result (λ line. lines_of self.old ≡ line.now ∷ lines_of self.new) }
         ensures rest { IfSome result (λ line. rest_of self.old ≡ rest_of self.new) }
@@ -55,7 +55,7 @@ impl<'a> TextLines<'a> {
         Some(&rest[..end])
     }
 
-    /// Takes the next line if it begins so, and gives what follows.
+    /// Takes the next line if it begins with `front`, and gives what follows that.
     pub fn next_after(&mut self, front: &[u8]) -> Option<&'a [u8]>
         ensures { TakesAfter front.now self.old self.new (option_copied result) }
     {
@@ -77,7 +77,7 @@ impl<'a> TextLines<'a> {
     }
 }
 
-/// What follows the front of a line, if it begins so.
+/// What follows `front` in a line; `None` where the line doesn't begin with it.
 #[tactic(auto, unfolding(crate::specs::Cases::after))]
 pub fn after<'a>(line: &'a [u8], front: &[u8]) -> Option<&'a [u8]>
     ensures { option_copied result ≡ after front.now line.now }
@@ -97,7 +97,7 @@ pub struct Case<'a> {
     pub scenario: Vec<u8>,
     /// The lines of the script, each with its newline.
     pub script: Vec<u8>,
-    /// The lines of the transcript, each with its newline, and the number of the first.
+    /// The lines of the transcript that is wanted, each with its newline.
     pub wanted: Vec<u8>,
     pub first_line: u32,
 }
@@ -121,7 +121,7 @@ fn read_planned(alloc: Global, lines: &mut TextLines<'_>) -> Result<Vec<u8>, All
     Ok(scenario)
 }
 
-/// Appends the line of a script, where a line of its transcript has one.
+/// Appends the line of a script, if this line of its transcript shows one.
 fn push_step(script: &mut Vec<u8>, line: &[u8]) -> Result<(), AllocError>
     ensures { OnOk result (PushesStep line.now script.old.items script.new.items (after (codes "> ") line.now)) }
 {
@@ -154,8 +154,8 @@ fn read_shown(alloc: Global, lines: &mut TextLines<'_>) -> Result<Option<Shown>,
     Ok(None)
 }
 
-/// Reads the next case, if the lines that are left begin with one. Takes memory for its texts. Where there is none, or
-/// memory ran out, nothing is said of the lines that are left.
+/// Reads the next case, if the lines that are left begin with one. Takes memory for its texts.
+/// Where there is none, or memory ran out, it may have taken some of the lines.
 pub fn read_case<'a>(
     alloc: Global,
     lines: &mut TextLines<'a>,

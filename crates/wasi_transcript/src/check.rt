@@ -37,8 +37,9 @@ fn copy_of(alloc: Global, bytes: &[u8]) -> Result<Vec<u8>, AllocError>
     Ok(copy)
 }
 
-/// Runs a script in a scenario's contexts over the network that it plans, and gives its transcript. The script may have
-/// 4,294,967,295 bytes. Takes memory for the script and its transcript, besides what the run takes.
+/// Runs a script in a scenario's contexts over the network that it plans, and returns its
+/// transcript. The script may have 4,294,967,295 bytes. Takes memory for the script and its
+/// transcript, beside what the run takes.
 pub fn run_case(alloc: Global, scenario: &[u8], script: &[u8]) -> Result<Came, AllocError>
     ensures { IfOk result (λ came. CameOf scenario.now script.now came) }
 {
@@ -64,7 +65,7 @@ pub fn run_case(alloc: Global, scenario: &[u8], script: &[u8]) -> Result<Came, A
 }
 
 impl Came {
-    /// Whether it is the transcript that is wanted.
+    /// Whether this is the transcript that is wanted.
     pub fn is(&self, wanted: &[u8]) -> bool
         ensures { IsTrue result ↔ CameAs wanted.now self.now }
     {
@@ -75,7 +76,7 @@ impl Came {
     }
 }
 
-/// A case that doesn't hold: the number of its first line, counted from 1, and what came of it.
+/// A case that doesn't hold: the number of its first line, counted from 1, and what it came to.
 #[derive(Drop)]
 pub struct Failed<'a> {
     pub line: u32,
@@ -83,19 +84,20 @@ pub struct Failed<'a> {
     pub came: Came,
 }
 
-/// How a file of transcripts was found.
+/// What the check of a file of transcripts found.
 #[derive(Drop)]
 pub enum Checked<'a> {
-    /// All its cases hold, so many. The count stays at its top.
+    /// All its cases hold; their number, up to the greatest `u32`.
     Holds(u32),
-    /// The first case that doesn't.
+    /// The first case that doesn't hold.
     Fails(Failed<'a>),
     /// The text from this line on isn't a list of cases.
     NotCases(u32),
 }
 
-/// Runs the cases of a file in order, up to the first that doesn't hold. A case holds exactly where its transcript is
-/// the one that `show_script` prints of its script over its scenario. Takes memory for one case at a time.
+/// Runs the cases of a file in order, up to the first that doesn't hold. A case holds exactly where
+/// `show_script` prints its transcript for its script and its scenario. Takes memory for one case
+/// at a time.
 pub fn check_text(alloc: Global, text: &[u8]) -> Result<Checked<'_>, AllocError>
     ensures { IfOk result (λ checked. ChecksText text.now checked) }
 {

@@ -18,8 +18,9 @@ use world_text::EntryText;
 /// What became of a line, with its part of the transcript.
 #[derive(Drop)]
 pub enum LineEnd {
+    /// The step was done, and the script goes on.
     Answered(Vec<u8>),
-    /// The reply is a trap, which ends the run.
+    /// The step trapped, which ends the run.
     Trapped(Vec<u8>),
     /// The line is no step of one of the contexts.
     NoStep,
@@ -73,7 +74,8 @@ pub fn no_step_text(alloc: Global, line: &[u8]) -> Result<Vec<u8>, AllocError>
     Ok(text)
 }
 
-/// Does the next line of a script, and gives its part of the transcript. Takes memory for that and for what the step makes.
+/// Does the next line of a script, and gives its part of the transcript. Takes memory for that and
+/// for what the step makes.
 pub fn do_line(
     alloc: Global,
     session: &mut Session,

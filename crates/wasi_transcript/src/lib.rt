@@ -1,5 +1,5 @@
-//! Transcripts of scripts: each line of a script, beneath it the calls that it made on the network, and its reply; and
-//! files of transcripts that are run again and compared.
+//! Transcripts of scripts: each line of a script, beneath it the calls that it made on the network,
+//! and its reply; and files of transcripts that are run again and compared.
 #![tactic(auto)]
 
 pub mod cases;

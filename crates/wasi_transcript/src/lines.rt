@@ -27,8 +27,8 @@ pub enum NextLine {
     Failed,
 }
 
-/// Reads the lines that a source gives, each as soon as it is whole. It reads at most one byte past a limit, and holds
-/// at most 4096 bytes that it has read and not given.
+/// Reads the lines of a source, each as soon as it is whole. It reads at most one byte past its
+/// limit, and holds at most 4,096 bytes that it has read and not given.
 #[derive(Drop)]
 pub struct LineReader {
     piece: Vec<u8>,
@@ -68,7 +68,8 @@ impl LineReader {
         }
     }
 
-    /// Takes the rest of a line from what is held, if it is whole; else all that is held is a prefix of it.
+    /// Takes the rest of a line from what is held, and returns `true` where it is whole; else it
+    /// takes all that is held.
     fn take_line(&mut self, line: &mut Vec<u8>) -> Result<bool, AllocError>
         ensures whole { IfOk result (λ whole. TakesLine self.old self.new line.old.items line.new.items whole) }
         ensures limit { self.new.limit ≡ self.old.limit }
@@ -112,9 +113,9 @@ impl LineReader {
         Ok(Piece::Some)
     }
 
-    /// Puts the next line, without its newline, in place of what `line` holds; takes memory for it. Where there is no
-    /// whole line any more, `line` is what follows the last newline within the limit. After running out of memory
-    /// nothing is said of what is held.
+    /// Puts the next line, without its newline, into `line`, in place of what that held. Where no
+    /// whole line is left, `line` is what follows the last newline within the limit. Takes memory
+    /// for the line; out of memory, some of what was held may be lost.
     pub fn next<S: Source>(
         &mut self,
         source: &mut S,

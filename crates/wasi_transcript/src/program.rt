@@ -17,7 +17,8 @@ use world_text::fields::number;
 /// How the program ended.
 #[derive(Clone, Copy, Debug, PartialEq, Eq)]
 pub enum End {
-    /// As a run of the script ends; the line is that of a bad line of the scenario or of the script, else 0.
+    /// The script's run ended with this status; the line is that of a bad line of the scenario or
+    /// of the script, else 0.
     Run(Status, u32),
     /// A case doesn't hold.
     Differs,
@@ -80,7 +81,8 @@ pub fn words_in(words: &[String]) -> Option<Words<'_>>
     Some(Words::Check(files))
 }
 
-/// Reads the scenario, and prints the transcript of the script that the source gives over its network.
+/// Reads the scenario, and prints the transcript of the script that the source gives over its
+/// network.
 pub fn show<C: Source, S: Source, K: Sink>(
     alloc: Global,
     limit: u32,
@@ -105,7 +107,8 @@ pub fn show<C: Source, S: Source, K: Sink>(
     }
 }
 
-/// Checks the text of a file of transcripts, and prints what was found: that all cases hold, or the first that doesn't.
+/// Checks the text of a file of transcripts, and prints what was found: that all cases hold, or the
+/// first that doesn't.
 pub fn check<K: Sink>(alloc: Global, file: &str, text: &[u8], sink: &mut K) -> End
     ensures { CheckEnds text.now result }
 {

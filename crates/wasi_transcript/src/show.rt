@@ -18,20 +18,25 @@ use wasi_world::WasiSocketsCtx;
 use world_io::{Sink, Source};
 use world_scripted::ScriptedWorld;
 
-/// Why no more lines are done, where neither memory ran out nor a write failed.
+/// Why the lines of a script end, where neither memory ran out nor a write failed.
 #[derive(Clone, Copy, Debug, PartialEq, Eq)]
 pub enum Stop {
+    /// The source ended after the last whole line.
     AllRead,
+    /// A step trapped.
     Trapped,
+    /// The line with this number, counted from 1, is no step.
     BadStep(u32),
+    /// The script is longer than its limit.
     TooLong,
+    /// A read of the script failed.
     ReadFault,
 }
 
 impl Stop {
     ghost use Rattle.wasi_transcript.specs.Shown.{outcome_of};
 
-    /// How the run of the script ends so.
+    /// The outcome of a run that ends for this reason.
     pub fn outcome(self) -> Result<RunEnd, RunError>
         ensures { result ≡ outcome_of self }
     {
@@ -57,8 +62,8 @@ fn put<K: Sink>(writer: &mut K, text: &[u8]) -> Result<(), RunError>
     }
 }
 
-/// Does the lines of a script until it stops, and prints what became of each as soon as it is done. `line` is then the
-/// last line that was read.
+/// Does the lines of a script until it stops, and prints what became of each as soon as it is done.
+/// `line` is then the last line that was read.
 fn show_lines<S: Source, K: Sink>(
     alloc: Global,
     session: &mut Session,
@@ -110,8 +115,8 @@ fn stop_text(alloc: Global, stop: Stop, line: &[u8]) -> Result<Vec<u8>, AllocErr
     }
 }
 
-/// The last lines of a transcript: the line that is no step, where one stopped the run, and how many sockets the end of
-/// the run closed.
+/// The last lines of a transcript: the line that is no step, if one stopped the run, and how many
+/// sockets the end of the run closed. Takes memory for them.
 fn ending_text(alloc: Global, stop: Stop, line: &[u8], closings: u64) -> Result<Vec<u8>, AllocError>
     ensures { IfOk result (λ text. text.items ≡ ending_text stop line.now closings) }
 {
@@ -121,13 +126,16 @@ fn ending_text(alloc: Global, stop: Stop, line: &[u8], closings: u64) -> Result<
     Ok(text)
 }
 
-/// Runs the script that the reader gives over a scripted network, and prints its transcript: each line behind `> `, the
-/// calls that it made on the network, its reply, and at last how many sockets the end of the run closed.
+/// Runs the script that the reader gives over a scripted network, and prints its transcript: each
+/// line behind `> `, the calls that it made on the network, and its reply; and at last how many
+/// sockets the end of the run closed.
 ///
-/// Lines are done in order, as `wasi_run::run_script` does them, and each is printed as soon as it is done. At a line
-/// that is no step the transcript has that line and `no step` below it. Where memory ran out nothing more is printed.
-/// The writer isn't flushed. At every return the end mark is set, and the open sockets are closed. Takes memory for the
-/// text of one line at a time, besides what the steps take.
+/// - Lines are done in order, as `wasi_run::run_script` does them, and each is printed as soon as
+///   it is done.
+/// - A line that is no step is printed with `no step` below it. Out of memory nothing more is
+///   printed.
+/// - At every return the end mark is set and the open sockets are closed. The writer isn't flushed.
+/// - Takes memory for the text of one line at a time, beside what the steps take.
 pub fn show_script<S: Source, K: Sink>(
     alloc: Global,
     world: &mut ScriptedWorld,

@@ -34,8 +34,9 @@ pub struct Destination {
 pub enum SendStage {
     /// None: the datagram can't be sent, and the next poll returns this code.
     Refused(ErrorCode),
-    /// The check of the address.
+    /// The check of the wildcard, for the bind of a socket that wasn't bound.
     CheckWildcard(Destination),
+    /// The check of the address.
     Check(Destination),
     /// The send.
     Send(Destination),

@@ -147,11 +147,11 @@ pub enum Call {
     ReadReady {
         sock: Sock,
     },
-    /// Offers bytes, of which the log keeps the number alone; made by [`crate::World::write`].
+    /// Whether a write would be answered now.
     WriteReady {
         sock: Sock,
     },
-    /// Made by [`crate::World::write`], which is given the bytes.
+    /// Offers bytes, of which the log keeps the number alone; made by [`crate::World::write`].
     Write {
         sock: Sock,
         offered: u32,

@@ -1,7 +1,7 @@
 //! The write stream whose writes a worker makes.
 //!
-//! What the two sides have under one lock is in `lock`, how they wait for each other in `shared`, and what each of them
-//! knows while the other has the lock in `owner_facts` and `worker_facts`.
+//! What the two sides have under one lock is in `lock`, how they wait for each other in `shared`,
+//! and what each of them knows while the other has the lock in `owner_facts` and `worker_facts`.
 #![tactic(auto)]
 
 mod lock;

@@ -19,7 +19,8 @@ use wasi_pipes::{Work, WriteCore};
 use wasi_shared::{Line, PopEnd, PushEnd};
 use wasi_streams::StreamError;
 
-/// The core of a write stream, beside what each side knows of it. One method is one hold of the lock.
+/// The core of a write stream, beside what each side knows of it. One method is one hold of the
+/// lock.
 #[derive(Drop)]
 pub struct Locked<N: Names> {
     core: WriteCore,
@@ -44,9 +45,10 @@ impl<N: Names> Locked<N> {
         }
     }
 
-    /// The owner writes a chunk, which is pushed in the same hold. An empty one isn't pushed.
+    /// The owner writes a chunk: it is accepted and pushed onto the line, both under one hold of
+    /// the lock. An empty one isn't pushed.
     ///
-    /// Running out of memory changes nothing.
+    /// Out of memory nothing changes.
     pub fn write<R: Wait>(
         &mut self,
         rt: &R,
@@ -132,7 +134,8 @@ impl<N: Names> Locked<N> {
         self.owner.stop(keys, done);
     }
 
-    /// Where nothing is left to wait for, the owner stops the stream, and is told whether it was stopped before.
+    /// Where nothing is left to wait for, the owner stops the stream, and is told whether it was
+    /// stopped before.
     pub fn close(&mut self, keys: &mut OwnerKeys<N>) -> Option<bool>
         ensures was { IfSome result (λ cancelled. cancelled ≡ keys.old.stopped) }
         ensures some { OnSome result (keys.new ≡ record keys.old { stopped = true; done = not keys.old.stopped || keys.old.done }) }

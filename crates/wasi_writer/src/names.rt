@@ -1,4 +1,5 @@
-//! What tells one write stream from another in proofs: its line, its initial budget and its ledgers.
+//! What tells one write stream from another in proofs: its line, its initial budget and its
+//! ledgers.
 
 ghost use Rattle.std.specs.Prelude.{◌≡◌, [], IfOk};
 
@@ -7,8 +8,9 @@ use std::marker::{Brand, PhantomData};
 use std::sync::ledger::{Blank, Ledger};
 use wasi_shared::{Line, PopEnd, PushEnd, make_line};
 
-/// Which stream it is. A caller makes [`WriteParts`] and calls a function that is generic in `Names`, at
-/// [`Brand`], for which its proof picks the names of those parts; the function makes, uses and finishes the stream.
+/// Which stream it is. A caller makes [`WriteParts`] and calls a function that is generic in
+/// `Names`, at [`Brand`], for which its proof picks the names of those parts; the function makes,
+/// uses and finishes the stream.
 pub trait Names: LedgerNames {
     ghost use Rattle.std.specs.Prelude.{ℕ};
     ghost use Rattle.std.specs.declared.alloc.Global.{Global};

@@ -5,7 +5,8 @@ ghost use Rattle.wasi_writer.specs.Worked.{TookAll, TookFault};
 
 use world_io::{Failed, Sink};
 
-/// Writes all of the bytes, some at a time. Fails where a write fails, or takes nothing of what is left.
+/// Writes all of the bytes, some at a time. Fails where a write fails, or takes nothing of what is
+/// left.
 pub fn write_all<K: Sink>(sink: &mut K, bytes: &[u8]) -> Result<(), Failed>
     ensures ok { OnOk result (TookAll (K.writing sink.old) bytes.now (K.writing sink.new)) }
     ensures err { OnErr result (TookFault (K.writing sink.old) bytes.now (K.writing sink.new)) }

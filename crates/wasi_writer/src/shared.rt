@@ -14,7 +14,8 @@ use wasi_addr::ErrorCode;
 use wasi_shared::{Line, PopEnd, PushEnd, count_left};
 use wasi_streams::StreamError;
 
-/// The lock of a write stream, and its line beside it: chunks are pushed and popped under the lock alone.
+/// The lock of a write stream, and its line beside it: chunks are pushed and popped under the lock
+/// alone.
 #[derive(Drop)]
 pub struct Shared<N: Names> {
     lock: Mutex<Locked<N>>,
@@ -112,7 +113,8 @@ impl<N: Names> Shared<N> {
         self.work.notify_one();
     }
 
-    /// The owner waits until nothing is left to wait for, and stops the stream. Returns whether it was stopped before.
+    /// The owner waits until nothing is left to wait for, and stops the stream. Returns whether it
+    /// was stopped before.
     pub fn close<R: Wait>(&self, rt: &R, keys: &mut OwnerKeys<N>) -> bool
         ensures was { result ≡ keys.old.stopped }
         ensures knows { keys.new ≡ record keys.old { stopped = true; done = not keys.old.stopped || keys.old.done } }

@@ -26,12 +26,15 @@ use wasi_spawn::{Handle, Spawner, StartError};
 use wasi_streams::StreamError;
 use world_io::Sink;
 
-/// A stream whose writes a worker makes, beside its owner (`AsyncWriteStream` of the crate wasmtime-wasi).
+/// A stream whose writes a worker makes, beside its owner (`AsyncWriteStream` of the crate
+/// wasmtime-wasi).
 ///
-/// A write is accepted within the budget and is copied once; the worker hands that copy to the sink. The length leaves the
-/// budget until the sink took all of it. It must be spent by [`finish`](AsyncWriteStream::finish).
+/// A write is accepted within the budget and is copied once; the worker hands that copy to the
+/// sink. The length leaves the budget until the sink took all of it. It must be spent by
+/// [`finish`](AsyncWriteStream::finish).
 ///
-/// Each call but [`new`](AsyncWriteStream::new) takes a lock that the worker takes too, so it may wait.
+/// Each call but [`new`](AsyncWriteStream::new) takes a lock that the worker takes too, so it may
+/// wait.
 pub struct AsyncWriteStream<K: Sink + Drop + Send + 'static, N: Names + Send + Sync + 'static> {
     shared: Arc<Shared<N>, Global>,
     push: PushEnd,
@@ -70,8 +73,8 @@ impl<K: Sink + Drop + Send + 'static, N: Names + Send + Sync + 'static> Model
 }
 
 impl<K: Sink + Drop + Send + 'static, N: Names + Send + Sync + 'static> AsyncWriteStream<K, N> {
-    /// Starts a worker for the sink. Where there is none, the sink comes back: as `NoWorker` only where the spawner
-    /// counted a refusal, as `Memory` for lack of memory.
+    /// Starts a worker for the sink. Where there is none, the sink comes back: as `NoWorker` only
+    /// where the spawner counted a refusal, as `Memory` for lack of memory.
     ///
     /// The parts hold the budget, in bytes, and are those of `N`'s names.
     pub fn new<P: Spawner, R: Threads + Wait + Copy + Send + 'static>(
@@ -113,10 +116,11 @@ impl<K: Sink + Drop + Send + 'static, N: Names + Send + Sync + 'static> AsyncWri
 
     /// Writes the bytes in the background. No bytes are written at once.
     ///
-    /// Reports a fault of the worker once, and then `Closed`, as after [`cancel`](AsyncWriteStream::cancel). Traps with
-    /// `FlushPending` while a flush is pending, and with `Budget` for more bytes than the budget has: never for as many as the
-    /// last [`check_write`](AsyncWriteStream::check_write) reported, less what was written since. Takes memory for a copy of
-    /// the bytes and a place in the line; running out of it changes nothing.
+    /// Reports a fault of the worker once, and then `Closed`, as after
+    /// [`cancel`](AsyncWriteStream::cancel). Traps with `FlushPending` while a flush is pending,
+    /// and with `Budget` for more bytes than the budget has: never for as many as the last
+    /// [`check_write`](AsyncWriteStream::check_write) reported, less what was written since. Takes
+    /// memory for a copy of the bytes and a place in the line; running out of it changes nothing.
     pub fn write<R: Wait>(&mut self, rt: &R, bytes: &[u8]) -> Result<(), StreamError>
         ensures stream { self.new ≡ after_write self.old bytes.now result }
         ensures cause { IfErr result (ErrorCause (knows_of self.old) (TrapCause N.initial (knows_of self.old) (length bytes.now))) }
@@ -135,9 +139,11 @@ impl<K: Sink + Drop + Send + 'static, N: Names + Send + Sync + 'static> AsyncWri
         self.shared.write(rt, &mut self.keys, &mut self.push, chunk)
     }
 
-    /// Asks the worker to flush the sink once all that was accepted is written. Until then the budget is 0.
+    /// Asks the worker to flush the sink once all that was accepted is written. Until then the
+    /// budget is 0.
     ///
-    /// Reports a fault of the worker once, and then `Closed`, as after [`cancel`](AsyncWriteStream::cancel).
+    /// Reports a fault of the worker once, and then `Closed`, as after
+    /// [`cancel`](AsyncWriteStream::cancel).
     pub fn flush<R: Wait>(&mut self, rt: &R) -> Result<(), StreamError>
         ensures stream { self.new ≡ after_flush self.old result }
         ensures cause { IfErr result (ErrorCause (knows_of self.old) (λ kind. ⊥)) }
@@ -146,10 +152,11 @@ impl<K: Sink + Drop + Send + 'static, N: Names + Send + Sync + 'static> AsyncWri
         self.shared.flush(rt, &mut self.keys)
     }
 
-    /// How many bytes may be written now: at most the initial budget, and 0 only after an accepted flush, or where as many
-    /// bytes were accepted as the initial budget has.
+    /// How many bytes may be written now: at most the initial budget, and 0 only after an accepted
+    /// flush, or where as many bytes were accepted as the initial budget has.
     ///
-    /// Reports a fault of the worker once, and then `Closed`, as after [`cancel`](AsyncWriteStream::cancel).
+    /// Reports a fault of the worker once, and then `Closed`, as after
+    /// [`cancel`](AsyncWriteStream::cancel).
     pub fn check_write<R: Wait>(&mut self, rt: &R) -> Result<usize, StreamError>
         ensures stream { self.new ≡ after_check self.old result }
         ensures cause { IfErr result (ErrorCause (knows_of self.old) (λ kind. ⊥)) }
@@ -161,8 +168,8 @@ impl<K: Sink + Drop + Send + 'static, N: Names + Send + Sync + 'static> AsyncWri
         self.shared.check(rt, &mut self.keys)
     }
 
-    /// Whether its owner needn't wait: a fault is kept, the stream is closed, or there is budget. What made it ready is
-    /// ended by its owner alone.
+    /// Whether its owner needn't wait: a fault is kept, the stream is closed, or there is budget.
+    /// What made it ready is ended by its owner alone.
     pub fn poll_ready<R: Wait>(&mut self, rt: &R) -> bool
         ensures yes { result ≡ true → self.new ≡ record self.old { ready = true } }
         ensures no { result ≡ false → (self.new ≡ self.old) × IsFull N.initial (knows_of self.old) }
@@ -178,19 +185,20 @@ impl<K: Sink + Drop + Send + 'static, N: Names + Send + Sync + 'static> AsyncWri
         self.shared.wait_ready(rt, &mut self.keys);
     }
 
-    /// Stops the stream. The worker's current call of the sink continues to its end. Later calls are answered `Closed`, once
-    /// a kept fault was reported.
+    /// Stops the stream. The worker's current call of the sink continues to its end. Later calls
+    /// are answered `Closed`, once a kept fault was reported.
     pub fn cancel<R: Wait>(&mut self, rt: &R)
         ensures { self.new ≡ record self.old { stopped = true } }
     {
         self.shared.cancel(rt, &mut self.keys);
     }
 
-    /// Waits until all is written and no flush is pending, or the worker failed, or the stream was cancelled. Then waits
-    /// for the worker, and gives the sink back.
+    /// Waits until all is written and no flush is pending, or the worker failed, or the stream was
+    /// cancelled. Then waits for the worker, and gives the sink back.
     ///
-    /// In every case the sink took a prefix of what was accepted, in order, and at Ok all of it. It is `Fault` where a
-    /// call of the sink failed, or took nothing of a piece; else `Cancelled` where the stream was cancelled; else Ok.
+    /// In every case the sink took a prefix of what was accepted, in order, and at Ok all of it. It
+    /// is `Fault` where a call of the sink failed, or took nothing of a piece; else `Cancelled`
+    /// where the stream was cancelled; else Ok.
     pub fn finish<P: Spawner, R: Threads + Wait>(self, rt: &R, spawner: &mut P) -> Finished<K>
         ensures finished { HasFinished self (K.writing result.inner) result.outcome }
         ensures starts { P.starts spawner.new ≡ P.starts spawner.old }

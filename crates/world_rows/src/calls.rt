@@ -11,6 +11,7 @@ use world_scripted::ScriptedWorld;
 /// The network socket that the first line makes.
 pub const SIDE: Sock = OpId { step: 1, part: 0 };
 
+/// 127.0.0.1 with this port.
 pub fn local(port: u16) -> IpSocketAddress {
     IpSocketAddress::Ipv4(Ipv4SocketAddress {
         port,

@@ -25,7 +25,7 @@ pub struct Use {
     pub ghost some: { 0 < piece },
 }
 
-/// Some bytes, in which no two neighbours are the same.
+/// This many bytes, of which no two neighbours are equal.
 pub fn pattern(alloc: Global, len: usize) -> Result<Vec<u8>, AllocError> {
     let mut bytes = Vec::new(alloc);
     for n in 0..len {
@@ -74,7 +74,7 @@ fn pour_by<
     Ok((stream.finish(rt, spawner), from))
 }
 
-/// The same, at names of its own.
+/// Writes the bytes through a stream with parts and names of its own, and finishes it.
 pub fn pour<K: Sink + Drop + Send + 'static, P: Spawner, R: Threads + Wait + Copy + Send + 'static>(
     rt: &R,
     alloc: Global,

@@ -34,7 +34,8 @@ pub struct ReadFlags {
 }
 
 impl ReadFlags {
-    /// The answer to an owner that finds the slot empty: a kept fault, once, and then that the stream is closed.
+    /// The answer to an owner that finds the slot empty: a kept fault, once, and then that the
+    /// stream is closed.
     fn admit(&mut self) -> Result<(), StreamError>
         ensures answer { result ≡ admission self.old }
         ensures told { self.new ≡ after_told self.old }
@@ -52,8 +53,9 @@ impl ReadFlags {
     }
 }
 
-/// What the owner and the worker of a read stream share, beside the bytes: a slot for the length of one chunk, and how
-/// the reading ended (the channel between `AsyncReadStream` and its task in the crate wasmtime-wasi).
+/// What the owner and the worker of a read stream share, beside the bytes: a slot for the length of
+/// one chunk, and how the reading ended (the channel between `AsyncReadStream` and its task in the
+/// crate wasmtime-wasi).
 ///
 /// Each method but the looks and [`new`](ReadCore::new) is an event. None takes memory.
 #[derive(Drop)]
@@ -97,7 +99,8 @@ impl ReadCore {
         self.slot.unwrap_or(0)
     }
 
-    /// Whether the owner needn't wait: the slot is full, a fault is kept, or [`take`](ReadCore::take) would answer `Closed`.
+    /// Whether the owner needn't wait: the slot is full, a fault is kept, or
+    /// [`take`](ReadCore::take) would answer `Closed`.
     pub fn is_ready(&self) -> bool
         ensures { result ≡ is_ready self.now }
     {
@@ -140,10 +143,11 @@ impl ReadCore {
         self.flags.fault = WorkerFault::Kept(ReadFault::Starved);
     }
 
-    /// The owner takes the length in the slot. With an empty slot the answer is 0, for which it is to wait.
+    /// The owner takes the length in the slot. With an empty slot the answer is 0, for which it is
+    /// to wait.
     ///
-    /// With an empty slot, reports a kept fault, once (`Memory` where the worker found none), and then `Closed`, as after
-    /// the end and after a stop.
+    /// With an empty slot, reports a kept fault, once (`Memory` where the worker found none), and
+    /// then `Closed`, as after the end and after a stop.
     pub fn take(&mut self) -> Result<usize, StreamError>
         ensures answer { result ≡ take_answer self.old.flags (option_to_list self.old.slot) }
         ensures ok { OnOk result (self.new ≡ record self.old { slot = None }) }

@@ -39,7 +39,8 @@ pub struct WriteFlags {
 }
 
 impl WriteFlags {
-    /// The first answer to an owner's event: a kept fault, once, and then that the stream is closed.
+    /// The first answer to an owner's event: a kept fault, once, and then that the stream is
+    /// closed.
     fn admit(&mut self) -> Result<(), StreamError>
         ensures answer { result ≡ admission self.old }
         ensures told { self.new ≡ after_told self.old }
@@ -62,12 +63,13 @@ impl WriteFlags {
     }
 }
 
-/// What the owner and the worker of a write stream share, beside the bytes: the budget, and the lengths of the chunks
-/// that were accepted and aren't wholly written (`WorkerState` of `AsyncWriteStream` in the crate wasmtime-wasi).
+/// What the owner and the worker of a write stream share, beside the bytes: the budget, and the
+/// lengths of the chunks that were accepted and aren't wholly written (`WorkerState` of
+/// `AsyncWriteStream` in the crate wasmtime-wasi).
 ///
-/// A length leaves the budget when it is accepted, and comes back when the worker has written it. Each method but the
-/// looks, [`reserve`](WriteCore::reserve) and [`new`](WriteCore::new) is an event. None but `reserve` and an
-/// [`accept`](WriteCore::accept) without it takes memory.
+/// A length leaves the budget when it is accepted, and comes back when the worker has written it.
+/// Each method but the looks, [`reserve`](WriteCore::reserve) and [`new`](WriteCore::new) is an
+/// event. None but `reserve` and an [`accept`](WriteCore::accept) without it takes memory.
 #[derive(Drop)]
 pub struct WriteCore {
     budget: usize,
@@ -125,11 +127,12 @@ impl WriteCore {
         self.queue.reserve(1)
     }
 
-    /// The owner writes so many bytes: the length leaves the budget and is queued. A write of no bytes queues nothing.
+    /// The owner writes so many bytes: the length leaves the budget and is queued. A write of no
+    /// bytes queues nothing.
     ///
-    /// Reports a kept fault, once, and then `Closed`, as after a stop; else `FlushPending` while a flush is pending,
-    /// and `Budget` for a length above the budget. Running out of memory, and a refusal that reports no fault, change
-    /// nothing.
+    /// Reports a kept fault, once, and then `Closed`, as after a stop; else `FlushPending` while a
+    /// flush is pending, and `Budget` for a length above the budget. Running out of memory, and a
+    /// refusal that reports no fault, change nothing.
     pub fn accept(&mut self, len: usize) -> Result<(), StreamError>
         ensures answer { UnlessMemory result (result ≡ accept_answer self.old.state.flags self.old.state.budget len) }
         ensures reserved { self.old.room ≡ true → result ≡ accept_answer self.old.state.flags self.old.state.budget len }
@@ -211,7 +214,8 @@ impl WriteCore {
         }
     }
 
-    /// The worker asks for its next work. The length of a chunk to write is in its hand from now on.
+    /// The worker asks for its next work. The length of a chunk to write is in its hand from now
+    /// on.
     pub fn pop(&mut self) -> Work
         requires { self.old.state.hand ≡ None }
         ensures work { result ≡ next_work self.old.state.flags self.old.state.queued }
@@ -265,16 +269,16 @@ impl WriteCore {
         self.flags.flushing = false;
     }
 
-    /// Whether the owner needn't wait: a fault is kept, the stream is closed, or no flush is pending and the budget
-    /// isn't 0.
+    /// Whether the owner needn't wait: a fault is kept, the stream is closed, or no flush is
+    /// pending and the budget isn't 0.
     pub fn is_ready(&self) -> bool
         ensures { result ≡ is_ready self.now.state }
     {
         !self.flags.is_open() || !self.flags.flushing && self.budget != 0
     }
 
-    /// Whether nothing is left to wait for: all that was accepted is written and no flush is pending, or the worker
-    /// failed, or the stream was stopped.
+    /// Whether nothing is left to wait for: all that was accepted is written and no flush is
+    /// pending, or the worker failed, or the stream was stopped.
     pub fn is_done(&self) -> bool
         ensures { result ≡ is_done self.now.state }
     {
