@@ -452,10 +452,10 @@ pub const STEP_FORMS: &str = "    0 network                               makes 
     0 block P                               waits until what it watches is ready
     0 poll-list P..                         waits until one of them is ready: ok and the places of those that are
     0 network-error-code E                  of an error of a stream: ok none
-    0 subscribe H                           makes a pollable of a socket or of a stream
+    0 subscribe H                           makes a pollable of a socket, a stream or a lookup
     0 ready P                               whether what it watches is ready: ok true or ok false
     0 drop H                                drops a handle
-    turn                                    polls each write that goes on by itself, once
+    turn                                    polls each write, datagram, receive and lookup in the background, once
     poll N                                  polls the call of line N, which answered pending N
     cancel N                                gives that call up
 ";
