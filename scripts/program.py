@@ -52,12 +52,25 @@ def changed(crate):
     return last
 
 
+def is_built(crate, program):
+    """Tells whether the proved program is there and up to date."""
+    return os.access(program, os.X_OK) and changed(crate) <= os.stat(program).st_mtime
+
+
 def build(name, crate, program):
     """Proves and builds the program."""
     command = ["rt", "run", "--", "--version"]
-    if subprocess.run(command, cwd=f"{TOP}/crates/{crate}", stdin=subprocess.DEVNULL, stdout=2).returncode:
+    folder = f"{TOP}/crates/{crate}"
+    if run(command, cwd=folder, stdin=subprocess.DEVNULL, stdout=sys.stderr).returncode:
         stop(f"{name}: the program did not build")
     os.utime(program)
+
+
+def run(command, **how):
+    try:
+        return subprocess.run(command, **how)
+    except FileNotFoundError:
+        return stop(f"{command[0]} isn't on this machine: the programs need the Rattle kit")
 
 
 def stop(why):
@@ -66,17 +79,17 @@ def stop(why):
 
 
 def stand_ins(words):
-    """Returns the words as the program gets them, which runs in a folder of its own, and the files that they name there."""
+    """Returns the words as the program gets them in the folder that it runs in, and the files that they name there.
+
+    A file that isn't below this folder gets a name of its own there."""
     given, files = [], {}
     for number, word in enumerate(words):
         name = os.path.normpath(word)
-        if os.path.isfile(word) and (os.path.isabs(word) or name.startswith("..")):
-            name = f"file-{number}/{os.path.basename(word)}"
         if os.path.isfile(word):
-            files[name] = os.path.abspath(word)
-            given.append(name)
-        else:
-            given.append(word)
+            if os.path.isabs(word) or name.startswith(".."):
+                word = name = f"file-{number}/{os.path.basename(word)}"
+            files[name] = os.path.abspath(words[number])
+        given.append(word)
     return given, files
 
 
@@ -96,7 +109,7 @@ def try_unproved(crate, words):
         command += ["--data", f"{name}={file}"]
     with tempfile.TemporaryFile("w+b") as out:
         how = {"stdout": out, "stderr": subprocess.PIPE}
-        ended = subprocess.run([*command, "--", *given], cwd=f"{TOP}/crates/{crate}", **how)
+        ended = run([*command, "--", *given], cwd=f"{TOP}/crates/{crate}", **how)
         out.seek(0)
         text = out.read()
     for name, word in zip(given, words):
@@ -116,14 +129,16 @@ def try_unproved(crate, words):
 def main(name, crate, minutes, *words):
     program = f"{TOP}/crates/{crate}/out/{crate}"
     builds = f"./{name} --build proves and builds it, about {minutes} minutes"
+    built = is_built(crate, program)
     if words[:1] == ("--build",):
-        build(name, crate, program)
+        if not built:
+            build(name, crate, program)
         words = words[1:]
         if not words:
             return
-    elif not os.access(program, os.X_OK) or changed(crate) > os.stat(program).st_mtime:
-        if answers_while_it_runs(name, words):
-            stop(f"not proved here, and not run unproved, since it answers while it runs; {builds}")
+    elif not built and answers_while_it_runs(name, words):
+        stop(f"not proved here, and of no use unproved, since its output would come at its end; {builds}")
+    elif not built:
         print(f"not proved here; {builds}", file=sys.stderr, flush=True)
         try_unproved(crate, words)
     os.execv(program, [program, *words])
