@@ -12,5 +12,3 @@ mod pipes;
 mod same;
 #[cfg(test)]
 mod threads;
-#[cfg(test)]
-mod words;

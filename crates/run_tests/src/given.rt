@@ -1,18 +1,23 @@
 //! A run of the program over streams in memory, and what it came to, as text.
 
-use crate::same::same;
 use std::alloc::{AllocError, Global};
 use std::fmt::Write;
-use std::process::Abort;
 use std::sync::Wait;
 use std::test::Fail;
 use std::thread::Threads;
 use wasi_commands::{Done, run_main};
-use wasi_spawn::ThreadSpawner;
+use wasi_spawn::FakeSpawner;
 use world_io::{MemorySink, MemorySource};
 
-/// The faults of a source and of a sink, and the pieces that the sink refused.
-pub type Faults = (u64, u64, u64);
+/// The numbers of the calls that fail, counted from 1: the reads of the scenario, the reads of the script, the writes, and the
+/// starts of workers that write and that read.
+pub type Failing<'a> = [&'a [u32]; 5];
+
+/// None fails.
+pub const NONE: Failing<'static> = [&[], &[], &[], &[], &[]];
+
+/// The faults of a source and of a sink, the pieces that the sink refused, and how many bytes of the script were not read.
+pub type Counts = (u64, u64, u64, usize);
 
 /// What is handed to the program, and how its streams behave.
 #[derive(Clone, Copy)]
@@ -24,10 +29,7 @@ pub struct Given<'a> {
     pub most: usize,
     /// The sink has room for so many bytes.
     pub room: usize,
-    /// The numbers of the reads of the scenario and of the script, and of the writes, that fail, counted from 1.
-    pub failing_scenario: &'a [u32],
-    pub failing_reads: &'a [u32],
-    pub failing_writes: &'a [u32],
+    pub failing: Failing<'a>,
 }
 
 fn source(
@@ -56,11 +58,11 @@ impl<'a> Given<'a> {
         rt: &R,
         alloc: Global,
     ) -> Result<Done<MemorySource, MemorySink>, Fail> {
+        let [scenario, reads, writes, writers, readers] = self.failing;
         let words = owned(alloc, self.words)?;
-        let mut scenario = source(alloc, self.scenario, self.most, self.failing_scenario)?;
-        let script = source(alloc, self.script, self.most, self.failing_reads)?;
-        let fails = self.failing_writes.to_vec(alloc)?;
-        let sink = MemorySink::new(alloc, self.most.max(1), self.room, fails)?;
+        let mut scenario = source(alloc, self.scenario, self.most, scenario)?;
+        let script = source(alloc, self.script, self.most, reads)?;
+        let sink = MemorySink::new(alloc, self.most.max(1), self.room, writes.to_vec(alloc)?)?;
         Ok(run_main(
             *rt,
             alloc,
@@ -68,40 +70,27 @@ impl<'a> Given<'a> {
             &mut scenario,
             script,
             sink,
-            &mut ThreadSpawner::new(),
-            &mut ThreadSpawner::new(),
+            &mut FakeSpawner::new(writers.to_vec(alloc)?),
+            &mut FakeSpawner::new(readers.to_vec(alloc)?),
         ))
     }
 
-    /// Its status, its bad line, the length of its log, and what it wrote; and the faults of its source and of its sink, and the
-    /// pieces that the sink refused.
-    fn end<R: Threads + Wait + Copy + Send + 'static>(
+    /// Its status, its bad line, the length of its log, and what it wrote; and what its streams counted.
+    pub fn end<R: Threads + Wait + Copy + Send + 'static>(
         &self,
         rt: &R,
         alloc: Global,
-    ) -> Result<(String, Faults), Fail> {
+    ) -> Result<(String, Counts), Fail> {
         let done = self.run(rt, alloc)?;
         let wrote = str::from_utf8(done.sink.bytes()).unwrap_or("no text");
         let (status, line, log) = (done.status, done.line, done.log.len());
         let text = format!(in alloc; "{status} {line} {log}: {wrote}")?;
-        let faults = (
+        let counts = (
             done.source.faults(),
             done.sink.faults(),
             done.sink.refused(),
+            done.source.left().len(),
         );
-        Ok((text, faults))
-    }
-
-    /// The run ends so.
-    pub fn ends<R: Threads + Wait + Abort + Copy + Send + 'static>(
-        &self,
-        rt: &R,
-        alloc: Global,
-        end: &str,
-        faults: Faults,
-    ) -> Result<(), Fail> {
-        let (text, counts) = self.end(rt, alloc)?;
-        same(rt, (text.as_str(), counts), (end, faults));
-        Ok(())
+        Ok((text, counts))
     }
 }

@@ -1,6 +1,7 @@
 //! How runs end: by their words, limits and scenarios, and over sources and sinks that fail or are full.
 
-use crate::given::{Faults, Given};
+use crate::given::{Counts, Failing, Given, NONE};
+use crate::same::same;
 use std::test::Fail;
 
 /// Binds a socket: 81 bytes.
@@ -12,7 +13,7 @@ type Words = &'static [&'static str];
 const RUN: Words = &["run", "1000"];
 
 /// The words, the scenario and the script; then the status, its line, the length of the log, and the replies.
-const RUNS: [(Words, &[u8], &[u8], &str); 25] = [
+const RUNS: [(Words, &[u8], &[u8], &str); 29] = [
     (RUN, b"", b"", "0 0 0: "),
     (&["run", "0"], b"", b"", "0 0 0: "),
     (&["run", "81"], b"", BIND, "0 0 6: ok 1\nok 2\nok\nok\n"),
@@ -35,6 +36,11 @@ const RUNS: [(Words, &[u8], &[u8], &str); 25] = [
     (RUN, b"check maybe\n", BIND, "2 1 0: "),
     (RUN, b"check no\n\n", BIND, "2 2 0: "),
     (RUN, b"check no\nbind done", BIND, "2 2 0: "),
+    // A pump moves all bytes.
+    (&["pump", "1"], b"", b"hello", "0 0 0: hello"),
+    (&["pump", "4"], b"", b"", "0 0 0: "),
+    (&["pump", "0"], b"", b"hello", "9 0 0: "),
+    (&["pump", "4294967296"], b"", b"hello", "1 0 0: "),
     // A drawn script writes what its run came to, and gives no log.
     (
         &["gen", "1", "10"],
@@ -73,87 +79,102 @@ fn runs_end_by_their_words_and_texts(rt: HostRuntime) -> Result<(), Fail> {
                 script,
                 most,
                 room: 4096,
-                failing_scenario: &[],
-                failing_reads: &[],
-                failing_writes: &[],
+                failing: NONE,
             };
-            given.ends(&rt, rt.alloc(), end, (0, 0, 0))?;
+            let (text, _) = given.end(&rt, rt.alloc())?;
+            same(&rt, (most, text.as_str()), (most, end));
         }
     }
     Ok(())
 }
 
-/// The numbers of calls that fail.
-type Fails = &'static [u32];
-
-/// The words; the reads of the scenario, those of the script and the writes that fail, and the room of the sink; then how the
-/// run of the script above ends, and what its streams counted. A scenario is read before anything is run; the script is read
-/// once, and then its end; each reply is written at once.
-const FAILING: [(Words, Fails, Fails, Fails, usize, &str, Faults); 16] = [
-    (RUN, &[1], &[], &[], 4096, "8 0 0: ", (0, 0, 0)),
-    (RUN, &[], &[1], &[], 4096, "5 0 0: ", (1, 0, 0)),
+/// The words, the calls that fail, and the room of the sink; then how the run of the script above ends, and what its streams
+/// counted. A scenario is read before anything is run; the script is read once, and then its end; each reply is written at
+/// once. Where a worker of a pump isn't started, nothing is read or written.
+const FAILING: [(Words, Failing<'static>, usize, &str, Counts); 20] = [
     (
         RUN,
-        &[],
-        &[2],
-        &[],
-        4096,
+        [&[1], &[], &[], &[], &[]],
+        99,
+        "8 0 0: ",
+        (0, 0, 0, 81),
+    ),
+    (
+        RUN,
+        [&[], &[1], &[], &[], &[]],
+        99,
+        "5 0 0: ",
+        (1, 0, 0, 81),
+    ),
+    (
+        RUN,
+        [&[], &[2], &[], &[], &[]],
+        99,
         "5 0 6: ok 1\nok 2\nok\nok\n",
-        (1, 0, 0),
+        (1, 0, 0, 0),
     ),
-    (RUN, &[], &[], &[1], 4096, "6 0 1: ", (0, 1, 0)),
-    (RUN, &[], &[], &[2], 4096, "6 0 3: ok 1\n", (0, 1, 0)),
-    (RUN, &[], &[], &[3], 4096, "6 0 6: ok 1\nok 2\n", (0, 1, 0)),
+    (RUN, [&[], &[], &[1], &[], &[]], 99, "6 0 1: ", (0, 1, 0, 0)),
     (
         RUN,
-        &[],
-        &[],
-        &[4],
-        4096,
+        [&[], &[], &[2], &[], &[]],
+        99,
+        "6 0 3: ok 1\n",
+        (0, 1, 0, 0),
+    ),
+    (
+        RUN,
+        [&[], &[], &[3], &[], &[]],
+        99,
+        "6 0 6: ok 1\nok 2\n",
+        (0, 1, 0, 0),
+    ),
+    (
+        RUN,
+        [&[], &[], &[4], &[], &[]],
+        99,
         "6 0 6: ok 1\nok 2\nok\n",
-        (0, 1, 0),
+        (0, 1, 0, 0),
     ),
-    (RUN, &[], &[], &[], 0, "6 0 1: ", (0, 0, 1)),
-    (RUN, &[], &[], &[], 4, "6 0 1: ok 1", (0, 0, 1)),
-    (RUN, &[], &[], &[], 5, "6 0 3: ok 1\n", (0, 0, 1)),
-    (RUN, &[], &[], &[], 9, "6 0 3: ok 1\nok 2", (0, 0, 1)),
-    (RUN, &[], &[], &[], 10, "6 0 6: ok 1\nok 2\n", (0, 0, 1)),
-    (RUN, &[], &[], &[], 12, "6 0 6: ok 1\nok 2\nok", (0, 0, 1)),
-    (RUN, &[], &[], &[], 13, "6 0 6: ok 1\nok 2\nok\n", (0, 0, 1)),
+    (RUN, NONE, 0, "6 0 1: ", (0, 0, 1, 0)),
+    (RUN, NONE, 4, "6 0 1: ok 1", (0, 0, 1, 0)),
+    (RUN, NONE, 5, "6 0 3: ok 1\n", (0, 0, 1, 0)),
+    (RUN, NONE, 9, "6 0 3: ok 1\nok 2", (0, 0, 1, 0)),
+    (RUN, NONE, 10, "6 0 6: ok 1\nok 2\n", (0, 0, 1, 0)),
+    (RUN, NONE, 12, "6 0 6: ok 1\nok 2\nok", (0, 0, 1, 0)),
+    (RUN, NONE, 13, "6 0 6: ok 1\nok 2\nok\n", (0, 0, 1, 0)),
+    (RUN, NONE, 15, "6 0 6: ok 1\nok 2\nok\nok", (0, 0, 1, 0)),
+    (&["gen", "1", "1"], NONE, 5, "6 0 0: lines", (0, 0, 1, 81)),
+    (&["pump", "0"], NONE, 99, "9 0 0: ", (0, 0, 0, 81)),
+    (&["pump", "x"], NONE, 99, "1 0 0: ", (0, 0, 0, 81)),
     (
-        RUN,
-        &[],
-        &[],
-        &[],
-        15,
-        "6 0 6: ok 1\nok 2\nok\nok",
-        (0, 0, 1),
+        &["pump", "4"],
+        [&[], &[], &[], &[1], &[]],
+        99,
+        "10 0 0: ",
+        (0, 0, 0, 81),
     ),
     (
-        &["gen", "1", "1"],
-        &[],
-        &[],
-        &[],
-        5,
-        "6 0 0: lines",
-        (0, 0, 1),
+        &["pump", "4"],
+        [&[], &[], &[], &[], &[1]],
+        99,
+        "10 0 0: ",
+        (0, 0, 0, 81),
     ),
 ];
 
 #[test]
-fn runs_end_where_a_stream_fails(rt: HostRuntime) -> Result<(), Fail> {
-    for (words, failing_scenario, failing_reads, failing_writes, room, end, faults) in FAILING {
+fn runs_end_where_a_call_fails(rt: HostRuntime) -> Result<(), Fail> {
+    for (words, failing, room, end, counts) in FAILING {
         let given = Given {
             words,
             scenario: b"",
             script: BIND,
             most: 4096,
             room,
-            failing_scenario,
-            failing_reads,
-            failing_writes,
+            failing,
         };
-        given.ends(&rt, rt.alloc(), end, faults)?;
+        let (text, counted) = given.end(&rt, rt.alloc())?;
+        same(&rt, (room, text.as_str(), counted), (room, end, counts));
     }
     Ok(())
 }

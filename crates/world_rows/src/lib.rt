@@ -13,6 +13,4 @@ mod same;
 #[cfg(test)]
 mod scenarios;
 #[cfg(test)]
-mod sides;
-#[cfg(test)]
 mod standard;

@@ -1,5 +1,4 @@
-//! Scripted worlds by tables: the kinds that no script asks yet with each of their answers and their defaults, and lines
-//! that are no scenario's.
+//! The first bad line of a scenario, its size, and the log of a scripted world.
 
 ghost use Rattle.std.specs.Prelude.{◌≡◌, false};
 ghost use Rattle.world_scripted.specs.Scripted.{seen_by};
@@ -9,20 +8,9 @@ use crate::same::same;
 use std::alloc::{AllocError, Global};
 use std::process::Abort;
 use std::test::Fail;
-use wasi_addr::IpAddress;
-use wasi_world::{Kind, Planned, Told, World};
+use wasi_world::{Kind, Planned, World};
 use world_scripted::{Lists, ScenarioError, ScriptedWorld};
-
-// The lines of a scenario, all of one kind, and the answers then: each of them in turn, and then the default.
-const CASES: &str = "\
-lookup pending; lookup names 4 192 0 2 1; lookup names 6 1 2 3 4 5 6 7 8; lookup code timeout = pending, names 4 192 0 2 1, names 6 1 2 3 4 5 6 7 8, code timeout, code other
-udp-create code out-of-memory; udp-create done = code out-of-memory, done, done
-udp-writable pending; udp-writable code other; udp-writable done = pending, code other, done, done
-udp-bind code address-not-bindable; udp-bind done = code address-not-bindable, done, done
-udp-connect code remote-unreachable; udp-connect done = code remote-unreachable, done, done
-udp-disconnect code other; udp-disconnect done = code other, done, done
-send pending; send code datagram-too-large; send done = pending, code datagram-too-large, done, done
-recv datagram 4 10 0 0 1 7 6869; recv pending; recv code timeout = datagram 4 10 0 0 1 7 6869, pending, code timeout, pending";
+use world_text::ToldText;
 
 /// Asks for each of the answers in turn.
 fn expect_answers(
@@ -40,61 +28,6 @@ fn expect_answers(
         let text = format!(in alloc; "{}", ToldText(&told))?;
         same(rt, text.as_str(), answer);
     }
-    Ok(())
-}
-
-/// A scenario of these lines.
-fn scenario(alloc: Global, lines: &str) -> Result<String, AllocError> {
-    let mut text = lines.replace(alloc, "; ", "\n")?;
-    text.push_str("\n")?;
-    Ok(text)
-}
-
-/// A world with these lines gives these answers to calls of their kind.
-fn expect_case(rt: &impl Abort, alloc: Global, case: &str) -> Result<(), Fail> {
-    let (lines, answers) = case.split_once(" = ").unwrap_or(("", ""));
-    let (word, _) = lines.split_once(" ").unwrap_or(("", ""));
-    let scenario = scenario(alloc, lines)?;
-    let (mut world, _contexts) = ScriptedWorld::parse(alloc, scenario.as_bytes())?;
-    expect_answers(rt, alloc, &mut world, word, answers)
-}
-
-/// Each kind that no script asks yet, with each of its answers, and then its default.
-#[test]
-fn lists_are_used_in_order(rt: HostRuntime) -> Result<(), Fail> {
-    for case in CASES.lines() {
-        expect_case(&rt, rt.alloc(), case)?;
-    }
-    Ok(())
-}
-
-/// The address that an answer has.
-fn address_of(told: &Told) -> Option<IpAddress> {
-    match told {
-        Told::Names(names) => names.as_slice().first().copied(),
-        Told::Datagram(_, addr) => Some(addr.ip()),
-        _ => None,
-    }
-}
-
-/// The address that the world of this one line answers to a call of its kind.
-fn told_address(alloc: Global, line: &str) -> Result<Option<IpAddress>, Fail> {
-    let (word, _) = line.split_once(" ").unwrap_or(("", ""));
-    let scenario = scenario(alloc, line)?;
-    let (mut world, _contexts) = ScriptedWorld::parse(alloc, scenario.as_bytes())?;
-    let told = ask(alloc, &mut world, SIDE, word)?;
-    Ok(address_of(&told))
-}
-
-/// The answers above are compared as text; here are those with addresses, by their parts.
-#[test]
-fn addresses_are_read_by_place(rt: HostRuntime) -> Result<(), Fail> {
-    let v4 = told_address(rt.alloc(), "lookup names 4 192 0 2 1")?;
-    same(&rt, v4, Some(IpAddress::Ipv4((192, 0, 2, 1))));
-    let v6 = told_address(rt.alloc(), "lookup names 6 1 2 3 4 5 6 7 8")?;
-    same(&rt, v6, Some(IpAddress::Ipv6((1, 2, 3, 4, 5, 6, 7, 8))));
-    let sender = told_address(rt.alloc(), "recv datagram 4 10 0 0 1 7 -")?;
-    same(&rt, sender, Some(IpAddress::Ipv4((10, 0, 0, 1))));
     Ok(())
 }
 
