@@ -44,7 +44,7 @@ ReceivesNone side [] = ⊤
 ReceivesNone side (e ∷ es) = (e.call ≡ Recv side → ⊥) × ReceivesNone side es
 
 -- Between the two places of the log the network socket received the datagram, and the same operation was answered yes about its
--- sender afterwards, by the creator of the network socket, before anything else was asked for there.
+-- sender afterwards, by the creator of the network socket, before it was asked for another datagram.
 pub record IsAllowed (log : List Entry) (side : OpId) (from upto : ℕ) (datagram : IncomingDatagram) : Type 0 where
   pub op : OpId
   pub ctx : ℕ
