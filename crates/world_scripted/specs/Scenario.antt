@@ -1,7 +1,6 @@
 -- What a scenario plans, and its contexts: a line for each answer, with the word of its kind and the fields of the answer, and
 -- a line for each context.
-use Rattle.std.specs.Prelude.{◌≡◌, ℕ, zero, suc, ◌+◌, ◌==◌, ◌&&◌, nat_le, Bool, true, false, if◌then◌else◌, List, [], ◌∷◌, ◌++◌, length, take, codes, Option, Some, None, option_map, IfSome, slice_get, Result, Ok, Err}
-use Rattle.wasi_addr.specs.declared.address.IpAddress.{IpAddress}
+use Rattle.std.specs.Prelude.{ℕ, ◌+◌, ◌==◌, ◌&&◌, nat_le, Bool, true, false, if◌then◌else◌, List, [], ◌∷◌, ◌++◌, length, take, codes, Option, Some, None, option_map, Result, Ok, Err}
 use Rattle.wasi_world.specs.declared.outcome.WasiSocketsCtx.{WasiSocketsCtx}
 use Rattle.world_scripted.specs.declared.scenario.ScenarioError.{ScenarioError}
 use Rattle.world_scripted.specs.declared.scenario.ScenarioError.TheVariants.{BadScenario, Memory}
@@ -10,7 +9,7 @@ use Rattle.wasi_world.specs.declared.plan.Kind.TheVariants as kind
 use Rattle.wasi_world.specs.declared.plan.Planned.{Planned}
 use Rattle.wasi_world.specs.declared.plan.Planned.TheVariants.{Pending, Done, Yes, No, Code, Addr, Arrived, Bytes, Took, Datagram, Value, Names}
 use Rattle.wasi_world.specs.Seen.{Plan}
-use Rattle.world_text.specs.Fields.{Reader, Row, row, after_word, ◌>>=◌, give, give_some, named, whole, fields_of, word_at, number_at, ip_at, address_at, code_at, bytes_at, names_at}
+use Rattle.world_text.specs.Fields.{Reader, Row, row, after_word, ◌>>=◌, give, give_some, named, whole, fields_of, word_at, number_at, address_at, code_at, bytes_at, names_at}
 use Rattle.world_text.specs.Lines.{lines_of, rest_of}
 use Rattle.wasi_world.specs.Kinds.{takes}
 use Rattle.world_scripted.specs.Queued.{no_answers, with_answer}

@@ -1,6 +1,6 @@
 //! The planned answers of every kind, and how far they are used.
 
-ghost use Rattle.std.specs.Prelude.{◌≡◌, ◌<◌, IfOk, OnOk, OnErr, [], ◌∷◌, ◌++◌, Some, None, true, length, slice_get, option_map, IfSome};
+ghost use Rattle.std.specs.Prelude.{◌≡◌, ◌<◌, IfOk, OnOk, OnErr, Some, None, true, length, slice_get, option_map, IfSome};
 ghost use Rattle.wasi_world.specs.Asks.{IsFront};
 ghost use Rattle.wasi_world.specs.Fits.{Fits};
 ghost use Rattle.world_scripted.specs.declared.lists.TheConstants.{KINDS};

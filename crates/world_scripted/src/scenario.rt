@@ -1,7 +1,7 @@
 //! Reads a scenario: a line for each planned answer, and a line `context T U K` for each context, where T, U and K are
 //! `yes` or `no`: whether TCP, UDP and name lookup are allowed.
 
-ghost use Rattle.std.specs.Prelude.{◌≡◌, ◌==◌, ◌≤◌, ◌<◌, ◌+◌, ◌^◌, ℕ, IfOk, OnOk, [], ◌∷◌, ◌++◌, Some, None, true, IfErr, IfSome, Ok, Err, length, take, drop, position};
+ghost use Rattle.std.specs.Prelude.{◌≡◌, ◌==◌, ◌≤◌, ◌<◌, ◌+◌, ◌^◌, IfOk, OnOk, [], ◌∷◌, ◌++◌, Some, None, true, IfErr, IfSome, Ok, Err, length, take};
 ghost use Rattle.world_text.specs.Fields.{Reads, after_word};
 ghost use Rattle.wasi_world.specs.Kinds.{takes};
 ghost use Rattle.world_scripted.specs.Scenario.{kind_text, kind_in, kind_at, short_answers, answer_at, planned_in, yes_or_no_at, allowed_at, context_in, setup, with_line, setup_within, or_free, scenario_of, bad_line};

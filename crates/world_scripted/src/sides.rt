@@ -3,7 +3,7 @@
 ghost use Rattle.std.specs.Prelude.{◌≡◌, OnOk, OnErr, None};
 ghost use Rattle.std.specs.BTreeMap.{IsUnchanged};
 ghost use Rattle.wasi_addr.specs.Address.{wildcard};
-ghost use Rattle.wasi_world.specs.Sides.{unset, value_of, with_value, new_side, unmade, chosen_port, with_port, bound, bound_anyway, default_local, connected, disconnected, handed, with_option, change, sides_after, known};
+ghost use Rattle.wasi_world.specs.Sides.{unset, value_of, with_value, new_side, chosen_port, with_port, bound, bound_anyway, default_local, connected, disconnected, handed, with_option, change, sides_after, known};
 
 use std::alloc::AllocError;
 use std::collections::BTreeMap;
