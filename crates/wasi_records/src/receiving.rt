@@ -15,7 +15,9 @@ use std::alloc::{AllocError, Global};
 use std::mem;
 use wasi_addr::{ErrorCode, IpSocketAddress};
 use wasi_udp::{RecvOp, UdpSocket};
-use wasi_world::{Answer, Ids, IncomingDatagram, IncomingDatagrams, Octets, Refusal, TrapKind, World};
+use wasi_world::{
+    Answer, Ids, IncomingDatagram, IncomingDatagrams, Octets, Refusal, TrapKind, World,
+};
 
 /// How many datagrams one call takes at most.
 const MOST: u64 = 16;
