@@ -17,5 +17,6 @@ pub mod PollableCalls
 pub mod Cancelled
 pub mod Failed
 pub mod DatagramAsks
+pub mod ShortLists
 pub mod MayAnswer
 pub mod NamedRecords
