@@ -7,5 +7,6 @@ pub mod Receives
 pub mod Streams
 pub mod From
 pub mod Bounds
+pub mod Unsendable
 pub mod SendAsks
 pub mod ReceiveAsks

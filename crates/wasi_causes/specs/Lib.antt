@@ -17,6 +17,7 @@ pub mod PollableCalls
 pub mod Cancelled
 pub mod Failed
 pub mod DatagramAsks
+pub mod Unsendable
 pub mod ShortLists
 pub mod MayAnswer
 pub mod NamedRecords

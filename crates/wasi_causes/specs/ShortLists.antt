@@ -1,5 +1,5 @@
 -- Why a send counts no more datagrams than it does, and why a receive hands out no more.
-use Rattle.std.specs.Prelude.{◌≡◌, ℕ, ◌+◌, ◌≤◌, min, if◌then◌else◌, List, [], ◌∷◌, length, Err, Ok, Option, Some, None}
+use Rattle.std.specs.Prelude.{◌≡◌, ℕ, ◌+◌, ◌≤◌, min, if◌then◌else◌, List, [], ◌∷◌, length, Ok, Option, Some, None}
 use Rattle.wasi_addr.specs.declared.address.IpSocketAddress.{IpSocketAddress}
 use Rattle.wasi_addr.specs.declared.address.SocketAddrUse.TheVariants.{UdpReceive}
 use Rattle.wasi_addr.specs.declared.code.ErrorCode.{ErrorCode}
@@ -27,12 +27,13 @@ use Rattle.wasi_walks.specs.Answered.{EndsPending}
 use Rattle.wasi_walks.specs.Licence.{IsItem, entry}
 use Rattle.wasi_walks.specs.Waiting.{EndsWith}
 use Rattle.wasi_causes.specs.DatagramAsks.{destination_check, part_of, send_call, wildcard_check}
+use Rattle.wasi_causes.specs.Unsendable.{IsUnsendable}
 use Rattle.wasi_causes.specs.Udp.{IsUdpUnbound, udp_local_entry}
 
 -- == a send
 -- A datagram isn't sent: it can't be sent so, or the last of the entries is its check or its send, which was answered no or with a code.
 pub data IsNotSent (own : OpId) (socket : Socket) (d : OutgoingDatagram) (entries : List Entry) : Type 0 where
-  CannotBeSentSo : (c : ErrorCode) → send_to socket d.bytes d.remote_address ≡ Err c → IsNotSent own socket d entries
+  CannotBeSentSo : (c : ErrorCode) → IsUnsendable socket.family socket.remote d c → IsNotSent own socket d entries
   WildcardToldNo : EndsWith (entry own (wildcard_check socket) told.No) entries → IsNotSent own socket d entries
   DestinationToldNo : (to : Destination) → send_to socket d.bytes d.remote_address ≡ Ok to → EndsWith (entry own (destination_check socket to) told.No) entries → IsNotSent own socket d entries
   SendToldCode : (to : Destination) (c : ErrorCode) → send_to socket d.bytes d.remote_address ≡ Ok to → EndsWith (entry own (send_call socket to d) (told.Code c)) entries → IsNotSent own socket d entries

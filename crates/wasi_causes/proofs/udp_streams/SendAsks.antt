@@ -40,6 +40,7 @@ use Rattle.wasi_walks.specs.Answered.{Answered, EndsPending}
 use Rattle.wasi_walks.specs.Licence.{IsItem}
 use Rattle.wasi_walks.specs.Waiting.{EndsWith}
 use Rattle.wasi_causes.proofs.udp_streams.Bounds.{FoundBound, FoundFree, FoundSo, IsStill, finds, known, still_more}
+use Rattle.wasi_causes.proofs.udp_streams.Unsendable.{unsendable}
 use Rattle.wasi_causes.specs.DatagramAsks.{AreSent, CountsSent, ChecksDestination, ChecksWildcard, IsBoundBy, IsOfSend, SendAsksIfBound, SendsIt, WasSent, AsksToSend, destination_check, part_of, send_call, wildcard_check}
 use Rattle.wasi_causes.specs.ShortLists.{CannotBeSentSo, CountsAll, CountsNoMore, CountsUpTo, DestinationToldNo, IsNotSent, LastIsPending, NextIsNotSent, OneWasPending, SendToldCode, WildcardToldNo}
 use Rattle.wasi_causes.specs.Udp.{IsUdpUnbound, udp_local_entry}
@@ -139,14 +140,14 @@ module _ (line : ℕ) (socket : Socket) (all : List OutgoingDatagram) where
       bound_to : (es : List Entry) → IsBoundBy socket es → (r : Result Destination ErrorCode) → send_to socket d.bytes d.remote_address ≡ r → Allows May EndRow es (round again who Nothing (send_left socket.family d.bytes (send_first r true)))
       unfolding bind
       bound_to es is (Ok to) goes = checks to goes es (inl is)
-      bound_to es is (Err c) goes = CannotBeSentSo c goes
+      bound_to es is (Err c) goes = CannotBeSentSo c (unsendable socket d c goes)
 
       -- and of one that isn't
       free_to : (es : List Entry) (local : Told) → IsUdpUnbound socket local → EndsWith (udp_local_entry own socket local) es → (r : Result Destination ErrorCode) → send_to socket d.bytes d.remote_address ≡ r
           → Allows May EndRow es (round again who Nothing (send_left socket.family d.bytes (send_first r false)))
       unfolding bind
       free_to es local free said (Ok to) goes = checks_both to goes es local free said
-      free_to es local free said (Err c) goes = CannotBeSentSo c goes
+      free_to es local free said (Err c) goes = CannotBeSentSo c (unsendable socket d c goes)
 
     -- it was sent, or isn't sent yet, by what the stream does then, or isn't sent
     abbrev SentBy : List Entry → Result (Unit {0}) ErrorCode → Sending → Type 0
