@@ -9,4 +9,5 @@ pub mod From
 pub mod Bounds
 pub mod Unsendable
 pub mod SendAsks
+pub mod SendRefusals
 pub mod ReceiveAsks

@@ -10,6 +10,8 @@ use Rattle.wasi_world.specs.declared.call.Told.TheVariants as told
 use Rattle.wasi_world.specs.declared.datagram.OutgoingDatagram.{OutgoingDatagram}
 use Rattle.wasi_records.specs.declared.datagrams.Sending.{Sending}
 use Rattle.wasi_records.specs.declared.datagrams.Sending.TheVariants as sending
+use Rattle.wasi_steps.specs.declared.reply.CodeWord.{CodeWord}
+use Rattle.wasi_walks.specs.Answered.{word_of_code}
 use Rattle.wasi_walks.specs.Waiting.{EndsWith}
 
 -- A datagram of a socket of this family, with this remote address or none, can't be sent: it has more than 65,535 bytes; or it is for no
@@ -28,3 +30,9 @@ pub data IsRefusedSend (family : SocketAddressFamily) (remote : Option IpSocketA
   FirstIsUnsendable : (d : OutgoingDatagram) (ds : List OutgoingDatagram) (c : ErrorCode) → IsUnsendable family remote d c → IsRefusedSend family remote before entries (d ∷ ds) c
   FirstIsDenied : (d : OutgoingDatagram) (ds : List OutgoingDatagram) (e : Entry) → EndsWith e entries → e.answer ≡ told.No → IsRefusedSend family remote before entries (d ∷ ds) AccessDenied
   FirstIsTold : (d : OutgoingDatagram) (ds : List OutgoingDatagram) (e : Entry) (c : ErrorCode) → EndsWith e entries → e.answer ≡ told.Code c → IsRefusedSend family remote before entries (d ∷ ds) c
+
+-- The refusal of a send has the word of such a code.
+pub record RefusesSend (family : SocketAddressFamily) (remote : Option IpSocketAddress) (before : Sending) (datagrams : List OutgoingDatagram) (entries : List Entry) (word : CodeWord) : Type 0 where
+  pub code : ErrorCode
+  pub why : IsRefusedSend family remote before entries datagrams code
+  pub word_is : word ≡ word_of_code code

@@ -1,8 +1,9 @@
 //! Where the answers of the steps of datagram streams come from, and what is left afterwards: laws
 //! over the definitions of specs/. Each is a function that does nothing, whose contract is the law.
 
-ghost use Rattle.std.specs.Prelude.{◌≡◌, ◌⊎◌, ◌↔◌, ◌<◌, ℕ, ◌+◌, List, [], ◌∷◌, ◌++◌, true, false, Option, IfSome, IsSomeAnd, Some, None, length};
+ghost use Rattle.std.specs.Prelude.{◌≡◌, ◌⊎◌, ◌↔◌, ◌<◌, ◌≤◌, ℕ, ◌+◌, List, [], ◌∷◌, ◌++◌, true, false, Option, IfSome, IsSomeAnd, Some, None, length};
 ghost use Rattle.wasi_addr.specs.declared.address.IpSocketAddress.{IpSocketAddress};
+ghost use Rattle.wasi_addr.specs.declared.code.ErrorCode.{ErrorCode};
 ghost use Rattle.wasi_world.specs.declared.call.Entry.{Entry};
 ghost use Rattle.wasi_world.specs.declared.datagram.OutgoingDatagram.{OutgoingDatagram};
 ghost use Rattle.wasi_world.specs.declared.outcome.TrapKind.{TrapKind};
@@ -10,6 +11,8 @@ ghost use Rattle.wasi_world.specs.declared.outcome.WasiSocketsCtx.{WasiSocketsCt
 ghost use Rattle.wasi_world.specs.Asks.{Give, Left};
 ghost use Rattle.wasi_host.specs.declared.kind.Kind.{Kind};
 ghost use Rattle.wasi_host.specs.declared.machine.Machine.{Machine};
+ghost use Rattle.wasi_records.specs.declared.datagrams.Outgoing.{Outgoing};
+ghost use Rattle.wasi_records.specs.declared.datagrams.Sending.{Sending};
 ghost use Rattle.wasi_records.specs.declared.udp.OpenUdp.{OpenUdp};
 ghost use Rattle.wasi_host.specs.Kinds.{kind_at};
 ghost use Rattle.wasi_host.specs.DatagramCalls.{outgoing_ready};
@@ -25,7 +28,7 @@ ghost use Rattle.wasi_steps.specs.declared.reply.Reply.TheVariants as Reply;
 ghost use Rattle.wasi_steps.specs.declared.step.Step.{Step};
 ghost use Rattle.wasi_steps.specs.declared.step.Step.TheVariants as Step;
 ghost use Rattle.wasi_steps.specs.Reply.{datagram_values, number_fields, pair_fields, truth_fields};
-ghost use Rattle.wasi_walks.specs.Answered.{Answered, open_udp_at, outgoing_in};
+ghost use Rattle.wasi_walks.specs.Answered.{Answered, open_udp_at, outgoing_in, word_of_code};
 ghost use Rattle.wasi_causes.specs.DatagramAsks.{CountsSent, HandsOutWhatCame, IsOfReceive, IsOfSend};
 ghost use Rattle.wasi_causes.specs.Datagrams.{HasItsSocket, HasUdpStreams, IncomingGone, IsReceiving, IsSpent, LacksRoomForBoth, OfIncoming, OfOutgoing, OutgoingGone, PermitsSend, WatchesIncoming, WatchesOutgoing, with_both};
 ghost use Rattle.wasi_causes.specs.SendCauses.{ReceivedFrom, ReceivesSome, SendsSome, UdpReceiveRefusal, UdpSendRefusal};
@@ -33,6 +36,7 @@ ghost use Rattle.wasi_causes.specs.ShortLists.{CountsUpTo, GivesNone, HandsOutUp
 ghost use Rattle.wasi_causes.specs.Turns.{datagram_of, receive_of};
 ghost use Rattle.wasi_causes.specs.StreamCauses.{HasNewStreams, MakesStreams, StreamsStand, UdpStreamRefusal};
 ghost use Rattle.wasi_causes.specs.Udp.{OfUdp, RefusedOfUdp};
+ghost use Rattle.wasi_causes.specs.Unsendable.{IsUnsendable, RefusesSend};
 
 /// What a `udp-stream` makes.
 ///
@@ -193,6 +197,26 @@ pub fn sends_have_causes()
     ensures none { (contexts : List WasiSocketsCtx) (m : Machine) (line ctx outgoing : ℕ) (datagrams : List OutgoingDatagram) (entries : List Entry) (after : Machine)
         → Answered contexts m line (Step.UdpSend ctx outgoing datagrams) entries (Reply.Ok (number_fields 0)) after
         → (datagrams ≡ []) ⊎ OfOutgoing m (outgoing_at m outgoing) (λ place o out. (is_sending out.sending ≡ true) × (entries ≡ [])) }
+{}
+
+/// Which sends are refused because of what their line says.
+///
+/// - `refused`: a send is refused whose first datagram has more than 65,535 bytes, with
+///   `datagram-too-large`; or is for no address while the socket has no remote address, or for an
+///   address that is unspecified, has the port 0, is of the other family or isn't the socket's
+///   remote address, each with `invalid-argument`. That is said where no call is pending, nothing
+///   of the stream is in the background or failed there, and the list is permitted.
+/// - `only`: else a send is refused only with the code by which a datagram failed in the background
+///   before, with `access-denied` where its last call was a check and was answered no, or with the
+///   code that its last call was answered.
+pub fn sends_are_refused_by_their_line()
+    ensures refused { (contexts : List WasiSocketsCtx) (m : Machine) (line ctx outgoing place : ℕ) (o : OpenUdp) (out : Outgoing) (d : OutgoingDatagram) (more : List OutgoingDatagram) (c : ErrorCode) (entries : List Entry) (reply : Reply) (after : Machine)
+        → m.store.standing ≡ None → outgoing_at m outgoing ≡ Some place → open_at m.store.records place ≡ Some o → o.outgoing ≡ Some out → out.sending ≡ Sending.Nothing → length (d ∷ more) ≤ out.permit
+        → IsUnsendable o.inner.family o.inner.remote d c → Answered contexts m line (Step.UdpSend ctx outgoing (d ∷ more)) entries reply after
+        → reply ≡ Reply.Err (word_of_code c) }
+    ensures only { (contexts : List WasiSocketsCtx) (m : Machine) (line ctx outgoing : ℕ) (datagrams : List OutgoingDatagram) (entries : List Entry) (word : CodeWord) (after : Machine)
+        → Answered contexts m line (Step.UdpSend ctx outgoing datagrams) entries (Reply.Err word) after
+        → OfOutgoing m (outgoing_at m outgoing) (λ place o out. RefusesSend o.inner.family o.inner.remote out.sending datagrams entries word) }
 {}
 
 /// What a receive of datagrams asks and answers.

@@ -69,7 +69,7 @@ never_late_to family (Some r) (Some a) to goes late = by_test (is_sendable famil
     by_test false same is e = absurd (cc)
 
 module _ (line : ℕ) (socket : Socket) (all : List OutgoingDatagram) where
-  never_late : (bytes : List ℕ) (given : Option IpSocketAddress) (to : Destination) → send_to socket bytes given ≡ Ok to → (to.kept && not (is_now socket.remote to.addr)) ≡ true → ⊥
+  pub never_late : (bytes : List ℕ) (given : Option IpSocketAddress) (to : Destination) → send_to socket bytes given ≡ Ok to → (to.kept && not (is_now socket.remote to.addr)) ≡ true → ⊥
   never_late bytes given to goes late = by_test (nat_lt 65535 (length bytes)) goes
     where
       by_test : (b : Bool) → (if b then Err DatagramTooLarge else where_to socket.family socket.remote given) ≡ Ok to → ⊥
