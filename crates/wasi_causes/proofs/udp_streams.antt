@@ -1,6 +1,7 @@
 -- The steps of the datagram streams of UDP sockets.
 pub mod Routes
 pub mod Makes
+pub mod Kept
 pub mod Connected
 pub mod Sends
 pub mod Receives

@@ -8,6 +8,7 @@ pub mod Polls
 pub mod Udp
 pub mod Datagrams
 pub mod StreamCauses
+pub mod KeptAddress
 pub mod SendCauses
 pub mod ReceivedList
 pub mod Plain

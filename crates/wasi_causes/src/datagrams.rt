@@ -31,6 +31,7 @@ ghost use Rattle.wasi_steps.specs.Reply.{datagram_values, number_fields, pair_fi
 ghost use Rattle.wasi_walks.specs.Answered.{Answered, open_udp_at, outgoing_in, word_of_code};
 ghost use Rattle.wasi_causes.specs.DatagramAsks.{CountsSent, HandsOutWhatCame, IsOfReceive, IsOfSend};
 ghost use Rattle.wasi_causes.specs.Datagrams.{HasItsSocket, HasUdpStreams, IncomingGone, IsReceiving, IsSpent, LacksRoomForBoth, OfIncoming, OfOutgoing, OutgoingGone, PermitsSend, WatchesIncoming, WatchesOutgoing, with_both};
+ghost use Rattle.wasi_causes.specs.KeptAddress.{NewStreamsKeep};
 ghost use Rattle.wasi_causes.specs.SendCauses.{ReceivedFrom, ReceivesSome, SendsSome, UdpReceiveRefusal, UdpSendRefusal};
 ghost use Rattle.wasi_causes.specs.ShortLists.{CountsUpTo, GivesNone, HandsOutUpTo};
 ghost use Rattle.wasi_causes.specs.Turns.{datagram_of, receive_of};
@@ -72,6 +73,19 @@ pub fn udp_streams_make_two_handles()
     ensures full { (contexts : List WasiSocketsCtx) (m : Machine) (line ctx handle : ℕ) (remote : Option IpSocketAddress) (entries : List Entry) (after : Machine)
         → Answered contexts m line (Step.UdpStream ctx handle remote) entries (Reply.Trap TrapKind.Full) after
         → IsSomeAnd (udp_socket_at m handle) (λ place. LacksRoomForBoth m.table place handle) }
+{}
+
+/// Which address the incoming stream that a `udp-stream` makes keeps.
+///
+/// - `kept`: asked for with an address, or of a socket that has a remote address, the last call
+///   before the marks asked the network for the remote address; the stream keeps what was reported,
+///   or none where that was a code or the wildcard. Asked for without an address, of a socket that
+///   has none, it keeps none. What it keeps is the socket's remote address; nothing is received or
+///   sent on either stream, and nothing may be sent yet.
+pub fn new_streams_keep_the_remote_address()
+    ensures kept { (contexts : List WasiSocketsCtx) (m : Machine) (line ctx handle : ℕ) (remote : Option IpSocketAddress) (fields : List Field) (entries : List Entry) (after : Machine)
+        → Answered contexts m line (Step.UdpStream ctx handle remote) entries (Reply.Ok fields) after
+        → OfUdp m handle (λ place o. NewStreamsKeep m (own_of line) handle place o remote entries after) }
 {}
 
 /// Why a `udp-stream` is refused:
