@@ -1,7 +1,13 @@
 -- Which datagrams can't be sent: the rule of the machine and what the line says agree.
 use Rattle.std.specs.Prelude.{◌<◌, ◌≤◌}
-use Rattle.wasi_causes.proofs.Words.{AccessDenied, Allows, Answer, Answered, Asks, Bool, CodeWord, Entry, Err, ErrorCode, Fits, Give, Has, InvalidArgument, IpSocketAddress, IsSomeAnd, Last, Left, List, Machine, None, Nothing, Ok, OpId, Operation, Option, Reply}
-use Rattle.wasi_causes.proofs.Words.{Result, Some, SocketAddressFamily, Standing, Stop, WasiSocketsCtx, [], after, allows_then, ap, arith, asks_while, bind, false, first_ids, if◌then◌else◌, inl, inr, is_now, leb-false, length, ltb-false, ltb-true, machine_asks, nat_lt, not, number_fields, poll_asks, polls, refl, subst, sym, true, word_of_code, ℕ, ⊤, ◌&&◌, ◌++◌, ◌+◌, ◌<◌, ◌∙◌, ◌∷◌, ◌≡◌}
+use Rattle.wasi_causes.proofs.Words.{AccessDenied, Allows, Answer, Answered, Asks, Bool, CodeWord, Entry, Err}
+use Rattle.wasi_causes.proofs.Words.{ErrorCode, Fits, Give, Has, InvalidArgument, IpSocketAddress, IsSomeAnd, Last}
+use Rattle.wasi_causes.proofs.Words.{Left, List, Machine, None, Nothing, Ok, OpId, Operation, Option, Reply}
+use Rattle.wasi_causes.proofs.Words.{Result, Some, SocketAddressFamily, Standing, Stop, WasiSocketsCtx, [], after}
+use Rattle.wasi_causes.proofs.Words.{allows_then, ap, arith, asks_while, bind, false, first_ids, if◌then◌else◌, inl}
+use Rattle.wasi_causes.proofs.Words.{inr, is_now, leb-false, length, ltb-false, ltb-true, machine_asks, nat_lt, not}
+use Rattle.wasi_causes.proofs.Words.{number_fields, poll_asks, polls, refl, subst, sym, true, word_of_code, ℕ, ⊤, ◌&&◌}
+use Rattle.wasi_causes.proofs.Words.{◌++◌, ◌+◌, ◌<◌, ◌∙◌, ◌∷◌, ◌≡◌}
 use Rattle.wasi_addr.specs.Address.{ip_of, is_of_family, is_remote, same_address}
 use Rattle.wasi_addr.specs.declared.code.ErrorCode.TheVariants.{DatagramTooLarge}
 use Rattle.wasi_world.specs.declared.datagram.OutgoingDatagram.{OutgoingDatagram}
@@ -15,7 +21,9 @@ abbrev goes_to : IpSocketAddress → Bool → Bool → Result Destination ErrorC
 goes_to a kept b = if b then Ok (record { addr = a; kept = kept }) else Err InvalidArgument
 
 -- of one that isn't too large
-where_so : (family : SocketAddressFamily) (d : OutgoingDatagram) → length d.bytes ≤ 65535 → (remote given : Option IpSocketAddress) → d.remote_address ≡ given → (c : ErrorCode) → where_to family remote given ≡ Err c → IsUnsendable family remote d c
+where_so : (family : SocketAddressFamily) (d : OutgoingDatagram) → length d.bytes ≤ 65535
+    → (remote given : Option IpSocketAddress) → d.remote_address ≡ given → (c : ErrorCode)
+    → where_to family remote given ≡ Err c → IsUnsendable family remote d c
 where_so family d few None None is c e = let same : InvalidArgument ≡ c = cc in subst (IsUnsendable family None d) same (HasNoAddress few is refl)
 where_so family d few (Some r) None is c e = absurd (cc)
 where_so family d few None (Some a) is c e = by_test (is_sendable family a) refl e
@@ -25,16 +33,20 @@ where_so family d few None (Some a) is c e = by_test (is_sendable family a) refl
     by_test false s e = let same : InvalidArgument ≡ c = cc in subst (IsUnsendable family None d) same (HasWrongAddress few a is s)
 where_so family d few (Some r) (Some a) is c e = by_test (is_sendable family a) (same_address a r) refl refl e
   where
-    by_test : (b t : Bool) → is_sendable family a ≡ b → same_address a r ≡ t → goes_to a true (b && t) ≡ Err c → IsUnsendable family (Some r) d c
+    by_test : (b t : Bool) → is_sendable family a ≡ b → same_address a r ≡ t → goes_to a true (b && t) ≡ Err c
+        → IsUnsendable family (Some r) d c
     by_test true true s t e = absurd (cc)
     by_test true false s t e = let same : InvalidArgument ≡ c = cc in subst (IsUnsendable family (Some r) d) same (IsNotForRemote few a r is refl t)
     by_test false t s u e = let same : InvalidArgument ≡ c = cc in subst (IsUnsendable family (Some r) d) same (HasWrongAddress few a is s)
 
 -- what the machine refuses is unsendable
-pub unsendable : (socket : Socket) (d : OutgoingDatagram) (c : ErrorCode) → send_to socket d.bytes d.remote_address ≡ Err c → IsUnsendable socket.family socket.remote d c
+pub unsendable : (socket : Socket) (d : OutgoingDatagram) (c : ErrorCode)
+    → send_to socket d.bytes d.remote_address ≡ Err c → IsUnsendable socket.family socket.remote d c
 unsendable socket d c e = by_length (nat_lt 65535 (length d.bytes)) refl e
   where
-    by_length : (b : Bool) → nat_lt 65535 (length d.bytes) ≡ b → (if b then Err DatagramTooLarge else where_to socket.family socket.remote d.remote_address) ≡ Err c → IsUnsendable socket.family socket.remote d c
+    by_length : (b : Bool) → nat_lt 65535 (length d.bytes) ≡ b
+        → (if b then Err DatagramTooLarge else where_to socket.family socket.remote d.remote_address) ≡ Err c
+        → IsUnsendable socket.family socket.remote d c
     by_length true many e = let same : DatagramTooLarge ≡ c = cc in subst (IsUnsendable socket.family socket.remote d) same (IsTooLarge (ltb-true _ _ many))
     by_length false few e = where_so socket.family d (ltb-false _ _ few) socket.remote d.remote_address refl c e
 
@@ -53,7 +65,8 @@ many n more = by_test (nat_lt 65535 n) refl
     by_test true e = e
     by_test false e = absurd (let few = ltb-false _ _ e in omega (arith, more, few))
 
-no_place : (family : SocketAddressFamily) (remote : Option IpSocketAddress) (a : IpSocketAddress) → is_sendable family a ≡ false → where_to family remote (Some a) ≡ Err InvalidArgument
+no_place : (family : SocketAddressFamily) (remote : Option IpSocketAddress) (a : IpSocketAddress)
+    → is_sendable family a ≡ false → where_to family remote (Some a) ≡ Err InvalidArgument
 no_place family None a e = ap (goes_to a false) e
 no_place family (Some r) a e = ap (λ (b : Bool). goes_to a true (b && same_address a r)) e
 
@@ -61,16 +74,20 @@ and_false : (b : Bool) → (b && false) ≡ false
 and_false true = refl
 and_false false = refl
 
-other_place : (family : SocketAddressFamily) (r a : IpSocketAddress) → same_address a r ≡ false → where_to family (Some r) (Some a) ≡ Err InvalidArgument
+other_place : (family : SocketAddressFamily) (r a : IpSocketAddress) → same_address a r ≡ false
+    → where_to family (Some r) (Some a) ≡ Err InvalidArgument
 other_place family r a e = ap (goes_to a true) (ap (λ (t : Bool). is_sendable family a && t) e ∙ and_false (is_sendable family a))
 
 module _ (socket : Socket) (d : OutgoingDatagram) where
-  of_few : length d.bytes ≤ 65535 → (given : Option IpSocketAddress) → d.remote_address ≡ given → (remote : Option IpSocketAddress) → socket.remote ≡ remote → (c : ErrorCode) → where_to socket.family remote given ≡ Err c → send_to socket d.bytes d.remote_address ≡ Err c
+  of_few : length d.bytes ≤ 65535 → (given : Option IpSocketAddress) → d.remote_address ≡ given
+      → (remote : Option IpSocketAddress) → socket.remote ≡ remote → (c : ErrorCode)
+      → where_to socket.family remote given ≡ Err c → send_to socket d.bytes d.remote_address ≡ Err c
   of_few few given is remote has c e =
       ap (λ (b : Bool). if b then Err DatagramTooLarge else where_to socket.family socket.remote d.remote_address) (not_many (length d.bytes) few)
       ∙ (ap (λ (o : Option IpSocketAddress). where_to socket.family o d.remote_address) has ∙ (ap (λ (o : Option IpSocketAddress). where_to socket.family remote o) is ∙ e))
 
-  pub refused_so : (c : ErrorCode) → IsUnsendable socket.family socket.remote d c → send_to socket d.bytes d.remote_address ≡ Err c
+  pub refused_so : (c : ErrorCode) → IsUnsendable socket.family socket.remote d c
+      → send_to socket d.bytes d.remote_address ≡ Err c
   refused_so _ (IsTooLarge more) = ap (λ (b : Bool). if b then Err DatagramTooLarge else where_to socket.family socket.remote d.remote_address) (many (length d.bytes) more)
   refused_so _ (HasNoAddress few is has) = of_few few None is None has InvalidArgument refl
   refused_so _ (HasWrongAddress few a is wrong) = of_few few (Some a) is socket.remote refl InvalidArgument (no_place socket.family socket.remote a wrong)
