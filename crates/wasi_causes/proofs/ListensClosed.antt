@@ -2,7 +2,6 @@
 use Rattle.wasi_records.specs.Records.{tcp2_at}
 use Rattle.wasi_records.specs.declared.listening.Listening.TheVariants as listening
 use Rattle.wasi_records.specs.Listening.{with_listening}
-use Rattle.wasi_records.specs.declared.records.Record.{Record}
 use Rattle.wasi_host.specs.declared.store.StandingCall.TheVariants as standing
 use Rattle.wasi_tcp.specs.declared.socket.TcpState.TheVariants as state
 use Rattle.wasi_addr.specs.declared.code.ErrorCode.TheVariants.{Other}

@@ -1,7 +1,7 @@
 -- Which address a new incoming stream keeps.
-use Rattle.wasi_causes.proofs.Words.{Answered, Entry, IpSocketAddress, IsSome, List, Machine, None, OpId, Option, Reply}
-use Rattle.wasi_causes.proofs.Words.{Some, SocketAddressFamily, Told, WasiSocketsCtx, [], ap, append_assoc, bind, entry}
-use Rattle.wasi_causes.proofs.Words.{inl, inr, own_of, refl, subst, sym, told_addr, ℕ, ◌++◌, ◌∙◌, ◌∷◌, ◌≡◌, ◌⊎◌}
+use Rattle.wasi_causes.proofs.Words.{Answered, Entry, IpSocketAddress, IsSome, List, Machine, None, OpId, Option}
+use Rattle.wasi_causes.proofs.Words.{Some, SocketAddressFamily, Told, WasiSocketsCtx, [], ap, append_assoc, entry}
+use Rattle.wasi_causes.proofs.Words.{inl, inr, own_of, refl, subst, sym, told_addr, ℕ, ◌++◌, ◌∙◌, ◌∷◌, ◌≡◌}
 use Rattle.wasi_world.specs.Operation.{remote_told}
 use Rattle.wasi_addr.specs.declared.address.SocketAddrUse.TheVariants as usages
 use Rattle.wasi_world.specs.declared.call.Call.TheVariants as call
@@ -19,7 +19,7 @@ use Rattle.wasi_walks.proofs.UdpLists.{udp_set_there}
 use Rattle.wasi_walks.proofs.walks.Udp.{open_is}
 use Rattle.wasi_records.specs.Records.{udp2_at}
 use Rattle.wasi_causes.proofs.tables.Steps.{its_own}
-use Rattle.wasi_causes.specs.KeptAddress.{AreNew, IsKept, KeepsNone, KeepsReported, NewStreamsKeep, reported}
+use Rattle.wasi_causes.specs.KeptAddress.{AreNew, KeepsNone, KeepsReported, NewStreamsKeep, reported}
 use Rattle.wasi_causes.specs.StreamCauses.{MakesStreams, StreamsBegin, StreamsConnected, StreamsDisconnected}
 use Rattle.wasi_causes.specs.StreamCauses.{StreamsUnchanged, both_marks, disconnect_entry, peer_entry}
 use Rattle.wasi_causes.specs.Udp.{OfUdp}

@@ -1,16 +1,15 @@
 -- Why a send of datagrams is refused, by its line: the first datagram can't be sent, or is denied, or is answered with
 -- a code.
 use Rattle.std.specs.Prelude.{◌≤◌}
-use Rattle.wasi_causes.proofs.Words.{AccessDenied, Answer, Answered, Bool, CodeWord, Entry, Err, ErrorCode, Has}
-use Rattle.wasi_causes.proofs.Words.{IpSocketAddress, Item, Last, List, Machine, None, Nothing, Ok, OpId, Operation}
+use Rattle.wasi_causes.proofs.Words.{Answer, Answered, Bool, CodeWord, Entry, Err, ErrorCode, Has}
+use Rattle.wasi_causes.proofs.Words.{IpSocketAddress, Last, List, Machine, None, Nothing, Ok, OpId}
 use Rattle.wasi_causes.proofs.Words.{Option, Reply, Result, Some, Standing, Stop}
 use Rattle.wasi_causes.proofs.Words.{WasiSocketsCtx, [], ap, append_assoc, arith, asks_while, bind, code_stop}
-use Rattle.wasi_causes.proofs.Words.{first_ids, inl, inr, is_now, length, ltb-true, machine_asks, nat_lt, not, polls}
-use Rattle.wasi_causes.proofs.Words.{refl, subst, sym, true, false, word_of_code, ℕ, ⊤, ◌&&◌, ◌++◌, ◌<◌, ◌∙◌, ◌∷◌, ◌≡◌}
+use Rattle.wasi_causes.proofs.Words.{first_ids, inl, inr, length, ltb-true, machine_asks, nat_lt, polls}
+use Rattle.wasi_causes.proofs.Words.{refl, subst, sym, true, false, word_of_code, ℕ, ◌++◌, ◌∙◌, ◌∷◌, ◌≡◌}
 use Rattle.wasi_addr.specs.declared.address.SocketAddressFamily.{SocketAddressFamily}
 use Rattle.wasi_common.specs.declared.asker.Asker.{Asker}
 use Rattle.wasi_world.specs.declared.datagram.OutgoingDatagram.{OutgoingDatagram}
-use Rattle.wasi_world.specs.declared.ids.Ids.{Ids}
 use Rattle.wasi_world.specs.Operation.{Send}
 use Rattle.wasi_udp.specs.Send.{send_first, send_left, send_operation, send_start, send_to}
 use Rattle.wasi_udp.specs.Shape.{Socket}
@@ -31,7 +30,7 @@ use Rattle.wasi_steps.specs.declared.reply.Reply.TheVariants as reply
 use Rattle.wasi_steps.specs.declared.step.Step.TheVariants as step
 use Rattle.wasi_walks.specs.Waiting.{EndsWith}
 use Rattle.wasi_causes.proofs.sockets.Udp.{ItsBound, ItsFree, UdpBoundRow, udp_bounds}
-use Rattle.wasi_causes.proofs.tables.Meets.{Meets, Rows, branch, chain, ends, met, onto, widen}
+use Rattle.wasi_causes.proofs.tables.Meets.{Meets, branch, chain, ends, met, onto, widen}
 use Rattle.wasi_causes.proofs.tables.Steps.{its_own}
 use Rattle.wasi_causes.proofs.udp_streams.SendAsks.{never_late, of_outgoing}
 use Rattle.wasi_causes.proofs.udp_streams.Unsendable.{refused_so, unsendable}

@@ -1,14 +1,14 @@
 -- Which datagrams can't be sent: the rule of the machine and what the line says agree.
 use Rattle.std.specs.Prelude.{◌<◌, ◌≤◌}
-use Rattle.wasi_causes.proofs.Words.{AccessDenied, Allows, Answer, Answered, Asks, Bool, CodeWord, Entry, Err}
-use Rattle.wasi_causes.proofs.Words.{ErrorCode, Fits, Give, Has, InvalidArgument, IpSocketAddress, IsSomeAnd, Last}
-use Rattle.wasi_causes.proofs.Words.{Left, List, Machine, None, Nothing, Ok, OpId, Operation, Option, Reply}
-use Rattle.wasi_causes.proofs.Words.{Result, Some, SocketAddressFamily, Standing, Stop, WasiSocketsCtx, [], after}
-use Rattle.wasi_causes.proofs.Words.{allows_then, ap, arith, asks_while, bind, false, first_ids, if◌then◌else◌, inl}
-use Rattle.wasi_causes.proofs.Words.{inr, is_now, leb-false, length, ltb-false, ltb-true, machine_asks, nat_lt, not}
-use Rattle.wasi_causes.proofs.Words.{number_fields, poll_asks, polls, refl, subst, sym, true, word_of_code, ℕ, ⊤, ◌&&◌}
-use Rattle.wasi_causes.proofs.Words.{◌++◌, ◌+◌, ◌<◌, ◌∙◌, ◌∷◌, ◌≡◌}
-use Rattle.wasi_addr.specs.Address.{ip_of, is_of_family, is_remote, same_address}
+use Rattle.wasi_causes.proofs.Words.{Bool, Err}
+use Rattle.wasi_causes.proofs.Words.{ErrorCode, InvalidArgument, IpSocketAddress}
+use Rattle.wasi_causes.proofs.Words.{None, Ok, Option}
+use Rattle.wasi_causes.proofs.Words.{Result, Some, SocketAddressFamily}
+use Rattle.wasi_causes.proofs.Words.{ap, arith, false, if◌then◌else◌}
+use Rattle.wasi_causes.proofs.Words.{length, ltb-false, ltb-true, nat_lt}
+use Rattle.wasi_causes.proofs.Words.{refl, subst, true, ℕ, ◌&&◌}
+use Rattle.wasi_causes.proofs.Words.{◌<◌, ◌∙◌, ◌≡◌}
+use Rattle.wasi_addr.specs.Address.{same_address}
 use Rattle.wasi_addr.specs.declared.code.ErrorCode.TheVariants.{DatagramTooLarge}
 use Rattle.wasi_world.specs.declared.datagram.OutgoingDatagram.{OutgoingDatagram}
 use Rattle.wasi_udp.specs.Send.{is_sendable, send_to, where_to}
