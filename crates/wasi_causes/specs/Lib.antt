@@ -9,6 +9,7 @@ pub mod Udp
 pub mod Datagrams
 pub mod StreamCauses
 pub mod KeptAddress
+pub mod ErrorMarks
 pub mod SendCauses
 pub mod ReceivedList
 pub mod Plain
