@@ -13,7 +13,7 @@ use Rattle.wasi_walks.specs.Licence.{entry}
 -- The last of the entries marks the next handle as that of an error, under this stream's handle, and with the network
 -- socket that the stream's record was made with.
 pub record MarksItsSocket (m : Machine) (own : OpId) (stream : ℕ) (number : Option ℕ) (entries : List Entry)
-      : Type 0 where
+    : Type 0 where
   pub place : ℕ
   pub found : Tcp2Socket
   pub names : number ≡ Some place

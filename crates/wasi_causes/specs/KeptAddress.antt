@@ -32,7 +32,7 @@ pub record AreNew (m : Machine) (place : ℕ) (kept : Option IpSocketAddress) : 
 -- for the remote address, and it is what was reported; or the streams were asked for without one, the socket had none,
 -- and none is kept.
 pub data IsKept (m : Machine) (own : OpId) (handle : ℕ) (o : OpenUdp) (remote : Option IpSocketAddress)
-      (entries : List Entry) : Option IpSocketAddress → Type 0 where
+    (entries : List Entry) : Option IpSocketAddress → Type 0 where
   KeepsReported : (before : List Entry) (peer : Told) → IsSome remote ⊎ IsSome o.inner.remote
       → entries ≡ (before ++ peer_entry own o peer ∷ []) ++ both_marks own m.table.next handle o
       → IsKept m own handle o remote entries (reported o.inner.family peer)
@@ -40,7 +40,7 @@ pub data IsKept (m : Machine) (own : OpId) (handle : ℕ) (o : OpenUdp) (remote 
 
 -- The streams that were made are new, and keep such an address.
 pub record NewStreamsKeep (m : Machine) (own : OpId) (handle place : ℕ) (o : OpenUdp) (remote : Option IpSocketAddress)
-      (entries : List Entry) (after : Machine) : Type 0 where
+    (entries : List Entry) (after : Machine) : Type 0 where
   pub kept : Option IpSocketAddress
   pub is : IsKept m own handle o remote entries kept
   pub new : AreNew after place kept

@@ -45,7 +45,7 @@ pub data IsNotSent (own : OpId) (socket : Socket) (d : OutgoingDatagram) (entrie
 -- nothing was asked; or the last that is counted was answered pending, and nothing was asked after that; or after some
 -- the next one isn't sent.
 pub data CountsNoMore (line : ℕ) (socket : Socket) (before : Sending) (datagrams : List OutgoingDatagram) (count : ℕ)
-      (entries : List Entry) : Type 0 where
+    (entries : List Entry) : Type 0 where
   CountsAll : count ≡ length datagrams → CountsNoMore line socket before datagrams count entries
   OneWasPending : (op : Operation) → before ≡ sending.InProgress op → count ≡ 0 → entries ≡ []
       → CountsNoMore line socket before datagrams count entries
@@ -56,7 +56,7 @@ pub data CountsNoMore (line : ℕ) (socket : Socket) (before : Sending) (datagra
 
 -- The number is of so many datagrams and no more.
 pub record CountsUpTo (line : ℕ) (socket : Socket) (before : Sending) (datagrams : List OutgoingDatagram)
-      (fields : List Field) (entries : List Entry) : Type 0 where
+    (fields : List Field) (entries : List Entry) : Type 0 where
   pub count : ℕ
   pub gives : fields ≡ number_fields count
   pub ends : CountsNoMore line socket before datagrams count entries
@@ -96,7 +96,7 @@ room_for (d ∷ ds) = length d.bytes + 1 + room_for ds
 -- was in progress before, is so still, none is handed out, and nothing was asked; or a receive of the line is pending;
 -- or after some one of its receives failed. `now` is the operation of the receive that is in progress afterwards.
 pub data HandsOutNoMore (line : ℕ) (socket : Socket) (most : ℕ) (wanted : Option IpSocketAddress) (before : Receiving)
-      (now : Option OpId) (entries : List Entry) (datagrams : List IncomingDatagram) : Type 0 where
+    (now : Option OpId) (entries : List Entry) (datagrams : List IncomingDatagram) : Type 0 where
   AllThatWereWanted : length datagrams ≡ min most 16
       → HandsOutNoMore line socket most wanted before now entries datagrams
   NoRoomForMore : 65536 ≤ room_for datagrams → HandsOutNoMore line socket most wanted before now entries datagrams
@@ -110,7 +110,7 @@ pub data HandsOutNoMore (line : ℕ) (socket : Socket) (most : ℕ) (wanted : Op
 
 -- The reply hands out these datagrams and no more.
 pub record HandsOutUpTo (line : ℕ) (socket : Socket) (most : ℕ) (stream : Incoming) (now : Option OpId)
-      (fields : List Field) (entries : List Entry) : Type 0 where
+    (fields : List Field) (entries : List Entry) : Type 0 where
   pub datagrams : List IncomingDatagram
   pub gives : fields ≡ datagram_values datagrams
   pub ends : HandsOutNoMore line socket most stream.remote stream.receiving now entries datagrams

@@ -18,7 +18,7 @@ use Rattle.wasi_walks.specs.Waiting.{EndsWith}
 -- bytes; or it is for no address, and the socket has no remote address; or its address is unspecified, has the port 0
 -- or is of the other family; or it isn't the socket's remote address.
 pub data IsUnsendable (family : SocketAddressFamily) (remote : Option IpSocketAddress) (d : OutgoingDatagram)
-      : ErrorCode → Type 0 where
+    : ErrorCode → Type 0 where
   IsTooLarge : 65535 < length d.bytes → IsUnsendable family remote d DatagramTooLarge
   HasNoAddress : length d.bytes ≤ 65535 → d.remote_address ≡ None → remote ≡ None
       → IsUnsendable family remote d InvalidArgument
@@ -30,7 +30,7 @@ pub data IsUnsendable (family : SocketAddressFamily) (remote : Option IpSocketAd
 -- A send of these datagrams is refused with the code, after these entries: one in the background failed with it before;
 -- or the first can't be sent; or the last entry is a no, or tells the code.
 pub data IsRefusedSend (family : SocketAddressFamily) (remote : Option IpSocketAddress) (before : Sending)
-      (entries : List Entry) : List OutgoingDatagram → ErrorCode → Type 0 where
+    (entries : List Entry) : List OutgoingDatagram → ErrorCode → Type 0 where
   OneFailedBefore : (ds : List OutgoingDatagram) (c : ErrorCode) → before ≡ sending.Failed c → entries ≡ []
       → IsRefusedSend family remote before entries ds c
   FirstIsUnsendable : (d : OutgoingDatagram) (ds : List OutgoingDatagram) (c : ErrorCode)
@@ -42,7 +42,7 @@ pub data IsRefusedSend (family : SocketAddressFamily) (remote : Option IpSocketA
 
 -- The refusal of a send has the word of such a code.
 pub record RefusesSend (family : SocketAddressFamily) (remote : Option IpSocketAddress) (before : Sending)
-      (datagrams : List OutgoingDatagram) (entries : List Entry) (word : CodeWord) : Type 0 where
+    (datagrams : List OutgoingDatagram) (entries : List Entry) (word : CodeWord) : Type 0 where
   pub code : ErrorCode
   pub why : IsRefusedSend family remote before entries datagrams code
   pub word_is : word ≡ word_of_code code

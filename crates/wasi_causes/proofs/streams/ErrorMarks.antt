@@ -93,7 +93,7 @@ module _ (m : Machine) (own : OpId) (handle : ℕ) where
     by_stream : {T : Type 0} (call : Tcp2Socket → Asks (Result T StreamStop × Tcp2Socket))
         → ((r : Tcp2Socket) → Meets (KeepsSide r) [] (call r))
         → (o : Option Tcp2Socket) → tcp2_at m.store.records place ≡ o
-            → Meets Converted [] (stream_at m.store place call o)
+        → Meets Converted [] (stream_at m.store place call o)
     by_stream call keeps None at = ends (lost [] m)
     by_stream call keeps (Some r) at =
         onto _ (widen (λ es done k. converts r done.1 at es (with_socket m.store place done.1) (set_there m.store.records place r done.1 at) k done.0) (keeps r))
@@ -107,7 +107,7 @@ module _ (m : Machine) (own : OpId) (handle : ℕ) where
     by_write : {T : Type 0} (call : Tcp2Socket → Asks (Result T StreamStop × Tcp2Socket))
         → ((r : Tcp2Socket) → Meets (KeepsSide r) [] (call r))
         → (o : Option Tcp2Socket) → tcp2_at m.store.records place ≡ o
-            → Meets Converted [] (write_at m.store place call o)
+        → Meets Converted [] (write_at m.store place call o)
     by_write call keeps None at =
         onto _ (ends (lost [] (record m { store = with_job m.store (WriteJob place) (begins_job None (tcp2_at m.store.records place)) })))
     by_write call keeps (Some r) at =

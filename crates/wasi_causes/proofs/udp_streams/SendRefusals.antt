@@ -159,7 +159,7 @@ module _ (contexts : List WasiSocketsCtx) (m : Machine) (line ctx handle : ℕ) 
         → open_at m.store.records place ≡ Some o → o.outgoing ≡ Some out → out.sending ≡ Sending.Nothing
         → length ds ≤ out.permit
         → (es : List Entry) (r : Reply) (after : Machine)
-            → Answered contexts m line (step.UdpSend ctx handle ds) es r after → r ≡ reply.Err (word_of_code c)
+        → Answered contexts m line (step.UdpSend ctx handle ds) es r after → r ≡ reply.Err (word_of_code c)
     refused_by_line free names at has none few es r after w = met asked w
       where
         by_socket : Meets StopRow [] (send_datagrams_at m.store (first_ids line) place ds (Some o))
