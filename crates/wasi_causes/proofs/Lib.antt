@@ -24,4 +24,5 @@ pub mod PipeHandles
 pub mod Pending
 pub mod Runs
 pub mod Watching
+pub mod ListensClosed
 pub mod NamedRecords

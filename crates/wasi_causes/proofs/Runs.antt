@@ -45,6 +45,7 @@ use Rattle.wasi_walks.proofs.walks.Steps.{may_while, machine_walks}
 use Rattle.wasi_walks.specs.Answered.{AllOf, ConnectsOn}
 use Rattle.wasi_walks.specs.Listens.{RefusedListen}
 use Rattle.wasi_tcp.specs.Listen as listen
+use Rattle.wasi_tcp.specs.Socket.{side_in}
 use Rattle.wasi_walks.specs.Waiting.{IsAskLeft, IsAskOfListen, StartsTold}
 use Rattle.wasi_causes.proofs.Words.{HoldsConnect, wildcard}
 use Rattle.wasi_steps.specs.declared.reply.Reply.TheVariants as reply
@@ -85,7 +86,7 @@ asks_left _ (listen.ToClose c) told asks = absurd asks.0
 asks_left _ listen.Ended told asks = tt
 
 listens_so : (s : TcpState) (l : Listening) → FitListening l → AsksToListen s l → HasListen l → IsListening s l
-listens_so s (listening.Begins op) h k told = (h, asks_left op.left h.left told k.0, k.1, k.2)
+listens_so s (listening.Begins op) h k told = (h, asks_left op.left h.left told k.0, k.1, ap side_in k.2)
 listens_so s _ h k none = absurd none
 
 connects_so : (s : TcpState) → HoldsConnect s → AsksToConnect s → ConnectsOn s

@@ -38,6 +38,7 @@ use Rattle.wasi_causes.proofs.operations.Polls.{Keeps, connect_leaves, listen_le
 use Rattle.wasi_tcp.specs.Connect.{connect_first, connect_left, connect_operation}
 use Rattle.wasi_tcp.specs.Listen.{is_over}
 use Rattle.wasi_tcp.specs.Socket.{side_in}
+use Rattle.wasi_addr.specs.declared.code.ErrorCode.TheVariants.{Other}
 use Rattle.wasi_walks.specs.Answered.{AllOf, IsAskOfConnect}
 use Rattle.wasi_walks.specs.Waiting.{IsAskOfListen}
 use Rattle.wasi_causes.proofs.Words.{IpSocketAddress, SocketAddressFamily, after_create, gives_more, told_done, wildcard}
@@ -84,9 +85,9 @@ abbrev pub AsksToConnect : TcpState → Type 0
 AsksToConnect (state.Connecting op) = AllOf IsAskOfConnect op.left
 AsksToConnect _ = ⊤
 
--- and the listen has taken the network socket
+-- and the listen has taken the network socket, so that its socket is closed until it is done, and its code is Other
 abbrev pub AsksToListen : TcpState → Listening → Type 0
-AsksToListen s (listening.Begins op) = AllOf IsAskOfListen op.left × (is_over op ≡ false) × (side_in s ≡ None)
+AsksToListen s (listening.Begins op) = AllOf IsAskOfListen op.left × (is_over op ≡ false) × (s ≡ state.Closed Other)
 AsksToListen s _ = ⊤
 
 abbrev pub Asking : Tcp2Socket → Type 0
@@ -239,7 +240,7 @@ listened_sound op r (Refused c given, left) e k s = (s.0, λ side d. refl, (s.2.
 
 -- where there is a network socket, no listen is in progress
 no_listen : (old now : TcpState) (l : Listening) (side : OpId) → side_in old ≡ Some side → AsksToListen old l → AsksToListen now l
-no_listen old now (listening.Begins op) side e k = let none = k.2 in absurd (cc)
+no_listen old now (listening.Begins op) side e k = let none : side_in old ≡ None = ap side_in k.2 in absurd (cc)
 no_listen old now _ side e k = tt
 
 asks_after : (who : Who) (end : End × List Item) → Keeps IsAskOfConnect end → AsksToConnect (connect_ended who end).1

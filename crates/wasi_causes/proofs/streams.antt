@@ -19,6 +19,7 @@ pub mod Settles
 pub mod BlockingSteps
 pub mod Polls
 pub mod Read
+pub mod ErrorMarks
 pub mod Splices
 pub mod Turns
 pub mod Live

@@ -8,6 +8,8 @@ pub mod Polls
 pub mod Udp
 pub mod Datagrams
 pub mod StreamCauses
+pub mod KeptAddress
+pub mod ErrorMarks
 pub mod SendCauses
 pub mod ReceivedList
 pub mod Plain
@@ -17,5 +19,7 @@ pub mod PollableCalls
 pub mod Cancelled
 pub mod Failed
 pub mod DatagramAsks
+pub mod Unsendable
+pub mod ShortLists
 pub mod MayAnswer
 pub mod NamedRecords

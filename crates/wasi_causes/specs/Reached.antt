@@ -1,5 +1,6 @@
 -- What holds of every machine that the lines of a script lead to.
-use Rattle.std.specs.Prelude.{◌≡◌, ⊤, ℕ, true, false, IfSome, IsSome}
+use Rattle.std.specs.Prelude.{◌≡◌, ⊤, ℕ, true, false, IfSome, IsSome, IsSomeAnd}
+use Rattle.wasi_addr.specs.declared.code.ErrorCode.TheVariants.{Other}
 use Rattle.wasi_world.specs.declared.ids.OpId.{OpId}
 use Rattle.wasi_tcp.specs.declared.socket.TcpState.{TcpState}
 use Rattle.wasi_tcp.specs.declared.socket.TcpState.TheVariants as state
@@ -9,6 +10,7 @@ use Rattle.wasi_host.specs.declared.kind.PlainOutput.TheVariants as plain_output
 use Rattle.wasi_host.specs.declared.kind.Kind.{Kind}
 use Rattle.wasi_host.specs.declared.kind.Kind.TheVariants.{Network, Tcp2, Udp2, Input, Output, PlainInput, PlainOutput, Incoming, Outgoing, Pollable, Lookup, ErrorValue}
 use Rattle.wasi_host.specs.declared.kind.Watched.TheVariants as watched
+use Rattle.wasi_records.specs.declared.listening.Listening.{Listening}
 use Rattle.wasi_records.specs.declared.listening.Listening.TheVariants as listening
 use Rattle.wasi_host.specs.declared.machine.Machine.{Machine}
 use Rattle.wasi_records.specs.declared.socket.Tcp2Socket.{Tcp2Socket}
@@ -80,3 +82,16 @@ ListensLate r = (side : OpId) → r.inner.state ≡ state.Default side → r.lis
 
 abbrev pub ListensLateAt : Machine → ℕ → Type 0
 ListensLateAt m handle = IfSome (record_at m handle) ListensLate
+
+-- a listen of the socket is in progress
+abbrev pub IsBeginning : Listening → Type 0
+IsBeginning (listening.Begins op) = ⊤
+IsBeginning _ = ⊥
+
+-- the socket of this record is closed, and its code is Other
+abbrev pub IsClosedByListen : Machine → ℕ → Type 0
+IsClosedByListen m place = IsSomeAnd (tcp2_at m.store.records place) (λ r. r.inner.state ≡ state.Closed Other)
+
+-- and no listen of it is in progress
+abbrev pub ListensNoMore : Machine → ℕ → Type 0
+ListensNoMore m place = IsSomeAnd (tcp2_at m.store.records place) (λ r. r.listening ≡ listening.Not)

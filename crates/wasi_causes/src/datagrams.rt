@@ -1,8 +1,9 @@
 //! Where the answers of the steps of datagram streams come from, and what is left afterwards: laws
 //! over the definitions of specs/. Each is a function that does nothing, whose contract is the law.
 
-ghost use Rattle.std.specs.Prelude.{◌≡◌, ◌↔◌, ◌<◌, ℕ, ◌+◌, List, [], ◌∷◌, ◌++◌, false, Option, IfSome, IsSomeAnd, Some, None, length};
+ghost use Rattle.std.specs.Prelude.{◌≡◌, ◌⊎◌, ◌↔◌, ◌<◌, ◌≤◌, ℕ, ◌+◌, List, [], ◌∷◌, ◌++◌, true, false, Option, IfSome, IsSomeAnd, Some, None, length};
 ghost use Rattle.wasi_addr.specs.declared.address.IpSocketAddress.{IpSocketAddress};
+ghost use Rattle.wasi_addr.specs.declared.code.ErrorCode.{ErrorCode};
 ghost use Rattle.wasi_world.specs.declared.call.Entry.{Entry};
 ghost use Rattle.wasi_world.specs.declared.datagram.OutgoingDatagram.{OutgoingDatagram};
 ghost use Rattle.wasi_world.specs.declared.outcome.TrapKind.{TrapKind};
@@ -10,10 +11,13 @@ ghost use Rattle.wasi_world.specs.declared.outcome.WasiSocketsCtx.{WasiSocketsCt
 ghost use Rattle.wasi_world.specs.Asks.{Give, Left};
 ghost use Rattle.wasi_host.specs.declared.kind.Kind.{Kind};
 ghost use Rattle.wasi_host.specs.declared.machine.Machine.{Machine};
+ghost use Rattle.wasi_records.specs.declared.datagrams.Outgoing.{Outgoing};
+ghost use Rattle.wasi_records.specs.declared.datagrams.Sending.{Sending};
 ghost use Rattle.wasi_records.specs.declared.udp.OpenUdp.{OpenUdp};
 ghost use Rattle.wasi_host.specs.Kinds.{kind_at};
 ghost use Rattle.wasi_host.specs.DatagramCalls.{outgoing_ready};
 ghost use Rattle.wasi_host.specs.Machine.{first_state, incoming_at, outgoing_at, own_of, udp_socket_at};
+ghost use Rattle.wasi_records.specs.Datagrams.{is_sending};
 ghost use Rattle.wasi_records.specs.Names.{next_name};
 ghost use Rattle.wasi_records.specs.Records.{open_at};
 ghost use Rattle.wasi_machine.specs.Machine.{first_ids, run};
@@ -23,14 +27,17 @@ ghost use Rattle.wasi_steps.specs.declared.reply.Reply.{Reply};
 ghost use Rattle.wasi_steps.specs.declared.reply.Reply.TheVariants as Reply;
 ghost use Rattle.wasi_steps.specs.declared.step.Step.{Step};
 ghost use Rattle.wasi_steps.specs.declared.step.Step.TheVariants as Step;
-ghost use Rattle.wasi_steps.specs.Reply.{pair_fields, truth_fields};
-ghost use Rattle.wasi_walks.specs.Answered.{Answered, open_udp_at, outgoing_in};
+ghost use Rattle.wasi_steps.specs.Reply.{datagram_values, number_fields, pair_fields, truth_fields};
+ghost use Rattle.wasi_walks.specs.Answered.{Answered, open_udp_at, outgoing_in, word_of_code};
 ghost use Rattle.wasi_causes.specs.DatagramAsks.{CountsSent, HandsOutWhatCame, IsOfReceive, IsOfSend};
 ghost use Rattle.wasi_causes.specs.Datagrams.{HasItsSocket, HasUdpStreams, IncomingGone, IsReceiving, IsSpent, LacksRoomForBoth, OfIncoming, OfOutgoing, OutgoingGone, PermitsSend, WatchesIncoming, WatchesOutgoing, with_both};
+ghost use Rattle.wasi_causes.specs.KeptAddress.{NewStreamsKeep};
 ghost use Rattle.wasi_causes.specs.SendCauses.{ReceivedFrom, ReceivesSome, SendsSome, UdpReceiveRefusal, UdpSendRefusal};
-ghost use Rattle.wasi_causes.specs.Turns.{datagram_of};
+ghost use Rattle.wasi_causes.specs.ShortLists.{CountsUpTo, GivesNone, HandsOutUpTo};
+ghost use Rattle.wasi_causes.specs.Turns.{datagram_of, receive_of};
 ghost use Rattle.wasi_causes.specs.StreamCauses.{HasNewStreams, MakesStreams, StreamsStand, UdpStreamRefusal};
 ghost use Rattle.wasi_causes.specs.Udp.{OfUdp, RefusedOfUdp};
+ghost use Rattle.wasi_causes.specs.Unsendable.{IsUnsendable, RefusesSend};
 
 /// What a `udp-stream` makes.
 ///
@@ -66,6 +73,19 @@ pub fn udp_streams_make_two_handles()
     ensures full { (contexts : List WasiSocketsCtx) (m : Machine) (line ctx handle : ℕ) (remote : Option IpSocketAddress) (entries : List Entry) (after : Machine)
         → Answered contexts m line (Step.UdpStream ctx handle remote) entries (Reply.Trap TrapKind.Full) after
         → IsSomeAnd (udp_socket_at m handle) (λ place. LacksRoomForBoth m.table place handle) }
+{}
+
+/// Which address the incoming stream that a `udp-stream` makes keeps.
+///
+/// - `kept`: asked for with an address, or of a socket that has a remote address, the last call
+///   before the marks asked the network for the remote address; the stream keeps what was reported,
+///   or none where that was a code or the wildcard. Asked for without an address, of a socket that
+///   has none, it keeps none. What it keeps is the socket's remote address; nothing is received or
+///   sent on either stream, and nothing may be sent yet.
+pub fn new_streams_keep_the_remote_address()
+    ensures kept { (contexts : List WasiSocketsCtx) (m : Machine) (line ctx handle : ℕ) (remote : Option IpSocketAddress) (fields : List Field) (entries : List Entry) (after : Machine)
+        → Answered contexts m line (Step.UdpStream ctx handle remote) entries (Reply.Ok fields) after
+        → OfUdp m handle (λ place o. NewStreamsKeep m (own_of line) handle place o remote entries after) }
 {}
 
 /// Why a `udp-stream` is refused:
@@ -161,6 +181,11 @@ pub fn stream_drops_ask_nothing()
 ///   datagram, right after that check was answered yes.
 /// - `sent`: each datagram that is counted was sent and answered done, but that the last may be
 ///   pending, and goes on in the background.
+/// - `fewer`: fewer are counted than the list has only where one was in the background before, and
+///   then none is counted and nothing asked; or the last that is counted was answered pending, and
+///   nothing was asked after that; or, after at least one, the next one isn't sent: it is too large
+///   or for an address that it can't go to, a check of it said no, or it was answered with a code.
+/// - `none`: none is counted only where the list was empty or one was in the background before.
 pub fn sends_have_causes()
     ensures count { (contexts : List WasiSocketsCtx) (m : Machine) (line ctx outgoing : ℕ) (datagrams : List OutgoingDatagram) (fields : List Field) (entries : List Entry) (after : Machine)
         → Answered contexts m line (Step.UdpSend ctx outgoing datagrams) entries (Reply.Ok fields) after
@@ -180,6 +205,32 @@ pub fn sends_have_causes()
     ensures sent { (contexts : List WasiSocketsCtx) (m : Machine) (line ctx outgoing : ℕ) (datagrams : List OutgoingDatagram) (fields : List Field) (entries : List Entry) (after : Machine)
         → Answered contexts m line (Step.UdpSend ctx outgoing datagrams) entries (Reply.Ok fields) after
         → OfOutgoing m (outgoing_at m outgoing) (λ place o out. CountsSent line o.inner datagrams fields entries (datagram_of (open_at after.store.records place))) }
+    ensures fewer { (contexts : List WasiSocketsCtx) (m : Machine) (line ctx outgoing : ℕ) (datagrams : List OutgoingDatagram) (fields : List Field) (entries : List Entry) (after : Machine)
+        → Answered contexts m line (Step.UdpSend ctx outgoing datagrams) entries (Reply.Ok fields) after
+        → OfOutgoing m (outgoing_at m outgoing) (λ place o out. CountsUpTo line o.inner out.sending datagrams fields entries) }
+    ensures none { (contexts : List WasiSocketsCtx) (m : Machine) (line ctx outgoing : ℕ) (datagrams : List OutgoingDatagram) (entries : List Entry) (after : Machine)
+        → Answered contexts m line (Step.UdpSend ctx outgoing datagrams) entries (Reply.Ok (number_fields 0)) after
+        → (datagrams ≡ []) ⊎ OfOutgoing m (outgoing_at m outgoing) (λ place o out. (is_sending out.sending ≡ true) × (entries ≡ [])) }
+{}
+
+/// Which sends are refused because of what their line says.
+///
+/// - `refused`: a send is refused whose first datagram has more than 65,535 bytes, with
+///   `datagram-too-large`; or is for no address while the socket has no remote address, or for an
+///   address that is unspecified, has the port 0, is of the other family or isn't the socket's
+///   remote address, each with `invalid-argument`. That is said where no call is pending, nothing
+///   of the stream is in the background or failed there, and the list is permitted.
+/// - `only`: else a send is refused only with the code by which a datagram failed in the background
+///   before, with `access-denied` where its last call was a check and was answered no, or with the
+///   code that its last call was answered.
+pub fn sends_are_refused_by_their_line()
+    ensures refused { (contexts : List WasiSocketsCtx) (m : Machine) (line ctx outgoing place : ℕ) (o : OpenUdp) (out : Outgoing) (d : OutgoingDatagram) (more : List OutgoingDatagram) (c : ErrorCode) (entries : List Entry) (reply : Reply) (after : Machine)
+        → m.store.standing ≡ None → outgoing_at m outgoing ≡ Some place → open_at m.store.records place ≡ Some o → o.outgoing ≡ Some out → out.sending ≡ Sending.Nothing → length (d ∷ more) ≤ out.permit
+        → IsUnsendable o.inner.family o.inner.remote d c → Answered contexts m line (Step.UdpSend ctx outgoing (d ∷ more)) entries reply after
+        → reply ≡ Reply.Err (word_of_code c) }
+    ensures only { (contexts : List WasiSocketsCtx) (m : Machine) (line ctx outgoing : ℕ) (datagrams : List OutgoingDatagram) (entries : List Entry) (word : CodeWord) (after : Machine)
+        → Answered contexts m line (Step.UdpSend ctx outgoing datagrams) entries (Reply.Err word) after
+        → OfOutgoing m (outgoing_at m outgoing) (λ place o out. RefusesSend o.inner.family o.inner.remote out.sending datagrams entries word) }
 {}
 
 /// What a receive of datagrams asks and answers.
@@ -196,6 +247,12 @@ pub fn sends_have_causes()
 ///   the check of its sender was answered yes; before that stands a datagram that had come before,
 ///   if there was one.
 /// - `from`: in a run each is from the remote address that the stream keeps, if it keeps one.
+/// - `fewer`: fewer than were wanted, and fewer than 16, are handed out only where there is no room
+///   for more; or a receive was in progress before and is so still, and then none is handed out and
+///   nothing asked; or one of the line's receives is in progress afterwards: the last call was its,
+///   and was answered pending, or it dropped 64 datagrams; or, after at least one, a receive failed.
+/// - `none`: none is handed out only where none was wanted or a receive is in progress afterwards,
+///   as just said.
 pub fn receives_have_causes()
     ensures datagrams { (contexts : List WasiSocketsCtx) (m : Machine) (line ctx incoming most : ℕ) (fields : List Field) (entries : List Entry) (after : Machine)
         → Answered contexts m line (Step.UdpReceive ctx incoming most) entries (Reply.Ok fields) after
@@ -212,6 +269,12 @@ pub fn receives_have_causes()
     ensures from { (contexts : List WasiSocketsCtx) (steps : List Step) (log : List Entry) (replies : List Reply) (m : Machine) (line ctx incoming most : ℕ) (fields : List Field) (entries : List Entry) (after : Machine)
         → Left (run contexts [] first_state 1 steps) log (Give (replies, m)) → Answered contexts m line (Step.UdpReceive ctx incoming most) entries (Reply.Ok fields) after
         → OfIncoming m (incoming_at m incoming) (λ place o inc. ReceivedFrom inc.remote fields) }
+    ensures fewer { (contexts : List WasiSocketsCtx) (m : Machine) (line ctx incoming most : ℕ) (fields : List Field) (entries : List Entry) (after : Machine)
+        → Answered contexts m line (Step.UdpReceive ctx incoming most) entries (Reply.Ok fields) after
+        → OfIncoming m (incoming_at m incoming) (λ place o inc. HandsOutUpTo line o.inner most inc (receive_of (open_at after.store.records place)) fields entries) }
+    ensures none { (contexts : List WasiSocketsCtx) (m : Machine) (line ctx incoming most : ℕ) (entries : List Entry) (after : Machine)
+        → Answered contexts m line (Step.UdpReceive ctx incoming most) entries (Reply.Ok (datagram_values [])) after
+        → (most ≡ 0) ⊎ OfIncoming m (incoming_at m incoming) (λ place o inc. GivesNone line inc (receive_of (open_at after.store.records place)) entries) }
 {}
 
 /// When a datagram stream is ready.

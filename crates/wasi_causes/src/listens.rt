@@ -1,11 +1,18 @@
 //! Where the answers of listens and accepts come from: laws over the definitions of specs/. Each is
 //! a function that does nothing, whose contract is the law.
 
-ghost use Rattle.std.specs.Prelude.{◌≡◌, ◌⊎◌, ◌↔◌, ⊤, ℕ, ◌+◌, List, [], ◌∷◌, ◌++◌, None};
+ghost use Rattle.std.specs.Prelude.{◌≡◌, ◌⊎◌, ◌↔◌, ⊤, ℕ, ◌+◌, List, [], ◌∷◌, ◌++◌, Some, None};
+ghost use Rattle.wasi_addr.specs.declared.code.ErrorCode.{ErrorCode};
 ghost use Rattle.wasi_world.specs.declared.call.Entry.{Entry};
+ghost use Rattle.wasi_world.specs.declared.ids.Ids.{Ids};
 ghost use Rattle.wasi_world.specs.declared.outcome.WasiSocketsCtx.{WasiSocketsCtx};
 ghost use Rattle.wasi_world.specs.Asks.{Give, Left};
+ghost use Rattle.wasi_tcp.specs.declared.socket.TcpState.{TcpState};
+ghost use Rattle.wasi_records.specs.declared.socket.Tcp2Socket.{Tcp2Socket};
+ghost use Rattle.wasi_records.specs.Records.{tcp2_at};
 ghost use Rattle.wasi_host.specs.declared.machine.Machine.{Machine};
+ghost use Rattle.wasi_host.specs.declared.store.StandingCall.{StandingCall};
+ghost use Rattle.wasi_host.specs.Standing.{standing_as};
 ghost use Rattle.wasi_host.specs.Machine.{first_state, own_of};
 ghost use Rattle.wasi_steps.specs.declared.reply.CodeWord.{CodeWord};
 ghost use Rattle.wasi_steps.specs.declared.reply.CodeWord.TheVariants as CodeWord;
@@ -19,7 +26,7 @@ ghost use Rattle.wasi_walks.specs.Listens.{HasNoListenInProgress, RefusedListen,
 ghost use Rattle.wasi_machine.specs.Machine.{run};
 ghost use Rattle.wasi_steps.specs.Reply.{no_fields, triple_fields};
 ghost use Rattle.wasi_walks.specs.Waiting.{WatchesAccept};
-ghost use Rattle.wasi_causes.specs.Reached.{ListensLateAt};
+ghost use Rattle.wasi_causes.specs.Reached.{IsBeginning, IsClosedByListen, ListensLateAt, ListensNoMore};
 
 /// Why the finish of a listen is refused.
 ///
@@ -66,6 +73,24 @@ pub fn start_listen_refusals()
     ensures in_runs { (contexts : List WasiSocketsCtx) (steps : List Step) (log : List Entry) (replies : List Reply) (m : Machine) (line ctx handle : ℕ) (entries : List Entry) (word : CodeWord) (after : Machine)
         → Left (run contexts [] first_state 1 steps) log (Give (replies, m)) → Answered contexts m line (Step.TcpStartListen ctx handle) entries (Reply.Err word) after
         → RefusedListen m (own_of line) handle entries word after }
+{}
+
+/// What a listen leaves that was pending and then failed or was cancelled: a closed socket, whose
+/// code is `unknown` from then on. All of this is said of a run.
+///
+/// - `begins`: while a listen of a socket is in progress, the socket is closed with that code.
+/// - `fails`: after a poll of it that is refused the socket is closed with that code, whatever the
+///   code is by which the listen failed, and no listen is in progress.
+/// - `cancelled`: likewise after a cancel of it.
+pub fn listens_leave_a_closed_socket()
+    ensures begins { (contexts : List WasiSocketsCtx) (steps : List Step) (log : List Entry) (replies : List Reply) (m : Machine) (place : ℕ) (r : Tcp2Socket)
+        → Left (run contexts [] first_state 1 steps) log (Give (replies, m)) → tcp2_at m.store.records place ≡ Some r → IsBeginning r.listening → r.inner.state ≡ TcpState.Closed ErrorCode.Other }
+    ensures fails { (contexts : List WasiSocketsCtx) (steps : List Step) (log : List Entry) (replies : List Reply) (m : Machine) (line place : ℕ) (ids : Ids) (entries : List Entry) (word : CodeWord) (after : Machine)
+        → Left (run contexts [] first_state 1 steps) log (Give (replies, m)) → m.store.standing ≡ Some (standing_as ids (StandingCall.Listen place))
+        → Answered contexts m line (Step.Poll ids.line) entries (Reply.Err word) after → IsClosedByListen after place × ListensNoMore after place }
+    ensures cancelled { (contexts : List WasiSocketsCtx) (steps : List Step) (log : List Entry) (replies : List Reply) (m : Machine) (line place : ℕ) (ids : Ids) (fields : List Field) (entries : List Entry) (after : Machine)
+        → Left (run contexts [] first_state 1 steps) log (Give (replies, m)) → m.store.standing ≡ Some (standing_as ids (StandingCall.Listen place))
+        → Answered contexts m line (Step.Cancel ids.line) entries (Reply.Ok fields) after → IsClosedByListen after place × ListensNoMore after place }
 {}
 
 /// Why an accept is refused:

@@ -26,6 +26,7 @@ ghost use Rattle.wasi_steps.specs.declared.step.Step.{Step};
 ghost use Rattle.wasi_steps.specs.Reply.{bytes_fields, number_fields};
 ghost use Rattle.wasi_walks.specs.Answered.{Answered, CheckFails, closing_reader, closing_writer, FailsWith, IsGivenUp, IsUnpermitted, OfStreams, output_streams, Permits, ReadFails, ReadsEnd, ReadsNone, ReadsTold, WasClosedWith, with_error, WriteFails};
 ghost use Rattle.wasi_walks.specs.Missing.{pipe_of};
+ghost use Rattle.wasi_causes.specs.ErrorMarks.{MarksItsSocket};
 ghost use Rattle.wasi_causes.specs.Parts.{Skips, Splices};
 ghost use Rattle.wasi_causes.specs.Plain.{EndsCheck, EndsOutput, EndsPlain, MakesPlain, MakesStream, OfOutputPipe, PastCapacity, PermitsPlain, PlainCheck, PlainFlush, PlainRead, PlainWrite, TakesFront, TakesNothing, WritesPlain};
 
@@ -63,6 +64,22 @@ pub fn reads_end()
         → OfStreams m (input_at m input) (λ place r s. FailsWith m (own_of line) input (ReadFails (own_of line) len s.reader) entries word handle × (after ≡ with_error (closing_reader m place r s))) }
     ensures plain { (contexts : List WasiSocketsCtx) (m : Machine) (line ctx input len : ℕ) (entries : List Entry) (reply : Reply) (after : Machine)
         → m.store.standing ≡ None → Answered contexts m line (Step.Read ctx input len) entries reply after → PlainRead m input entries reply }
+{}
+
+/// Which network socket the error of a failed call is marked with.
+///
+/// - `read`, `check`, `write`, `flush`: the last entry of a call that fails marks the next handle as
+///   an error's, under the stream's handle, with the network socket that the stream's record was
+///   made with.
+pub fn errors_are_marked_with_their_socket()
+    ensures read { (contexts : List WasiSocketsCtx) (m : Machine) (line ctx stream len : ℕ) (entries : List Entry) (word : CodeWord) (handle : ℕ) (after : Machine)
+        → Answered contexts m line (Step.Read ctx stream len) entries (Reply.Failed word handle) after → MarksItsSocket m (own_of line) stream (input_at m stream) entries }
+    ensures check { (contexts : List WasiSocketsCtx) (m : Machine) (line ctx stream : ℕ) (entries : List Entry) (word : CodeWord) (handle : ℕ) (after : Machine)
+        → Answered contexts m line (Step.CheckWrite ctx stream) entries (Reply.Failed word handle) after → MarksItsSocket m (own_of line) stream (output_at m stream) entries }
+    ensures write { (contexts : List WasiSocketsCtx) (m : Machine) (line ctx stream : ℕ) (bytes : List ℕ) (entries : List Entry) (word : CodeWord) (handle : ℕ) (after : Machine)
+        → Answered contexts m line (Step.Write ctx stream bytes) entries (Reply.Failed word handle) after → MarksItsSocket m (own_of line) stream (output_at m stream) entries }
+    ensures flush { (contexts : List WasiSocketsCtx) (m : Machine) (line ctx stream : ℕ) (entries : List Entry) (word : CodeWord) (handle : ℕ) (after : Machine)
+        → Answered contexts m line (Step.Flush ctx stream) entries (Reply.Failed word handle) after → MarksItsSocket m (own_of line) stream (output_at m stream) entries }
 {}
 
 /// A permit of a connection is 0 where its write isn't finished or its look was answered pending,
