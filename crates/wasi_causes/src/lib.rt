@@ -12,5 +12,6 @@ pub mod options;
 pub mod received;
 pub mod records;
 pub mod stream_calls;
+pub mod tcp;
 pub mod udp;
 pub mod waiting;

@@ -2,7 +2,7 @@ use Rattle.wasi_steps.specs.declared.step.Step.TheVariants as step
 use Rattle.wasi_steps.specs.declared.reply.Reply.TheVariants as reply
 use Rattle.wasi_world.specs.declared.outcome.TrapKind.TheVariants.{Full}
 use Rattle.wasi_causes.proofs.tables.Steps.{its_own}
-use Rattle.wasi_causes.proofs.causes.create_full.Goals as goal
+use Rattle.wasi_causes.proofs.tcp.create_full.Goals as goal
 
 pub returns : goal.returns
 returns c = record {

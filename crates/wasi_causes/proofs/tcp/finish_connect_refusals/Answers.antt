@@ -1,6 +1,6 @@
 use Rattle.std.proofs.Common.{refl}
 use Rattle.wasi_causes.proofs.Runs.{finishes_refused_in_runs}
-use Rattle.wasi_causes.proofs.causes.finish_connect_refusals.Goals as goal
+use Rattle.wasi_causes.proofs.tcp.finish_connect_refusals.Goals as goal
 use Rattle.wasi_causes.proofs.tables.Steps.{its_own, while_free}
 use Rattle.wasi_steps.specs.declared.reply.CodeWord.TheVariants as word
 use Rattle.wasi_steps.specs.declared.reply.Reply.TheVariants as reply

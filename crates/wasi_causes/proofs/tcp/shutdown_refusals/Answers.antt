@@ -3,7 +3,7 @@ use Rattle.wasi_steps.specs.declared.reply.Reply.TheVariants as reply
 use Rattle.wasi_host.specs.Machine.{socket_at}
 use Rattle.wasi_causes.proofs.streams.Routes.{more_of}
 use Rattle.wasi_causes.proofs.tables.Steps.{its_own, while_free}
-use Rattle.wasi_causes.proofs.causes.shutdown_refusals.Goals as goal
+use Rattle.wasi_causes.proofs.tcp.shutdown_refusals.Goals as goal
 
 pub returns : goal.returns
 returns c = record {

@@ -2,7 +2,7 @@ use Rattle.wasi_steps.specs.declared.step.Step.TheVariants as step
 use Rattle.wasi_steps.specs.declared.reply.Reply.TheVariants as reply
 use Rattle.std.proofs.Common.{◌≡◌, [], refl}
 use Rattle.wasi_causes.proofs.tables.Steps.{its_own, of_answer, while_free}
-use Rattle.wasi_causes.proofs.causes.finish_bind_refusals.Goals as goal
+use Rattle.wasi_causes.proofs.tcp.finish_bind_refusals.Goals as goal
 
 pub returns : goal.returns
 returns c = record {
