@@ -2,6 +2,7 @@
 use Rattle.std.specs.Prelude.{ℕ, Bool, List, None}
 use Rattle.wasi_world.specs.Seen.{Seen}
 use Rattle.wasi_net.specs.declared.system_world.SystemWorld.{SystemWorld}
+use Rattle.wasi_net.specs.declared.patient.PatientWorld.{PatientWorld}
 use Rattle.wasi_net.specs.Allowed.{Policy, policy_of}
 use Rattle.wasi_net.specs.Known.{Sides, known_sides}
 
@@ -23,3 +24,7 @@ sides_of world = known_sides world.network.sides
 -- what makes its calls
 abbrev pub system_of : {S : Type 0} → SystemWorld S → S
 system_of world = world.network.system
+
+-- what is known of a world whose looks wait
+abbrev pub patient_seen : {S : Type 0} → PatientWorld S → Seen
+patient_seen patient = seen_by patient.world

@@ -70,6 +70,15 @@ impl<S> SystemWorld<S> {
         self.closings
     }
 
+    /// Counts an answer.
+    pub(crate) fn count(&mut self, told: &Told)
+        ensures counts { Counts told.now (seen_by self.old).faults (seen_by self.new).faults }
+        ensures same { seen_by self.new ≡ record (seen_by self.old) { faults = (seen_by self.new).faults } }
+        ensures network { self.new.network ≡ self.old.network }
+    {
+        self.faults = count_after(self.faults, told);
+    }
+
     /// How many codes were reported. The count stays at its greatest value.
     pub fn faults(&self) -> u64
         ensures { result ≡ (seen_by self.now).faults }
@@ -79,7 +88,10 @@ impl<S> SystemWorld<S> {
 }
 
 impl<S: System> SystemWorld<S> {
-    ghost use Rattle.wasi_net.specs.Net.{seen_by, policy_in, sides_of};
+    ghost use Rattle.wasi_world.specs.Fits.{Fits};
+    ghost use Rattle.wasi_net.specs.Known.{Same};
+    ghost use Rattle.wasi_net.specs.Answers.{OnNetwork};
+    ghost use Rattle.wasi_net.specs.Net.{seen_by, policy_in, sides_of, system_of};
 
     /// Waits until a socket that an earlier answer left pending may go on, for at most so many milliseconds, or without
     /// limit where they are negative; and whether one may. No processor time is used meanwhile. What may go on isn't waited
@@ -90,6 +102,20 @@ impl<S: System> SystemWorld<S> {
         ensures sides { sides_of self.new ≡ sides_of self.old }
     {
         self.network.wait(timeout)
+    }
+
+    /// The answer to any call but a write and a send, which isn't counted yet; and what it waits for is kept.
+    pub(crate) fn ask(&mut self, op: OpId, call: &Call) -> Result<Told, AllocError>
+        ensures fits { IfOk result (Fits call.now) }
+        ensures seen { seen_by self.new ≡ seen_by self.old }
+        ensures told { IfOk result (λ told. OnNetwork (policy_in self.old) (sides_of self.old) op call.now told (sides_of self.new) (S.acts (system_of self.old)) (S.acts (system_of self.new))) }
+        ensures sides { OnErr result (Same (sides_of self.old) (sides_of self.new)) }
+        ensures policy { policy_in self.new ≡ policy_in self.old }
+    {
+        self.network.reserve()?;
+        let told = self.network.answer(op, call)?;
+        self.network.note_call(call, &told);
+        Ok(told)
     }
 }
 
@@ -120,10 +146,8 @@ impl<S: System> World for SystemWorld<S> {
         ensures sides { OnErr result (Same (sides_of self.old) (sides_of self.new)) }
         ensures policy { policy_in self.new ≡ policy_in self.old }
     {
-        self.network.reserve()?;
-        let told = self.network.answer(op, &call)?;
-        self.network.note_call(&call, &told);
-        self.faults = count_after(self.faults, &told);
+        let told = self.ask(op, &call)?;
+        self.count(&told);
         Ok(told)
     }
 
