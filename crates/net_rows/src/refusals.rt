@@ -37,13 +37,7 @@ fn a_connect_where_none_listens_is_refused(rt: HostRuntime) -> Result<(), Fail> 
 }
 
 /// Sets an option, and reads it back.
-fn has(
-    guest: &mut Guest,
-    sock: Sock,
-    option: Opt,
-    value: u64,
-    text: &str,
-) -> Result<(), Fail> {
+fn has(guest: &mut Guest, sock: Sock, option: Opt, value: u64, text: &str) -> Result<(), Fail> {
     let set = Call::SetOption {
         sock,
         option,

@@ -1,5 +1,5 @@
 -- What the system was asked to do, with its answers.
-use Rattle.std.specs.Prelude.{◌≡◌, ℕ, ℤ, List, ◌∷◌, Option, Some, None, Result, Ok, Err, take}
+use Rattle.std.specs.Prelude.{ℕ, ℤ, List, ◌∷◌, Option, Some, None, Result, Ok, Err, take}
 use Rattle.libc.specs.declared.types.pollfd.{pollfd}
 use Rattle.wasi_net.specs.declared.errno.Errno.{Errno}
 use Rattle.wasi_net.specs.declared.descriptor.Descriptor.{Descriptor}

@@ -1,9 +1,8 @@
 -- What each call answers, which calls of the system it makes, and what it leaves of the sockets.
-use Rattle.std.specs.Prelude.{◌≡◌, ℕ, ℤ, List, Option, Some, None, Result, Ok, Err, Bool, true, false}
+use Rattle.std.specs.Prelude.{◌≡◌, ℤ, Option, Some, None, Result, Ok, Err}
 use Rattle.wasi_addr.specs.declared.address.SocketAddressFamily.{SocketAddressFamily}
 use Rattle.wasi_addr.specs.declared.address.SocketAddressFamily.TheVariants as family
 use Rattle.wasi_addr.specs.declared.code.ErrorCode.TheVariants.{AccessDenied, InvalidState, NotSupported}
-use Rattle.wasi_addr.specs.declared.address.IpSocketAddress.{IpSocketAddress}
 use Rattle.wasi_world.specs.declared.ids.OpId.{OpId}
 use Rattle.wasi_world.specs.declared.call.Call.{Call}
 use Rattle.wasi_world.specs.declared.call.Call.TheVariants as call
@@ -15,12 +14,12 @@ use Rattle.wasi_net.specs.declared.calls.Transport.TheVariants.{Tcp, Udp}
 use Rattle.wasi_net.specs.declared.calls.Readiness.TheVariants as readiness
 use Rattle.wasi_net.specs.declared.setting.Setting.TheVariants as setting
 use Rattle.wasi_net.specs.declared.socket.Stage.{Stage}
-use Rattle.wasi_net.specs.declared.socket.Stage.TheVariants.{Open, Connecting, Arrived}
+use Rattle.wasi_net.specs.declared.socket.Stage.TheVariants.{Open, Arrived}
 use Rattle.wasi_net.specs.Errno.{code_of, accept_code, told_failed}
 use Rattle.wasi_net.specs.Acts.{Acts, Status, after}
 use Rattle.wasi_net.specs.Acts as act
 use Rattle.wasi_net.specs.Storage.{domain_of, kind_of, disconnect, set_to}
-use Rattle.wasi_net.specs.Does.{Does, Refuses, AddressTold, BindDoes, UdpBindDoes, ListenDoes, BacklogDoes, ReadyDoes, ConnectDoes, ReadDoes, WriteDoes, ShutdownDoes, SetDoes, GetDoes, UdpConnectDoes, UdpDisconnectDoes, SendDoes, ReceiveDoes}
+use Rattle.wasi_net.specs.Does.{Does, Refuses, AddressTold, BindDoes, UdpBindDoes, ListenDoes, BacklogDoes, ReadyDoes, ConnectDoes, ReadDoes, ShutdownDoes, SetDoes, GetDoes, UdpConnectDoes, UdpDisconnectDoes, ReceiveDoes}
 use Rattle.wasi_net.specs.Allowed.{Policy, verdict}
 use Rattle.wasi_net.specs.Known.{Known, at_stage, Sides, Same, With}
 

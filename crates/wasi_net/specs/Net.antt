@@ -1,5 +1,5 @@
 -- What is known of a world of the system's sockets.
-use Rattle.std.specs.Prelude.{ℕ, Bool, List, None}
+use Rattle.std.specs.Prelude.{ℕ, Bool, None}
 use Rattle.wasi_world.specs.Seen.{Seen}
 use Rattle.wasi_net.specs.declared.system_world.SystemWorld.{SystemWorld}
 use Rattle.wasi_net.specs.declared.patient.PatientWorld.{PatientWorld}

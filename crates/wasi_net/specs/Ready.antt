@@ -1,6 +1,5 @@
 -- A look at one socket.
 use Rattle.std.specs.Prelude.{ℕ, ℤ, pos, [], ◌∷◌, Result}
-use Rattle.libc.specs.declared.types.pollfd.{pollfd}
 use Rattle.wasi_net.specs.declared.calls.Readiness.{Readiness}
 use Rattle.wasi_net.specs.declared.calls.Readiness.TheVariants.{Read, Write}
 use Rattle.wasi_net.specs.declared.errno.Errno.{Errno}

@@ -1,5 +1,5 @@
 -- Addresses, options and halves as C has them.
-use Rattle.std.specs.Prelude.{◌≡◌, ◌++◌, ◌+◌, ◌*◌, ◌/◌, ◌<◌, min, ℕ, ℤ, pos, List, [], ◌∷◌, Bool, Option, Some, None, Result, Ok, Err, replicate, take, if◌then◌else◌, nat_lt, ◌==◌}
+use Rattle.std.specs.Prelude.{◌++◌, ℕ, ℤ, pos, List, Result, replicate, take}
 use Rattle.std.specs.Int.{w32, to_le_bytes, from_le_bytes}
 use Rattle.std.specs.Net.Addr.{HasPrefix}
 use Rattle.std.specs.Net.SockAddr.{in_storage, sockaddr, sockaddr_len}

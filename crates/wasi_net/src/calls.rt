@@ -159,14 +159,13 @@ pub fn get<S: System>(
 }
 
 /// Listens, for at least one arrival that waits.
-pub fn listen<S: System>(
-    system: &mut S,
-    descriptor: &Descriptor,
-    backlog: u32,
-) -> Result<(), Errno>
+pub fn listen<S: System>(system: &mut S, descriptor: &Descriptor, backlog: u32) -> Result<(), Errno>
     ensures { S.acts system.new ≡ after (act.Listen descriptor.now.number (pos (clamped_backlog backlog)) result) (S.acts system.old) }
 {
-    system.listen(descriptor.number(), clamp_backlog(u64::from(backlog)) as i32)
+    system.listen(
+        descriptor.number(),
+        clamp_backlog(u64::from(backlog)) as i32,
+    )
 }
 
 /// What a socket may be ready for.

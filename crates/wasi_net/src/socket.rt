@@ -11,10 +11,7 @@ use crate::errno::{Errno, NO_BUFFERS};
 use crate::setting::Setting;
 use crate::storage::decode;
 use crate::system::{Storage, System};
-use wasi_addr::{
-    ErrorCode, IpSocketAddress, SocketAddressFamily,
-    normalize_set_buffer_size,
-};
+use wasi_addr::{ErrorCode, IpSocketAddress, SocketAddressFamily, normalize_set_buffer_size};
 use wasi_world::{Opt, Told};
 
 /// How far a socket has come. A listener and a connection are open as any other: the system knows.

@@ -48,7 +48,14 @@ pub trait System {
     fn peer(&mut self, fd: i32) -> Result<(Storage, u32), Errno>
         ensures { acts self.new ≡ after (act.Peer fd result) (acts self.old) };
 
-    fn set(&mut self, fd: i32, level: i32, name: i32, value: &OptionValue, len: u32) -> Result<(), Errno>
+    fn set(
+        &mut self,
+        fd: i32,
+        level: i32,
+        name: i32,
+        value: &OptionValue,
+        len: u32,
+    ) -> Result<(), Errno>
         requires option { SockOption level name }
         requires len { len ≤ 16 }
         ensures { acts self.new ≡ after (act.Set fd level name value.now len result) (acts self.old) };

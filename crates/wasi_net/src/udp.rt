@@ -59,12 +59,7 @@ fn told_datagram(bytes: Octets, raw: &Storage, len: u32) -> Told
 }
 
 /// The answer to a receive into the buffer.
-fn told_received(
-    mut buffer: Vec<u8>,
-    got: Result<usize, Errno>,
-    raw: &Storage,
-    len: u32,
-) -> Told
+fn told_received(mut buffer: Vec<u8>, got: Result<usize, Errno>, raw: &Storage, len: u32) -> Told
     requires { IfOk got (λ count. count ≤ length buffer.items) }
     ensures told { ReceiveTold (came got buffer.items) result }
     ensures fits { IsDatagram result }
@@ -79,11 +74,7 @@ fn told_received(
 }
 
 /// Receives a datagram into the buffer.
-fn receive_into<S: System>(
-    system: &mut S,
-    descriptor: &Descriptor,
-    mut buffer: Vec<u8>,
-) -> Told
+fn receive_into<S: System>(system: &mut S, descriptor: &Descriptor, mut buffer: Vec<u8>) -> Told
     ensures fits { IsDatagram result }
     ensures does { Does (act.ReceiveFrom descriptor.now.number (length buffer.items)) ReceiveTold result (S.acts system.old) (S.acts system.new) }
 {
