@@ -4,11 +4,11 @@ use crate::guest::{Guest, line};
 use std::test::Fail;
 use wasi_world::Call;
 
-/// More than a process may have open at once.
+/// How many come and go. Under a limit of 128 descriptors, as `ulimit -n` sets it, one that stays open would show.
 const MADE: u32 = 10_000;
 
 /// How many are open at once.
-const AT_ONCE: u32 = 200;
+const AT_ONCE: u32 = 50;
 
 fn come_and_go(guest: &mut Guest) -> Result<(), Fail> {
     let sock = line(1);
