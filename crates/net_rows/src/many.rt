@@ -5,7 +5,7 @@ use std::test::Fail;
 use wasi_world::Call;
 
 /// How many come and go. Under a limit of 128 descriptors, as `ulimit -n` sets it, one that stays open would show.
-const MADE: u32 = 10_000;
+const MADE: u32 = 2_000;
 
 /// How many are open at once.
 const AT_ONCE: u32 = 50;
