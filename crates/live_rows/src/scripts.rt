@@ -5,7 +5,7 @@ ghost use Rattle.wasi_world.specs.Contexts.{free_context};
 
 use std::alloc::{AllocError, Global};
 use std::test::Fail;
-use wasi_net::NetWorld;
+use wasi_net::{Allowed, Linux, PatientWorld, SystemWorld};
 use wasi_run::{RunEnd, run_script};
 use wasi_world::WasiSocketsCtx;
 use world_io::{MemorySink, MemorySource};
@@ -24,8 +24,8 @@ const RESETS: (&[u8], &[u8]) = (
 
 /// The second listener finds the port in use, and a connect finds one where none listens.
 const REFUSED: (&[u8], &[u8]) = (
-    b"0 network\n0 tcp-create 4\n0 tcp-create 4\n0 tcp-create 4\n0 tcp-start-bind 2 1 4 127 0 0 1 40125\n0 tcp-finish-bind 2\n0 tcp-start-listen 2\n0 tcp-finish-listen 2\n0 tcp-start-bind 3 1 4 127 0 0 1 40125\n0 tcp-finish-bind 3\n0 tcp-start-listen 3\n0 drop 2\n0 tcp-start-connect 4 1 4 127 0 0 1 40125\n0 tcp-finish-connect 4\n",
-    b"ok 1\nok 2\nok 3\nok 4\nok\nok\nok\nok\nok\nok\nerr address-in-use\nok\nok\nerr connection-refused\n",
+    b"0 network\n0 tcp-create 4\n0 tcp-create 4\n0 tcp-create 4\n0 tcp-start-bind 2 1 4 127 0 0 1 40125\n0 tcp-finish-bind 2\n0 tcp-start-listen 2\n0 tcp-finish-listen 2\n0 tcp-start-bind 3 1 4 127 0 0 1 40125\n0 drop 2\n0 tcp-start-connect 4 1 4 127 0 0 1 40125\n0 tcp-finish-connect 4\n",
+    b"ok 1\nok 2\nok 3\nok 4\nok\nok\nok\nok\nerr address-in-use\nok\nok\nerr connection-refused\n",
 );
 
 /// Every port.
@@ -52,7 +52,8 @@ fn contexts(alloc: Global) -> Result<Vec<WasiSocketsCtx>, AllocError>
 /// Runs the script with every port allowed, and fails where it doesn't write these replies to its end.
 fn runs(rt: HostRuntime, script: &[u8], replies: &[u8]) -> Result<(), Fail> {
     let alloc = rt.alloc();
-    let mut world = NetWorld::new(rt, alloc, all_ports(alloc)?);
+    let allowed = Allowed::loopback(all_ports(alloc)?);
+    let mut world = PatientWorld::new(SystemWorld::new(Linux::new(&rt), alloc, allowed), 1000);
     let mut contexts = contexts(alloc)?;
     let mut source = MemorySource::new(script.to_vec(alloc)?, 4096, Vec::new(alloc));
     let mut sink = MemorySink::new(alloc, 4096, 4096, Vec::new(alloc))?;
