@@ -2,7 +2,7 @@
 
 ghost use Rattle.std.specs.Prelude.{◌≡◌, [], ◌∷◌, IfOk};
 ghost use Rattle.wasi_world.specs.Contexts.{free_context};
-ghost use Rattle.wasi_program.specs.Program.{status_of};
+ghost use Rattle.wasi_program.specs.Status.{status_of};
 ghost use Rattle.wasi_net.specs.Allowed.{policy_of};
 ghost use Rattle.live.specs.Live.{RanLive};
 
