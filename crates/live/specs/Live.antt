@@ -1,4 +1,4 @@
--- What became of a script over std's sockets.
+-- What became of a script over the system's sockets.
 use Rattle.std.specs.Prelude.{◌≡◌, ◌⊎◌, ℕ, [], ◌∷◌, false, true, Result, Err}
 use Rattle.wasi_world.specs.Seen.{Seen}
 use Rattle.world_io.specs.Io.{Reading, Writing}

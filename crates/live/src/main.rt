@@ -1,4 +1,4 @@
-//! The program `live`: runs a script of `wasi:sockets` calls from standard input over this machine's loopback addresses,
+//! The program `live`: runs a script of `wasi:sockets` calls from standard input over this machine's network,
 //! and writes one reply per line.
 #![tactic(auto)]
 
@@ -16,19 +16,21 @@ use world_io::{StdSink, StdSource};
 const VERSION: &str = "live 0.1.0\n";
 
 const HELP: &str = "\
-Runs a script of wasi:sockets calls over this machine's loopback addresses, and writes one reply per line.
+Runs a script of wasi:sockets calls over this machine's network, and writes one reply per line.
 
-usage: live LIMIT PORT..    runs the script on standard input, of at most LIMIT bytes
-       live --help          prints this
-       live --version       prints the version
+usage: live LIMIT PORT..                  runs the script on standard input, of at most LIMIT bytes
+       live --any-address LIMIT PORT..    the same, where every address may be used
+       live --help                        prints this
+       live --version                     prints the version
 
-Sockets may be bound to, listen on and connect to 127.0.0.0/8 and ::1 with the named ports alone; all else is
-access-denied, and nothing is opened for it. Connections are accepted from any port of this machine. Port 0, where
-it is named, stands for any port that is free.
+Sockets of TCP and UDP may be bound to, listen on, connect to and send to 127.0.0.0/8 and ::1 with the named ports alone;
+all else is access-denied, and no call of the system is made for it. What arrives may come from any port of this machine.
+Port 0, where it is named, stands for any port that is free. After --any-address the named ports may be used with every
+address, so other machines can connect to what listens, and a script can reach them.
 
-The script's lines are those of the program sockets; its --help lists them. A bind keeps its address, which is bound
-where the socket listens. A look for a connection or for bytes (tcp-accept, ready) waits for about a second at most.
-Of the options there is the hop-limit of an IPv4 socket that listens or is connected.
+The script's lines are those of the program sockets; its --help lists them. A look for a connection, for bytes or for the
+end of a connect (tcp-accept, ready, tcp-finish-connect) waits for about a second at most, without using the processor.
+The hop-limit of an IPv6 socket is not-supported, and every name is name-unresolvable.
 
 The program ends with 0, or prints its status on standard error, with what is wrong, and ends with it:
     1  the words aren't in order            5  a read of the script failed
@@ -49,11 +51,12 @@ fn main(rt: HostRuntime) -> ExitCode {
     match words.as_slice() {
         [word] if word.as_str() == "--help" => print(&rt, &[HELP]),
         [word] if word.as_str() == "--version" => print(&rt, &[VERSION]),
-        _ => run(rt, words.as_slice()),
+        [first, rest @ ..] if first.as_str() == "--any-address" => run(rt, rest, true),
+        words => run(rt, words, false),
     }
 }
 
-fn run(rt: HostRuntime, words: &[String]) -> ExitCode {
+fn run(rt: HostRuntime, words: &[String], anywhere: bool) -> ExitCode {
     let command = match command_in(rt.alloc(), words) {
         Ok(Some(command)) => command,
         Ok(None) => return end(&rt, Status::BadWords, 0, None),
@@ -61,7 +64,7 @@ fn run(rt: HostRuntime, words: &[String]) -> ExitCode {
     };
     let mut source = LineSource::new(StdSource::new(rt.stdin()));
     let mut sink = StdSink::new(rt.stdout());
-    match run_live(rt, rt.alloc(), command, &mut source, &mut sink) {
+    match run_live(&rt, rt.alloc(), command, anywhere, &mut source, &mut sink) {
         Err(RunError::BadStep(line)) => {
             end(&rt, Status::BadStep, line, source.line(u64::from(line)))
         }

@@ -1,15 +1,15 @@
-//! The script's run over std's sockets.
+//! The script's run over the system's sockets.
 
 ghost use Rattle.std.specs.Prelude.{◌≡◌, [], ◌∷◌, IfOk};
 ghost use Rattle.wasi_world.specs.Contexts.{free_context};
 ghost use Rattle.wasi_program.specs.Status.{status_of};
+ghost use Rattle.wasi_net.specs.Allowed.{policy_of};
 ghost use Rattle.live.specs.Live.{RanLive};
 
 use crate::command::Command;
 use std::alloc::{AllocError, Global};
-use std::net::{Net, TcpListener, TcpStream};
-use std::time::Clock;
-use wasi_net::NetWorld;
+use std::net::Net;
+use wasi_net::{Allowed, Linux, PatientWorld, SystemWorld};
 use wasi_program::Status;
 use wasi_run::{RunEnd, RunError, run_script};
 use wasi_world::WasiSocketsCtx;
@@ -43,23 +43,39 @@ pub fn status_of(outcome: Result<RunEnd, RunError>) -> Status
     }
 }
 
-/// Runs the script that the source gives over std's sockets, of which the command's ports may be used, and writes the
+/// How long a look waits, in milliseconds.
+const PATIENCE: i32 = 1000;
+
+/// The addresses that may be used: the ports, on every address or on this machine's own alone.
+fn allowed(ports: Vec<u16>, anywhere: bool) -> Allowed
+    ensures { policy_of result ≡ record { ports = ports.items; anywhere = anywhere } }
+{
+    if anywhere {
+        Allowed::anywhere(ports)
+    } else {
+        Allowed::loopback(ports)
+    }
+}
+
+/// Runs the script that the source gives over the system's sockets, of which the command's ports may be used, and writes the
 /// replies to the sink. What is open at its end is closed.
 pub fn run_live<R, S, K>(
-    rt: R,
+    rt: &R,
     alloc: Global,
     command: Command,
+    anywhere: bool,
     source: &mut S,
     sink: &mut K,
 ) -> Result<RunEnd, RunError>
 where
-    R: Net<Listener = TcpListener, Stream = TcpStream> + Clock + Drop,
+    R: Net,
     S: Source,
     K: Sink,
     ensures { RanLive command.limit (S.reading source.old) (S.reading source.new) (K.writing sink.old) (K.writing sink.new) result }
 {
     let Command { limit, ports } = command;
-    let mut world = NetWorld::new(rt, alloc, ports);
+    let system = SystemWorld::new(Linux::new(rt), alloc, allowed(ports, anywhere));
+    let mut world = PatientWorld::new(system, PATIENCE);
     let mut contexts = contexts(alloc)?;
     run_script(alloc, &mut world, &mut contexts, limit, source, sink)
 }

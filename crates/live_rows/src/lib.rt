@@ -1,4 +1,4 @@
-//! Scripts over std's sockets, beside what comes of them.
+//! Scripts over the system's sockets, beside what comes of them.
 #![tactic(auto)]
 
 #[cfg(test)]

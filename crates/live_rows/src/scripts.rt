@@ -1,31 +1,37 @@
-//! Scripts that connect to themselves over 127.0.0.1.
+//! Scripts that connect to themselves, over a loopback address of their own and ports that the system doesn't hand out.
 
 ghost use Rattle.std.specs.Prelude.{◌≡◌, [], ◌∷◌, IfOk};
 ghost use Rattle.wasi_world.specs.Contexts.{free_context};
 
 use std::alloc::{AllocError, Global};
 use std::test::Fail;
-use wasi_net::NetWorld;
+use wasi_net::{Allowed, Linux, PatientWorld, SystemWorld};
 use wasi_run::{RunEnd, run_script};
 use wasi_world::WasiSocketsCtx;
 use world_io::{MemorySink, MemorySource};
 
 /// Binds and listens, connects, accepts, writes a byte and reads it.
 const CARRIES: (&[u8], &[u8]) = (
-    b"0 network\n0 tcp-create 4\n0 tcp-create 4\n0 tcp-start-bind 2 1 4 127 0 0 1 40123\n0 tcp-finish-bind 2\n0 tcp-start-listen 2\n0 tcp-finish-listen 2\n0 tcp-start-connect 3 1 4 127 0 0 1 40123\n0 tcp-finish-connect 3\n0 tcp-accept 2\n0 check-write 5\n0 write 5 0a\n0 subscribe 7\n0 ready 9\n0 read 7 9\n",
+    b"0 network\n0 tcp-create 4\n0 tcp-create 4\n0 tcp-start-bind 2 1 4 127 77 31 5 20123\n0 tcp-finish-bind 2\n0 tcp-start-listen 2\n0 tcp-finish-listen 2\n0 tcp-start-connect 3 1 4 127 77 31 5 20123\n0 tcp-finish-connect 3\n0 tcp-accept 2\n0 check-write 5\n0 write 5 0a\n0 subscribe 7\n0 ready 9\n0 read 7 9\n",
     b"ok 1\nok 2\nok 3\nok\nok\nok\nok\nok\nok 4 5\nok 6 7 8\nok 65536\nok\nok 9\nok true\nok 0a\n",
 );
 
 /// The listener goes before it accepted the connection, which resets it. The look meets that, and the read reports it.
 const RESETS: (&[u8], &[u8]) = (
-    b"0 network\n0 tcp-create 4\n0 tcp-create 4\n0 tcp-start-bind 2 1 4 127 0 0 1 40124\n0 tcp-finish-bind 2\n0 tcp-start-listen 2\n0 tcp-finish-listen 2\n0 tcp-start-connect 3 1 4 127 0 0 1 40124\n0 tcp-finish-connect 3\n0 drop 2\n0 subscribe 4\n0 ready 6\n0 read 4 9\n0 read 4 9\n",
+    b"0 network\n0 tcp-create 4\n0 tcp-create 4\n0 tcp-start-bind 2 1 4 127 77 31 5 20124\n0 tcp-finish-bind 2\n0 tcp-start-listen 2\n0 tcp-finish-listen 2\n0 tcp-start-connect 3 1 4 127 77 31 5 20124\n0 tcp-finish-connect 3\n0 drop 2\n0 subscribe 4\n0 ready 6\n0 read 4 9\n0 read 4 9\n",
     b"ok 1\nok 2\nok 3\nok\nok\nok\nok\nok\nok 4 5\nok\nok 6\nok true\nfailed connection-reset 7\nclosed\n",
 );
 
 /// The second listener finds the port in use, and a connect finds one where none listens.
 const REFUSED: (&[u8], &[u8]) = (
-    b"0 network\n0 tcp-create 4\n0 tcp-create 4\n0 tcp-create 4\n0 tcp-start-bind 2 1 4 127 0 0 1 40125\n0 tcp-finish-bind 2\n0 tcp-start-listen 2\n0 tcp-finish-listen 2\n0 tcp-start-bind 3 1 4 127 0 0 1 40125\n0 tcp-finish-bind 3\n0 tcp-start-listen 3\n0 drop 2\n0 tcp-start-connect 4 1 4 127 0 0 1 40125\n0 tcp-finish-connect 4\n",
-    b"ok 1\nok 2\nok 3\nok 4\nok\nok\nok\nok\nok\nok\nerr address-in-use\nok\nok\nerr connection-refused\n",
+    b"0 network\n0 tcp-create 4\n0 tcp-create 4\n0 tcp-create 4\n0 tcp-start-bind 2 1 4 127 77 31 5 20125\n0 tcp-finish-bind 2\n0 tcp-start-listen 2\n0 tcp-finish-listen 2\n0 tcp-start-bind 3 1 4 127 77 31 5 20125\n0 drop 2\n0 tcp-start-connect 4 1 4 127 77 31 5 20125\n0 tcp-finish-connect 4\n",
+    b"ok 1\nok 2\nok 3\nok 4\nok\nok\nok\nok\nerr address-in-use\nok\nok\nerr connection-refused\n",
+);
+
+/// Two sockets send each other a datagram.
+const DATAGRAMS: (&[u8], &[u8]) = (
+    b"0 network\n0 udp-create 4\n0 udp-create 4\n0 udp-start-bind 2 1 4 127 77 31 5 20126\n0 udp-finish-bind 2\n0 udp-start-bind 3 1 4 127 77 31 5 20127\n0 udp-finish-bind 3\n0 udp-stream 2\n0 udp-stream 3\n0 udp-check-send 5\n0 udp-send 5 to 4 127 77 31 5 20127 6869\n0 subscribe 6\n0 ready 8\n0 udp-receive 6 9\n0 udp-check-send 7\n0 udp-send 7 to 4 127 77 31 5 20126 6a\n0 subscribe 4\n0 ready 9\n0 udp-receive 4 9\n",
+    b"ok 1\nok 2\nok 3\nok\nok\nok\nok\nok 4 5\nok 6 7\nok 16\nok 1\nok 8\nok true\nok 1 4 127 77 31 5 20126 6869\nok 16\nok 1\nok 9\nok true\nok 1 4 127 77 31 5 20127 6a\n",
 );
 
 /// Every port.
@@ -52,7 +58,8 @@ fn contexts(alloc: Global) -> Result<Vec<WasiSocketsCtx>, AllocError>
 /// Runs the script with every port allowed, and fails where it doesn't write these replies to its end.
 fn runs(rt: HostRuntime, script: &[u8], replies: &[u8]) -> Result<(), Fail> {
     let alloc = rt.alloc();
-    let mut world = NetWorld::new(rt, alloc, all_ports(alloc)?);
+    let allowed = Allowed::loopback(all_ports(alloc)?);
+    let mut world = PatientWorld::new(SystemWorld::new(Linux::new(&rt), alloc, allowed), 1000);
     let mut contexts = contexts(alloc)?;
     let mut source = MemorySource::new(script.to_vec(alloc)?, 4096, Vec::new(alloc));
     let mut sink = MemorySink::new(alloc, 4096, 4096, Vec::new(alloc))?;
@@ -83,4 +90,9 @@ fn a_reset_is_told(rt: HostRuntime) -> Result<(), Fail> {
 #[test]
 fn a_port_in_use_and_one_where_none_listens_are_told(rt: HostRuntime) -> Result<(), Fail> {
     runs(rt, REFUSED.0, REFUSED.1)
+}
+
+#[test]
+fn datagrams_go_each_way(rt: HostRuntime) -> Result<(), Fail> {
+    runs(rt, DATAGRAMS.0, DATAGRAMS.1)
 }

@@ -39,7 +39,12 @@ fn a_check_goes_by_the_ports_and_the_use(rt: HostRuntime) -> Result<(), Fail> {
         (SocketAddrUse::TcpConnect, ELSEWHERE, "no"),
         (SocketAddrUse::TcpAccept, loopback(54_321), "yes"),
         (SocketAddrUse::TcpAccept, ELSEWHERE, "no"),
-        (SocketAddrUse::UdpSend, loopback(80), "no"),
+        (SocketAddrUse::UdpBind, loopback(80), "yes"),
+        (SocketAddrUse::UdpSend, loopback(80), "yes"),
+        (SocketAddrUse::UdpSend, loopback(81), "no"),
+        (SocketAddrUse::UdpSend, ELSEWHERE, "no"),
+        (SocketAddrUse::UdpReceive, loopback(81), "yes"),
+        (SocketAddrUse::UdpReceive, ELSEWHERE, "no"),
     ];
     for (usage, addr, verdict) in rows {
         guest.check(usage, addr, verdict)?;

@@ -5,15 +5,15 @@ use std::test::Fail;
 use wasi_addr::ShutdownType;
 use wasi_world::{Call, Sock};
 
-fn carries(guest: &mut Guest<HostRuntime>, from: Sock, to: Sock) -> Result<(), Fail> {
+fn carries(guest: &mut Guest, from: Sock, to: Sock) -> Result<(), Fail> {
     guest.connection()?;
     guest.expects(to, Call::Read { sock: to, size: 9 }, "pending")?;
     guest.writes(from, b"hello", "took 5")?;
-    guest.expects(to, Call::ReadReady { sock: to }, "done")?;
+    guest.readable(to)?;
     guest.expects(to, Call::Read { sock: to, size: 9 }, "bytes 68656c6c6f")?;
     let how = ShutdownType::Send;
     guest.expects(from, Call::Shutdown { sock: from, how }, "done")?;
-    guest.expects(to, Call::ReadReady { sock: to }, "done")?;
+    guest.readable(to)?;
     guest.expects(to, Call::Read { sock: to, size: 9 }, "bytes -")
 }
 
@@ -23,13 +23,13 @@ fn a_connection_carries_bytes_to_its_end(rt: HostRuntime) -> Result<(), Fail> {
     carries(&mut guest, line(2), line(3))
 }
 
-fn resets(guest: &mut Guest<HostRuntime>, from: Sock, to: Sock) -> Result<(), Fail> {
+fn resets(guest: &mut Guest, from: Sock, to: Sock) -> Result<(), Fail> {
     guest.connection()?;
     guest.writes(from, b"unread", "took 6")?;
-    guest.expects(to, Call::ReadReady { sock: to }, "done")?;
+    guest.readable(to)?;
     guest.expects(to, Call::Close { sock: to }, "done")?;
-    guest.expects(from, Call::ReadReady { sock: from }, "done")?;
-    guest.expects(from, Call::ReadReady { sock: from }, "done")?;
+    guest.readable(from)?;
+    guest.readable(from)?;
     guest.expects(
         from,
         Call::Read {
@@ -57,7 +57,7 @@ fn a_reset_that_a_look_met_is_told_once(rt: HostRuntime) -> Result<(), Fail> {
 }
 
 /// Writes until the system has no more room, and returns how many bytes were taken.
-fn fill(guest: &mut Guest<HostRuntime>, sock: Sock) -> Result<u64, Fail> {
+fn fill(guest: &mut Guest, sock: Sock) -> Result<u64, Fail> {
     let mut taken: u64 = 0;
     for _ in 0..1000 {
         let count = guest.write(sock, &[7; 4096])?;
@@ -70,7 +70,7 @@ fn fill(guest: &mut Guest<HostRuntime>, sock: Sock) -> Result<u64, Fail> {
 }
 
 /// Reads as many bytes as were taken.
-fn drain(guest: &mut Guest<HostRuntime>, sock: Sock, taken: u64) -> Result<(), Fail> {
+fn drain(guest: &mut Guest, sock: Sock, taken: u64) -> Result<(), Fail> {
     let mut read: u64 = 0;
     for _ in 0..10_000 {
         if read >= taken {
@@ -81,13 +81,14 @@ fn drain(guest: &mut Guest<HostRuntime>, sock: Sock, taken: u64) -> Result<(), F
     Err(Fail::new("bytes were lost"))
 }
 
-fn waits(guest: &mut Guest<HostRuntime>, from: Sock, to: Sock) -> Result<(), Fail> {
+fn waits(guest: &mut Guest, from: Sock, to: Sock) -> Result<(), Fail> {
     guest.connection()?;
     let taken = fill(guest, from)?;
     guest.writes(from, b"more", "pending")?;
     drain(guest, to, taken)?;
+    guest.writable(from)?;
     guest.writes(from, b"more", "took 4")?;
-    guest.expects(to, Call::ReadReady { sock: to }, "done")?;
+    guest.readable(to)?;
     guest.expects(to, Call::Read { sock: to, size: 9 }, "bytes 6d6f7265")
 }
 

@@ -5,28 +5,32 @@ ghost use Rattle.wasi_world.specs.Fits.{IsPlain};
 ghost use Rattle.wasi_net.specs.Net.{seen_by};
 
 use std::alloc::{AllocError, Global};
-use std::net::{Net, TcpListener, TcpStream};
+use std::net::Net;
 use std::test::Fail;
-use std::time::Clock;
 use wasi_addr::{IpSocketAddress, Ipv4SocketAddress, SocketAddrUse, SocketAddressFamily};
-use wasi_net::NetWorld;
+use wasi_net::{Allowed, Linux, SystemWorld};
 use wasi_world::{Call, OpId, Sock, Told, World};
 use world_text::fields::push_octets;
 
 /// A network that has not ended.
 #[derive(Drop)]
-pub struct Guest<R> {
+pub struct Guest {
     alloc: Global,
-    world: NetWorld<R>,
+    world: SystemWorld<Linux>,
     ghost open: { (seen_by world).ended ≡ false },
 }
+
+/// How often a call is made again that is pending, where another answer is expected.
+const TRIES: u32 = 8;
+
+/// How long each wait for that may take, in milliseconds.
+const WAIT: i32 = 1000;
 
 /// The name of a line's own operation, and of the network socket that it makes.
 pub fn line(step: u32) -> OpId {
     OpId { step, part: 0 }
 }
 
-/// 127.0.0.1 with this port.
 pub fn loopback(port: u16) -> IpSocketAddress {
     IpSocketAddress::Ipv4(Ipv4SocketAddress {
         port,
@@ -50,18 +54,22 @@ fn told_text(alloc: Global, told: &Told) -> Result<String, AllocError> {
             Ok(text)
         }
         Told::Took(bytes) => format!(in alloc; "took {}", bytes.len()),
-        Told::Datagram(_, _) => "datagram".to_string(alloc),
+        Told::Datagram(bytes, _) => {
+            let mut text = "datagram ".to_string(alloc)?;
+            push_octets(&mut text, bytes.as_slice())?;
+            Ok(text)
+        }
         Told::Value(value) => format!(in alloc; "value {value}"),
         Told::Names(_) => "names".to_string(alloc),
     }
 }
 
-impl<R: Net<Listener = TcpListener, Stream = TcpStream> + Clock> Guest<R> {
+impl Guest {
     /// Over a network where these ports are allowed.
-    pub fn new(rt: R, alloc: Global, ports: Vec<u16>) -> Guest<R> {
+    pub fn new<R: Net + Drop>(rt: R, alloc: Global, ports: Vec<u16>) -> Guest {
         Guest {
             alloc,
-            world: NetWorld::new(rt, alloc, ports),
+            world: SystemWorld::new(Linux::new(&rt), alloc, Allowed::loopback(ports)),
         }
     }
 
@@ -88,6 +96,39 @@ impl<R: Net<Listener = TcpListener, Stream = TcpStream> + Clock> Guest<R> {
         self.compare(told, text)
     }
 
+    /// Waits until a call that was pending may go on.
+    pub fn wait(&mut self) -> bool {
+        self.world.wait(WAIT)
+    }
+
+    /// Looks until there is something to read, the end or a fault, and fails where nothing comes.
+    pub fn readable(&mut self, sock: Sock) -> Result<(), Fail> {
+        for _ in 0..TRIES {
+            if let Told::Done = self.tell(sock, Call::ReadReady { sock })? {
+                return Ok(());
+            }
+            self.wait();
+        }
+        Err(Fail::new("nothing comes"))
+    }
+
+    /// Looks until there is room to write, and fails where none comes.
+    pub fn writable(&mut self, sock: Sock) -> Result<(), Fail> {
+        for _ in 0..TRIES {
+            if let Told::Done = self.tell(sock, Call::WriteReady { sock })? {
+                return Ok(());
+            }
+            self.wait();
+        }
+        Err(Fail::new("there is no room"))
+    }
+
+    /// Takes the next arrival in hand.
+    pub fn accept(&mut self, op: OpId, sock: Sock) -> Result<(), Fail> {
+        self.readable(sock)?;
+        self.expects(op, Call::Accept { sock }, "arrived")
+    }
+
     /// Writes, and fails where another answer than this is given.
     pub fn writes(&mut self, sock: Sock, bytes: &[u8], text: &str) -> Result<(), Fail>
         requires some { 1 ≤ length bytes.now }
@@ -97,7 +138,12 @@ impl<R: Net<Listener = TcpListener, Stream = TcpStream> + Clock> Guest<R> {
         self.compare(told, text)
     }
 
-    /// Compares what the check says of an address and a use with this text.
+    /// Sends a datagram to the port, and fails where another answer than this is given.
+    pub fn sends(&mut self, sock: Sock, port: u16, bytes: &[u8], text: &str) -> Result<(), Fail> {
+        let told = self.world.send(sock, sock, loopback(port), bytes)?;
+        self.compare(told, text)
+    }
+
     pub fn check(
         &mut self,
         usage: SocketAddrUse,
@@ -114,16 +160,30 @@ impl<R: Net<Listener = TcpListener, Stream = TcpStream> + Clock> Guest<R> {
         self.expects(sock, Call::TcpCreate { ctx: 0, family }, "done")
     }
 
+    /// The port that a socket is bound to.
+    pub fn port(&mut self, sock: Sock) -> Result<u16, Fail> {
+        match self.tell(sock, Call::Local { sock })? {
+            Told::Addr(addr) => Ok(addr.port()),
+            _ => Err(Fail::new("a bound socket has an address")),
+        }
+    }
+
     /// Makes a listener, and returns its port.
     pub fn listen(&mut self, sock: Sock, port: u16) -> Result<u16, Fail> {
         self.create(sock)?;
         let addr = loopback(port);
         self.expects(sock, Call::Bind { sock, addr }, "done")?;
         self.expects(sock, Call::Listen { sock, backlog: 1 }, "done")?;
-        match self.tell(sock, Call::Local { sock })? {
-            Told::Addr(addr) => Ok(addr.port()),
-            _ => Err(Fail::new("a listener has an address")),
-        }
+        self.port(sock)
+    }
+
+    /// Makes a UDP socket that is bound to a port of its own, and returns that.
+    pub fn udp(&mut self, sock: Sock) -> Result<u16, Fail> {
+        let family = SocketAddressFamily::Ipv4;
+        self.expects(sock, Call::UdpCreate { ctx: 0, family }, "done")?;
+        let addr = loopback(0);
+        self.expects(sock, Call::UdpBind { sock, addr }, "done")?;
+        self.port(sock)
     }
 
     /// Makes a network socket and connects it to the port; fails where another answer than this is given.
@@ -138,7 +198,7 @@ impl<R: Net<Listener = TcpListener, Stream = TcpStream> + Clock> Guest<R> {
         let sock = line(1);
         let port = self.listen(sock, 0)?;
         self.connect(line(2), port, "done")?;
-        self.expects(line(3), Call::Accept { sock }, "arrived")?;
+        self.accept(line(3), sock)?;
         let peer = loopback(port);
         self.expects(line(3), Call::Hand { sock, peer }, "done")
     }
@@ -156,7 +216,7 @@ impl<R: Net<Listener = TcpListener, Stream = TcpStream> + Clock> Guest<R> {
 
     /// How many bytes a read gave, once the network socket was looked at.
     pub fn read(&mut self, sock: Sock) -> Result<u64, Fail> {
-        let _ = self.tell(sock, Call::ReadReady { sock })?;
+        self.readable(sock)?;
         match self.tell(sock, Call::Read { sock, size: 65_536 })? {
             Told::Bytes(bytes) => Ok(bytes.len() as u64),
             _ => Ok(0),
@@ -167,9 +227,7 @@ impl<R: Net<Listener = TcpListener, Stream = TcpStream> + Clock> Guest<R> {
     pub fn faults(&self) -> u64 {
         self.world.faults()
     }
-}
 
-impl<R: Net<Listener = TcpListener, Stream = TcpStream> + Clock + Drop> Guest<R> {
     /// Ends the run with this network socket open, and returns how many were closed.
     pub fn end(self, sock: Sock) -> u64 {
         let Guest {

@@ -1,4 +1,4 @@
-//! Tests of the network of std's sockets, over this machine's loopback addresses.
+//! Tests of the network of the system's sockets, over this machine's loopback addresses.
 #![tactic(auto)]
 
 #[cfg(test)]
@@ -6,9 +6,13 @@ mod checks;
 #[cfg(test)]
 mod connections;
 #[cfg(test)]
+mod datagrams;
+#[cfg(test)]
 mod guest;
 #[cfg(test)]
 mod listeners;
+#[cfg(test)]
+mod many;
 #[cfg(test)]
 mod refusals;
 #[cfg(test)]

@@ -1,3 +1,3 @@
 mod Sides
-mod Fitting
 mod Counted
+mod Results

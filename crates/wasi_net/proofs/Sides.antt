@@ -8,7 +8,7 @@ use Rattle.std.specs.BTreeMap.{BTreeMap, get}
 use Rattle.std.proofs.lemmas.Bool.{eqb-true}
 use Rattle.wasi_world.specs.declared.ids.OpId.{OpId}
 use Rattle.wasi_world.specs.Sides.{is_same, name_cmp}
-use Rattle.wasi_net.specs.declared.side.Side.{Side}
+use Rattle.wasi_net.specs.declared.socket.Socket.{Socket}
 use Rattle.wasi_net.specs.Known.{Known, known_of, known_sides, Same}
 
 -- two names that are the same are equal
@@ -34,7 +34,7 @@ finds_same : (a b : OpId) → is_eq (name_cmp a b) ≡ is_same a b
 finds_same a b = is_eq-then (nat_cmp a.step b.step) (nat_cmp a.part b.part) ∙ rw (is_eq-nat_cmp a.step b.step, is_eq-nat_cmp a.part b.part) refl
 
 -- where the network socket that was lent is known as before, so are all
-pub lent_same : {A E : Type 0} (result : Result A E) (before after : BTreeMap OpId Side) (place : OpId) (old now : Side) → get name_cmp before place ≡ Some old → ((name : OpId) → get name_cmp after name ≡ cond (is_eq (name_cmp place name)) (Some now) (get name_cmp before name)) → OnErr result (known_of now ≡ known_of old) → OnErr result (Same (known_sides before) (known_sides after))
+pub lent_same : {A E : Type 0} (result : Result A E) (before after : BTreeMap OpId Socket) (place : OpId) (old now : Socket) → get name_cmp before place ≡ Some old → ((name : OpId) → get name_cmp after name ≡ cond (is_eq (name_cmp place name)) (Some now) (get name_cmp before name)) → OnErr result (known_of now ≡ known_of old) → OnErr result (Same (known_sides before) (known_sides after))
 lent_same (Ok a) before after place old now was updates h = tt
 lent_same (Err e) before after place old now was updates h = λ name. by_test name (is_same place name) refl
   where

@@ -1,5 +1,5 @@
 -- Which addresses may be used, by the ports that are allowed.
-use Rattle.std.specs.Prelude.{ℕ, ◌==◌, Bool, false, ◌&&◌, ◌||◌, if◌then◌else◌, List}
+use Rattle.std.specs.Prelude.{ℕ, ◌==◌, Bool, ◌&&◌, ◌||◌, if◌then◌else◌, List}
 use Rattle.std.specs.List.{list_any}
 use Rattle.wasi_addr.specs.declared.address.IpAddress.{IpAddress}
 use Rattle.wasi_addr.specs.declared.address.IpAddress.TheVariants as ip
@@ -8,6 +8,7 @@ use Rattle.wasi_addr.specs.declared.address.SocketAddressFamily.TheVariants.{Ipv
 use Rattle.wasi_addr.specs.declared.address.SocketAddrUse.{SocketAddrUse}
 use Rattle.wasi_addr.specs.declared.address.SocketAddrUse.TheVariants.{TcpBind, TcpListen, TcpAccept, TcpConnect, UdpBind, UdpSend, UdpReceive}
 use Rattle.wasi_addr.specs.Address.{ip_of, port_of, is_wildcard}
+use Rattle.wasi_net.specs.declared.allowed.Allowed.{Allowed}
 use Rattle.wasi_world.specs.declared.call.Told.{Told}
 use Rattle.wasi_world.specs.declared.call.Told.TheVariants.{Yes, No}
 
@@ -25,20 +26,35 @@ is_any addr = is_wildcard Ipv4 addr || is_wildcard Ipv6 addr
 abbrev pub has_port : List ℕ → IpSocketAddress → Bool
 has_port ports addr = list_any (λ port. port == port_of addr) ports
 
--- a loopback address with an allowed port
-abbrev pub is_own : List ℕ → IpSocketAddress → Bool
-is_own ports addr = is_loopback (ip_of addr) && has_port ports addr
+-- which ports may be used, and whether on every address or on this machine's own alone
+pub record Policy : Type 0 where
+  pub ports : List ℕ
+  pub anywhere : Bool
 
--- whether the address may be put to this use; an arrival may come from any port of this machine
-abbrev pub allows : List ℕ → IpSocketAddress → SocketAddrUse → Bool
-allows ports addr TcpBind = is_any addr || is_own ports addr
-allows ports addr TcpListen = is_own ports addr
-allows ports addr TcpConnect = is_own ports addr
-allows ports addr TcpAccept = is_loopback (ip_of addr)
-allows ports addr UdpBind = false
-allows ports addr UdpSend = false
-allows ports addr UdpReceive = false
+abbrev pub policy_of : Allowed → Policy
+policy_of allowed = record { ports = allowed.ports.items; anywhere = allowed.anywhere }
+
+-- an address that may be used with the ports
+abbrev pub is_near : Policy → IpSocketAddress → Bool
+is_near policy addr = policy.anywhere || is_loopback (ip_of addr)
+
+abbrev pub is_own : Policy → IpSocketAddress → Bool
+is_own policy addr = is_near policy addr && has_port policy.ports addr
+
+-- port 0 is allowed, which stands for any port that is free
+abbrev pub has_free : Policy → Bool
+has_free policy = list_any (λ port. port == 0) policy.ports
+
+-- whether the address may be put to this use; the port of what arrives isn't looked at
+abbrev pub allows : Policy → IpSocketAddress → SocketAddrUse → Bool
+allows policy addr TcpBind = is_any addr || is_own policy addr
+allows policy addr TcpListen = is_near policy addr && (has_port policy.ports addr || has_free policy)
+allows policy addr TcpConnect = is_own policy addr
+allows policy addr TcpAccept = is_near policy addr
+allows policy addr UdpBind = is_any addr || is_own policy addr
+allows policy addr UdpSend = is_own policy addr
+allows policy addr UdpReceive = is_near policy addr
 
 -- the answer to a check
-abbrev pub verdict : List ℕ → IpSocketAddress → SocketAddrUse → Told
-verdict ports addr usage = if allows ports addr usage then Yes else No
+abbrev pub verdict : Policy → IpSocketAddress → SocketAddrUse → Told
+verdict policy addr usage = if allows policy addr usage then Yes else No

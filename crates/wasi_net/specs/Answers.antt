@@ -1,118 +1,86 @@
--- What each call answers, and what it leaves of the network sockets.
-use Rattle.std.specs.Prelude.{◌≡◌, ℕ, List, Option, Some, None, length}
-use Rattle.wasi_addr.specs.declared.address.IpSocketAddress.{IpSocketAddress}
-use Rattle.wasi_addr.specs.declared.code.ErrorCode.{ErrorCode}
+-- What each call answers, which calls of the system it makes, and what it leaves of the sockets.
+use Rattle.std.specs.Prelude.{◌≡◌, ℤ, Option, Some, None, Result, Ok, Err}
+use Rattle.wasi_addr.specs.declared.address.SocketAddressFamily.{SocketAddressFamily}
+use Rattle.wasi_addr.specs.declared.address.SocketAddressFamily.TheVariants as family
 use Rattle.wasi_addr.specs.declared.code.ErrorCode.TheVariants.{AccessDenied, InvalidState, NotSupported}
-use Rattle.wasi_addr.specs.Address.{wildcard}
 use Rattle.wasi_world.specs.declared.ids.OpId.{OpId}
 use Rattle.wasi_world.specs.declared.call.Call.{Call}
 use Rattle.wasi_world.specs.declared.call.Call.TheVariants as call
-use Rattle.wasi_world.specs.declared.call.Opt.{Opt}
-use Rattle.wasi_world.specs.declared.call.Opt.TheVariants.{HopLimit}
 use Rattle.wasi_world.specs.declared.call.Told.{Told}
 use Rattle.wasi_world.specs.declared.call.Told.TheVariants as told
-use Rattle.wasi_world.specs.Fits.{IsAddr, IsDoneOrCode, IsValue, IsRead, IsWritten}
-use Rattle.wasi_world.specs.Asks.{IsFront}
-use Rattle.wasi_net.specs.Allowed.{verdict}
-use Rattle.wasi_net.specs.Known.{Known, Unbound, Bound, Listening, Arrived, Connected, Sides, Same, With}
+use Rattle.wasi_net.specs.declared.errno.Errno.{Errno}
+use Rattle.wasi_net.specs.declared.calls.Transport.{Transport}
+use Rattle.wasi_net.specs.declared.calls.Transport.TheVariants.{Tcp, Udp}
+use Rattle.wasi_net.specs.declared.calls.Readiness.TheVariants as readiness
+use Rattle.wasi_net.specs.declared.setting.Setting.TheVariants as setting
+use Rattle.wasi_net.specs.declared.socket.Stage.{Stage}
+use Rattle.wasi_net.specs.declared.socket.Stage.TheVariants.{Open, Arrived}
+use Rattle.wasi_net.specs.Errno.{code_of, accept_code, told_failed}
+use Rattle.wasi_net.specs.Acts.{Acts, Status, after}
+use Rattle.wasi_net.specs.Acts as act
+use Rattle.wasi_net.specs.Storage.{domain_of, kind_of, disconnect, set_to}
+use Rattle.wasi_net.specs.Does.{Does, Refuses, AddressTold, BindDoes, UdpBindDoes, ListenDoes, BacklogDoes, ReadyDoes, ConnectDoes, ReadDoes, ShutdownDoes, SetDoes, GetDoes, UdpConnectDoes, UdpDisconnectDoes, ReceiveDoes}
+use Rattle.wasi_net.specs.Allowed.{Policy, verdict}
+use Rattle.wasi_net.specs.Known.{Known, at_stage, Sides, Same, With}
 
--- == one network socket
--- this code is reported, and the network socket stays
-abbrev pub Refuses : ErrorCode → Known → Told → Known → Type 0
-Refuses c before t after = (t ≡ told.Code c) × (after ≡ before)
+-- == one socket
+-- what a call on a network socket reports that isn't there
+abbrev pub missing : Call → Told
+missing (call.Check _ _ _) = told.No
+missing (call.Hand _ _) = told.Done
+missing (call.Refuse _ _) = told.Done
+missing (call.ReadReady _) = told.Done
+missing (call.WriteReady _) = told.Done
+missing (call.Shutdown _ _) = told.Done
+missing (call.Close _) = told.Done
+missing (call.Made _ _ _ _) = told.Done
+missing _ = told.Code InvalidState
 
--- an answer of this kind is given, and the network socket stays
-abbrev pub Tells : (Told → Type 0) → Known → Told → Known → Type 0
-Tells P before t after = P t × (after ≡ before)
+-- an arrival is open from now on
+abbrev pub HandDoes : Known → Told → Known → Acts → Acts → Type 0
+HandDoes k t now old new = (t ≡ told.Done) × (now ≡ at_stage k Open) × (new ≡ old)
 
--- done, and the network socket is so from then on; or a code, and it stays
-abbrev pub Becomes : Known → Known → Told → Known → Type 0
-Becomes new before told.Done after = after ≡ new
-Becomes new before (told.Code c) after = after ≡ before
-Becomes new before _ after = ⊥
+-- the socket is as before
+abbrev pub Stays : (Told → Acts → Acts → Type 0) → Known → Told → Known → Acts → Acts → Type 0
+Stays D k t now old new = D t old new × (now ≡ k)
 
--- the address that it has, or that it is to be bound to
-abbrev pub LocalTells : Known → Told → Known → Type 0
-LocalTells (Unbound family) = Tells (λ t. t ≡ told.Addr (wildcard family)) (Unbound family)
-LocalTells (Bound addr) = Tells (λ t. t ≡ told.Addr addr) (Bound addr)
-LocalTells (Arrived peer) = Refuses InvalidState (Arrived peer)
-LocalTells side = Tells IsAddr side
+abbrev pub OnSide : Call → Known → Told → Known → Acts → Acts → Type 0
+OnSide (call.Local _) k = Stays (Does (act.Local k.fd) AddressTold) k
+OnSide (call.Peer _) k = Stays (Does (act.Peer k.fd) AddressTold) k
+OnSide (call.Bind _ addr) k = Stays (BindDoes k.fd addr) k
+OnSide (call.UdpBind _ addr) k = Stays (UdpBindDoes k.fd addr) k
+OnSide (call.UdpConnect _ addr) k = Stays (UdpConnectDoes k.fd addr) k
+OnSide (call.UdpDisconnect _) k = Stays (UdpDisconnectDoes k.fd) k
+OnSide (call.Listen _ backlog) k = Stays (ListenDoes k.fd backlog) k
+OnSide (call.SetBacklog _ backlog) k = Stays (BacklogDoes k.fd backlog) k
+OnSide (call.Connect _ addr) k = ConnectDoes addr k
+OnSide (call.Hand _ _) k = HandDoes k
+OnSide (call.Read _ size) k = Stays (ReadDoes k.fd size) k
+OnSide (call.Recv _) k = Stays (ReceiveDoes k.fd) k
+OnSide (call.ReadReady _) k = Stays (ReadyDoes k.fd readiness.Read) k
+OnSide (call.WriteReady _) k = Stays (ReadyDoes k.fd readiness.Write) k
+OnSide (call.UdpWritable _) k = Stays (ReadyDoes k.fd readiness.Write) k
+OnSide (call.Shutdown _ how) k = Stays (ShutdownDoes k.fd how) k
+OnSide (call.GetOption _ option) k = Stays (GetDoes k option) k
+OnSide (call.SetOption _ option value) k = Stays (SetDoes k option value) k
+OnSide c k = Stays (Refuses (missing c)) k
 
-abbrev pub PeerTells : Known → Told → Known → Type 0
-PeerTells (Connected fault) = Tells IsAddr (Connected fault)
-PeerTells side = Refuses InvalidState side
-
--- the address is kept
-abbrev pub BindTells : IpSocketAddress → Known → Told → Known → Type 0
-BindTells addr (Unbound family) t after = (t ≡ told.Done) × (after ≡ Bound addr)
-BindTells addr side t after = Refuses InvalidState side t after
-
-abbrev pub ListenTells : Known → Told → Known → Type 0
-ListenTells (Unbound family) = Becomes Listening (Unbound family)
-ListenTells (Bound addr) = Becomes Listening (Bound addr)
-ListenTells side = Refuses InvalidState side
-
--- a bound network socket can't be connected by std
-abbrev pub ConnectTells : Known → Told → Known → Type 0
-ConnectTells (Unbound family) = Becomes (Connected None) (Unbound family)
-ConnectTells (Bound addr) = Refuses NotSupported (Bound addr)
-ConnectTells side = Refuses InvalidState side
-
--- an arrival becomes a connection
-abbrev pub HandTells : Known → Told → Known → Type 0
-HandTells (Arrived peer) t after = (t ≡ told.Done) × ((fault : Option ErrorCode) × (after ≡ Connected fault))
-HandTells side t after = (t ≡ told.Done) × (after ≡ side)
-
--- a fault that a look met is reported once, before anything else
-abbrev pub ReadTells : ℕ → Known → Told → Known → Type 0
-ReadTells size (Connected (Some c)) t after = (t ≡ told.Code c) × (after ≡ Connected None)
-ReadTells size (Connected None) t after = Tells (IsRead size) (Connected None) t after
-ReadTells size side t after = Refuses InvalidState side t after
-
-abbrev pub WriteTells : List ℕ → Known → Told → Known → Type 0
-WriteTells bytes (Connected (Some c)) t after = (t ≡ told.Code c) × (after ≡ Connected None)
-WriteTells bytes (Connected None) t after = Tells (λ t. IsWritten (length bytes) t × IsFront t bytes) (Connected None) t after
-WriteTells bytes side t after = Refuses InvalidState side t after
-
--- a read that can't be made, or that has a fault to tell, doesn't wait
-abbrev pub ReadReadyTells : Known → Told → Known → Type 0
-ReadReadyTells (Connected None) told.Pending after = after ≡ Connected None
-ReadReadyTells (Connected None) told.Done after = (fault : Option ErrorCode) × (after ≡ Connected fault)
-ReadReadyTells (Connected None) _ after = ⊥
-ReadReadyTells side t after = Tells (λ t. t ≡ told.Done) side t after
-
--- std has the hop limit alone, of an open socket
-abbrev pub HasOption : Opt → (Told → Type 0) → Known → Told → Known → Type 0
-HasOption HopLimit P Listening = Tells P Listening
-HasOption HopLimit P (Connected fault) = Tells P (Connected fault)
-HasOption option P side = Refuses NotSupported side
-
-abbrev pub OnSide : Call → Known → Told → Known → Type 0
-OnSide (call.Local _) side t after = LocalTells side t after
-OnSide (call.Peer _) side t after = PeerTells side t after
-OnSide (call.Bind _ addr) side t after = BindTells addr side t after
-OnSide (call.Listen _ _) side t after = ListenTells side t after
-OnSide (call.Connect _ addr) side t after = ConnectTells side t after
-OnSide (call.Hand _ _) side t after = HandTells side t after
-OnSide (call.Read _ size) side t after = ReadTells size side t after
-OnSide (call.ReadReady _) side t after = ReadReadyTells side t after
-OnSide (call.WriteReady _) side t after = Tells (λ t. t ≡ told.Done) side t after
-OnSide (call.Shutdown _ _) side t after = Tells (λ t. t ≡ told.Done) side t after
-OnSide (call.GetOption _ option) side t after = HasOption option IsValue side t after
-OnSide (call.SetOption _ option _) side t after = HasOption option IsDoneOrCode side t after
-OnSide _ side t after = Refuses NotSupported side t after
-
--- == all network sockets
+-- == all sockets
 -- the network socket that a call is on; an arrival has the name of the accept that hands it over
 abbrev pub side_of : OpId → Call → Option OpId
 side_of op (call.Local sock) = Some sock
 side_of op (call.Peer sock) = Some sock
 side_of op (call.Bind sock _) = Some sock
+side_of op (call.UdpBind sock _) = Some sock
+side_of op (call.UdpConnect sock _) = Some sock
+side_of op (call.UdpDisconnect sock) = Some sock
+side_of op (call.UdpWritable sock) = Some sock
 side_of op (call.Listen sock _) = Some sock
 side_of op (call.SetBacklog sock _) = Some sock
 side_of op (call.Connect sock _) = Some sock
 side_of op (call.Hand _ _) = Some op
 side_of op (call.Read sock _) = Some sock
+side_of op (call.Recv sock) = Some sock
 side_of op (call.ReadReady sock) = Some sock
 side_of op (call.WriteReady sock) = Some sock
 side_of op (call.Shutdown sock _) = Some sock
@@ -120,55 +88,91 @@ side_of op (call.GetOption sock _) = Some sock
 side_of op (call.SetOption sock _ _) = Some sock
 side_of op _ = None
 
--- what a call on a network socket reports that isn't there
-abbrev pub missing : Call → Told
-missing (call.Hand _ _) = told.Done
-missing (call.ReadReady _) = told.Done
-missing (call.WriteReady _) = told.Done
-missing (call.Shutdown _ _) = told.Done
-missing _ = told.Code InvalidState
+-- this is answered, all sockets stay, and no call of the system is made
+abbrev pub TellsOnly : Told → Sides → Told → Sides → Acts → Acts → Type 0
+TellsOnly answer before t now old new = (t ≡ answer) × Same before now × (new ≡ old)
 
--- this is answered, and all network sockets stay
-abbrev pub TellsOnly : Told → Sides → Told → Sides → Type 0
-TellsOnly answer before t after = (t ≡ answer) × Same before after
+-- The socket of one name answered, and the others stay.
+pub record Answers (P : Known → Told → Known → Acts → Acts → Type 0) (place : OpId) (k : Known) (before : Sides) (t : Told) (now : Sides) (old new : Acts) : Type 0 where
+  pub becomes : Known
+  pub does : P k t becomes old new
+  pub stands : With before place (Some becomes) now
 
--- The network socket of one name answered, and the others stay.
-pub record Answers (P : Known → Told → Known → Type 0) (place : OpId) (side : Known) (before : Sides) (t : Told) (after : Sides) : Type 0 where
-  pub now : Known
-  pub told : P side t now
-  pub stands : With before place (Some now) after
+-- a socket answers where it is there
+abbrev pub AnswersAt : (Known → Told → Known → Acts → Acts → Type 0) → Told → OpId → Option Known → Sides → Told → Sides → Acts → Acts → Type 0
+AnswersAt P absent place (Some k) before t now old new = Answers P place k before t now old new
+AnswersAt P absent place None before t now old new = TellsOnly absent before t now old new
 
--- a network socket answers where it is there
-abbrev pub AnswersAt : (Known → Told → Known → Type 0) → Told → OpId → Option Known → Sides → Told → Sides → Type 0
-AnswersAt P absent place (Some side) before t after = Answers P place side before t after
-AnswersAt P absent place None before t after = TellsOnly absent before t after
+abbrev pub OnItsSide : Call → Option OpId → Sides → Told → Sides → Acts → Acts → Type 0
+OnItsSide c (Some place) before t now old new = AnswersAt (OnSide c) (missing c) place (before place) before t now old new
+OnItsSide c None before t now old new = TellsOnly (missing c) before t now old new
 
--- a call that is on no network socket is one that std's TCP sockets don't have
-abbrev pub OnItsSide : Call → Option OpId → Sides → Told → Sides → Type 0
-OnItsSide c (Some place) before t after = AnswersAt (OnSide c) (missing c) place (before place) before t after
-OnItsSide c None before t after = TellsOnly (told.Code NotSupported) before t after
+-- == what makes sockets and closes them
+-- a socket of this descriptor stands under the name
+abbrev pub Opens : OpId → SocketAddressFamily → ℤ → Sides → Told → Sides → Type 0
+Opens op family fd before t now = (t ≡ told.Done) × With before op (Some (record { fd = fd; family = family; stage = Open })) now
 
--- an accept takes the next arrival in hand, under its own name
-abbrev pub Arrives : OpId → Sides → Told → Sides → Type 0
-Arrives op before told.Pending after = Same before after
-Arrives op before (told.Arrived peer) after = With before op (Some (Arrived peer)) after
-Arrives op before (told.Code c) after = Same before after
-Arrives op before _ after = ⊥
+-- an IPv6 socket is for IPv6 alone, or isn't kept
+abbrev pub OnlyV6 : Status → OpId → ℤ → Sides → Told → Sides → Type 0
+OnlyV6 (Ok _) op fd before t now = Opens op family.Ipv6 fd before t now
+OnlyV6 (Err e) op fd before t now = (t ≡ told.Code (code_of e)) × Same before now
 
--- it can be made of a listener alone, and by an operation whose name no other network socket has
-abbrev pub AcceptTells : OpId → Option Known → Option Known → Sides → Told → Sides → Type 0
-AcceptTells op (Some (Arrived peer)) listener before t after = TellsOnly (told.Arrived peer) before t after
-AcceptTells op None (Some Listening) before t after = Arrives op before t after
-AcceptTells op own listener before t after = TellsOnly (told.Code InvalidState) before t after
+abbrev pub OnMade : SocketAddressFamily → OpId → ℤ → Sides → Told → Sides → Acts → Acts → Type 0
+OnMade family.Ipv4 op fd before t now old new = Opens op family.Ipv4 fd before t now × (new ≡ old)
+OnMade family.Ipv6 op fd before t now old new = (r : Status) × (OnlyV6 r op fd before t now × (new ≡ after (set_to fd setting.V6Only 1 r) old))
 
--- what a call answers, by the ports that are allowed and the network sockets before it, and the network sockets after
--- it
-abbrev pub OnNetwork : List ℕ → Sides → OpId → Call → Told → Sides → Type 0
-OnNetwork ports before op (call.Check _ addr usage) t after = TellsOnly (verdict ports addr usage) before t after
-OnNetwork ports before op (call.Lookup _) t after = TellsOnly (told.Code AccessDenied) before t after
-OnNetwork ports before op (call.TcpCreate _ family) t after = (t ≡ told.Done) × With before op (Some (Unbound family)) after
-OnNetwork ports before op (call.Accept sock) t after = AcceptTells op (before op) (before sock) before t after
-OnNetwork ports before op (call.Refuse _ _) t after = (t ≡ told.Done) × With before op None after
-OnNetwork ports before op (call.Close sock) t after = (t ≡ told.Done) × With before sock None after
-OnNetwork ports before op (call.Made _ _ _ _) t after = TellsOnly told.Done before t after
-OnNetwork ports before op c t after = OnItsSide c (side_of op c) before t after
+abbrev pub OnSocket : Result ℤ Errno → SocketAddressFamily → OpId → Sides → Told → Sides → Acts → Acts → Type 0
+OnSocket (Ok fd) family op before t now old new = OnMade family op fd before t now old new
+OnSocket (Err e) family op before t now old new = TellsOnly (told.Code (code_of e)) before t now old new
+
+abbrev pub CreateDoes : Transport → SocketAddressFamily → OpId → Sides → Told → Sides → Acts → Acts → Type 0
+CreateDoes transport family op before t now old new =
+    (r : Result ℤ Errno) × OnSocket r family op before t now (after (act.Socket (domain_of family) (kind_of transport) r) old) new
+
+-- an arrival stands under the name of its accept, or isn't kept where its sender's family is unknown
+abbrev pub OnArrival : SocketAddressFamily → OpId → ℤ → Sides → Told → Sides → Type 0
+OnArrival family op fd before (told.Arrived peer) now = With before op (Some (record { fd = fd; family = family; stage = Arrived peer })) now
+OnArrival family op fd before (told.Code c) now = (c ≡ NotSupported) × Same before now
+OnArrival family op fd before _ now = ⊥
+
+abbrev pub OnAccept : Result ℤ Errno → SocketAddressFamily → OpId → Sides → Told → Sides → Type 0
+OnAccept (Ok fd) family op before t now = OnArrival family op fd before t now
+OnAccept (Err e) family op before t now = (t ≡ told_failed e (accept_code e)) × Same before now
+
+-- a socket is asked for its next arrival, which stands under the accept's own name
+abbrev pub AcceptAsks : OpId → ℤ → SocketAddressFamily → Sides → Told → Sides → Acts → Acts → Type 0
+AcceptAsks op fd family before t now old new = (r : Result ℤ Errno) × (OnAccept r family op before t now × (new ≡ after (act.Accept fd r) old))
+
+-- what an accept tells whose name a socket has already: the arrival that it is
+abbrev pub own_told : Stage → Told
+own_told (Arrived peer) = told.Arrived peer
+own_told _ = told.Code InvalidState
+
+abbrev pub AcceptDoes : OpId → Option Known → Option Known → Sides → Told → Sides → Acts → Acts → Type 0
+AcceptDoes op (Some own) listener before t now old new = TellsOnly (own_told own.stage) before t now old new
+AcceptDoes op None (Some k) before t now old new = AcceptAsks op k.fd k.family before t now old new
+AcceptDoes op None None before t now old new = TellsOnly (told.Code InvalidState) before t now old new
+
+-- an arrival that is refused is reset, and closed
+abbrev pub Resets : Option Known → Acts → Acts → Type 0
+Resets (Some k) old new = (r : Status) × (new ≡ after (disconnect k.fd r) old)
+Resets None old new = new ≡ old
+
+abbrev pub RefuseDoes : OpId → Sides → Told → Sides → Acts → Acts → Type 0
+RefuseDoes op before t now old new = (t ≡ told.Done) × With before op None now × Resets (before op) old new
+
+-- a socket is closed, and no other
+abbrev pub CloseDoes : OpId → Sides → Told → Sides → Acts → Acts → Type 0
+CloseDoes sock before t now old new = (t ≡ told.Done) × With before sock None now × (new ≡ old)
+
+-- == any call but a write and a send
+abbrev pub OnNetwork : Policy → Sides → OpId → Call → Told → Sides → Acts → Acts → Type 0
+OnNetwork policy before op (call.Check _ addr usage) t now old new = TellsOnly (verdict policy addr usage) before t now old new
+OnNetwork policy before op (call.Lookup _) t now old new = TellsOnly (told.Code AccessDenied) before t now old new
+OnNetwork policy before op (call.TcpCreate _ family) t now old new = CreateDoes Tcp family op before t now old new
+OnNetwork policy before op (call.UdpCreate _ family) t now old new = CreateDoes Udp family op before t now old new
+OnNetwork policy before op (call.Accept sock) t now old new = AcceptDoes op (before op) (before sock) before t now old new
+OnNetwork policy before op (call.Refuse _ _) t now old new = RefuseDoes op before t now old new
+OnNetwork policy before op (call.Close sock) t now old new = CloseDoes sock before t now old new
+OnNetwork policy before op (call.Made _ _ _ _) t now old new = TellsOnly told.Done before t now old new
+OnNetwork policy before op c t now old new = OnItsSide c (side_of op c) before t now old new

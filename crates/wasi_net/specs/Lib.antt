@@ -1,5 +1,9 @@
-pub mod Allowed
-pub mod Faults
+pub mod Errno
+pub mod Acts
+pub mod Storage
+pub mod Ready
 pub mod Known
+pub mod Does
+pub mod Allowed
 pub mod Answers
 pub mod Net

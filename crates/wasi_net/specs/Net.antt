@@ -1,20 +1,30 @@
--- What is known of a world of std's sockets: no log and no plan, but which ports it allows and which network sockets it
--- has.
-use Rattle.std.specs.Prelude.{ℕ, Bool, List, None}
+-- What is known of a world of the system's sockets.
+use Rattle.std.specs.Prelude.{ℕ, Bool, None}
 use Rattle.wasi_world.specs.Seen.{Seen}
-use Rattle.wasi_net.specs.declared.net_world.NetWorld.{NetWorld}
+use Rattle.wasi_net.specs.declared.system_world.SystemWorld.{SystemWorld}
+use Rattle.wasi_net.specs.declared.patient.PatientWorld.{PatientWorld}
+use Rattle.wasi_net.specs.Allowed.{Policy, policy_of}
 use Rattle.wasi_net.specs.Known.{Sides, known_sides}
 
 -- a world that reports its end mark, its closings and its count of faults alone
 abbrev pub counts_of : Bool → ℕ → ℕ → Seen
 counts_of ended closings faults = record { log = None; ended = ended; closings = closings; faults = faults; plan = None }
 
-abbrev pub seen_by : {R : Type 0} → NetWorld R → Seen
+abbrev pub seen_by : {S : Type 0} → SystemWorld S → Seen
 seen_by world = counts_of world.ended world.closings world.faults
 
--- the ports that may be bound, listened on and connected to
-abbrev pub ports_of : {R : Type 0} → NetWorld R → List ℕ
-ports_of world = world.network.allowed.ports.items
+-- which addresses may be used
+abbrev pub policy_in : {S : Type 0} → SystemWorld S → Policy
+policy_in world = policy_of world.network.allowed
 
-abbrev pub sides_of : {R : Type 0} → NetWorld R → Sides
+-- the sockets that are open
+abbrev pub sides_of : {S : Type 0} → SystemWorld S → Sides
 sides_of world = known_sides world.network.sides
+
+-- what makes its calls
+abbrev pub system_of : {S : Type 0} → SystemWorld S → S
+system_of world = world.network.system
+
+-- what is known of a world whose looks wait
+abbrev pub patient_seen : {S : Type 0} → PatientWorld S → Seen
+patient_seen patient = seen_by patient.world

@@ -1,17 +1,19 @@
 //! The check: which addresses may be used, by a list of ports.
 
-ghost use Rattle.std.specs.Prelude.{◌≡◌};
-ghost use Rattle.wasi_net.specs.Allowed.{is_loopback, is_any, has_port, allows, verdict};
+ghost use Rattle.std.specs.Prelude.{◌≡◌, false, true};
+ghost use Rattle.wasi_world.specs.Fits.{IsVerdict};
+ghost use Rattle.wasi_net.specs.Allowed.{is_loopback, is_any, has_port, is_near, is_own, has_free, policy_of, allows, verdict};
 
 use wasi_addr::{
     IpAddress, IpSocketAddress, SocketAddrUse, SocketAddressFamily, is_unspecified_addr,
 };
 use wasi_world::Told;
 
-/// The ports that may be bound, listened on and connected to.
+/// The ports that may be used, and whether with any address or with this machine's own alone.
 #[derive(Drop)]
 pub struct Allowed {
     ports: Vec<u16>,
+    anywhere: bool,
 }
 
 /// Whether an address is this machine's own: 127.0.0.0/8, or ::1.
@@ -24,8 +26,7 @@ fn is_loopback(addr: IpAddress) -> bool
     )
 }
 
-/// Whether this is the wildcard, which leaves the address and the port to the system; it is checked
-/// for the bind of a socket that connects unbound.
+/// Whether it leaves address and port to the system, as a socket does that isn't bound before it connects or sends.
 fn is_any(addr: IpSocketAddress) -> bool
     ensures { result ≡ is_any addr }
 {
@@ -34,11 +35,24 @@ fn is_any(addr: IpSocketAddress) -> bool
 }
 
 impl Allowed {
-    /// A check that allows these ports.
-    pub fn new(ports: Vec<u16>) -> Allowed
-        ensures { result.ports ≡ ports }
+    /// These ports on this machine's own addresses.
+    pub fn loopback(ports: Vec<u16>) -> Allowed
+        ensures { policy_of result ≡ record { ports = ports.items; anywhere = false } }
     {
-        Allowed { ports }
+        Allowed {
+            ports,
+            anywhere: false,
+        }
+    }
+
+    /// These ports on every address.
+    pub fn anywhere(ports: Vec<u16>) -> Allowed
+        ensures { policy_of result ≡ record { ports = ports.items; anywhere = true } }
+    {
+        Allowed {
+            ports,
+            anywhere: true,
+        }
     }
 
     fn has_port(&self, addr: IpSocketAddress) -> bool
@@ -47,29 +61,45 @@ impl Allowed {
         self.ports.contains(&addr.port())
     }
 
-    /// Whether the address may be put to this use.
-    ///
-    /// - Only loopback addresses may; a bind, a listen and a connect need an allowed port, too.
-    /// - The wildcard may be bound, since a connect of an unbound socket asks for it. It may not be
-    ///   listened on.
-    /// - An arrival may come from any port.
-    /// - UDP isn't allowed.
+    /// Whether port 0 is allowed, which stands for any that is free.
+    fn has_free(&self) -> bool
+        ensures { result ≡ has_free (policy_of self.now) }
+    {
+        self.ports.contains(&0)
+    }
+
+    fn is_near(&self, addr: IpSocketAddress) -> bool
+        ensures { result ≡ is_near (policy_of self.now) addr }
+    {
+        self.anywhere || is_loopback(addr.ip())
+    }
+
+    fn is_own(&self, addr: IpSocketAddress) -> bool
+        ensures { result ≡ is_own (policy_of self.now) addr }
+    {
+        self.is_near(addr) && self.has_port(addr)
+    }
+
+    /// Whether the address may be put to this use. A bind, a listen, a connect and a send need an allowed port; what arrives
+    /// may come from any. The wildcard may be bound, since a connect or a send that isn't bound asks for it. A socket that
+    /// was bound to port 0, where that is allowed, may listen on the port that it was given.
     pub fn allows(&self, addr: IpSocketAddress, usage: SocketAddrUse) -> bool
-        ensures { result ≡ allows self.now.ports.items addr usage }
+        ensures { result ≡ allows (policy_of self.now) addr usage }
     {
         match usage {
-            SocketAddrUse::TcpBind => is_any(addr) || is_loopback(addr.ip()) && self.has_port(addr),
-            SocketAddrUse::TcpListen | SocketAddrUse::TcpConnect => {
-                is_loopback(addr.ip()) && self.has_port(addr)
+            SocketAddrUse::TcpBind | SocketAddrUse::UdpBind => is_any(addr) || self.is_own(addr),
+            SocketAddrUse::TcpListen => {
+                self.is_near(addr) && (self.has_port(addr) || self.has_free())
             }
-            SocketAddrUse::TcpAccept => is_loopback(addr.ip()),
-            SocketAddrUse::UdpBind | SocketAddrUse::UdpSend | SocketAddrUse::UdpReceive => false,
+            SocketAddrUse::TcpConnect | SocketAddrUse::UdpSend => self.is_own(addr),
+            SocketAddrUse::TcpAccept | SocketAddrUse::UdpReceive => self.is_near(addr),
         }
     }
 
     /// The answer to a check.
     pub fn check(&self, addr: IpSocketAddress, usage: SocketAddrUse) -> Told
-        ensures { result ≡ verdict self.now.ports.items addr usage }
+        ensures told { result ≡ verdict (policy_of self.now) addr usage }
+        ensures fits { IsVerdict result }
     {
         if self.allows(addr, usage) {
             Told::Yes

@@ -1,18 +1,30 @@
-//! The network of std's sockets, as a [`wasi_world::World`]: scripts and guests reach loopback addresses by it.
+//! The network of the system's sockets, as a [`wasi_world::World`]: scripts and guests reach real addresses by it.
 //!
-//! It is the edge to the system: what a socket carries is outside every contract. What is proved is what the trait
-//! asks, that each check is answered by the ports that are allowed, that a call reaches no other network socket than
-//! its own, and which code each call reports where nothing fits it.
+//! What the system does with a call is outside every contract. What is proved is what the trait asks, that each check is
+//! answered by the addresses that are allowed, and for each call on the network which of the system's calls are made, with
+//! which descriptor, address, option and bytes, and what is answered for the system's answers.
 #![tactic(auto)]
 
-mod allowed;
-mod connection;
-mod fault;
-mod listening;
-pub mod net_world;
+pub mod allowed;
+mod answers;
+pub mod calls;
+pub mod descriptor;
+pub mod errno;
+pub mod linux;
 mod network;
-mod options;
-mod side;
+pub mod patient;
+pub mod setting;
+pub mod socket;
+mod storage;
+pub mod system;
+pub mod system_world;
+mod tcp;
+mod udp;
 mod waiting;
 
-pub use net_world::NetWorld;
+pub use allowed::Allowed;
+pub use errno::Errno;
+pub use linux::Linux;
+pub use patient::PatientWorld;
+pub use system::System;
+pub use system_world::SystemWorld;

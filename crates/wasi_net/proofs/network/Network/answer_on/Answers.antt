@@ -6,5 +6,5 @@ use Rattle.wasi_net.proofs.network.Network.answer_on.Goals as goal
 
 pub returns-in-Some-clause-err : goal.returns-in-Some-clause-err
 returns-in-Some-clause-err g c =
-    let found : get name_cmp c.args.self.now.sides c.args.sock ≡ Some c.in-Some.side.now = search rules in
-    lent_same c.answer.result c.args.self.now.sides (c.get_mut.follows.lender c.answer.new.self) c.args.sock c.in-Some.side.now c.answer.new.self found ((c.get_mut.follows.holds c.answer.new.self).3 (search rules)).0 c.answer.ensures.err
+    let found : get name_cmp c.args.self.now.sides c.args.sock ≡ Some c.in-Some.socket.now = search rules in
+    lent_same c.answer.result c.args.self.now.sides (c.get_mut.follows.lender c.answer.new.self) c.args.sock c.in-Some.socket.now c.answer.new.self found ((c.get_mut.follows.holds c.answer.new.self).3 (search rules)).0 c.answer.ensures.known

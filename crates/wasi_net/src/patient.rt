@@ -1,0 +1,93 @@
+//! A world whose looks wait, for programs that do one call after another.
+
+ghost use Rattle.std.specs.Prelude.{◌≡◌, ◌≤◌, ◌<◌, ◌^◌, None, IfOk, OnErr, length, false, true};
+
+use crate::system::System;
+use crate::system_world::SystemWorld;
+use std::alloc::AllocError;
+use wasi_addr::IpSocketAddress;
+use wasi_world::{Call, OpId, Sock, Told, World};
+
+/// A [`SystemWorld`] in which a look for an arrival, for bytes, for a datagram or for the end of a connect waits once where it is pending, for
+/// at most so many milliseconds, and is made again. Reads, writes and sends don't wait.
+#[derive(Drop)]
+pub struct PatientWorld<S> {
+    world: SystemWorld<S>,
+    patience: i32,
+}
+
+/// Whether a call is a look, which waits where it is pending.
+fn is_look(call: &Call) -> bool {
+    matches!(
+        call,
+        Call::Accept { .. } | Call::ReadReady { .. } | Call::Recv { .. } | Call::Connect { .. }
+    )
+}
+
+impl<S> PatientWorld<S> {
+    ghost use Rattle.wasi_net.specs.Net.{seen_by, patient_seen};
+
+    /// This world, with looks that wait so many milliseconds.
+    pub fn new(world: SystemWorld<S>, patience: i32) -> PatientWorld<S>
+        ensures { patient_seen result ≡ seen_by world }
+    {
+        PatientWorld { world, patience }
+    }
+}
+
+impl<S: System> PatientWorld<S> {
+    ghost use Rattle.wasi_world.specs.Fits.{Fits};
+    ghost use Rattle.wasi_net.specs.Net.{patient_seen};
+
+    /// Asks, and once more after a wait where a look is pending.
+    fn ask(&mut self, op: OpId, call: &Call) -> Result<Told, AllocError>
+        ensures fits { IfOk result (Fits call.now) }
+        ensures seen { patient_seen self.new ≡ patient_seen self.old }
+    {
+        let told = self.world.ask(op, call)?;
+        if !matches!(told, Told::Pending) || !is_look(call) {
+            return Ok(told);
+        }
+        self.world.wait(self.patience);
+        self.world.ask(op, call)
+    }
+}
+
+impl<S: System> World for PatientWorld<S> {
+    ghost use Rattle.wasi_world.specs.Asks.{one, AsksFor};
+    ghost use Rattle.wasi_world.specs.Fits.{Fits, IsPlain};
+    ghost use Rattle.wasi_world.specs.Script.{without_plan};
+    ghost use Rattle.wasi_net.specs.Net.{patient_seen};
+
+    ghost seen = { patient_seen };
+
+    ghost scripted = { λ world. without_plan None };
+
+    fn call(&mut self, op: OpId, call: Call) -> Result<Told, AllocError> {
+        let told = self.ask(op, &call)?;
+        self.world.count(&told);
+        Ok(told)
+    }
+
+    fn write(&mut self, op: OpId, sock: Sock, bytes: &[u8]) -> Result<Told, AllocError> {
+        self.world.write(op, sock, bytes)
+    }
+
+    fn send(
+        &mut self,
+        op: OpId,
+        sock: Sock,
+        addr: IpSocketAddress,
+        bytes: &[u8],
+    ) -> Result<Told, AllocError> {
+        self.world.send(op, sock, addr, bytes)
+    }
+
+    fn end(&mut self) {
+        self.world.end();
+    }
+
+    fn close_after_end(&mut self, sock: Sock) {
+        self.world.close_after_end(sock);
+    }
+}

@@ -1,0 +1,220 @@
+#!/usr/bin/env python3
+"""Runs ./live against peers in python3, over loopback addresses alone, and says what was seen.
+
+    examples/live/peers.py [LIVE..]     LIVE: the words that run the program; ./live at the top without
+"""
+
+import os
+import socket
+import struct
+import subprocess
+import sys
+import threading
+import time
+
+TOP = os.path.dirname(os.path.dirname(os.path.dirname(os.path.abspath(__file__))))
+LIVE = sys.argv[1:] or [os.path.join(TOP, "live")]
+# How long a peer waits before it gives up, in seconds.
+PATIENCE = 600
+
+
+def free_port(kind):
+    with socket.socket(socket.AF_INET, kind) as probe:
+        probe.bind(("127.0.0.1", 0))
+        return probe.getsockname()[1]
+
+
+def live(lines, *ports):
+    """Returns the replies to these lines, with these ports allowed."""
+    words = LIVE + ["100000"] + [str(port) for port in ports]
+    text = "".join(line + "\n" for line in lines)
+    done = subprocess.run(words, input=text, capture_output=True, text=True, check=False)
+    if done.returncode != 0:
+        raise SystemExit(f"live ended with {done.returncode}: {done.stderr}")
+    return done.stdout.splitlines()
+
+
+def example(name):
+    with open(os.path.join(TOP, "examples", "live", name), encoding="utf-8") as it:
+        return it.read().splitlines()
+
+
+def same(name, got, wanted):
+    print("ok   " if got == wanted else "WRONG", name, flush=True)
+    if got != wanted:
+        print(f"      {got}\n      in place of\n      {wanted}")
+    return got == wanted
+
+
+def beside(peer):
+    """Starts this peer in a thread."""
+    thread = threading.Thread(target=peer, daemon=True)
+    thread.start()
+    return thread
+
+
+def the_two_scripts():
+    """The script that connects is run again until the one that serves listens."""
+    served = []
+    serving = beside(lambda: served.extend(live(example("serve.script"), 8080)))
+    connected = ["err connection-refused"]
+    while serving.is_alive() and "err connection-refused" in connected:
+        time.sleep(0.1)
+        connected = live(example("connect.script"), 8080)
+    serving.join()
+    # A look before the connection is there is `ok false`, after a second.
+    looks = [reply.replace("ok false", "ok true") for reply in served[:19]]
+    return same("the two scripts", (looks + served[19:], connected), (example("serve.replies"), example("connect.replies")))
+
+
+def connect_from_a_bound_port():
+    own = free_port(socket.SOCK_STREAM)
+    seen = []
+    with socket.create_server(("127.0.0.1", 0)) as server:
+        port = server.getsockname()[1]
+
+        def serve():
+            one, peer = server.accept()
+            seen.extend([peer[1], one.recv(9)])
+            one.close()
+
+        peer = beside(serve)
+        replies = live(
+            [
+                "0 network",
+                "0 tcp-create 4",
+                f"0 tcp-start-bind 2 1 4 127 0 0 1 {own}",
+                "0 tcp-finish-bind 2",
+                f"0 tcp-start-connect 2 1 4 127 0 0 1 {port}",
+                "0 tcp-finish-connect 2",
+                "0 check-write 4",
+                "0 write 4 6869",
+                "0 tcp-shutdown 2 send",
+                "0 subscribe 3",
+                "0 ready 5",
+                "0 read 3 9",
+            ],
+            own,
+            port,
+        )
+        peer.join(PATIENCE)
+    return same("a connect from a bound port", (seen, replies[5], replies[-1]), ([own, b"hi"], "ok 3 4", "closed"))
+
+
+def a_peer_that_resets():
+    with socket.create_server(("127.0.0.1", 0)) as server:
+        port = server.getsockname()[1]
+
+        def serve():
+            one, _ = server.accept()
+            one.recv(9)
+            one.setsockopt(socket.SOL_SOCKET, socket.SO_LINGER, struct.pack("ii", 1, 0))
+            one.close()
+
+        peer = beside(serve)
+        replies = live(
+            [
+                "0 network",
+                "0 tcp-create 4",
+                f"0 tcp-start-connect 2 1 4 127 0 0 1 {port}",
+                "0 tcp-finish-connect 2",
+                "0 check-write 4",
+                "0 write 4 6869",
+                "0 subscribe 3",
+                "0 ready 5",
+                "0 read 3 9",
+                "0 read 3 9",
+            ],
+            port,
+        )
+        peer.join(PATIENCE)
+    return same("a peer that resets", replies[6:], ["ok 5", "ok true", "failed connection-reset 6", "closed"])
+
+
+def a_backlog_of_one_with_ten_connects():
+    port = free_port(socket.SOCK_STREAM)
+    clients = []
+
+    def connect():
+        """The first connect is made again until `live` listens; the other nine wait for nothing."""
+        end = time.monotonic() + PATIENCE
+        while not clients and time.monotonic() < end:
+            try:
+                clients.append(socket.create_connection(("127.0.0.1", port)))
+            except ConnectionRefusedError:
+                time.sleep(0.01)
+        for _ in range(9):
+            one = socket.socket()
+            one.setblocking(False)
+            one.connect_ex(("127.0.0.1", port))
+            clients.append(one)
+
+    peer = beside(connect)
+    replies = live(
+        [
+            "0 network",
+            "0 tcp-create 4",
+            "0 tcp-set 2 listen-backlog-size 1",
+            f"0 tcp-start-bind 2 1 4 127 0 0 1 {port}",
+            "0 tcp-finish-bind 2",
+            "0 tcp-start-listen 2",
+            "0 tcp-finish-listen 2",
+            "0 subscribe 2",
+            "0 ready 3",
+            "0 tcp-accept 2",
+            "0 ready 3",
+            "0 tcp-accept 2",
+        ],
+        port,
+    )
+    peer.join(PATIENCE)
+    for one in clients:
+        one.close()
+    return same("a backlog of one", replies[-4:], ["ok true", "ok 4 5 6", "ok true", "ok 7 8 9"])
+
+
+def datagrams_each_way():
+    own = free_port(socket.SOCK_DGRAM)
+    seen = []
+    with socket.socket(socket.AF_INET, socket.SOCK_DGRAM) as other:
+        other.bind(("127.0.0.1", 0))
+        other.settimeout(PATIENCE)
+        there = other.getsockname()[1]
+
+        def answer():
+            data, sender = other.recvfrom(99)
+            seen.append((data, sender[1]))
+            other.sendto(b"back", sender)
+
+        peer = beside(answer)
+        replies = live(
+            [
+                "0 network",
+                "0 udp-create 4",
+                f"0 udp-start-bind 2 1 4 127 0 0 1 {own}",
+                "0 udp-finish-bind 2",
+                "0 udp-stream 2",
+                "0 udp-check-send 4",
+                f"0 udp-send 4 to 4 127 0 0 1 {there} 6869",
+                "0 subscribe 3",
+                "0 ready 5",
+                "0 udp-receive 3 9",
+            ],
+            own,
+            there,
+        )
+        peer.join(PATIENCE)
+    wanted = ["ok true", f"ok 1 4 127 0 0 1 {there} 6261636b"]
+    return same("a datagram each way", (seen, replies[-2:]), ([(b"hi", own)], wanted))
+
+
+TESTS = [
+    the_two_scripts,
+    connect_from_a_bound_port,
+    a_peer_that_resets,
+    a_backlog_of_one_with_ten_connects,
+    datagrams_each_way,
+]
+
+if __name__ == "__main__":
+    sys.exit(0 if all([test() for test in TESTS]) else 1)
