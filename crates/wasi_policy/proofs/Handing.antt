@@ -1,25 +1,23 @@
 -- What a world under rules asks, and what holds of its log.
-use Rattle.std.specs.Prelude.{filter, IfOk, IfSome, nat_le}
-use Rattle.std.specs.List.{list_all, AllByRecursion}
-use Rattle.std.proofs.Common.{◌≡◌, ℕ, ◌+◌, ◌≤◌, ◌^◌, ◌<◌, ◌&&◌, Bool, true, false, not, List, [], ◌∷◌, ◌++◌, length, map, Option, Some, None, option_map, Result, Ok, Err, arith, ap, sym, ◌∙◌, refl, append-nil, length-append, unwrap_or, subst}
+use Rattle.std.specs.Prelude.{filter, IfSome}
+use Rattle.std.specs.List.{AllByRecursion}
+use Rattle.std.proofs.Common.{◌≡◌, ℕ, ◌+◌, Bool, true, false, not, List, [], ◌∷◌, ◌++◌, length, Option, Some, None, option_map, Result, Ok, Err, arith, ap, sym, ◌∙◌, refl, append-nil, length-append, unwrap_or}
 use Rattle.std.specs.declared.alloc.AllocError.{AllocError}
 use Rattle.std.proofs.lemmas.Bool.{and_parts, false≢true}
 use Rattle.std.proofs.lemmas.List.Folds.{list_all-append}
-use Rattle.wasi_addr.specs.declared.address.IpSocketAddress.{IpSocketAddress}
-use Rattle.wasi_addr.specs.declared.address.SocketAddrUse.{SocketAddrUse}
 use Rattle.wasi_world.specs.declared.ids.OpId.{OpId}
 use Rattle.wasi_world.specs.declared.call.Call.{Call}
 use Rattle.wasi_world.specs.declared.call.Call.TheVariants as call
 use Rattle.wasi_world.specs.declared.call.Told.{Told}
 use Rattle.wasi_world.specs.declared.call.Told.TheVariants as told
 use Rattle.wasi_world.specs.declared.call.Entry.{Entry}
-use Rattle.wasi_world.specs.Seen.{Seen, Passes, CountsAll}
-use Rattle.wasi_world.specs.Asks.{Asks, Give, Ask, AskWrite, one, one_write, IsCall, Left, Reaches, Started, AsksFor}
+use Rattle.wasi_world.specs.Seen.{Seen, Passes}
+use Rattle.wasi_world.specs.Asks.{Asks, Give, Ask, AskWrite, one, one_write, Left, Reaches, AsksFor}
 use Rattle.wasi_world.specs.Fits.{Fits}
 use Rattle.wasi_policy.specs.declared.denied.Denied.{Denied}
 use Rattle.wasi_policy.specs.declared.rule.Rule.{Rule}
 use Rattle.wasi_policy.specs.Decision.{decision}
-use Rattle.wasi_policy.specs.Policed.{denies, is_no, is_denied, is_handed, merged_from, merged, rises, seen_under, IsUnder, Keeps, IsAllowed, IsPoliced}
+use Rattle.wasi_policy.specs.Policed.{denies, is_no, is_denied, is_handed, merged, rises, seen_under, IsUnder, Keeps, IsAllowed, IsPoliced}
 use Rattle.wasi_policy.proofs.Merging.{rises_more, rises_and, merged_more, merged_and, filter_merged, filter_denied, all_merged, all_from, none_of, all_of}
 
 -- == a call that is handed on
@@ -215,8 +213,8 @@ policed rules denied handed seen inner log under is told =
     let log_is : log ≡ merged denied inner = some_is log (merged denied inner) (sym told ∙ ap (option_map (merged denied)) is) in
     let passed = under.passed inner is in
     let keeps = all_merged (Keeps rules) 0 denied inner
-        (all_from (λ (d : Denied). is_denied rules d.entry) (λ (d : Denied). Keeps rules d.entry) denied (λ d h. keeps_denied rules d.entry h) under.refused)
-        (all_from (is_handed rules) (Keeps rules) inner (keeps_handed rules) passed) in
+    (all_from (λ (d : Denied). is_denied rules d.entry) (λ (d : Denied). Keeps rules d.entry) denied (λ d h. keeps_denied rules d.entry h) under.refused)
+    (all_from (is_handed rules) (Keeps rules) inner (keeps_handed rules) passed) in
     record {
       log_is = log_is;
       handed = ap (filter (is_handed rules)) log_is ∙ (filter_merged (is_handed rules) 0 denied inner

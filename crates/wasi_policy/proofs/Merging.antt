@@ -1,13 +1,12 @@
 -- Laws of a log with denied checks put in.
 use Rattle.std.specs.Prelude.{filter}
 use Rattle.std.specs.List.{list_all, AllByRecursion}
-use Rattle.std.proofs.Common.{◌≡◌, ℕ, ◌+◌, ◌-◌, ◌≤◌, ◌&&◌, Bool, true, false, not, cond, List, [], ◌∷◌, ◌++◌, take, drop, length, map, arith, ap, sym, ◌∙◌, refl, append_assoc, append-nil}
+use Rattle.std.proofs.Common.{◌≡◌, ℕ, ◌+◌, ◌-◌, ◌≤◌, Bool, true, false, not, List, [], ◌∷◌, ◌++◌, take, drop, length, map, arith, ap, sym, ◌∙◌, refl, append_assoc}
 use Rattle.std.specs.Prelude.{nat_le}
 use Rattle.std.proofs.lemmas.Bool.{and_parts, false≢true}
 use Rattle.std.proofs.lemmas.Bool.Decides.{nat_tests}
-use Rattle.std.proofs.lemmas.List.{take-append-le, drop-append-le, take-append-drop, take_all, length-append, length-drop}
+use Rattle.std.proofs.lemmas.List.{take-append-le, drop-append-le, take-append-drop, take_all, length-drop}
 use Rattle.std.proofs.lemmas.List.Elements.{filter-append}
-use Rattle.std.proofs.lemmas.List.Folds.{list_all-append}
 use Rattle.wasi_world.specs.declared.call.Entry.{Entry}
 use Rattle.wasi_policy.specs.declared.denied.Denied.{Denied}
 use Rattle.wasi_policy.specs.Policed.{merged_from, rises}
@@ -106,9 +105,9 @@ filter_denied p at (d ∷ ds) log all none =
     filter-append p (take (d.place - at) log) (d.entry ∷ merged_from d.place ds (drop (d.place - at) log))
     ∙ (rw both.0 (filter_one p d.entry _ all.0 ∙ ap (λ xs. d.entry ∷ xs) (filter_denied p d.place ds (drop (d.place - at) log) all.1 both.1)))
   where
-  no_parts : (xs ys : List Entry) → xs ++ ys ≡ [] → (xs ≡ []) × (ys ≡ [])
-  no_parts [] ys h = (refl, h)
-  no_parts (x ∷ xs) ys h = cc
+    no_parts : (xs ys : List Entry) → xs ++ ys ≡ [] → (xs ≡ []) × (ys ≡ [])
+    no_parts [] ys h = (refl, h)
+    no_parts (x ∷ xs) ys h = cc
 
 -- == what holds of each entry
 all_both : (P : Entry → Type 0) (xs ys : List Entry) → AllByRecursion P xs → AllByRecursion P ys → AllByRecursion P (xs ++ ys)
@@ -137,9 +136,9 @@ none_of p (e ∷ log) h =
     let both = and_parts (not (p e)) _ h in
     filter_other p e log (no (p e) both.0) ∙ none_of p log both.1
   where
-  no : (b : Bool) → not b ≡ true → b ≡ false
-  no true h = absurd (false≢true h)
-  no false h = refl
+    no : (b : Bool) → not b ≡ true → b ≡ false
+    no true h = absurd (false≢true h)
+    no false h = refl
 
 pub all_of : (p : Entry → Bool) (log : List Entry) → list_all p log ≡ true → filter p log ≡ log
 all_of p log h = filter_all p log h

@@ -1,5 +1,5 @@
 -- Rules are read exactly as they are written.
-use Rattle.std.specs.Prelude.{◌&&◌, nat_le, ◌↔◌, codes}
+use Rattle.std.specs.Prelude.{nat_le, ◌↔◌, codes}
 use Rattle.std.proofs.Common.{◌≡◌, ℕ, ◌^◌, ◌<◌, ◌≤◌, Bool, true, false, cond, List, [], ◌∷◌, ◌++◌, bytes_eq, map, Option, Some, None, decimal, arith, ap, sym, ◌∙◌, refl, IsTrue, append-nil, append_assoc, subst}
 use Rattle.std.specs.List.{list_all}
 use Rattle.std.proofs.lemmas.Bool.Decides.{nat_tests}
@@ -11,9 +11,9 @@ use Rattle.wasi_addr.specs.declared.address.IpAddress.{IpAddress}
 use Rattle.wasi_addr.specs.declared.address.IpAddress.TheVariants as ip
 use Rattle.wasi_addr.specs.declared.address.SocketAddrUse.{SocketAddrUse}
 use Rattle.wasi_addr.specs.declared.address.SocketAddrUse.TheVariants as usage
-use Rattle.wasi_world.specs.Fields.{read_then, field_at, number_at, ip_at, whole, fields_of, line_with}
+use Rattle.wasi_world.specs.Fields.{number_at, ip_at, whole, fields_of, line_with}
 use Rattle.wasi_world.specs.Written.{ipv4_numbers, ipv6_numbers, ReadsExactly, ip_fields, FitsIp, AreVisible, IsVisible, is_visible, number_fields}
-use Rattle.wasi_world.proofs.Exactly.{All, Only, exactly, all_give, only_give, all_some, only_some, all_then, only_then, field_exactly, number_exactly}
+use Rattle.wasi_world.proofs.Exactly.{Only, exactly, all_give, only_give, all_some, only_some, all_then, only_then, field_exactly, number_exactly}
 use Rattle.wasi_world.proofs.ReadBack.{ip_exactly, named_is}
 use Rattle.wasi_world.proofs.Visible.{fields_of_line, line_of_fields, visible_line, number_visible}
 use Rattle.wasi_policy.specs.declared.grammar.TheConstants.{ACTIONS, USES}
@@ -172,15 +172,32 @@ net_visible (net.Ipv4 (a, b, c, d) len) more fits h =
     let byte = λ (n : ℕ) (f : n ≤ 255). small_visible n 255 f (omega arith) in
     (number_visible 4 (omega arith), (byte a fits.0.0, (byte b fits.0.1, (byte c fits.0.2, (byte d fits.0.3, (small_visible len 32 fits.1 (omega arith), h))))))
 net_visible (net.Ipv6 (a, b, c, d, e, f, g, i) len) more fits h =
-    let segment = λ (n : ℕ) (k : n ≤ 65535). small_visible n 65535 k (omega arith) in
-    (number_visible 6 (omega arith), (segment a fits.0.0, (segment b fits.0.1, (segment c fits.0.2, (segment d fits.0.3,
-    (segment e fits.0.4, (segment f fits.0.5, (segment g fits.0.6, (segment i fits.0.7, (small_visible len 128 fits.1 (omega arith), h))))))))))
+    let segment = λ (n : ℕ) (k : n ≤ 65535). small_visible n 65535 k (omega arith) in (
+      number_visible 6 (omega arith),
+      (
+        segment a fits.0.0,
+        (
+          segment b fits.0.1,
+          (
+            segment c fits.0.2,
+            (
+              segment d fits.0.3,
+              (segment e fits.0.4, (segment f fits.0.5, (segment g fits.0.6, (segment i fits.0.7, (small_visible len 128 fits.1 (omega arith), h))))),
+            ),
+          ),
+        ),
+      ),
+    )
 
 rule_visible : (rule : Rule) → IsRule rule → AreVisible (rule_fields rule)
-rule_visible rule fits =
-    (action_visible rule.action, (uses_visible rule.usage,
+rule_visible rule fits = (
+  action_visible rule.action,
+  (
+    uses_visible rule.usage,
     net_visible rule.net (decimal rule.low ∷ decimal rule.high ∷ []) fits.0
-    (number_visible rule.low (omega (arith, fits.1, fits.2)), (number_visible rule.high (omega (arith, fits.2)), tt))))
+        (number_visible rule.low (omega (arith, fits.1, fits.2)), (number_visible rule.high (omega (arith, fits.2)), tt)),
+  ),
+)
 
 some_fields : (rule : Rule) → rule_fields rule ≡ [] → ⊥
 some_fields rule h = cc

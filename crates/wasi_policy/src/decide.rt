@@ -1,20 +1,10 @@
 //! Whether a rule matches, and the first that does.
 
 ghost use Rattle.std.specs.Prelude.{◌≡◌, ◌+◌, ◌*◌, ◌<◌, ◌^◌, length};
-ghost use Rattle.wasi_policy.specs.Explained.{explanation};
 ghost use Rattle.wasi_policy.specs.Decision.{ipv4_number, ipv6_number, agree, is_in, is_about, matches, allows, decision};
 
-use crate::rule::{Action, Decision, Explanation, Net, Rule};
+use crate::rule::{Action, Decision, Net, Rule};
 use wasi_addr::{IpAddress, IpSocketAddress, SocketAddrUse};
-
-/// What holds where no rule matches.
-const LAST_RULE: Rule = Rule {
-    action: Action::Deny,
-    usage: None,
-    net: Net::Any,
-    low: 0,
-    high: u16::MAX,
-};
 
 /// Four bytes as one number, the first byte highest.
 pub fn ipv4_number(address: (u8, u8, u8, u8)) -> u32
@@ -119,30 +109,5 @@ pub fn decide_by_scan(rules: &[Rule], address: IpSocketAddress, usage: SocketAdd
     Decision {
         allow: false,
         rule: 0,
-    }
-}
-
-/// The first rule that matches, by a look at each in turn; where none does, the one that denies everything. Takes no memory.
-pub fn explain_by_scan(
-    rules: &[Rule],
-    address: IpSocketAddress,
-    usage: SocketAddrUse,
-) -> Explanation
-    requires { length rules.now < 2 ^ 32 }
-    ensures rule { result ≡ explanation rules.now address usage }
-    ensures line { result.line ≡ (decision rules.now address usage).rule }
-    ensures action { allows result.rule.action ≡ (decision rules.now address usage).allow }
-{
-    for (at, rule) in rules.iter().enumerate() {
-        if matches(rule, address, usage) {
-            return Explanation {
-                line: at as u32 + 1,
-                rule: *rule,
-            };
-        }
-    }
-    Explanation {
-        line: 0,
-        rule: LAST_RULE,
     }
 }

@@ -4,6 +4,7 @@
 
 pub mod decide;
 pub mod denied;
+pub mod explain;
 pub mod grammar;
 pub mod parse;
 pub mod policy;

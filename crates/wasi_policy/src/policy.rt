@@ -6,7 +6,8 @@ ghost use Rattle.wasi_policy.specs.Explained.{explanation};
 ghost use Rattle.wasi_policy.specs.Grammar.{rules_of};
 ghost use Rattle.wasi_policy.specs.Parsed.{bad_line};
 
-use crate::decide::{decide_by_scan, explain_by_scan};
+use crate::decide::decide_by_scan;
+use crate::explain::explain_by_scan;
 use crate::parse::{RulesError, rules_within};
 use crate::rule::{Decision, Explanation, Rule};
 use std::alloc::Global;

@@ -22,6 +22,7 @@ pub trait Rules {
     ghost use Rattle.wasi_policy.specs.declared.rule.Rule.{Rule};
 
     ghost rules: { List Rule };
+
     ghost plan: { Option Plan };
 }
 
@@ -29,6 +30,7 @@ impl Rules for Brand {
     ghost use Rattle.std.specs.Prelude.{[], None};
 
     ghost rules = { [] };
+
     ghost plan = { None };
 }
 

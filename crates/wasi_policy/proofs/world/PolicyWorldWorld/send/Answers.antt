@@ -1,4 +1,4 @@
-use Rattle.std.proofs.Common.{length, length-append, refl, ap, ◌∙◌, ◌≡◌, ◌+◌, Ok, sym}
+use Rattle.std.proofs.Common.{length, length-append, refl, ap, ◌∙◌, ◌≡◌, ◌+◌, Ok}
 use Rattle.wasi_world.specs.Asks.{one}
 use Rattle.wasi_world.specs.declared.call.Call.TheVariants.{Send}
 use Rattle.wasi_world.proofs.Walks.{asks_none}

@@ -1,4 +1,4 @@
-use Rattle.std.proofs.Common.{length, length-append, refl, ap, ◌∙◌, ◌≡◌, ◌+◌, Ok, sym}
+use Rattle.std.proofs.Common.{length, length-append, refl, ap, ◌∙◌, ◌≡◌, ◌+◌, Ok}
 use Rattle.wasi_world.specs.Asks.{one_write}
 use Rattle.wasi_world.proofs.Walks.{asks_none}
 use Rattle.wasi_policy.specs.Policed.{seen_under}

@@ -1,7 +1,7 @@
 use Rattle.std.proofs.Common.{◌≡◌, ◌+◌, drop}
 use Rattle.wasi_policy.specs.Decision.{decided_from}
 use Rattle.wasi_policy.specs.Explained.{explained_from}
-use Rattle.wasi_policy.proofs.decide.explain_by_scan.Given as goal
+use Rattle.wasi_policy.proofs.explain.explain_by_scan.Given as goal
 
 abbrev pub invariant-loop-at : goal.invariant-loop-at
 invariant-loop-at l = record {
