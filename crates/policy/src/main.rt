@@ -1,5 +1,5 @@
-//! The program `policy`: answers questions about the rules of `rules.txt`, or runs a script of `wasi:sockets` calls under them,
-//! over the scripted network of `scenario.txt`.
+//! The program `policy`: answers questions about the rules of `rules.txt`, or runs a script of
+//! `wasi:sockets` calls under them, over the scripted network of `scenario.txt`.
 #![tactic(auto)]
 
 ghost use Rattle.std.specs.Prelude.{◌≡◌};
@@ -89,7 +89,8 @@ fn is_run(words: &[String]) -> bool {
     }
 }
 
-/// Prints how it ended on standard error, with the bad line of the rules, the scenario or the input, and ends so.
+/// Prints how it ended on standard error, with the bad line of the rules, the scenario or the
+/// input, and ends so.
 fn stop<R: Eprint + Files, I>(
     rt: &R,
     words: &[String],
@@ -111,16 +112,13 @@ fn stop<R: Eprint + Files, I>(
 }
 
 /// Prints how it ended where that is no line of rules or of questions.
-fn stop_with<R: Eprint + Files, I>(
-    rt: &R,
-    number: u8,
-    line: u32,
-    input: &LineSource<I>,
-) -> ExitCode
+fn stop_with<R: Eprint + Files, I>(rt: &R, number: u8, line: u32, input: &LineSource<I>) -> ExitCode
     ensures { exit_status result ≡ number }
 {
     let Some(status) = Status::of_number(number) else {
-        let printed = eprintln!(rt; "status {number}\nrules.txt in this folder can't be opened and read");
+        let printed = eprintln!(rt;
+            "status {number}\nrules.txt in this folder can't be opened and read"
+        );
         let _ = printed;
         return ExitCode::from(number);
     };

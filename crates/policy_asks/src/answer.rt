@@ -11,18 +11,16 @@ use wasi_policy::{Decision, Policy};
 /// What a question is answered with.
 #[derive(Clone, Copy, Debug, PartialEq, Eq)]
 pub enum Form {
-    /// `allow N` or `deny N`, where N is the line of the rule that decided; 0 where no rule matches.
+    /// `allow N` or `deny N`, where N is the line of the rule that decided; 0 where no rule
+    /// matches.
     Decision,
-    /// `N RULE`: the line of the rule that decided, and that rule; `0 deny any any 0 65535` where no rule matches.
+    /// `N RULE`: the line of the rule that decided, and that rule; `0 deny any any 0 65535` where
+    /// no rule matches.
     Rule,
 }
 
 /// `allow N` or `deny N`, with its newline.
-fn decision_line(
-    alloc: Global,
-    policy: &Policy,
-    question: Question,
-) -> Result<String, AllocError>
+fn decision_line(alloc: Global, policy: &Policy, question: Question) -> Result<String, AllocError>
     ensures { IfOk result (λ text. string_bytes text ≡ answer_line policy.now Form.Decision question) }
 {
     let decision = policy.decide(question.address, question.usage);

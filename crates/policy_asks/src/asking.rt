@@ -64,7 +64,8 @@ fn answer_one<K: Sink>(
     Ok(())
 }
 
-/// Answers the whole lines of a text; returns the number of a last line without its newline, if there is one.
+/// Answers the whole lines of a text; returns the number of a last line without its newline, if
+/// there is one.
 fn answer_lines<K: Sink>(
     alloc: Global,
     policy: &Policy,
@@ -78,7 +79,14 @@ fn answer_lines<K: Sink>(
     let mut number: u64 = 1;
     let mut at = 0;
     while let Some(end) = newline_at(&text[at..]) {
-        answer_one(alloc, policy, form, number as u32, &text[at..at + end], sink)?;
+        answer_one(
+            alloc,
+            policy,
+            form,
+            number as u32,
+            &text[at..at + end],
+            sink,
+        )?;
         number += 1;
         at += end + 1;
     }
@@ -96,8 +104,9 @@ fn first_bytes(bytes: &[u8], limit: usize) -> &[u8]
     &bytes[..bytes.len().min(limit)]
 }
 
-/// Reads questions to the end, to the limit or to a read that fails, and writes an answer for each line, up to the first that is
-/// no question. The sink isn't flushed. Takes memory for what was read and for an answer at a time.
+/// Reads questions to the end, to the limit or to a read that fails, and writes an answer for each
+/// line, up to the first that is no question. The sink isn't flushed. Takes memory for what was
+/// read and for an answer at a time.
 pub fn ask<S: Source, K: Sink>(
     alloc: Global,
     policy: &Policy,

@@ -26,7 +26,8 @@ fn take_question(fields: &mut Fields<'_>) -> Option<Question>
     Some(Question { usage, address })
 }
 
-/// The question that a line is, without its newline; none where it is none. The use `any` makes no question.
+/// The question that a line is, without its newline; none where it is none. The use `any` makes no
+/// question.
 #[tactic(auto, unfolding(crate::specs::Question::question_in))]
 pub fn parse_question(line: &[u8]) -> Option<Question>
     ensures { result ≡ question_in line.now }

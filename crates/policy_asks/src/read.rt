@@ -20,7 +20,8 @@ pub enum ReadEnd {
     Fault,
 }
 
-/// Reads to the end, or to one byte behind the limit, or to a read that fails. Takes memory for what was read.
+/// Reads to the end, or to one byte behind the limit, or to a read that fails. Takes memory for
+/// what was read.
 pub fn read_text<S: Source>(
     alloc: Global,
     source: &mut S,

@@ -5,8 +5,8 @@ ghost use Rattle.policy_asks.specs.Io.{TookAll, TookFront};
 
 use wasi_world::{Failed, Sink};
 
-/// Writes all the bytes, in as many pieces as it takes. It fails where the sink counts a fault or takes nothing of a piece.
-/// Takes no memory.
+/// Writes all the bytes, in as many pieces as it takes. It fails where the sink counts a fault or
+/// takes nothing of a piece. Takes no memory.
 pub fn write_all<K: Sink>(sink: &mut K, bytes: &[u8]) -> Result<(), Failed>
     ensures all { OnOk result (TookAll (K.writing sink.old) (K.writing sink.new) bytes.now) }
     ensures front { OnErr result (TookFront (K.writing sink.old) (K.writing sink.new) bytes.now) }

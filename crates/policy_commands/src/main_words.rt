@@ -13,9 +13,9 @@ use wasi_program::Status;
 use wasi_program::program::{Unread, read_scenario};
 use wasi_world::{Entry, Sink, Source};
 
-/// What the program gives back. `line` is the bad line of statuses 2, 3 and 16, else 0. `inner` is the log of the world that
-/// the rules handed on to, and `denied` the checks that they denied, each with its place in it; both are empty where no run
-/// began.
+/// What the program gives back. `line` is the bad line of statuses 2, 3 and 16, else 0. `inner` is
+/// the log of the world that the rules handed on to, and `denied` the checks that they denied, each
+/// with its place in it; both are empty where no run began.
 #[derive(Drop)]
 pub struct PolicyDone<S, K> {
     pub status: u8,
@@ -64,9 +64,7 @@ fn do_command<C: Source, S: Source, K: Sink>(
 {
     match command {
         Command::Run(limit) => run_scenario(alloc, policy, limit, scenario, source, sink),
-        Command::Ask(form, limit) => {
-            answer_questions(alloc, &policy, form, limit, source, sink)
-        }
+        Command::Ask(form, limit) => { answer_questions(alloc, &policy, form, limit, source, sink) }
     }
 }
 
@@ -87,13 +85,14 @@ fn do_under_rules<R: Source, C: Source, S: Source, K: Sink>(
     }
 }
 
-/// Does what the program's words say. `run LIMIT` runs the script that the source gives, of at most LIMIT bytes, under the rules
-/// over the scenario's world; replies go to the sink. `ask LIMIT` answers the questions that the source gives, of at most LIMIT
-/// bytes: what the rules decide, and by which line. `explain LIMIT` answers them with the rule that decided. Other words are
-/// status 1.
+/// Does what the program's words say. `run LIMIT` runs the script that the source gives, of at most
+/// LIMIT bytes, under the rules over the scenario's world; replies go to the sink. `ask LIMIT`
+/// answers the questions that the source gives, of at most LIMIT bytes: what the rules decide, and
+/// by which line. `explain LIMIT` answers them with the rule that decided. Other words are status
+/// 1.
 ///
-/// The words are tested first, then the rules are read whole (a failed read is status 17) and parsed (status 16), and then for
-/// `run` the scenario (statuses 8 and 2).
+/// The words are tested first, then the rules are read whole (a failed read is status 17) and
+/// parsed (status 16), and then for `run` the scenario (statuses 8 and 2).
 pub fn policy_main<R: Source, C: Source, S: Source, K: Sink>(
     alloc: Global,
     words: &[String],
@@ -107,9 +106,7 @@ pub fn policy_main<R: Source, C: Source, S: Source, K: Sink>(
 {
     let ended = match command_in(words) {
         None => Ended::without_run(alloc, PolicyStatus::Of(Status::BadWords), 0),
-        Some(command) => {
-            do_under_rules(alloc, command, rules, scenario, &mut source, &mut sink)
-        }
+        Some(command) => { do_under_rules(alloc, command, rules, scenario, &mut source, &mut sink) }
     };
     PolicyDone {
         status: ended.status.number(),

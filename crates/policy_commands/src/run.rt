@@ -167,5 +167,9 @@ pub fn answer_questions<S: Source, K: Sink>(
     ensures { AsksEnd policy.now form limit (S.reading source.old) (S.reading source.new) (K.writing sink.old) (K.writing sink.new) result.denied.items result.inner.items result.line result.status }
 {
     let outcome = ask(alloc, policy, form, limit, source, sink);
-    Ended::without_run(alloc, PolicyStatus::of_ask(outcome), bad_line_of_ask(outcome))
+    Ended::without_run(
+        alloc,
+        PolicyStatus::of_ask(outcome),
+        bad_line_of_ask(outcome),
+    )
 }

@@ -17,7 +17,8 @@ const LAST_RULE: Rule = Rule {
     high: u16::MAX,
 };
 
-/// The first rule that matches, by a look at each in turn; where none does, the one that denies everything. Takes no memory.
+/// The first rule that matches, by a look at each in turn; where none does, the one that denies
+/// everything. Takes no memory.
 pub fn explain_by_scan(
     rules: &[Rule],
     address: IpSocketAddress,

@@ -163,11 +163,12 @@ pub fn parse_rule(line: &[u8]) -> Option<Rule>
     if fields.is_done() { Some(rule) } else { None }
 }
 
-/// A line is a rule exactly where it is that rule's line, and that rule has numbers in their ranges and its least port not
-/// above its greatest. Nothing but visible ASCII characters and spaces is in it.
+/// A line is a rule exactly where it is that rule's line, and that rule has numbers in their ranges
+/// and its least port not above its greatest. Nothing but visible ASCII characters and spaces is in
+/// it.
 ///
-/// What a rule is displayed as is its line. It runs no code: its contract is a law about the definitions by which the grammar is
-/// stated.
+/// What a rule is displayed as is its line. It runs no code: its contract is a law about the
+/// definitions by which the grammar is stated.
 pub fn rules_are_read_exactly()
     ensures exactly { (line : List ℕ) (rule : Rule) → (rule_in line ≡ Some rule) ↔ ((line ≡ rule_line rule) × IsRule rule) }
     ensures visible { (line : List ℕ) (rule : Rule) → rule_in line ≡ Some rule → IsVisible line }

@@ -1,5 +1,5 @@
-//! Rules that decide which addresses sockets may use: their grammar, the decision by the first rule that matches, and a
-//! world that answers address checks by them.
+//! Rules that decide which addresses sockets may use: their grammar, the decision by the first rule
+//! that matches, and a world that answers address checks by them.
 #![tactic(auto)]
 
 pub mod decide;

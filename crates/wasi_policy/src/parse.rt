@@ -13,8 +13,8 @@ use wasi_world::scenario::newline_at;
 /// Why rules weren't read.
 #[derive(Clone, Copy, Debug, PartialEq, Eq, Error)]
 pub enum RulesError {
-    /// The first line that isn't in the grammar, counted from 1: also a last line without its newline, and the line
-    /// that holds byte 1,048,577.
+    /// The first line that isn't in the grammar, counted from 1: also a last line without its
+    /// newline, and the line that holds byte 1,048,577.
     #[error("line {0} of the rules is not in their grammar")]
     BadRules(u32),
     #[error("memory ran out")]

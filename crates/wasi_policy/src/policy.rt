@@ -51,16 +51,16 @@ impl Policy {
         self.rules.as_slice()
     }
 
-    /// What the rules decide of this use of this address: the action of the first rule that matches, with its line; deny with
-    /// line 0 where none does. Takes no memory.
+    /// What the rules decide of this use of this address: the action of the first rule that
+    /// matches, with its line; deny with line 0 where none does. Takes no memory.
     pub fn decide(&self, address: IpSocketAddress, usage: SocketAddrUse) -> Decision
         ensures { result ≡ decision self.now address usage }
     {
         decide_by_scan(self.rules.as_slice(), address, usage)
     }
 
-    /// The first rule that matches, with its line; where none does, line 0 and the rule that denies everything. It is the rule
-    /// that decides. Takes no memory.
+    /// The first rule that matches, with its line; where none does, line 0 and the rule that denies
+    /// everything. It is the rule that decides. Takes no memory.
     pub fn explain(&self, address: IpSocketAddress, usage: SocketAddrUse) -> Explanation
         ensures rule { result ≡ explanation self.now address usage }
         ensures line { result.line ≡ (decision self.now address usage).rule }

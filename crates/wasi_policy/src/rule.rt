@@ -18,8 +18,9 @@ pub enum Net {
     Any,
     /// The IPv4 addresses that agree with this one in so many leading bits, at most 32.
     Ipv4((u8, u8, u8, u8), u8),
-    /// The IPv6 addresses that agree with this one in so many leading bits, at most 128. An IPv4 address that is mapped
-    /// into IPv6 is matched as IPv4, so a prefix within `::ffff:0:0/96` matches nothing.
+    /// The IPv6 addresses that agree with this one in so many leading bits, at most 128. An IPv4
+    /// address that is mapped into IPv6 is matched as IPv4, so a prefix within `::ffff:0:0/96`
+    /// matches nothing.
     Ipv6((u16, u16, u16, u16, u16, u16, u16, u16), u8),
 }
 

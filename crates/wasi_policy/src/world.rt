@@ -13,9 +13,10 @@ use std::marker::{Brand, PhantomData};
 use wasi_addr::IpSocketAddress;
 use wasi_world::{Call, Entry, OpId, Sock, Told, World};
 
-/// What proofs know of a [`PolicyWorld`] besides its log: its rules, and the plan of the world that it hands on to. A caller
-/// reads a [`Policy`] and calls a function that is generic in `Rules`, at [`Brand`], for which its proof picks these; the
-/// function makes the world, uses it and takes it apart.
+/// What proofs know of a [`PolicyWorld`] besides its log: its rules, and the plan of the world that
+/// it hands on to. A caller reads a [`Policy`] and calls a function that is generic in `Rules`, at
+/// [`Brand`], for which its proof picks these; the function makes the world, uses it and takes it
+/// apart.
 pub trait Rules {
     ghost use Rattle.std.specs.Prelude.{List, Option};
     ghost use Rattle.wasi_world.specs.Seen.{Plan};
@@ -38,10 +39,11 @@ impl Rules for Brand {
 #[derive(Clone, Copy)]
 struct Handed;
 
-/// A world round another one. A check that its rules deny is told no, and isn't handed on; every other call is handed on, and
-/// has the inner world's answer.
+/// A world round another one. A check that its rules deny is told no, and isn't handed on; every
+/// other call is handed on, and has the inner world's answer.
 ///
-/// Its log is the inner world's, with each denied check put in at its place: it copies no entry that it hands on.
+/// Its log is the inner world's, with each denied check put in at its place: it copies no entry
+/// that it hands on.
 #[derive(Drop)]
 pub struct PolicyWorld<W: World, R: Rules> {
     policy: Policy,
