@@ -10,7 +10,7 @@ use std::process::ExitCode;
 use std::rt::Files;
 use wasi_console::{Front, LineSource, end, line_of, print, words};
 use wasi_program::{Choice, ShownLine, Status, choice_in, scenario_path, shown_line};
-use wasi_world::{FileSource, StdSink, StdSource};
+use world_io::{FileSource, StdSink, StdSource};
 
 const VERSION: &str = "policy 0.1.0\n";
 

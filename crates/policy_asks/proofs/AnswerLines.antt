@@ -3,9 +3,9 @@ use Rattle.std.proofs.Common.{◌≡◌, ℕ, ◌+◌, ◌-◌, ◌^◌, ◌<◌
 use Rattle.std.specs.Prelude.{Result}
 use Rattle.std.specs.List.{position}
 use Rattle.std.proofs.lemmas.List.{drop-drop, take_rest, take-append-le, take_all}
-use Rattle.wasi_world.specs.Io.{Writing, Took, SameCounts, CountRose}
-use Rattle.wasi_world.specs.Lines.{lines_of, rest_of}
-use Rattle.wasi_world.proofs.LinesOf.{Cut, NoCut, cut_at, no_cut, cut_line, cut_after, cut_within}
+use Rattle.world_io.specs.Io.{Writing, Took, SameCounts, CountRose}
+use Rattle.world_text.specs.Lines.{lines_of, rest_of}
+use Rattle.world_text.proofs.LinesOf.{Cut, NoCut, cut_at, no_cut, cut_line, cut_after, cut_within}
 use Rattle.wasi_policy.specs.declared.rule.Rule.{Rule}
 use Rattle.policy_asks.specs.declared.answer.Form.{Form}
 use Rattle.policy_asks.specs.declared.asking.AskError.{AskError}

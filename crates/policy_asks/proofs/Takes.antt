@@ -3,7 +3,7 @@ use Rattle.std.proofs.Common.{◌≡◌, ◌∙◌, ap, sym, ℕ, ◌+◌, ◌-�
 use Rattle.std.specs.Prelude.{option_map}
 use Rattle.std.proofs.lemmas.List.{take_rest, length-take}
 use Rattle.wasi_world.specs.Seen.{Rose}
-use Rattle.wasi_world.specs.Io.{Reading, Writing, Gave, Took, SameCounts, CountRose, TookSome, GaveSome, GaveNone}
+use Rattle.world_io.specs.Io.{Reading, Writing, Gave, Took, SameCounts, CountRose, TookSome, GaveSome, GaveNone}
 use Rattle.std.proofs.Math.Seq.{take-add}
 
 grown : (old mid new : Option (List ℕ)) (xs ys : List ℕ) → mid ≡ option_map (λ w. w ++ xs) old → new ≡ option_map (λ w. w ++ ys) mid → new ≡ option_map (λ w. w ++ (xs ++ ys)) old

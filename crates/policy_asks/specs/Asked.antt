@@ -1,7 +1,7 @@
 -- What is written for a text of questions, and where it stops.
 use Rattle.std.specs.Prelude.{◌≡◌, ℕ, ◌+◌, ◌⊎◌, List, [], ◌∷◌, ◌++◌, take, length, Option, Some, None, Result, Ok, Err}
-use Rattle.wasi_world.specs.Io.{Reading, Writing, Took}
-use Rattle.wasi_world.specs.Lines.{lines_of, rest_of}
+use Rattle.world_io.specs.Io.{Reading, Writing, Took}
+use Rattle.world_text.specs.Lines.{lines_of, rest_of}
 use Rattle.wasi_policy.specs.declared.rule.Rule.{Rule}
 use Rattle.policy_asks.specs.declared.answer.Form.{Form}
 use Rattle.policy_asks.specs.declared.asking.AskError.{AskError}

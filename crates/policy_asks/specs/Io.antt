@@ -1,6 +1,6 @@
 -- What a read of a text and a write of all bytes leave.
 use Rattle.std.specs.Prelude.{◌≡◌, ℕ, ◌+◌, ◌<◌, ◌≤◌, List, take, length}
-use Rattle.wasi_world.specs.Io.{Reading, Writing, Gave, HasEnded, Took, SameCounts, CountRose}
+use Rattle.world_io.specs.Io.{Reading, Writing, Gave, HasEnded, Took, SameCounts, CountRose}
 use Rattle.wasi_world.specs.Seen.{Rose}
 use Rattle.policy_asks.specs.declared.read.ReadEnd.{ReadEnd}
 use Rattle.policy_asks.specs.declared.read.ReadEnd.TheVariants.{Whole, TooLong, Fault}

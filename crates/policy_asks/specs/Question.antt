@@ -1,6 +1,6 @@
 -- The grammar of questions: `USE ADDRESS`.
 use Rattle.std.specs.Prelude.{ℕ, List, Option}
-use Rattle.wasi_world.specs.Fields.{Reader, ◌>>=◌, give, give_some, whole, fields_of, address_at}
+use Rattle.world_text.specs.Fields.{Reader, ◌>>=◌, give, give_some, whole, fields_of, address_at}
 use Rattle.wasi_policy.specs.Grammar.{uses_at}
 use Rattle.policy_asks.specs.declared.question.Question.{Question}
 

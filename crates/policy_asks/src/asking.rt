@@ -13,8 +13,8 @@ use crate::write::write_all;
 use std::alloc::{AllocError, Global};
 use thiserror::Error;
 use wasi_policy::Policy;
-use wasi_world::scenario::newline_at;
-use wasi_world::{Sink, Source};
+use world_io::{Sink, Source};
+use world_text::lines::newline_at;
 
 /// Why questions weren't all answered. What was answered before is written.
 #[derive(Clone, Copy, Debug, PartialEq, Eq, Error)]

@@ -1,12 +1,12 @@
 //! Reads a question: a line `USE ADDRESS`, as `tcp-connect 4 127 0 0 1 80`.
 
 ghost use Rattle.std.specs.Prelude.{◌≡◌};
-ghost use Rattle.wasi_world.specs.Fields.{Reads};
+ghost use Rattle.world_text.specs.Fields.{Reads};
 ghost use Rattle.policy_asks.specs.Question.{question_at, question_in};
 
 use wasi_addr::{IpSocketAddress, SocketAddrUse};
 use wasi_policy::grammar::uses;
-use wasi_world::Fields;
+use world_text::Fields;
 
 /// A use of an address, of which the rules are asked.
 #[derive(Clone, Copy, Debug, PartialEq, Eq)]
@@ -16,7 +16,7 @@ pub struct Question {
 }
 
 /// Takes a question.
-#[tactic(auto, unfolding(crate::specs::Question::question_at, wasi_world::specs::Fields::read_then, wasi_world::specs::Fields::give, wasi_world::specs::Fields::give_some))]
+#[tactic(auto, unfolding(crate::specs::Question::question_at, world_text::specs::Fields::read_then, world_text::specs::Fields::give, world_text::specs::Fields::give_some))]
 fn take_question(fields: &mut Fields<'_>) -> Option<Question>
     ensures { Reads question_at fields.old result fields.new }
 {

@@ -4,7 +4,7 @@ ghost use Rattle.std.specs.Prelude.{◌≡◌, IfOk};
 ghost use Rattle.policy_asks.specs.Io.{HasReadText};
 
 use std::alloc::{AllocError, Global};
-use wasi_world::Source;
+use world_io::Source;
 
 /// How many bytes are read at a time.
 const PIECE_SIZE: usize = 4096;

@@ -3,7 +3,7 @@
 ghost use Rattle.std.specs.Prelude.{OnOk, OnErr};
 ghost use Rattle.policy_asks.specs.Io.{TookAll, TookFront};
 
-use wasi_world::{Failed, Sink};
+use world_io::{Failed, Sink};
 
 /// Writes all the bytes, in as many pieces as it takes. It fails where the sink counts a fault or
 /// takes nothing of a piece. Takes no memory.

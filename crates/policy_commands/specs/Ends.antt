@@ -1,11 +1,11 @@
 -- How the program ends, and why.
 use Rattle.std.specs.Prelude.{◌≡◌, ℕ, ◌⊎◌, List, [], Option, Some, None, Result, Ok, Err}
 use Rattle.wasi_world.specs.declared.call.Entry.{Entry}
-use Rattle.wasi_world.specs.Io.{Reading, Writing}
+use Rattle.world_io.specs.Io.{Reading, Writing}
 use Rattle.wasi_world.specs.Seen.{Rose}
-use Rattle.wasi_program.specs.declared.program.Status.{Status}
-use Rattle.wasi_program.specs.declared.program.Status.TheVariants as status
-use Rattle.wasi_program.specs.Program.{ReadScenario}
+use Rattle.wasi_program.specs.declared.status.Status.{Status}
+use Rattle.wasi_program.specs.declared.status.Status.TheVariants as status
+use Rattle.wasi_program.specs.Scenario.{ReadScenario}
 use Rattle.wasi_policy.specs.declared.denied.Denied.{Denied}
 use Rattle.wasi_policy.specs.declared.rule.Rule.{Rule}
 use Rattle.wasi_policy.specs.Grammar.{rules_of}
@@ -17,7 +17,7 @@ use Rattle.policy_commands.specs.declared.status.Command.TheVariants.{Run, Ask}
 use Rattle.policy_commands.specs.declared.status.PolicyStatus.{PolicyStatus}
 use Rattle.policy_commands.specs.declared.status.PolicyStatus.TheVariants.{Of, BadRules, RulesFault}
 use Rattle.policy_commands.specs.Words.{number_of, status_of_ask, bad_line_of_ask, command_in}
-use Rattle.wasi_world.specs.Scenario.{scenario_of}
+use Rattle.world_scripted.specs.Scenario.{scenario_of}
 use Rattle.policy_commands.specs.Run.{TextRan, ScriptRan}
 
 -- The scenario was read whole, and this is its first line that isn't in its grammar.

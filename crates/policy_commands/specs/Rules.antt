@@ -1,8 +1,8 @@
 -- How the rules are read.
 use Rattle.std.specs.Prelude.{◌≡◌, ℕ}
-use Rattle.wasi_world.specs.Io.{Reading}
+use Rattle.world_io.specs.Io.{Reading}
 use Rattle.wasi_world.specs.Seen.{Rose}
-use Rattle.wasi_program.specs.declared.program.Status.TheVariants as status
+use Rattle.wasi_program.specs.declared.status.Status.TheVariants as status
 use Rattle.policy_commands.specs.declared.main_words.FoundRules.{FoundRules}
 use Rattle.policy_commands.specs.declared.main_words.FoundRules.TheVariants.{Read, Stopped}
 use Rattle.policy_commands.specs.declared.status.PolicyStatus.TheVariants.{Of, BadRules, RulesFault}

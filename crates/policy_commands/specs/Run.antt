@@ -2,16 +2,17 @@
 use Rattle.std.specs.Prelude.{◌≡◌, ℕ, true, false, List, [], Option, Some, None, Result, Ok}
 use Rattle.wasi_world.specs.declared.call.Entry.{Entry}
 use Rattle.wasi_world.specs.declared.outcome.WasiSocketsCtx.{WasiSocketsCtx}
-use Rattle.wasi_world.specs.Io.{Reading, Writing}
-use Rattle.wasi_world.specs.Scenario.{scenario_of}
+use Rattle.world_io.specs.Io.{Reading, Writing}
+use Rattle.world_scripted.specs.Scenario.{scenario_of}
 use Rattle.wasi_world.specs.Script.{IsScripted}
 use Rattle.wasi_world.specs.Seen.{Plan, Seen}
 use Rattle.wasi_records.specs.Closing.{HasClosedAll}
 use Rattle.wasi_run.specs.declared.run.RunEnd.{RunEnd}
 use Rattle.wasi_run.specs.declared.error.RunError.{RunError}
 use Rattle.wasi_run.specs.Headline.{RunsLicensed}
-use Rattle.wasi_program.specs.Program.{ReadScenario, status_of, bad_line_of}
-use Rattle.wasi_program.specs.declared.program.Status.{Status}
+use Rattle.wasi_program.specs.Scenario.{ReadScenario}
+use Rattle.wasi_program.specs.Status.{status_of, bad_line_of}
+use Rattle.wasi_program.specs.declared.status.Status.{Status}
 use Rattle.policy_commands.specs.declared.status.PolicyStatus.{PolicyStatus}
 use Rattle.policy_commands.specs.declared.status.PolicyStatus.TheVariants.{Of}
 use Rattle.wasi_policy.specs.declared.denied.Denied.{Denied}

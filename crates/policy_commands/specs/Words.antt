@@ -1,10 +1,10 @@
 -- What the words ask for, and the numbers that the program ends with.
 use Rattle.std.specs.Prelude.{◌≡◌, ℕ, if◌then◌else◌, bytes_eq, codes, List, [], ◌∷◌, Option, Some, None, Result, Ok, Err}
 use Rattle.std.specs.Option.{option_and_then}
-use Rattle.wasi_world.specs.Fields.{number_in}
-use Rattle.wasi_program.specs.declared.program.Status.{Status}
-use Rattle.wasi_program.specs.declared.program.Status.TheVariants as status
-use Rattle.wasi_program.specs.Program as program
+use Rattle.world_text.specs.Fields.{number_in}
+use Rattle.wasi_program.specs.declared.status.Status.{Status}
+use Rattle.wasi_program.specs.declared.status.Status.TheVariants as status
+use Rattle.wasi_program.specs.Status as program
 use Rattle.policy_asks.specs.declared.answer.Form.TheVariants as form
 use Rattle.policy_asks.specs.declared.asking.AskError.{AskError}
 use Rattle.policy_asks.specs.declared.asking.AskError.TheVariants as error

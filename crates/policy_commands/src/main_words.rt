@@ -10,8 +10,9 @@ use crate::status::{Command, PolicyStatus, command_in};
 use std::alloc::Global;
 use wasi_policy::{Denied, Policy, RulesError};
 use wasi_program::Status;
-use wasi_program::program::{Unread, read_scenario};
-use wasi_world::{Entry, Sink, Source};
+use wasi_program::scenario::{Unread, read_scenario};
+use wasi_world::Entry;
+use world_io::{Sink, Source};
 
 /// What the program gives back. `line` is the bad line of statuses 2, 3 and 16, else 0. `inner` is
 /// the log of the world that the rules handed on to, and `denied` the checks that they denied, each

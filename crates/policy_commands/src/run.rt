@@ -1,8 +1,8 @@
 //! Runs a script under rules.
 
 ghost use Rattle.std.specs.Prelude.{◌≡◌, ◌<◌, ◌^◌, Some, [], false, length};
-ghost use Rattle.wasi_world.specs.Scenario.{AreNumbered};
-ghost use Rattle.wasi_world.specs.Scripted.{seen_by};
+ghost use Rattle.wasi_world.specs.Contexts.{AreNumbered};
+ghost use Rattle.world_scripted.specs.Scripted.{seen_by};
 ghost use Rattle.wasi_world.specs.Seen.{Plan};
 ghost use Rattle.policy_commands.specs.Run.{RanUnder, PlanEnds};
 ghost use Rattle.policy_commands.specs.Ends.{AsksEnd, CommandEnds, TextEnds};
@@ -13,9 +13,12 @@ use std::alloc::Global;
 use std::marker::Brand;
 use wasi_policy::{Denied, Policy, PolicyWorld, Rules};
 use wasi_program::Status;
-use wasi_program::program::{Scenario, Unread, bad_line, parse_scenario, read_scenario};
+use wasi_program::scenario::{Scenario, Unread, parse_scenario, read_scenario};
+use wasi_program::status::bad_line;
 use wasi_run::{RunEnd, RunError, run_script};
-use wasi_world::{Entry, ScriptedWorld, Sink, Source, WasiSocketsCtx};
+use wasi_world::{Entry, WasiSocketsCtx};
+use world_io::{Sink, Source};
+use world_scripted::ScriptedWorld;
 
 /// How a command ended, before the source and the sink are given back.
 #[derive(Drop)]

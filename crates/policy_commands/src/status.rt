@@ -5,7 +5,7 @@ ghost use Rattle.policy_commands.specs.Words.{number_of, status_of_ask, bad_line
 
 use policy_asks::{AskError, Form};
 use wasi_program::Status;
-use wasi_world::fields::number;
+use world_text::fields::number;
 
 /// How the program ended.
 #[derive(Clone, Copy, Debug, PartialEq, Eq)]

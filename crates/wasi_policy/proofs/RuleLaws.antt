@@ -11,11 +11,11 @@ use Rattle.wasi_addr.specs.declared.address.IpAddress.{IpAddress}
 use Rattle.wasi_addr.specs.declared.address.IpAddress.TheVariants as ip
 use Rattle.wasi_addr.specs.declared.address.SocketAddrUse.{SocketAddrUse}
 use Rattle.wasi_addr.specs.declared.address.SocketAddrUse.TheVariants as usage
-use Rattle.wasi_world.specs.Fields.{number_at, ip_at, whole, fields_of, line_with}
-use Rattle.wasi_world.specs.Written.{ipv4_numbers, ipv6_numbers, ReadsExactly, ip_fields, FitsIp, AreVisible, IsVisible, is_visible, number_fields}
-use Rattle.wasi_world.proofs.Exactly.{Only, exactly, all_give, only_give, all_some, only_some, all_then, only_then, field_exactly, number_exactly}
-use Rattle.wasi_world.proofs.ReadBack.{ip_exactly, named_is}
-use Rattle.wasi_world.proofs.Visible.{fields_of_line, line_of_fields, visible_line, number_visible}
+use Rattle.world_text.specs.Fields.{number_at, ip_at, whole, fields_of, line_with}
+use Rattle.world_text.specs.Written.{ipv4_numbers, ipv6_numbers, ReadsExactly, ip_fields, FitsIp, AreVisible, IsVisible, is_visible, number_fields}
+use Rattle.world_text.proofs.Exactly.{Only, exactly, all_give, only_give, all_some, only_some, all_then, only_then, field_exactly, number_exactly}
+use Rattle.world_text.proofs.ReadBack.{ip_exactly, named_is}
+use Rattle.world_text.proofs.Visible.{fields_of_line, line_of_fields, visible_line, number_visible}
 use Rattle.wasi_policy.specs.declared.grammar.TheConstants.{ACTIONS, USES}
 use Rattle.wasi_policy.specs.declared.rule.Action.{Action}
 use Rattle.wasi_policy.specs.declared.rule.Action.TheVariants.{Allow, Deny}

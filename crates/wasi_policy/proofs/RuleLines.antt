@@ -4,8 +4,8 @@ use Rattle.std.proofs.Common.{◌≡◌, ℕ, zero, suc, min, ◌+◌, ◌-◌, 
 use Rattle.std.specs.List.{position}
 use Rattle.std.proofs.lemmas.List.{drop-drop, take_rest, length-take}
 use Rattle.std.proofs.lemmas.Bool.Decides.{nat_tests}
-use Rattle.wasi_world.specs.Lines.{lines_of, rest_of}
-use Rattle.wasi_world.proofs.LinesOf.{Cut, NoCut, cut_at, no_cut, cut_line, cut_after, cut_within}
+use Rattle.world_text.specs.Lines.{lines_of, rest_of}
+use Rattle.world_text.proofs.LinesOf.{Cut, NoCut, cut_at, no_cut, cut_line, cut_after, cut_within}
 use Rattle.wasi_policy.specs.declared.rule.Rule.{Rule}
 use Rattle.wasi_policy.specs.declared.parse.RulesError.{RulesError}
 use Rattle.wasi_policy.specs.declared.parse.RulesError.TheVariants.{BadRules, Memory}

@@ -8,7 +8,7 @@ use Rattle.wasi_policy.specs.declared.rule.Net.TheVariants.{Any}
 use Rattle.wasi_policy.specs.declared.rule.Rule.{Rule}
 use Rattle.wasi_policy.specs.declared.rule.Decision.{Decision}
 use Rattle.wasi_policy.specs.declared.rule.Explanation.{Explanation}
-use Rattle.wasi_world.specs.Fields.{line_with}
+use Rattle.world_text.specs.Fields.{line_with}
 use Rattle.wasi_policy.specs.Decision.{matches}
 use Rattle.wasi_policy.specs.Grammar.{action_text, uses_text, net_fields}
 

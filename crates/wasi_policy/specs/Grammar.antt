@@ -3,10 +3,10 @@ use Rattle.std.specs.Prelude.{ℕ, ◌+◌, ◌≤◌, ◌==◌, ◌&&◌, nat_l
 use Rattle.wasi_addr.specs.declared.address.IpAddress.{IpAddress}
 use Rattle.wasi_addr.specs.declared.address.IpAddress.TheVariants as ip
 use Rattle.wasi_addr.specs.declared.address.SocketAddrUse.{SocketAddrUse}
-use Rattle.wasi_world.specs.EntryText.{use_text}
-use Rattle.wasi_world.specs.Fields.{Reader, ◌>>=◌, give, give_some, named, whole, fields_of, line_with, field_at, number_at, ip_at}
-use Rattle.wasi_world.specs.Lines.{lines_of, rest_of}
-use Rattle.wasi_world.specs.Written.{ipv4_numbers, ipv6_numbers, FitsIpv4, FitsIpv6}
+use Rattle.world_text.specs.EntryText.{use_text}
+use Rattle.world_text.specs.Fields.{Reader, ◌>>=◌, give, give_some, named, whole, fields_of, line_with, field_at, number_at, ip_at}
+use Rattle.world_text.specs.Lines.{lines_of, rest_of}
+use Rattle.world_text.specs.Written.{ipv4_numbers, ipv6_numbers, FitsIpv4, FitsIpv6}
 use Rattle.wasi_policy.specs.declared.grammar.TheConstants.{ACTIONS, USES}
 use Rattle.wasi_policy.specs.declared.rule.Action.{Action}
 use Rattle.wasi_policy.specs.declared.rule.Action.TheVariants.{Allow, Deny}

@@ -1,16 +1,16 @@
 //! Reads the line of a rule: `ACTION USE NET LO HI`.
 
 ghost use Rattle.std.specs.Prelude.{◌≡◌, ◌↔◌, ℕ, List, Some};
-ghost use Rattle.wasi_world.specs.Fields.{Reads, number_at};
-ghost use Rattle.wasi_world.specs.Written.{ReadsExactly, IsVisible};
+ghost use Rattle.world_text.specs.Fields.{Reads, number_at};
+ghost use Rattle.world_text.specs.Written.{ReadsExactly, IsVisible};
 ghost use Rattle.wasi_policy.specs.declared.rule.Rule.{Rule};
 ghost use Rattle.wasi_policy.specs.Explained.{rule_text};
 ghost use Rattle.wasi_policy.specs.Grammar.{action_text, action_in, action_at, uses_text, uses_in, uses_at, prefix_of, any_net_at, net_at, rule_at, rule_in, rule_line, IsRule};
 
 use crate::rule::{Action, Net, Rule};
 use wasi_addr::{IpAddress, SocketAddrUse};
-use wasi_world::Fields;
-use wasi_world::text::use_word;
+use world_text::Fields;
+use world_text::text::use_word;
 
 const ACTIONS: [Action; 2] = [Action::Allow, Action::Deny];
 
@@ -36,7 +36,7 @@ fn action_in(word: &[u8]) -> Option<Action>
 }
 
 /// Takes an action.
-#[tactic(auto, unfolding(crate::specs::Grammar::action_at, wasi_world::specs::Fields::field_at, wasi_world::specs::Fields::read_then, wasi_world::specs::Fields::give_some))]
+#[tactic(auto, unfolding(crate::specs::Grammar::action_at, world_text::specs::Fields::field_at, world_text::specs::Fields::read_then, world_text::specs::Fields::give_some))]
 fn action(fields: &mut Fields<'_>) -> Option<Action>
     ensures { Reads action_at fields.old result fields.new }
 {
@@ -75,7 +75,7 @@ fn uses_in(word: &[u8]) -> Option<Option<SocketAddrUse>>
 }
 
 /// Takes a use, or `any`, which is none.
-#[tactic(auto, unfolding(crate::specs::Grammar::uses_at, wasi_world::specs::Fields::field_at, wasi_world::specs::Fields::read_then, wasi_world::specs::Fields::give_some))]
+#[tactic(auto, unfolding(crate::specs::Grammar::uses_at, world_text::specs::Fields::field_at, world_text::specs::Fields::read_then, world_text::specs::Fields::give_some))]
 pub fn uses(fields: &mut Fields<'_>) -> Option<Option<SocketAddrUse>>
     ensures { Reads uses_at fields.old result fields.new }
 {
@@ -83,7 +83,7 @@ pub fn uses(fields: &mut Fields<'_>) -> Option<Option<SocketAddrUse>>
 }
 
 /// Takes the length of a prefix of this address.
-#[tactic(auto, unfolding(wasi_world::specs::Fields::read_then, wasi_world::specs::Fields::give))]
+#[tactic(auto, unfolding(world_text::specs::Fields::read_then, world_text::specs::Fields::give))]
 fn prefix(address: IpAddress, fields: &mut Fields<'_>) -> Option<Net>
     ensures { Reads (prefix_of address) fields.old result fields.new }
 {
@@ -100,7 +100,7 @@ fn prefix(address: IpAddress, fields: &mut Fields<'_>) -> Option<Net>
 }
 
 /// Takes `any`, as the addresses of a rule.
-#[tactic(auto, unfolding(crate::specs::Grammar::any_net_at, wasi_world::specs::Fields::field_at, wasi_world::specs::Fields::read_then, wasi_world::specs::Fields::give_some))]
+#[tactic(auto, unfolding(crate::specs::Grammar::any_net_at, world_text::specs::Fields::field_at, world_text::specs::Fields::read_then, world_text::specs::Fields::give_some))]
 fn any_net(fields: &mut Fields<'_>) -> Option<Net>
     ensures { Reads any_net_at fields.old result fields.new }
 {
@@ -131,7 +131,7 @@ fn port(fields: &mut Fields<'_>) -> Option<u16>
 }
 
 /// Takes a rule.
-#[tactic(auto, unfolding(crate::specs::Grammar::rule_at, wasi_world::specs::Fields::read_then, wasi_world::specs::Fields::give_some))]
+#[tactic(auto, unfolding(crate::specs::Grammar::rule_at, world_text::specs::Fields::read_then, world_text::specs::Fields::give_some))]
 fn rule(fields: &mut Fields<'_>) -> Option<Rule>
     ensures { Reads rule_at fields.old result fields.new }
 {

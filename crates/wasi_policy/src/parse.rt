@@ -8,7 +8,7 @@ use crate::grammar::parse_rule;
 use crate::rule::Rule;
 use std::alloc::{AllocError, Global};
 use thiserror::Error;
-use wasi_world::scenario::newline_at;
+use world_text::lines::newline_at;
 
 /// Why rules weren't read.
 #[derive(Clone, Copy, Debug, PartialEq, Eq, Error)]

@@ -1,5 +1,5 @@
 use Rattle.std.proofs.Common.{◌≡◌, ◌-◌, ◌+◌, ◌≤◌, length}
-use Rattle.wasi_world.specs.Io.{Gave}
+use Rattle.world_io.specs.Io.{Gave}
 use Rattle.policy_asks.proofs.read.read_text.Given as goal
 
 -- the source gave the text so far

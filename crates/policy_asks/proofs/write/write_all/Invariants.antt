@@ -1,5 +1,5 @@
 use Rattle.std.proofs.Common.{length, ◌-◌, ◌≤◌, take}
-use Rattle.wasi_world.specs.Io.{Took, SameCounts}
+use Rattle.world_io.specs.Io.{Took, SameCounts}
 use Rattle.policy_asks.proofs.write.write_all.Given as goal
 
 -- the bytes before are written, and nothing went wrong

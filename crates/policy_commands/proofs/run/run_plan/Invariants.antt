@@ -1,4 +1,4 @@
-use Rattle.wasi_world.specs.Scripted.{seen_by}
+use Rattle.world_scripted.specs.Scripted.{seen_by}
 use Rattle.policy_commands.proofs.run.run_plan.Given as goal
 
 abbrev pub ghosts-run_under : goal.ghosts-run_under

@@ -1,5 +1,5 @@
 use Rattle.std.proofs.Common.{◌≡◌, ◌∙◌, ap, sym, subst, Some, option_map}
-use Rattle.wasi_world.specs.Scripted.{seen_by}
+use Rattle.world_scripted.specs.Scripted.{seen_by}
 use Rattle.wasi_world.specs.Script.{goes_by_plan}
 use Rattle.wasi_world.specs.Seen.{Seen}
 use Rattle.wasi_records.specs.Closing.{IsFresh}
