@@ -104,11 +104,23 @@ fn stop<R: Eprint + Files, I>(
         let front = line_of(FileSource::open(rt, RULES_PATH), u64::from(line));
         return bad_line(rt, number, "rules.txt", line, front, RULE_LINES);
     }
-    if number == 3 && !is_run(words) {
-        let front = input.line(u64::from(line));
-        return bad_line(rt, number, "the questions", line, front, QUESTION_LINES);
+    if is_run(words) {
+        return stop_with(rt, number, line, input);
     }
-    stop_with(rt, number, line, input)
+    match number {
+        3 => {
+            let front = input.line(u64::from(line));
+            bad_line(rt, number, "the questions", line, front, QUESTION_LINES)
+        }
+        4 => {
+            let printed = eprintln!(rt;
+                "status {number}\nthe questions are longer than LIMIT bytes; the whole lines within them were answered"
+            );
+            let _ = printed;
+            ExitCode::from(number)
+        }
+        _ => stop_with(rt, number, line, input),
+    }
 }
 
 /// Prints how it ended where that is no line of rules or of questions.
