@@ -40,6 +40,7 @@ A rule is a line `ACTION USE NET LO HI`. The first rule that matches decides; wh
     NET     any, or an address and how many of its leading bits count: 4 10 0 0 0 8, 6 65152 0 0 0 0 0 0 0 10
     LO HI   the least and the greatest port
 An IPv4 address that is mapped into IPv6 is matched as IPv4, so no rule for a net within ::ffff:0:0/96 matches.
+A connect of a socket that isn't bound also asks for tcp-bind of the wildcard address, as `allow tcp-bind any 0 0` allows.
 
 A question is a line `USE ADDRESS`, its use other than any: an IPv4 address is `4 127 0 0 1 80`, an IPv6 address
 `6 0 0 0 0 0 0 0 1 80 0 0`, with port, flow info and scope. The script's lines are those of the program sockets.
