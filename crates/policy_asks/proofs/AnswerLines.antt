@@ -1,9 +1,8 @@
 -- Questions are answered line by line.
-use Rattle.std.proofs.Common.{◌≡◌, ℕ, ◌+◌, ◌-◌, ◌^◌, ◌<◌, ◌≤◌, ◌==◌, length, take, drop, length-drop, Ok, Err, ap, arith, List, [], ◌∷◌, ◌++◌, Option, Some, None, refl, sym, ◌∙◌, append-nil, append_assoc, length-append, zero-add, suc}
-use Rattle.std.specs.Prelude.{Result}
+use Rattle.std.proofs.Common.{◌≡◌, ℕ, ◌+◌, ◌-◌, ◌^◌, ◌<◌, ◌≤◌, ◌==◌, length, take, drop, length-drop, Ok, Err, ap, arith, List, [], ◌∷◌, ◌++◌, Some, None, refl, sym, ◌∙◌, append-nil, append_assoc, length-append, zero-add, suc}
 use Rattle.std.specs.List.{position}
 use Rattle.std.proofs.lemmas.List.{drop-drop, take_rest, take-append-le, take_all}
-use Rattle.world_io.specs.Io.{Writing, Took, SameCounts, CountRose}
+use Rattle.world_io.specs.Io.{Writing}
 use Rattle.world_text.specs.Lines.{lines_of, rest_of}
 use Rattle.world_text.proofs.LinesOf.{Cut, NoCut, cut_at, no_cut, cut_line, cut_after, cut_within}
 use Rattle.wasi_policy.specs.declared.rule.Rule.{Rule}
@@ -12,9 +11,9 @@ use Rattle.policy_asks.specs.declared.asking.AskError.{AskError}
 use Rattle.policy_asks.specs.declared.asking.AskError.TheVariants as error
 use Rattle.policy_asks.specs.declared.question.Question.{Question}
 use Rattle.policy_asks.specs.Answer.{answer_line}
-use Rattle.policy_asks.specs.Asked.{Answers, answers_then, answers_from, answers, TookPart, IsUnfinished, LinesEnd}
+use Rattle.policy_asks.specs.Asked.{Answers, answers_then, answers_from, answers, LinesEnd}
 use Rattle.policy_asks.specs.Io.{TookAll, TookFront}
-use Rattle.policy_asks.specs.OneLine.{Answered, LineEnds}
+use Rattle.policy_asks.specs.OneLine.{LineEnds}
 use Rattle.policy_asks.specs.Question.{question_in}
 use Rattle.policy_asks.proofs.Takes.{took_again, took_none, same_again, same_none, rose_again}
 

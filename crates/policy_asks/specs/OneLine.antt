@@ -1,5 +1,5 @@
 -- How a line is answered.
-use Rattle.std.specs.Prelude.{◌≡◌, ℕ, List, Option, Some, None, Result, Ok, Err}
+use Rattle.std.specs.Prelude.{◌≡◌, ℕ, List, Some, None, Result, Ok, Err}
 use Rattle.world_io.specs.Io.{Writing}
 use Rattle.wasi_policy.specs.declared.rule.Rule.{Rule}
 use Rattle.policy_asks.specs.declared.answer.Form.{Form}

@@ -1,8 +1,8 @@
 -- A world under rules that was asked nothing yet.
-use Rattle.std.proofs.Common.{◌≡◌, ℕ, Bool, false, List, [], Option, Some, None, ap, sym, ◌∙◌, refl}
+use Rattle.std.proofs.Common.{◌≡◌, ℕ, Bool, false, List, [], Option, Some, None, ap, ◌∙◌, refl}
 use Rattle.std.specs.Prelude.{option_map}
 use Rattle.wasi_world.specs.declared.call.Entry.{Entry}
-use Rattle.wasi_world.specs.Seen.{Plan, Seen}
+use Rattle.wasi_world.specs.Seen.{Seen}
 use Rattle.wasi_records.specs.Closing.{IsFresh}
 use Rattle.wasi_policy.specs.Policed.{merged, seen_under}
 use Rattle.policy_commands.specs.Run.{at_start}

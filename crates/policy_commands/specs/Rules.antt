@@ -1,5 +1,5 @@
 -- How the rules are read.
-use Rattle.std.specs.Prelude.{◌≡◌, ℕ}
+use Rattle.std.specs.Prelude.{◌≡◌}
 use Rattle.world_io.specs.Io.{Reading}
 use Rattle.wasi_world.specs.Seen.{Rose}
 use Rattle.wasi_program.specs.declared.status.Status.TheVariants as status

@@ -1,8 +1,7 @@
 -- What the words ask for, and the numbers that the program ends with.
-use Rattle.std.specs.Prelude.{◌≡◌, ℕ, if◌then◌else◌, bytes_eq, codes, List, [], ◌∷◌, Option, Some, None, Result, Ok, Err}
+use Rattle.std.specs.Prelude.{ℕ, if◌then◌else◌, bytes_eq, codes, List, [], ◌∷◌, Option, Some, None, Result, Ok, Err}
 use Rattle.std.specs.Option.{option_and_then}
 use Rattle.world_text.specs.Fields.{number_in}
-use Rattle.wasi_program.specs.declared.status.Status.{Status}
 use Rattle.wasi_program.specs.declared.status.Status.TheVariants as status
 use Rattle.wasi_program.specs.Status as program
 use Rattle.policy_asks.specs.declared.answer.Form.TheVariants as form
