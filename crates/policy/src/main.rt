@@ -1,0 +1,167 @@
+//! The program `policy`: answers questions about the rules of `rules.txt`, or runs a script of
+//! `wasi:sockets` calls under them, over the scripted network of `scenario.txt`.
+#![tactic(auto)]
+
+ghost use Rattle.std.specs.Prelude.{◌≡◌};
+ghost use Rattle.std.specs.Process.{exit_status};
+
+use policy_commands::policy_main;
+use std::process::ExitCode;
+use std::rt::Files;
+use wasi_console::{Front, LineSource, end, line_of, print, words};
+use wasi_program::{Choice, ShownLine, Status, choice_in, scenario_path, shown_line};
+use world_io::{FileSource, StdSink, StdSource};
+
+const VERSION: &str = "policy 0.1.0\n";
+
+/// Where the rules are.
+const RULES_PATH: &str = "rules.txt";
+
+const RULE_LINES: &str =
+    "a rule such as `allow tcp-connect 4 127 0 0 0 8 80 443`, ended by a newline, in a file of at most 1048576 bytes";
+
+const QUESTION_LINES: &str =
+    "a use and an address such as `tcp-connect 4 127 0 0 1 80`, ended by a newline";
+
+const HELP: &str = "\
+Answers questions about the rules of rules.txt in this folder, or runs a script of wasi:sockets calls under them.
+
+usage: policy ask LIMIT      answers each question on standard input, of at most LIMIT bytes in all, by
+                             `allow N` or `deny N`: N is the line of the rule that decided, 0 where none matches
+       policy explain LIMIT  answers each question by `N RULE`, the rule that decided
+       policy run LIMIT      runs the script on standard input, of at most LIMIT bytes, under the rules, over the
+                             network that scenario.txt in this folder plans, and writes one reply per line
+       policy --help         prints this
+       policy --version      prints the version
+
+A rule is a line `ACTION USE NET LO HI`. The first rule that matches decides; where none does, the use is denied.
+    ACTION  allow or deny
+    USE     tcp-bind, tcp-listen, tcp-accept, tcp-connect, udp-bind, udp-send, udp-receive or any
+    NET     any, or an address and how many of its leading bits count: 4 10 0 0 0 8, 6 65152 0 0 0 0 0 0 0 10
+    LO HI   the least and the greatest port
+An IPv4 address that is mapped into IPv6 is matched as IPv4, so no rule for a net within ::ffff:0:0/96 matches.
+A connect of a socket that isn't bound also asks for tcp-bind of the wildcard address, as `allow tcp-bind any 0 0` allows.
+
+A question is a line `USE ADDRESS`, its use other than any: an IPv4 address is `4 127 0 0 1 80`, an IPv6 address
+`6 0 0 0 0 0 0 0 1 80 0 0`, with port, flow info and scope. The script's lines are those of the program sockets.
+
+The program ends with 0, or prints its status on standard error, with what is wrong, and ends with it:
+    1  the words aren't in order            7  memory ran out
+    2  a bad line in scenario.txt           8  scenario.txt can't be read
+    3  a bad line in the script, or         16 a bad line in rules.txt
+       a line that is no question           17 rules.txt can't be read
+    4  the input is longer than LIMIT
+    5  a read of the input failed
+    6  a write failed
+
+example: echo 'allow tcp-connect any 80 443' > rules.txt; echo 'tcp-connect 4 127 0 0 1 80' | policy ask 1000
+    allow 1
+";
+
+fn main(rt: HostRuntime) -> ExitCode {
+    let words = match words(&rt) {
+        Ok(words) => words,
+        Err(status) => return end(&rt, status, 0, None),
+    };
+    match choice_in(words.as_slice()) {
+        Choice::Help => print(&rt, &[HELP]),
+        Choice::Version => print(&rt, &[VERSION]),
+        Choice::Command => {
+            let mut rules = FileSource::open(&rt, RULES_PATH);
+            let mut scenario = FileSource::open(&rt, scenario_path());
+            let done = policy_main(
+                rt.alloc(),
+                words.as_slice(),
+                &mut rules,
+                &mut scenario,
+                LineSource::new(StdSource::new(rt.stdin())),
+                StdSink::new(rt.stdout()),
+            );
+            stop(&rt, words.as_slice(), done.status, done.line, &done.source)
+        }
+    }
+}
+
+/// Whether the words ask for a run.
+fn is_run(words: &[String]) -> bool {
+    match words {
+        [word, _] => word.as_str() == "run",
+        _ => false,
+    }
+}
+
+/// Prints how it ended on standard error, with the bad line of the rules, the scenario or the
+/// input, and ends so.
+fn stop<R: Eprint + Files, I>(
+    rt: &R,
+    words: &[String],
+    number: u8,
+    line: u32,
+    input: &LineSource<I>,
+) -> ExitCode
+    ensures { exit_status result ≡ number }
+{
+    if number == 16 {
+        let front = line_of(FileSource::open(rt, RULES_PATH), u64::from(line));
+        return bad_line(rt, number, "rules.txt", line, front, RULE_LINES);
+    }
+    if is_run(words) {
+        return stop_with(rt, number, line, input);
+    }
+    match number {
+        3 => {
+            let front = input.line(u64::from(line));
+            bad_line(rt, number, "the questions", line, front, QUESTION_LINES)
+        }
+        4 => {
+            let printed = eprintln!(rt;
+                "status {number}\nthe questions are longer than LIMIT bytes; the whole lines within them were answered"
+            );
+            let _ = printed;
+            ExitCode::from(number)
+        }
+        _ => stop_with(rt, number, line, input),
+    }
+}
+
+/// Prints how it ended where that is no line of rules or of questions.
+fn stop_with<R: Eprint + Files, I>(rt: &R, number: u8, line: u32, input: &LineSource<I>) -> ExitCode
+    ensures { exit_status result ≡ number }
+{
+    let Some(status) = Status::of_number(number) else {
+        let printed = eprintln!(rt;
+            "status {number}\nrules.txt in this folder can't be opened and read"
+        );
+        let _ = printed;
+        return ExitCode::from(number);
+    };
+    let front = match shown_line(status) {
+        ShownLine::OfScenario => line_of(FileSource::open(rt, scenario_path()), u64::from(line)),
+        ShownLine::OfScript => input.line(u64::from(line)),
+        ShownLine::Neither => None,
+    };
+    end(rt, status, line, front)
+}
+
+/// Prints the status with its line, and what was expected of that line, and ends so.
+fn bad_line<R: Eprint>(
+    rt: &R,
+    number: u8,
+    input: &str,
+    line: u32,
+    front: Option<Front>,
+    expected: &str,
+) -> ExitCode
+    ensures { exit_status result ≡ number }
+{
+    let printed = match front {
+        Some(front) => eprintln!(rt;
+            "status {number} line {line}\nline {line} of {input} is `{front}`; expected {expected}"
+        ),
+        None => eprintln!(rt;
+            "status {number} line {line}\nline {line} of {input} is not {expected}"
+        ),
+    };
+    let _ = printed;
+    ExitCode::from(number)
+}

@@ -1,0 +1,5 @@
+pub mod Question
+pub mod Answer
+pub mod Io
+pub mod OneLine
+pub mod Asked

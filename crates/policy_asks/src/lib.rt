@@ -1,0 +1,12 @@
+//! Answers questions about rules: what they decide of a use of an address, and which rule decided.
+#![tactic(auto)]
+
+pub mod answer;
+pub mod asking;
+pub mod question;
+pub mod read;
+pub mod write;
+
+pub use answer::Form;
+pub use asking::{AskError, ask};
+pub use question::Question;

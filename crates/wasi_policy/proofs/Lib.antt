@@ -1,0 +1,4 @@
+pub mod RuleLines
+pub mod RuleLaws
+pub mod Merging
+pub mod Handing

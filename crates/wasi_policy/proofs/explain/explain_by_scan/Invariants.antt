@@ -1,0 +1,10 @@
+use Rattle.std.proofs.Common.{◌≡◌, ◌+◌, drop}
+use Rattle.wasi_policy.specs.Decision.{decided_from}
+use Rattle.wasi_policy.specs.Explained.{explained_from}
+use Rattle.wasi_policy.proofs.explain.explain_by_scan.Given as goal
+
+abbrev pub invariant-loop-at : goal.invariant-loop-at
+invariant-loop-at l = record {
+  decided : decided_from 1 l.rules l.address l.usage ≡ decided_from (l.at + 1) (drop l.at l.rules) l.address l.usage;
+  explained : explained_from 1 l.rules l.address l.usage ≡ explained_from (l.at + 1) (drop l.at l.rules) l.address l.usage;
+}

@@ -1,0 +1,5 @@
+pub mod Decision
+pub mod Grammar
+pub mod Explained
+pub mod Parsed
+pub mod Policed

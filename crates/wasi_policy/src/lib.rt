@@ -1,0 +1,19 @@
+//! Rules that decide which addresses sockets may use: their grammar, the decision by the first rule
+//! that matches, and a world that answers address checks by them.
+#![tactic(auto)]
+
+pub mod decide;
+pub mod denied;
+pub mod explain;
+pub mod grammar;
+pub mod parse;
+pub mod policy;
+pub mod rule;
+pub mod world;
+
+pub use denied::Denied;
+pub use grammar::rules_are_read_exactly;
+pub use parse::RulesError;
+pub use policy::Policy;
+pub use rule::{Action, Decision, Explanation, Net, Rule};
+pub use world::{PolicyWorld, Rules};
