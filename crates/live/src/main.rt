@@ -6,7 +6,7 @@ mod command;
 mod script;
 
 use command::command_in;
-use script::{run_live, status_of};
+use script::run_live;
 use std::process::ExitCode;
 use wasi_console::{LineSource, end, print, words};
 use wasi_program::Status;
@@ -68,6 +68,6 @@ fn run(rt: HostRuntime, words: &[String], anywhere: bool) -> ExitCode {
         Err(RunError::BadStep(line)) => {
             end(&rt, Status::BadStep, line, source.line(u64::from(line)))
         }
-        outcome => end(&rt, status_of(outcome), 0, None),
+        outcome => end(&rt, Status::of_run(outcome), 0, None),
     }
 }

@@ -2,7 +2,6 @@
 
 ghost use Rattle.std.specs.Prelude.{◌≡◌, [], ◌∷◌, IfOk};
 ghost use Rattle.wasi_world.specs.Contexts.{free_context};
-ghost use Rattle.wasi_program.specs.Status.{status_of};
 ghost use Rattle.wasi_net.specs.Allowed.{policy_of};
 ghost use Rattle.live.specs.Live.{RanLive};
 
@@ -10,7 +9,6 @@ use crate::command::Command;
 use std::alloc::{AllocError, Global};
 use std::net::Net;
 use wasi_net::{Allowed, Linux, PatientWorld, SystemWorld};
-use wasi_program::Status;
 use wasi_run::{RunEnd, RunError, run_script};
 use wasi_world::WasiSocketsCtx;
 use world_io::{Sink, Source};
@@ -27,20 +25,6 @@ fn contexts(alloc: Global) -> Result<Vec<WasiSocketsCtx>, AllocError>
     ensures { IfOk result (λ contexts. contexts.items ≡ free_context ∷ []) }
 {
     Ok(vec![in alloc; FREE]?)
-}
-
-/// How the program reports the end of a run.
-pub fn status_of(outcome: Result<RunEnd, RunError>) -> Status
-    ensures { result ≡ status_of outcome }
-{
-    match outcome {
-        Ok(_) => Status::Ok,
-        Err(RunError::Memory) => Status::Memory,
-        Err(RunError::BadStep(_)) => Status::BadStep,
-        Err(RunError::TooLong) => Status::TooLong,
-        Err(RunError::ReadFault) => Status::ReadFault,
-        Err(RunError::WriteFault) => Status::WriteFault,
-    }
 }
 
 /// How long a look waits, in milliseconds.
