@@ -3,8 +3,8 @@
 use crate::same::same;
 use crate::threads::pumps;
 use bytes::Bytes;
+use locked_pipes::{MemoryInputPipe, MemoryOutputPipe};
 use std::test::*;
-use wasi_locked::{MemoryInputPipe, MemoryOutputPipe};
 use wasi_streams::StreamError;
 use wasi_world::TrapKind;
 use world_io::{Sink, Source};

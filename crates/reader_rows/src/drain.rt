@@ -9,9 +9,9 @@ use std::sync::Wait;
 use std::test::*;
 use std::thread::Threads;
 use wasi_reader::{AsyncReadStream, Names, ReadParts};
-use wasi_shared::Finished;
 use wasi_spawn::{Spawner, StartError};
 use wasi_streams::StreamError;
+use worker_shared::Finished;
 use world_io::Source;
 
 /// How a stream is used.

@@ -4,9 +4,9 @@ use crate::drain::{Use, drain, pattern};
 use crate::same::same;
 use std::test::*;
 use wasi_addr::ErrorCode;
-use wasi_shared::Ended;
 use wasi_spawn::{FakeSpawner, StartError, ThreadSpawner};
 use wasi_streams::StreamError;
+use worker_shared::Ended;
 use world_io::MemorySource;
 
 /// Whatever call of the source fails, reads give what it gave before, the fault once, and then `Closed`.

@@ -10,8 +10,8 @@ use std::sync::Wait;
 use std::test::*;
 use std::thread::Threads;
 use wasi_addr::ErrorCode;
-use wasi_shared::Ended;
 use wasi_streams::StreamError;
+use worker_shared::Ended;
 use world_io::MemorySource;
 
 const CLOSED: Answer = Answer::Error(StreamError::Closed);

@@ -12,9 +12,9 @@ use std::test::*;
 use std::thread;
 use std::thread::Threads;
 use wasi_reader::{AsyncReadStream, Names, ReadParts};
-use wasi_shared::Finished;
 use wasi_spawn::{StartError, ThreadSpawner};
 use wasi_streams::StreamError;
+use worker_shared::Finished;
 use world_io::MemorySource;
 
 /// One call of the owner.

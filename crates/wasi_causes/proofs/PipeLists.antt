@@ -1,7 +1,7 @@
 -- The pipes among the records by place, where a record changes or joins.
 use Rattle.std.proofs.Common.{◌≡◌, ℕ, zero, suc, List, [], ◌∷◌, ◌++◌, Option, Some, true, slice_set}
 use Rattle.std.specs.Prelude.{is_some}
-use Rattle.wasi_memory.specs.Plain.{Contents}
+use Rattle.memory_streams.specs.Plain.{Contents}
 use Rattle.wasi_records.specs.declared.name_lookup.Lookup.{Lookup as NameLookup}
 use Rattle.wasi_records.specs.declared.records.Record.{Record}
 use Rattle.wasi_records.specs.declared.records.Record.TheVariants.{InputPipe, OutputPipe}

@@ -10,7 +10,7 @@ use Rattle.wasi_world.specs.declared.call.Told.TheVariants as told
 use Rattle.wasi_world.specs.Operation.{Operation}
 use Rattle.wasi_tcp.specs.declared.socket.Connection.{Connection}
 use Rattle.wasi_tcp.specs.declared.socket.TcpState.TheVariants as state
-use Rattle.wasi_common.specs.Options.{largest_value, zero_test, value_set, value_told, refused_before, refused_after}
+use Rattle.socket_common.specs.Options.{largest_value, zero_test, value_set, value_told, refused_before, refused_after}
 use Rattle.wasi_tcp.specs.Options.{option_side, with_backlog}
 use Rattle.wasi_host.specs.declared.machine.Machine.{Machine}
 use Rattle.wasi_records.specs.declared.socket.Tcp2Socket.{Tcp2Socket}

@@ -5,7 +5,7 @@ use Rattle.wasi_world.specs.declared.call.Call.TheVariants as call
 use Rattle.wasi_world.specs.declared.call.Entry.{Entry}
 use Rattle.wasi_world.specs.declared.call.Told.TheVariants as told
 use Rattle.wasi_world.specs.declared.outcome.TrapKind.TheVariants.{Capacity}
-use Rattle.wasi_memory.specs.Plain.{Contents, left_in}
+use Rattle.memory_streams.specs.Plain.{Contents, left_in}
 use Rattle.wasi_host.specs.declared.kind.Kind.{Kind}
 use Rattle.wasi_host.specs.declared.kind.PlainInput.{PlainInput}
 use Rattle.wasi_host.specs.declared.kind.PlainInput.TheVariants as input

@@ -15,7 +15,7 @@ use Rattle.wasi_world.specs.declared.call.Opt.{Opt}
 use Rattle.wasi_world.specs.declared.call.Told.{Told}
 use Rattle.wasi_world.specs.declared.call.Told.TheVariants as told
 use Rattle.wasi_world.specs.declared.outcome.WasiSocketsCtx.{WasiSocketsCtx}
-use Rattle.wasi_common.specs.Options.{largest_value, value_set, value_told}
+use Rattle.socket_common.specs.Options.{largest_value, value_set, value_told}
 use Rattle.wasi_udp.specs.Bind.{bind_operation}
 use Rattle.wasi_udp.specs.Shape.{Socket}
 use Rattle.wasi_udp.specs.Socket.{asker_of}

@@ -12,7 +12,7 @@ ghost use Rattle.wasi_world.specs.declared.call.Entry.{Entry};
 ghost use Rattle.wasi_world.specs.declared.outcome.TrapKind.{TrapKind};
 ghost use Rattle.wasi_world.specs.declared.outcome.WasiSocketsCtx.{WasiSocketsCtx};
 ghost use Rattle.wasi_world.specs.Asks.{Give, Left};
-ghost use Rattle.wasi_memory.specs.Plain.{Contents};
+ghost use Rattle.memory_streams.specs.Plain.{Contents};
 ghost use Rattle.wasi_host.specs.declared.kind.Kind.{Kind};
 ghost use Rattle.wasi_host.specs.declared.kind.PlainInput.{PlainInput};
 ghost use Rattle.wasi_host.specs.declared.kind.PlainOutput.{PlainOutput};

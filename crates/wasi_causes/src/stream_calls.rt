@@ -7,7 +7,7 @@ ghost use Rattle.std.specs.Prelude.{◌≡◌, ◌↔◌, ◌⊎◌, ℕ, true, 
 ghost use Rattle.wasi_world.specs.declared.call.Entry.{Entry};
 ghost use Rattle.wasi_world.specs.declared.outcome.TrapKind.{TrapKind};
 ghost use Rattle.wasi_world.specs.declared.outcome.WasiSocketsCtx.{WasiSocketsCtx};
-ghost use Rattle.wasi_memory.specs.Plain.{no_contents};
+ghost use Rattle.memory_streams.specs.Plain.{no_contents};
 ghost use Rattle.wasi_tcp.specs.declared.writer.WriteError.{WriteError};
 ghost use Rattle.wasi_streams.specs.Streams.{zeros};
 ghost use Rattle.wasi_table.specs.Table.{is_full};

@@ -3,7 +3,7 @@
 ghost use Rattle.std.specs.Prelude.{◌≡◌, ◌≤◌, false, IfOk, Ok, Some};
 ghost use Rattle.wasi_world.specs.Asks.{AsksFor};
 ghost use Rattle.wasi_world.specs.Seen.{Seen};
-ghost use Rattle.wasi_common.specs.Options.{largest_value, option_of, number_of};
+ghost use Rattle.socket_common.specs.Options.{largest_value, option_of, number_of};
 ghost use Rattle.wasi_records.specs.Stops.{host_outcome};
 ghost use Rattle.wasi_records.specs.Records.{open_at, udp2_at};
 ghost use Rattle.wasi_host.specs.KnownSides.{KnowsSides};
@@ -13,9 +13,9 @@ ghost use Rattle.wasi_host.specs.UdpCreates.{create_udp_asks, create_on, mark_ud
 use crate::handles;
 use crate::kind::Kind;
 use crate::store::{Standing, StandingCall, Store};
+use socket_common::Setting;
 use std::alloc::AllocError;
 use wasi_addr::{IpSocketAddress, SocketAddressFamily, p2};
-use wasi_common::Setting;
 use wasi_records::{
     PendingCreate, Record, SocketError, Udp2Socket, UdpInProgress, open_udp, open_udp_mut, udp2,
     udp2_mut,

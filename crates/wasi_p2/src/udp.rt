@@ -5,7 +5,7 @@
 ghost use Rattle.std.specs.Prelude.{◌≡◌, ◌+◌, ◌<◌, ◌≤◌, ◌^◌, IfOk, Ok, false};
 ghost use Rattle.wasi_world.specs.Asks.{AsksFor};
 ghost use Rattle.wasi_world.specs.Seen.{Seen};
-ghost use Rattle.wasi_common.specs.Options.{largest_value, option_of, number_of};
+ghost use Rattle.socket_common.specs.Options.{largest_value, option_of, number_of};
 ghost use Rattle.wasi_records.specs.Stops.{host_outcome};
 ghost use Rattle.wasi_host.specs.Machine.{own_of, udp_socket_at, incoming_at, outgoing_at};
 ghost use Rattle.wasi_host.specs.KnownSides.{KnowsSides};
@@ -14,9 +14,9 @@ ghost use Rattle.wasi_host.specs.Views.{SameView, state_of};
 ghost use Rattle.wasi_p2.specs.Udp.{start_udp_bind_asks, finish_udp_bind_on, udp_local_on, udp_remote_on, udp_family_on, get_udp_option_on, set_udp_option_on, udp_stream_asks, check_send_on, send_datagrams_on, receive_datagrams_on};
 
 use crate::SocketError;
+use socket_common::Setting;
 use std::alloc::Global;
 use wasi_addr::{IpSocketAddress, SocketAddressFamily};
-use wasi_common::Setting;
 use wasi_host::{WasiSocketsCtxView, handles};
 use wasi_world::{Answer, Handle, Ids, IncomingDatagrams, Opt, OutgoingDatagram, World};
 

@@ -3,8 +3,8 @@ use Rattle.std.proofs.Common.{◌≡◌, ℕ, List, [], ◌++◌, length, Option
 use Rattle.std.proofs.lemmas.List.{nil_from_length}
 use Rattle.std.specs.List.{concat}
 use Rattle.world_io.specs.Io.{Reading, Writing, Gave, Took}
-use Rattle.wasi_shared.specs.declared.finished.Ended.{Ended}
-use Rattle.wasi_shared.specs.declared.finished.Ended.TheVariants as ended
+use Rattle.worker_shared.specs.declared.finished.Ended.{Ended}
+use Rattle.worker_shared.specs.declared.finished.Ended.TheVariants as ended
 use Rattle.wasi_reader.specs.Stream.{ReadStream}
 use Rattle.wasi_reader.specs.Stream as reading
 use Rattle.wasi_writer.specs.Stream.{WriteStream}

@@ -2,8 +2,8 @@
 use Rattle.std.specs.Prelude.{◌≡◌, ℕ, List, [], length, Option, Some, Result, Ok, Err}
 use Rattle.world_io.specs.Io.{Reading, Writing, Gave, Took, HasEnded, CountRose}
 use Rattle.wasi_world.specs.Seen.{Rose}
-use Rattle.wasi_shared.specs.declared.finished.Ended.{Ended}
-use Rattle.wasi_shared.specs.declared.finished.Ended.TheVariants as ended
+use Rattle.worker_shared.specs.declared.finished.Ended.{Ended}
+use Rattle.worker_shared.specs.declared.finished.Ended.TheVariants as ended
 use Rattle.wasi_writer.specs.Worked.{TookAll, TookFront, IsFlushed}
 use Rattle.wasi_pump.specs.declared.error.PumpError.{PumpError}
 use Rattle.wasi_pump.specs.declared.error.PumpError.TheVariants.{NoBudget, NoWorker, SourceFault, SinkFault, Memory}

@@ -4,7 +4,7 @@ ghost use Rattle.std.specs.Prelude.{◌≡◌};
 ghost use Rattle.wasi_pump.specs.Pumped.{outcome_of};
 
 use crate::error::PumpError;
-use wasi_shared::Ended;
+use worker_shared::Ended;
 
 /// What a pump gives back.
 #[derive(Debug, PartialEq, Eq, Drop)]

@@ -5,8 +5,8 @@ use Rattle.std.specs.declared.alloc.Global.{Global}
 use Rattle.std.proofs.lemmas.List.Folds.{concat-append}
 use Rattle.crossbeam_queue.specs.SegTies.{SegId}
 use Rattle.world_io.specs.Io.{Reading, Gave}
-use Rattle.wasi_shared.specs.declared.finished.Ended.{Ended}
-use Rattle.wasi_shared.specs.Ends.{End}
+use Rattle.worker_shared.specs.declared.finished.Ended.{Ended}
+use Rattle.worker_shared.specs.Ends.{End}
 use Rattle.wasi_reader.specs.declared.stage.Stage.{Stage}
 use Rattle.wasi_reader.specs.declared.stage.Stage.TheVariants as stage
 use Rattle.wasi_reader.specs.Knows.{OwnerKnows, WorkerKnows}

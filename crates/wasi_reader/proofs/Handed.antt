@@ -6,7 +6,7 @@ use Rattle.std.specs.List.{concat}
 use Rattle.std.specs.declared.alloc.Global.{Global}
 use Rattle.crossbeam_queue.specs.SegTies.{SegId}
 use Rattle.world_io.specs.Io.{Reading}
-use Rattle.wasi_shared.specs.Ends.{End}
+use Rattle.worker_shared.specs.Ends.{End}
 use Rattle.wasi_reader.specs.Knows.{OwnerKnows, nothing_yet}
 use Rattle.wasi_reader.specs.Answers.{with_chunk}
 use Rattle.wasi_reader.specs.Stream.{ReadStream, given_of, Refilled, IsCut}

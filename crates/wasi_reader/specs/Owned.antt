@@ -3,7 +3,7 @@ use Rattle.std.specs.Prelude.{◌≡◌, Bool, true, false, ℕ, List, [], ◌++
 use Rattle.std.specs.List.{concat}
 use Rattle.std.specs.declared.alloc.Global.{Global}
 use Rattle.crossbeam_queue.specs.SegTies.{SegId}
-use Rattle.wasi_shared.specs.Ends.{End}
+use Rattle.worker_shared.specs.Ends.{End}
 use Rattle.wasi_reader.specs.declared.stage.Stage.TheVariants.{Open}
 use Rattle.wasi_reader.specs.Knows.{OwnerKnows}
 use Rattle.wasi_reader.specs.Stream.{given_of}

@@ -5,8 +5,8 @@ use Rattle.world_io.specs.Io.{Reading, Gave, HasEnded}
 use Rattle.wasi_world.specs.Seen.{Rose}
 use Rattle.wasi_streams.specs.declared.error.StreamError.{StreamError}
 use Rattle.wasi_streams.specs.declared.error.StreamError.TheVariants.{LastOperationFailed, Closed, Trap, Memory}
-use Rattle.wasi_shared.specs.declared.finished.Ended.{Ended}
-use Rattle.wasi_shared.specs.declared.finished.Ended.TheVariants as ended
+use Rattle.worker_shared.specs.declared.finished.Ended.{Ended}
+use Rattle.worker_shared.specs.declared.finished.Ended.TheVariants as ended
 use Rattle.wasi_reader.specs.declared.stage.Stage.{Stage}
 use Rattle.wasi_reader.specs.declared.stage.Stage.TheVariants as stage
 

@@ -16,7 +16,7 @@ use bytes::Bytes;
 use std::sync::Wait;
 use wasi_addr::ErrorCode;
 use wasi_pipes::ReadCore;
-use wasi_shared::{Line, PopEnd, PushEnd};
+use worker_shared::{Line, PopEnd, PushEnd};
 
 /// The core of a read stream, beside what each side knows of it. One method is one hold of the
 /// lock.

@@ -6,7 +6,7 @@ ghost use Rattle.wasi_reader.specs.declared.stage.Stage.TheVariants.{Open};
 use crate::stage::Stage;
 use std::marker::Model;
 use std::sync::ledger::{Blank, Ledger};
-use wasi_shared::{Count, Counter};
+use worker_shared::{Count, Counter};
 
 /// A stage under a lock, which exists in proofs alone. Only its [`Marker`] sets it.
 #[derive(Drop)]

@@ -5,7 +5,7 @@ ghost use Rattle.std.specs.Prelude.{◌≡◌, []};
 use std::alloc::{AllocError, Global};
 use std::marker::{Brand, PhantomData};
 use std::sync::ledger::{Blank, Ledger};
-use wasi_shared::{Line, PopEnd, PushEnd, make_line};
+use worker_shared::{Line, PopEnd, PushEnd, make_line};
 
 /// Which stream it is. A caller makes [`ReadParts`] and calls a function that is generic in
 /// `Names`, at [`Brand`], for which its proof picks the names of those parts; the function makes,

@@ -9,8 +9,8 @@ use crate::mark::{Mark, Marker};
 use crate::names::{Heard, LedgerNames, OwnerBlanks, Popped, Ready, Stopped};
 use crate::stage::Stage;
 use std::marker::Model;
-use wasi_shared::{Count, Counter, Fact, Keeper};
 use wasi_streams::StreamError;
+use worker_shared::{Count, Counter, Fact, Keeper};
 
 /// What the owner knows, as it is under the lock.
 #[derive(Drop)]

@@ -12,7 +12,7 @@ use crate::worker_facts::WorkerKeys;
 use bytes::Bytes;
 use std::sync::{Condvar, Mutex, Wait};
 use wasi_addr::ErrorCode;
-use wasi_shared::{Line, PopEnd, PushEnd, count_left};
+use worker_shared::{Line, PopEnd, PushEnd, count_left};
 
 /// The lock of a read stream, and its line beside it: chunks are pushed and popped under the lock
 /// alone.

@@ -23,9 +23,9 @@ use std::marker::Model;
 use std::sync::{Arc, Wait};
 use std::thread::Threads;
 use wasi_pipes::ReadCore;
-use wasi_shared::{Ended, Finished, PopEnd};
 use wasi_spawn::{Handle, Spawner, StartError};
 use wasi_streams::StreamError;
+use worker_shared::{Ended, Finished, PopEnd};
 use world_io::Source;
 
 /// A stream whose reads a worker makes, beside its owner (`AsyncReadStream` of the crate

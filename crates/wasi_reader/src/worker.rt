@@ -17,8 +17,8 @@ use std::alloc::Global;
 use std::sync::{Arc, Wait};
 use std::thread::Threads;
 use wasi_addr::ErrorCode;
-use wasi_shared::PushEnd;
 use wasi_spawn::Job;
+use worker_shared::PushEnd;
 use world_io::{Failed, Source};
 
 /// The worker's side of a read stream.

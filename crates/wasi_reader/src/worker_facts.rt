@@ -8,7 +8,7 @@ use crate::mark::{Mark, Marker};
 use crate::names::{LedgerNames, Pushed, Staged, WorkerBlanks};
 use crate::stage::Stage;
 use std::marker::Model;
-use wasi_shared::{Count, Counter};
+use worker_shared::{Count, Counter};
 
 /// What the worker knows, as it is under the lock.
 #[derive(Drop)]

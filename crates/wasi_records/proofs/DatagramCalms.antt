@@ -14,7 +14,7 @@ use Rattle.wasi_world.specs.declared.ids.OpId.{OpId}
 use Rattle.wasi_world.specs.Asks.{Asks, Give, bind}
 use Rattle.wasi_world.specs.Typed.{ask_send}
 use Rattle.wasi_world.specs.Operation.{Given, Nothing, Item, Check, Send, UdpConnect, Who, Operation, NothingLast, Front, Goes, Stays, Again, Ends, check_front, polled_front, peer_front, ask_peer_front, is_now, front, after, round, polls, poll_asks, End}
-use Rattle.wasi_common.specs.Rounds.{is_going}
+use Rattle.socket_common.specs.Rounds.{is_going}
 use Rattle.wasi_udp.specs.Connect.{connect_asks, connect_poll_asks, is_connectable, IsConnect, IsLeftOfConnect, Unbound, Unchecked, SendChecked, Checked, Connected, Ended}
 use Rattle.wasi_udp.specs.Send as sent
 use Rattle.wasi_udp.specs.Send.{send_asks, at_remote, IsSend, IsLeftOfSend}

@@ -22,7 +22,7 @@ use Rattle.wasi_world.specs.Operation.{Nothing, Item, Check, CheckLocal, Bind, L
 use Rattle.wasi_tcp.specs.Shape.{Socket}
 use Rattle.wasi_tcp.specs.Socket.{side_of}
 use Rattle.wasi_tcp.specs.Listen.{IsListen, IsLeftOfListen, BoundBefore, AddressTold, Unbound, BindChecked, Checked, Bound, ToClose, Ended, is_over, none_left, held_side}
-use Rattle.wasi_common.specs.Rounds.{some_left, is_going, stays_going}
+use Rattle.socket_common.specs.Rounds.{some_left, is_going, stays_going}
 use Rattle.wasi_tcp.specs.Listening.{listen_ended, listen_goes_on, listen_poll_asks}
 use Rattle.wasi_tcp.specs.Listener.{Listener}
 use Rattle.wasi_records.specs.declared.listening.Listening.{Listening}

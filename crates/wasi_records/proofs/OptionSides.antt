@@ -7,7 +7,7 @@ use Rattle.wasi_world.specs.declared.ids.OpId.{OpId}
 use Rattle.wasi_world.specs.Asks.{Asks, bind}
 use Rattle.wasi_tcp.specs.declared.socket.TcpState.{TcpState}
 use Rattle.wasi_tcp.specs.declared.socket.TcpState.TheVariants as state
-use Rattle.wasi_common.specs.Options.{zero_test, refused_before, refused_after, get_of_side_asks, set_of_side_asks}
+use Rattle.socket_common.specs.Options.{zero_test, refused_before, refused_after, get_of_side_asks, set_of_side_asks}
 use Rattle.wasi_tcp.specs.Options.{option_side, get_where, get_option_asks, set_where, set_option_asks, set_backlog_in, set_backlog_asks}
 use Rattle.wasi_tcp.specs.Shape.{Socket}
 use Rattle.wasi_records.proofs.SideCounts.{Calm, Any, calm_then}

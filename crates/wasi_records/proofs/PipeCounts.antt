@@ -1,6 +1,6 @@
 -- The network sockets of the records, where a pipe is replaced or comes.
 use Rattle.std.proofs.Common.{◌≡◌, ℕ, zero, suc, ◌+◌, List, [], ◌∷◌, ◌++◌, Some, ap, refl}
-use Rattle.wasi_memory.specs.Plain.{Contents}
+use Rattle.memory_streams.specs.Plain.{Contents}
 use Rattle.wasi_records.specs.declared.records.Record.{Record}
 use Rattle.wasi_records.specs.declared.records.Record.TheVariants.{Tcp2, Udp2, Lookup, InputPipe, OutputPipe, Gone}
 use Rattle.wasi_records.specs.Records.{input_pipe_at, input_pipe_put, output_pipe_at, output_pipe_put}

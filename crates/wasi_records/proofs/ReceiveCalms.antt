@@ -15,7 +15,7 @@ use Rattle.wasi_world.specs.Typed.{told_verdict}
 use Rattle.wasi_world.specs.Operation.{Nothing, Datagram, Item, Receive, CheckPeer, Who, Operation, End, LastAsk, NothingLast, Goes, Again, is_wanted, received_front, receive_front, last_ask, after, round, polls, poll_asks}
 use Rattle.wasi_world.specs.declared.outcome.Answer.{Answer}
 use Rattle.wasi_world.specs.declared.outcome.Refusal.{Refusal}
-use Rattle.wasi_common.specs.Rounds.{PollsRounds}
+use Rattle.socket_common.specs.Rounds.{PollsRounds}
 use Rattle.wasi_udp.specs.Receive.{datagram_of, wanting, wanted_in, receive_asks, IsReceive, IsLeftOfReceive, ToRefuse, Unreceived, Received, Ended}
 use Rattle.wasi_udp.specs.Shape.{Socket}
 use Rattle.wasi_udp.specs.Socket.{bound_asks}

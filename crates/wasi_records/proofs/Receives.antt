@@ -12,7 +12,7 @@ use Rattle.wasi_world.specs.Seen.{Seen}
 use Rattle.wasi_world.specs.Asks.{Give, bind, AsksFor}
 use Rattle.wasi_world.specs.Operation.{Operation, Nothing, polls, poll_asks}
 use Rattle.wasi_world.proofs.Walks.{asks_end, reaches_in}
-use Rattle.wasi_common.specs.Rounds.{PollsRounds}
+use Rattle.socket_common.specs.Rounds.{PollsRounds}
 use Rattle.wasi_udp.specs.Receive.{datagram_of, wanting}
 use Rattle.wasi_udp.specs.Shape.{Socket}
 use Rattle.wasi_records.specs.declared.datagrams.Incoming.{Incoming}

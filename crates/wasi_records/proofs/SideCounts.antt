@@ -25,7 +25,7 @@ use Rattle.wasi_tcp.specs.declared.socket.TcpState.TheVariants as state
 use Rattle.wasi_tcp.specs.declared.socket.Connection.{Connection}
 use Rattle.wasi_tcp.specs.Addresses.{local_side, local_from, local_asks, peer_known, peer_asks, remote_in, remote_asks}
 use Rattle.wasi_tcp.specs.Connecting.{start_connect_in, start_connect_asks}
-use Rattle.wasi_common.specs.declared.asker.Asker.{Asker}
+use Rattle.socket_common.specs.declared.asker.Asker.{Asker}
 use Rattle.wasi_tcp.specs.declared.bind.BindStage.{BindStage}
 use Rattle.wasi_tcp.specs.declared.bind.BindStage.TheVariants as stage
 use Rattle.wasi_tcp.specs.Bind.{bind_operation, IsBind}

@@ -6,7 +6,7 @@ use Rattle.wasi_world.specs.declared.call.Opt.{Opt}
 use Rattle.wasi_world.specs.declared.ids.OpId.{OpId}
 use Rattle.wasi_world.specs.Asks.{bind}
 use Rattle.wasi_world.specs.Operation.{Item, Operation, poll_asks}
-use Rattle.wasi_common.specs.Options.{zero_test, refused_before}
+use Rattle.socket_common.specs.Options.{zero_test, refused_before}
 use Rattle.wasi_udp.specs.Bind.{bind_asks, IsBind, IsLeftOfBind, Unchecked, Checked, Ended}
 use Rattle.wasi_udp.specs.Options.{get_option_asks, set_option_asks}
 use Rattle.wasi_udp.specs.Shape.{Socket}

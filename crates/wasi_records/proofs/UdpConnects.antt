@@ -14,7 +14,7 @@ use Rattle.wasi_world.specs.Seen.{Seen}
 use Rattle.wasi_world.specs.Asks.{Asks, Give, bind, Reaches, AsksFor, outcome}
 use Rattle.wasi_world.specs.Operation.{Operation, Item, End, Waits, Done, Refused, poll_asks}
 use Rattle.wasi_world.proofs.Walks.{asks_at, asks_end, asks_given, asks_gives, reaches_in}
-use Rattle.wasi_common.specs.Rounds.{is_going, stays_going}
+use Rattle.socket_common.specs.Rounds.{is_going, stays_going}
 use Rattle.wasi_udp.specs.Connect.{connect_ended, connect_poll_asks}
 use Rattle.wasi_udp.specs.Shape.{Socket}
 use Rattle.wasi_udp.specs.Socket.{is_connected, disconnect_asks}

@@ -14,7 +14,7 @@ use Rattle.wasi_world.specs.Asks.{Asks, Give, Ask, AskWrite, bind, Reaches, Asks
 use Rattle.wasi_world.specs.Typed.{ask_close, told_polled}
 use Rattle.wasi_world.specs.Operation.{Nothing, Item, UdpWritable, LastAsk, CloseLast, Who, Operation, End, Waits, Done, Refused, last_ask, after, round, polls, poll_asks, polled_front}
 use Rattle.wasi_world.proofs.Walks.{asks_gives, reaches_in}
-use Rattle.wasi_common.specs.Rounds.{is_going, stays_going}
+use Rattle.socket_common.specs.Rounds.{is_going, stays_going}
 use Rattle.wasi_udp.specs.Create.{Create, create_ended, create_poll_asks, IsCreate, IsLeftOfCreate, Unready, ToClose, Ended, create_cancel_asks}
 use Rattle.wasi_udp.specs.Shape.{Socket}
 use Rattle.wasi_records.specs.declared.udp.OpenUdp.{OpenUdp}

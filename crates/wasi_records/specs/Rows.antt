@@ -6,8 +6,8 @@ use Rattle.wasi_records.specs.contracts.socket.Tcp2Socket as socket
 use Rattle.wasi_records.specs.contracts.udp.Udp2Socket as datagrams
 use Rattle.wasi_records.specs.contracts.udp.OpenUdp as opened
 use Rattle.wasi_records.specs.contracts.name_lookup.Lookup as lookups
-use Rattle.wasi_memory.specs.contracts.input.InputPipeCore as reads
-use Rattle.wasi_memory.specs.contracts.pipe.OutputPipe as writes
+use Rattle.memory_streams.specs.contracts.input.InputPipeCore as reads
+use Rattle.memory_streams.specs.contracts.pipe.OutputPipe as writes
 
 abbrev pub record_row : RattleType
 record_row = rec.the_row

@@ -3,7 +3,7 @@
 ghost use Rattle.std.specs.Prelude.{◌≡◌, false, Ok, OnErr, true};
 ghost use Rattle.wasi_world.specs.Asks.{AsksFor, Reaches, outcome};
 ghost use Rattle.wasi_world.specs.Seen.{Seen};
-ghost use Rattle.wasi_common.specs.Rounds.{is_going, stays_going};
+ghost use Rattle.socket_common.specs.Rounds.{is_going, stays_going};
 ghost use Rattle.wasi_tcp.specs.Socket.{side_of};
 ghost use Rattle.wasi_records.specs.Records.{tcp2_at};
 ghost use Rattle.wasi_records.specs.InProgress.{is_nothing, is_started};
@@ -38,7 +38,7 @@ pub struct PendingBind {
 
 impl Model for PendingBind {
     ghost use Rattle.std.specs.Prelude.{◌≡◌, true};
-    ghost use Rattle.wasi_common.specs.Rounds.{is_going};
+    ghost use Rattle.socket_common.specs.Rounds.{is_going};
     ghost use Rattle.wasi_world.specs.Operation.{Operation};
 
     ghost Value = { Operation };

@@ -2,7 +2,7 @@
 
 ghost use Rattle.std.specs.Prelude.{◌≡◌, ◌+◌, ◌<◌, ◌^◌, true, false, Ok, length};
 ghost use Rattle.wasi_world.specs.Asks.{AsksFor, outcome};
-ghost use Rattle.wasi_common.specs.Rounds.{is_going, stays_going};
+ghost use Rattle.socket_common.specs.Rounds.{is_going, stays_going};
 ghost use Rattle.wasi_records.specs.Datagrams.{has_streams, new_outgoing, is_sending, sends, permit_of, permitted, with_sending, send_settled, send_counted, send_one_asks, refusal_told, send_next_asks, send_all, send_datagrams_asks, turn_sending, turn_outgoing, send_turned, turn_told};
 ghost use Rattle.wasi_records.specs.Stops.{host_outcome};
 ghost use Rattle.wasi_records.specs.Names.{next_name, names_after};
@@ -25,7 +25,7 @@ pub struct PendingSend {
 
 impl Model for PendingSend {
     ghost use Rattle.std.specs.Prelude.{◌≡◌, true};
-    ghost use Rattle.wasi_common.specs.Rounds.{is_going};
+    ghost use Rattle.socket_common.specs.Rounds.{is_going};
     ghost use Rattle.wasi_world.specs.Operation.{Operation};
 
     ghost Value = { Operation };
@@ -60,7 +60,7 @@ pub struct PendingReceive {
 
 impl Model for PendingReceive {
     ghost use Rattle.std.specs.Prelude.{◌≡◌, true};
-    ghost use Rattle.wasi_common.specs.Rounds.{is_going};
+    ghost use Rattle.socket_common.specs.Rounds.{is_going};
     ghost use Rattle.wasi_world.specs.Operation.{Operation};
 
     ghost Value = { Operation };

@@ -2,7 +2,7 @@
 
 ghost use Rattle.std.specs.Prelude.{◌≡◌, ◌+◌, ◌<◌, ◌^◌, false, []};
 ghost use Rattle.wasi_world.specs.Asks.{AsksFor, outcome};
-ghost use Rattle.wasi_common.specs.Rounds.{is_going, stays_going};
+ghost use Rattle.socket_common.specs.Rounds.{is_going, stays_going};
 ghost use Rattle.wasi_records.specs.Stops.{host_outcome};
 ghost use Rattle.wasi_records.specs.Names.{next_name};
 ghost use Rattle.wasi_records.specs.Receiving.{would_receive, is_receiving, receives, fetch_asks, fetch_names, taken, receive_next_asks, receive_all, receive_datagrams_asks, look_incoming, look_names, turn_receiving, turn_incoming, receive_settled, receive_wants};

@@ -10,7 +10,7 @@ use crate::name_lookup::Lookup;
 use crate::record_list::RecordList;
 use crate::socket::Tcp2Socket;
 use crate::udp::{OpenUdp, Udp2Socket};
-use wasi_memory::{InputPipeCore, OutputPipe};
+use memory_streams::{InputPipeCore, OutputPipe};
 
 /// What a record number in a handle stands for, a case for each kind.
 #[derive(Drop)]

@@ -4,7 +4,7 @@
 ghost use Rattle.std.specs.Prelude.{◌≡◌, true, false, option_map, Some, IfOk, OnErr};
 ghost use Rattle.std.specs.Borrow.{LendsIf, sem};
 ghost use Rattle.wasi_world.specs.Asks.{AsksFor, Reaches, outcome};
-ghost use Rattle.wasi_common.specs.Rounds.{is_going, stays_going};
+ghost use Rattle.socket_common.specs.Rounds.{is_going, stays_going};
 ghost use Rattle.wasi_records.specs.Records.{open_of};
 ghost use Rattle.wasi_records.specs.Rows.{udp_row, open_row};
 ghost use Rattle.wasi_udp.specs.Create.{create_cancel_asks};
@@ -29,7 +29,7 @@ pub struct PendingCreate {
 
 impl Model for PendingCreate {
     ghost use Rattle.std.specs.Prelude.{◌≡◌, true};
-    ghost use Rattle.wasi_common.specs.Rounds.{is_going};
+    ghost use Rattle.socket_common.specs.Rounds.{is_going};
     ghost use Rattle.wasi_udp.specs.Create.{Create};
 
     ghost Value = { Create };
@@ -81,7 +81,7 @@ pub struct PendingUdpBind {
 
 impl Model for PendingUdpBind {
     ghost use Rattle.std.specs.Prelude.{◌≡◌, true};
-    ghost use Rattle.wasi_common.specs.Rounds.{is_going};
+    ghost use Rattle.socket_common.specs.Rounds.{is_going};
     ghost use Rattle.wasi_world.specs.Operation.{Operation};
 
     ghost Value = { Operation };

@@ -2,7 +2,7 @@
 
 ghost use Rattle.std.specs.Prelude.{◌≡◌, true, false, None, OnErr, Some};
 ghost use Rattle.wasi_world.specs.Asks.{AsksFor, Reaches, outcome};
-ghost use Rattle.wasi_common.specs.Rounds.{is_going, stays_going};
+ghost use Rattle.socket_common.specs.Rounds.{is_going, stays_going};
 ghost use Rattle.wasi_records.specs.Datagrams.{with_streams, udp_connect_settled, poll_udp_connect_asks, streams_to, begin_streams_asks};
 ghost use Rattle.wasi_records.specs.Sides.{MakesNone};
 
@@ -21,7 +21,7 @@ pub struct PendingUdpConnect {
 
 impl Model for PendingUdpConnect {
     ghost use Rattle.std.specs.Prelude.{◌≡◌, true};
-    ghost use Rattle.wasi_common.specs.Rounds.{is_going};
+    ghost use Rattle.socket_common.specs.Rounds.{is_going};
     ghost use Rattle.wasi_world.specs.Operation.{Operation};
 
     ghost Value = { Operation };

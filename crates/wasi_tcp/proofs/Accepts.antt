@@ -1,6 +1,6 @@
 -- Accepts, at each of their stages.
 use Rattle.std.specs.Prelude.{refl}
-use Rattle.wasi_common.specs.declared.asker.Asker.{Asker}
+use Rattle.socket_common.specs.declared.asker.Asker.{Asker}
 use Rattle.wasi_tcp.specs.declared.accept.AcceptStage.{AcceptStage}
 use Rattle.wasi_tcp.specs.declared.accept.AcceptStage.TheVariants as stage
 use Rattle.wasi_tcp.specs.Accept.{accept_operation, IsAccept, Unarrived, Arrived, Admitted, Unwanted, Ended}

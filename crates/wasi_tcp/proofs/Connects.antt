@@ -11,7 +11,7 @@ use Rattle.wasi_world.specs.Asks.{Give, bind, Reaches, AsksFor, outcome}
 use Rattle.wasi_world.specs.Operation.{Nothing, Who, Operation, poll_asks, PollsFor}
 use Rattle.wasi_world.proofs.Walks.{asks_end, reaches_in}
 use Rattle.wasi_addr.specs.declared.address.IpSocketAddress.{IpSocketAddress}
-use Rattle.wasi_common.specs.declared.asker.Asker.{Asker}
+use Rattle.socket_common.specs.declared.asker.Asker.{Asker}
 use Rattle.wasi_tcp.specs.declared.connect.ConnectStage.{ConnectStage}
 use Rattle.wasi_tcp.specs.declared.connect.ConnectStage.TheVariants as stage
 use Rattle.wasi_tcp.specs.declared.socket.TcpState.TheVariants as state

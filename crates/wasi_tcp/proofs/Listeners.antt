@@ -15,7 +15,7 @@ use Rattle.wasi_world.proofs.Walks.{reaches_all, reaches_in, reaches_on}
 use Rattle.wasi_tcp.specs.declared.accept.AcceptStage.TheVariants as stage
 use Rattle.wasi_tcp.specs.declared.listener.Accepting.{Accepting}
 use Rattle.wasi_tcp.specs.declared.listener.Accepting.TheVariants as accepting
-use Rattle.wasi_common.specs.Rounds.{PollsRounds}
+use Rattle.socket_common.specs.Rounds.{PollsRounds}
 use Rattle.wasi_tcp.specs.Accept.{accept_operation, connection_of, IsAccept}
 use Rattle.wasi_tcp.specs.Listener.{accept_ended, accept_asks, StandsAccept, IsAcceptOn, HoldsAccept, settled, memory_of, TurnFor}
 use Rattle.wasi_tcp.proofs.Accepts.{is_accept}

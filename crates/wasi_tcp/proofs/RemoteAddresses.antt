@@ -20,7 +20,7 @@ use Rattle.wasi_tcp.specs.Connecting.{in_socket}
 use Rattle.wasi_tcp.specs.Listening.{listen_start, listen_asks}
 use Rattle.wasi_tcp.specs.Addresses.{after_peer, still_connected, peer_known, local_from, local_side, local_where, remote_in, remote_asks}
 use Rattle.wasi_tcp.specs.Halves.{taken_receive, taken_send}
-use Rattle.wasi_common.specs.Options.{zero_test, value_set, refused_before, refused_after}
+use Rattle.socket_common.specs.Options.{zero_test, value_set, refused_before, refused_after}
 use Rattle.wasi_tcp.specs.Options.{set_backlog_in}
 use Rattle.wasi_tcp.specs.Calls.{SocketCall, IsBound, BindTo, StartConnect, FinishConnect, StartListen, LocalAddress, RemoteAddress, TakeReceive, TakeSend, SetOption, SetBacklog, socket_left, after_call, after_calls, KnowsPeer}
 

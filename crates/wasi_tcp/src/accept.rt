@@ -3,13 +3,13 @@
 ghost use Rattle.std.specs.Prelude.{◌≡◌, true, false, OnErr};
 ghost use Rattle.wasi_world.specs.Asks.{AsksFor};
 ghost use Rattle.wasi_world.specs.Operation.{Nothing};
-ghost use Rattle.wasi_common.specs.Rounds.{PollsRounds, RoundFor, is_going};
+ghost use Rattle.socket_common.specs.Rounds.{PollsRounds, RoundFor, is_going};
 ghost use Rattle.wasi_tcp.specs.Accept.{accept_operation, connection_of, in_hand, accept_give_up_asks, IsAccept};
 
+use socket_common::{Asker, InRounds, poll_rounds};
 use std::alloc::AllocError;
 use std::marker::Model;
 use wasi_addr::{IpSocketAddress, SocketAddrUse};
-use wasi_common::{Asker, InRounds, poll_rounds};
 use wasi_world::asks::{Polled, Verdict};
 use wasi_world::{Answer, Refusal, Sock, World, asks};
 
@@ -109,7 +109,7 @@ impl AcceptOp {
 }
 
 impl InRounds for AcceptOp {
-    ghost use Rattle.wasi_common.specs.Rounds.{RoundFor, is_going};
+    ghost use Rattle.socket_common.specs.Rounds.{RoundFor, is_going};
     ghost use Rattle.wasi_tcp.specs.Accept.{connection_of};
 
     type Out = (Sock, IpSocketAddress);

@@ -2,13 +2,13 @@
 
 ghost use Rattle.std.specs.Prelude.{◌≡◌, true, false, Err};
 ghost use Rattle.wasi_world.specs.Operation.{PollsFor, Nothing};
-ghost use Rattle.wasi_common.specs.Rounds.{is_going, stays_going};
+ghost use Rattle.socket_common.specs.Rounds.{is_going, stays_going};
 ghost use Rattle.wasi_tcp.specs.Bind.{bind_operation, IsBind};
 
 use crate::socket::TcpSocket;
+use socket_common::Asker;
 use std::marker::Model;
 use wasi_addr::{ErrorCode, IpSocketAddress, SocketAddrUse};
-use wasi_common::Asker;
 use wasi_world::asks::Verdict;
 use wasi_world::{Answer, OpId, Refusal, Sock, World, asks};
 

@@ -4,9 +4,9 @@ ghost use Rattle.std.specs.Prelude.{◌≡◌, Some, false};
 ghost use Rattle.wasi_world.specs.Operation.{PollsFor, Nothing};
 ghost use Rattle.wasi_tcp.specs.Connect.{connect_operation, connect_first, IsConnect};
 
+use socket_common::Asker;
 use std::marker::Model;
 use wasi_addr::{ErrorCode, IpSocketAddress, SocketAddrUse};
-use wasi_common::Asker;
 use wasi_world::asks::{Polled, Verdict};
 use wasi_world::{Answer, Refusal, Sock, World, asks};
 

@@ -27,6 +27,6 @@ pub use listener::{Accepting, TcpListenStream};
 pub use options::NonInheritedOptions;
 pub use reader::ReadState;
 pub use socket::{Connection, TcpSocket, TcpState};
-pub use wasi_common::{Asker, Setting, largest_value};
+pub use socket_common::{Asker, Setting, largest_value};
 pub use wasi_world::Opt;
 pub use writer::{WriteError, WriteState};

@@ -4,16 +4,16 @@ ghost use Rattle.std.specs.Prelude.{◌≡◌, false, None, OnErr};
 ghost use Rattle.wasi_world.specs.Asks.{AsksFor, Reaches, outcome};
 ghost use Rattle.wasi_world.specs.Operation.{PollsFor, Nothing};
 ghost use Rattle.wasi_tcp.specs.Listen.{listen_operation, listen_first, is_over, held_side, cancel_asks, IsListen};
-ghost use Rattle.wasi_common.specs.Rounds.{is_going, stays_going};
+ghost use Rattle.socket_common.specs.Rounds.{is_going, stays_going};
 ghost use Rattle.wasi_tcp.specs.Socket.{side_of};
 ghost use Rattle.wasi_tcp.specs.Listening.{listen_poll_asks, listen_goes_on};
 
 use crate::listener::TcpListenStream;
 use crate::socket::TcpSocket;
+use socket_common::Asker;
 use std::alloc::AllocError;
 use std::marker::Model;
 use wasi_addr::{ErrorCode, IpSocketAddress, SocketAddrUse};
-use wasi_common::Asker;
 use wasi_world::asks::Verdict;
 use wasi_world::{Answer, Refusal, Sock, World, asks};
 

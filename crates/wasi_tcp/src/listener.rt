@@ -6,10 +6,10 @@ ghost use Rattle.wasi_tcp.specs.Listener.{with_accept, new_listener, begun, has_
 
 use crate::accept::AcceptOp;
 use crate::socket::{Connection, TcpSocket, TcpState};
+use socket_common::Asker;
 use std::alloc::AllocError;
 use std::marker::Model;
 use wasi_addr::{ErrorCode, IpSocketAddress, SocketAddressFamily};
-use wasi_common::Asker;
 use wasi_world::{Answer, Ids, Refusal, Sock, World, asks};
 
 /// How far a listener is with the next connection.

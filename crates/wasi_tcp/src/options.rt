@@ -3,12 +3,12 @@
 ghost use Rattle.std.specs.Prelude.{◌≡◌, ◌≤◌, false, OnErr, IfOk};
 ghost use Rattle.std.specs.Int.{from_bool};
 ghost use Rattle.wasi_world.specs.Asks.{AsksFor, outcome};
-ghost use Rattle.wasi_common.specs.Options.{largest_value, option_of, number_of};
+ghost use Rattle.socket_common.specs.Options.{largest_value, option_of, number_of};
 ghost use Rattle.wasi_tcp.specs.Socket.{side_of};
 
 use crate::socket::TcpSocket;
+use socket_common::{Setting, get_of_side, set_of_side};
 use wasi_addr::ErrorCode;
-use wasi_common::{Setting, get_of_side, set_of_side};
 use wasi_world::{OpId, Opt, Refusal, World};
 
 impl TcpSocket {

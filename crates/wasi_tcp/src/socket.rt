@@ -10,10 +10,10 @@ mod starts;
 
 use crate::connect::ConnectOp;
 use crate::halves::{TcpReceiveStream, TcpSendStream};
+use socket_common::tells_bound;
 use std::alloc::AllocError;
 use std::marker::Model;
 use wasi_addr::{ErrorCode, IpSocketAddress, SocketAddressFamily};
-use wasi_common::tells_bound;
 use wasi_world::{Answer, OpId, Refusal, Sock, WasiSocketsCtx, World, asks};
 
 /// How many connections may wait at a listener, unless it is set.

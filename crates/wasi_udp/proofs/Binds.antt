@@ -1,7 +1,7 @@
 -- Binds, at each of their stages.
 use Rattle.std.specs.Prelude.{refl}
 use Rattle.wasi_addr.specs.declared.address.IpSocketAddress.{IpSocketAddress}
-use Rattle.wasi_common.specs.declared.asker.Asker.{Asker}
+use Rattle.socket_common.specs.declared.asker.Asker.{Asker}
 use Rattle.wasi_udp.specs.declared.bind.UdpBindStage.{UdpBindStage}
 use Rattle.wasi_udp.specs.declared.bind.UdpBindStage.TheVariants as stage
 use Rattle.wasi_udp.specs.Bind.{bind_operation, IsBind, Unchecked, Checked, Ended}

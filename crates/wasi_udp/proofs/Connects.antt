@@ -13,8 +13,8 @@ use Rattle.wasi_world.specs.Typed.{ask_peer}
 use Rattle.wasi_world.specs.Operation.{AskPeer, NothingLast, Who, Operation, polls, poll_asks, remote_told}
 use Rattle.wasi_world.proofs.Walks.{asks_end, reaches_all, reaches_then, reaches_in, reaches_on}
 use Rattle.wasi_world.proofs.Polls.{done, ends, ended}
-use Rattle.wasi_common.specs.declared.asker.Asker.{Asker}
-use Rattle.wasi_common.specs.Rounds.{is_going}
+use Rattle.socket_common.specs.declared.asker.Asker.{Asker}
+use Rattle.socket_common.specs.Rounds.{is_going}
 use Rattle.wasi_udp.specs.declared.connect.UdpConnectStage.{UdpConnectStage}
 use Rattle.wasi_udp.specs.declared.connect.UdpConnectStage.TheVariants as stage
 use Rattle.wasi_udp.specs.declared.connect.ConnectEnd.{ConnectEnd}

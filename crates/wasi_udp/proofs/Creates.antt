@@ -10,8 +10,8 @@ use Rattle.wasi_world.specs.Seen.{Seen}
 use Rattle.wasi_world.specs.Asks.{Give, bind, Reaches, AsksFor, outcome}
 use Rattle.wasi_world.specs.Operation.{Nothing, Who, Operation, poll_asks, PollsFor}
 use Rattle.wasi_world.proofs.Walks.{asks_end, reaches_in}
-use Rattle.wasi_common.specs.declared.asker.Asker.{Asker}
-use Rattle.wasi_common.specs.Rounds.{is_going, stays_going}
+use Rattle.socket_common.specs.declared.asker.Asker.{Asker}
+use Rattle.socket_common.specs.Rounds.{is_going, stays_going}
 use Rattle.wasi_udp.specs.declared.create.CreateStage.{CreateStage}
 use Rattle.wasi_udp.specs.declared.create.CreateStage.TheVariants as stage
 use Rattle.wasi_udp.specs.Create.{create_operation, Create, create_ended, create_poll_asks, create_told, IsCreate, Unready, ToClose, Ended}

@@ -13,8 +13,8 @@ use Rattle.wasi_world.specs.declared.asks.Polled.TheVariants as polled
 use Rattle.wasi_world.specs.Asks.{Asks, Give, Ask, AskWrite, bind, Left}
 use Rattle.wasi_world.specs.Typed.{told_verdict, told_datagram}
 use Rattle.wasi_world.specs.Operation.{Item, Receive, CheckPeer, Nothing, Datagram, NothingLast, Front, Goes, Again, End, Done, polls, poll_asks, round, after, received_front, receive_front, is_wanted, Who}
-use Rattle.wasi_common.specs.declared.asker.Asker.{Asker}
-use Rattle.wasi_common.specs.Asker.{who_of}
+use Rattle.socket_common.specs.declared.asker.Asker.{Asker}
+use Rattle.socket_common.specs.Asker.{who_of}
 use Rattle.wasi_udp.specs.declared.receive.RecvStage.{RecvStage}
 use Rattle.wasi_udp.specs.declared.receive.RecvStage.TheVariants as stage
 use Rattle.wasi_udp.specs.Receive.{receive_operation}

@@ -13,7 +13,7 @@ use Rattle.wasi_world.specs.declared.asks.Verdict.TheVariants as verdict
 use Rattle.wasi_world.specs.Asks.{Asks, Give, Ask, AskWrite, bind, Left}
 use Rattle.wasi_world.specs.Typed.{told_verdict}
 use Rattle.wasi_world.specs.Operation.{Item, Check, Send, Given, Nothing, End, polls, poll_asks, round, after, verdict_front}
-use Rattle.wasi_common.specs.declared.asker.Asker.{Asker}
+use Rattle.socket_common.specs.declared.asker.Asker.{Asker}
 use Rattle.wasi_udp.specs.declared.send.Destination.{Destination}
 use Rattle.wasi_udp.specs.declared.send.SendStage.{SendStage}
 use Rattle.wasi_udp.specs.declared.send.SendStage.TheVariants as stage

@@ -9,7 +9,7 @@ use Rattle.wasi_world.specs.Typed.{ask_check}
 use Rattle.wasi_world.specs.Operation.{Receive, CheckPeer, Datagram, Who, Front, Goes, Again, front, received_front, is_wanted}
 use Rattle.wasi_world.proofs.Walks.{reaches_on}
 use Rattle.wasi_world.specs.declared.asks.Verdict.TheVariants as verdict
-use Rattle.wasi_common.specs.declared.asker.Asker.{Asker}
+use Rattle.socket_common.specs.declared.asker.Asker.{Asker}
 use Rattle.wasi_udp.specs.declared.receive.RecvStage.{RecvStage}
 use Rattle.wasi_udp.specs.declared.receive.RecvStage.TheVariants as stage
 use Rattle.wasi_udp.specs.Receive.{receive_operation, IsReceive, ToRefuse, Unreceived, Received, Ended}

@@ -9,7 +9,7 @@ use Rattle.wasi_world.specs.Asks.{Give, Reaches}
 use Rattle.wasi_world.specs.Typed.{ask_send}
 use Rattle.wasi_world.specs.Operation.{Send, Nothing, Ends, front, polled_front}
 use Rattle.wasi_world.proofs.Walks.{reaches_all, reaches_on}
-use Rattle.wasi_common.specs.declared.asker.Asker.{Asker}
+use Rattle.socket_common.specs.declared.asker.Asker.{Asker}
 use Rattle.wasi_udp.specs.declared.send.Destination.{Destination}
 use Rattle.wasi_udp.specs.declared.send.SendStage.{SendStage}
 use Rattle.wasi_udp.specs.declared.send.SendStage.TheVariants as stage

@@ -3,13 +3,13 @@
 ghost use Rattle.std.specs.Prelude.{◌≡◌, true, false, Err, Ok, OnErr, IfOk};
 ghost use Rattle.wasi_world.specs.Asks.{AsksFor, outcome};
 ghost use Rattle.wasi_world.specs.Operation.{PollsFor, Nothing};
-ghost use Rattle.wasi_common.specs.Rounds.{is_going, stays_going};
+ghost use Rattle.socket_common.specs.Rounds.{is_going, stays_going};
 ghost use Rattle.wasi_udp.specs.Bind.{bind_operation, bind_start, bind_asks, IsOf, IsBind};
 
 use crate::socket::UdpSocket;
+use socket_common::Asker;
 use std::marker::Model;
 use wasi_addr::{ErrorCode, IpSocketAddress, SocketAddrUse, is_valid_address_family};
-use wasi_common::Asker;
 use wasi_world::asks::Verdict;
 use wasi_world::{Answer, OpId, Refusal, World, asks};
 

@@ -2,19 +2,19 @@
 
 ghost use Rattle.std.specs.Prelude.{◌≡◌, true, false, OnErr, IfOk};
 ghost use Rattle.wasi_world.specs.Asks.{AsksFor, Reaches, outcome};
-ghost use Rattle.wasi_common.specs.Rounds.{is_going, stays_going};
+ghost use Rattle.socket_common.specs.Rounds.{is_going, stays_going};
 ghost use Rattle.wasi_udp.specs.Bind.{IsOf};
 ghost use Rattle.wasi_udp.specs.Connect.{connect_operation, connect_start, connect_asks, connect_poll_asks, connect_first, is_connectable, connect_told, connect_settled, connect_going, PollsConnect, IsConnect};
 
 use crate::address::remote_told;
 use crate::socket::UdpSocket;
+use socket_common::Asker;
 use std::alloc::AllocError;
 use std::marker::Model;
 use wasi_addr::{
     ErrorCode, IpSocketAddress, SocketAddrUse, SocketAddressFamily, is_valid_address_family,
     is_valid_remote_address, unspecified_addr,
 };
-use wasi_common::Asker;
 use wasi_world::asks::Verdict;
 use wasi_world::{Answer, OpId, Refusal, World, asks};
 

@@ -3,14 +3,14 @@
 ghost use Rattle.std.specs.Prelude.{◌≡◌, true, false, OnErr, IfOk};
 ghost use Rattle.wasi_world.specs.Asks.{AsksFor, Reaches, outcome};
 ghost use Rattle.wasi_world.specs.Operation.{PollsFor, Nothing};
-ghost use Rattle.wasi_common.specs.Rounds.{is_going, stays_going};
+ghost use Rattle.socket_common.specs.Rounds.{is_going, stays_going};
 ghost use Rattle.wasi_udp.specs.Create.{create_operation, create_at, new_asks, create_told, create_poll_asks, create_cancel_asks, IsCreate};
 
 use crate::socket::UdpSocket;
+use socket_common::Asker;
 use std::alloc::AllocError;
 use std::marker::Model;
 use wasi_addr::{ErrorCode, SocketAddressFamily};
-use wasi_common::Asker;
 use wasi_world::asks::Polled;
 use wasi_world::{Answer, OpId, Refusal, Sock, WasiSocketsCtx, World, asks};
 

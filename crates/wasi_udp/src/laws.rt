@@ -6,7 +6,7 @@ ghost use Rattle.wasi_addr.specs.declared.address.SocketAddressFamily.{SocketAdd
 ghost use Rattle.wasi_world.specs.declared.call.Entry.{Entry};
 ghost use Rattle.wasi_world.specs.Asks.{Asks, Give, Left};
 ghost use Rattle.wasi_world.specs.Operation.{Item, End, Done, Datagram, is_wanted, poll_asks};
-ghost use Rattle.wasi_common.specs.declared.asker.Asker.{Asker};
+ghost use Rattle.socket_common.specs.declared.asker.Asker.{Asker};
 ghost use Rattle.wasi_udp.specs.declared.receive.RecvStage.{RecvStage};
 ghost use Rattle.wasi_udp.specs.declared.send.SendStage.{SendStage};
 ghost use Rattle.wasi_udp.specs.Given.{EndsInYes};

@@ -19,5 +19,5 @@ pub use create::CreateOp;
 pub use receive::RecvOp;
 pub use send::SendOp;
 pub use socket::UdpSocket;
-pub use wasi_common::{Asker, Setting, largest_value};
+pub use socket_common::{Asker, Setting, largest_value};
 pub use wasi_world::Opt;

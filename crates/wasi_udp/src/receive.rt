@@ -3,17 +3,17 @@
 ghost use Rattle.std.specs.Prelude.{◌≡◌, true, false, Err, OnErr, IfOk};
 ghost use Rattle.wasi_world.specs.Asks.{AsksFor};
 ghost use Rattle.wasi_world.specs.Operation.{Nothing, is_wanted};
-ghost use Rattle.wasi_common.specs.Rounds.{PollsRounds, RoundFor, is_going, stays_going};
+ghost use Rattle.socket_common.specs.Rounds.{PollsRounds, RoundFor, is_going, stays_going};
 ghost use Rattle.wasi_udp.specs.Bind.{IsOf};
 ghost use Rattle.wasi_udp.specs.Receive.{receive_operation, datagram_of, wanting, bytes_in, receive_first, receive_start, receive_asks, IsReceive};
 
 use crate::address::same_address;
 use crate::socket::UdpSocket;
+use socket_common::{Asker, InRounds, poll_rounds};
 use std::alloc::AllocError;
 use std::marker::Model;
 use std::mem;
 use wasi_addr::{ErrorCode, IpSocketAddress, SocketAddrUse};
-use wasi_common::{Asker, InRounds, poll_rounds};
 use wasi_world::asks::{Polled, Verdict};
 use wasi_world::{Answer, Octets, OpId, Refusal, World, asks};
 
@@ -144,7 +144,7 @@ impl RecvOp {
 }
 
 impl InRounds for RecvOp {
-    ghost use Rattle.wasi_common.specs.Rounds.{RoundFor, is_going};
+    ghost use Rattle.socket_common.specs.Rounds.{RoundFor, is_going};
     ghost use Rattle.wasi_udp.specs.Receive.{datagram_of};
 
     type Out = (Octets, IpSocketAddress);

@@ -3,19 +3,19 @@
 ghost use Rattle.std.specs.Prelude.{◌≡◌, true, false, Err, OnErr, IfOk};
 ghost use Rattle.wasi_world.specs.Asks.{AsksFor};
 ghost use Rattle.wasi_world.specs.Operation.{PollsFor, Nothing, is_now};
-ghost use Rattle.wasi_common.specs.Rounds.{is_going, stays_going};
+ghost use Rattle.socket_common.specs.Rounds.{is_going, stays_going};
 ghost use Rattle.wasi_udp.specs.Bind.{IsOf};
 ghost use Rattle.wasi_udp.specs.Send.{send_operation, where_to, send_to, send_first, send_start, send_asks, at_remote, IsSend};
 
 use crate::address::same_address;
 use crate::socket::UdpSocket;
+use socket_common::Asker;
 use std::alloc::AllocError;
 use std::marker::Model;
 use wasi_addr::{
     ErrorCode, IpSocketAddress, SocketAddrUse, SocketAddressFamily, is_valid_address_family,
     is_valid_remote_address, unspecified_addr,
 };
-use wasi_common::Asker;
 use wasi_world::asks::{Polled, Verdict};
 use wasi_world::{Answer, Octets, OpId, Refusal, World, asks};
 

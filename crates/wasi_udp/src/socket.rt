@@ -5,10 +5,10 @@ ghost use Rattle.wasi_world.specs.Asks.{AsksFor, Reaches, outcome};
 ghost use Rattle.wasi_world.specs.Typed.{ask_close};
 
 use crate::address::remote_told;
+use socket_common::{Asker, tells_bound};
 use std::alloc::AllocError;
 use std::marker::Model;
 use wasi_addr::{ErrorCode, IpSocketAddress, SocketAddressFamily};
-use wasi_common::{Asker, tells_bound};
 use wasi_world::{OpId, Refusal, Sock, World, asks};
 
 /// A UDP socket. It keeps whether it is bound, once that is known, its remote address, if it has

@@ -1,7 +1,7 @@
 -- The lookups and the pipes among the records by place, and the sockets beside them.
 use Rattle.std.proofs.Common.{◌≡◌, ℕ, zero, suc, ◌⊎◌, inl, inr, List, [], ◌∷◌, ◌++◌, Option, Some, None, Bool, true, false, length, refl, ap, sym, slice_get, slice_set, ◌∙◌}
 use Rattle.std.specs.Prelude.{is_some, ⊤}
-use Rattle.wasi_memory.specs.Plain.{Contents}
+use Rattle.memory_streams.specs.Plain.{Contents}
 use Rattle.wasi_records.specs.declared.records.Record.{Record}
 use Rattle.wasi_records.specs.declared.records.Record.TheVariants.{Lookup as LookupRecord, InputPipe, OutputPipe}
 use Rattle.wasi_records.specs.declared.name_lookup.Lookup.{Lookup}

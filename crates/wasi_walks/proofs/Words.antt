@@ -47,9 +47,9 @@ pub use Rattle.wasi_tcp.specs.Listen.{IsLeftOfListen, is_over, listen_first, lis
 pub use Rattle.wasi_tcp.specs.Listener.{HoldsAccept, IsAcceptOn, Listener, accept_asks, accept_end, accept_ended, accepted_socket, accepted_state}
 pub use Rattle.wasi_tcp.specs.Listener.{arrived, give_up_in, new_listener, ready_end, with_accept}
 pub use Rattle.wasi_tcp.specs.Listening.{listen_ended, listen_start}
-pub use Rattle.wasi_common.specs.Options.{refused_after, refused_before}
+pub use Rattle.socket_common.specs.Options.{refused_after, refused_before}
 pub use Rattle.wasi_tcp.specs.Options.{after_backlog, get_option_asks, get_where, set_backlog_asks, set_backlog_in}
-pub use Rattle.wasi_common.specs.Options.{value_set, zero_test}
+pub use Rattle.socket_common.specs.Options.{value_set, zero_test}
 pub use Rattle.wasi_tcp.specs.Options.{set_option_asks, set_where, with_backlog}
 pub use Rattle.wasi_tcp.specs.Reader.{after_read, read_state_asks, reader_ready_asks, reader_shutdown_asks}
 pub use Rattle.wasi_tcp.specs.Shape.{Socket}

@@ -22,7 +22,7 @@ use Rattle.wasi_world.specs.declared.call.Told.{Told}
 use Rattle.wasi_world.specs.declared.call.Told.TheVariants.{Done, Yes, Addr, Arrived, Code}
 use Rattle.wasi_world.specs.declared.call.Entry.{Entry}
 use Rattle.wasi_world.specs.declared.outcome.WasiSocketsCtx.{WasiSocketsCtx}
-use Rattle.wasi_common.specs.Options.{value_set}
+use Rattle.socket_common.specs.Options.{value_set}
 use Rattle.wasi_names.specs.declared.name.HostName.TheVariants.{Domain}
 use Rattle.wasi_names.specs.Names.{name_is}
 use Rattle.wasi_steps.specs.declared.reply.Field.{Field}

@@ -1,7 +1,7 @@
 -- What the calls of a step may miss: a handle that isn't live, or is of something else, or whose record isn't there; and which steps
 -- make handles and write.
 use Rattle.std.specs.Prelude.{◌≡◌, ◌⊎◌, ⊤, ℕ, false, List, [], ◌∷◌, Option, Some, None, IsSomeAnd}
-use Rattle.wasi_memory.specs.Plain.{Contents}
+use Rattle.memory_streams.specs.Plain.{Contents}
 use Rattle.wasi_host.specs.declared.blocking.BlockingCall.{BlockingCall}
 use Rattle.wasi_host.specs.declared.blocking.BlockingCall.TheVariants as blocking
 use Rattle.wasi_host.specs.declared.kind.PlainInput.{PlainInput}

@@ -3,7 +3,7 @@ use Rattle.std.proofs.Common.{◌≡◌, ◌+◌, ◌-◌, ◌==◌, ℕ, Bool, 
 use Rattle.std.specs.List.{concat}
 use Rattle.wasi_streams.specs.declared.error.StreamError.{StreamError}
 use Rattle.wasi_streams.specs.declared.error.StreamError.TheVariants.{LastOperationFailed, Closed, Trap, Memory}
-use Rattle.wasi_shared.specs.Ends.{End}
+use Rattle.worker_shared.specs.Ends.{End}
 use Rattle.wasi_writer.specs.Knows.{OwnerKnows}
 use Rattle.wasi_writer.specs.Answers.{after_write, after_push, after_error, with_chunk}
 use Rattle.wasi_writer.proofs.Works.{concat_end}

@@ -5,7 +5,7 @@ use Rattle.wasi_world.specs.declared.outcome.TrapKind.TheVariants as trap
 use Rattle.wasi_streams.specs.declared.error.StreamError.{StreamError}
 use Rattle.wasi_streams.specs.declared.error.StreamError.TheVariants.{LastOperationFailed, Closed, Trap, Memory}
 use Rattle.wasi_streams.specs.StreamError.{UnlessMemory}
-use Rattle.wasi_shared.specs.Ends.{End}
+use Rattle.worker_shared.specs.Ends.{End}
 use Rattle.wasi_writer.specs.declared.task.Task.{Task}
 use Rattle.wasi_writer.specs.declared.task.Task.TheVariants as task
 use Rattle.wasi_writer.specs.Knows.{OwnerKnows, WorkerKnows}

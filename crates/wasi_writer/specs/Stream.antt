@@ -4,8 +4,8 @@ use Rattle.std.specs.List.{concat}
 use Rattle.world_io.specs.Io.{Writing, CountRose}
 use Rattle.wasi_streams.specs.declared.error.StreamError.{StreamError}
 use Rattle.wasi_streams.specs.declared.error.StreamError.TheVariants.{LastOperationFailed, Closed, Trap, Memory}
-use Rattle.wasi_shared.specs.declared.finished.Ended.{Ended}
-use Rattle.wasi_shared.specs.declared.finished.Ended.TheVariants as ended
+use Rattle.worker_shared.specs.declared.finished.Ended.{Ended}
+use Rattle.worker_shared.specs.declared.finished.Ended.TheVariants as ended
 use Rattle.wasi_writer.specs.Knows.{OwnerKnows}
 use Rattle.wasi_writer.specs.Worked.{TookAll, TookFront, IsFlushed}
 

@@ -16,8 +16,8 @@ use std::alloc::AllocError;
 use std::sync::Wait;
 use wasi_addr::ErrorCode;
 use wasi_pipes::{Work, WriteCore};
-use wasi_shared::{Line, PopEnd, PushEnd};
 use wasi_streams::StreamError;
+use worker_shared::{Line, PopEnd, PushEnd};
 
 /// The core of a write stream, beside what each side knows of it. One method is one hold of the
 /// lock.

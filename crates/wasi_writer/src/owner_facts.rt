@@ -8,7 +8,7 @@ use crate::names::{
 };
 use crate::number::{Number, Setter};
 use std::marker::Model;
-use wasi_shared::{Count, Counter, Fact, Keeper};
+use worker_shared::{Count, Counter, Fact, Keeper};
 
 /// What the owner knows, as it is under the lock.
 #[derive(Drop)]

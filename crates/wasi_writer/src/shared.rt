@@ -11,8 +11,8 @@ use crate::worker_facts::WorkerKeys;
 use bytes::Bytes;
 use std::sync::{Condvar, Mutex, Wait};
 use wasi_addr::ErrorCode;
-use wasi_shared::{Line, PopEnd, PushEnd, count_left};
 use wasi_streams::StreamError;
+use worker_shared::{Line, PopEnd, PushEnd, count_left};
 
 /// The lock of a write stream, and its line beside it: chunks are pushed and popped under the lock
 /// alone.

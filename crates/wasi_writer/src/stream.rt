@@ -21,9 +21,9 @@ use std::marker::Model;
 use std::sync::{Arc, Wait};
 use std::thread::Threads;
 use wasi_pipes::WriteCore;
-use wasi_shared::{Ended, Finished, PushEnd};
 use wasi_spawn::{Handle, Spawner, StartError};
 use wasi_streams::StreamError;
+use worker_shared::{Ended, Finished, PushEnd};
 use world_io::Sink;
 
 /// A stream whose writes a worker makes, beside its owner (`AsyncWriteStream` of the crate

@@ -16,8 +16,8 @@ use std::alloc::Global;
 use std::sync::{Arc, Wait};
 use std::thread::Threads;
 use wasi_addr::ErrorCode;
-use wasi_shared::PopEnd;
 use wasi_spawn::Job;
+use worker_shared::PopEnd;
 use world_io::{Failed, Sink};
 
 /// The worker's side of a write stream.

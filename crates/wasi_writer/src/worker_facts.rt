@@ -5,7 +5,7 @@ ghost use Rattle.wasi_writer.specs.Knows.{WorkerKnows, idle};
 
 use crate::names::{Drained, Flushed, Hand, LedgerNames, Met, Popped, WorkerBlanks};
 use std::marker::Model;
-use wasi_shared::{Count, Counter, Fact, Keeper};
+use worker_shared::{Count, Counter, Fact, Keeper};
 
 /// What the worker knows, as it is under the lock.
 #[derive(Drop)]

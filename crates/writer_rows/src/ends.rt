@@ -3,8 +3,8 @@
 use crate::pour::{Use, pattern, pour};
 use crate::same::same;
 use std::test::*;
-use wasi_shared::Ended;
 use wasi_spawn::{FakeSpawner, StartError, ThreadSpawner};
+use worker_shared::Ended;
 use world_io::MemorySink;
 
 /// Whatever call of the sink fails, the sink has a front of what was accepted.

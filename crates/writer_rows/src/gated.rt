@@ -9,9 +9,9 @@ use std::sync::Wait;
 use std::test::*;
 use std::thread::Threads;
 use wasi_addr::ErrorCode;
-use wasi_shared::Ended;
 use wasi_streams::StreamError;
 use wasi_world::TrapKind;
+use worker_shared::Ended;
 
 const OK: Answer = Answer::Done(Ok(()));
 

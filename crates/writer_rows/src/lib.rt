@@ -3,6 +3,8 @@
 #![tactic(auto)]
 
 #[cfg(test)]
+mod buffer;
+#[cfg(test)]
 mod ends;
 #[cfg(test)]
 mod gate;
@@ -22,3 +24,5 @@ mod play;
 mod pour;
 #[cfg(test)]
 mod same;
+#[cfg(test)]
+mod simplex;

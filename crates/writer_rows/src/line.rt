@@ -7,7 +7,7 @@ use bytes::Bytes;
 use std::alloc::{AllocError, Global};
 use std::sync::Wait;
 use std::test::*;
-use wasi_shared::{Line, PushEnd, count_left, make_line};
+use worker_shared::{Line, PushEnd, count_left, make_line};
 
 fn push_all<R: Wait>(
     rt: &R,

@@ -5,6 +5,7 @@ ghost use Rattle.wasi_writer.specs.Names.{ledgers_of};
 
 use crate::pour::pattern;
 use crate::same::same;
+use crate::simplex::{SimplexReader, SimplexWriter, simplex};
 use std::alloc::Global;
 use std::marker::Brand;
 use std::process::Abort;
@@ -12,13 +13,12 @@ use std::sync::Wait;
 use std::test::*;
 use std::thread;
 use std::thread::Threads;
-use wasi_shared::Finished;
-use wasi_simplex::{SimplexReader, SimplexWriter, simplex};
 use wasi_spawn::{StartError, ThreadSpawner};
 use wasi_streams::StreamError;
 use wasi_world::TrapKind;
 use wasi_writer::put::write_all;
 use wasi_writer::{AsyncWriteStream, Names, WriteParts};
+use worker_shared::Finished;
 use world_io::{Failed, Sink, Source};
 
 /// Writes all of the bytes, and lets the end go.

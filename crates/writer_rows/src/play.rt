@@ -9,10 +9,10 @@ use std::marker::Brand;
 use std::sync::Wait;
 use std::test::*;
 use std::thread::Threads;
-use wasi_shared::Finished;
 use wasi_spawn::{StartError, ThreadSpawner};
 use wasi_streams::StreamError;
 use wasi_writer::{AsyncWriteStream, Names, WriteParts};
+use worker_shared::Finished;
 
 /// One call of the owner.
 #[derive(Clone, Copy)]

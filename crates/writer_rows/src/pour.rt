@@ -8,9 +8,9 @@ use std::marker::Brand;
 use std::sync::Wait;
 use std::test::*;
 use std::thread::Threads;
-use wasi_shared::Finished;
 use wasi_spawn::{Spawner, StartError};
 use wasi_writer::{AsyncWriteStream, Names, WriteParts};
+use worker_shared::Finished;
 use world_io::Sink;
 
 /// How a stream is used.

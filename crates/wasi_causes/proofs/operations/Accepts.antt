@@ -4,7 +4,7 @@ use Rattle.wasi_causes.proofs.operations.Marks.{poll_marks_none}
 use Rattle.wasi_causes.proofs.tables.Meets.{Rows, Meets, ends, onto, widen, both, granted}
 use Rattle.wasi_tcp.specs.Accept.{Unarrived, Arrived, Admitted, Unwanted, Ended}
 use Rattle.wasi_tcp.specs.Listener.{begun, listener_asks}
-use Rattle.wasi_common.specs.Rounds.{some_left, is_going}
+use Rattle.socket_common.specs.Rounds.{some_left, is_going}
 use Rattle.wasi_tcp.specs.declared.accept.AcceptStage.TheVariants as stage
 use Rattle.wasi_tcp.specs.declared.listener.Accepting.TheVariants as accepting
 use Rattle.wasi_world.specs.Operation.{Connection}

@@ -14,7 +14,7 @@ use Rattle.wasi_p2.specs.Options.{get_option_on, set_option_on, set_backlog_on}
 use Rattle.wasi_walks.specs.Answered.{NotBound, LocalTold}
 use Rattle.wasi_steps.specs.declared.reply.CodeWord.TheVariants as word
 use Rattle.wasi_steps.specs.declared.step.Step.TheVariants as step
-use Rattle.wasi_common.specs.Options.{largest_value, value_told, option_answer}
+use Rattle.socket_common.specs.Options.{largest_value, value_told, option_answer}
 use Rattle.wasi_tcp.specs.Options.{option_side}
 use Rattle.wasi_tcp.specs.declared.socket.TcpState.TheVariants as state
 use Rattle.wasi_world.specs.declared.call.Call.TheVariants as call

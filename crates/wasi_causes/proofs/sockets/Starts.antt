@@ -31,7 +31,7 @@ use Rattle.wasi_steps.specs.declared.reply.CodeWord.TheVariants as word
 use Rattle.wasi_steps.specs.declared.reply.Reply.TheVariants as reply
 use Rattle.wasi_steps.specs.declared.step.Step.TheVariants as step
 use Rattle.wasi_tcp.specs.Socket.{bind_start}
-use Rattle.wasi_common.specs.declared.asker.Asker.{Asker}
+use Rattle.socket_common.specs.declared.asker.Asker.{Asker}
 use Rattle.wasi_tcp.specs.declared.bind.BindStage.TheVariants as stage
 use Rattle.wasi_tcp.specs.declared.listen.ListenStage.TheVariants as listen_stage
 use Rattle.wasi_tcp.specs.declared.socket.TcpState.TheVariants.{Default}

@@ -7,7 +7,7 @@ use Rattle.wasi_causes.proofs.tables.Meets.{Rows, Meets, ends, asks, chain, onto
 use Rattle.wasi_causes.proofs.tables.Routes.{Replied, Says, code_word, apart, none_has}
 use Rattle.wasi_causes.specs.Outcomes.{Outcome}
 use Rattle.wasi_causes.specs.Udp.{OfUdp, putting_udp, IsUdpBound, UdpKnown, UdpToldBound, IsUdpUnbound, udp_local_entry, KnowsUdpBound, UdpLocalRefusal, UdpNotBound, UdpLocalTold, TellsUdpLocal, UdpGetRefusal, UdpGetTold, UdpTooLarge, GetsUdpOption, udp_set_entry, UdpSetRefusal, UdpZero, UdpSetTold, SetsUdpOption}
-use Rattle.wasi_common.specs.Options.{largest_value, value_told, option_answer}
+use Rattle.socket_common.specs.Options.{largest_value, value_told, option_answer}
 use Rattle.wasi_host.specs.Machine.{udp_socket_at}
 use Rattle.wasi_host.specs.Options.{code_told}
 use Rattle.wasi_records.specs.Records.{open_at}

@@ -4,7 +4,7 @@ use Rattle.wasi_world.specs.declared.ids.Ids.{Ids}
 use Rattle.wasi_world.specs.declared.call.Call.TheVariants as call
 use Rattle.wasi_udp.specs.Create.{Create}
 use Rattle.wasi_causes.proofs.Words.{Item, entry}
-use Rattle.wasi_common.specs.Rounds.{is_going}
+use Rattle.socket_common.specs.Rounds.{is_going}
 use Rattle.wasi_world.specs.declared.call.Told.TheVariants as told
 use Rattle.wasi_walks.specs.Waiting.{IsCreating}
 use Rattle.wasi_host.specs.Cancel.{cancel_asks, cancel_call, cancel_on, cancel_bind_at, cancel_create_at, cancel_drop_outgoing_at, cancel_listen_at, cancel_udp_bind_at, cancel_udp_connect_at, is_datagram_on, listen_gone, other_than_datagram}

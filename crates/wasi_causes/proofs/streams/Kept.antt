@@ -1,6 +1,6 @@
 -- What each call of a stream keeps: what is pending, the streams and the pipes that are there, and the handles, where it gives something.
 use Rattle.wasi_causes.proofs.Words.{◌≡◌, ◌∙◌, ℕ, ⊤, Bool, true, false, if◌then◌else◌, nat_lt, List, [], ◌∷◌, ◌++◌, Option, Some, None, Result, Ok, Err, IsSome, is_some, inl, inr, refl, sym, subst, ap, CallStop, Entry, Machine, OpId, Permits, ReadState, Records, StreamStop, Tcp2Socket, WriteState, check_asks, check_write_asks, flush_asks, flushed_asks, input_at, length, marks_in, output_at, read_asks, read_state_asks, reader_of, set_get, slice_get, streams_in, with_job, with_reader, with_writer, write_asks, write_state_asks, writer_of}
-use Rattle.wasi_memory.specs.Plain.{Contents, left_in}
+use Rattle.memory_streams.specs.Plain.{Contents, left_in}
 use Rattle.wasi_streams.specs.StreamStop as stop
 use Rattle.wasi_jobs.specs.declared.job.HostJob.{HostJob}
 use Rattle.wasi_host.specs.declared.kind.PlainInput.{PlainInput}

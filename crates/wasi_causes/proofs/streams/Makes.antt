@@ -1,6 +1,6 @@
 -- Pipes, sinks and closed streams: how they are made, and what a pipe holds.
 use Rattle.wasi_causes.proofs.Words.{◌≡◌, ℕ, List, [], Option, Some, None, refl, Give, Machine, Result, Stop, WasiSocketsCtx, bind, own_of, length}
-use Rattle.wasi_memory.specs.Plain.{Contents}
+use Rattle.memory_streams.specs.Plain.{Contents}
 use Rattle.wasi_host.specs.declared.kind.Kind.TheVariants as kind
 use Rattle.wasi_host.specs.declared.kind.PlainInput.TheVariants as input
 use Rattle.wasi_host.specs.declared.kind.PlainOutput.{PlainOutput}

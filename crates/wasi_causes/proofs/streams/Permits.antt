@@ -4,7 +4,7 @@ use Rattle.std.specs.Prelude.{◌≤◌, take, drop}
 use Rattle.std.proofs.Math.Nat.{min-le_left}
 use Rattle.std.proofs.lemmas.List.{length-take}
 use Rattle.wasi_causes.proofs.Words.{Records}
-use Rattle.wasi_memory.specs.Plain.{Contents, left_in, room_told}
+use Rattle.memory_streams.specs.Plain.{Contents, left_in, room_told}
 use Rattle.wasi_streams.specs.StreamStop as stop
 use Rattle.wasi_tcp.specs.declared.reader.ReadState.TheVariants as reading
 use Rattle.wasi_tcp.specs.declared.writer.WriteState.TheVariants as writing

@@ -1,7 +1,7 @@
 -- What inputs and outputs of no connection give: reads, looks at what may be written, writes and flushes.
 use Rattle.wasi_causes.proofs.Words.{◌≡◌, ◌∙◌, ℕ, Bool, true, false, List, [], ◌∷◌, ◌++◌, Option, Some, None, Result, Ok, Err, refl, sym, ap, inr, length, nat_lt, IsSomeAnd, IsUnpermitted, Machine, CallStop, WasiSocketsCtx, bytes_reply, permit_reply, taken_reply, output_streams, record_in, streams_in, if◌then◌else◌, ltb-true, ltb-false, arith}
 use Rattle.std.specs.Prelude.{zero, suc, take, drop, ◌<◌}
-use Rattle.wasi_memory.specs.Plain.{Contents, left_in, room_told}
+use Rattle.memory_streams.specs.Plain.{Contents, left_in, room_told}
 use Rattle.wasi_streams.specs.StreamStop as stop
 use Rattle.wasi_host.specs.declared.kind.PlainInput.{PlainInput}
 use Rattle.wasi_host.specs.declared.kind.PlainInput.TheVariants as input

@@ -8,7 +8,7 @@ use Rattle.wasi_causes.proofs.Words.{WasiSocketsCtx, [], ap, append_assoc, arith
 use Rattle.wasi_causes.proofs.Words.{first_ids, inl, inr, length, ltb-true, machine_asks, nat_lt, polls}
 use Rattle.wasi_causes.proofs.Words.{refl, subst, sym, true, false, word_of_code, ℕ, ◌++◌, ◌∙◌, ◌∷◌, ◌≡◌}
 use Rattle.wasi_addr.specs.declared.address.SocketAddressFamily.{SocketAddressFamily}
-use Rattle.wasi_common.specs.declared.asker.Asker.{Asker}
+use Rattle.socket_common.specs.declared.asker.Asker.{Asker}
 use Rattle.wasi_world.specs.declared.datagram.OutgoingDatagram.{OutgoingDatagram}
 use Rattle.wasi_world.specs.Operation.{Send}
 use Rattle.wasi_udp.specs.Send.{send_first, send_left, send_operation, send_start, send_to}

@@ -2,7 +2,7 @@
 
 ghost use Rattle.std.specs.Prelude.{◌≡◌, true, false, OnErr, IfOk, Ok, Some, None};
 ghost use Rattle.wasi_world.specs.Asks.{AsksFor, Reaches, outcome};
-ghost use Rattle.wasi_common.specs.Rounds.{is_going};
+ghost use Rattle.socket_common.specs.Rounds.{is_going};
 ghost use Rattle.wasi_tcp.specs.Bind.{IsOf};
 
 use crate::bind::BindOp;
@@ -10,11 +10,11 @@ use crate::connect::ConnectOp;
 use crate::listen::ListenOp;
 use crate::listener::TcpListenStream;
 use crate::socket::{TcpSocket, TcpState};
+use socket_common::Asker;
 use wasi_addr::{
     ErrorCode, IpSocketAddress, is_valid_address_family, is_valid_remote_address,
     is_valid_unicast_address, unspecified_addr,
 };
-use wasi_common::Asker;
 use wasi_world::{Answer, OpId, Refusal, Sock, World};
 
 impl TcpSocket {

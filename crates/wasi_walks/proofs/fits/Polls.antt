@@ -8,7 +8,7 @@ use Rattle.wasi_walks.proofs.Words.{verdict_front, ℕ, ⊤, ◌∷◌, ◌≡�
 use Rattle.wasi_world.specs.Operation.{Connection, UdpBind}
 use Rattle.wasi_udp.specs.Bind as udp
 use Rattle.wasi_tcp.specs.Listen.{IsListen}
-use Rattle.wasi_common.specs.Rounds.{some_left, is_going}
+use Rattle.socket_common.specs.Rounds.{some_left, is_going}
 use Rattle.wasi_walks.proofs.Gives.{Gives}
 use Rattle.wasi_tcp.specs.Accept as accept
 use Rattle.wasi_tcp.specs.Connect as connect

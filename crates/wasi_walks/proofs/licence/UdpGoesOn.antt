@@ -29,7 +29,7 @@ use Rattle.wasi_records.specs.Udp.{udp_bind_progress, udp_create_left, udp_side,
 use Rattle.wasi_records.specs.declared.udp.OpenUdp.{OpenUdp}
 use Rattle.wasi_records.specs.declared.udp.Udp2Socket.{Udp2Socket}
 use Rattle.wasi_records.specs.declared.udp.UdpInProgress.{UdpInProgress}
-use Rattle.wasi_common.specs.Rounds.{is_going}
+use Rattle.socket_common.specs.Rounds.{is_going}
 use Rattle.wasi_udp.specs.Create.{Create, create_cancel_asks}
 
 module _ (contexts : List WasiSocketsCtx) (steps : List Step) (line : ℕ) (origin : Step) (is_line : step_at steps line ≡ Some origin) where

@@ -6,7 +6,7 @@ use Rattle.wasi_tcp.specs.Accept as accept
 use Rattle.wasi_tcp.specs.Connect as connect
 use Rattle.wasi_tcp.specs.Listen as listen
 use Rattle.wasi_udp.specs.Bind as udp_bind
-use Rattle.wasi_common.specs.Rounds.{is_going}
+use Rattle.socket_common.specs.Rounds.{is_going}
 use Rattle.wasi_udp.specs.Create.{Create, create_cancel_asks}
 use Rattle.wasi_udp.specs.Send as send
 use Rattle.wasi_world.specs.Operation as item

@@ -7,7 +7,7 @@ use Rattle.wasi_walks.proofs.Words.{closing_side, create_asks, created_asks, ent
 use Rattle.wasi_walks.proofs.Words.{inl, is_full, is_over, is_wildcard, job_asks, job_in, length, make_asks, new_asks, new_job, new_record}
 use Rattle.wasi_walks.proofs.Words.{own_of, poll_asks, refl, refuse_in, side_in, side_of, subst, told_addr, told_done, true, turn_asks}
 use Rattle.wasi_walks.proofs.Words.{with_listening, with_reader, with_writer, writer_side, writing_side, ℕ, ⊤, ◌++◌, ◌∙◌, ◌∷◌, ◌≡◌}
-use Rattle.wasi_common.specs.Rounds.{is_going}
+use Rattle.socket_common.specs.Rounds.{is_going}
 use Rattle.wasi_udp.specs.Create.{Create, create_cancel_asks, new_create, after_create as udp_after_create}
 use Rattle.wasi_udp.specs.Shape.{Socket as UdpSocket}
 use Rattle.wasi_udp.specs.Socket.{after_local as udp_after_local}

@@ -9,7 +9,7 @@ use Rattle.wasi_records.specs.Records.{open_at, open_of, tcp2_at, udp2_at, looku
 use Rattle.wasi_host.specs.UdpCalls.{with_udp}
 use Rattle.wasi_host.specs.declared.kind.Kind.TheVariants.{Incoming, Outgoing, Udp2, Lookup, PlainInput, PlainOutput}
 use Rattle.wasi_records.specs.declared.datagrams.Incoming.{Incoming as IncomingStream}
-use Rattle.wasi_memory.specs.Plain.{Contents}
+use Rattle.memory_streams.specs.Plain.{Contents}
 use Rattle.wasi_host.specs.GivingBack.{given_back}
 use Rattle.wasi_host.specs.declared.kind.PlainInput.TheVariants as plain_input
 use Rattle.wasi_host.specs.declared.kind.PlainOutput.TheVariants as plain_output

@@ -1,6 +1,6 @@
 -- Lookups of host names, as moves: one begins, a turn asks about it, its addresses are handed out, and it is dropped.
 use Rattle.std.specs.Prelude.{◌≡◌, ⊤, ℕ, Bool, true, false, if◌then◌else◌, List, [], ◌∷◌, ◌++◌, Option, Some, None, is_some, Result, Ok, Err}
-use Rattle.wasi_memory.specs.Plain.{Contents}
+use Rattle.memory_streams.specs.Plain.{Contents}
 use Rattle.wasi_addr.specs.declared.address.IpAddress.{IpAddress}
 use Rattle.wasi_addr.specs.declared.lookup.ErrorCode.{ErrorCode}
 use Rattle.wasi_addr.specs.declared.lookup.ErrorCode.TheVariants.{PermanentResolverFailure}

@@ -1,6 +1,6 @@
 -- Inputs and outputs of no connection, as moves: they are made, read, written and dropped, and nothing is asked of the network.
 use Rattle.std.specs.Prelude.{◌≡◌, ℕ, length, List, [], ◌∷◌, ◌++◌, Bool, if◌then◌else◌, Option, Some, None, is_some, Result, Ok, Err}
-use Rattle.wasi_memory.specs.Plain.{Contents, no_contents, pipe_read, pipe_write}
+use Rattle.memory_streams.specs.Plain.{Contents, no_contents, pipe_read, pipe_write}
 use Rattle.wasi_walks.proofs.Words.{Allows, Full, Give, HandleTable, Kind, Machine, Step, Stop, Trap, WasiSocketsCtx, ap, ask_made, bind, is_full, make_asks, name_of, own_of, refl, subst, with_handle}
 use Rattle.wasi_walks.proofs.Lists.{get_seam}
 use Rattle.wasi_host.specs.PlainStreams.{read_plain, read_pipe_at, write_plain, write_pipe_at, piped, input_pipe_asks, output_pipe_asks, plain_asks, drop_input_pipe_at, drop_output_pipe_at, with_record_more, drop_plain_input, drop_plain_output}

@@ -12,7 +12,7 @@ use Rattle.wasi_machine.specs.Machine.{first_ids}
 use Rattle.wasi_world.specs.declared.ids.Ids.{Ids}
 use Rattle.wasi_addr.specs.Clamp.{clamped_backlog}
 use Rattle.wasi_world.specs.declared.call.Opt.{Opt}
-use Rattle.wasi_common.specs.Options.{value_set}
+use Rattle.socket_common.specs.Options.{value_set}
 use Rattle.wasi_walks.specs.Licence.{IsSetTo}
 use Rattle.wasi_records.specs.Records.{tcp2_at}
 use Rattle.wasi_walks.proofs.Words.{Tcp2}

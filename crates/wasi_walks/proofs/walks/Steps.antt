@@ -8,7 +8,7 @@ use Rattle.wasi_walks.proofs.Words.{watched_by, with_store, ℕ, ◌≡◌}
 use Rattle.wasi_world.specs.declared.ids.Ids.{Ids}
 use Rattle.wasi_addr.specs.Clamp.{clamped_backlog}
 use Rattle.wasi_world.specs.declared.call.Opt.{Opt}
-use Rattle.wasi_common.specs.Options.{value_set}
+use Rattle.socket_common.specs.Options.{value_set}
 use Rattle.wasi_steps.specs.Settings.{AnOption}
 use Rattle.wasi_walks.specs.Licence.{IsSetTo, SetsOption, SetsBacklog}
 use Rattle.std.specs.Prelude.{⊤, ◌⊎◌}

@@ -7,7 +7,7 @@ use Rattle.wasi_walks.proofs.Words.{ap, bind, subst, ◌∙◌, handles_of, is_n
 use Rattle.wasi_machine.specs.Machine.{first_ids}
 use Rattle.wasi_world.specs.declared.ids.Ids.{Ids}
 use Rattle.wasi_world.specs.declared.call.Opt.{Opt}
-use Rattle.wasi_common.specs.Options.{value_set, zero_test, refused_before, refused_after}
+use Rattle.socket_common.specs.Options.{value_set, zero_test, refused_before, refused_after}
 use Rattle.wasi_records.specs.Records.{open_at, open_of, udp2_at}
 use Rattle.wasi_host.specs.declared.kind.Kind.TheVariants.{Udp2}
 use Rattle.wasi_records.specs.declared.udp.OpenUdp.{OpenUdp}

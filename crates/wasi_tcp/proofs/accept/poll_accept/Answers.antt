@@ -1,7 +1,7 @@
 use Rattle.std.proofs.Common.{refl}
 use Rattle.wasi_world.proofs.Walks.{reaches_on, reaches_then}
 use Rattle.wasi_world.proofs.Polls.{stays, ends, ended, becomes}
-use Rattle.wasi_common.proofs.Turns.{round_none, round_end, round_on}
+use Rattle.socket_common.proofs.Turns.{round_none, round_end, round_on}
 use Rattle.wasi_tcp.proofs.accept.poll_accept.Goals as goal
 
 pub returns-in_err-told-clause-round : goal.returns-in_err-told-clause-round

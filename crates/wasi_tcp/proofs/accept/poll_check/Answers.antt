@@ -1,7 +1,7 @@
 use Rattle.std.proofs.Common.{refl}
 use Rattle.wasi_world.proofs.Walks.{reaches_on}
 use Rattle.wasi_world.proofs.Polls.{stays, becomes}
-use Rattle.wasi_common.proofs.Turns.{round_none, round_end, round_on}
+use Rattle.socket_common.proofs.Turns.{round_none, round_end, round_on}
 use Rattle.wasi_tcp.proofs.accept.poll_check.Goals as goal
 
 pub returns-in_err-verdict-clause-round : goal.returns-in_err-verdict-clause-round

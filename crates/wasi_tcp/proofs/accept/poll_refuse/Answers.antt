@@ -1,7 +1,7 @@
 use Rattle.std.proofs.Common.{refl}
 use Rattle.wasi_world.proofs.Walks.{reaches_on}
 use Rattle.wasi_world.proofs.Polls.{again}
-use Rattle.wasi_common.proofs.Turns.{round_none, round_end}
+use Rattle.socket_common.proofs.Turns.{round_none, round_end}
 use Rattle.wasi_tcp.proofs.accept.poll_refuse.Goals as goal
 
 pub returns-in_err-refuse-clause-round : goal.returns-in_err-refuse-clause-round

@@ -2,8 +2,8 @@ use Rattle.std.proofs.Common.{refl, sym, ◌∙◌}
 use Rattle.wasi_world.specs.Operation.{NothingLast}
 use Rattle.wasi_world.proofs.Walks.{reaches_on}
 use Rattle.wasi_world.proofs.Polls.{done, stays, again}
-use Rattle.wasi_common.proofs.Turns.{round_none, round_end}
-use Rattle.wasi_common.specs.Asker.{who_of}
+use Rattle.socket_common.proofs.Turns.{round_none, round_end}
+use Rattle.socket_common.specs.Asker.{who_of}
 use Rattle.wasi_udp.specs.Receive.{bytes_in}
 use Rattle.wasi_udp.proofs.Receives.{wanted, unwanted}
 use Rattle.wasi_udp.proofs.receive.poll_check.Goals as goal

@@ -1,6 +1,6 @@
 use Rattle.std.proofs.Common.{refl}
 use Rattle.wasi_world.proofs.Polls.{ended}
-use Rattle.wasi_common.proofs.Turns.{round_end}
+use Rattle.socket_common.proofs.Turns.{round_end}
 use Rattle.wasi_udp.proofs.receive.poll_round.Goals as goal
 
 pub returns-in-Refused-clause-round : goal.returns-in-Refused-clause-round

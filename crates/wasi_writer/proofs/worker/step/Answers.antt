@@ -1,5 +1,5 @@
 use Rattle.std.proofs.Common.{ap, ◌∙◌}
-use Rattle.wasi_shared.specs.Ends.{End}
+use Rattle.worker_shared.specs.Ends.{End}
 use Rattle.wasi_writer.specs.Knows.{WorkerKnows}
 use Rattle.wasi_writer.proofs.Works.{wrote, failed}
 use Rattle.wasi_writer.proofs.worker.step.Goals as goal

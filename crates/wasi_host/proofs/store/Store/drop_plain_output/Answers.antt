@@ -1,5 +1,5 @@
 use Rattle.std.proofs.Common.{refl, sym}
-use Rattle.wasi_memory.specs.Plain.{no_contents}
+use Rattle.memory_streams.specs.Plain.{no_contents}
 use Rattle.wasi_records.specs.declared.records.Record.TheVariants.{OutputPipe}
 use Rattle.wasi_host.proofs.GivenBack.{was_none}
 use Rattle.wasi_records.proofs.PipeCounts.{held_in-output}

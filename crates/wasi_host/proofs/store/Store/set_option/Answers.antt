@@ -1,6 +1,6 @@
 use Rattle.std.proofs.Common.{refl}
 use Rattle.wasi_world.proofs.Walks.{asks_given, asks_end}
-use Rattle.wasi_common.specs.Options.{option_of, number_of}
+use Rattle.socket_common.specs.Options.{option_of, number_of}
 use Rattle.wasi_records.proofs.Hosts.{host_refused}
 use Rattle.wasi_records.proofs.Lookups.{found_at, none_at, set_back}
 use Rattle.wasi_records.proofs.SideCounts.{Any}

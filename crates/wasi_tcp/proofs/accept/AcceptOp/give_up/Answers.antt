@@ -3,7 +3,7 @@ use Rattle.std.specs.Prelude.{Some}
 use Rattle.wasi_world.specs.Operation.{NothingLast}
 use Rattle.wasi_world.proofs.Walks.{asks_at}
 use Rattle.wasi_tcp.specs.Accept.{refuse_in}
-use Rattle.wasi_common.specs.Asker.{who_of}
+use Rattle.socket_common.specs.Asker.{who_of}
 use Rattle.wasi_tcp.proofs.accept.AcceptOp.give_up.Goals as goal
 
 pub returns-in-Some-clause-asked : goal.returns-in-Some-clause-asked
