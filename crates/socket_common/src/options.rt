@@ -77,7 +77,6 @@ pub fn get_of_side<W: World>(
     ensures asked { AsksFor (get_of_side_asks op side option) (W.seen world.old) (W.seen world.new) (λ answer. answer) (outcome result) }
     ensures within { IfOk result (λ answer. answer ≤ largest_value option) }
     ensures unasked { OnErr (outcome result) (W.seen world.new ≡ W.seen world.old) }
-    ensures open { (W.seen world.new).ended ≡ false }
 {
     let told = asks::get_option(world, op, side, option)?;
     answer(option, told)
@@ -98,7 +97,6 @@ pub fn set_of_side<W: World>(
     requires { (W.seen world.old).ended ≡ false }
     ensures asked { AsksFor (set_of_side_asks op side (option_of setting) (number_of setting)) (W.seen world.old) (W.seen world.new) (λ answer. answer) (outcome result) }
     ensures unasked { OnErr (outcome result) (W.seen world.new ≡ W.seen world.old) }
-    ensures open { (W.seen world.new).ended ≡ false }
 {
     if setting.refused_after_state() {
         return Err(Refusal::Code(ErrorCode::InvalidArgument));

@@ -9,7 +9,7 @@ use Rattle.wasi_world.specs.declared.outcome.Answer.{Answer}
 use Rattle.wasi_world.specs.declared.outcome.Answer.TheVariants.{Ready, Pending}
 use Rattle.wasi_world.specs.Asks.{Asks, Give, bind, AsksFor}
 use Rattle.wasi_world.specs.Seen.{Seen}
-use Rattle.wasi_world.proofs.Walks.{reaches_all, reaches_in, asks_end}
+use Rattle.wasi_world.proofs.Walks.{reaches_all, reaches_in, asks_end, asks_err}
 use Rattle.wasi_host.specs.declared.blocking.BlockingCall.TheVariants.{Read, Skip}
 use Rattle.wasi_host.specs.declared.error.CallError.{CallError}
 use Rattle.wasi_host.specs.declared.error.CallError.TheVariants as call
@@ -32,7 +32,7 @@ call_memory (Err x) h = ap (λ (y : CallError). call_outcome (Err y)) h
 
 -- out of memory before the first ask
 pub call_none : {A T : Type 0} {asks : Asks A} {s t : Seen} {view : Result T CallStop → A} {d : AllocError} (r : Result T CallError) → IsErrAnd r (λ x. x ≡ call.Memory d) → t ≡ s → AsksFor asks s t view (call_outcome r)
-call_none {asks} {s} {t} r h e = rw (call_memory r h) (record { ok = tt; err = record { rest = asks; reached = rw e (reaches_all asks s) } })
+call_none {asks} {s} {t} r h e = rw (call_memory r h) (asks_err asks (rw e (reaches_all asks s)))
 
 -- an error that is passed on by a `?`
 pub call_passed : {A B T U : Type 0} {asks : Asks A} (f : A → Asks B) {s t : Seen} {view : Result T CallStop → A} {shown : Result U CallStop → B} (x : CallError) (r : Result U CallError) → IsErrAnd r (λ y. y ≡ x) → AsksFor asks s t view (call_outcome {T = T} (Err x)) → ((stop : CallStop) → f (view (Err stop)) ≡ Give (shown (Err stop))) → AsksFor (bind asks f) s t shown (call_outcome r)
@@ -42,14 +42,14 @@ call_passed {asks} f {s} {t} {shown} call.Closed (Err y) h k e = let P : CallErr
 call_passed {asks} f {s} {t} {shown} (call.Trap kind) (Err y) h k e = let P : CallError → Type 0 = λ z. AsksFor (bind asks f) s t shown (call_outcome (Err z)) in subst P (sym h) (asks_end f k.ok (e (Traps kind)))
 call_passed {asks} f {s} {t} {shown} (call.Memory d) (Err y) h k e =
     let P : CallError → Type 0 = λ z. AsksFor (bind asks f) s t shown (call_outcome (Err z)) in
-    subst P (sym h) (record { ok = tt; err = record { rest = bind k.err.rest f; reached = reaches_in f k.err.reached } })
+    subst P (sym h) (asks_err (bind k.err.rest f) (reaches_in f k.err.reached))
 
 -- the error of a call that is the end of a write
 pub call_ended : {A T : Type 0} {asks : Asks A} (f : A → Asks (Blocked (Unit {0}))) {s t : Seen} {view : Result T CallStop → A} (m : Machine) (x : CallError) (r : Result (Answer (Unit {0})) CallError) → call_outcome r ≡ write_told x → AsksFor asks s t view (call_outcome {T = T} (Err x)) → ((stop : CallStop) → f (view (Err stop)) ≡ Give (write_ended stop m)) → AsksFor (bind asks f) s t (λ y. (y, m)) (call_outcome r)
 call_ended f m (call.Failed c n) r h k e = rw h (asks_end f k.ok (e (Failed c n)))
 call_ended f m call.Closed r h k e = rw h (asks_end f k.ok (e Closed))
 call_ended f m (call.Trap kind) r h k e = rw h (asks_end f k.ok (e (Traps kind)))
-call_ended f m (call.Memory d) r h k e = rw h (record { ok = tt; err = record { rest = bind k.err.rest f; reached = reaches_in f k.err.reached } })
+call_ended f m (call.Memory d) r h k e = rw h (asks_err (bind k.err.rest f) (reaches_in f k.err.reached))
 
 -- the error of a look at an input
 pub look_failed : (m : Machine) {asks : Asks (Result Bool Stop × Records)} {store : Records} {s t : Seen} (x : Fault) (r : Result Bool CallError) → IsErrAnd r (λ y. y ≡ call_fault x) → AsksFor asks s t (λ z. (z, store)) (fault_outcome {T = Bool} (Err x))
@@ -60,7 +60,7 @@ look_failed m {asks} {store} {s} {t} (fault.Trap kind) (Err y) h k =
     subst P (sym h) (asks_end _ k.ok refl)
 look_failed m {asks} {store} {s} {t} (fault.Memory d) (Err y) h k =
     let P : CallError → Type 0 = λ z. AsksFor (bind asks (λ done. Give (looked m done))) s t (λ y. let after : Machine = record m { store = store } in (y, after)) (call_outcome (Err z)) in
-    subst P (sym h) (record { ok = tt; err = record { rest = bind k.err.rest _; reached = reaches_in _ k.err.reached } })
+    subst P (sym h) (asks_err (bind k.err.rest _) (reaches_in _ k.err.reached))
 
 -- the outcome of a call that was pending
 pub call_outcome_of : {A : Type 0} (gives : A → Outcome) {asks : Asks (Blocked A)} {s t : Seen} (m : Machine) (x : Result (Answer A) CallError) {r : Result (Result (Answer Outcome) Stop) AllocError} → r ≡ blocked_told gives x → AsksFor asks s t (λ y. (y, m)) (call_outcome x)
@@ -70,7 +70,7 @@ call_outcome_of gives m (Ok Pending) h k = rw h (asks_end _ k.ok refl)
 call_outcome_of gives m (Err (call.Failed c n)) h k = rw h (asks_end _ k.ok refl)
 call_outcome_of gives m (Err call.Closed) h k = rw h (asks_end _ k.ok refl)
 call_outcome_of gives m (Err (call.Trap kind)) h k = rw h (asks_end _ k.ok refl)
-call_outcome_of gives m (Err (call.Memory d)) h k = rw h (record { ok = tt; err = record { rest = bind k.err.rest _; reached = reaches_in _ k.err.reached } })
+call_outcome_of gives m (Err (call.Memory d)) h k = rw h (asks_err (bind k.err.rest _) (reaches_in _ k.err.reached))
 
 -- == numbers and bytes
 pub never : (b : Bool) → b ≡ true → b ≡ false → ⊥

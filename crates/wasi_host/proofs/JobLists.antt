@@ -8,7 +8,7 @@ use Rattle.wasi_world.specs.declared.outcome.TrapKind.TheVariants.{NoSuchHandle}
 use Rattle.wasi_world.specs.Asks.{Asks, Give, bind, Reaches, Started, AsksFor}
 use Rattle.wasi_streams.specs.StreamStop.{StreamStop}
 use Rattle.wasi_streams.specs.StreamStop as stop
-use Rattle.wasi_world.proofs.Walks.{reaches_on, reaches_in, reaches_then}
+use Rattle.wasi_world.proofs.Walks.{reaches_on, reaches_in, reaches_then, asks_err, asks_ok}
 use Rattle.wasi_records.specs.Records.{tcp2_at, tcp2_put}
 use Rattle.wasi_records.specs.declared.records.Record.{Record}
 use Rattle.wasi_jobs.specs.declared.job.HostJob.{HostJob}
@@ -53,14 +53,14 @@ fewer_ahead e r = rw (e, r) (omega arith)
 -- where none is ahead, the turn is over
 pub asks_over : {s t : Seen} {jobs ahead : List HostJob} (first : List HostJob) (records : List Record) (kept : List HostJob) (now : List Record) → jobs ≡ kept ++ ahead → ahead ≡ [] → Reaches (turn_jobs [] first records) (turn_jobs kept ahead now) s t
     → AsksFor (turn_jobs [] first records) s t (λ (done : Unit {0}). (jobs, now)) (Ok tt)
-asks_over first records kept now e n h = rw (e, n, append-nil kept) (record { ok = rw n at h; err = tt })
+asks_over first records kept now e n h = rw (e, n, append-nil kept) (asks_ok (rw n at h))
 
 -- where memory is wanted in it, the turn has begun
 pub turn_stops : {s t u : Seen} {view : Unit {0} → List HostJob × List Record} (first : List HostJob) (records : List Record) (kept jobs rest : List HostJob) (job : HostJob) (before : List Record) (Q : AllocError → Type 0) (r : Result (Unit {0}) AllocError) → IsErrAnd r Q → jobs ≡ job ∷ rest
     → Reaches (turn_jobs [] first records) (turn_jobs kept jobs before) s t → Started (turn_job before job) t u → AsksFor (turn_jobs [] first records) s u view r
 turn_stops first records kept jobs rest job before Q (Ok d) q e went h = absurd q
 turn_stops first records kept jobs rest job before Q (Err d) q e went h =
-    record { ok = tt; err = record { rest = bind h.rest (λ now. turn_jobs (jobs_with kept job (is_going now job)) rest now); reached = reaches_then (rw e at went) (reaches_in _ h.reached) } }
+    asks_err (bind h.rest (λ now. turn_jobs (jobs_with kept job (is_going now job)) rest now)) (reaches_then (rw e at went) (reaches_in _ h.reached))
 
 -- a write on no record asks nothing
 pub noted_none : {T : Type 0} (store : Records) (place : ℕ) (call : Tcp2Socket → Asks (Result T StreamStop × Tcp2Socket)) → tcp2_at store.records place ≡ None → write_at store place call None ≡ Give (Err (stop.Trap NoSuchHandle), store)

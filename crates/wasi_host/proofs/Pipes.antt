@@ -6,7 +6,7 @@ use Rattle.std.specs.Prelude.{IsErrAnd, OnErr}
 use Rattle.wasi_world.specs.declared.ids.OpId.{OpId}
 use Rattle.wasi_world.specs.Asks.{Give, bind, AsksFor}
 use Rattle.wasi_world.specs.Seen.{Seen}
-use Rattle.wasi_world.proofs.Walks.{asks_given, asks_none, asks_end, reaches_in}
+use Rattle.wasi_world.proofs.Walks.{asks_given, asks_none, asks_end, reaches_in, asks_err}
 use Rattle.wasi_streams.specs.declared.error.StreamError.{StreamError}
 use Rattle.wasi_streams.specs.declared.error.StreamError.TheVariants as told
 use Rattle.wasi_streams.specs.StreamStop.{StreamStop, stream_outcome}
@@ -79,7 +79,7 @@ pub pipe_refused : (m : Machine) (own : OpId) (k : Kind) (r : Record) {records :
 pipe_refused m own k r x (Ok y) e i h = absurd i
 pipe_refused m own k r (fault.Trap kind) (Err y) e i h = rw (e, i) (asks_end (λ made. Give (piped m r made)) h.ok refl)
 pipe_refused m own k r (fault.Memory d) (Err y) e i h =
-    rw (e, i) (record { ok = tt; err = record { rest = bind h.err.rest (λ made. Give (piped m r made)); reached = reaches_in (λ made. Give (piped m r made)) h.err.reached } })
+    rw (e, i) (asks_err (bind h.err.rest (λ made. Give (piped m r made))) (reaches_in (λ made. Give (piped m r made)) h.err.reached))
 
 -- == what asks nothing has its tree's answer
 pub settled : {A T : Type 0} {s : Seen} {view : T → A} {value : A} (r : Result T AllocError) → IfOk r (λ x. view x ≡ value) → AsksFor (Give value) s s view r

@@ -7,7 +7,7 @@ use Rattle.wasi_streams.specs.declared.fault.Fault.{Fault}
 use Rattle.wasi_world.specs.declared.ids.Ids.{Ids}
 use Rattle.wasi_world.specs.Seen.{Seen}
 use Rattle.wasi_world.specs.Asks.{Asks, Give, Reaches, AsksFor}
-use Rattle.wasi_world.proofs.Walks.{reaches_on, reaches_then}
+use Rattle.wasi_world.proofs.Walks.{reaches_on, reaches_then, asks_err, asks_ok}
 use Rattle.wasi_world.specs.declared.outcome.Answer.TheVariants.{Ready, Pending}
 use Rattle.wasi_host.specs.declared.blocking.BlockingCall.TheVariants as blocking
 use Rattle.wasi_host.specs.declared.machine.Machine.{Machine}
@@ -22,8 +22,8 @@ use Rattle.wasi_records.proofs.Hosts.{fault_passed}
 
 -- what is asked after the first of the asks were made
 asks_after : {A T : Type 0} {first mid : Asks A} {o p q : Seen} {view : T → A} {r : Result T AllocError} → Reaches first mid o p → AsksFor mid p q view r → AsksFor first o q view r
-asks_after {r = Ok x} h k = record { ok = reaches_then h k.ok; err = tt }
-asks_after {r = Err d} h k = record { ok = tt; err = record { rest = k.err.rest; reached = reaches_then h k.err.reached } }
+asks_after {r = Ok x} h k = asks_ok (reaches_then h k.ok)
+asks_after {r = Err d} h k = asks_err k.err.rest (reaches_then h k.err.reached)
 
 -- it wasn't looked at, where that was tested
 pub none_of : {A : Type 0} (o : Option A) (b : Bool) → is_some o ≡ not b → b ≡ true → o ≡ None
@@ -62,7 +62,7 @@ module _ {first : Asks (Result Found Stop × Machine)} (look : Look) (pollables 
 
 -- none is left
 pub looks_end : {first : Asks (Result Found Stop × Machine)} (look : Look) (pollables : List ℕ) (i : ℕ) (m : Machine) (ids : Ids) (found : Found) {o s : Seen} → length pollables ≤ i → Reaches first (look_each look (drop i pollables) m ids found) o s → AsksFor first o s (λ (done : Result Found Stop). (done, m)) (Ok (Ok found))
-looks_end look pollables i m ids found l before = record { ok = rw (drop_all i pollables l) at before; err = tt }
+looks_end look pollables i m ids found l before = asks_ok (rw (drop_all i pollables l) at before)
 
 -- none is ready, and the call is pending
 pub none_ready : (ids : Ids) (pollables places : List ℕ) (m : Machine) (found : Found) → places ≡ ready_places found 0 pollables → places ≡ [] → polled_each ids pollables (Ok found, m) ≡ (Ok Pending, record m { store = record m.store { standing = Some (standing_as ids (Blocking (blocking.Poll pollables))) } })

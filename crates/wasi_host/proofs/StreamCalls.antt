@@ -6,7 +6,7 @@ use Rattle.wasi_addr.specs.declared.code.ErrorCode.{ErrorCode}
 use Rattle.wasi_world.specs.Seen.{Seen}
 use Rattle.wasi_world.specs.declared.ids.OpId.{OpId}
 use Rattle.wasi_world.specs.Asks.{Asks, Give, bind, Started, AsksFor}
-use Rattle.wasi_world.proofs.Walks.{reaches_in, asks_end, asks_then}
+use Rattle.wasi_world.proofs.Walks.{reaches_in, asks_end, asks_then, asks_err}
 use Rattle.wasi_streams.specs.declared.error.StreamError.{StreamError}
 use Rattle.wasi_streams.specs.declared.error.StreamError.TheVariants as told
 use Rattle.wasi_streams.specs.StreamStop.{StreamStop, stream_outcome}
@@ -64,7 +64,7 @@ module _ (m : Machine) (own : OpId) (handle place : ℕ) where
       → AsksFor (convert_asks m own handle place (stop.Failed c)) s t (λ x. let after : Machine = record m { table = table } in (x, after)) (failed_outcome c made)
   made_failed c (Ok e) p h = asks_end _ (rw p at h).ok refl
   made_failed c (Err (fault.Trap k)) p h = asks_end _ (rw p at h).ok refl
-  made_failed c (Err (fault.Memory e)) p h = let k = (rw p at h).err in record { ok = tt; err = record { rest = bind k.rest _; reached = reaches_in _ k.reached } }
+  made_failed c (Err (fault.Memory e)) p h = let k = (rw p at h).err in asks_err (bind k.rest _) (reaches_in _ k.reached)
 
   -- an error that was made is the call's
   pub stopped_by : {T : Type 0} {asks : Asks (CallStop × Machine)} {s t : Seen} {after : Machine} (r : CallError) → AsksFor asks s t (λ x. (x, after)) (error_outcome r)
@@ -72,7 +72,7 @@ module _ (m : Machine) (own : OpId) (handle place : ℕ) where
   stopped_by (call.Failed c e) h = asks_end _ h.ok refl
   stopped_by call.Closed h = asks_end _ h.ok refl
   stopped_by (call.Trap k) h = asks_end _ h.ok refl
-  stopped_by (call.Memory e) h = record { ok = tt; err = record { rest = bind h.err.rest _; reached = reaches_in _ h.err.reached } }
+  stopped_by (call.Memory e) h = asks_err (bind h.err.rest _) (reaches_in _ h.err.reached)
 
   abbrev After : Records → Machine
   After store = record m { store = store }
@@ -91,7 +91,7 @@ module _ (m : Machine) (own : OpId) (handle place : ℕ) where
     converted_err (told.LastOperationFailed c) r h k z = asks_then _ h.ok (stopped_by r k)
     converted_err told.Closed r h k z = asks_then _ h.ok (stopped_by r k)
     converted_err (told.Trap kind) r h k z = asks_then _ h.ok (stopped_by r k)
-    converted_err (told.Memory e) r h k z = rw (z.0, z.2) (record { ok = tt; err = record { rest = bind h.err.rest _; reached = reaches_in _ h.err.reached } })
+    converted_err (told.Memory e) r h k z = rw (z.0, z.2) (asks_err (bind h.err.rest _) (reaches_in _ h.err.reached))
 
 -- out of memory in a call
 call_memory : {T : Type 0} {d : AllocError} (r : Result T CallError) → IsErrAnd r (λ x. x ≡ call.Memory d) → call_outcome r ≡ Err d
@@ -99,4 +99,4 @@ call_memory (Ok x) h = absurd h
 call_memory (Err x) h = ap (λ (y : CallError). call_outcome (Err y)) h
 
 pub call_exit : {A B T : Type 0} {asks : Asks A} (f : A → Asks B) {s t : Seen} {view : Result T CallStop → B} {d : AllocError} (r : Result T CallError) → IsErrAnd r (λ x. x ≡ call.Memory d) → Started asks s t → AsksFor (bind asks f) s t view (call_outcome r)
-call_exit f r h k = rw (call_memory r h) (record { ok = tt; err = record { rest = bind k.rest f; reached = reaches_in f k.reached } })
+call_exit f r h k = rw (call_memory r h) (asks_err (bind k.rest f) (reaches_in f k.reached))

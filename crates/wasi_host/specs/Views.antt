@@ -1,5 +1,8 @@
 -- What contracts see of a view of a context, a table and a store.
 use Rattle.std.specs.Prelude.{◌≡◌, ◌⊎◌, ℕ, List, [], ◌∷◌}
+use Rattle.wasi_world.specs.declared.ids.Ids.{Ids}
+use Rattle.wasi_world.specs.Seen.{Seen}
+use Rattle.wasi_host.specs.KnownSides.{KnowsSides}
 use Rattle.wasi_host.specs.declared.view.NamedId.{NamedId}
 use Rattle.wasi_host.specs.declared.machine.Machine.{Machine}
 use Rattle.wasi_host.specs.declared.view.WasiSocketsCtxView.{WasiSocketsCtxView}
@@ -14,6 +17,13 @@ pub record SameView (old new : WasiSocketsCtxView) : Type 0 where
   pub same_context : new.ctx.ghost_name ≡ old.ctx.ghost_name
   pub same_table : new.table.ghost_name ≡ old.table.ghost_name
   pub same_store : new.store.ghost_name ≡ old.store.ghost_name
+
+-- What a guest's call keeps: the network sockets are known afterwards where they were before, the view is of the same
+-- context, table and store, and no part of the line is taken.
+pub record HostKept (old new : WasiSocketsCtxView) (had has : Ids) (before after : Seen) : Type 0 where
+  pub sides : KnowsSides before old.store.now → KnowsSides after new.store.now
+  pub view : SameView old new
+  pub ids : has ≡ had
 
 -- a context of this number is among these
 abbrev pub Knows : List ℕ → NamedId → Type 0

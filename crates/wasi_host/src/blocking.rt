@@ -13,7 +13,7 @@ ghost use Rattle.wasi_host.specs.Pending.{write_told};
 ghost use Rattle.wasi_records.specs.Records.{tcp2_at};
 ghost use Rattle.wasi_host.specs.KnownSides.{KnowsSides};
 ghost use Rattle.wasi_host.specs.Standing.{standing_as};
-ghost use Rattle.wasi_host.specs.Views.{SameView, state_of};
+ghost use Rattle.wasi_host.specs.Views.{state_of, HostKept};
 
 use crate::error::CallError;
 use crate::handles;
@@ -85,7 +85,6 @@ impl Store {
         requires { (W.seen world.old).ended ≡ false }
         ensures asked { AsksFor (look_at self.old op place (tcp2_at self.old.records place)) (W.seen world.old) (W.seen world.new) (λ ready. (ready, self.new)) (fault_outcome result) }
         ensures sides { KnowsSides (W.seen world.old) self.old → KnowsSides (W.seen world.new) self.new }
-        ensures open { (W.seen world.new).ended ≡ false }
     {
         let Some(record) = tcp2_mut(&mut self.records, place) else {
             return Err(Fault::Trap(TrapKind::NoSuchHandle));
@@ -139,10 +138,7 @@ fn input_ready<W: World>(
 ) -> Result<bool, CallError>
     requires { (W.seen world.old).ended ≡ false }
     ensures asked { AsksFor (look_asks (state_of view.old) (own_of ids.old.line) input) (W.seen world.old) (W.seen world.new) (λ done. (done, state_of view.new)) (call_outcome result) }
-    ensures sides { KnowsSides (W.seen world.old) view.old.store.now → KnowsSides (W.seen world.new) view.new.store.now }
-    ensures view { SameView view.old view.new }
-    ensures ids { ids.new ≡ ids.old }
-    ensures open { (W.seen world.new).ended ≡ false }
+    ensures kept { HostKept view.old view.new ids.old ids.new (W.seen world.old) (W.seen world.new) }
 {
     match handles::plain_input(view.table, input) {
         Some(_) => Ok(true),
@@ -159,10 +155,7 @@ fn connection_ready<W: World>(
 ) -> Result<bool, CallError>
     requires { (W.seen world.old).ended ≡ false }
     ensures asked { AsksFor (look_on (state_of view.old) (own_of ids.old.line) (input_at (state_of view.old) input)) (W.seen world.old) (W.seen world.new) (λ done. (done, state_of view.new)) (call_outcome result) }
-    ensures sides { KnowsSides (W.seen world.old) view.old.store.now → KnowsSides (W.seen world.new) view.new.store.now }
-    ensures view { SameView view.old view.new }
-    ensures ids { ids.new ≡ ids.old }
-    ensures open { (W.seen world.new).ended ≡ false }
+    ensures kept { HostKept view.old view.new ids.old ids.new (W.seen world.old) (W.seen world.new) }
 {
     let place = handles::input(view.table, input)?;
     let ready = view.store.input_ready(world, ids.own(), place)?;
@@ -181,10 +174,7 @@ pub fn blocking_read<W: World>(
 ) -> Result<Answer<Octets>, CallError>
     requires { (W.seen world.old).ended ≡ false }
     ensures asked { AsksFor (blocking_read_asks (state_of view.old) ids.old input len) (W.seen world.old) (W.seen world.new) (λ done. (done, state_of view.new)) (call_outcome result) }
-    ensures sides { KnowsSides (W.seen world.old) view.old.store.now → KnowsSides (W.seen world.new) view.new.store.now }
-    ensures view { SameView view.old view.new }
-    ensures ids { ids.new ≡ ids.old }
-    ensures open { (W.seen world.new).ended ≡ false }
+    ensures kept { HostKept view.old view.new ids.old ids.new (W.seen world.old) (W.seen world.new) }
 {
     if !input_ready(view, world, ids, input)? {
         let call = BlockingCall::Read { input, len };
@@ -213,10 +203,7 @@ pub fn blocking_skip<W: World>(
 ) -> Result<Answer<u64>, CallError>
     requires { (W.seen world.old).ended ≡ false }
     ensures asked { AsksFor (blocking_skip_asks (state_of view.old) ids.old input len) (W.seen world.old) (W.seen world.new) (λ done. (done, state_of view.new)) (call_outcome result) }
-    ensures sides { KnowsSides (W.seen world.old) view.old.store.now → KnowsSides (W.seen world.new) view.new.store.now }
-    ensures view { SameView view.old view.new }
-    ensures ids { ids.new ≡ ids.old }
-    ensures open { (W.seen world.new).ended ≡ false }
+    ensures kept { HostKept view.old view.new ids.old ids.new (W.seen world.old) (W.seen world.new) }
 {
     if !input_ready(view, world, ids, input)? {
         let call = BlockingCall::Skip { input, len };
@@ -242,10 +229,7 @@ pub fn blocking_flush<W: World>(
 ) -> Result<Answer<()>, CallError>
     requires { (W.seen world.old).ended ≡ false }
     ensures asked { AsksFor (blocking_flush_asks (state_of view.old) ids.old output) (W.seen world.old) (W.seen world.new) (λ done. (done, state_of view.new)) (call_outcome result) }
-    ensures sides { KnowsSides (W.seen world.old) view.old.store.now → KnowsSides (W.seen world.new) view.new.store.now }
-    ensures view { SameView view.old view.new }
-    ensures ids { ids.new ≡ ids.old }
-    ensures open { (W.seen world.new).ended ≡ false }
+    ensures kept { HostKept view.old view.new ids.old ids.new (W.seen world.old) (W.seen world.new) }
 {
     flush(view, world, ids, output)?;
     let permit = check_write(view, world, ids, output)?;
@@ -265,10 +249,7 @@ pub(crate) fn last_check<W: World>(
 ) -> Result<Answer<()>, CallError>
     requires { (W.seen world.old).ended ≡ false }
     ensures asked { AsksFor (last_check_asks (state_of view.old) ids.old output) (W.seen world.old) (W.seen world.new) (λ done. (done, state_of view.new)) (call_outcome result) }
-    ensures sides { KnowsSides (W.seen world.old) view.old.store.now → KnowsSides (W.seen world.new) view.new.store.now }
-    ensures view { SameView view.old view.new }
-    ensures ids { ids.new ≡ ids.old }
-    ensures open { (W.seen world.new).ended ≡ false }
+    ensures kept { HostKept view.old view.new ids.old ids.new (W.seen world.old) (W.seen world.new) }
 {
     match check_write(view, world, ids, output) {
         Ok(0) => {
@@ -289,10 +270,7 @@ fn finish_write<W: World>(
 ) -> Result<Answer<()>, CallError>
     requires { (W.seen world.old).ended ≡ false }
     ensures asked { AsksFor (finish_write_asks (state_of view.old) ids.old output) (W.seen world.old) (W.seen world.new) (λ done. (done, state_of view.new)) (call_outcome result) }
-    ensures sides { KnowsSides (W.seen world.old) view.old.store.now → KnowsSides (W.seen world.new) view.new.store.now }
-    ensures view { SameView view.old view.new }
-    ensures ids { ids.new ≡ ids.old }
-    ensures open { (W.seen world.new).ended ≡ false }
+    ensures kept { HostKept view.old view.new ids.old ids.new (W.seen world.old) (W.seen world.new) }
 {
     match flush(view, world, ids, output) {
         Ok(()) => last_check(view, world, ids, output),
@@ -312,10 +290,7 @@ pub(crate) fn write_rounds<W: World>(
 ) -> Result<Answer<()>, CallError>
     requires { (W.seen world.old).ended ≡ false }
     ensures asked { AsksFor (write_rounds rounds ids.old output (state_of view.old) rest) (W.seen world.old) (W.seen world.new) (λ done. (done, state_of view.new)) (call_outcome result) }
-    ensures sides { KnowsSides (W.seen world.old) view.old.store.now → KnowsSides (W.seen world.new) view.new.store.now }
-    ensures view { SameView view.old view.new }
-    ensures ids { ids.new ≡ ids.old }
-    ensures open { (W.seen world.new).ended ≡ false }
+    ensures kept { HostKept view.old view.new ids.old ids.new (W.seen world.old) (W.seen world.new) }
 {
     if rounds == 0 {
         let call = BlockingCall::Write { output, rest };
@@ -348,10 +323,7 @@ pub fn blocking_write_and_flush<W: World>(
 ) -> Result<Answer<()>, CallError>
     requires { (W.seen world.old).ended ≡ false }
     ensures asked { AsksFor (blocking_write_asks (state_of view.old) ids.old output bytes) (W.seen world.old) (W.seen world.new) (λ done. (done, state_of view.new)) (call_outcome result) }
-    ensures sides { KnowsSides (W.seen world.old) view.old.store.now → KnowsSides (W.seen world.new) view.new.store.now }
-    ensures view { SameView view.old view.new }
-    ensures ids { ids.new ≡ ids.old }
-    ensures open { (W.seen world.new).ended ≡ false }
+    ensures kept { HostKept view.old view.new ids.old ids.new (W.seen world.old) (W.seen world.new) }
 {
     handles::writable(view.table, output)?;
     if bytes.len() as u64 > MOST_BYTES {
@@ -374,10 +346,7 @@ pub fn blocking_write_zeroes_and_flush<W: World>(
 ) -> Result<Answer<()>, CallError>
     requires { (W.seen world.old).ended ≡ false }
     ensures asked { AsksFor (blocking_zeroes_asks (state_of view.old) ids.old output len) (W.seen world.old) (W.seen world.new) (λ done. (done, state_of view.new)) (call_outcome result) }
-    ensures sides { KnowsSides (W.seen world.old) view.old.store.now → KnowsSides (W.seen world.new) view.new.store.now }
-    ensures view { SameView view.old view.new }
-    ensures ids { ids.new ≡ ids.old }
-    ensures open { (W.seen world.new).ended ≡ false }
+    ensures kept { HostKept view.old view.new ids.old ids.new (W.seen world.old) (W.seen world.new) }
 {
     handles::writable(view.table, output)?;
     if len > MOST_BYTES {
@@ -401,10 +370,7 @@ pub fn blocking_splice<W: World>(
 ) -> Result<Answer<u64>, CallError>
     requires { (W.seen world.old).ended ≡ false }
     ensures asked { AsksFor (blocking_splice_asks (state_of view.old) ids.old output input len) (W.seen world.old) (W.seen world.new) (λ done. (done, state_of view.new)) (call_outcome result) }
-    ensures sides { KnowsSides (W.seen world.old) view.old.store.now → KnowsSides (W.seen world.new) view.new.store.now }
-    ensures view { SameView view.old view.new }
-    ensures ids { ids.new ≡ ids.old }
-    ensures open { (W.seen world.new).ended ≡ false }
+    ensures kept { HostKept view.old view.new ids.old ids.new (W.seen world.old) (W.seen world.new) }
 {
     handles::writable(view.table, output)?;
     handles::readable(view.table, input)?;

@@ -33,7 +33,6 @@ impl Store {
         requires { (W.seen world.old).ended ≡ false }
         ensures asked { AsksFor (cancel_listen_at self.old place (tcp2_at self.old.records place)) (W.seen world.old) (W.seen world.new) (λ done. self.new) result }
         ensures sides { KnowsSides (W.seen world.old) self.old → KnowsSides (W.seen world.new) self.new }
-        ensures open { (W.seen world.new).ended ≡ false }
     {
         let Some(record) = tcp2_mut(&mut self.records, place) else {
             return Ok(());
@@ -47,7 +46,6 @@ impl Store {
         requires { (W.seen world.old).ended ≡ false }
         ensures asked { AsksFor (cancel_create_at self.old place (udp2_at self.old.records place)) (W.seen world.old) (W.seen world.new) (λ done. self.new) result }
         ensures sides { KnowsSides (W.seen world.old) self.old → KnowsSides (W.seen world.new) self.new }
-        ensures open { (W.seen world.new).ended ≡ false }
     {
         let Some(socket) = udp2(&self.records, place) else {
             return Ok(());
@@ -110,7 +108,6 @@ impl Store {
         requires { (W.seen world.old).ended ≡ false }
         ensures asked { AsksFor (cancel_on self.old call) (W.seen world.old) (W.seen world.new) (λ done. self.new) result }
         ensures sides { KnowsSides (W.seen world.old) self.old → KnowsSides (W.seen world.new) self.new }
-        ensures open { (W.seen world.new).ended ≡ false }
     {
         match call {
             StandingCall::Bind { socket } => self.cancel_bind(socket),
@@ -141,7 +138,6 @@ pub fn cancel<W: World>(
     ensures asked { AsksFor (cancel_asks (state_of view.old) line) (W.seen world.old) (W.seen world.new) (λ cancelled. (cancelled, state_of view.new)) result }
     ensures sides { KnowsSides (W.seen world.old) view.old.store.now → KnowsSides (W.seen world.new) view.new.store.now }
     ensures view { SameView view.old view.new }
-    ensures open { (W.seen world.new).ended ≡ false }
 {
     let Some(standing) = view.store.take(line) else {
         return Ok(false);

@@ -6,7 +6,6 @@ ghost use Rattle.wasi_world.specs.Seen.{Seen};
 ghost use Rattle.wasi_host.specs.DatagramCalls.{start_streams_at, reconnect_udp_at, mark_streams, make_streams_asks, remake_streams_asks, check_send_at, send_datagrams_at, receive_datagrams_at, ready_incoming_at, incoming_names, drop_incoming_at, drop_outgoing_at, outgoing_ready};
 ghost use Rattle.wasi_records.specs.Listening.{TakesOne};
 ghost use Rattle.wasi_records.specs.Stops.{fault_outcome, host_outcome};
-ghost use Rattle.wasi_host.specs.Machine.{own_of};
 ghost use Rattle.wasi_records.specs.Records.{open_at};
 ghost use Rattle.wasi_host.specs.KnownSides.{KnowsSides};
 
@@ -42,7 +41,6 @@ impl Store {
         requires { (W.seen world.old).ended ≡ false }
         ensures asked { AsksFor (make_streams_asks (record { table = table.old; store = self.old }) ids handle remote place) (W.seen world.old) (W.seen world.new) (λ answer. (answer, record { table = table.new; store = self.new })) (host_outcome result) }
         ensures sides { KnowsSides (W.seen world.old) self.old → KnowsSides (W.seen world.new) self.new }
-        ensures open { (W.seen world.new).ended ≡ false }
     {
         match self.start_streams(world, ids, place, handle, remote)? {
             Answer::Pending => Ok(Answer::Pending),
@@ -63,7 +61,6 @@ impl Store {
         requires { (W.seen world.old).ended ≡ false }
         ensures asked { AsksFor (remake_streams_asks (record { table = table.old; store = self.old }) ids place handle) (W.seen world.old) (W.seen world.new) (λ answer. (answer, record { table = table.new; store = self.new })) (host_outcome result) }
         ensures sides { KnowsSides (W.seen world.old) self.old → KnowsSides (W.seen world.new) self.new }
-        ensures open { (W.seen world.new).ended ≡ false }
     {
         match self.reconnect(world, ids, place, handle)? {
             Answer::Pending => Ok(Answer::Pending),
@@ -84,7 +81,6 @@ impl Store {
         requires { (W.seen world.old).ended ≡ false }
         ensures asked { AsksFor (start_streams_at self.old ids place handle remote (open_at self.old.records place)) (W.seen world.old) (W.seen world.new) (λ answer. (answer, self.new)) (host_outcome result) }
         ensures sides { KnowsSides (W.seen world.old) self.old → KnowsSides (W.seen world.new) self.new }
-        ensures open { (W.seen world.new).ended ≡ false }
     {
         let Some(socket) = open_udp_mut(&mut self.records, place) else {
             return Err(SocketError::Trap(TrapKind::NoSuchHandle));
@@ -112,7 +108,6 @@ impl Store {
         requires { (W.seen world.old).ended ≡ false }
         ensures asked { AsksFor (reconnect_udp_at self.old ids place handle (open_at self.old.records place)) (W.seen world.old) (W.seen world.new) (λ answer. (answer, self.new)) (host_outcome result) }
         ensures sides { KnowsSides (W.seen world.old) self.old → KnowsSides (W.seen world.new) self.new }
-        ensures open { (W.seen world.new).ended ≡ false }
     {
         let Some(socket) = open_udp_mut(&mut self.records, place) else {
             return Err(SocketError::Trap(TrapKind::NoSuchHandle));
@@ -136,7 +131,6 @@ impl Store {
         requires { (W.seen world.old).ended ≡ false }
         ensures asked { AsksFor (mark_streams (record { table = table.old; store = self.now }) own handle) (W.seen world.old) (W.seen world.new) (λ answer. (answer, record { table = table.new; store = self.now })) (host_outcome result) }
         ensures sides { KnowsSides (W.seen world.old) self.now → KnowsSides (W.seen world.new) self.now }
-        ensures open { (W.seen world.new).ended ≡ false }
     {
         let place = handles::udp_socket(table, handle)?;
         let side = self.udp_side(place);
@@ -178,7 +172,6 @@ impl Store {
         ensures asked { AsksFor (send_datagrams_at self.old ids.old place datagrams.items (open_at self.old.records place)) (W.seen world.old) (W.seen world.new) (λ sent. (sent, self.new)) (host_outcome result) }
         ensures line { ids.new.line ≡ ids.old.line }
         ensures sides { KnowsSides (W.seen world.old) self.old → KnowsSides (W.seen world.new) self.new }
-        ensures open { (W.seen world.new).ended ≡ false }
     {
         let slot = self.records.slot_of(place);
         let Some(socket) = open_udp_mut_in(&mut self.records, slot, place) else {
@@ -210,7 +203,6 @@ impl Store {
         ensures asked { AsksFor (receive_datagrams_at self.old ids.old place most (open_at self.old.records place)) (W.seen world.old) (W.seen world.new) (λ received. (received, self.new)) (host_outcome result) }
         ensures line { ids.new.line ≡ ids.old.line }
         ensures sides { KnowsSides (W.seen world.old) self.old → KnowsSides (W.seen world.new) self.new }
-        ensures open { (W.seen world.new).ended ≡ false }
     {
         let slot = self.records.slot_of(place);
         let Some(socket) = open_udp_mut_in(&mut self.records, slot, place) else {
@@ -240,7 +232,6 @@ impl Store {
         ensures ids { TakesOne ids.old ids.new }
         ensures names { IfOk (fault_outcome result) (λ ready. ids.new ≡ incoming_names ids.old (open_at self.old.records place)) }
         ensures sides { KnowsSides (W.seen world.old) self.old → KnowsSides (W.seen world.new) self.new }
-        ensures open { (W.seen world.new).ended ≡ false }
     {
         let slot = self.records.slot_of(place);
         let Some(socket) = open_udp_mut_in(&mut self.records, slot, place) else {

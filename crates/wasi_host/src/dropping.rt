@@ -3,12 +3,12 @@
 ghost use Rattle.std.specs.Prelude.{◌≡◌, is_some, false, Ok, OnErr};
 ghost use Rattle.wasi_world.specs.Asks.{AsksFor};
 ghost use Rattle.wasi_records.specs.Records.{tcp2_at};
-ghost use Rattle.wasi_host.specs.Dropping.{release_at, released, wait_at, drop_output_at};
+ghost use Rattle.wasi_host.specs.Dropping.{release_at, wait_at, drop_output_at, released};
 ghost use Rattle.wasi_records.specs.Stops.{fault_outcome};
 ghost use Rattle.wasi_host.specs.Kinds.{without_handle};
 ghost use Rattle.wasi_host.specs.Machine.{drop_asks, drop_kind};
 ghost use Rattle.wasi_host.specs.KnownSides.{KnowsSides};
-ghost use Rattle.wasi_host.specs.Views.{SameView, state_of};
+ghost use Rattle.wasi_host.specs.Views.{state_of, HostKept};
 
 use crate::handles;
 use crate::kind::Kind;
@@ -32,7 +32,6 @@ impl Store {
         requires { (W.seen world.old).ended ≡ false }
         ensures asked { AsksFor (release_at self.old op place (tcp2_at self.old.records place)) (W.seen world.old) (W.seen world.new) (λ done. (done, self.new)) result }
         ensures sides { KnowsSides (W.seen world.old) self.old → KnowsSides (W.seen world.new) self.new }
-        ensures open { (W.seen world.new).ended ≡ false }
     {
         let Some(record) = tcp2_mut(&mut self.records, place) else {
             return Ok(());
@@ -53,7 +52,6 @@ impl Store {
         requires { (W.seen world.old).ended ≡ false }
         ensures asked { AsksFor (drop_output_at self.old ids place (tcp2_at self.old.records place)) (W.seen world.old) (W.seen world.new) (λ answer. (answer, self.new)) result }
         ensures sides { KnowsSides (W.seen world.old) self.old → KnowsSides (W.seen world.new) self.new }
-        ensures open { (W.seen world.new).ended ≡ false }
     {
         let answer = self.poll_writer(world, ids.own(), place)?;
         Ok(self.stand(ids, StandingCall::DropOutput { socket: place }, answer))
@@ -69,7 +67,6 @@ impl Store {
         requires { (W.seen world.old).ended ≡ false }
         ensures asked { AsksFor (wait_at self.old op place (tcp2_at self.old.records place)) (W.seen world.old) (W.seen world.new) (λ answer. (answer, self.new)) result }
         ensures sides { KnowsSides (W.seen world.old) self.old → KnowsSides (W.seen world.new) self.new }
-        ensures open { (W.seen world.new).ended ≡ false }
     {
         let Some(record) = tcp2_mut(&mut self.records, place) else {
             return Ok(Answer::Ready(()));
@@ -101,10 +98,7 @@ pub fn drop_handle<W: World>(
     requires free { is_some view.old.store.now.standing ≡ false }
     ensures asked { AsksFor (drop_asks (state_of view.old) ids.old this) (W.seen world.old) (W.seen world.new) (λ answer. (answer, state_of view.new)) (fault_outcome result) }
     ensures gone { OnErr (fault_outcome result) ((state_of view.new).table ≡ without_handle (state_of view.old).table this) }
-    ensures sides { KnowsSides (W.seen world.old) view.old.store.now → KnowsSides (W.seen world.new) view.new.store.now }
-    ensures view { SameView view.old view.new }
-    ensures ids { ids.new ≡ ids.old }
-    ensures open { (W.seen world.new).ended ≡ false }
+    ensures kept { HostKept view.old view.new ids.old ids.new (W.seen world.old) (W.seen world.new) }
 {
     let kind = handles::remove(view.table, this)?;
     release_kind(view, world, ids, kind)
@@ -120,10 +114,7 @@ fn release_kind<W: World>(
     requires { (W.seen world.old).ended ≡ false }
     ensures asked { AsksFor (drop_kind (state_of view.old) ids.old kind) (W.seen world.old) (W.seen world.new) (λ answer. (answer, state_of view.new)) (fault_outcome result) }
     ensures table { (state_of view.new).table ≡ (state_of view.old).table }
-    ensures sides { KnowsSides (W.seen world.old) view.old.store.now → KnowsSides (W.seen world.new) view.new.store.now }
-    ensures view { SameView view.old view.new }
-    ensures ids { ids.new ≡ ids.old }
-    ensures open { (W.seen world.new).ended ≡ false }
+    ensures kept { HostKept view.old view.new ids.old ids.new (W.seen world.old) (W.seen world.new) }
 {
     match kind {
         Kind::Tcp2(place) => {

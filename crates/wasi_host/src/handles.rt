@@ -7,7 +7,7 @@ ghost use Rattle.wasi_table.specs.Table.{is_full, pushed};
 ghost use Rattle.wasi_records.specs.Stops.{fault_outcome};
 ghost use Rattle.wasi_host.specs.Store.{Records};
 ghost use Rattle.wasi_host.specs.KnownSides.{KnowsSides};
-ghost use Rattle.wasi_host.specs.Kinds.{kind_at, place_of, udp_of, input_of, output_of, incoming_of, outgoing_of, stream_of, lookup_of, is_network, is_error, is_readable, is_writable, plain_input_of, plain_output_of, watched_by, watch_of, table_parent, make_asks, taken_out, with_handle, Names};
+ghost use Rattle.wasi_host.specs.Kinds.{kind_at, place_of, udp_of, input_of, output_of, incoming_of, outgoing_of, stream_of, lookup_of, is_network, is_error, is_readable, is_writable, plain_input_of, plain_output_of, watched_by, watch_of, table_parent, make_asks, taken_out, Names, with_handle};
 
 use crate::kind::{Kind, PlainInput, PlainOutput, Watched};
 use std::alloc::AllocError;
@@ -243,7 +243,6 @@ pub fn make<W: World>(
     ensures stay { (h : ℕ) → IsSome (kind_at table.old h) → IsSome (kind_at table.new h) }
     ensures live { IfOk result (λ h. IsSome (kind_at table.new h)) }
     ensures sides { (store : Records) → KnowsSides (W.seen world.old) store → KnowsSides (W.seen world.new) store }
-    ensures open { (W.seen world.new).ended ≡ false }
 {
     if table.is_full() {
         return Err(Fault::Trap(TrapKind::Full));

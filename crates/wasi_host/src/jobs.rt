@@ -36,7 +36,6 @@ fn turn_socket<W: World>(
     ensures goes_on { IfOk result (λ goes_on. goes_on ≡ has_job (tcp2_at records.new.items place)) }
     ensures held { held_in records.new.items ≡ held_in records.old.items }
     ensures none { MakesNone (W.seen world.old) (W.seen world.new) }
-    ensures open { (W.seen world.new).ended ≡ false }
 {
     let Some(record) = tcp2_mut_in(records, slot, place) else {
         return Ok(false);
@@ -58,7 +57,6 @@ fn turn_datagram<W: World>(
     ensures goes_on { IfOk result (λ goes_on. goes_on ≡ sends_on (open_at records.new.items place)) }
     ensures held { held_in records.new.items ≡ held_in records.old.items }
     ensures none { MakesNone (W.seen world.old) (W.seen world.new) }
-    ensures open { (W.seen world.new).ended ≡ false }
 {
     let Some(socket) = open_udp_mut_in(records, slot, place) else {
         return Ok(false);
@@ -80,7 +78,6 @@ fn turn_receive<W: World>(
     ensures goes_on { IfOk result (λ goes_on. goes_on ≡ receives_on (open_at records.new.items place)) }
     ensures held { held_in records.new.items ≡ held_in records.old.items }
     ensures none { MakesNone (W.seen world.old) (W.seen world.new) }
-    ensures open { (W.seen world.new).ended ≡ false }
 {
     let Some(socket) = open_udp_mut_in(records, slot, place) else {
         return Ok(false);
@@ -102,7 +99,6 @@ fn turn_lookup<W: World>(
     ensures goes_on { IfOk result (λ goes_on. goes_on ≡ looks_on (lookup_at records.new.items place)) }
     ensures held { held_in records.new.items ≡ held_in records.old.items }
     ensures none { MakesNone (W.seen world.old) (W.seen world.new) }
-    ensures open { (W.seen world.new).ended ≡ false }
 {
     let Some(lookup) = lookup_mut_in(records, slot, place) else {
         return Ok(false);
@@ -122,7 +118,6 @@ fn turn_job<W: World>(
     ensures goes_on { IfOk result (λ goes_on. goes_on ≡ is_going records.new.items listed.job) }
     ensures held { held_in records.new.items ≡ held_in records.old.items }
     ensures none { MakesNone (W.seen world.old) (W.seen world.new) }
-    ensures open { (W.seen world.new).ended ≡ false }
 {
     let slot = listed.slot;
     match listed.job {
@@ -143,7 +138,6 @@ fn turn_jobs<W: World>(
     ensures asked { AsksFor (turn_jobs [] jobs.old.items records.old.items) (W.seen world.old) (W.seen world.new) (λ done. (jobs.new.items, records.new.items)) result }
     ensures held { held_in records.new.items ≡ held_in records.old.items }
     ensures none { MakesNone (W.seen world.old) (W.seen world.new) }
-    ensures open { (W.seen world.new).ended ≡ false }
 {
     let mut next = 0;
     while let Some(listed) = jobs.first_from(next) {
@@ -171,7 +165,6 @@ impl Store {
         requires { (W.seen world.old).ended ≡ false }
         ensures asked { AsksFor (turn_store_asks self.old) (W.seen world.old) (W.seen world.new) (λ done. (done, self.new)) result }
         ensures sides { KnowsSides (W.seen world.old) self.old → KnowsSides (W.seen world.new) self.new }
-        ensures open { (W.seen world.new).ended ≡ false }
     {
         turn_jobs(&mut self.records, world, &mut self.jobs)
     }
@@ -201,7 +194,6 @@ pub fn turn<W: World>(view: &mut WasiSocketsCtxView<'_>, world: &mut W) -> Resul
     ensures asked { AsksFor (turn_machine_asks (state_of view.old)) (W.seen world.old) (W.seen world.new) (λ done. (done, state_of view.new)) result }
     ensures sides { KnowsSides (W.seen world.old) view.old.store.now → KnowsSides (W.seen world.new) view.new.store.now }
     ensures view { SameView view.old view.new }
-    ensures open { (W.seen world.new).ended ≡ false }
 {
     view.store.turn(world)
 }

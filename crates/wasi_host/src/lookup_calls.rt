@@ -64,7 +64,6 @@ impl Store {
         requires { (W.seen world.old).ended ≡ false }
         ensures asked { AsksFor (resolve_host (record { table = table.old; store = self.old }) own network host) (W.seen world.old) (W.seen world.new) (λ made. (made, record { table = table.new; store = self.new })) (host_outcome result) }
         ensures sides { KnowsSides (W.seen world.old) self.old → KnowsSides (W.seen world.new) self.new }
-        ensures open { (W.seen world.new).ended ≡ false }
     {
         match host {
             HostName::Address(address) => {
@@ -90,7 +89,6 @@ impl Store {
         requires { (W.seen world.old).ended ≡ false }
         ensures asked { AsksFor (resolved (record { table = table.old; store = self.old }) own network lookup) (W.seen world.old) (W.seen world.new) (λ made. (made, record { table = table.new; store = self.new })) (host_outcome result) }
         ensures sides { KnowsSides (W.seen world.old) self.old → KnowsSides (W.seen world.new) self.new }
-        ensures open { (W.seen world.new).ended ≡ false }
     {
         match lookup {
             Lookup::Failed => Err(SocketError::Code(unresolvable())),
@@ -110,7 +108,6 @@ impl Store {
         requires { (W.seen world.old).ended ≡ false }
         ensures asked { AsksFor (lookup_handle (record { table = table.old; store = self.old }) own network lookup) (W.seen world.old) (W.seen world.new) (λ made. (made, record { table = table.new; store = self.new })) (host_outcome result) }
         ensures sides { KnowsSides (W.seen world.old) self.old → KnowsSides (W.seen world.new) self.new }
-        ensures open { (W.seen world.new).ended ≡ false }
     {
         let place = add_lookup(&mut self.records, &mut self.jobs, lookup)?;
         let kind = Kind::Lookup(place);

@@ -109,7 +109,6 @@ impl Store {
         requires { (W.seen world.old).ended ≡ false }
         ensures asked { AsksFor (rebind_at self.old ids place (tcp2_at self.old.records place)) (W.seen world.old) (W.seen world.new) (λ answer. (answer, self.new)) (host_outcome result) }
         ensures sides { KnowsSides (W.seen world.old) self.old → KnowsSides (W.seen world.new) self.new }
-        ensures open { (W.seen world.new).ended ≡ false }
     {
         let Some(record) = tcp2_mut(&mut self.records, place) else {
             return Err(SocketError::Trap(TrapKind::NoSuchHandle));
@@ -129,7 +128,6 @@ impl Store {
         requires { (W.seen world.old).ended ≡ false }
         ensures asked { AsksFor (relisten_at self.old ids place (tcp2_at self.old.records place)) (W.seen world.old) (W.seen world.new) (λ answer. (answer, self.new)) (host_outcome result) }
         ensures sides { KnowsSides (W.seen world.old) self.old → KnowsSides (W.seen world.new) self.new }
-        ensures open { (W.seen world.new).ended ≡ false }
     {
         let Some(record) = tcp2_mut(&mut self.records, place) else {
             return Err(SocketError::Trap(TrapKind::NoSuchHandle));
@@ -196,7 +194,6 @@ fn unblock<W: World>(
     ensures asked { AsksFor (unblock_asks (state_of view.old) ids call) (W.seen world.old) (W.seen world.new) (λ answer. (answer, state_of view.new)) (host_outcome result) }
     ensures sides { KnowsSides (W.seen world.old) view.old.store.now → KnowsSides (W.seen world.new) view.new.store.now }
     ensures view { SameView view.old view.new }
-    ensures open { (W.seen world.new).ended ≡ false }
 {
     let mut ids = ids;
     let mut again = Ids {
@@ -248,7 +245,6 @@ fn go_on<W: World>(
     ensures asked { AsksFor (go_on (state_of view.old) ids call) (W.seen world.old) (W.seen world.new) (λ answer. (answer, state_of view.new)) (host_outcome result) }
     ensures sides { KnowsSides (W.seen world.old) view.old.store.now → KnowsSides (W.seen world.new) view.new.store.now }
     ensures view { SameView view.old view.new }
-    ensures open { (W.seen world.new).ended ≡ false }
 {
     match call {
         StandingCall::Bind { socket } => {
@@ -300,7 +296,6 @@ pub fn resume<W: World>(
     ensures asked { AsksFor (resume_asks (state_of view.old) line) (W.seen world.old) (W.seen world.new) (λ answer. (answer, state_of view.new)) (host_outcome result) }
     ensures sides { KnowsSides (W.seen world.old) view.old.store.now → KnowsSides (W.seen world.new) view.new.store.now }
     ensures view { SameView view.old view.new }
-    ensures open { (W.seen world.new).ended ≡ false }
 {
     let Some(standing) = view.store.take(line) else {
         return Ok(None);

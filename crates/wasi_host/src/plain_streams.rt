@@ -11,7 +11,7 @@ ghost use Rattle.wasi_host.specs.PlainStreams.{read_plain, check_plain, write_pi
 ghost use Rattle.wasi_records.specs.Records.{output_pipe_at};
 ghost use Rattle.wasi_host.specs.KnownSides.{KnowsSides};
 ghost use Rattle.wasi_records.specs.Sides.{held_by};
-ghost use Rattle.wasi_host.specs.Views.{SameView, state_of};
+ghost use Rattle.wasi_host.specs.Views.{state_of, HostKept};
 
 use crate::error::CallError;
 use crate::handles;
@@ -159,7 +159,6 @@ impl Store {
         requires holds_none { held_by pipe ≡ 0 }
         ensures asked { AsksFor (pipe_asks (record { table = table.old; store = self.old }) own kind pipe) (W.seen world.old) (W.seen world.new) (λ made. (made, record { table = table.new; store = self.new })) (fault_outcome result) }
         ensures sides { KnowsSides (W.seen world.old) self.old → KnowsSides (W.seen world.new) self.new }
-        ensures open { (W.seen world.new).ended ≡ false }
     {
         self.records.reserve()?;
         let handle = handles::make(table, world, own, kind, None, None)?;
@@ -178,7 +177,6 @@ impl Store {
         requires { (W.seen world.old).ended ≡ false }
         ensures asked { AsksFor (input_pipe_asks (record { table = table.old; store = self.old }) own bytes) (W.seen world.old) (W.seen world.new) (λ made. (made, record { table = table.new; store = self.new })) (fault_outcome result) }
         ensures sides { KnowsSides (W.seen world.old) self.old → KnowsSides (W.seen world.new) self.new }
-        ensures open { (W.seen world.new).ended ≡ false }
     {
         let chunk = chunk_of(bytes)?;
         let kind = Kind::PlainInput(PlainInput::Pipe(self.records.len()));
@@ -198,7 +196,6 @@ impl Store {
         requires { (W.seen world.old).ended ≡ false }
         ensures asked { AsksFor (output_pipe_asks (record { table = table.old; store = self.old }) own capacity) (W.seen world.old) (W.seen world.new) (λ made. (made, record { table = table.new; store = self.new })) (fault_outcome result) }
         ensures sides { KnowsSides (W.seen world.old) self.old → KnowsSides (W.seen world.new) self.new }
-        ensures open { (W.seen world.new).ended ≡ false }
     {
         let kind = Kind::PlainOutput(PlainOutput::Pipe(self.records.len()));
         let pipe = Record::OutputPipe(OutputPipe::new(alloc, capacity));
@@ -233,10 +230,7 @@ pub fn make_input_pipe<W: World>(
 ) -> Result<Handle, Fault>
     requires { (W.seen world.old).ended ≡ false }
     ensures asked { AsksFor (input_pipe_asks (state_of view.old) (own_of ids.old.line) bytes) (W.seen world.old) (W.seen world.new) (λ made. (made, state_of view.new)) (fault_outcome result) }
-    ensures sides { KnowsSides (W.seen world.old) view.old.store.now → KnowsSides (W.seen world.new) view.new.store.now }
-    ensures view { SameView view.old view.new }
-    ensures ids { ids.new ≡ ids.old }
-    ensures open { (W.seen world.new).ended ≡ false }
+    ensures kept { HostKept view.old view.new ids.old ids.new (W.seen world.old) (W.seen world.new) }
 {
     view.store
         .make_input_pipe(view.table, world, ids.own(), bytes)
@@ -253,10 +247,7 @@ pub fn make_output_pipe<W: World>(
 ) -> Result<Handle, Fault>
     requires { (W.seen world.old).ended ≡ false }
     ensures asked { AsksFor (output_pipe_asks (state_of view.old) (own_of ids.old.line) capacity) (W.seen world.old) (W.seen world.new) (λ made. (made, state_of view.new)) (fault_outcome result) }
-    ensures sides { KnowsSides (W.seen world.old) view.old.store.now → KnowsSides (W.seen world.new) view.new.store.now }
-    ensures view { SameView view.old view.new }
-    ensures ids { ids.new ≡ ids.old }
-    ensures open { (W.seen world.new).ended ≡ false }
+    ensures kept { HostKept view.old view.new ids.old ids.new (W.seen world.old) (W.seen world.new) }
 {
     view.store
         .make_output_pipe(alloc, view.table, world, ids.own(), capacity)
@@ -271,10 +262,7 @@ fn make_plain<W: World>(
 ) -> Result<Handle, Fault>
     requires { (W.seen world.old).ended ≡ false }
     ensures asked { AsksFor (plain_asks (state_of view.old) (own_of ids.old.line) kind) (W.seen world.old) (W.seen world.new) (λ made. (made, state_of view.new)) (fault_outcome result) }
-    ensures sides { KnowsSides (W.seen world.old) view.old.store.now → KnowsSides (W.seen world.new) view.new.store.now }
-    ensures view { SameView view.old view.new }
-    ensures ids { ids.new ≡ ids.old }
-    ensures open { (W.seen world.new).ended ≡ false }
+    ensures kept { HostKept view.old view.new ids.old ids.new (W.seen world.old) (W.seen world.new) }
 {
     handles::make(view.table, world, ids.own(), kind, None, None)
 }
@@ -288,10 +276,7 @@ pub fn make_sink<W: World>(
 ) -> Result<Handle, Fault>
     requires { (W.seen world.old).ended ≡ false }
     ensures asked { AsksFor (plain_asks (state_of view.old) (own_of ids.old.line) (Kind.PlainOutput PlainOutput.Sink)) (W.seen world.old) (W.seen world.new) (λ made. (made, state_of view.new)) (fault_outcome result) }
-    ensures sides { KnowsSides (W.seen world.old) view.old.store.now → KnowsSides (W.seen world.new) view.new.store.now }
-    ensures view { SameView view.old view.new }
-    ensures ids { ids.new ≡ ids.old }
-    ensures open { (W.seen world.new).ended ≡ false }
+    ensures kept { HostKept view.old view.new ids.old ids.new (W.seen world.old) (W.seen world.new) }
 {
     make_plain(view, world, ids, Kind::PlainOutput(PlainOutput::Sink))
 }
@@ -304,10 +289,7 @@ pub fn make_closed_input<W: World>(
 ) -> Result<Handle, Fault>
     requires { (W.seen world.old).ended ≡ false }
     ensures asked { AsksFor (plain_asks (state_of view.old) (own_of ids.old.line) (Kind.PlainInput PlainInput.Closed)) (W.seen world.old) (W.seen world.new) (λ made. (made, state_of view.new)) (fault_outcome result) }
-    ensures sides { KnowsSides (W.seen world.old) view.old.store.now → KnowsSides (W.seen world.new) view.new.store.now }
-    ensures view { SameView view.old view.new }
-    ensures ids { ids.new ≡ ids.old }
-    ensures open { (W.seen world.new).ended ≡ false }
+    ensures kept { HostKept view.old view.new ids.old ids.new (W.seen world.old) (W.seen world.new) }
 {
     make_plain(view, world, ids, Kind::PlainInput(PlainInput::Closed))
 }
@@ -320,10 +302,7 @@ pub fn make_closed_output<W: World>(
 ) -> Result<Handle, Fault>
     requires { (W.seen world.old).ended ≡ false }
     ensures asked { AsksFor (plain_asks (state_of view.old) (own_of ids.old.line) (Kind.PlainOutput PlainOutput.Closed)) (W.seen world.old) (W.seen world.new) (λ made. (made, state_of view.new)) (fault_outcome result) }
-    ensures sides { KnowsSides (W.seen world.old) view.old.store.now → KnowsSides (W.seen world.new) view.new.store.now }
-    ensures view { SameView view.old view.new }
-    ensures ids { ids.new ≡ ids.old }
-    ensures open { (W.seen world.new).ended ≡ false }
+    ensures kept { HostKept view.old view.new ids.old ids.new (W.seen world.old) (W.seen world.new) }
 {
     make_plain(view, world, ids, Kind::PlainOutput(PlainOutput::Closed))
 }

@@ -9,7 +9,7 @@ ghost use Rattle.wasi_host.specs.Machine.{own_of, subscribe_asks, ready_asks, id
 ghost use Rattle.wasi_host.specs.Readiness.{ready_at, ready_ids_at, ready_record, ready_ids};
 ghost use Rattle.wasi_records.specs.Sides.{Balances};
 ghost use Rattle.wasi_host.specs.KnownSides.{KnowsSides};
-ghost use Rattle.wasi_host.specs.Views.{SameView, state_of};
+ghost use Rattle.wasi_host.specs.Views.{SameView, state_of, HostKept};
 
 use crate::handles;
 use crate::kind::{Kind, Watched};
@@ -31,7 +31,6 @@ fn poll_ready<W: World>(
     ensures asked { AsksFor (ready_record (own_of ids.old.line) ids.old watched record.old) (W.seen world.old) (W.seen world.new) (λ ready. (ready, record.new)) (fault_outcome result) }
     ensures ids { ids.new ≡ ready_ids ids.old watched record.old }
     ensures sides { Balances (W.seen world.old) (W.seen world.new) 0 record.old record.new }
-    ensures open { (W.seen world.new).ended ≡ false }
 {
     match watched {
         Watched::Socket(_) => record.socket_ready(world, ids),
@@ -74,7 +73,6 @@ impl Store {
         ensures asked { AsksFor (ready_at self.old (own_of ids.old.line) ids.old watched place (tcp2_at self.old.records place)) (W.seen world.old) (W.seen world.new) (λ ready. (ready, self.new)) (fault_outcome result) }
         ensures sides { KnowsSides (W.seen world.old) self.old → KnowsSides (W.seen world.new) self.new }
         ensures ids { ids.new ≡ ready_ids_at ids.old watched (tcp2_at self.old.records place) }
-        ensures open { (W.seen world.new).ended ≡ false }
     {
         let Some(record) = tcp2_mut(&mut self.records, place) else {
             return Err(Fault::Trap(TrapKind::NoSuchHandle));
@@ -92,10 +90,7 @@ pub fn subscribe<W: World>(
 ) -> Result<Handle, Fault>
     requires { (W.seen world.old).ended ≡ false }
     ensures asked { AsksFor (subscribe_asks (state_of view.old) (own_of ids.old.line) this) (W.seen world.old) (W.seen world.new) (λ made. (made, state_of view.new)) (fault_outcome result) }
-    ensures sides { KnowsSides (W.seen world.old) view.old.store.now → KnowsSides (W.seen world.new) view.new.store.now }
-    ensures view { SameView view.old view.new }
-    ensures ids { ids.new ≡ ids.old }
-    ensures open { (W.seen world.new).ended ≡ false }
+    ensures kept { HostKept view.old view.new ids.old ids.new (W.seen world.old) (W.seen world.new) }
 {
     let watched = handles::watched(view.table, this)?;
     let side = view.store.watched_side(watched);
@@ -129,7 +124,6 @@ pub fn ready<W: World>(
     ensures taken { TakesOne ids.old ids.new }
     ensures ids { watches_incoming (state_of view.old) pollable ≡ false → ids.new ≡ ids_after_ready (state_of view.old) ids.old pollable }
     ensures names { IfOk (fault_outcome result) (λ ready. ids.new ≡ ids_after_ready (state_of view.old) ids.old pollable) }
-    ensures open { (W.seen world.new).ended ≡ false }
 {
     let watched = handles::watch(view.table, pollable)?;
     match watched {

@@ -5,10 +5,8 @@ ghost use Rattle.std.specs.Prelude.{◌≡◌, ◌+◌, ◌<◌, ◌^◌, false,
 ghost use Rattle.wasi_world.specs.Asks.{AsksFor};
 ghost use Rattle.wasi_world.specs.Seen.{Seen};
 ghost use Rattle.wasi_records.specs.Stops.{fault_outcome};
-ghost use Rattle.wasi_host.specs.Kinds.{kind_at, watch_of};
 ghost use Rattle.wasi_records.specs.Listening.{TakesOne};
 ghost use Rattle.wasi_host.specs.Polling.{begins_on, look_at_pollable, ids_after_look, found_of, is_ready, look_each, ready_places, poll_by, pollables_in, poll_asks, block_by, blocked_answer, blocked_store};
-ghost use Rattle.wasi_records.specs.Records.{tcp2_at, open_at};
 ghost use Rattle.wasi_host.specs.KnownSides.{KnowsSides};
 ghost use Rattle.wasi_host.specs.Views.{SameView, state_of};
 
@@ -158,7 +156,6 @@ fn look_again<W: World>(
     ensures asked { AsksFor (look_at_pollable Look.Later (state_of view.old) ids pollable) (W.seen world.old) (W.seen world.new) (λ ready. (ready, state_of view.new)) (fault_outcome result) }
     ensures sides { KnowsSides (W.seen world.old) view.old.store.now → KnowsSides (W.seen world.new) view.new.store.now }
     ensures view { SameView view.old view.new }
-    ensures open { (W.seen world.new).ended ≡ false }
 {
     let watched = handles::watch(view.table, pollable)?;
     if view.store.would_begin(watched) {
@@ -183,7 +180,6 @@ fn look_at<W: World>(
     ensures view { SameView view.old view.new }
     ensures taken { TakesOne ids.old ids.new }
     ensures names { IfOk (fault_outcome result) (λ ready. ids.new ≡ ids_after_look look (state_of view.old) ids.old pollable) }
-    ensures open { (W.seen world.new).ended ≡ false }
 {
     match look {
         Look::First => ready(view, world, ids, pollable),
@@ -206,7 +202,6 @@ fn look_each<W: World>(
     ensures sides { KnowsSides (W.seen world.old) view.old.store.now → KnowsSides (W.seen world.new) view.new.store.now }
     ensures view { SameView view.old view.new }
     ensures line { ids.new.line ≡ ids.old.line }
-    ensures open { (W.seen world.new).ended ≡ false }
 {
     let mut found = Found::new(alloc);
     for pollable in pollables {
@@ -245,7 +240,6 @@ pub(crate) fn poll_by<W: World>(
     ensures sides { KnowsSides (W.seen world.old) view.old.store.now → KnowsSides (W.seen world.new) view.new.store.now }
     ensures view { SameView view.old view.new }
     ensures line { ids.new.line ≡ ids.old.line }
-    ensures open { (W.seen world.new).ended ≡ false }
 {
     if pollables.len() > u32::MAX as usize {
         return Err(Fault::Memory(AllocError));
@@ -274,7 +268,6 @@ pub(crate) fn block_by<W: World>(
     ensures sides { KnowsSides (W.seen world.old) view.old.store.now → KnowsSides (W.seen world.new) view.new.store.now }
     ensures view { SameView view.old view.new }
     ensures line { ids.new.line ≡ ids.old.line }
-    ensures open { (W.seen world.new).ended ≡ false }
 {
     let names = *ids;
     let ready = look_at(view, world, ids, look, pollable)?;
@@ -296,7 +289,6 @@ pub fn block<W: World>(
     ensures sides { KnowsSides (W.seen world.old) view.old.store.now → KnowsSides (W.seen world.new) view.new.store.now }
     ensures view { SameView view.old view.new }
     ensures line { ids.new.line ≡ ids.old.line }
-    ensures open { (W.seen world.new).ended ≡ false }
 {
     block_by(view, world, ids, Look::First, pollable)
 }
@@ -322,7 +314,6 @@ pub fn poll<W: World>(
     ensures sides { KnowsSides (W.seen world.old) view.old.store.now → KnowsSides (W.seen world.new) view.new.store.now }
     ensures view { SameView view.old view.new }
     ensures line { ids.new.line ≡ ids.old.line }
-    ensures open { (W.seen world.new).ended ≡ false }
 {
     if pollables.is_empty() {
         return Err(Fault::Trap(TrapKind::EmptyList));

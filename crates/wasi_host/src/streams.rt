@@ -7,12 +7,11 @@ ghost use Rattle.wasi_streams.specs.StreamStop.{StreamStop};
 ghost use Rattle.wasi_host.specs.CallStops.{call_outcome, error_outcome, failed_outcome, IsStreamStop, IfStreamMemory};
 ghost use Rattle.wasi_host.specs.Kinds.{kind_at, stream_of};
 ghost use Rattle.wasi_host.specs.Machine.{own_of, input_at, output_at};
-ghost use Rattle.wasi_host.specs.KnownSides.{KnowsSides};
-ghost use Rattle.wasi_host.specs.StreamCalls.{read_asks, skip_asks, check_asks, write_asks, write_zeroes_asks, flushed_asks, splice_asks, splice_some, splice_read, stream_on, write_on, convert_on};
+ghost use Rattle.wasi_host.specs.StreamCalls.{read_asks, skip_asks, check_asks, write_asks, write_zeroes_asks, flushed_asks, splice_asks, splice_some, stream_on, write_on, convert_on, splice_read};
 ghost use Rattle.wasi_records.specs.Halves.{reader_asks, writer_asks, flush_asks};
 ghost use Rattle.wasi_tcp.specs.Reader.{read_state_asks};
 ghost use Rattle.wasi_tcp.specs.Writer.{check_write_asks, write_state_asks};
-ghost use Rattle.wasi_host.specs.Views.{SameView, state_of};
+ghost use Rattle.wasi_host.specs.Views.{state_of, HostKept};
 
 use crate::error::CallError;
 use crate::handles;
@@ -36,10 +35,7 @@ pub fn read<W: World>(
 ) -> Result<Octets, CallError>
     requires { (W.seen world.old).ended ≡ false }
     ensures asked { AsksFor (read_asks (state_of view.old) (own_of ids.old.line) this len) (W.seen world.old) (W.seen world.new) (λ read. (read, state_of view.new)) (call_outcome result) }
-    ensures sides { KnowsSides (W.seen world.old) view.old.store.now → KnowsSides (W.seen world.new) view.new.store.now }
-    ensures view { SameView view.old view.new }
-    ensures ids { ids.new ≡ ids.old }
-    ensures open { (W.seen world.new).ended ≡ false }
+    ensures kept { HostKept view.old view.new ids.old ids.new (W.seen world.old) (W.seen world.new) }
 {
     match handles::plain_input(view.table, this) {
         Some(stream) => plain(view.store.read_plain(alloc, stream, len as usize)),
@@ -58,10 +54,7 @@ fn read_connection<W: World>(
 ) -> Result<Octets, CallError>
     requires { (W.seen world.old).ended ≡ false }
     ensures asked { AsksFor (stream_on (state_of view.old) (own_of ids.old.line) this (reader_asks (λ r. read_state_asks (own_of ids.old.line) r len)) (input_at (state_of view.old) this)) (W.seen world.old) (W.seen world.new) (λ read. (read, state_of view.new)) (call_outcome result) }
-    ensures sides { KnowsSides (W.seen world.old) view.old.store.now → KnowsSides (W.seen world.new) view.new.store.now }
-    ensures view { SameView view.old view.new }
-    ensures ids { ids.new ≡ ids.old }
-    ensures open { (W.seen world.new).ended ≡ false }
+    ensures kept { HostKept view.old view.new ids.old ids.new (W.seen world.old) (W.seen world.new) }
 {
     let place = handles::input(view.table, this)?;
     match view
@@ -82,10 +75,7 @@ pub fn check_write<W: World>(
 ) -> Result<u64, CallError>
     requires { (W.seen world.old).ended ≡ false }
     ensures asked { AsksFor (check_asks (state_of view.old) (own_of ids.old.line) this) (W.seen world.old) (W.seen world.new) (λ permit. (permit, state_of view.new)) (call_outcome result) }
-    ensures sides { KnowsSides (W.seen world.old) view.old.store.now → KnowsSides (W.seen world.new) view.new.store.now }
-    ensures view { SameView view.old view.new }
-    ensures ids { ids.new ≡ ids.old }
-    ensures open { (W.seen world.new).ended ≡ false }
+    ensures kept { HostKept view.old view.new ids.old ids.new (W.seen world.old) (W.seen world.new) }
 {
     match handles::plain_output(view.table, this) {
         Some(stream) => plain(view.store.check_plain(stream)).map(|permit| permit as u64),
@@ -102,10 +92,7 @@ fn check_write_connection<W: World>(
 ) -> Result<u64, CallError>
     requires { (W.seen world.old).ended ≡ false }
     ensures asked { AsksFor (stream_on (state_of view.old) (own_of ids.old.line) this (writer_asks (check_write_asks (own_of ids.old.line))) (output_at (state_of view.old) this)) (W.seen world.old) (W.seen world.new) (λ permit. (permit, state_of view.new)) (call_outcome result) }
-    ensures sides { KnowsSides (W.seen world.old) view.old.store.now → KnowsSides (W.seen world.new) view.new.store.now }
-    ensures view { SameView view.old view.new }
-    ensures ids { ids.new ≡ ids.old }
-    ensures open { (W.seen world.new).ended ≡ false }
+    ensures kept { HostKept view.old view.new ids.old ids.new (W.seen world.old) (W.seen world.new) }
 {
     let place = handles::output(view.table, this)?;
     match view.store.check_write(world, ids.own(), place) {
@@ -124,10 +111,7 @@ pub fn write<W: World>(
 ) -> Result<(), CallError>
     requires { (W.seen world.old).ended ≡ false }
     ensures asked { AsksFor (write_asks (state_of view.old) (own_of ids.old.line) this bytes) (W.seen world.old) (W.seen world.new) (λ written. (written, state_of view.new)) (call_outcome result) }
-    ensures sides { KnowsSides (W.seen world.old) view.old.store.now → KnowsSides (W.seen world.new) view.new.store.now }
-    ensures view { SameView view.old view.new }
-    ensures ids { ids.new ≡ ids.old }
-    ensures open { (W.seen world.new).ended ≡ false }
+    ensures kept { HostKept view.old view.new ids.old ids.new (W.seen world.old) (W.seen world.new) }
 {
     match handles::plain_output(view.table, this) {
         Some(stream) => plain(view.store.write_plain(stream, bytes.as_slice())),
@@ -145,10 +129,7 @@ fn write_connection<W: World>(
 ) -> Result<(), CallError>
     requires { (W.seen world.old).ended ≡ false }
     ensures asked { AsksFor (write_on (state_of view.old) (own_of ids.old.line) this (writer_asks (λ w. write_state_asks (own_of ids.old.line) w bytes)) (output_at (state_of view.old) this)) (W.seen world.old) (W.seen world.new) (λ written. (written, state_of view.new)) (call_outcome result) }
-    ensures sides { KnowsSides (W.seen world.old) view.old.store.now → KnowsSides (W.seen world.new) view.new.store.now }
-    ensures view { SameView view.old view.new }
-    ensures ids { ids.new ≡ ids.old }
-    ensures open { (W.seen world.new).ended ≡ false }
+    ensures kept { HostKept view.old view.new ids.old ids.new (W.seen world.old) (W.seen world.new) }
 {
     let place = handles::output(view.table, this)?;
     match view.store.write(world, ids.own(), place, bytes) {
@@ -166,10 +147,7 @@ pub fn flush<W: World>(
 ) -> Result<(), CallError>
     requires { (W.seen world.old).ended ≡ false }
     ensures asked { AsksFor (flushed_asks (state_of view.old) (own_of ids.old.line) this) (W.seen world.old) (W.seen world.new) (λ flushed. (flushed, state_of view.new)) (call_outcome result) }
-    ensures sides { KnowsSides (W.seen world.old) view.old.store.now → KnowsSides (W.seen world.new) view.new.store.now }
-    ensures view { SameView view.old view.new }
-    ensures ids { ids.new ≡ ids.old }
-    ensures open { (W.seen world.new).ended ≡ false }
+    ensures kept { HostKept view.old view.new ids.old ids.new (W.seen world.old) (W.seen world.new) }
 {
     match handles::plain_output(view.table, this) {
         Some(stream) => plain(flush_plain(stream)),
@@ -186,10 +164,7 @@ fn flush_connection<W: World>(
 ) -> Result<(), CallError>
     requires { (W.seen world.old).ended ≡ false }
     ensures asked { AsksFor (stream_on (state_of view.old) (own_of ids.old.line) this (writer_asks flush_asks) (output_at (state_of view.old) this)) (W.seen world.old) (W.seen world.new) (λ flushed. (flushed, state_of view.new)) (call_outcome result) }
-    ensures sides { KnowsSides (W.seen world.old) view.old.store.now → KnowsSides (W.seen world.new) view.new.store.now }
-    ensures view { SameView view.old view.new }
-    ensures ids { ids.new ≡ ids.old }
-    ensures open { (W.seen world.new).ended ≡ false }
+    ensures kept { HostKept view.old view.new ids.old ids.new (W.seen world.old) (W.seen world.new) }
 {
     let place = handles::output(view.table, this)?;
     match view.store.flush(world, place) {
@@ -221,10 +196,7 @@ pub fn skip<W: World>(
 ) -> Result<u64, CallError>
     requires { (W.seen world.old).ended ≡ false }
     ensures asked { AsksFor (skip_asks (state_of view.old) (own_of ids.old.line) this len) (W.seen world.old) (W.seen world.new) (λ done. (done, state_of view.new)) (call_outcome result) }
-    ensures sides { KnowsSides (W.seen world.old) view.old.store.now → KnowsSides (W.seen world.new) view.new.store.now }
-    ensures view { SameView view.old view.new }
-    ensures ids { ids.new ≡ ids.old }
-    ensures open { (W.seen world.new).ended ≡ false }
+    ensures kept { HostKept view.old view.new ids.old ids.new (W.seen world.old) (W.seen world.new) }
 {
     let bytes = read(alloc, view, world, ids, this, len)?;
     Ok(bytes.len() as u64)
@@ -242,10 +214,7 @@ pub fn write_zeroes<W: World>(
 ) -> Result<(), CallError>
     requires { (W.seen world.old).ended ≡ false }
     ensures asked { AsksFor (write_zeroes_asks (state_of view.old) (own_of ids.old.line) this len) (W.seen world.old) (W.seen world.new) (λ done. (done, state_of view.new)) (call_outcome result) }
-    ensures sides { KnowsSides (W.seen world.old) view.old.store.now → KnowsSides (W.seen world.new) view.new.store.now }
-    ensures view { SameView view.old view.new }
-    ensures ids { ids.new ≡ ids.old }
-    ensures open { (W.seen world.new).ended ≡ false }
+    ensures kept { HostKept view.old view.new ids.old ids.new (W.seen world.old) (W.seen world.new) }
 {
     let bytes = zeros(alloc, len)?;
     write(view, world, ids, this, bytes)
@@ -266,10 +235,7 @@ pub fn splice<W: World>(
 ) -> Result<u64, CallError>
     requires { (W.seen world.old).ended ≡ false }
     ensures asked { AsksFor (splice_asks (state_of view.old) (own_of ids.old.line) output input len) (W.seen world.old) (W.seen world.new) (λ done. (done, state_of view.new)) (call_outcome result) }
-    ensures sides { KnowsSides (W.seen world.old) view.old.store.now → KnowsSides (W.seen world.new) view.new.store.now }
-    ensures view { SameView view.old view.new }
-    ensures ids { ids.new ≡ ids.old }
-    ensures open { (W.seen world.new).ended ≡ false }
+    ensures kept { HostKept view.old view.new ids.old ids.new (W.seen world.old) (W.seen world.new) }
 {
     handles::writable(view.table, output)?;
     handles::readable(view.table, input)?;
@@ -289,10 +255,7 @@ fn splice_some<W: World>(
 ) -> Result<u64, CallError>
     requires { (W.seen world.old).ended ≡ false }
     ensures asked { AsksFor (splice_some (own_of ids.old.line) output input (state_of view.old) count) (W.seen world.old) (W.seen world.new) (λ done. (done, state_of view.new)) (call_outcome result) }
-    ensures sides { KnowsSides (W.seen world.old) view.old.store.now → KnowsSides (W.seen world.new) view.new.store.now }
-    ensures view { SameView view.old view.new }
-    ensures ids { ids.new ≡ ids.old }
-    ensures open { (W.seen world.new).ended ≡ false }
+    ensures kept { HostKept view.old view.new ids.old ids.new (W.seen world.old) (W.seen world.new) }
 {
     if count == 0 {
         return Ok(0);
@@ -319,10 +282,7 @@ pub fn convert_stream_error<W: World>(
     requires { (W.seen world.old).ended ≡ false }
     ensures asked { IsStreamStop error (λ stop. AsksFor (convert_on (state_of view.old) (own_of ids.old.line) this (stream_of (kind_at view.old.table.now this)) stop) (W.seen world.old) (W.seen world.new) (λ converted. (converted, state_of view.new)) (error_outcome result)) }
     ensures memory { IfStreamMemory error (λ e. (result ≡ CallError.Memory e) × (state_of view.new ≡ state_of view.old) × (W.seen world.new ≡ W.seen world.old)) }
-    ensures sides { KnowsSides (W.seen world.old) view.old.store.now → KnowsSides (W.seen world.new) view.new.store.now }
-    ensures view { SameView view.old view.new }
-    ensures ids { ids.new ≡ ids.old }
-    ensures open { (W.seen world.new).ended ≡ false }
+    ensures kept { HostKept view.old view.new ids.old ids.new (W.seen world.old) (W.seen world.new) }
 {
     match error {
         StreamError::LastOperationFailed(code) => failed(view, world, ids, this, code),
@@ -342,10 +302,7 @@ fn failed<W: World>(
 ) -> CallError
     requires { (W.seen world.old).ended ≡ false }
     ensures asked { AsksFor (convert_on (state_of view.old) (own_of ids.old.line) this (stream_of (kind_at view.old.table.now this)) (StreamStop.Failed code)) (W.seen world.old) (W.seen world.new) (λ converted. (converted, state_of view.new)) (error_outcome result) }
-    ensures sides { KnowsSides (W.seen world.old) view.old.store.now → KnowsSides (W.seen world.new) view.new.store.now }
-    ensures view { SameView view.old view.new }
-    ensures ids { ids.new ≡ ids.old }
-    ensures open { (W.seen world.new).ended ≡ false }
+    ensures kept { HostKept view.old view.new ids.old ids.new (W.seen world.old) (W.seen world.new) }
 {
     let place = match handles::stream(view.table, this) {
         Ok(place) => place,

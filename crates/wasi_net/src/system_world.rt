@@ -139,7 +139,6 @@ impl<S: System> World for SystemWorld<S> {
         ensures asked { AsksFor (one op call) (seen_by self.old) (seen_by self.new) (λ told. told) result }
         ensures fits { IfOk result (λ told. Fits call told) }
         ensures err { OnErr result (seen_by self.new ≡ seen_by self.old) }
-        ensures open { (seen_by self.new).ended ≡ false }
 
         // Which answer it is, which calls of the system are made for it, and what is left of the sockets.
         ensures told { IfOk result (λ told. OnNetwork (policy_in self.old) (sides_of self.old) op call told (sides_of self.new) (S.acts (system_of self.old)) (S.acts (system_of self.new))) }
@@ -158,7 +157,6 @@ impl<S: System> World for SystemWorld<S> {
         ensures asked { AsksFor (one_write op sock bytes.now) (seen_by self.old) (seen_by self.new) (λ told. told) result }
         ensures fits { IfOk result (λ told. IsWritten (length bytes.now) told) }
         ensures err { OnErr result (seen_by self.new ≡ seen_by self.old) }
-        ensures open { (seen_by self.new).ended ≡ false }
 
         // Which answer it is, which call of the system is made for it, and what is left of the sockets.
         ensures told { IfOk result (λ told. AnswersAt (λ k. Stays (WriteDoes k.fd bytes.now) k) (Told.Code ErrorCode.InvalidState) sock (sides_of self.old sock) (sides_of self.old) told (sides_of self.new) (S.acts (system_of self.old)) (S.acts (system_of self.new))) }
@@ -183,7 +181,6 @@ impl<S: System> World for SystemWorld<S> {
         requires open { (seen_by self.old).ended ≡ false }
         ensures asked { AsksFor (one op (Call.Send sock addr bytes.now)) (seen_by self.old) (seen_by self.new) (λ told. told) result }
         ensures err { OnErr result (seen_by self.new ≡ seen_by self.old) }
-        ensures open { (seen_by self.new).ended ≡ false }
 
         // Which answer it is, which call of the system is made for it, and what is left of the sockets.
         ensures told { IfOk result (λ told. AnswersAt (λ k. Stays (SendDoes k.fd addr bytes.now) k) (Told.Code ErrorCode.InvalidState) sock (sides_of self.old sock) (sides_of self.old) told (sides_of self.new) (S.acts (system_of self.old)) (S.acts (system_of self.new))) }

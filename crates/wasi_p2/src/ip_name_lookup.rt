@@ -7,7 +7,7 @@ ghost use Rattle.wasi_world.specs.Seen.{Seen};
 ghost use Rattle.wasi_records.specs.Stops.{host_outcome};
 ghost use Rattle.wasi_host.specs.Machine.{own_of, lookup_number};
 ghost use Rattle.wasi_host.specs.KnownSides.{KnowsSides};
-ghost use Rattle.wasi_host.specs.Views.{SameView, state_of};
+ghost use Rattle.wasi_host.specs.Views.{SameView, state_of, HostKept};
 ghost use Rattle.wasi_p2.specs.Lookup.{resolve_asks, resolved_host, next_address_on};
 
 use crate::SocketError;
@@ -37,10 +37,7 @@ pub fn resolve_addresses<W: World>(
 ) -> Result<Handle, SocketError>
     requires { (W.seen world.old).ended ≡ false }
     ensures asked { AsksFor (resolve_asks (state_of view.old) (own_of ids.old.line) view.old.ctx.now network name) (W.seen world.old) (W.seen world.new) (λ made. (made, state_of view.new)) (host_outcome result) }
-    ensures sides { KnowsSides (W.seen world.old) view.old.store.now → KnowsSides (W.seen world.new) view.new.store.now }
-    ensures view { SameView view.old view.new }
-    ensures ids { ids.new ≡ ids.old }
-    ensures open { (W.seen world.new).ended ≡ false }
+    ensures kept { HostKept view.old view.new ids.old ids.new (W.seen world.old) (W.seen world.new) }
 {
     handles::network(view.table, network)?;
     let host = host_for(alloc, view.ctx, &name)?;
@@ -58,10 +55,7 @@ fn resolve<W: World>(
 ) -> Result<Handle, SocketError>
     requires { (W.seen world.old).ended ≡ false }
     ensures asked { AsksFor (resolved_host (state_of view.old) (own_of ids.old.line) network host) (W.seen world.old) (W.seen world.new) (λ made. (made, state_of view.new)) (host_outcome result) }
-    ensures sides { KnowsSides (W.seen world.old) view.old.store.now → KnowsSides (W.seen world.new) view.new.store.now }
-    ensures view { SameView view.old view.new }
-    ensures ids { ids.new ≡ ids.old }
-    ensures open { (W.seen world.new).ended ≡ false }
+    ensures kept { HostKept view.old view.new ids.old ids.new (W.seen world.old) (W.seen world.new) }
 {
     match host {
         Ok(host) => view

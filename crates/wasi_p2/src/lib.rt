@@ -6,8 +6,7 @@ ghost use Rattle.std.specs.Prelude.{◌≡◌, IfErr, IfOk, Ok, false};
 ghost use Rattle.wasi_world.specs.Asks.{AsksFor};
 ghost use Rattle.wasi_records.specs.Stops.{host_outcome};
 ghost use Rattle.wasi_host.specs.Machine.{own_of};
-ghost use Rattle.wasi_host.specs.KnownSides.{KnowsSides};
-ghost use Rattle.wasi_host.specs.Views.{SameView, state_of};
+ghost use Rattle.wasi_host.specs.Views.{state_of, HostKept};
 ghost use Rattle.wasi_streams.specs.HostError.{of_fault};
 ghost use Rattle.wasi_p2.specs.Lookup.{error_code_on};
 ghost use Rattle.wasi_p2.specs.Tcp.{network_asks};
@@ -31,10 +30,7 @@ pub fn instance_network<W: World>(
 ) -> Result<Handle, SocketError>
     requires { (W.seen world.old).ended ≡ false }
     ensures asked { AsksFor (network_asks (state_of view.old) (own_of ids.old.line)) (W.seen world.old) (W.seen world.new) (λ made. (made, state_of view.new)) (host_outcome result) }
-    ensures sides { KnowsSides (W.seen world.old) view.old.store.now → KnowsSides (W.seen world.new) view.new.store.now }
-    ensures view { SameView view.old view.new }
-    ensures ids { ids.new ≡ ids.old }
-    ensures open { (W.seen world.new).ended ≡ false }
+    ensures kept { HostKept view.old view.new ids.old ids.new (W.seen world.old) (W.seen world.new) }
 {
     let handle = handles::make(view.table, world, ids.own(), Kind::Network, None, None)?;
     Ok(handle)

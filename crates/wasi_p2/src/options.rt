@@ -8,8 +8,7 @@ ghost use Rattle.wasi_world.specs.Asks.{AsksFor};
 ghost use Rattle.socket_common.specs.Options.{largest_value, option_of, number_of};
 ghost use Rattle.wasi_records.specs.Stops.{host_outcome};
 ghost use Rattle.wasi_host.specs.Machine.{own_of, socket_at};
-ghost use Rattle.wasi_host.specs.KnownSides.{KnowsSides};
-ghost use Rattle.wasi_host.specs.Views.{SameView, state_of};
+ghost use Rattle.wasi_host.specs.Views.{state_of, HostKept};
 ghost use Rattle.wasi_p2.specs.Options.{get_option_on, set_option_on, set_backlog_on, truth_told};
 
 use crate::SocketError;
@@ -34,10 +33,7 @@ pub fn get_option<W: World>(
     requires { (W.seen world.old).ended ≡ false }
     ensures asked { AsksFor (get_option_on (state_of view.old) (own_of ids.old.line) option (socket_at (state_of view.old) this)) (W.seen world.old) (W.seen world.new) (λ told. (told, state_of view.new)) (host_outcome result) }
     ensures within { IfOk result (λ value. value ≤ largest_value option) }
-    ensures sides { KnowsSides (W.seen world.old) view.old.store.now → KnowsSides (W.seen world.new) view.new.store.now }
-    ensures view { SameView view.old view.new }
-    ensures ids { ids.new ≡ ids.old }
-    ensures open { (W.seen world.new).ended ≡ false }
+    ensures kept { HostKept view.old view.new ids.old ids.new (W.seen world.old) (W.seen world.new) }
 {
     let place = handles::socket(view.table, this)?;
     view.store.get_option(world, ids.own(), place, option)
@@ -59,10 +55,7 @@ fn set_option<W: World>(
 ) -> Result<(), SocketError>
     requires { (W.seen world.old).ended ≡ false }
     ensures asked { AsksFor (set_option_on (state_of view.old) (own_of ids.old.line) (option_of setting) (number_of setting) (socket_at (state_of view.old) this)) (W.seen world.old) (W.seen world.new) (λ done. (done, state_of view.new)) (host_outcome result) }
-    ensures sides { KnowsSides (W.seen world.old) view.old.store.now → KnowsSides (W.seen world.new) view.new.store.now }
-    ensures view { SameView view.old view.new }
-    ensures ids { ids.new ≡ ids.old }
-    ensures open { (W.seen world.new).ended ≡ false }
+    ensures kept { HostKept view.old view.new ids.old ids.new (W.seen world.old) (W.seen world.new) }
 {
     let place = handles::socket(view.table, this)?;
     view.store.set_option(world, ids.own(), place, setting)
@@ -78,10 +71,7 @@ pub fn keep_alive_enabled<W: World>(
 ) -> Result<bool, SocketError>
     requires { (W.seen world.old).ended ≡ false }
     ensures asked { AsksFor (get_option_on (state_of view.old) (own_of ids.old.line) Opt.KeepAliveEnabled (socket_at (state_of view.old) this)) (W.seen world.old) (W.seen world.new) (λ told. (truth_told told, state_of view.new)) (host_outcome result) }
-    ensures sides { KnowsSides (W.seen world.old) view.old.store.now → KnowsSides (W.seen world.new) view.new.store.now }
-    ensures view { SameView view.old view.new }
-    ensures ids { ids.new ≡ ids.old }
-    ensures open { (W.seen world.new).ended ≡ false }
+    ensures kept { HostKept view.old view.new ids.old ids.new (W.seen world.old) (W.seen world.new) }
 {
     let value = get_option(view, world, ids, this, Opt::KeepAliveEnabled)?;
     Ok(value != 0)
@@ -97,10 +87,7 @@ pub fn set_keep_alive_enabled<W: World>(
 ) -> Result<(), SocketError>
     requires { (W.seen world.old).ended ≡ false }
     ensures asked { AsksFor (set_option_on (state_of view.old) (own_of ids.old.line) Opt.KeepAliveEnabled (from_bool value) (socket_at (state_of view.old) this)) (W.seen world.old) (W.seen world.new) (λ done. (done, state_of view.new)) (host_outcome result) }
-    ensures sides { KnowsSides (W.seen world.old) view.old.store.now → KnowsSides (W.seen world.new) view.new.store.now }
-    ensures view { SameView view.old view.new }
-    ensures ids { ids.new ≡ ids.old }
-    ensures open { (W.seen world.new).ended ≡ false }
+    ensures kept { HostKept view.old view.new ids.old ids.new (W.seen world.old) (W.seen world.new) }
 {
     set_option(view, world, ids, this, Setting::KeepAliveEnabled(value))
 }
@@ -114,10 +101,7 @@ pub fn keep_alive_idle_time<W: World>(
 ) -> Result<u64, SocketError>
     requires { (W.seen world.old).ended ≡ false }
     ensures asked { AsksFor (get_option_on (state_of view.old) (own_of ids.old.line) Opt.KeepAliveIdleTime (socket_at (state_of view.old) this)) (W.seen world.old) (W.seen world.new) (λ told. (told, state_of view.new)) (host_outcome result) }
-    ensures sides { KnowsSides (W.seen world.old) view.old.store.now → KnowsSides (W.seen world.new) view.new.store.now }
-    ensures view { SameView view.old view.new }
-    ensures ids { ids.new ≡ ids.old }
-    ensures open { (W.seen world.new).ended ≡ false }
+    ensures kept { HostKept view.old view.new ids.old ids.new (W.seen world.old) (W.seen world.new) }
 {
     get_option(view, world, ids, this, Opt::KeepAliveIdleTime)
 }
@@ -134,10 +118,7 @@ pub fn set_keep_alive_idle_time<W: World>(
 ) -> Result<(), SocketError>
     requires { (W.seen world.old).ended ≡ false }
     ensures asked { AsksFor (set_option_on (state_of view.old) (own_of ids.old.line) Opt.KeepAliveIdleTime value (socket_at (state_of view.old) this)) (W.seen world.old) (W.seen world.new) (λ done. (done, state_of view.new)) (host_outcome result) }
-    ensures sides { KnowsSides (W.seen world.old) view.old.store.now → KnowsSides (W.seen world.new) view.new.store.now }
-    ensures view { SameView view.old view.new }
-    ensures ids { ids.new ≡ ids.old }
-    ensures open { (W.seen world.new).ended ≡ false }
+    ensures kept { HostKept view.old view.new ids.old ids.new (W.seen world.old) (W.seen world.new) }
 {
     set_option(view, world, ids, this, Setting::KeepAliveIdleTime(value))
 }
@@ -151,10 +132,7 @@ pub fn keep_alive_interval<W: World>(
 ) -> Result<u64, SocketError>
     requires { (W.seen world.old).ended ≡ false }
     ensures asked { AsksFor (get_option_on (state_of view.old) (own_of ids.old.line) Opt.KeepAliveInterval (socket_at (state_of view.old) this)) (W.seen world.old) (W.seen world.new) (λ told. (told, state_of view.new)) (host_outcome result) }
-    ensures sides { KnowsSides (W.seen world.old) view.old.store.now → KnowsSides (W.seen world.new) view.new.store.now }
-    ensures view { SameView view.old view.new }
-    ensures ids { ids.new ≡ ids.old }
-    ensures open { (W.seen world.new).ended ≡ false }
+    ensures kept { HostKept view.old view.new ids.old ids.new (W.seen world.old) (W.seen world.new) }
 {
     get_option(view, world, ids, this, Opt::KeepAliveInterval)
 }
@@ -170,10 +148,7 @@ pub fn set_keep_alive_interval<W: World>(
 ) -> Result<(), SocketError>
     requires { (W.seen world.old).ended ≡ false }
     ensures asked { AsksFor (set_option_on (state_of view.old) (own_of ids.old.line) Opt.KeepAliveInterval value (socket_at (state_of view.old) this)) (W.seen world.old) (W.seen world.new) (λ done. (done, state_of view.new)) (host_outcome result) }
-    ensures sides { KnowsSides (W.seen world.old) view.old.store.now → KnowsSides (W.seen world.new) view.new.store.now }
-    ensures view { SameView view.old view.new }
-    ensures ids { ids.new ≡ ids.old }
-    ensures open { (W.seen world.new).ended ≡ false }
+    ensures kept { HostKept view.old view.new ids.old ids.new (W.seen world.old) (W.seen world.new) }
 {
     set_option(view, world, ids, this, Setting::KeepAliveInterval(value))
 }
@@ -188,10 +163,7 @@ pub fn keep_alive_count<W: World>(
 ) -> Result<u32, SocketError>
     requires { (W.seen world.old).ended ≡ false }
     ensures asked { AsksFor (get_option_on (state_of view.old) (own_of ids.old.line) Opt.KeepAliveCount (socket_at (state_of view.old) this)) (W.seen world.old) (W.seen world.new) (λ told. (told, state_of view.new)) (host_outcome result) }
-    ensures sides { KnowsSides (W.seen world.old) view.old.store.now → KnowsSides (W.seen world.new) view.new.store.now }
-    ensures view { SameView view.old view.new }
-    ensures ids { ids.new ≡ ids.old }
-    ensures open { (W.seen world.new).ended ≡ false }
+    ensures kept { HostKept view.old view.new ids.old ids.new (W.seen world.old) (W.seen world.new) }
 {
     let value = get_option(view, world, ids, this, Opt::KeepAliveCount)?;
     Ok(value as u32)
@@ -208,10 +180,7 @@ pub fn set_keep_alive_count<W: World>(
 ) -> Result<(), SocketError>
     requires { (W.seen world.old).ended ≡ false }
     ensures asked { AsksFor (set_option_on (state_of view.old) (own_of ids.old.line) Opt.KeepAliveCount value (socket_at (state_of view.old) this)) (W.seen world.old) (W.seen world.new) (λ done. (done, state_of view.new)) (host_outcome result) }
-    ensures sides { KnowsSides (W.seen world.old) view.old.store.now → KnowsSides (W.seen world.new) view.new.store.now }
-    ensures view { SameView view.old view.new }
-    ensures ids { ids.new ≡ ids.old }
-    ensures open { (W.seen world.new).ended ≡ false }
+    ensures kept { HostKept view.old view.new ids.old ids.new (W.seen world.old) (W.seen world.new) }
 {
     set_option(view, world, ids, this, Setting::KeepAliveCount(value))
 }
@@ -225,10 +194,7 @@ pub fn hop_limit<W: World>(
 ) -> Result<u8, SocketError>
     requires { (W.seen world.old).ended ≡ false }
     ensures asked { AsksFor (get_option_on (state_of view.old) (own_of ids.old.line) Opt.HopLimit (socket_at (state_of view.old) this)) (W.seen world.old) (W.seen world.new) (λ told. (told, state_of view.new)) (host_outcome result) }
-    ensures sides { KnowsSides (W.seen world.old) view.old.store.now → KnowsSides (W.seen world.new) view.new.store.now }
-    ensures view { SameView view.old view.new }
-    ensures ids { ids.new ≡ ids.old }
-    ensures open { (W.seen world.new).ended ≡ false }
+    ensures kept { HostKept view.old view.new ids.old ids.new (W.seen world.old) (W.seen world.new) }
 {
     let value = get_option(view, world, ids, this, Opt::HopLimit)?;
     Ok(value as u8)
@@ -245,10 +211,7 @@ pub fn set_hop_limit<W: World>(
 ) -> Result<(), SocketError>
     requires { (W.seen world.old).ended ≡ false }
     ensures asked { AsksFor (set_option_on (state_of view.old) (own_of ids.old.line) Opt.HopLimit value (socket_at (state_of view.old) this)) (W.seen world.old) (W.seen world.new) (λ done. (done, state_of view.new)) (host_outcome result) }
-    ensures sides { KnowsSides (W.seen world.old) view.old.store.now → KnowsSides (W.seen world.new) view.new.store.now }
-    ensures view { SameView view.old view.new }
-    ensures ids { ids.new ≡ ids.old }
-    ensures open { (W.seen world.new).ended ≡ false }
+    ensures kept { HostKept view.old view.new ids.old ids.new (W.seen world.old) (W.seen world.new) }
 {
     set_option(view, world, ids, this, Setting::HopLimit(value))
 }
@@ -263,10 +226,7 @@ pub fn receive_buffer_size<W: World>(
 ) -> Result<u64, SocketError>
     requires { (W.seen world.old).ended ≡ false }
     ensures asked { AsksFor (get_option_on (state_of view.old) (own_of ids.old.line) Opt.ReceiveBufferSize (socket_at (state_of view.old) this)) (W.seen world.old) (W.seen world.new) (λ told. (told, state_of view.new)) (host_outcome result) }
-    ensures sides { KnowsSides (W.seen world.old) view.old.store.now → KnowsSides (W.seen world.new) view.new.store.now }
-    ensures view { SameView view.old view.new }
-    ensures ids { ids.new ≡ ids.old }
-    ensures open { (W.seen world.new).ended ≡ false }
+    ensures kept { HostKept view.old view.new ids.old ids.new (W.seen world.old) (W.seen world.new) }
 {
     get_option(view, world, ids, this, Opt::ReceiveBufferSize)
 }
@@ -282,10 +242,7 @@ pub fn set_receive_buffer_size<W: World>(
 ) -> Result<(), SocketError>
     requires { (W.seen world.old).ended ≡ false }
     ensures asked { AsksFor (set_option_on (state_of view.old) (own_of ids.old.line) Opt.ReceiveBufferSize value (socket_at (state_of view.old) this)) (W.seen world.old) (W.seen world.new) (λ done. (done, state_of view.new)) (host_outcome result) }
-    ensures sides { KnowsSides (W.seen world.old) view.old.store.now → KnowsSides (W.seen world.new) view.new.store.now }
-    ensures view { SameView view.old view.new }
-    ensures ids { ids.new ≡ ids.old }
-    ensures open { (W.seen world.new).ended ≡ false }
+    ensures kept { HostKept view.old view.new ids.old ids.new (W.seen world.old) (W.seen world.new) }
 {
     set_option(view, world, ids, this, Setting::ReceiveBufferSize(value))
 }
@@ -300,10 +257,7 @@ pub fn send_buffer_size<W: World>(
 ) -> Result<u64, SocketError>
     requires { (W.seen world.old).ended ≡ false }
     ensures asked { AsksFor (get_option_on (state_of view.old) (own_of ids.old.line) Opt.SendBufferSize (socket_at (state_of view.old) this)) (W.seen world.old) (W.seen world.new) (λ told. (told, state_of view.new)) (host_outcome result) }
-    ensures sides { KnowsSides (W.seen world.old) view.old.store.now → KnowsSides (W.seen world.new) view.new.store.now }
-    ensures view { SameView view.old view.new }
-    ensures ids { ids.new ≡ ids.old }
-    ensures open { (W.seen world.new).ended ≡ false }
+    ensures kept { HostKept view.old view.new ids.old ids.new (W.seen world.old) (W.seen world.new) }
 {
     get_option(view, world, ids, this, Opt::SendBufferSize)
 }
@@ -319,10 +273,7 @@ pub fn set_send_buffer_size<W: World>(
 ) -> Result<(), SocketError>
     requires { (W.seen world.old).ended ≡ false }
     ensures asked { AsksFor (set_option_on (state_of view.old) (own_of ids.old.line) Opt.SendBufferSize value (socket_at (state_of view.old) this)) (W.seen world.old) (W.seen world.new) (λ done. (done, state_of view.new)) (host_outcome result) }
-    ensures sides { KnowsSides (W.seen world.old) view.old.store.now → KnowsSides (W.seen world.new) view.new.store.now }
-    ensures view { SameView view.old view.new }
-    ensures ids { ids.new ≡ ids.old }
-    ensures open { (W.seen world.new).ended ≡ false }
+    ensures kept { HostKept view.old view.new ids.old ids.new (W.seen world.old) (W.seen world.new) }
 {
     set_option(view, world, ids, this, Setting::SendBufferSize(value))
 }
@@ -343,10 +294,7 @@ pub fn set_listen_backlog_size<W: World>(
 ) -> Result<(), SocketError>
     requires { (W.seen world.old).ended ≡ false }
     ensures asked { AsksFor (set_backlog_on (state_of view.old) (own_of ids.old.line) value (socket_at (state_of view.old) this)) (W.seen world.old) (W.seen world.new) (λ done. (done, state_of view.new)) (host_outcome result) }
-    ensures sides { KnowsSides (W.seen world.old) view.old.store.now → KnowsSides (W.seen world.new) view.new.store.now }
-    ensures view { SameView view.old view.new }
-    ensures ids { ids.new ≡ ids.old }
-    ensures open { (W.seen world.new).ended ≡ false }
+    ensures kept { HostKept view.old view.new ids.old ids.new (W.seen world.old) (W.seen world.new) }
 {
     let place = handles::socket(view.table, this)?;
     view.store.set_backlog(world, ids.own(), place, value)

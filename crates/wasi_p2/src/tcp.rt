@@ -10,7 +10,7 @@ ghost use Rattle.wasi_host.specs.Kinds.{kind_at};
 ghost use Rattle.wasi_records.specs.Listening.{TakesOne};
 ghost use Rattle.wasi_host.specs.Machine.{own_of, socket_at, create_asks};
 ghost use Rattle.wasi_host.specs.KnownSides.{KnowsSides};
-ghost use Rattle.wasi_host.specs.Views.{SameView, state_of};
+ghost use Rattle.wasi_host.specs.Views.{SameView, state_of, HostKept};
 ghost use Rattle.wasi_p2.specs.Tcp.{start_bind_asks, finish_on, start_connect_asks, finish_connect_on, streams_asks, local_address_on, remote_address_on, is_listening_on, address_family_on, shutdown_on, start_listen_on, accepted_handles, accept_asks, ids_after_accept};
 
 use crate::SocketError;
@@ -35,10 +35,7 @@ pub fn create_tcp_socket<W: World>(
 ) -> Result<Handle, SocketError>
     requires { (W.seen world.old).ended ≡ false }
     ensures asked { AsksFor (create_asks (state_of view.old) (own_of ids.old.line) view.old.ctx.now family) (W.seen world.old) (W.seen world.new) (λ made. (made, state_of view.new)) (host_outcome result) }
-    ensures sides { KnowsSides (W.seen world.old) view.old.store.now → KnowsSides (W.seen world.new) view.new.store.now }
-    ensures view { SameView view.old view.new }
-    ensures ids { ids.new ≡ ids.old }
-    ensures open { (W.seen world.new).ended ≡ false }
+    ensures kept { HostKept view.old view.new ids.old ids.new (W.seen world.old) (W.seen world.new) }
 {
     view.store
         .create_socket(view.table, world, ids.own(), view.ctx, family)
@@ -57,10 +54,7 @@ pub fn start_bind<W: World>(
 ) -> Result<Answer<()>, SocketError>
     requires { (W.seen world.old).ended ≡ false }
     ensures asked { AsksFor (start_bind_asks (state_of view.old) ids.old this network addr) (W.seen world.old) (W.seen world.new) (λ answer. (answer, state_of view.new)) (host_outcome result) }
-    ensures sides { KnowsSides (W.seen world.old) view.old.store.now → KnowsSides (W.seen world.new) view.new.store.now }
-    ensures view { SameView view.old view.new }
-    ensures ids { ids.new ≡ ids.old }
-    ensures open { (W.seen world.new).ended ≡ false }
+    ensures kept { HostKept view.old view.new ids.old ids.new (W.seen world.old) (W.seen world.new) }
 {
     handles::network(view.table, network)?;
     let place = handles::socket(view.table, this)?;
@@ -90,10 +84,7 @@ pub fn start_connect<W: World>(
 ) -> Result<(), SocketError>
     requires { (W.seen world.old).ended ≡ false }
     ensures asked { AsksFor (start_connect_asks (state_of view.old) (own_of ids.old.line) this network addr) (W.seen world.old) (W.seen world.new) (λ done. (done, state_of view.new)) (host_outcome result) }
-    ensures sides { KnowsSides (W.seen world.old) view.old.store.now → KnowsSides (W.seen world.new) view.new.store.now }
-    ensures view { SameView view.old view.new }
-    ensures ids { ids.new ≡ ids.old }
-    ensures open { (W.seen world.new).ended ≡ false }
+    ensures kept { HostKept view.old view.new ids.old ids.new (W.seen world.old) (W.seen world.new) }
 {
     handles::network(view.table, network)?;
     let place = handles::socket(view.table, this)?;
@@ -110,10 +101,7 @@ pub fn finish_connect<W: World>(
 ) -> Result<(Handle, Handle), SocketError>
     requires { (W.seen world.old).ended ≡ false }
     ensures asked { AsksFor (finish_connect_on (state_of view.old) (own_of ids.old.line) this (socket_at (state_of view.old) this)) (W.seen world.old) (W.seen world.new) (λ made. (made, state_of view.new)) (host_outcome result) }
-    ensures sides { KnowsSides (W.seen world.old) view.old.store.now → KnowsSides (W.seen world.new) view.new.store.now }
-    ensures view { SameView view.old view.new }
-    ensures ids { ids.new ≡ ids.old }
-    ensures open { (W.seen world.new).ended ≡ false }
+    ensures kept { HostKept view.old view.new ids.old ids.new (W.seen world.old) (W.seen world.new) }
 {
     let place = handles::socket(view.table, this)?;
     view.store.finish_connect(world, place)?;
@@ -133,10 +121,7 @@ fn make_streams<W: World>(
     requires open { (W.seen world.old).ended ≡ false }
     requires parent { IsSome (kind_at view.old.table.now this) }
     ensures asked { AsksFor (streams_asks (state_of view.old) (own_of ids.old.line) this place side) (W.seen world.old) (W.seen world.new) (λ made. (made, state_of view.new)) (host_outcome result) }
-    ensures sides { KnowsSides (W.seen world.old) view.old.store.now → KnowsSides (W.seen world.new) view.new.store.now }
-    ensures view { SameView view.old view.new }
-    ensures ids { ids.new ≡ ids.old }
-    ensures open { (W.seen world.new).ended ≡ false }
+    ensures kept { HostKept view.old view.new ids.old ids.new (W.seen world.old) (W.seen world.new) }
 {
     let own = ids.own();
     let input = handles::make(view.table, world, own, Kind::Input(place), Some(this), side)?;
@@ -166,10 +151,7 @@ pub fn start_listen<W: World>(
 ) -> Result<Answer<()>, SocketError>
     requires { (W.seen world.old).ended ≡ false }
     ensures asked { AsksFor (start_listen_on (state_of view.old) ids.old (socket_at (state_of view.old) this)) (W.seen world.old) (W.seen world.new) (λ answer. (answer, state_of view.new)) (host_outcome result) }
-    ensures sides { KnowsSides (W.seen world.old) view.old.store.now → KnowsSides (W.seen world.new) view.new.store.now }
-    ensures view { SameView view.old view.new }
-    ensures ids { ids.new ≡ ids.old }
-    ensures open { (W.seen world.new).ended ≡ false }
+    ensures kept { HostKept view.old view.new ids.old ids.new (W.seen world.old) (W.seen world.new) }
 {
     let place = handles::socket(view.table, this)?;
     view.store.start_listen(world, *ids, place)
@@ -207,7 +189,6 @@ pub fn accept<W: World>(
     ensures view { SameView view.old view.new }
     ensures ids { TakesOne ids.old ids.new }
     ensures names { IfOk (host_outcome result) (λ answer. ids.new ≡ ids_after_accept (state_of view.old) ids.old this) }
-    ensures open { (W.seen world.new).ended ≡ false }
 {
     let place = handles::socket(view.table, this)?;
     let accepted = view.store.accept(world, ids, place)?;
@@ -227,10 +208,7 @@ fn make_accepted<W: World>(
 ) -> Result<(Handle, Handle, Handle), SocketError>
     requires { (W.seen world.old).ended ≡ false }
     ensures asked { AsksFor (accepted_handles (state_of view.old) (own_of ids.old.line) listener place side) (W.seen world.old) (W.seen world.new) (λ made. (made, state_of view.new)) (host_outcome result) }
-    ensures sides { KnowsSides (W.seen world.old) view.old.store.now → KnowsSides (W.seen world.new) view.new.store.now }
-    ensures view { SameView view.old view.new }
-    ensures ids { ids.new ≡ ids.old }
-    ensures open { (W.seen world.new).ended ≡ false }
+    ensures kept { HostKept view.old view.new ids.old ids.new (W.seen world.old) (W.seen world.new) }
 {
     let kind = Kind::Tcp2(place);
     let socket = handles::make(view.table, world, ids.own(), kind, Some(listener), side)?;
@@ -248,10 +226,7 @@ pub fn local_address<W: World>(
 ) -> Result<IpSocketAddress, SocketError>
     requires { (W.seen world.old).ended ≡ false }
     ensures asked { AsksFor (local_address_on (state_of view.old) (own_of ids.old.line) (socket_at (state_of view.old) this)) (W.seen world.old) (W.seen world.new) (λ told. (told, state_of view.new)) (host_outcome result) }
-    ensures sides { KnowsSides (W.seen world.old) view.old.store.now → KnowsSides (W.seen world.new) view.new.store.now }
-    ensures view { SameView view.old view.new }
-    ensures ids { ids.new ≡ ids.old }
-    ensures open { (W.seen world.new).ended ≡ false }
+    ensures kept { HostKept view.old view.new ids.old ids.new (W.seen world.old) (W.seen world.new) }
 {
     let place = handles::socket(view.table, this)?;
     view.store.local_address(world, ids.own(), place)
@@ -267,10 +242,7 @@ pub fn remote_address<W: World>(
 ) -> Result<IpSocketAddress, SocketError>
     requires { (W.seen world.old).ended ≡ false }
     ensures asked { AsksFor (remote_address_on (state_of view.old) (own_of ids.old.line) (socket_at (state_of view.old) this)) (W.seen world.old) (W.seen world.new) (λ told. (told, state_of view.new)) (host_outcome result) }
-    ensures sides { KnowsSides (W.seen world.old) view.old.store.now → KnowsSides (W.seen world.new) view.new.store.now }
-    ensures view { SameView view.old view.new }
-    ensures ids { ids.new ≡ ids.old }
-    ensures open { (W.seen world.new).ended ≡ false }
+    ensures kept { HostKept view.old view.new ids.old ids.new (W.seen world.old) (W.seen world.new) }
 {
     let place = handles::socket(view.table, this)?;
     view.store.remote_address(world, ids.own(), place)
@@ -313,10 +285,7 @@ pub fn shutdown<W: World>(
 ) -> Result<(), SocketError>
     requires { (W.seen world.old).ended ≡ false }
     ensures asked { AsksFor (shutdown_on (state_of view.old) (own_of ids.old.line) how (socket_at (state_of view.old) this)) (W.seen world.old) (W.seen world.new) (λ done. (done, state_of view.new)) (host_outcome result) }
-    ensures sides { KnowsSides (W.seen world.old) view.old.store.now → KnowsSides (W.seen world.new) view.new.store.now }
-    ensures view { SameView view.old view.new }
-    ensures ids { ids.new ≡ ids.old }
-    ensures open { (W.seen world.new).ended ≡ false }
+    ensures kept { HostKept view.old view.new ids.old ids.new (W.seen world.old) (W.seen world.new) }
 {
     let place = handles::socket(view.table, this)?;
     view.store.shutdown(world, ids.own(), place, how)

@@ -10,7 +10,7 @@ ghost use Rattle.wasi_records.specs.Stops.{host_outcome};
 ghost use Rattle.wasi_host.specs.Machine.{own_of, udp_socket_at, incoming_at, outgoing_at};
 ghost use Rattle.wasi_host.specs.KnownSides.{KnowsSides};
 ghost use Rattle.wasi_host.specs.UdpCreates.{create_udp_asks};
-ghost use Rattle.wasi_host.specs.Views.{SameView, state_of};
+ghost use Rattle.wasi_host.specs.Views.{SameView, state_of, HostKept};
 ghost use Rattle.wasi_p2.specs.Udp.{start_udp_bind_asks, finish_udp_bind_on, udp_local_on, udp_remote_on, udp_family_on, get_udp_option_on, set_udp_option_on, udp_stream_asks, check_send_on, send_datagrams_on, receive_datagrams_on};
 
 use crate::SocketError;
@@ -31,10 +31,7 @@ pub fn create_udp_socket<W: World>(
 ) -> Result<Answer<Handle>, SocketError>
     requires { (W.seen world.old).ended ≡ false }
     ensures asked { AsksFor (create_udp_asks (state_of view.old) ids.old view.old.ctx.now family) (W.seen world.old) (W.seen world.new) (λ answer. (answer, state_of view.new)) (host_outcome result) }
-    ensures sides { KnowsSides (W.seen world.old) view.old.store.now → KnowsSides (W.seen world.new) view.new.store.now }
-    ensures view { SameView view.old view.new }
-    ensures ids { ids.new ≡ ids.old }
-    ensures open { (W.seen world.new).ended ≡ false }
+    ensures kept { HostKept view.old view.new ids.old ids.new (W.seen world.old) (W.seen world.new) }
 {
     view.store
         .create_udp_socket(view.table, world, *ids, view.ctx, family)
@@ -53,10 +50,7 @@ pub fn start_bind<W: World>(
 ) -> Result<Answer<()>, SocketError>
     requires { (W.seen world.old).ended ≡ false }
     ensures asked { AsksFor (start_udp_bind_asks (state_of view.old) ids.old this network addr) (W.seen world.old) (W.seen world.new) (λ answer. (answer, state_of view.new)) (host_outcome result) }
-    ensures sides { KnowsSides (W.seen world.old) view.old.store.now → KnowsSides (W.seen world.new) view.new.store.now }
-    ensures view { SameView view.old view.new }
-    ensures ids { ids.new ≡ ids.old }
-    ensures open { (W.seen world.new).ended ≡ false }
+    ensures kept { HostKept view.old view.new ids.old ids.new (W.seen world.old) (W.seen world.new) }
 {
     handles::network(view.table, network)?;
     let place = handles::udp_socket(view.table, this)?;
@@ -84,10 +78,7 @@ pub fn local_address<W: World>(
 ) -> Result<IpSocketAddress, SocketError>
     requires { (W.seen world.old).ended ≡ false }
     ensures asked { AsksFor (udp_local_on (state_of view.old) (own_of ids.old.line) (udp_socket_at (state_of view.old) this)) (W.seen world.old) (W.seen world.new) (λ told. (told, state_of view.new)) (host_outcome result) }
-    ensures sides { KnowsSides (W.seen world.old) view.old.store.now → KnowsSides (W.seen world.new) view.new.store.now }
-    ensures view { SameView view.old view.new }
-    ensures ids { ids.new ≡ ids.old }
-    ensures open { (W.seen world.new).ended ≡ false }
+    ensures kept { HostKept view.old view.new ids.old ids.new (W.seen world.old) (W.seen world.new) }
 {
     let place = handles::udp_socket(view.table, this)?;
     view.store.udp_local_address(world, ids.own(), place)
@@ -130,10 +121,7 @@ pub fn stream<W: World>(
 ) -> Result<Answer<(Handle, Handle)>, SocketError>
     requires { (W.seen world.old).ended ≡ false }
     ensures asked { AsksFor (udp_stream_asks (state_of view.old) ids.old this remote) (W.seen world.old) (W.seen world.new) (λ answer. (answer, state_of view.new)) (host_outcome result) }
-    ensures sides { KnowsSides (W.seen world.old) view.old.store.now → KnowsSides (W.seen world.new) view.new.store.now }
-    ensures view { SameView view.old view.new }
-    ensures ids { ids.new ≡ ids.old }
-    ensures open { (W.seen world.new).ended ≡ false }
+    ensures kept { HostKept view.old view.new ids.old ids.new (W.seen world.old) (W.seen world.new) }
 {
     let place = handles::udp_socket(view.table, this)?;
     view.store
@@ -174,7 +162,6 @@ pub fn send<W: World>(
     ensures sides { KnowsSides (W.seen world.old) view.old.store.now → KnowsSides (W.seen world.new) view.new.store.now }
     ensures view { SameView view.old view.new }
     ensures line { ids.new.line ≡ ids.old.line }
-    ensures open { (W.seen world.new).ended ≡ false }
 {
     let place = handles::outgoing(view.table, this)?;
     view.store.send_datagrams(world, ids, place, items)
@@ -199,7 +186,6 @@ pub fn receive<W: World>(
     ensures sides { KnowsSides (W.seen world.old) view.old.store.now → KnowsSides (W.seen world.new) view.new.store.now }
     ensures view { SameView view.old view.new }
     ensures line { ids.new.line ≡ ids.old.line }
-    ensures open { (W.seen world.new).ended ≡ false }
 {
     let place = handles::incoming(view.table, this)?;
     view.store
@@ -222,10 +208,7 @@ pub fn get_option<W: World>(
     requires { (W.seen world.old).ended ≡ false }
     ensures asked { AsksFor (get_udp_option_on (state_of view.old) (own_of ids.old.line) option (udp_socket_at (state_of view.old) this)) (W.seen world.old) (W.seen world.new) (λ told. (told, state_of view.new)) (host_outcome result) }
     ensures within { IfOk result (λ value. value ≤ largest_value option) }
-    ensures sides { KnowsSides (W.seen world.old) view.old.store.now → KnowsSides (W.seen world.new) view.new.store.now }
-    ensures view { SameView view.old view.new }
-    ensures ids { ids.new ≡ ids.old }
-    ensures open { (W.seen world.new).ended ≡ false }
+    ensures kept { HostKept view.old view.new ids.old ids.new (W.seen world.old) (W.seen world.new) }
 {
     let place = handles::udp_socket(view.table, this)?;
     view.store.get_udp_option(world, ids.own(), place, option)
@@ -245,10 +228,7 @@ pub fn set_option<W: World>(
 ) -> Result<(), SocketError>
     requires { (W.seen world.old).ended ≡ false }
     ensures asked { AsksFor (set_udp_option_on (state_of view.old) (own_of ids.old.line) (option_of setting) (number_of setting) (udp_socket_at (state_of view.old) this)) (W.seen world.old) (W.seen world.new) (λ done. (done, state_of view.new)) (host_outcome result) }
-    ensures sides { KnowsSides (W.seen world.old) view.old.store.now → KnowsSides (W.seen world.new) view.new.store.now }
-    ensures view { SameView view.old view.new }
-    ensures ids { ids.new ≡ ids.old }
-    ensures open { (W.seen world.new).ended ≡ false }
+    ensures kept { HostKept view.old view.new ids.old ids.new (W.seen world.old) (W.seen world.new) }
 {
     let place = handles::udp_socket(view.table, this)?;
     view.store.set_udp_option(world, ids.own(), place, setting)
@@ -264,10 +244,7 @@ pub fn unicast_hop_limit<W: World>(
 ) -> Result<u8, SocketError>
     requires { (W.seen world.old).ended ≡ false }
     ensures asked { AsksFor (get_udp_option_on (state_of view.old) (own_of ids.old.line) Opt.HopLimit (udp_socket_at (state_of view.old) this)) (W.seen world.old) (W.seen world.new) (λ told. (told, state_of view.new)) (host_outcome result) }
-    ensures sides { KnowsSides (W.seen world.old) view.old.store.now → KnowsSides (W.seen world.new) view.new.store.now }
-    ensures view { SameView view.old view.new }
-    ensures ids { ids.new ≡ ids.old }
-    ensures open { (W.seen world.new).ended ≡ false }
+    ensures kept { HostKept view.old view.new ids.old ids.new (W.seen world.old) (W.seen world.new) }
 {
     let value = get_option(view, world, ids, this, Opt::HopLimit)?;
     Ok(value as u8)
@@ -283,10 +260,7 @@ pub fn set_unicast_hop_limit<W: World>(
 ) -> Result<(), SocketError>
     requires { (W.seen world.old).ended ≡ false }
     ensures asked { AsksFor (set_udp_option_on (state_of view.old) (own_of ids.old.line) Opt.HopLimit value (udp_socket_at (state_of view.old) this)) (W.seen world.old) (W.seen world.new) (λ done. (done, state_of view.new)) (host_outcome result) }
-    ensures sides { KnowsSides (W.seen world.old) view.old.store.now → KnowsSides (W.seen world.new) view.new.store.now }
-    ensures view { SameView view.old view.new }
-    ensures ids { ids.new ≡ ids.old }
-    ensures open { (W.seen world.new).ended ≡ false }
+    ensures kept { HostKept view.old view.new ids.old ids.new (W.seen world.old) (W.seen world.new) }
 {
     set_option(view, world, ids, this, Setting::HopLimit(value))
 }
@@ -301,10 +275,7 @@ pub fn receive_buffer_size<W: World>(
 ) -> Result<u64, SocketError>
     requires { (W.seen world.old).ended ≡ false }
     ensures asked { AsksFor (get_udp_option_on (state_of view.old) (own_of ids.old.line) Opt.ReceiveBufferSize (udp_socket_at (state_of view.old) this)) (W.seen world.old) (W.seen world.new) (λ told. (told, state_of view.new)) (host_outcome result) }
-    ensures sides { KnowsSides (W.seen world.old) view.old.store.now → KnowsSides (W.seen world.new) view.new.store.now }
-    ensures view { SameView view.old view.new }
-    ensures ids { ids.new ≡ ids.old }
-    ensures open { (W.seen world.new).ended ≡ false }
+    ensures kept { HostKept view.old view.new ids.old ids.new (W.seen world.old) (W.seen world.new) }
 {
     get_option(view, world, ids, this, Opt::ReceiveBufferSize)
 }
@@ -320,10 +291,7 @@ pub fn set_receive_buffer_size<W: World>(
 ) -> Result<(), SocketError>
     requires { (W.seen world.old).ended ≡ false }
     ensures asked { AsksFor (set_udp_option_on (state_of view.old) (own_of ids.old.line) Opt.ReceiveBufferSize value (udp_socket_at (state_of view.old) this)) (W.seen world.old) (W.seen world.new) (λ done. (done, state_of view.new)) (host_outcome result) }
-    ensures sides { KnowsSides (W.seen world.old) view.old.store.now → KnowsSides (W.seen world.new) view.new.store.now }
-    ensures view { SameView view.old view.new }
-    ensures ids { ids.new ≡ ids.old }
-    ensures open { (W.seen world.new).ended ≡ false }
+    ensures kept { HostKept view.old view.new ids.old ids.new (W.seen world.old) (W.seen world.new) }
 {
     set_option(view, world, ids, this, Setting::ReceiveBufferSize(value))
 }
@@ -338,10 +306,7 @@ pub fn send_buffer_size<W: World>(
 ) -> Result<u64, SocketError>
     requires { (W.seen world.old).ended ≡ false }
     ensures asked { AsksFor (get_udp_option_on (state_of view.old) (own_of ids.old.line) Opt.SendBufferSize (udp_socket_at (state_of view.old) this)) (W.seen world.old) (W.seen world.new) (λ told. (told, state_of view.new)) (host_outcome result) }
-    ensures sides { KnowsSides (W.seen world.old) view.old.store.now → KnowsSides (W.seen world.new) view.new.store.now }
-    ensures view { SameView view.old view.new }
-    ensures ids { ids.new ≡ ids.old }
-    ensures open { (W.seen world.new).ended ≡ false }
+    ensures kept { HostKept view.old view.new ids.old ids.new (W.seen world.old) (W.seen world.new) }
 {
     get_option(view, world, ids, this, Opt::SendBufferSize)
 }
@@ -357,10 +322,7 @@ pub fn set_send_buffer_size<W: World>(
 ) -> Result<(), SocketError>
     requires { (W.seen world.old).ended ≡ false }
     ensures asked { AsksFor (set_udp_option_on (state_of view.old) (own_of ids.old.line) Opt.SendBufferSize value (udp_socket_at (state_of view.old) this)) (W.seen world.old) (W.seen world.new) (λ done. (done, state_of view.new)) (host_outcome result) }
-    ensures sides { KnowsSides (W.seen world.old) view.old.store.now → KnowsSides (W.seen world.new) view.new.store.now }
-    ensures view { SameView view.old view.new }
-    ensures ids { ids.new ≡ ids.old }
-    ensures open { (W.seen world.new).ended ≡ false }
+    ensures kept { HostKept view.old view.new ids.old ids.new (W.seen world.old) (W.seen world.new) }
 {
     set_option(view, world, ids, this, Setting::SendBufferSize(value))
 }

@@ -52,10 +52,12 @@ pub asked_under : {A T : Type 0} (asks : Asks A) (rules : List Rule) (denied : L
 asked_under asks rules denied handed old new view (Ok t) under asked = record {
   ok = reaches_under asks (Give (view t)) rules denied handed old new under asked.ok;
   err = tt;
+  ended = asked.ended;
 }
 asked_under asks rules denied handed old new view (Err e) under asked = record {
   ok = tt;
   err = record { rest = asked.err.rest; reached = reaches_under asks asked.err.rest rules denied handed old new under asked.err.reached };
+  ended = asked.ended;
 }
 
 -- where nothing was asked
@@ -69,6 +71,7 @@ pub asked_nothing : {A T : Type 0} (asks : Asks A) (old new : Seen) (view : T �
 asked_nothing asks old new view e same = rw same (record {
   ok = tt;
   err = record { rest = asks; reached = record { entries = []; passed = passes_none old; left = refl } };
+  ended = refl;
 })
 
 -- one call has one entry
@@ -169,6 +172,7 @@ module _ (rules : List Rule) (denied : List Denied) (d : Denied) (handed : ℕ) 
       left = ((refl, refl, rw answer_is (denied_fits rules d.entry.call call_is)), ap (λ t. Give t) answer_is);
     };
     err = tt;
+    ended = refl;
   }
 
   pub under_denied : IsUnder rules (denied ++ d ∷ []) handed inner

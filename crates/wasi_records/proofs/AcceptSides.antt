@@ -9,7 +9,7 @@ use Rattle.wasi_world.specs.declared.outcome.Refusal.{Refusal}
 use Rattle.wasi_world.specs.Seen.{Seen, Passes}
 use Rattle.wasi_world.specs.Asks.{Asks, Give, bind, Reaches, AsksFor}
 use Rattle.wasi_world.specs.Operation.{polls}
-use Rattle.wasi_world.proofs.Walks.{reaches_in, asks_end}
+use Rattle.wasi_world.proofs.Walks.{reaches_in, asks_end, asks_err}
 use Rattle.wasi_tcp.specs.declared.listener.Accepting.{Accepting}
 use Rattle.wasi_tcp.specs.declared.listener.Accepting.TheVariants as accepting
 use Rattle.wasi_tcp.specs.Listener.{Listener, HoldsAccept, IsListener, StandsAccept, accept_ended, listener_asks, listener_ready_asks, listener_accept_asks, ready_end, accept_end, untaken_side}
@@ -91,7 +91,7 @@ looked_balances r l new ids looked e h k asked stands = record_evens r l new 0 e
 pub accept_over : (r : Tcp2Socket) (l new : Listener) (ids : Ids) {s t : Seen} (looked : Result (Answer (Unit {0})) AllocError) → AsksFor (listener_ready_asks l ids) s t (λ answer. (answer, new)) looked
     → AsksFor {A = Result Bool Stop × Tcp2Socket} (bind (listener_ready_asks l ids) (λ done. Give (accept_looked r done))) s t (λ (ready : Result Bool Stop). (ready, with_listening r (Accepts new))) (read_told looked)
 accept_over r l new ids (Ok answer) h = asks_end _ h.ok refl
-accept_over r l new ids (Err e) h = record { ok = tt; err = record { rest = bind h.err.rest _; reached = reaches_in _ h.err.reached } }
+accept_over r l new ids (Err e) h = asks_err (bind h.err.rest _) (reaches_in _ h.err.reached)
 
 -- == an accept
 abbrev accepted_weight : Answer Socket × Listener → ℕ

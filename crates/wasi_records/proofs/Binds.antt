@@ -13,7 +13,7 @@ use Rattle.wasi_world.specs.Seen.{Seen}
 use Rattle.wasi_world.specs.Asks.{Asks, Give, bind, Reaches, AsksFor, outcome}
 use Rattle.wasi_world.specs.Operation.{Operation, Who, Item, End, Waits, Done, Refused, Nothing, PollsFor, poll_asks}
 use Rattle.wasi_world.proofs.Polls.{polls_asks}
-use Rattle.wasi_world.proofs.Walks.{asks_at, asks_end, reaches_in}
+use Rattle.wasi_world.proofs.Walks.{asks_at, asks_end, reaches_in, asks_err}
 use Rattle.wasi_tcp.specs.Bind.{IsBind}
 use Rattle.wasi_tcp.specs.Shape.{Socket}
 use Rattle.wasi_tcp.specs.Socket.{bind_asks, bound_asks}
@@ -31,7 +31,7 @@ polled_so : (r : Tcp2Socket) (op now : Operation) (p : Result (Answer (Unit {0})
 polled_so r op now (Ok (Ready done)) h = asks_end _ h.ended refl
 polled_so r op now (Ok Pending) h = asks_end _ h.ended (rw (← h.who) refl)
 polled_so r op now (Err (refusal.Code c)) h = asks_end _ h.ended refl
-polled_so r op now (Err (refusal.Memory e)) h = record { ok = tt; err = record { rest = bind (poll_asks now) (λ ended. Give (bind_ended op r ended)); reached = reaches_in _ h.ended } }
+polled_so r op now (Err (refusal.Memory e)) h = asks_err (bind (poll_asks now) (λ ended. Give (bind_ended op r ended))) (reaches_in _ h.ended)
 
 pub bind_polled : (r : Tcp2Socket) (op now : Operation) (p : Result (Answer (Unit {0})) Refusal) {s t : Seen} → r.in_progress ≡ Binding op → PollsFor (λ (done : Unit {0}). Nothing) Nothing op now s t p
     → AsksFor (poll_bind_asks r) s t (λ answer. (answer, bind_settled (with_progress r (Binding now)) p)) (outcome p)

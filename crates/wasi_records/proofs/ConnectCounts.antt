@@ -31,7 +31,7 @@ use Rattle.wasi_records.specs.Records.{tcp2_at, tcp2_put}
 use Rattle.wasi_records.specs.declared.records.Record.{Record}
 use Rattle.wasi_records.specs.declared.records.Record.TheVariants.{Tcp2, Udp2, Lookup, InputPipe, OutputPipe, Gone}
 use Rattle.wasi_records.specs.declared.socket.Tcp2Socket.{Tcp2Socket}
-use Rattle.wasi_world.proofs.Walks.{asks_end, reaches_in}
+use Rattle.wasi_world.proofs.Walks.{asks_end, reaches_in, asks_err}
 use Rattle.wasi_records.specs.Sockets.{with_inner, opened_send, opened_receive, opened, connect_polled, connect_settled, connect_told, poll_connect_asks}
 use Rattle.wasi_records.specs.Sides.{made_by, closed_by, made_in, closed_in, one_if_some, holds, held_in, Balances}
 use Rattle.wasi_records.proofs.SideCounts.{holds-same}
@@ -171,7 +171,7 @@ pub poll_asked : (r : Tcp2Socket) (now : Socket) (p : Result (Answer (Unit {0}))
 poll_asked r now (Ok Pending) h = asks_end _ h.ok refl
 poll_asked r now (Ok (Ready done)) h = asks_end _ h.ok refl
 poll_asked r now (Err (refusal.Code c)) h = asks_end _ h.ok refl
-poll_asked r now (Err (refusal.Memory e)) h = record { ok = tt; err = record { rest = bind h.err.rest (λ done. Give (connect_polled r done)); reached = reaches_in _ h.err.reached } }
+poll_asked r now (Err (refusal.Memory e)) h = asks_err (bind h.err.rest (λ done. Give (connect_polled r done))) (reaches_in _ h.err.reached)
 
 -- taking a half leaves the network socket
 receive_keeps : (s : TcpState) → side_in (take_receive s).1 ≡ side_in s

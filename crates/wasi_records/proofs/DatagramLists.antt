@@ -12,7 +12,7 @@ use Rattle.wasi_world.specs.declared.outcome.Refusal.{Refusal}
 use Rattle.wasi_world.specs.declared.outcome.Refusal.TheVariants as refusal
 use Rattle.wasi_world.specs.Seen.{Seen}
 use Rattle.wasi_world.specs.Asks.{Asks, bind, Reaches, AsksFor, outcome}
-use Rattle.wasi_world.proofs.Walks.{asks_end, reaches_in, reaches_on, reaches_then}
+use Rattle.wasi_world.proofs.Walks.{asks_end, reaches_in, reaches_on, reaches_then, asks_err, asks_ok}
 use Rattle.wasi_udp.specs.Shape.{Socket}
 use Rattle.wasi_records.specs.declared.datagrams.Outgoing.{Outgoing}
 use Rattle.wasi_records.specs.Datagrams.{send_after, send_all, send_next_asks, refusal_told}
@@ -20,8 +20,8 @@ use Rattle.wasi_records.specs.Names.{next_name, names_after}
 
 -- what is asked after the first of the asks were made
 asks_after : {A T : Type 0} {first mid : Asks A} {o p q : Seen} {view : T → A} {r : Result T AllocError} → Reaches first mid o p → AsksFor mid p q view r → AsksFor first o q view r
-asks_after {r = Ok x} h k = record { ok = reaches_then h k.ok; err = tt }
-asks_after {r = Err d} h k = record { ok = tt; err = record { rest = k.err.rest; reached = reaches_then h k.err.reached } }
+asks_after {r = Ok x} h k = asks_ok (reaches_then h k.ok)
+asks_after {r = Err d} h k = asks_err k.err.rest (reaches_then h k.err.reached)
 
 -- one was sent: the others are left, by the names after its own
 pub list_goes : {first : Asks (Result ℕ ErrorCode × (Socket × Outgoing))} (count : ℕ) (ids after : Ids) (d : OutgoingDatagram) (rest more : List OutgoingDatagram) (s t : Socket × Outgoing) (r : Result (Answer (Unit {0})) Refusal) {o p q : Seen} → rest ≡ d ∷ more → r ≡ Ok (Ready tt) → after ≡ names_after ids
@@ -44,8 +44,8 @@ refused_so : {asks : Asks (Result (Answer (Unit {0})) ErrorCode × (Socket × Ou
     → AsksFor (bind asks (send_after count more)) p q (λ (sent : Result ℕ ErrorCode). (sent, t)) (outcome (refusal_told count why))
 refused_so zero more t (refusal.Code c) h = asks_end _ h.ok refl
 refused_so (suc n) more t (refusal.Code c) h = asks_end _ h.ok refl
-refused_so zero more t (refusal.Memory e) h = record { ok = tt; err = record { rest = bind h.err.rest (send_after zero more); reached = reaches_in _ h.err.reached } }
-refused_so (suc n) more t (refusal.Memory e) h = record { ok = tt; err = record { rest = bind h.err.rest (send_after (suc n) more); reached = reaches_in _ h.err.reached } }
+refused_so zero more t (refusal.Memory e) h = asks_err (bind h.err.rest (send_after zero more)) (reaches_in _ h.err.reached)
+refused_so (suc n) more t (refusal.Memory e) h = asks_err (bind h.err.rest (send_after (suc n) more)) (reaches_in _ h.err.reached)
 
 pub list_refused : {first : Asks (Result ℕ ErrorCode × (Socket × Outgoing))} (count : ℕ) (ids : Ids) (d : OutgoingDatagram) (rest more : List OutgoingDatagram) (s t : Socket × Outgoing) (r : Result (Answer (Unit {0})) Refusal) (why : Refusal) {o p q : Seen} → rest ≡ d ∷ more → r ≡ Err why
     → Reaches first (send_all count ids rest s) o p → AsksFor (send_next_asks (next_name ids) s.0 s.1 d s.1.sending) p q (λ (answer : Result (Answer (Unit {0})) ErrorCode). (answer, t)) (outcome r)
@@ -55,7 +55,7 @@ list_refused count ids d rest more s t r why e k before h = asks_after (rw e at 
 -- none is left
 pub list_ends : {first : Asks (Result ℕ ErrorCode × (Socket × Outgoing))} (count : ℕ) (ids : Ids) (rest : List OutgoingDatagram) (s : Socket × Outgoing) {o p : Seen} → length rest ≡ 0
     → Reaches first (send_all count ids rest s) o p → AsksFor first o p (λ (sent : Result ℕ ErrorCode). (sent, s)) (Ok (Ok count))
-list_ends count ids rest s e before = record { ok = rw (nil_from_length rest e) at before; err = tt }
+list_ends count ids rest s e before = asks_ok (rw (nil_from_length rest e) at before)
 
 -- the names and the counts that are left
 pub one_taken : (n : ℕ) (d : OutgoingDatagram) (rest more : List OutgoingDatagram) → rest ≡ d ∷ more → n + length rest < 18446744073709551616 → (n + 1) + length more < 18446744073709551616

@@ -14,7 +14,7 @@ use Rattle.wasi_world.specs.Asks.{Give, bind, AsksFor, outcome}
 use Rattle.wasi_world.specs.Operation.{Operation, PollsFor, poll_asks}
 use Rattle.wasi_world.specs.Operation as operation
 use Rattle.wasi_world.proofs.Polls.{polls_asks}
-use Rattle.wasi_world.proofs.Walks.{asks_at, asks_end, refused_on, reaches_in}
+use Rattle.wasi_world.proofs.Walks.{asks_at, asks_end, refused_on, reaches_in, asks_err}
 use Rattle.wasi_udp.specs.Send.{at_remote, IsSend}
 use Rattle.wasi_udp.specs.Shape.{Socket}
 use Rattle.wasi_records.specs.declared.datagrams.Outgoing.{Outgoing}
@@ -35,7 +35,7 @@ pub send_polled : (socket : Socket) (out : Outgoing) (op now : Operation) (p : R
 send_polled socket out op now (Ok (Ready done)) w h = asks_end _ h.ended refl
 send_polled socket out op now (Ok Pending) w h = asks_end _ h.ended (rw (← w) refl)
 send_polled socket out op now (Err (refusal.Code c)) w h = asks_end _ h.ended refl
-send_polled socket out op now (Err (refusal.Memory e)) w h = record { ok = tt; err = record { rest = bind (poll_asks (at_remote socket.remote now)) (λ ended. Give (send_ended op socket out ended)); reached = reaches_in _ h.ended } }
+send_polled socket out op now (Err (refusal.Memory e)) w h = asks_err (bind (poll_asks (at_remote socket.remote now)) (λ ended. Give (send_ended op socket out ended))) (reaches_in _ h.ended)
 
 -- and one in a turn
 turned_so : (socket : Socket) (out : Outgoing) (op now : Operation) (p : Result (Answer (Unit {0})) Refusal) {s t : Seen} → now.who ≡ op.who → PollsFor (λ (done : Unit {0}). operation.Nothing) operation.Nothing (at_remote socket.remote op) (at_remote socket.remote now) s t p
@@ -43,7 +43,7 @@ turned_so : (socket : Socket) (out : Outgoing) (op now : Operation) (p : Result 
 turned_so socket out op now (Ok (Ready done)) w h = asks_end _ h.ended refl
 turned_so socket out op now (Ok Pending) w h = asks_end _ h.ended (rw (← w) refl)
 turned_so socket out op now (Err (refusal.Code c)) w h = asks_end _ h.ended refl
-turned_so socket out op now (Err (refusal.Memory e)) w h = record { ok = tt; err = record { rest = bind (poll_asks (at_remote socket.remote now)) (λ ended. Give (with_sending out (turned_left op ended))); reached = reaches_in _ h.ended } }
+turned_so socket out op now (Err (refusal.Memory e)) w h = asks_err (bind (poll_asks (at_remote socket.remote now)) (λ ended. Give (with_sending out (turned_left op ended)))) (reaches_in _ h.ended)
 
 pub turn_polled : (socket : Socket) (out : Outgoing) (op now : Operation) (p : Result (Answer (Unit {0})) Refusal) {s t : Seen} → out.sending ≡ InProgress op → now.who ≡ op.who → PollsFor (λ (done : Unit {0}). operation.Nothing) operation.Nothing (at_remote socket.remote op) (at_remote socket.remote now) s t p
     → AsksFor (turn_sending socket out out.sending) s t (λ (done : Unit {0}). send_turned now out p) (turn_told p)

@@ -30,7 +30,7 @@ use Rattle.wasi_records.specs.declared.listening.Listening.TheVariants.{Begins}
 use Rattle.wasi_records.specs.declared.socket.Tcp2Socket.{Tcp2Socket}
 use Rattle.wasi_records.specs.Listening.{side_in, listen_polled, listen_settled, listen_told, poll_begun, poll_listening, closed_listening, poll_listen_asks}
 use Rattle.wasi_records.specs.Sides.{closed_in, one_if_some, holds, Balances}
-use Rattle.wasi_world.proofs.Walks.{asks_at, asks_end, reaches_in}
+use Rattle.wasi_world.proofs.Walks.{asks_at, asks_end, reaches_in, asks_err}
 use Rattle.wasi_records.proofs.ConnectCounts.{Counted, counted_then, counted_left}
 
 -- == a poll of a listen
@@ -201,7 +201,7 @@ begun_asked : (r : Tcp2Socket) (op now : Operation) (socket : Socket) (p : Resul
 begun_asked r op now socket (Ok (Ready listener)) h = asks_end _ h.ok refl
 begun_asked r op now socket (Ok Pending) h = asks_end _ h.ok refl
 begun_asked r op now socket (Err (refusal.Code c)) h = asks_end _ h.ok refl
-begun_asked r op now socket (Err (refusal.Memory e)) h = record { ok = tt; err = record { rest = bind h.err.rest (λ done. Give (listen_polled r done)); reached = reaches_in _ h.err.reached } }
+begun_asked r op now socket (Err (refusal.Memory e)) h = asks_err (bind h.err.rest (λ done. Give (listen_polled r done))) (reaches_in _ h.err.reached)
 
 pub listen_asked : (r : Tcp2Socket) (op now : Operation) (socket : Socket) (p : Result (Answer Listener) Refusal) {s t : Seen} → r.listening ≡ Begins op → side_of r.inner ≡ None → AsksFor (listen_poll_asks op r.inner) s t (λ answer. (answer, (now, socket))) (outcome p)
     → AsksFor (poll_listen_asks r) s t (λ answer. (answer, listen_settled (record r { inner = socket; listening = Begins now }) p)) (outcome (listen_told p))

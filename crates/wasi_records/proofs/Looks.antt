@@ -14,7 +14,7 @@ use Rattle.wasi_world.specs.declared.outcome.Refusal.TheVariants as refusal
 use Rattle.wasi_world.specs.Seen.{Seen}
 use Rattle.wasi_world.specs.Asks.{Give, bind, AsksFor, outcome}
 use Rattle.wasi_world.specs.Operation.{End, Waits, Done, Refused}
-use Rattle.wasi_world.proofs.Walks.{reaches_in, asks_end}
+use Rattle.wasi_world.proofs.Walks.{reaches_in, asks_end, asks_err}
 use Rattle.wasi_streams.specs.declared.error.StreamError.{StreamError}
 use Rattle.wasi_streams.specs.declared.error.StreamError.TheVariants as error
 use Rattle.wasi_streams.specs.StreamStop.{StreamStop, stream_outcome}
@@ -51,7 +51,7 @@ module _ (op : OpId) (r : Tcp2Socket) (streams : Streams) where
   look_waits (Err (error.LastOperationFailed c)) h = asks_end _ h.ok refl
   look_waits (Err error.Closed) h = asks_end _ h.ok refl
   look_waits (Err (error.Trap k)) h = asks_end _ h.ok refl
-  look_waits (Err (error.Memory e)) h = record { ok = tt; err = record { rest = bind h.err.rest _; reached = reaches_in _ h.err.reached } }
+  look_waits (Err (error.Memory e)) h = asks_err (bind h.err.rest _) (reaches_in _ h.err.reached)
 
   over_answer : (answer : Answer (Unit {0})) → is_over {E = StreamStop} (Ok answer) ≡ is_done answer
   over_answer Pending = refl
@@ -64,12 +64,12 @@ module _ (op : OpId) (r : Tcp2Socket) (streams : Streams) where
   look_over (Err (error.LastOperationFailed c)) h = asks_end _ h.ok refl
   look_over (Err error.Closed) h = asks_end _ h.ok refl
   look_over (Err (error.Trap k)) h = asks_end _ h.ok refl
-  look_over (Err (error.Memory e)) h = record { ok = tt; err = record { rest = bind h.err.rest _; reached = reaches_in _ h.err.reached } }
+  look_over (Err (error.Memory e)) h = asks_err (bind h.err.rest _) (reaches_in _ h.err.reached)
 
 pub read_over : (r : Tcp2Socket) (op : OpId) (streams : Streams) {now : ReadState} {s t : Seen} (looked : Result (Answer (Unit {0})) AllocError) → AsksFor (reader_ready_asks op streams.reader) s t (λ answer. (answer, now)) looked
     → AsksFor {A = Result Bool Stop × Tcp2Socket} (bind (reader_ready_asks op streams.reader) (λ done. Give (Ok (is_done done.0), with_reader r streams done.1))) s t (λ (ready : Result Bool Stop). (ready, with_reader r streams now)) (read_told looked)
 read_over r op streams (Ok answer) h = asks_end _ h.ok refl
-read_over r op streams (Err e) h = record { ok = tt; err = record { rest = bind h.err.rest _; reached = reaches_in _ h.err.reached } }
+read_over r op streams (Err e) h = asks_err (bind h.err.rest _) (reaches_in _ h.err.reached)
 
 over_connect : (answer : Answer (Unit {0})) → is_over {E = ErrorCode} (Ok answer) ≡ is_done answer
 over_connect Pending = refl
@@ -79,7 +79,7 @@ pub connect_over : (r : Tcp2Socket) (now : Socket) {s t : Seen} (polled : Result
     → AsksFor (bind (finish_connect_asks r.inner) (λ done. Give (connect_looked r done))) s t (λ (ready : Result Bool Stop). (ready, with_inner r now)) (over_told polled)
 connect_over r now (Ok answer) h = asks_end _ h.ok (ap (λ (b : Bool). let told : Result Bool Stop = Ok b in Give (told, with_inner r now)) (over_connect answer))
 connect_over r now (Err (refusal.Code c)) h = asks_end _ h.ok refl
-connect_over r now (Err (refusal.Memory e)) h = record { ok = tt; err = record { rest = bind h.err.rest _; reached = reaches_in _ h.err.reached } }
+connect_over r now (Err (refusal.Memory e)) h = asks_err (bind h.err.rest _) (reaches_in _ h.err.reached)
 
 -- == looks and shutdowns are calm
 calm_reader_ready : (op : OpId) (s : ReadState) → Calm Any (reader_ready_asks op s)

@@ -11,7 +11,7 @@ use Rattle.wasi_world.specs.declared.outcome.Refusal.TheVariants as refusal
 use Rattle.wasi_world.specs.Seen.{Seen}
 use Rattle.wasi_world.specs.Asks.{Give, bind, AsksFor}
 use Rattle.wasi_world.specs.Operation.{Operation, Nothing, polls, poll_asks}
-use Rattle.wasi_world.proofs.Walks.{asks_end, reaches_in}
+use Rattle.wasi_world.proofs.Walks.{asks_end, reaches_in, asks_err}
 use Rattle.socket_common.specs.Rounds.{PollsRounds}
 use Rattle.wasi_udp.specs.Receive.{datagram_of, wanting}
 use Rattle.wasi_udp.specs.Shape.{Socket}
@@ -25,7 +25,7 @@ pub receive_polled : {A : Type 0} (g : Incoming → A) (inc : Incoming) (op now 
 receive_polled g inc op now (Ok (Ready d)) h = asks_end _ h.ended refl
 receive_polled g inc op now (Ok Pending) h = asks_end _ h.ended (rw (← h.who) refl)
 receive_polled g inc op now (Err (refusal.Code c)) h = asks_end _ h.ended refl
-receive_polled g inc op now (Err (refusal.Memory e)) h = record { ok = tt; err = record { rest = bind (polls _ now.who now.left) (λ ended. Give (g (with_receiving inc (receive_left op ended)))); reached = reaches_in _ h.ended.reached } }
+receive_polled g inc op now (Err (refusal.Memory e)) h = asks_err (bind (polls _ now.who now.left) (λ ended. Give (g (with_receiving inc (receive_left op ended))))) (reaches_in _ h.ended.reached)
 
 -- what is taken, with the stream that is left
 pub taken_as : (socket : Socket) (inc : Incoming) (told : Result (Answer IncomingDatagram) ErrorCode) (now : Receiving) → (told, now) ≡ taken inc.receiving

@@ -13,7 +13,7 @@ use Rattle.wasi_world.specs.Seen.{Seen}
 use Rattle.wasi_world.specs.Asks.{Asks, Give, bind, Reaches, AsksFor, outcome}
 use Rattle.wasi_world.specs.Operation.{Operation, Who, Item, End, Waits, Done, Refused, Nothing, PollsFor, poll_asks}
 use Rattle.wasi_world.proofs.Polls.{polls_asks}
-use Rattle.wasi_world.proofs.Walks.{asks_at, asks_end, reaches_in}
+use Rattle.wasi_world.proofs.Walks.{asks_at, asks_end, reaches_in, asks_err}
 use Rattle.wasi_udp.specs.Bind.{bind_asks, IsBind}
 use Rattle.wasi_udp.specs.Shape.{Socket}
 use Rattle.wasi_records.specs.declared.udp.OpenUdp.{OpenUdp}
@@ -31,7 +31,7 @@ polled_so : (o : OpenUdp) (op now : Operation) (p : Result (Answer (Unit {0})) R
 polled_so o op now (Ok (Ready done)) h = asks_end _ h.ended refl
 polled_so o op now (Ok Pending) h = asks_end _ h.ended (rw (← h.who) refl)
 polled_so o op now (Err (refusal.Code c)) h = asks_end _ h.ended refl
-polled_so o op now (Err (refusal.Memory e)) h = record { ok = tt; err = record { rest = bind (poll_asks now) (λ ended. Give (udp_bind_ended op o ended)); reached = reaches_in _ h.ended } }
+polled_so o op now (Err (refusal.Memory e)) h = asks_err (bind (poll_asks now) (λ ended. Give (udp_bind_ended op o ended))) (reaches_in _ h.ended)
 
 pub udp_bind_polled : (o : OpenUdp) (op now : Operation) (p : Result (Answer (Unit {0})) Refusal) {s t : Seen} → o.in_progress ≡ Binding op → PollsFor (λ (done : Unit {0}). Nothing) Nothing op now s t p
     → AsksFor (poll_udp_bind_asks o) s t (λ answer. (answer, udp_bind_settled (with_udp_progress o (Binding now)) p)) (outcome p)

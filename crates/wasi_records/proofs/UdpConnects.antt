@@ -13,7 +13,7 @@ use Rattle.wasi_world.specs.declared.outcome.Refusal.TheVariants as refusal
 use Rattle.wasi_world.specs.Seen.{Seen}
 use Rattle.wasi_world.specs.Asks.{Asks, Give, bind, Reaches, AsksFor, outcome}
 use Rattle.wasi_world.specs.Operation.{Operation, Item, End, Waits, Done, Refused, poll_asks}
-use Rattle.wasi_world.proofs.Walks.{asks_at, asks_end, asks_given, asks_gives, reaches_in}
+use Rattle.wasi_world.proofs.Walks.{asks_at, asks_end, asks_given, asks_gives, reaches_in, asks_err, asks_ok}
 use Rattle.socket_common.specs.Rounds.{is_going, stays_going}
 use Rattle.wasi_udp.specs.Connect.{connect_ended, connect_poll_asks}
 use Rattle.wasi_udp.specs.Shape.{Socket}
@@ -43,10 +43,10 @@ same_tree o op = gives_twice (connect_ended op.who o.inner) (made_of o) (poll_as
 
 connected_as : (o : OpenUdp) (op now : Operation) (socket : Socket) (p : Result (Answer (Unit {0})) Refusal) {s t : Seen} → AsksFor (bind (poll_asks op) (λ ended. Give (udp_connect_ended op o ended))) s t (λ (answer : Result (Answer (Unit {0})) ErrorCode). made_of o (answer, (now, socket))) (outcome p)
     → AsksFor (bind (poll_asks op) (λ ended. Give (udp_connect_ended op o ended))) s t (λ answer. (answer, udp_connect_settled now (unconnecting o socket) p)) (outcome p)
-connected_as o op now socket (Ok (Ready d)) h = record { ok = h.ok; err = tt }
-connected_as o op now socket (Ok Pending) h = record { ok = h.ok; err = tt }
-connected_as o op now socket (Err (refusal.Code c)) h = record { ok = h.ok; err = tt }
-connected_as o op now socket (Err (refusal.Memory e)) h = record { ok = tt; err = h.err }
+connected_as o op now socket (Ok (Ready d)) h = asks_ok h.ok
+connected_as o op now socket (Ok Pending) h = asks_ok h.ok
+connected_as o op now socket (Err (refusal.Code c)) h = asks_ok h.ok
+connected_as o op now socket (Err (refusal.Memory e)) h = asks_err _ h.err.reached
 
 pub udp_connect_polled : (o : OpenUdp) (op now : Operation) (socket : Socket) (p : Result (Answer (Unit {0})) Refusal) {s t : Seen} → Some op ≡ o.connecting → is_going op ≡ true → AsksFor (connect_poll_asks op o.inner) s t (λ answer. (answer, (now, socket))) (outcome p)
     → AsksFor (poll_udp_connect_asks o) s t (λ answer. (answer, udp_connect_settled now (unconnecting o socket) p)) (outcome p)

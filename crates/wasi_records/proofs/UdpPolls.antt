@@ -13,7 +13,7 @@ use Rattle.wasi_world.specs.Seen.{Seen}
 use Rattle.wasi_world.specs.Asks.{Asks, Give, Ask, AskWrite, bind, Reaches, AsksFor, outcome}
 use Rattle.wasi_world.specs.Typed.{ask_close, told_polled}
 use Rattle.wasi_world.specs.Operation.{Nothing, Item, UdpWritable, LastAsk, CloseLast, Who, Operation, End, Waits, Done, Refused, last_ask, after, round, polls, poll_asks, polled_front}
-use Rattle.wasi_world.proofs.Walks.{asks_gives, reaches_in}
+use Rattle.wasi_world.proofs.Walks.{asks_gives, reaches_in, asks_err, asks_ok}
 use Rattle.socket_common.specs.Rounds.{is_going, stays_going}
 use Rattle.wasi_udp.specs.Create.{Create, create_ended, create_poll_asks, IsCreate, IsLeftOfCreate, Unready, ToClose, Ended, create_cancel_asks}
 use Rattle.wasi_udp.specs.Shape.{Socket}
@@ -50,10 +50,10 @@ same_tree create = gives_twice (create_ended create) made_of (poll_asks create.o
 
 created_as : (create now : Create) (p : Result (Answer Socket) Refusal) {s t : Seen} → AsksFor (bind (poll_asks create.operation) (λ ended. Give (udp_create_ended create ended))) s t (λ (answer : Result (Answer Socket) ErrorCode). made_of (answer, now)) (outcome p)
     → AsksFor (bind (poll_asks create.operation) (λ ended. Give (udp_create_ended create ended))) s t (λ answer. (answer, udp_create_settled now p)) (outcome (udp_create_done p))
-created_as create now (Ok (Ready socket)) h = record { ok = h.ok; err = tt }
-created_as create now (Ok Pending) h = record { ok = h.ok; err = tt }
-created_as create now (Err (refusal.Code c)) h = record { ok = h.ok; err = tt }
-created_as create now (Err (refusal.Memory e)) h = record { ok = tt; err = h.err }
+created_as create now (Ok (Ready socket)) h = asks_ok h.ok
+created_as create now (Ok Pending) h = asks_ok h.ok
+created_as create now (Err (refusal.Code c)) h = asks_ok h.ok
+created_as create now (Err (refusal.Memory e)) h = asks_err _ h.err.reached
 
 pub create_polled : (create now : Create) (p : Result (Answer Socket) Refusal) {s t : Seen} → is_going create.operation ≡ true → AsksFor (create_poll_asks create) s t (λ answer. (answer, now)) (outcome p)
     → AsksFor (poll_create_asks (Creating create)) s t (λ answer. (answer, udp_create_settled now p)) (outcome (udp_create_done p))

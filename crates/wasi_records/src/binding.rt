@@ -2,14 +2,11 @@
 
 ghost use Rattle.std.specs.Prelude.{◌≡◌, false, Ok, OnErr, true};
 ghost use Rattle.wasi_world.specs.Asks.{AsksFor, Reaches, outcome};
-ghost use Rattle.wasi_world.specs.Seen.{Seen};
 ghost use Rattle.socket_common.specs.Rounds.{is_going, stays_going};
 ghost use Rattle.wasi_tcp.specs.Socket.{side_of};
-ghost use Rattle.wasi_records.specs.Records.{tcp2_at};
 ghost use Rattle.wasi_records.specs.InProgress.{is_nothing, is_started};
 ghost use Rattle.wasi_records.specs.Binding.{begin_bind_asks, poll_bind_asks, bind_settled};
 ghost use Rattle.wasi_records.specs.Sockets.{with_progress};
-ghost use Rattle.wasi_records.specs.Stops.{host_outcome};
 ghost use Rattle.wasi_records.specs.Sides.{MakesNone};
 
 use crate::socket::Tcp2Socket;
@@ -107,7 +104,6 @@ impl Tcp2Socket {
         ensures none { MakesNone (W.seen world.old) (W.seen world.new) }
         ensures side { side_of self.new.inner ≡ side_of self.old.inner }
         ensures listening { self.new.listening ≡ self.old.listening }
-        ensures open { (W.seen world.new).ended ≡ false }
     {
         let bind = self.inner.bind(world, op, addr)?;
         self.in_progress = InProgress::Binding(PendingBind::new(bind));
@@ -124,7 +120,6 @@ impl Tcp2Socket {
         ensures none { MakesNone (W.seen world.old) (W.seen world.new) }
         ensures side { side_of self.new.inner ≡ side_of self.old.inner }
         ensures listening { self.new.listening ≡ self.old.listening }
-        ensures open { (W.seen world.new).ended ≡ false }
     {
         match mem::replace(&mut self.in_progress, InProgress::Nothing) {
             InProgress::Binding(bind) => {

@@ -3,7 +3,7 @@
 ghost use Rattle.std.specs.Prelude.{◌≡◌, ◌+◌, ◌<◌, ◌^◌, true, false, Ok, length};
 ghost use Rattle.wasi_world.specs.Asks.{AsksFor, outcome};
 ghost use Rattle.socket_common.specs.Rounds.{is_going, stays_going};
-ghost use Rattle.wasi_records.specs.Datagrams.{has_streams, new_outgoing, is_sending, sends, permit_of, permitted, with_sending, send_settled, send_counted, send_one_asks, refusal_told, send_next_asks, send_all, send_datagrams_asks, turn_sending, turn_outgoing, send_turned, turn_told};
+ghost use Rattle.wasi_records.specs.Datagrams.{has_streams, new_outgoing, is_sending, sends, permit_of, permitted, send_settled, send_counted, send_one_asks, refusal_told, send_next_asks, send_all, send_datagrams_asks, turn_sending, turn_outgoing, send_turned, turn_told, with_sending};
 ghost use Rattle.wasi_records.specs.Stops.{host_outcome};
 ghost use Rattle.wasi_records.specs.Names.{next_name, names_after};
 ghost use Rattle.wasi_records.specs.Sides.{MakesNone};
@@ -170,7 +170,6 @@ impl Outgoing {
         ensures asked { AsksFor (send_one_asks op socket.old self.old datagram) (W.seen world.old) (W.seen world.new) (λ done. (done, (socket.new, self.new))) (outcome result) }
         ensures none { MakesNone (W.seen world.old) (W.seen world.new) }
         ensures side { socket.new.side ≡ socket.old.side }
-        ensures open { (W.seen world.new).ended ≡ false }
     {
         let mut send = socket.send(world, op, datagram.bytes, datagram.remote_address)?;
         let polled = send.poll(world, socket);
@@ -224,7 +223,6 @@ impl Outgoing {
         ensures names { result ≡ Ok (Answer.Ready tt) → ids.new ≡ names_after ids.old }
         ensures none { MakesNone (W.seen world.old) (W.seen world.new) }
         ensures side { socket.new.side ≡ socket.old.side }
-        ensures open { (W.seen world.new).ended ≡ false }
     {
         match mem::replace(&mut self.sending, Sending::Nothing) {
             Sending::Nothing => {
@@ -255,7 +253,6 @@ impl Outgoing {
         ensures line { ids.new.line ≡ ids.old.line }
         ensures none { MakesNone (W.seen world.old) (W.seen world.new) }
         ensures side { socket.new.side ≡ socket.old.side }
-        ensures open { (W.seen world.new).ended ≡ false }
     {
         let mut sent = 0;
         for datagram in datagrams {
@@ -274,7 +271,6 @@ impl Outgoing {
         requires { (W.seen world.old).ended ≡ false }
         ensures asked { AsksFor (turn_sending socket.now self.old self.old.sending) (W.seen world.old) (W.seen world.new) (λ done. self.new) result }
         ensures none { MakesNone (W.seen world.old) (W.seen world.new) }
-        ensures open { (W.seen world.new).ended ≡ false }
     {
         match mem::replace(&mut self.sending, Sending::Nothing) {
             Sending::InProgress(send) => {
@@ -363,7 +359,6 @@ impl OpenUdp {
         ensures line { ids.new.line ≡ ids.old.line }
         ensures none { MakesNone (W.seen world.old) (W.seen world.new) }
         ensures side { self.new.inner.side ≡ self.old.inner.side }
-        ensures open { (W.seen world.new).ended ≡ false }
     {
         let Some(outgoing) = &mut self.outgoing else {
             return Err(SocketError::Trap(TrapKind::NoSuchHandle));
@@ -385,7 +380,6 @@ impl OpenUdp {
         ensures asked { AsksFor (turn_outgoing self.old self.old.outgoing) (W.seen world.old) (W.seen world.new) (λ done. self.new) result }
         ensures none { MakesNone (W.seen world.old) (W.seen world.new) }
         ensures side { self.new.inner.side ≡ self.old.inner.side }
-        ensures open { (W.seen world.new).ended ≡ false }
     {
         match &mut self.outgoing {
             Some(outgoing) => outgoing.turn(world, &self.inner),

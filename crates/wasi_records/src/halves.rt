@@ -37,7 +37,6 @@ impl Streams {
     fn shut_receive<W: World>(&mut self, world: &mut W, op: OpId) -> Result<(), AllocError>
         requires { (W.seen world.old).ended ≡ false }
         ensures asked { AsksFor (shut_receive op self.old) (W.seen world.old) (W.seen world.new) (λ done. (done, self.new)) result }
-        ensures open { (W.seen world.new).ended ≡ false }
     {
         self.reader.shutdown(world, op)
     }
@@ -45,7 +44,6 @@ impl Streams {
     fn shut_send<W: World>(&mut self, world: &mut W, op: OpId) -> Result<(), AllocError>
         requires { (W.seen world.old).ended ≡ false }
         ensures asked { AsksFor (shut_send op self.old) (W.seen world.old) (W.seen world.new) (λ done. (done, self.new)) result }
-        ensures open { (W.seen world.new).ended ≡ false }
     {
         self.writer.shutdown(world, op)
     }
@@ -59,7 +57,6 @@ impl Streams {
     ) -> Result<(), AllocError>
         requires { (W.seen world.old).ended ≡ false }
         ensures asked { AsksFor (shut_streams op how self.old) (W.seen world.old) (W.seen world.new) (λ done. (done, self.new)) result }
-        ensures open { (W.seen world.new).ended ≡ false }
     {
         match how {
             ShutdownType::Receive => self.shut_receive(world, op),
@@ -76,7 +73,6 @@ impl Streams {
     pub(crate) fn give_up<W: World>(self, world: &mut W, op: OpId) -> Result<(), AllocError>
         requires { (W.seen world.old).ended ≡ false }
         ensures asked { AsksFor (give_streams_up op (Some self)) (W.seen world.old) (W.seen world.new) (λ done. done) result }
-        ensures open { (W.seen world.new).ended ≡ false }
     {
         let Streams { mut reader, writer } = self;
         reader.shutdown(world, op)?;
@@ -98,7 +94,6 @@ impl Tcp2Socket {
         ensures asked { AsksFor (reader_asks (λ r. read_state_asks op r len) self.old) (W.seen world.old) (W.seen world.new) (λ answer. (answer, self.new)) (stream_outcome result) }
         ensures side { side_of self.new.inner ≡ side_of self.old.inner }
         ensures listening { self.new.listening ≡ self.old.listening }
-        ensures open { (W.seen world.new).ended ≡ false }
     {
         match &mut self.streams {
             Some(streams) => streams.reader.read(alloc, world, op, len),
@@ -112,7 +107,6 @@ impl Tcp2Socket {
         ensures asked { AsksFor (writer_asks (check_write_asks op) self.old) (W.seen world.old) (W.seen world.new) (λ answer. (answer, self.new)) (stream_outcome result) }
         ensures side { side_of self.new.inner ≡ side_of self.old.inner }
         ensures listening { self.new.listening ≡ self.old.listening }
-        ensures open { (W.seen world.new).ended ≡ false }
     {
         match &mut self.streams {
             Some(streams) => streams.writer.check_write(world, op),
@@ -131,7 +125,6 @@ impl Tcp2Socket {
         ensures asked { AsksFor (writer_asks (λ w. write_state_asks op w bytes) self.old) (W.seen world.old) (W.seen world.new) (λ answer. (answer, self.new)) (stream_outcome result) }
         ensures side { side_of self.new.inner ≡ side_of self.old.inner }
         ensures listening { self.new.listening ≡ self.old.listening }
-        ensures open { (W.seen world.new).ended ≡ false }
     {
         match &mut self.streams {
             Some(streams) => streams.writer.write(world, op, bytes),
@@ -151,7 +144,6 @@ impl Tcp2Socket {
         ensures begins { result.1 ≡ (not (works_in self.old.streams) && works_in self.new.streams) }
         ensures side { side_of self.new.inner ≡ side_of self.old.inner }
         ensures listening { self.new.listening ≡ self.old.listening }
-        ensures open { (W.seen world.new).ended ≡ false }
     {
         let before = self.has_job();
         let written = self.write(world, op, bytes);
@@ -165,7 +157,6 @@ impl Tcp2Socket {
         ensures asked { AsksFor (writer_asks flush_asks self.old) (W.seen world.old) (W.seen world.new) (λ answer. (answer, self.new)) (stream_outcome result) }
         ensures side { side_of self.new.inner ≡ side_of self.old.inner }
         ensures listening { self.new.listening ≡ self.old.listening }
-        ensures open { (W.seen world.new).ended ≡ false }
     {
         match &mut self.streams {
             Some(streams) => streams.writer.flush(),
@@ -190,7 +181,6 @@ impl Tcp2Socket {
         ensures inner { self.new.inner ≡ self.old.inner }
         ensures listening { self.new.listening ≡ self.old.listening }
         ensures none { MakesNone (W.seen world.old) (W.seen world.new) }
-        ensures open { (W.seen world.new).ended ≡ false }
     {
         match &mut self.streams {
             Some(streams) => streams.writer.turn(world),
@@ -210,7 +200,6 @@ impl Tcp2Socket {
         ensures asked { AsksFor (shut_record op how self.old self.old.streams) (W.seen world.old) (W.seen world.new) (λ done. (done, self.new)) (host_outcome result) }
         ensures side { side_of self.new.inner ≡ side_of self.old.inner }
         ensures listening { self.new.listening ≡ self.old.listening }
-        ensures open { (W.seen world.new).ended ≡ false }
     {
         let Some(streams) = &mut self.streams else {
             return Err(SocketError::Code(p2::ErrorCode::InvalidState));

@@ -2,9 +2,8 @@
 
 ghost use Rattle.std.specs.Prelude.{◌≡◌, ◌+◌, ◌<◌, ◌^◌, true, false, IfOk, Ok, OnErr};
 ghost use Rattle.wasi_world.specs.Asks.{AsksFor, outcome};
-ghost use Rattle.wasi_records.specs.Records.{tcp2_at};
 ghost use Rattle.wasi_records.specs.Stops.{host_outcome};
-ghost use Rattle.wasi_records.specs.Listening.{with_listening, listen_told, listen_settled, poll_listen_asks, listen_once, begin_listen_asks, accept_record_asks, with_accepted_in, ids_of, TakesOne, side_in, give_up_asks, unclosed, Accepted};
+ghost use Rattle.wasi_records.specs.Listening.{with_listening, listen_told, listen_settled, poll_listen_asks, listen_once, begin_listen_asks, accept_record_asks, with_accepted_in, ids_of, side_in, give_up_asks, unclosed, Accepted, TakesOne};
 ghost use Rattle.wasi_records.specs.Sides.{Balances, given_by};
 
 use crate::binding::{AsyncOperation, InProgress};
@@ -61,7 +60,6 @@ impl Listening {
         requires { (W.seen world.old).ended ≡ false }
         ensures asked { AsksFor (give_up_asks self) (W.seen world.old) (W.seen world.new) (λ done. done) result }
         ensures unasked { OnErr result (W.seen world.new ≡ W.seen world.old) }
-        ensures open { (W.seen world.new).ended ≡ false }
     {
         match self {
             Listening::Not => Ok(()),
@@ -79,7 +77,6 @@ impl Tcp2Socket {
         requires { (W.seen world.old).ended ≡ false }
         ensures asked { AsksFor (begin_listen_asks op self.old) (W.seen world.old) (W.seen world.new) (λ answer. (answer, self.new)) (outcome result) }
         ensures sides { Balances (W.seen world.old) (W.seen world.new) 0 self.old self.new }
-        ensures open { (W.seen world.new).ended ≡ false }
     {
         if !self.inner.is_bound(world, op)? {
             return Err(Refusal::Code(ErrorCode::InvalidState));
@@ -92,7 +89,6 @@ impl Tcp2Socket {
         requires { (W.seen world.old).ended ≡ false }
         ensures asked { AsksFor (listen_once op self.old self.old.listening) (W.seen world.old) (W.seen world.new) (λ answer. (answer, self.new)) (outcome result) }
         ensures sides { Balances (W.seen world.old) (W.seen world.new) 0 self.old self.new }
-        ensures open { (W.seen world.new).ended ≡ false }
     {
         match &self.listening {
             Listening::Not => {}
@@ -111,7 +107,6 @@ impl Tcp2Socket {
         requires { (W.seen world.old).ended ≡ false }
         ensures asked { AsksFor (poll_listen_asks self.old) (W.seen world.old) (W.seen world.new) (λ answer. (answer, self.new)) (outcome result) }
         ensures sides { Balances (W.seen world.old) (W.seen world.new) 0 self.old self.new }
-        ensures open { (W.seen world.new).ended ≡ false }
     {
         // The socket has no network socket of its own while its listen is in progress.
         if self.inner.side().is_some() {
@@ -164,7 +159,6 @@ impl Tcp2Socket {
         ensures ids { ids.new ≡ ids_of self.old.listening ids.old }
         ensures sides { Balances (W.seen world.old) (W.seen world.new) (given_by result) self.old self.new }
         ensures accepted { Accepted result }
-        ensures open { (W.seen world.new).ended ≡ false }
     {
         match &mut self.listening {
             Listening::Accepts(listener) => {
@@ -185,7 +179,6 @@ impl Tcp2Socket {
         ensures ok { IfOk result (λ done. self.new ≡ with_listening self.old Listening.Not) }
         ensures err { OnErr result (self.new ≡ with_listening self.old (unclosed (side_in self.old.listening))) }
         ensures unasked { OnErr result (W.seen world.new ≡ W.seen world.old) }
-        ensures open { (W.seen world.new).ended ≡ false }
     {
         let left = self.listening.unclosed();
         let listening = mem::replace(&mut self.listening, left);

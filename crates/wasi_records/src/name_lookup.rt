@@ -1,13 +1,10 @@
 //! Lookups of host names: how one is begun and asked about, and how the addresses that it found are handed out.
 
-ghost use Rattle.std.specs.Prelude.{◌≡◌, ◌∷◌, [], ◌<◌, IfOk, OnErr, OnOk, true, false, length, map, Ok};
+ghost use Rattle.std.specs.Prelude.{◌≡◌, ◌∷◌, [], ◌<◌, IfOk, OnErr, false, map, Ok, OnOk, true, length};
 ghost use Rattle.wasi_addr.specs.Address.{canonical};
 ghost use Rattle.wasi_world.specs.Asks.{AsksFor};
 ghost use Rattle.wasi_world.specs.Typed.{ask_lookup};
-ghost use Rattle.wasi_world.specs.Seen.{Seen};
-ghost use Rattle.wasi_records.specs.Stops.{host_outcome};
 ghost use Rattle.wasi_records.specs.NameLookup.{is_looking, lookup_told, next_of, turn_lookup, poll_lookup_asks, unresolvable};
-ghost use Rattle.wasi_records.specs.Records.{lookup_at, lookup_pushed};
 ghost use Rattle.wasi_records.specs.Sides.{MakesNone};
 
 use std::alloc::{AllocError, Global};
@@ -71,7 +68,6 @@ impl LookupOp {
         ensures asked { AsksFor (ask_lookup self.now.id self.now.host) (W.seen world.old) (W.seen world.new) (λ answer. answer) result }
         ensures unasked { OnErr result (W.seen world.new ≡ W.seen world.old) }
         ensures none { MakesNone (W.seen world.old) (W.seen world.new) }
-        ensures open { (W.seen world.new).ended ≡ false }
     {
         let host = self.host.try_clone()?;
         asks::lookup(world, self.id, host)
@@ -95,7 +91,6 @@ impl Lookup {
         requires { (W.seen world.old).ended ≡ false }
         ensures asked { AsksFor (poll_lookup_asks (record { id = id; host = host })) (W.seen world.old) (W.seen world.new) (λ now. now) result }
         ensures none { MakesNone (W.seen world.old) (W.seen world.new) }
-        ensures open { (W.seen world.new).ended ≡ false }
     {
         let op = LookupOp { id, host };
         let answer = op.poll(world)?;
@@ -123,7 +118,6 @@ impl Lookup {
         ensures err { OnErr result (self.new ≡ self.old) }
         ensures unasked { OnErr result (W.seen world.new ≡ W.seen world.old) }
         ensures none { MakesNone (W.seen world.old) (W.seen world.new) }
-        ensures open { (W.seen world.new).ended ≡ false }
     {
         let Lookup::InProgress(op) = self else {
             return Ok(());

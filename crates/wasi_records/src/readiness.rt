@@ -69,7 +69,6 @@ impl Tcp2Socket {
         ensures asked { AsksFor (ready_socket ids.old self.old) (W.seen world.old) (W.seen world.new) (λ ready. (ready, self.new)) (fault_outcome result) }
         ensures ids { ids.new ≡ socket_ids self.old ids.old (is_connect self.old.in_progress) }
         ensures sides { Balances (W.seen world.old) (W.seen world.new) 0 self.old self.new }
-        ensures open { (W.seen world.new).ended ≡ false }
     {
         if self.in_progress.is_started(AsyncOperation::Connect) {
             let polled = self.inner.poll_finish_connect(world);
@@ -89,7 +88,6 @@ impl Tcp2Socket {
         ensures asked { AsksFor (ready_listening ids.old self.old self.old.listening) (W.seen world.old) (W.seen world.new) (λ ready. (ready, self.new)) (fault_outcome result) }
         ensures ids { ids.new ≡ ids_of self.old.listening ids.old }
         ensures sides { Balances (W.seen world.old) (W.seen world.new) 0 self.old self.new }
-        ensures open { (W.seen world.new).ended ≡ false }
     {
         match &mut self.listening {
             Listening::Accepts(listener) => is_read(listener.poll_ready(world, ids)),
@@ -105,7 +103,6 @@ impl Tcp2Socket {
         ensures asked { AsksFor (ready_reader op self.old self.old.streams) (W.seen world.old) (W.seen world.new) (λ ready. (ready, self.new)) (fault_outcome result) }
         ensures inner { self.new.inner ≡ self.old.inner }
         ensures listening { self.new.listening ≡ self.old.listening }
-        ensures open { (W.seen world.new).ended ≡ false }
     {
         match &mut self.streams {
             Some(streams) => is_read(streams.reader.poll_ready(world, op)),
@@ -119,7 +116,6 @@ impl Tcp2Socket {
         ensures asked { AsksFor (ready_writer op self.old self.old.streams) (W.seen world.old) (W.seen world.new) (λ ready. (ready, self.new)) (fault_outcome result) }
         ensures inner { self.new.inner ≡ self.old.inner }
         ensures listening { self.new.listening ≡ self.old.listening }
-        ensures open { (W.seen world.new).ended ≡ false }
     {
         match &mut self.streams {
             Some(streams) => is_ready(streams.writer.poll_ready(world, op)),
@@ -138,7 +134,6 @@ impl Tcp2Socket {
         ensures asked { AsksFor (wait_writer op self.old self.old.streams) (W.seen world.old) (W.seen world.new) (λ answer. (answer, self.new)) result }
         ensures inner { self.new.inner ≡ self.old.inner }
         ensures listening { self.new.listening ≡ self.old.listening }
-        ensures open { (W.seen world.new).ended ≡ false }
     {
         match &mut self.streams {
             Some(streams) => wait_answer(streams.writer.poll_ready(world, op)),

@@ -61,7 +61,6 @@ impl Incoming {
         ensures names { ids.new ≡ fetch_names self.old.receiving ids.old }
         ensures none { MakesNone (W.seen world.old) (W.seen world.new) }
         ensures side { socket.new.side ≡ socket.old.side }
-        ensures open { (W.seen world.new).ended ≡ false }
     {
         match self.receiving {
             Receiving::Nothing => {
@@ -120,7 +119,6 @@ impl Incoming {
         ensures names { ids.new ≡ fetch_names self.old.receiving ids.old }
         ensures none { MakesNone (W.seen world.old) (W.seen world.new) }
         ensures side { socket.new.side ≡ socket.old.side }
-        ensures open { (W.seen world.new).ended ≡ false }
     {
         self.fetch(world, socket, ids)?;
         match self.receiving.take() {
@@ -145,7 +143,6 @@ impl Incoming {
         ensures line { ids.new.line ≡ ids.old.line }
         ensures none { MakesNone (W.seen world.old) (W.seen world.new) }
         ensures side { socket.new.side ≡ socket.old.side }
-        ensures open { (W.seen world.new).ended ≡ false }
     {
         // Room for the list comes first, so that no datagram is lost for want of memory.
         let mut datagrams = Vec::with_capacity(alloc, most as usize)?;
@@ -177,7 +174,6 @@ impl Incoming {
         requires { (W.seen world.old).ended ≡ false }
         ensures asked { AsksFor (turn_receiving self.old self.old.receiving) (W.seen world.old) (W.seen world.new) (λ done. self.new) result }
         ensures none { MakesNone (W.seen world.old) (W.seen world.new) }
-        ensures open { (W.seen world.new).ended ≡ false }
     {
         match mem::replace(&mut self.receiving, Receiving::Nothing) {
             Receiving::InProgress(receive) => {
@@ -221,7 +217,6 @@ impl OpenUdp {
         ensures line { ids.new.line ≡ ids.old.line }
         ensures none { MakesNone (W.seen world.old) (W.seen world.new) }
         ensures side { self.new.inner.side ≡ self.old.inner.side }
-        ensures open { (W.seen world.new).ended ≡ false }
     {
         let Some(incoming) = &mut self.incoming else {
             return Err(SocketError::Trap(TrapKind::NoSuchHandle));
@@ -243,7 +238,6 @@ impl OpenUdp {
         ensures names { ids.new ≡ look_names ids.old self.old.incoming }
         ensures none { MakesNone (W.seen world.old) (W.seen world.new) }
         ensures side { self.new.inner.side ≡ self.old.inner.side }
-        ensures open { (W.seen world.new).ended ≡ false }
     {
         match &mut self.incoming {
             Some(incoming) => incoming.fetch(world, &mut self.inner, ids),
@@ -257,7 +251,6 @@ impl OpenUdp {
         ensures asked { AsksFor (turn_incoming self.old self.old.incoming) (W.seen world.old) (W.seen world.new) (λ done. self.new) result }
         ensures none { MakesNone (W.seen world.old) (W.seen world.new) }
         ensures side { self.new.inner.side ≡ self.old.inner.side }
-        ensures open { (W.seen world.new).ended ≡ false }
     {
         match &mut self.incoming {
             Some(incoming) => incoming.turn(world),

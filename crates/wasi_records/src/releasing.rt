@@ -19,7 +19,6 @@ impl Tcp2Socket {
         ensures asked { AsksFor (release_asks op self.old) (W.seen world.old) (W.seen world.new) (λ done. (done, self.new)) result }
         ensures sides { Balances (W.seen world.old) (W.seen world.new) 0 self.old self.new }
         ensures none { OnOk result (holds self.new ≡ 0) }
-        ensures open { (W.seen world.new).ended ≡ false }
     {
         self.give_listening_up(world)?;
         self.release_connection(world, op)
@@ -33,7 +32,6 @@ impl Tcp2Socket {
         ensures asked { AsksFor (release_connection op self.old) (W.seen world.old) (W.seen world.new) (λ done. (done, self.new)) result }
         ensures sides { Balances (W.seen world.old) (W.seen world.new) 0 self.old self.new }
         ensures none { OnOk result (holds self.new ≡ 0) }
-        ensures open { (W.seen world.new).ended ≡ false }
     {
         self.give_streams_up(world, op)?;
         self.close(world, op)
@@ -44,7 +42,6 @@ impl Tcp2Socket {
         requires { (W.seen world.old).ended ≡ false }
         ensures asked { AsksFor (give_streams_up op self.old.streams) (W.seen world.old) (W.seen world.new) (λ done. done) result }
         ensures state { self.new ≡ record self.old { streams = None } }
-        ensures open { (W.seen world.new).ended ≡ false }
     {
         match self.streams.take() {
             Some(streams) => streams.give_up(world, op),
@@ -60,7 +57,6 @@ impl Tcp2Socket {
         ensures err { OnErr result (self.new ≡ self.old) }
         ensures unasked { OnErr result (W.seen world.new ≡ W.seen world.old) }
         ensures none { OnOk result (holds self.new ≡ 0) }
-        ensures open { (W.seen world.new).ended ≡ false }
     {
         self.inner.close(world, op)?;
         self.in_progress = InProgress::Nothing;

@@ -60,7 +60,6 @@ impl Tcp2Socket {
         ensures asked { AsksFor (begin_connect_asks op self.old addr) (W.seen world.old) (W.seen world.new) (λ done. (done, self.new)) (outcome result) }
         ensures side { side_of self.new.inner ≡ side_of self.old.inner }
         ensures listening { self.new.listening ≡ self.old.listening }
-        ensures open { (W.seen world.new).ended ≡ false }
     {
         self.inner.start_connect(world, op, addr)?;
         self.in_progress = InProgress::Started(AsyncOperation::Connect);
@@ -73,7 +72,6 @@ impl Tcp2Socket {
         requires { (W.seen world.old).ended ≡ false }
         ensures asked { AsksFor (poll_connect_asks self.old) (W.seen world.old) (W.seen world.new) (λ done. (done, self.new)) (host_outcome result) }
         ensures sides { Balances (W.seen world.old) (W.seen world.new) 0 self.old self.new }
-        ensures open { (W.seen world.new).ended ≡ false }
     {
         let polled = self.inner.poll_finish_connect(world);
         self.settle_connect(polled)
@@ -133,7 +131,6 @@ impl Tcp2Socket {
         ensures asked { AsksFor (tell_local_asks op self.old) (W.seen world.old) (W.seen world.new) (λ told. (told, self.new)) (outcome result) }
         ensures side { side_of self.new.inner ≡ side_of self.old.inner }
         ensures listening { self.new.listening ≡ self.old.listening }
-        ensures open { (W.seen world.new).ended ≡ false }
     {
         self.inner.local_address(world, op)
     }
@@ -149,7 +146,6 @@ impl Tcp2Socket {
         ensures asked { AsksFor (tell_remote_asks op self.old) (W.seen world.old) (W.seen world.new) (λ told. (told, self.new)) (outcome result) }
         ensures side { side_of self.new.inner ≡ side_of self.old.inner }
         ensures listening { self.new.listening ≡ self.old.listening }
-        ensures open { (W.seen world.new).ended ≡ false }
     {
         self.inner.remote_address(world, op)
     }

@@ -9,7 +9,7 @@ ghost use Rattle.wasi_records.specs.Records.{open_of};
 ghost use Rattle.wasi_records.specs.Rows.{udp_row, open_row};
 ghost use Rattle.wasi_udp.specs.Create.{create_cancel_asks};
 ghost use Rattle.wasi_records.specs.Sides.{HoldsFewer, MakesNone, one_if_some};
-ghost use Rattle.wasi_records.specs.Udp.{udp_side, udp_holds, opened_udp, poll_create_asks, udp_create_settled, udp_create_done, is_udp_idle, is_udp_bound, begin_udp_bind_asks, poll_udp_bind_asks, udp_bind_settled, with_udp_progress, udp_local_asks, close_udp_asks};
+ghost use Rattle.wasi_records.specs.Udp.{udp_side, udp_holds, poll_create_asks, udp_create_settled, udp_create_done, is_udp_idle, is_udp_bound, begin_udp_bind_asks, poll_udp_bind_asks, udp_bind_settled, with_udp_progress, udp_local_asks, close_udp_asks, opened_udp};
 ghost use Rattle.wasi_records.specs.declared.udp.Udp2Socket.TheVariants.{Open};
 
 use crate::datagrams::{Incoming, Outgoing};
@@ -60,7 +60,6 @@ impl PendingCreate {
         ensures asked { AsksFor (create_cancel_asks self.now) (W.seen world.old) (W.seen world.new) (λ done. done) result }
         ensures closed { IfOk result (λ done. HoldsFewer (W.seen world.old) (W.seen world.new) 1 0) }
         ensures unasked { OnErr result (W.seen world.new ≡ W.seen world.old) }
-        ensures open { (W.seen world.new).ended ≡ false }
     {
         self.create.cancel(world)
     }
@@ -212,7 +211,6 @@ impl Udp2Socket {
         ensures asked { AsksFor (poll_create_asks self.old) (W.seen world.old) (W.seen world.new) (λ answer. (answer, self.new)) (outcome result) }
         ensures left { OnErr (outcome result) (Reaches (poll_create_asks self.old) (poll_create_asks self.new) (W.seen world.old) (W.seen world.new)) }
         ensures held { HoldsFewer (W.seen world.old) (W.seen world.new) (udp_holds self.old) (udp_holds self.new) }
-        ensures open { (W.seen world.new).ended ≡ false }
     {
         let side = self.side();
         match mem::replace(self, Udp2Socket::Closed(side)) {
@@ -273,7 +271,6 @@ impl Udp2Socket {
         ensures held { HoldsFewer (W.seen world.old) (W.seen world.new) (udp_holds self.old) (udp_holds self.new) }
         ensures err { OnErr result (self.new ≡ self.old) }
         ensures unasked { OnErr result (W.seen world.new ≡ W.seen world.old) }
-        ensures open { (W.seen world.new).ended ≡ false }
     {
         let Some(open) = self.as_open() else {
             return Ok(());
@@ -297,7 +294,6 @@ impl OpenUdp {
         ensures asked { AsksFor (begin_udp_bind_asks op self.old addr) (W.seen world.old) (W.seen world.new) (λ answer. (answer, self.new)) (outcome result) }
         ensures none { MakesNone (W.seen world.old) (W.seen world.new) }
         ensures side { self.new.inner.side ≡ self.old.inner.side }
-        ensures open { (W.seen world.new).ended ≡ false }
     {
         let bind = self.inner.bind(world, op, addr)?;
         self.in_progress = UdpInProgress::Binding(PendingUdpBind::new(bind));
@@ -313,7 +309,6 @@ impl OpenUdp {
         ensures left { OnErr (outcome result) (Reaches (poll_udp_bind_asks self.old) (poll_udp_bind_asks self.new) (W.seen world.old) (W.seen world.new)) }
         ensures none { MakesNone (W.seen world.old) (W.seen world.new) }
         ensures side { self.new.inner.side ≡ self.old.inner.side }
-        ensures open { (W.seen world.new).ended ≡ false }
     {
         match mem::replace(&mut self.in_progress, UdpInProgress::Nothing) {
             UdpInProgress::Binding(bind) => {
@@ -367,7 +362,6 @@ impl OpenUdp {
         requires { (W.seen world.old).ended ≡ false }
         ensures asked { AsksFor (udp_local_asks op self.old) (W.seen world.old) (W.seen world.new) (λ told. (told, self.new)) (outcome result) }
         ensures side { self.new.inner.side ≡ self.old.inner.side }
-        ensures open { (W.seen world.new).ended ≡ false }
     {
         self.inner.local_address(world, op)
     }

@@ -73,7 +73,6 @@ impl OpenUdp {
         ensures asked { AsksFor (begin_streams_asks op self.old remote) (W.seen world.old) (W.seen world.new) (λ answer. (answer, self.new)) (outcome result) }
         ensures none { MakesNone (W.seen world.old) (W.seen world.new) }
         ensures side { self.new.inner.side ≡ self.old.inner.side }
-        ensures open { (W.seen world.new).ended ≡ false }
     {
         if !self.inner.is_bound(world, op)? {
             return Err(Refusal::Code(ErrorCode::InvalidState));
@@ -95,7 +94,6 @@ impl OpenUdp {
         ensures asked { AsksFor (streams_to op self.old (Some addr)) (W.seen world.old) (W.seen world.new) (λ answer. (answer, self.new)) (outcome result) }
         ensures none { MakesNone (W.seen world.old) (W.seen world.new) }
         ensures side { self.new.inner.side ≡ self.old.inner.side }
-        ensures open { (W.seen world.new).ended ≡ false }
     {
         let connect = self.inner.connect(world, op, addr)?;
         self.connecting = Some(PendingUdpConnect::new(connect));
@@ -108,7 +106,6 @@ impl OpenUdp {
         ensures asked { AsksFor (streams_to op self.old None) (W.seen world.old) (W.seen world.new) (λ answer. (answer, self.new)) (outcome result) }
         ensures none { MakesNone (W.seen world.old) (W.seen world.new) }
         ensures side { self.new.inner.side ≡ self.old.inner.side }
-        ensures open { (W.seen world.new).ended ≡ false }
     {
         if self.inner.is_connected() {
             self.inner.disconnect(world, op)?;
@@ -126,7 +123,6 @@ impl OpenUdp {
         ensures left { OnErr (outcome result) (Reaches (poll_udp_connect_asks self.old) (poll_udp_connect_asks self.new) (W.seen world.old) (W.seen world.new)) }
         ensures none { MakesNone (W.seen world.old) (W.seen world.new) }
         ensures side { self.new.inner.side ≡ self.old.inner.side }
-        ensures open { (W.seen world.new).ended ≡ false }
     {
         match self.connecting.take() {
             Some(connect) => {

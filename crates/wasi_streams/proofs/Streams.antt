@@ -4,7 +4,7 @@ use Rattle.std.specs.declared.alloc.AllocError.{AllocError}
 use Rattle.std.proofs.Common.{ap, sym, subst}
 use Rattle.wasi_world.specs.Seen.{Seen}
 use Rattle.wasi_world.specs.Asks.{Asks, Give, bind, Reaches, Started, AsksFor}
-use Rattle.wasi_world.proofs.Walks.{reaches_all, reaches_in, asks_end}
+use Rattle.wasi_world.proofs.Walks.{reaches_all, reaches_in, asks_end, asks_err}
 use Rattle.wasi_streams.specs.declared.error.StreamError.{StreamError}
 use Rattle.wasi_streams.specs.declared.error.StreamError.TheVariants.{LastOperationFailed, Closed, Trap, Memory}
 use Rattle.wasi_streams.specs.StreamStop.{StreamStop, Failed, stream_outcome}
@@ -16,11 +16,11 @@ stream_memory (Err x) h = ap (λ (y : StreamError). stream_outcome (Err y)) h
 
 -- out of memory before the first ask
 pub stream_none : {A T : Type 0} {asks : Asks A} {s t : Seen} {view : Result T StreamStop → A} {d : AllocError} (r : Result T StreamError) → IsErrAnd r (λ x. x ≡ Memory d) → t ≡ s → AsksFor asks s t view (stream_outcome r)
-stream_none {asks} {s} {t} r h e = rw (stream_memory r h) (record { ok = tt; err = record { rest = asks; reached = rw e (reaches_all asks s) } })
+stream_none {asks} {s} {t} r h e = rw (stream_memory r h) (asks_err asks (rw e (reaches_all asks s)))
 
 -- or in it
 pub stream_exit : {A B T : Type 0} {asks : Asks A} (f : A → Asks B) {s t : Seen} {view : Result T StreamStop → B} {d : AllocError} (r : Result T StreamError) → IsErrAnd r (λ x. x ≡ Memory d) → Started asks s t → AsksFor (bind asks f) s t view (stream_outcome r)
-stream_exit f r h k = rw (stream_memory r h) (record { ok = tt; err = record { rest = bind k.rest f; reached = reaches_in f k.reached } })
+stream_exit f r h k = rw (stream_memory r h) (asks_err (bind k.rest f) (reaches_in f k.reached))
 
 -- after the first ask no others, and this is the result
 pub stream_end : {A B T : Type 0} {asks : Asks A} (f : A → Asks B) {s t : Seen} {view : Result T StreamStop → B} {x : Result T StreamStop} (r : Result T StreamError) {a : A} → Reaches asks (Give a) s t → stream_outcome r ≡ Ok x → f a ≡ Give (view x) → AsksFor (bind asks f) s t view (stream_outcome r)
@@ -37,7 +37,7 @@ stream_on {asks = asks} f {s} {t} {shown = shown} (Trap kind) (Err y) h k e =
     let P : StreamError → Type 0 = λ z. AsksFor (bind asks f) s t shown (stream_outcome (Err z)) in subst P (sym h) (asks_end f k.ok (e (stop.Trap kind)))
 stream_on {asks = asks} f {s} {t} {shown = shown} (Memory d) (Err y) h k e =
     let P : StreamError → Type 0 = λ z. AsksFor (bind asks f) s t shown (stream_outcome (Err z)) in
-    subst P (sym h) (record { ok = tt; err = record { rest = bind k.err.rest f; reached = reaches_in f k.err.reached } })
+    subst P (sym h) (asks_err (bind k.err.rest f) (reaches_in f k.err.reached))
 
 -- what holds anyway
 pub on_memory : {T : Type 0} {P : Type 0} (r : Result T StreamError) → P → OnErr (stream_outcome r) P

@@ -9,7 +9,7 @@ use Rattle.wasi_world.specs.declared.outcome.Refusal.TheVariants.{Code, Memory}
 use Rattle.wasi_world.specs.Seen.{Seen}
 use Rattle.wasi_world.specs.Asks.{Give, bind, Reaches, AsksFor, outcome}
 use Rattle.wasi_world.specs.Operation.{Nothing, Who, Operation, poll_asks, PollsFor}
-use Rattle.wasi_world.proofs.Walks.{asks_end, reaches_in}
+use Rattle.wasi_world.proofs.Walks.{asks_end, reaches_in, asks_err}
 use Rattle.wasi_addr.specs.declared.address.IpSocketAddress.{IpSocketAddress}
 use Rattle.socket_common.specs.declared.asker.Asker.{Asker}
 use Rattle.wasi_tcp.specs.declared.connect.ConnectStage.{ConnectStage}
@@ -23,7 +23,7 @@ pub connect_asked : (op : Operation) {new : Operation} {s t : Seen} (r : Result 
 connect_asked op (Ok (Ready done)) h = asks_end _ h.ended refl
 connect_asked op (Ok Pending) h = asks_end _ h.ended (rw (← h.who) refl)
 connect_asked op (Err (Code c)) h = asks_end _ h.ended refl
-connect_asked op {new} (Err (Memory e)) h = record { ok = tt; err = record { rest = bind (poll_asks new) (λ ended. Give (connect_ended op.who ended)); reached = reaches_in _ h.ended } }
+connect_asked op {new} (Err (Memory e)) h = asks_err (bind (poll_asks new) (λ ended. Give (connect_ended op.who ended))) (reaches_in _ h.ended)
 
 -- after running out of memory, what is left of the poll is a poll of what the connect is then
 pub connect_left_over : (op : Operation) {new : Operation} {s t : Seen} (r : Result (Answer (Unit {0})) Refusal) → PollsFor (λ done. Nothing) Nothing op new s t r → OnErr (outcome r) (Reaches (finish_in (state.Connecting op)) (finish_in (settled op.who.side (state.Connecting new) r)) s t)

@@ -16,7 +16,7 @@ use Rattle.wasi_world.specs.Seen.{Seen}
 use Rattle.wasi_world.specs.Asks.{Asks, Give, bind, Reaches, AsksFor, outcome}
 use Rattle.wasi_world.specs.Operation.{Write, Nothing, Who, Goes, Stays, Ends, End, Waits, Done, Refused, PollsFor, poll_asks, write_front, taken_front}
 use Rattle.wasi_world.specs.Typed.{ask_write, ask_shutdown}
-use Rattle.wasi_world.proofs.Walks.{reaches_on, reaches_in, asks_gives}
+use Rattle.wasi_world.proofs.Walks.{reaches_on, reaches_in, asks_gives, asks_err}
 use Rattle.wasi_tcp.specs.Job.{Job, end_after, job_after, job_in, job_asks, told_end, finish_in}
 
 -- the bytes that are skipped are dropped
@@ -92,7 +92,7 @@ job_left_over {old} {new} {s} {t} (Err (refusal.Memory d)) w p e o =
 -- out of memory on the way
 pub stops : {A T : Type 0} (Q : AllocError → Type 0) {asks rest : Asks A} {s t : Seen} {view : T → A} {r : Result T AllocError} → IsErrAnd r Q → Reaches asks rest s t → AsksFor asks s t view r
 stops Q {r = Ok x} e h = absurd e
-stops Q {rest} {r = Err d} e h = record { ok = tt; err = record { rest = rest; reached = h } }
+stops Q {rest} {r = Err d} e h = asks_err rest h
 
 pub on_err : {T : Type 0} {P : Type 0} (r : Result T AllocError) → P → OnErr r P
 on_err (Ok x) h = tt

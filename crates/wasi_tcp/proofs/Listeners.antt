@@ -11,7 +11,7 @@ use Rattle.wasi_world.specs.declared.outcome.Refusal.TheVariants.{Code, Memory}
 use Rattle.wasi_world.specs.Seen.{Seen}
 use Rattle.wasi_world.specs.Asks.{Asks, Give, bind, Reaches, AsksFor}
 use Rattle.wasi_world.specs.Operation.{Nothing, Who, Operation, polls}
-use Rattle.wasi_world.proofs.Walks.{reaches_all, reaches_in, reaches_on}
+use Rattle.wasi_world.proofs.Walks.{reaches_all, reaches_in, reaches_on, asks_err, asks_ok}
 use Rattle.wasi_tcp.specs.declared.accept.AcceptStage.TheVariants as stage
 use Rattle.wasi_tcp.specs.declared.listener.Accepting.{Accepting}
 use Rattle.wasi_tcp.specs.declared.listener.Accepting.TheVariants as accepting
@@ -78,12 +78,12 @@ turn_stands ends (accepting.Failed c) h = absurd h
 pub turn_ends : {A T : Type 0} (ends : Accepting → A) (a : Accepting) {now : Accepting} {s t : Seen} {view : T → A} {x : Unit {0}} {y : T} → TurnFor a now s t (Ok x) → ends now ≡ view y → AsksFor (accept_asks ends a) s t view (Ok y)
 turn_ends ends a {s} {t} h e =
     let P : Asks _ → Type 0 = λ rest. Reaches (accept_asks ends a) rest s t in
-    record { ok = subst P (ap Give e) (turn_reaches ends a h); err = tt }
+    asks_ok (subst P (ap Give e) (turn_reaches ends a h))
 
 -- out of memory
 pub turn_exit : {A T : Type 0} (ends : Accepting → A) (a now : Accepting) (Q : AllocError → Type 0) {s t : Seen} {view : T → A} {d : AllocError} {r : Result T AllocError} → IsErrAnd r Q → TurnFor a now s t (Err d) → AsksFor (accept_asks ends a) s t view r
 turn_exit ends a now Q {r = Ok x} e h = absurd e
-turn_exit ends a now Q {r = Err d} e h = record { ok = tt; err = record { rest = _; reached = (turn_stands ends a h).reached } }
+turn_exit ends a now Q {r = Err d} e h = asks_err _ ((turn_stands ends a h).reached)
 
 pub turn_left_over : {A T : Type 0} (ends : Accepting → A) (a now : Accepting) (s t : Seen) {d : AllocError} (r : Result T AllocError) → TurnFor a now s t (Err d) → OnErr r (StandsAccept (accept_asks ends a) ends now s t)
 turn_left_over ends a now s t (Ok x) h = tt

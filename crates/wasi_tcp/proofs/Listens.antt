@@ -8,7 +8,7 @@ use Rattle.wasi_world.specs.declared.outcome.Refusal.TheVariants.{Code, Memory}
 use Rattle.wasi_world.specs.Seen.{Seen}
 use Rattle.wasi_world.specs.Asks.{Give, bind, Reaches, AsksFor, outcome}
 use Rattle.wasi_world.specs.Operation.{Nothing, Who, Operation, poll_asks, PollsFor}
-use Rattle.wasi_world.proofs.Walks.{asks_end, reaches_in}
+use Rattle.wasi_world.proofs.Walks.{asks_end, reaches_in, asks_err}
 use Rattle.wasi_addr.specs.declared.address.IpSocketAddress.{IpSocketAddress}
 use Rattle.socket_common.specs.declared.asker.Asker.{Asker}
 use Rattle.wasi_tcp.specs.declared.listen.ListenStage.{ListenStage}
@@ -34,7 +34,7 @@ listen_went_on : (op : Operation) (socket : Socket) {new : Operation} {s t : See
 listen_went_on op socket (Ok (Ready done)) h = asks_end _ h.ended (rw (← h.who) refl)
 listen_went_on op socket (Ok Pending) h = asks_end _ h.ended (rw (← h.who) refl)
 listen_went_on op socket (Err (Code c)) h = asks_end _ h.ended (rw (← h.who) refl)
-listen_went_on op socket {new} (Err (Memory e)) h = record { ok = tt; err = record { rest = bind (poll_asks new) (λ ended. Give (listen_ended op.who socket ended)); reached = reaches_in _ h.ended } }
+listen_went_on op socket {new} (Err (Memory e)) h = asks_err (bind (poll_asks new) (λ ended. Give (listen_ended op.who socket ended))) (reaches_in _ h.ended)
 
 pub listen_asked : (op : Operation) (socket : Socket) {new : Operation} {s t : Seen} (r : Result (Answer (Unit {0})) Refusal) → is_over op ≡ false → PollsFor (λ done. Nothing) Nothing op new s t r
     → AsksFor (listen_poll_asks op socket) s t (λ answer. (answer, (new, listen_settled op.who.side socket r))) (outcome (listen_told op.who.side op.who.context socket r))

@@ -99,7 +99,6 @@ impl AcceptOp {
         requires { (W.seen world.old).ended ≡ false }
         ensures asked { AsksFor (accept_give_up_asks self.now) (W.seen world.old) (W.seen world.new) (λ done. done) result }
         ensures err { OnErr result (W.seen world.new ≡ W.seen world.old) }
-        ensures open { (W.seen world.new).ended ≡ false }
     {
         match self.in_hand() {
             Some(peer) => asks::refuse(world, self.asker.op, self.asker.side, peer),

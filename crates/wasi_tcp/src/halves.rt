@@ -61,7 +61,6 @@ impl TcpReceiveStream {
         ensures asked { AsksFor (ask_read_ready op self.old.side) (W.seen world.old) (W.seen world.new) (λ answer. answer) result }
         ensures err { OnErr result (W.seen world.new ≡ W.seen world.old) }
         ensures same { self.new ≡ self.old }
-        ensures open { (W.seen world.new).ended ≡ false }
     {
         asks::read_ready(world, op, self.side)
     }
@@ -79,7 +78,6 @@ impl TcpReceiveStream {
         ensures asked { AsksFor (read_asks op self.old.side size) (W.seen world.old) (W.seen world.new) (λ answer. answer) (outcome result) }
         ensures err { OnErr (outcome result) (W.seen world.new ≡ W.seen world.old) }
         ensures same { self.new ≡ self.old }
-        ensures open { (W.seen world.new).ended ≡ false }
     {
         if size == 0 {
             return Ok(Answer::Ready(Octets::from_vec(Vec::new(alloc))));
@@ -94,7 +92,6 @@ impl TcpReceiveStream {
         requires { (W.seen world.old).ended ≡ false }
         ensures asked { AsksFor (ask_shutdown op self.side ShutdownType.Receive) (W.seen world.old) (W.seen world.new) (λ done. done) result }
         ensures err { OnErr result (W.seen world.new ≡ W.seen world.old) }
-        ensures open { (W.seen world.new).ended ≡ false }
     {
         self.shut_down(world, op)
     }
@@ -104,7 +101,6 @@ impl TcpReceiveStream {
         requires { (W.seen world.old).ended ≡ false }
         ensures asked { AsksFor (ask_shutdown op self.now.side ShutdownType.Receive) (W.seen world.old) (W.seen world.new) (λ done. done) result }
         ensures err { OnErr result (W.seen world.new ≡ W.seen world.old) }
-        ensures open { (W.seen world.new).ended ≡ false }
     {
         asks::shutdown(world, op, self.side, ShutdownType::Receive)
     }
@@ -122,7 +118,6 @@ impl TcpSendStream {
         ensures asked { AsksFor (ask_write_ready op self.old.side) (W.seen world.old) (W.seen world.new) (λ answer. answer) result }
         ensures err { OnErr result (W.seen world.new ≡ W.seen world.old) }
         ensures same { self.new ≡ self.old }
-        ensures open { (W.seen world.new).ended ≡ false }
     {
         asks::write_ready(world, op, self.side)
     }
@@ -140,7 +135,6 @@ impl TcpSendStream {
         ensures asked { AsksFor (write_asks op self.old.side bytes.now) (W.seen world.old) (W.seen world.new) (λ answer. answer) (outcome result) }
         ensures err { OnErr (outcome result) (W.seen world.new ≡ W.seen world.old) }
         ensures same { self.new ≡ self.old }
-        ensures open { (W.seen world.new).ended ≡ false }
     {
         let told = asks::write(world, op, self.side, bytes)?;
         answer(told)
@@ -151,7 +145,6 @@ impl TcpSendStream {
         requires { (W.seen world.old).ended ≡ false }
         ensures asked { AsksFor (ask_shutdown op self.side ShutdownType.Send) (W.seen world.old) (W.seen world.new) (λ done. done) result }
         ensures err { OnErr result (W.seen world.new ≡ W.seen world.old) }
-        ensures open { (W.seen world.new).ended ≡ false }
     {
         self.shut_down(world, op)
     }
@@ -161,7 +154,6 @@ impl TcpSendStream {
         requires { (W.seen world.old).ended ≡ false }
         ensures asked { AsksFor (ask_shutdown op self.now.side ShutdownType.Send) (W.seen world.old) (W.seen world.new) (λ done. done) result }
         ensures err { OnErr result (W.seen world.new ≡ W.seen world.old) }
-        ensures open { (W.seen world.new).ended ≡ false }
     {
         asks::shutdown(world, op, self.side, ShutdownType::Send)
     }

@@ -91,7 +91,6 @@ impl WriteJob {
         ensures asked { AsksFor (finish_asks op self.old) (W.seen world.old) (W.seen world.new) (λ done. (done, self.new)) result }
         ensures err { OnErr result (self.new ≡ self.old) }
         ensures unasked { OnErr result (W.seen world.new ≡ W.seen world.old) }
-        ensures open { (W.seen world.new).ended ≡ false }
     {
         match self.end() {
             None => {
@@ -119,7 +118,6 @@ impl WriteJob {
         ensures err { OnErr result (Reaches (job_asks self.old) (job_asks self.new) (W.seen world.old) (W.seen world.new)) }
         ensures who { self.new.write.who ≡ self.old.write.who }
         ensures write { IsWrite self.old }
-        ensures open { (W.seen world.new).ended ≡ false }
     {
         match self.end() {
             Some(_) => Ok(()),
@@ -136,7 +134,6 @@ impl WriteJob {
         requires unfinished { self.old.end ≡ Waits }
         ensures polled { PollsFor (λ done. Nothing) Nothing self.old.write self.new.write (W.seen world.old) (W.seen world.new) result }
         ensures end { self.new.end ≡ end_after result }
-        ensures open { (W.seen world.new).ended ≡ false }
     {
         let (op, side, closing) = (self.op, self.side, self.closing);
         match self.stage {
@@ -175,7 +172,6 @@ fn write_rest<W: World>(
     ensures asked { AsksFor (write_front (writer op side) (drop place.old bytes.now) 0) (W.seen world.old) (W.seen world.new) (λ told. rest_front (drop place.new bytes.now) told) result }
     ensures err { OnErr result (Reaches (write_front (writer op side) (drop place.old bytes.now) 0) (write_front (writer op side) (drop place.new bytes.now) 0) (W.seen world.old) (W.seen world.new)) }
     ensures within { place.new ≤ length bytes.now }
-    ensures open { (W.seen world.new).ended ≡ false }
 {
     while *place < bytes.len() {
         match asks::write(world, op, side, &bytes[*place..])? {
@@ -203,7 +199,6 @@ fn poll_rest<W: World>(
     ensures polled { PollsFor (λ done. Nothing) Nothing (write_operation op side (drop place.old bytes.now) closing stage.old) (write_operation op side (drop place.new bytes.now) closing stage.new) (W.seen world.old) (W.seen world.new) result }
     ensures end { write_end stage.new ≡ end_after result }
     ensures within { place.new ≤ length bytes.now }
-    ensures open { (W.seen world.new).ended ≡ false }
 {
     let told = write_rest(world, op, side, bytes, place)?;
     match told {
@@ -232,7 +227,6 @@ fn poll_close<W: World>(
     requires stage { stage.old ≡ WriteStage.Close }
     ensures polled { (rest : List ℕ) (closing : Bool) → PollsFor (λ done. Nothing) Nothing (write_operation op side rest closing stage.old) (write_operation op side rest closing stage.new) (W.seen world.old) (W.seen world.new) result }
     ensures end { write_end stage.new ≡ end_after result }
-    ensures open { (W.seen world.new).ended ≡ false }
 {
     asks::shutdown(world, op, side, ShutdownType::Send)?;
     *stage = WriteStage::Written;
@@ -250,7 +244,6 @@ fn poll_shutdown<W: World>(
     requires stage { stage.old ≡ WriteStage.Refused code }
     ensures polled { (rest : List ℕ) (closing : Bool) → PollsFor (λ done. Nothing) Nothing (write_operation op side rest closing stage.old) (write_operation op side rest closing stage.new) (W.seen world.old) (W.seen world.new) result }
     ensures end { write_end stage.new ≡ end_after result }
-    ensures open { (W.seen world.new).ended ≡ false }
 {
     asks::shutdown(world, op, side, ShutdownType::Send)?;
     *stage = WriteStage::Failed(code);

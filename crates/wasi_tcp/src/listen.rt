@@ -123,7 +123,6 @@ impl ListenOp {
         ensures going { is_going self.new ≡ stays_going result }
         ensures before { IsListen self.old }
         ensures after { IsListen self.new }
-        ensures open { (W.seen world.new).ended ≡ false }
     {
         let side = self.side();
         let maker = self.maker();
@@ -144,7 +143,6 @@ impl ListenOp {
         ensures going { is_going self.new ≡ stays_going result }
         ensures before { IsListen self.old }
         ensures after { IsListen self.new }
-        ensures open { (W.seen world.new).ended ≡ false }
     {
         let (asker, wildcard, backlog) = (self.asker, self.wildcard, self.backlog);
         match self.stage {
@@ -174,7 +172,6 @@ impl ListenOp {
         requires { (W.seen world.old).ended ≡ false }
         ensures asked { AsksFor (cancel_asks self) (W.seen world.old) (W.seen world.new) (λ done. done) result }
         ensures unasked { OnErr result (W.seen world.new ≡ W.seen world.old) }
-        ensures open { (W.seen world.new).ended ≡ false }
     {
         if self.is_over() {
             return Ok(());
@@ -218,7 +215,6 @@ fn poll_local<W: World>(
     requires stage { stage.old ≡ ListenStage.Local }
     ensures polled { PollsFor (λ done. Nothing) Nothing (listen_operation asker wildcard backlog stage.old) (listen_operation asker wildcard backlog stage.new) (W.seen world.old) (W.seen world.new) result }
     ensures going { is_going (listen_operation asker wildcard backlog stage.new) ≡ stays_going result }
-    ensures open { (W.seen world.new).ended ≡ false }
 {
     let told = asks::local(world, asker.op, asker.side)?;
     match told {
@@ -245,7 +241,6 @@ fn poll_told<W: World>(
     requires stage { stage.old ≡ ListenStage.CheckTold addr }
     ensures polled { PollsFor (λ done. Nothing) Nothing (listen_operation asker wildcard backlog stage.old) (listen_operation asker wildcard backlog stage.new) (W.seen world.old) (W.seen world.new) result }
     ensures going { is_going (listen_operation asker wildcard backlog stage.new) ≡ stays_going result }
-    ensures open { (W.seen world.new).ended ≡ false }
 {
     let verdict = asks::check(world, asker.op, asker.maker, addr, SocketAddrUse::TcpListen)?;
     match verdict {
@@ -278,7 +273,6 @@ fn poll_check_bind<W: World>(
     requires stage { stage.old ≡ ListenStage.CheckBind }
     ensures polled { PollsFor (λ done. Nothing) Nothing (listen_operation asker wildcard backlog stage.old) (listen_operation asker wildcard backlog stage.new) (W.seen world.old) (W.seen world.new) result }
     ensures going { is_going (listen_operation asker wildcard backlog stage.new) ≡ stays_going result }
-    ensures open { (W.seen world.new).ended ≡ false }
 {
     let verdict = asks::check(
         world,
@@ -317,7 +311,6 @@ fn poll_check_listen<W: World>(
     requires stage { stage.old ≡ ListenStage.CheckListen }
     ensures polled { PollsFor (λ done. Nothing) Nothing (listen_operation asker wildcard backlog stage.old) (listen_operation asker wildcard backlog stage.new) (W.seen world.old) (W.seen world.new) result }
     ensures going { is_going (listen_operation asker wildcard backlog stage.new) ≡ stays_going result }
-    ensures open { (W.seen world.new).ended ≡ false }
 {
     let verdict = asks::check(
         world,
@@ -356,7 +349,6 @@ fn poll_bind<W: World>(
     requires stage { stage.old ≡ ListenStage.Bind }
     ensures polled { PollsFor (λ done. Nothing) Nothing (listen_operation asker wildcard backlog stage.old) (listen_operation asker wildcard backlog stage.new) (W.seen world.old) (W.seen world.new) result }
     ensures going { is_going (listen_operation asker wildcard backlog stage.new) ≡ stays_going result }
-    ensures open { (W.seen world.new).ended ≡ false }
 {
     let told = asks::bind(world, asker.op, asker.side, wildcard)?;
     match told {
@@ -381,7 +373,6 @@ fn poll_listen<W: World>(
     requires stage { stage.old ≡ ListenStage.Listen }
     ensures polled { PollsFor (λ done. Nothing) Nothing (listen_operation asker wildcard backlog stage.old) (listen_operation asker wildcard backlog stage.new) (W.seen world.old) (W.seen world.new) result }
     ensures going { is_going (listen_operation asker wildcard backlog stage.new) ≡ stays_going result }
-    ensures open { (W.seen world.new).ended ≡ false }
 {
     let told = asks::listen(world, asker.op, asker.side, backlog)?;
     match told {
@@ -407,7 +398,6 @@ fn poll_close<W: World>(
     requires stage { stage.old ≡ ListenStage.Close code }
     ensures polled { PollsFor (λ done. Nothing) Nothing (listen_operation asker wildcard backlog stage.old) (listen_operation asker wildcard backlog stage.new) (W.seen world.old) (W.seen world.new) result }
     ensures going { is_going (listen_operation asker wildcard backlog stage.new) ≡ stays_going result }
-    ensures open { (W.seen world.new).ended ≡ false }
 {
     asks::close(world, asker.op, asker.side)?;
     *stage = ListenStage::Over;

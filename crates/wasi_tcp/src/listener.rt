@@ -172,7 +172,6 @@ impl TcpListenStream {
         ensures same { self.new ≡ with_accept self.old self.new.accept }
         ensures before { IsListener self.old }
         ensures after { IsListener self.new }
-        ensures open { (W.seen world.new).ended ≡ false }
     {
         turn(world, self.side, self.maker, ids, &mut self.accept)?;
         Ok(self.accept.readiness())
@@ -201,7 +200,6 @@ impl TcpListenStream {
         ensures same { self.new ≡ with_accept self.old self.new.accept }
         ensures before { IsListener self.old }
         ensures after { IsListener self.new }
-        ensures open { (W.seen world.new).ended ≡ false }
     {
         turn(world, self.side, self.maker, ids, &mut self.accept)?;
         Ok(self.take())
@@ -259,7 +257,6 @@ impl TcpListenStream {
         ensures asked { AsksFor (listener_give_up_asks self) (W.seen world.old) (W.seen world.new) (λ done. done) result }
         ensures err { OnErr result (W.seen world.new ≡ W.seen world.old) }
         ensures before { IsListener self }
-        ensures open { (W.seen world.new).ended ≡ false }
     {
         match &self.accept {
             Accepting::Asking(op) => op.give_up(world),

@@ -26,7 +26,6 @@ impl TcpSocket {
         ensures asked { AsksFor (get_option_asks op self.now option) (W.seen world.old) (W.seen world.new) (λ answer. (answer, self.now)) (outcome result) }
         ensures within { IfOk result (λ answer. answer ≤ largest_value option) }
         ensures unasked { OnErr (outcome result) (W.seen world.new ≡ W.seen world.old) }
-        ensures open { (W.seen world.new).ended ≡ false }
     {
         match self.usable_side() {
             Ok(side) => get_of_side(world, op, side, option),
@@ -53,7 +52,6 @@ impl TcpSocket {
         ensures same { self.new ≡ self.old }
         ensures side { side_of self.new ≡ side_of self.old }
         ensures unasked { OnErr (outcome result) (W.seen world.new ≡ W.seen world.old) }
-        ensures open { (W.seen world.new).ended ≡ false }
     {
         if setting.refused_before_state() {
             return Err(Refusal::Code(ErrorCode::InvalidArgument));
@@ -70,7 +68,6 @@ impl TcpSocket {
         requires { (W.seen world.old).ended ≡ false }
         ensures asked { AsksFor (get_option_asks op self.now Opt.KeepAliveEnabled) (W.seen world.old) (W.seen world.new) (λ answer. (truth_answer answer, self.now)) (outcome result) }
         ensures unasked { OnErr (outcome result) (W.seen world.new ≡ W.seen world.old) }
-        ensures open { (W.seen world.new).ended ≡ false }
     {
         let value = self.get_option(world, op, Opt::KeepAliveEnabled)?;
         Ok(value != 0)
@@ -89,7 +86,6 @@ impl TcpSocket {
         ensures same { self.new ≡ self.old }
         ensures side { side_of self.new ≡ side_of self.old }
         ensures unasked { OnErr (outcome result) (W.seen world.new ≡ W.seen world.old) }
-        ensures open { (W.seen world.new).ended ≡ false }
     {
         self.set_option(world, op, Setting::KeepAliveEnabled(value))
     }
@@ -100,7 +96,6 @@ impl TcpSocket {
         requires { (W.seen world.old).ended ≡ false }
         ensures asked { AsksFor (get_option_asks op self.now Opt.KeepAliveIdleTime) (W.seen world.old) (W.seen world.new) (λ answer. (answer, self.now)) (outcome result) }
         ensures unasked { OnErr (outcome result) (W.seen world.new ≡ W.seen world.old) }
-        ensures open { (W.seen world.new).ended ≡ false }
     {
         self.get_option(world, op, Opt::KeepAliveIdleTime)
     }
@@ -119,7 +114,6 @@ impl TcpSocket {
         ensures same { self.new ≡ self.old }
         ensures side { side_of self.new ≡ side_of self.old }
         ensures unasked { OnErr (outcome result) (W.seen world.new ≡ W.seen world.old) }
-        ensures open { (W.seen world.new).ended ≡ false }
     {
         self.set_option(world, op, Setting::KeepAliveIdleTime(value))
     }
@@ -130,7 +124,6 @@ impl TcpSocket {
         requires { (W.seen world.old).ended ≡ false }
         ensures asked { AsksFor (get_option_asks op self.now Opt.KeepAliveInterval) (W.seen world.old) (W.seen world.new) (λ answer. (answer, self.now)) (outcome result) }
         ensures unasked { OnErr (outcome result) (W.seen world.new ≡ W.seen world.old) }
-        ensures open { (W.seen world.new).ended ≡ false }
     {
         self.get_option(world, op, Opt::KeepAliveInterval)
     }
@@ -148,7 +141,6 @@ impl TcpSocket {
         ensures same { self.new ≡ self.old }
         ensures side { side_of self.new ≡ side_of self.old }
         ensures unasked { OnErr (outcome result) (W.seen world.new ≡ W.seen world.old) }
-        ensures open { (W.seen world.new).ended ≡ false }
     {
         self.set_option(world, op, Setting::KeepAliveInterval(value))
     }
@@ -159,7 +151,6 @@ impl TcpSocket {
         requires { (W.seen world.old).ended ≡ false }
         ensures asked { AsksFor (get_option_asks op self.now Opt.KeepAliveCount) (W.seen world.old) (W.seen world.new) (λ answer. (answer, self.now)) (outcome result) }
         ensures unasked { OnErr (outcome result) (W.seen world.new ≡ W.seen world.old) }
-        ensures open { (W.seen world.new).ended ≡ false }
     {
         let value = self.get_option(world, op, Opt::KeepAliveCount)?;
         Ok(value as u32)
@@ -178,7 +169,6 @@ impl TcpSocket {
         ensures same { self.new ≡ self.old }
         ensures side { side_of self.new ≡ side_of self.old }
         ensures unasked { OnErr (outcome result) (W.seen world.new ≡ W.seen world.old) }
-        ensures open { (W.seen world.new).ended ≡ false }
     {
         self.set_option(world, op, Setting::KeepAliveCount(value))
     }
@@ -189,7 +179,6 @@ impl TcpSocket {
         requires { (W.seen world.old).ended ≡ false }
         ensures asked { AsksFor (get_option_asks op self.now Opt.HopLimit) (W.seen world.old) (W.seen world.new) (λ answer. (answer, self.now)) (outcome result) }
         ensures unasked { OnErr (outcome result) (W.seen world.new ≡ W.seen world.old) }
-        ensures open { (W.seen world.new).ended ≡ false }
     {
         let value = self.get_option(world, op, Opt::HopLimit)?;
         Ok(value as u8)
@@ -208,7 +197,6 @@ impl TcpSocket {
         ensures same { self.new ≡ self.old }
         ensures side { side_of self.new ≡ side_of self.old }
         ensures unasked { OnErr (outcome result) (W.seen world.new ≡ W.seen world.old) }
-        ensures open { (W.seen world.new).ended ≡ false }
     {
         self.set_option(world, op, Setting::HopLimit(value))
     }
@@ -219,7 +207,6 @@ impl TcpSocket {
         requires { (W.seen world.old).ended ≡ false }
         ensures asked { AsksFor (get_option_asks op self.now Opt.ReceiveBufferSize) (W.seen world.old) (W.seen world.new) (λ answer. (answer, self.now)) (outcome result) }
         ensures unasked { OnErr (outcome result) (W.seen world.new ≡ W.seen world.old) }
-        ensures open { (W.seen world.new).ended ≡ false }
     {
         self.get_option(world, op, Opt::ReceiveBufferSize)
     }
@@ -237,7 +224,6 @@ impl TcpSocket {
         ensures same { self.new ≡ self.old }
         ensures side { side_of self.new ≡ side_of self.old }
         ensures unasked { OnErr (outcome result) (W.seen world.new ≡ W.seen world.old) }
-        ensures open { (W.seen world.new).ended ≡ false }
     {
         self.set_option(world, op, Setting::ReceiveBufferSize(value))
     }
@@ -248,7 +234,6 @@ impl TcpSocket {
         requires { (W.seen world.old).ended ≡ false }
         ensures asked { AsksFor (get_option_asks op self.now Opt.SendBufferSize) (W.seen world.old) (W.seen world.new) (λ answer. (answer, self.now)) (outcome result) }
         ensures unasked { OnErr (outcome result) (W.seen world.new ≡ W.seen world.old) }
-        ensures open { (W.seen world.new).ended ≡ false }
     {
         self.get_option(world, op, Opt::SendBufferSize)
     }
@@ -266,7 +251,6 @@ impl TcpSocket {
         ensures same { self.new ≡ self.old }
         ensures side { side_of self.new ≡ side_of self.old }
         ensures unasked { OnErr (outcome result) (W.seen world.new ≡ W.seen world.old) }
-        ensures open { (W.seen world.new).ended ≡ false }
     {
         self.set_option(world, op, Setting::SendBufferSize(value))
     }

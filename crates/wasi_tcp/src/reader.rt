@@ -51,7 +51,6 @@ impl ReadState {
         requires { (W.seen world.old).ended ≡ false }
         ensures asked { AsksFor (read_state_asks op self.old size) (W.seen world.old) (W.seen world.new) (λ answer. (answer, self.new)) (stream_outcome result) }
         ensures err { OnErr (stream_outcome result) (self.new ≡ self.old) }
-        ensures open { (W.seen world.new).ended ≡ false }
     {
         let ReadState::Open(half) = self else {
             return Err(StreamError::Closed);
@@ -74,7 +73,6 @@ impl ReadState {
         requires { (W.seen world.old).ended ≡ false }
         ensures asked { AsksFor (after_read op self.old answer) (W.seen world.old) (W.seen world.new) (λ answer. (answer, self.new)) (stream_outcome result) }
         ensures err { OnErr (stream_outcome result) (self.new ≡ self.old) }
-        ensures open { (W.seen world.new).ended ≡ false }
     {
         match answer {
             Ok(Answer::Pending) => Ok(nothing(alloc)),
@@ -102,7 +100,6 @@ impl ReadState {
         ensures asked { AsksFor (reader_ready_asks op self.old) (W.seen world.old) (W.seen world.new) (λ answer. (answer, self.new)) result }
         ensures err { OnErr result (W.seen world.new ≡ W.seen world.old) }
         ensures same { self.new ≡ self.old }
-        ensures open { (W.seen world.new).ended ≡ false }
     {
         match self {
             ReadState::Open(half) => half.poll_ready(world, op),
@@ -116,7 +113,6 @@ impl ReadState {
         ensures asked { AsksFor (reader_shutdown_asks op self.old) (W.seen world.old) (W.seen world.new) (λ done. (done, self.new)) result }
         ensures err { OnErr result (self.new ≡ self.old) }
         ensures unasked { OnErr result (W.seen world.new ≡ W.seen world.old) }
-        ensures open { (W.seen world.new).ended ≡ false }
     {
         match self {
             ReadState::Open(half) => {

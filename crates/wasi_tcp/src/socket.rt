@@ -75,7 +75,6 @@ impl Connection {
         ensures err { OnErr (outcome result) (self.new ≡ self.old) }
         ensures unasked { OnErr (outcome result) (W.seen world.new ≡ W.seen world.old) }
         ensures side { self.new.side ≡ self.old.side }
-        ensures open { (W.seen world.new).ended ≡ false }
     {
         if let Some(peer) = self.peer {
             return Ok(peer);
@@ -119,7 +118,6 @@ impl TcpState {
         ensures side { OnErr (outcome result) (side_in self.new ≡ side_in self.old) }
         ensures before { HoldsConnect self.old }
         ensures after { HoldsConnect self.new }
-        ensures open { (W.seen world.new).ended ≡ false }
     {
         match self {
             TcpState::Default(_) | TcpState::Listening(_) => {
@@ -158,7 +156,6 @@ impl TcpState {
         ensures err { OnErr (outcome result) (self.new ≡ self.old) }
         ensures unasked { OnErr (outcome result) (W.seen world.new ≡ W.seen world.old) }
         ensures side { side_in self.new ≡ side_in self.old }
-        ensures open { (W.seen world.new).ended ≡ false }
     {
         match self {
             TcpState::Connected(connection) => connection.remote_address(world, op),
@@ -208,7 +205,6 @@ impl TcpSocket {
         ensures asked { AsksFor (new_asks op ctx.now family) (W.seen world.old) (W.seen world.new) (λ made. made) (outcome result) }
         ensures side { IfOk result (λ socket. side_of socket ≡ Some op) }
         ensures unasked { OnErr (outcome result) (W.seen world.new ≡ W.seen world.old) }
-        ensures open { (W.seen world.new).ended ≡ false }
     {
         if !ctx.tcp {
             return Err(Refusal::Code(ErrorCode::AccessDenied));
@@ -281,7 +277,6 @@ impl TcpSocket {
         ensures err { OnErr result (self.new ≡ self.old) }
         ensures unasked { OnErr result (W.seen world.new ≡ W.seen world.old) }
         ensures side { side_of self.new ≡ side_of self.old }
-        ensures open { (W.seen world.new).ended ≡ false }
     {
         if self.bound {
             return Ok(true);
@@ -349,7 +344,6 @@ impl TcpSocket {
         ensures err { OnErr result (self.new ≡ self.old) }
         ensures unasked { OnErr result (W.seen world.new ≡ W.seen world.old) }
         ensures gone { OnOk result (side_of self.new ≡ None) }
-        ensures open { (W.seen world.new).ended ≡ false }
     {
         let Some(side) = self.side() else {
             return Ok(());

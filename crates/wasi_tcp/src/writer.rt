@@ -125,7 +125,6 @@ impl WriteState {
         ensures state { self.new ≡ collected self.old }
         ensures err { OnErr (stream_outcome result) (W.seen world.new ≡ W.seen world.old) }
         ensures ready { OnErr (stream_outcome result) (is_ready self.new ≡ true) }
-        ensures open { (W.seen world.new).ended ≡ false }
     {
         self.collect();
         self.look(world, op)
@@ -137,7 +136,6 @@ impl WriteState {
         ensures asked { AsksFor (look_in op self.now) (W.seen world.old) (W.seen world.new) (λ answer. (answer, self.now)) (stream_outcome result) }
         ensures err { OnErr (stream_outcome result) (W.seen world.new ≡ W.seen world.old) }
         ensures ready { OnErr (stream_outcome result) (is_ready self.now ≡ true) }
-        ensures open { (W.seen world.new).ended ≡ false }
     {
         match self {
             WriteState::Ready { half, .. } => {
@@ -165,7 +163,6 @@ impl WriteState {
         ensures asked { AsksFor (check_write_asks op self.old) (W.seen world.old) (W.seen world.new) (λ count. (count, self.new)) (stream_outcome result) }
         ensures state { OnErr (stream_outcome result) (self.new ≡ collected self.old) }
         ensures err { OnErr (stream_outcome result) (W.seen world.new ≡ W.seen world.old) }
-        ensures open { (W.seen world.new).ended ≡ false }
     {
         match self.poll_ready(world, op)? {
             Answer::Pending => Ok(0),
@@ -189,7 +186,6 @@ impl WriteState {
         requires { (W.seen world.old).ended ≡ false }
         ensures asked { AsksFor (write_state_asks op self.old bytes) (W.seen world.old) (W.seen world.new) (λ done. (done, self.new)) (stream_outcome result) }
         ensures err { OnErr (stream_outcome result) (Reaches (write_state_asks op self.old bytes) (write_on_asks op self.new) (W.seen world.old) (W.seen world.new)) }
-        ensures open { (W.seen world.new).ended ≡ false }
     {
         match self {
             WriteState::Ready { half, permit } => {
@@ -215,7 +211,6 @@ impl WriteState {
         requires { (W.seen world.old).ended ≡ false }
         ensures asked { AsksFor (write_on_asks op self.old) (W.seen world.old) (W.seen world.new) (λ done. (done, self.new)) (stream_outcome result) }
         ensures err { OnErr (stream_outcome result) (Reaches (write_on_asks op self.old) (write_on_asks op self.new) (W.seen world.old) (W.seen world.new)) }
-        ensures open { (W.seen world.new).ended ≡ false }
     {
         self.turn(world)?;
         self.poll_ready(world, op)?;
@@ -239,7 +234,6 @@ impl WriteState {
         ensures asked { AsksFor (turn_asks self.old) (W.seen world.old) (W.seen world.new) (λ done. (done, self.new)) result }
         ensures err { OnErr result (Reaches (turn_asks self.old) (turn_asks self.new) (W.seen world.old) (W.seen world.new)) }
         ensures write { HoldsWrite self.old }
-        ensures open { (W.seen world.new).ended ≡ false }
     {
         match self {
             WriteState::Writing(job) => job.poll(world),
@@ -255,7 +249,6 @@ impl WriteState {
         ensures asked { AsksFor (writer_shutdown_asks op self.old) (W.seen world.old) (W.seen world.new) (λ done. (done, self.new)) result }
         ensures err { OnErr result (self.new ≡ self.old) }
         ensures unasked { OnErr result (W.seen world.new ≡ W.seen world.old) }
-        ensures open { (W.seen world.new).ended ≡ false }
     {
         match self {
             WriteState::Ready { half, .. } => {
@@ -289,7 +282,6 @@ impl WriteState {
         requires { (W.seen world.old).ended ≡ false }
         ensures asked { AsksFor (writer_give_up_asks op self) (W.seen world.old) (W.seen world.new) (λ done. done) result }
         ensures err { OnErr result (W.seen world.new ≡ W.seen world.old) }
-        ensures open { (W.seen world.new).ended ≡ false }
     {
         match self.side() {
             Some(side) => asks::shutdown(world, op, side, ShutdownType::Send),

@@ -11,7 +11,7 @@ use Rattle.wasi_world.specs.Seen.{Seen}
 use Rattle.wasi_world.specs.Asks.{Give, bind, Reaches, AsksFor, outcome}
 use Rattle.wasi_world.specs.Typed.{ask_peer}
 use Rattle.wasi_world.specs.Operation.{AskPeer, NothingLast, Who, Operation, polls, poll_asks, remote_told}
-use Rattle.wasi_world.proofs.Walks.{asks_end, reaches_all, reaches_then, reaches_in, reaches_on}
+use Rattle.wasi_world.proofs.Walks.{asks_end, reaches_all, reaches_then, reaches_in, reaches_on, asks_err}
 use Rattle.wasi_world.proofs.Polls.{done, ends, ended}
 use Rattle.socket_common.specs.declared.asker.Asker.{Asker}
 use Rattle.socket_common.specs.Rounds.{is_going}
@@ -59,7 +59,7 @@ connect_went_on op socket (Ok Pending) h = asks_end _ h.ended (rw (← h.who) re
 connect_went_on op socket (Ok (Ready (way.Refused c))) h = asks_end _ h.ended (rw (← h.who) refl)
 connect_went_on op socket (Ok (Ready (way.Told (Ok d) remote))) h = asks_end _ h.ended (rw (← h.who) refl)
 connect_went_on op socket (Ok (Ready (way.Told (Err c) remote))) h = asks_end _ h.ended (rw (← h.who) refl)
-connect_went_on op socket {new} (Err e) h = record { ok = tt; err = record { rest = bind (poll_asks new) (λ ended. Give (connect_ended op.who socket ended)); reached = reaches_in _ h.ended } }
+connect_went_on op socket {new} (Err e) h = asks_err (bind (poll_asks new) (λ ended. Give (connect_ended op.who socket ended))) (reaches_in _ h.ended)
 
 pub connect_asked : (op : Operation) (socket : Socket) {new : Operation} {s t : Seen} (r : Result (Answer ConnectEnd) AllocError) → is_going op ≡ true → PollsConnect op new s t r
     → AsksFor (connect_poll_asks op socket) s t (λ answer. (answer, (new, connect_settled socket r))) (outcome (connect_told r))

@@ -9,7 +9,7 @@ use Rattle.wasi_world.specs.declared.outcome.Refusal.TheVariants.{Code, Memory}
 use Rattle.wasi_world.specs.Seen.{Seen}
 use Rattle.wasi_world.specs.Asks.{Give, bind, Reaches, AsksFor, outcome}
 use Rattle.wasi_world.specs.Operation.{Nothing, Who, Operation, poll_asks, PollsFor}
-use Rattle.wasi_world.proofs.Walks.{asks_end, reaches_in}
+use Rattle.wasi_world.proofs.Walks.{asks_end, reaches_in, asks_err}
 use Rattle.socket_common.specs.declared.asker.Asker.{Asker}
 use Rattle.socket_common.specs.Rounds.{is_going, stays_going}
 use Rattle.wasi_udp.specs.declared.create.CreateStage.{CreateStage}
@@ -28,7 +28,7 @@ create_went_on : (old new : Operation) (family : SocketAddressFamily) {s t : See
 create_went_on old new family (Ok (Ready done)) h = asks_end _ h.ended (rw (← h.who) refl)
 create_went_on old new family (Ok Pending) h = asks_end _ h.ended (rw (← h.who) refl)
 create_went_on old new family (Err (Code c)) h = asks_end _ h.ended (rw (← h.who) refl)
-create_went_on old new family (Err (Memory e)) h = record { ok = tt; err = record { rest = bind (poll_asks new) (λ ended. Give (create_ended (record { operation = old; family = family }) ended)); reached = reaches_in _ h.ended } }
+create_went_on old new family (Err (Memory e)) h = asks_err (bind (poll_asks new) (λ ended. Give (create_ended (record { operation = old; family = family }) ended))) (reaches_in _ h.ended)
 
 pub create_asked : (old new : Create) {s t : Seen} (r : Result (Answer (Unit {0})) Refusal) → is_going old.operation ≡ true → new.family ≡ old.family → PollsFor (λ done. Nothing) Nothing old.operation new.operation s t r
     → AsksFor (create_poll_asks old) s t (λ answer. (answer, new)) (outcome (create_told new r))

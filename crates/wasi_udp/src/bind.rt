@@ -59,7 +59,6 @@ impl UdpSocket {
         ensures err { OnErr (outcome result) (self.new ≡ self.old) }
         ensures unasked { OnErr (outcome result) (W.seen world.new ≡ W.seen world.old) }
         ensures side { self.new.side ≡ self.old.side }
-        ensures open { (W.seen world.new).ended ≡ false }
     {
         let bound = self.is_bound(world, op)?;
         self.begin_bind(op, addr, bound)
@@ -101,7 +100,6 @@ impl UdpBindOp {
         ensures stays { is_going self.old ≡ false → self.new ≡ self.old }
         ensures before { IsBind self.old }
         ensures after { IsBind self.new }
-        ensures open { (W.seen world.new).ended ≡ false }
     {
         match self.stage {
             UdpBindStage::Check => poll_check(world, self.asker, self.addr, &mut self.stage),
@@ -121,7 +119,6 @@ fn poll_check<W: World>(
     requires stage { stage.old ≡ UdpBindStage.Check }
     ensures polled { PollsFor (λ done. Nothing) Nothing (bind_operation asker addr stage.old) (bind_operation asker addr stage.new) (W.seen world.old) (W.seen world.new) result }
     ensures going { is_going (bind_operation asker addr stage.new) ≡ stays_going result }
-    ensures open { (W.seen world.new).ended ≡ false }
 {
     let verdict = asks::check(world, asker.op, asker.maker, addr, SocketAddrUse::UdpBind)?;
     match verdict {
@@ -146,7 +143,6 @@ fn poll_bind<W: World>(
     requires stage { stage.old ≡ UdpBindStage.Bind }
     ensures polled { PollsFor (λ done. Nothing) Nothing (bind_operation asker addr stage.old) (bind_operation asker addr stage.new) (W.seen world.old) (W.seen world.new) result }
     ensures going { is_going (bind_operation asker addr stage.new) ≡ stays_going result }
-    ensures open { (W.seen world.new).ended ≡ false }
 {
     let told = asks::udp_bind(world, asker.op, asker.side, addr)?;
     *stage = UdpBindStage::Over;

@@ -4,7 +4,7 @@ ghost use Rattle.std.specs.Prelude.{◌≡◌, true, false, OnErr, IfOk};
 ghost use Rattle.wasi_world.specs.Asks.{AsksFor, Reaches, outcome};
 ghost use Rattle.socket_common.specs.Rounds.{is_going, stays_going};
 ghost use Rattle.wasi_udp.specs.Bind.{IsOf};
-ghost use Rattle.wasi_udp.specs.Connect.{connect_operation, connect_start, connect_asks, connect_poll_asks, connect_first, is_connectable, connect_told, connect_settled, connect_going, PollsConnect, IsConnect};
+ghost use Rattle.wasi_udp.specs.Connect.{connect_operation, connect_start, connect_asks, connect_poll_asks, is_connectable, connect_told, connect_settled, connect_going, PollsConnect, IsConnect, connect_first};
 
 use crate::address::remote_told;
 use crate::socket::UdpSocket;
@@ -81,7 +81,6 @@ impl UdpSocket {
         ensures err { OnErr (outcome result) (self.new ≡ self.old) }
         ensures unasked { OnErr (outcome result) (W.seen world.new ≡ W.seen world.old) }
         ensures side { self.new.side ≡ self.old.side }
-        ensures open { (W.seen world.new).ended ≡ false }
     {
         if !self.is_connectable(addr) {
             return Err(Refusal::Code(ErrorCode::InvalidArgument));
@@ -161,7 +160,6 @@ impl UdpConnectOp {
         ensures side { socket.new.side ≡ socket.old.side }
         ensures before { IsConnect self.old }
         ensures after { IsConnect self.new }
-        ensures open { (W.seen world.new).ended ≡ false }
     {
         if !self.is_going() {
             return Err(Refusal::Code(ErrorCode::InvalidState));

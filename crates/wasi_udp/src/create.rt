@@ -57,7 +57,6 @@ impl UdpSocket {
         ensures side { IfOk result (λ begun. begun.operation.who.side ≡ op) }
         ensures going { IfOk result (λ begun. is_going begun.operation ≡ true) }
         ensures unasked { OnErr (outcome result) (W.seen world.new ≡ W.seen world.old) }
-        ensures open { (W.seen world.new).ended ≡ false }
     {
         if !ctx.udp {
             return Err(Refusal::Code(ErrorCode::AccessDenied));
@@ -110,7 +109,6 @@ impl CreateOp {
         ensures going { is_going self.new.operation ≡ stays_going result }
         ensures before { IsCreate self.old.operation }
         ensures after { IsCreate self.new.operation }
-        ensures open { (W.seen world.new).ended ≡ false }
     {
         if !self.is_going() {
             return Err(Refusal::Code(ErrorCode::InvalidState));
@@ -128,7 +126,6 @@ impl CreateOp {
         ensures going { is_going self.new.operation ≡ stays_going result }
         ensures before { IsCreate self.old.operation }
         ensures after { IsCreate self.new.operation }
-        ensures open { (W.seen world.new).ended ≡ false }
     {
         let asker = self.asker;
         match self.stage {
@@ -161,7 +158,6 @@ impl CreateOp {
         requires { (W.seen world.old).ended ≡ false }
         ensures asked { AsksFor (create_cancel_asks self.now) (W.seen world.old) (W.seen world.new) (λ done. done) result }
         ensures unasked { OnErr result (W.seen world.new ≡ W.seen world.old) }
-        ensures open { (W.seen world.new).ended ≡ false }
     {
         if !self.is_going() {
             return Ok(());
@@ -179,7 +175,6 @@ fn poll_writable<W: World>(
     requires stage { stage.old ≡ CreateStage.Writable }
     ensures polled { PollsFor (λ done. Nothing) Nothing (create_operation asker stage.old) (create_operation asker stage.new) (W.seen world.old) (W.seen world.new) result }
     ensures going { is_going (create_operation asker stage.new) ≡ stays_going result }
-    ensures open { (W.seen world.new).ended ≡ false }
 {
     let told = asks::udp_writable(world, asker.op, asker.side)?;
     match told {
@@ -204,7 +199,6 @@ fn poll_close<W: World>(
     requires stage { stage.old ≡ CreateStage.Close code }
     ensures polled { PollsFor (λ done. Nothing) Nothing (create_operation asker stage.old) (create_operation asker stage.new) (W.seen world.old) (W.seen world.new) result }
     ensures going { is_going (create_operation asker stage.new) ≡ stays_going result }
-    ensures open { (W.seen world.new).ended ≡ false }
 {
     asks::close(world, asker.op, asker.side)?;
     *stage = CreateStage::Over;

@@ -23,7 +23,6 @@ impl UdpSocket {
         ensures asked { AsksFor (get_option_asks op self.now option) (W.seen world.old) (W.seen world.new) (λ answer. answer) (outcome result) }
         ensures within { IfOk result (λ answer. answer ≤ largest_value option) }
         ensures unasked { OnErr (outcome result) (W.seen world.new ≡ W.seen world.old) }
-        ensures open { (W.seen world.new).ended ≡ false }
     {
         get_of_side(world, op, self.side(), option)
     }
@@ -44,7 +43,6 @@ impl UdpSocket {
         ensures asked { AsksFor (set_option_asks op self.old (option_of setting) (number_of setting)) (W.seen world.old) (W.seen world.new) (λ answer. answer) (outcome result) }
         ensures same { self.new ≡ self.old }
         ensures unasked { OnErr (outcome result) (W.seen world.new ≡ W.seen world.old) }
-        ensures open { (W.seen world.new).ended ≡ false }
     {
         if setting.refused_before_state() {
             return Err(Refusal::Code(ErrorCode::InvalidArgument));
@@ -58,7 +56,6 @@ impl UdpSocket {
         requires { (W.seen world.old).ended ≡ false }
         ensures asked { AsksFor (get_option_asks op self.now Opt.HopLimit) (W.seen world.old) (W.seen world.new) (λ answer. answer) (outcome result) }
         ensures unasked { OnErr (outcome result) (W.seen world.new ≡ W.seen world.old) }
-        ensures open { (W.seen world.new).ended ≡ false }
     {
         let value = self.get_option(world, op, Opt::HopLimit)?;
         Ok(value as u8)
@@ -76,7 +73,6 @@ impl UdpSocket {
         ensures asked { AsksFor (set_option_asks op self.old Opt.HopLimit value) (W.seen world.old) (W.seen world.new) (λ answer. answer) (outcome result) }
         ensures same { self.new ≡ self.old }
         ensures unasked { OnErr (outcome result) (W.seen world.new ≡ W.seen world.old) }
-        ensures open { (W.seen world.new).ended ≡ false }
     {
         self.set_option(world, op, Setting::HopLimit(value))
     }
@@ -87,7 +83,6 @@ impl UdpSocket {
         requires { (W.seen world.old).ended ≡ false }
         ensures asked { AsksFor (get_option_asks op self.now Opt.ReceiveBufferSize) (W.seen world.old) (W.seen world.new) (λ answer. answer) (outcome result) }
         ensures unasked { OnErr (outcome result) (W.seen world.new ≡ W.seen world.old) }
-        ensures open { (W.seen world.new).ended ≡ false }
     {
         self.get_option(world, op, Opt::ReceiveBufferSize)
     }
@@ -104,7 +99,6 @@ impl UdpSocket {
         ensures asked { AsksFor (set_option_asks op self.old Opt.ReceiveBufferSize value) (W.seen world.old) (W.seen world.new) (λ answer. answer) (outcome result) }
         ensures same { self.new ≡ self.old }
         ensures unasked { OnErr (outcome result) (W.seen world.new ≡ W.seen world.old) }
-        ensures open { (W.seen world.new).ended ≡ false }
     {
         self.set_option(world, op, Setting::ReceiveBufferSize(value))
     }
@@ -115,7 +109,6 @@ impl UdpSocket {
         requires { (W.seen world.old).ended ≡ false }
         ensures asked { AsksFor (get_option_asks op self.now Opt.SendBufferSize) (W.seen world.old) (W.seen world.new) (λ answer. answer) (outcome result) }
         ensures unasked { OnErr (outcome result) (W.seen world.new ≡ W.seen world.old) }
-        ensures open { (W.seen world.new).ended ≡ false }
     {
         self.get_option(world, op, Opt::SendBufferSize)
     }
@@ -132,7 +125,6 @@ impl UdpSocket {
         ensures asked { AsksFor (set_option_asks op self.old Opt.SendBufferSize value) (W.seen world.old) (W.seen world.new) (λ answer. answer) (outcome result) }
         ensures same { self.new ≡ self.old }
         ensures unasked { OnErr (outcome result) (W.seen world.new ≡ W.seen world.old) }
-        ensures open { (W.seen world.new).ended ≡ false }
     {
         self.set_option(world, op, Setting::SendBufferSize(value))
     }

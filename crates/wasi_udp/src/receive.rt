@@ -5,7 +5,7 @@ ghost use Rattle.wasi_world.specs.Asks.{AsksFor};
 ghost use Rattle.wasi_world.specs.Operation.{Nothing, is_wanted};
 ghost use Rattle.socket_common.specs.Rounds.{PollsRounds, RoundFor, is_going, stays_going};
 ghost use Rattle.wasi_udp.specs.Bind.{IsOf};
-ghost use Rattle.wasi_udp.specs.Receive.{receive_operation, datagram_of, wanting, bytes_in, receive_first, receive_start, receive_asks, IsReceive};
+ghost use Rattle.wasi_udp.specs.Receive.{receive_operation, datagram_of, wanting, bytes_in, receive_start, receive_asks, IsReceive, receive_first};
 
 use crate::address::same_address;
 use crate::socket::UdpSocket;
@@ -61,7 +61,6 @@ impl UdpSocket {
         ensures err { OnErr result (self.new ≡ self.old) }
         ensures unasked { OnErr result (W.seen world.new ≡ W.seen world.old) }
         ensures side { self.new.side ≡ self.old.side }
-        ensures open { (W.seen world.new).ended ≡ false }
     {
         let bound = self.is_bound(world, op)?;
         Ok(self.begin_recv(op, bound))

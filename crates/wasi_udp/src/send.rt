@@ -88,7 +88,6 @@ impl UdpSocket {
         ensures err { OnErr result (self.new ≡ self.old) }
         ensures unasked { OnErr result (W.seen world.new ≡ W.seen world.old) }
         ensures side { self.new.side ≡ self.old.side }
-        ensures open { (W.seen world.new).ended ≡ false }
     {
         let bound = self.is_bound(world, op)?;
         Ok(self.begin_send(op, bytes, addr, bound))
@@ -201,7 +200,6 @@ impl SendOp {
         ensures who { self.new.who ≡ self.old.who }
         ensures before { IsSend self.old }
         ensures after { IsSend self.new }
-        ensures open { (W.seen world.new).ended ≡ false }
     {
         let (asker, family, remote) = (self.asker, self.family, socket.remote());
         let bytes = self.bytes.as_slice();
@@ -237,7 +235,6 @@ fn poll_wildcard<W: World>(
     requires stage { stage.old ≡ SendStage.CheckWildcard to }
     ensures polled { PollsFor (λ done. Nothing) Nothing (at_remote remote (send_operation asker family bytes.now stage.old)) (at_remote remote (send_operation asker family bytes.now stage.new)) (W.seen world.old) (W.seen world.new) result }
     ensures going { is_going (send_operation asker family bytes.now stage.new) ≡ stays_going result }
-    ensures open { (W.seen world.new).ended ≡ false }
 {
     let wildcard = unspecified_addr(family);
     let verdict = asks::check(
@@ -272,7 +269,6 @@ fn poll_check<W: World>(
     requires stage { stage.old ≡ SendStage.Check to }
     ensures polled { PollsFor (λ done. Nothing) Nothing (at_remote remote (send_operation asker family bytes.now stage.old)) (at_remote remote (send_operation asker family bytes.now stage.new)) (W.seen world.old) (W.seen world.new) result }
     ensures going { is_going (send_operation asker family bytes.now stage.new) ≡ stays_going result }
-    ensures open { (W.seen world.new).ended ≡ false }
 {
     let verdict = asks::check(
         world,
@@ -306,7 +302,6 @@ fn poll_send<W: World>(
     requires stage { stage.old ≡ SendStage.Send to }
     ensures polled { PollsFor (λ done. Nothing) Nothing (at_remote remote (send_operation asker family bytes.now stage.old)) (at_remote remote (send_operation asker family bytes.now stage.new)) (W.seen world.old) (W.seen world.new) result }
     ensures going { is_going (send_operation asker family bytes.now stage.new) ≡ stays_going result }
-    ensures open { (W.seen world.new).ended ≡ false }
 {
     if to.is_late(remote) {
         *stage = SendStage::Over;

@@ -31,7 +31,7 @@ impl Model for UdpSocket {
 }
 
 impl UdpSocket {
-    ghost use Rattle.wasi_udp.specs.Socket.{new_socket, asker_of, is_connected, remote_of, bound_asks, after_local, local_where, local_asks, after_peer, disconnect_in, disconnect_asks};
+    ghost use Rattle.wasi_udp.specs.Socket.{new_socket, asker_of, is_connected, remote_of, bound_asks, after_local, local_where, local_asks, after_peer, disconnect_asks, disconnect_in};
 
     /// What a create makes: it isn't known to be bound, and has no remote address.
     pub(crate) fn made(side: Sock, family: SocketAddressFamily, maker: u32) -> UdpSocket
@@ -105,7 +105,6 @@ impl UdpSocket {
         ensures err { OnErr result (self.new ≡ self.old) }
         ensures unasked { OnErr result (W.seen world.new ≡ W.seen world.old) }
         ensures side { self.new.side ≡ self.old.side }
-        ensures open { (W.seen world.new).ended ≡ false }
     {
         if self.bound {
             return Ok(true);
@@ -138,7 +137,6 @@ impl UdpSocket {
         ensures asked { AsksFor (local_asks op self.old) (W.seen world.old) (W.seen world.new) (λ answer. (answer, self.new)) (outcome result) }
         ensures err { OnErr (outcome result) (Reaches (local_asks op self.old) (local_asks op self.new) (W.seen world.old) (W.seen world.new)) }
         ensures side { self.new.side ≡ self.old.side }
-        ensures open { (W.seen world.new).ended ≡ false }
     {
         let bound = self.is_bound(world, op)?;
         self.local_where(world, op, bound)
@@ -155,7 +153,6 @@ impl UdpSocket {
         ensures asked { AsksFor (local_where op self.now bound) (W.seen world.old) (W.seen world.new) (λ answer. (answer, self.now)) (outcome result) }
         ensures err { OnErr (outcome result) (W.seen world.new ≡ W.seen world.old) }
         ensures bound { OnErr (outcome result) (bound ≡ true) }
-        ensures open { (W.seen world.new).ended ≡ false }
     {
         if !bound {
             return Err(Refusal::Code(ErrorCode::InvalidState));
@@ -180,7 +177,6 @@ impl UdpSocket {
         ensures asked { AsksFor (disconnect_asks op self.old) (W.seen world.old) (W.seen world.new) (λ answer. (answer, self.new)) (outcome result) }
         ensures err { OnErr (outcome result) (self.new ≡ record self.old { bound = true }) }
         ensures side { self.new.side ≡ self.old.side }
-        ensures open { (W.seen world.new).ended ≡ false }
     {
         if !self.is_connected() {
             return Err(Refusal::Code(ErrorCode::InvalidState));
@@ -215,7 +211,6 @@ impl UdpSocket {
         requires { (W.seen world.old).ended ≡ false }
         ensures asked { AsksFor (ask_close op self.side) (W.seen world.old) (W.seen world.new) (λ done. done) result }
         ensures unasked { OnErr result (W.seen world.new ≡ W.seen world.old) }
-        ensures open { (W.seen world.new).ended ≡ false }
     {
         asks::close(world, op, self.side)
     }

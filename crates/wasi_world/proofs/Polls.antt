@@ -1,7 +1,7 @@
 -- One ask more of a poll.
 use Rattle.std.specs.Prelude.{◌≡◌, ℕ, suc, List, [], ◌∷◌, Result, Ok, Err, refl, IsErrAnd}
 use Rattle.std.specs.declared.alloc.AllocError.{AllocError}
-use Rattle.std.proofs.Common.{sym, subst}
+use Rattle.std.proofs.Common.{◌∙◌, sym, subst}
 use Rattle.wasi_addr.specs.declared.address.ShutdownType.TheVariants as half
 use Rattle.wasi_addr.specs.declared.code.ErrorCode.{ErrorCode}
 use Rattle.wasi_world.specs.declared.outcome.Answer.{Answer}
@@ -12,7 +12,7 @@ use Rattle.wasi_world.specs.Seen.{Seen}
 use Rattle.wasi_world.specs.Asks.{Give, bind, Reaches, AsksFor, outcome}
 use Rattle.wasi_world.specs.Operation.{Given, Nothing, Item, Last, Who, Operation, Goes, Stays, Again, Ends, NothingLast, CloseLast, ShutdownLast, End, Waits, Done, Refused, front, polls, poll_asks, end_of, PollsFor}
 use Rattle.wasi_world.specs.Typed.{ask_close, ask_shutdown}
-use Rattle.wasi_world.proofs.Walks.{reaches_all, reaches_then, reaches_in, reaches_on}
+use Rattle.wasi_world.proofs.Walks.{reaches_all, reaches_then, reaches_in, reaches_on, same_end}
 
 -- == what the front ask came to, in a poll of any number of rounds
 pub goes : (n : ℕ) (who : Who) (i j : Item) (js : List Item) {g : Given} {s t : Seen} → Reaches (front who i) (Give (Goes g)) s t → Reaches (polls (suc n) who (i ∷ j ∷ js)) (polls (suc n) who (j ∷ js)) s t
@@ -61,28 +61,28 @@ pub polls_none : {T : Type 0} (old : Operation) {s t : Seen} {gives : T → Give
 polls_none old {s} {t} {r = Ok x} h e = absurd h
 polls_none old {s} {t} {gives} {kept} {d} {r = Err x} h e =
     let P : Refusal → Type 0 = λ y. PollsFor gives kept old old s t (Err y) in
-    subst P (sym h) (record { who = refl; ended = rw e (reaches_all (poll_asks old) s) })
+    subst P (sym h) (record { who = refl; ended = rw e (reaches_all (poll_asks old) s); mark = same_end e })
 
 -- out of memory on the way
 pub polls_err : {T : Type 0} {old new : Operation} {s t : Seen} {gives : T → Given} {kept : Given} {d : AllocError} {r : Result (Answer T) Refusal} → IsErrAnd r (λ x. x ≡ refusal.Memory d) → new.who ≡ old.who → Reaches (poll_asks old) (poll_asks new) s t → PollsFor gives kept old new s t r
 polls_err {r = Ok x} h w k = absurd h
 polls_err {old} {new} {s} {t} {gives} {kept} {r = Err x} h w k =
     let P : Refusal → Type 0 = λ y. PollsFor gives kept old new s t (Err y) in
-    subst P (sym h) (record { who = w; ended = k })
+    subst P (sym h) (record { who = w; ended = k; mark = k.passed.ended })
 
 -- the poll came to its end with an answer
 pub polls_end : {T : Type 0} {old new : Operation} {s t : Seen} {gives : T → Given} {kept : Given} {a : Answer T} → new.who ≡ old.who → Reaches (poll_asks old) (Give (end_of gives a, new.left)) s t → PollsFor gives kept old new s t (Ok a)
-polls_end w h = record { who = w; ended = h }
+polls_end w h = record { who = w; ended = h; mark = h.passed.ended }
 
 -- or with a code
 pub polls_refused : {T : Type 0} {old new : Operation} {s t : Seen} {gives : T → Given} {kept : Given} {c : ErrorCode} → new.who ≡ old.who → Reaches (poll_asks old) (Give (Refused c kept, new.left)) s t → PollsFor gives kept old new s t (Err (refusal.Code c))
-polls_refused w h = record { who = w; ended = h }
+polls_refused w h = record { who = w; ended = h; mark = h.passed.ended }
 
 -- the poll continues
 pub polls_on : {T : Type 0} {old mid new : Operation} {s t u : Seen} {gives : T → Given} {kept : Given} {r : Result (Answer T) Refusal} → mid.who ≡ old.who → Reaches (poll_asks old) (poll_asks mid) s t → PollsFor gives kept mid new t u r → PollsFor gives kept old new s u r
-polls_on {r = Ok x} w h k = record { who = rw (← w) k.who; ended = reaches_then h k.ended }
-polls_on {r = Err (refusal.Code c)} w h k = record { who = rw (← w) k.who; ended = reaches_then h k.ended }
-polls_on {r = Err (refusal.Memory e)} w h k = record { who = rw (← w) k.who; ended = reaches_then h k.ended }
+polls_on {r = Ok x} w h k = record { who = rw (← w) k.who; ended = reaches_then h k.ended; mark = k.mark ∙ h.passed.ended }
+polls_on {r = Err (refusal.Code c)} w h k = record { who = rw (← w) k.who; ended = reaches_then h k.ended; mark = k.mark ∙ h.passed.ended }
+polls_on {r = Err (refusal.Memory e)} w h k = record { who = rw (← w) k.who; ended = reaches_then h k.ended; mark = k.mark ∙ h.passed.ended }
 
 -- nothing is left to be asked
 pub polls_over : {T : Type 0} (who : Who) {s : Seen} {gives : T → Given} {kept : Given} {x : T} → gives x ≡ Nothing → PollsFor gives kept (record { who = who; left = [] }) (record { who = who; left = [] }) s s (Ok (answer.Ready x))
@@ -95,6 +95,6 @@ end_told gives kept (Ok a) = end_of gives a
 end_told gives kept (Err c) = Refused c kept
 
 pub polls_asks : {T : Type 0} {gives : T → Given} {kept : Given} {old new : Operation} {s t : Seen} {r : Result (Answer T) Refusal} → PollsFor gives kept old new s t r → AsksFor (poll_asks old) s t (λ e. (end_told gives kept e, new.left)) (outcome r)
-polls_asks {r = Ok a} h = record { ok = h.ended; err = tt }
-polls_asks {r = Err (refusal.Code c)} h = record { ok = h.ended; err = tt }
-polls_asks {new} {r = Err (refusal.Memory e)} h = record { ok = tt; err = record { rest = poll_asks new; reached = h.ended } }
+polls_asks {r = Ok a} h = record { ok = h.ended; err = tt; ended = h.mark }
+polls_asks {r = Err (refusal.Code c)} h = record { ok = h.ended; err = tt; ended = h.mark }
+polls_asks {new} {r = Err (refusal.Memory e)} h = record { ok = tt; err = record { rest = poll_asks new; reached = h.ended }; ended = h.mark }

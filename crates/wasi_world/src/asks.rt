@@ -57,7 +57,6 @@ pub fn check<W: World>(
     requires { (W.seen world.old).ended ≡ false }
     ensures asked { AsksFor (ask_check op ctx addr usage) (W.seen world.old) (W.seen world.new) (λ answer. answer) result }
     ensures err { OnErr result (W.seen world.new ≡ W.seen world.old) }
-    ensures open { (W.seen world.new).ended ≡ false }
 {
     let told = world.call(op, Call::Check { ctx, addr, usage })?;
     Ok(told_verdict(told))
@@ -73,7 +72,6 @@ pub fn lookup<W: World>(
     requires { (W.seen world.old).ended ≡ false }
     ensures asked { AsksFor (ask_lookup op host) (W.seen world.old) (W.seen world.new) (λ answer. answer) result }
     ensures err { OnErr result (W.seen world.new ≡ W.seen world.old) }
-    ensures open { (W.seen world.new).ended ≡ false }
 {
     let told = world.call(op, Call::Lookup { host })?;
     Ok(told_names(told))
@@ -90,7 +88,6 @@ pub fn tcp_create<W: World>(
     requires { (W.seen world.old).ended ≡ false }
     ensures asked { AsksFor (ask_tcp_create op ctx family) (W.seen world.old) (W.seen world.new) (λ answer. answer) result }
     ensures err { OnErr result (W.seen world.new ≡ W.seen world.old) }
-    ensures open { (W.seen world.new).ended ≡ false }
 {
     let told = world.call(op, Call::TcpCreate { ctx, family })?;
     Ok(told_done(told))
@@ -105,7 +102,6 @@ pub fn local<W: World>(
     requires { (W.seen world.old).ended ≡ false }
     ensures asked { AsksFor (ask_local op sock) (W.seen world.old) (W.seen world.new) (λ answer. answer) result }
     ensures err { OnErr result (W.seen world.new ≡ W.seen world.old) }
-    ensures open { (W.seen world.new).ended ≡ false }
 {
     let told = world.call(op, Call::Local { sock })?;
     Ok(told_addr(told))
@@ -121,7 +117,6 @@ pub fn peer<W: World>(
     requires { (W.seen world.old).ended ≡ false }
     ensures asked { AsksFor (ask_peer op sock) (W.seen world.old) (W.seen world.new) (λ answer. answer) result }
     ensures err { OnErr result (W.seen world.new ≡ W.seen world.old) }
-    ensures open { (W.seen world.new).ended ≡ false }
 {
     let told = world.call(op, Call::Peer { sock })?;
     Ok(told_addr(told))
@@ -137,7 +132,6 @@ pub fn bind<W: World>(
     requires { (W.seen world.old).ended ≡ false }
     ensures asked { AsksFor (ask_bind op sock addr) (W.seen world.old) (W.seen world.new) (λ answer. answer) result }
     ensures err { OnErr result (W.seen world.new ≡ W.seen world.old) }
-    ensures open { (W.seen world.new).ended ≡ false }
 {
     let told = world.call(op, Call::Bind { sock, addr })?;
     Ok(told_done(told))
@@ -154,7 +148,6 @@ pub fn listen<W: World>(
     requires { (W.seen world.old).ended ≡ false }
     ensures asked { AsksFor (ask_listen op sock backlog) (W.seen world.old) (W.seen world.new) (λ answer. answer) result }
     ensures err { OnErr result (W.seen world.new ≡ W.seen world.old) }
-    ensures open { (W.seen world.new).ended ≡ false }
 {
     let told = world.call(op, Call::Listen { sock, backlog })?;
     Ok(told_done(told))
@@ -171,7 +164,6 @@ pub fn set_backlog<W: World>(
     requires { (W.seen world.old).ended ≡ false }
     ensures asked { AsksFor (ask_set_backlog op sock backlog) (W.seen world.old) (W.seen world.new) (λ answer. answer) result }
     ensures err { OnErr result (W.seen world.new ≡ W.seen world.old) }
-    ensures open { (W.seen world.new).ended ≡ false }
 {
     let told = world.call(op, Call::SetBacklog { sock, backlog })?;
     Ok(told_done(told))
@@ -188,7 +180,6 @@ pub fn connect<W: World>(
     requires { (W.seen world.old).ended ≡ false }
     ensures asked { AsksFor (ask_connect op sock addr) (W.seen world.old) (W.seen world.new) (λ answer. answer) result }
     ensures err { OnErr result (W.seen world.new ≡ W.seen world.old) }
-    ensures open { (W.seen world.new).ended ≡ false }
 {
     let told = world.call(op, Call::Connect { sock, addr })?;
     Ok(told_polled(told))
@@ -205,7 +196,6 @@ pub fn accept<W: World>(
     requires { (W.seen world.old).ended ≡ false }
     ensures asked { AsksFor (ask_accept op sock) (W.seen world.old) (W.seen world.new) (λ answer. answer) result }
     ensures err { OnErr result (W.seen world.new ≡ W.seen world.old) }
-    ensures open { (W.seen world.new).ended ≡ false }
 {
     let told = world.call(op, Call::Accept { sock })?;
     Ok(told_arrival(told))
@@ -222,7 +212,6 @@ pub fn hand<W: World>(
     requires { (W.seen world.old).ended ≡ false }
     ensures asked { AsksFor (ask_hand op sock peer) (W.seen world.old) (W.seen world.new) (λ answer. answer) result }
     ensures err { OnErr result (W.seen world.new ≡ W.seen world.old) }
-    ensures open { (W.seen world.new).ended ≡ false }
 {
     world.call(op, Call::Hand { sock, peer })?;
     Ok(())
@@ -239,7 +228,6 @@ pub fn refuse<W: World>(
     requires { (W.seen world.old).ended ≡ false }
     ensures asked { AsksFor (ask_refuse op sock peer) (W.seen world.old) (W.seen world.new) (λ answer. answer) result }
     ensures err { OnErr result (W.seen world.new ≡ W.seen world.old) }
-    ensures open { (W.seen world.new).ended ≡ false }
 {
     world.call(op, Call::Refuse { sock, peer })?;
     Ok(())
@@ -257,7 +245,6 @@ pub fn read<W: World>(
     ensures asked { AsksFor (ask_read op sock size) (W.seen world.old) (W.seen world.new) (λ answer. answer) result }
     ensures within { IfOk result (λ answer. IsReadOf size answer) }
     ensures err { OnErr result (W.seen world.new ≡ W.seen world.old) }
-    ensures open { (W.seen world.new).ended ≡ false }
 {
     let told = world.call(op, Call::Read { sock, size })?;
     Ok(told_bytes(told))
@@ -269,7 +256,6 @@ pub fn read_ready<W: World>(world: &mut W, op: OpId, sock: Sock) -> Result<Answe
     requires { (W.seen world.old).ended ≡ false }
     ensures asked { AsksFor (ask_read_ready op sock) (W.seen world.old) (W.seen world.new) (λ answer. answer) result }
     ensures err { OnErr result (W.seen world.new ≡ W.seen world.old) }
-    ensures open { (W.seen world.new).ended ≡ false }
 {
     let told = world.call(op, Call::ReadReady { sock })?;
     Ok(told_ready(told))
@@ -281,7 +267,6 @@ pub fn write_ready<W: World>(world: &mut W, op: OpId, sock: Sock) -> Result<Answ
     requires { (W.seen world.old).ended ≡ false }
     ensures asked { AsksFor (ask_write_ready op sock) (W.seen world.old) (W.seen world.new) (λ answer. answer) result }
     ensures err { OnErr result (W.seen world.new ≡ W.seen world.old) }
-    ensures open { (W.seen world.new).ended ≡ false }
 {
     let told = world.call(op, Call::WriteReady { sock })?;
     Ok(told_ready(told))
@@ -298,7 +283,6 @@ pub fn shutdown<W: World>(
     requires { (W.seen world.old).ended ≡ false }
     ensures asked { AsksFor (ask_shutdown op sock how) (W.seen world.old) (W.seen world.new) (λ answer. answer) result }
     ensures err { OnErr result (W.seen world.new ≡ W.seen world.old) }
-    ensures open { (W.seen world.new).ended ≡ false }
 {
     world.call(op, Call::Shutdown { sock, how })?;
     Ok(())
@@ -315,7 +299,6 @@ pub fn get_option<W: World>(
     requires { (W.seen world.old).ended ≡ false }
     ensures asked { AsksFor (ask_get_option op sock option) (W.seen world.old) (W.seen world.new) (λ answer. answer) result }
     ensures err { OnErr result (W.seen world.new ≡ W.seen world.old) }
-    ensures open { (W.seen world.new).ended ≡ false }
 {
     let told = world.call(op, Call::GetOption { sock, option })?;
     Ok(told_value(told))
@@ -333,7 +316,6 @@ pub fn set_option<W: World>(
     requires { (W.seen world.old).ended ≡ false }
     ensures asked { AsksFor (ask_set_option op sock option value) (W.seen world.old) (W.seen world.new) (λ answer. answer) result }
     ensures err { OnErr result (W.seen world.new ≡ W.seen world.old) }
-    ensures open { (W.seen world.new).ended ≡ false }
 {
     let told = world.call(
         op,
@@ -351,7 +333,6 @@ pub fn close<W: World>(world: &mut W, op: OpId, sock: Sock) -> Result<(), AllocE
     requires { (W.seen world.old).ended ≡ false }
     ensures asked { AsksFor (ask_close op sock) (W.seen world.old) (W.seen world.new) (λ answer. answer) result }
     ensures err { OnErr result (W.seen world.new ≡ W.seen world.old) }
-    ensures open { (W.seen world.new).ended ≡ false }
 {
     world.call(op, Call::Close { sock })?;
     Ok(())
@@ -370,7 +351,6 @@ pub fn made<W: World>(
     requires { (W.seen world.old).ended ≡ false }
     ensures asked { AsksFor (ask_made op handle kind parent sock) (W.seen world.old) (W.seen world.new) (λ answer. answer) result }
     ensures err { OnErr result (W.seen world.new ≡ W.seen world.old) }
-    ensures open { (W.seen world.new).ended ≡ false }
 {
     world.call(
         op,
@@ -398,7 +378,6 @@ pub fn write<W: World>(
     ensures asked { AsksFor (ask_write op sock bytes.now) (W.seen world.old) (W.seen world.new) (λ answer. answer) result }
     ensures within { IfOk result (λ answer. IsTakenOf (length bytes.now) answer) }
     ensures err { OnErr result (W.seen world.new ≡ W.seen world.old) }
-    ensures open { (W.seen world.new).ended ≡ false }
 {
     let told = world.write(op, sock, bytes)?;
     Ok(told_taken(told))

@@ -26,8 +26,7 @@ pub trait World {
         requires plain { IsPlain call }
         ensures asked { AsksFor (one op call) (seen self.old) (seen self.new) (λ told. told) result }
         ensures fits { IfOk result (λ told. Fits call told) }
-        ensures err { OnErr result (seen self.new ≡ seen self.old) }
-        ensures open { (seen self.new).ended ≡ false };
+        ensures err { OnErr result (seen self.new ≡ seen self.old) };
 
     /// Offers bytes to a connection: pending, the bytes taken, from the front, or a code. Out of
     /// memory the call wasn't made.
@@ -37,8 +36,7 @@ pub trait World {
         requires short { length bytes.now < 2 ^ 32 }
         ensures asked { AsksFor (one_write op sock bytes.now) (seen self.old) (seen self.new) (λ told. told) result }
         ensures fits { IfOk result (λ told. IsWritten (length bytes.now) told) }
-        ensures err { OnErr result (seen self.new ≡ seen self.old) }
-        ensures open { (seen self.new).ended ≡ false };
+        ensures err { OnErr result (seen self.new ≡ seen self.old) };
 
     /// Sends one datagram: pending, done, or a code. Out of memory the call wasn't made.
     fn send(
@@ -50,8 +48,7 @@ pub trait World {
     ) -> Result<Told, AllocError>
         requires open { (seen self.old).ended ≡ false }
         ensures asked { AsksFor (one op (Call.Send sock addr bytes.now)) (seen self.old) (seen self.new) (λ told. told) result }
-        ensures err { OnErr result (seen self.new ≡ seen self.old) }
-        ensures open { (seen self.new).ended ≡ false };
+        ensures err { OnErr result (seen self.new ≡ seen self.old) };
 
     /// Sets the end mark; can't be refused.
     fn end(&mut self)

@@ -23,7 +23,6 @@ impl TcpSocket {
         ensures asked { AsksFor (local_asks op self.old) (W.seen world.old) (W.seen world.new) (λ answer. (answer, self.new)) (outcome result) }
         ensures err { OnErr (outcome result) (Reaches (local_asks op self.old) (local_asks op self.new) (W.seen world.old) (W.seen world.new)) }
         ensures side { side_of self.new ≡ side_of self.old }
-        ensures open { (W.seen world.new).ended ≡ false }
     {
         let bound = self.is_bound(world, op)?;
         self.local_where(world, op, bound)
@@ -40,7 +39,6 @@ impl TcpSocket {
         ensures asked { AsksFor (local_where op self.now bound) (W.seen world.old) (W.seen world.new) (λ answer. (answer, self.now)) (outcome result) }
         ensures err { OnErr (outcome result) (W.seen world.new ≡ W.seen world.old) }
         ensures bound { OnErr (outcome result) (bound ≡ true) }
-        ensures open { (W.seen world.new).ended ≡ false }
     {
         match self.local_side(bound) {
             Ok(side) => told_address(world, op, side),
@@ -83,7 +81,6 @@ impl TcpSocket {
         ensures err { OnErr (outcome result) (self.new ≡ self.old) }
         ensures unasked { OnErr (outcome result) (W.seen world.new ≡ W.seen world.old) }
         ensures side { side_of self.new ≡ side_of self.old }
-        ensures open { (W.seen world.new).ended ≡ false }
     {
         self.state.remote_address(world, op)
     }
@@ -94,7 +91,6 @@ fn told_address<W: World>(world: &mut W, op: OpId, side: Sock) -> Result<IpSocke
     requires { (W.seen world.old).ended ≡ false }
     ensures asked { AsksFor (ask_local op side) (W.seen world.old) (W.seen world.new) (λ told. told) (outcome result) }
     ensures err { OnErr (outcome result) (W.seen world.new ≡ W.seen world.old) }
-    ensures open { (W.seen world.new).ended ≡ false }
 {
     let told = asks::local(world, op, side)?;
     match told {

@@ -31,7 +31,6 @@ impl TcpSocket {
         ensures err { OnErr (outcome result) (self.new ≡ self.old) }
         ensures unasked { OnErr (outcome result) (W.seen world.new ≡ W.seen world.old) }
         ensures side { side_of self.new ≡ side_of self.old }
-        ensures open { (W.seen world.new).ended ≡ false }
     {
         if value == 0 {
             return Err(Refusal::Code(ErrorCode::InvalidArgument));

@@ -37,7 +37,6 @@ impl TcpSocket {
         ensures err { OnErr (outcome result) (self.new ≡ self.old) }
         ensures unasked { OnErr (outcome result) (W.seen world.new ≡ W.seen world.old) }
         ensures side { side_of self.new ≡ side_of self.old }
-        ensures open { (W.seen world.new).ended ≡ false }
     {
         let bound = self.is_bound(world, op)?;
         self.begin_bind(op, addr, bound)
@@ -79,7 +78,6 @@ impl TcpSocket {
         ensures err { OnErr (outcome result) (self.new ≡ self.old) }
         ensures unasked { OnErr (outcome result) (W.seen world.new ≡ W.seen world.old) }
         ensures side { side_of self.new ≡ side_of self.old }
-        ensures open { (W.seen world.new).ended ≡ false }
     {
         let TcpState::Default(side) = self.state else {
             return Err(Refusal::Code(ErrorCode::InvalidState));
@@ -127,7 +125,6 @@ impl TcpSocket {
         ensures side { OnErr (outcome result) (side_of self.new ≡ side_of self.old) }
         ensures before { HoldsConnect self.old.state }
         ensures after { HoldsConnect self.new.state }
-        ensures open { (W.seen world.new).ended ≡ false }
     {
         self.state.poll_finish_connect(world)
     }
@@ -143,7 +140,6 @@ impl TcpSocket {
         ensures refused { OnErr result (side_of self.new ≡ side_of self.old) }
         ensures err { OnErr (outcome result) (self.new ≡ self.old) }
         ensures unasked { OnErr (outcome result) (W.seen world.new ≡ W.seen world.old) }
-        ensures open { (W.seen world.new).ended ≡ false }
     {
         let bound = self.is_bound(world, op)?;
         self.begin_listen(op, bound)

@@ -24,7 +24,6 @@ pub fn udp_create<W: World>(
     requires { (W.seen world.old).ended ≡ false }
     ensures asked { AsksFor (ask_udp_create op ctx family) (W.seen world.old) (W.seen world.new) (λ answer. answer) result }
     ensures err { OnErr result (W.seen world.new ≡ W.seen world.old) }
-    ensures open { (W.seen world.new).ended ≡ false }
 {
     let told = world.call(op, Call::UdpCreate { ctx, family })?;
     Ok(told_done(told))
@@ -35,7 +34,6 @@ pub fn udp_writable<W: World>(world: &mut W, op: OpId, sock: Sock) -> Result<Pol
     requires { (W.seen world.old).ended ≡ false }
     ensures asked { AsksFor (ask_udp_writable op sock) (W.seen world.old) (W.seen world.new) (λ answer. answer) result }
     ensures err { OnErr result (W.seen world.new ≡ W.seen world.old) }
-    ensures open { (W.seen world.new).ended ≡ false }
 {
     let told = world.call(op, Call::UdpWritable { sock })?;
     Ok(told_polled(told))
@@ -51,7 +49,6 @@ pub fn udp_bind<W: World>(
     requires { (W.seen world.old).ended ≡ false }
     ensures asked { AsksFor (ask_udp_bind op sock addr) (W.seen world.old) (W.seen world.new) (λ answer. answer) result }
     ensures err { OnErr result (W.seen world.new ≡ W.seen world.old) }
-    ensures open { (W.seen world.new).ended ≡ false }
 {
     let told = world.call(op, Call::UdpBind { sock, addr })?;
     Ok(told_done(told))
@@ -68,7 +65,6 @@ pub fn udp_connect<W: World>(
     requires { (W.seen world.old).ended ≡ false }
     ensures asked { AsksFor (ask_udp_connect op sock addr) (W.seen world.old) (W.seen world.new) (λ answer. answer) result }
     ensures err { OnErr result (W.seen world.new ≡ W.seen world.old) }
-    ensures open { (W.seen world.new).ended ≡ false }
 {
     let told = world.call(op, Call::UdpConnect { sock, addr })?;
     Ok(told_done(told))
@@ -84,7 +80,6 @@ pub fn udp_disconnect<W: World>(
     requires { (W.seen world.old).ended ≡ false }
     ensures asked { AsksFor (ask_udp_disconnect op sock) (W.seen world.old) (W.seen world.new) (λ answer. answer) result }
     ensures err { OnErr result (W.seen world.new ≡ W.seen world.old) }
-    ensures open { (W.seen world.new).ended ≡ false }
 {
     let told = world.call(op, Call::UdpDisconnect { sock })?;
     Ok(told_done(told))
@@ -100,7 +95,6 @@ pub fn recv<W: World>(
     requires { (W.seen world.old).ended ≡ false }
     ensures asked { AsksFor (ask_recv op sock) (W.seen world.old) (W.seen world.new) (λ answer. answer) result }
     ensures err { OnErr result (W.seen world.new ≡ W.seen world.old) }
-    ensures open { (W.seen world.new).ended ≡ false }
 {
     let told = world.call(op, Call::Recv { sock })?;
     Ok(told_datagram(told))
@@ -118,7 +112,6 @@ pub fn send<W: World>(
     requires { (W.seen world.old).ended ≡ false }
     ensures asked { AsksFor (ask_send op sock addr bytes.now) (W.seen world.old) (W.seen world.new) (λ answer. answer) result }
     ensures err { OnErr result (W.seen world.new ≡ W.seen world.old) }
-    ensures open { (W.seen world.new).ended ≡ false }
 {
     let told = world.send(op, sock, addr, bytes)?;
     Ok(told_polled(told))

@@ -8,10 +8,10 @@ pub returns-in_err-flush-clause-asked : goal.returns-in_err-flush-clause-asked
 returns-in_err-flush-clause-asked g c = call_passed _ _ c.from_residual.result c.from_residual.ensures.1 c.in_err-flush.ensures.asked (λ stop. refl)
 
 pub returns-in_err-permit-clause-asked : goal.returns-in_err-permit-clause-asked
-returns-in_err-permit-clause-asked g c = asks_then _ c.in_ok-flush.ensures.asked.ok (call_passed _ _ c.from_residual-in_err-permit.result c.from_residual-in_err-permit.ensures.1 (rw c.in_ok-flush.ensures.ids at c.in_err-permit.ensures.asked) (λ stop. refl))
+returns-in_err-permit-clause-asked g c = asks_then _ c.in_ok-flush.ensures.asked.ok (call_passed _ _ c.from_residual-in_err-permit.result c.from_residual-in_err-permit.ensures.1 (rw c.in_ok-flush.ensures.kept.ids at c.in_err-permit.ensures.asked) (λ stop. refl))
 
 pub returns-then-permit-eq0-clause-asked : goal.returns-then-permit-eq0-clause-asked
-returns-then-permit-eq0-clause-asked g c = rw (c.block_as.ensures.answer, c.block_as.ensures.state, c.in_ok-permit.ensures.ids, c.in_ok-flush.ensures.ids) (asks_then _ c.in_ok-flush.ensures.asked.ok (asks_end _ (rw c.in_ok-flush.ensures.ids at c.in_ok-permit.ensures.asked).ok (rw c.if-permit-eq0.true refl)))
+returns-then-permit-eq0-clause-asked g c = rw (c.block_as.ensures.answer, c.block_as.ensures.state, c.in_ok-permit.ensures.kept.ids, c.in_ok-flush.ensures.kept.ids) (asks_then _ c.in_ok-flush.ensures.asked.ok (asks_end _ (rw c.in_ok-flush.ensures.kept.ids at c.in_ok-permit.ensures.asked).ok (rw c.if-permit-eq0.true refl)))
 
 pub returns-clause-asked : goal.returns-clause-asked
-returns-clause-asked g c = asks_then _ c.in_ok-flush.ensures.asked.ok (asks_end _ (rw c.in_ok-flush.ensures.ids at c.in_ok-permit.ensures.asked).ok (rw (flush_gives c.args.ids.now c.args.output c.in_ok-permit.permit (state_of c.check_write.new.view) c.if-permit-eq0.false) refl))
+returns-clause-asked g c = asks_then _ c.in_ok-flush.ensures.asked.ok (asks_end _ (rw c.in_ok-flush.ensures.kept.ids at c.in_ok-permit.ensures.asked).ok (rw (flush_gives c.args.ids.now c.args.output c.in_ok-permit.permit (state_of c.check_write.new.view) c.if-permit-eq0.false) refl))

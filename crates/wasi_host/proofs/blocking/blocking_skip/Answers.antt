@@ -8,16 +8,16 @@ pub returns-in_err-input_ready-clause-asked : goal.returns-in_err-input_ready-cl
 returns-in_err-input_ready-clause-asked g c = call_passed _ _ c.from_residual.result c.from_residual.ensures.1 c.in_err-input_ready.ensures.asked (λ stop. refl)
 
 pub returns-then-not-branch-clause-asked : goal.returns-then-not-branch-clause-asked
-returns-then-not-branch-clause-asked g c = rw (c.block_as.ensures.answer, c.block_as.ensures.state, c.in_ok-input_ready.ensures.ids) (asks_end _ c.in_ok-input_ready.ensures.asked.ok (rw c.if-not-branch.true refl))
+returns-then-not-branch-clause-asked g c = rw (c.block_as.ensures.answer, c.block_as.ensures.state, c.in_ok-input_ready.ensures.kept.ids) (asks_end _ c.in_ok-input_ready.ensures.asked.ok (rw c.if-not-branch.true refl))
 
 pub returns-in_err-count-clause-asked : goal.returns-in_err-count-clause-asked
-returns-in_err-count-clause-asked g c = asks_then _ c.in_ok-input_ready.ensures.asked.ok (rw c.if-not-branch.false (call_passed _ _ c.from_residual-in_err-count.result c.from_residual-in_err-count.ensures.1 (rw c.in_ok-input_ready.ensures.ids at c.in_err-count.ensures.asked) (λ stop. refl)))
+returns-in_err-count-clause-asked g c = asks_then _ c.in_ok-input_ready.ensures.asked.ok (rw c.if-not-branch.false (call_passed _ _ c.from_residual-in_err-count.result c.from_residual-in_err-count.ensures.1 (rw c.in_ok-input_ready.ensures.kept.ids at c.in_err-count.ensures.asked) (λ stop. refl)))
 
 pub returns-then-len-eq0-clause-asked : goal.returns-then-len-eq0-clause-asked
-returns-then-len-eq0-clause-asked g c = asks_then _ c.in_ok-input_ready.ensures.asked.ok (rw c.if-not-branch.false (asks_end _ (rw c.in_ok-input_ready.ensures.ids at c.in_ok-count.ensures.asked).ok (rw (skip_none c.args.ids.now c.args.input c.args.len c.in_ok-count.count (state_of c.skip.new.view) c.if-len-eq0.true) refl)))
+returns-then-len-eq0-clause-asked g c = asks_then _ c.in_ok-input_ready.ensures.asked.ok (rw c.if-not-branch.false (asks_end _ (rw c.in_ok-input_ready.ensures.kept.ids at c.in_ok-count.ensures.asked).ok (rw (skip_none c.args.ids.now c.args.input c.args.len c.in_ok-count.count (state_of c.skip.new.view) c.if-len-eq0.true) refl)))
 
 pub returns-then-count-eq0-clause-asked : goal.returns-then-count-eq0-clause-asked
-returns-then-count-eq0-clause-asked g c = rw (c.block_as-then-count-eq0.ensures.answer, c.block_as-then-count-eq0.ensures.state, c.in_ok-count.ensures.ids, c.in_ok-input_ready.ensures.ids) (asks_then _ c.in_ok-input_ready.ensures.asked.ok (rw c.if-not-branch.false (asks_end _ (rw c.in_ok-input_ready.ensures.ids at c.in_ok-count.ensures.asked).ok (rw (skip_waits c.args.ids.now c.args.input c.args.len c.in_ok-count.count (state_of c.skip.new.view) c.if-len-eq0.false c.if-count-eq0.true) refl))))
+returns-then-count-eq0-clause-asked g c = rw (c.block_as-then-count-eq0.ensures.answer, c.block_as-then-count-eq0.ensures.state, c.in_ok-count.ensures.kept.ids, c.in_ok-input_ready.ensures.kept.ids) (asks_then _ c.in_ok-input_ready.ensures.asked.ok (rw c.if-not-branch.false (asks_end _ (rw c.in_ok-input_ready.ensures.kept.ids at c.in_ok-count.ensures.asked).ok (rw (skip_waits c.args.ids.now c.args.input c.args.len c.in_ok-count.count (state_of c.skip.new.view) c.if-len-eq0.false c.if-count-eq0.true) refl))))
 
 pub returns-clause-asked : goal.returns-clause-asked
-returns-clause-asked g c = asks_then _ c.in_ok-input_ready.ensures.asked.ok (rw c.if-not-branch.false (asks_end _ (rw c.in_ok-input_ready.ensures.ids at c.in_ok-count.ensures.asked).ok (rw (skip_gives c.args.ids.now c.args.input c.args.len c.in_ok-count.count (state_of c.skip.new.view) c.if-count-eq0.false) refl)))
+returns-clause-asked g c = asks_then _ c.in_ok-input_ready.ensures.asked.ok (rw c.if-not-branch.false (asks_end _ (rw c.in_ok-input_ready.ensures.kept.ids at c.in_ok-count.ensures.asked).ok (rw (skip_gives c.args.ids.now c.args.input c.args.len c.in_ok-count.count (state_of c.skip.new.view) c.if-count-eq0.false) refl)))

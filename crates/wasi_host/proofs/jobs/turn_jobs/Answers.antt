@@ -52,7 +52,7 @@ loop-listed-preserved g c =
       reached = reaches_then c.loop-listed.invariant.reached (turn_next kept _ (from_on next c.loop-listed.jobs) _ _ job c.loop-listed.records.items c.turn_job.new.records.items c.in-Some.ensures.some.0 behind ahead c.in_ok-goes_on.ensures.asked.ok);
       held = c.turn_job.ensures.held ∙ c.loop-listed.invariant.held;
       none = none_then c.loop-listed.invariant.none c.turn_job.ensures.none;
-      still = c.turn_job.ensures.open;
+      still = c.turn_job.ensures.asked.ended ∙ c.loop-listed.invariant.still;
     }
 
 pub returns-clause-asked : goal.returns-clause-asked

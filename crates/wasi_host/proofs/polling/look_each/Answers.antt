@@ -27,7 +27,7 @@ loop-pollable-preserved g c =
         line = rw w.ids-is (w.in_ok-ready.ensures.taken.line ∙ i.line);
         sides = rw (w.world-is, w.view-is) (λ k. w.in_ok-ready.ensures.sides (i.sides k));
         view = rw w.view-is (view_then i.view w.in_ok-ready.ensures.view);
-        still = rw w.world-is w.in_ok-ready.ensures.open;
+        still = rw w.world-is (w.in_ok-ready.ensures.asked.ended ∙ i.still);
       }
       | else-is_none w ↦ record {
         reached = rw (w.view-is, w.world-is, w.ids-is, w.found-is)

@@ -1,6 +1,6 @@
 use Rattle.std.proofs.Common.{refl, ap}
 use Rattle.wasi_world.specs.Asks.{Give}
-use Rattle.wasi_world.proofs.Walks.{asks_end, reaches_all}
+use Rattle.wasi_world.proofs.Walks.{asks_end, reaches_all, asks_err}
 use Rattle.wasi_host.specs.Polling.{poll_by, polled_each}
 use Rattle.wasi_host.specs.Views.{state_of}
 use Rattle.wasi_records.proofs.Hosts.{fault_on, fault_passed}
@@ -9,7 +9,7 @@ use Rattle.wasi_host.proofs.PollLists.{none_ready, some_ready}
 use Rattle.wasi_host.proofs.polling.poll_by.Goals as goal
 
 pub returns-then-len-clause-asked : goal.returns-then-len-clause-asked
-returns-then-len-clause-asked g c = record { ok = tt; err = record { rest = poll_by c.args.look (state_of c.args.view.now) c.args.ids.now c.args.pollables; reached = reaches_all _ _ } }
+returns-then-len-clause-asked g c = asks_err (poll_by c.args.look (state_of c.args.view.now) c.args.ids.now c.args.pollables) (reaches_all _ _)
 
 pub returns-in_err-found-clause-asked : goal.returns-in_err-found-clause-asked
 returns-in_err-found-clause-asked g c =

@@ -18,7 +18,7 @@ pub returns-in-TcpCreate-clause-asked : goal.returns-in-TcpCreate-clause-asked
 returns-in-TcpCreate-clause-asked g c = rw c.in-TcpCreate.is (asks_answered (reply_of number_fields) _ _ c.create_tcp_socket-made.ensures.asked c.reply_of-in-TcpCreate.ensures)
 
 pub returns-in-TcpStartBind-clause-asked : goal.returns-in-TcpStartBind-clause-asked
-returns-in-TcpStartBind-clause-asked g c = rw c.in-TcpStartBind.is (asks_answered (answer_reply c.args.ids.now.line) _ _ (rw c.requires.first at c.start_bind-answer.ensures.asked) (rw c.start_bind-answer.ensures.ids at c.answer_reply.ensures))
+returns-in-TcpStartBind-clause-asked g c = rw c.in-TcpStartBind.is (asks_answered (answer_reply c.args.ids.now.line) _ _ (rw c.requires.first at c.start_bind-answer.ensures.asked) (rw c.start_bind-answer.ensures.kept.ids at c.answer_reply.ensures))
 
 pub returns-in-TcpFinishBind-clause-asked : goal.returns-in-TcpFinishBind-clause-asked
 returns-in-TcpFinishBind-clause-asked g c = rw (c.in-TcpFinishBind.is, c.finish_bind-done.ensures.state) (given_answered (reply_of no_values) _ _ _ c.finish_bind-done.ensures.answer c.reply_of-in-TcpFinishBind.ensures)
@@ -30,7 +30,7 @@ pub returns-in-TcpFinishConnect-clause-asked : goal.returns-in-TcpFinishConnect-
 returns-in-TcpFinishConnect-clause-asked g c = rw c.in-TcpFinishConnect.is (asks_answered (reply_of pair_values) _ _ c.finish_connect-made.ensures.asked c.reply_of-in-TcpFinishConnect.ensures)
 
 pub returns-in-TcpStartListen-clause-asked : goal.returns-in-TcpStartListen-clause-asked
-returns-in-TcpStartListen-clause-asked g c = rw c.in-TcpStartListen.is (asks_answered (answer_reply c.args.ids.now.line) _ _ (rw c.requires.first at c.start_listen-answer.ensures.asked) (rw c.start_listen-answer.ensures.ids at c.answer_reply-in-TcpStartListen.ensures))
+returns-in-TcpStartListen-clause-asked g c = rw c.in-TcpStartListen.is (asks_answered (answer_reply c.args.ids.now.line) _ _ (rw c.requires.first at c.start_listen-answer.ensures.asked) (rw c.start_listen-answer.ensures.kept.ids at c.answer_reply-in-TcpStartListen.ensures))
 
 pub returns-in-TcpFinishListen-clause-asked : goal.returns-in-TcpFinishListen-clause-asked
 returns-in-TcpFinishListen-clause-asked g c = rw (c.in-TcpFinishListen.is, c.finish_listen-done.ensures.state) (given_answered (reply_of no_values) _ _ _ c.finish_listen-done.ensures.answer c.reply_of-in-TcpFinishListen.ensures)
@@ -60,10 +60,10 @@ pub returns-in-TcpShutdown-clause-asked : goal.returns-in-TcpShutdown-clause-ask
 returns-in-TcpShutdown-clause-asked g c = rw c.in-TcpShutdown.is (asks_answered (reply_of no_values) _ _ c.shutdown-done.ensures.asked c.reply_of-in-TcpShutdown.ensures)
 
 pub returns-in-UdpCreate-clause-asked : goal.returns-in-UdpCreate-clause-asked
-returns-in-UdpCreate-clause-asked g c = rw c.in-UdpCreate.is (asks_answered (answer_reply_of number_fields c.args.ids.now.line) _ _ (rw c.requires.first at c.create_udp_socket-answer.ensures.asked) (rw c.create_udp_socket-answer.ensures.ids at c.answer_reply-in-UdpCreate.ensures))
+returns-in-UdpCreate-clause-asked g c = rw c.in-UdpCreate.is (asks_answered (answer_reply_of number_fields c.args.ids.now.line) _ _ (rw c.requires.first at c.create_udp_socket-answer.ensures.asked) (rw c.create_udp_socket-answer.ensures.kept.ids at c.answer_reply-in-UdpCreate.ensures))
 
 pub returns-in-UdpStartBind-clause-asked : goal.returns-in-UdpStartBind-clause-asked
-returns-in-UdpStartBind-clause-asked g c = rw c.in-UdpStartBind.is (asks_answered (answer_reply_of no_values c.args.ids.now.line) _ _ (rw c.requires.first at c.start_bind-answer-in-UdpStartBind.ensures.asked) (rw c.start_bind-answer-in-UdpStartBind.ensures.ids at c.answer_reply-in-UdpStartBind.ensures))
+returns-in-UdpStartBind-clause-asked g c = rw c.in-UdpStartBind.is (asks_answered (answer_reply_of no_values c.args.ids.now.line) _ _ (rw c.requires.first at c.start_bind-answer-in-UdpStartBind.ensures.asked) (rw c.start_bind-answer-in-UdpStartBind.ensures.kept.ids at c.answer_reply-in-UdpStartBind.ensures))
 
 pub returns-in-UdpFinishBind-clause-asked : goal.returns-in-UdpFinishBind-clause-asked
 returns-in-UdpFinishBind-clause-asked g c = rw (c.in-UdpFinishBind.is, c.finish_bind-done-in-UdpFinishBind.ensures.state) (given_answered (reply_of no_values) _ _ _ c.finish_bind-done-in-UdpFinishBind.ensures.answer c.reply_of-in-UdpFinishBind.ensures)
@@ -84,7 +84,7 @@ pub returns-in-UdpSet-clause-asked : goal.returns-in-UdpSet-clause-asked
 returns-in-UdpSet-clause-asked g c = rw c.in-UdpSet.is (asks_answered (reply_of no_values) _ _ c.set_udp-done.ensures.asked c.reply_of-in-UdpSet.ensures)
 
 pub returns-in-UdpStream-clause-asked : goal.returns-in-UdpStream-clause-asked
-returns-in-UdpStream-clause-asked g c = rw c.in-UdpStream.is (asks_answered (answer_reply_of pair_values c.args.ids.now.line) _ _ (rw c.requires.first at c.stream-answer.ensures.asked) (rw c.stream-answer.ensures.ids at c.answer_reply-in-UdpStream.ensures))
+returns-in-UdpStream-clause-asked g c = rw c.in-UdpStream.is (asks_answered (answer_reply_of pair_values c.args.ids.now.line) _ _ (rw c.requires.first at c.stream-answer.ensures.asked) (rw c.stream-answer.ensures.kept.ids at c.answer_reply-in-UdpStream.ensures))
 
 pub returns-in-UdpReceive-clause-asked : goal.returns-in-UdpReceive-clause-asked
 returns-in-UdpReceive-clause-asked g c = rw c.in-UdpReceive.is (asks_answered (reply_of datagram_values) _ _ (rw c.requires.first at c.receive-received.ensures.asked) c.reply_of-in-UdpReceive.ensures)
@@ -129,7 +129,7 @@ pub returns-in-PollList-clause-asked : goal.returns-in-PollList-clause-asked
 returns-in-PollList-clause-asked g c = rw c.in-PollList.is (asks_answered (answer_reply_of numbers_fields c.args.ids.now.line) _ _ (rw (← c.socket_result-in-PollList.ensures, c.requires.first) at c.poll-answer.ensures.asked) (rw c.poll-answer.ensures.line at c.answer_reply-in-PollList.ensures))
 
 pub returns-in-Drop-clause-asked : goal.returns-in-Drop-clause-asked
-returns-in-Drop-clause-asked g c = rw c.in-Drop.is (asks_answered (answer_reply c.args.ids.now.line) _ _ (asks_at (λ (i : Ids). drop_asks (state_of c.args.view.now) i c.in-Drop.handle) (sym c.requires.first) (rw (← c.socket_result-in-Drop.ensures) at c.drop_handle-answer.ensures.asked)) (rw c.drop_handle-answer.ensures.ids at c.answer_reply-in-Drop.ensures))
+returns-in-Drop-clause-asked g c = rw c.in-Drop.is (asks_answered (answer_reply c.args.ids.now.line) _ _ (asks_at (λ (i : Ids). drop_asks (state_of c.args.view.now) i c.in-Drop.handle) (sym c.requires.first) (rw (← c.socket_result-in-Drop.ensures) at c.drop_handle-answer.ensures.asked)) (rw c.drop_handle-answer.ensures.kept.ids at c.answer_reply-in-Drop.ensures))
 
 pub returns-in_err-turn-in-Turn-clause-asked : goal.returns-in_err-turn-in-Turn-clause-asked
 returns-in_err-turn-in-Turn-clause-asked g c = rw c.in-Turn.is (asks_exit _ _ c.from_residual-in_err-turn-in-Turn.ensures.1 c.in_err-turn-in-Turn.ensures.asked.err)
@@ -165,22 +165,22 @@ pub returns-in-Splice-clause-asked : goal.returns-in-Splice-clause-asked
 returns-in-Splice-clause-asked g c = rw c.in-Splice.is (asks_answered (stream_reply_of number_fields) _ _ c.splice-spliced.ensures.asked c.stream_reply_of-in-Splice.ensures)
 
 pub returns-in-BlockingRead-clause-asked : goal.returns-in-BlockingRead-clause-asked
-returns-in-BlockingRead-clause-asked g c = rw c.in-BlockingRead.is (asks_answered (blocked_reply_of bytes_fields c.args.ids.now.line) _ _ (rw c.requires.first at c.blocking_read-read.ensures.asked) (rw c.blocking_read-read.ensures.ids at c.blocked_reply.ensures))
+returns-in-BlockingRead-clause-asked g c = rw c.in-BlockingRead.is (asks_answered (blocked_reply_of bytes_fields c.args.ids.now.line) _ _ (rw c.requires.first at c.blocking_read-read.ensures.asked) (rw c.blocking_read-read.ensures.kept.ids at c.blocked_reply.ensures))
 
 pub returns-in-BlockingSkip-clause-asked : goal.returns-in-BlockingSkip-clause-asked
-returns-in-BlockingSkip-clause-asked g c = rw c.in-BlockingSkip.is (asks_answered (blocked_reply_of number_fields c.args.ids.now.line) _ _ (rw c.requires.first at c.blocking_skip-skipped.ensures.asked) (rw c.blocking_skip-skipped.ensures.ids at c.blocked_reply-in-BlockingSkip.ensures))
+returns-in-BlockingSkip-clause-asked g c = rw c.in-BlockingSkip.is (asks_answered (blocked_reply_of number_fields c.args.ids.now.line) _ _ (rw c.requires.first at c.blocking_skip-skipped.ensures.asked) (rw c.blocking_skip-skipped.ensures.kept.ids at c.blocked_reply-in-BlockingSkip.ensures))
 
 pub returns-in-BlockingWrite-clause-asked : goal.returns-in-BlockingWrite-clause-asked
-returns-in-BlockingWrite-clause-asked g c = rw c.in-BlockingWrite.is (asks_answered (blocked_reply_of no_values c.args.ids.now.line) _ _ (rw c.requires.first at c.blocking_write_and_flush-written.ensures.asked) (rw c.blocking_write_and_flush-written.ensures.ids at c.blocked_reply-in-BlockingWrite.ensures))
+returns-in-BlockingWrite-clause-asked g c = rw c.in-BlockingWrite.is (asks_answered (blocked_reply_of no_values c.args.ids.now.line) _ _ (rw c.requires.first at c.blocking_write_and_flush-written.ensures.asked) (rw c.blocking_write_and_flush-written.ensures.kept.ids at c.blocked_reply-in-BlockingWrite.ensures))
 
 pub returns-in-BlockingZeroes-clause-asked : goal.returns-in-BlockingZeroes-clause-asked
-returns-in-BlockingZeroes-clause-asked g c = rw c.in-BlockingZeroes.is (asks_answered (blocked_reply_of no_values c.args.ids.now.line) _ _ (rw c.requires.first at c.blocking_write_zeroes_and_flush-written.ensures.asked) (rw c.blocking_write_zeroes_and_flush-written.ensures.ids at c.blocked_reply-in-BlockingZeroes.ensures))
+returns-in-BlockingZeroes-clause-asked g c = rw c.in-BlockingZeroes.is (asks_answered (blocked_reply_of no_values c.args.ids.now.line) _ _ (rw c.requires.first at c.blocking_write_zeroes_and_flush-written.ensures.asked) (rw c.blocking_write_zeroes_and_flush-written.ensures.kept.ids at c.blocked_reply-in-BlockingZeroes.ensures))
 
 pub returns-in-BlockingFlush-clause-asked : goal.returns-in-BlockingFlush-clause-asked
-returns-in-BlockingFlush-clause-asked g c = rw c.in-BlockingFlush.is (asks_answered (blocked_reply_of no_values c.args.ids.now.line) _ _ (rw c.requires.first at c.blocking_flush-flushed.ensures.asked) (rw c.blocking_flush-flushed.ensures.ids at c.blocked_reply-in-BlockingFlush.ensures))
+returns-in-BlockingFlush-clause-asked g c = rw c.in-BlockingFlush.is (asks_answered (blocked_reply_of no_values c.args.ids.now.line) _ _ (rw c.requires.first at c.blocking_flush-flushed.ensures.asked) (rw c.blocking_flush-flushed.ensures.kept.ids at c.blocked_reply-in-BlockingFlush.ensures))
 
 pub returns-in-BlockingSplice-clause-asked : goal.returns-in-BlockingSplice-clause-asked
-returns-in-BlockingSplice-clause-asked g c = rw c.in-BlockingSplice.is (asks_answered (blocked_reply_of number_fields c.args.ids.now.line) _ _ (rw c.requires.first at c.blocking_splice-spliced.ensures.asked) (rw c.blocking_splice-spliced.ensures.ids at c.blocked_reply-in-BlockingSplice.ensures))
+returns-in-BlockingSplice-clause-asked g c = rw c.in-BlockingSplice.is (asks_answered (blocked_reply_of number_fields c.args.ids.now.line) _ _ (rw c.requires.first at c.blocking_splice-spliced.ensures.asked) (rw c.blocking_splice-spliced.ensures.kept.ids at c.blocked_reply-in-BlockingSplice.ensures))
 
 pub returns-in_err-cancelled-in-Cancel-clause-asked : goal.returns-in_err-cancelled-in-Cancel-clause-asked
 returns-in_err-cancelled-in-Cancel-clause-asked g c = rw c.in-Cancel.is (asks_exit _ _ c.from_residual.ensures.1 c.in_err-cancelled-in-Cancel.ensures.asked.err)

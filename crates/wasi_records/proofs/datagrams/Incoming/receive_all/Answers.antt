@@ -1,6 +1,6 @@
 use Rattle.std.proofs.Common.{Err, ◌∙◌, arith, refl}
 use Rattle.std.specs.Vec.{vec_len}
-use Rattle.wasi_world.proofs.Walks.{reaches_all, reaches_then, refused_none}
+use Rattle.wasi_world.proofs.Walks.{reaches_all, reaches_then, refused_none, asks_err, asks_ok}
 use Rattle.wasi_records.proofs.ReceiveLists.{one_more, none_came, code_came, all_begun, all_taken, no_room, some_told, none_told, same_line, name_more, none_less}
 use Rattle.wasi_records.proofs.SideCounts.{none_first, none_then}
 use Rattle.wasi_records.proofs.datagrams.Incoming.receive_all.Goals as goal
@@ -39,29 +39,29 @@ loop-preserved g c = record {
   capacity = let n = c.push_reserved.ensures.capacity in let p = c.loop.invariant.capacity in omega arith;
   none = none_then c.loop.invariant.none c.receive_next.ensures.none;
   side = c.receive_next.ensures.side ∙ c.loop.invariant.side;
-  still = c.receive_next.ensures.open;
+  still = c.receive_next.ensures.asked.ended ∙ c.loop.invariant.still;
 }
 
 pub returns-then-is_empty-clause-asked : goal.returns-then-is_empty-clause-asked
 returns-then-is_empty-clause-asked g c = rw c.in-Err-Code.field-0-is
-    (record { ok = reaches_then c.loop.invariant.reached (code_came c.args.most c.loop.counter c.loop.room c.loop.ids c.loop.datagrams.items c.in-Err-Code.code (c.loop.socket, c.loop.self) (c.receive_next.new.socket, c.receive_next.new.self) (Err c.in-Err-Code.code) c.loop-test.true c.if-room-eq0.false (none_told c.loop.datagrams.items (vec_len c.loop.datagrams) c.in-Err-Code.code (let n = c.loop.datagrams.ok in omega arith) c.if-is_empty.ensures) (rw c.in-Err-Code.field-0-is at c.in-Err-Code.ensures.asked.ok)); err = tt })
+    (asks_ok (reaches_then c.loop.invariant.reached (code_came c.args.most c.loop.counter c.loop.room c.loop.ids c.loop.datagrams.items c.in-Err-Code.code (c.loop.socket, c.loop.self) (c.receive_next.new.socket, c.receive_next.new.self) (Err c.in-Err-Code.code) c.loop-test.true c.if-room-eq0.false (none_told c.loop.datagrams.items (vec_len c.loop.datagrams) c.in-Err-Code.code (let n = c.loop.datagrams.ok in omega arith) c.if-is_empty.ensures) (rw c.in-Err-Code.field-0-is at c.in-Err-Code.ensures.asked.ok))))
 
 pub returns-then-is_empty-clause-none : goal.returns-then-is_empty-clause-none
 returns-then-is_empty-clause-none g c = none_then c.loop.invariant.none c.receive_next.ensures.none
 
 pub returns-in-Err-Memory-clause-asked : goal.returns-in-Err-Memory-clause-asked
 returns-in-Err-Memory-clause-asked g c =
-    record { ok = tt; err = all_begun c.args.most c.loop.counter c.loop.room c.loop.ids c.loop.datagrams.items (c.loop.socket, c.loop.self) c.loop.invariant.reached c.loop-test.true c.if-room-eq0.false (rw c.in-Err-Memory.field-0-is at c.in-Err-Memory.ensures.asked.err) }
+    asks_err _ (all_begun c.args.most c.loop.counter c.loop.room c.loop.ids c.loop.datagrams.items (c.loop.socket, c.loop.self) c.loop.invariant.reached c.loop-test.true c.if-room-eq0.false (rw c.in-Err-Memory.field-0-is at c.in-Err-Memory.ensures.asked.err)).reached
 
 pub returns-in-Err-Memory-clause-none : goal.returns-in-Err-Memory-clause-none
 returns-in-Err-Memory-clause-none g c = none_then c.loop.invariant.none c.receive_next.ensures.none
 
 pub returns-clause-asked : goal.returns-clause-asked
 returns-clause-asked g c = elim c.loop-test.branch [
-  | else-loop-test w ↦ rw (w.world-is, w.self-is, w.socket-is, c.from_vec.ensures) (record { ok = reaches_then c.loop.invariant.reached (all_taken c.args.most c.loop.counter c.loop.room c.loop.ids c.loop.datagrams.items (c.loop.socket, c.loop.self) _ w.loop-test.false); err = tt })
-  | then-loop-test+then-room-eq0 w ↦ rw (w.world-is, w.self-is, w.socket-is, c.from_vec.ensures) (record { ok = reaches_then c.loop.invariant.reached (no_room _ c.loop.room c.loop.ids c.loop.datagrams.items (c.loop.socket, c.loop.self) _ w.if-room-eq0.true); err = tt })
-  | then-loop-test+else-room-eq0+in-Ok-Pending w ↦ rw (w.world-is, w.self-is, w.socket-is, c.from_vec.ensures) (record { ok = reaches_then c.loop.invariant.reached (none_came c.args.most c.loop.counter c.loop.room c.loop.ids c.loop.datagrams.items (c.loop.socket, c.loop.self) (w.receive_next.new.socket, w.receive_next.new.self) w.loop-test.true w.if-room-eq0.false (rw w.in-Ok-Pending.field-0-is at w.in-Ok-Pending.ensures.asked.ok)); err = tt })
-  | then-loop-test+else-room-eq0+in-Err-Code+else-is_empty w ↦ rw (w.world-is, w.self-is, w.socket-is, c.from_vec.ensures) (record { ok = reaches_then c.loop.invariant.reached (code_came c.args.most c.loop.counter c.loop.room c.loop.ids c.loop.datagrams.items w.in-Err-Code.code (c.loop.socket, c.loop.self) (w.receive_next.new.socket, w.receive_next.new.self) _ w.loop-test.true w.if-room-eq0.false (some_told c.loop.datagrams.items (vec_len c.loop.datagrams) w.in-Err-Code.code (let n = c.loop.datagrams.ok in omega arith) w.if-is_empty.ensures) (rw w.in-Err-Code.field-0-is at w.in-Err-Code.ensures.asked.ok)); err = tt })
+  | else-loop-test w ↦ rw (w.world-is, w.self-is, w.socket-is, c.from_vec.ensures) (asks_ok (reaches_then c.loop.invariant.reached (all_taken c.args.most c.loop.counter c.loop.room c.loop.ids c.loop.datagrams.items (c.loop.socket, c.loop.self) _ w.loop-test.false)))
+  | then-loop-test+then-room-eq0 w ↦ rw (w.world-is, w.self-is, w.socket-is, c.from_vec.ensures) (asks_ok (reaches_then c.loop.invariant.reached (no_room _ c.loop.room c.loop.ids c.loop.datagrams.items (c.loop.socket, c.loop.self) _ w.if-room-eq0.true)))
+  | then-loop-test+else-room-eq0+in-Ok-Pending w ↦ rw (w.world-is, w.self-is, w.socket-is, c.from_vec.ensures) (asks_ok (reaches_then c.loop.invariant.reached (none_came c.args.most c.loop.counter c.loop.room c.loop.ids c.loop.datagrams.items (c.loop.socket, c.loop.self) (w.receive_next.new.socket, w.receive_next.new.self) w.loop-test.true w.if-room-eq0.false (rw w.in-Ok-Pending.field-0-is at w.in-Ok-Pending.ensures.asked.ok))))
+  | then-loop-test+else-room-eq0+in-Err-Code+else-is_empty w ↦ rw (w.world-is, w.self-is, w.socket-is, c.from_vec.ensures) (asks_ok (reaches_then c.loop.invariant.reached (code_came c.args.most c.loop.counter c.loop.room c.loop.ids c.loop.datagrams.items w.in-Err-Code.code (c.loop.socket, c.loop.self) (w.receive_next.new.socket, w.receive_next.new.self) _ w.loop-test.true w.if-room-eq0.false (some_told c.loop.datagrams.items (vec_len c.loop.datagrams) w.in-Err-Code.code (let n = c.loop.datagrams.ok in omega arith) w.if-is_empty.ensures) (rw w.in-Err-Code.field-0-is at w.in-Err-Code.ensures.asked.ok))))
 ]
 
 pub returns-clause-none : goal.returns-clause-none

@@ -47,7 +47,7 @@ loop-datagram-preserved g c =
       line = c.send_next.ensures.line ∙ i.line;
       none = none_then i.none c.send_next.ensures.none;
       side = c.send_next.ensures.side ∙ i.side;
-      still = c.send_next.ensures.open;
+      still = c.send_next.ensures.asked.ended ∙ i.still;
     }
 
 pub returns-in-Ok-Pending-clause-asked : goal.returns-in-Ok-Pending-clause-asked
@@ -85,6 +85,3 @@ returns-clause-none g c = c.loop-datagram.invariant.none
 
 pub returns-clause-side : goal.returns-clause-side
 returns-clause-side g c = c.loop-datagram.invariant.side
-
-pub returns-clause-open : goal.returns-clause-open
-returns-clause-open g c = c.loop-datagram.invariant.still

@@ -1,5 +1,6 @@
 use Rattle.wasi_tcp.proofs.Jobs.{goes_on, job_ends, job_left_over, stops, on_err}
 use Rattle.wasi_tcp.proofs.job.WriteJob.poll.Goals as goal
+use Rattle.wasi_world.proofs.Walks.{asks_ok}
 
 pub returns-in_err-answered-in-None-clause-asked : goal.returns-in_err-answered-in-None-clause-asked
 returns-in_err-answered-in-None-clause-asked g c =
@@ -11,7 +12,7 @@ returns-in_err-answered-in-None-clause-err g c =
 
 pub returns-in_ok-answered-in-None-clause-asked : goal.returns-in_ok-answered-in-None-clause-asked
 returns-in_ok-answered-in-None-clause-asked g c =
-    record { ok = job_ends c.poll_stage.result (goes_on _ _ c.end.ensures.told c.in-None.is) c.poll_stage.ensures.polled c.poll_stage.ensures.end c.in_ok-answered-in-None.ensures; err = tt }
+    asks_ok (job_ends c.poll_stage.result (goes_on _ _ c.end.ensures.told c.in-None.is) c.poll_stage.ensures.polled c.poll_stage.ensures.end c.in_ok-answered-in-None.ensures)
 
 pub returns-in_err-answered-in-None-clause-write : goal.returns-in_err-answered-in-None-clause-write
 returns-in_err-answered-in-None-clause-write g c = c.end.ensures.write
