@@ -12,7 +12,8 @@ use wasi_table::Table;
 use wasi_world::{Ids, WasiSocketsCtx};
 use world_scripted::ScriptedWorld;
 
-/// A guest of two contexts, which share a table and a store: one may use TCP and UDP, the other nothing.
+/// A guest of two contexts, which share a table and a store: one may use TCP and UDP, the other
+/// nothing.
 #[derive(Drop)]
 pub struct Guest {
     open: WasiSocketsCtx,
@@ -97,7 +98,8 @@ pub fn line(number: u32) -> Ids {
 
 /// The network of this scenario.
 pub fn world(alloc: Global, scenario: &str) -> Result<ScriptedWorld, Fail>
-    ensures planned { IfOk result (λ world. (contexts : List WasiSocketsCtx) × (started (scenario_of scenario.now) ≡ Ok (seen_by world, contexts))) }
+    ensures planned { IfOk result (λ world. (contexts : List WasiSocketsCtx)
+        × (started (scenario_of scenario.now) ≡ Ok (seen_by world, contexts))) }
     ensures open { IfOk result (λ world. (seen_by world).ended ≡ false) }
 {
     let (world, _) = ScriptedWorld::parse(alloc, scenario.as_bytes())?;

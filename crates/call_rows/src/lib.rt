@@ -1,5 +1,5 @@
-//! Calls that no script makes: the getters of options, which have types of their own, the views of an embedder, and the table
-//! of handles.
+//! Calls that no script makes: the getters of options, which have types of their own, the views of
+//! an embedder, and the table of handles.
 #![tactic(auto)]
 
 #[cfg(test)]

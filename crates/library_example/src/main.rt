@@ -1,5 +1,5 @@
-//! The program `library_example`: runs a script of five guest calls over a scripted network whose check says no, and prints
-//! the replies.
+//! The program `library_example`: runs a script of five guest calls over a scripted network whose
+//! check says no, and prints the replies.
 #![tactic(auto)]
 
 use wasi_run::run_script;

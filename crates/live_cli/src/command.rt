@@ -23,7 +23,8 @@ fn port_in(word: &str) -> Option<u16>
 
 /// The ports that the words are, or none where a word isn't one. Takes memory for them.
 fn ports_in(alloc: Global, words: &[String]) -> Result<Option<Vec<u16>>, AllocError>
-    ensures { IfOk result (λ ports. option_map (λ v. v.items) ports ≡ ports_in (map (λ w. string_bytes w) words.now)) }
+    ensures { IfOk result (λ ports. option_map (λ v. v.items) ports
+        ≡ ports_in (map (λ w. string_bytes w) words.now)) }
 {
     let mut ports = Vec::new(alloc);
     for word in words {
@@ -37,7 +38,8 @@ fn ports_in(alloc: Global, words: &[String]) -> Result<Option<Vec<u16>>, AllocEr
 
 /// The command in the words: a limit and any number of ports. None where they aren't in order.
 pub fn command_in(alloc: Global, words: &[String]) -> Result<Option<Command>, AllocError>
-    ensures { IfOk result (λ command. option_map shown command ≡ command_in (map (λ w. string_bytes w) words.now)) }
+    ensures { IfOk result (λ command. option_map shown command
+        ≡ command_in (map (λ w. string_bytes w) words.now)) }
 {
     let [limit, rest @ ..] = words else {
         return Ok(None);

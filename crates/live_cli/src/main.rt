@@ -1,5 +1,5 @@
-//! The program `live`: runs a script of `wasi:sockets` calls from standard input over this machine's network,
-//! and writes one reply per line.
+//! The program `live`: runs a script of `wasi:sockets` calls from standard input over this
+//! machine's network, and writes one reply per line.
 #![tactic(auto)]
 
 mod command;

@@ -41,8 +41,8 @@ fn allowed(ports: Vec<u16>, anywhere: bool) -> Allowed
     }
 }
 
-/// Runs the script that the source gives over the system's sockets, of which the command's ports may be used, and writes the
-/// replies to the sink. What is open at its end is closed.
+/// Runs the script that the source gives over the system's sockets, of which the command's ports
+/// may be used, and writes the replies to the sink. What is open at its end is closed.
 pub fn run_live<R, S, K>(
     rt: &R,
     alloc: Global,
@@ -55,7 +55,8 @@ where
     R: Net,
     S: Source,
     K: Sink,
-    ensures { RanLive command.limit (S.reading source.old) (S.reading source.new) (K.writing sink.old) (K.writing sink.new) result }
+    ensures { RanLive command.limit (S.reading source.old) (S.reading source.new)
+        (K.writing sink.old) (K.writing sink.new) result }
 {
     let Command { limit, ports } = command;
     let system = SystemWorld::new(Linux::new(rt), alloc, allowed(ports, anywhere));

@@ -1,4 +1,5 @@
-//! Scripts that connect to themselves, over a loopback address of their own and ports that the system doesn't hand out.
+//! Scripts that connect to themselves, over a loopback address of their own and ports that the
+//! system doesn't hand out.
 
 ghost use Rattle.std.specs.Prelude.{◌≡◌, [], ◌∷◌, IfOk};
 ghost use Rattle.wasi_world.specs.Contexts.{free_context};
@@ -16,7 +17,8 @@ const CARRIES: (&[u8], &[u8]) = (
     b"ok 1\nok 2\nok 3\nok\nok\nok\nok\nok\nok 4 5\nok 6 7 8\nok 65536\nok\nok 9\nok true\nok 0a\n",
 );
 
-/// The listener goes before it accepted the connection, which resets it. The look meets that, and the read reports it.
+/// The listener goes before it accepted the connection, which resets it. The look meets that, and
+/// the read reports it.
 const RESETS: (&[u8], &[u8]) = (
     b"0 network\n0 tcp-create 4\n0 tcp-create 4\n0 tcp-start-bind 2 1 4 127 77 31 5 20124\n0 tcp-finish-bind 2\n0 tcp-start-listen 2\n0 tcp-finish-listen 2\n0 tcp-start-connect 3 1 4 127 77 31 5 20124\n0 tcp-finish-connect 3\n0 drop 2\n0 subscribe 4\n0 ready 6\n0 read 4 9\n0 read 4 9\n",
     b"ok 1\nok 2\nok 3\nok\nok\nok\nok\nok\nok 4 5\nok\nok 6\nok true\nfailed connection-reset 7\nclosed\n",
@@ -55,7 +57,8 @@ fn contexts(alloc: Global) -> Result<Vec<WasiSocketsCtx>, AllocError>
     Ok(vec![in alloc; all]?)
 }
 
-/// Runs the script with every port allowed, and fails where it doesn't write these replies to its end.
+/// Runs the script with every port allowed, and fails where it doesn't write these replies to its
+/// end.
 fn runs(rt: HostRuntime, script: &[u8], replies: &[u8]) -> Result<(), Fail> {
     let alloc = rt.alloc();
     let allowed = Allowed::loopback(all_ports(alloc)?);

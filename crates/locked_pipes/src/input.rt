@@ -70,7 +70,8 @@ impl<R: Wait + Copy> Source for MemoryInputPipe<R> {
 
     /// Moves as many of the bytes that are left as fit. It never fails, and takes no memory.
     fn read(&mut self, buf: &mut [u8]) -> Result<usize, Failed>
-        ensures read { HasRead (reading_of self.old.ended) (reading_of self.new.ended) (length buf.old) buf.new result }
+        ensures read { HasRead (reading_of self.old.ended) (reading_of self.new.ended)
+            (length buf.old) buf.new result }
         ensures ok { IsOk result }
     {
         let count = self.pipe.lock(&self.rt).take_into(buf);

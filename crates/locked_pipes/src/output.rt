@@ -92,7 +92,8 @@ impl<R: Wait + Copy> Sink for MemoryOutputPipe<R> {
     /// Takes a prefix of the bytes, as many as are free: none where the pipe is full. It never
     /// fails, and takes no memory.
     fn write(&mut self, bytes: &[u8]) -> Result<usize, Failed>
-        ensures written { HasWritten (writing_of self.old.refused) (writing_of self.new.refused) bytes.now result }
+        ensures written { HasWritten (writing_of self.old.refused) (writing_of self.new.refused)
+            bytes.now result }
         ensures ok { IsOk result }
     {
         let count = self.pipe.lock(&self.rt).put(bytes);
@@ -103,7 +104,8 @@ impl<R: Wait + Copy> Sink for MemoryOutputPipe<R> {
     }
 
     fn flush(&mut self) -> Result<(), Failed>
-        ensures flushed { HasFlushed (writing_of self.old.refused) (writing_of self.new.refused) result }
+        ensures flushed { HasFlushed (writing_of self.old.refused) (writing_of self.new.refused)
+            result }
         ensures ok { IsOk result }
     {
         Ok(())

@@ -1,6 +1,7 @@
 //! Bytes in memory that are read.
 
-ghost use Rattle.std.specs.Prelude.{◌≡◌, ◌↔◌, ◌++◌, [], IfOk, IsTrue, OnErr, length, min, take, drop};
+ghost use Rattle.std.specs.Prelude.{◌≡◌, ◌↔◌, ◌++◌, [], IfOk, IsTrue, OnErr, length, min, take};
+ghost use Rattle.std.specs.Prelude.{drop};
 ghost use Rattle.wasi_streams.specs.StreamStop.{stream_outcome};
 ghost use Rattle.memory_streams.specs.Pipes.{HasRead};
 ghost use Rattle.memory_streams.specs.Plain.{pipe_read};
@@ -11,8 +12,8 @@ use std::marker::Model;
 use wasi_streams::{InputStream, Pollable, StreamError};
 use wasi_world::{Octets, OpId, World};
 
-/// Bytes in memory that are read from their front (`MemoryInputPipe` of the crate wasmtime-wasi, for one owner). It is
-/// always ready. Contracts see the bytes that are left.
+/// Bytes in memory that are read from their front (`MemoryInputPipe` of the crate wasmtime-wasi,
+/// for one owner). It is always ready. Contracts see the bytes that are left.
 #[derive(Drop)]
 pub struct InputPipeCore {
     bytes: Bytes,
@@ -60,7 +61,8 @@ impl InputPipeCore {
     ///
     /// Takes memory for the copy; out of memory all stays in the pipe.
     pub fn read_octets(&mut self, alloc: Global, size: usize) -> Result<Octets, StreamError>
-        ensures given { IfOk (stream_outcome result) (λ answer. (answer, self.new) ≡ pipe_read size self.old) }
+        ensures given { IfOk (stream_outcome result) (λ answer. (answer, self.new)
+            ≡ pipe_read size self.old) }
         ensures memory { OnErr (stream_outcome result) (self.new ≡ self.old) }
     {
         if self.bytes.is_empty() {

@@ -1,5 +1,5 @@
-//! Streams that lie in memory, for one owner: what a guest reads from a pipe, what it writes to one, and streams that take or
-//! give nothing.
+//! Streams that lie in memory, for one owner: what a guest reads from a pipe, what it writes to
+//! one, and streams that take or give nothing.
 #![tactic(auto)]
 
 pub mod input;

@@ -9,8 +9,9 @@ use std::marker::Model;
 use wasi_streams::StreamError;
 use wasi_world::TrapKind;
 
-/// Bytes that are written to memory, and no more than a capacity (`MemoryOutputPipe` of the crate wasmtime-wasi, for one
-/// owner). It is always ready. Contracts see the bytes that it holds, its capacity, and the memory that it has for more.
+/// Bytes that are written to memory, and no more than a capacity (`MemoryOutputPipe` of the crate
+/// wasmtime-wasi, for one owner). It is always ready. Contracts see the bytes that it holds, its
+/// capacity, and the memory that it has for more.
 #[derive(Drop)]
 pub struct OutputPipeCore {
     bytes: BytesMut,
@@ -23,7 +24,11 @@ impl Model for OutputPipeCore {
 
     ghost Value = { OutputPipe };
 
-    ghost view = { λ pipe. record { held = pipe.bytes.items; capacity = pipe.capacity; room = pipe.bytes.spare } };
+    ghost view = { λ pipe. record {
+      held = pipe.bytes.items;
+      capacity = pipe.capacity;
+      room = pipe.bytes.spare;
+    } };
 
     ghost invariant = { λ pipe. length pipe.bytes.items ≤ pipe.capacity };
 }

@@ -45,7 +45,8 @@ impl OutputPipe {
     /// Writes the bytes. More than it can still hold are `Trap(Capacity)`, and nothing changes.
     /// Takes memory for them; out of memory nothing changes.
     pub fn write(&mut self, bytes: &[u8]) -> Result<(), StreamError>
-        ensures given { IfOk (stream_outcome result) (λ answer. (answer, self.new) ≡ pipe_write self.old bytes.now) }
+        ensures given { IfOk (stream_outcome result) (λ answer. (answer, self.new)
+            ≡ pipe_write self.old bytes.now) }
         ensures memory { OnErr (stream_outcome result) (self.new ≡ self.old) }
     {
         self.core.write(bytes)

@@ -7,7 +7,8 @@ use wasi_world::{Octets, OpId, World};
 /// How many bytes a sink permits.
 const SINK_PERMIT: usize = 65536;
 
-/// An output that takes whatever is written to it, and keeps none of it (`SinkOutputStream` of the crate wasmtime-wasi).
+/// An output that takes whatever is written to it, and keeps none of it (`SinkOutputStream` of the
+/// crate wasmtime-wasi).
 #[derive(Clone, Copy, Debug, PartialEq, Eq)]
 pub struct SinkOutputStream;
 

@@ -1,7 +1,7 @@
 //! The program `names`: says of each line of standard input what it is as a host name.
 //!
-//! Its `stdin` and `stdout` are the tests of `wasi_names`: what is printed was worked out from the rules of the URL
-//! Standard.
+//! Its `stdin` and `stdout` are the tests of `wasi_names`: what is printed was worked out from the
+//! rules of the URL Standard.
 #![tactic(auto)]
 
 use std::alloc::{AllocError, Global};

@@ -48,8 +48,8 @@ fn resets(guest: &mut Guest, from: Sock, to: Sock) -> Result<(), Fail> {
     )
 }
 
-/// Closing an end with bytes that it didn't read resets the connection. A look meets that, and the next read reports
-/// it.
+/// Closing an end with bytes that it didn't read resets the connection. A look meets that, and the
+/// next read reports it.
 #[test]
 fn a_reset_that_a_look_met_is_told_once(rt: HostRuntime) -> Result<(), Fail> {
     let mut guest = Guest::new(rt, rt.alloc(), Vec::new(rt.alloc()));
@@ -92,7 +92,8 @@ fn waits(guest: &mut Guest, from: Sock, to: Sock) -> Result<(), Fail> {
     guest.expects(to, Call::Read { sock: to, size: 9 }, "bytes 6d6f7265")
 }
 
-/// A write to an end that doesn't read waits once the system's room is full, and continues once the end has read.
+/// A write to an end that doesn't read waits once the system's room is full, and continues once the
+/// end has read.
 #[test]
 fn a_write_that_waits_loses_nothing(rt: HostRuntime) -> Result<(), Fail> {
     let mut guest = Guest::new(rt, rt.alloc(), Vec::new(rt.alloc()));

@@ -186,7 +186,8 @@ impl Guest {
         self.port(sock)
     }
 
-    /// Makes a network socket and connects it to the port; fails where another answer than this is given.
+    /// Makes a network socket and connects it to the port; fails where another answer than this is
+    /// given.
     pub fn connect(&mut self, sock: Sock, port: u16, text: &str) -> Result<(), Fail> {
         self.create(sock)?;
         let addr = loopback(port);

@@ -11,7 +11,8 @@ const MADE: u32 = 200;
 /// How many are open at once.
 const AT_ONCE: u32 = 50;
 
-/// Each listener is bound to the port of the one before, which is in use until that one's descriptor is closed.
+/// Each listener is bound to the port of the one before, which is in use until that one's
+/// descriptor is closed.
 fn listeners_come_and_go(guest: &mut Guest) -> Result<(), Fail> {
     let sock = line(1);
     let port = guest.listen(sock, 0)?;
@@ -22,7 +23,8 @@ fn listeners_come_and_go(guest: &mut Guest) -> Result<(), Fail> {
     Ok(())
 }
 
-/// Each UDP socket is bound to the port of the one before, which is in use until that one's descriptor is closed.
+/// Each UDP socket is bound to the port of the one before, which is in use until that one's
+/// descriptor is closed.
 fn udp_sockets_come_and_go(guest: &mut Guest) -> Result<(), Fail> {
     let sock = line(2);
     let family = SocketAddressFamily::Ipv4;

@@ -21,7 +21,8 @@ pub enum Form {
 
 /// `allow N` or `deny N`, with its newline.
 fn decision_line(alloc: Global, policy: &Policy, question: Question) -> Result<String, AllocError>
-    ensures { IfOk result (λ text. string_bytes text ≡ answer_line policy.now Form.Decision question) }
+    ensures { IfOk result (λ text. string_bytes text ≡ answer_line policy.now Form.Decision
+        question) }
 {
     let decision = policy.decide(question.address, question.usage);
     let mut text = String::new(alloc);

@@ -1,6 +1,7 @@
 //! Answers a text of questions, line by line.
 
-ghost use Rattle.std.specs.Prelude.{◌≡◌, ◌≤◌, ◌<◌, ◌+◌, ◌^◌, Some, None, OnOk, IfErr, IfSome, length, take};
+ghost use Rattle.std.specs.Prelude.{◌≡◌, ◌≤◌, ◌<◌, ◌+◌, ◌^◌, Some, None, OnOk, IfErr, IfSome};
+ghost use Rattle.std.specs.Prelude.{length, take};
 ghost use Rattle.policy_asks.specs.Answer.{answer_line};
 ghost use Rattle.policy_asks.specs.Asked.{AskEnds, LinesEnd};
 ghost use Rattle.policy_asks.specs.OneLine.{LineEnds};
@@ -52,7 +53,8 @@ fn answer_one<K: Sink>(
     line: &[u8],
     sink: &mut K,
 ) -> Result<(), AskError>
-    ensures { LineEnds policy.now form number line.now (K.writing sink.old) (K.writing sink.new) result }
+    ensures { LineEnds policy.now form number line.now (K.writing sink.old) (K.writing sink.new)
+        result }
 {
     let Some(question) = parse_question(line) else {
         return Err(AskError::BadLine(number));
@@ -115,7 +117,8 @@ pub fn ask<S: Source, K: Sink>(
     source: &mut S,
     sink: &mut K,
 ) -> Result<(), AskError>
-    ensures { AskEnds policy.now form limit (S.reading source.old) (S.reading source.new) (K.writing sink.old) (K.writing sink.new) result }
+    ensures { AskEnds policy.now form limit (S.reading source.old) (S.reading source.new)
+        (K.writing sink.old) (K.writing sink.new) result }
 {
     let (text, end) = read_text(alloc, source, limit)?;
     let within = first_bytes(text.as_slice(), limit as usize);

@@ -27,7 +27,8 @@ pub fn read_text<S: Source>(
     source: &mut S,
     limit: u32,
 ) -> Result<(Vec<u8>, ReadEnd), AllocError>
-    ensures { IfOk result (λ read. HasReadText limit (S.reading source.old) (S.reading source.new) read.0.items read.1) }
+    ensures { IfOk result (λ read. HasReadText limit (S.reading source.old) (S.reading source.new)
+        read.0.items read.1) }
 {
     let most = limit as usize;
     let mut text = Vec::new(alloc);

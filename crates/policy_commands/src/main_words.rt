@@ -61,7 +61,9 @@ fn do_command<C: Source, S: Source, K: Sink>(
     source: &mut S,
     sink: &mut K,
 ) -> Ended
-    ensures { CommandEnds policy command (C.reading scenario.old) (C.reading scenario.new) (S.reading source.old) (S.reading source.new) (K.writing sink.old) (K.writing sink.new) result.denied.items result.inner.items result.line result.status }
+    ensures { CommandEnds policy command (C.reading scenario.old) (C.reading scenario.new)
+        (S.reading source.old) (S.reading source.new) (K.writing sink.old) (K.writing sink.new)
+        result.denied.items result.inner.items result.line result.status }
 {
     match command {
         Command::Run(limit) => run_scenario(alloc, policy, limit, scenario, source, sink),
@@ -78,7 +80,9 @@ fn do_under_rules<R: Source, C: Source, S: Source, K: Sink>(
     source: &mut S,
     sink: &mut K,
 ) -> Ended
-    ensures { RulesEnd command (R.reading rules.old) (R.reading rules.new) (C.reading scenario.old) (C.reading scenario.new) (S.reading source.old) (S.reading source.new) (K.writing sink.old) (K.writing sink.new) result.denied.items result.inner.items result.line result.status }
+    ensures { RulesEnd command (R.reading rules.old) (R.reading rules.new) (C.reading scenario.old)
+        (C.reading scenario.new) (S.reading source.old) (S.reading source.new) (K.writing sink.old)
+        (K.writing sink.new) result.denied.items result.inner.items result.line result.status }
 {
     match read_rules(alloc, rules) {
         FoundRules::Read(policy) => do_command(alloc, policy, command, scenario, source, sink),
@@ -102,8 +106,12 @@ pub fn policy_main<R: Source, C: Source, S: Source, K: Sink>(
     mut source: S,
     mut sink: K,
 ) -> PolicyDone<S, K>
-    ensures ran { RanMain (map (λ w. string_bytes w) words.now) (R.reading rules.old) (R.reading rules.new) (C.reading scenario.old) (C.reading scenario.new) (S.reading source) (S.reading result.source) (K.writing sink) (K.writing result.sink) result.denied.items result.inner.items result.status result.line }
-    ensures words { (result.status ≡ 1) ↔ (command_in (map (λ w. string_bytes w) words.now) ≡ None) }
+    ensures ran { RanMain (map (λ w. string_bytes w) words.now) (R.reading rules.old)
+        (R.reading rules.new) (C.reading scenario.old) (C.reading scenario.new) (S.reading source)
+        (S.reading result.source) (K.writing sink) (K.writing result.sink) result.denied.items
+        result.inner.items result.status result.line }
+    ensures words { (result.status ≡ 1) ↔ (command_in (map (λ w. string_bytes w) words.now)
+        ≡ None) }
 {
     let ended = match command_in(words) {
         None => Ended::without_run(alloc, PolicyStatus::Of(Status::BadWords), 0),

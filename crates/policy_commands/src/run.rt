@@ -72,7 +72,10 @@ fn run_under<R: Rules, S: Source, K: Sink>(
     requires faults { (seen_by world).faults ≡ 0 }
     requires numbered { AreNumbered contexts.old.items }
     requires few { length contexts.old.items < 2 ^ 32 }
-    ensures { (plan : Plan) → R.plan ≡ Some plan → RanUnder R.rules plan contexts.old.items limit (S.reading source.old) (S.reading source.new) (K.writing sink.old) (K.writing sink.new) result.denied.items result.inner.items result.outcome }
+    ensures { (plan : Plan) → R.plan ≡ Some plan
+        → RanUnder R.rules plan contexts.old.items limit (S.reading source.old)
+        (S.reading source.new) (K.writing sink.old) (K.writing sink.new) result.denied.items
+        result.inner.items result.outcome }
 {
     let mut world: PolicyWorld<ScriptedWorld, R> = PolicyWorld::new(alloc, policy, world);
     let outcome = run_script(alloc, &mut world, contexts, limit, source, sink);
@@ -100,7 +103,9 @@ fn run_plan<S: Source, K: Sink>(
     requires faults { (seen_by world).faults ≡ 0 }
     requires numbered { AreNumbered contexts.items }
     requires few { length contexts.items < 2 ^ 32 }
-    ensures { PlanEnds policy (seen_by world).plan contexts.items limit (S.reading source.old) (S.reading source.new) (K.writing sink.old) (K.writing sink.new) result.denied.items result.inner.items result.line result.status }
+    ensures { PlanEnds policy (seen_by world).plan contexts.items limit (S.reading source.old)
+        (S.reading source.new) (K.writing sink.old) (K.writing sink.new) result.denied.items
+        result.inner.items result.line result.status }
 {
     let ran = run_under::<Brand, S, K>(alloc, policy, world, &mut contexts, limit, source, sink);
     Ended {
@@ -120,7 +125,9 @@ fn run_text<S: Source, K: Sink>(
     source: &mut S,
     sink: &mut K,
 ) -> Ended
-    ensures { TextEnds policy limit text.now (S.reading source.old) (S.reading source.new) (K.writing sink.old) (K.writing sink.new) result.denied.items result.inner.items result.line result.status }
+    ensures { TextEnds policy limit text.now (S.reading source.old) (S.reading source.new)
+        (K.writing sink.old) (K.writing sink.new) result.denied.items result.inner.items result.line
+        result.status }
 {
     let Ok(scenario) = parse_scenario(alloc, text) else {
         return Ended::without_run(alloc, PolicyStatus::Of(Status::Memory), 0);
@@ -144,7 +151,9 @@ pub fn run_scenario<C: Source, S: Source, K: Sink>(
     source: &mut S,
     sink: &mut K,
 ) -> Ended
-    ensures { CommandEnds policy (Command.Run limit) (C.reading scenario.old) (C.reading scenario.new) (S.reading source.old) (S.reading source.new) (K.writing sink.old) (K.writing sink.new) result.denied.items result.inner.items result.line result.status }
+    ensures { CommandEnds policy (Command.Run limit) (C.reading scenario.old)
+        (C.reading scenario.new) (S.reading source.old) (S.reading source.new) (K.writing sink.old)
+        (K.writing sink.new) result.denied.items result.inner.items result.line result.status }
 {
     let text = match read_scenario(alloc, scenario) {
         Ok(text) => text,
@@ -167,7 +176,9 @@ pub fn answer_questions<S: Source, K: Sink>(
     source: &mut S,
     sink: &mut K,
 ) -> Ended
-    ensures { AsksEnd policy.now form limit (S.reading source.old) (S.reading source.new) (K.writing sink.old) (K.writing sink.new) result.denied.items result.inner.items result.line result.status }
+    ensures { AsksEnd policy.now form limit (S.reading source.old) (S.reading source.new)
+        (K.writing sink.old) (K.writing sink.new) result.denied.items result.inner.items result.line
+        result.status }
 {
     let outcome = ask(alloc, policy, form, limit, source, sink);
     Ended::without_run(

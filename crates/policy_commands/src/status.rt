@@ -1,7 +1,8 @@
 //! How the program ends, and what its words ask for.
 
 ghost use Rattle.std.specs.Prelude.{◌≡◌, map, string_bytes};
-ghost use Rattle.policy_commands.specs.Words.{number_of, status_of_ask, bad_line_of_ask, limited_by, limited_in, command_in};
+ghost use Rattle.policy_commands.specs.Words.{number_of, status_of_ask, bad_line_of_ask};
+ghost use Rattle.policy_commands.specs.Words.{limited_by, limited_in, command_in};
 
 use policy_asks::{AskError, Form};
 use wasi_program::Status;

@@ -18,9 +18,9 @@ fn pattern(alloc: Global, len: usize) -> Result<Vec<u8>, AllocError> {
 
 const BUDGETS: &[usize] = &[1, 7, 1000];
 
-/// How many bytes the source has, how many a read of it gives at most, and how many a write of the sink takes at most; the call
-/// of the source and the call of the sink that fail, counted from 1, where 0 is none; the sink's room; the budgets; and how the
-/// pump ends.
+/// How many bytes the source has, how many a read of it gives at most, and how many a write of the
+/// sink takes at most; the call of the source and the call of the sink that fail, counted from 1,
+/// where 0 is none; the sink's room; the budgets; and how the pump ends.
 type Case = (
     usize,
     usize,

@@ -52,8 +52,8 @@ fn gates(alloc: Global) -> Result<(Gate, Gate), AllocError> {
     ))
 }
 
-/// A source of some bytes, which it gives one by one. Its second read waits at the gate, and fails where the other doesn't
-/// come.
+/// A source of some bytes, which it gives one by one. Its second read waits at the gate, and fails
+/// where the other doesn't come.
 #[derive(Drop)]
 struct GatedSource {
     gate: Gate,
@@ -87,7 +87,8 @@ impl Source for GatedSource {
     }
 }
 
-/// A sink that takes all bytes and counts them. Its first write waits at the gate, and fails where the other doesn't come.
+/// A sink that takes all bytes and counts them. Its first write waits at the gate, and fails where
+/// the other doesn't come.
 #[derive(Drop)]
 struct GatedSink {
     gate: Gate,
@@ -99,7 +100,12 @@ struct GatedSink {
 impl Sink for GatedSink {
     ghost use Rattle.std.specs.Prelude.{None};
 
-    ghost writing = { λ s. record { written = None; flushed = None; faults = s.faults; refused = 0 } };
+    ghost writing = { λ s. record {
+      written = None;
+      flushed = None;
+      faults = s.faults;
+      refused = 0;
+    } };
 
     fn write(&mut self, bytes: &[u8]) -> Result<usize, Failed> {
         self.writes = self.writes.saturating_add(1);
@@ -116,7 +122,8 @@ impl Sink for GatedSink {
     }
 }
 
-/// The sink's first write is held until the source's second read began, and that until the sink's first write began.
+/// The sink's first write is held until the source's second read began, and that until the sink's
+/// first write began.
 #[test]
 fn gate_pump(rt: HostRuntime) -> Result<(), Fail> {
     let (here, there) = gates(rt.alloc())?;

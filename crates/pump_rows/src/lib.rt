@@ -1,5 +1,5 @@
-//! The pump of a source to a sink, and the pipes in memory that several owners share, with real threads. These tests are in a
-//! crate of their own, since a crate with tests is proved twice.
+//! The pump of a source to a sink, and the pipes in memory that several owners share, with real
+//! threads. These tests are in a crate of their own, since a crate with tests is proved twice.
 #![tactic(auto)]
 
 #[cfg(test)]

@@ -9,7 +9,8 @@ use wasi_streams::StreamError;
 use worker_shared::Ended;
 use world_io::MemorySource;
 
-/// Whatever call of the source fails, reads give what it gave before, the fault once, and then `Closed`.
+/// Whatever call of the source fails, reads give what it gave before, the fault once, and then
+/// `Closed`.
 #[test]
 fn the_source_fails_at_each_call_in_turn(rt: HostRuntime) -> Result<(), Fail> {
     let bytes = pattern(rt.alloc(), 600)?;

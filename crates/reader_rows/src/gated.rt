@@ -20,8 +20,9 @@ const FAULT: Answer = Answer::Error(StreamError::LastOperationFailed(ErrorCode::
 
 const NOTHING: Answer = Answer::Count(0);
 
-/// Takes the steps on a stream over 123 bytes, of which the source gives at most `most` at a time and whose calls with
-/// these numbers fail. Each step is to be answered so, and then the stream is to end so.
+/// Takes the steps on a stream over 123 bytes, of which the source gives at most `most` at a time
+/// and whose calls with these numbers fail. Each step is to be answered so, and then the stream is
+/// to end so.
 fn plays<R: Threads + Wait + Abort + Copy + Send + 'static>(
     rt: &R,
     alloc: Global,

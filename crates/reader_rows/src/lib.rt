@@ -1,5 +1,5 @@
-//! The read stream with its worker in a real thread. These tests are in a crate of their own, since a crate with tests
-//! is proved twice.
+//! The read stream with its worker in a real thread. These tests are in a crate of their own, since
+//! a crate with tests is proved twice.
 #![tactic(auto)]
 
 #[cfg(test)]

@@ -7,8 +7,8 @@ use wasi_spawn::ThreadSpawner;
 use wasi_streams::StreamError;
 use world_io::MemorySource;
 
-/// The number of bytes, and the sizes of pieces and of the source's reads: small, odd and large. A source with no bytes ends at
-/// once.
+/// The number of bytes, and the sizes of pieces and of the source's reads: small, odd and large. A
+/// source with no bytes ends at once.
 const SIZES: [(usize, usize, usize); 10] = [
     (0, 0, 1),
     (1_000_000, 4096, 700),

@@ -9,14 +9,15 @@ use wasi_commands::{Done, run_main};
 use wasi_spawn::FakeSpawner;
 use world_io::{MemorySink, MemorySource};
 
-/// The numbers of the calls that fail, counted from 1: the reads of the scenario, the reads of the script, the writes, and the
-/// starts of workers that write and that read.
+/// The numbers of the calls that fail, counted from 1: the reads of the scenario, the reads of the
+/// script, the writes, and the starts of workers that write and that read.
 pub type Failing<'a> = [&'a [u32]; 5];
 
 /// None fails.
 pub const NONE: Failing<'static> = [&[], &[], &[], &[], &[]];
 
-/// The faults of a source and of a sink, the pieces that the sink refused, and how many bytes of the script were not read.
+/// The faults of a source and of a sink, the pieces that the sink refused, and how many bytes of
+/// the script were not read.
 pub type Counts = (u64, u64, u64, usize);
 
 /// What is handed to the program, and how its streams behave.
@@ -75,7 +76,8 @@ impl<'a> Given<'a> {
         ))
     }
 
-    /// Its status, its bad line, the length of its log, and what it wrote; and what its streams counted.
+    /// Its status, its bad line, the length of its log, and what it wrote; and what its streams
+    /// counted.
     pub fn end<R: Threads + Wait + Copy + Send + 'static>(
         &self,
         rt: &R,

@@ -1,5 +1,6 @@
-//! Tests of runs that a transcript can't say: statuses, sources and sinks that fail, a full table of handles, replies that no
-//! script reaches, drawn scripts; what a check of transcripts prints; and the line that a program shows.
+//! Tests of runs that a transcript can't say: statuses, sources and sinks that fail, a full table
+//! of handles, replies that no script reaches, drawn scripts; what a check of transcripts prints;
+//! and the line that a program shows.
 #![tactic(auto)]
 
 #[cfg(test)]

@@ -1,4 +1,5 @@
-//! How runs end: by their words, limits and scenarios, and over sources and sinks that fail or are full.
+//! How runs end: by their words, limits and scenarios, and over sources and sinks that fail or are
+//! full.
 
 use crate::given::{Counts, Failing, Given, NONE};
 use crate::same::same;
@@ -12,7 +13,8 @@ type Words = &'static [&'static str];
 
 const RUN: Words = &["run", "1000"];
 
-/// The words, the scenario and the script; then the status, its line, the length of the log, and the replies.
+/// The words, the scenario and the script; then the status, its line, the length of the log, and
+/// the replies.
 const RUNS: [(Words, &[u8], &[u8], &str); 29] = [
     (RUN, b"", b"", "0 0 0: "),
     (&["run", "0"], b"", b"", "0 0 0: "),
@@ -88,9 +90,10 @@ fn runs_end_by_their_words_and_texts(rt: HostRuntime) -> Result<(), Fail> {
     Ok(())
 }
 
-/// The words, the calls that fail, and the room of the sink; then how the run of the script above ends, and what its streams
-/// counted. A scenario is read before anything is run; the script is read once, and then its end; each reply is written at
-/// once. Where a worker of a pump isn't started, nothing is read or written.
+/// The words, the calls that fail, and the room of the sink; then how the run of the script above
+/// ends, and what its streams counted. A scenario is read before anything is run; the script is
+/// read once, and then its end; each reply is written at once. Where a worker of a pump isn't
+/// started, nothing is read or written.
 const FAILING: [(Words, Failing<'static>, usize, &str, Counts); 20] = [
     (
         RUN,

@@ -1,5 +1,5 @@
-//! What TCP and UDP sockets have in common: who asks, polls in rounds, whether a socket is bound, and the options of
-//! its network socket (`sockets/util` of the crate `wasmtime-wasi`).
+//! What TCP and UDP sockets have in common: who asks, polls in rounds, whether a socket is bound,
+//! and the options of its network socket (`sockets/util` of the crate `wasmtime-wasi`).
 #![tactic(auto)]
 
 mod asker;

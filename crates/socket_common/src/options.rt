@@ -1,16 +1,19 @@
-//! The options of a socket's network socket. One table (specs/Options) says of each option which values it has, when 0 is
-//! refused, which value is set for one that is given, and which is answered for one that is reported.
+//! The options of a socket's network socket. One table (specs/Options) says of each option which
+//! values it has, when 0 is refused, which value is set for one that is given, and which is
+//! answered for one that is reported.
 
 ghost use Rattle.std.specs.Prelude.{◌≡◌, ◌≤◌, false, Ok, OnErr, IfOk};
 ghost use Rattle.wasi_world.specs.Asks.{AsksFor, outcome};
-ghost use Rattle.socket_common.specs.Options.{largest_value, value_told, option_within, option_answer, option_of, number_of, get_of_side_asks, set_of_side_asks};
+ghost use Rattle.socket_common.specs.Options.{largest_value, value_told, option_within};
+ghost use Rattle.socket_common.specs.Options.{option_answer, option_of, number_of};
+ghost use Rattle.socket_common.specs.Options.{get_of_side_asks, set_of_side_asks};
 
 use crate::setting::Setting;
 use wasi_addr::{ErrorCode, normalize_get_buffer_size};
 use wasi_world::{OpId, Opt, Refusal, Sock, World, asks};
 
-/// The largest value of an option: 1, which is yes, 4,294,967,295 probes, 255 hops, and for a time in nanoseconds or a
-/// size in bytes the largest `u64`.
+/// The largest value of an option: 1, which is yes, 4,294,967,295 probes, 255 hops, and for a time
+/// in nanoseconds or a size in bytes the largest `u64`.
 pub fn largest_value(option: Opt) -> u64
     ensures { result ≡ largest_value option }
 {
@@ -74,7 +77,8 @@ pub fn get_of_side<W: World>(
     option: Opt,
 ) -> Result<u64, Refusal>
     requires { (W.seen world.old).ended ≡ false }
-    ensures asked { AsksFor (get_of_side_asks op side option) (W.seen world.old) (W.seen world.new) (λ answer. answer) (outcome result) }
+    ensures asked { AsksFor (get_of_side_asks op side option) (W.seen world.old) (W.seen world.new)
+        (λ answer. answer) (outcome result) }
     ensures within { IfOk result (λ answer. answer ≤ largest_value option) }
     ensures unasked { OnErr (outcome result) (W.seen world.new ≡ W.seen world.old) }
 {
@@ -95,7 +99,8 @@ pub fn set_of_side<W: World>(
     setting: Setting,
 ) -> Result<(), Refusal>
     requires { (W.seen world.old).ended ≡ false }
-    ensures asked { AsksFor (set_of_side_asks op side (option_of setting) (number_of setting)) (W.seen world.old) (W.seen world.new) (λ answer. answer) (outcome result) }
+    ensures asked { AsksFor (set_of_side_asks op side (option_of setting) (number_of setting))
+        (W.seen world.old) (W.seen world.new) (λ answer. answer) (outcome result) }
     ensures unasked { OnErr (outcome result) (W.seen world.new ≡ W.seen world.old) }
 {
     if setting.refused_after_state() {

@@ -9,7 +9,8 @@ use wasi_world::{Answer, Refusal, World};
 /// How many rounds one poll has at most, and so how many arrivals or datagrams it refuses.
 const MOST_ROUNDS: usize = 64;
 
-/// An operation that is polled in rounds: an accept, or a receive. A round ends the poll, or is refused.
+/// An operation that is polled in rounds: an accept, or a receive. A round ends the poll, or is
+/// refused.
 pub trait InRounds {
     ghost use Rattle.std.specs.Prelude.{◌≡◌, true, false};
     ghost use Rattle.wasi_world.specs.Operation.{Operation, Given, Nothing};
@@ -28,7 +29,8 @@ pub trait InRounds {
     fn round<W: World>(&mut self, world: &mut W) -> Result<Option<Answer<Self::Out>>, Refusal>
         requires open { (W.seen world.old).ended ≡ false }
         requires going { is_going (operation self.old) ≡ true }
-        ensures round { RoundFor gives Nothing (operation self.old) (operation self.new) (W.seen world.old) (W.seen world.new) result }
+        ensures round { RoundFor gives Nothing (operation self.old) (operation self.new)
+            (W.seen world.old) (W.seen world.new) result }
         ensures open { (W.seen world.new).ended ≡ false };
 }
 
@@ -40,7 +42,8 @@ pub fn poll_rounds<O: InRounds, W: World>(
 ) -> Result<Answer<O::Out>, Refusal>
     requires open { (W.seen world.old).ended ≡ false }
     requires going { is_going (O.operation operation.old) ≡ true }
-    ensures polled { PollsRounds O.gives Nothing (O.operation operation.old) (O.operation operation.new) (W.seen world.old) (W.seen world.new) result }
+    ensures polled { PollsRounds O.gives Nothing (O.operation operation.old)
+        (O.operation operation.new) (W.seen world.old) (W.seen world.new) result }
     ensures open { (W.seen world.new).ended ≡ false }
 {
     for _refused in 0..MOST_ROUNDS {

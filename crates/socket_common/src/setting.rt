@@ -1,7 +1,8 @@
 //! What an option is set to.
 
 ghost use Rattle.std.specs.Prelude.{◌≡◌};
-ghost use Rattle.socket_common.specs.Options.{zero_test, refused_before, refused_after, value_set, option_of, number_of};
+ghost use Rattle.socket_common.specs.Options.{zero_test, refused_before, refused_after, value_set};
+ghost use Rattle.socket_common.specs.Options.{option_of, number_of};
 
 use wasi_addr::{clamp_keep_alive_count, clamp_keep_alive_time, normalize_set_buffer_size};
 use wasi_world::Opt;

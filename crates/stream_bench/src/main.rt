@@ -1,7 +1,8 @@
-//! Times bytes that go through a write stream into memory, in pieces, beside one plain copy of the same bytes.
+//! Times bytes that go through a write stream into memory, in pieces, beside one plain copy of the
+//! same bytes.
 //!
-//! Its word is the number of rounds. Each prints how many nanoseconds the copy and the stream took. With no word there is
-//! none.
+//! Its word is the number of rounds. Each prints how many nanoseconds the copy and the stream took.
+//! With no word there is none.
 #![tactic(auto)]
 
 ghost use Rattle.std.specs.Prelude.{◌≡◌};

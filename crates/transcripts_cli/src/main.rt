@@ -1,5 +1,5 @@
-//! The program `transcripts`: prints what a script of `wasi:sockets` calls makes of the scripted network of
-//! `scenario.txt`, and runs files of such transcripts again.
+//! The program `transcripts`: prints what a script of `wasi:sockets` calls makes of the scripted
+//! network of `scenario.txt`, and runs files of such transcripts again.
 #![tactic(auto)]
 
 use std::process::ExitCode;

@@ -37,7 +37,8 @@ pub enum IpSocketAddress {
     Ipv6(Ipv6SocketAddress),
 }
 
-/// What an address is about to be used for; the embedder's check is told it (`SocketAddrUse` of `wasmtime-wasi`).
+/// What an address is about to be used for; the embedder's check is told it (`SocketAddrUse` of
+/// `wasmtime-wasi`).
 #[derive(Clone, Copy, Debug, PartialEq, Eq)]
 pub enum SocketAddrUse {
     TcpBind,

@@ -1,13 +1,15 @@
 //! Limits on the values of socket options (functions of `wasmtime-wasi`'s `sockets` module).
 
 ghost use Rattle.std.specs.Prelude.{◌≡◌};
-ghost use Rattle.wasi_addr.specs.Clamp.{clamped_keep_alive_time, clamped_keep_alive_count, clamped_backlog, clamped_buffer_size, halved_buffer_size};
+ghost use Rattle.wasi_addr.specs.Clamp.{clamped_keep_alive_time, clamped_keep_alive_count};
+ghost use Rattle.wasi_addr.specs.Clamp.{clamped_backlog, clamped_buffer_size, halved_buffer_size};
 
 const SECOND: u64 = 1_000_000_000;
 
 const LARGEST_INT: u64 = 2_147_483_647;
 
-/// A keep-alive time in nanoseconds, brought into one second to 32,767 seconds: the times that Linux takes.
+/// A keep-alive time in nanoseconds, brought into one second to 32,767 seconds: the times that
+/// Linux takes.
 pub fn clamp_keep_alive_time(value: u64) -> u64
     ensures { result ≡ clamped_keep_alive_time value }
 {

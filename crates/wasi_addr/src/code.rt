@@ -7,7 +7,8 @@ use crate::kind::NetKind;
 use std::error::Error;
 use std::fmt;
 
-/// Why a network call failed (`ErrorCode` of `wasmtime-wasi`'s `sockets` module). It prints as its variant's name.
+/// Why a network call failed (`ErrorCode` of `wasmtime-wasi`'s `sockets` module). It prints as its
+/// variant's name.
 #[derive(Clone, Copy, Debug, PartialEq, Eq)]
 pub enum ErrorCode {
     AccessDenied,
@@ -28,7 +29,8 @@ pub enum ErrorCode {
 }
 
 impl ErrorCode {
-    /// The base code of a system fault (`From<io::Error>` of `wasmtime-wasi`'s code, by kind alone).
+    /// The base code of a system fault (`From<io::Error>` of `wasmtime-wasi`'s code, by kind
+    /// alone).
     pub fn from_kind(kind: NetKind) -> ErrorCode
         ensures { result ≡ (codes_of_kind kind).base }
     {

@@ -1,10 +1,14 @@
-//! Conversions between the interface's addresses and std's (the `From` and `ToSocketAddrs` impls of `wasmtime-wasi`'s
-//! address types).
+//! Conversions between the interface's addresses and std's (the `From` and `ToSocketAddrs` impls of
+//! `wasmtime-wasi`'s address types).
 
 ghost use Rattle.std.specs.Prelude.{◌≡◌};
 ghost use Rattle.std.specs.Net.Addr.{IsIpv4Addr, IsIpv6Addr};
 ghost use Rattle.std.specs.Net.Socket.{IsSocketAddrV4, IsSocketAddrV6, IsSocketAddr};
-ghost use Rattle.wasi_addr.specs.Conversion.{AreInverse, IsIpAddr, ipv4_to_std, ipv4_from_std, ipv6_to_std, ipv6_from_std, ip_to_std, ip_from_std, ipv4_socket_to_std, ipv4_socket_from_std, ipv6_socket_to_std, ipv6_socket_from_std, socket_to_std, socket_from_std};
+ghost use Rattle.wasi_addr.specs.Conversion.{AreInverse, IsIpAddr, ipv4_to_std, ipv4_from_std};
+ghost use Rattle.wasi_addr.specs.Conversion.{ipv6_to_std, ipv6_from_std, ip_to_std, ip_from_std};
+ghost use Rattle.wasi_addr.specs.Conversion.{ipv4_socket_to_std, ipv4_socket_from_std};
+ghost use Rattle.wasi_addr.specs.Conversion.{ipv6_socket_to_std, ipv6_socket_from_std};
+ghost use Rattle.wasi_addr.specs.Conversion.{socket_to_std, socket_from_std};
 
 use crate::address::{IpAddress, IpSocketAddress, Ipv4SocketAddress, Ipv6SocketAddress};
 use std::net::{IpAddr, Ipv4Addr, Ipv6Addr, SocketAddr, SocketAddrV4, SocketAddrV6};
@@ -160,8 +164,9 @@ impl IpSocketAddress {
 
 /// Each conversion to std and the one from std are inverse both ways, flow info and scope included.
 ///
-/// It runs no code: its contract is a law about the definitions by which the conversions are stated. On std's side
-/// the law speaks of the values that std's types have: four bytes or eight segments, and numbers that fit.
+/// It runs no code: its contract is a law about the definitions by which the conversions are
+/// stated. On std's side the law speaks of the values that std's types have: four bytes or eight
+/// segments, and numbers that fit.
 pub fn conversions_are_inverse()
     ensures ipv4 { AreInverse ipv4_to_std ipv4_from_std IsIpv4Addr }
     ensures ipv6 { AreInverse ipv6_to_std ipv6_from_std IsIpv6Addr }

@@ -1,5 +1,5 @@
-//! Addresses, families and codes of the socket interface, the tests that are made on addresses, the limits on
-//! option values, and the conversions to and from std's addresses.
+//! Addresses, families and codes of the socket interface, the tests that are made on addresses, the
+//! limits on option values, and the conversions to and from std's addresses.
 //!
 //! Every call is total and takes no memory.
 #![tactic(auto)]

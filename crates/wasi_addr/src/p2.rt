@@ -33,7 +33,8 @@ pub enum ErrorCode {
 }
 
 impl ErrorCode {
-    /// The 0.2 code of a base code: `Other` and `ConnectionBroken` have no name in 0.2 and become `Unknown`.
+    /// The 0.2 code of a base code: `Other` and `ConnectionBroken` have no name in 0.2 and become
+    /// `Unknown`.
     pub fn from_code(code: code::ErrorCode) -> ErrorCode
         ensures { result ≡ p2_of_code code }
     {
@@ -69,8 +70,8 @@ impl ErrorCode {
         }
     }
 
-    /// The 0.2 code of a system fault. An interrupted call would block, and an unreachable network is `Unknown`
-    /// here, though the base code names it.
+    /// The 0.2 code of a system fault. An interrupted call would block, and an unreachable network
+    /// is `Unknown` here, though the base code names it.
     pub fn from_kind(kind: NetKind) -> ErrorCode
         ensures { result ≡ (codes_of_kind kind).p2 }
     {

@@ -50,8 +50,8 @@ impl ErrorCode {
         }
     }
 
-    /// The 0.3 code of a system fault. An unreachable network and a broken pipe are `Other` here, though the base
-    /// code names them.
+    /// The 0.3 code of a system fault. An unreachable network and a broken pipe are `Other` here,
+    /// though the base code names them.
     pub fn from_kind(kind: NetKind) -> ErrorCode
         ensures { result ≡ (codes_of_kind kind).p3 }
     {

@@ -1,7 +1,9 @@
 //! Tests on addresses (functions of `wasmtime-wasi`'s `sockets` module), and the wildcard.
 
 ghost use Rattle.std.specs.Prelude.{◌≡◌, ◌↔◌, ◌/◌, ◌%◌, true};
-ghost use Rattle.wasi_addr.specs.Address.{canonical, ip_of, port_of, is_deprecated, is_ipv6, is_of_family, is_unspecified, is_remote, is_unicast, is_wildcard, wildcard, same_address};
+ghost use Rattle.wasi_addr.specs.Address.{canonical, ip_of, port_of, is_deprecated, is_ipv6};
+ghost use Rattle.wasi_addr.specs.Address.{is_of_family, is_unspecified, is_remote, is_unicast};
+ghost use Rattle.wasi_addr.specs.Address.{is_wildcard, wildcard, same_address};
 ghost use Rattle.wasi_addr.specs.declared.address.SocketAddressFamily.{SocketAddressFamily};
 ghost use Rattle.wasi_addr.specs.declared.address.IpSocketAddress.{IpSocketAddress};
 
@@ -65,8 +67,8 @@ pub fn is_deprecated_ipv4_compatible(addr: IpAddress) -> bool
     }
 }
 
-/// Whether a socket of this family may use the address: IPv4 with IPv4; IPv6 with IPv6, unless it stands for an
-/// IPv4 address, as the deprecated compatible and the mapped ones do.
+/// Whether a socket of this family may use the address: IPv4 with IPv4; IPv6 with IPv6, unless it
+/// stands for an IPv4 address, as the deprecated compatible and the mapped ones do.
 pub fn is_valid_address_family(addr: IpAddress, socket_family: SocketAddressFamily) -> bool
     ensures { result ≡ is_of_family addr socket_family }
 {

@@ -1,7 +1,8 @@
 //! What the words of the program `sockets` ask for.
 
 ghost use Rattle.std.specs.Prelude.{◌≡◌, map, string_bytes};
-ghost use Rattle.wasi_commands.specs.Commands.{run_in, pump_in, limited_in, generate_in, command_in};
+ghost use Rattle.wasi_commands.specs.Commands.{run_in, pump_in, limited_in, generate_in};
+ghost use Rattle.wasi_commands.specs.Commands.{command_in};
 
 use world_text::fields::number;
 

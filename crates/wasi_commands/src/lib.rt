@@ -1,5 +1,5 @@
-//! The words of the program `sockets`, and what it does with them: it runs a script, pumps, or runs a generated
-//! script.
+//! The words of the program `sockets`, and what it does with them: it runs a script, pumps, or runs
+//! a generated script.
 #![tactic(auto)]
 
 pub mod commands;

@@ -1,13 +1,15 @@
 //! What the program does with its words.
 
-ghost use Rattle.std.specs.Prelude.{◌≡◌, ◌↔◌, ◌⊎◌, ◌<◌, ◌^◌, ℕ, None, map, string_bytes, length, [], false, List};
+ghost use Rattle.std.specs.Prelude.{◌≡◌, ◌↔◌, ◌⊎◌, ◌<◌, ◌^◌, ℕ, None, map, string_bytes, length};
+ghost use Rattle.std.specs.Prelude.{[], false, List};
 ghost use Rattle.wasi_world.specs.Contexts.{AreNumbered};
 ghost use Rattle.wasi_world.specs.Seen.{Rose};
 ghost use Rattle.world_scripted.specs.Scripted.{seen_by};
 ghost use Rattle.wasi_program.specs.Status.{number_of};
 ghost use Rattle.wasi_program.specs.Scenario.{IsPlanned};
 ghost use Rattle.wasi_commands.specs.Commands.{command_in, IsPump};
-ghost use Rattle.wasi_commands.specs.Program.{pump_status, RanText, RanMain, RunEnds, TextEnds, GeneratedEnds};
+ghost use Rattle.wasi_commands.specs.Program.{pump_status, RanText, RanMain, RunEnds, TextEnds};
+ghost use Rattle.wasi_commands.specs.Program.{GeneratedEnds};
 ghost use Rattle.wasi_commands.specs.Completeness.{ProgramCompletes};
 
 use crate::commands::{Command, command_in};
@@ -25,8 +27,8 @@ use wasi_world::{Entry, WasiSocketsCtx};
 use world_io::{Sink, Source};
 use world_scripted::ScriptedWorld;
 
-/// What the program gives back. `line` is the bad line of statuses 2 and 3, else 0; `log` is the log of the run, and empty
-/// where none began.
+/// What the program gives back. `line` is the bad line of statuses 2 and 3, else 0; `log` is the
+/// log of the run, and empty where none began.
 #[derive(Drop)]
 pub struct Done<S, K> {
     pub status: u8,
@@ -88,7 +90,9 @@ fn run_plan<S: Source, K: Sink>(
     requires open { (seen_by world).ended ≡ false }
     requires numbered { AreNumbered contexts.items }
     requires few { length contexts.items < 2 ^ 32 }
-    ensures { (text : List ℕ) → IsPlanned text world contexts.items → RanText limit text (S.reading source.old) (S.reading source.new) (K.writing sink.old) (K.writing sink.new) result.log.items result.line result.status }
+    ensures { (text : List ℕ) → IsPlanned text world contexts.items
+        → RanText limit text (S.reading source.old) (S.reading source.new) (K.writing sink.old)
+        (K.writing sink.new) result.log.items result.line result.status }
 {
     let outcome = run_script(alloc, &mut world, &mut contexts, limit, source, sink);
     Ended {
@@ -106,7 +110,8 @@ fn run_text<S: Source, K: Sink>(
     source: &mut S,
     sink: &mut K,
 ) -> Ended
-    ensures { TextEnds limit text.now (S.reading source.old) (S.reading source.new) (K.writing sink.old) (K.writing sink.new) result.log.items result.line result.status }
+    ensures { TextEnds limit text.now (S.reading source.old) (S.reading source.new)
+        (K.writing sink.old) (K.writing sink.new) result.log.items result.line result.status }
 {
     let Ok(scenario) = parse_scenario(alloc, text) else {
         return Ended::without_run(alloc, Status::Memory, 0);
@@ -129,7 +134,9 @@ fn run_scenario<C: Source, S: Source, K: Sink>(
     source: &mut S,
     sink: &mut K,
 ) -> Ended
-    ensures { RunEnds limit (C.reading scenario.old) (C.reading scenario.new) (S.reading source.old) (S.reading source.new) (K.writing sink.old) (K.writing sink.new) result.log.items result.line result.status }
+    ensures { RunEnds limit (C.reading scenario.old) (C.reading scenario.new) (S.reading source.old)
+        (S.reading source.new) (K.writing sink.old) (K.writing sink.new) result.log.items
+        result.line result.status }
 {
     let text = match read_scenario(alloc, scenario) {
         Ok(text) => text,
@@ -187,10 +194,17 @@ fn run_command<
     writers: &mut P,
     readers: &mut Q,
 ) -> Done<S, K>
-    ensures ran { RanMain (map (λ w. string_bytes w) words.now) (C.reading scenario.old) (C.reading scenario.new) (S.reading source) (S.reading result.source) (K.writing sink) (K.writing result.sink) result.log.items result.status result.line }
-    ensures words { (result.status ≡ 1) ↔ (command_in (map (λ w. string_bytes w) words.now) ≡ None) }
-    ensures no_worker { IsPump (command_in (map (λ w. string_bytes w) words.now)) → result.status ≡ 10 → Rose (P.refusals writers.old) (P.refusals writers.new) ⊎ Rose (Q.refusals readers.old) (Q.refusals readers.new) }
-    ensures started { IsPump (command_in (map (λ w. string_bytes w) words.now)) → result.status ≡ 0 → Rose (P.starts writers.old) (P.starts writers.new) × Rose (Q.starts readers.old) (Q.starts readers.new) }
+    ensures ran { RanMain (map (λ w. string_bytes w) words.now) (C.reading scenario.old)
+        (C.reading scenario.new) (S.reading source) (S.reading result.source) (K.writing sink)
+        (K.writing result.sink) result.log.items result.status result.line }
+    ensures words { (result.status ≡ 1) ↔ (command_in (map (λ w. string_bytes w) words.now)
+        ≡ None) }
+    ensures no_worker { IsPump (command_in (map (λ w. string_bytes w) words.now))
+        → result.status ≡ 10 → Rose (P.refusals writers.old) (P.refusals writers.new)
+        ⊎ Rose (Q.refusals readers.old) (Q.refusals readers.new) }
+    ensures started { IsPump (command_in (map (λ w. string_bytes w) words.now)) → result.status ≡ 0
+        → Rose (P.starts writers.old) (P.starts writers.new)
+        × Rose (Q.starts readers.old) (Q.starts readers.new) }
 {
     match command_in(words) {
         None => return Ended::without_run(alloc, Status::BadWords, 0).with(source, sink),
@@ -211,13 +225,16 @@ fn run_command<
     }
 }
 
-/// Does what the program's words say. `run LIMIT` reads the scenario, and then runs the script that the source gives, of at
-/// most LIMIT bytes, over the scenario's world; replies go to the sink. `pump BUDGET` moves all bytes of the source to the
-/// sink, by streams with this budget and a worker each, which `readers` and `writers` start; it may wait for its workers.
-/// `gen SEED STEPS` runs the script that is generated from the seed, of at most 100000 lines, over the empty scenario, and
-/// writes one line to the sink, which says what it came to; it reads nothing. Other words are status 1.
+/// Does what the program's words say. `run LIMIT` reads the scenario, and then runs the script that
+/// the source gives, of at most LIMIT bytes, over the scenario's world; replies go to the sink.
+/// `pump BUDGET` moves all bytes of the source to the sink, by streams with this budget and a
+/// worker each, which `readers` and `writers` start; it may wait for its workers. `gen SEED STEPS`
+/// runs the script that is generated from the seed, of at most 100000 lines, over the empty
+/// scenario, and writes one line to the sink, which says what it came to; it reads nothing. Other
+/// words are status 1.
 ///
-/// The words are tested first, then the scenario is read whole (a failed read is status 8), then it is parsed (status 2).
+/// The words are tested first, then the scenario is read whole (a failed read is status 8), then it
+/// is parsed (status 2).
 pub fn run_main<
     R: Threads + Wait + Copy + Send + 'static,
     C: Source,
@@ -235,11 +252,22 @@ pub fn run_main<
     writers: &mut P,
     readers: &mut Q,
 ) -> Done<S, K>
-    ensures ran { RanMain (map (λ w. string_bytes w) words.now) (C.reading scenario.old) (C.reading scenario.new) (S.reading source) (S.reading result.source) (K.writing sink) (K.writing result.sink) result.log.items result.status result.line }
-    ensures complete { ProgramCompletes (command_in (map (λ w. string_bytes w) words.now)) (C.reading scenario.old) (C.reading scenario.new) (S.reading source) (S.reading result.source) (K.writing sink) (K.writing result.sink) (Rose (P.refusals writers.old) (P.refusals writers.new) ⊎ Rose (Q.refusals readers.old) (Q.refusals readers.new)) result.status }
-    ensures words { (result.status ≡ 1) ↔ (command_in (map (λ w. string_bytes w) words.now) ≡ None) }
-    ensures no_worker { IsPump (command_in (map (λ w. string_bytes w) words.now)) → result.status ≡ 10 → Rose (P.refusals writers.old) (P.refusals writers.new) ⊎ Rose (Q.refusals readers.old) (Q.refusals readers.new) }
-    ensures started { IsPump (command_in (map (λ w. string_bytes w) words.now)) → result.status ≡ 0 → Rose (P.starts writers.old) (P.starts writers.new) × Rose (Q.starts readers.old) (Q.starts readers.new) }
+    ensures ran { RanMain (map (λ w. string_bytes w) words.now) (C.reading scenario.old)
+        (C.reading scenario.new) (S.reading source) (S.reading result.source) (K.writing sink)
+        (K.writing result.sink) result.log.items result.status result.line }
+    ensures complete { ProgramCompletes (command_in (map (λ w. string_bytes w) words.now))
+        (C.reading scenario.old) (C.reading scenario.new) (S.reading source)
+        (S.reading result.source) (K.writing sink) (K.writing result.sink)
+        (Rose (P.refusals writers.old) (P.refusals writers.new)
+        ⊎ Rose (Q.refusals readers.old) (Q.refusals readers.new)) result.status }
+    ensures words { (result.status ≡ 1) ↔ (command_in (map (λ w. string_bytes w) words.now)
+        ≡ None) }
+    ensures no_worker { IsPump (command_in (map (λ w. string_bytes w) words.now))
+        → result.status ≡ 10 → Rose (P.refusals writers.old) (P.refusals writers.new)
+        ⊎ Rose (Q.refusals readers.old) (Q.refusals readers.new) }
+    ensures started { IsPump (command_in (map (λ w. string_bytes w) words.now)) → result.status ≡ 0
+        → Rose (P.starts writers.old) (P.starts writers.new)
+        × Rose (Q.starts readers.old) (Q.starts readers.new) }
 {
     run_command(rt, alloc, words, scenario, source, sink, writers, readers)
 }

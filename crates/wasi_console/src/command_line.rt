@@ -7,8 +7,8 @@ use std::env::Env;
 use std::{env, io};
 use wasi_program::Status;
 
-/// The words after the program's name, in order. A word that isn't UTF-8 is a faulty command line: `BadWords`. Takes memory for
-/// the words; where it runs out: `Memory`.
+/// The words after the program's name, in order. A word that isn't UTF-8 is a faulty command line:
+/// `BadWords`. Takes memory for the words; where it runs out: `Memory`.
 pub fn words<R: Env + AllocGlobal>(rt: &R) -> Result<Vec<String>, Status>
     ensures { IfErr result IsWantOfWords }
 {

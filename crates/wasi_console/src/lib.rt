@@ -1,4 +1,5 @@
-//! What the programs share: the words of their command lines, and what they print on standard error when they stop.
+//! What the programs share: the words of their command lines, and what they print on standard error
+//! when they stop.
 #![tactic(auto)]
 
 mod command_line;

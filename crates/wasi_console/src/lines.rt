@@ -11,7 +11,8 @@ const MOST_SHOWN: usize = 80;
 /// The size of the pieces that are remembered; scripts are read in pieces of this size.
 const PIECE_SIZE: usize = 4096;
 
-/// The first bytes of a line, at most 80. Displayed with each byte that isn't printable ASCII escaped, as `\n` or `\xff`.
+/// The first bytes of a line, at most 80. Displayed with each byte that isn't printable ASCII
+/// escaped, as `\n` or `\xff`.
 #[derive(Clone, Copy)]
 pub struct Front {
     bytes: [u8; MOST_SHOWN],
@@ -99,7 +100,8 @@ impl LastPiece {
         self.len = 0;
     }
 
-    /// Keeps the next piece. One that is larger than those of a script is not kept, and no line is found from then on.
+    /// Keeps the next piece. One that is larger than those of a script is not kept, and no line is
+    /// found from then on.
     fn remember(&mut self, piece: &[u8]) {
         self.settle();
         let len = piece.len();
@@ -133,8 +135,8 @@ impl LastPiece {
     }
 }
 
-/// A source that passes on what another one gives, and remembers the last piece of it, of at most 4096 bytes. Takes no memory
-/// beside its own.
+/// A source that passes on what another one gives, and remembers the last piece of it, of at most
+/// 4096 bytes. Takes no memory beside its own.
 #[derive(Drop)]
 pub struct LineSource<S> {
     inner: S,

@@ -1,4 +1,5 @@
-//! What a program prints on standard error when it stops: its status, for programs, and what is wrong, for a person.
+//! What a program prints on standard error when it stops: its status, for programs, and what is
+//! wrong, for a person.
 
 ghost use Rattle.std.specs.Prelude.{◌≡◌};
 ghost use Rattle.std.specs.Process.{exit_status};
@@ -19,7 +20,8 @@ const SCENARIO_LINES: &str =
 const SCRIPT_LINES: &str =
     "a call such as `0 network`, `turn` or `poll 3`, with the number of a context in front where it is a guest's, ended by a newline (--help lists the calls)";
 
-/// Writes texts to standard output, one after another, and ends with status 0, or with that of a failed write.
+/// Writes texts to standard output, one after another, and ends with status 0, or with that of a
+/// failed write.
 pub fn print<R: Print + Eprint>(rt: &R, texts: &[&str]) -> ExitCode
     ensures { IsEndOfPrint (exit_status result) }
 {
@@ -31,8 +33,9 @@ pub fn print<R: Print + Eprint>(rt: &R, texts: &[&str]) -> ExitCode
     ExitCode::from(Status::Ok.number())
 }
 
-/// Prints the status on standard error, unless it is Ok, with the line of a bad scenario or script; then, on a line of its own,
-/// what is wrong in a person's words, with the front of that line. Returns the status as the program's.
+/// Prints the status on standard error, unless it is Ok, with the line of a bad scenario or script;
+/// then, on a line of its own, what is wrong in a person's words, with the front of that line.
+/// Returns the status as the program's.
 pub fn end<R: Eprint>(rt: &R, status: Status, line: u32, front: Option<Front>) -> ExitCode
     ensures { exit_status result ≡ number_of status }
 {

@@ -5,7 +5,11 @@ ghost use Rattle.std.specs.Prelude.{◌≡◌, false, take, drop, IfOk, Some};
 ghost use Rattle.wasi_world.specs.declared.outcome.Answer.TheVariants.{Pending};
 ghost use Rattle.wasi_world.specs.Asks.{AsksFor};
 ghost use Rattle.wasi_world.specs.Seen.{Seen};
-ghost use Rattle.wasi_host.specs.Blocking.{look_at, look_on, look_asks, blocking_read_asks, blocking_skip_asks, blocking_flush_asks, last_check_asks, finish_write_asks, write_rounds, blocking_write_asks, blocking_zeroes_asks, blocking_splice_asks};
+ghost use Rattle.wasi_host.specs.Blocking.{look_at, look_on, look_asks, blocking_read_asks};
+ghost use Rattle.wasi_host.specs.Blocking.{blocking_skip_asks, blocking_flush_asks};
+ghost use Rattle.wasi_host.specs.Blocking.{last_check_asks, finish_write_asks, write_rounds};
+ghost use Rattle.wasi_host.specs.Blocking.{blocking_write_asks, blocking_zeroes_asks};
+ghost use Rattle.wasi_host.specs.Blocking.{blocking_splice_asks};
 ghost use Rattle.wasi_records.specs.Stops.{fault_outcome};
 ghost use Rattle.wasi_host.specs.CallStops.{call_outcome};
 ghost use Rattle.wasi_host.specs.Machine.{own_of, input_at};
@@ -83,8 +87,11 @@ impl Store {
         place: usize,
     ) -> Result<bool, Fault>
         requires { (W.seen world.old).ended ≡ false }
-        ensures asked { AsksFor (look_at self.old op place (tcp2_at self.old.records place)) (W.seen world.old) (W.seen world.new) (λ ready. (ready, self.new)) (fault_outcome result) }
-        ensures sides { KnowsSides (W.seen world.old) self.old → KnowsSides (W.seen world.new) self.new }
+        ensures asked { AsksFor (look_at self.old op place (tcp2_at self.old.records place))
+            (W.seen world.old) (W.seen world.new) (λ ready. (ready, self.new))
+            (fault_outcome result) }
+        ensures sides { KnowsSides (W.seen world.old) self.old
+            → KnowsSides (W.seen world.new) self.new }
     {
         let Some(record) = tcp2_mut(&mut self.records, place) else {
             return Err(Fault::Trap(TrapKind::NoSuchHandle));
@@ -95,7 +102,10 @@ impl Store {
     /// Stores the call as pending, under its line's number.
     pub(crate) fn block_as<T>(&mut self, ids: Ids, call: BlockingCall) -> Answer<T>
         ensures answer { result ≡ Pending }
-        ensures state { self.new ≡ record self.old { standing = Some (standing_as ids (StandingCall.Blocking call)) } }
+        ensures state { self.new ≡ record self.old {
+          standing = Some
+              (standing_as ids (StandingCall.Blocking call));
+        } }
         ensures sides { (s : Seen) → KnowsSides s self.old → KnowsSides s self.new }
     {
         let call = StandingCall::Blocking(call);
@@ -137,8 +147,11 @@ fn input_ready<W: World>(
     input: Handle,
 ) -> Result<bool, CallError>
     requires { (W.seen world.old).ended ≡ false }
-    ensures asked { AsksFor (look_asks (state_of view.old) (own_of ids.old.line) input) (W.seen world.old) (W.seen world.new) (λ done. (done, state_of view.new)) (call_outcome result) }
-    ensures kept { HostKept view.old view.new ids.old ids.new (W.seen world.old) (W.seen world.new) }
+    ensures asked { AsksFor (look_asks (state_of view.old) (own_of ids.old.line) input)
+        (W.seen world.old) (W.seen world.new) (λ done. (done, state_of view.new))
+        (call_outcome result) }
+    ensures kept { HostKept view.old view.new ids.old ids.new (W.seen world.old)
+        (W.seen world.new) }
 {
     match handles::plain_input(view.table, input) {
         Some(_) => Ok(true),
@@ -154,8 +167,11 @@ fn connection_ready<W: World>(
     input: Handle,
 ) -> Result<bool, CallError>
     requires { (W.seen world.old).ended ≡ false }
-    ensures asked { AsksFor (look_on (state_of view.old) (own_of ids.old.line) (input_at (state_of view.old) input)) (W.seen world.old) (W.seen world.new) (λ done. (done, state_of view.new)) (call_outcome result) }
-    ensures kept { HostKept view.old view.new ids.old ids.new (W.seen world.old) (W.seen world.new) }
+    ensures asked { AsksFor (look_on (state_of view.old) (own_of ids.old.line)
+        (input_at (state_of view.old) input)) (W.seen world.old) (W.seen world.new)
+        (λ done. (done, state_of view.new)) (call_outcome result) }
+    ensures kept { HostKept view.old view.new ids.old ids.new (W.seen world.old)
+        (W.seen world.new) }
 {
     let place = handles::input(view.table, input)?;
     let ready = view.store.input_ready(world, ids.own(), place)?;
@@ -173,8 +189,11 @@ pub fn blocking_read<W: World>(
     len: u64,
 ) -> Result<Answer<Octets>, CallError>
     requires { (W.seen world.old).ended ≡ false }
-    ensures asked { AsksFor (blocking_read_asks (state_of view.old) ids.old input len) (W.seen world.old) (W.seen world.new) (λ done. (done, state_of view.new)) (call_outcome result) }
-    ensures kept { HostKept view.old view.new ids.old ids.new (W.seen world.old) (W.seen world.new) }
+    ensures asked { AsksFor (blocking_read_asks (state_of view.old) ids.old input len)
+        (W.seen world.old) (W.seen world.new) (λ done. (done, state_of view.new))
+        (call_outcome result) }
+    ensures kept { HostKept view.old view.new ids.old ids.new (W.seen world.old)
+        (W.seen world.new) }
 {
     if !input_ready(view, world, ids, input)? {
         let call = BlockingCall::Read { input, len };
@@ -202,8 +221,11 @@ pub fn blocking_skip<W: World>(
     len: u64,
 ) -> Result<Answer<u64>, CallError>
     requires { (W.seen world.old).ended ≡ false }
-    ensures asked { AsksFor (blocking_skip_asks (state_of view.old) ids.old input len) (W.seen world.old) (W.seen world.new) (λ done. (done, state_of view.new)) (call_outcome result) }
-    ensures kept { HostKept view.old view.new ids.old ids.new (W.seen world.old) (W.seen world.new) }
+    ensures asked { AsksFor (blocking_skip_asks (state_of view.old) ids.old input len)
+        (W.seen world.old) (W.seen world.new) (λ done. (done, state_of view.new))
+        (call_outcome result) }
+    ensures kept { HostKept view.old view.new ids.old ids.new (W.seen world.old)
+        (W.seen world.new) }
 {
     if !input_ready(view, world, ids, input)? {
         let call = BlockingCall::Skip { input, len };
@@ -228,8 +250,11 @@ pub fn blocking_flush<W: World>(
     output: Handle,
 ) -> Result<Answer<()>, CallError>
     requires { (W.seen world.old).ended ≡ false }
-    ensures asked { AsksFor (blocking_flush_asks (state_of view.old) ids.old output) (W.seen world.old) (W.seen world.new) (λ done. (done, state_of view.new)) (call_outcome result) }
-    ensures kept { HostKept view.old view.new ids.old ids.new (W.seen world.old) (W.seen world.new) }
+    ensures asked { AsksFor (blocking_flush_asks (state_of view.old) ids.old output)
+        (W.seen world.old) (W.seen world.new) (λ done. (done, state_of view.new))
+        (call_outcome result) }
+    ensures kept { HostKept view.old view.new ids.old ids.new (W.seen world.old)
+        (W.seen world.new) }
 {
     flush(view, world, ids, output)?;
     let permit = check_write(view, world, ids, output)?;
@@ -248,8 +273,10 @@ pub(crate) fn last_check<W: World>(
     output: Handle,
 ) -> Result<Answer<()>, CallError>
     requires { (W.seen world.old).ended ≡ false }
-    ensures asked { AsksFor (last_check_asks (state_of view.old) ids.old output) (W.seen world.old) (W.seen world.new) (λ done. (done, state_of view.new)) (call_outcome result) }
-    ensures kept { HostKept view.old view.new ids.old ids.new (W.seen world.old) (W.seen world.new) }
+    ensures asked { AsksFor (last_check_asks (state_of view.old) ids.old output) (W.seen world.old)
+        (W.seen world.new) (λ done. (done, state_of view.new)) (call_outcome result) }
+    ensures kept { HostKept view.old view.new ids.old ids.new (W.seen world.old)
+        (W.seen world.new) }
 {
     match check_write(view, world, ids, output) {
         Ok(0) => {
@@ -269,8 +296,11 @@ fn finish_write<W: World>(
     output: Handle,
 ) -> Result<Answer<()>, CallError>
     requires { (W.seen world.old).ended ≡ false }
-    ensures asked { AsksFor (finish_write_asks (state_of view.old) ids.old output) (W.seen world.old) (W.seen world.new) (λ done. (done, state_of view.new)) (call_outcome result) }
-    ensures kept { HostKept view.old view.new ids.old ids.new (W.seen world.old) (W.seen world.new) }
+    ensures asked { AsksFor (finish_write_asks (state_of view.old) ids.old output)
+        (W.seen world.old) (W.seen world.new) (λ done. (done, state_of view.new))
+        (call_outcome result) }
+    ensures kept { HostKept view.old view.new ids.old ids.new (W.seen world.old)
+        (W.seen world.new) }
 {
     match flush(view, world, ids, output) {
         Ok(()) => last_check(view, world, ids, output),
@@ -289,8 +319,11 @@ pub(crate) fn write_rounds<W: World>(
     rounds: u32,
 ) -> Result<Answer<()>, CallError>
     requires { (W.seen world.old).ended ≡ false }
-    ensures asked { AsksFor (write_rounds rounds ids.old output (state_of view.old) rest) (W.seen world.old) (W.seen world.new) (λ done. (done, state_of view.new)) (call_outcome result) }
-    ensures kept { HostKept view.old view.new ids.old ids.new (W.seen world.old) (W.seen world.new) }
+    ensures asked { AsksFor (write_rounds rounds ids.old output (state_of view.old) rest)
+        (W.seen world.old) (W.seen world.new) (λ done. (done, state_of view.new))
+        (call_outcome result) }
+    ensures kept { HostKept view.old view.new ids.old ids.new (W.seen world.old)
+        (W.seen world.new) }
 {
     if rounds == 0 {
         let call = BlockingCall::Write { output, rest };
@@ -322,8 +355,11 @@ pub fn blocking_write_and_flush<W: World>(
     bytes: Octets,
 ) -> Result<Answer<()>, CallError>
     requires { (W.seen world.old).ended ≡ false }
-    ensures asked { AsksFor (blocking_write_asks (state_of view.old) ids.old output bytes) (W.seen world.old) (W.seen world.new) (λ done. (done, state_of view.new)) (call_outcome result) }
-    ensures kept { HostKept view.old view.new ids.old ids.new (W.seen world.old) (W.seen world.new) }
+    ensures asked { AsksFor (blocking_write_asks (state_of view.old) ids.old output bytes)
+        (W.seen world.old) (W.seen world.new) (λ done. (done, state_of view.new))
+        (call_outcome result) }
+    ensures kept { HostKept view.old view.new ids.old ids.new (W.seen world.old)
+        (W.seen world.new) }
 {
     handles::writable(view.table, output)?;
     if bytes.len() as u64 > MOST_BYTES {
@@ -345,8 +381,11 @@ pub fn blocking_write_zeroes_and_flush<W: World>(
     len: u64,
 ) -> Result<Answer<()>, CallError>
     requires { (W.seen world.old).ended ≡ false }
-    ensures asked { AsksFor (blocking_zeroes_asks (state_of view.old) ids.old output len) (W.seen world.old) (W.seen world.new) (λ done. (done, state_of view.new)) (call_outcome result) }
-    ensures kept { HostKept view.old view.new ids.old ids.new (W.seen world.old) (W.seen world.new) }
+    ensures asked { AsksFor (blocking_zeroes_asks (state_of view.old) ids.old output len)
+        (W.seen world.old) (W.seen world.new) (λ done. (done, state_of view.new))
+        (call_outcome result) }
+    ensures kept { HostKept view.old view.new ids.old ids.new (W.seen world.old)
+        (W.seen world.new) }
 {
     handles::writable(view.table, output)?;
     if len > MOST_BYTES {
@@ -369,8 +408,11 @@ pub fn blocking_splice<W: World>(
     len: u64,
 ) -> Result<Answer<u64>, CallError>
     requires { (W.seen world.old).ended ≡ false }
-    ensures asked { AsksFor (blocking_splice_asks (state_of view.old) ids.old output input len) (W.seen world.old) (W.seen world.new) (λ done. (done, state_of view.new)) (call_outcome result) }
-    ensures kept { HostKept view.old view.new ids.old ids.new (W.seen world.old) (W.seen world.new) }
+    ensures asked { AsksFor (blocking_splice_asks (state_of view.old) ids.old output input len)
+        (W.seen world.old) (W.seen world.new) (λ done. (done, state_of view.new))
+        (call_outcome result) }
+    ensures kept { HostKept view.old view.new ids.old ids.new (W.seen world.old)
+        (W.seen world.new) }
 {
     handles::writable(view.table, output)?;
     handles::readable(view.table, input)?;

@@ -3,7 +3,9 @@
 ghost use Rattle.std.specs.Prelude.{◌≡◌, false};
 ghost use Rattle.wasi_world.specs.Asks.{AsksFor};
 ghost use Rattle.wasi_world.specs.Seen.{Seen};
-ghost use Rattle.wasi_host.specs.Cancel.{other_than_datagram, cancel_bind_at, cancel_udp_bind_at, cancel_listen_at, cancel_create_at, cancel_udp_connect_at, cancel_drop_outgoing_at, cancel_on, cancel_asks};
+ghost use Rattle.wasi_host.specs.Cancel.{other_than_datagram, cancel_bind_at, cancel_udp_bind_at};
+ghost use Rattle.wasi_host.specs.Cancel.{cancel_listen_at, cancel_create_at, cancel_udp_connect_at};
+ghost use Rattle.wasi_host.specs.Cancel.{cancel_drop_outgoing_at, cancel_on, cancel_asks};
 ghost use Rattle.wasi_records.specs.Records.{tcp2_at, udp2_at, open_at};
 ghost use Rattle.wasi_host.specs.KnownSides.{KnowsSides};
 ghost use Rattle.wasi_host.specs.Views.{SameView, state_of};
@@ -31,8 +33,10 @@ impl Store {
     /// and the socket stays closed.
     fn cancel_listen<W: World>(&mut self, world: &mut W, place: usize) -> Result<(), AllocError>
         requires { (W.seen world.old).ended ≡ false }
-        ensures asked { AsksFor (cancel_listen_at self.old place (tcp2_at self.old.records place)) (W.seen world.old) (W.seen world.new) (λ done. self.new) result }
-        ensures sides { KnowsSides (W.seen world.old) self.old → KnowsSides (W.seen world.new) self.new }
+        ensures asked { AsksFor (cancel_listen_at self.old place (tcp2_at self.old.records place))
+            (W.seen world.old) (W.seen world.new) (λ done. self.new) result }
+        ensures sides { KnowsSides (W.seen world.old) self.old
+            → KnowsSides (W.seen world.new) self.new }
     {
         let Some(record) = tcp2_mut(&mut self.records, place) else {
             return Ok(());
@@ -44,8 +48,10 @@ impl Store {
     /// and its record given back. It had no handle.
     fn cancel_create<W: World>(&mut self, world: &mut W, place: usize) -> Result<(), AllocError>
         requires { (W.seen world.old).ended ≡ false }
-        ensures asked { AsksFor (cancel_create_at self.old place (udp2_at self.old.records place)) (W.seen world.old) (W.seen world.new) (λ done. self.new) result }
-        ensures sides { KnowsSides (W.seen world.old) self.old → KnowsSides (W.seen world.new) self.new }
+        ensures asked { AsksFor (cancel_create_at self.old place (udp2_at self.old.records place))
+            (W.seen world.old) (W.seen world.new) (λ done. self.new) result }
+        ensures sides { KnowsSides (W.seen world.old) self.old
+            → KnowsSides (W.seen world.new) self.new }
     {
         let Some(socket) = udp2(&self.records, place) else {
             return Ok(());
@@ -61,7 +67,8 @@ impl Store {
     /// Gives up the bind of the UDP socket with this record number: the socket stays as it was,
     /// with nothing in progress.
     fn cancel_udp_bind(&mut self, place: usize)
-        ensures state { self.new ≡ cancel_udp_bind_at self.old place (open_at self.old.records place) }
+        ensures state { self.new ≡ cancel_udp_bind_at self.old place
+            (open_at self.old.records place) }
         ensures sides { (s : Seen) → KnowsSides s self.old → KnowsSides s self.new }
     {
         let Some(socket) = open_udp_mut(&mut self.records, place) else {
@@ -73,7 +80,8 @@ impl Store {
     /// Gives up the connect of the UDP socket with this record number: the socket stays as it was,
     /// without datagram streams.
     fn cancel_udp_connect(&mut self, place: usize)
-        ensures state { self.new ≡ cancel_udp_connect_at self.old place (open_at self.old.records place) }
+        ensures state { self.new ≡ cancel_udp_connect_at self.old place
+            (open_at self.old.records place) }
         ensures sides { (s : Seen) → KnowsSides s self.old → KnowsSides s self.new }
     {
         let Some(socket) = open_udp_mut(&mut self.records, place) else {
@@ -85,7 +93,8 @@ impl Store {
     /// Gives up the wait for the outgoing stream of the UDP socket with this record number: the
     /// stream is gone, and its datagram is lost.
     fn cancel_drop_outgoing(&mut self, place: usize)
-        ensures state { self.new ≡ cancel_drop_outgoing_at self.old place (open_at self.old.records place) }
+        ensures state { self.new ≡ cancel_drop_outgoing_at self.old place
+            (open_at self.old.records place) }
         ensures sides { (s : Seen) → KnowsSides s self.old → KnowsSides s self.new }
     {
         let Some(socket) = open_udp_mut(&mut self.records, place) else {
@@ -106,8 +115,10 @@ impl Store {
     /// wrote stays written.
     fn cancel<W: World>(&mut self, world: &mut W, call: StandingCall) -> Result<(), AllocError>
         requires { (W.seen world.old).ended ≡ false }
-        ensures asked { AsksFor (cancel_on self.old call) (W.seen world.old) (W.seen world.new) (λ done. self.new) result }
-        ensures sides { KnowsSides (W.seen world.old) self.old → KnowsSides (W.seen world.new) self.new }
+        ensures asked { AsksFor (cancel_on self.old call) (W.seen world.old) (W.seen world.new)
+            (λ done. self.new) result }
+        ensures sides { KnowsSides (W.seen world.old) self.old
+            → KnowsSides (W.seen world.new) self.new }
     {
         match call {
             StandingCall::Bind { socket } => self.cancel_bind(socket),
@@ -135,8 +146,10 @@ pub fn cancel<W: World>(
     line: u32,
 ) -> Result<bool, AllocError>
     requires { (W.seen world.old).ended ≡ false }
-    ensures asked { AsksFor (cancel_asks (state_of view.old) line) (W.seen world.old) (W.seen world.new) (λ cancelled. (cancelled, state_of view.new)) result }
-    ensures sides { KnowsSides (W.seen world.old) view.old.store.now → KnowsSides (W.seen world.new) view.new.store.now }
+    ensures asked { AsksFor (cancel_asks (state_of view.old) line) (W.seen world.old)
+        (W.seen world.new) (λ cancelled. (cancelled, state_of view.new)) result }
+    ensures sides { KnowsSides (W.seen world.old) view.old.store.now
+        → KnowsSides (W.seen world.new) view.new.store.now }
     ensures view { SameView view.old view.new }
 {
     let Some(standing) = view.store.take(line) else {

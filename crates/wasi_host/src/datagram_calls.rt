@@ -3,7 +3,12 @@
 ghost use Rattle.std.specs.Prelude.{◌≡◌, ◌+◌, ◌<◌, ◌^◌, false, IfOk, Ok};
 ghost use Rattle.wasi_world.specs.Asks.{AsksFor};
 ghost use Rattle.wasi_world.specs.Seen.{Seen};
-ghost use Rattle.wasi_host.specs.DatagramCalls.{start_streams_at, reconnect_udp_at, mark_streams, make_streams_asks, remake_streams_asks, check_send_at, send_datagrams_at, receive_datagrams_at, ready_incoming_at, incoming_names, drop_incoming_at, drop_outgoing_at, outgoing_ready};
+ghost use Rattle.wasi_host.specs.DatagramCalls.{start_streams_at, reconnect_udp_at, mark_streams};
+ghost use Rattle.wasi_host.specs.DatagramCalls.{make_streams_asks, remake_streams_asks};
+ghost use Rattle.wasi_host.specs.DatagramCalls.{check_send_at, send_datagrams_at};
+ghost use Rattle.wasi_host.specs.DatagramCalls.{receive_datagrams_at, ready_incoming_at};
+ghost use Rattle.wasi_host.specs.DatagramCalls.{incoming_names, drop_incoming_at, drop_outgoing_at};
+ghost use Rattle.wasi_host.specs.DatagramCalls.{outgoing_ready};
 ghost use Rattle.wasi_records.specs.Listening.{TakesOne};
 ghost use Rattle.wasi_records.specs.Stops.{fault_outcome, host_outcome};
 ghost use Rattle.wasi_records.specs.Records.{open_at};
@@ -39,8 +44,12 @@ impl Store {
         place: usize,
     ) -> Result<Answer<(Handle, Handle)>, SocketError>
         requires { (W.seen world.old).ended ≡ false }
-        ensures asked { AsksFor (make_streams_asks (record { table = table.old; store = self.old }) ids handle remote place) (W.seen world.old) (W.seen world.new) (λ answer. (answer, record { table = table.new; store = self.new })) (host_outcome result) }
-        ensures sides { KnowsSides (W.seen world.old) self.old → KnowsSides (W.seen world.new) self.new }
+        ensures asked { AsksFor (make_streams_asks (record { table = table.old; store = self.old })
+            ids handle remote place) (W.seen world.old) (W.seen world.new)
+            (λ answer. (answer, record { table = table.new; store = self.new }))
+            (host_outcome result) }
+        ensures sides { KnowsSides (W.seen world.old) self.old
+            → KnowsSides (W.seen world.new) self.new }
     {
         match self.start_streams(world, ids, place, handle, remote)? {
             Answer::Pending => Ok(Answer::Pending),
@@ -59,8 +68,14 @@ impl Store {
         handle: Handle,
     ) -> Result<Answer<(Handle, Handle)>, SocketError>
         requires { (W.seen world.old).ended ≡ false }
-        ensures asked { AsksFor (remake_streams_asks (record { table = table.old; store = self.old }) ids place handle) (W.seen world.old) (W.seen world.new) (λ answer. (answer, record { table = table.new; store = self.new })) (host_outcome result) }
-        ensures sides { KnowsSides (W.seen world.old) self.old → KnowsSides (W.seen world.new) self.new }
+        ensures asked { AsksFor (remake_streams_asks (record {
+          table = table.old;
+          store = self.old;
+        }) ids place handle) (W.seen world.old) (W.seen world.new)
+            (λ answer. (answer, record { table = table.new; store = self.new }))
+            (host_outcome result) }
+        ensures sides { KnowsSides (W.seen world.old) self.old
+            → KnowsSides (W.seen world.new) self.new }
     {
         match self.reconnect(world, ids, place, handle)? {
             Answer::Pending => Ok(Answer::Pending),
@@ -79,8 +94,11 @@ impl Store {
         remote: Option<IpSocketAddress>,
     ) -> Result<Answer<()>, SocketError>
         requires { (W.seen world.old).ended ≡ false }
-        ensures asked { AsksFor (start_streams_at self.old ids place handle remote (open_at self.old.records place)) (W.seen world.old) (W.seen world.new) (λ answer. (answer, self.new)) (host_outcome result) }
-        ensures sides { KnowsSides (W.seen world.old) self.old → KnowsSides (W.seen world.new) self.new }
+        ensures asked { AsksFor (start_streams_at self.old ids place handle remote
+            (open_at self.old.records place)) (W.seen world.old) (W.seen world.new)
+            (λ answer. (answer, self.new)) (host_outcome result) }
+        ensures sides { KnowsSides (W.seen world.old) self.old
+            → KnowsSides (W.seen world.new) self.new }
     {
         let Some(socket) = open_udp_mut(&mut self.records, place) else {
             return Err(SocketError::Trap(TrapKind::NoSuchHandle));
@@ -106,8 +124,11 @@ impl Store {
         handle: Handle,
     ) -> Result<Answer<()>, SocketError>
         requires { (W.seen world.old).ended ≡ false }
-        ensures asked { AsksFor (reconnect_udp_at self.old ids place handle (open_at self.old.records place)) (W.seen world.old) (W.seen world.new) (λ answer. (answer, self.new)) (host_outcome result) }
-        ensures sides { KnowsSides (W.seen world.old) self.old → KnowsSides (W.seen world.new) self.new }
+        ensures asked { AsksFor (reconnect_udp_at self.old ids place handle
+            (open_at self.old.records place)) (W.seen world.old) (W.seen world.new)
+            (λ answer. (answer, self.new)) (host_outcome result) }
+        ensures sides { KnowsSides (W.seen world.old) self.old
+            → KnowsSides (W.seen world.new) self.new }
     {
         let Some(socket) = open_udp_mut(&mut self.records, place) else {
             return Err(SocketError::Trap(TrapKind::NoSuchHandle));
@@ -129,8 +150,12 @@ impl Store {
         handle: Handle,
     ) -> Result<Answer<(Handle, Handle)>, SocketError>
         requires { (W.seen world.old).ended ≡ false }
-        ensures asked { AsksFor (mark_streams (record { table = table.old; store = self.now }) own handle) (W.seen world.old) (W.seen world.new) (λ answer. (answer, record { table = table.new; store = self.now })) (host_outcome result) }
-        ensures sides { KnowsSides (W.seen world.old) self.now → KnowsSides (W.seen world.new) self.now }
+        ensures asked { AsksFor (mark_streams (record { table = table.old; store = self.now }) own
+            handle) (W.seen world.old) (W.seen world.new)
+            (λ answer. (answer, record { table = table.new; store = self.now }))
+            (host_outcome result) }
+        ensures sides { KnowsSides (W.seen world.old) self.now
+            → KnowsSides (W.seen world.new) self.now }
     {
         let place = handles::udp_socket(table, handle)?;
         let side = self.udp_side(place);
@@ -146,8 +171,10 @@ impl Store {
     /// nothing. Takes no memory.
     pub fn check_send(&mut self, place: usize) -> Result<u64, SocketError>
         ensures sides { (s : Seen) → KnowsSides s self.old → KnowsSides s self.new }
-        ensures answer { host_outcome result ≡ Ok (check_send_at self.old place (open_at self.old.records place)).0 }
-        ensures state { self.new ≡ (check_send_at self.old place (open_at self.old.records place)).1 }
+        ensures answer { host_outcome result
+            ≡ Ok (check_send_at self.old place (open_at self.old.records place)).0 }
+        ensures state { self.new ≡ (check_send_at self.old place
+            (open_at self.old.records place)).1 }
     {
         let Some(socket) = open_udp_mut(&mut self.records, place) else {
             return Err(SocketError::Trap(TrapKind::NoSuchHandle));
@@ -169,15 +196,19 @@ impl Store {
     ) -> Result<u64, SocketError>
         requires open { (W.seen world.old).ended ≡ false }
         requires names { ids.old.next_part + 255 < 2 ^ 64 }
-        ensures asked { AsksFor (send_datagrams_at self.old ids.old place datagrams.items (open_at self.old.records place)) (W.seen world.old) (W.seen world.new) (λ sent. (sent, self.new)) (host_outcome result) }
+        ensures asked { AsksFor (send_datagrams_at self.old ids.old place datagrams.items
+            (open_at self.old.records place)) (W.seen world.old) (W.seen world.new)
+            (λ sent. (sent, self.new)) (host_outcome result) }
         ensures line { ids.new.line ≡ ids.old.line }
-        ensures sides { KnowsSides (W.seen world.old) self.old → KnowsSides (W.seen world.new) self.new }
+        ensures sides { KnowsSides (W.seen world.old) self.old
+            → KnowsSides (W.seen world.new) self.new }
     {
         let slot = self.records.slot_of(place);
         let Some(socket) = open_udp_mut_in(&mut self.records, slot, place) else {
             return Err(SocketError::Trap(TrapKind::NoSuchHandle));
         };
-        // The job comes first, so that a datagram in the background has its job whatever memory there is.
+        // The job comes first, so that a datagram in the background has its job whatever memory
+        // there is.
         self.jobs.push(HostJob::Datagram { socket: place }, slot)?;
         let before = socket.sends();
         let sent = socket.send_datagrams(world, ids, datagrams);
@@ -200,9 +231,12 @@ impl Store {
     ) -> Result<IncomingDatagrams, SocketError>
         requires open { (W.seen world.old).ended ≡ false }
         requires names { ids.old.next_part + 16 < 2 ^ 64 }
-        ensures asked { AsksFor (receive_datagrams_at self.old ids.old place most (open_at self.old.records place)) (W.seen world.old) (W.seen world.new) (λ received. (received, self.new)) (host_outcome result) }
+        ensures asked { AsksFor (receive_datagrams_at self.old ids.old place most
+            (open_at self.old.records place)) (W.seen world.old) (W.seen world.new)
+            (λ received. (received, self.new)) (host_outcome result) }
         ensures line { ids.new.line ≡ ids.old.line }
-        ensures sides { KnowsSides (W.seen world.old) self.old → KnowsSides (W.seen world.new) self.new }
+        ensures sides { KnowsSides (W.seen world.old) self.old
+            → KnowsSides (W.seen world.new) self.new }
     {
         let slot = self.records.slot_of(place);
         let Some(socket) = open_udp_mut_in(&mut self.records, slot, place) else {
@@ -228,10 +262,14 @@ impl Store {
     ) -> Result<bool, Fault>
         requires open { (W.seen world.old).ended ≡ false }
         requires names { ids.old.next_part + 1 < 2 ^ 64 }
-        ensures asked { AsksFor (ready_incoming_at self.old ids.old place (open_at self.old.records place)) (W.seen world.old) (W.seen world.new) (λ ready. (ready, self.new)) (fault_outcome result) }
+        ensures asked { AsksFor (ready_incoming_at self.old ids.old place
+            (open_at self.old.records place)) (W.seen world.old) (W.seen world.new)
+            (λ ready. (ready, self.new)) (fault_outcome result) }
         ensures ids { TakesOne ids.old ids.new }
-        ensures names { IfOk (fault_outcome result) (λ ready. ids.new ≡ incoming_names ids.old (open_at self.old.records place)) }
-        ensures sides { KnowsSides (W.seen world.old) self.old → KnowsSides (W.seen world.new) self.new }
+        ensures names { IfOk (fault_outcome result) (λ ready. ids.new
+            ≡ incoming_names ids.old (open_at self.old.records place)) }
+        ensures sides { KnowsSides (W.seen world.old) self.old
+            → KnowsSides (W.seen world.new) self.new }
     {
         let slot = self.records.slot_of(place);
         let Some(socket) = open_udp_mut_in(&mut self.records, slot, place) else {
@@ -251,7 +289,8 @@ impl Store {
     /// up. Takes no memory.
     pub(crate) fn drop_incoming(&mut self, place: usize)
         ensures sides { (s : Seen) → KnowsSides s self.old → KnowsSides s self.new }
-        ensures state { self.new ≡ (drop_incoming_at self.old place (open_at self.old.records place)).1 }
+        ensures state { self.new ≡ (drop_incoming_at self.old place
+            (open_at self.old.records place)).1 }
     {
         if let Some(socket) = open_udp_mut(&mut self.records, place) {
             socket.incoming = None;
@@ -263,7 +302,8 @@ impl Store {
     /// isn't sent yet, the drop is pending, under the line of these names.
     pub(crate) fn drop_outgoing(&mut self, ids: Ids, place: usize) -> Answer<()>
         ensures sides { (s : Seen) → KnowsSides s self.old → KnowsSides s self.new }
-        ensures dropped { (result, self.new) ≡ drop_outgoing_at self.old ids place (open_at self.old.records place) }
+        ensures dropped { (result, self.new) ≡ drop_outgoing_at self.old ids place
+            (open_at self.old.records place) }
     {
         let Some(socket) = open_udp_mut(&mut self.records, place) else {
             return Answer::Ready(());

@@ -30,8 +30,10 @@ impl Store {
         place: usize,
     ) -> Result<(), AllocError>
         requires { (W.seen world.old).ended ≡ false }
-        ensures asked { AsksFor (release_at self.old op place (tcp2_at self.old.records place)) (W.seen world.old) (W.seen world.new) (λ done. (done, self.new)) result }
-        ensures sides { KnowsSides (W.seen world.old) self.old → KnowsSides (W.seen world.new) self.new }
+        ensures asked { AsksFor (release_at self.old op place (tcp2_at self.old.records place))
+            (W.seen world.old) (W.seen world.new) (λ done. (done, self.new)) result }
+        ensures sides { KnowsSides (W.seen world.old) self.old
+            → KnowsSides (W.seen world.new) self.new }
     {
         let Some(record) = tcp2_mut(&mut self.records, place) else {
             return Ok(());
@@ -50,8 +52,10 @@ impl Store {
         place: usize,
     ) -> Result<Answer<()>, AllocError>
         requires { (W.seen world.old).ended ≡ false }
-        ensures asked { AsksFor (drop_output_at self.old ids place (tcp2_at self.old.records place)) (W.seen world.old) (W.seen world.new) (λ answer. (answer, self.new)) result }
-        ensures sides { KnowsSides (W.seen world.old) self.old → KnowsSides (W.seen world.new) self.new }
+        ensures asked { AsksFor (drop_output_at self.old ids place (tcp2_at self.old.records place))
+            (W.seen world.old) (W.seen world.new) (λ answer. (answer, self.new)) result }
+        ensures sides { KnowsSides (W.seen world.old) self.old
+            → KnowsSides (W.seen world.new) self.new }
     {
         let answer = self.poll_writer(world, ids.own(), place)?;
         Ok(self.stand(ids, StandingCall::DropOutput { socket: place }, answer))
@@ -65,8 +69,10 @@ impl Store {
         place: usize,
     ) -> Result<Answer<()>, AllocError>
         requires { (W.seen world.old).ended ≡ false }
-        ensures asked { AsksFor (wait_at self.old op place (tcp2_at self.old.records place)) (W.seen world.old) (W.seen world.new) (λ answer. (answer, self.new)) result }
-        ensures sides { KnowsSides (W.seen world.old) self.old → KnowsSides (W.seen world.new) self.new }
+        ensures asked { AsksFor (wait_at self.old op place (tcp2_at self.old.records place))
+            (W.seen world.old) (W.seen world.new) (λ answer. (answer, self.new)) result }
+        ensures sides { KnowsSides (W.seen world.old) self.old
+            → KnowsSides (W.seen world.new) self.new }
     {
         let Some(record) = tcp2_mut(&mut self.records, place) else {
             return Ok(Answer::Ready(()));
@@ -96,9 +102,12 @@ pub fn drop_handle<W: World>(
 ) -> Result<Answer<()>, Fault>
     requires open { (W.seen world.old).ended ≡ false }
     requires free { is_some view.old.store.now.standing ≡ false }
-    ensures asked { AsksFor (drop_asks (state_of view.old) ids.old this) (W.seen world.old) (W.seen world.new) (λ answer. (answer, state_of view.new)) (fault_outcome result) }
-    ensures gone { OnErr (fault_outcome result) ((state_of view.new).table ≡ without_handle (state_of view.old).table this) }
-    ensures kept { HostKept view.old view.new ids.old ids.new (W.seen world.old) (W.seen world.new) }
+    ensures asked { AsksFor (drop_asks (state_of view.old) ids.old this) (W.seen world.old)
+        (W.seen world.new) (λ answer. (answer, state_of view.new)) (fault_outcome result) }
+    ensures gone { OnErr (fault_outcome result) ((state_of view.new).table
+        ≡ without_handle (state_of view.old).table this) }
+    ensures kept { HostKept view.old view.new ids.old ids.new (W.seen world.old)
+        (W.seen world.new) }
 {
     let kind = handles::remove(view.table, this)?;
     release_kind(view, world, ids, kind)
@@ -112,9 +121,11 @@ fn release_kind<W: World>(
     kind: Kind,
 ) -> Result<Answer<()>, Fault>
     requires { (W.seen world.old).ended ≡ false }
-    ensures asked { AsksFor (drop_kind (state_of view.old) ids.old kind) (W.seen world.old) (W.seen world.new) (λ answer. (answer, state_of view.new)) (fault_outcome result) }
+    ensures asked { AsksFor (drop_kind (state_of view.old) ids.old kind) (W.seen world.old)
+        (W.seen world.new) (λ answer. (answer, state_of view.new)) (fault_outcome result) }
     ensures table { (state_of view.new).table ≡ (state_of view.old).table }
-    ensures kept { HostKept view.old view.new ids.old ids.new (W.seen world.old) (W.seen world.new) }
+    ensures kept { HostKept view.old view.new ids.old ids.new (W.seen world.old)
+        (W.seen world.new) }
 {
     match kind {
         Kind::Tcp2(place) => {

@@ -1,13 +1,18 @@
 //! The table of handles: what one stands for, and how one is made. A handle that isn't live, or is
 //! of another kind, is the trap `NoSuchHandle`.
 
-ghost use Rattle.std.specs.Prelude.{◌≡◌, ℕ, IfErr, IfOk, IfSome, IsSome, Ok, OnErr, OnOk, false, true};
+ghost use Rattle.std.specs.Prelude.{◌≡◌, ℕ, IfErr, IfOk, IfSome, IsSome, Ok, OnErr, OnOk, false};
+ghost use Rattle.std.specs.Prelude.{true};
 ghost use Rattle.wasi_world.specs.Asks.{AsksFor};
 ghost use Rattle.wasi_table.specs.Table.{is_full, pushed};
 ghost use Rattle.wasi_records.specs.Stops.{fault_outcome};
 ghost use Rattle.wasi_host.specs.Store.{Records};
 ghost use Rattle.wasi_host.specs.KnownSides.{KnowsSides};
-ghost use Rattle.wasi_host.specs.Kinds.{kind_at, place_of, udp_of, input_of, output_of, incoming_of, outgoing_of, stream_of, lookup_of, is_network, is_error, is_readable, is_writable, plain_input_of, plain_output_of, watched_by, watch_of, table_parent, make_asks, taken_out, Names, with_handle};
+ghost use Rattle.wasi_host.specs.Kinds.{kind_at, place_of, udp_of, input_of, output_of};
+ghost use Rattle.wasi_host.specs.Kinds.{incoming_of, outgoing_of, stream_of, lookup_of, is_network};
+ghost use Rattle.wasi_host.specs.Kinds.{is_error, is_readable, is_writable, plain_input_of};
+ghost use Rattle.wasi_host.specs.Kinds.{plain_output_of, watched_by, watch_of, table_parent};
+ghost use Rattle.wasi_host.specs.Kinds.{make_asks, taken_out, Names, with_handle};
 
 use crate::kind::{Kind, PlainInput, PlainOutput, Watched};
 use std::alloc::AllocError;
@@ -48,7 +53,8 @@ pub fn udp_socket(table: &Table<Kind>, handle: Handle) -> Result<usize, Fault>
 /// Tests that the handle is the network's.
 pub fn network(table: &Table<Kind>, handle: Handle) -> Result<(), Fault>
     ensures ok { OnOk result (is_network (kind_at table.now handle) ≡ true) }
-    ensures err { IfErr result (λ fault. (fault ≡ Fault.Trap TrapKind.NoSuchHandle) × (is_network (kind_at table.now handle) ≡ false)) }
+    ensures err { IfErr result (λ fault. (fault ≡ Fault.Trap TrapKind.NoSuchHandle)
+        × (is_network (kind_at table.now handle) ≡ false)) }
 {
     match kind(table, handle) {
         Some(Kind::Network) => Ok(()),
@@ -99,7 +105,8 @@ pub fn plain_output(table: &Table<Kind>, handle: Handle) -> Option<PlainOutput>
 /// Tests that the handle is an input's, of a connection or in memory.
 pub fn readable(table: &Table<Kind>, handle: Handle) -> Result<(), Fault>
     ensures ok { OnOk result (is_readable (kind_at table.now handle) ≡ true) }
-    ensures err { IfErr result (λ fault. (fault ≡ Fault.Trap TrapKind.NoSuchHandle) × (is_readable (kind_at table.now handle) ≡ false)) }
+    ensures err { IfErr result (λ fault. (fault ≡ Fault.Trap TrapKind.NoSuchHandle)
+        × (is_readable (kind_at table.now handle) ≡ false)) }
 {
     match kind(table, handle) {
         Some(Kind::Input(_) | Kind::PlainInput(_)) => Ok(()),
@@ -110,7 +117,8 @@ pub fn readable(table: &Table<Kind>, handle: Handle) -> Result<(), Fault>
 /// Tests that the handle is an output's, of a connection or in memory.
 pub fn writable(table: &Table<Kind>, handle: Handle) -> Result<(), Fault>
     ensures ok { OnOk result (is_writable (kind_at table.now handle) ≡ true) }
-    ensures err { IfErr result (λ fault. (fault ≡ Fault.Trap TrapKind.NoSuchHandle) × (is_writable (kind_at table.now handle) ≡ false)) }
+    ensures err { IfErr result (λ fault. (fault ≡ Fault.Trap TrapKind.NoSuchHandle)
+        × (is_writable (kind_at table.now handle) ≡ false)) }
 {
     match kind(table, handle) {
         Some(Kind::Output(_) | Kind::PlainOutput(_)) => Ok(()),
@@ -161,7 +169,8 @@ pub fn lookup(table: &Table<Kind>, handle: Handle) -> Result<usize, Fault>
 /// Tests that the handle is an error's.
 pub fn error_value(table: &Table<Kind>, handle: Handle) -> Result<(), Fault>
     ensures ok { OnOk result (is_error (kind_at table.now handle) ≡ true) }
-    ensures err { IfErr result (λ fault. (fault ≡ Fault.Trap TrapKind.NoSuchHandle) × (is_error (kind_at table.now handle) ≡ false)) }
+    ensures err { IfErr result (λ fault. (fault ≡ Fault.Trap TrapKind.NoSuchHandle)
+        × (is_error (kind_at table.now handle) ≡ false)) }
 {
     match kind(table, handle) {
         Some(Kind::ErrorValue) => Ok(()),
@@ -198,7 +207,8 @@ pub fn watch(table: &Table<Kind>, handle: Handle) -> Result<Watched, Fault>
 
 /// Takes a handle out of the table. A handle that has a live child: `HasChildren`.
 pub fn remove(table: &mut Table<Kind>, handle: Handle) -> Result<Kind, Fault>
-    ensures told { fault_outcome result ≡ Ok (taken_out table.old handle (kind_at table.old handle)).0 }
+    ensures told { fault_outcome result ≡ Ok (taken_out table.old handle
+        (kind_at table.old handle)).0 }
     ensures table { table.new ≡ (taken_out table.old handle (kind_at table.old handle)).1 }
 {
     match table.delete(handle) {
@@ -213,7 +223,8 @@ pub fn remove(table: &mut Table<Kind>, handle: Handle) -> Result<Kind, Fault>
 fn put(table: &mut Table<Kind>, kind: Kind, parent: Option<Handle>) -> Result<Handle, AllocError>
     requires room { is_full table.old ≡ false }
     requires parent { IfSome parent (λ p. IsSome (kind_at table.old p)) }
-    ensures ok { IfOk result (λ h. (h ≡ table.old.next) × (table.new ≡ pushed table.old kind parent)) }
+    ensures ok { IfOk result (λ h. (h ≡ table.old.next) × (table.new
+        ≡ pushed table.old kind parent)) }
     ensures err { OnErr result (table.new ≡ table.old) }
 {
     let pushed = match parent {
@@ -239,10 +250,12 @@ pub fn make<W: World>(
 ) -> Result<Handle, Fault>
     requires open { (W.seen world.old).ended ≡ false }
     requires parent { IfSome (table_parent kind parent) (λ p. IsSome (kind_at table.old p)) }
-    ensures asked { AsksFor (make_asks table.old op kind parent side) (W.seen world.old) (W.seen world.new) (λ made. (made, table.new)) (fault_outcome result) }
+    ensures asked { AsksFor (make_asks table.old op kind parent side) (W.seen world.old)
+        (W.seen world.new) (λ made. (made, table.new)) (fault_outcome result) }
     ensures stay { (h : ℕ) → IsSome (kind_at table.old h) → IsSome (kind_at table.new h) }
     ensures live { IfOk result (λ h. IsSome (kind_at table.new h)) }
-    ensures sides { (store : Records) → KnowsSides (W.seen world.old) store → KnowsSides (W.seen world.new) store }
+    ensures sides { (store : Records) → KnowsSides (W.seen world.old) store
+        → KnowsSides (W.seen world.new) store }
 {
     if table.is_full() {
         return Err(Fault::Trap(TrapKind::Full));

@@ -7,7 +7,9 @@ ghost use Rattle.wasi_records.specs.Records.{tcp2_at, open_at, lookup_at};
 ghost use Rattle.wasi_records.specs.NameLookup.{looks_on, turn_lookup_at};
 ghost use Rattle.wasi_jobs.specs.declared.job.HostJob.{HostJob};
 ghost use Rattle.wasi_jobs.specs.Jobs.{other_than_receive};
-ghost use Rattle.wasi_host.specs.Jobs.{turn_at, turn_datagram_at, turn_receive_at, sends_on, receives_on, turn_job, turn_jobs, turn_store_asks, jobs_with, is_going};
+ghost use Rattle.wasi_host.specs.Jobs.{turn_at, turn_datagram_at, turn_receive_at, sends_on};
+ghost use Rattle.wasi_host.specs.Jobs.{receives_on, turn_job, turn_jobs, turn_store_asks};
+ghost use Rattle.wasi_host.specs.Jobs.{jobs_with, is_going};
 ghost use Rattle.wasi_records.specs.Halves.{has_job};
 ghost use Rattle.wasi_host.specs.GivingBack.{given_back};
 ghost use Rattle.wasi_records.specs.Numbered.{item_at};
@@ -32,7 +34,8 @@ fn turn_socket<W: World>(
     place: usize,
 ) -> Result<bool, AllocError>
     requires { (W.seen world.old).ended ≡ false }
-    ensures asked { AsksFor (turn_at records.old.items place (tcp2_at records.old.items place)) (W.seen world.old) (W.seen world.new) (λ goes_on. records.new.items) result }
+    ensures asked { AsksFor (turn_at records.old.items place (tcp2_at records.old.items place))
+        (W.seen world.old) (W.seen world.new) (λ goes_on. records.new.items) result }
     ensures goes_on { IfOk result (λ goes_on. goes_on ≡ has_job (tcp2_at records.new.items place)) }
     ensures held { held_in records.new.items ≡ held_in records.old.items }
     ensures none { MakesNone (W.seen world.old) (W.seen world.new) }
@@ -53,8 +56,11 @@ fn turn_datagram<W: World>(
     place: usize,
 ) -> Result<bool, AllocError>
     requires { (W.seen world.old).ended ≡ false }
-    ensures asked { AsksFor (turn_datagram_at records.old.items place (open_at records.old.items place)) (W.seen world.old) (W.seen world.new) (λ goes_on. records.new.items) result }
-    ensures goes_on { IfOk result (λ goes_on. goes_on ≡ sends_on (open_at records.new.items place)) }
+    ensures asked { AsksFor (turn_datagram_at records.old.items place
+        (open_at records.old.items place)) (W.seen world.old) (W.seen world.new)
+        (λ goes_on. records.new.items) result }
+    ensures goes_on { IfOk result (λ goes_on. goes_on ≡ sends_on
+        (open_at records.new.items place)) }
     ensures held { held_in records.new.items ≡ held_in records.old.items }
     ensures none { MakesNone (W.seen world.old) (W.seen world.new) }
 {
@@ -74,8 +80,11 @@ fn turn_receive<W: World>(
     place: usize,
 ) -> Result<bool, AllocError>
     requires { (W.seen world.old).ended ≡ false }
-    ensures asked { AsksFor (turn_receive_at records.old.items place (open_at records.old.items place)) (W.seen world.old) (W.seen world.new) (λ goes_on. records.new.items) result }
-    ensures goes_on { IfOk result (λ goes_on. goes_on ≡ receives_on (open_at records.new.items place)) }
+    ensures asked { AsksFor (turn_receive_at records.old.items place
+        (open_at records.old.items place)) (W.seen world.old) (W.seen world.new)
+        (λ goes_on. records.new.items) result }
+    ensures goes_on { IfOk result (λ goes_on. goes_on ≡ receives_on
+        (open_at records.new.items place)) }
     ensures held { held_in records.new.items ≡ held_in records.old.items }
     ensures none { MakesNone (W.seen world.old) (W.seen world.new) }
 {
@@ -95,8 +104,11 @@ fn turn_lookup<W: World>(
     place: usize,
 ) -> Result<bool, AllocError>
     requires { (W.seen world.old).ended ≡ false }
-    ensures asked { AsksFor (turn_lookup_at records.old.items place (lookup_at records.old.items place)) (W.seen world.old) (W.seen world.new) (λ goes_on. records.new.items) result }
-    ensures goes_on { IfOk result (λ goes_on. goes_on ≡ looks_on (lookup_at records.new.items place)) }
+    ensures asked { AsksFor (turn_lookup_at records.old.items place
+        (lookup_at records.old.items place)) (W.seen world.old) (W.seen world.new)
+        (λ goes_on. records.new.items) result }
+    ensures goes_on { IfOk result (λ goes_on. goes_on ≡ looks_on
+        (lookup_at records.new.items place)) }
     ensures held { held_in records.new.items ≡ held_in records.old.items }
     ensures none { MakesNone (W.seen world.old) (W.seen world.new) }
 {
@@ -114,7 +126,8 @@ fn turn_job<W: World>(
     listed: Listed,
 ) -> Result<bool, AllocError>
     requires { (W.seen world.old).ended ≡ false }
-    ensures asked { AsksFor (turn_job records.old.items listed.job) (W.seen world.old) (W.seen world.new) (λ goes_on. records.new.items) result }
+    ensures asked { AsksFor (turn_job records.old.items listed.job) (W.seen world.old)
+        (W.seen world.new) (λ goes_on. records.new.items) result }
     ensures goes_on { IfOk result (λ goes_on. goes_on ≡ is_going records.new.items listed.job) }
     ensures held { held_in records.new.items ≡ held_in records.old.items }
     ensures none { MakesNone (W.seen world.old) (W.seen world.new) }
@@ -135,7 +148,8 @@ fn turn_jobs<W: World>(
     jobs: &mut JobList,
 ) -> Result<(), AllocError>
     requires { (W.seen world.old).ended ≡ false }
-    ensures asked { AsksFor (turn_jobs [] jobs.old.items records.old.items) (W.seen world.old) (W.seen world.new) (λ done. (jobs.new.items, records.new.items)) result }
+    ensures asked { AsksFor (turn_jobs [] jobs.old.items records.old.items) (W.seen world.old)
+        (W.seen world.new) (λ done. (jobs.new.items, records.new.items)) result }
     ensures held { held_in records.new.items ≡ held_in records.old.items }
     ensures none { MakesNone (W.seen world.old) (W.seen world.new) }
 {
@@ -152,7 +166,8 @@ fn turn_jobs<W: World>(
 
 /// Keeps the job that was added last where `begins` is true, and takes it out else.
 pub(crate) fn keep_job(jobs: &mut JobList, begins: bool)
-    ensures { (before : List HostJob) (job : HostJob) → jobs.old.items ≡ before ++ job ∷ [] → jobs.new.items ≡ jobs_with before job begins }
+    ensures { (before : List HostJob) (job : HostJob) → jobs.old.items ≡ before ++ job ∷ []
+        → jobs.new.items ≡ jobs_with before job begins }
 {
     if !begins {
         jobs.withdraw();
@@ -163,8 +178,10 @@ impl Store {
     /// Polls each job once, in the order of making, and takes out those that are over.
     pub(crate) fn turn<W: World>(&mut self, world: &mut W) -> Result<(), AllocError>
         requires { (W.seen world.old).ended ≡ false }
-        ensures asked { AsksFor (turn_store_asks self.old) (W.seen world.old) (W.seen world.new) (λ done. (done, self.new)) result }
-        ensures sides { KnowsSides (W.seen world.old) self.old → KnowsSides (W.seen world.new) self.new }
+        ensures asked { AsksFor (turn_store_asks self.old) (W.seen world.old) (W.seen world.new)
+            (λ done. (done, self.new)) result }
+        ensures sides { KnowsSides (W.seen world.old) self.old
+            → KnowsSides (W.seen world.new) self.new }
     {
         turn_jobs(&mut self.records, world, &mut self.jobs)
     }
@@ -180,7 +197,8 @@ impl Store {
     /// out.
     pub(crate) fn give_back(&mut self, place: usize)
         ensures state { self.new ≡ given_back place self.old }
-        ensures sides { (s : Seen) → held_by (item_at self.old.records place) ≡ 0 → KnowsSides s self.old → KnowsSides s self.new }
+        ensures sides { (s : Seen) → held_by (item_at self.old.records place) ≡ 0
+            → KnowsSides s self.old → KnowsSides s self.new }
     {
         self.records.give_back(place);
         self.jobs.forget(place);
@@ -191,8 +209,10 @@ impl Store {
 /// operation: what a job asks has the job's name.
 pub fn turn<W: World>(view: &mut WasiSocketsCtxView<'_>, world: &mut W) -> Result<(), AllocError>
     requires { (W.seen world.old).ended ≡ false }
-    ensures asked { AsksFor (turn_machine_asks (state_of view.old)) (W.seen world.old) (W.seen world.new) (λ done. (done, state_of view.new)) result }
-    ensures sides { KnowsSides (W.seen world.old) view.old.store.now → KnowsSides (W.seen world.new) view.new.store.now }
+    ensures asked { AsksFor (turn_machine_asks (state_of view.old)) (W.seen world.old)
+        (W.seen world.new) (λ done. (done, state_of view.new)) result }
+    ensures sides { KnowsSides (W.seen world.old) view.old.store.now
+        → KnowsSides (W.seen world.new) view.new.store.now }
     ensures view { SameView view.old view.new }
 {
     view.store.turn(world)

@@ -1,7 +1,8 @@
 //! What handles stand for.
 
 ghost use Rattle.std.specs.Prelude.{◌≡◌};
-ghost use Rattle.wasi_host.specs.Kinds.{name_of, table_parent, watched_by, watch_of, place_of, udp_of, input_of, output_of, is_network};
+ghost use Rattle.wasi_host.specs.Kinds.{name_of, table_parent, watched_by, watch_of, place_of};
+ghost use Rattle.wasi_host.specs.Kinds.{udp_of, input_of, output_of, is_network};
 
 use wasi_world::{Handle, HandleKind};
 

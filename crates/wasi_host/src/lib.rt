@@ -1,5 +1,5 @@
-//! What the calls of both generations share: the kinds of handles, the store of the records that they name, views of both, streams
-//! and pollables, jobs and pending calls.
+//! What the calls of both generations share: the kinds of handles, the store of the records that
+//! they name, views of both, streams and pollables, jobs and pending calls.
 #![tactic(auto)]
 
 pub mod blocking;

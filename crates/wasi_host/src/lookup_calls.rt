@@ -8,7 +8,8 @@ ghost use Rattle.wasi_records.specs.Records.{lookup_at, lookup_pushed};
 ghost use Rattle.wasi_records.specs.Stops.{host_outcome};
 ghost use Rattle.wasi_host.specs.Jobs.{jobs_with};
 ghost use Rattle.wasi_host.specs.KnownSides.{KnowsSides};
-ghost use Rattle.wasi_host.specs.NameLookupCalls.{resolve_host, resolved, lookup_handle, next_at, drop_lookup_at, lookup_ready};
+ghost use Rattle.wasi_host.specs.NameLookupCalls.{resolve_host, resolved, lookup_handle, next_at};
+ghost use Rattle.wasi_host.specs.NameLookupCalls.{drop_lookup_at, lookup_ready};
 
 use crate::handles;
 use crate::kind::Kind;
@@ -32,8 +33,10 @@ fn add_lookup(
 ) -> Result<usize, AllocError>
     ensures place { IfOk result (λ place. place ≡ length records.old.items) }
     ensures records { OnOk result (records.new.items ≡ lookup_pushed records.old.items lookup) }
-    ensures jobs { IfOk result (λ place. jobs.new.items ≡ jobs_with jobs.old.items (HostJob.Lookup place) (is_looking lookup)) }
-    ensures err { OnErr result ((records.new.items ≡ records.old.items) × (jobs.new.items ≡ jobs.old.items)) }
+    ensures jobs { IfOk result (λ place. jobs.new.items ≡ jobs_with jobs.old.items
+        (HostJob.Lookup place) (is_looking lookup)) }
+    ensures err { OnErr result ((records.new.items ≡ records.old.items)
+        × (jobs.new.items ≡ jobs.old.items)) }
 {
     records.reserve()?;
     let place = records.len();
@@ -62,8 +65,11 @@ impl Store {
         host: HostName,
     ) -> Result<Handle, SocketError>
         requires { (W.seen world.old).ended ≡ false }
-        ensures asked { AsksFor (resolve_host (record { table = table.old; store = self.old }) own network host) (W.seen world.old) (W.seen world.new) (λ made. (made, record { table = table.new; store = self.new })) (host_outcome result) }
-        ensures sides { KnowsSides (W.seen world.old) self.old → KnowsSides (W.seen world.new) self.new }
+        ensures asked { AsksFor (resolve_host (record { table = table.old; store = self.old }) own
+            network host) (W.seen world.old) (W.seen world.new)
+            (λ made. (made, record { table = table.new; store = self.new })) (host_outcome result) }
+        ensures sides { KnowsSides (W.seen world.old) self.old
+            → KnowsSides (W.seen world.new) self.new }
     {
         match host {
             HostName::Address(address) => {
@@ -87,8 +93,11 @@ impl Store {
         lookup: Lookup,
     ) -> Result<Handle, SocketError>
         requires { (W.seen world.old).ended ≡ false }
-        ensures asked { AsksFor (resolved (record { table = table.old; store = self.old }) own network lookup) (W.seen world.old) (W.seen world.new) (λ made. (made, record { table = table.new; store = self.new })) (host_outcome result) }
-        ensures sides { KnowsSides (W.seen world.old) self.old → KnowsSides (W.seen world.new) self.new }
+        ensures asked { AsksFor (resolved (record { table = table.old; store = self.old }) own
+            network lookup) (W.seen world.old) (W.seen world.new)
+            (λ made. (made, record { table = table.new; store = self.new })) (host_outcome result) }
+        ensures sides { KnowsSides (W.seen world.old) self.old
+            → KnowsSides (W.seen world.new) self.new }
     {
         match lookup {
             Lookup::Failed => Err(SocketError::Code(unresolvable())),
@@ -106,8 +115,11 @@ impl Store {
         lookup: Lookup,
     ) -> Result<Handle, SocketError>
         requires { (W.seen world.old).ended ≡ false }
-        ensures asked { AsksFor (lookup_handle (record { table = table.old; store = self.old }) own network lookup) (W.seen world.old) (W.seen world.new) (λ made. (made, record { table = table.new; store = self.new })) (host_outcome result) }
-        ensures sides { KnowsSides (W.seen world.old) self.old → KnowsSides (W.seen world.new) self.new }
+        ensures asked { AsksFor (lookup_handle (record { table = table.old; store = self.old }) own
+            network lookup) (W.seen world.old) (W.seen world.new)
+            (λ made. (made, record { table = table.new; store = self.new })) (host_outcome result) }
+        ensures sides { KnowsSides (W.seen world.old) self.old
+            → KnowsSides (W.seen world.new) self.new }
     {
         let place = add_lookup(&mut self.records, &mut self.jobs, lookup)?;
         let kind = Kind::Lookup(place);
@@ -124,7 +136,8 @@ impl Store {
     /// Takes the next address of the lookup with this record number (`resolve-next-address`);
     /// `None` once all were handed out. Not answered yet: `WouldBlock`. Failed: `NameUnresolvable`.
     pub fn next_address(&mut self, place: usize) -> Result<Option<IpAddress>, SocketError>
-        ensures answer { host_outcome result ≡ Ok (next_at self.old place (lookup_at self.old.records place)).0 }
+        ensures answer { host_outcome result
+            ≡ Ok (next_at self.old place (lookup_at self.old.records place)).0 }
         ensures state { self.new ≡ (next_at self.old place (lookup_at self.old.records place)).1 }
         ensures sides { (s : Seen) → KnowsSides s self.old → KnowsSides s self.new }
     {
@@ -150,7 +163,8 @@ impl Store {
     /// Gives up the lookup with this record number: the network isn't asked about it any more, and
     /// its record is given back.
     pub(crate) fn drop_lookup(&mut self, place: usize)
-        ensures state { self.new ≡ (drop_lookup_at self.old place (lookup_at self.old.records place)).1 }
+        ensures state { self.new ≡ (drop_lookup_at self.old place
+            (lookup_at self.old.records place)).1 }
         ensures sides { (s : Seen) → KnowsSides s self.old → KnowsSides s self.new }
     {
         let Some(_dropped) = lookup(&self.records, place) else {

@@ -24,9 +24,11 @@ impl Store {
         option: Opt,
     ) -> Result<u64, SocketError>
         requires { (W.seen world.old).ended ≡ false }
-        ensures asked { AsksFor (get_option_at self.now op option (tcp2_at self.now.records place)) (W.seen world.old) (W.seen world.new) (λ told. (told, self.now)) (host_outcome result) }
+        ensures asked { AsksFor (get_option_at self.now op option (tcp2_at self.now.records place))
+            (W.seen world.old) (W.seen world.new) (λ told. (told, self.now)) (host_outcome result) }
         ensures within { IfOk result (λ value. value ≤ largest_value option) }
-        ensures sides { KnowsSides (W.seen world.old) self.now → KnowsSides (W.seen world.new) self.now }
+        ensures sides { KnowsSides (W.seen world.old) self.now
+            → KnowsSides (W.seen world.new) self.now }
     {
         let Some(record) = tcp2(&self.records, place) else {
             return Err(SocketError::Trap(TrapKind::NoSuchHandle));
@@ -45,8 +47,11 @@ impl Store {
         setting: Setting,
     ) -> Result<(), SocketError>
         requires { (W.seen world.old).ended ≡ false }
-        ensures asked { AsksFor (set_option_at self.old op (option_of setting) (number_of setting) (tcp2_at self.old.records place)) (W.seen world.old) (W.seen world.new) (λ told. (told, self.new)) (host_outcome result) }
-        ensures sides { KnowsSides (W.seen world.old) self.old → KnowsSides (W.seen world.new) self.new }
+        ensures asked { AsksFor (set_option_at self.old op (option_of setting) (number_of setting)
+            (tcp2_at self.old.records place)) (W.seen world.old) (W.seen world.new)
+            (λ told. (told, self.new)) (host_outcome result) }
+        ensures sides { KnowsSides (W.seen world.old) self.old
+            → KnowsSides (W.seen world.new) self.new }
     {
         let Some(record) = tcp2_mut(&mut self.records, place) else {
             return Err(SocketError::Trap(TrapKind::NoSuchHandle));
@@ -65,8 +70,11 @@ impl Store {
         value: u64,
     ) -> Result<(), SocketError>
         requires { (W.seen world.old).ended ≡ false }
-        ensures asked { AsksFor (set_backlog_at self.old op place value (tcp2_at self.old.records place)) (W.seen world.old) (W.seen world.new) (λ told. (told, self.new)) (host_outcome result) }
-        ensures sides { KnowsSides (W.seen world.old) self.old → KnowsSides (W.seen world.new) self.new }
+        ensures asked { AsksFor (set_backlog_at self.old op place value
+            (tcp2_at self.old.records place)) (W.seen world.old) (W.seen world.new)
+            (λ told. (told, self.new)) (host_outcome result) }
+        ensures sides { KnowsSides (W.seen world.old) self.old
+            → KnowsSides (W.seen world.new) self.new }
     {
         let Some(record) = tcp2_mut(&mut self.records, place) else {
             return Err(SocketError::Trap(TrapKind::NoSuchHandle));

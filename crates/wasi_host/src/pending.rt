@@ -4,7 +4,9 @@ ghost use Rattle.std.specs.Prelude.{◌≡◌, IfNone, IsSome, false};
 ghost use Rattle.wasi_world.specs.Asks.{AsksFor};
 ghost use Rattle.wasi_records.specs.Records.{tcp2_at};
 ghost use Rattle.wasi_records.specs.Stops.{host_outcome};
-ghost use Rattle.wasi_host.specs.Pending.{outcome_of, handle_outcome, pair_outcome, places_outcome, rebind_at, relisten_at, stop_told, blocked_told, nothing_given, unblock_asks, go_on, resume_asks};
+ghost use Rattle.wasi_host.specs.Pending.{outcome_of, handle_outcome, pair_outcome, places_outcome};
+ghost use Rattle.wasi_host.specs.Pending.{rebind_at, relisten_at, stop_told, blocked_told};
+ghost use Rattle.wasi_host.specs.Pending.{nothing_given, unblock_asks, go_on, resume_asks};
 ghost use Rattle.wasi_host.specs.KnownSides.{KnowsSides};
 ghost use Rattle.wasi_host.specs.Standing.{call_of, unstood};
 ghost use Rattle.wasi_host.specs.Views.{SameView, state_of};
@@ -107,8 +109,11 @@ impl Store {
         place: usize,
     ) -> Result<Answer<()>, SocketError>
         requires { (W.seen world.old).ended ≡ false }
-        ensures asked { AsksFor (rebind_at self.old ids place (tcp2_at self.old.records place)) (W.seen world.old) (W.seen world.new) (λ answer. (answer, self.new)) (host_outcome result) }
-        ensures sides { KnowsSides (W.seen world.old) self.old → KnowsSides (W.seen world.new) self.new }
+        ensures asked { AsksFor (rebind_at self.old ids place (tcp2_at self.old.records place))
+            (W.seen world.old) (W.seen world.new) (λ answer. (answer, self.new))
+            (host_outcome result) }
+        ensures sides { KnowsSides (W.seen world.old) self.old
+            → KnowsSides (W.seen world.new) self.new }
     {
         let Some(record) = tcp2_mut(&mut self.records, place) else {
             return Err(SocketError::Trap(TrapKind::NoSuchHandle));
@@ -126,8 +131,11 @@ impl Store {
         place: usize,
     ) -> Result<Answer<()>, SocketError>
         requires { (W.seen world.old).ended ≡ false }
-        ensures asked { AsksFor (relisten_at self.old ids place (tcp2_at self.old.records place)) (W.seen world.old) (W.seen world.new) (λ answer. (answer, self.new)) (host_outcome result) }
-        ensures sides { KnowsSides (W.seen world.old) self.old → KnowsSides (W.seen world.new) self.new }
+        ensures asked { AsksFor (relisten_at self.old ids place (tcp2_at self.old.records place))
+            (W.seen world.old) (W.seen world.new) (λ answer. (answer, self.new))
+            (host_outcome result) }
+        ensures sides { KnowsSides (W.seen world.old) self.old
+            → KnowsSides (W.seen world.new) self.new }
     {
         let Some(record) = tcp2_mut(&mut self.records, place) else {
             return Err(SocketError::Trap(TrapKind::NoSuchHandle));
@@ -191,8 +199,10 @@ fn unblock<W: World>(
     call: BlockingCall,
 ) -> Result<Answer<Outcome>, SocketError>
     requires { (W.seen world.old).ended ≡ false }
-    ensures asked { AsksFor (unblock_asks (state_of view.old) ids call) (W.seen world.old) (W.seen world.new) (λ answer. (answer, state_of view.new)) (host_outcome result) }
-    ensures sides { KnowsSides (W.seen world.old) view.old.store.now → KnowsSides (W.seen world.new) view.new.store.now }
+    ensures asked { AsksFor (unblock_asks (state_of view.old) ids call) (W.seen world.old)
+        (W.seen world.new) (λ answer. (answer, state_of view.new)) (host_outcome result) }
+    ensures sides { KnowsSides (W.seen world.old) view.old.store.now
+        → KnowsSides (W.seen world.new) view.new.store.now }
     ensures view { SameView view.old view.new }
 {
     let mut ids = ids;
@@ -242,8 +252,10 @@ fn go_on<W: World>(
     call: StandingCall,
 ) -> Result<Answer<Outcome>, SocketError>
     requires { (W.seen world.old).ended ≡ false }
-    ensures asked { AsksFor (go_on (state_of view.old) ids call) (W.seen world.old) (W.seen world.new) (λ answer. (answer, state_of view.new)) (host_outcome result) }
-    ensures sides { KnowsSides (W.seen world.old) view.old.store.now → KnowsSides (W.seen world.new) view.new.store.now }
+    ensures asked { AsksFor (go_on (state_of view.old) ids call) (W.seen world.old)
+        (W.seen world.new) (λ answer. (answer, state_of view.new)) (host_outcome result) }
+    ensures sides { KnowsSides (W.seen world.old) view.old.store.now
+        → KnowsSides (W.seen world.new) view.new.store.now }
     ensures view { SameView view.old view.new }
 {
     match call {
@@ -293,8 +305,10 @@ pub fn resume<W: World>(
     line: u32,
 ) -> Result<Option<Answer<Outcome>>, SocketError>
     requires { (W.seen world.old).ended ≡ false }
-    ensures asked { AsksFor (resume_asks (state_of view.old) line) (W.seen world.old) (W.seen world.new) (λ answer. (answer, state_of view.new)) (host_outcome result) }
-    ensures sides { KnowsSides (W.seen world.old) view.old.store.now → KnowsSides (W.seen world.new) view.new.store.now }
+    ensures asked { AsksFor (resume_asks (state_of view.old) line) (W.seen world.old)
+        (W.seen world.new) (λ answer. (answer, state_of view.new)) (host_outcome result) }
+    ensures sides { KnowsSides (W.seen world.old) view.old.store.now
+        → KnowsSides (W.seen world.new) view.new.store.now }
     ensures view { SameView view.old view.new }
 {
     let Some(standing) = view.store.take(line) else {

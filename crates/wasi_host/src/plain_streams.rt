@@ -7,7 +7,10 @@ ghost use Rattle.wasi_streams.specs.StreamStop.{stream_outcome};
 ghost use Rattle.wasi_records.specs.Stops.{fault_outcome};
 ghost use Rattle.wasi_host.specs.CallStops.{plain_outcome, call_outcome};
 ghost use Rattle.wasi_host.specs.Machine.{own_of};
-ghost use Rattle.wasi_host.specs.PlainStreams.{read_plain, check_plain, write_pipe_at, write_plain, flush_plain, pipe_asks, input_pipe_asks, output_pipe_asks, plain_asks, contents_at, contents_asks, drop_plain_input, drop_plain_output};
+ghost use Rattle.wasi_host.specs.PlainStreams.{read_plain, check_plain, write_pipe_at, write_plain};
+ghost use Rattle.wasi_host.specs.PlainStreams.{flush_plain, pipe_asks, input_pipe_asks};
+ghost use Rattle.wasi_host.specs.PlainStreams.{output_pipe_asks, plain_asks, contents_at};
+ghost use Rattle.wasi_host.specs.PlainStreams.{contents_asks, drop_plain_input, drop_plain_output};
 ghost use Rattle.wasi_records.specs.Records.{output_pipe_at};
 ghost use Rattle.wasi_host.specs.KnownSides.{KnowsSides};
 ghost use Rattle.wasi_records.specs.Sides.{held_by};
@@ -61,7 +64,8 @@ impl Store {
         input: PlainInput,
         len: usize,
     ) -> Result<Octets, StreamError>
-        ensures given { IfOk (stream_outcome result) (λ answer. (answer, self.new) ≡ read_plain self.old input len) }
+        ensures given { IfOk (stream_outcome result) (λ answer. (answer, self.new)
+            ≡ read_plain self.old input len) }
         ensures memory { OnErr (stream_outcome result) (self.new ≡ self.old) }
         ensures sides { (s : Seen) → KnowsSides s self.old → KnowsSides s self.new }
     {
@@ -94,7 +98,8 @@ impl Store {
         output: PlainOutput,
         bytes: &[u8],
     ) -> Result<(), StreamError>
-        ensures given { IfOk (stream_outcome result) (λ answer. (answer, self.new) ≡ write_plain self.old output bytes.now) }
+        ensures given { IfOk (stream_outcome result) (λ answer. (answer, self.new)
+            ≡ write_plain self.old output bytes.now) }
         ensures memory { OnErr (stream_outcome result) (self.new ≡ self.old) }
         ensures sides { (s : Seen) → KnowsSides s self.old → KnowsSides s self.new }
     {
@@ -108,7 +113,8 @@ impl Store {
     /// Writes to the pipe with this record number. Takes memory for the bytes; out of memory
     /// nothing changes.
     fn write_pipe(&mut self, place: usize, bytes: &[u8]) -> Result<(), StreamError>
-        ensures given { IfOk (stream_outcome result) (λ answer. (answer, self.new) ≡ write_pipe_at self.old place bytes.now (output_pipe_at self.old.records place)) }
+        ensures given { IfOk (stream_outcome result) (λ answer. (answer, self.new)
+            ≡ write_pipe_at self.old place bytes.now (output_pipe_at self.old.records place)) }
         ensures memory { OnErr (stream_outcome result) (self.new ≡ self.old) }
         ensures sides { (s : Seen) → KnowsSides s self.old → KnowsSides s self.new }
     {
@@ -157,8 +163,11 @@ impl Store {
     ) -> Result<Handle, Fault>
         requires open { (W.seen world.old).ended ≡ false }
         requires holds_none { held_by pipe ≡ 0 }
-        ensures asked { AsksFor (pipe_asks (record { table = table.old; store = self.old }) own kind pipe) (W.seen world.old) (W.seen world.new) (λ made. (made, record { table = table.new; store = self.new })) (fault_outcome result) }
-        ensures sides { KnowsSides (W.seen world.old) self.old → KnowsSides (W.seen world.new) self.new }
+        ensures asked { AsksFor (pipe_asks (record { table = table.old; store = self.old }) own kind
+            pipe) (W.seen world.old) (W.seen world.new) (λ made.
+            (made, record { table = table.new; store = self.new })) (fault_outcome result) }
+        ensures sides { KnowsSides (W.seen world.old) self.old
+            → KnowsSides (W.seen world.new) self.new }
     {
         self.records.reserve()?;
         let handle = handles::make(table, world, own, kind, None, None)?;
@@ -175,8 +184,12 @@ impl Store {
         bytes: Octets,
     ) -> Result<Handle, Fault>
         requires { (W.seen world.old).ended ≡ false }
-        ensures asked { AsksFor (input_pipe_asks (record { table = table.old; store = self.old }) own bytes) (W.seen world.old) (W.seen world.new) (λ made. (made, record { table = table.new; store = self.new })) (fault_outcome result) }
-        ensures sides { KnowsSides (W.seen world.old) self.old → KnowsSides (W.seen world.new) self.new }
+        ensures asked { AsksFor (input_pipe_asks (record { table = table.old; store = self.old })
+            own bytes) (W.seen world.old) (W.seen world.new)
+            (λ made. (made, record { table = table.new; store = self.new }))
+            (fault_outcome result) }
+        ensures sides { KnowsSides (W.seen world.old) self.old
+            → KnowsSides (W.seen world.new) self.new }
     {
         let chunk = chunk_of(bytes)?;
         let kind = Kind::PlainInput(PlainInput::Pipe(self.records.len()));
@@ -194,8 +207,12 @@ impl Store {
         capacity: usize,
     ) -> Result<Handle, Fault>
         requires { (W.seen world.old).ended ≡ false }
-        ensures asked { AsksFor (output_pipe_asks (record { table = table.old; store = self.old }) own capacity) (W.seen world.old) (W.seen world.new) (λ made. (made, record { table = table.new; store = self.new })) (fault_outcome result) }
-        ensures sides { KnowsSides (W.seen world.old) self.old → KnowsSides (W.seen world.new) self.new }
+        ensures asked { AsksFor (output_pipe_asks (record { table = table.old; store = self.old })
+            own capacity) (W.seen world.old) (W.seen world.new)
+            (λ made. (made, record { table = table.new; store = self.new }))
+            (fault_outcome result) }
+        ensures sides { KnowsSides (W.seen world.old) self.old
+            → KnowsSides (W.seen world.new) self.new }
     {
         let kind = Kind::PlainOutput(PlainOutput::Pipe(self.records.len()));
         let pipe = Record::OutputPipe(OutputPipe::new(alloc, capacity));
@@ -204,7 +221,8 @@ impl Store {
 
     /// A copy of what was written to the pipe with this record number. Takes memory for it.
     fn pipe_contents(&self, alloc: Global, place: usize) -> Result<Octets, Fault>
-        ensures { IfOk (fault_outcome result) (λ answer. answer ≡ contents_at (output_pipe_at self.now.records place)) }
+        ensures { IfOk (fault_outcome result) (λ answer. answer
+            ≡ contents_at (output_pipe_at self.now.records place)) }
     {
         match output_pipe(&self.records, place) {
             Some(pipe) => Ok(Octets::copy_of(alloc, pipe.contents())?),
@@ -229,8 +247,11 @@ pub fn make_input_pipe<W: World>(
     bytes: Octets,
 ) -> Result<Handle, Fault>
     requires { (W.seen world.old).ended ≡ false }
-    ensures asked { AsksFor (input_pipe_asks (state_of view.old) (own_of ids.old.line) bytes) (W.seen world.old) (W.seen world.new) (λ made. (made, state_of view.new)) (fault_outcome result) }
-    ensures kept { HostKept view.old view.new ids.old ids.new (W.seen world.old) (W.seen world.new) }
+    ensures asked { AsksFor (input_pipe_asks (state_of view.old) (own_of ids.old.line) bytes)
+        (W.seen world.old) (W.seen world.new) (λ made. (made, state_of view.new))
+        (fault_outcome result) }
+    ensures kept { HostKept view.old view.new ids.old ids.new (W.seen world.old)
+        (W.seen world.new) }
 {
     view.store
         .make_input_pipe(view.table, world, ids.own(), bytes)
@@ -246,8 +267,11 @@ pub fn make_output_pipe<W: World>(
     capacity: usize,
 ) -> Result<Handle, Fault>
     requires { (W.seen world.old).ended ≡ false }
-    ensures asked { AsksFor (output_pipe_asks (state_of view.old) (own_of ids.old.line) capacity) (W.seen world.old) (W.seen world.new) (λ made. (made, state_of view.new)) (fault_outcome result) }
-    ensures kept { HostKept view.old view.new ids.old ids.new (W.seen world.old) (W.seen world.new) }
+    ensures asked { AsksFor (output_pipe_asks (state_of view.old) (own_of ids.old.line) capacity)
+        (W.seen world.old) (W.seen world.new) (λ made. (made, state_of view.new))
+        (fault_outcome result) }
+    ensures kept { HostKept view.old view.new ids.old ids.new (W.seen world.old)
+        (W.seen world.new) }
 {
     view.store
         .make_output_pipe(alloc, view.table, world, ids.own(), capacity)
@@ -261,8 +285,11 @@ fn make_plain<W: World>(
     kind: Kind,
 ) -> Result<Handle, Fault>
     requires { (W.seen world.old).ended ≡ false }
-    ensures asked { AsksFor (plain_asks (state_of view.old) (own_of ids.old.line) kind) (W.seen world.old) (W.seen world.new) (λ made. (made, state_of view.new)) (fault_outcome result) }
-    ensures kept { HostKept view.old view.new ids.old ids.new (W.seen world.old) (W.seen world.new) }
+    ensures asked { AsksFor (plain_asks (state_of view.old) (own_of ids.old.line) kind)
+        (W.seen world.old) (W.seen world.new) (λ made. (made, state_of view.new))
+        (fault_outcome result) }
+    ensures kept { HostKept view.old view.new ids.old ids.new (W.seen world.old)
+        (W.seen world.new) }
 {
     handles::make(view.table, world, ids.own(), kind, None, None)
 }
@@ -275,8 +302,11 @@ pub fn make_sink<W: World>(
     ids: &mut Ids,
 ) -> Result<Handle, Fault>
     requires { (W.seen world.old).ended ≡ false }
-    ensures asked { AsksFor (plain_asks (state_of view.old) (own_of ids.old.line) (Kind.PlainOutput PlainOutput.Sink)) (W.seen world.old) (W.seen world.new) (λ made. (made, state_of view.new)) (fault_outcome result) }
-    ensures kept { HostKept view.old view.new ids.old ids.new (W.seen world.old) (W.seen world.new) }
+    ensures asked { AsksFor (plain_asks (state_of view.old) (own_of ids.old.line)
+        (Kind.PlainOutput PlainOutput.Sink)) (W.seen world.old) (W.seen world.new)
+        (λ made. (made, state_of view.new)) (fault_outcome result) }
+    ensures kept { HostKept view.old view.new ids.old ids.new (W.seen world.old)
+        (W.seen world.new) }
 {
     make_plain(view, world, ids, Kind::PlainOutput(PlainOutput::Sink))
 }
@@ -288,8 +318,11 @@ pub fn make_closed_input<W: World>(
     ids: &mut Ids,
 ) -> Result<Handle, Fault>
     requires { (W.seen world.old).ended ≡ false }
-    ensures asked { AsksFor (plain_asks (state_of view.old) (own_of ids.old.line) (Kind.PlainInput PlainInput.Closed)) (W.seen world.old) (W.seen world.new) (λ made. (made, state_of view.new)) (fault_outcome result) }
-    ensures kept { HostKept view.old view.new ids.old ids.new (W.seen world.old) (W.seen world.new) }
+    ensures asked { AsksFor (plain_asks (state_of view.old) (own_of ids.old.line)
+        (Kind.PlainInput PlainInput.Closed)) (W.seen world.old) (W.seen world.new)
+        (λ made. (made, state_of view.new)) (fault_outcome result) }
+    ensures kept { HostKept view.old view.new ids.old ids.new (W.seen world.old)
+        (W.seen world.new) }
 {
     make_plain(view, world, ids, Kind::PlainInput(PlainInput::Closed))
 }
@@ -301,8 +334,11 @@ pub fn make_closed_output<W: World>(
     ids: &mut Ids,
 ) -> Result<Handle, Fault>
     requires { (W.seen world.old).ended ≡ false }
-    ensures asked { AsksFor (plain_asks (state_of view.old) (own_of ids.old.line) (Kind.PlainOutput PlainOutput.Closed)) (W.seen world.old) (W.seen world.new) (λ made. (made, state_of view.new)) (fault_outcome result) }
-    ensures kept { HostKept view.old view.new ids.old ids.new (W.seen world.old) (W.seen world.new) }
+    ensures asked { AsksFor (plain_asks (state_of view.old) (own_of ids.old.line)
+        (Kind.PlainOutput PlainOutput.Closed)) (W.seen world.old) (W.seen world.new)
+        (λ made. (made, state_of view.new)) (fault_outcome result) }
+    ensures kept { HostKept view.old view.new ids.old ids.new (W.seen world.old)
+        (W.seen world.new) }
 {
     make_plain(view, world, ids, Kind::PlainOutput(PlainOutput::Closed))
 }
@@ -314,7 +350,8 @@ pub fn pipe_contents(
     view: &WasiSocketsCtxView<'_>,
     this: Handle,
 ) -> Result<Octets, Fault>
-    ensures { IfOk (fault_outcome result) (λ answer. answer ≡ contents_asks (state_of view.now) this) }
+    ensures { IfOk (fault_outcome result) (λ answer. answer
+        ≡ contents_asks (state_of view.now) this) }
 {
     let Some(PlainOutput::Pipe(place)) = handles::plain_output(view.table, this) else {
         return Err(Fault::Trap(TrapKind::NoSuchHandle));

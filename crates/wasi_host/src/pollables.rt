@@ -5,7 +5,8 @@ ghost use Rattle.wasi_world.specs.Asks.{AsksFor};
 ghost use Rattle.wasi_records.specs.Records.{tcp2_at};
 ghost use Rattle.wasi_records.specs.Listening.{TakesOne};
 ghost use Rattle.wasi_records.specs.Stops.{fault_outcome};
-ghost use Rattle.wasi_host.specs.Machine.{own_of, subscribe_asks, ready_asks, ids_after_ready, watches_incoming, watched_side};
+ghost use Rattle.wasi_host.specs.Machine.{own_of, subscribe_asks, ready_asks, ids_after_ready};
+ghost use Rattle.wasi_host.specs.Machine.{watches_incoming, watched_side};
 ghost use Rattle.wasi_host.specs.Readiness.{ready_at, ready_ids_at, ready_record, ready_ids};
 ghost use Rattle.wasi_records.specs.Sides.{Balances};
 ghost use Rattle.wasi_host.specs.KnownSides.{KnowsSides};
@@ -28,7 +29,9 @@ fn poll_ready<W: World>(
 ) -> Result<bool, Fault>
     requires open { (W.seen world.old).ended ≡ false }
     requires names { ids.old.next_part + 1 < 2 ^ 64 }
-    ensures asked { AsksFor (ready_record (own_of ids.old.line) ids.old watched record.old) (W.seen world.old) (W.seen world.new) (λ ready. (ready, record.new)) (fault_outcome result) }
+    ensures asked { AsksFor (ready_record (own_of ids.old.line) ids.old watched record.old)
+        (W.seen world.old) (W.seen world.new) (λ ready. (ready, record.new))
+        (fault_outcome result) }
     ensures ids { ids.new ≡ ready_ids ids.old watched record.old }
     ensures sides { Balances (W.seen world.old) (W.seen world.new) 0 record.old record.new }
 {
@@ -70,8 +73,11 @@ impl Store {
     ) -> Result<bool, Fault>
         requires open { (W.seen world.old).ended ≡ false }
         requires names { ids.old.next_part + 1 < 2 ^ 64 }
-        ensures asked { AsksFor (ready_at self.old (own_of ids.old.line) ids.old watched place (tcp2_at self.old.records place)) (W.seen world.old) (W.seen world.new) (λ ready. (ready, self.new)) (fault_outcome result) }
-        ensures sides { KnowsSides (W.seen world.old) self.old → KnowsSides (W.seen world.new) self.new }
+        ensures asked { AsksFor (ready_at self.old (own_of ids.old.line) ids.old watched place
+            (tcp2_at self.old.records place)) (W.seen world.old) (W.seen world.new)
+            (λ ready. (ready, self.new)) (fault_outcome result) }
+        ensures sides { KnowsSides (W.seen world.old) self.old
+            → KnowsSides (W.seen world.new) self.new }
         ensures ids { ids.new ≡ ready_ids_at ids.old watched (tcp2_at self.old.records place) }
     {
         let Some(record) = tcp2_mut(&mut self.records, place) else {
@@ -89,8 +95,11 @@ pub fn subscribe<W: World>(
     this: Handle,
 ) -> Result<Handle, Fault>
     requires { (W.seen world.old).ended ≡ false }
-    ensures asked { AsksFor (subscribe_asks (state_of view.old) (own_of ids.old.line) this) (W.seen world.old) (W.seen world.new) (λ made. (made, state_of view.new)) (fault_outcome result) }
-    ensures kept { HostKept view.old view.new ids.old ids.new (W.seen world.old) (W.seen world.new) }
+    ensures asked { AsksFor (subscribe_asks (state_of view.old) (own_of ids.old.line) this)
+        (W.seen world.old) (W.seen world.new) (λ made. (made, state_of view.new))
+        (fault_outcome result) }
+    ensures kept { HostKept view.old view.new ids.old ids.new (W.seen world.old)
+        (W.seen world.new) }
 {
     let watched = handles::watched(view.table, this)?;
     let side = view.store.watched_side(watched);
@@ -118,12 +127,16 @@ pub fn ready<W: World>(
 ) -> Result<bool, Fault>
     requires open { (W.seen world.old).ended ≡ false }
     requires names { ids.old.next_part + 1 < 2 ^ 64 }
-    ensures asked { AsksFor (ready_asks (state_of view.old) ids.old pollable) (W.seen world.old) (W.seen world.new) (λ ready. (ready, state_of view.new)) (fault_outcome result) }
-    ensures sides { KnowsSides (W.seen world.old) view.old.store.now → KnowsSides (W.seen world.new) view.new.store.now }
+    ensures asked { AsksFor (ready_asks (state_of view.old) ids.old pollable) (W.seen world.old)
+        (W.seen world.new) (λ ready. (ready, state_of view.new)) (fault_outcome result) }
+    ensures sides { KnowsSides (W.seen world.old) view.old.store.now
+        → KnowsSides (W.seen world.new) view.new.store.now }
     ensures view { SameView view.old view.new }
     ensures taken { TakesOne ids.old ids.new }
-    ensures ids { watches_incoming (state_of view.old) pollable ≡ false → ids.new ≡ ids_after_ready (state_of view.old) ids.old pollable }
-    ensures names { IfOk (fault_outcome result) (λ ready. ids.new ≡ ids_after_ready (state_of view.old) ids.old pollable) }
+    ensures ids { watches_incoming (state_of view.old) pollable ≡ false
+        → ids.new ≡ ids_after_ready (state_of view.old) ids.old pollable }
+    ensures names { IfOk (fault_outcome result) (λ ready. ids.new
+        ≡ ids_after_ready (state_of view.old) ids.old pollable) }
 {
     let watched = handles::watch(view.table, pollable)?;
     match watched {

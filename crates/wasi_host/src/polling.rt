@@ -1,12 +1,15 @@
 //! Waiting for pollables (`wasi:io/poll`). A call that finds none of them ready is pending, and
 //! looks again when it is [resumed](crate::resume).
 
-ghost use Rattle.std.specs.Prelude.{◌≡◌, ◌+◌, ◌<◌, ◌^◌, false, true, length, IfOk, OnOk, OnErr, [], ◌∷◌, ◌++◌};
+ghost use Rattle.std.specs.Prelude.{◌≡◌, ◌+◌, ◌<◌, ◌^◌, false, true, length, IfOk, OnOk, OnErr, []};
+ghost use Rattle.std.specs.Prelude.{◌∷◌, ◌++◌};
 ghost use Rattle.wasi_world.specs.Asks.{AsksFor};
 ghost use Rattle.wasi_world.specs.Seen.{Seen};
 ghost use Rattle.wasi_records.specs.Stops.{fault_outcome};
 ghost use Rattle.wasi_records.specs.Listening.{TakesOne};
-ghost use Rattle.wasi_host.specs.Polling.{begins_on, look_at_pollable, ids_after_look, found_of, is_ready, look_each, ready_places, poll_by, pollables_in, poll_asks, block_by, blocked_answer, blocked_store};
+ghost use Rattle.wasi_host.specs.Polling.{begins_on, look_at_pollable, ids_after_look, found_of};
+ghost use Rattle.wasi_host.specs.Polling.{is_ready, look_each, ready_places, poll_by, pollables_in};
+ghost use Rattle.wasi_host.specs.Polling.{poll_asks, block_by, blocked_answer, blocked_store};
 ghost use Rattle.wasi_host.specs.KnownSides.{KnowsSides};
 ghost use Rattle.wasi_host.specs.Views.{SameView, state_of};
 
@@ -153,8 +156,11 @@ fn look_again<W: World>(
 ) -> Result<bool, Fault>
     requires open { (W.seen world.old).ended ≡ false }
     requires names { ids.next_part + 1 < 2 ^ 64 }
-    ensures asked { AsksFor (look_at_pollable Look.Later (state_of view.old) ids pollable) (W.seen world.old) (W.seen world.new) (λ ready. (ready, state_of view.new)) (fault_outcome result) }
-    ensures sides { KnowsSides (W.seen world.old) view.old.store.now → KnowsSides (W.seen world.new) view.new.store.now }
+    ensures asked { AsksFor (look_at_pollable Look.Later (state_of view.old) ids pollable)
+        (W.seen world.old) (W.seen world.new) (λ ready. (ready, state_of view.new))
+        (fault_outcome result) }
+    ensures sides { KnowsSides (W.seen world.old) view.old.store.now
+        → KnowsSides (W.seen world.new) view.new.store.now }
     ensures view { SameView view.old view.new }
 {
     let watched = handles::watch(view.table, pollable)?;
@@ -175,11 +181,15 @@ fn look_at<W: World>(
 ) -> Result<bool, Fault>
     requires open { (W.seen world.old).ended ≡ false }
     requires names { ids.old.next_part + 1 < 2 ^ 64 }
-    ensures asked { AsksFor (look_at_pollable look (state_of view.old) ids.old pollable) (W.seen world.old) (W.seen world.new) (λ ready. (ready, state_of view.new)) (fault_outcome result) }
-    ensures sides { KnowsSides (W.seen world.old) view.old.store.now → KnowsSides (W.seen world.new) view.new.store.now }
+    ensures asked { AsksFor (look_at_pollable look (state_of view.old) ids.old pollable)
+        (W.seen world.old) (W.seen world.new) (λ ready. (ready, state_of view.new))
+        (fault_outcome result) }
+    ensures sides { KnowsSides (W.seen world.old) view.old.store.now
+        → KnowsSides (W.seen world.new) view.new.store.now }
     ensures view { SameView view.old view.new }
     ensures taken { TakesOne ids.old ids.new }
-    ensures names { IfOk (fault_outcome result) (λ ready. ids.new ≡ ids_after_look look (state_of view.old) ids.old pollable) }
+    ensures names { IfOk (fault_outcome result) (λ ready. ids.new
+        ≡ ids_after_look look (state_of view.old) ids.old pollable) }
 {
     match look {
         Look::First => ready(view, world, ids, pollable),
@@ -198,8 +208,11 @@ fn look_each<W: World>(
 ) -> Result<Found, Fault>
     requires open { (W.seen world.old).ended ≡ false }
     requires names { ids.old.next_part + length pollables.now < 2 ^ 64 }
-    ensures asked { AsksFor (look_each look pollables.now (state_of view.old) ids.old []) (W.seen world.old) (W.seen world.new) (λ found. (found, state_of view.new)) (fault_outcome result) }
-    ensures sides { KnowsSides (W.seen world.old) view.old.store.now → KnowsSides (W.seen world.new) view.new.store.now }
+    ensures asked { AsksFor (look_each look pollables.now (state_of view.old) ids.old [])
+        (W.seen world.old) (W.seen world.new) (λ found. (found, state_of view.new))
+        (fault_outcome result) }
+    ensures sides { KnowsSides (W.seen world.old) view.old.store.now
+        → KnowsSides (W.seen world.new) view.new.store.now }
     ensures view { SameView view.old view.new }
     ensures line { ids.new.line ≡ ids.old.line }
 {
@@ -216,7 +229,8 @@ fn look_each<W: World>(
 /// Tests that each handle is a pollable's.
 fn test_pollables(table: &Table<Kind>, pollables: &[Handle]) -> Result<(), Fault>
     ensures ok { OnOk result (pollables_in table.now pollables.now ≡ true) }
-    ensures err { OnErr result ((pollables_in table.now pollables.now ≡ false) × (result ≡ Err (Fault.Trap TrapKind.NoSuchHandle))) }
+    ensures err { OnErr result ((pollables_in table.now pollables.now ≡ false)
+        × (result ≡ Err (Fault.Trap TrapKind.NoSuchHandle))) }
 {
     for pollable in pollables {
         handles::watch(table, *pollable)?;
@@ -236,8 +250,10 @@ pub(crate) fn poll_by<W: World>(
 ) -> Result<Answer<NumberList>, Fault>
     requires open { (W.seen world.old).ended ≡ false }
     requires names { ids.old.next_part + 2 ^ 32 < 2 ^ 64 }
-    ensures asked { AsksFor (poll_by look (state_of view.old) ids.old pollables) (W.seen world.old) (W.seen world.new) (λ answer. (answer, state_of view.new)) (fault_outcome result) }
-    ensures sides { KnowsSides (W.seen world.old) view.old.store.now → KnowsSides (W.seen world.new) view.new.store.now }
+    ensures asked { AsksFor (poll_by look (state_of view.old) ids.old pollables) (W.seen world.old)
+        (W.seen world.new) (λ answer. (answer, state_of view.new)) (fault_outcome result) }
+    ensures sides { KnowsSides (W.seen world.old) view.old.store.now
+        → KnowsSides (W.seen world.new) view.new.store.now }
     ensures view { SameView view.old view.new }
     ensures line { ids.new.line ≡ ids.old.line }
 {
@@ -264,8 +280,10 @@ pub(crate) fn block_by<W: World>(
 ) -> Result<Answer<()>, Fault>
     requires open { (W.seen world.old).ended ≡ false }
     requires names { ids.old.next_part + 1 < 2 ^ 64 }
-    ensures asked { AsksFor (block_by look (state_of view.old) ids.old pollable) (W.seen world.old) (W.seen world.new) (λ answer. (answer, state_of view.new)) (fault_outcome result) }
-    ensures sides { KnowsSides (W.seen world.old) view.old.store.now → KnowsSides (W.seen world.new) view.new.store.now }
+    ensures asked { AsksFor (block_by look (state_of view.old) ids.old pollable) (W.seen world.old)
+        (W.seen world.new) (λ answer. (answer, state_of view.new)) (fault_outcome result) }
+    ensures sides { KnowsSides (W.seen world.old) view.old.store.now
+        → KnowsSides (W.seen world.new) view.new.store.now }
     ensures view { SameView view.old view.new }
     ensures line { ids.new.line ≡ ids.old.line }
 {
@@ -285,8 +303,11 @@ pub fn block<W: World>(
 ) -> Result<Answer<()>, Fault>
     requires open { (W.seen world.old).ended ≡ false }
     requires names { ids.old.next_part + 1 < 2 ^ 64 }
-    ensures asked { AsksFor (block_by Look.First (state_of view.old) ids.old pollable) (W.seen world.old) (W.seen world.new) (λ answer. (answer, state_of view.new)) (fault_outcome result) }
-    ensures sides { KnowsSides (W.seen world.old) view.old.store.now → KnowsSides (W.seen world.new) view.new.store.now }
+    ensures asked { AsksFor (block_by Look.First (state_of view.old) ids.old pollable)
+        (W.seen world.old) (W.seen world.new) (λ answer. (answer, state_of view.new))
+        (fault_outcome result) }
+    ensures sides { KnowsSides (W.seen world.old) view.old.store.now
+        → KnowsSides (W.seen world.new) view.new.store.now }
     ensures view { SameView view.old view.new }
     ensures line { ids.new.line ≡ ids.old.line }
 {
@@ -310,8 +331,10 @@ pub fn poll<W: World>(
 ) -> Result<Answer<NumberList>, Fault>
     requires open { (W.seen world.old).ended ≡ false }
     requires names { ids.old.next_part + 2 ^ 32 < 2 ^ 64 }
-    ensures asked { AsksFor (poll_asks (state_of view.old) ids.old pollables) (W.seen world.old) (W.seen world.new) (λ answer. (answer, state_of view.new)) (fault_outcome result) }
-    ensures sides { KnowsSides (W.seen world.old) view.old.store.now → KnowsSides (W.seen world.new) view.new.store.now }
+    ensures asked { AsksFor (poll_asks (state_of view.old) ids.old pollables) (W.seen world.old)
+        (W.seen world.new) (λ answer. (answer, state_of view.new)) (fault_outcome result) }
+    ensures sides { KnowsSides (W.seen world.old) view.old.store.now
+        → KnowsSides (W.seen world.new) view.new.store.now }
     ensures view { SameView view.old view.new }
     ensures line { ids.new.line ≡ ids.old.line }
 {

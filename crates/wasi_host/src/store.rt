@@ -80,7 +80,11 @@ impl Model for Store {
 
     ghost Value = { Records };
 
-    ghost view = { λ s. record { records = s.records.items; jobs = s.jobs.items; standing = s.standing } };
+    ghost view = { λ s. record {
+      records = s.records.items;
+      jobs = s.jobs.items;
+      standing = s.standing;
+    } };
 }
 
 impl Store {
@@ -112,8 +116,11 @@ impl Store {
         family: SocketAddressFamily,
     ) -> Result<Handle, SocketError>
         requires { (W.seen world.old).ended ≡ false }
-        ensures asked { AsksFor (create_asks (record { table = table.old; store = self.old }) own ctx.now family) (W.seen world.old) (W.seen world.new) (λ made. (made, record { table = table.new; store = self.new })) (host_outcome result) }
-        ensures sides { KnowsSides (W.seen world.old) self.old → KnowsSides (W.seen world.new) self.new }
+        ensures asked { AsksFor (create_asks (record { table = table.old; store = self.old }) own
+            ctx.now family) (W.seen world.old) (W.seen world.new)
+            (λ made. (made, record { table = table.new; store = self.new })) (host_outcome result) }
+        ensures sides { KnowsSides (W.seen world.old) self.old
+            → KnowsSides (W.seen world.new) self.new }
     {
         self.records.reserve()?;
         let socket = TcpSocket::new(world, own, ctx, family)?;
@@ -143,8 +150,11 @@ impl Store {
         len: usize,
     ) -> Result<Octets, StreamError>
         requires { (W.seen world.old).ended ≡ false }
-        ensures asked { AsksFor (stream_at self.old place (reader_asks (λ r. read_state_asks op r len)) (tcp2_at self.old.records place)) (W.seen world.old) (W.seen world.new) (λ answer. (answer, self.new)) (stream_outcome result) }
-        ensures sides { KnowsSides (W.seen world.old) self.old → KnowsSides (W.seen world.new) self.new }
+        ensures asked { AsksFor (stream_at self.old place (reader_asks
+            (λ r. read_state_asks op r len)) (tcp2_at self.old.records place)) (W.seen world.old)
+            (W.seen world.new) (λ answer. (answer, self.new)) (stream_outcome result) }
+        ensures sides { KnowsSides (W.seen world.old) self.old
+            → KnowsSides (W.seen world.new) self.new }
     {
         let Some(record) = tcp2_mut(&mut self.records, place) else {
             return Err(StreamError::Trap(TrapKind::NoSuchHandle));
@@ -161,8 +171,11 @@ impl Store {
         place: usize,
     ) -> Result<usize, StreamError>
         requires { (W.seen world.old).ended ≡ false }
-        ensures asked { AsksFor (stream_at self.old place (writer_asks (check_write_asks op)) (tcp2_at self.old.records place)) (W.seen world.old) (W.seen world.new) (λ answer. (answer, self.new)) (stream_outcome result) }
-        ensures sides { KnowsSides (W.seen world.old) self.old → KnowsSides (W.seen world.new) self.new }
+        ensures asked { AsksFor (stream_at self.old place (writer_asks (check_write_asks op))
+            (tcp2_at self.old.records place)) (W.seen world.old) (W.seen world.new)
+            (λ answer. (answer, self.new)) (stream_outcome result) }
+        ensures sides { KnowsSides (W.seen world.old) self.old
+            → KnowsSides (W.seen world.new) self.new }
     {
         let Some(record) = tcp2_mut(&mut self.records, place) else {
             return Err(StreamError::Trap(TrapKind::NoSuchHandle));
@@ -180,14 +193,18 @@ impl Store {
         bytes: Octets,
     ) -> Result<(), StreamError>
         requires { (W.seen world.old).ended ≡ false }
-        ensures asked { AsksFor (write_at self.old place (writer_asks (λ w. write_state_asks op w bytes)) (tcp2_at self.old.records place)) (W.seen world.old) (W.seen world.new) (λ answer. (answer, self.new)) (stream_outcome result) }
-        ensures sides { KnowsSides (W.seen world.old) self.old → KnowsSides (W.seen world.new) self.new }
+        ensures asked { AsksFor (write_at self.old place (writer_asks
+            (λ w. write_state_asks op w bytes)) (tcp2_at self.old.records place)) (W.seen world.old)
+            (W.seen world.new) (λ answer. (answer, self.new)) (stream_outcome result) }
+        ensures sides { KnowsSides (W.seen world.old) self.old
+            → KnowsSides (W.seen world.new) self.new }
     {
         let slot = self.records.slot_of(place);
         let Some(record) = tcp2_mut_in(&mut self.records, slot, place) else {
             return Err(StreamError::Trap(TrapKind::NoSuchHandle));
         };
-        // The job comes before the write, so that a write in progress has its job whatever memory there is.
+        // The job comes before the write, so that a write in progress has its job whatever memory
+        // there is.
         self.jobs.push(HostJob::Write { socket: place }, slot)?;
         let (written, begins) = record.write_noting(world, op, bytes);
         keep_job(&mut self.jobs, begins);
@@ -198,8 +215,11 @@ impl Store {
     /// if it is; asks nothing.
     pub fn flush<W: World>(&mut self, world: &mut W, place: usize) -> Result<(), StreamError>
         requires { (W.seen world.old).ended ≡ false }
-        ensures asked { AsksFor (stream_at self.old place (writer_asks flush_asks) (tcp2_at self.old.records place)) (W.seen world.old) (W.seen world.new) (λ answer. (answer, self.new)) (stream_outcome result) }
-        ensures sides { KnowsSides (W.seen world.old) self.old → KnowsSides (W.seen world.new) self.new }
+        ensures asked { AsksFor (stream_at self.old place (writer_asks flush_asks)
+            (tcp2_at self.old.records place)) (W.seen world.old) (W.seen world.new)
+            (λ answer. (answer, self.new)) (stream_outcome result) }
+        ensures sides { KnowsSides (W.seen world.old) self.old
+            → KnowsSides (W.seen world.new) self.new }
     {
         let Some(record) = tcp2_mut(&mut self.records, place) else {
             return Err(StreamError::Trap(TrapKind::NoSuchHandle));

@@ -4,10 +4,14 @@ ghost use Rattle.std.specs.Prelude.{◌≡◌, false, IfOk};
 ghost use Rattle.wasi_streams.specs.Streams.{zeros};
 ghost use Rattle.wasi_world.specs.Asks.{AsksFor};
 ghost use Rattle.wasi_streams.specs.StreamStop.{StreamStop};
-ghost use Rattle.wasi_host.specs.CallStops.{call_outcome, error_outcome, failed_outcome, IsStreamStop, IfStreamMemory};
+ghost use Rattle.wasi_host.specs.CallStops.{call_outcome, error_outcome, failed_outcome};
+ghost use Rattle.wasi_host.specs.CallStops.{IsStreamStop, IfStreamMemory};
 ghost use Rattle.wasi_host.specs.Kinds.{kind_at, stream_of};
 ghost use Rattle.wasi_host.specs.Machine.{own_of, input_at, output_at};
-ghost use Rattle.wasi_host.specs.StreamCalls.{read_asks, skip_asks, check_asks, write_asks, write_zeroes_asks, flushed_asks, splice_asks, splice_some, stream_on, write_on, convert_on, splice_read};
+ghost use Rattle.wasi_host.specs.StreamCalls.{read_asks, skip_asks, check_asks, write_asks};
+ghost use Rattle.wasi_host.specs.StreamCalls.{write_zeroes_asks, flushed_asks, splice_asks};
+ghost use Rattle.wasi_host.specs.StreamCalls.{splice_some, stream_on, write_on, convert_on};
+ghost use Rattle.wasi_host.specs.StreamCalls.{splice_read};
 ghost use Rattle.wasi_records.specs.Halves.{reader_asks, writer_asks, flush_asks};
 ghost use Rattle.wasi_tcp.specs.Reader.{read_state_asks};
 ghost use Rattle.wasi_tcp.specs.Writer.{check_write_asks, write_state_asks};
@@ -34,8 +38,11 @@ pub fn read<W: World>(
     len: u64,
 ) -> Result<Octets, CallError>
     requires { (W.seen world.old).ended ≡ false }
-    ensures asked { AsksFor (read_asks (state_of view.old) (own_of ids.old.line) this len) (W.seen world.old) (W.seen world.new) (λ read. (read, state_of view.new)) (call_outcome result) }
-    ensures kept { HostKept view.old view.new ids.old ids.new (W.seen world.old) (W.seen world.new) }
+    ensures asked { AsksFor (read_asks (state_of view.old) (own_of ids.old.line) this len)
+        (W.seen world.old) (W.seen world.new) (λ read. (read, state_of view.new))
+        (call_outcome result) }
+    ensures kept { HostKept view.old view.new ids.old ids.new (W.seen world.old)
+        (W.seen world.new) }
 {
     match handles::plain_input(view.table, this) {
         Some(stream) => plain(view.store.read_plain(alloc, stream, len as usize)),
@@ -53,8 +60,12 @@ fn read_connection<W: World>(
     len: u64,
 ) -> Result<Octets, CallError>
     requires { (W.seen world.old).ended ≡ false }
-    ensures asked { AsksFor (stream_on (state_of view.old) (own_of ids.old.line) this (reader_asks (λ r. read_state_asks (own_of ids.old.line) r len)) (input_at (state_of view.old) this)) (W.seen world.old) (W.seen world.new) (λ read. (read, state_of view.new)) (call_outcome result) }
-    ensures kept { HostKept view.old view.new ids.old ids.new (W.seen world.old) (W.seen world.new) }
+    ensures asked { AsksFor (stream_on (state_of view.old) (own_of ids.old.line) this
+        (reader_asks (λ r. read_state_asks (own_of ids.old.line) r len))
+        (input_at (state_of view.old) this)) (W.seen world.old) (W.seen world.new)
+        (λ read. (read, state_of view.new)) (call_outcome result) }
+    ensures kept { HostKept view.old view.new ids.old ids.new (W.seen world.old)
+        (W.seen world.new) }
 {
     let place = handles::input(view.table, this)?;
     match view
@@ -74,8 +85,11 @@ pub fn check_write<W: World>(
     this: Handle,
 ) -> Result<u64, CallError>
     requires { (W.seen world.old).ended ≡ false }
-    ensures asked { AsksFor (check_asks (state_of view.old) (own_of ids.old.line) this) (W.seen world.old) (W.seen world.new) (λ permit. (permit, state_of view.new)) (call_outcome result) }
-    ensures kept { HostKept view.old view.new ids.old ids.new (W.seen world.old) (W.seen world.new) }
+    ensures asked { AsksFor (check_asks (state_of view.old) (own_of ids.old.line) this)
+        (W.seen world.old) (W.seen world.new) (λ permit. (permit, state_of view.new))
+        (call_outcome result) }
+    ensures kept { HostKept view.old view.new ids.old ids.new (W.seen world.old)
+        (W.seen world.new) }
 {
     match handles::plain_output(view.table, this) {
         Some(stream) => plain(view.store.check_plain(stream)).map(|permit| permit as u64),
@@ -91,8 +105,12 @@ fn check_write_connection<W: World>(
     this: Handle,
 ) -> Result<u64, CallError>
     requires { (W.seen world.old).ended ≡ false }
-    ensures asked { AsksFor (stream_on (state_of view.old) (own_of ids.old.line) this (writer_asks (check_write_asks (own_of ids.old.line))) (output_at (state_of view.old) this)) (W.seen world.old) (W.seen world.new) (λ permit. (permit, state_of view.new)) (call_outcome result) }
-    ensures kept { HostKept view.old view.new ids.old ids.new (W.seen world.old) (W.seen world.new) }
+    ensures asked { AsksFor (stream_on (state_of view.old) (own_of ids.old.line) this
+        (writer_asks (check_write_asks (own_of ids.old.line))) (output_at (state_of view.old) this))
+        (W.seen world.old) (W.seen world.new) (λ permit. (permit, state_of view.new))
+        (call_outcome result) }
+    ensures kept { HostKept view.old view.new ids.old ids.new (W.seen world.old)
+        (W.seen world.new) }
 {
     let place = handles::output(view.table, this)?;
     match view.store.check_write(world, ids.own(), place) {
@@ -110,8 +128,11 @@ pub fn write<W: World>(
     bytes: Octets,
 ) -> Result<(), CallError>
     requires { (W.seen world.old).ended ≡ false }
-    ensures asked { AsksFor (write_asks (state_of view.old) (own_of ids.old.line) this bytes) (W.seen world.old) (W.seen world.new) (λ written. (written, state_of view.new)) (call_outcome result) }
-    ensures kept { HostKept view.old view.new ids.old ids.new (W.seen world.old) (W.seen world.new) }
+    ensures asked { AsksFor (write_asks (state_of view.old) (own_of ids.old.line) this bytes)
+        (W.seen world.old) (W.seen world.new) (λ written. (written, state_of view.new))
+        (call_outcome result) }
+    ensures kept { HostKept view.old view.new ids.old ids.new (W.seen world.old)
+        (W.seen world.new) }
 {
     match handles::plain_output(view.table, this) {
         Some(stream) => plain(view.store.write_plain(stream, bytes.as_slice())),
@@ -128,8 +149,12 @@ fn write_connection<W: World>(
     bytes: Octets,
 ) -> Result<(), CallError>
     requires { (W.seen world.old).ended ≡ false }
-    ensures asked { AsksFor (write_on (state_of view.old) (own_of ids.old.line) this (writer_asks (λ w. write_state_asks (own_of ids.old.line) w bytes)) (output_at (state_of view.old) this)) (W.seen world.old) (W.seen world.new) (λ written. (written, state_of view.new)) (call_outcome result) }
-    ensures kept { HostKept view.old view.new ids.old ids.new (W.seen world.old) (W.seen world.new) }
+    ensures asked { AsksFor (write_on (state_of view.old) (own_of ids.old.line) this
+        (writer_asks (λ w. write_state_asks (own_of ids.old.line) w bytes))
+        (output_at (state_of view.old) this)) (W.seen world.old) (W.seen world.new)
+        (λ written. (written, state_of view.new)) (call_outcome result) }
+    ensures kept { HostKept view.old view.new ids.old ids.new (W.seen world.old)
+        (W.seen world.new) }
 {
     let place = handles::output(view.table, this)?;
     match view.store.write(world, ids.own(), place, bytes) {
@@ -146,8 +171,11 @@ pub fn flush<W: World>(
     this: Handle,
 ) -> Result<(), CallError>
     requires { (W.seen world.old).ended ≡ false }
-    ensures asked { AsksFor (flushed_asks (state_of view.old) (own_of ids.old.line) this) (W.seen world.old) (W.seen world.new) (λ flushed. (flushed, state_of view.new)) (call_outcome result) }
-    ensures kept { HostKept view.old view.new ids.old ids.new (W.seen world.old) (W.seen world.new) }
+    ensures asked { AsksFor (flushed_asks (state_of view.old) (own_of ids.old.line) this)
+        (W.seen world.old) (W.seen world.new) (λ flushed. (flushed, state_of view.new))
+        (call_outcome result) }
+    ensures kept { HostKept view.old view.new ids.old ids.new (W.seen world.old)
+        (W.seen world.new) }
 {
     match handles::plain_output(view.table, this) {
         Some(stream) => plain(flush_plain(stream)),
@@ -163,8 +191,11 @@ fn flush_connection<W: World>(
     this: Handle,
 ) -> Result<(), CallError>
     requires { (W.seen world.old).ended ≡ false }
-    ensures asked { AsksFor (stream_on (state_of view.old) (own_of ids.old.line) this (writer_asks flush_asks) (output_at (state_of view.old) this)) (W.seen world.old) (W.seen world.new) (λ flushed. (flushed, state_of view.new)) (call_outcome result) }
-    ensures kept { HostKept view.old view.new ids.old ids.new (W.seen world.old) (W.seen world.new) }
+    ensures asked { AsksFor (stream_on (state_of view.old) (own_of ids.old.line) this
+        (writer_asks flush_asks) (output_at (state_of view.old) this)) (W.seen world.old)
+        (W.seen world.new) (λ flushed. (flushed, state_of view.new)) (call_outcome result) }
+    ensures kept { HostKept view.old view.new ids.old ids.new (W.seen world.old)
+        (W.seen world.new) }
 {
     let place = handles::output(view.table, this)?;
     match view.store.flush(world, place) {
@@ -195,8 +226,11 @@ pub fn skip<W: World>(
     len: u64,
 ) -> Result<u64, CallError>
     requires { (W.seen world.old).ended ≡ false }
-    ensures asked { AsksFor (skip_asks (state_of view.old) (own_of ids.old.line) this len) (W.seen world.old) (W.seen world.new) (λ done. (done, state_of view.new)) (call_outcome result) }
-    ensures kept { HostKept view.old view.new ids.old ids.new (W.seen world.old) (W.seen world.new) }
+    ensures asked { AsksFor (skip_asks (state_of view.old) (own_of ids.old.line) this len)
+        (W.seen world.old) (W.seen world.new) (λ done. (done, state_of view.new))
+        (call_outcome result) }
+    ensures kept { HostKept view.old view.new ids.old ids.new (W.seen world.old)
+        (W.seen world.new) }
 {
     let bytes = read(alloc, view, world, ids, this, len)?;
     Ok(bytes.len() as u64)
@@ -213,8 +247,11 @@ pub fn write_zeroes<W: World>(
     len: u64,
 ) -> Result<(), CallError>
     requires { (W.seen world.old).ended ≡ false }
-    ensures asked { AsksFor (write_zeroes_asks (state_of view.old) (own_of ids.old.line) this len) (W.seen world.old) (W.seen world.new) (λ done. (done, state_of view.new)) (call_outcome result) }
-    ensures kept { HostKept view.old view.new ids.old ids.new (W.seen world.old) (W.seen world.new) }
+    ensures asked { AsksFor (write_zeroes_asks (state_of view.old) (own_of ids.old.line) this len)
+        (W.seen world.old) (W.seen world.new) (λ done. (done, state_of view.new))
+        (call_outcome result) }
+    ensures kept { HostKept view.old view.new ids.old ids.new (W.seen world.old)
+        (W.seen world.new) }
 {
     let bytes = zeros(alloc, len)?;
     write(view, world, ids, this, bytes)
@@ -222,8 +259,8 @@ pub fn write_zeroes<W: World>(
 
 /// Reads from an input what an output permits, at most `len` bytes, and writes them there; returns
 /// how many they were (`output-stream.splice`). 0: there is nothing to read yet, no permit, or
-/// `len` is 0. An error is that of the stream whose call failed; where the write fails, what was read is
-/// lost.
+/// `len` is 0. An error is that of the stream whose call failed; where the write fails, what was
+/// read is lost.
 pub fn splice<W: World>(
     alloc: Global,
     view: &mut WasiSocketsCtxView<'_>,
@@ -234,8 +271,11 @@ pub fn splice<W: World>(
     len: u64,
 ) -> Result<u64, CallError>
     requires { (W.seen world.old).ended ≡ false }
-    ensures asked { AsksFor (splice_asks (state_of view.old) (own_of ids.old.line) output input len) (W.seen world.old) (W.seen world.new) (λ done. (done, state_of view.new)) (call_outcome result) }
-    ensures kept { HostKept view.old view.new ids.old ids.new (W.seen world.old) (W.seen world.new) }
+    ensures asked { AsksFor (splice_asks (state_of view.old) (own_of ids.old.line) output input len)
+        (W.seen world.old) (W.seen world.new) (λ done. (done, state_of view.new))
+        (call_outcome result) }
+    ensures kept { HostKept view.old view.new ids.old ids.new (W.seen world.old)
+        (W.seen world.new) }
 {
     handles::writable(view.table, output)?;
     handles::readable(view.table, input)?;
@@ -254,8 +294,11 @@ fn splice_some<W: World>(
     count: u64,
 ) -> Result<u64, CallError>
     requires { (W.seen world.old).ended ≡ false }
-    ensures asked { AsksFor (splice_some (own_of ids.old.line) output input (state_of view.old) count) (W.seen world.old) (W.seen world.new) (λ done. (done, state_of view.new)) (call_outcome result) }
-    ensures kept { HostKept view.old view.new ids.old ids.new (W.seen world.old) (W.seen world.new) }
+    ensures asked { AsksFor (splice_some (own_of ids.old.line) output input (state_of view.old)
+        count) (W.seen world.old) (W.seen world.new) (λ done. (done, state_of view.new))
+        (call_outcome result) }
+    ensures kept { HostKept view.old view.new ids.old ids.new (W.seen world.old)
+        (W.seen world.new) }
 {
     if count == 0 {
         return Ok(0);
@@ -280,9 +323,14 @@ pub fn convert_stream_error<W: World>(
     error: StreamError,
 ) -> CallError
     requires { (W.seen world.old).ended ≡ false }
-    ensures asked { IsStreamStop error (λ stop. AsksFor (convert_on (state_of view.old) (own_of ids.old.line) this (stream_of (kind_at view.old.table.now this)) stop) (W.seen world.old) (W.seen world.new) (λ converted. (converted, state_of view.new)) (error_outcome result)) }
-    ensures memory { IfStreamMemory error (λ e. (result ≡ CallError.Memory e) × (state_of view.new ≡ state_of view.old) × (W.seen world.new ≡ W.seen world.old)) }
-    ensures kept { HostKept view.old view.new ids.old ids.new (W.seen world.old) (W.seen world.new) }
+    ensures asked { IsStreamStop error (λ stop. AsksFor (convert_on (state_of view.old)
+        (own_of ids.old.line) this (stream_of (kind_at view.old.table.now this)) stop)
+        (W.seen world.old) (W.seen world.new) (λ converted. (converted, state_of view.new))
+        (error_outcome result)) }
+    ensures memory { IfStreamMemory error (λ e. (result ≡ CallError.Memory e)
+        × (state_of view.new ≡ state_of view.old) × (W.seen world.new ≡ W.seen world.old)) }
+    ensures kept { HostKept view.old view.new ids.old ids.new (W.seen world.old)
+        (W.seen world.new) }
 {
     match error {
         StreamError::LastOperationFailed(code) => failed(view, world, ids, this, code),
@@ -301,8 +349,11 @@ fn failed<W: World>(
     code: ErrorCode,
 ) -> CallError
     requires { (W.seen world.old).ended ≡ false }
-    ensures asked { AsksFor (convert_on (state_of view.old) (own_of ids.old.line) this (stream_of (kind_at view.old.table.now this)) (StreamStop.Failed code)) (W.seen world.old) (W.seen world.new) (λ converted. (converted, state_of view.new)) (error_outcome result) }
-    ensures kept { HostKept view.old view.new ids.old ids.new (W.seen world.old) (W.seen world.new) }
+    ensures asked { AsksFor (convert_on (state_of view.old) (own_of ids.old.line) this
+        (stream_of (kind_at view.old.table.now this)) (StreamStop.Failed code)) (W.seen world.old)
+        (W.seen world.new) (λ converted. (converted, state_of view.new)) (error_outcome result) }
+    ensures kept { HostKept view.old view.new ids.old ids.new (W.seen world.old)
+        (W.seen world.new) }
 {
     let place = match handles::stream(view.table, this) {
         Ok(place) => place,

@@ -9,7 +9,10 @@ ghost use Rattle.wasi_records.specs.Listening.{TakesOne};
 ghost use Rattle.wasi_records.specs.Records.{tcp2_at};
 ghost use Rattle.wasi_records.specs.Stops.{host_outcome};
 ghost use Rattle.wasi_host.specs.KnownSides.{KnowsSides};
-ghost use Rattle.wasi_host.specs.TcpCalls.{start_bind_at, finish_at, start_connect_at, finish_connect_at, local_address_at, remote_address_at, is_listening_at, address_family_at, start_listen_at, accept_at, accept_ids_at, shutdown_at};
+ghost use Rattle.wasi_host.specs.TcpCalls.{start_bind_at, finish_at, start_connect_at};
+ghost use Rattle.wasi_host.specs.TcpCalls.{finish_connect_at, local_address_at, remote_address_at};
+ghost use Rattle.wasi_host.specs.TcpCalls.{is_listening_at, address_family_at, start_listen_at};
+ghost use Rattle.wasi_host.specs.TcpCalls.{accept_at, accept_ids_at, shutdown_at};
 
 use crate::store::{StandingCall, Store};
 use wasi_addr::{IpSocketAddress, ShutdownType, SocketAddressFamily, p2};
@@ -27,8 +30,11 @@ impl Store {
         addr: IpSocketAddress,
     ) -> Result<Answer<()>, SocketError>
         requires { (W.seen world.old).ended ≡ false }
-        ensures asked { AsksFor (start_bind_at self.old ids place addr (tcp2_at self.old.records place)) (W.seen world.old) (W.seen world.new) (λ answer. (answer, self.new)) (host_outcome result) }
-        ensures sides { KnowsSides (W.seen world.old) self.old → KnowsSides (W.seen world.new) self.new }
+        ensures asked { AsksFor (start_bind_at self.old ids place addr
+            (tcp2_at self.old.records place)) (W.seen world.old) (W.seen world.new)
+            (λ answer. (answer, self.new)) (host_outcome result) }
+        ensures sides { KnowsSides (W.seen world.old) self.old
+            → KnowsSides (W.seen world.new) self.new }
     {
         let Some(record) = tcp2_mut(&mut self.records, place) else {
             return Err(SocketError::Trap(TrapKind::NoSuchHandle));
@@ -44,8 +50,11 @@ impl Store {
     /// `NotInProgress`.
     pub fn finish(&mut self, place: usize, operation: AsyncOperation) -> Result<(), SocketError>
         ensures sides { (s : Seen) → KnowsSides s self.old → KnowsSides s self.new }
-        ensures answer { host_outcome result ≡ Ok (finish_at (is_started operation) self.old place (tcp2_at self.old.records place)).0 }
-        ensures state { self.new ≡ (finish_at (is_started operation) self.old place (tcp2_at self.old.records place)).1 }
+        ensures answer { host_outcome result
+            ≡ Ok (finish_at (is_started operation) self.old place
+            (tcp2_at self.old.records place)).0 }
+        ensures state { self.new ≡ (finish_at (is_started operation) self.old place
+            (tcp2_at self.old.records place)).1 }
     {
         let Some(record) = tcp2_mut(&mut self.records, place) else {
             return Err(SocketError::Trap(TrapKind::NoSuchHandle));
@@ -67,8 +76,11 @@ impl Store {
         addr: IpSocketAddress,
     ) -> Result<(), SocketError>
         requires { (W.seen world.old).ended ≡ false }
-        ensures asked { AsksFor (start_connect_at self.old op place addr (tcp2_at self.old.records place)) (W.seen world.old) (W.seen world.new) (λ done. (done, self.new)) (host_outcome result) }
-        ensures sides { KnowsSides (W.seen world.old) self.old → KnowsSides (W.seen world.new) self.new }
+        ensures asked { AsksFor (start_connect_at self.old op place addr
+            (tcp2_at self.old.records place)) (W.seen world.old) (W.seen world.new)
+            (λ done. (done, self.new)) (host_outcome result) }
+        ensures sides { KnowsSides (W.seen world.old) self.old
+            → KnowsSides (W.seen world.new) self.new }
     {
         let Some(record) = tcp2_mut(&mut self.records, place) else {
             return Err(SocketError::Trap(TrapKind::NoSuchHandle));
@@ -89,8 +101,10 @@ impl Store {
         place: usize,
     ) -> Result<(), SocketError>
         requires { (W.seen world.old).ended ≡ false }
-        ensures asked { AsksFor (finish_connect_at self.old place (tcp2_at self.old.records place)) (W.seen world.old) (W.seen world.new) (λ done. (done, self.new)) (host_outcome result) }
-        ensures sides { KnowsSides (W.seen world.old) self.old → KnowsSides (W.seen world.new) self.new }
+        ensures asked { AsksFor (finish_connect_at self.old place (tcp2_at self.old.records place))
+            (W.seen world.old) (W.seen world.new) (λ done. (done, self.new)) (host_outcome result) }
+        ensures sides { KnowsSides (W.seen world.old) self.old
+            → KnowsSides (W.seen world.new) self.new }
     {
         let Some(record) = tcp2_mut(&mut self.records, place) else {
             return Err(SocketError::Trap(TrapKind::NoSuchHandle));
@@ -109,8 +123,11 @@ impl Store {
         place: usize,
     ) -> Result<IpSocketAddress, SocketError>
         requires { (W.seen world.old).ended ≡ false }
-        ensures asked { AsksFor (local_address_at self.old op place (tcp2_at self.old.records place)) (W.seen world.old) (W.seen world.new) (λ told. (told, self.new)) (host_outcome result) }
-        ensures sides { KnowsSides (W.seen world.old) self.old → KnowsSides (W.seen world.new) self.new }
+        ensures asked { AsksFor (local_address_at self.old op place
+            (tcp2_at self.old.records place)) (W.seen world.old) (W.seen world.new)
+            (λ told. (told, self.new)) (host_outcome result) }
+        ensures sides { KnowsSides (W.seen world.old) self.old
+            → KnowsSides (W.seen world.new) self.new }
     {
         let Some(record) = tcp2_mut(&mut self.records, place) else {
             return Err(SocketError::Trap(TrapKind::NoSuchHandle));
@@ -127,8 +144,11 @@ impl Store {
         place: usize,
     ) -> Result<IpSocketAddress, SocketError>
         requires { (W.seen world.old).ended ≡ false }
-        ensures asked { AsksFor (remote_address_at self.old op place (tcp2_at self.old.records place)) (W.seen world.old) (W.seen world.new) (λ told. (told, self.new)) (host_outcome result) }
-        ensures sides { KnowsSides (W.seen world.old) self.old → KnowsSides (W.seen world.new) self.new }
+        ensures asked { AsksFor (remote_address_at self.old op place
+            (tcp2_at self.old.records place)) (W.seen world.old) (W.seen world.new)
+            (λ told. (told, self.new)) (host_outcome result) }
+        ensures sides { KnowsSides (W.seen world.old) self.old
+            → KnowsSides (W.seen world.new) self.new }
     {
         let Some(record) = tcp2_mut(&mut self.records, place) else {
             return Err(SocketError::Trap(TrapKind::NoSuchHandle));
@@ -166,8 +186,11 @@ impl Store {
         place: usize,
     ) -> Result<Answer<()>, SocketError>
         requires { (W.seen world.old).ended ≡ false }
-        ensures asked { AsksFor (start_listen_at self.old ids place (tcp2_at self.old.records place)) (W.seen world.old) (W.seen world.new) (λ answer. (answer, self.new)) (host_outcome result) }
-        ensures sides { KnowsSides (W.seen world.old) self.old → KnowsSides (W.seen world.new) self.new }
+        ensures asked { AsksFor (start_listen_at self.old ids place
+            (tcp2_at self.old.records place)) (W.seen world.old) (W.seen world.new)
+            (λ answer. (answer, self.new)) (host_outcome result) }
+        ensures sides { KnowsSides (W.seen world.old) self.old
+            → KnowsSides (W.seen world.new) self.new }
     {
         let Some(record) = tcp2_mut(&mut self.records, place) else {
             return Err(SocketError::Trap(TrapKind::NoSuchHandle));
@@ -192,10 +215,14 @@ impl Store {
     ) -> Result<usize, SocketError>
         requires open { (W.seen world.old).ended ≡ false }
         requires names { ids.old.next_part + 1 < 2 ^ 64 }
-        ensures asked { AsksFor (accept_at self.old ids.old place (tcp2_at self.old.records place)) (W.seen world.old) (W.seen world.new) (λ accepted. (accepted, self.new)) (host_outcome result) }
-        ensures sides { KnowsSides (W.seen world.old) self.old → KnowsSides (W.seen world.new) self.new }
+        ensures asked { AsksFor (accept_at self.old ids.old place (tcp2_at self.old.records place))
+            (W.seen world.old) (W.seen world.new) (λ accepted. (accepted, self.new))
+            (host_outcome result) }
+        ensures sides { KnowsSides (W.seen world.old) self.old
+            → KnowsSides (W.seen world.new) self.new }
         ensures ids { TakesOne ids.old ids.new }
-        ensures names { IfOk (host_outcome result) (λ answer. ids.new ≡ accept_ids_at ids.old (tcp2_at self.old.records place)) }
+        ensures names { IfOk (host_outcome result) (λ answer. ids.new
+            ≡ accept_ids_at ids.old (tcp2_at self.old.records place)) }
     {
         self.records.reserve()?;
         let Some(record) = tcp2_mut(&mut self.records, place) else {
@@ -218,8 +245,10 @@ impl Store {
         how: ShutdownType,
     ) -> Result<(), SocketError>
         requires { (W.seen world.old).ended ≡ false }
-        ensures asked { AsksFor (shutdown_at self.old op how place (tcp2_at self.old.records place)) (W.seen world.old) (W.seen world.new) (λ done. (done, self.new)) (host_outcome result) }
-        ensures sides { KnowsSides (W.seen world.old) self.old → KnowsSides (W.seen world.new) self.new }
+        ensures asked { AsksFor (shutdown_at self.old op how place (tcp2_at self.old.records place))
+            (W.seen world.old) (W.seen world.new) (λ done. (done, self.new)) (host_outcome result) }
+        ensures sides { KnowsSides (W.seen world.old) self.old
+            → KnowsSides (W.seen world.new) self.new }
     {
         let Some(record) = tcp2_mut(&mut self.records, place) else {
             return Err(SocketError::Trap(TrapKind::NoSuchHandle));

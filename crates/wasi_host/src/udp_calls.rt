@@ -7,8 +7,12 @@ ghost use Rattle.socket_common.specs.Options.{largest_value, option_of, number_o
 ghost use Rattle.wasi_records.specs.Stops.{host_outcome};
 ghost use Rattle.wasi_records.specs.Records.{open_at, udp2_at};
 ghost use Rattle.wasi_host.specs.KnownSides.{KnowsSides};
-ghost use Rattle.wasi_host.specs.UdpCalls.{start_udp_bind_at, rebind_udp_at, finish_udp_bind_at, udp_local_at, udp_remote_at, udp_family_at, get_udp_option_at, set_udp_option_at, release_udp_at, udp_left};
-ghost use Rattle.wasi_host.specs.UdpCreates.{create_udp_asks, create_on, mark_udp, poll_create_at, udp_side_at};
+ghost use Rattle.wasi_host.specs.UdpCalls.{start_udp_bind_at, rebind_udp_at, finish_udp_bind_at};
+ghost use Rattle.wasi_host.specs.UdpCalls.{udp_local_at, udp_remote_at, udp_family_at};
+ghost use Rattle.wasi_host.specs.UdpCalls.{get_udp_option_at, set_udp_option_at, release_udp_at};
+ghost use Rattle.wasi_host.specs.UdpCalls.{udp_left};
+ghost use Rattle.wasi_host.specs.UdpCreates.{create_udp_asks, create_on, mark_udp, poll_create_at};
+ghost use Rattle.wasi_host.specs.UdpCreates.{udp_side_at};
 
 use crate::handles;
 use crate::kind::Kind;
@@ -37,8 +41,12 @@ impl Store {
         family: SocketAddressFamily,
     ) -> Result<Answer<Handle>, SocketError>
         requires { (W.seen world.old).ended ≡ false }
-        ensures asked { AsksFor (create_udp_asks (record { table = table.old; store = self.old }) ids ctx.now family) (W.seen world.old) (W.seen world.new) (λ answer. (answer, record { table = table.new; store = self.new })) (host_outcome result) }
-        ensures sides { KnowsSides (W.seen world.old) self.old → KnowsSides (W.seen world.new) self.new }
+        ensures asked { AsksFor (create_udp_asks (record { table = table.old; store = self.old })
+            ids ctx.now family) (W.seen world.old) (W.seen world.new)
+            (λ answer. (answer, record { table = table.new; store = self.new }))
+            (host_outcome result) }
+        ensures sides { KnowsSides (W.seen world.old) self.old
+            → KnowsSides (W.seen world.new) self.new }
     {
         self.records.reserve()?;
         let create = UdpSocket::new(world, ids.own(), ctx, family)?;
@@ -58,8 +66,12 @@ impl Store {
         place: usize,
     ) -> Result<Answer<Handle>, SocketError>
         requires { (W.seen world.old).ended ≡ false }
-        ensures asked { AsksFor (create_on (record { table = table.old; store = self.old }) ids place) (W.seen world.old) (W.seen world.new) (λ answer. (answer, record { table = table.new; store = self.new })) (host_outcome result) }
-        ensures sides { KnowsSides (W.seen world.old) self.old → KnowsSides (W.seen world.new) self.new }
+        ensures asked { AsksFor (create_on (record { table = table.old; store = self.old }) ids
+            place) (W.seen world.old) (W.seen world.new)
+            (λ answer. (answer, record { table = table.new; store = self.new }))
+            (host_outcome result) }
+        ensures sides { KnowsSides (W.seen world.old) self.old
+            → KnowsSides (W.seen world.new) self.new }
     {
         match self.poll_create(world, place)? {
             Answer::Pending => {
@@ -80,8 +92,12 @@ impl Store {
         place: usize,
     ) -> Result<Answer<Handle>, SocketError>
         requires { (W.seen world.old).ended ≡ false }
-        ensures asked { AsksFor (mark_udp (record { table = table.old; store = self.now }) place (udp2_at self.now.records place)) (W.seen world.old) (W.seen world.new) (λ answer. (answer, record { table = table.new; store = self.now })) (host_outcome result) }
-        ensures sides { KnowsSides (W.seen world.old) self.now → KnowsSides (W.seen world.new) self.now }
+        ensures asked { AsksFor (mark_udp (record { table = table.old; store = self.now }) place
+            (udp2_at self.now.records place)) (W.seen world.old) (W.seen world.new)
+            (λ answer. (answer, record { table = table.new; store = self.now }))
+            (host_outcome result) }
+        ensures sides { KnowsSides (W.seen world.old) self.now
+            → KnowsSides (W.seen world.new) self.now }
     {
         let Some(side) = self.udp_side(place) else {
             return Err(SocketError::Trap(TrapKind::NoSuchHandle));
@@ -98,8 +114,11 @@ impl Store {
         place: usize,
     ) -> Result<Answer<()>, SocketError>
         requires { (W.seen world.old).ended ≡ false }
-        ensures asked { AsksFor (poll_create_at self.old place (udp2_at self.old.records place)) (W.seen world.old) (W.seen world.new) (λ answer. (answer, self.new)) (host_outcome result) }
-        ensures sides { KnowsSides (W.seen world.old) self.old → KnowsSides (W.seen world.new) self.new }
+        ensures asked { AsksFor (poll_create_at self.old place (udp2_at self.old.records place))
+            (W.seen world.old) (W.seen world.new) (λ answer. (answer, self.new))
+            (host_outcome result) }
+        ensures sides { KnowsSides (W.seen world.old) self.old
+            → KnowsSides (W.seen world.new) self.new }
     {
         let Some(record) = udp2_mut(&mut self.records, place) else {
             return Err(SocketError::Trap(TrapKind::NoSuchHandle));
@@ -131,8 +150,11 @@ impl Store {
         addr: IpSocketAddress,
     ) -> Result<Answer<()>, SocketError>
         requires { (W.seen world.old).ended ≡ false }
-        ensures asked { AsksFor (start_udp_bind_at self.old ids place addr (open_at self.old.records place)) (W.seen world.old) (W.seen world.new) (λ answer. (answer, self.new)) (host_outcome result) }
-        ensures sides { KnowsSides (W.seen world.old) self.old → KnowsSides (W.seen world.new) self.new }
+        ensures asked { AsksFor (start_udp_bind_at self.old ids place addr
+            (open_at self.old.records place)) (W.seen world.old) (W.seen world.new)
+            (λ answer. (answer, self.new)) (host_outcome result) }
+        ensures sides { KnowsSides (W.seen world.old) self.old
+            → KnowsSides (W.seen world.new) self.new }
     {
         let Some(socket) = open_udp_mut(&mut self.records, place) else {
             return Err(SocketError::Trap(TrapKind::NoSuchHandle));
@@ -156,8 +178,11 @@ impl Store {
         place: usize,
     ) -> Result<Answer<()>, SocketError>
         requires { (W.seen world.old).ended ≡ false }
-        ensures asked { AsksFor (rebind_udp_at self.old ids place (open_at self.old.records place)) (W.seen world.old) (W.seen world.new) (λ answer. (answer, self.new)) (host_outcome result) }
-        ensures sides { KnowsSides (W.seen world.old) self.old → KnowsSides (W.seen world.new) self.new }
+        ensures asked { AsksFor (rebind_udp_at self.old ids place (open_at self.old.records place))
+            (W.seen world.old) (W.seen world.new) (λ answer. (answer, self.new))
+            (host_outcome result) }
+        ensures sides { KnowsSides (W.seen world.old) self.old
+            → KnowsSides (W.seen world.new) self.new }
     {
         let Some(socket) = open_udp_mut(&mut self.records, place) else {
             return Err(SocketError::Trap(TrapKind::NoSuchHandle));
@@ -169,8 +194,10 @@ impl Store {
     /// Finishes the bind that was started (`finish-bind`). None was: `NotInProgress`.
     pub fn finish_udp_bind(&mut self, place: usize) -> Result<(), SocketError>
         ensures sides { (s : Seen) → KnowsSides s self.old → KnowsSides s self.new }
-        ensures answer { host_outcome result ≡ Ok (finish_udp_bind_at self.old place (open_at self.old.records place)).0 }
-        ensures state { self.new ≡ (finish_udp_bind_at self.old place (open_at self.old.records place)).1 }
+        ensures answer { host_outcome result
+            ≡ Ok (finish_udp_bind_at self.old place (open_at self.old.records place)).0 }
+        ensures state { self.new ≡ (finish_udp_bind_at self.old place
+            (open_at self.old.records place)).1 }
     {
         let Some(socket) = open_udp_mut(&mut self.records, place) else {
             return Err(SocketError::Trap(TrapKind::NoSuchHandle));
@@ -190,8 +217,10 @@ impl Store {
         place: usize,
     ) -> Result<IpSocketAddress, SocketError>
         requires { (W.seen world.old).ended ≡ false }
-        ensures asked { AsksFor (udp_local_at self.old op place (open_at self.old.records place)) (W.seen world.old) (W.seen world.new) (λ told. (told, self.new)) (host_outcome result) }
-        ensures sides { KnowsSides (W.seen world.old) self.old → KnowsSides (W.seen world.new) self.new }
+        ensures asked { AsksFor (udp_local_at self.old op place (open_at self.old.records place))
+            (W.seen world.old) (W.seen world.new) (λ told. (told, self.new)) (host_outcome result) }
+        ensures sides { KnowsSides (W.seen world.old) self.old
+            → KnowsSides (W.seen world.new) self.new }
     {
         let Some(socket) = open_udp_mut(&mut self.records, place) else {
             return Err(SocketError::Trap(TrapKind::NoSuchHandle));
@@ -233,9 +262,12 @@ impl Store {
         option: Opt,
     ) -> Result<u64, SocketError>
         requires { (W.seen world.old).ended ≡ false }
-        ensures asked { AsksFor (get_udp_option_at self.now op option (open_at self.now.records place)) (W.seen world.old) (W.seen world.new) (λ told. (told, self.now)) (host_outcome result) }
+        ensures asked { AsksFor (get_udp_option_at self.now op option
+            (open_at self.now.records place)) (W.seen world.old) (W.seen world.new)
+            (λ told. (told, self.now)) (host_outcome result) }
         ensures within { IfOk result (λ value. value ≤ largest_value option) }
-        ensures sides { KnowsSides (W.seen world.old) self.now → KnowsSides (W.seen world.new) self.now }
+        ensures sides { KnowsSides (W.seen world.old) self.now
+            → KnowsSides (W.seen world.new) self.now }
     {
         let Some(socket) = open_udp(&self.records, place) else {
             return Err(SocketError::Trap(TrapKind::NoSuchHandle));
@@ -254,8 +286,11 @@ impl Store {
         setting: Setting,
     ) -> Result<(), SocketError>
         requires { (W.seen world.old).ended ≡ false }
-        ensures asked { AsksFor (set_udp_option_at self.old op (option_of setting) (number_of setting) (open_at self.old.records place)) (W.seen world.old) (W.seen world.new) (λ told. (told, self.new)) (host_outcome result) }
-        ensures sides { KnowsSides (W.seen world.old) self.old → KnowsSides (W.seen world.new) self.new }
+        ensures asked { AsksFor (set_udp_option_at self.old op (option_of setting)
+            (number_of setting) (open_at self.old.records place)) (W.seen world.old)
+            (W.seen world.new) (λ told. (told, self.new)) (host_outcome result) }
+        ensures sides { KnowsSides (W.seen world.old) self.old
+            → KnowsSides (W.seen world.new) self.new }
     {
         let Some(socket) = open_udp_mut(&mut self.records, place) else {
             return Err(SocketError::Trap(TrapKind::NoSuchHandle));
@@ -273,8 +308,10 @@ impl Store {
         place: usize,
     ) -> Result<(), AllocError>
         requires { (W.seen world.old).ended ≡ false }
-        ensures asked { AsksFor (release_udp_at self.old op place (udp2_at self.old.records place)) (W.seen world.old) (W.seen world.new) (λ done. (done, self.new)) result }
-        ensures sides { KnowsSides (W.seen world.old) self.old → KnowsSides (W.seen world.new) self.new }
+        ensures asked { AsksFor (release_udp_at self.old op place (udp2_at self.old.records place))
+            (W.seen world.old) (W.seen world.new) (λ done. (done, self.new)) result }
+        ensures sides { KnowsSides (W.seen world.old) self.old
+            → KnowsSides (W.seen world.new) self.new }
     {
         let Some(record) = udp2_mut(&mut self.records, place) else {
             return Ok(());
@@ -286,7 +323,8 @@ impl Store {
 
     /// Gives back the record of the UDP socket with this number, if its network socket is closed.
     fn leave_udp(&mut self, place: usize)
-        ensures state { (u : Udp2Socket) → udp2_at self.old.records place ≡ Some u → self.new ≡ udp_left self.old place u }
+        ensures state { (u : Udp2Socket) → udp2_at self.old.records place ≡ Some u
+            → self.new ≡ udp_left self.old place u }
         ensures sides { (s : Seen) → KnowsSides s self.old → KnowsSides s self.new }
     {
         let Some(socket) = udp2(&self.records, place) else {

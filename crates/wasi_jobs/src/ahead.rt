@@ -1,4 +1,5 @@
-//! What a walk over the jobs has read ahead of itself, so that it searches the map once for as many jobs as are read at a time.
+//! What a walk over the jobs has read ahead of itself, so that it searches the map once for as many
+//! jobs as are read at a time.
 
 ghost use Rattle.std.specs.Prelude.{◌≡◌, ℕ, ◌+◌, ◌<◌, ◌^◌, List, [], ◌∷◌, IfSome, IfNone};
 ghost use Rattle.wasi_jobs.specs.declared.ahead.Hinted.{Hinted};
@@ -29,7 +30,8 @@ impl Default for Hinted {
     }
 }
 
-/// The jobs that a walk comes to next, which were read at once. They lie in the value itself, and take no memory from the allocator.
+/// The jobs that a walk comes to next, which were read at once. They lie in the value itself, and
+/// take no memory from the allocator.
 #[derive(Drop)]
 pub(crate) struct Ahead {
     /// Jobs that follow one another in the map, with their numbers.
@@ -52,8 +54,9 @@ impl Ahead {
         }
     }
 
-    /// Sees to it that what is read ahead begins with the first job that has this number or a higher one. It searches the map only
-    /// where a walk begins, and where all that was read is handed out.
+    /// Sees to it that what is read ahead begins with the first job that has this number or a
+    /// higher one. It searches the map only where a walk begins, and where all that was read is
+    /// handed out.
     pub(crate) fn reach(&mut self, jobs: &BTreeMap<u64, Hinted>, number: u64)
         requires { IsAhead jobs.now.entries self.old }
         ensures from { self.new.from ≡ number }
@@ -69,7 +72,8 @@ impl Ahead {
 
     /// Hands the next job out, with its number.
     pub(crate) fn next(&mut self) -> Option<(u64, Hinted)>
-        requires { (e : ℕ × Hinted) (rest : List (ℕ × Hinted)) → left self.old ≡ e ∷ rest → e.0 + 1 < 2 ^ 64 }
+        requires { (e : ℕ × Hinted) (rest : List (ℕ × Hinted)) → left self.old ≡ e ∷ rest
+            → e.0 + 1 < 2 ^ 64 }
         ensures none { IfNone result (left self.old ≡ []) }
         ensures same { IfNone result (self.new ≡ self.old) }
         ensures some { IfSome result (λ found. left self.old ≡ found ∷ left self.new) }
@@ -81,9 +85,11 @@ impl Ahead {
         Some((number, hinted))
     }
 
-    /// Nothing is read ahead any more, if the job of this number, which is taken out, may be among it.
+    /// Nothing is read ahead any more, if the job of this number, which is taken out, may be among
+    /// it.
     pub(crate) fn clear_if_among(&mut self, number: u64)
-        ensures { (jobs : List (ℕ × Hinted)) → IsAhead jobs self.old → IsAhead (without number jobs) self.new }
+        ensures { (jobs : List (ℕ × Hinted)) → IsAhead jobs self.old
+            → IsAhead (without number jobs) self.new }
     {
         // A walk mostly takes out the job that it was just handed, and that one is below.
         if number >= self.from {
@@ -99,7 +105,8 @@ impl Ahead {
     }
 }
 
-/// Reads the first jobs with this number or a higher one, as many as are read at a time, in the place of those that were read before.
+/// Reads the first jobs with this number or a higher one, as many as are read at a time, in the
+/// place of those that were read before.
 fn read(jobs: &BTreeMap<u64, Hinted>, number: u64, entries: &mut ArrayVec<(u64, Hinted), AT_ONCE>)
     ensures { AreRead number jobs.now.entries entries.new.items }
 {

@@ -1,19 +1,23 @@
 //! The host's background jobs, in the order of their making.
 //!
-//! Each job stands in an ordered map under a number that rises. A key in an ordered set names its record first and then its
-//! number, so that a record's jobs are found together. So a call's time grows with the logarithm of the number of jobs, and, where
-//! a record's jobs go, with how many that record has; memory follows how many jobs there are, however many were made.
+//! Each job stands in an ordered map under a number that rises. A key in an ordered set names its
+//! record first and then its number, so that a record's jobs are found together. So a call's time
+//! grows with the logarithm of the number of jobs, and, where a record's jobs go, with how many
+//! that record has; memory follows how many jobs there are, however many were made.
 //!
-//! A walk, which asks for the first job after the one that it was handed, searches the map once for 16 jobs: these are read ahead,
-//! and handed out one by one without a search.
+//! A walk, which asks for the first job after the one that it was handed, searches the map once for
+//! 16 jobs: these are read ahead, and handed out one by one without a search.
 
-ghost use Rattle.std.specs.Prelude.{◌≡◌, ◌+◌, ◌<◌, ◌≤◌, ◌^◌, List, [], ◌∷◌, ◌++◌, Some, None, IfSome, IfNone, OnOk, OnErr};
+ghost use Rattle.std.specs.Prelude.{◌≡◌, ◌+◌, ◌<◌, ◌≤◌, ◌^◌, List, [], ◌∷◌, ◌++◌, Some, None};
+ghost use Rattle.std.specs.Prelude.{IfSome, IfNone, OnOk, OnErr};
 ghost use Rattle.std.specs.BTreeMap.{insert_entry};
 ghost use Rattle.std.specs.Ordering.{nat_cmp};
 ghost use Rattle.wasi_jobs.specs.declared.job.HostJob.{HostJob};
-ghost use Rattle.wasi_jobs.specs.Jobs.{job_place, other_jobs, other_than_receive, other_than_datagram};
+ghost use Rattle.wasi_jobs.specs.Jobs.{job_place, other_jobs, other_than_receive};
+ghost use Rattle.wasi_jobs.specs.Jobs.{other_than_datagram};
 ghost use Rattle.wasi_jobs.specs.JobList.{no_work, below, from_on};
-ghost use Rattle.wasi_jobs.specs.Keys.{job_at, AreKeyed, IsWithout, HasNoneFrom, IsNextOn, is_of_kind, left_of};
+ghost use Rattle.wasi_jobs.specs.Keys.{job_at, AreKeyed, IsWithout, HasNoneFrom, IsNextOn};
+ghost use Rattle.wasi_jobs.specs.Keys.{is_of_kind, left_of};
 
 use crate::ahead::{Ahead, Hinted};
 use crate::job::{HostJob, Listed};
@@ -21,8 +25,8 @@ use std::alloc::{AllocError, Global};
 use std::collections::{BTreeMap, BTreeSet};
 use std::marker::Model;
 
-/// What finds a job from its record: the number of the record, and then that of the job. The order is by the first, so that the
-/// keys of a record stand together.
+/// What finds a job from its record: the number of the record, and then that of the job. The order
+/// is by the first, so that the keys of a record stand together.
 #[derive(Clone, Copy, PartialEq, Eq, PartialOrd, Ord)]
 struct Key {
     place: usize,
@@ -62,7 +66,8 @@ impl Which {
     }
 }
 
-/// The host's background jobs, in the order of their making. Each has a number, which rises and is not given twice.
+/// The host's background jobs, in the order of their making. Each has a number, which rises and is
+/// not given twice.
 #[derive(Drop)]
 pub struct JobList {
     jobs: BTreeMap<u64, Hinted>,
@@ -117,7 +122,8 @@ impl JobList {
 
     /// Takes the last job out, if there is one; its number isn't given again. Takes no memory.
     pub fn withdraw(&mut self)
-        ensures { (jobs : List HostJob) (job : HostJob) → self.old.items ≡ jobs ++ job ∷ [] → self.new.items ≡ jobs }
+        ensures { (jobs : List HostJob) (job : HostJob) → self.old.items ≡ jobs ++ job ∷ []
+            → self.new.items ≡ jobs }
     {
         let Some((number, hinted)) = self.jobs.pop_last() else {
             return;
@@ -133,7 +139,8 @@ impl JobList {
     pub fn first_from(&mut self, number: u64) -> Option<Listed>
         ensures whole { self.old.items ≡ below number self.old ++ from_on number self.old }
         ensures none { result ≡ None → from_on number self.old ≡ [] }
-        ensures some { IfSome result (λ found. (from_on number self.old ≡ found.job ∷ from_on (found.number + 1) self.old)
+        ensures some { IfSome result (λ found. (from_on number self.old
+            ≡ found.job ∷ from_on (found.number + 1) self.old)
             × (below (found.number + 1) self.old ≡ below number self.old ++ found.job ∷ [])
             × (below found.number self.old ≡ below number self.old)) }
         ensures fits { IfSome result (λ found. found.number + 1 < 2 ^ 64) }
@@ -194,7 +201,8 @@ impl JobList {
     }
 }
 
-/// Puts a job under a number that none has, and its key beside it. Where there is no room for one of them, neither comes.
+/// Puts a job under a number that none has, and its key beside it. Where there is no room for one
+/// of them, neither comes.
 fn put(
     jobs: &mut BTreeMap<u64, Hinted>,
     by_record: &mut BTreeSet<Key>,
@@ -203,7 +211,8 @@ fn put(
 ) -> Result<(), AllocError>
     requires keyed { AreKeyed jobs.old.entries by_record.old.keys }
     requires fresh { job_at jobs.old.entries number ≡ None }
-    ensures ok { OnOk result (jobs.new.entries ≡ insert_entry nat_cmp jobs.old.entries number hinted) }
+    ensures ok { OnOk result (jobs.new.entries ≡ insert_entry nat_cmp jobs.old.entries number
+        hinted) }
     ensures err { OnErr result (jobs.new.entries ≡ jobs.old.entries) }
     ensures keyed { AreKeyed jobs.new.entries by_record.new.keys }
 {

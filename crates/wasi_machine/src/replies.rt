@@ -3,7 +3,9 @@
 ghost use Rattle.std.specs.Prelude.{◌≡◌, IfOk, IsOkAnd};
 ghost use Rattle.wasi_host.specs.CallStops.{Failed, call_outcome, IsCallStop};
 ghost use Rattle.wasi_records.specs.Stops.{host_outcome, IsStop};
-ghost use Rattle.wasi_machine.specs.Machine.{reply_of, stream_reply_of, answer_reply_of, blocked_reply_of, cancelled_reply, stop_reply, call_stop_reply, outcome_reply, resumed_reply};
+ghost use Rattle.wasi_machine.specs.Machine.{reply_of, stream_reply_of, answer_reply_of};
+ghost use Rattle.wasi_machine.specs.Machine.{blocked_reply_of, cancelled_reply, stop_reply};
+ghost use Rattle.wasi_machine.specs.Machine.{call_stop_reply, outcome_reply, resumed_reply};
 
 use std::alloc::{AllocError, Global};
 use wasi_addr::{ErrorCode, p2};
@@ -24,7 +26,8 @@ pub fn reply_of<T: IntoFields>(
     alloc: Global,
     answer: Result<T, SocketError>,
 ) -> Result<Reply, AllocError>
-    ensures { IfOk result (λ reply. IsOkAnd (host_outcome answer) (λ x. reply ≡ reply_of T.fields x)) }
+    ensures { IfOk result (λ reply. IsOkAnd (host_outcome answer)
+        (λ x. reply ≡ reply_of T.fields x)) }
 {
     match answer {
         Ok(value) => ok(alloc, value),
@@ -38,7 +41,8 @@ pub fn stream_reply_of<T: IntoFields>(
     alloc: Global,
     answer: Result<T, CallError>,
 ) -> Result<Reply, AllocError>
-    ensures { IfOk result (λ reply. IsOkAnd (call_outcome answer) (λ x. reply ≡ stream_reply_of T.fields x)) }
+    ensures { IfOk result (λ reply. IsOkAnd (call_outcome answer)
+        (λ x. reply ≡ stream_reply_of T.fields x)) }
 {
     match answer {
         Ok(value) => ok(alloc, value),
@@ -53,7 +57,8 @@ pub fn blocked_reply<T: IntoFields>(
     call: u32,
     answer: Result<Answer<T>, CallError>,
 ) -> Result<Reply, AllocError>
-    ensures { IfOk result (λ reply. IsOkAnd (call_outcome answer) (λ x. reply ≡ blocked_reply_of T.fields call x)) }
+    ensures { IfOk result (λ reply. IsOkAnd (call_outcome answer)
+        (λ x. reply ≡ blocked_reply_of T.fields call x)) }
 {
     match answer {
         Ok(Answer::Ready(value)) => ok(alloc, value),
@@ -69,7 +74,8 @@ pub fn answer_reply<T: IntoFields>(
     line: u32,
     answer: Result<Answer<T>, SocketError>,
 ) -> Result<Reply, AllocError>
-    ensures { IfOk result (λ reply. IsOkAnd (host_outcome answer) (λ x. reply ≡ answer_reply_of T.fields line x)) }
+    ensures { IfOk result (λ reply. IsOkAnd (host_outcome answer)
+        (λ x. reply ≡ answer_reply_of T.fields line x)) }
 {
     match answer {
         Ok(Answer::Ready(value)) => ok(alloc, value),
@@ -145,7 +151,8 @@ pub fn resumed_reply(
     line: u32,
     resumed: Result<Option<Answer<Outcome>>, SocketError>,
 ) -> Result<Reply, AllocError>
-    ensures { IfOk result (λ reply. IsOkAnd (host_outcome resumed) (λ x. reply ≡ resumed_reply line x)) }
+    ensures { IfOk result (λ reply. IsOkAnd (host_outcome resumed)
+        (λ x. reply ≡ resumed_reply line x)) }
 {
     match resumed {
         Ok(Some(answer)) => outcome_reply(alloc, line, answer),

@@ -41,7 +41,8 @@ pub(crate) fn host_in_brackets(
     alloc: Global,
     name: &str,
 ) -> Result<Option<Host<String>>, AllocError>
-    ensures { IfOk result (λ host. option_map owned_host host ≡ host_in (codes "http://[" ++ name.now ++ codes "]/")) }
+    ensures { IfOk result (λ host. option_map owned_host host
+        ≡ host_in (codes "http://[" ++ name.now ++ codes "]/")) }
 {
     let text = between(alloc, "http://[", name, "]/")?;
     host_of(alloc, text.as_str())
@@ -49,7 +50,8 @@ pub(crate) fn host_in_brackets(
 
 /// The host of `http://NAME/`.
 pub(crate) fn host_as_written(alloc: Global, name: &str) -> Result<Option<Host<String>>, AllocError>
-    ensures { IfOk result (λ host. option_map owned_host host ≡ host_in (codes "http://" ++ name.now ++ codes "/")) }
+    ensures { IfOk result (λ host. option_map owned_host host
+        ≡ host_in (codes "http://" ++ name.now ++ codes "/")) }
 {
     let text = between(alloc, "http://", name, "/")?;
     host_of(alloc, text.as_str())

@@ -2,7 +2,8 @@
 
 ghost use Rattle.std.specs.Prelude.{◌≡◌, IfOk, option_map};
 ghost use Rattle.url.specs.Host.{owned_host};
-ghost use Rattle.wasi_names.specs.Names.{bare_ipv6, named, host_named, name_is, host_for, read_as_written};
+ghost use Rattle.wasi_names.specs.Names.{bare_ipv6, named, host_named, name_is, host_for};
+ghost use Rattle.wasi_names.specs.Names.{read_as_written};
 
 use crate::bytes::{has_barred_byte, has_colon, is_bare, is_in_brackets};
 use crate::host::{host_as_written, host_in_brackets};
@@ -11,10 +12,12 @@ use url::Host;
 use wasi_addr::{IpAddress, from_ipv4_addr, from_ipv6_addr, lookup};
 use wasi_world::{NameText, WasiSocketsCtx};
 
-/// What a host name is (what `resolve-addresses` of `wasi:sockets/ip-name-lookup` parses its `name` to).
+/// What a host name is (what `resolve-addresses` of `wasi:sockets/ip-name-lookup` parses its `name`
+/// to).
 ///
-/// An address answers itself. A domain is to be looked up; its text is as `url` gives it: in ASCII and in lower case, with
-/// percent escapes decoded, and what isn't ASCII in the form of IDNA. A label `xn--` of the name itself isn't checked.
+/// An address answers itself. A domain is to be looked up; its text is as `url` gives it: in ASCII
+/// and in lower case, with percent escapes decoded, and what isn't ASCII in the form of IDNA. A
+/// label `xn--` of the name itself isn't checked.
 #[derive(Drop)]
 pub enum HostName {
     /// The name is an address, in text.

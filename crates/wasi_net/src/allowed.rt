@@ -2,7 +2,8 @@
 
 ghost use Rattle.std.specs.Prelude.{◌≡◌, false, true};
 ghost use Rattle.wasi_world.specs.Fits.{IsVerdict};
-ghost use Rattle.wasi_net.specs.Allowed.{is_loopback, is_any, has_port, is_near, is_own, has_free, policy_of, allows, verdict};
+ghost use Rattle.wasi_net.specs.Allowed.{is_loopback, is_any, has_port, is_near, is_own, has_free};
+ghost use Rattle.wasi_net.specs.Allowed.{policy_of, allows, verdict};
 
 use wasi_addr::{
     IpAddress, IpSocketAddress, SocketAddrUse, SocketAddressFamily, is_unspecified_addr,
@@ -26,7 +27,8 @@ fn is_loopback(addr: IpAddress) -> bool
     )
 }
 
-/// Whether it leaves address and port to the system, as a socket does that isn't bound before it connects or sends.
+/// Whether it leaves address and port to the system, as a socket does that isn't bound before it
+/// connects or sends.
 fn is_any(addr: IpSocketAddress) -> bool
     ensures { result ≡ is_any addr }
 {
@@ -80,9 +82,10 @@ impl Allowed {
         self.is_near(addr) && self.has_port(addr)
     }
 
-    /// Whether the address may be put to this use. A bind, a listen, a connect and a send need an allowed port; what arrives
-    /// may come from any. The wildcard may be bound, since a connect or a send that isn't bound asks for it. A socket that
-    /// was bound to port 0, where that is allowed, may listen on the port that it was given.
+    /// Whether the address may be put to this use. A bind, a listen, a connect and a send need an
+    /// allowed port; what arrives may come from any. The wildcard may be bound, since a connect or
+    /// a send that isn't bound asks for it. A socket that was bound to port 0, where that is
+    /// allowed, may listen on the port that it was given.
     pub fn allows(&self, addr: IpSocketAddress, usage: SocketAddrUse) -> bool
         ensures { result ≡ allows (policy_of self.now) addr usage }
     {

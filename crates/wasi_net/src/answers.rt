@@ -37,7 +37,11 @@ impl Socket {
     /// An arrival is open from now on.
     fn hand(&mut self) -> Told
         ensures told { result ≡ Told.Done }
-        ensures known { known_of self.new ≡ record { fd = self.old.descriptor.number; family = self.old.family; stage = Stage.Open } }
+        ensures known { known_of self.new ≡ record {
+          fd = self.old.descriptor.number;
+          family = self.old.family;
+          stage = Stage.Open;
+        } }
     {
         self.stage = Stage::Open;
         Told::Done
@@ -51,7 +55,8 @@ impl Socket {
         call: &Call,
     ) -> Result<Told, AllocError>
         ensures fits { IfOk result (Fits call.now) }
-        ensures does { IfOk result (λ told. OnSide call.now (known_of self.old) told (known_of self.new) (S.acts system.old) (S.acts system.new)) }
+        ensures does { IfOk result (λ told. OnSide call.now (known_of self.old) told
+            (known_of self.new) (S.acts system.old) (S.acts system.new)) }
         ensures known { OnErr result (known_of self.new ≡ known_of self.old) }
         ensures acts { OnErr result (S.acts system.new ≡ S.acts system.old) }
     {

@@ -1,11 +1,14 @@
-//! The system's calls by what they mean: an address, an option, a half, in place of C's bytes and numbers.
+//! The system's calls by what they mean: an address, an option, a half, in place of C's bytes and
+//! numbers.
 
 ghost use Rattle.std.specs.Prelude.{◌≡◌, pos};
 ghost use Rattle.wasi_net.specs.Acts.{after, number_of};
 ghost use Rattle.wasi_net.specs.Acts as act;
 ghost use Rattle.wasi_addr.specs.Clamp.{clamped_backlog};
 ghost use Rattle.wasi_net.specs.Ready.{events_of, look};
-ghost use Rattle.wasi_net.specs.Storage.{domain_of, kind_of, bind_to, connect_to, disconnect, send_to, shut_number, shut, int_value, int_in, set_to, get_of};
+ghost use Rattle.wasi_net.specs.Storage.{domain_of, kind_of, bind_to, connect_to, disconnect};
+ghost use Rattle.wasi_net.specs.Storage.{send_to, shut_number, shut, int_value, int_in, set_to};
+ghost use Rattle.wasi_net.specs.Storage.{get_of};
 
 use crate::descriptor::Descriptor;
 use crate::errno::Errno;
@@ -29,7 +32,8 @@ pub fn socket<S: System>(
     family: SocketAddressFamily,
     transport: Transport,
 ) -> Result<Descriptor, Errno>
-    ensures { S.acts system.new ≡ after (act.Socket (domain_of family) (kind_of transport) (number_of result)) (S.acts system.old) }
+    ensures { S.acts system.new ≡ after (act.Socket (domain_of family) (kind_of transport)
+        (number_of result)) (S.acts system.old) }
 {
     let stream = c::SOCK_STREAM | c::SOCK_NONBLOCK | c::SOCK_CLOEXEC;
     let datagram = c::SOCK_DGRAM | c::SOCK_NONBLOCK | c::SOCK_CLOEXEC;
@@ -47,7 +51,8 @@ pub fn bind<S: System>(
     descriptor: &Descriptor,
     addr: IpSocketAddress,
 ) -> Result<(), Errno>
-    ensures { S.acts system.new ≡ after (bind_to descriptor.now.number addr result) (S.acts system.old) }
+    ensures { S.acts system.new ≡ after (bind_to descriptor.now.number addr result)
+        (S.acts system.old) }
 {
     let (raw, len) = encode(addr);
     system.bind(descriptor.number(), &raw, len)
@@ -59,7 +64,8 @@ pub fn connect<S: System>(
     descriptor: &Descriptor,
     addr: IpSocketAddress,
 ) -> Result<(), Errno>
-    ensures { S.acts system.new ≡ after (connect_to descriptor.now.number addr result) (S.acts system.old) }
+    ensures { S.acts system.new ≡ after (connect_to descriptor.now.number addr result)
+        (S.acts system.old) }
 {
     let (raw, len) = encode(addr);
     system.connect(descriptor.number(), &raw, len)
@@ -67,7 +73,8 @@ pub fn connect<S: System>(
 
 /// Dissolves an association. A TCP connection is reset by it.
 pub fn disconnect<S: System>(system: &mut S, descriptor: &Descriptor) -> Result<(), Errno>
-    ensures { S.acts system.new ≡ after (disconnect descriptor.now.number result) (S.acts system.old) }
+    ensures { S.acts system.new ≡ after (disconnect descriptor.now.number result)
+        (S.acts system.old) }
 {
     system.connect(descriptor.number(), &[0u8; 128], 16)
 }
@@ -89,7 +96,8 @@ pub fn shutdown<S: System>(
     descriptor: &Descriptor,
     how: ShutdownType,
 ) -> Result<(), Errno>
-    ensures { S.acts system.new ≡ after (shut descriptor.now.number how result) (S.acts system.old) }
+    ensures { S.acts system.new ≡ after (shut descriptor.now.number how result)
+        (S.acts system.old) }
 {
     system.shutdown(descriptor.number(), shut_number(how))
 }
@@ -110,7 +118,8 @@ pub fn set<S: System>(
     setting: Setting,
     number: u32,
 ) -> Result<(), Errno>
-    ensures { S.acts system.new ≡ after (set_to descriptor.now.number setting number result) (S.acts system.old) }
+    ensures { S.acts system.new ≡ after (set_to descriptor.now.number setting number result)
+        (S.acts system.old) }
 {
     let fd = descriptor.number();
     let value = int_value(number);
@@ -141,7 +150,8 @@ pub fn get<S: System>(
     descriptor: &Descriptor,
     setting: Setting,
 ) -> Result<OptionValue, Errno>
-    ensures { S.acts system.new ≡ after (get_of descriptor.now.number setting result) (S.acts system.old) }
+    ensures { S.acts system.new ≡ after (get_of descriptor.now.number setting result)
+        (S.acts system.old) }
 {
     let fd = descriptor.number();
     match setting {
@@ -160,7 +170,8 @@ pub fn get<S: System>(
 
 /// Listens, for at least one arrival that waits.
 pub fn listen<S: System>(system: &mut S, descriptor: &Descriptor, backlog: u32) -> Result<(), Errno>
-    ensures { S.acts system.new ≡ after (act.Listen descriptor.now.number (pos (clamped_backlog backlog)) result) (S.acts system.old) }
+    ensures { S.acts system.new ≡ after (act.Listen descriptor.now.number
+        (pos (clamped_backlog backlog)) result) (S.acts system.old) }
 {
     system.listen(
         descriptor.number(),
@@ -191,7 +202,8 @@ pub fn look<S: System>(
     descriptor: &Descriptor,
     readiness: Readiness,
 ) -> Result<usize, Errno>
-    ensures { S.acts system.new ≡ after (look descriptor.now.number readiness result) (S.acts system.old) }
+    ensures { S.acts system.new ≡ after (look descriptor.now.number readiness result)
+        (S.acts system.old) }
 {
     let mut asked = [pollfd {
         fd: descriptor.number(),

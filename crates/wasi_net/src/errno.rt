@@ -1,7 +1,8 @@
 //! The faults of the system by their numbers, and the code of each.
 
 ghost use Rattle.std.specs.Prelude.{◌≡◌};
-ghost use Rattle.wasi_net.specs.Errno.{is_unreachable, is_unsupported, code_of, may_retry, goes_on, bind_code, is_pending_error, accept_code, told_failed};
+ghost use Rattle.wasi_net.specs.Errno.{is_unreachable, is_unsupported, code_of, may_retry, goes_on};
+ghost use Rattle.wasi_net.specs.Errno.{bind_code, is_pending_error, accept_code, told_failed};
 
 use wasi_addr::ErrorCode;
 use wasi_world::Told;
@@ -94,7 +95,8 @@ impl Errno {
         self.number == 115 || self.number == 4
     }
 
-    /// The code of a bind and of a UDP connect: an address of another family is an invalid argument.
+    /// The code of a bind and of a UDP connect: an address of another family is an invalid
+    /// argument.
     pub fn bind_code(self) -> ErrorCode
         ensures { result ≡ bind_code self }
     {

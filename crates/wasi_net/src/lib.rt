@@ -1,8 +1,10 @@
-//! The network of the system's sockets, as a [`wasi_world::World`]: scripts and guests reach real addresses by it.
+//! The network of the system's sockets, as a [`wasi_world::World`]: scripts and guests reach real
+//! addresses by it.
 //!
-//! What the system does with a call is outside every contract. What is proved is what the trait asks, that each check is
-//! answered by the addresses that are allowed, and for each call on the network which of the system's calls are made, with
-//! which descriptor, address, option and bytes, and what is answered for the system's answers.
+//! What the system does with a call is outside every contract. What is proved is what the trait
+//! asks, that each check is answered by the addresses that are allowed, and for each call on the
+//! network which of the system's calls are made, with which descriptor, address, option and bytes,
+//! and what is answered for the system's answers.
 #![tactic(auto)]
 
 pub mod allowed;

@@ -1,4 +1,5 @@
-//! Linux's calls, by the C library: the one module with `unsafe`. Each method hands its arguments on as they are.
+//! Linux's calls, by the C library: the one module with `unsafe`. Each method hands its arguments
+//! on as they are.
 
 ghost use Rattle.std.specs.Prelude.{◌≡◌, ◌≤◌, length, IfOk};
 ghost use Rattle.libc.specs.Io.{Moved};

@@ -33,8 +33,8 @@ pub struct Network<S> {
     waiting: Waiting,
 }
 
-/// The network socket that a call is on: a connection that arrived has the name of its accept, which hands it over or refuses
-/// it.
+/// The network socket that a call is on: a connection that arrived has the name of its accept,
+/// which hands it over or refuses it.
 fn side_of(op: OpId, call: &Call) -> Option<Sock>
     ensures { result ≡ side_of op call.now }
 {
@@ -160,8 +160,10 @@ impl<S> Network<S> {
         family: SocketAddressFamily,
         descriptor: Descriptor,
     ) -> Result<Told, AllocError>
-        ensures opens { IfOk result (λ told. Opens op family descriptor.number (known_sides self.old.sides) told (known_sides self.new.sides)) }
-        ensures err { OnErr result (Same (known_sides self.old.sides) (known_sides self.new.sides)) }
+        ensures opens { IfOk result (λ told. Opens op family descriptor.number
+            (known_sides self.old.sides) told (known_sides self.new.sides)) }
+        ensures err { OnErr result (Same (known_sides self.old.sides)
+            (known_sides self.new.sides)) }
         ensures allowed { self.new.allowed ≡ self.old.allowed }
         ensures system { self.new.system ≡ self.old.system }
     {
@@ -180,8 +182,10 @@ impl<S> Network<S> {
         len: u32,
     ) -> Result<Told, AllocError>
         ensures fits { IfOk result IsArrival }
-        ensures arrives { IfOk result (λ told. OnArrival family op descriptor.number (known_sides self.old.sides) told (known_sides self.new.sides)) }
-        ensures err { OnErr result (Same (known_sides self.old.sides) (known_sides self.new.sides)) }
+        ensures arrives { IfOk result (λ told. OnArrival family op descriptor.number
+            (known_sides self.old.sides) told (known_sides self.new.sides)) }
+        ensures err { OnErr result (Same (known_sides self.old.sides)
+            (known_sides self.new.sides)) }
         ensures allowed { self.new.allowed ≡ self.old.allowed }
         ensures system { self.new.system ≡ self.old.system }
     {
@@ -198,7 +202,9 @@ impl<S: System> Network<S> {
     ghost use Rattle.wasi_net.specs.Allowed.{policy_of};
     ghost use Rattle.wasi_net.specs.Does.{WriteDoes, SendDoes};
     ghost use Rattle.wasi_net.specs.Known.{known_sides, known_of, Same, With};
-    ghost use Rattle.wasi_net.specs.Answers.{Stays, OnSide, missing, AcceptDoes, AcceptAsks, AnswersAt, OnMade, CreateDoes, RefuseDoes, Resets, OnNetwork};
+    ghost use Rattle.wasi_net.specs.Answers.{Stays, OnSide, missing, AcceptDoes, AcceptAsks};
+    ghost use Rattle.wasi_net.specs.Answers.{AnswersAt, OnMade, CreateDoes, RefuseDoes, Resets};
+    ghost use Rattle.wasi_net.specs.Answers.{OnNetwork};
     ghost use Rattle.wasi_world.specs.Fits.{Fits, IsDoneOrCode, IsArrival, IsWritten, IsPolled};
     ghost use Rattle.wasi_world.specs.Asks.{IsFront};
 
@@ -210,8 +216,11 @@ impl<S: System> Network<S> {
         descriptor: Descriptor,
     ) -> Result<Told, AllocError>
         ensures fits { IfOk result IsDoneOrCode }
-        ensures does { IfOk result (λ told. OnMade family op descriptor.number (known_sides self.old.sides) told (known_sides self.new.sides) (S.acts self.old.system) (S.acts self.new.system)) }
-        ensures err { OnErr result (Same (known_sides self.old.sides) (known_sides self.new.sides)) }
+        ensures does { IfOk result (λ told. OnMade family op descriptor.number
+            (known_sides self.old.sides) told (known_sides self.new.sides) (S.acts self.old.system)
+            (S.acts self.new.system)) }
+        ensures err { OnErr result (Same (known_sides self.old.sides)
+            (known_sides self.new.sides)) }
         ensures allowed { self.new.allowed ≡ self.old.allowed }
     {
         match family {
@@ -233,8 +242,11 @@ impl<S: System> Network<S> {
         transport: Transport,
     ) -> Result<Told, AllocError>
         ensures fits { IfOk result IsDoneOrCode }
-        ensures does { IfOk result (λ told. CreateDoes transport family op (known_sides self.old.sides) told (known_sides self.new.sides) (S.acts self.old.system) (S.acts self.new.system)) }
-        ensures err { OnErr result (Same (known_sides self.old.sides) (known_sides self.new.sides)) }
+        ensures does { IfOk result (λ told. CreateDoes transport family op
+            (known_sides self.old.sides) told (known_sides self.new.sides) (S.acts self.old.system)
+            (S.acts self.new.system)) }
+        ensures err { OnErr result (Same (known_sides self.old.sides)
+            (known_sides self.new.sides)) }
         ensures allowed { self.new.allowed ≡ self.old.allowed }
     {
         match calls::socket(&mut self.system, family, transport) {
@@ -251,8 +263,10 @@ impl<S: System> Network<S> {
         family: SocketAddressFamily,
     ) -> Result<Told, AllocError>
         ensures fits { IfOk result IsArrival }
-        ensures does { IfOk result (λ told. AcceptAsks op fd family (known_sides self.old.sides) told (known_sides self.new.sides) (S.acts self.old.system) (S.acts self.new.system)) }
-        ensures err { OnErr result (Same (known_sides self.old.sides) (known_sides self.new.sides)) }
+        ensures does { IfOk result (λ told. AcceptAsks op fd family (known_sides self.old.sides)
+            told (known_sides self.new.sides) (S.acts self.old.system) (S.acts self.new.system)) }
+        ensures err { OnErr result (Same (known_sides self.old.sides)
+            (known_sides self.new.sides)) }
         ensures allowed { self.new.allowed ≡ self.old.allowed }
     {
         let mut raw = [0u8; 128];
@@ -263,12 +277,15 @@ impl<S: System> Network<S> {
         }
     }
 
-    /// Takes the next arrival in hand, under the name of its accept; one that is in hand is reported again. Where memory runs
-    /// out for it, it is closed.
+    /// Takes the next arrival in hand, under the name of its accept; one that is in hand is
+    /// reported again. Where memory runs out for it, it is closed.
     fn accept(&mut self, op: OpId, sock: Sock) -> Result<Told, AllocError>
         ensures fits { IfOk result IsArrival }
-        ensures does { IfOk result (λ told. AcceptDoes op (known_sides self.old.sides op) (known_sides self.old.sides sock) (known_sides self.old.sides) told (known_sides self.new.sides) (S.acts self.old.system) (S.acts self.new.system)) }
-        ensures err { OnErr result (Same (known_sides self.old.sides) (known_sides self.new.sides)) }
+        ensures does { IfOk result (λ told. AcceptDoes op (known_sides self.old.sides op)
+            (known_sides self.old.sides sock) (known_sides self.old.sides) told
+            (known_sides self.new.sides) (S.acts self.old.system) (S.acts self.new.system)) }
+        ensures err { OnErr result (Same (known_sides self.old.sides)
+            (known_sides self.new.sides)) }
         ensures allowed { self.new.allowed ≡ self.old.allowed }
     {
         match self.sides.get(&op) {
@@ -284,7 +301,8 @@ impl<S: System> Network<S> {
 
     /// Resets the arrival of this name, so that its other end sees it.
     fn reset(&mut self, op: OpId)
-        ensures does { Resets (known_sides self.old.sides op) (S.acts self.old.system) (S.acts self.new.system) }
+        ensures does { Resets (known_sides self.old.sides op) (S.acts self.old.system)
+            (S.acts self.new.system) }
         ensures sides { self.new.sides ≡ self.old.sides }
         ensures allowed { self.new.allowed ≡ self.old.allowed }
     {
@@ -295,7 +313,8 @@ impl<S: System> Network<S> {
 
     /// Resets an arrival and closes it.
     fn refuse(&mut self, op: OpId) -> Told
-        ensures does { RefuseDoes op (known_sides self.old.sides) result (known_sides self.new.sides) (S.acts self.old.system) (S.acts self.new.system) }
+        ensures does { RefuseDoes op (known_sides self.old.sides) result
+            (known_sides self.new.sides) (S.acts self.old.system) (S.acts self.new.system) }
         ensures allowed { self.new.allowed ≡ self.old.allowed }
     {
         self.reset(op);
@@ -307,8 +326,12 @@ impl<S: System> Network<S> {
     pub fn write(&mut self, sock: Sock, bytes: &[u8]) -> Result<Told, AllocError>
         ensures fits { IfOk result (IsWritten (length bytes.now)) }
         ensures front { IfOk result (λ told. IsFront told bytes.now) }
-        ensures does { IfOk result (λ told. AnswersAt (λ k. Stays (WriteDoes k.fd bytes.now) k) (Told.Code ErrorCode.InvalidState) sock (known_sides self.old.sides sock) (known_sides self.old.sides) told (known_sides self.new.sides) (S.acts self.old.system) (S.acts self.new.system)) }
-        ensures err { OnErr result (Same (known_sides self.old.sides) (known_sides self.new.sides)) }
+        ensures does { IfOk result (λ told. AnswersAt (λ k. Stays (WriteDoes k.fd bytes.now) k)
+            (Told.Code ErrorCode.InvalidState) sock (known_sides self.old.sides sock)
+            (known_sides self.old.sides) told (known_sides self.new.sides) (S.acts self.old.system)
+            (S.acts self.new.system)) }
+        ensures err { OnErr result (Same (known_sides self.old.sides)
+            (known_sides self.new.sides)) }
         ensures allowed { self.new.allowed ≡ self.old.allowed }
     {
         match self.sides.get_mut(&sock) {
@@ -320,7 +343,10 @@ impl<S: System> Network<S> {
     /// Sends one datagram.
     pub fn send(&mut self, sock: Sock, addr: IpSocketAddress, bytes: &[u8]) -> Told
         ensures fits { IsPolled result }
-        ensures does { AnswersAt (λ k. Stays (SendDoes k.fd addr bytes.now) k) (Told.Code ErrorCode.InvalidState) sock (known_sides self.old.sides sock) (known_sides self.old.sides) result (known_sides self.new.sides) (S.acts self.old.system) (S.acts self.new.system) }
+        ensures does { AnswersAt (λ k. Stays (SendDoes k.fd addr bytes.now) k)
+            (Told.Code ErrorCode.InvalidState) sock (known_sides self.old.sides sock)
+            (known_sides self.old.sides) result (known_sides self.new.sides)
+            (S.acts self.old.system) (S.acts self.new.system) }
         ensures allowed { self.new.allowed ≡ self.old.allowed }
     {
         match self.sides.get_mut(&sock) {
@@ -332,8 +358,11 @@ impl<S: System> Network<S> {
     /// The answer to a call on one socket.
     fn answer_on(&mut self, sock: Sock, call: &Call) -> Result<Told, AllocError>
         ensures fits { IfOk result (Fits call.now) }
-        ensures does { IfOk result (λ told. AnswersAt (OnSide call.now) (missing call.now) sock (known_sides self.old.sides sock) (known_sides self.old.sides) told (known_sides self.new.sides) (S.acts self.old.system) (S.acts self.new.system)) }
-        ensures err { OnErr result (Same (known_sides self.old.sides) (known_sides self.new.sides)) }
+        ensures does { IfOk result (λ told. AnswersAt (OnSide call.now) (missing call.now) sock
+            (known_sides self.old.sides sock) (known_sides self.old.sides) told
+            (known_sides self.new.sides) (S.acts self.old.system) (S.acts self.new.system)) }
+        ensures err { OnErr result (Same (known_sides self.old.sides)
+            (known_sides self.new.sides)) }
         ensures allowed { self.new.allowed ≡ self.old.allowed }
     {
         match self.sides.get_mut(&sock) {
@@ -345,8 +374,11 @@ impl<S: System> Network<S> {
     /// The answer to any call but a write and a send.
     pub fn answer(&mut self, op: OpId, call: &Call) -> Result<Told, AllocError>
         ensures fits { IfOk result (Fits call.now) }
-        ensures does { IfOk result (λ told. OnNetwork (policy_of self.old.allowed) (known_sides self.old.sides) op call.now told (known_sides self.new.sides) (S.acts self.old.system) (S.acts self.new.system)) }
-        ensures err { OnErr result (Same (known_sides self.old.sides) (known_sides self.new.sides)) }
+        ensures does { IfOk result (λ told. OnNetwork (policy_of self.old.allowed)
+            (known_sides self.old.sides) op call.now told (known_sides self.new.sides)
+            (S.acts self.old.system) (S.acts self.new.system)) }
+        ensures err { OnErr result (Same (known_sides self.old.sides)
+            (known_sides self.new.sides)) }
         ensures allowed { self.new.allowed ≡ self.old.allowed }
     {
         match call {
@@ -368,8 +400,8 @@ impl<S: System> Network<S> {
         }
     }
 
-    /// Waits until a socket that an earlier answer left pending may go on, for at most so many milliseconds, or without
-    /// limit where they are negative; and whether one may.
+    /// Waits until a socket that an earlier answer left pending may go on, for at most so many
+    /// milliseconds, or without limit where they are negative; and whether one may.
     pub fn wait(&mut self, timeout: i32) -> bool
         ensures sides { self.new.sides ≡ self.old.sides }
         ensures allowed { self.new.allowed ≡ self.old.allowed }

@@ -8,8 +8,9 @@ use std::alloc::AllocError;
 use wasi_addr::IpSocketAddress;
 use wasi_world::{Call, OpId, Sock, Told, World};
 
-/// A [`SystemWorld`] in which a look for an arrival, for bytes, for a datagram or for the end of a connect waits once where it is pending, for
-/// at most so many milliseconds, and is made again. Reads, writes and sends don't wait.
+/// A [`SystemWorld`] in which a look for an arrival, for bytes, for a datagram or for the end of a
+/// connect waits once where it is pending, for at most so many milliseconds, and is made again.
+/// Reads, writes and sends don't wait.
 #[derive(Drop)]
 pub struct PatientWorld<S> {
     world: SystemWorld<S>,

@@ -2,7 +2,9 @@
 
 ghost use Rattle.std.specs.Prelude.{◌≡◌};
 ghost use Rattle.wasi_world.specs.Fits.{IsDoneOrCode};
-ghost use Rattle.wasi_net.specs.Does.{IsGiven, AddressTold, StatusTold, BindTold, ready_told, ReadyTold, setting_of, seconds_of, number_of, value_of, set_told};
+ghost use Rattle.wasi_net.specs.Does.{IsGiven, AddressTold, StatusTold, BindTold, ready_told};
+ghost use Rattle.wasi_net.specs.Does.{ReadyTold, setting_of, seconds_of, number_of, value_of};
+ghost use Rattle.wasi_net.specs.Does.{set_told};
 
 use crate::calls;
 use crate::calls::Readiness;
@@ -119,7 +121,8 @@ fn seconds_of(nanoseconds: u64) -> u32
     (nanoseconds / SECOND).clamp(1, 32_767) as u32
 }
 
-/// The system's number for a value of an option. A hop limit above 255 is one that the system refuses.
+/// The system's number for a value of an option. A hop limit above 255 is one that the system
+/// refuses.
 fn number_of(option: Opt, value: u64) -> u32
     ensures { result ≡ number_of option value }
 {
@@ -142,7 +145,8 @@ fn value_of(option: Opt, number: u32) -> u64
     }
 }
 
-/// The answer for an option that the system refused. A size that it has no room for is taken as a wish.
+/// The answer for an option that the system refused. A size that it has no room for is taken as a
+/// wish.
 fn set_told(option: Opt, error: Errno) -> Told
     ensures told { result ≡ set_told option error }
     ensures fits { IsDoneOrCode result }
@@ -157,12 +161,17 @@ fn set_told(option: Opt, error: Errno) -> Told
 impl Socket {
     ghost use Rattle.wasi_world.specs.Fits.{IsAddr, IsReady, IsValue};
     ghost use Rattle.wasi_net.specs.Acts as act;
-    ghost use Rattle.wasi_net.specs.Does.{Does, AddressTold, BindDoes, UdpBindDoes, ListenDoes, BacklogDoes, ReadyDoes, SetDoes, GetDoes};
+    ghost use Rattle.wasi_net.specs.Does.{Does, AddressTold, BindDoes, UdpBindDoes, ListenDoes};
+    ghost use Rattle.wasi_net.specs.Does.{BacklogDoes, ReadyDoes, SetDoes, GetDoes};
     ghost use Rattle.wasi_net.specs.Known.{known_of};
 
     /// A socket that was made just now.
     pub fn new(descriptor: Descriptor, family: SocketAddressFamily, stage: Stage) -> Socket
-        ensures { known_of result ≡ record { fd = descriptor.number; family = family; stage = stage } }
+        ensures { known_of result ≡ record {
+          fd = descriptor.number;
+          family = family;
+          stage = stage;
+        } }
     {
         Socket {
             descriptor,
@@ -174,7 +183,8 @@ impl Socket {
     /// The address that it is bound to.
     pub fn local<S: System>(&self, system: &mut S) -> Told
         ensures fits { IsAddr result }
-        ensures does { Does (act.Local self.now.descriptor.number) AddressTold result (S.acts system.old) (S.acts system.new) }
+        ensures does { Does (act.Local self.now.descriptor.number) AddressTold result
+            (S.acts system.old) (S.acts system.new) }
     {
         told_address(system.local(self.descriptor.number()))
     }
@@ -182,7 +192,8 @@ impl Socket {
     /// The address that it is connected to.
     pub fn peer<S: System>(&self, system: &mut S) -> Told
         ensures fits { IsAddr result }
-        ensures does { Does (act.Peer self.now.descriptor.number) AddressTold result (S.acts system.old) (S.acts system.new) }
+        ensures does { Does (act.Peer self.now.descriptor.number) AddressTold result
+            (S.acts system.old) (S.acts system.new) }
     {
         told_address(system.peer(self.descriptor.number()))
     }
@@ -190,7 +201,8 @@ impl Socket {
     /// Binds a TCP socket. An address that a connection used just before may be bound again.
     pub fn bind<S: System>(&self, system: &mut S, addr: IpSocketAddress) -> Told
         ensures fits { IsDoneOrCode result }
-        ensures does { BindDoes self.now.descriptor.number addr result (S.acts system.old) (S.acts system.new) }
+        ensures does { BindDoes self.now.descriptor.number addr result (S.acts system.old)
+            (S.acts system.new) }
     {
         let _ = calls::set(system, &self.descriptor, Setting::ReuseAddress, 1);
         told_bind(calls::bind(system, &self.descriptor, addr))
@@ -199,7 +211,8 @@ impl Socket {
     /// Binds a UDP socket.
     pub fn udp_bind<S: System>(&self, system: &mut S, addr: IpSocketAddress) -> Told
         ensures fits { IsDoneOrCode result }
-        ensures does { UdpBindDoes self.now.descriptor.number addr result (S.acts system.old) (S.acts system.new) }
+        ensures does { UdpBindDoes self.now.descriptor.number addr result (S.acts system.old)
+            (S.acts system.new) }
     {
         told_bind(calls::bind(system, &self.descriptor, addr))
     }
@@ -207,7 +220,8 @@ impl Socket {
     /// Listens.
     pub fn listen<S: System>(&self, system: &mut S, backlog: u32) -> Told
         ensures fits { IsDoneOrCode result }
-        ensures does { ListenDoes self.now.descriptor.number backlog result (S.acts system.old) (S.acts system.new) }
+        ensures does { ListenDoes self.now.descriptor.number backlog result (S.acts system.old)
+            (S.acts system.new) }
     {
         told_status(calls::listen(system, &self.descriptor, backlog))
     }
@@ -215,7 +229,8 @@ impl Socket {
     /// Changes how many arrivals may wait.
     pub fn set_backlog<S: System>(&self, system: &mut S, backlog: u32) -> Told
         ensures fits { IsDoneOrCode result }
-        ensures does { BacklogDoes self.now.descriptor.number backlog result (S.acts system.old) (S.acts system.new) }
+        ensures does { BacklogDoes self.now.descriptor.number backlog result (S.acts system.old)
+            (S.acts system.new) }
     {
         match calls::listen(system, &self.descriptor, backlog) {
             Ok(()) => Told::Done,
@@ -226,7 +241,8 @@ impl Socket {
     /// Looks whether a call wouldn't have to wait.
     pub fn ready<S: System>(&self, system: &mut S, readiness: Readiness) -> Told
         ensures fits { IsReady result }
-        ensures does { ReadyDoes self.now.descriptor.number readiness result (S.acts system.old) (S.acts system.new) }
+        ensures does { ReadyDoes self.now.descriptor.number readiness result (S.acts system.old)
+            (S.acts system.new) }
     {
         told_ready(calls::look(system, &self.descriptor, readiness))
     }
@@ -234,7 +250,8 @@ impl Socket {
     /// Sets an option.
     pub fn set_option<S: System>(&self, system: &mut S, option: Opt, value: u64) -> Told
         ensures fits { IsDoneOrCode result }
-        ensures does { SetDoes (known_of self.now) option value result (S.acts system.old) (S.acts system.new) }
+        ensures does { SetDoes (known_of self.now) option value result (S.acts system.old)
+            (S.acts system.new) }
     {
         let Some(setting) = setting_of(self.family, option) else {
             return told_unsupported();
@@ -248,7 +265,8 @@ impl Socket {
     /// Reads an option.
     pub fn option<S: System>(&self, system: &mut S, option: Opt) -> Told
         ensures fits { IsValue result }
-        ensures does { GetDoes (known_of self.now) option result (S.acts system.old) (S.acts system.new) }
+        ensures does { GetDoes (known_of self.now) option result (S.acts system.old)
+            (S.acts system.new) }
     {
         let Some(setting) = setting_of(self.family, option) else {
             return told_unsupported();

@@ -2,7 +2,8 @@
 
 ghost use Rattle.std.specs.Prelude.{◌≡◌, ℕ, ◌+◌, ◌≤◌, ◌↔◌, List, ◌++◌, length, IsSome, IfSome};
 ghost use Rattle.std.specs.Int.{w16, from_le_bytes};
-ghost use Rattle.std.specs.Net.SockAddr.{family_and_port, sockaddr_in, sockaddr_in6, in_storage, HoldsSockAddr};
+ghost use Rattle.std.specs.Net.SockAddr.{family_and_port, sockaddr_in, sockaddr_in6, in_storage};
+ghost use Rattle.std.specs.Net.SockAddr.{HoldsSockAddr};
 ghost use Rattle.wasi_net.specs.Storage.{storage, storage_len, Holds};
 
 use crate::system::Storage;
@@ -31,7 +32,8 @@ pub fn encode(addr: IpSocketAddress) -> (Storage, u32)
 /// Writes the next field.
 fn put(raw: &mut Storage, at: usize, bytes: &[u8])
     requires { at + length bytes.now ≤ 128 }
-    ensures { (front : List ℕ) → length front ≡ at → raw.old ≡ in_storage front → raw.new ≡ in_storage (front ++ bytes.now) }
+    ensures { (front : List ℕ) → length front ≡ at → raw.old ≡ in_storage front
+        → raw.new ≡ in_storage (front ++ bytes.now) }
 {
     raw[at..at + bytes.len()].copy_from_slice(bytes);
 }

@@ -10,8 +10,9 @@ pub type Storage = [u8; 128];
 /// The value of an option: an `int` in the first 4 bytes.
 pub type OptionValue = [u8; 16];
 
-/// What does the system's calls. Each method is one call, with its arguments as C has them; which call is made with which
-/// arguments is what the ghost `acts` says, where an implementation reports it.
+/// What does the system's calls. Each method is one call, with its arguments as C has them; which
+/// call is made with which arguments is what the ghost `acts` says, where an implementation reports
+/// it.
 pub trait System {
     ghost use Rattle.std.specs.Prelude.{◌≡◌, ◌≤◌, length, IfOk};
     ghost use Rattle.libc.specs.Net.{Family, Kind, SockOption};
@@ -24,7 +25,8 @@ pub trait System {
     fn socket(&mut self, domain: i32, kind: i32) -> Result<Descriptor, Errno>
         requires domain { Family domain }
         requires kind { Kind kind }
-        ensures { acts self.new ≡ after (act.Socket domain kind (number_of result)) (acts self.old) };
+        ensures { acts self.new ≡ after (act.Socket domain kind (number_of result))
+            (acts self.old) };
 
     fn bind(&mut self, fd: i32, addr: &Storage, len: u32) -> Result<(), Errno>
         requires { len ≤ 128 }
@@ -58,7 +60,8 @@ pub trait System {
     ) -> Result<(), Errno>
         requires option { SockOption level name }
         requires len { len ≤ 16 }
-        ensures { acts self.new ≡ after (act.Set fd level name value.now len result) (acts self.old) };
+        ensures { acts self.new ≡ after (act.Set fd level name value.now len result)
+            (acts self.old) };
 
     fn get(&mut self, fd: i32, level: i32, name: i32) -> Result<OptionValue, Errno>
         requires { SockOption level name }
@@ -70,12 +73,14 @@ pub trait System {
 
     /// Puts what came at the front of the buffer.
     fn receive(&mut self, fd: i32, buffer: &mut [u8]) -> Result<usize, Errno>
-        ensures acted { acts self.new ≡ after (act.Receive fd (length buffer.old) (came result buffer.new)) (acts self.old) }
+        ensures acted { acts self.new ≡ after (act.Receive fd (length buffer.old)
+            (came result buffer.new)) (acts self.old) }
         ensures count { IfOk result (λ count. count ≤ length buffer.old) };
 
     fn send_to(&mut self, fd: i32, bytes: &[u8], addr: &Storage, len: u32) -> Result<usize, Errno>
         requires { len ≤ 128 }
-        ensures acted { acts self.new ≡ after (act.SendTo fd bytes.now addr.now len result) (acts self.old) }
+        ensures acted { acts self.new ≡ after (act.SendTo fd bytes.now addr.now len result)
+            (acts self.old) }
         ensures count { IfOk result (λ count. count ≤ length bytes.now) };
 
     /// Puts what came at the front of the buffer, and its sender's address in `addr` and `len`.
@@ -87,13 +92,15 @@ pub trait System {
         len: &mut u32,
     ) -> Result<usize, Errno>
         requires { len.old ≤ 128 }
-        ensures acted { acts self.new ≡ after (act.ReceiveFrom fd (length buffer.old) (came result buffer.new)) (acts self.old) }
+        ensures acted { acts self.new ≡ after (act.ReceiveFrom fd (length buffer.old)
+            (came result buffer.new)) (acts self.old) }
         ensures count { IfOk result (λ count. count ≤ length buffer.old) };
 
     fn shutdown(&mut self, fd: i32, how: i32) -> Result<(), Errno>
         ensures { acts self.new ≡ after (act.Shutdown fd how result) (acts self.old) };
 
-    /// How many of the descriptors are ready, within so many milliseconds, or without limit where they are negative.
+    /// How many of the descriptors are ready, within so many milliseconds, or without limit where
+    /// they are negative.
     fn poll(&mut self, fds: &mut [pollfd], timeout: i32) -> Result<usize, Errno>
         ensures { acts self.new ≡ after (act.Poll fds.old timeout result) (acts self.old) };
 }

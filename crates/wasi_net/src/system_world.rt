@@ -13,11 +13,13 @@ use wasi_world::{Call, OpId, Sock, Told, World};
 
 /// A world over the system's sockets, TCP and UDP, IPv4 and IPv6. It reports no log.
 ///
-/// Each network socket is one socket of the system from its making on, whose calls don't wait. A look is one `poll` with no
-/// wait. What waits is the embedder, by `wait`, which returns once a socket that an earlier answer left pending may go on.
+/// Each network socket is one socket of the system from its making on, whose calls don't wait. A
+/// look is one `poll` with no wait. What waits is the embedder, by `wait`, which returns once a
+/// socket that an earlier answer left pending may go on.
 ///
-/// A check goes by the ports that are allowed, and says yes to this machine's own addresses alone, unless every address is
-/// allowed. Lookups are refused. The hop limit of an IPv6 socket is `NotSupported`.
+/// A check goes by the ports that are allowed, and says yes to this machine's own addresses alone,
+/// unless every address is allowed. Lookups are refused. The hop limit of an IPv6 socket is
+/// `NotSupported`.
 #[derive(Drop)]
 pub struct SystemWorld<S> {
     network: Network<S>,
@@ -63,7 +65,8 @@ impl<S> SystemWorld<S> {
         self.ended
     }
 
-    /// How many network sockets were closed after the end mark. The count stays at its greatest value.
+    /// How many network sockets were closed after the end mark. The count stays at its greatest
+    /// value.
     pub fn closed_after_end(&self) -> u64
         ensures { result ≡ (seen_by self.now).closings }
     {
@@ -73,7 +76,8 @@ impl<S> SystemWorld<S> {
     /// Counts an answer.
     pub(crate) fn count(&mut self, told: &Told)
         ensures counts { Counts told.now (seen_by self.old).faults (seen_by self.new).faults }
-        ensures same { seen_by self.new ≡ record (seen_by self.old) { faults = (seen_by self.new).faults } }
+        ensures same { seen_by self.new ≡ record (seen_by self.old)
+            { faults = (seen_by self.new).faults } }
         ensures network { self.new.network ≡ self.old.network }
     {
         self.faults = count_after(self.faults, told);
@@ -93,9 +97,10 @@ impl<S: System> SystemWorld<S> {
     ghost use Rattle.wasi_net.specs.Answers.{OnNetwork};
     ghost use Rattle.wasi_net.specs.Net.{seen_by, policy_in, sides_of, system_of};
 
-    /// Waits until a socket that an earlier answer left pending may go on, for at most so many milliseconds, or without
-    /// limit where they are negative; and whether one may. No processor time is used meanwhile. What may go on isn't waited
-    /// for again until a call on it is pending once more.
+    /// Waits until a socket that an earlier answer left pending may go on, for at most so many
+    /// milliseconds, or without limit where they are negative; and whether one may. No processor
+    /// time is used meanwhile. What may go on isn't waited for again until a call on it is pending
+    /// once more.
     pub fn wait(&mut self, timeout: i32) -> bool
         ensures seen { seen_by self.new ≡ seen_by self.old }
         ensures policy { policy_in self.new ≡ policy_in self.old }
@@ -104,11 +109,14 @@ impl<S: System> SystemWorld<S> {
         self.network.wait(timeout)
     }
 
-    /// The answer to any call but a write and a send, which isn't counted yet; and what it waits for is kept.
+    /// The answer to any call but a write and a send, which isn't counted yet; and what it waits
+    /// for is kept.
     pub(crate) fn ask(&mut self, op: OpId, call: &Call) -> Result<Told, AllocError>
         ensures fits { IfOk result (Fits call.now) }
         ensures seen { seen_by self.new ≡ seen_by self.old }
-        ensures told { IfOk result (λ told. OnNetwork (policy_in self.old) (sides_of self.old) op call.now told (sides_of self.new) (S.acts (system_of self.old)) (S.acts (system_of self.new))) }
+        ensures told { IfOk result (λ told. OnNetwork (policy_in self.old) (sides_of self.old) op
+            call.now told (sides_of self.new) (S.acts (system_of self.old))
+            (S.acts (system_of self.new))) }
         ensures sides { OnErr result (Same (sides_of self.old) (sides_of self.new)) }
         ensures policy { policy_in self.new ≡ policy_in self.old }
     {
@@ -136,12 +144,16 @@ impl<S: System> World for SystemWorld<S> {
     fn call(&mut self, op: OpId, call: Call) -> Result<Told, AllocError>
         requires open { (seen_by self.old).ended ≡ false }
         requires plain { IsPlain call }
-        ensures asked { AsksFor (one op call) (seen_by self.old) (seen_by self.new) (λ told. told) result }
+        ensures asked { AsksFor (one op call) (seen_by self.old) (seen_by self.new) (λ told. told)
+            result }
         ensures fits { IfOk result (λ told. Fits call told) }
         ensures err { OnErr result (seen_by self.new ≡ seen_by self.old) }
 
-        // Which answer it is, which calls of the system are made for it, and what is left of the sockets.
-        ensures told { IfOk result (λ told. OnNetwork (policy_in self.old) (sides_of self.old) op call told (sides_of self.new) (S.acts (system_of self.old)) (S.acts (system_of self.new))) }
+        // Which answer it is, which calls of the system are made for it, and what is left of the
+        // sockets.
+        ensures told { IfOk result (λ told. OnNetwork (policy_in self.old) (sides_of self.old) op
+            call told (sides_of self.new) (S.acts (system_of self.old))
+            (S.acts (system_of self.new))) }
         ensures sides { OnErr result (Same (sides_of self.old) (sides_of self.new)) }
         ensures policy { policy_in self.new ≡ policy_in self.old }
     {
@@ -154,12 +166,16 @@ impl<S: System> World for SystemWorld<S> {
         requires open { (seen_by self.old).ended ≡ false }
         requires some { 1 ≤ length bytes.now }
         requires short { length bytes.now < 2 ^ 32 }
-        ensures asked { AsksFor (one_write op sock bytes.now) (seen_by self.old) (seen_by self.new) (λ told. told) result }
+        ensures asked { AsksFor (one_write op sock bytes.now) (seen_by self.old) (seen_by self.new)
+            (λ told. told) result }
         ensures fits { IfOk result (λ told. IsWritten (length bytes.now) told) }
         ensures err { OnErr result (seen_by self.new ≡ seen_by self.old) }
 
-        // Which answer it is, which call of the system is made for it, and what is left of the sockets.
-        ensures told { IfOk result (λ told. AnswersAt (λ k. Stays (WriteDoes k.fd bytes.now) k) (Told.Code ErrorCode.InvalidState) sock (sides_of self.old sock) (sides_of self.old) told (sides_of self.new) (S.acts (system_of self.old)) (S.acts (system_of self.new))) }
+        // Which answer it is, which call of the system is made for it, and what is left of the
+        // sockets.
+        ensures told { IfOk result (λ told. AnswersAt (λ k. Stays (WriteDoes k.fd bytes.now) k)
+            (Told.Code ErrorCode.InvalidState) sock (sides_of self.old sock) (sides_of self.old)
+            told (sides_of self.new) (S.acts (system_of self.old)) (S.acts (system_of self.new))) }
         ensures sides { OnErr result (Same (sides_of self.old) (sides_of self.new)) }
         ensures policy { policy_in self.new ≡ policy_in self.old }
     {
@@ -179,11 +195,15 @@ impl<S: System> World for SystemWorld<S> {
         bytes: &[u8],
     ) -> Result<Told, AllocError>
         requires open { (seen_by self.old).ended ≡ false }
-        ensures asked { AsksFor (one op (Call.Send sock addr bytes.now)) (seen_by self.old) (seen_by self.new) (λ told. told) result }
+        ensures asked { AsksFor (one op (Call.Send sock addr bytes.now)) (seen_by self.old)
+            (seen_by self.new) (λ told. told) result }
         ensures err { OnErr result (seen_by self.new ≡ seen_by self.old) }
 
-        // Which answer it is, which call of the system is made for it, and what is left of the sockets.
-        ensures told { IfOk result (λ told. AnswersAt (λ k. Stays (SendDoes k.fd addr bytes.now) k) (Told.Code ErrorCode.InvalidState) sock (sides_of self.old sock) (sides_of self.old) told (sides_of self.new) (S.acts (system_of self.old)) (S.acts (system_of self.new))) }
+        // Which answer it is, which call of the system is made for it, and what is left of the
+        // sockets.
+        ensures told { IfOk result (λ told. AnswersAt (λ k. Stays (SendDoes k.fd addr bytes.now) k)
+            (Told.Code ErrorCode.InvalidState) sock (sides_of self.old sock) (sides_of self.old)
+            told (sides_of self.new) (S.acts (system_of self.old)) (S.acts (system_of self.new))) }
         ensures sides { OnErr result (Same (sides_of self.old) (sides_of self.new)) }
         ensures policy { policy_in self.new ≡ policy_in self.old }
     {

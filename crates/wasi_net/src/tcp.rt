@@ -5,7 +5,8 @@ ghost use Rattle.wasi_world.specs.Fits.{IsWritten};
 ghost use Rattle.wasi_world.specs.Asks.{IsFront};
 ghost use Rattle.wasi_net.specs.Acts.{after};
 ghost use Rattle.wasi_net.specs.Acts as act;
-ghost use Rattle.wasi_net.specs.Does.{error_told, ErrorTold, written_told, WriteTold, ReadTold, most};
+ghost use Rattle.wasi_net.specs.Does.{error_told, ErrorTold, written_told, WriteTold, ReadTold};
+ghost use Rattle.wasi_net.specs.Does.{most};
 
 use crate::calls;
 use crate::calls::Readiness;
@@ -88,7 +89,8 @@ fn received<S: System>(
     descriptor: &Descriptor,
     mut buffer: Vec<u8>,
 ) -> Result<Octets, Errno>
-    ensures acted { S.acts system.new ≡ after (act.Receive descriptor.now.number (length buffer.items) result) (S.acts system.old) }
+    ensures acted { S.acts system.new ≡ after (act.Receive descriptor.now.number
+        (length buffer.items) result) (S.acts system.old) }
     ensures few { IfOk result (λ bytes. length bytes ≤ length buffer.items) }
 {
     match system.receive(descriptor.number(), &mut buffer) {
@@ -113,12 +115,15 @@ fn told_read(bytes: Result<Octets, Errno>) -> Told
 impl Socket {
     ghost use Rattle.wasi_world.specs.Fits.{IsPolled, IsRead, IsDone};
     ghost use Rattle.wasi_net.specs.Known.{known_of};
-    ghost use Rattle.wasi_net.specs.Does.{OnReady, OnLook, ConnectAsks, OnConnect, OnConnected, ConnectBegins, ConnectDoes, ReadDoes, WriteDoes, ShutdownDoes};
+    ghost use Rattle.wasi_net.specs.Does.{OnReady, OnLook, ConnectAsks, OnConnect, OnConnected};
+    ghost use Rattle.wasi_net.specs.Does.{ConnectBegins, ConnectDoes, ReadDoes, WriteDoes};
+    ghost use Rattle.wasi_net.specs.Does.{ShutdownDoes};
 
     /// Asks what became of a connect, once the socket is ready.
     fn connect_over<S: System>(&mut self, system: &mut S) -> Told
         ensures fits { IsPolled result }
-        ensures does { OnReady false (known_of self.old) result (known_of self.new) (S.acts system.old) (S.acts system.new) }
+        ensures does { OnReady false (known_of self.old) result (known_of self.new)
+            (S.acts system.old) (S.acts system.new) }
     {
         let told = told_error(calls::get(system, &self.descriptor, Setting::Error));
         self.stage = Stage::Open;
@@ -128,7 +133,8 @@ impl Socket {
     /// Goes on with a connect in progress after a look at the socket.
     fn after_look<S: System>(&mut self, system: &mut S, ready: Result<usize, Errno>) -> Told
         ensures fits { IsPolled result }
-        ensures does { OnLook ready (known_of self.old) result (known_of self.new) (S.acts system.old) (S.acts system.new) }
+        ensures does { OnLook ready (known_of self.old) result (known_of self.new)
+            (S.acts system.old) (S.acts system.new) }
     {
         match ready {
             Ok(count) if count != 0 => self.connect_over(system),
@@ -142,7 +148,8 @@ impl Socket {
     /// Asks a connect in progress whether it is over.
     fn connect_asks<S: System>(&mut self, system: &mut S) -> Told
         ensures fits { IsPolled result }
-        ensures does { ConnectAsks (known_of self.old) result (known_of self.new) (S.acts system.old) (S.acts system.new) }
+        ensures does { ConnectAsks (known_of self.old) result (known_of self.new)
+            (S.acts system.old) (S.acts system.new) }
     {
         let ready = calls::look(system, &self.descriptor, Readiness::Write);
         self.after_look(system, ready)
@@ -151,7 +158,8 @@ impl Socket {
     /// Goes on after the system's answer to a connect.
     fn after_connect<S: System>(&mut self, system: &mut S, done: Result<(), Errno>) -> Told
         ensures fits { IsPolled result }
-        ensures does { OnConnected done (known_of self.old) result (known_of self.new) (S.acts system.old) (S.acts system.new) }
+        ensures does { OnConnected done (known_of self.old) result (known_of self.new)
+            (S.acts system.old) (S.acts system.new) }
     {
         match done {
             Ok(()) => {
@@ -165,16 +173,19 @@ impl Socket {
 
     fn connect_begins<S: System>(&mut self, system: &mut S, addr: IpSocketAddress) -> Told
         ensures fits { IsPolled result }
-        ensures does { ConnectBegins addr (known_of self.old) result (known_of self.new) (S.acts system.old) (S.acts system.new) }
+        ensures does { ConnectBegins addr (known_of self.old) result (known_of self.new)
+            (S.acts system.old) (S.acts system.new) }
     {
         let done = calls::connect(system, &self.descriptor, addr);
         self.after_connect(system, done)
     }
 
-    /// Connects to the address, from the one that the socket is bound to; or asks a connect in progress whether it is over.
+    /// Connects to the address, from the one that the socket is bound to; or asks a connect in
+    /// progress whether it is over.
     pub fn connect<S: System>(&mut self, system: &mut S, addr: IpSocketAddress) -> Told
         ensures fits { IsPolled result }
-        ensures does { ConnectDoes addr (known_of self.old) result (known_of self.new) (S.acts system.old) (S.acts system.new) }
+        ensures does { ConnectDoes addr (known_of self.old) result (known_of self.new)
+            (S.acts system.old) (S.acts system.new) }
     {
         match self.stage {
             Stage::Connecting => self.connect_asks(system),
@@ -182,7 +193,8 @@ impl Socket {
         }
     }
 
-    /// The bytes that are there, at most `size` and at most 65,536 of them, or the end. Takes memory for the bytes.
+    /// The bytes that are there, at most `size` and at most 65,536 of them, or the end. Takes
+    /// memory for the bytes.
     pub fn read<S: System>(
         &self,
         system: &mut S,
@@ -190,14 +202,16 @@ impl Socket {
         size: u32,
     ) -> Result<Told, AllocError>
         ensures fits { IfOk result (IsRead size) }
-        ensures does { IfOk result (λ told. ReadDoes self.now.descriptor.number size told (S.acts system.old) (S.acts system.new)) }
+        ensures does { IfOk result (λ told. ReadDoes self.now.descriptor.number size told
+            (S.acts system.old) (S.acts system.new)) }
         ensures err { OnErr result (S.acts system.new ≡ S.acts system.old) }
     {
         let buffer = vec![in alloc; 0u8; (size as usize).min(most_bytes())]?;
         Ok(told_read(received(system, &self.descriptor, buffer)))
     }
 
-    /// Writes the front of the bytes, at most 65,536 of them. Takes memory for what is taken, before the write.
+    /// Writes the front of the bytes, at most 65,536 of them. Takes memory for what is taken,
+    /// before the write.
     pub fn write<S: System>(
         &self,
         system: &mut S,
@@ -206,7 +220,8 @@ impl Socket {
     ) -> Result<Told, AllocError>
         ensures fits { IfOk result (IsWritten (length bytes.now)) }
         ensures front { IfOk result (λ told. IsFront told bytes.now) }
-        ensures does { IfOk result (λ told. WriteDoes self.now.descriptor.number bytes.now told (S.acts system.old) (S.acts system.new)) }
+        ensures does { IfOk result (λ told. WriteDoes self.now.descriptor.number bytes.now told
+            (S.acts system.old) (S.acts system.new)) }
         ensures err { OnErr result (S.acts system.new ≡ S.acts system.old) }
     {
         let taken = front_of(alloc, bytes)?;
@@ -217,7 +232,8 @@ impl Socket {
     /// Releases a half, or both. One that the other end released before is released all the same.
     pub fn shutdown<S: System>(&self, system: &mut S, how: ShutdownType) -> Told
         ensures fits { IsDone result }
-        ensures does { ShutdownDoes self.now.descriptor.number how result (S.acts system.old) (S.acts system.new) }
+        ensures does { ShutdownDoes self.now.descriptor.number how result (S.acts system.old)
+            (S.acts system.new) }
     {
         let _ = calls::shutdown(system, &self.descriptor, how);
         Told::Done

@@ -4,7 +4,8 @@ ghost use Rattle.std.specs.Prelude.{◌≡◌, ◌≤◌, length, true, IfOk, On
 ghost use Rattle.wasi_world.specs.Fits.{IsDatagram};
 ghost use Rattle.wasi_net.specs.Acts.{came};
 ghost use Rattle.wasi_net.specs.Acts as act;
-ghost use Rattle.wasi_net.specs.Does.{Does, udp_told, UdpConnectTold, SendTold, IsDatagramOf, ReceiveTold};
+ghost use Rattle.wasi_net.specs.Does.{Does, udp_told, UdpConnectTold, SendTold, IsDatagramOf};
+ghost use Rattle.wasi_net.specs.Does.{ReceiveTold};
 
 use crate::calls;
 use crate::descriptor::Descriptor;
@@ -76,7 +77,8 @@ fn told_received(mut buffer: Vec<u8>, got: Result<usize, Errno>, raw: &Storage, 
 /// Receives a datagram into the buffer.
 fn receive_into<S: System>(system: &mut S, descriptor: &Descriptor, mut buffer: Vec<u8>) -> Told
     ensures fits { IsDatagram result }
-    ensures does { Does (act.ReceiveFrom descriptor.now.number (length buffer.items)) ReceiveTold result (S.acts system.old) (S.acts system.new) }
+    ensures does { Does (act.ReceiveFrom descriptor.now.number (length buffer.items)) ReceiveTold
+        result (S.acts system.old) (S.acts system.new) }
 {
     let mut raw = [0u8; 128];
     let mut len = 128;
@@ -86,12 +88,15 @@ fn receive_into<S: System>(system: &mut S, descriptor: &Descriptor, mut buffer: 
 
 impl Socket {
     ghost use Rattle.wasi_world.specs.Fits.{IsPolled, IsDoneOrCode};
-    ghost use Rattle.wasi_net.specs.Does.{OnInvalid, OnUdpConnect, UdpConnectDoes, UdpDisconnectDoes, SendDoes, ReceiveDoes};
+    ghost use Rattle.wasi_net.specs.Does.{OnInvalid, OnUdpConnect, UdpConnectDoes};
+    ghost use Rattle.wasi_net.specs.Does.{UdpDisconnectDoes, SendDoes, ReceiveDoes};
 
-    /// Dissolves the association with an address over another interface, and makes the connect again.
+    /// Dissolves the association with an address over another interface, and makes the connect
+    /// again.
     fn connect_again<S: System>(&self, system: &mut S, error: Errno, addr: IpSocketAddress) -> Told
         ensures fits { IsDoneOrCode result }
-        ensures does { OnInvalid true error self.now.descriptor.number addr result (S.acts system.old) (S.acts system.new) }
+        ensures does { OnInvalid true error self.now.descriptor.number addr result
+            (S.acts system.old) (S.acts system.new) }
     {
         let _ = error;
         let _ = calls::disconnect(system, &self.descriptor);
@@ -105,7 +110,8 @@ impl Socket {
         addr: IpSocketAddress,
     ) -> Told
         ensures fits { IsDoneOrCode result }
-        ensures does { OnUdpConnect done self.now.descriptor.number addr result (S.acts system.old) (S.acts system.new) }
+        ensures does { OnUdpConnect done self.now.descriptor.number addr result (S.acts system.old)
+            (S.acts system.new) }
     {
         match done {
             Ok(()) => Told::Done,
@@ -117,7 +123,8 @@ impl Socket {
     /// Makes this address the one that datagrams go to and come from.
     pub fn udp_connect<S: System>(&self, system: &mut S, addr: IpSocketAddress) -> Told
         ensures fits { IsDoneOrCode result }
-        ensures does { UdpConnectDoes self.now.descriptor.number addr result (S.acts system.old) (S.acts system.new) }
+        ensures does { UdpConnectDoes self.now.descriptor.number addr result (S.acts system.old)
+            (S.acts system.new) }
     {
         let done = calls::connect(system, &self.descriptor, addr);
         self.after_udp_connect(system, done, addr)
@@ -126,7 +133,8 @@ impl Socket {
     /// Dissolves the association with an address.
     pub fn udp_disconnect<S: System>(&self, system: &mut S) -> Told
         ensures fits { IsDoneOrCode result }
-        ensures does { UdpDisconnectDoes self.now.descriptor.number result (S.acts system.old) (S.acts system.new) }
+        ensures does { UdpDisconnectDoes self.now.descriptor.number result (S.acts system.old)
+            (S.acts system.new) }
     {
         told_status(calls::disconnect(system, &self.descriptor))
     }
@@ -134,7 +142,8 @@ impl Socket {
     /// Sends one datagram to this address.
     pub fn send<S: System>(&self, system: &mut S, addr: IpSocketAddress, bytes: &[u8]) -> Told
         ensures fits { IsPolled result }
-        ensures does { SendDoes self.now.descriptor.number addr bytes.now result (S.acts system.old) (S.acts system.new) }
+        ensures does { SendDoes self.now.descriptor.number addr bytes.now result (S.acts system.old)
+            (S.acts system.new) }
     {
         let (raw, len) = encode(addr);
         told_sent(system.send_to(self.descriptor.number(), bytes, &raw, len))
@@ -143,7 +152,8 @@ impl Socket {
     /// The next datagram and its sender. Takes memory for the datagram, before it is received.
     pub fn receive<S: System>(&self, system: &mut S, alloc: Global) -> Result<Told, AllocError>
         ensures fits { IfOk result IsDatagram }
-        ensures does { IfOk result (λ told. ReceiveDoes self.now.descriptor.number told (S.acts system.old) (S.acts system.new)) }
+        ensures does { IfOk result (λ told. ReceiveDoes self.now.descriptor.number told
+            (S.acts system.old) (S.acts system.new)) }
         ensures err { OnErr result (S.acts system.new ≡ S.acts system.old) }
     {
         let buffer = vec![in alloc; 0u8; most_bytes()]?;

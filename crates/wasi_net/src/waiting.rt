@@ -9,7 +9,8 @@ use crate::system::System;
 use libc::types::pollfd;
 use std::alloc::{AllocError, Global};
 
-/// The sockets that an answer left pending, and what for. Each readiness of a socket stands here once.
+/// The sockets that an answer left pending, and what for. Each readiness of a socket stands here
+/// once.
 #[derive(Drop)]
 pub struct Waiting {
     asked: Vec<pollfd>,
@@ -53,10 +54,12 @@ impl Waiting {
         self.asked.retain(|it| it.fd != fd);
     }
 
-    /// Waits until one of the sockets is ready, for at most so many milliseconds, or without limit where they are negative;
-    /// and whether one is. What is ready isn't waited for any longer, until a call is pending again.
+    /// Waits until one of the sockets is ready, for at most so many milliseconds, or without limit
+    /// where they are negative; and whether one is. What is ready isn't waited for any longer,
+    /// until a call is pending again.
     pub fn wait<S: System>(&mut self, system: &mut S, timeout: i32) -> bool
-        ensures { (r : Result ℕ Errno) × (S.acts system.new ≡ after (act.Poll self.old.asked.items timeout r) (S.acts system.old)) }
+        ensures { (r : Result ℕ Errno) × (S.acts system.new
+            ≡ after (act.Poll self.old.asked.items timeout r) (S.acts system.old)) }
     {
         let ready = system.poll(&mut self.asked, timeout);
         self.asked.retain(|it| it.revents == 0);

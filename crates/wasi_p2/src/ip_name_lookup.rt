@@ -36,8 +36,11 @@ pub fn resolve_addresses<W: World>(
     name: NameText,
 ) -> Result<Handle, SocketError>
     requires { (W.seen world.old).ended ≡ false }
-    ensures asked { AsksFor (resolve_asks (state_of view.old) (own_of ids.old.line) view.old.ctx.now network name) (W.seen world.old) (W.seen world.new) (λ made. (made, state_of view.new)) (host_outcome result) }
-    ensures kept { HostKept view.old view.new ids.old ids.new (W.seen world.old) (W.seen world.new) }
+    ensures asked { AsksFor (resolve_asks (state_of view.old) (own_of ids.old.line) view.old.ctx.now
+        network name) (W.seen world.old) (W.seen world.new) (λ made. (made, state_of view.new))
+        (host_outcome result) }
+    ensures kept { HostKept view.old view.new ids.old ids.new (W.seen world.old)
+        (W.seen world.new) }
 {
     handles::network(view.table, network)?;
     let host = host_for(alloc, view.ctx, &name)?;
@@ -54,8 +57,11 @@ fn resolve<W: World>(
     host: Result<HostName, lookup::ErrorCode>,
 ) -> Result<Handle, SocketError>
     requires { (W.seen world.old).ended ≡ false }
-    ensures asked { AsksFor (resolved_host (state_of view.old) (own_of ids.old.line) network host) (W.seen world.old) (W.seen world.new) (λ made. (made, state_of view.new)) (host_outcome result) }
-    ensures kept { HostKept view.old view.new ids.old ids.new (W.seen world.old) (W.seen world.new) }
+    ensures asked { AsksFor (resolved_host (state_of view.old) (own_of ids.old.line) network host)
+        (W.seen world.old) (W.seen world.new) (λ made. (made, state_of view.new))
+        (host_outcome result) }
+    ensures kept { HostKept view.old view.new ids.old ids.new (W.seen world.old)
+        (W.seen world.new) }
 {
     match host {
         Ok(host) => view
@@ -72,8 +78,10 @@ pub fn resolve_next_address(
     view: &mut WasiSocketsCtxView<'_>,
     this: Handle,
 ) -> Result<Option<IpAddress>, SocketError>
-    ensures answer { host_outcome result ≡ Ok (next_address_on (state_of view.old) (lookup_number (state_of view.old) this)).0 }
-    ensures state { state_of view.new ≡ (next_address_on (state_of view.old) (lookup_number (state_of view.old) this)).1 }
+    ensures answer { host_outcome result ≡ Ok (next_address_on (state_of view.old)
+        (lookup_number (state_of view.old) this)).0 }
+    ensures state { state_of view.new ≡ (next_address_on (state_of view.old)
+        (lookup_number (state_of view.old) this)).1 }
     ensures sides { (s : Seen) → KnowsSides s view.old.store.now → KnowsSides s view.new.store.now }
     ensures view { SameView view.old view.new }
 {

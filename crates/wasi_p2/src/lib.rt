@@ -29,8 +29,11 @@ pub fn instance_network<W: World>(
     ids: &mut Ids,
 ) -> Result<Handle, SocketError>
     requires { (W.seen world.old).ended ≡ false }
-    ensures asked { AsksFor (network_asks (state_of view.old) (own_of ids.old.line)) (W.seen world.old) (W.seen world.new) (λ made. (made, state_of view.new)) (host_outcome result) }
-    ensures kept { HostKept view.old view.new ids.old ids.new (W.seen world.old) (W.seen world.new) }
+    ensures asked { AsksFor (network_asks (state_of view.old) (own_of ids.old.line))
+        (W.seen world.old) (W.seen world.new) (λ made. (made, state_of view.new))
+        (host_outcome result) }
+    ensures kept { HostKept view.old view.new ids.old ids.new (W.seen world.old)
+        (W.seen world.new) }
 {
     let handle = handles::make(view.table, world, ids.own(), Kind::Network, None, None)?;
     Ok(handle)

@@ -31,9 +31,12 @@ pub fn get_option<W: World>(
     option: Opt,
 ) -> Result<u64, SocketError>
     requires { (W.seen world.old).ended ≡ false }
-    ensures asked { AsksFor (get_option_on (state_of view.old) (own_of ids.old.line) option (socket_at (state_of view.old) this)) (W.seen world.old) (W.seen world.new) (λ told. (told, state_of view.new)) (host_outcome result) }
+    ensures asked { AsksFor (get_option_on (state_of view.old) (own_of ids.old.line) option
+        (socket_at (state_of view.old) this)) (W.seen world.old) (W.seen world.new)
+        (λ told. (told, state_of view.new)) (host_outcome result) }
     ensures within { IfOk result (λ value. value ≤ largest_value option) }
-    ensures kept { HostKept view.old view.new ids.old ids.new (W.seen world.old) (W.seen world.new) }
+    ensures kept { HostKept view.old view.new ids.old ids.new (W.seen world.old)
+        (W.seen world.new) }
 {
     let place = handles::socket(view.table, this)?;
     view.store.get_option(world, ids.own(), place, option)
@@ -54,8 +57,12 @@ fn set_option<W: World>(
     setting: Setting,
 ) -> Result<(), SocketError>
     requires { (W.seen world.old).ended ≡ false }
-    ensures asked { AsksFor (set_option_on (state_of view.old) (own_of ids.old.line) (option_of setting) (number_of setting) (socket_at (state_of view.old) this)) (W.seen world.old) (W.seen world.new) (λ done. (done, state_of view.new)) (host_outcome result) }
-    ensures kept { HostKept view.old view.new ids.old ids.new (W.seen world.old) (W.seen world.new) }
+    ensures asked { AsksFor (set_option_on (state_of view.old) (own_of ids.old.line)
+        (option_of setting) (number_of setting) (socket_at (state_of view.old) this))
+        (W.seen world.old) (W.seen world.new) (λ done. (done, state_of view.new))
+        (host_outcome result) }
+    ensures kept { HostKept view.old view.new ids.old ids.new (W.seen world.old)
+        (W.seen world.new) }
 {
     let place = handles::socket(view.table, this)?;
     view.store.set_option(world, ids.own(), place, setting)
@@ -70,8 +77,11 @@ pub fn keep_alive_enabled<W: World>(
     this: Handle,
 ) -> Result<bool, SocketError>
     requires { (W.seen world.old).ended ≡ false }
-    ensures asked { AsksFor (get_option_on (state_of view.old) (own_of ids.old.line) Opt.KeepAliveEnabled (socket_at (state_of view.old) this)) (W.seen world.old) (W.seen world.new) (λ told. (truth_told told, state_of view.new)) (host_outcome result) }
-    ensures kept { HostKept view.old view.new ids.old ids.new (W.seen world.old) (W.seen world.new) }
+    ensures asked { AsksFor (get_option_on (state_of view.old) (own_of ids.old.line)
+        Opt.KeepAliveEnabled (socket_at (state_of view.old) this)) (W.seen world.old)
+        (W.seen world.new) (λ told. (truth_told told, state_of view.new)) (host_outcome result) }
+    ensures kept { HostKept view.old view.new ids.old ids.new (W.seen world.old)
+        (W.seen world.new) }
 {
     let value = get_option(view, world, ids, this, Opt::KeepAliveEnabled)?;
     Ok(value != 0)
@@ -86,8 +96,12 @@ pub fn set_keep_alive_enabled<W: World>(
     value: bool,
 ) -> Result<(), SocketError>
     requires { (W.seen world.old).ended ≡ false }
-    ensures asked { AsksFor (set_option_on (state_of view.old) (own_of ids.old.line) Opt.KeepAliveEnabled (from_bool value) (socket_at (state_of view.old) this)) (W.seen world.old) (W.seen world.new) (λ done. (done, state_of view.new)) (host_outcome result) }
-    ensures kept { HostKept view.old view.new ids.old ids.new (W.seen world.old) (W.seen world.new) }
+    ensures asked { AsksFor (set_option_on (state_of view.old) (own_of ids.old.line)
+        Opt.KeepAliveEnabled (from_bool value) (socket_at (state_of view.old) this))
+        (W.seen world.old) (W.seen world.new) (λ done. (done, state_of view.new))
+        (host_outcome result) }
+    ensures kept { HostKept view.old view.new ids.old ids.new (W.seen world.old)
+        (W.seen world.new) }
 {
     set_option(view, world, ids, this, Setting::KeepAliveEnabled(value))
 }
@@ -100,8 +114,11 @@ pub fn keep_alive_idle_time<W: World>(
     this: Handle,
 ) -> Result<u64, SocketError>
     requires { (W.seen world.old).ended ≡ false }
-    ensures asked { AsksFor (get_option_on (state_of view.old) (own_of ids.old.line) Opt.KeepAliveIdleTime (socket_at (state_of view.old) this)) (W.seen world.old) (W.seen world.new) (λ told. (told, state_of view.new)) (host_outcome result) }
-    ensures kept { HostKept view.old view.new ids.old ids.new (W.seen world.old) (W.seen world.new) }
+    ensures asked { AsksFor (get_option_on (state_of view.old) (own_of ids.old.line)
+        Opt.KeepAliveIdleTime (socket_at (state_of view.old) this)) (W.seen world.old)
+        (W.seen world.new) (λ told. (told, state_of view.new)) (host_outcome result) }
+    ensures kept { HostKept view.old view.new ids.old ids.new (W.seen world.old)
+        (W.seen world.new) }
 {
     get_option(view, world, ids, this, Opt::KeepAliveIdleTime)
 }
@@ -117,8 +134,11 @@ pub fn set_keep_alive_idle_time<W: World>(
     value: u64,
 ) -> Result<(), SocketError>
     requires { (W.seen world.old).ended ≡ false }
-    ensures asked { AsksFor (set_option_on (state_of view.old) (own_of ids.old.line) Opt.KeepAliveIdleTime value (socket_at (state_of view.old) this)) (W.seen world.old) (W.seen world.new) (λ done. (done, state_of view.new)) (host_outcome result) }
-    ensures kept { HostKept view.old view.new ids.old ids.new (W.seen world.old) (W.seen world.new) }
+    ensures asked { AsksFor (set_option_on (state_of view.old) (own_of ids.old.line)
+        Opt.KeepAliveIdleTime value (socket_at (state_of view.old) this)) (W.seen world.old)
+        (W.seen world.new) (λ done. (done, state_of view.new)) (host_outcome result) }
+    ensures kept { HostKept view.old view.new ids.old ids.new (W.seen world.old)
+        (W.seen world.new) }
 {
     set_option(view, world, ids, this, Setting::KeepAliveIdleTime(value))
 }
@@ -131,8 +151,11 @@ pub fn keep_alive_interval<W: World>(
     this: Handle,
 ) -> Result<u64, SocketError>
     requires { (W.seen world.old).ended ≡ false }
-    ensures asked { AsksFor (get_option_on (state_of view.old) (own_of ids.old.line) Opt.KeepAliveInterval (socket_at (state_of view.old) this)) (W.seen world.old) (W.seen world.new) (λ told. (told, state_of view.new)) (host_outcome result) }
-    ensures kept { HostKept view.old view.new ids.old ids.new (W.seen world.old) (W.seen world.new) }
+    ensures asked { AsksFor (get_option_on (state_of view.old) (own_of ids.old.line)
+        Opt.KeepAliveInterval (socket_at (state_of view.old) this)) (W.seen world.old)
+        (W.seen world.new) (λ told. (told, state_of view.new)) (host_outcome result) }
+    ensures kept { HostKept view.old view.new ids.old ids.new (W.seen world.old)
+        (W.seen world.new) }
 {
     get_option(view, world, ids, this, Opt::KeepAliveInterval)
 }
@@ -147,8 +170,11 @@ pub fn set_keep_alive_interval<W: World>(
     value: u64,
 ) -> Result<(), SocketError>
     requires { (W.seen world.old).ended ≡ false }
-    ensures asked { AsksFor (set_option_on (state_of view.old) (own_of ids.old.line) Opt.KeepAliveInterval value (socket_at (state_of view.old) this)) (W.seen world.old) (W.seen world.new) (λ done. (done, state_of view.new)) (host_outcome result) }
-    ensures kept { HostKept view.old view.new ids.old ids.new (W.seen world.old) (W.seen world.new) }
+    ensures asked { AsksFor (set_option_on (state_of view.old) (own_of ids.old.line)
+        Opt.KeepAliveInterval value (socket_at (state_of view.old) this)) (W.seen world.old)
+        (W.seen world.new) (λ done. (done, state_of view.new)) (host_outcome result) }
+    ensures kept { HostKept view.old view.new ids.old ids.new (W.seen world.old)
+        (W.seen world.new) }
 {
     set_option(view, world, ids, this, Setting::KeepAliveInterval(value))
 }
@@ -162,8 +188,11 @@ pub fn keep_alive_count<W: World>(
     this: Handle,
 ) -> Result<u32, SocketError>
     requires { (W.seen world.old).ended ≡ false }
-    ensures asked { AsksFor (get_option_on (state_of view.old) (own_of ids.old.line) Opt.KeepAliveCount (socket_at (state_of view.old) this)) (W.seen world.old) (W.seen world.new) (λ told. (told, state_of view.new)) (host_outcome result) }
-    ensures kept { HostKept view.old view.new ids.old ids.new (W.seen world.old) (W.seen world.new) }
+    ensures asked { AsksFor (get_option_on (state_of view.old) (own_of ids.old.line)
+        Opt.KeepAliveCount (socket_at (state_of view.old) this)) (W.seen world.old)
+        (W.seen world.new) (λ told. (told, state_of view.new)) (host_outcome result) }
+    ensures kept { HostKept view.old view.new ids.old ids.new (W.seen world.old)
+        (W.seen world.new) }
 {
     let value = get_option(view, world, ids, this, Opt::KeepAliveCount)?;
     Ok(value as u32)
@@ -179,8 +208,11 @@ pub fn set_keep_alive_count<W: World>(
     value: u32,
 ) -> Result<(), SocketError>
     requires { (W.seen world.old).ended ≡ false }
-    ensures asked { AsksFor (set_option_on (state_of view.old) (own_of ids.old.line) Opt.KeepAliveCount value (socket_at (state_of view.old) this)) (W.seen world.old) (W.seen world.new) (λ done. (done, state_of view.new)) (host_outcome result) }
-    ensures kept { HostKept view.old view.new ids.old ids.new (W.seen world.old) (W.seen world.new) }
+    ensures asked { AsksFor (set_option_on (state_of view.old) (own_of ids.old.line)
+        Opt.KeepAliveCount value (socket_at (state_of view.old) this)) (W.seen world.old)
+        (W.seen world.new) (λ done. (done, state_of view.new)) (host_outcome result) }
+    ensures kept { HostKept view.old view.new ids.old ids.new (W.seen world.old)
+        (W.seen world.new) }
 {
     set_option(view, world, ids, this, Setting::KeepAliveCount(value))
 }
@@ -193,8 +225,11 @@ pub fn hop_limit<W: World>(
     this: Handle,
 ) -> Result<u8, SocketError>
     requires { (W.seen world.old).ended ≡ false }
-    ensures asked { AsksFor (get_option_on (state_of view.old) (own_of ids.old.line) Opt.HopLimit (socket_at (state_of view.old) this)) (W.seen world.old) (W.seen world.new) (λ told. (told, state_of view.new)) (host_outcome result) }
-    ensures kept { HostKept view.old view.new ids.old ids.new (W.seen world.old) (W.seen world.new) }
+    ensures asked { AsksFor (get_option_on (state_of view.old) (own_of ids.old.line) Opt.HopLimit
+        (socket_at (state_of view.old) this)) (W.seen world.old) (W.seen world.new)
+        (λ told. (told, state_of view.new)) (host_outcome result) }
+    ensures kept { HostKept view.old view.new ids.old ids.new (W.seen world.old)
+        (W.seen world.new) }
 {
     let value = get_option(view, world, ids, this, Opt::HopLimit)?;
     Ok(value as u8)
@@ -210,8 +245,11 @@ pub fn set_hop_limit<W: World>(
     value: u8,
 ) -> Result<(), SocketError>
     requires { (W.seen world.old).ended ≡ false }
-    ensures asked { AsksFor (set_option_on (state_of view.old) (own_of ids.old.line) Opt.HopLimit value (socket_at (state_of view.old) this)) (W.seen world.old) (W.seen world.new) (λ done. (done, state_of view.new)) (host_outcome result) }
-    ensures kept { HostKept view.old view.new ids.old ids.new (W.seen world.old) (W.seen world.new) }
+    ensures asked { AsksFor (set_option_on (state_of view.old) (own_of ids.old.line) Opt.HopLimit
+        value (socket_at (state_of view.old) this)) (W.seen world.old) (W.seen world.new)
+        (λ done. (done, state_of view.new)) (host_outcome result) }
+    ensures kept { HostKept view.old view.new ids.old ids.new (W.seen world.old)
+        (W.seen world.new) }
 {
     set_option(view, world, ids, this, Setting::HopLimit(value))
 }
@@ -225,8 +263,11 @@ pub fn receive_buffer_size<W: World>(
     this: Handle,
 ) -> Result<u64, SocketError>
     requires { (W.seen world.old).ended ≡ false }
-    ensures asked { AsksFor (get_option_on (state_of view.old) (own_of ids.old.line) Opt.ReceiveBufferSize (socket_at (state_of view.old) this)) (W.seen world.old) (W.seen world.new) (λ told. (told, state_of view.new)) (host_outcome result) }
-    ensures kept { HostKept view.old view.new ids.old ids.new (W.seen world.old) (W.seen world.new) }
+    ensures asked { AsksFor (get_option_on (state_of view.old) (own_of ids.old.line)
+        Opt.ReceiveBufferSize (socket_at (state_of view.old) this)) (W.seen world.old)
+        (W.seen world.new) (λ told. (told, state_of view.new)) (host_outcome result) }
+    ensures kept { HostKept view.old view.new ids.old ids.new (W.seen world.old)
+        (W.seen world.new) }
 {
     get_option(view, world, ids, this, Opt::ReceiveBufferSize)
 }
@@ -241,8 +282,11 @@ pub fn set_receive_buffer_size<W: World>(
     value: u64,
 ) -> Result<(), SocketError>
     requires { (W.seen world.old).ended ≡ false }
-    ensures asked { AsksFor (set_option_on (state_of view.old) (own_of ids.old.line) Opt.ReceiveBufferSize value (socket_at (state_of view.old) this)) (W.seen world.old) (W.seen world.new) (λ done. (done, state_of view.new)) (host_outcome result) }
-    ensures kept { HostKept view.old view.new ids.old ids.new (W.seen world.old) (W.seen world.new) }
+    ensures asked { AsksFor (set_option_on (state_of view.old) (own_of ids.old.line)
+        Opt.ReceiveBufferSize value (socket_at (state_of view.old) this)) (W.seen world.old)
+        (W.seen world.new) (λ done. (done, state_of view.new)) (host_outcome result) }
+    ensures kept { HostKept view.old view.new ids.old ids.new (W.seen world.old)
+        (W.seen world.new) }
 {
     set_option(view, world, ids, this, Setting::ReceiveBufferSize(value))
 }
@@ -256,8 +300,11 @@ pub fn send_buffer_size<W: World>(
     this: Handle,
 ) -> Result<u64, SocketError>
     requires { (W.seen world.old).ended ≡ false }
-    ensures asked { AsksFor (get_option_on (state_of view.old) (own_of ids.old.line) Opt.SendBufferSize (socket_at (state_of view.old) this)) (W.seen world.old) (W.seen world.new) (λ told. (told, state_of view.new)) (host_outcome result) }
-    ensures kept { HostKept view.old view.new ids.old ids.new (W.seen world.old) (W.seen world.new) }
+    ensures asked { AsksFor (get_option_on (state_of view.old) (own_of ids.old.line)
+        Opt.SendBufferSize (socket_at (state_of view.old) this)) (W.seen world.old)
+        (W.seen world.new) (λ told. (told, state_of view.new)) (host_outcome result) }
+    ensures kept { HostKept view.old view.new ids.old ids.new (W.seen world.old)
+        (W.seen world.new) }
 {
     get_option(view, world, ids, this, Opt::SendBufferSize)
 }
@@ -272,8 +319,11 @@ pub fn set_send_buffer_size<W: World>(
     value: u64,
 ) -> Result<(), SocketError>
     requires { (W.seen world.old).ended ≡ false }
-    ensures asked { AsksFor (set_option_on (state_of view.old) (own_of ids.old.line) Opt.SendBufferSize value (socket_at (state_of view.old) this)) (W.seen world.old) (W.seen world.new) (λ done. (done, state_of view.new)) (host_outcome result) }
-    ensures kept { HostKept view.old view.new ids.old ids.new (W.seen world.old) (W.seen world.new) }
+    ensures asked { AsksFor (set_option_on (state_of view.old) (own_of ids.old.line)
+        Opt.SendBufferSize value (socket_at (state_of view.old) this)) (W.seen world.old)
+        (W.seen world.new) (λ done. (done, state_of view.new)) (host_outcome result) }
+    ensures kept { HostKept view.old view.new ids.old ids.new (W.seen world.old)
+        (W.seen world.new) }
 {
     set_option(view, world, ids, this, Setting::SendBufferSize(value))
 }
@@ -293,8 +343,11 @@ pub fn set_listen_backlog_size<W: World>(
     value: u64,
 ) -> Result<(), SocketError>
     requires { (W.seen world.old).ended ≡ false }
-    ensures asked { AsksFor (set_backlog_on (state_of view.old) (own_of ids.old.line) value (socket_at (state_of view.old) this)) (W.seen world.old) (W.seen world.new) (λ done. (done, state_of view.new)) (host_outcome result) }
-    ensures kept { HostKept view.old view.new ids.old ids.new (W.seen world.old) (W.seen world.new) }
+    ensures asked { AsksFor (set_backlog_on (state_of view.old) (own_of ids.old.line) value
+        (socket_at (state_of view.old) this)) (W.seen world.old) (W.seen world.new)
+        (λ done. (done, state_of view.new)) (host_outcome result) }
+    ensures kept { HostKept view.old view.new ids.old ids.new (W.seen world.old)
+        (W.seen world.new) }
 {
     let place = handles::socket(view.table, this)?;
     view.store.set_backlog(world, ids.own(), place, value)

@@ -11,7 +11,11 @@ ghost use Rattle.wasi_records.specs.Listening.{TakesOne};
 ghost use Rattle.wasi_host.specs.Machine.{own_of, socket_at, create_asks};
 ghost use Rattle.wasi_host.specs.KnownSides.{KnowsSides};
 ghost use Rattle.wasi_host.specs.Views.{SameView, state_of, HostKept};
-ghost use Rattle.wasi_p2.specs.Tcp.{start_bind_asks, finish_on, start_connect_asks, finish_connect_on, streams_asks, local_address_on, remote_address_on, is_listening_on, address_family_on, shutdown_on, start_listen_on, accepted_handles, accept_asks, ids_after_accept};
+ghost use Rattle.wasi_p2.specs.Tcp.{start_bind_asks, finish_on, start_connect_asks};
+ghost use Rattle.wasi_p2.specs.Tcp.{finish_connect_on, streams_asks, local_address_on};
+ghost use Rattle.wasi_p2.specs.Tcp.{remote_address_on, is_listening_on, address_family_on};
+ghost use Rattle.wasi_p2.specs.Tcp.{shutdown_on, start_listen_on, accepted_handles, accept_asks};
+ghost use Rattle.wasi_p2.specs.Tcp.{ids_after_accept};
 
 use crate::SocketError;
 pub use crate::options::{
@@ -34,8 +38,11 @@ pub fn create_tcp_socket<W: World>(
     family: SocketAddressFamily,
 ) -> Result<Handle, SocketError>
     requires { (W.seen world.old).ended ≡ false }
-    ensures asked { AsksFor (create_asks (state_of view.old) (own_of ids.old.line) view.old.ctx.now family) (W.seen world.old) (W.seen world.new) (λ made. (made, state_of view.new)) (host_outcome result) }
-    ensures kept { HostKept view.old view.new ids.old ids.new (W.seen world.old) (W.seen world.new) }
+    ensures asked { AsksFor (create_asks (state_of view.old) (own_of ids.old.line) view.old.ctx.now
+        family) (W.seen world.old) (W.seen world.new) (λ made. (made, state_of view.new))
+        (host_outcome result) }
+    ensures kept { HostKept view.old view.new ids.old ids.new (W.seen world.old)
+        (W.seen world.new) }
 {
     view.store
         .create_socket(view.table, world, ids.own(), view.ctx, family)
@@ -53,8 +60,11 @@ pub fn start_bind<W: World>(
     addr: IpSocketAddress,
 ) -> Result<Answer<()>, SocketError>
     requires { (W.seen world.old).ended ≡ false }
-    ensures asked { AsksFor (start_bind_asks (state_of view.old) ids.old this network addr) (W.seen world.old) (W.seen world.new) (λ answer. (answer, state_of view.new)) (host_outcome result) }
-    ensures kept { HostKept view.old view.new ids.old ids.new (W.seen world.old) (W.seen world.new) }
+    ensures asked { AsksFor (start_bind_asks (state_of view.old) ids.old this network addr)
+        (W.seen world.old) (W.seen world.new) (λ answer. (answer, state_of view.new))
+        (host_outcome result) }
+    ensures kept { HostKept view.old view.new ids.old ids.new (W.seen world.old)
+        (W.seen world.new) }
 {
     handles::network(view.table, network)?;
     let place = handles::socket(view.table, this)?;
@@ -63,8 +73,10 @@ pub fn start_bind<W: World>(
 
 /// Ends a bind in progress (`finish-bind`). None in progress: `NotInProgress`. Asks nothing.
 pub fn finish_bind(view: &mut WasiSocketsCtxView<'_>, this: Handle) -> Result<(), SocketError>
-    ensures answer { host_outcome result ≡ Ok (finish_on is_bind (state_of view.old) (socket_at (state_of view.old) this)).0 }
-    ensures state { state_of view.new ≡ (finish_on is_bind (state_of view.old) (socket_at (state_of view.old) this)).1 }
+    ensures answer { host_outcome result ≡ Ok (finish_on is_bind (state_of view.old)
+        (socket_at (state_of view.old) this)).0 }
+    ensures state { state_of view.new ≡ (finish_on is_bind (state_of view.old)
+        (socket_at (state_of view.old) this)).1 }
     ensures sides { (s : Seen) → KnowsSides s view.old.store.now → KnowsSides s view.new.store.now }
     ensures view { SameView view.old view.new }
 {
@@ -83,8 +95,11 @@ pub fn start_connect<W: World>(
     addr: IpSocketAddress,
 ) -> Result<(), SocketError>
     requires { (W.seen world.old).ended ≡ false }
-    ensures asked { AsksFor (start_connect_asks (state_of view.old) (own_of ids.old.line) this network addr) (W.seen world.old) (W.seen world.new) (λ done. (done, state_of view.new)) (host_outcome result) }
-    ensures kept { HostKept view.old view.new ids.old ids.new (W.seen world.old) (W.seen world.new) }
+    ensures asked { AsksFor (start_connect_asks (state_of view.old) (own_of ids.old.line) this
+        network addr) (W.seen world.old) (W.seen world.new) (λ done. (done, state_of view.new))
+        (host_outcome result) }
+    ensures kept { HostKept view.old view.new ids.old ids.new (W.seen world.old)
+        (W.seen world.new) }
 {
     handles::network(view.table, network)?;
     let place = handles::socket(view.table, this)?;
@@ -100,8 +115,11 @@ pub fn finish_connect<W: World>(
     this: Handle,
 ) -> Result<(Handle, Handle), SocketError>
     requires { (W.seen world.old).ended ≡ false }
-    ensures asked { AsksFor (finish_connect_on (state_of view.old) (own_of ids.old.line) this (socket_at (state_of view.old) this)) (W.seen world.old) (W.seen world.new) (λ made. (made, state_of view.new)) (host_outcome result) }
-    ensures kept { HostKept view.old view.new ids.old ids.new (W.seen world.old) (W.seen world.new) }
+    ensures asked { AsksFor (finish_connect_on (state_of view.old) (own_of ids.old.line) this
+        (socket_at (state_of view.old) this)) (W.seen world.old) (W.seen world.new)
+        (λ made. (made, state_of view.new)) (host_outcome result) }
+    ensures kept { HostKept view.old view.new ids.old ids.new (W.seen world.old)
+        (W.seen world.new) }
 {
     let place = handles::socket(view.table, this)?;
     view.store.finish_connect(world, place)?;
@@ -120,8 +138,11 @@ fn make_streams<W: World>(
 ) -> Result<(Handle, Handle), SocketError>
     requires open { (W.seen world.old).ended ≡ false }
     requires parent { IsSome (kind_at view.old.table.now this) }
-    ensures asked { AsksFor (streams_asks (state_of view.old) (own_of ids.old.line) this place side) (W.seen world.old) (W.seen world.new) (λ made. (made, state_of view.new)) (host_outcome result) }
-    ensures kept { HostKept view.old view.new ids.old ids.new (W.seen world.old) (W.seen world.new) }
+    ensures asked { AsksFor (streams_asks (state_of view.old) (own_of ids.old.line) this place side)
+        (W.seen world.old) (W.seen world.new) (λ made. (made, state_of view.new))
+        (host_outcome result) }
+    ensures kept { HostKept view.old view.new ids.old ids.new (W.seen world.old)
+        (W.seen world.new) }
 {
     let own = ids.own();
     let input = handles::make(view.table, world, own, Kind::Input(place), Some(this), side)?;
@@ -150,8 +171,11 @@ pub fn start_listen<W: World>(
     this: Handle,
 ) -> Result<Answer<()>, SocketError>
     requires { (W.seen world.old).ended ≡ false }
-    ensures asked { AsksFor (start_listen_on (state_of view.old) ids.old (socket_at (state_of view.old) this)) (W.seen world.old) (W.seen world.new) (λ answer. (answer, state_of view.new)) (host_outcome result) }
-    ensures kept { HostKept view.old view.new ids.old ids.new (W.seen world.old) (W.seen world.new) }
+    ensures asked { AsksFor (start_listen_on (state_of view.old) ids.old
+        (socket_at (state_of view.old) this)) (W.seen world.old) (W.seen world.new)
+        (λ answer. (answer, state_of view.new)) (host_outcome result) }
+    ensures kept { HostKept view.old view.new ids.old ids.new (W.seen world.old)
+        (W.seen world.new) }
 {
     let place = handles::socket(view.table, this)?;
     view.store.start_listen(world, *ids, place)
@@ -159,8 +183,10 @@ pub fn start_listen<W: World>(
 
 /// Ends a listen in progress (`finish-listen`). None in progress: `NotInProgress`. Asks nothing.
 pub fn finish_listen(view: &mut WasiSocketsCtxView<'_>, this: Handle) -> Result<(), SocketError>
-    ensures answer { host_outcome result ≡ Ok (finish_on is_listen (state_of view.old) (socket_at (state_of view.old) this)).0 }
-    ensures state { state_of view.new ≡ (finish_on is_listen (state_of view.old) (socket_at (state_of view.old) this)).1 }
+    ensures answer { host_outcome result ≡ Ok (finish_on is_listen (state_of view.old)
+        (socket_at (state_of view.old) this)).0 }
+    ensures state { state_of view.new ≡ (finish_on is_listen (state_of view.old)
+        (socket_at (state_of view.old) this)).1 }
     ensures sides { (s : Seen) → KnowsSides s view.old.store.now → KnowsSides s view.new.store.now }
     ensures view { SameView view.old view.new }
 {
@@ -184,11 +210,14 @@ pub fn accept<W: World>(
 ) -> Result<(Handle, Handle, Handle), SocketError>
     requires open { (W.seen world.old).ended ≡ false }
     requires names { ids.old.next_part + 1 < 2 ^ 64 }
-    ensures asked { AsksFor (accept_asks (state_of view.old) ids.old this) (W.seen world.old) (W.seen world.new) (λ made. (made, state_of view.new)) (host_outcome result) }
-    ensures sides { KnowsSides (W.seen world.old) view.old.store.now → KnowsSides (W.seen world.new) view.new.store.now }
+    ensures asked { AsksFor (accept_asks (state_of view.old) ids.old this) (W.seen world.old)
+        (W.seen world.new) (λ made. (made, state_of view.new)) (host_outcome result) }
+    ensures sides { KnowsSides (W.seen world.old) view.old.store.now
+        → KnowsSides (W.seen world.new) view.new.store.now }
     ensures view { SameView view.old view.new }
     ensures ids { TakesOne ids.old ids.new }
-    ensures names { IfOk (host_outcome result) (λ answer. ids.new ≡ ids_after_accept (state_of view.old) ids.old this) }
+    ensures names { IfOk (host_outcome result) (λ answer. ids.new
+        ≡ ids_after_accept (state_of view.old) ids.old this) }
 {
     let place = handles::socket(view.table, this)?;
     let accepted = view.store.accept(world, ids, place)?;
@@ -207,8 +236,11 @@ fn make_accepted<W: World>(
     side: Option<Sock>,
 ) -> Result<(Handle, Handle, Handle), SocketError>
     requires { (W.seen world.old).ended ≡ false }
-    ensures asked { AsksFor (accepted_handles (state_of view.old) (own_of ids.old.line) listener place side) (W.seen world.old) (W.seen world.new) (λ made. (made, state_of view.new)) (host_outcome result) }
-    ensures kept { HostKept view.old view.new ids.old ids.new (W.seen world.old) (W.seen world.new) }
+    ensures asked { AsksFor (accepted_handles (state_of view.old) (own_of ids.old.line) listener
+        place side) (W.seen world.old) (W.seen world.new) (λ made. (made, state_of view.new))
+        (host_outcome result) }
+    ensures kept { HostKept view.old view.new ids.old ids.new (W.seen world.old)
+        (W.seen world.new) }
 {
     let kind = Kind::Tcp2(place);
     let socket = handles::make(view.table, world, ids.own(), kind, Some(listener), side)?;
@@ -225,8 +257,11 @@ pub fn local_address<W: World>(
     this: Handle,
 ) -> Result<IpSocketAddress, SocketError>
     requires { (W.seen world.old).ended ≡ false }
-    ensures asked { AsksFor (local_address_on (state_of view.old) (own_of ids.old.line) (socket_at (state_of view.old) this)) (W.seen world.old) (W.seen world.new) (λ told. (told, state_of view.new)) (host_outcome result) }
-    ensures kept { HostKept view.old view.new ids.old ids.new (W.seen world.old) (W.seen world.new) }
+    ensures asked { AsksFor (local_address_on (state_of view.old) (own_of ids.old.line)
+        (socket_at (state_of view.old) this)) (W.seen world.old) (W.seen world.new)
+        (λ told. (told, state_of view.new)) (host_outcome result) }
+    ensures kept { HostKept view.old view.new ids.old ids.new (W.seen world.old)
+        (W.seen world.new) }
 {
     let place = handles::socket(view.table, this)?;
     view.store.local_address(world, ids.own(), place)
@@ -241,8 +276,11 @@ pub fn remote_address<W: World>(
     this: Handle,
 ) -> Result<IpSocketAddress, SocketError>
     requires { (W.seen world.old).ended ≡ false }
-    ensures asked { AsksFor (remote_address_on (state_of view.old) (own_of ids.old.line) (socket_at (state_of view.old) this)) (W.seen world.old) (W.seen world.new) (λ told. (told, state_of view.new)) (host_outcome result) }
-    ensures kept { HostKept view.old view.new ids.old ids.new (W.seen world.old) (W.seen world.new) }
+    ensures asked { AsksFor (remote_address_on (state_of view.old) (own_of ids.old.line)
+        (socket_at (state_of view.old) this)) (W.seen world.old) (W.seen world.new)
+        (λ told. (told, state_of view.new)) (host_outcome result) }
+    ensures kept { HostKept view.old view.new ids.old ids.new (W.seen world.old)
+        (W.seen world.new) }
 {
     let place = handles::socket(view.table, this)?;
     view.store.remote_address(world, ids.own(), place)
@@ -250,7 +288,8 @@ pub fn remote_address<W: World>(
 
 /// Whether a socket is listening (`is-listening`). Asks nothing.
 pub fn is_listening(view: &mut WasiSocketsCtxView<'_>, this: Handle) -> Result<bool, SocketError>
-    ensures answer { host_outcome result ≡ Ok (is_listening_on (state_of view.old) (socket_at (state_of view.old) this)) }
+    ensures answer { host_outcome result ≡ Ok (is_listening_on (state_of view.old)
+        (socket_at (state_of view.old) this)) }
     ensures state { state_of view.new ≡ state_of view.old }
     ensures sides { (s : Seen) → KnowsSides s view.old.store.now → KnowsSides s view.new.store.now }
     ensures view { SameView view.old view.new }
@@ -264,7 +303,8 @@ pub fn address_family(
     view: &mut WasiSocketsCtxView<'_>,
     this: Handle,
 ) -> Result<SocketAddressFamily, SocketError>
-    ensures answer { host_outcome result ≡ Ok (address_family_on (state_of view.old) (socket_at (state_of view.old) this)) }
+    ensures answer { host_outcome result ≡ Ok (address_family_on (state_of view.old)
+        (socket_at (state_of view.old) this)) }
     ensures state { state_of view.new ≡ state_of view.old }
     ensures sides { (s : Seen) → KnowsSides s view.old.store.now → KnowsSides s view.new.store.now }
     ensures view { SameView view.old view.new }
@@ -284,8 +324,11 @@ pub fn shutdown<W: World>(
     how: ShutdownType,
 ) -> Result<(), SocketError>
     requires { (W.seen world.old).ended ≡ false }
-    ensures asked { AsksFor (shutdown_on (state_of view.old) (own_of ids.old.line) how (socket_at (state_of view.old) this)) (W.seen world.old) (W.seen world.new) (λ done. (done, state_of view.new)) (host_outcome result) }
-    ensures kept { HostKept view.old view.new ids.old ids.new (W.seen world.old) (W.seen world.new) }
+    ensures asked { AsksFor (shutdown_on (state_of view.old) (own_of ids.old.line) how
+        (socket_at (state_of view.old) this)) (W.seen world.old) (W.seen world.new)
+        (λ done. (done, state_of view.new)) (host_outcome result) }
+    ensures kept { HostKept view.old view.new ids.old ids.new (W.seen world.old)
+        (W.seen world.new) }
 {
     let place = handles::socket(view.table, this)?;
     view.store.shutdown(world, ids.own(), place, how)

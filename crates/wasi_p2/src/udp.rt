@@ -11,7 +11,10 @@ ghost use Rattle.wasi_host.specs.Machine.{own_of, udp_socket_at, incoming_at, ou
 ghost use Rattle.wasi_host.specs.KnownSides.{KnowsSides};
 ghost use Rattle.wasi_host.specs.UdpCreates.{create_udp_asks};
 ghost use Rattle.wasi_host.specs.Views.{SameView, state_of, HostKept};
-ghost use Rattle.wasi_p2.specs.Udp.{start_udp_bind_asks, finish_udp_bind_on, udp_local_on, udp_remote_on, udp_family_on, get_udp_option_on, set_udp_option_on, udp_stream_asks, check_send_on, send_datagrams_on, receive_datagrams_on};
+ghost use Rattle.wasi_p2.specs.Udp.{start_udp_bind_asks, finish_udp_bind_on, udp_local_on};
+ghost use Rattle.wasi_p2.specs.Udp.{udp_remote_on, udp_family_on, get_udp_option_on};
+ghost use Rattle.wasi_p2.specs.Udp.{set_udp_option_on, udp_stream_asks, check_send_on};
+ghost use Rattle.wasi_p2.specs.Udp.{send_datagrams_on, receive_datagrams_on};
 
 use crate::SocketError;
 use socket_common::Setting;
@@ -30,8 +33,11 @@ pub fn create_udp_socket<W: World>(
     family: SocketAddressFamily,
 ) -> Result<Answer<Handle>, SocketError>
     requires { (W.seen world.old).ended ≡ false }
-    ensures asked { AsksFor (create_udp_asks (state_of view.old) ids.old view.old.ctx.now family) (W.seen world.old) (W.seen world.new) (λ answer. (answer, state_of view.new)) (host_outcome result) }
-    ensures kept { HostKept view.old view.new ids.old ids.new (W.seen world.old) (W.seen world.new) }
+    ensures asked { AsksFor (create_udp_asks (state_of view.old) ids.old view.old.ctx.now family)
+        (W.seen world.old) (W.seen world.new) (λ answer. (answer, state_of view.new))
+        (host_outcome result) }
+    ensures kept { HostKept view.old view.new ids.old ids.new (W.seen world.old)
+        (W.seen world.new) }
 {
     view.store
         .create_udp_socket(view.table, world, *ids, view.ctx, family)
@@ -49,8 +55,11 @@ pub fn start_bind<W: World>(
     addr: IpSocketAddress,
 ) -> Result<Answer<()>, SocketError>
     requires { (W.seen world.old).ended ≡ false }
-    ensures asked { AsksFor (start_udp_bind_asks (state_of view.old) ids.old this network addr) (W.seen world.old) (W.seen world.new) (λ answer. (answer, state_of view.new)) (host_outcome result) }
-    ensures kept { HostKept view.old view.new ids.old ids.new (W.seen world.old) (W.seen world.new) }
+    ensures asked { AsksFor (start_udp_bind_asks (state_of view.old) ids.old this network addr)
+        (W.seen world.old) (W.seen world.new) (λ answer. (answer, state_of view.new))
+        (host_outcome result) }
+    ensures kept { HostKept view.old view.new ids.old ids.new (W.seen world.old)
+        (W.seen world.new) }
 {
     handles::network(view.table, network)?;
     let place = handles::udp_socket(view.table, this)?;
@@ -59,8 +68,10 @@ pub fn start_bind<W: World>(
 
 /// Ends a bind in progress (`finish-bind`). None in progress: `NotInProgress`. Asks nothing.
 pub fn finish_bind(view: &mut WasiSocketsCtxView<'_>, this: Handle) -> Result<(), SocketError>
-    ensures answer { host_outcome result ≡ Ok (finish_udp_bind_on (state_of view.old) (udp_socket_at (state_of view.old) this)).0 }
-    ensures state { state_of view.new ≡ (finish_udp_bind_on (state_of view.old) (udp_socket_at (state_of view.old) this)).1 }
+    ensures answer { host_outcome result ≡ Ok (finish_udp_bind_on (state_of view.old)
+        (udp_socket_at (state_of view.old) this)).0 }
+    ensures state { state_of view.new ≡ (finish_udp_bind_on (state_of view.old)
+        (udp_socket_at (state_of view.old) this)).1 }
     ensures sides { (s : Seen) → KnowsSides s view.old.store.now → KnowsSides s view.new.store.now }
     ensures view { SameView view.old view.new }
 {
@@ -77,8 +88,11 @@ pub fn local_address<W: World>(
     this: Handle,
 ) -> Result<IpSocketAddress, SocketError>
     requires { (W.seen world.old).ended ≡ false }
-    ensures asked { AsksFor (udp_local_on (state_of view.old) (own_of ids.old.line) (udp_socket_at (state_of view.old) this)) (W.seen world.old) (W.seen world.new) (λ told. (told, state_of view.new)) (host_outcome result) }
-    ensures kept { HostKept view.old view.new ids.old ids.new (W.seen world.old) (W.seen world.new) }
+    ensures asked { AsksFor (udp_local_on (state_of view.old) (own_of ids.old.line)
+        (udp_socket_at (state_of view.old) this)) (W.seen world.old) (W.seen world.new)
+        (λ told. (told, state_of view.new)) (host_outcome result) }
+    ensures kept { HostKept view.old view.new ids.old ids.new (W.seen world.old)
+        (W.seen world.new) }
 {
     let place = handles::udp_socket(view.table, this)?;
     view.store.udp_local_address(world, ids.own(), place)
@@ -89,7 +103,8 @@ pub fn remote_address(
     view: &WasiSocketsCtxView<'_>,
     this: Handle,
 ) -> Result<IpSocketAddress, SocketError>
-    ensures { host_outcome result ≡ Ok (udp_remote_on (state_of view.now) (udp_socket_at (state_of view.now) this)) }
+    ensures { host_outcome result ≡ Ok (udp_remote_on (state_of view.now)
+        (udp_socket_at (state_of view.now) this)) }
 {
     let place = handles::udp_socket(view.table, this)?;
     view.store.udp_remote_address(place)
@@ -100,7 +115,8 @@ pub fn address_family(
     view: &WasiSocketsCtxView<'_>,
     this: Handle,
 ) -> Result<SocketAddressFamily, SocketError>
-    ensures { host_outcome result ≡ Ok (udp_family_on (state_of view.now) (udp_socket_at (state_of view.now) this)) }
+    ensures { host_outcome result ≡ Ok (udp_family_on (state_of view.now)
+        (udp_socket_at (state_of view.now) this)) }
 {
     let place = handles::udp_socket(view.table, this)?;
     view.store.udp_address_family(place)
@@ -120,8 +136,11 @@ pub fn stream<W: World>(
     remote: Option<IpSocketAddress>,
 ) -> Result<Answer<(Handle, Handle)>, SocketError>
     requires { (W.seen world.old).ended ≡ false }
-    ensures asked { AsksFor (udp_stream_asks (state_of view.old) ids.old this remote) (W.seen world.old) (W.seen world.new) (λ answer. (answer, state_of view.new)) (host_outcome result) }
-    ensures kept { HostKept view.old view.new ids.old ids.new (W.seen world.old) (W.seen world.new) }
+    ensures asked { AsksFor (udp_stream_asks (state_of view.old) ids.old this remote)
+        (W.seen world.old) (W.seen world.new) (λ answer. (answer, state_of view.new))
+        (host_outcome result) }
+    ensures kept { HostKept view.old view.new ids.old ids.new (W.seen world.old)
+        (W.seen world.new) }
 {
     let place = handles::udp_socket(view.table, this)?;
     view.store
@@ -131,8 +150,10 @@ pub fn stream<W: World>(
 /// How many datagrams the next [`send`] may have (`outgoing-datagram-stream.check-send`): 16, or
 /// none while the last one isn't sent yet. Asks nothing.
 pub fn check_send(view: &mut WasiSocketsCtxView<'_>, this: Handle) -> Result<u64, SocketError>
-    ensures answer { host_outcome result ≡ Ok (check_send_on (state_of view.old) (outgoing_at (state_of view.old) this)).0 }
-    ensures state { state_of view.new ≡ (check_send_on (state_of view.old) (outgoing_at (state_of view.old) this)).1 }
+    ensures answer { host_outcome result ≡ Ok (check_send_on (state_of view.old)
+        (outgoing_at (state_of view.old) this)).0 }
+    ensures state { state_of view.new ≡ (check_send_on (state_of view.old)
+        (outgoing_at (state_of view.old) this)).1 }
     ensures sides { (s : Seen) → KnowsSides s view.old.store.now → KnowsSides s view.new.store.now }
     ensures view { SameView view.old view.new }
 {
@@ -158,8 +179,11 @@ pub fn send<W: World>(
 ) -> Result<u64, SocketError>
     requires open { (W.seen world.old).ended ≡ false }
     requires names { ids.old.next_part + 255 < 2 ^ 64 }
-    ensures asked { AsksFor (send_datagrams_on (state_of view.old) ids.old items.items (outgoing_at (state_of view.old) this)) (W.seen world.old) (W.seen world.new) (λ sent. (sent, state_of view.new)) (host_outcome result) }
-    ensures sides { KnowsSides (W.seen world.old) view.old.store.now → KnowsSides (W.seen world.new) view.new.store.now }
+    ensures asked { AsksFor (send_datagrams_on (state_of view.old) ids.old items.items
+        (outgoing_at (state_of view.old) this)) (W.seen world.old) (W.seen world.new)
+        (λ sent. (sent, state_of view.new)) (host_outcome result) }
+    ensures sides { KnowsSides (W.seen world.old) view.old.store.now
+        → KnowsSides (W.seen world.new) view.new.store.now }
     ensures view { SameView view.old view.new }
     ensures line { ids.new.line ≡ ids.old.line }
 {
@@ -182,8 +206,11 @@ pub fn receive<W: World>(
 ) -> Result<IncomingDatagrams, SocketError>
     requires open { (W.seen world.old).ended ≡ false }
     requires names { ids.old.next_part + 16 < 2 ^ 64 }
-    ensures asked { AsksFor (receive_datagrams_on (state_of view.old) ids.old max_results (incoming_at (state_of view.old) this)) (W.seen world.old) (W.seen world.new) (λ received. (received, state_of view.new)) (host_outcome result) }
-    ensures sides { KnowsSides (W.seen world.old) view.old.store.now → KnowsSides (W.seen world.new) view.new.store.now }
+    ensures asked { AsksFor (receive_datagrams_on (state_of view.old) ids.old max_results
+        (incoming_at (state_of view.old) this)) (W.seen world.old) (W.seen world.new)
+        (λ received. (received, state_of view.new)) (host_outcome result) }
+    ensures sides { KnowsSides (W.seen world.old) view.old.store.now
+        → KnowsSides (W.seen world.new) view.new.store.now }
     ensures view { SameView view.old view.new }
     ensures line { ids.new.line ≡ ids.old.line }
 {
@@ -206,9 +233,12 @@ pub fn get_option<W: World>(
     option: Opt,
 ) -> Result<u64, SocketError>
     requires { (W.seen world.old).ended ≡ false }
-    ensures asked { AsksFor (get_udp_option_on (state_of view.old) (own_of ids.old.line) option (udp_socket_at (state_of view.old) this)) (W.seen world.old) (W.seen world.new) (λ told. (told, state_of view.new)) (host_outcome result) }
+    ensures asked { AsksFor (get_udp_option_on (state_of view.old) (own_of ids.old.line) option
+        (udp_socket_at (state_of view.old) this)) (W.seen world.old) (W.seen world.new)
+        (λ told. (told, state_of view.new)) (host_outcome result) }
     ensures within { IfOk result (λ value. value ≤ largest_value option) }
-    ensures kept { HostKept view.old view.new ids.old ids.new (W.seen world.old) (W.seen world.new) }
+    ensures kept { HostKept view.old view.new ids.old ids.new (W.seen world.old)
+        (W.seen world.new) }
 {
     let place = handles::udp_socket(view.table, this)?;
     view.store.get_udp_option(world, ids.own(), place, option)
@@ -227,8 +257,12 @@ pub fn set_option<W: World>(
     setting: Setting,
 ) -> Result<(), SocketError>
     requires { (W.seen world.old).ended ≡ false }
-    ensures asked { AsksFor (set_udp_option_on (state_of view.old) (own_of ids.old.line) (option_of setting) (number_of setting) (udp_socket_at (state_of view.old) this)) (W.seen world.old) (W.seen world.new) (λ done. (done, state_of view.new)) (host_outcome result) }
-    ensures kept { HostKept view.old view.new ids.old ids.new (W.seen world.old) (W.seen world.new) }
+    ensures asked { AsksFor (set_udp_option_on (state_of view.old) (own_of ids.old.line)
+        (option_of setting) (number_of setting) (udp_socket_at (state_of view.old) this))
+        (W.seen world.old) (W.seen world.new) (λ done. (done, state_of view.new))
+        (host_outcome result) }
+    ensures kept { HostKept view.old view.new ids.old ids.new (W.seen world.old)
+        (W.seen world.new) }
 {
     let place = handles::udp_socket(view.table, this)?;
     view.store.set_udp_option(world, ids.own(), place, setting)
@@ -243,8 +277,11 @@ pub fn unicast_hop_limit<W: World>(
     this: Handle,
 ) -> Result<u8, SocketError>
     requires { (W.seen world.old).ended ≡ false }
-    ensures asked { AsksFor (get_udp_option_on (state_of view.old) (own_of ids.old.line) Opt.HopLimit (udp_socket_at (state_of view.old) this)) (W.seen world.old) (W.seen world.new) (λ told. (told, state_of view.new)) (host_outcome result) }
-    ensures kept { HostKept view.old view.new ids.old ids.new (W.seen world.old) (W.seen world.new) }
+    ensures asked { AsksFor (get_udp_option_on (state_of view.old) (own_of ids.old.line)
+        Opt.HopLimit (udp_socket_at (state_of view.old) this)) (W.seen world.old) (W.seen world.new)
+        (λ told. (told, state_of view.new)) (host_outcome result) }
+    ensures kept { HostKept view.old view.new ids.old ids.new (W.seen world.old)
+        (W.seen world.new) }
 {
     let value = get_option(view, world, ids, this, Opt::HopLimit)?;
     Ok(value as u8)
@@ -259,8 +296,11 @@ pub fn set_unicast_hop_limit<W: World>(
     value: u8,
 ) -> Result<(), SocketError>
     requires { (W.seen world.old).ended ≡ false }
-    ensures asked { AsksFor (set_udp_option_on (state_of view.old) (own_of ids.old.line) Opt.HopLimit value (udp_socket_at (state_of view.old) this)) (W.seen world.old) (W.seen world.new) (λ done. (done, state_of view.new)) (host_outcome result) }
-    ensures kept { HostKept view.old view.new ids.old ids.new (W.seen world.old) (W.seen world.new) }
+    ensures asked { AsksFor (set_udp_option_on (state_of view.old) (own_of ids.old.line)
+        Opt.HopLimit value (udp_socket_at (state_of view.old) this)) (W.seen world.old)
+        (W.seen world.new) (λ done. (done, state_of view.new)) (host_outcome result) }
+    ensures kept { HostKept view.old view.new ids.old ids.new (W.seen world.old)
+        (W.seen world.new) }
 {
     set_option(view, world, ids, this, Setting::HopLimit(value))
 }
@@ -274,8 +314,11 @@ pub fn receive_buffer_size<W: World>(
     this: Handle,
 ) -> Result<u64, SocketError>
     requires { (W.seen world.old).ended ≡ false }
-    ensures asked { AsksFor (get_udp_option_on (state_of view.old) (own_of ids.old.line) Opt.ReceiveBufferSize (udp_socket_at (state_of view.old) this)) (W.seen world.old) (W.seen world.new) (λ told. (told, state_of view.new)) (host_outcome result) }
-    ensures kept { HostKept view.old view.new ids.old ids.new (W.seen world.old) (W.seen world.new) }
+    ensures asked { AsksFor (get_udp_option_on (state_of view.old) (own_of ids.old.line)
+        Opt.ReceiveBufferSize (udp_socket_at (state_of view.old) this)) (W.seen world.old)
+        (W.seen world.new) (λ told. (told, state_of view.new)) (host_outcome result) }
+    ensures kept { HostKept view.old view.new ids.old ids.new (W.seen world.old)
+        (W.seen world.new) }
 {
     get_option(view, world, ids, this, Opt::ReceiveBufferSize)
 }
@@ -290,8 +333,11 @@ pub fn set_receive_buffer_size<W: World>(
     value: u64,
 ) -> Result<(), SocketError>
     requires { (W.seen world.old).ended ≡ false }
-    ensures asked { AsksFor (set_udp_option_on (state_of view.old) (own_of ids.old.line) Opt.ReceiveBufferSize value (udp_socket_at (state_of view.old) this)) (W.seen world.old) (W.seen world.new) (λ done. (done, state_of view.new)) (host_outcome result) }
-    ensures kept { HostKept view.old view.new ids.old ids.new (W.seen world.old) (W.seen world.new) }
+    ensures asked { AsksFor (set_udp_option_on (state_of view.old) (own_of ids.old.line)
+        Opt.ReceiveBufferSize value (udp_socket_at (state_of view.old) this)) (W.seen world.old)
+        (W.seen world.new) (λ done. (done, state_of view.new)) (host_outcome result) }
+    ensures kept { HostKept view.old view.new ids.old ids.new (W.seen world.old)
+        (W.seen world.new) }
 {
     set_option(view, world, ids, this, Setting::ReceiveBufferSize(value))
 }
@@ -305,8 +351,11 @@ pub fn send_buffer_size<W: World>(
     this: Handle,
 ) -> Result<u64, SocketError>
     requires { (W.seen world.old).ended ≡ false }
-    ensures asked { AsksFor (get_udp_option_on (state_of view.old) (own_of ids.old.line) Opt.SendBufferSize (udp_socket_at (state_of view.old) this)) (W.seen world.old) (W.seen world.new) (λ told. (told, state_of view.new)) (host_outcome result) }
-    ensures kept { HostKept view.old view.new ids.old ids.new (W.seen world.old) (W.seen world.new) }
+    ensures asked { AsksFor (get_udp_option_on (state_of view.old) (own_of ids.old.line)
+        Opt.SendBufferSize (udp_socket_at (state_of view.old) this)) (W.seen world.old)
+        (W.seen world.new) (λ told. (told, state_of view.new)) (host_outcome result) }
+    ensures kept { HostKept view.old view.new ids.old ids.new (W.seen world.old)
+        (W.seen world.new) }
 {
     get_option(view, world, ids, this, Opt::SendBufferSize)
 }
@@ -321,8 +370,11 @@ pub fn set_send_buffer_size<W: World>(
     value: u64,
 ) -> Result<(), SocketError>
     requires { (W.seen world.old).ended ≡ false }
-    ensures asked { AsksFor (set_udp_option_on (state_of view.old) (own_of ids.old.line) Opt.SendBufferSize value (udp_socket_at (state_of view.old) this)) (W.seen world.old) (W.seen world.new) (λ done. (done, state_of view.new)) (host_outcome result) }
-    ensures kept { HostKept view.old view.new ids.old ids.new (W.seen world.old) (W.seen world.new) }
+    ensures asked { AsksFor (set_udp_option_on (state_of view.old) (own_of ids.old.line)
+        Opt.SendBufferSize value (udp_socket_at (state_of view.old) this)) (W.seen world.old)
+        (W.seen world.new) (λ done. (done, state_of view.new)) (host_outcome result) }
+    ensures kept { HostKept view.old view.new ids.old ids.new (W.seen world.old)
+        (W.seen world.new) }
 {
     set_option(view, world, ids, this, Setting::SendBufferSize(value))
 }

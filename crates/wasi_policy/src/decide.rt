@@ -1,7 +1,8 @@
 //! Whether a rule matches, and the first that does.
 
 ghost use Rattle.std.specs.Prelude.{◌≡◌, ◌+◌, ◌*◌, ◌<◌, ◌^◌, length};
-ghost use Rattle.wasi_policy.specs.Decision.{ipv4_number, ipv6_number, agree, is_in, is_about, matches, allows, decision};
+ghost use Rattle.wasi_policy.specs.Decision.{ipv4_number, ipv6_number, agree, is_in, is_about};
+ghost use Rattle.wasi_policy.specs.Decision.{matches, allows, decision};
 
 use crate::rule::{Action, Decision, Net, Rule};
 use wasi_addr::{IpAddress, IpSocketAddress, SocketAddrUse};

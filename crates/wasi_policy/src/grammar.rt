@@ -5,7 +5,9 @@ ghost use Rattle.world_text.specs.Fields.{Reads, number_at};
 ghost use Rattle.world_text.specs.Written.{ReadsExactly, IsVisible};
 ghost use Rattle.wasi_policy.specs.declared.rule.Rule.{Rule};
 ghost use Rattle.wasi_policy.specs.Explained.{rule_text};
-ghost use Rattle.wasi_policy.specs.Grammar.{action_text, action_in, action_at, uses_text, uses_in, uses_at, prefix_of, any_net_at, net_at, rule_at, rule_in, rule_line, IsRule};
+ghost use Rattle.wasi_policy.specs.Grammar.{action_text, action_in, action_at, uses_text, uses_in};
+ghost use Rattle.wasi_policy.specs.Grammar.{uses_at, prefix_of, any_net_at, net_at, rule_at};
+ghost use Rattle.wasi_policy.specs.Grammar.{rule_in, rule_line, IsRule};
 
 use crate::rule::{Action, Net, Rule};
 use wasi_addr::{IpAddress, SocketAddrUse};
@@ -170,7 +172,8 @@ pub fn parse_rule(line: &[u8]) -> Option<Rule>
 /// What a rule is displayed as is its line. It runs no code: its contract is a law about the
 /// definitions by which the grammar is stated.
 pub fn rules_are_read_exactly()
-    ensures exactly { (line : List ℕ) (rule : Rule) → (rule_in line ≡ Some rule) ↔ ((line ≡ rule_line rule) × IsRule rule) }
+    ensures exactly { (line : List ℕ) (rule : Rule)
+        → (rule_in line ≡ Some rule) ↔ ((line ≡ rule_line rule) × IsRule rule) }
     ensures visible { (line : List ℕ) (rule : Rule) → rule_in line ≡ Some rule → IsVisible line }
     ensures text { (rule : Rule) → rule_text rule ≡ rule_line rule }
 {}

@@ -1,6 +1,7 @@
 //! Reads rules: a line for each.
 
-ghost use Rattle.std.specs.Prelude.{◌≡◌, ◌<◌, ◌+◌, ◌^◌, IfOk, OnOk, [], ◌∷◌, ◌++◌, Some, None, IfErr, IfSome, Ok, Err, length, take};
+ghost use Rattle.std.specs.Prelude.{◌≡◌, ◌<◌, ◌+◌, ◌^◌, IfOk, OnOk, [], ◌∷◌, ◌++◌, Some, None};
+ghost use Rattle.std.specs.Prelude.{IfErr, IfSome, Ok, Err, length, take};
 ghost use Rattle.wasi_policy.specs.Grammar.{with_rule, rules_within};
 ghost use Rattle.wasi_policy.specs.Parsed.{bad_line};
 
@@ -52,7 +53,8 @@ fn add_rule(rules: &mut Vec<Rule>, rule: Rule) -> Result<(), AllocError>
 fn take_line(rules: &mut Vec<Rule>, number: u32, line: &[u8]) -> Result<(), RulesError>
     ensures ok { OnOk result (with_rule rules.old.items line.now ≡ Some rules.new.items) }
     ensures one { OnOk result (length rules.new.items ≡ length rules.old.items + 1) }
-    ensures bad { IfErr result (λ e. IfSome (bad_line e) (λ n. (n ≡ number) × (with_rule rules.old.items line.now ≡ None))) }
+    ensures bad { IfErr result (λ e. IfSome (bad_line e) (λ n. (n ≡ number)
+        × (with_rule rules.old.items line.now ≡ None))) }
 {
     let Some(rule) = parse_rule(line) else {
         return Err(RulesError::BadRules(number));
@@ -66,7 +68,8 @@ pub fn rules_within(alloc: Global, bytes: &[u8], most: usize) -> Result<Vec<Rule
     requires { most + 1 < 2 ^ 32 }
     ensures ok { IfOk result (λ rules. rules_within most bytes.now ≡ Ok rules.items) }
     ensures few { IfOk result (λ rules. length rules.items < 2 ^ 32) }
-    ensures bad { IfErr result (λ e. IfSome (bad_line e) (λ n. rules_within most bytes.now ≡ Err n)) }
+    ensures bad { IfErr result (λ e. IfSome (bad_line e) (λ n. rules_within most bytes.now
+        ≡ Err n)) }
 {
     let text = first_bytes(bytes, most);
     let mut rules = Vec::new(alloc);

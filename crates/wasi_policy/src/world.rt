@@ -62,7 +62,8 @@ impl<W: World, R: Rules> PolicyWorld<W, R> {
         requires rules { policy ≡ R.rules }
         requires plan { (W.seen inner).plan ≡ R.plan }
         requires empty { IfSome (W.seen inner).log (λ log. log ≡ []) }
-        ensures { seen_under result.denied.items (W.seen result.inner) ≡ seen_under [] (W.seen inner) }
+        ensures { seen_under result.denied.items (W.seen result.inner)
+            ≡ seen_under [] (W.seen inner) }
     {
         PolicyWorld {
             policy,
@@ -120,7 +121,9 @@ impl<W: World, R: Rules> PolicyWorld<W, R> {
     /// Keeps a check that the rules deny, told no.
     fn deny(&mut self, op: OpId, call: Call) -> Result<Told, AllocError>
         requires denied { denies R.rules call ≡ true }
-        ensures asked { AsksFor (one op call) (seen_under self.old.denied.items (W.seen self.old.inner)) (seen_under self.new.denied.items (W.seen self.new.inner)) (λ told. told) result }
+        ensures asked { AsksFor (one op call) (seen_under self.old.denied.items
+            (W.seen self.old.inner)) (seen_under self.new.denied.items (W.seen self.new.inner))
+            (λ told. told) result }
         ensures inner { W.seen self.new.inner ≡ W.seen self.old.inner }
         ensures fits { IfOk result (λ told. Fits call told) }
         ensures err { OnErr result (self.new.denied.items ≡ self.old.denied.items) }
@@ -143,7 +146,8 @@ impl<W: World, R: Rules> World for PolicyWorld<W, R> {
 
     ghost seen = { λ world. seen_under world.denied.items (W.seen world.inner) };
 
-    ghost scripted = { λ world. without_plan (option_map (merged world.denied.items) (W.seen world.inner).log) };
+    ghost scripted = { λ world. without_plan (option_map (merged world.denied.items)
+        (W.seen world.inner).log) };
 
     fn call(&mut self, op: OpId, call: Call) -> Result<Told, AllocError> {
         if self.denies(&call) {

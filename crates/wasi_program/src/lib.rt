@@ -1,5 +1,5 @@
-//! What several programs share: how they end, what they do with `--help` and `--version`, where their scenario is,
-//! and how it is read.
+//! What several programs share: how they end, what they do with `--help` and `--version`, where
+//! their scenario is, and how it is read.
 #![tactic(auto)]
 
 pub mod choices;

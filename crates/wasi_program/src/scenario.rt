@@ -24,10 +24,13 @@ pub enum Unread {
     Memory(AllocError),
 }
 
-/// Reads a scenario to its end, or to one byte past the 1,048,576 that it may have. Takes memory for its bytes.
+/// Reads a scenario to its end, or to one byte past the 1,048,576 that it may have. Takes memory
+/// for its bytes.
 pub fn read_scenario<C: Source>(alloc: Global, scenario: &mut C) -> Result<Vec<u8>, Unread>
-    ensures read { IfOk result (λ text. ReadScenario (C.reading scenario.old) (C.reading scenario.new) text.items) }
-    ensures fault { result ≡ Err Unread.Fault → Rose (C.reading scenario.old).faults (C.reading scenario.new).faults }
+    ensures read { IfOk result (λ text. ReadScenario (C.reading scenario.old)
+        (C.reading scenario.new) text.items) }
+    ensures fault { result ≡ Err Unread.Fault
+        → Rose (C.reading scenario.old).faults (C.reading scenario.new).faults }
 {
     let mut text = Vec::new(alloc);
     let mut piece = [0u8; PIECE_SIZE];

@@ -47,10 +47,14 @@ pub fn pump<
     sink: K,
     budget: usize,
 ) -> Pumped<S, K>
-    ensures ends { PumpEnds (S.reading source) (S.reading result.source) (K.writing sink) (K.writing result.sink) result.outcome }
+    ensures ends { PumpEnds (S.reading source) (S.reading result.source) (K.writing sink)
+        (K.writing result.sink) result.outcome }
     ensures no_budget { (result.outcome ≡ Err NoBudget) ↔ (budget ≡ 0) }
-    ensures refused { result.outcome ≡ Err NoWorker → Rose (P.refusals writers.old) (P.refusals writers.new) ⊎ Rose (Q.refusals readers.old) (Q.refusals readers.new) }
-    ensures started { OnOk result.outcome (Rose (P.starts writers.old) (P.starts writers.new) × Rose (Q.starts readers.old) (Q.starts readers.new)) }
+    ensures refused { result.outcome ≡ Err NoWorker
+        → Rose (P.refusals writers.old) (P.refusals writers.new)
+        ⊎ Rose (Q.refusals readers.old) (Q.refusals readers.new) }
+    ensures started { OnOk result.outcome (Rose (P.starts writers.old) (P.starts writers.new)
+        × Rose (Q.starts readers.old) (Q.starts readers.new)) }
 {
     if budget == 0 {
         return unmoved(source, sink, PumpError::NoBudget);
@@ -98,11 +102,16 @@ fn pump_by<
     sink: K,
 ) -> Pumped<S, K>
     requires reads { (reading.ledgers_of from ≡ M.ledgers) × (from.line ≡ M.line) }
-    requires writes { (writing.ledgers_of to ≡ N.ledgers) × (to.line ≡ N.line) × (to.budget ≡ N.initial) }
-    ensures ends { PumpEnds (S.reading source) (S.reading result.source) (K.writing sink) (K.writing result.sink) result.outcome }
+    requires writes { (writing.ledgers_of to ≡ N.ledgers) × (to.line ≡ N.line)
+        × (to.budget ≡ N.initial) }
+    ensures ends { PumpEnds (S.reading source) (S.reading result.source) (K.writing sink)
+        (K.writing result.sink) result.outcome }
     ensures budget { (result.outcome ≡ Err NoBudget) → ⊥ }
-    ensures refused { result.outcome ≡ Err NoWorker → Rose (P.refusals writers.old) (P.refusals writers.new) ⊎ Rose (Q.refusals readers.old) (Q.refusals readers.new) }
-    ensures started { OnOk result.outcome (Rose (P.starts writers.old) (P.starts writers.new) × Rose (Q.starts readers.old) (Q.starts readers.new)) }
+    ensures refused { result.outcome ≡ Err NoWorker
+        → Rose (P.refusals writers.old) (P.refusals writers.new)
+        ⊎ Rose (Q.refusals readers.old) (Q.refusals readers.new) }
+    ensures started { OnOk result.outcome (Rose (P.starts writers.old) (P.starts writers.new)
+        × Rose (Q.starts readers.old) (Q.starts readers.new)) }
 {
     let mut writer = match AsyncWriteStream::<K, N>::new(rt, alloc, writers, to, sink) {
         Ok(writer) => writer,

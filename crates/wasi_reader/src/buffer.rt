@@ -46,7 +46,8 @@ impl ReadBuffer {
 
     /// Reads once into the buffer, which has room.
     pub fn fill<S: Source>(&mut self, source: &mut S) -> Result<usize, Failed>
-        ensures read { HasRead (S.reading source.old) (S.reading source.new) (length self.old) self.new result }
+        ensures read { HasRead (S.reading source.old) (S.reading source.new) (length self.old)
+            self.new result }
         ensures room { 0 < length self.old }
         ensures size { length self.new ≡ length self.old }
     {

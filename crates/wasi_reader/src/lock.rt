@@ -1,6 +1,7 @@
 //! What the owner and the worker of a read stream have under one lock.
 
-ghost use Rattle.std.specs.Prelude.{◌≡◌, ◌<◌, ◌+◌, None, IsSome, IfSome, IfNone, true, false, length};
+ghost use Rattle.std.specs.Prelude.{◌≡◌, ◌<◌, ◌+◌, None, IsSome, IfSome, IfNone, true, false};
+ghost use Rattle.std.specs.Prelude.{length};
 ghost use Rattle.wasi_pipes.specs.ReadState.{fresh_state};
 ghost use Rattle.wasi_reader.specs.declared.stage.Stage.TheVariants.{Open, Ended, Failed, Starved};
 ghost use Rattle.wasi_reader.specs.Knows.{nothing_yet, idle};
@@ -67,7 +68,8 @@ impl<N: Names> Locked<N> {
     /// The owner looks whether it needn't wait.
     pub fn poll_ready(&mut self, keys: &mut OwnerKeys<N>) -> bool
         ensures yes { result ≡ true → keys.new ≡ record keys.old { ready = true } }
-        ensures no { result ≡ false → (keys.new ≡ keys.old) × (keys.old.ready ≡ false) × (keys.old.stopped ≡ false) }
+        ensures no { result ≡ false → (keys.new ≡ keys.old) × (keys.old.ready ≡ false)
+            × (keys.old.stopped ≡ false) }
     {
         self.owner.agree(keys);
         let ready = self.core.is_ready();

@@ -26,7 +26,12 @@ impl<N: LedgerNames> Model for OwnerFacts<N> {
 
     ghost Value = { OwnerKnows };
 
-    ghost view = { λ facts. record { popped = facts.popped; ready = facts.ready; stopped = facts.stopped; heard = facts.heard } };
+    ghost view = { λ facts. record {
+      popped = facts.popped;
+      ready = facts.ready;
+      stopped = facts.stopped;
+      heard = facts.heard;
+    } };
 }
 
 /// What the owner knows, as the owner holds it.
@@ -43,14 +48,21 @@ impl<N: LedgerNames> Model for OwnerKeys<N> {
 
     ghost Value = { OwnerKnows };
 
-    ghost view = { λ keys. record { popped = keys.popped; ready = keys.ready; stopped = keys.stopped; heard = keys.heard } };
+    ghost view = { λ keys. record {
+      popped = keys.popped;
+      ready = keys.ready;
+      stopped = keys.stopped;
+      heard = keys.heard;
+    } };
 }
 
 impl<N: LedgerNames> OwnerFacts<N> {
     /// What is known of a new stream.
     pub(crate) fn open(blanks: OwnerBlanks) -> (OwnerFacts<N>, OwnerKeys<N>)
-        requires taken { (blanks.popped.name ≡ N.ledgers.popped) × (blanks.ready.name ≡ N.ledgers.ready) }
-        requires ended { (blanks.stopped.name ≡ N.ledgers.stopped) × (blanks.heard.name ≡ N.ledgers.heard) }
+        requires taken { (blanks.popped.name ≡ N.ledgers.popped)
+            × (blanks.ready.name ≡ N.ledgers.ready) }
+        requires ended { (blanks.stopped.name ≡ N.ledgers.stopped)
+            × (blanks.heard.name ≡ N.ledgers.heard) }
         ensures facts { result.0 ≡ nothing_yet }
         ensures keys { result.1 ≡ nothing_yet }
     {

@@ -58,7 +58,8 @@ impl<N: Names> Shared<N> {
     /// The owner looks whether it needn't wait.
     pub fn poll_ready<R: Wait>(&self, rt: &R, keys: &mut OwnerKeys<N>) -> bool
         ensures yes { result ≡ true → keys.new ≡ record keys.old { ready = true } }
-        ensures no { result ≡ false → (keys.new ≡ keys.old) × (keys.old.ready ≡ false) × (keys.old.stopped ≡ false) }
+        ensures no { result ≡ false → (keys.new ≡ keys.old) × (keys.old.ready ≡ false)
+            × (keys.old.stopped ≡ false) }
     {
         self.lock.lock(rt).poll_ready(keys)
     }

@@ -6,7 +6,8 @@ ghost use Rattle.wasi_spawn.specs.Start.{job_of, RefusedAs};
 ghost use Rattle.wasi_spawn.specs.Handles.{started_with};
 ghost use Rattle.wasi_streams.specs.declared.error.StreamError.TheVariants.{Closed};
 ghost use Rattle.wasi_reader.specs.Names.{ledgers_of};
-ghost use Rattle.wasi_reader.specs.Stream.{opened, outcome_of, IsReady, MayWait, Refilled, EndsReads, IsCut, IsMemory, HasRead, HasFinished};
+ghost use Rattle.wasi_reader.specs.Stream.{opened, outcome_of, IsReady, MayWait, Refilled};
+ghost use Rattle.wasi_reader.specs.Stream.{EndsReads, IsCut, IsMemory, HasRead, HasFinished};
 
 use crate::buffer::ReadBuffer;
 use crate::lock::Locked;
@@ -86,7 +87,8 @@ impl<S: Source + Drop + Send + 'static, N: Names + Send + Sync + 'static> AsyncR
         ensures rose { OnOk result (Rose (P.starts spawner.old) (P.starts spawner.new)) }
         ensures stayed { OnErr result (P.starts spawner.new ≡ P.starts spawner.old) }
         ensures back { IfErr result (λ e. job_of e ≡ reader) }
-        ensures refused { IfErr result (λ e. RefusedAs e (P.refusals spawner.old) (P.refusals spawner.new)) }
+        ensures refused { IfErr result (λ e. RefusedAs e (P.refusals spawner.old)
+            (P.refusals spawner.new)) }
     {
         let ReadParts {
             line,
@@ -277,7 +279,8 @@ fn start_worker<
     ensures rose { OnOk result (Rose (P.starts spawner.old) (P.starts spawner.new)) }
     ensures stayed { OnErr result (P.starts spawner.new ≡ P.starts spawner.old) }
     ensures back { IfErr result (λ e. job_of e ≡ worker.source) }
-    ensures refused { IfErr result (λ e. RefusedAs e (P.refusals spawner.old) (P.refusals spawner.new)) }
+    ensures refused { IfErr result (λ e. RefusedAs e (P.refusals spawner.old)
+        (P.refusals spawner.new)) }
 {
     match spawner.start(rt, alloc, worker) {
         Ok(handle) => Ok(handle),

@@ -55,7 +55,8 @@ impl<N: Names> WorkerSide<N> {
     fn offer<R: Wait>(&mut self, rt: &R, chunk: Bytes) -> Offered
         requires filled { 0 < length chunk }
         requires open { self.old.keys.stage ≡ Open }
-        ensures offered { HasOffered self.old.keys self.old.push chunk self.new.keys self.new.push result }
+        ensures offered { HasOffered self.old.keys self.old.push chunk self.new.keys self.new.push
+            result }
         ensures done { IsDone result }
     {
         let WorkerSide {
@@ -72,7 +73,8 @@ impl<N: Names> WorkerSide<N> {
     fn hand_on<R: Wait>(&mut self, rt: &R, buffer: &mut ReadBuffer, count: usize) -> Option<Stage>
         requires filled { (0 < count) × (count ≤ length buffer.old) }
         requires open { self.old.keys.stage ≡ Open }
-        ensures handed { HasHanded result (take count buffer.old) self.old.push.chunks self.new.push.chunks }
+        ensures handed { HasHanded result (take count buffer.old) self.old.push.chunks
+            self.new.push.chunks }
         ensures stage { self.new.keys.stage ≡ Open }
     {
         let Ok(chunk) = buffer.chunk(self.alloc, count) else {
@@ -108,7 +110,8 @@ fn step<S: Source, N: Names, R: Wait>(
     buffer: &mut ReadBuffer,
 ) -> Option<Stage>
     requires open { side.old.keys.stage ≡ Open }
-    ensures stepped { HasStepped result (S.reading source.old) (S.reading source.new) side.old.push.chunks side.new.push.chunks }
+    ensures stepped { HasStepped result (S.reading source.old) (S.reading source.new)
+        side.old.push.chunks side.new.push.chunks }
     ensures stage { side.new.keys.stage ≡ Open }
 {
     match buffer.fill(source) {
@@ -126,7 +129,8 @@ fn work<S: Source, N: Names, R: Wait>(
     buffer: &mut ReadBuffer,
 ) -> Stage
     requires begins { (side.old.keys ≡ idle) × (side.old.push.chunks ≡ []) }
-    ensures worked { Worked (S.reading source.old) side.new.push.chunks result (S.reading source.new) }
+    ensures worked { Worked (S.reading source.old) side.new.push.chunks result
+        (S.reading source.new) }
     ensures stage { side.new.keys.stage ≡ result }
 {
     for _ in rt.forever() {
@@ -144,7 +148,8 @@ fn work<S: Source, N: Names, R: Wait>(
 impl<S: Source + Drop + Send + 'static, N: Names + Send + Sync + 'static> Job for ReadWorker<S, N> {
     type Out = ReadEnd<S, N>;
 
-    ghost may_give = { λ job end. Worked (S.reading job.source) end.side.push.chunks end.stage (S.reading end.source) };
+    ghost may_give = { λ job end. Worked (S.reading job.source) end.side.push.chunks end.stage
+        (S.reading end.source) };
 
     fn run<R: Threads + Wait>(self, rt: &R) -> ReadEnd<S, N> {
         let ReadWorker {

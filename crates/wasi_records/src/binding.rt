@@ -100,7 +100,8 @@ impl Tcp2Socket {
         addr: IpSocketAddress,
     ) -> Result<Answer<()>, Refusal>
         requires { (W.seen world.old).ended ≡ false }
-        ensures asked { AsksFor (begin_bind_asks op self.old addr) (W.seen world.old) (W.seen world.new) (λ answer. (answer, self.new)) (outcome result) }
+        ensures asked { AsksFor (begin_bind_asks op self.old addr) (W.seen world.old)
+            (W.seen world.new) (λ answer. (answer, self.new)) (outcome result) }
         ensures none { MakesNone (W.seen world.old) (W.seen world.new) }
         ensures side { side_of self.new.inner ≡ side_of self.old.inner }
         ensures listening { self.new.listening ≡ self.old.listening }
@@ -115,8 +116,10 @@ impl Tcp2Socket {
     /// is kept after its last answered call, and the next poll goes on from there.
     pub fn poll_bind<W: World>(&mut self, world: &mut W) -> Result<Answer<()>, Refusal>
         requires { (W.seen world.old).ended ≡ false }
-        ensures asked { AsksFor (poll_bind_asks self.old) (W.seen world.old) (W.seen world.new) (λ answer. (answer, self.new)) (outcome result) }
-        ensures left { OnErr (outcome result) (Reaches (poll_bind_asks self.old) (poll_bind_asks self.new) (W.seen world.old) (W.seen world.new)) }
+        ensures asked { AsksFor (poll_bind_asks self.old) (W.seen world.old) (W.seen world.new)
+            (λ answer. (answer, self.new)) (outcome result) }
+        ensures left { OnErr (outcome result) (Reaches (poll_bind_asks self.old)
+            (poll_bind_asks self.new) (W.seen world.old) (W.seen world.new)) }
         ensures none { MakesNone (W.seen world.old) (W.seen world.new) }
         ensures side { side_of self.new.inner ≡ side_of self.old.inner }
         ensures listening { self.new.listening ≡ self.old.listening }
@@ -144,7 +147,8 @@ impl Tcp2Socket {
         requires nothing { self.old.in_progress ≡ InProgress.Nothing }
         requires going { is_going bind ≡ stays_going polled }
         ensures told { result ≡ polled }
-        ensures settled { self.new ≡ bind_settled (with_progress self.old (InProgress.Binding bind)) polled }
+        ensures settled { self.new ≡ bind_settled (with_progress self.old (InProgress.Binding bind))
+            polled }
     {
         match polled {
             Ok(Answer::Ready(())) => {

@@ -49,7 +49,8 @@ pub fn close_sides<W: World>(world: &mut W, records: &RecordList)
 /// Closes the network sockets that the records of these numbers hold.
 fn close_live<W: World>(world: &mut W, slots: &Slab<NumberedRecord>, keys: &BTreeMap<usize, usize>)
     requires { (W.seen world.old).ended ≡ true }
-    ensures closed { ClosesSides (W.seen world.old) (W.seen world.new) (held_in (records_of slots.now keys.now.entries)) }
+    ensures closed { ClosesSides (W.seen world.old) (W.seen world.new)
+        (held_in (records_of slots.now keys.now.entries)) }
     ensures ordered { IsOrdered nat_cmp keys.now }
 {
     for (number, slot) in keys.iter() {
@@ -60,7 +61,8 @@ fn close_live<W: World>(world: &mut W, slots: &Slab<NumberedRecord>, keys: &BTre
 /// Closes the network sockets that the record of this number holds, where it is in this slot.
 fn close_in<W: World>(world: &mut W, slots: &Slab<NumberedRecord>, slot: usize, number: usize)
     requires { (W.seen world.old).ended ≡ true }
-    ensures { ClosesMore (W.seen world.old) (W.seen world.new) (held_by (record_under slots.now slot number)) }
+    ensures { ClosesMore (W.seen world.old) (W.seen world.new)
+        (held_by (record_under slots.now slot number)) }
 {
     if let Some(record) = record_of(slots, slot, number) {
         close_record(world, record);

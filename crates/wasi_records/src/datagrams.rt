@@ -3,7 +3,11 @@
 ghost use Rattle.std.specs.Prelude.{◌≡◌, ◌+◌, ◌<◌, ◌^◌, true, false, Ok, length};
 ghost use Rattle.wasi_world.specs.Asks.{AsksFor, outcome};
 ghost use Rattle.socket_common.specs.Rounds.{is_going, stays_going};
-ghost use Rattle.wasi_records.specs.Datagrams.{has_streams, new_outgoing, is_sending, sends, permit_of, permitted, send_settled, send_counted, send_one_asks, refusal_told, send_next_asks, send_all, send_datagrams_asks, turn_sending, turn_outgoing, send_turned, turn_told, with_sending};
+ghost use Rattle.wasi_records.specs.Datagrams.{has_streams, new_outgoing, is_sending, sends};
+ghost use Rattle.wasi_records.specs.Datagrams.{permit_of, permitted, send_settled, send_counted};
+ghost use Rattle.wasi_records.specs.Datagrams.{send_one_asks, refusal_told, send_next_asks};
+ghost use Rattle.wasi_records.specs.Datagrams.{send_all, send_datagrams_asks, turn_sending};
+ghost use Rattle.wasi_records.specs.Datagrams.{turn_outgoing, send_turned, turn_told, with_sending};
 ghost use Rattle.wasi_records.specs.Stops.{host_outcome};
 ghost use Rattle.wasi_records.specs.Names.{next_name, names_after};
 ghost use Rattle.wasi_records.specs.Sides.{MakesNone};
@@ -122,7 +126,8 @@ pub enum Sending {
 /// The outgoing datagram stream of a socket (`outgoing-datagram-stream`).
 #[derive(Drop)]
 pub struct Outgoing {
-    /// How many datagrams the next send may have: 16 after a `check-send` that allowed them, until the next send.
+    /// How many datagrams the next send may have: 16 after a `check-send` that allowed them, until
+    /// the next send.
     pub permit: u8,
     pub sending: Sending,
 }
@@ -167,7 +172,8 @@ impl Outgoing {
         datagram: OutgoingDatagram,
     ) -> Result<(), Refusal>
         requires { (W.seen world.old).ended ≡ false }
-        ensures asked { AsksFor (send_one_asks op socket.old self.old datagram) (W.seen world.old) (W.seen world.new) (λ done. (done, (socket.new, self.new))) (outcome result) }
+        ensures asked { AsksFor (send_one_asks op socket.old self.old datagram) (W.seen world.old)
+            (W.seen world.new) (λ done. (done, (socket.new, self.new))) (outcome result) }
         ensures none { MakesNone (W.seen world.old) (W.seen world.new) }
         ensures side { socket.new.side ≡ socket.old.side }
     {
@@ -218,7 +224,9 @@ impl Outgoing {
     ) -> Result<Answer<()>, Refusal>
         requires open { (W.seen world.old).ended ≡ false }
         requires names { ids.old.next_part + 1 < 2 ^ 64 }
-        ensures asked { AsksFor (send_next_asks (next_name ids.old) socket.old self.old datagram self.old.sending) (W.seen world.old) (W.seen world.new) (λ answer. (answer, (socket.new, self.new))) (outcome result) }
+        ensures asked { AsksFor (send_next_asks (next_name ids.old) socket.old self.old datagram
+            self.old.sending) (W.seen world.old) (W.seen world.new)
+            (λ answer. (answer, (socket.new, self.new))) (outcome result) }
         ensures line { ids.new.line ≡ ids.old.line }
         ensures names { result ≡ Ok (Answer.Ready tt) → ids.new ≡ names_after ids.old }
         ensures none { MakesNone (W.seen world.old) (W.seen world.new) }
@@ -249,7 +257,9 @@ impl Outgoing {
     ) -> Result<u64, Refusal>
         requires open { (W.seen world.old).ended ≡ false }
         requires names { ids.old.next_part + length datagrams.items < 2 ^ 64 }
-        ensures asked { AsksFor (send_all 0 ids.old datagrams.items (socket.old, self.old)) (W.seen world.old) (W.seen world.new) (λ sent. (sent, (socket.new, self.new))) (outcome result) }
+        ensures asked { AsksFor (send_all 0 ids.old datagrams.items (socket.old, self.old))
+            (W.seen world.old) (W.seen world.new) (λ sent. (sent, (socket.new, self.new)))
+            (outcome result) }
         ensures line { ids.new.line ≡ ids.old.line }
         ensures none { MakesNone (W.seen world.old) (W.seen world.new) }
         ensures side { socket.new.side ≡ socket.old.side }
@@ -269,7 +279,8 @@ impl Outgoing {
     /// send.
     fn turn<W: World>(&mut self, world: &mut W, socket: &UdpSocket) -> Result<(), AllocError>
         requires { (W.seen world.old).ended ≡ false }
-        ensures asked { AsksFor (turn_sending socket.now self.old self.old.sending) (W.seen world.old) (W.seen world.new) (λ done. self.new) result }
+        ensures asked { AsksFor (turn_sending socket.now self.old self.old.sending)
+            (W.seen world.old) (W.seen world.new) (λ done. self.new) result }
         ensures none { MakesNone (W.seen world.old) (W.seen world.new) }
     {
         match mem::replace(&mut self.sending, Sending::Nothing) {
@@ -355,7 +366,9 @@ impl OpenUdp {
     ) -> Result<u64, SocketError>
         requires open { (W.seen world.old).ended ≡ false }
         requires names { ids.old.next_part + 255 < 2 ^ 64 }
-        ensures asked { AsksFor (send_datagrams_asks ids.old self.old self.old.outgoing datagrams.items) (W.seen world.old) (W.seen world.new) (λ sent. (sent, self.new)) (host_outcome result) }
+        ensures asked { AsksFor (send_datagrams_asks ids.old self.old self.old.outgoing
+            datagrams.items) (W.seen world.old) (W.seen world.new) (λ sent. (sent, self.new))
+            (host_outcome result) }
         ensures line { ids.new.line ≡ ids.old.line }
         ensures none { MakesNone (W.seen world.old) (W.seen world.new) }
         ensures side { self.new.inner.side ≡ self.old.inner.side }
@@ -377,7 +390,8 @@ impl OpenUdp {
     /// Polls the datagram in the background once, if there is one.
     pub fn turn_outgoing<W: World>(&mut self, world: &mut W) -> Result<(), AllocError>
         requires { (W.seen world.old).ended ≡ false }
-        ensures asked { AsksFor (turn_outgoing self.old self.old.outgoing) (W.seen world.old) (W.seen world.new) (λ done. self.new) result }
+        ensures asked { AsksFor (turn_outgoing self.old self.old.outgoing) (W.seen world.old)
+            (W.seen world.new) (λ done. self.new) result }
         ensures none { MakesNone (W.seen world.old) (W.seen world.new) }
         ensures side { self.new.inner.side ≡ self.old.inner.side }
     {

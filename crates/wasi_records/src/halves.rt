@@ -8,7 +8,8 @@ ghost use Rattle.wasi_world.specs.Asks.{AsksFor};
 ghost use Rattle.wasi_tcp.specs.Socket.{side_of};
 ghost use Rattle.wasi_records.specs.Releasing.{give_streams_up};
 ghost use Rattle.wasi_records.specs.Stops.{host_outcome};
-ghost use Rattle.wasi_records.specs.Halves.{is_working, works_in, turn_record, reader_asks, writer_asks, flush_asks};
+ghost use Rattle.wasi_records.specs.Halves.{is_working, works_in, turn_record, reader_asks};
+ghost use Rattle.wasi_records.specs.Halves.{writer_asks, flush_asks};
 ghost use Rattle.wasi_records.specs.Shutdowns.{shut_receive, shut_send, shut_streams, shut_record};
 ghost use Rattle.wasi_records.specs.Sides.{MakesNone};
 
@@ -36,14 +37,16 @@ fn is_working(writer: &WriteState) -> bool
 impl Streams {
     fn shut_receive<W: World>(&mut self, world: &mut W, op: OpId) -> Result<(), AllocError>
         requires { (W.seen world.old).ended ≡ false }
-        ensures asked { AsksFor (shut_receive op self.old) (W.seen world.old) (W.seen world.new) (λ done. (done, self.new)) result }
+        ensures asked { AsksFor (shut_receive op self.old) (W.seen world.old) (W.seen world.new)
+            (λ done. (done, self.new)) result }
     {
         self.reader.shutdown(world, op)
     }
 
     fn shut_send<W: World>(&mut self, world: &mut W, op: OpId) -> Result<(), AllocError>
         requires { (W.seen world.old).ended ≡ false }
-        ensures asked { AsksFor (shut_send op self.old) (W.seen world.old) (W.seen world.new) (λ done. (done, self.new)) result }
+        ensures asked { AsksFor (shut_send op self.old) (W.seen world.old) (W.seen world.new)
+            (λ done. (done, self.new)) result }
     {
         self.writer.shutdown(world, op)
     }
@@ -56,7 +59,8 @@ impl Streams {
         how: ShutdownType,
     ) -> Result<(), AllocError>
         requires { (W.seen world.old).ended ≡ false }
-        ensures asked { AsksFor (shut_streams op how self.old) (W.seen world.old) (W.seen world.new) (λ done. (done, self.new)) result }
+        ensures asked { AsksFor (shut_streams op how self.old) (W.seen world.old) (W.seen world.new)
+            (λ done. (done, self.new)) result }
     {
         match how {
             ShutdownType::Receive => self.shut_receive(world, op),
@@ -72,7 +76,8 @@ impl Streams {
     /// its rest unwritten.
     pub(crate) fn give_up<W: World>(self, world: &mut W, op: OpId) -> Result<(), AllocError>
         requires { (W.seen world.old).ended ≡ false }
-        ensures asked { AsksFor (give_streams_up op (Some self)) (W.seen world.old) (W.seen world.new) (λ done. done) result }
+        ensures asked { AsksFor (give_streams_up op (Some self)) (W.seen world.old)
+            (W.seen world.new) (λ done. done) result }
     {
         let Streams { mut reader, writer } = self;
         reader.shutdown(world, op)?;
@@ -91,7 +96,9 @@ impl Tcp2Socket {
         len: usize,
     ) -> Result<Octets, StreamError>
         requires { (W.seen world.old).ended ≡ false }
-        ensures asked { AsksFor (reader_asks (λ r. read_state_asks op r len) self.old) (W.seen world.old) (W.seen world.new) (λ answer. (answer, self.new)) (stream_outcome result) }
+        ensures asked { AsksFor (reader_asks (λ r. read_state_asks op r len) self.old)
+            (W.seen world.old) (W.seen world.new) (λ answer. (answer, self.new))
+            (stream_outcome result) }
         ensures side { side_of self.new.inner ≡ side_of self.old.inner }
         ensures listening { self.new.listening ≡ self.old.listening }
     {
@@ -104,7 +111,8 @@ impl Tcp2Socket {
     /// The permit: how many bytes may be written to the connection.
     pub fn check_write<W: World>(&mut self, world: &mut W, op: OpId) -> Result<usize, StreamError>
         requires { (W.seen world.old).ended ≡ false }
-        ensures asked { AsksFor (writer_asks (check_write_asks op) self.old) (W.seen world.old) (W.seen world.new) (λ answer. (answer, self.new)) (stream_outcome result) }
+        ensures asked { AsksFor (writer_asks (check_write_asks op) self.old) (W.seen world.old)
+            (W.seen world.new) (λ answer. (answer, self.new)) (stream_outcome result) }
         ensures side { side_of self.new.inner ≡ side_of self.old.inner }
         ensures listening { self.new.listening ≡ self.old.listening }
     {
@@ -122,7 +130,9 @@ impl Tcp2Socket {
         bytes: Octets,
     ) -> Result<(), StreamError>
         requires { (W.seen world.old).ended ≡ false }
-        ensures asked { AsksFor (writer_asks (λ w. write_state_asks op w bytes) self.old) (W.seen world.old) (W.seen world.new) (λ answer. (answer, self.new)) (stream_outcome result) }
+        ensures asked { AsksFor (writer_asks (λ w. write_state_asks op w bytes) self.old)
+            (W.seen world.old) (W.seen world.new) (λ answer. (answer, self.new))
+            (stream_outcome result) }
         ensures side { side_of self.new.inner ≡ side_of self.old.inner }
         ensures listening { self.new.listening ≡ self.old.listening }
     {
@@ -140,7 +150,9 @@ impl Tcp2Socket {
         bytes: Octets,
     ) -> (Result<(), StreamError>, bool)
         requires { (W.seen world.old).ended ≡ false }
-        ensures asked { AsksFor (writer_asks (λ w. write_state_asks op w bytes) self.old) (W.seen world.old) (W.seen world.new) (λ answer. (answer, self.new)) (stream_outcome result.0) }
+        ensures asked { AsksFor (writer_asks (λ w. write_state_asks op w bytes) self.old)
+            (W.seen world.old) (W.seen world.new) (λ answer. (answer, self.new))
+            (stream_outcome result.0) }
         ensures begins { result.1 ≡ (not (works_in self.old.streams) && works_in self.new.streams) }
         ensures side { side_of self.new.inner ≡ side_of self.old.inner }
         ensures listening { self.new.listening ≡ self.old.listening }
@@ -154,7 +166,8 @@ impl Tcp2Socket {
     /// Returns the error with which the writer is closed, if it is; asks nothing.
     pub fn flush<W: World>(&mut self, world: &mut W) -> Result<(), StreamError>
         requires { (W.seen world.old).ended ≡ false }
-        ensures asked { AsksFor (writer_asks flush_asks self.old) (W.seen world.old) (W.seen world.new) (λ answer. (answer, self.new)) (stream_outcome result) }
+        ensures asked { AsksFor (writer_asks flush_asks self.old) (W.seen world.old)
+            (W.seen world.new) (λ answer. (answer, self.new)) (stream_outcome result) }
         ensures side { side_of self.new.inner ≡ side_of self.old.inner }
         ensures listening { self.new.listening ≡ self.old.listening }
     {
@@ -177,7 +190,8 @@ impl Tcp2Socket {
     /// Polls the write in progress once, if there is one.
     pub fn turn<W: World>(&mut self, world: &mut W) -> Result<(), AllocError>
         requires { (W.seen world.old).ended ≡ false }
-        ensures asked { AsksFor (turn_record self.old) (W.seen world.old) (W.seen world.new) (λ done. self.new) result }
+        ensures asked { AsksFor (turn_record self.old) (W.seen world.old) (W.seen world.new)
+            (λ done. self.new) result }
         ensures inner { self.new.inner ≡ self.old.inner }
         ensures listening { self.new.listening ≡ self.old.listening }
         ensures none { MakesNone (W.seen world.old) (W.seen world.new) }
@@ -197,7 +211,8 @@ impl Tcp2Socket {
         how: ShutdownType,
     ) -> Result<(), SocketError>
         requires { (W.seen world.old).ended ≡ false }
-        ensures asked { AsksFor (shut_record op how self.old self.old.streams) (W.seen world.old) (W.seen world.new) (λ done. (done, self.new)) (host_outcome result) }
+        ensures asked { AsksFor (shut_record op how self.old self.old.streams) (W.seen world.old)
+            (W.seen world.new) (λ done. (done, self.new)) (host_outcome result) }
         ensures side { side_of self.new.inner ≡ side_of self.old.inner }
         ensures listening { self.new.listening ≡ self.old.listening }
     {

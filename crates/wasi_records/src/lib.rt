@@ -1,5 +1,5 @@
-//! The records that handles name: TCP and UDP sockets of 0.2 with their streams, lookups and pipes, what each asks of the network
-//! and what it is afterwards, and the list of records by number.
+//! The records that handles name: TCP and UDP sockets of 0.2 with their streams, lookups and pipes,
+//! what each asks of the network and what it is afterwards, and the list of records by number.
 #![tactic(auto)]
 
 pub mod binding;

@@ -3,7 +3,10 @@
 ghost use Rattle.std.specs.Prelude.{◌≡◌, ◌+◌, ◌<◌, ◌^◌, true, false, IfOk, Ok, OnErr};
 ghost use Rattle.wasi_world.specs.Asks.{AsksFor, outcome};
 ghost use Rattle.wasi_records.specs.Stops.{host_outcome};
-ghost use Rattle.wasi_records.specs.Listening.{with_listening, listen_told, listen_settled, poll_listen_asks, listen_once, begin_listen_asks, accept_record_asks, with_accepted_in, ids_of, side_in, give_up_asks, unclosed, Accepted, TakesOne};
+ghost use Rattle.wasi_records.specs.Listening.{with_listening, listen_told, listen_settled};
+ghost use Rattle.wasi_records.specs.Listening.{poll_listen_asks, listen_once, begin_listen_asks};
+ghost use Rattle.wasi_records.specs.Listening.{accept_record_asks, with_accepted_in, ids_of};
+ghost use Rattle.wasi_records.specs.Listening.{side_in, give_up_asks, unclosed, Accepted, TakesOne};
 ghost use Rattle.wasi_records.specs.Sides.{Balances, given_by};
 
 use crate::binding::{AsyncOperation, InProgress};
@@ -58,7 +61,8 @@ impl Listening {
     /// in hand, and closes a connection that isn't taken. Out of memory nothing was asked.
     fn give_up<W: World>(self, world: &mut W) -> Result<(), AllocError>
         requires { (W.seen world.old).ended ≡ false }
-        ensures asked { AsksFor (give_up_asks self) (W.seen world.old) (W.seen world.new) (λ done. done) result }
+        ensures asked { AsksFor (give_up_asks self) (W.seen world.old) (W.seen world.new)
+            (λ done. done) result }
         ensures unasked { OnErr result (W.seen world.new ≡ W.seen world.old) }
     {
         match self {
@@ -75,7 +79,8 @@ impl Tcp2Socket {
     /// that listens already: `InvalidState`.
     pub fn begin_listen<W: World>(&mut self, world: &mut W, op: OpId) -> Result<Answer<()>, Refusal>
         requires { (W.seen world.old).ended ≡ false }
-        ensures asked { AsksFor (begin_listen_asks op self.old) (W.seen world.old) (W.seen world.new) (λ answer. (answer, self.new)) (outcome result) }
+        ensures asked { AsksFor (begin_listen_asks op self.old) (W.seen world.old)
+            (W.seen world.new) (λ answer. (answer, self.new)) (outcome result) }
         ensures sides { Balances (W.seen world.old) (W.seen world.new) 0 self.old self.new }
     {
         if !self.inner.is_bound(world, op)? {
@@ -87,7 +92,8 @@ impl Tcp2Socket {
     /// Begins a listen of a socket that is bound, and polls it once.
     fn listen_once<W: World>(&mut self, world: &mut W, op: OpId) -> Result<Answer<()>, Refusal>
         requires { (W.seen world.old).ended ≡ false }
-        ensures asked { AsksFor (listen_once op self.old self.old.listening) (W.seen world.old) (W.seen world.new) (λ answer. (answer, self.new)) (outcome result) }
+        ensures asked { AsksFor (listen_once op self.old self.old.listening) (W.seen world.old)
+            (W.seen world.new) (λ answer. (answer, self.new)) (outcome result) }
         ensures sides { Balances (W.seen world.old) (W.seen world.new) 0 self.old self.new }
     {
         match &self.listening {
@@ -105,7 +111,8 @@ impl Tcp2Socket {
     /// operation. No listen in progress, or a socket that has a network socket: `InvalidState`.
     pub fn poll_listen<W: World>(&mut self, world: &mut W) -> Result<Answer<()>, Refusal>
         requires { (W.seen world.old).ended ≡ false }
-        ensures asked { AsksFor (poll_listen_asks self.old) (W.seen world.old) (W.seen world.new) (λ answer. (answer, self.new)) (outcome result) }
+        ensures asked { AsksFor (poll_listen_asks self.old) (W.seen world.old) (W.seen world.new)
+            (λ answer. (answer, self.new)) (outcome result) }
         ensures sides { Balances (W.seen world.old) (W.seen world.new) 0 self.old self.new }
     {
         // The socket has no network socket of its own while its listen is in progress.
@@ -155,9 +162,11 @@ impl Tcp2Socket {
     ) -> Result<Answer<TcpSocket>, Refusal>
         requires open { (W.seen world.old).ended ≡ false }
         requires names { ids.old.next_part + 1 < 2 ^ 64 }
-        ensures asked { AsksFor (accept_record_asks ids.old self.old) (W.seen world.old) (W.seen world.new) (λ answer. (answer, self.new)) (outcome result) }
+        ensures asked { AsksFor (accept_record_asks ids.old self.old) (W.seen world.old)
+            (W.seen world.new) (λ answer. (answer, self.new)) (outcome result) }
         ensures ids { ids.new ≡ ids_of self.old.listening ids.old }
-        ensures sides { Balances (W.seen world.old) (W.seen world.new) (given_by result) self.old self.new }
+        ensures sides { Balances (W.seen world.old) (W.seen world.new) (given_by result) self.old
+            self.new }
         ensures accepted { Accepted result }
     {
         match &mut self.listening {
@@ -175,9 +184,11 @@ impl Tcp2Socket {
     /// socket that isn't closed yet.
     pub fn give_listening_up<W: World>(&mut self, world: &mut W) -> Result<(), AllocError>
         requires { (W.seen world.old).ended ≡ false }
-        ensures asked { AsksFor (give_up_asks self.old.listening) (W.seen world.old) (W.seen world.new) (λ done. done) result }
+        ensures asked { AsksFor (give_up_asks self.old.listening) (W.seen world.old)
+            (W.seen world.new) (λ done. done) result }
         ensures ok { IfOk result (λ done. self.new ≡ with_listening self.old Listening.Not) }
-        ensures err { OnErr result (self.new ≡ with_listening self.old (unclosed (side_in self.old.listening))) }
+        ensures err { OnErr result (self.new ≡ with_listening self.old
+            (unclosed (side_in self.old.listening))) }
         ensures unasked { OnErr result (W.seen world.new ≡ W.seen world.old) }
     {
         let left = self.listening.unclosed();

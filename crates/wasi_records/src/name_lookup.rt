@@ -1,10 +1,13 @@
-//! Lookups of host names: how one is begun and asked about, and how the addresses that it found are handed out.
+//! Lookups of host names: how one is begun and asked about, and how the addresses that it found are
+//! handed out.
 
-ghost use Rattle.std.specs.Prelude.{◌≡◌, ◌∷◌, [], ◌<◌, IfOk, OnErr, false, map, Ok, OnOk, true, length};
+ghost use Rattle.std.specs.Prelude.{◌≡◌, ◌∷◌, [], ◌<◌, IfOk, OnErr, false, map, Ok, OnOk, true};
+ghost use Rattle.std.specs.Prelude.{length};
 ghost use Rattle.wasi_addr.specs.Address.{canonical};
 ghost use Rattle.wasi_world.specs.Asks.{AsksFor};
 ghost use Rattle.wasi_world.specs.Typed.{ask_lookup};
-ghost use Rattle.wasi_records.specs.NameLookup.{is_looking, lookup_told, next_of, turn_lookup, poll_lookup_asks, unresolvable};
+ghost use Rattle.wasi_records.specs.NameLookup.{is_looking, lookup_told, next_of, turn_lookup};
+ghost use Rattle.wasi_records.specs.NameLookup.{poll_lookup_asks, unresolvable};
 ghost use Rattle.wasi_records.specs.Sides.{MakesNone};
 
 use std::alloc::{AllocError, Global};
@@ -65,7 +68,8 @@ impl LookupOp {
     /// Asks the network once. Out of memory nothing was asked.
     fn poll<W: World>(&self, world: &mut W) -> Result<Polled<IpList>, AllocError>
         requires { (W.seen world.old).ended ≡ false }
-        ensures asked { AsksFor (ask_lookup self.now.id self.now.host) (W.seen world.old) (W.seen world.new) (λ answer. answer) result }
+        ensures asked { AsksFor (ask_lookup self.now.id self.now.host) (W.seen world.old)
+            (W.seen world.new) (λ answer. answer) result }
         ensures unasked { OnErr result (W.seen world.new ≡ W.seen world.old) }
         ensures none { MakesNone (W.seen world.old) (W.seen world.new) }
     {
@@ -89,7 +93,8 @@ impl Lookup {
     /// Begins a lookup and asks the network once. Out of memory there is no lookup.
     pub fn begin<W: World>(world: &mut W, id: OpId, host: NameText) -> Result<Lookup, AllocError>
         requires { (W.seen world.old).ended ≡ false }
-        ensures asked { AsksFor (poll_lookup_asks (record { id = id; host = host })) (W.seen world.old) (W.seen world.new) (λ now. now) result }
+        ensures asked { AsksFor (poll_lookup_asks (record { id = id; host = host }))
+            (W.seen world.old) (W.seen world.new) (λ now. now) result }
         ensures none { MakesNone (W.seen world.old) (W.seen world.new) }
     {
         let op = LookupOp { id, host };
@@ -101,7 +106,8 @@ impl Lookup {
 
     /// Keeps what the network answered to a lookup in progress.
     fn settle(&mut self, answer: Polled<IpList>)
-        ensures { (op : LookupOp) → self.old ≡ Lookup.InProgress op → self.new ≡ lookup_told op answer }
+        ensures { (op : LookupOp) → self.old ≡ Lookup.InProgress op
+            → self.new ≡ lookup_told op answer }
     {
         match answer {
             Polled::Pending => (),
@@ -114,7 +120,8 @@ impl Lookup {
     /// lookup stays as it was.
     pub fn turn<W: World>(&mut self, world: &mut W) -> Result<(), AllocError>
         requires { (W.seen world.old).ended ≡ false }
-        ensures asked { AsksFor (turn_lookup self.old) (W.seen world.old) (W.seen world.new) (λ done. self.new) result }
+        ensures asked { AsksFor (turn_lookup self.old) (W.seen world.old) (W.seen world.new)
+            (λ done. self.new) result }
         ensures err { OnErr result (self.new ≡ self.old) }
         ensures unasked { OnErr result (W.seen world.new ≡ W.seen world.old) }
         ensures none { MakesNone (W.seen world.old) (W.seen world.new) }

@@ -2,7 +2,9 @@
 
 ghost use Rattle.std.specs.Prelude.{◌≡◌, ◌+◌, ◌<◌, ◌^◌, false};
 ghost use Rattle.wasi_world.specs.Asks.{AsksFor};
-ghost use Rattle.wasi_records.specs.Looks.{wait_writer, waits_told, look_told, over_told, read_told, ready_socket, ready_listening, ready_reader, ready_writer, socket_ids, socket_begins};
+ghost use Rattle.wasi_records.specs.Looks.{wait_writer, waits_told, look_told, over_told};
+ghost use Rattle.wasi_records.specs.Looks.{read_told, ready_socket, ready_listening, ready_reader};
+ghost use Rattle.wasi_records.specs.Looks.{ready_writer, socket_ids, socket_begins};
 ghost use Rattle.wasi_records.specs.Stops.{fault_outcome};
 ghost use Rattle.wasi_records.specs.Listening.{ids_of};
 ghost use Rattle.wasi_records.specs.Sides.{Balances};
@@ -66,7 +68,8 @@ impl Tcp2Socket {
     pub fn socket_ready<W: World>(&mut self, world: &mut W, ids: &mut Ids) -> Result<bool, Fault>
         requires open { (W.seen world.old).ended ≡ false }
         requires names { ids.old.next_part + 1 < 2 ^ 64 }
-        ensures asked { AsksFor (ready_socket ids.old self.old) (W.seen world.old) (W.seen world.new) (λ ready. (ready, self.new)) (fault_outcome result) }
+        ensures asked { AsksFor (ready_socket ids.old self.old) (W.seen world.old)
+            (W.seen world.new) (λ ready. (ready, self.new)) (fault_outcome result) }
         ensures ids { ids.new ≡ socket_ids self.old ids.old (is_connect self.old.in_progress) }
         ensures sides { Balances (W.seen world.old) (W.seen world.new) 0 self.old self.new }
     {
@@ -85,7 +88,9 @@ impl Tcp2Socket {
     fn accept_ready<W: World>(&mut self, world: &mut W, ids: &mut Ids) -> Result<bool, Fault>
         requires open { (W.seen world.old).ended ≡ false }
         requires names { ids.old.next_part + 1 < 2 ^ 64 }
-        ensures asked { AsksFor (ready_listening ids.old self.old self.old.listening) (W.seen world.old) (W.seen world.new) (λ ready. (ready, self.new)) (fault_outcome result) }
+        ensures asked { AsksFor (ready_listening ids.old self.old self.old.listening)
+            (W.seen world.old) (W.seen world.new) (λ ready. (ready, self.new))
+            (fault_outcome result) }
         ensures ids { ids.new ≡ ids_of self.old.listening ids.old }
         ensures sides { Balances (W.seen world.old) (W.seen world.new) 0 self.old self.new }
     {
@@ -100,7 +105,8 @@ impl Tcp2Socket {
     /// Whether there is something to read from the connection: bytes, the end or a code.
     pub fn input_ready<W: World>(&mut self, world: &mut W, op: OpId) -> Result<bool, Fault>
         requires { (W.seen world.old).ended ≡ false }
-        ensures asked { AsksFor (ready_reader op self.old self.old.streams) (W.seen world.old) (W.seen world.new) (λ ready. (ready, self.new)) (fault_outcome result) }
+        ensures asked { AsksFor (ready_reader op self.old self.old.streams) (W.seen world.old)
+            (W.seen world.new) (λ ready. (ready, self.new)) (fault_outcome result) }
         ensures inner { self.new.inner ≡ self.old.inner }
         ensures listening { self.new.listening ≡ self.old.listening }
     {
@@ -113,7 +119,8 @@ impl Tcp2Socket {
     /// Whether something may be written to the connection; an error is ready, too.
     pub fn output_ready<W: World>(&mut self, world: &mut W, op: OpId) -> Result<bool, Fault>
         requires { (W.seen world.old).ended ≡ false }
-        ensures asked { AsksFor (ready_writer op self.old self.old.streams) (W.seen world.old) (W.seen world.new) (λ ready. (ready, self.new)) (fault_outcome result) }
+        ensures asked { AsksFor (ready_writer op self.old self.old.streams) (W.seen world.old)
+            (W.seen world.new) (λ ready. (ready, self.new)) (fault_outcome result) }
         ensures inner { self.new.inner ≡ self.old.inner }
         ensures listening { self.new.listening ≡ self.old.listening }
     {
@@ -131,7 +138,8 @@ impl Tcp2Socket {
         op: OpId,
     ) -> Result<Answer<()>, AllocError>
         requires { (W.seen world.old).ended ≡ false }
-        ensures asked { AsksFor (wait_writer op self.old self.old.streams) (W.seen world.old) (W.seen world.new) (λ answer. (answer, self.new)) result }
+        ensures asked { AsksFor (wait_writer op self.old self.old.streams) (W.seen world.old)
+            (W.seen world.new) (λ answer. (answer, self.new)) result }
         ensures inner { self.new.inner ≡ self.old.inner }
         ensures listening { self.new.listening ≡ self.old.listening }
     {

@@ -5,7 +5,11 @@ ghost use Rattle.wasi_world.specs.Asks.{AsksFor, outcome};
 ghost use Rattle.socket_common.specs.Rounds.{is_going, stays_going};
 ghost use Rattle.wasi_records.specs.Stops.{host_outcome};
 ghost use Rattle.wasi_records.specs.Names.{next_name};
-ghost use Rattle.wasi_records.specs.Receiving.{would_receive, is_receiving, receives, fetch_asks, fetch_names, taken, receive_next_asks, receive_all, receive_datagrams_asks, look_incoming, look_names, turn_receiving, turn_incoming, receive_settled, receive_wants};
+ghost use Rattle.wasi_records.specs.Receiving.{would_receive, is_receiving, receives, fetch_asks};
+ghost use Rattle.wasi_records.specs.Receiving.{fetch_names, taken, receive_next_asks, receive_all};
+ghost use Rattle.wasi_records.specs.Receiving.{receive_datagrams_asks, look_incoming, look_names};
+ghost use Rattle.wasi_records.specs.Receiving.{turn_receiving, turn_incoming, receive_settled};
+ghost use Rattle.wasi_records.specs.Receiving.{receive_wants};
 ghost use Rattle.wasi_records.specs.Sides.{MakesNone};
 
 use crate::datagrams::{Incoming, PendingReceive, Receiving};
@@ -57,7 +61,9 @@ impl Incoming {
     ) -> Result<(), AllocError>
         requires open { (W.seen world.old).ended ≡ false }
         requires names { ids.old.next_part + 1 < 2 ^ 64 }
-        ensures asked { AsksFor (fetch_asks (next_name ids.old) self.old.receiving (socket.old, self.old)) (W.seen world.old) (W.seen world.new) (λ done. (socket.new, self.new)) result }
+        ensures asked { AsksFor (fetch_asks (next_name ids.old) self.old.receiving
+            (socket.old, self.old)) (W.seen world.old) (W.seen world.new)
+            (λ done. (socket.new, self.new)) result }
         ensures names { ids.new ≡ fetch_names self.old.receiving ids.old }
         ensures none { MakesNone (W.seen world.old) (W.seen world.new) }
         ensures side { socket.new.side ≡ socket.old.side }
@@ -115,7 +121,9 @@ impl Incoming {
     ) -> Result<Answer<IncomingDatagram>, Refusal>
         requires open { (W.seen world.old).ended ≡ false }
         requires names { ids.old.next_part + 1 < 2 ^ 64 }
-        ensures asked { AsksFor (receive_next_asks (next_name ids.old) (socket.old, self.old)) (W.seen world.old) (W.seen world.new) (λ answer. (answer, (socket.new, self.new))) (outcome result) }
+        ensures asked { AsksFor (receive_next_asks (next_name ids.old) (socket.old, self.old))
+            (W.seen world.old) (W.seen world.new) (λ answer. (answer, (socket.new, self.new)))
+            (outcome result) }
         ensures names { ids.new ≡ fetch_names self.old.receiving ids.old }
         ensures none { MakesNone (W.seen world.old) (W.seen world.new) }
         ensures side { socket.new.side ≡ socket.old.side }
@@ -139,7 +147,9 @@ impl Incoming {
     ) -> Result<IncomingDatagrams, Refusal>
         requires open { (W.seen world.old).ended ≡ false }
         requires names { ids.old.next_part + most < 2 ^ 64 }
-        ensures asked { AsksFor (receive_all most 65536 ids.old [] (socket.old, self.old)) (W.seen world.old) (W.seen world.new) (λ received. (received, (socket.new, self.new))) (outcome result) }
+        ensures asked { AsksFor (receive_all most 65536 ids.old [] (socket.old, self.old))
+            (W.seen world.old) (W.seen world.new) (λ received. (received, (socket.new, self.new)))
+            (outcome result) }
         ensures line { ids.new.line ≡ ids.old.line }
         ensures none { MakesNone (W.seen world.old) (W.seen world.new) }
         ensures side { socket.new.side ≡ socket.old.side }
@@ -172,7 +182,8 @@ impl Incoming {
     /// Polls the receive in progress once, if there is one.
     fn turn<W: World>(&mut self, world: &mut W) -> Result<(), AllocError>
         requires { (W.seen world.old).ended ≡ false }
-        ensures asked { AsksFor (turn_receiving self.old self.old.receiving) (W.seen world.old) (W.seen world.new) (λ done. self.new) result }
+        ensures asked { AsksFor (turn_receiving self.old self.old.receiving) (W.seen world.old)
+            (W.seen world.new) (λ done. self.new) result }
         ensures none { MakesNone (W.seen world.old) (W.seen world.new) }
     {
         match mem::replace(&mut self.receiving, Receiving::Nothing) {
@@ -202,8 +213,8 @@ impl OpenUdp {
 
     /// Takes datagrams from the incoming stream (`incoming-datagram-stream.receive`): at most this
     /// many, at most 16, and until their lengths, with one more for each, reach 65,536. A code is
-    /// returned where no datagram comes before it. Takes memory for as many datagrams as it may hand
-    /// out, before the first.
+    /// returned where no datagram comes before it. Takes memory for as many datagrams as it may
+    /// hand out, before the first.
     pub fn receive_datagrams<W: World>(
         &mut self,
         alloc: Global,
@@ -213,7 +224,9 @@ impl OpenUdp {
     ) -> Result<IncomingDatagrams, SocketError>
         requires open { (W.seen world.old).ended ≡ false }
         requires names { ids.old.next_part + 16 < 2 ^ 64 }
-        ensures asked { AsksFor (receive_datagrams_asks ids.old most self.old self.old.incoming) (W.seen world.old) (W.seen world.new) (λ received. (received, self.new)) (host_outcome result) }
+        ensures asked { AsksFor (receive_datagrams_asks ids.old most self.old self.old.incoming)
+            (W.seen world.old) (W.seen world.new) (λ received. (received, self.new))
+            (host_outcome result) }
         ensures line { ids.new.line ≡ ids.old.line }
         ensures none { MakesNone (W.seen world.old) (W.seen world.new) }
         ensures side { self.new.inner.side ≡ self.old.inner.side }
@@ -234,7 +247,8 @@ impl OpenUdp {
     ) -> Result<(), AllocError>
         requires open { (W.seen world.old).ended ≡ false }
         requires names { ids.old.next_part + 1 < 2 ^ 64 }
-        ensures asked { AsksFor (look_incoming ids.old self.old self.old.incoming) (W.seen world.old) (W.seen world.new) (λ done. self.new) result }
+        ensures asked { AsksFor (look_incoming ids.old self.old self.old.incoming)
+            (W.seen world.old) (W.seen world.new) (λ done. self.new) result }
         ensures names { ids.new ≡ look_names ids.old self.old.incoming }
         ensures none { MakesNone (W.seen world.old) (W.seen world.new) }
         ensures side { self.new.inner.side ≡ self.old.inner.side }
@@ -248,7 +262,8 @@ impl OpenUdp {
     /// Polls the receive in progress on its incoming stream once, if there is one.
     pub fn turn_incoming<W: World>(&mut self, world: &mut W) -> Result<(), AllocError>
         requires { (W.seen world.old).ended ≡ false }
-        ensures asked { AsksFor (turn_incoming self.old self.old.incoming) (W.seen world.old) (W.seen world.new) (λ done. self.new) result }
+        ensures asked { AsksFor (turn_incoming self.old self.old.incoming) (W.seen world.old)
+            (W.seen world.new) (λ done. self.new) result }
         ensures none { MakesNone (W.seen world.old) (W.seen world.new) }
         ensures side { self.new.inner.side ≡ self.old.inner.side }
     {

@@ -1,6 +1,7 @@
 //! The records of a store, by number.
 
-ghost use Rattle.std.specs.Prelude.{◌≡◌, ◌∷◌, [], ◌++◌, true, is_some, length, option_map, None, IfSome, IfNone, OnOk};
+ghost use Rattle.std.specs.Prelude.{◌≡◌, ◌∷◌, [], ◌++◌, true, is_some, length, option_map, None};
+ghost use Rattle.std.specs.Prelude.{IfSome, IfNone, OnOk};
 ghost use Rattle.std.specs.Borrow.{LendsIf, sem};
 ghost use Rattle.slab.specs.Slab.{get};
 ghost use Rattle.wasi_records.specs.Numbered.{record_gone, no_items, item_at, or_gone, with_item};
@@ -37,7 +38,10 @@ impl Model for RecordList {
 
     ghost use Rattle.wasi_records.specs.RecordMap.{numbered, record_in, has_room, IsSound};
 
-    ghost view = { λ l. record { items = numbered (record_in l.slots l.keys.entries) l.next; room = has_room l.slots l.keys.entries l.next } };
+    ghost view = { λ l. record {
+      items = numbered (record_in l.slots l.keys.entries) l.next;
+      room = has_room l.slots l.keys.entries l.next;
+    } };
 
     ghost invariant = { λ l. IsSound l.slots l.keys.entries l.next };
 }
@@ -73,7 +77,8 @@ impl RecordList {
             return Err(AllocError);
         }
         self.slots.reserve(1)?;
-        // The map has no reserve, so an entry keeps the room of the next record. It goes into this slot, unless one is given back first.
+        // The map has no reserve, so an entry keeps the room of the next record. It goes into this
+        // slot, unless one is given back first.
         self.keys.insert(self.next, self.slots.vacant_key())?;
         Ok(())
     }
@@ -102,7 +107,8 @@ impl RecordList {
     /// The record of this number, to be changed. One that was given back or wasn't made is `None`.
     /// Takes no memory.
     pub fn get_mut(&mut self, place: usize) -> Option<&mut Record>
-        ensures* writes_back { sem 𝓛 (LendsIf records_row record_row self.entry result (with_item self.old place) self.old) }
+        ensures* writes_back { sem 𝓛 (LendsIf records_row record_row self.entry result
+            (with_item self.old place) self.old) }
         ensures item { or_gone (option_map (λ r. r.now) result) ≡ item_at self.old.items place }
     {
         let slot = self.slot_of(place);
@@ -117,7 +123,8 @@ impl RecordList {
 
     /// `get_mut`, with a slot hint that saves the search where the record is in that slot.
     pub(crate) fn get_mut_in(&mut self, slot: usize, place: usize) -> Option<&mut Record>
-        ensures* writes_back { sem 𝓛 (LendsIf records_row record_row self.entry result (with_item self.old place) self.old) }
+        ensures* writes_back { sem 𝓛 (LendsIf records_row record_row self.entry result
+            (with_item self.old place) self.old) }
         ensures item { or_gone (option_map (λ r. r.now) result) ≡ item_at self.old.items place }
     {
         let found = find(&self.slots, &self.keys, slot, place)?;
@@ -169,7 +176,8 @@ fn find(
     number: usize,
 ) -> Option<usize>
     ensures found { IfSome result (λ slot. is_some (of_number number (get slots.now slot)) ≡ true) }
-    ensures none { IfNone result (of_number number (get slots.now (key_at keys.now.entries number)) ≡ None) }
+    ensures none { IfNone result (of_number number (get slots.now (key_at keys.now.entries number))
+        ≡ None) }
 {
     if is_in(slots, first, number) {
         return Some(first);

@@ -2,9 +2,17 @@
 
 ghost use Rattle.std.specs.Prelude.{◌≡◌, option_map, Some};
 ghost use Rattle.std.specs.Borrow.{LendsIf, sem};
-ghost use Rattle.wasi_records.specs.Records.{tcp2_of, tcp2_at, with_tcp2, udp2_of, udp2_at, with_udp2, open_at, with_open, lookup_of, lookup_at, with_lookup_at, input_pipe_of, input_pipe_at, with_input_pipe, output_pipe_of, output_pipe_at, with_output_pipe};
-ghost use Rattle.wasi_records.specs.Rows.{record_row, records_row, socket_row, udp_row, open_row, lookup_row, input_pipe_row, output_pipe_row};
-ghost use Rattle.wasi_records.specs.declared.records.Record.TheVariants.{Tcp2, Udp2, Lookup as LookupRecord, InputPipe as ReadPipe, OutputPipe as WrittenPipe};
+ghost use Rattle.wasi_records.specs.Records.{tcp2_of, tcp2_at, with_tcp2, udp2_of, udp2_at};
+ghost use Rattle.wasi_records.specs.Records.{with_udp2, open_at, with_open, lookup_of, lookup_at};
+ghost use Rattle.wasi_records.specs.Records.{with_lookup_at, input_pipe_of, input_pipe_at};
+ghost use Rattle.wasi_records.specs.Records.{with_input_pipe, output_pipe_of, output_pipe_at};
+ghost use Rattle.wasi_records.specs.Records.{with_output_pipe};
+ghost use Rattle.wasi_records.specs.Rows.{record_row, records_row, socket_row, udp_row, open_row};
+ghost use Rattle.wasi_records.specs.Rows.{lookup_row, input_pipe_row, output_pipe_row};
+ghost use Rattle.wasi_records.specs.declared.records.Record.TheVariants.{Tcp2, Udp2};
+ghost use Rattle.wasi_records.specs.declared.records.Record.TheVariants.{Lookup as LookupRecord};
+ghost use Rattle.wasi_records.specs.declared.records.Record.TheVariants.{InputPipe as ReadPipe};
+ghost use Rattle.wasi_records.specs.declared.records.Record.TheVariants.{OutputPipe as WrittenPipe};
 
 use crate::name_lookup::Lookup;
 use crate::record_list::RecordList;
@@ -43,7 +51,8 @@ impl Record {
 
     /// This record as a TCP socket, to be changed, if it is one.
     fn as_tcp2_mut(&mut self) -> Option<&mut Tcp2Socket>
-        ensures* writes_back { sem 𝓛 (LendsIf record_row socket_row self.entry result Tcp2 self.old) }
+        ensures* writes_back { sem 𝓛 (LendsIf record_row socket_row self.entry result Tcp2
+            self.old) }
         ensures value { option_map (λ r. r.now) result ≡ tcp2_of (Some self.old) }
     {
         match self {
@@ -85,7 +94,8 @@ impl Record {
 
     /// This record as a lookup, to be changed, if it is one.
     fn as_lookup_mut(&mut self) -> Option<&mut Lookup>
-        ensures* writes_back { sem 𝓛 (LendsIf record_row lookup_row self.entry result LookupRecord self.old) }
+        ensures* writes_back { sem 𝓛 (LendsIf record_row lookup_row self.entry result LookupRecord
+            self.old) }
         ensures value { option_map (λ l. l.now) result ≡ lookup_of (Some self.old) }
     {
         match self {
@@ -106,7 +116,8 @@ impl Record {
 
     /// This record as a readable pipe, to be changed, if it is one.
     fn as_input_pipe_mut(&mut self) -> Option<&mut InputPipeCore>
-        ensures* writes_back { sem 𝓛 (LendsIf record_row input_pipe_row self.entry result ReadPipe self.old) }
+        ensures* writes_back { sem 𝓛 (LendsIf record_row input_pipe_row self.entry result ReadPipe
+            self.old) }
         ensures value { option_map (λ p. p.now) result ≡ input_pipe_of (Some self.old) }
     {
         match self {
@@ -127,7 +138,8 @@ impl Record {
 
     /// This record as a writable pipe, to be changed, if it is one.
     fn as_output_pipe_mut(&mut self) -> Option<&mut OutputPipe>
-        ensures* writes_back { sem 𝓛 (LendsIf record_row output_pipe_row self.entry result WrittenPipe self.old) }
+        ensures* writes_back { sem 𝓛 (LendsIf record_row output_pipe_row self.entry result
+            WrittenPipe self.old) }
         ensures value { option_map (λ p. p.now) result ≡ output_pipe_of (Some self.old) }
     {
         match self {
@@ -146,7 +158,8 @@ pub fn tcp2(records: &RecordList, place: usize) -> Option<&Tcp2Socket>
 
 /// The TCP socket of this number, to be changed, if that record is one.
 pub fn tcp2_mut(records: &mut RecordList, place: usize) -> Option<&mut Tcp2Socket>
-    ensures* writes_back { sem 𝓛 (LendsIf records_row socket_row records.entry result (with_tcp2 records.old place) records.old) }
+    ensures* writes_back { sem 𝓛 (LendsIf records_row socket_row records.entry result
+        (with_tcp2 records.old place) records.old) }
     ensures item { option_map (λ r. r.now) result ≡ tcp2_at records.old.items place }
 {
     let slot = records.slot_of(place);
@@ -155,7 +168,8 @@ pub fn tcp2_mut(records: &mut RecordList, place: usize) -> Option<&mut Tcp2Socke
 
 /// [`tcp2_mut`], with a slot hint that saves the search.
 pub fn tcp2_mut_in(records: &mut RecordList, slot: usize, place: usize) -> Option<&mut Tcp2Socket>
-    ensures* writes_back { sem 𝓛 (LendsIf records_row socket_row records.entry result (with_tcp2 records.old place) records.old) }
+    ensures* writes_back { sem 𝓛 (LendsIf records_row socket_row records.entry result
+        (with_tcp2 records.old place) records.old) }
     ensures item { option_map (λ r. r.now) result ≡ tcp2_at records.old.items place }
 {
     records.get_mut_in(slot, place)?.as_tcp2_mut()
@@ -170,7 +184,8 @@ pub fn udp2(records: &RecordList, place: usize) -> Option<&Udp2Socket>
 
 /// The UDP socket of this number, to be changed, if that record is one.
 pub fn udp2_mut(records: &mut RecordList, place: usize) -> Option<&mut Udp2Socket>
-    ensures* writes_back { sem 𝓛 (LendsIf records_row udp_row records.entry result (with_udp2 records.old place) records.old) }
+    ensures* writes_back { sem 𝓛 (LendsIf records_row udp_row records.entry result
+        (with_udp2 records.old place) records.old) }
     ensures item { option_map (λ u. u.now) result ≡ udp2_at records.old.items place }
 {
     let slot = records.slot_of(place);
@@ -183,7 +198,8 @@ pub(crate) fn udp2_mut_in(
     slot: usize,
     place: usize,
 ) -> Option<&mut Udp2Socket>
-    ensures* writes_back { sem 𝓛 (LendsIf records_row udp_row records.entry result (with_udp2 records.old place) records.old) }
+    ensures* writes_back { sem 𝓛 (LendsIf records_row udp_row records.entry result
+        (with_udp2 records.old place) records.old) }
     ensures item { option_map (λ u. u.now) result ≡ udp2_at records.old.items place }
 {
     records.get_mut_in(slot, place)?.as_udp2_mut()
@@ -198,7 +214,8 @@ pub fn open_udp(records: &RecordList, place: usize) -> Option<&OpenUdp>
 
 /// The UDP socket of this number, to be changed, if that record is one and open.
 pub fn open_udp_mut(records: &mut RecordList, place: usize) -> Option<&mut OpenUdp>
-    ensures* writes_back { sem 𝓛 (LendsIf records_row open_row records.entry result (with_open records.old place) records.old) }
+    ensures* writes_back { sem 𝓛 (LendsIf records_row open_row records.entry result
+        (with_open records.old place) records.old) }
     ensures item { option_map (λ o. o.now) result ≡ open_at records.old.items place }
 {
     let slot = records.slot_of(place);
@@ -207,7 +224,8 @@ pub fn open_udp_mut(records: &mut RecordList, place: usize) -> Option<&mut OpenU
 
 /// [`open_udp_mut`], with a slot hint that saves the search.
 pub fn open_udp_mut_in(records: &mut RecordList, slot: usize, place: usize) -> Option<&mut OpenUdp>
-    ensures* writes_back { sem 𝓛 (LendsIf records_row open_row records.entry result (with_open records.old place) records.old) }
+    ensures* writes_back { sem 𝓛 (LendsIf records_row open_row records.entry result
+        (with_open records.old place) records.old) }
     ensures item { option_map (λ o. o.now) result ≡ open_at records.old.items place }
 {
     udp2_mut_in(records, slot, place)?.as_open_mut()
@@ -222,7 +240,8 @@ pub fn lookup(records: &RecordList, place: usize) -> Option<&Lookup>
 
 /// The lookup of this number, to be changed, if that record is one.
 pub fn lookup_mut(records: &mut RecordList, place: usize) -> Option<&mut Lookup>
-    ensures* writes_back { sem 𝓛 (LendsIf records_row lookup_row records.entry result (with_lookup_at records.old place) records.old) }
+    ensures* writes_back { sem 𝓛 (LendsIf records_row lookup_row records.entry result
+        (with_lookup_at records.old place) records.old) }
     ensures item { option_map (λ l. l.now) result ≡ lookup_at records.old.items place }
 {
     let slot = records.slot_of(place);
@@ -231,7 +250,8 @@ pub fn lookup_mut(records: &mut RecordList, place: usize) -> Option<&mut Lookup>
 
 /// [`lookup_mut`], with a slot hint that saves the search.
 pub fn lookup_mut_in(records: &mut RecordList, slot: usize, place: usize) -> Option<&mut Lookup>
-    ensures* writes_back { sem 𝓛 (LendsIf records_row lookup_row records.entry result (with_lookup_at records.old place) records.old) }
+    ensures* writes_back { sem 𝓛 (LendsIf records_row lookup_row records.entry result
+        (with_lookup_at records.old place) records.old) }
     ensures item { option_map (λ l. l.now) result ≡ lookup_at records.old.items place }
 {
     records.get_mut_in(slot, place)?.as_lookup_mut()
@@ -246,7 +266,8 @@ pub fn input_pipe(records: &RecordList, place: usize) -> Option<&InputPipeCore>
 
 /// The readable pipe of this number, to be changed, if that record is one.
 pub fn input_pipe_mut(records: &mut RecordList, place: usize) -> Option<&mut InputPipeCore>
-    ensures* writes_back { sem 𝓛 (LendsIf records_row input_pipe_row records.entry result (with_input_pipe records.old place) records.old) }
+    ensures* writes_back { sem 𝓛 (LendsIf records_row input_pipe_row records.entry result
+        (with_input_pipe records.old place) records.old) }
     ensures item { option_map (λ p. p.now) result ≡ input_pipe_at records.old.items place }
 {
     records.get_mut(place)?.as_input_pipe_mut()
@@ -261,7 +282,8 @@ pub fn output_pipe(records: &RecordList, place: usize) -> Option<&OutputPipe>
 
 /// The writable pipe of this number, to be changed, if that record is one.
 pub fn output_pipe_mut(records: &mut RecordList, place: usize) -> Option<&mut OutputPipe>
-    ensures* writes_back { sem 𝓛 (LendsIf records_row output_pipe_row records.entry result (with_output_pipe records.old place) records.old) }
+    ensures* writes_back { sem 𝓛 (LendsIf records_row output_pipe_row records.entry result
+        (with_output_pipe records.old place) records.old) }
     ensures item { option_map (λ p. p.now) result ≡ output_pipe_at records.old.items place }
 {
     records.get_mut(place)?.as_output_pipe_mut()

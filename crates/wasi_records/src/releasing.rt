@@ -2,7 +2,8 @@
 
 ghost use Rattle.std.specs.Prelude.{◌≡◌, not, OnOk, OnErr, false, None};
 ghost use Rattle.wasi_world.specs.Asks.{AsksFor};
-ghost use Rattle.wasi_records.specs.Releasing.{give_streams_up, close_record, release_asks, release_connection};
+ghost use Rattle.wasi_records.specs.Releasing.{give_streams_up, close_record, release_asks};
+ghost use Rattle.wasi_records.specs.Releasing.{release_connection};
 ghost use Rattle.wasi_records.specs.Sides.{Balances, holds};
 ghost use Rattle.wasi_records.specs.declared.listening.Listening.{Listening};
 
@@ -16,7 +17,8 @@ impl Tcp2Socket {
     /// and then its network socket. A write in progress ends with its rest unwritten.
     pub fn release<W: World>(&mut self, world: &mut W, op: OpId) -> Result<(), AllocError>
         requires { (W.seen world.old).ended ≡ false }
-        ensures asked { AsksFor (release_asks op self.old) (W.seen world.old) (W.seen world.new) (λ done. (done, self.new)) result }
+        ensures asked { AsksFor (release_asks op self.old) (W.seen world.old) (W.seen world.new)
+            (λ done. (done, self.new)) result }
         ensures sides { Balances (W.seen world.old) (W.seen world.new) 0 self.old self.new }
         ensures none { OnOk result (holds self.new ≡ 0) }
     {
@@ -29,7 +31,8 @@ impl Tcp2Socket {
     fn release_connection<W: World>(&mut self, world: &mut W, op: OpId) -> Result<(), AllocError>
         requires open { (W.seen world.old).ended ≡ false }
         requires not { self.old.listening ≡ Listening.Not }
-        ensures asked { AsksFor (release_connection op self.old) (W.seen world.old) (W.seen world.new) (λ done. (done, self.new)) result }
+        ensures asked { AsksFor (release_connection op self.old) (W.seen world.old)
+            (W.seen world.new) (λ done. (done, self.new)) result }
         ensures sides { Balances (W.seen world.old) (W.seen world.new) 0 self.old self.new }
         ensures none { OnOk result (holds self.new ≡ 0) }
     {
@@ -40,7 +43,8 @@ impl Tcp2Socket {
     /// Releases the open halves.
     fn give_streams_up<W: World>(&mut self, world: &mut W, op: OpId) -> Result<(), AllocError>
         requires { (W.seen world.old).ended ≡ false }
-        ensures asked { AsksFor (give_streams_up op self.old.streams) (W.seen world.old) (W.seen world.new) (λ done. done) result }
+        ensures asked { AsksFor (give_streams_up op self.old.streams) (W.seen world.old)
+            (W.seen world.new) (λ done. done) result }
         ensures state { self.new ≡ record self.old { streams = None } }
     {
         match self.streams.take() {
@@ -53,7 +57,8 @@ impl Tcp2Socket {
     fn close<W: World>(&mut self, world: &mut W, op: OpId) -> Result<(), AllocError>
         requires open { (W.seen world.old).ended ≡ false }
         requires not { self.old.listening ≡ Listening.Not }
-        ensures asked { AsksFor (close_record op self.old) (W.seen world.old) (W.seen world.new) (λ done. (done, self.new)) result }
+        ensures asked { AsksFor (close_record op self.old) (W.seen world.old) (W.seen world.new)
+            (λ done. (done, self.new)) result }
         ensures err { OnErr result (self.new ≡ self.old) }
         ensures unasked { OnErr result (W.seen world.new ≡ W.seen world.old) }
         ensures none { OnOk result (holds self.new ≡ 0) }

@@ -1,11 +1,14 @@
-//! A TCP socket as the guest of the 0.2 interface has it: its record, its connect and its addresses.
+//! A TCP socket as the guest of the 0.2 interface has it: its record, its connect and its
+//! addresses.
 
 ghost use Rattle.std.specs.Prelude.{◌≡◌, false, Ok};
 ghost use Rattle.wasi_world.specs.Asks.{AsksFor, outcome};
 ghost use Rattle.wasi_tcp.specs.Socket.{side_of};
 ghost use Rattle.wasi_records.specs.Stops.{host_outcome};
 ghost use Rattle.wasi_records.specs.Sides.{Balances};
-ghost use Rattle.wasi_records.specs.Sockets.{begin_connect_asks, poll_connect_asks, connect_told, connect_settled, opened, tell_local_asks, tell_remote_asks, new_record};
+ghost use Rattle.wasi_records.specs.Sockets.{begin_connect_asks, poll_connect_asks, connect_told};
+ghost use Rattle.wasi_records.specs.Sockets.{connect_settled, opened, tell_local_asks};
+ghost use Rattle.wasi_records.specs.Sockets.{tell_remote_asks, new_record};
 
 use crate::binding::{AsyncOperation, InProgress};
 use crate::error::SocketError;
@@ -25,10 +28,12 @@ pub struct Streams {
 /// listening, and its streams once they were made.
 #[derive(Drop)]
 pub struct Tcp2Socket {
-    // First, since each turn looks here: fields lie in this order, and a record is several cache lines long.
+    // First, since each turn looks here: fields lie in this order, and a record is several cache
+    // lines long.
     pub streams: Option<Streams>,
     pub inner: TcpSocket,
-    /// The network socket that it was made with, also once that is closed: its handles are marked with it.
+    /// The network socket that it was made with, also once that is closed: its handles are marked
+    /// with it.
     pub side: Option<Sock>,
     pub in_progress: InProgress,
     pub listening: Listening,
@@ -57,7 +62,8 @@ impl Tcp2Socket {
         addr: IpSocketAddress,
     ) -> Result<(), Refusal>
         requires { (W.seen world.old).ended ≡ false }
-        ensures asked { AsksFor (begin_connect_asks op self.old addr) (W.seen world.old) (W.seen world.new) (λ done. (done, self.new)) (outcome result) }
+        ensures asked { AsksFor (begin_connect_asks op self.old addr) (W.seen world.old)
+            (W.seen world.new) (λ done. (done, self.new)) (outcome result) }
         ensures side { side_of self.new.inner ≡ side_of self.old.inner }
         ensures listening { self.new.listening ≡ self.old.listening }
     {
@@ -70,7 +76,8 @@ impl Tcp2Socket {
     /// Connected or refused, it is in progress no more.
     pub fn poll_connect<W: World>(&mut self, world: &mut W) -> Result<(), SocketError>
         requires { (W.seen world.old).ended ≡ false }
-        ensures asked { AsksFor (poll_connect_asks self.old) (W.seen world.old) (W.seen world.new) (λ done. (done, self.new)) (host_outcome result) }
+        ensures asked { AsksFor (poll_connect_asks self.old) (W.seen world.old) (W.seen world.new)
+            (λ done. (done, self.new)) (host_outcome result) }
         ensures sides { Balances (W.seen world.old) (W.seen world.new) 0 self.old self.new }
     {
         let polled = self.inner.poll_finish_connect(world);
@@ -128,7 +135,8 @@ impl Tcp2Socket {
         op: OpId,
     ) -> Result<IpSocketAddress, Refusal>
         requires { (W.seen world.old).ended ≡ false }
-        ensures asked { AsksFor (tell_local_asks op self.old) (W.seen world.old) (W.seen world.new) (λ told. (told, self.new)) (outcome result) }
+        ensures asked { AsksFor (tell_local_asks op self.old) (W.seen world.old) (W.seen world.new)
+            (λ told. (told, self.new)) (outcome result) }
         ensures side { side_of self.new.inner ≡ side_of self.old.inner }
         ensures listening { self.new.listening ≡ self.old.listening }
     {
@@ -143,7 +151,8 @@ impl Tcp2Socket {
         op: OpId,
     ) -> Result<IpSocketAddress, Refusal>
         requires { (W.seen world.old).ended ≡ false }
-        ensures asked { AsksFor (tell_remote_asks op self.old) (W.seen world.old) (W.seen world.new) (λ told. (told, self.new)) (outcome result) }
+        ensures asked { AsksFor (tell_remote_asks op self.old) (W.seen world.old) (W.seen world.new)
+            (λ told. (told, self.new)) (outcome result) }
         ensures side { side_of self.new.inner ≡ side_of self.old.inner }
         ensures listening { self.new.listening ≡ self.old.listening }
     {

@@ -9,7 +9,11 @@ ghost use Rattle.wasi_records.specs.Records.{open_of};
 ghost use Rattle.wasi_records.specs.Rows.{udp_row, open_row};
 ghost use Rattle.wasi_udp.specs.Create.{create_cancel_asks};
 ghost use Rattle.wasi_records.specs.Sides.{HoldsFewer, MakesNone, one_if_some};
-ghost use Rattle.wasi_records.specs.Udp.{udp_side, udp_holds, poll_create_asks, udp_create_settled, udp_create_done, is_udp_idle, is_udp_bound, begin_udp_bind_asks, poll_udp_bind_asks, udp_bind_settled, with_udp_progress, udp_local_asks, close_udp_asks, opened_udp};
+ghost use Rattle.wasi_records.specs.Udp.{udp_side, udp_holds, poll_create_asks, udp_create_settled};
+ghost use Rattle.wasi_records.specs.Udp.{udp_create_done, is_udp_idle, is_udp_bound};
+ghost use Rattle.wasi_records.specs.Udp.{begin_udp_bind_asks, poll_udp_bind_asks, udp_bind_settled};
+ghost use Rattle.wasi_records.specs.Udp.{with_udp_progress, udp_local_asks, close_udp_asks};
+ghost use Rattle.wasi_records.specs.Udp.{opened_udp};
 ghost use Rattle.wasi_records.specs.declared.udp.Udp2Socket.TheVariants.{Open};
 
 use crate::datagrams::{Incoming, Outgoing};
@@ -57,8 +61,10 @@ impl PendingCreate {
     /// Gives the create up: its network socket is closed. Out of memory nothing was asked.
     pub fn cancel<W: World>(&self, world: &mut W) -> Result<(), AllocError>
         requires { (W.seen world.old).ended ≡ false }
-        ensures asked { AsksFor (create_cancel_asks self.now) (W.seen world.old) (W.seen world.new) (λ done. done) result }
-        ensures closed { IfOk result (λ done. HoldsFewer (W.seen world.old) (W.seen world.new) 1 0) }
+        ensures asked { AsksFor (create_cancel_asks self.now) (W.seen world.old) (W.seen world.new)
+            (λ done. done) result }
+        ensures closed { IfOk result (λ done. HoldsFewer (W.seen world.old) (W.seen world.new) 1
+            0) }
         ensures unasked { OnErr result (W.seen world.new ≡ W.seen world.old) }
     {
         self.create.cancel(world)
@@ -137,7 +143,8 @@ impl UdpInProgress {
 /// streams.
 #[derive(Drop)]
 pub struct OpenUdp {
-    // These come first, since each turn looks here: fields lie in this order, and a record is several cache lines long.
+    // These come first, since each turn looks here: fields lie in this order, and a record is
+    // several cache lines long.
     pub inner: UdpSocket,
     /// Its incoming datagram stream, while that one is live.
     pub incoming: Option<Incoming>,
@@ -208,9 +215,12 @@ impl Udp2Socket {
     /// after its last answered call, and the next poll goes on from there.
     pub fn poll_create<W: World>(&mut self, world: &mut W) -> Result<Answer<()>, Refusal>
         requires { (W.seen world.old).ended ≡ false }
-        ensures asked { AsksFor (poll_create_asks self.old) (W.seen world.old) (W.seen world.new) (λ answer. (answer, self.new)) (outcome result) }
-        ensures left { OnErr (outcome result) (Reaches (poll_create_asks self.old) (poll_create_asks self.new) (W.seen world.old) (W.seen world.new)) }
-        ensures held { HoldsFewer (W.seen world.old) (W.seen world.new) (udp_holds self.old) (udp_holds self.new) }
+        ensures asked { AsksFor (poll_create_asks self.old) (W.seen world.old) (W.seen world.new)
+            (λ answer. (answer, self.new)) (outcome result) }
+        ensures left { OnErr (outcome result) (Reaches (poll_create_asks self.old)
+            (poll_create_asks self.new) (W.seen world.old) (W.seen world.new)) }
+        ensures held { HoldsFewer (W.seen world.old) (W.seen world.new) (udp_holds self.old)
+            (udp_holds self.new) }
     {
         let side = self.side();
         match mem::replace(self, Udp2Socket::Closed(side)) {
@@ -267,8 +277,10 @@ impl Udp2Socket {
     /// asked, and it stays as it was.
     pub fn close<W: World>(&mut self, world: &mut W, op: OpId) -> Result<(), AllocError>
         requires { (W.seen world.old).ended ≡ false }
-        ensures asked { AsksFor (close_udp_asks op self.old) (W.seen world.old) (W.seen world.new) (λ done. (done, self.new)) result }
-        ensures held { HoldsFewer (W.seen world.old) (W.seen world.new) (udp_holds self.old) (udp_holds self.new) }
+        ensures asked { AsksFor (close_udp_asks op self.old) (W.seen world.old) (W.seen world.new)
+            (λ done. (done, self.new)) result }
+        ensures held { HoldsFewer (W.seen world.old) (W.seen world.new) (udp_holds self.old)
+            (udp_holds self.new) }
         ensures err { OnErr result (self.new ≡ self.old) }
         ensures unasked { OnErr result (W.seen world.new ≡ W.seen world.old) }
     {
@@ -291,7 +303,8 @@ impl OpenUdp {
         addr: IpSocketAddress,
     ) -> Result<Answer<()>, Refusal>
         requires { (W.seen world.old).ended ≡ false }
-        ensures asked { AsksFor (begin_udp_bind_asks op self.old addr) (W.seen world.old) (W.seen world.new) (λ answer. (answer, self.new)) (outcome result) }
+        ensures asked { AsksFor (begin_udp_bind_asks op self.old addr) (W.seen world.old)
+            (W.seen world.new) (λ answer. (answer, self.new)) (outcome result) }
         ensures none { MakesNone (W.seen world.old) (W.seen world.new) }
         ensures side { self.new.inner.side ≡ self.old.inner.side }
     {
@@ -305,8 +318,10 @@ impl OpenUdp {
     /// is kept after its last answered call, and the next poll goes on from there.
     pub fn poll_bind<W: World>(&mut self, world: &mut W) -> Result<Answer<()>, Refusal>
         requires { (W.seen world.old).ended ≡ false }
-        ensures asked { AsksFor (poll_udp_bind_asks self.old) (W.seen world.old) (W.seen world.new) (λ answer. (answer, self.new)) (outcome result) }
-        ensures left { OnErr (outcome result) (Reaches (poll_udp_bind_asks self.old) (poll_udp_bind_asks self.new) (W.seen world.old) (W.seen world.new)) }
+        ensures asked { AsksFor (poll_udp_bind_asks self.old) (W.seen world.old) (W.seen world.new)
+            (λ answer. (answer, self.new)) (outcome result) }
+        ensures left { OnErr (outcome result) (Reaches (poll_udp_bind_asks self.old)
+            (poll_udp_bind_asks self.new) (W.seen world.old) (W.seen world.new)) }
         ensures none { MakesNone (W.seen world.old) (W.seen world.new) }
         ensures side { self.new.inner.side ≡ self.old.inner.side }
     {
@@ -333,7 +348,8 @@ impl OpenUdp {
         requires nothing { self.old.in_progress ≡ UdpInProgress.Nothing }
         requires going { is_going bind ≡ stays_going polled }
         ensures told { result ≡ polled }
-        ensures settled { self.new ≡ udp_bind_settled (with_udp_progress self.old (UdpInProgress.Binding bind)) polled }
+        ensures settled { self.new ≡ udp_bind_settled (with_udp_progress self.old
+            (UdpInProgress.Binding bind)) polled }
     {
         match polled {
             Ok(Answer::Ready(())) => {
@@ -360,7 +376,8 @@ impl OpenUdp {
         op: OpId,
     ) -> Result<IpSocketAddress, Refusal>
         requires { (W.seen world.old).ended ≡ false }
-        ensures asked { AsksFor (udp_local_asks op self.old) (W.seen world.old) (W.seen world.new) (λ told. (told, self.new)) (outcome result) }
+        ensures asked { AsksFor (udp_local_asks op self.old) (W.seen world.old) (W.seen world.new)
+            (λ told. (told, self.new)) (outcome result) }
         ensures side { self.new.inner.side ≡ self.old.inner.side }
     {
         self.inner.local_address(world, op)

@@ -3,7 +3,9 @@
 ghost use Rattle.std.specs.Prelude.{◌≡◌, true, false, None, OnErr, Some};
 ghost use Rattle.wasi_world.specs.Asks.{AsksFor, Reaches, outcome};
 ghost use Rattle.socket_common.specs.Rounds.{is_going, stays_going};
-ghost use Rattle.wasi_records.specs.Datagrams.{with_streams, udp_connect_settled, poll_udp_connect_asks, streams_to, begin_streams_asks};
+ghost use Rattle.wasi_records.specs.Datagrams.{with_streams, udp_connect_settled};
+ghost use Rattle.wasi_records.specs.Datagrams.{poll_udp_connect_asks, streams_to};
+ghost use Rattle.wasi_records.specs.Datagrams.{begin_streams_asks};
 ghost use Rattle.wasi_records.specs.Sides.{MakesNone};
 
 use crate::datagrams::{Incoming, Outgoing, Receiving};
@@ -70,7 +72,8 @@ impl OpenUdp {
         remote: Option<IpSocketAddress>,
     ) -> Result<Answer<()>, Refusal>
         requires { (W.seen world.old).ended ≡ false }
-        ensures asked { AsksFor (begin_streams_asks op self.old remote) (W.seen world.old) (W.seen world.new) (λ answer. (answer, self.new)) (outcome result) }
+        ensures asked { AsksFor (begin_streams_asks op self.old remote) (W.seen world.old)
+            (W.seen world.new) (λ answer. (answer, self.new)) (outcome result) }
         ensures none { MakesNone (W.seen world.old) (W.seen world.new) }
         ensures side { self.new.inner.side ≡ self.old.inner.side }
     {
@@ -91,7 +94,8 @@ impl OpenUdp {
         addr: IpSocketAddress,
     ) -> Result<Answer<()>, Refusal>
         requires { (W.seen world.old).ended ≡ false }
-        ensures asked { AsksFor (streams_to op self.old (Some addr)) (W.seen world.old) (W.seen world.new) (λ answer. (answer, self.new)) (outcome result) }
+        ensures asked { AsksFor (streams_to op self.old (Some addr)) (W.seen world.old)
+            (W.seen world.new) (λ answer. (answer, self.new)) (outcome result) }
         ensures none { MakesNone (W.seen world.old) (W.seen world.new) }
         ensures side { self.new.inner.side ≡ self.old.inner.side }
     {
@@ -103,7 +107,8 @@ impl OpenUdp {
     /// Takes the remote address away, if the socket has one, and makes the streams.
     fn disconnect<W: World>(&mut self, world: &mut W, op: OpId) -> Result<Answer<()>, Refusal>
         requires { (W.seen world.old).ended ≡ false }
-        ensures asked { AsksFor (streams_to op self.old None) (W.seen world.old) (W.seen world.new) (λ answer. (answer, self.new)) (outcome result) }
+        ensures asked { AsksFor (streams_to op self.old None) (W.seen world.old) (W.seen world.new)
+            (λ answer. (answer, self.new)) (outcome result) }
         ensures none { MakesNone (W.seen world.old) (W.seen world.new) }
         ensures side { self.new.inner.side ≡ self.old.inner.side }
     {
@@ -119,8 +124,10 @@ impl OpenUdp {
     /// after its last answered call, and the next poll goes on from there.
     pub fn poll_connect<W: World>(&mut self, world: &mut W) -> Result<Answer<()>, Refusal>
         requires { (W.seen world.old).ended ≡ false }
-        ensures asked { AsksFor (poll_udp_connect_asks self.old) (W.seen world.old) (W.seen world.new) (λ answer. (answer, self.new)) (outcome result) }
-        ensures left { OnErr (outcome result) (Reaches (poll_udp_connect_asks self.old) (poll_udp_connect_asks self.new) (W.seen world.old) (W.seen world.new)) }
+        ensures asked { AsksFor (poll_udp_connect_asks self.old) (W.seen world.old)
+            (W.seen world.new) (λ answer. (answer, self.new)) (outcome result) }
+        ensures left { OnErr (outcome result) (Reaches (poll_udp_connect_asks self.old)
+            (poll_udp_connect_asks self.new) (W.seen world.old) (W.seen world.new)) }
         ensures none { MakesNone (W.seen world.old) (W.seen world.new) }
         ensures side { self.new.inner.side ≡ self.old.inner.side }
     {

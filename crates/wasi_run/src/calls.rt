@@ -8,7 +8,8 @@ ghost use Rattle.wasi_records.specs.Stops.{fault_outcome, host_outcome};
 ghost use Rattle.wasi_host.specs.Machine.{own_of, socket_at, udp_socket_at};
 ghost use Rattle.wasi_host.specs.KnownSides.{KnowsSides};
 ghost use Rattle.wasi_host.specs.Views.{SameView, state_of};
-ghost use Rattle.wasi_machine.specs.Machine.{without_code, first_ids, machine_asks, set_chosen, is_guest_call, call_asks, context_at, context_for};
+ghost use Rattle.wasi_machine.specs.Machine.{without_code, first_ids, machine_asks, set_chosen};
+ghost use Rattle.wasi_machine.specs.Machine.{is_guest_call, call_asks, context_at, context_for};
 ghost use Rattle.wasi_p2.specs.Udp.{set_udp_option_on};
 ghost use Rattle.wasi_steps.specs.Settings.{chosen, udp_chosen, udp_opt};
 
@@ -42,8 +43,10 @@ pub fn do_step<W: World>(
     step: Step,
 ) -> Result<Reply, AllocError>
     requires { (W.seen world.old).ended ≡ false }
-    ensures asked { AsksFor (machine_asks contexts.now machine.old line step) (W.seen world.old) (W.seen world.new) (λ reply. (reply, machine.new)) result }
-    ensures sides { KnowsSides (W.seen world.old) machine.old.store → KnowsSides (W.seen world.new) machine.new.store }
+    ensures asked { AsksFor (machine_asks contexts.now machine.old line step) (W.seen world.old)
+        (W.seen world.new) (λ reply. (reply, machine.new)) result }
+    ensures sides { KnowsSides (W.seen world.old) machine.old.store
+        → KnowsSides (W.seen world.new) machine.new.store }
 {
     if is_held_up(&machine.store, &step) {
         return Ok(Reply::Busy);
@@ -68,8 +71,11 @@ fn do_call<W: World>(
     requires open { (W.seen world.old).ended ≡ false }
     requires first { ids.old ≡ first_ids ids.old.line }
     requires free { (is_some store.old.standing && is_guest_call step) ≡ false }
-    ensures asked { AsksFor (call_asks ctx.old (record { table = table.old; store = store.old }) ids.old.line step) (W.seen world.old) (W.seen world.new) (λ reply. (reply, record { table = table.new; store = store.new })) result }
-    ensures sides { KnowsSides (W.seen world.old) store.old → KnowsSides (W.seen world.new) store.new }
+    ensures asked { AsksFor (call_asks ctx.old (record { table = table.old; store = store.old })
+        ids.old.line step) (W.seen world.old) (W.seen world.new)
+        (λ reply. (reply, record { table = table.new; store = store.new })) result }
+    ensures sides { KnowsSides (W.seen world.old) store.old
+        → KnowsSides (W.seen world.new) store.new }
 {
     let mut view = WasiSocketsCtxView { ctx, table, store };
     call(alloc, &mut view, world, ids, step)
@@ -86,8 +92,10 @@ fn call<W: World>(
     requires open { (W.seen world.old).ended ≡ false }
     requires first { ids.old ≡ first_ids ids.old.line }
     requires free { (is_some view.old.store.now.standing && is_guest_call step) ≡ false }
-    ensures asked { AsksFor (call_asks view.old.ctx.now (state_of view.old) ids.old.line step) (W.seen world.old) (W.seen world.new) (λ reply. (reply, state_of view.new)) result }
-    ensures sides { KnowsSides (W.seen world.old) view.old.store.now → KnowsSides (W.seen world.new) view.new.store.now }
+    ensures asked { AsksFor (call_asks view.old.ctx.now (state_of view.old) ids.old.line step)
+        (W.seen world.old) (W.seen world.new) (λ reply. (reply, state_of view.new)) result }
+    ensures sides { KnowsSides (W.seen world.old) view.old.store.now
+        → KnowsSides (W.seen world.new) view.new.store.now }
     ensures view { SameView view.old view.new }
 {
     match step {
@@ -395,8 +403,11 @@ fn set<W: World>(
     setting: TcpSetting,
 ) -> Result<(), SocketError>
     requires { (W.seen world.old).ended ≡ false }
-    ensures asked { AsksFor (set_chosen (state_of view.old) (own_of ids.old.line) (socket_at (state_of view.old) socket) (chosen setting)) (W.seen world.old) (W.seen world.new) (λ done. (done, state_of view.new)) (host_outcome result) }
-    ensures kept { HostKept view.old view.new ids.old ids.new (W.seen world.old) (W.seen world.new) }
+    ensures asked { AsksFor (set_chosen (state_of view.old) (own_of ids.old.line)
+        (socket_at (state_of view.old) socket) (chosen setting)) (W.seen world.old)
+        (W.seen world.new) (λ done. (done, state_of view.new)) (host_outcome result) }
+    ensures kept { HostKept view.old view.new ids.old ids.new (W.seen world.old)
+        (W.seen world.new) }
 {
     use TcpSetting::*;
     match setting {
@@ -431,8 +442,12 @@ fn set_udp<W: World>(
     setting: UdpSetting,
 ) -> Result<(), SocketError>
     requires { (W.seen world.old).ended ≡ false }
-    ensures asked { AsksFor (set_udp_option_on (state_of view.old) (own_of ids.old.line) (udp_chosen setting).0 (udp_chosen setting).1 (udp_socket_at (state_of view.old) socket)) (W.seen world.old) (W.seen world.new) (λ done. (done, state_of view.new)) (host_outcome result) }
-    ensures kept { HostKept view.old view.new ids.old ids.new (W.seen world.old) (W.seen world.new) }
+    ensures asked { AsksFor (set_udp_option_on (state_of view.old) (own_of ids.old.line)
+        (udp_chosen setting).0 (udp_chosen setting).1 (udp_socket_at (state_of view.old) socket))
+        (W.seen world.old) (W.seen world.new) (λ done. (done, state_of view.new))
+        (host_outcome result) }
+    ensures kept { HostKept view.old view.new ids.old ids.new (W.seen world.old)
+        (W.seen world.new) }
 {
     use UdpSetting::*;
     match setting {

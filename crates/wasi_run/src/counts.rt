@@ -81,8 +81,8 @@ fn no_memory(error: RunError) -> AllocError
 }
 
 /// Runs the script of this many lines that is generated from the seed, over the empty scenario, and
-/// counts what it did. Takes memory for the script, its replies and its log. Out of memory, also for a
-/// script longer than 4,294,967,295 bytes.
+/// counts what it did. Takes memory for the script, its replies and its log. Out of memory, also
+/// for a script longer than 4,294,967,295 bytes.
 pub fn run_generated(alloc: Global, seed: u64, steps: u32) -> Result<Counts, AllocError>
     ensures { IfOk result (λ counts. CountsRun seed steps counts) }
 {

@@ -1,10 +1,12 @@
 //! Scripts that are generated from a seed.
 
-ghost use Rattle.std.specs.Prelude.{◌≡◌, ◌==◌, ◌+◌, ◌<◌, ◌≤◌, ◌^◌, ◌++◌, if◌then◌else◌, IfOk, OnOk, length, string_bytes};
+ghost use Rattle.std.specs.Prelude.{◌≡◌, ◌==◌, ◌+◌, ◌<◌, ◌≤◌, ◌^◌, ◌++◌, if◌then◌else◌, IfOk, OnOk};
+ghost use Rattle.std.specs.Prelude.{length, string_bytes};
 ghost use Rattle.world_text.specs.Lines.{lines_of};
 ghost use Rattle.wasi_run.specs.Script.{IsValid};
 ghost use Rattle.wasi_steps.specs.declared.step.Step.TheVariants as Step;
-ghost use Rattle.wasi_run.specs.Generate.{next_drawn, port_of, count_of, byte_of, step_in, generated_steps, generated, script_line, script_text};
+ghost use Rattle.wasi_run.specs.Generate.{next_drawn, port_of, count_of, byte_of, step_in};
+ghost use Rattle.wasi_run.specs.Generate.{generated_steps, generated, script_line, script_text};
 
 use std::alloc::{AllocError, Global};
 use std::fmt::Write;
@@ -54,7 +56,8 @@ fn byte_of(x: u64) -> u8
 }
 
 fn push_connect(text: &mut String, socket: u32, x: u64) -> Result<(), AllocError>
-    ensures { OnOk result (string_bytes text.new ≡ string_bytes text.old ++ script_line (step_in socket x 1)) }
+    ensures { OnOk result (string_bytes text.new ≡ string_bytes text.old ++ script_line
+        (step_in socket x 1)) }
 {
     write!(
         text,
@@ -65,7 +68,8 @@ fn push_connect(text: &mut String, socket: u32, x: u64) -> Result<(), AllocError
 
 fn push_write(text: &mut String, socket: u32, x: u64) -> Result<(), AllocError>
     requires { socket + 2 < 2 ^ 32 }
-    ensures { OnOk result (string_bytes text.new ≡ string_bytes text.old ++ script_line (step_in socket x 4)) }
+    ensures { OnOk result (string_bytes text.new ≡ string_bytes text.old ++ script_line
+        (step_in socket x 4)) }
 {
     let bytes = [byte_of(x); MOST_BYTES];
     write!(text, "0 write {} ", socket + 2)?;
@@ -77,7 +81,8 @@ fn push_write(text: &mut String, socket: u32, x: u64) -> Result<(), AllocError>
 fn push_line(text: &mut String, socket: u32, x: u64, place: u32) -> Result<(), AllocError>
     requires room { socket + 2 < 2 ^ 32 }
     requires within { place < 9 }
-    ensures { OnOk result (string_bytes text.new ≡ string_bytes text.old ++ script_line (step_in socket x place)) }
+    ensures { OnOk result (string_bytes text.new ≡ string_bytes text.old ++ script_line
+        (step_in socket x place)) }
 {
     match place {
         0 => text.push_str("0 tcp-create 4\n"),

@@ -1,6 +1,7 @@
 //! Does the lines of a script, and writes their replies.
 
-ghost use Rattle.std.specs.Prelude.{◌≡◌, ◌∷◌, ◌+◌, ◌<◌, ◌≤◌, ◌^◌, [], Ok, OnOk, OnErr, length, take, drop, false};
+ghost use Rattle.std.specs.Prelude.{◌≡◌, ◌∷◌, ◌+◌, ◌<◌, ◌≤◌, ◌^◌, [], Ok, OnOk, OnErr, length};
+ghost use Rattle.std.specs.Prelude.{take, drop, false};
 ghost use Rattle.world_text.specs.Lines.{lines_of, lines_from};
 ghost use Rattle.wasi_run.specs.Lines.{LeftAt, KeptOf};
 ghost use Rattle.wasi_run.specs.Written.{TookAll, TookFront};
@@ -28,7 +29,8 @@ pub enum LinesEnd {
 /// took nothing of a piece. Takes no memory.
 pub fn write_all<K: Sink>(writer: &mut K, bytes: &[u8]) -> Result<(), Failed>
     ensures all { OnOk result (TookAll (K.writing writer.old) (K.writing writer.new) bytes.now) }
-    ensures front { OnErr result (TookFront (K.writing writer.old) (K.writing writer.new) bytes.now) }
+    ensures front { OnErr result (TookFront (K.writing writer.old) (K.writing writer.new)
+        bytes.now) }
 {
     let mut at = 0;
     while at < bytes.len() {
@@ -53,7 +55,8 @@ fn do_line<W: World, K: Sink>(
     requires open { (W.seen world.old).ended ≡ false }
     requires few { length contexts.now < 2 ^ 32 }
     requires numbers { session.old.lines + 1 < 2 ^ 32 }
-    ensures ran { LinesRan contexts.now (W.seen world.old) (W.seen world.new) (K.writing writer.old) (K.writing writer.new)
+    ensures ran { LinesRan contexts.now (W.seen world.old) (W.seen world.new) (K.writing writer.old)
+        (K.writing writer.new)
         session.old.machine (session.old.lines + 1) (line.now ∷ []) result session.new.machine }
     ensures count { result ≡ Ok LinesEnd.AllDone → session.new.lines ≡ session.old.lines + 1 }
 {
@@ -85,9 +88,11 @@ fn do_lines<W: World, K: Sink>(
     requires few { length contexts.now < 2 ^ 32 }
     requires within { at.old ≤ length bytes.now }
     requires numbers { session.old.lines + length bytes.now < 2 ^ 32 + at.old }
-    ensures ran { LinesRan contexts.now (W.seen world.old) (W.seen world.new) (K.writing writer.old) (K.writing writer.new)
+    ensures ran { LinesRan contexts.now (W.seen world.old) (W.seen world.new) (K.writing writer.old)
+        (K.writing writer.new)
         session.old.machine (session.old.lines + 1) (lines_of (drop at.old bytes.now)) result session.new.machine }
-    ensures place { result ≡ Ok LinesEnd.AllDone → LeftAt session.old.lines at.old bytes.now session.new.lines at.new }
+    ensures place { result ≡ Ok LinesEnd.AllDone
+        → LeftAt session.old.lines at.old bytes.now session.new.lines at.new }
 {
     while let Some(end) = newline_at(&bytes[*at..]) {
         let line = &bytes[*at..*at + end];
@@ -113,9 +118,11 @@ pub fn do_piece<W: World, K: Sink>(
     requires open { (W.seen world.old).ended ≡ false }
     requires few { length contexts.now < 2 ^ 32 }
     requires numbers { session.old.lines + length piece.now < 2 ^ 32 }
-    ensures ran { LinesRan contexts.now (W.seen world.old) (W.seen world.new) (K.writing writer.old) (K.writing writer.new)
+    ensures ran { LinesRan contexts.now (W.seen world.old) (W.seen world.new) (K.writing writer.old)
+        (K.writing writer.new)
         session.old.machine (session.old.lines + 1) (lines_from line.old.items piece.now) result session.new.machine }
-    ensures kept { result ≡ Ok LinesEnd.AllDone → KeptOf session.old.lines line.old.items piece.now session.new.lines line.new.items }
+    ensures kept { result ≡ Ok LinesEnd.AllDone
+        → KeptOf session.old.lines line.old.items piece.now session.new.lines line.new.items }
 {
     let Some(end) = newline_at(piece) else {
         line.extend_from_slice(piece)?;

@@ -6,7 +6,9 @@ ghost use Rattle.wasi_host.specs.Machine.{first_state};
 ghost use Rattle.wasi_records.specs.Closing.{IsFresh, HasClosedAll};
 ghost use Rattle.wasi_run.specs.Script.{RanOver, RanScript, Completes};
 ghost use Rattle.wasi_run.specs.Headline.{RunsLicensed};
-ghost use Rattle.wasi_run.specs.Causes.{BeginsRun, DoneLines, ReadsAll, StopsAtTrap, StopsAtBadStep, StopsTooLong, StopsAtReadFault, StopsAtWriteFault, StopsForMemory};
+ghost use Rattle.wasi_run.specs.Causes.{BeginsRun, DoneLines, ReadsAll, StopsAtTrap};
+ghost use Rattle.wasi_run.specs.Causes.{StopsAtBadStep, StopsTooLong, StopsAtReadFault};
+ghost use Rattle.wasi_run.specs.Causes.{StopsAtWriteFault, StopsForMemory};
 
 use crate::error::RunError;
 use crate::lines::{LinesEnd, do_piece};

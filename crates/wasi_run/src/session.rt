@@ -48,9 +48,12 @@ impl Session {
     ) -> Result<Reply, AllocError>
         requires open { (W.seen world.old).ended ≡ false }
         requires numbers { self.old.lines + 1 < 2 ^ 32 }
-        ensures asked { AsksFor (machine_asks contexts.now self.old.machine (self.old.lines + 1) step) (W.seen world.old) (W.seen world.new) (λ reply. (reply, self.new.machine)) result }
+        ensures asked { AsksFor (machine_asks contexts.now self.old.machine (self.old.lines + 1)
+            step) (W.seen world.old) (W.seen world.new) (λ reply. (reply, self.new.machine))
+            result }
         ensures lines { self.new.lines ≡ self.old.lines + 1 }
-        ensures sides { KnowsSides (W.seen world.old) self.old.machine.store → KnowsSides (W.seen world.new) self.new.machine.store }
+        ensures sides { KnowsSides (W.seen world.old) self.old.machine.store
+            → KnowsSides (W.seen world.new) self.new.machine.store }
     {
         self.lines += 1;
         do_step(alloc, &mut self.machine, world, contexts, self.lines, step)
@@ -62,7 +65,8 @@ impl Session {
         requires { (W.seen world.old).ended ≡ false }
         ensures quiet { AsksNothing (W.seen world.old) (W.seen world.new) }
         ensures ended { (W.seen world.new).ended ≡ true }
-        ensures closed { KnowsSides (W.seen world.old) self.machine.store → ClosesAll (W.seen world.old) (W.seen world.new) }
+        ensures closed { KnowsSides (W.seen world.old) self.machine.store
+            → ClosesAll (W.seen world.old) (W.seen world.new) }
     {
         world.end();
         self.machine.store.close_all(world);

@@ -58,7 +58,8 @@ pub trait Spawner {
         ensures stayed { OnErr result (starts self.new ≡ starts self.old) }
         ensures back { IfErr result (λ e. job_of e ≡ job) }
         ensures refused { IfErr result (λ e. RefusedAs e (refusals self.old) (refusals self.new)) }
-        ensures never_falls { (refusals self.old ≤ refusals self.new) × (starts self.old ≤ starts self.new) }
+        ensures never_falls { (refusals self.old ≤ refusals self.new)
+            × (starts self.old ≤ starts self.new) }
     {
         if !self.admits() {
             return Err(StartError::NoWorker(job));
@@ -82,7 +83,8 @@ pub trait Spawner {
     where
         Self: Sized,
         ensures given { J.may_give (started_with handle) result }
-        ensures same { (refusals self.new ≡ refusals self.old) × (starts self.new ≡ starts self.old) }
+        ensures same { (refusals self.new ≡ refusals self.old)
+            × (starts self.new ≡ starts self.old) }
     {
         match handle {
             Handle::Thread(child) => match child.join(rt) {

@@ -20,7 +20,8 @@ pub(crate) fn remote(fields: &mut Fields<'_>) -> Option<Option<IpSocketAddress>>
     Some(Some(fields.socket_address()?))
 }
 
-/// Takes where a datagram goes: `to` and an address, or `peer` for the one that its socket is connected to.
+/// Takes where a datagram goes: `to` and an address, or `peer` for the one that its socket is
+/// connected to.
 #[tactic(auto, unfolding(crate::specs::Datagrams::destination_at, world_text::specs::Fields::read_then, world_text::specs::Fields::give))]
 fn destination(fields: &mut Fields<'_>) -> Option<Option<IpSocketAddress>>
     ensures { Reads destination_at fields.old result fields.new }

@@ -2,7 +2,8 @@
 
 ghost use Rattle.std.specs.Prelude.{◌++◌};
 ghost use Rattle.wasi_steps.specs.Settings.{ReadsNumber};
-ghost use Rattle.wasi_steps.specs.Steps.{handle_steps, udp_handle_steps, output_handle_steps, other_handle_steps, rows_of};
+ghost use Rattle.wasi_steps.specs.Steps.{handle_steps, udp_handle_steps, output_handle_steps};
+ghost use Rattle.wasi_steps.specs.Steps.{other_handle_steps, rows_of};
 
 use crate::step::Step;
 
@@ -38,7 +39,8 @@ fn other_handle_step(context: u32, word: &str, handle: u32) -> Option<Step>
 /// The step of this word, which takes a handle alone and is no socket's.
 #[tactic(auto, unfolding(world_text::specs::Fields::read_then, world_text::specs::Fields::give, world_text::specs::Fields::give_some))]
 fn output_handle_step(context: u32, word: &str, handle: u32) -> Option<Step>
-    ensures { ReadsNumber 4294967295 (rows_of (output_handle_steps context ++ other_handle_steps context)) word.now handle result }
+    ensures { ReadsNumber 4294967295 (rows_of (output_handle_steps context ++ other_handle_steps
+        context)) word.now handle result }
 {
     use Step::*;
     let output = handle;
@@ -54,7 +56,8 @@ fn output_handle_step(context: u32, word: &str, handle: u32) -> Option<Step>
 /// The step of this word, which takes a handle alone and is no TCP socket's.
 #[tactic(auto, unfolding(world_text::specs::Fields::read_then, world_text::specs::Fields::give, world_text::specs::Fields::give_some))]
 fn udp_handle_step(context: u32, word: &str, handle: u32) -> Option<Step>
-    ensures { ReadsNumber 4294967295 (rows_of (udp_handle_steps context ++ output_handle_steps context ++ other_handle_steps context)) word.now handle result }
+    ensures { ReadsNumber 4294967295 (rows_of (udp_handle_steps context ++ output_handle_steps
+        context ++ other_handle_steps context)) word.now handle result }
 {
     use Step::*;
     let socket = handle;

@@ -1,4 +1,5 @@
-//! The steps of a script and their replies: how they are written and read, and, in specs/, what a machine does with them.
+//! The steps of a script and their replies: how they are written and read, and, in specs/, what a
+//! machine does with them.
 #![tactic(auto)]
 
 mod datagram;

@@ -2,7 +2,8 @@
 
 ghost use Rattle.std.specs.Prelude.{IfOk};
 ghost use Rattle.world_text.specs.Fields.{Reads};
-ghost use Rattle.wasi_steps.specs.Steps.{pipe_step, write_step, blocking_write_step, send_step, poll_list_step, resolve_step, row_of};
+ghost use Rattle.wasi_steps.specs.Steps.{pipe_step, write_step, blocking_write_step, send_step};
+ghost use Rattle.wasi_steps.specs.Steps.{poll_list_step, resolve_step, row_of};
 
 use crate::datagram::datagrams;
 use crate::handle_list::pollables;
@@ -18,7 +19,8 @@ pub(crate) fn pipe_arguments(
     fields: &mut Fields<'_>,
     context: u32,
 ) -> Result<Option<Step>, AllocError>
-    ensures { IfOk result (λ step. Reads (row_of (pipe_step context)).reads fields.old step fields.new) }
+    ensures { IfOk result (λ step. Reads (row_of (pipe_step context)).reads fields.old step
+        fields.new) }
 {
     let Some(bytes) = fields.octets(alloc)? else {
         return Ok(None);
@@ -33,7 +35,8 @@ pub(crate) fn write_arguments(
     fields: &mut Fields<'_>,
     context: u32,
 ) -> Result<Option<Step>, AllocError>
-    ensures { IfOk result (λ step. Reads (row_of (write_step context)).reads fields.old step fields.new) }
+    ensures { IfOk result (λ step. Reads (row_of (write_step context)).reads fields.old step
+        fields.new) }
 {
     let Some(output) = fields.u32() else {
         return Ok(None);
@@ -55,7 +58,8 @@ pub(crate) fn blocking_write_arguments(
     fields: &mut Fields<'_>,
     context: u32,
 ) -> Result<Option<Step>, AllocError>
-    ensures { IfOk result (λ step. Reads (row_of (blocking_write_step context)).reads fields.old step fields.new) }
+    ensures { IfOk result (λ step. Reads (row_of (blocking_write_step context)).reads fields.old
+        step fields.new) }
 {
     let Some(output) = fields.u32() else {
         return Ok(None);
@@ -77,7 +81,8 @@ pub(crate) fn send_arguments(
     fields: &mut Fields<'_>,
     context: u32,
 ) -> Result<Option<Step>, AllocError>
-    ensures { IfOk result (λ step. Reads (row_of (send_step context)).reads fields.old step fields.new) }
+    ensures { IfOk result (λ step. Reads (row_of (send_step context)).reads fields.old step
+        fields.new) }
 {
     let Some(outgoing) = fields.u32() else {
         return Ok(None);
@@ -99,7 +104,8 @@ pub(crate) fn poll_list_arguments(
     fields: &mut Fields<'_>,
     context: u32,
 ) -> Result<Option<Step>, AllocError>
-    ensures { IfOk result (λ step. Reads (row_of (poll_list_step context)).reads fields.old step fields.new) }
+    ensures { IfOk result (λ step. Reads (row_of (poll_list_step context)).reads fields.old step
+        fields.new) }
 {
     let Some(pollables) = pollables(alloc, fields)? else {
         return Ok(None);
@@ -114,7 +120,8 @@ pub(crate) fn resolve_arguments(
     fields: &mut Fields<'_>,
     context: u32,
 ) -> Result<Option<Step>, AllocError>
-    ensures { IfOk result (λ step. Reads (row_of (resolve_step context)).reads fields.old step fields.new) }
+    ensures { IfOk result (λ step. Reads (row_of (resolve_step context)).reads fields.old step
+        fields.new) }
 {
     let Some(network) = fields.u32() else {
         return Ok(None);

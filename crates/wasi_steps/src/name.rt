@@ -23,7 +23,8 @@ fn is_name(text: &[u8]) -> bool
     str::from_utf8(text).is_ok() && is_unbroken(text)
 }
 
-/// Takes a host name, for which it takes memory: all that is left of the line, with the spaces in it.
+/// Takes a host name, for which it takes memory: all that is left of the line, with the spaces in
+/// it.
 #[tactic(auto, unfolding(crate::specs::Names::name_at, world_text::specs::Fields::read_then, world_text::specs::Fields::give_some))]
 pub(crate) fn name(alloc: Global, fields: &mut Fields<'_>) -> Result<Option<NameText>, AllocError>
     ensures { IfOk result (λ name. Reads name_at fields.old name fields.new) }

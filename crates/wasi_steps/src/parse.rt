@@ -6,8 +6,13 @@ ghost use Rattle.world_text.specs.Written.{IsVisible};
 ghost use Rattle.wasi_steps.specs.declared.step.Step.{Step};
 ghost use Rattle.wasi_steps.specs.Arguments.{shutdown_at};
 ghost use Rattle.wasi_steps.specs.Names.{IsText};
-ghost use Rattle.wasi_steps.specs.Settings.{ReadsNumber, ReadsAfter, option_at, wide_words, setting_words, setting_at, udp_option_at, udp_setting_at};
-ghost use Rattle.wasi_steps.specs.Steps.{line_of, IsStep, steps, plain_steps, value_steps, tcp_value_steps, udp_value_steps, input_value_steps, output_value_steps, handle_steps, bare_steps, rows_of, guest_call_at, step_reader, step_of, takes_a_name};
+ghost use Rattle.wasi_steps.specs.Settings.{ReadsNumber, ReadsAfter, option_at, wide_words};
+ghost use Rattle.wasi_steps.specs.Settings.{setting_words, setting_at, udp_option_at};
+ghost use Rattle.wasi_steps.specs.Settings.{udp_setting_at};
+ghost use Rattle.wasi_steps.specs.Steps.{line_of, IsStep, steps, plain_steps, value_steps};
+ghost use Rattle.wasi_steps.specs.Steps.{tcp_value_steps, udp_value_steps, input_value_steps};
+ghost use Rattle.wasi_steps.specs.Steps.{output_value_steps, handle_steps, bare_steps, rows_of};
+ghost use Rattle.wasi_steps.specs.Steps.{guest_call_at, step_reader, step_of, takes_a_name};
 
 use crate::datagram::remote;
 use crate::memory::{
@@ -123,7 +128,9 @@ fn udp_setting(fields: &mut Fields<'_>) -> Option<UdpSetting>
 /// a stream's and takes them, else nothing.
 #[tactic(auto, unfolding(world_text::specs::Fields::read_then, world_text::specs::Fields::give, world_text::specs::Fields::give_some))]
 fn udp_arguments(fields: &mut Fields<'_>, context: u32, word: &str, handle: u32) -> Option<Step>
-    ensures { ReadsAfter 4294967295 (rows_of (udp_value_steps context ++ input_value_steps context ++ output_value_steps context ++ handle_steps context)) word.now handle fields.old result fields.new }
+    ensures { ReadsAfter 4294967295 (rows_of (udp_value_steps context ++ input_value_steps context
+        ++ output_value_steps context ++ handle_steps context)) word.now handle fields.old result
+        fields.new }
 {
     match word {
         "udp-start-bind" => Some(Step::UdpStartBind {
@@ -160,7 +167,8 @@ fn udp_arguments(fields: &mut Fields<'_>, context: u32, word: &str, handle: u32)
 /// stream's and takes them, else nothing.
 #[tactic(auto, unfolding(world_text::specs::Fields::read_then, world_text::specs::Fields::give, world_text::specs::Fields::give_some))]
 fn tcp_arguments(fields: &mut Fields<'_>, context: u32, word: &str, handle: u32) -> Option<Step>
-    ensures { ReadsAfter 4294967295 (rows_of (value_steps context ++ handle_steps context)) word.now handle fields.old result fields.new }
+    ensures { ReadsAfter 4294967295 (rows_of (value_steps context ++ handle_steps context)) word.now
+        handle fields.old result fields.new }
 {
     match word {
         "tcp-start-bind" => Some(Step::TcpStartBind {
@@ -197,7 +205,8 @@ fn tcp_arguments(fields: &mut Fields<'_>, context: u32, word: &str, handle: u32)
 /// Takes the arguments of a step word whose first one is a handle: that alone, or more after it.
 #[tactic(auto, unfolding(world_text::specs::Fields::read_then, world_text::specs::Fields::give, world_text::specs::Fields::give_some))]
 fn handle_arguments(fields: &mut Fields<'_>, context: u32, word: &str) -> Option<Step>
-    ensures { Reads (after_word (rows_of (value_steps context ++ handle_steps context)) word.now) fields.old result fields.new }
+    ensures { Reads (after_word (rows_of (value_steps context ++ handle_steps context)) word.now)
+        fields.old result fields.new }
 {
     let handle = fields.u32()?;
     tcp_arguments(fields, context, word, handle)
@@ -206,7 +215,8 @@ fn handle_arguments(fields: &mut Fields<'_>, context: u32, word: &str) -> Option
 /// Takes the arguments of a step word, where they take no memory.
 #[tactic(auto, unfolding(world_text::specs::Fields::read_then, world_text::specs::Fields::give, world_text::specs::Fields::give_some))]
 fn plain_arguments(fields: &mut Fields<'_>, context: u32, word: &str) -> Option<Step>
-    ensures { Reads (after_word (rows_of (plain_steps context)) word.now) fields.old result fields.new }
+    ensures { Reads (after_word (rows_of (plain_steps context)) word.now) fields.old result
+        fields.new }
 {
     match word {
         "network" => Some(Step::Network { context }),
@@ -236,7 +246,8 @@ fn arguments(
     context: u32,
     word: &str,
 ) -> Result<Option<Step>, AllocError>
-    ensures { IfOk result (λ step. Reads (after_word (rows_of (steps context)) word.now) fields.old step fields.new) }
+    ensures { IfOk result (λ step. Reads (after_word (rows_of (steps context)) word.now) fields.old
+        step fields.new) }
 {
     match word {
         "pipe-in" => pipe_arguments(alloc, fields, context),
@@ -257,7 +268,8 @@ fn guest_call(
     context: u32,
     contexts: u32,
 ) -> Result<Option<Step>, AllocError>
-    ensures { IfOk result (λ step. Reads (guest_call_at contexts context) fields.old step fields.new) }
+    ensures { IfOk result (λ step. Reads (guest_call_at contexts context) fields.old step
+        fields.new) }
 {
     if context >= contexts {
         return Ok(None);
@@ -326,7 +338,10 @@ pub fn parse_step(alloc: Global, line: &[u8], contexts: u32) -> Result<Option<St
 ///   spaces.
 /// - `text`: the line of any step is UTF-8, with no newline and no carriage return.
 pub fn steps_are_their_lines()
-    ensures exactly { (contexts : ℕ) (line : List ℕ) (s : Step) → (step_of contexts line ≡ Some s) ↔ ((line ≡ line_of s) × IsStep contexts s) }
-    ensures visible { (contexts : ℕ) (line : List ℕ) (s : Step) → step_of contexts line ≡ Some s → takes_a_name s ≡ false → IsVisible line }
-    ensures text { (contexts : ℕ) (line : List ℕ) (s : Step) → step_of contexts line ≡ Some s → IsText line }
+    ensures exactly { (contexts : ℕ) (line : List ℕ) (s : Step)
+        → (step_of contexts line ≡ Some s) ↔ ((line ≡ line_of s) × IsStep contexts s) }
+    ensures visible { (contexts : ℕ) (line : List ℕ) (s : Step) → step_of contexts line ≡ Some s
+        → takes_a_name s ≡ false → IsVisible line }
+    ensures text { (contexts : ℕ) (line : List ℕ) (s : Step) → step_of contexts line ≡ Some s
+        → IsText line }
 {}

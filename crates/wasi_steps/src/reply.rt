@@ -1,10 +1,13 @@
 //! The replies to steps.
 
-ghost use Rattle.std.specs.Prelude.{◌≡◌, false, List, IfOk, OnOk, Contains, [], ◌∷◌, ◌++◌, map, codes, string_bytes};
+ghost use Rattle.std.specs.Prelude.{◌≡◌, false, List, IfOk, OnOk, Contains, [], ◌∷◌, ◌++◌, map};
+ghost use Rattle.std.specs.Prelude.{codes, string_bytes};
 ghost use Rattle.world_text.specs.Fields.{line_with};
 ghost use Rattle.wasi_steps.specs.declared.reply.Reply.{Reply};
 ghost use Rattle.wasi_steps.specs.declared.step.Step.{Step};
-ghost use Rattle.wasi_steps.specs.Replies.{FieldKinds, polled_fields, GivesAs, Gives, is_poll, code_text, trap_text, field_text, fields_of_reply, text_of};
+ghost use Rattle.wasi_steps.specs.Replies.{FieldKinds, polled_fields, GivesAs, Gives, is_poll};
+ghost use Rattle.wasi_steps.specs.Replies.{code_text, trap_text, field_text, fields_of_reply};
+ghost use Rattle.wasi_steps.specs.Replies.{text_of};
 ghost use Rattle.wasi_steps.specs.Reply.{word_of_p2, is_trap, no_fields};
 
 use std::alloc::{AllocError, Global};
@@ -239,7 +242,8 @@ fn push_field(text: &mut String, field: &Field) -> Result<(), AllocError>
 
 /// Appends `ok` and the fields.
 fn push_ok(text: &mut String, fields: &[Field]) -> Result<(), AllocError>
-    ensures { OnOk result (string_bytes text.new ≡ string_bytes text.old ++ line_with (codes "ok" ∷ map field_text fields.now)) }
+    ensures { OnOk result (string_bytes text.new ≡ string_bytes text.old ++ line_with
+        (codes "ok" ∷ map field_text fields.now)) }
 {
     text.push_str("ok")?;
     for field in fields {
@@ -251,7 +255,8 @@ fn push_ok(text: &mut String, fields: &[Field]) -> Result<(), AllocError>
 
 /// Appends the reply's line, without its newline.
 fn push_reply(text: &mut String, reply: &Reply) -> Result<(), AllocError>
-    ensures { OnOk result (string_bytes text.new ≡ string_bytes text.old ++ line_with (fields_of_reply reply.now)) }
+    ensures { OnOk result (string_bytes text.new ≡ string_bytes text.old ++ line_with
+        (fields_of_reply reply.now)) }
 {
     match reply {
         Reply::Ok(fields) => push_ok(text, fields.as_slice()),
@@ -286,6 +291,8 @@ pub fn reply_text(alloc: Global, reply: &Reply) -> Result<Octets, AllocError>
 /// - `of_a_polled_call`: two different replies of one call that can be pending. Its replies have
 ///   fields of the kinds in one row of `polled_fields`.
 pub fn replies_are_told_apart()
-    ensures of_a_step { (s : Step) (r q : Reply) → is_poll s ≡ false → Gives s r → Gives s q → text_of r ≡ text_of q → r ≡ q }
-    ensures of_a_polled_call { (kinds : FieldKinds) (r q : Reply) → Contains polled_fields kinds → GivesAs kinds r → GivesAs kinds q → text_of r ≡ text_of q → r ≡ q }
+    ensures of_a_step { (s : Step) (r q : Reply) → is_poll s ≡ false → Gives s r → Gives s q
+        → text_of r ≡ text_of q → r ≡ q }
+    ensures of_a_polled_call { (kinds : FieldKinds) (r q : Reply) → Contains polled_fields kinds
+        → GivesAs kinds r → GivesAs kinds q → text_of r ≡ text_of q → r ≡ q }
 {}

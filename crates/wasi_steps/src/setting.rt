@@ -1,12 +1,13 @@
 //! The options that a step names, and what a `tcp-set` and a `udp-set` set.
 
-/// What a `tcp-set` sets: an option of the socket or its backlog, to a value of its own width (the setters of `tcp-socket` in
-/// `wasi:sockets/tcp`).
+/// What a `tcp-set` sets: an option of the socket or its backlog, to a value of its own width (the
+/// setters of `tcp-socket` in `wasi:sockets/tcp`).
 #[derive(Clone, Copy, Debug, PartialEq, Eq)]
 pub enum TcpSetting {
     /// Whether probes are sent on a connection that is idle (`set-keep-alive-enabled`).
     KeepAliveEnabled(bool),
-    /// How long a connection is idle before the first probe, in nanoseconds (`set-keep-alive-idle-time`).
+    /// How long a connection is idle before the first probe, in nanoseconds
+    /// (`set-keep-alive-idle-time`).
     KeepAliveIdleTime(u64),
     /// The time from one probe to the next, in nanoseconds (`set-keep-alive-interval`).
     KeepAliveInterval(u64),
@@ -33,8 +34,8 @@ pub enum UdpOption {
     SendBufferSize,
 }
 
-/// What a `udp-set` sets: an option of the socket, to a value of its own width (the setters of `udp-socket` in
-/// `wasi:sockets/udp`).
+/// What a `udp-set` sets: an option of the socket, to a value of its own width (the setters of
+/// `udp-socket` in `wasi:sockets/udp`).
 #[derive(Clone, Copy, Debug, PartialEq, Eq)]
 pub enum UdpSetting {
     /// How many hops a packet lives (`set-unicast-hop-limit`).

@@ -10,7 +10,8 @@ use crate::setting::{TcpSetting, UdpOption, UdpSetting};
 use wasi_addr::{IpSocketAddress, ShutdownType, SocketAddressFamily};
 use wasi_world::{Handle, NameText, NumberList, Octets, Opt, OutgoingDatagrams};
 
-/// One step of a script: a guest call with the number of the context that makes it, or a step that no context makes.
+/// One step of a script: a guest call with the number of the context that makes it, or a step that
+/// no context makes.
 #[derive(Drop)]
 pub enum Step {
     /// Makes a handle of the network (`instance-network`).
@@ -41,7 +42,8 @@ pub enum Step {
         network: Handle,
         addr: IpSocketAddress,
     },
-    /// Polls a connect that was begun, and makes the two streams of the connection (`finish-connect`).
+    /// Polls a connect that was begun, and makes the two streams of the connection
+    /// (`finish-connect`).
     TcpFinishConnect {
         context: u32,
         socket: Handle,
@@ -87,7 +89,8 @@ pub enum Step {
         socket: Handle,
         option: Opt,
     },
-    /// Sets an option of the socket, or its backlog (its setter: `set-keep-alive-enabled`, and so on).
+    /// Sets an option of the socket, or its backlog (its setter: `set-keep-alive-enabled`, and so
+    /// on).
     TcpSet {
         context: u32,
         socket: Handle,
@@ -121,7 +124,8 @@ pub enum Step {
         context: u32,
         socket: Handle,
     },
-    /// The one address that the UDP socket sends to and receives from, where there is one (`remote-address`).
+    /// The one address that the UDP socket sends to and receives from, where there is one
+    /// (`remote-address`).
     UdpRemoteAddress {
         context: u32,
         socket: Handle,
@@ -143,8 +147,8 @@ pub enum Step {
         socket: Handle,
         setting: UdpSetting,
     },
-    /// Makes the two datagram streams of the UDP socket, which is connected to the address first, or else disconnected from
-    /// where it was connected (`udp-socket.stream`).
+    /// Makes the two datagram streams of the UDP socket, which is connected to the address first,
+    /// or else disconnected from where it was connected (`udp-socket.stream`).
     UdpStream {
         context: u32,
         socket: Handle,
@@ -161,7 +165,8 @@ pub enum Step {
         context: u32,
         outgoing: Handle,
     },
-    /// Sends the datagrams, of which there are no more than was permitted (`outgoing-datagram-stream.send`).
+    /// Sends the datagrams, of which there are no more than was permitted
+    /// (`outgoing-datagram-stream.send`).
     UdpSend {
         context: u32,
         outgoing: Handle,
@@ -183,7 +188,8 @@ pub enum Step {
         context: u32,
         bytes: Octets,
     },
-    /// Makes an output that keeps what is written to it; the host's own, as an embedder's `MemoryOutputPipe`.
+    /// Makes an output that keeps what is written to it; the host's own, as an embedder's
+    /// `MemoryOutputPipe`.
     PipeOut {
         context: u32,
         /// How many bytes it holds, at most 65536.
@@ -194,7 +200,8 @@ pub enum Step {
         context: u32,
         output: Handle,
     },
-    /// Makes an output that takes all bytes and keeps none; the host's own, as an embedder's `SinkOutputStream`.
+    /// Makes an output that takes all bytes and keeps none; the host's own, as an embedder's
+    /// `SinkOutputStream`.
     Sink {
         context: u32,
     },
@@ -229,7 +236,8 @@ pub enum Step {
         output: Handle,
         bytes: Octets,
     },
-    /// Writes so many zeroes, of which there are no more than was permitted (`output-stream.write-zeroes`).
+    /// Writes so many zeroes, of which there are no more than was permitted
+    /// (`output-stream.write-zeroes`).
     WriteZeroes {
         context: u32,
         output: Handle,
@@ -240,7 +248,8 @@ pub enum Step {
         context: u32,
         output: Handle,
     },
-    /// Writes to the output at most so many bytes that are read from the input (`output-stream.splice`).
+    /// Writes to the output at most so many bytes that are read from the input
+    /// (`output-stream.splice`).
     Splice {
         context: u32,
         output: Handle,
@@ -260,8 +269,8 @@ pub enum Step {
         input: Handle,
         len: u64,
     },
-    /// Writes all the bytes, of which there are at most 4096, as the output permits them, and flushes it
-    /// (`output-stream.blocking-write-and-flush`).
+    /// Writes all the bytes, of which there are at most 4096, as the output permits them, and
+    /// flushes it (`output-stream.blocking-write-and-flush`).
     BlockingWrite {
         context: u32,
         output: Handle,

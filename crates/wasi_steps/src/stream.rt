@@ -2,16 +2,19 @@
 
 ghost use Rattle.std.specs.Prelude.{◌++◌};
 ghost use Rattle.wasi_steps.specs.Settings.{ReadsAfter};
-ghost use Rattle.wasi_steps.specs.Steps.{handle_steps, input_value_steps, output_value_steps, rows_of};
+ghost use Rattle.wasi_steps.specs.Steps.{handle_steps, input_value_steps, output_value_steps};
+ghost use Rattle.wasi_steps.specs.Steps.{rows_of};
 
 use crate::handle::handle_step;
 use crate::step::Step;
 use world_text::Fields;
 
-/// Takes what follows the handle of a step word: more arguments where the word is an output's and has them, else nothing.
+/// Takes what follows the handle of a step word: more arguments where the word is an output's and
+/// has them, else nothing.
 #[tactic(auto, unfolding(world_text::specs::Fields::read_then, world_text::specs::Fields::give, world_text::specs::Fields::give_some))]
 fn output_arguments(fields: &mut Fields<'_>, context: u32, word: &str, handle: u32) -> Option<Step>
-    ensures { ReadsAfter 4294967295 (rows_of (output_value_steps context ++ handle_steps context)) word.now handle fields.old result fields.new }
+    ensures { ReadsAfter 4294967295 (rows_of (output_value_steps context ++ handle_steps context))
+        word.now handle fields.old result fields.new }
 {
     use Step::*;
     match word {
@@ -41,8 +44,8 @@ fn output_arguments(fields: &mut Fields<'_>, context: u32, word: &str, handle: u
     }
 }
 
-/// Takes what follows the handle of a step word: more arguments where the word is an input's or an output's and has them, else
-/// nothing.
+/// Takes what follows the handle of a step word: more arguments where the word is an input's or an
+/// output's and has them, else nothing.
 #[tactic(auto, unfolding(world_text::specs::Fields::read_then, world_text::specs::Fields::give, world_text::specs::Fields::give_some))]
 pub(crate) fn stream_arguments(
     fields: &mut Fields<'_>,
@@ -50,7 +53,8 @@ pub(crate) fn stream_arguments(
     word: &str,
     handle: u32,
 ) -> Option<Step>
-    ensures { ReadsAfter 4294967295 (rows_of (input_value_steps context ++ output_value_steps context ++ handle_steps context)) word.now handle fields.old result fields.new }
+    ensures { ReadsAfter 4294967295 (rows_of (input_value_steps context ++ output_value_steps
+        context ++ handle_steps context)) word.now handle fields.old result fields.new }
 {
     use Step::*;
     match word {

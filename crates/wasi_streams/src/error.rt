@@ -5,7 +5,8 @@ use thiserror::Error;
 use wasi_addr::ErrorCode;
 use wasi_world::TrapKind;
 
-/// Why a call of a stream failed (`StreamError` of the crate wasmtime-wasi, with out of memory beside it).
+/// Why a call of a stream failed (`StreamError` of the crate wasmtime-wasi, with out of memory
+/// beside it).
 #[derive(Debug, PartialEq, Eq, Drop, Error)]
 pub enum StreamError {
     /// An earlier operation failed in the background with this code. It is reported once.

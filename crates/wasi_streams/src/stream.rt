@@ -39,7 +39,8 @@ pub trait InputStream {
         size: usize,
     ) -> Result<Octets, StreamError>
         requires { (W.seen world.old).ended ≡ false }
-        ensures asked { AsksFor (reading op self.old size) (W.seen world.old) (W.seen world.new) (λ answer. (answer, self.new)) (stream_outcome result) }
+        ensures asked { AsksFor (reading op self.old size) (W.seen world.old) (W.seen world.new)
+            (λ answer. (answer, self.new)) (stream_outcome result) }
         ensures err { OnErr (stream_outcome result) (self.new ≡ self.old) };
 
     /// Reads at most `size` bytes, discards them, and returns how many there were. Out of memory
@@ -52,7 +53,8 @@ pub trait InputStream {
         size: usize,
     ) -> Result<usize, StreamError>
         requires { (W.seen world.old).ended ≡ false }
-        ensures asked { AsksFor (skip_asks (reading op self.old size)) (W.seen world.old) (W.seen world.new) (λ answer. (answer, self.new)) (stream_outcome result) }
+        ensures asked { AsksFor (skip_asks (reading op self.old size)) (W.seen world.old)
+            (W.seen world.new) (λ answer. (answer, self.new)) (stream_outcome result) }
         ensures err { OnErr (stream_outcome result) (self.new ≡ self.old) }
     {
         let bytes = self.read(alloc, world, op, size)?;
@@ -79,18 +81,21 @@ pub trait OutputStream {
     /// memory nothing was asked.
     fn check_write<W: World>(&mut self, world: &mut W, op: OpId) -> Result<usize, StreamError>
         requires { (W.seen world.old).ended ≡ false }
-        ensures asked { AsksFor (checking op self.old) (W.seen world.old) (W.seen world.new) (λ answer. (answer, self.new)) (stream_outcome result) }
+        ensures asked { AsksFor (checking op self.old) (W.seen world.old) (W.seen world.new)
+            (λ answer. (answer, self.new)) (stream_outcome result) }
         ensures unasked { OnErr (stream_outcome result) (W.seen world.new ≡ W.seen world.old) };
 
     /// Writes bytes, no more than the permit of the last `check_write`.
     fn write<W: World>(&mut self, world: &mut W, op: OpId, bytes: Octets) -> Result<(), StreamError>
         requires { (W.seen world.old).ended ≡ false }
-        ensures asked { AsksFor (writing op self.old bytes) (W.seen world.old) (W.seen world.new) (λ answer. (answer, self.new)) (stream_outcome result) };
+        ensures asked { AsksFor (writing op self.old bytes) (W.seen world.old) (W.seen world.new)
+            (λ answer. (answer, self.new)) (stream_outcome result) };
 
     /// Begins a flush. Out of memory the stream stays as it was.
     fn flush<W: World>(&mut self, world: &mut W, op: OpId) -> Result<(), StreamError>
         requires { (W.seen world.old).ended ≡ false }
-        ensures asked { AsksFor (flushing op self.old) (W.seen world.old) (W.seen world.new) (λ answer. (answer, self.new)) (stream_outcome result) }
+        ensures asked { AsksFor (flushing op self.old) (W.seen world.old) (W.seen world.new)
+            (λ answer. (answer, self.new)) (stream_outcome result) }
         ensures err { OnErr (stream_outcome result) (self.new ≡ self.old) };
 
     /// Writes this many zeros. More than 65,536 are never permitted. Takes memory for the zeros.
@@ -102,7 +107,8 @@ pub trait OutputStream {
         size: usize,
     ) -> Result<(), StreamError>
         requires { (W.seen world.old).ended ≡ false }
-        ensures asked { AsksFor (writing op self.old (zeros size)) (W.seen world.old) (W.seen world.new) (λ answer. (answer, self.new)) (stream_outcome result) }
+        ensures asked { AsksFor (writing op self.old (zeros size)) (W.seen world.old)
+            (W.seen world.new) (λ answer. (answer, self.new)) (stream_outcome result) }
     {
         let bytes = zeros(alloc, size)?;
         self.write(world, op, bytes)
@@ -122,6 +128,7 @@ pub trait Pollable {
     /// was asked.
     fn poll_ready<W: World>(&mut self, world: &mut W, op: OpId) -> Result<bool, AllocError>
         requires { (W.seen world.old).ended ≡ false }
-        ensures asked { AsksFor (looking op self.old) (W.seen world.old) (W.seen world.new) (λ ready. (ready, self.new)) result }
+        ensures asked { AsksFor (looking op self.old) (W.seen world.old) (W.seen world.new)
+            (λ ready. (ready, self.new)) result }
         ensures unasked { OnErr result (W.seen world.new ≡ W.seen world.old) };
 }

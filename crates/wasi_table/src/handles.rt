@@ -12,8 +12,8 @@ use std::collections::BTreeSet;
 use std::collections::btree_set::Iter;
 use std::marker::Model;
 
-/// Handles in rising order, which is the order of their making. Each call's time grows with the logarithm of their number, but
-/// for a walk of them all.
+/// Handles in rising order, which is the order of their making. Each call's time grows with the
+/// logarithm of their number, but for a walk of them all.
 #[derive(Drop)]
 pub struct Handles {
     set: BTreeSet<u32>,

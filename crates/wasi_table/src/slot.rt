@@ -5,7 +5,8 @@ ghost use Rattle.std.specs.Prelude.{◌≡◌, []};
 use crate::handles::Handles;
 use std::alloc::Global;
 
-/// A live handle with its value, the handle that it was made a child of, and the handles of its live children.
+/// A live handle with its value, the handle that it was made a child of, and the handles of its
+/// live children.
 #[derive(Drop)]
 pub struct Slot<K> {
     /// The number of the handle.
@@ -21,7 +22,12 @@ pub struct Slot<K> {
 impl<K> Slot<K> {
     /// A handle with no child. Takes no memory.
     pub(crate) fn new(alloc: Global, handle: u32, value: K, parent: Option<u32>) -> Slot<K>
-        ensures { result ≡ record { handle = handle; value = value; parent = parent; children = [] } }
+        ensures { result ≡ record {
+          handle = handle;
+          value = value;
+          parent = parent;
+          children = [];
+        } }
     {
         Slot {
             handle,

@@ -1,18 +1,21 @@
 //! The table of handles: what a guest holds by number, and what is a child of what.
 //!
-//! Each live handle has a slot in a slab, under a key that the slab picks, and an ordered map leads from the handle to the key.
-//! A slot has the ordered set of its handle's children. So a call's time grows with the logarithm of the number of live handles
-//! (a push's on average, since the slab takes room ahead), and memory with the most that were live at a time, however many were
-//! made.
+//! Each live handle has a slot in a slab, under a key that the slab picks, and an ordered map leads
+//! from the handle to the key. A slot has the ordered set of its handle's children. So a call's
+//! time grows with the logarithm of the number of live handles (a push's on average, since the slab
+//! takes room ahead), and memory with the most that were live at a time, however many were made.
 
-ghost use Rattle.std.specs.Prelude.{◌≡◌, ◌≢◌, ◌↔◌, ◌⊎◌, ◌+◌, ◌<◌, ◌^◌, [], false, true, IfOk, IfErr, OnOk, OnErr, IsSome, Some, None, Err};
+ghost use Rattle.std.specs.Prelude.{◌≡◌, ◌≢◌, ◌↔◌, ◌⊎◌, ◌+◌, ◌<◌, ◌^◌, [], false, true, IfOk};
+ghost use Rattle.std.specs.Prelude.{IfErr, OnOk, OnErr, IsSome, Some, None, Err};
 ghost use Rattle.std.specs.Borrow.{sem};
 ghost use Rattle.std.specs.BTreeMap.{get_by};
 ghost use Rattle.std.specs.Ordering.{nat_cmp};
 ghost use Rattle.slab.specs.Slab.{get};
-ghost use Rattle.wasi_table.specs.Table.{empty, is_full, pushed, value_at, children_of, without, number_of};
+ghost use Rattle.wasi_table.specs.Table.{empty, is_full, pushed, value_at, children_of, without};
+ghost use Rattle.wasi_table.specs.Table.{number_of};
 ghost use Rattle.wasi_table.specs.Slots.{AreOfLive, HasEach, HasOnce};
-ghost use Rattle.wasi_table.specs.Keys.{IsLed, IsFilled, IsPut, IsOut, IsKept, IsParentAt, IsWithoutChild};
+ghost use Rattle.wasi_table.specs.Keys.{IsLed, IsFilled, IsPut, IsOut, IsKept, IsParentAt};
+ghost use Rattle.wasi_table.specs.Keys.{IsWithoutChild};
 
 use crate::handles::Handles;
 use crate::slot::Slot;
@@ -25,8 +28,8 @@ use thiserror::Error;
 /// How many handles are live at a time at most.
 const MOST_LIVE: usize = 65536;
 
-/// Why a table refused a call (`ResourceTableError` of the crate wasmtime, with out of memory beside it). A call that is
-/// refused leaves the table as it was.
+/// Why a table refused a call (`ResourceTableError` of the crate wasmtime, with out of memory
+/// beside it). A call that is refused leaves the table as it was.
 #[derive(Clone, Copy, Debug, PartialEq, Eq, Error)]
 pub enum TableError {
     /// The handle isn't live; at a push, the handle of the parent.
@@ -57,8 +60,8 @@ impl TableError {
     }
 }
 
-/// A map from handles to values, where a handle may be a child of another (`ResourceTable` of the crate wasmtime). Handles are
-/// numbered from 1 on, and no number is given twice.
+/// A map from handles to values, where a handle may be a child of another (`ResourceTable` of the
+/// crate wasmtime). Handles are numbered from 1 on, and no number is given twice.
 #[derive(Drop)]
 pub struct Table<K> {
     alloc: Global,
@@ -115,7 +118,8 @@ impl<K> Table<K> {
     pub fn push(&mut self, value: K) -> Result<u32, TableError>
     where
         K: Drop,
-        ensures ok { IfOk result (λ h. (h ≡ self.old.next) × (self.new ≡ pushed self.old value None)) }
+        ensures ok { IfOk result (λ h. (h ≡ self.old.next) × (self.new
+            ≡ pushed self.old value None)) }
         ensures fresh { OnOk result (value_at self.old.live self.old.next ≡ None) }
         ensures err { OnErr result (self.new ≡ self.old) }
         ensures full { (result ≡ Err TableError.Full) ↔ (is_full self.old ≡ true) }
@@ -136,11 +140,14 @@ impl<K> Table<K> {
     pub fn push_child(&mut self, value: K, parent: u32) -> Result<u32, TableError>
     where
         K: Drop,
-        ensures ok { IfOk result (λ h. (h ≡ self.old.next) × (self.new ≡ pushed self.old value (Some parent))) }
+        ensures ok { IfOk result (λ h. (h ≡ self.old.next) × (self.new
+            ≡ pushed self.old value (Some parent))) }
         ensures fresh { OnOk result (value_at self.old.live self.old.next ≡ None) }
         ensures err { OnErr result (self.new ≡ self.old) }
-        ensures missing { (result ≡ Err TableError.NoSuchHandle) ↔ (value_at self.old.live parent ≡ None) }
-        ensures full { (result ≡ Err TableError.Full) ↔ (IsSome (value_at self.old.live parent) × (is_full self.old ≡ true)) }
+        ensures missing { (result ≡ Err TableError.NoSuchHandle)
+            ↔ (value_at self.old.live parent ≡ None) }
+        ensures full { (result ≡ Err TableError.Full)
+            ↔ (IsSome (value_at self.old.live parent) × (is_full self.old ≡ true)) }
         ensures error { IfErr result (λ e. e ≢ TableError.HasChildren) }
     {
         let Some(at) = key_of(&self.keys, parent) else {
@@ -159,7 +166,8 @@ impl<K> Table<K> {
     /// The value of a live handle. `NoSuchHandle`: the handle isn't live. Takes no memory.
     pub fn get(&self, handle: u32) -> Result<&K, TableError>
         ensures found { IfOk result (λ v. value_at self.now.live handle ≡ Some v.now) }
-        ensures missing { IfErr result (λ e. (e ≡ TableError.NoSuchHandle) × (value_at self.now.live handle ≡ None)) }
+        ensures missing { IfErr result (λ e. (e ≡ TableError.NoSuchHandle)
+            × (value_at self.now.live handle ≡ None)) }
     {
         match key_of(&self.keys, handle) {
             Some(key) => Ok(&self.slots[key].value),
@@ -172,7 +180,8 @@ impl<K> Table<K> {
     pub fn children(&self, handle: u32) -> Result<&Handles, TableError>
         ensures listed { IfOk result (λ ids. ids.now ≡ children_of self.now.live handle) }
         ensures live { OnOk result (IsSome (value_at self.now.live handle)) }
-        ensures missing { IfErr result (λ e. (e ≡ TableError.NoSuchHandle) × (value_at self.now.live handle ≡ None)) }
+        ensures missing { IfErr result (λ e. (e ≡ TableError.NoSuchHandle)
+            × (value_at self.now.live handle ≡ None)) }
     {
         match key_of(&self.keys, handle) {
             Some(key) => Ok(&self.slots[key].children),
@@ -195,11 +204,15 @@ impl<K> Table<K> {
     pub fn delete(&mut self, handle: u32) -> Result<K, TableError>
         ensures value { IfOk result (λ v. value_at self.old.live handle ≡ Some v) }
         ensures childless { OnOk result (children_of self.old.live handle ≡ []) }
-        ensures gone { OnOk result (self.new ≡ record self.old { live = without self.old.live handle }) }
+        ensures gone { OnOk result (self.new ≡ record self.old
+            { live = without self.old.live handle }) }
         ensures err { OnErr result (self.new ≡ self.old) }
-        ensures missing { (result ≡ Err TableError.NoSuchHandle) ↔ (value_at self.old.live handle ≡ None) }
-        ensures has_children { (result ≡ Err TableError.HasChildren) ↔ (IsSome (value_at self.old.live handle) × (children_of self.old.live handle ≢ [])) }
-        ensures error { IfErr result (λ e. (e ≡ TableError.NoSuchHandle) ⊎ (e ≡ TableError.HasChildren)) }
+        ensures missing { (result ≡ Err TableError.NoSuchHandle)
+            ↔ (value_at self.old.live handle ≡ None) }
+        ensures has_children { (result ≡ Err TableError.HasChildren)
+            ↔ (IsSome (value_at self.old.live handle) × (children_of self.old.live handle ≢ [])) }
+        ensures error { IfErr result (λ e. (e ≡ TableError.NoSuchHandle)
+            ⊎ (e ≡ TableError.HasChildren)) }
     {
         let Some(key) = key_of(&self.keys, handle) else {
             return Err(TableError::NoSuchHandle);
@@ -219,7 +232,8 @@ impl<K> Table<K> {
     pub fn get_mut(&mut self, handle: u32) -> Result<&mut K, TableError>
         ensures* lends { sem 𝓛 (lends_get K.row self.entry handle result) }
         ensures found { IfOk result (λ v. value_at self.old.live handle ≡ Some v.now) }
-        ensures missing { IfErr result (λ e. (e ≡ TableError.NoSuchHandle) × (value_at self.old.live handle ≡ None)) }
+        ensures missing { IfErr result (λ e. (e ≡ TableError.NoSuchHandle)
+            × (value_at self.old.live handle ≡ None)) }
     {
         if !self.keys.contains_key(&handle) {
             return Err(TableError::NoSuchHandle);
@@ -255,7 +269,8 @@ fn take_number(next: &mut u32) -> u32
     number
 }
 
-/// Puts a slot that is no child under a key. Room for both is taken first, so that either both come or neither does.
+/// Puts a slot that is no child under a key. Room for both is taken first, so that either both come
+/// or neither does.
 fn put<K: Drop>(
     slots: &mut Slab<Slot<K>>,
     keys: &mut BTreeMap<u32, usize>,
@@ -271,8 +286,8 @@ fn put<K: Drop>(
     Ok(())
 }
 
-/// Puts a slot under a key, and its handle among the children of its parent, whose slot is at `at`. Where there is no room for
-/// one of these, none of them comes.
+/// Puts a slot under a key, and its handle among the children of its parent, whose slot is at `at`.
+/// Where there is no room for one of these, none of them comes.
 fn put_child<K: Drop>(
     slots: &mut Slab<Slot<K>>,
     keys: &mut BTreeMap<u32, usize>,
@@ -295,7 +310,8 @@ fn put_child<K: Drop>(
     Ok(())
 }
 
-/// Takes out the slot at `key`, its handle's key, and its handle from among its parent's children, and gives its value.
+/// Takes out the slot at `key`, its handle's key, and its handle from among its parent's children,
+/// and gives its value.
 fn take_out<K>(slots: &mut Slab<Slot<K>>, keys: &mut BTreeMap<u32, usize>, key: usize) -> K
     requires led { IsLed keys.old.entries slots.old }
     requires filled { IsFilled keys.old.entries slots.old }

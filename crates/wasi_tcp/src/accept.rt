@@ -4,7 +4,8 @@ ghost use Rattle.std.specs.Prelude.{◌≡◌, true, false, OnErr};
 ghost use Rattle.wasi_world.specs.Asks.{AsksFor};
 ghost use Rattle.wasi_world.specs.Operation.{Nothing};
 ghost use Rattle.socket_common.specs.Rounds.{PollsRounds, RoundFor, is_going};
-ghost use Rattle.wasi_tcp.specs.Accept.{accept_operation, connection_of, in_hand, accept_give_up_asks, IsAccept};
+ghost use Rattle.wasi_tcp.specs.Accept.{accept_operation, connection_of, in_hand};
+ghost use Rattle.wasi_tcp.specs.Accept.{accept_give_up_asks, IsAccept};
 
 use socket_common::{Asker, InRounds, poll_rounds};
 use std::alloc::AllocError;
@@ -70,12 +71,14 @@ impl AcceptOp {
     ) -> Result<Answer<(Sock, IpSocketAddress)>, Refusal>
         requires open { (W.seen world.old).ended ≡ false }
         requires going { is_going self.old ≡ true }
-        ensures polled { PollsRounds connection_of Nothing self.old self.new (W.seen world.old) (W.seen world.new) result }
+        ensures polled { PollsRounds connection_of Nothing self.old self.new (W.seen world.old)
+            (W.seen world.new) result }
         ensures before { IsAccept self.old }
         ensures after { IsAccept self.new }
         ensures open { (W.seen world.new).ended ≡ false }
     {
-        // No effect at run time: the proof reads from the uses of `stage` that this is an accept, before and after.
+        // No effect at run time: the proof reads from the uses of `stage` that this is an accept,
+        // before and after.
         let _ = &self.stage;
         let polled = poll_rounds(world, self);
         let _ = &self.stage;
@@ -94,10 +97,12 @@ impl AcceptOp {
         }
     }
 
-    /// Refuses the arrival that is in hand, where there is one. After running out of memory nothing was asked.
+    /// Refuses the arrival that is in hand, where there is one. After running out of memory nothing
+    /// was asked.
     pub(crate) fn give_up<W: World>(&self, world: &mut W) -> Result<(), AllocError>
         requires { (W.seen world.old).ended ≡ false }
-        ensures asked { AsksFor (accept_give_up_asks self.now) (W.seen world.old) (W.seen world.new) (λ done. done) result }
+        ensures asked { AsksFor (accept_give_up_asks self.now) (W.seen world.old) (W.seen world.new)
+            (λ done. done) result }
         ensures err { OnErr result (W.seen world.new ≡ W.seen world.old) }
     {
         match self.in_hand() {
@@ -133,7 +138,8 @@ fn poll_round<W: World>(
 ) -> Result<Option<Answer<(Sock, IpSocketAddress)>>, Refusal>
     requires open { (W.seen world.old).ended ≡ false }
     requires going { is_going (accept_operation asker stage.old) ≡ true }
-    ensures round { RoundFor connection_of Nothing (accept_operation asker stage.old) (accept_operation asker stage.new) (W.seen world.old) (W.seen world.new) result }
+    ensures round { RoundFor connection_of Nothing (accept_operation asker stage.old)
+        (accept_operation asker stage.new) (W.seen world.old) (W.seen world.new) result }
     ensures open { (W.seen world.new).ended ≡ false }
 {
     match *stage {
@@ -152,7 +158,8 @@ fn poll_accept<W: World>(
 ) -> Result<Option<Answer<(Sock, IpSocketAddress)>>, Refusal>
     requires open { (W.seen world.old).ended ≡ false }
     requires stage { stage.old ≡ AcceptStage.Accept }
-    ensures round { RoundFor connection_of Nothing (accept_operation asker stage.old) (accept_operation asker stage.new) (W.seen world.old) (W.seen world.new) result }
+    ensures round { RoundFor connection_of Nothing (accept_operation asker stage.old)
+        (accept_operation asker stage.new) (W.seen world.old) (W.seen world.new) result }
     ensures open { (W.seen world.new).ended ≡ false }
 {
     let told = asks::accept(world, asker.op, asker.side)?;
@@ -177,7 +184,8 @@ fn poll_check<W: World>(
 ) -> Result<Option<Answer<(Sock, IpSocketAddress)>>, Refusal>
     requires open { (W.seen world.old).ended ≡ false }
     requires stage { stage.old ≡ AcceptStage.Check peer }
-    ensures round { RoundFor connection_of Nothing (accept_operation asker stage.old) (accept_operation asker stage.new) (W.seen world.old) (W.seen world.new) result }
+    ensures round { RoundFor connection_of Nothing (accept_operation asker stage.old)
+        (accept_operation asker stage.new) (W.seen world.old) (W.seen world.new) result }
     ensures open { (W.seen world.new).ended ≡ false }
 {
     let verdict = asks::check(world, asker.op, asker.maker, peer, SocketAddrUse::TcpAccept)?;
@@ -201,7 +209,8 @@ fn poll_hand<W: World>(
 ) -> Result<Option<Answer<(Sock, IpSocketAddress)>>, Refusal>
     requires open { (W.seen world.old).ended ≡ false }
     requires stage { stage.old ≡ AcceptStage.Hand peer }
-    ensures round { RoundFor connection_of Nothing (accept_operation asker stage.old) (accept_operation asker stage.new) (W.seen world.old) (W.seen world.new) result }
+    ensures round { RoundFor connection_of Nothing (accept_operation asker stage.old)
+        (accept_operation asker stage.new) (W.seen world.old) (W.seen world.new) result }
     ensures open { (W.seen world.new).ended ≡ false }
 {
     asks::hand(world, asker.op, asker.side, peer)?;
@@ -217,7 +226,8 @@ fn poll_refuse<W: World>(
 ) -> Result<Option<Answer<(Sock, IpSocketAddress)>>, Refusal>
     requires open { (W.seen world.old).ended ≡ false }
     requires stage { stage.old ≡ AcceptStage.Refuse peer }
-    ensures round { RoundFor connection_of Nothing (accept_operation asker stage.old) (accept_operation asker stage.new) (W.seen world.old) (W.seen world.new) result }
+    ensures round { RoundFor connection_of Nothing (accept_operation asker stage.old)
+        (accept_operation asker stage.new) (W.seen world.old) (W.seen world.new) result }
     ensures open { (W.seen world.new).ended ≡ false }
 {
     asks::refuse(world, asker.op, asker.side, peer)?;

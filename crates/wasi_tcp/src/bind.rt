@@ -42,7 +42,8 @@ impl Model for BindOp {
 
 impl BindOp {
     pub(crate) fn new(op: OpId, side: Sock, maker: u32, addr: IpSocketAddress) -> BindOp
-        ensures { result ≡ bind_operation (record { op = op; side = side; maker = maker }) addr BindStage.Check }
+        ensures { result ≡ bind_operation (record { op = op; side = side; maker = maker }) addr
+            BindStage.Check }
     {
         BindOp {
             asker: Asker { op, side, maker },
@@ -63,9 +64,12 @@ impl BindOp {
         socket: &mut TcpSocket,
     ) -> Result<Answer<()>, Refusal>
         requires { (W.seen world.old).ended ≡ false }
-        ensures polled { is_going self.old ≡ true → PollsFor (λ done. Nothing) Nothing self.old self.new (W.seen world.old) (W.seen world.new) result }
+        ensures polled { is_going self.old ≡ true
+            → PollsFor (λ done. Nothing) Nothing self.old self.new (W.seen world.old)
+            (W.seen world.new) result }
         ensures going { is_going self.new ≡ stays_going result }
-        ensures over { is_going self.old ≡ false → result ≡ Err (Refusal.Code ErrorCode.InvalidState) }
+        ensures over { is_going self.old ≡ false
+            → result ≡ Err (Refusal.Code ErrorCode.InvalidState) }
         ensures unasked { is_going self.old ≡ false → W.seen world.new ≡ W.seen world.old }
         ensures stays { is_going self.old ≡ false → self.new ≡ self.old }
         ensures same { socket.new ≡ socket.old }
@@ -87,7 +91,8 @@ fn poll_check<W: World>(
 ) -> Result<Answer<()>, Refusal>
     requires open { (W.seen world.old).ended ≡ false }
     requires stage { stage.old ≡ BindStage.Check }
-    ensures polled { PollsFor (λ done. Nothing) Nothing (bind_operation asker addr stage.old) (bind_operation asker addr stage.new) (W.seen world.old) (W.seen world.new) result }
+    ensures polled { PollsFor (λ done. Nothing) Nothing (bind_operation asker addr stage.old)
+        (bind_operation asker addr stage.new) (W.seen world.old) (W.seen world.new) result }
     ensures going { is_going (bind_operation asker addr stage.new) ≡ stays_going result }
 {
     let verdict = asks::check(world, asker.op, asker.maker, addr, SocketAddrUse::TcpBind)?;
@@ -111,7 +116,8 @@ fn poll_bind<W: World>(
 ) -> Result<Answer<()>, Refusal>
     requires open { (W.seen world.old).ended ≡ false }
     requires stage { stage.old ≡ BindStage.Bind }
-    ensures polled { PollsFor (λ done. Nothing) Nothing (bind_operation asker addr stage.old) (bind_operation asker addr stage.new) (W.seen world.old) (W.seen world.new) result }
+    ensures polled { PollsFor (λ done. Nothing) Nothing (bind_operation asker addr stage.old)
+        (bind_operation asker addr stage.new) (W.seen world.old) (W.seen world.new) result }
     ensures going { is_going (bind_operation asker addr stage.new) ≡ stays_going result }
 {
     let told = asks::bind(world, asker.op, asker.side, addr)?;

@@ -79,7 +79,8 @@ impl ConnectOp {
     /// again.
     pub(crate) fn poll<W: World>(&mut self, world: &mut W) -> Result<Answer<()>, Refusal>
         requires { (W.seen world.old).ended ≡ false }
-        ensures polled { PollsFor (λ done. Nothing) Nothing self.old self.new (W.seen world.old) (W.seen world.new) result }
+        ensures polled { PollsFor (λ done. Nothing) Nothing self.old self.new (W.seen world.old)
+            (W.seen world.new) result }
         ensures before { IsConnect self.old }
         ensures after { IsConnect self.new }
     {
@@ -107,7 +108,9 @@ fn poll_wildcard<W: World>(
 ) -> Result<Answer<()>, Refusal>
     requires open { (W.seen world.old).ended ≡ false }
     requires stage { stage.old ≡ ConnectStage.CheckWildcard }
-    ensures polled { PollsFor (λ done. Nothing) Nothing (connect_operation asker wildcard addr stage.old) (connect_operation asker wildcard addr stage.new) (W.seen world.old) (W.seen world.new) result }
+    ensures polled { PollsFor (λ done. Nothing) Nothing (connect_operation asker wildcard addr
+        stage.old) (connect_operation asker wildcard addr stage.new) (W.seen world.old)
+        (W.seen world.new) result }
 {
     let verdict = asks::check(
         world,
@@ -137,7 +140,9 @@ fn poll_check<W: World>(
 ) -> Result<Answer<()>, Refusal>
     requires open { (W.seen world.old).ended ≡ false }
     requires stage { stage.old ≡ ConnectStage.Check }
-    ensures polled { PollsFor (λ done. Nothing) Nothing (connect_operation asker wildcard addr stage.old) (connect_operation asker wildcard addr stage.new) (W.seen world.old) (W.seen world.new) result }
+    ensures polled { PollsFor (λ done. Nothing) Nothing (connect_operation asker wildcard addr
+        stage.old) (connect_operation asker wildcard addr stage.new) (W.seen world.old)
+        (W.seen world.new) result }
 {
     let verdict = asks::check(
         world,
@@ -167,7 +172,9 @@ fn poll_connect<W: World>(
 ) -> Result<Answer<()>, Refusal>
     requires open { (W.seen world.old).ended ≡ false }
     requires stage { stage.old ≡ ConnectStage.Connect }
-    ensures polled { PollsFor (λ done. Nothing) Nothing (connect_operation asker wildcard addr stage.old) (connect_operation asker wildcard addr stage.new) (W.seen world.old) (W.seen world.new) result }
+    ensures polled { PollsFor (λ done. Nothing) Nothing (connect_operation asker wildcard addr
+        stage.old) (connect_operation asker wildcard addr stage.new) (W.seen world.old)
+        (W.seen world.new) result }
 {
     let told = asks::connect(world, asker.op, asker.side, addr)?;
     match told {
@@ -192,7 +199,9 @@ fn poll_close<W: World>(
 ) -> Result<Answer<()>, Refusal>
     requires open { (W.seen world.old).ended ≡ false }
     requires stage { stage.old ≡ ConnectStage.Close code }
-    ensures polled { PollsFor (λ done. Nothing) Nothing (connect_operation asker wildcard addr stage.old) (connect_operation asker wildcard addr stage.new) (W.seen world.old) (W.seen world.new) result }
+    ensures polled { PollsFor (λ done. Nothing) Nothing (connect_operation asker wildcard addr
+        stage.old) (connect_operation asker wildcard addr stage.new) (W.seen world.old)
+        (W.seen world.new) result }
 {
     asks::close(world, asker.op, asker.side)?;
     *stage = ConnectStage::Over;

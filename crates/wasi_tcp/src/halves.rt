@@ -58,7 +58,8 @@ impl TcpReceiveStream {
         op: OpId,
     ) -> Result<Answer<()>, AllocError>
         requires { (W.seen world.old).ended ≡ false }
-        ensures asked { AsksFor (ask_read_ready op self.old.side) (W.seen world.old) (W.seen world.new) (λ answer. answer) result }
+        ensures asked { AsksFor (ask_read_ready op self.old.side) (W.seen world.old)
+            (W.seen world.new) (λ answer. answer) result }
         ensures err { OnErr result (W.seen world.new ≡ W.seen world.old) }
         ensures same { self.new ≡ self.old }
     {
@@ -75,7 +76,8 @@ impl TcpReceiveStream {
         size: usize,
     ) -> Result<Answer<Octets>, Refusal>
         requires { (W.seen world.old).ended ≡ false }
-        ensures asked { AsksFor (read_asks op self.old.side size) (W.seen world.old) (W.seen world.new) (λ answer. answer) (outcome result) }
+        ensures asked { AsksFor (read_asks op self.old.side size) (W.seen world.old)
+            (W.seen world.new) (λ answer. answer) (outcome result) }
         ensures err { OnErr (outcome result) (W.seen world.new ≡ W.seen world.old) }
         ensures same { self.new ≡ self.old }
     {
@@ -90,7 +92,8 @@ impl TcpReceiveStream {
     /// Shuts the receiving half down. Out of memory it isn't shut down.
     pub fn give_up<W: World>(self, world: &mut W, op: OpId) -> Result<(), AllocError>
         requires { (W.seen world.old).ended ≡ false }
-        ensures asked { AsksFor (ask_shutdown op self.side ShutdownType.Receive) (W.seen world.old) (W.seen world.new) (λ done. done) result }
+        ensures asked { AsksFor (ask_shutdown op self.side ShutdownType.Receive) (W.seen world.old)
+            (W.seen world.new) (λ done. done) result }
         ensures err { OnErr result (W.seen world.new ≡ W.seen world.old) }
     {
         self.shut_down(world, op)
@@ -99,7 +102,8 @@ impl TcpReceiveStream {
     /// Shuts the receiving half down; its owner drops it then.
     pub(crate) fn shut_down<W: World>(&self, world: &mut W, op: OpId) -> Result<(), AllocError>
         requires { (W.seen world.old).ended ≡ false }
-        ensures asked { AsksFor (ask_shutdown op self.now.side ShutdownType.Receive) (W.seen world.old) (W.seen world.new) (λ done. done) result }
+        ensures asked { AsksFor (ask_shutdown op self.now.side ShutdownType.Receive)
+            (W.seen world.old) (W.seen world.new) (λ done. done) result }
         ensures err { OnErr result (W.seen world.new ≡ W.seen world.old) }
     {
         asks::shutdown(world, op, self.side, ShutdownType::Receive)
@@ -115,7 +119,8 @@ impl TcpSendStream {
         op: OpId,
     ) -> Result<Answer<()>, AllocError>
         requires { (W.seen world.old).ended ≡ false }
-        ensures asked { AsksFor (ask_write_ready op self.old.side) (W.seen world.old) (W.seen world.new) (λ answer. answer) result }
+        ensures asked { AsksFor (ask_write_ready op self.old.side) (W.seen world.old)
+            (W.seen world.new) (λ answer. answer) result }
         ensures err { OnErr result (W.seen world.new ≡ W.seen world.old) }
         ensures same { self.new ≡ self.old }
     {
@@ -132,7 +137,8 @@ impl TcpSendStream {
         requires open { (W.seen world.old).ended ≡ false }
         requires some { 1 ≤ length bytes.now }
         requires short { length bytes.now < 2 ^ 32 }
-        ensures asked { AsksFor (write_asks op self.old.side bytes.now) (W.seen world.old) (W.seen world.new) (λ answer. answer) (outcome result) }
+        ensures asked { AsksFor (write_asks op self.old.side bytes.now) (W.seen world.old)
+            (W.seen world.new) (λ answer. answer) (outcome result) }
         ensures err { OnErr (outcome result) (W.seen world.new ≡ W.seen world.old) }
         ensures same { self.new ≡ self.old }
     {
@@ -143,7 +149,8 @@ impl TcpSendStream {
     /// Shuts the sending half down. Out of memory it isn't shut down.
     pub fn give_up<W: World>(self, world: &mut W, op: OpId) -> Result<(), AllocError>
         requires { (W.seen world.old).ended ≡ false }
-        ensures asked { AsksFor (ask_shutdown op self.side ShutdownType.Send) (W.seen world.old) (W.seen world.new) (λ done. done) result }
+        ensures asked { AsksFor (ask_shutdown op self.side ShutdownType.Send) (W.seen world.old)
+            (W.seen world.new) (λ done. done) result }
         ensures err { OnErr result (W.seen world.new ≡ W.seen world.old) }
     {
         self.shut_down(world, op)
@@ -152,7 +159,8 @@ impl TcpSendStream {
     /// Shuts the sending half down; its owner drops it then.
     pub(crate) fn shut_down<W: World>(&self, world: &mut W, op: OpId) -> Result<(), AllocError>
         requires { (W.seen world.old).ended ≡ false }
-        ensures asked { AsksFor (ask_shutdown op self.now.side ShutdownType.Send) (W.seen world.old) (W.seen world.new) (λ done. done) result }
+        ensures asked { AsksFor (ask_shutdown op self.now.side ShutdownType.Send) (W.seen world.old)
+            (W.seen world.new) (λ done. done) result }
         ensures err { OnErr result (W.seen world.new ≡ W.seen world.old) }
     {
         asks::shutdown(world, op, self.side, ShutdownType::Send)

@@ -3,7 +3,8 @@
 ghost use Rattle.std.specs.Prelude.{◌≡◌, ◌≤◌, ◌<◌, ◌^◌, ℕ, Bool, List, false, length, drop, OnErr};
 ghost use Rattle.wasi_world.specs.Asks.{AsksFor, Reaches};
 ghost use Rattle.wasi_world.specs.Operation.{PollsFor, Nothing, Waits, write_front};
-ghost use Rattle.wasi_tcp.specs.Job.{writer, write_operation, new_job, rest_front, write_end, end_after, job_asks, told_end, closing_job, finish_asks};
+ghost use Rattle.wasi_tcp.specs.Job.{writer, write_operation, new_job, rest_front, write_end};
+ghost use Rattle.wasi_tcp.specs.Job.{end_after, job_asks, told_end, closing_job, finish_asks};
 ghost use Rattle.wasi_tcp.specs.Bounds.{IsWrite};
 
 use crate::halves::answered;
@@ -28,7 +29,8 @@ pub enum WriteStage {
     Failed(ErrorCode),
 }
 
-/// A write that was begun, from the front of its bytes on. It is kept with its end until it is collected.
+/// A write that was begun, from the front of its bytes on. It is kept with its end until it is
+/// collected.
 #[derive(Drop)]
 pub struct WriteJob {
     op: OpId,
@@ -84,11 +86,12 @@ impl WriteJob {
         }
     }
 
-    /// Has the half released after the write: by the job, or now, named `op`, where the write ended well already. After
-    /// running out of memory the job is as it was.
+    /// Has the half released after the write: by the job, or now, named `op`, where the write ended
+    /// well already. After running out of memory the job is as it was.
     pub(crate) fn finish<W: World>(&mut self, world: &mut W, op: OpId) -> Result<(), AllocError>
         requires { (W.seen world.old).ended ≡ false }
-        ensures asked { AsksFor (finish_asks op self.old) (W.seen world.old) (W.seen world.new) (λ done. (done, self.new)) result }
+        ensures asked { AsksFor (finish_asks op self.old) (W.seen world.old) (W.seen world.new)
+            (λ done. (done, self.new)) result }
         ensures err { OnErr result (self.new ≡ self.old) }
         ensures unasked { OnErr result (W.seen world.new ≡ W.seen world.old) }
     {
@@ -109,13 +112,15 @@ impl WriteJob {
         self.closing = true;
     }
 
-    /// Offers the rest again and again, until the answer is pending, a code came, or nothing is left. After a code the
-    /// half is shut down. One that ended stays as it is. After running out of memory it is as after its last answered
-    /// ask, and may be polled again.
+    /// Offers the rest again and again, until the answer is pending, a code came, or nothing is
+    /// left. After a code the half is shut down. One that ended stays as it is. After running out
+    /// of memory it is as after its last answered ask, and may be polled again.
     pub fn poll<W: World>(&mut self, world: &mut W) -> Result<(), AllocError>
         requires { (W.seen world.old).ended ≡ false }
-        ensures asked { AsksFor (job_asks self.old) (W.seen world.old) (W.seen world.new) (λ done. self.new) result }
-        ensures err { OnErr result (Reaches (job_asks self.old) (job_asks self.new) (W.seen world.old) (W.seen world.new)) }
+        ensures asked { AsksFor (job_asks self.old) (W.seen world.old) (W.seen world.new)
+            (λ done. self.new) result }
+        ensures err { OnErr result (Reaches (job_asks self.old) (job_asks self.new)
+            (W.seen world.old) (W.seen world.new)) }
         ensures who { self.new.write.who ≡ self.old.write.who }
         ensures write { IsWrite self.old }
     {
@@ -132,7 +137,8 @@ impl WriteJob {
     fn poll_stage<W: World>(&mut self, world: &mut W) -> Result<Answer<()>, Refusal>
         requires open { (W.seen world.old).ended ≡ false }
         requires unfinished { self.old.end ≡ Waits }
-        ensures polled { PollsFor (λ done. Nothing) Nothing self.old.write self.new.write (W.seen world.old) (W.seen world.new) result }
+        ensures polled { PollsFor (λ done. Nothing) Nothing self.old.write self.new.write
+            (W.seen world.old) (W.seen world.new) result }
         ensures end { self.new.end ≡ end_after result }
     {
         let (op, side, closing) = (self.op, self.side, self.closing);
@@ -157,8 +163,8 @@ impl WriteJob {
     }
 }
 
-/// Offers the bytes from a place on, and moves the place behind what is taken, until the answer is pending, a code
-/// came, or nothing is left.
+/// Offers the bytes from a place on, and moves the place behind what is taken, until the answer is
+/// pending, a code came, or nothing is left.
 fn write_rest<W: World>(
     world: &mut W,
     op: OpId,
@@ -169,8 +175,12 @@ fn write_rest<W: World>(
     requires open { (W.seen world.old).ended ≡ false }
     requires within { place.old ≤ length bytes.now }
     requires short { length bytes.now < 2 ^ 32 }
-    ensures asked { AsksFor (write_front (writer op side) (drop place.old bytes.now) 0) (W.seen world.old) (W.seen world.new) (λ told. rest_front (drop place.new bytes.now) told) result }
-    ensures err { OnErr result (Reaches (write_front (writer op side) (drop place.old bytes.now) 0) (write_front (writer op side) (drop place.new bytes.now) 0) (W.seen world.old) (W.seen world.new)) }
+    ensures asked { AsksFor (write_front (writer op side) (drop place.old bytes.now) 0)
+        (W.seen world.old) (W.seen world.new) (λ told. rest_front (drop place.new bytes.now) told)
+        result }
+    ensures err { OnErr result (Reaches (write_front (writer op side) (drop place.old bytes.now) 0)
+        (write_front (writer op side) (drop place.new bytes.now) 0) (W.seen world.old)
+        (W.seen world.new)) }
     ensures within { place.new ≤ length bytes.now }
 {
     while *place < bytes.len() {
@@ -196,7 +206,9 @@ fn poll_rest<W: World>(
     requires stage { stage.old ≡ WriteStage.Write }
     requires within { place.old ≤ length bytes.now }
     requires short { length bytes.now < 2 ^ 32 }
-    ensures polled { PollsFor (λ done. Nothing) Nothing (write_operation op side (drop place.old bytes.now) closing stage.old) (write_operation op side (drop place.new bytes.now) closing stage.new) (W.seen world.old) (W.seen world.new) result }
+    ensures polled { PollsFor (λ done. Nothing) Nothing (write_operation op side
+        (drop place.old bytes.now) closing stage.old) (write_operation op side
+        (drop place.new bytes.now) closing stage.new) (W.seen world.old) (W.seen world.new) result }
     ensures end { write_end stage.new ≡ end_after result }
     ensures within { place.new ≤ length bytes.now }
 {
@@ -225,7 +237,10 @@ fn poll_close<W: World>(
 ) -> Result<Answer<()>, Refusal>
     requires open { (W.seen world.old).ended ≡ false }
     requires stage { stage.old ≡ WriteStage.Close }
-    ensures polled { (rest : List ℕ) (closing : Bool) → PollsFor (λ done. Nothing) Nothing (write_operation op side rest closing stage.old) (write_operation op side rest closing stage.new) (W.seen world.old) (W.seen world.new) result }
+    ensures polled { (rest : List ℕ) (closing : Bool)
+        → PollsFor (λ done. Nothing) Nothing (write_operation op side rest closing stage.old)
+        (write_operation op side rest closing stage.new) (W.seen world.old) (W.seen world.new)
+        result }
     ensures end { write_end stage.new ≡ end_after result }
 {
     asks::shutdown(world, op, side, ShutdownType::Send)?;
@@ -242,7 +257,10 @@ fn poll_shutdown<W: World>(
 ) -> Result<Answer<()>, Refusal>
     requires open { (W.seen world.old).ended ≡ false }
     requires stage { stage.old ≡ WriteStage.Refused code }
-    ensures polled { (rest : List ℕ) (closing : Bool) → PollsFor (λ done. Nothing) Nothing (write_operation op side rest closing stage.old) (write_operation op side rest closing stage.new) (W.seen world.old) (W.seen world.new) result }
+    ensures polled { (rest : List ℕ) (closing : Bool)
+        → PollsFor (λ done. Nothing) Nothing (write_operation op side rest closing stage.old)
+        (write_operation op side rest closing stage.new) (W.seen world.old) (W.seen world.new)
+        result }
     ensures end { write_end stage.new ≡ end_after result }
 {
     asks::shutdown(world, op, side, ShutdownType::Send)?;

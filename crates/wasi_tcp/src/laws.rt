@@ -16,7 +16,8 @@ ghost use Rattle.wasi_tcp.specs.Addresses.{remote_asks};
 ghost use Rattle.wasi_tcp.specs.Calls.{SocketCall, after_calls, KnowsPeer};
 ghost use Rattle.wasi_tcp.specs.Reader.{read_state_asks};
 ghost use Rattle.wasi_tcp.specs.Job.{Job, job_asks};
-ghost use Rattle.wasi_tcp.specs.Writer.{stop_of, look_asks, check_write_asks, write_state_asks, turn_asks, flush_of};
+ghost use Rattle.wasi_tcp.specs.Writer.{stop_of, look_asks, check_write_asks, write_state_asks};
+ghost use Rattle.wasi_tcp.specs.Writer.{turn_asks, flush_of};
 ghost use Rattle.wasi_tcp.specs.Taken.{taken_in, IsFrontOf, IsTakenBy};
 ghost use Rattle.wasi_tcp.specs.Bounds.{IsWrite, HoldsWrite, most_polled, most_turned};
 ghost use Rattle.wasi_tcp.specs.declared.writer.WriteState.TheVariants as WriteState;
@@ -30,9 +31,11 @@ ghost use Rattle.wasi_tcp.specs.declared.writer.WriteState.TheVariants as WriteS
 ///
 /// It runs no code: its contract is a law about the definitions that contracts cite.
 pub fn remote_address_stays()
-    ensures told { (op : OpId) (a : IpSocketAddress) (socket after : Socket) (entries : List Entry) →
+    ensures told { (op : OpId) (a : IpSocketAddress) (socket after : Socket) (entries : List Entry)
+        →
         Left (remote_asks op socket) entries (Give (Ok a, after)) → KnowsPeer a after }
-    ensures stays { (calls : List SocketCall) (a : IpSocketAddress) (socket after : Socket) (entries : List Entry) →
+    ensures stays { (calls : List SocketCall) (a : IpSocketAddress) (socket after : Socket)
+        (entries : List Entry) →
         KnowsPeer a socket → Left (after_calls calls socket) entries (Give after) → KnowsPeer a after }
     ensures answered { (op : OpId) (a : IpSocketAddress) (socket : Socket) →
         KnowsPeer a socket → remote_asks op socket ≡ Give (Ok a, socket) }
@@ -47,17 +50,22 @@ pub fn remote_address_stays()
 ///
 /// It runs no code: its contract is a law about the definitions that contracts cite.
 pub fn writes_are_taken_in_order()
-    ensures front { (op : OpId) (half : TcpSendStream) (permit : ℕ) (bytes : List ℕ) (entries : List Entry)
+    ensures front { (op : OpId) (half : TcpSendStream) (permit : ℕ) (bytes : List ℕ)
+        (entries : List Entry)
         (rest : Asks (Result (Unit {0}) StreamStop × WriteState)) →
         Left (write_state_asks op (WriteState.Ready half permit) bytes) entries rest → IsFrontOf (taken_in half.side entries) bytes }
-    ensures whole { (op : OpId) (half : TcpSendStream) (permit : ℕ) (bytes : List ℕ) (entries : List Entry)
+    ensures whole { (op : OpId) (half : TcpSendStream) (permit : ℕ) (bytes : List ℕ)
+        (entries : List Entry)
         (done : Result (Unit {0}) StreamStop × WriteState) →
         Left (write_state_asks op (WriteState.Ready half permit) bytes) entries (Give done) → IsTakenBy bytes (taken_in half.side entries) done }
-    ensures look { (op side : OpId) (s : WriteState) (entries : List Entry) (rest : Asks (Result (Answer (Unit {0})) StreamStop × WriteState)) →
+    ensures look { (op side : OpId) (s : WriteState) (entries : List Entry)
+        (rest : Asks (Result (Answer (Unit {0})) StreamStop × WriteState)) →
         Left (look_asks op s) entries rest → taken_in side entries ≡ [] }
-    ensures check_write { (op side : OpId) (s : WriteState) (entries : List Entry) (rest : Asks (Result ℕ StreamStop × WriteState)) →
+    ensures check_write { (op side : OpId) (s : WriteState) (entries : List Entry)
+        (rest : Asks (Result ℕ StreamStop × WriteState)) →
         Left (check_write_asks op s) entries rest → taken_in side entries ≡ [] }
-    ensures read { (op side : OpId) (s : ReadState) (size : ℕ) (entries : List Entry) (rest : Asks (Result (List ℕ) StreamStop × ReadState)) →
+    ensures read { (op side : OpId) (s : ReadState) (size : ℕ) (entries : List Entry)
+        (rest : Asks (Result (List ℕ) StreamStop × ReadState)) →
         Left (read_state_asks op s size) entries rest → taken_in side entries ≡ [] }
 {}
 
@@ -90,8 +98,12 @@ pub fn reads_are_within_their_size()
 ///
 /// It runs no code: its contract is a law about the definitions that contracts cite.
 pub fn closed_writers_answer_the_same()
-    ensures look { (op : OpId) (e : WriteError) → look_asks op (WriteState.Closed e) ≡ Give (Err (stop_of e), WriteState.Closed e) }
-    ensures check_write { (op : OpId) (e : WriteError) → check_write_asks op (WriteState.Closed e) ≡ Give (Err (stop_of e), WriteState.Closed e) }
-    ensures write { (op : OpId) (e : WriteError) (bytes : List ℕ) → write_state_asks op (WriteState.Closed e) bytes ≡ Give (Err (stop_of e), WriteState.Closed e) }
+    ensures look { (op : OpId) (e : WriteError)
+        → look_asks op (WriteState.Closed e) ≡ Give (Err (stop_of e), WriteState.Closed e) }
+    ensures check_write { (op : OpId) (e : WriteError)
+        → check_write_asks op (WriteState.Closed e) ≡ Give (Err (stop_of e), WriteState.Closed e) }
+    ensures write { (op : OpId) (e : WriteError) (bytes : List ℕ)
+        → write_state_asks op (WriteState.Closed e) bytes
+        ≡ Give (Err (stop_of e), WriteState.Closed e) }
     ensures flush { (e : WriteError) → flush_of (WriteState.Closed e) ≡ Err (stop_of e) }
 {}

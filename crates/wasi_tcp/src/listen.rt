@@ -3,7 +3,8 @@
 ghost use Rattle.std.specs.Prelude.{◌≡◌, false, None, OnErr};
 ghost use Rattle.wasi_world.specs.Asks.{AsksFor, Reaches, outcome};
 ghost use Rattle.wasi_world.specs.Operation.{PollsFor, Nothing};
-ghost use Rattle.wasi_tcp.specs.Listen.{listen_operation, listen_first, is_over, held_side, cancel_asks, IsListen};
+ghost use Rattle.wasi_tcp.specs.Listen.{listen_operation, listen_first, is_over, held_side};
+ghost use Rattle.wasi_tcp.specs.Listen.{cancel_asks, IsListen};
 ghost use Rattle.socket_common.specs.Rounds.{is_going, stays_going};
 ghost use Rattle.wasi_tcp.specs.Socket.{side_of};
 ghost use Rattle.wasi_tcp.specs.Listening.{listen_poll_asks, listen_goes_on};
@@ -82,7 +83,8 @@ impl ListenOp {
         }
     }
 
-    /// The network socket that it holds: that of the socket that began it, and none once it is over. Takes no memory.
+    /// The network socket that it holds: that of the socket that began it, and none once it is
+    /// over. Takes no memory.
     pub fn held(&self) -> Option<Sock>
         ensures { result ≡ held_side self.now }
     {
@@ -118,8 +120,10 @@ impl ListenOp {
     ) -> Result<Answer<TcpListenStream>, Refusal>
         requires open { (W.seen world.old).ended ≡ false }
         requires sideless { side_of socket.old ≡ None }
-        ensures asked { AsksFor (listen_poll_asks self.old socket.old) (W.seen world.old) (W.seen world.new) (λ answer. (answer, (self.new, socket.new))) (outcome result) }
-        ensures err { OnErr (outcome result) (Reaches (listen_goes_on self.old socket.old) (listen_goes_on self.new socket.new) (W.seen world.old) (W.seen world.new)) }
+        ensures asked { AsksFor (listen_poll_asks self.old socket.old) (W.seen world.old)
+            (W.seen world.new) (λ answer. (answer, (self.new, socket.new))) (outcome result) }
+        ensures err { OnErr (outcome result) (Reaches (listen_goes_on self.old socket.old)
+            (listen_goes_on self.new socket.new) (W.seen world.old) (W.seen world.new)) }
         ensures going { is_going self.new ≡ stays_going result }
         ensures before { IsListen self.old }
         ensures after { IsListen self.new }
@@ -139,7 +143,8 @@ impl ListenOp {
     /// One that has ended is ready, and nothing is asked.
     pub(crate) fn poll_asks<W: World>(&mut self, world: &mut W) -> Result<Answer<()>, Refusal>
         requires { (W.seen world.old).ended ≡ false }
-        ensures polled { PollsFor (λ done. Nothing) Nothing self.old self.new (W.seen world.old) (W.seen world.new) result }
+        ensures polled { PollsFor (λ done. Nothing) Nothing self.old self.new (W.seen world.old)
+            (W.seen world.new) result }
         ensures going { is_going self.new ≡ stays_going result }
         ensures before { IsListen self.old }
         ensures after { IsListen self.new }
@@ -170,7 +175,8 @@ impl ListenOp {
     /// has it. Out of memory nothing was asked, and the network socket isn't closed.
     pub fn cancel<W: World>(self, world: &mut W) -> Result<(), AllocError>
         requires { (W.seen world.old).ended ≡ false }
-        ensures asked { AsksFor (cancel_asks self) (W.seen world.old) (W.seen world.new) (λ done. done) result }
+        ensures asked { AsksFor (cancel_asks self) (W.seen world.old) (W.seen world.new)
+            (λ done. done) result }
         ensures unasked { OnErr result (W.seen world.new ≡ W.seen world.old) }
     {
         if self.is_over() {
@@ -213,8 +219,11 @@ fn poll_local<W: World>(
 ) -> Result<Answer<()>, Refusal>
     requires open { (W.seen world.old).ended ≡ false }
     requires stage { stage.old ≡ ListenStage.Local }
-    ensures polled { PollsFor (λ done. Nothing) Nothing (listen_operation asker wildcard backlog stage.old) (listen_operation asker wildcard backlog stage.new) (W.seen world.old) (W.seen world.new) result }
-    ensures going { is_going (listen_operation asker wildcard backlog stage.new) ≡ stays_going result }
+    ensures polled { PollsFor (λ done. Nothing) Nothing (listen_operation asker wildcard backlog
+        stage.old) (listen_operation asker wildcard backlog stage.new) (W.seen world.old)
+        (W.seen world.new) result }
+    ensures going { is_going (listen_operation asker wildcard backlog stage.new)
+        ≡ stays_going result }
 {
     let told = asks::local(world, asker.op, asker.side)?;
     match told {
@@ -239,8 +248,11 @@ fn poll_told<W: World>(
 ) -> Result<Answer<()>, Refusal>
     requires open { (W.seen world.old).ended ≡ false }
     requires stage { stage.old ≡ ListenStage.CheckTold addr }
-    ensures polled { PollsFor (λ done. Nothing) Nothing (listen_operation asker wildcard backlog stage.old) (listen_operation asker wildcard backlog stage.new) (W.seen world.old) (W.seen world.new) result }
-    ensures going { is_going (listen_operation asker wildcard backlog stage.new) ≡ stays_going result }
+    ensures polled { PollsFor (λ done. Nothing) Nothing (listen_operation asker wildcard backlog
+        stage.old) (listen_operation asker wildcard backlog stage.new) (W.seen world.old)
+        (W.seen world.new) result }
+    ensures going { is_going (listen_operation asker wildcard backlog stage.new)
+        ≡ stays_going result }
 {
     let verdict = asks::check(world, asker.op, asker.maker, addr, SocketAddrUse::TcpListen)?;
     match verdict {
@@ -271,8 +283,11 @@ fn poll_check_bind<W: World>(
 ) -> Result<Answer<()>, Refusal>
     requires open { (W.seen world.old).ended ≡ false }
     requires stage { stage.old ≡ ListenStage.CheckBind }
-    ensures polled { PollsFor (λ done. Nothing) Nothing (listen_operation asker wildcard backlog stage.old) (listen_operation asker wildcard backlog stage.new) (W.seen world.old) (W.seen world.new) result }
-    ensures going { is_going (listen_operation asker wildcard backlog stage.new) ≡ stays_going result }
+    ensures polled { PollsFor (λ done. Nothing) Nothing (listen_operation asker wildcard backlog
+        stage.old) (listen_operation asker wildcard backlog stage.new) (W.seen world.old)
+        (W.seen world.new) result }
+    ensures going { is_going (listen_operation asker wildcard backlog stage.new)
+        ≡ stays_going result }
 {
     let verdict = asks::check(
         world,
@@ -309,8 +324,11 @@ fn poll_check_listen<W: World>(
 ) -> Result<Answer<()>, Refusal>
     requires open { (W.seen world.old).ended ≡ false }
     requires stage { stage.old ≡ ListenStage.CheckListen }
-    ensures polled { PollsFor (λ done. Nothing) Nothing (listen_operation asker wildcard backlog stage.old) (listen_operation asker wildcard backlog stage.new) (W.seen world.old) (W.seen world.new) result }
-    ensures going { is_going (listen_operation asker wildcard backlog stage.new) ≡ stays_going result }
+    ensures polled { PollsFor (λ done. Nothing) Nothing (listen_operation asker wildcard backlog
+        stage.old) (listen_operation asker wildcard backlog stage.new) (W.seen world.old)
+        (W.seen world.new) result }
+    ensures going { is_going (listen_operation asker wildcard backlog stage.new)
+        ≡ stays_going result }
 {
     let verdict = asks::check(
         world,
@@ -347,8 +365,11 @@ fn poll_bind<W: World>(
 ) -> Result<Answer<()>, Refusal>
     requires open { (W.seen world.old).ended ≡ false }
     requires stage { stage.old ≡ ListenStage.Bind }
-    ensures polled { PollsFor (λ done. Nothing) Nothing (listen_operation asker wildcard backlog stage.old) (listen_operation asker wildcard backlog stage.new) (W.seen world.old) (W.seen world.new) result }
-    ensures going { is_going (listen_operation asker wildcard backlog stage.new) ≡ stays_going result }
+    ensures polled { PollsFor (λ done. Nothing) Nothing (listen_operation asker wildcard backlog
+        stage.old) (listen_operation asker wildcard backlog stage.new) (W.seen world.old)
+        (W.seen world.new) result }
+    ensures going { is_going (listen_operation asker wildcard backlog stage.new)
+        ≡ stays_going result }
 {
     let told = asks::bind(world, asker.op, asker.side, wildcard)?;
     match told {
@@ -371,8 +392,11 @@ fn poll_listen<W: World>(
 ) -> Result<Answer<()>, Refusal>
     requires open { (W.seen world.old).ended ≡ false }
     requires stage { stage.old ≡ ListenStage.Listen }
-    ensures polled { PollsFor (λ done. Nothing) Nothing (listen_operation asker wildcard backlog stage.old) (listen_operation asker wildcard backlog stage.new) (W.seen world.old) (W.seen world.new) result }
-    ensures going { is_going (listen_operation asker wildcard backlog stage.new) ≡ stays_going result }
+    ensures polled { PollsFor (λ done. Nothing) Nothing (listen_operation asker wildcard backlog
+        stage.old) (listen_operation asker wildcard backlog stage.new) (W.seen world.old)
+        (W.seen world.new) result }
+    ensures going { is_going (listen_operation asker wildcard backlog stage.new)
+        ≡ stays_going result }
 {
     let told = asks::listen(world, asker.op, asker.side, backlog)?;
     match told {
@@ -396,8 +420,11 @@ fn poll_close<W: World>(
 ) -> Result<Answer<()>, Refusal>
     requires open { (W.seen world.old).ended ≡ false }
     requires stage { stage.old ≡ ListenStage.Close code }
-    ensures polled { PollsFor (λ done. Nothing) Nothing (listen_operation asker wildcard backlog stage.old) (listen_operation asker wildcard backlog stage.new) (W.seen world.old) (W.seen world.new) result }
-    ensures going { is_going (listen_operation asker wildcard backlog stage.new) ≡ stays_going result }
+    ensures polled { PollsFor (λ done. Nothing) Nothing (listen_operation asker wildcard backlog
+        stage.old) (listen_operation asker wildcard backlog stage.new) (W.seen world.old)
+        (W.seen world.new) result }
+    ensures going { is_going (listen_operation asker wildcard backlog stage.new)
+        ≡ stays_going result }
 {
     asks::close(world, asker.op, asker.side)?;
     *stage = ListenStage::Over;

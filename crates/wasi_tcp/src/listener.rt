@@ -2,7 +2,12 @@
 
 ghost use Rattle.std.specs.Prelude.{◌≡◌, ◌+◌, ◌<◌, ◌^◌, false, OnErr};
 ghost use Rattle.wasi_world.specs.Asks.{AsksFor};
-ghost use Rattle.wasi_tcp.specs.Listener.{with_accept, new_listener, begun, has_accept, ids_after, readiness, ready_end, listener_ready_asks, accepted_socket, accepted_state, accepted, without_result, accept_end, listener_accept_asks, StandsAccept, untaken_side, listener_give_up_asks, HoldsAccept, IsListener, settled, memory_of, TurnFor};
+ghost use Rattle.wasi_tcp.specs.Listener.{with_accept, new_listener, begun, has_accept, ids_after};
+ghost use Rattle.wasi_tcp.specs.Listener.{readiness, ready_end, listener_ready_asks};
+ghost use Rattle.wasi_tcp.specs.Listener.{accepted_socket, accepted_state, accepted};
+ghost use Rattle.wasi_tcp.specs.Listener.{without_result, accept_end, listener_accept_asks};
+ghost use Rattle.wasi_tcp.specs.Listener.{StandsAccept, untaken_side, listener_give_up_asks};
+ghost use Rattle.wasi_tcp.specs.Listener.{HoldsAccept, IsListener, settled, memory_of, TurnFor};
 
 use crate::accept::AcceptOp;
 use crate::socket::{Connection, TcpSocket, TcpState};
@@ -19,7 +24,8 @@ pub enum Accepting {
     Idle,
     /// One is in progress.
     Asking(AcceptOp),
-    /// It ended with a connection that isn't taken yet: a new network socket, and the other end's address.
+    /// It ended with a connection that isn't taken yet: a new network socket, and the other end's
+    /// address.
     Arrived(Sock, IpSocketAddress),
     /// It ended with a fault that isn't taken yet.
     Failed(ErrorCode),
@@ -99,7 +105,8 @@ fn turn<W: World>(
     requires open { (W.seen world.old).ended ≡ false }
     requires names { ids.old.next_part + 1 < 2 ^ 64 }
     requires before { HoldsAccept side maker accept.old }
-    ensures turned { TurnFor (begun side maker ids.old accept.old) accept.new (W.seen world.old) (W.seen world.new) result }
+    ensures turned { TurnFor (begun side maker ids.old accept.old) accept.new (W.seen world.old)
+        (W.seen world.new) result }
     ensures ids { ids.new ≡ ids_after accept.old ids.old }
     ensures after { HoldsAccept side maker accept.new }
     ensures open { (W.seen world.new).ended ≡ false }
@@ -116,8 +123,9 @@ fn turn<W: World>(
     }
 }
 
-/// A listener: its network socket, its family, and the context that made it, which its checks name. It keeps one result of
-/// an accept, a connection or a fault, until that is taken. It must be released in the end.
+/// A listener: its network socket, its family, and the context that made it, which its checks name.
+/// It keeps one result of an accept, a connection or a fault, until that is taken. It must be
+/// released in the end.
 #[derive(Drop)]
 pub struct TcpListenStream {
     side: Sock,
@@ -131,7 +139,12 @@ impl Model for TcpListenStream {
 
     ghost Value = { Listener };
 
-    ghost view = { λ l. record { side = l.side; maker = l.maker; family = l.family; accept = l.accept } };
+    ghost view = { λ l. record {
+      side = l.side;
+      maker = l.maker;
+      family = l.family;
+      accept = l.accept;
+    } };
 
     ghost invariant = { λ l. HoldsAccept l.side l.maker l.accept };
 }
@@ -166,8 +179,10 @@ impl TcpListenStream {
     ) -> Result<Answer<()>, AllocError>
         requires open { (W.seen world.old).ended ≡ false }
         requires names { ids.old.next_part + 1 < 2 ^ 64 }
-        ensures asked { AsksFor (listener_ready_asks self.old ids.old) (W.seen world.old) (W.seen world.new) (λ answer. (answer, self.new)) result }
-        ensures err { OnErr result (StandsAccept (listener_ready_asks self.old ids.old) (ready_end self.old) self.new.accept (W.seen world.old) (W.seen world.new)) }
+        ensures asked { AsksFor (listener_ready_asks self.old ids.old) (W.seen world.old)
+            (W.seen world.new) (λ answer. (answer, self.new)) result }
+        ensures err { OnErr result (StandsAccept (listener_ready_asks self.old ids.old)
+            (ready_end self.old) self.new.accept (W.seen world.old) (W.seen world.new)) }
         ensures ids { ids.new ≡ ids_after self.old.accept ids.old }
         ensures same { self.new ≡ with_accept self.old self.new.accept }
         ensures before { IsListener self.old }
@@ -194,8 +209,10 @@ impl TcpListenStream {
     ) -> Result<Answer<TcpSocket>, AllocError>
         requires open { (W.seen world.old).ended ≡ false }
         requires names { ids.old.next_part + 1 < 2 ^ 64 }
-        ensures asked { AsksFor (listener_accept_asks self.old ids.old) (W.seen world.old) (W.seen world.new) (λ answer. (answer, self.new)) result }
-        ensures err { OnErr result (StandsAccept (listener_accept_asks self.old ids.old) (accept_end self.old) self.new.accept (W.seen world.old) (W.seen world.new)) }
+        ensures asked { AsksFor (listener_accept_asks self.old ids.old) (W.seen world.old)
+            (W.seen world.new) (λ answer. (answer, self.new)) result }
+        ensures err { OnErr result (StandsAccept (listener_accept_asks self.old ids.old)
+            (accept_end self.old) self.new.accept (W.seen world.old) (W.seen world.new)) }
         ensures ids { ids.new ≡ ids_after self.old.accept ids.old }
         ensures same { self.new ≡ with_accept self.old self.new.accept }
         ensures before { IsListener self.old }
@@ -232,7 +249,8 @@ impl TcpListenStream {
 
     /// A socket of this state, in exchange for the result.
     fn make(&mut self, state: TcpState) -> Answer<TcpSocket>
-        ensures answer { result ≡ Answer.Ready (accepted_socket self.old.family self.old.maker state) }
+        ensures answer { result ≡ Answer.Ready (accepted_socket self.old.family self.old.maker
+            state) }
         ensures taken { self.new ≡ with_accept self.old Accepting.Idle }
     {
         self.accept = Accepting::Idle;
@@ -254,7 +272,8 @@ impl TcpListenStream {
     /// asked.
     pub fn give_up<W: World>(self, world: &mut W) -> Result<(), AllocError>
         requires { (W.seen world.old).ended ≡ false }
-        ensures asked { AsksFor (listener_give_up_asks self) (W.seen world.old) (W.seen world.new) (λ done. done) result }
+        ensures asked { AsksFor (listener_give_up_asks self) (W.seen world.old) (W.seen world.new)
+            (λ done. done) result }
         ensures err { OnErr result (W.seen world.new ≡ W.seen world.old) }
         ensures before { IsListener self }
     {

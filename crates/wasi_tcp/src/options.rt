@@ -23,7 +23,8 @@ impl TcpSocket {
     /// - A reported value above the option's `largest_value` is `NotSupported`.
     pub fn get_option<W: World>(&self, world: &mut W, op: OpId, option: Opt) -> Result<u64, Refusal>
         requires { (W.seen world.old).ended ≡ false }
-        ensures asked { AsksFor (get_option_asks op self.now option) (W.seen world.old) (W.seen world.new) (λ answer. (answer, self.now)) (outcome result) }
+        ensures asked { AsksFor (get_option_asks op self.now option) (W.seen world.old)
+            (W.seen world.new) (λ answer. (answer, self.now)) (outcome result) }
         ensures within { IfOk result (λ answer. answer ≤ largest_value option) }
         ensures unasked { OnErr (outcome result) (W.seen world.new ≡ W.seen world.old) }
     {
@@ -48,7 +49,9 @@ impl TcpSocket {
         setting: Setting,
     ) -> Result<(), Refusal>
         requires { (W.seen world.old).ended ≡ false }
-        ensures asked { AsksFor (set_option_asks op self.old (option_of setting) (number_of setting)) (W.seen world.old) (W.seen world.new) (λ answer. (answer, self.new)) (outcome result) }
+        ensures asked { AsksFor (set_option_asks op self.old (option_of setting)
+            (number_of setting)) (W.seen world.old) (W.seen world.new)
+            (λ answer. (answer, self.new)) (outcome result) }
         ensures same { self.new ≡ self.old }
         ensures side { side_of self.new ≡ side_of self.old }
         ensures unasked { OnErr (outcome result) (W.seen world.new ≡ W.seen world.old) }
@@ -62,19 +65,21 @@ impl TcpSocket {
         }
     }
 
-    /// Whether probes are sent on a connection that is idle (`tcp-socket.keep-alive-enabled`). Errors are those of
-    /// `get_option`.
+    /// Whether probes are sent on a connection that is idle (`tcp-socket.keep-alive-enabled`).
+    /// Errors are those of `get_option`.
     pub fn keep_alive_enabled<W: World>(&self, world: &mut W, op: OpId) -> Result<bool, Refusal>
         requires { (W.seen world.old).ended ≡ false }
-        ensures asked { AsksFor (get_option_asks op self.now Opt.KeepAliveEnabled) (W.seen world.old) (W.seen world.new) (λ answer. (truth_answer answer, self.now)) (outcome result) }
+        ensures asked { AsksFor (get_option_asks op self.now Opt.KeepAliveEnabled)
+            (W.seen world.old) (W.seen world.new) (λ answer. (truth_answer answer, self.now))
+            (outcome result) }
         ensures unasked { OnErr (outcome result) (W.seen world.new ≡ W.seen world.old) }
     {
         let value = self.get_option(world, op, Opt::KeepAliveEnabled)?;
         Ok(value != 0)
     }
 
-    /// Whether probes are to be sent on a connection that is idle (`tcp-socket.set-keep-alive-enabled`). Errors are
-    /// those of `set_option`.
+    /// Whether probes are to be sent on a connection that is idle
+    /// (`tcp-socket.set-keep-alive-enabled`). Errors are those of `set_option`.
     pub fn set_keep_alive_enabled<W: World>(
         &mut self,
         world: &mut W,
@@ -82,7 +87,8 @@ impl TcpSocket {
         value: bool,
     ) -> Result<(), Refusal>
         requires { (W.seen world.old).ended ≡ false }
-        ensures asked { AsksFor (set_option_asks op self.old Opt.KeepAliveEnabled (from_bool value)) (W.seen world.old) (W.seen world.new) (λ answer. (answer, self.new)) (outcome result) }
+        ensures asked { AsksFor (set_option_asks op self.old Opt.KeepAliveEnabled (from_bool value))
+            (W.seen world.old) (W.seen world.new) (λ answer. (answer, self.new)) (outcome result) }
         ensures same { self.new ≡ self.old }
         ensures side { side_of self.new ≡ side_of self.old }
         ensures unasked { OnErr (outcome result) (W.seen world.new ≡ W.seen world.old) }
@@ -90,19 +96,20 @@ impl TcpSocket {
         self.set_option(world, op, Setting::KeepAliveEnabled(value))
     }
 
-    /// How long a connection is idle before the first probe, in nanoseconds (`tcp-socket.keep-alive-idle-time`). Errors
-    /// are those of `get_option`.
+    /// How long a connection is idle before the first probe, in nanoseconds
+    /// (`tcp-socket.keep-alive-idle-time`). Errors are those of `get_option`.
     pub fn keep_alive_idle_time<W: World>(&self, world: &mut W, op: OpId) -> Result<u64, Refusal>
         requires { (W.seen world.old).ended ≡ false }
-        ensures asked { AsksFor (get_option_asks op self.now Opt.KeepAliveIdleTime) (W.seen world.old) (W.seen world.new) (λ answer. (answer, self.now)) (outcome result) }
+        ensures asked { AsksFor (get_option_asks op self.now Opt.KeepAliveIdleTime)
+            (W.seen world.old) (W.seen world.new) (λ answer. (answer, self.now)) (outcome result) }
         ensures unasked { OnErr (outcome result) (W.seen world.new ≡ W.seen world.old) }
     {
         self.get_option(world, op, Opt::KeepAliveIdleTime)
     }
 
     /// How long a connection is to be idle before the first probe, in nanoseconds
-    /// (`tcp-socket.set-keep-alive-idle-time`): brought into one second to 32,767 seconds. 0: `InvalidArgument`, in any
-    /// state. Other errors are those of `set_option`.
+    /// (`tcp-socket.set-keep-alive-idle-time`): brought into one second to 32,767 seconds. 0:
+    /// `InvalidArgument`, in any state. Other errors are those of `set_option`.
     pub fn set_keep_alive_idle_time<W: World>(
         &mut self,
         world: &mut W,
@@ -110,7 +117,8 @@ impl TcpSocket {
         value: u64,
     ) -> Result<(), Refusal>
         requires { (W.seen world.old).ended ≡ false }
-        ensures asked { AsksFor (set_option_asks op self.old Opt.KeepAliveIdleTime value) (W.seen world.old) (W.seen world.new) (λ answer. (answer, self.new)) (outcome result) }
+        ensures asked { AsksFor (set_option_asks op self.old Opt.KeepAliveIdleTime value)
+            (W.seen world.old) (W.seen world.new) (λ answer. (answer, self.new)) (outcome result) }
         ensures same { self.new ≡ self.old }
         ensures side { side_of self.new ≡ side_of self.old }
         ensures unasked { OnErr (outcome result) (W.seen world.new ≡ W.seen world.old) }
@@ -118,18 +126,20 @@ impl TcpSocket {
         self.set_option(world, op, Setting::KeepAliveIdleTime(value))
     }
 
-    /// The time from one probe to the next, in nanoseconds (`tcp-socket.keep-alive-interval`). Errors are those of
-    /// `get_option`.
+    /// The time from one probe to the next, in nanoseconds (`tcp-socket.keep-alive-interval`).
+    /// Errors are those of `get_option`.
     pub fn keep_alive_interval<W: World>(&self, world: &mut W, op: OpId) -> Result<u64, Refusal>
         requires { (W.seen world.old).ended ≡ false }
-        ensures asked { AsksFor (get_option_asks op self.now Opt.KeepAliveInterval) (W.seen world.old) (W.seen world.new) (λ answer. (answer, self.now)) (outcome result) }
+        ensures asked { AsksFor (get_option_asks op self.now Opt.KeepAliveInterval)
+            (W.seen world.old) (W.seen world.new) (λ answer. (answer, self.now)) (outcome result) }
         ensures unasked { OnErr (outcome result) (W.seen world.new ≡ W.seen world.old) }
     {
         self.get_option(world, op, Opt::KeepAliveInterval)
     }
 
-    /// The time from one probe to the next, in nanoseconds (`tcp-socket.set-keep-alive-interval`): brought into one
-    /// second to 32,767 seconds. 0: `InvalidArgument`, in any state. Other errors are those of `set_option`.
+    /// The time from one probe to the next, in nanoseconds (`tcp-socket.set-keep-alive-interval`):
+    /// brought into one second to 32,767 seconds. 0: `InvalidArgument`, in any state. Other errors
+    /// are those of `set_option`.
     pub fn set_keep_alive_interval<W: World>(
         &mut self,
         world: &mut W,
@@ -137,7 +147,8 @@ impl TcpSocket {
         value: u64,
     ) -> Result<(), Refusal>
         requires { (W.seen world.old).ended ≡ false }
-        ensures asked { AsksFor (set_option_asks op self.old Opt.KeepAliveInterval value) (W.seen world.old) (W.seen world.new) (λ answer. (answer, self.new)) (outcome result) }
+        ensures asked { AsksFor (set_option_asks op self.old Opt.KeepAliveInterval value)
+            (W.seen world.old) (W.seen world.new) (λ answer. (answer, self.new)) (outcome result) }
         ensures same { self.new ≡ self.old }
         ensures side { side_of self.new ≡ side_of self.old }
         ensures unasked { OnErr (outcome result) (W.seen world.new ≡ W.seen world.old) }
@@ -145,18 +156,21 @@ impl TcpSocket {
         self.set_option(world, op, Setting::KeepAliveInterval(value))
     }
 
-    /// How many probes without an answer end a connection (`tcp-socket.keep-alive-count`). A number above 4,294,967,295
-    /// that is reported: `NotSupported`. Other errors are those of `get_option`.
+    /// How many probes without an answer end a connection (`tcp-socket.keep-alive-count`). A number
+    /// above 4,294,967,295 that is reported: `NotSupported`. Other errors are those of
+    /// `get_option`.
     pub fn keep_alive_count<W: World>(&self, world: &mut W, op: OpId) -> Result<u32, Refusal>
         requires { (W.seen world.old).ended ≡ false }
-        ensures asked { AsksFor (get_option_asks op self.now Opt.KeepAliveCount) (W.seen world.old) (W.seen world.new) (λ answer. (answer, self.now)) (outcome result) }
+        ensures asked { AsksFor (get_option_asks op self.now Opt.KeepAliveCount) (W.seen world.old)
+            (W.seen world.new) (λ answer. (answer, self.now)) (outcome result) }
         ensures unasked { OnErr (outcome result) (W.seen world.new ≡ W.seen world.old) }
     {
         let value = self.get_option(world, op, Opt::KeepAliveCount)?;
         Ok(value as u32)
     }
 
-    /// How many probes without an answer are to end a connection (`tcp-socket.set-keep-alive-count`): brought into 1 to
+    /// How many probes without an answer are to end a connection
+    /// (`tcp-socket.set-keep-alive-count`): brought into 1 to
     /// 127. 0: `InvalidArgument`, in any state. Other errors are those of `set_option`.
     pub fn set_keep_alive_count<W: World>(
         &mut self,
@@ -165,7 +179,8 @@ impl TcpSocket {
         value: u32,
     ) -> Result<(), Refusal>
         requires { (W.seen world.old).ended ≡ false }
-        ensures asked { AsksFor (set_option_asks op self.old Opt.KeepAliveCount value) (W.seen world.old) (W.seen world.new) (λ answer. (answer, self.new)) (outcome result) }
+        ensures asked { AsksFor (set_option_asks op self.old Opt.KeepAliveCount value)
+            (W.seen world.old) (W.seen world.new) (λ answer. (answer, self.new)) (outcome result) }
         ensures same { self.new ≡ self.old }
         ensures side { side_of self.new ≡ side_of self.old }
         ensures unasked { OnErr (outcome result) (W.seen world.new ≡ W.seen world.old) }
@@ -173,19 +188,20 @@ impl TcpSocket {
         self.set_option(world, op, Setting::KeepAliveCount(value))
     }
 
-    /// How many hops a packet lives (`tcp-socket.hop-limit`). A number above 255 that is reported: `NotSupported`.
-    /// Other errors are those of `get_option`.
+    /// How many hops a packet lives (`tcp-socket.hop-limit`). A number above 255 that is reported:
+    /// `NotSupported`. Other errors are those of `get_option`.
     pub fn hop_limit<W: World>(&self, world: &mut W, op: OpId) -> Result<u8, Refusal>
         requires { (W.seen world.old).ended ≡ false }
-        ensures asked { AsksFor (get_option_asks op self.now Opt.HopLimit) (W.seen world.old) (W.seen world.new) (λ answer. (answer, self.now)) (outcome result) }
+        ensures asked { AsksFor (get_option_asks op self.now Opt.HopLimit) (W.seen world.old)
+            (W.seen world.new) (λ answer. (answer, self.now)) (outcome result) }
         ensures unasked { OnErr (outcome result) (W.seen world.new ≡ W.seen world.old) }
     {
         let value = self.get_option(world, op, Opt::HopLimit)?;
         Ok(value as u8)
     }
 
-    /// How many hops a packet is to live (`tcp-socket.set-hop-limit`): set as it is. 0: `InvalidArgument`, where the
-    /// state allows a set. Other errors are those of `set_option`.
+    /// How many hops a packet is to live (`tcp-socket.set-hop-limit`): set as it is. 0:
+    /// `InvalidArgument`, where the state allows a set. Other errors are those of `set_option`.
     pub fn set_hop_limit<W: World>(
         &mut self,
         world: &mut W,
@@ -193,7 +209,8 @@ impl TcpSocket {
         value: u8,
     ) -> Result<(), Refusal>
         requires { (W.seen world.old).ended ≡ false }
-        ensures asked { AsksFor (set_option_asks op self.old Opt.HopLimit value) (W.seen world.old) (W.seen world.new) (λ answer. (answer, self.new)) (outcome result) }
+        ensures asked { AsksFor (set_option_asks op self.old Opt.HopLimit value) (W.seen world.old)
+            (W.seen world.new) (λ answer. (answer, self.new)) (outcome result) }
         ensures same { self.new ≡ self.old }
         ensures side { side_of self.new ≡ side_of self.old }
         ensures unasked { OnErr (outcome result) (W.seen world.new ≡ W.seen world.old) }
@@ -201,18 +218,20 @@ impl TcpSocket {
         self.set_option(world, op, Setting::HopLimit(value))
     }
 
-    /// The size of the buffer for what comes in, in bytes (`tcp-socket.receive-buffer-size`): half of what is reported.
-    /// Errors are those of `get_option`.
+    /// The size of the buffer for what comes in, in bytes (`tcp-socket.receive-buffer-size`): half
+    /// of what is reported. Errors are those of `get_option`.
     pub fn receive_buffer_size<W: World>(&self, world: &mut W, op: OpId) -> Result<u64, Refusal>
         requires { (W.seen world.old).ended ≡ false }
-        ensures asked { AsksFor (get_option_asks op self.now Opt.ReceiveBufferSize) (W.seen world.old) (W.seen world.new) (λ answer. (answer, self.now)) (outcome result) }
+        ensures asked { AsksFor (get_option_asks op self.now Opt.ReceiveBufferSize)
+            (W.seen world.old) (W.seen world.new) (λ answer. (answer, self.now)) (outcome result) }
         ensures unasked { OnErr (outcome result) (W.seen world.new ≡ W.seen world.old) }
     {
         self.get_option(world, op, Opt::ReceiveBufferSize)
     }
 
-    /// The size of the buffer for what comes in, in bytes (`tcp-socket.set-receive-buffer-size`): brought into 1 to
-    /// 2,147,483,647. 0: `InvalidArgument`, where the state allows a set. Other errors are those of `set_option`.
+    /// The size of the buffer for what comes in, in bytes (`tcp-socket.set-receive-buffer-size`):
+    /// brought into 1 to 2,147,483,647. 0: `InvalidArgument`, where the state allows a set. Other
+    /// errors are those of `set_option`.
     pub fn set_receive_buffer_size<W: World>(
         &mut self,
         world: &mut W,
@@ -220,7 +239,8 @@ impl TcpSocket {
         value: u64,
     ) -> Result<(), Refusal>
         requires { (W.seen world.old).ended ≡ false }
-        ensures asked { AsksFor (set_option_asks op self.old Opt.ReceiveBufferSize value) (W.seen world.old) (W.seen world.new) (λ answer. (answer, self.new)) (outcome result) }
+        ensures asked { AsksFor (set_option_asks op self.old Opt.ReceiveBufferSize value)
+            (W.seen world.old) (W.seen world.new) (λ answer. (answer, self.new)) (outcome result) }
         ensures same { self.new ≡ self.old }
         ensures side { side_of self.new ≡ side_of self.old }
         ensures unasked { OnErr (outcome result) (W.seen world.new ≡ W.seen world.old) }
@@ -228,18 +248,20 @@ impl TcpSocket {
         self.set_option(world, op, Setting::ReceiveBufferSize(value))
     }
 
-    /// The size of the buffer for what goes out, in bytes (`tcp-socket.send-buffer-size`): half of what is reported.
-    /// Errors are those of `get_option`.
+    /// The size of the buffer for what goes out, in bytes (`tcp-socket.send-buffer-size`): half of
+    /// what is reported. Errors are those of `get_option`.
     pub fn send_buffer_size<W: World>(&self, world: &mut W, op: OpId) -> Result<u64, Refusal>
         requires { (W.seen world.old).ended ≡ false }
-        ensures asked { AsksFor (get_option_asks op self.now Opt.SendBufferSize) (W.seen world.old) (W.seen world.new) (λ answer. (answer, self.now)) (outcome result) }
+        ensures asked { AsksFor (get_option_asks op self.now Opt.SendBufferSize) (W.seen world.old)
+            (W.seen world.new) (λ answer. (answer, self.now)) (outcome result) }
         ensures unasked { OnErr (outcome result) (W.seen world.new ≡ W.seen world.old) }
     {
         self.get_option(world, op, Opt::SendBufferSize)
     }
 
-    /// The size of the buffer for what goes out, in bytes (`tcp-socket.set-send-buffer-size`): brought into 1 to
-    /// 2,147,483,647. 0: `InvalidArgument`, where the state allows a set. Other errors are those of `set_option`.
+    /// The size of the buffer for what goes out, in bytes (`tcp-socket.set-send-buffer-size`):
+    /// brought into 1 to 2,147,483,647. 0: `InvalidArgument`, where the state allows a set. Other
+    /// errors are those of `set_option`.
     pub fn set_send_buffer_size<W: World>(
         &mut self,
         world: &mut W,
@@ -247,7 +269,8 @@ impl TcpSocket {
         value: u64,
     ) -> Result<(), Refusal>
         requires { (W.seen world.old).ended ≡ false }
-        ensures asked { AsksFor (set_option_asks op self.old Opt.SendBufferSize value) (W.seen world.old) (W.seen world.new) (λ answer. (answer, self.new)) (outcome result) }
+        ensures asked { AsksFor (set_option_asks op self.old Opt.SendBufferSize value)
+            (W.seen world.old) (W.seen world.new) (λ answer. (answer, self.new)) (outcome result) }
         ensures same { self.new ≡ self.old }
         ensures side { side_of self.new ≡ side_of self.old }
         ensures unasked { OnErr (outcome result) (W.seen world.new ≡ W.seen world.old) }
@@ -256,8 +279,8 @@ impl TcpSocket {
     }
 }
 
-/// The options that a listener would have to set on each connection that it accepts. The systems that are served hand
-/// all options of a listener on to its connections, so it keeps none.
+/// The options that a listener would have to set on each connection that it accepts. The systems
+/// that are served hand all options of a listener on to its connections, so it keeps none.
 #[derive(Clone, Copy, Debug, Default, PartialEq, Eq)]
 pub struct NonInheritedOptions;
 

@@ -3,7 +3,8 @@
 ghost use Rattle.std.specs.Prelude.{◌≡◌, false, [], OnErr};
 ghost use Rattle.wasi_world.specs.Asks.{AsksFor};
 ghost use Rattle.wasi_streams.specs.StreamStop.{stream_outcome};
-ghost use Rattle.wasi_tcp.specs.Reader.{reader_side, reader_ready_asks, reader_shutdown_asks, read_state_asks, after_read};
+ghost use Rattle.wasi_tcp.specs.Reader.{reader_side, reader_ready_asks, reader_shutdown_asks};
+ghost use Rattle.wasi_tcp.specs.Reader.{read_state_asks, after_read};
 
 use crate::halves::{TcpReceiveStream, answered};
 use std::alloc::{AllocError, Global};
@@ -37,10 +38,11 @@ impl ReadState {
         }
     }
 
-    /// Reads at most `size` bytes, and at most 65536. No bytes: there is nothing yet, or `size` is 0, where nothing is
-    /// asked. At the end, and after a code, the half is released, and the answer is `Closed` or that the last operation
-    /// failed. Released before: `Closed`. After running out of memory the state is as it was; so where it ran out at the shutdown
-    /// after an end or a code, the next read asks the network again.
+    /// Reads at most `size` bytes, and at most 65536. No bytes: there is nothing yet, or `size` is
+    /// 0, where nothing is asked. At the end, and after a code, the half is released, and the
+    /// answer is `Closed` or that the last operation failed. Released before: `Closed`. After
+    /// running out of memory the state is as it was; so where it ran out at the shutdown after an
+    /// end or a code, the next read asks the network again.
     pub fn read<W: World>(
         &mut self,
         alloc: Global,
@@ -49,7 +51,8 @@ impl ReadState {
         size: usize,
     ) -> Result<Octets, StreamError>
         requires { (W.seen world.old).ended ≡ false }
-        ensures asked { AsksFor (read_state_asks op self.old size) (W.seen world.old) (W.seen world.new) (λ answer. (answer, self.new)) (stream_outcome result) }
+        ensures asked { AsksFor (read_state_asks op self.old size) (W.seen world.old)
+            (W.seen world.new) (λ answer. (answer, self.new)) (stream_outcome result) }
         ensures err { OnErr (stream_outcome result) (self.new ≡ self.old) }
     {
         let ReadState::Open(half) = self else {
@@ -71,7 +74,8 @@ impl ReadState {
         answer: Result<Answer<Octets>, ErrorCode>,
     ) -> Result<Octets, StreamError>
         requires { (W.seen world.old).ended ≡ false }
-        ensures asked { AsksFor (after_read op self.old answer) (W.seen world.old) (W.seen world.new) (λ answer. (answer, self.new)) (stream_outcome result) }
+        ensures asked { AsksFor (after_read op self.old answer) (W.seen world.old)
+            (W.seen world.new) (λ answer. (answer, self.new)) (stream_outcome result) }
         ensures err { OnErr (stream_outcome result) (self.new ≡ self.old) }
     {
         match answer {
@@ -97,7 +101,8 @@ impl ReadState {
         op: OpId,
     ) -> Result<Answer<()>, AllocError>
         requires { (W.seen world.old).ended ≡ false }
-        ensures asked { AsksFor (reader_ready_asks op self.old) (W.seen world.old) (W.seen world.new) (λ answer. (answer, self.new)) result }
+        ensures asked { AsksFor (reader_ready_asks op self.old) (W.seen world.old)
+            (W.seen world.new) (λ answer. (answer, self.new)) result }
         ensures err { OnErr result (W.seen world.new ≡ W.seen world.old) }
         ensures same { self.new ≡ self.old }
     {
@@ -110,7 +115,8 @@ impl ReadState {
     /// Releases the half, where it wasn't; after running out of memory the state is as it was.
     pub fn shutdown<W: World>(&mut self, world: &mut W, op: OpId) -> Result<(), AllocError>
         requires { (W.seen world.old).ended ≡ false }
-        ensures asked { AsksFor (reader_shutdown_asks op self.old) (W.seen world.old) (W.seen world.new) (λ done. (done, self.new)) result }
+        ensures asked { AsksFor (reader_shutdown_asks op self.old) (W.seen world.old)
+            (W.seen world.new) (λ done. (done, self.new)) result }
         ensures err { OnErr result (self.new ≡ self.old) }
         ensures unasked { OnErr result (W.seen world.new ≡ W.seen world.old) }
     {

@@ -1,5 +1,5 @@
-//! A TCP socket and its states. The calls that bind, connect and listen are in `starts`, those on its addresses in
-//! `addresses`, and its backlog in `backlog`.
+//! A TCP socket and its states. The calls that bind, connect and listen are in `starts`, those on
+//! its addresses in `addresses`, and its backlog in `backlog`.
 
 ghost use Rattle.std.specs.Prelude.{◌≡◌, true, false, OnErr, OnOk, IfOk, Some, None};
 ghost use Rattle.wasi_world.specs.Asks.{AsksFor, Reaches, outcome};
@@ -19,7 +19,8 @@ use wasi_world::{Answer, OpId, Refusal, Sock, WasiSocketsCtx, World, asks};
 /// How many connections may wait at a listener, unless it is set.
 const DEFAULT_BACKLOG: u32 = 128;
 
-/// A connection: its network socket, the remote address once it was reported, and which of its two halves were taken.
+/// A connection: its network socket, the remote address once it was reported, and which of its two
+/// halves were taken.
 #[derive(Clone, Copy, Debug, PartialEq, Eq)]
 pub struct Connection {
     pub side: Sock,
@@ -71,7 +72,8 @@ impl Connection {
         op: OpId,
     ) -> Result<IpSocketAddress, Refusal>
         requires { (W.seen world.old).ended ≡ false }
-        ensures asked { AsksFor (peer_asks op self.old) (W.seen world.old) (W.seen world.new) (λ answer. (answer, self.new)) (outcome result) }
+        ensures asked { AsksFor (peer_asks op self.old) (W.seen world.old) (W.seen world.new)
+            (λ answer. (answer, self.new)) (outcome result) }
         ensures err { OnErr (outcome result) (self.new ≡ self.old) }
         ensures unasked { OnErr (outcome result) (W.seen world.new ≡ W.seen world.old) }
         ensures side { self.new.side ≡ self.old.side }
@@ -113,8 +115,10 @@ impl TcpState {
     /// Polls the connect, where there is one.
     fn poll_finish_connect<W: World>(&mut self, world: &mut W) -> Result<Answer<()>, Refusal>
         requires { (W.seen world.old).ended ≡ false }
-        ensures asked { AsksFor (finish_in self.old) (W.seen world.old) (W.seen world.new) (λ answer. (answer, self.new)) (outcome result) }
-        ensures err { OnErr (outcome result) (Reaches (finish_in self.old) (finish_in self.new) (W.seen world.old) (W.seen world.new)) }
+        ensures asked { AsksFor (finish_in self.old) (W.seen world.old) (W.seen world.new)
+            (λ answer. (answer, self.new)) (outcome result) }
+        ensures err { OnErr (outcome result) (Reaches (finish_in self.old) (finish_in self.new)
+            (W.seen world.old) (W.seen world.new)) }
         ensures side { OnErr (outcome result) (side_in self.new ≡ side_in self.old) }
         ensures before { HoldsConnect self.old }
         ensures after { HoldsConnect self.new }
@@ -152,7 +156,8 @@ impl TcpState {
         op: OpId,
     ) -> Result<IpSocketAddress, Refusal>
         requires { (W.seen world.old).ended ≡ false }
-        ensures asked { AsksFor (remote_in op self.old) (W.seen world.old) (W.seen world.new) (λ answer. (answer, self.new)) (outcome result) }
+        ensures asked { AsksFor (remote_in op self.old) (W.seen world.old) (W.seen world.new)
+            (λ answer. (answer, self.new)) (outcome result) }
         ensures err { OnErr (outcome result) (self.new ≡ self.old) }
         ensures unasked { OnErr (outcome result) (W.seen world.new ≡ W.seen world.old) }
         ensures side { side_in self.new ≡ side_in self.old }
@@ -167,7 +172,8 @@ impl TcpState {
     }
 }
 
-/// A TCP socket. It keeps whether it is bound once that is known, and the context that made it, which its checks name.
+/// A TCP socket. It keeps whether it is bound once that is known, and the context that made it,
+/// which its checks name.
 #[derive(Drop)]
 pub struct TcpSocket {
     state: TcpState,
@@ -182,7 +188,13 @@ impl Model for TcpSocket {
 
     ghost Value = { Socket };
 
-    ghost view = { λ s. record { state = s.state; family = s.family; backlog = s.backlog; bound = s.bound; maker = s.maker } };
+    ghost view = { λ s. record {
+      state = s.state;
+      family = s.family;
+      backlog = s.backlog;
+      bound = s.bound;
+      maker = s.maker;
+    } };
 }
 
 impl TcpSocket {
@@ -193,8 +205,8 @@ impl TcpSocket {
     ghost use Rattle.wasi_tcp.specs.Halves.{take_receive, take_send};
     ghost use Rattle.wasi_tcp.specs.Addresses.{state_text, is_listening};
 
-    /// Makes a socket in the state Default, where the context may use TCP; else `AccessDenied` without a call.
-    /// A code that the create reports is answered.
+    /// Makes a socket in the state Default, where the context may use TCP; else `AccessDenied`
+    /// without a call. A code that the create reports is answered.
     pub fn new<W: World>(
         world: &mut W,
         op: OpId,
@@ -202,7 +214,8 @@ impl TcpSocket {
         family: SocketAddressFamily,
     ) -> Result<TcpSocket, Refusal>
         requires { (W.seen world.old).ended ≡ false }
-        ensures asked { AsksFor (new_asks op ctx.now family) (W.seen world.old) (W.seen world.new) (λ made. made) (outcome result) }
+        ensures asked { AsksFor (new_asks op ctx.now family) (W.seen world.old) (W.seen world.new)
+            (λ made. made) (outcome result) }
         ensures side { IfOk result (λ socket. side_of socket ≡ Some op) }
         ensures unasked { OnErr (outcome result) (W.seen world.new ≡ W.seen world.old) }
     {
@@ -272,7 +285,8 @@ impl TcpSocket {
     /// memory nothing was asked.
     pub fn is_bound<W: World>(&mut self, world: &mut W, op: OpId) -> Result<bool, AllocError>
         requires { (W.seen world.old).ended ≡ false }
-        ensures asked { AsksFor (bound_asks op self.old) (W.seen world.old) (W.seen world.new) (λ bound. (bound, self.new)) result }
+        ensures asked { AsksFor (bound_asks op self.old) (W.seen world.old) (W.seen world.new)
+            (λ bound. (bound, self.new)) result }
         ensures kept { IfOk result (λ bound. self.new.bound ≡ bound) }
         ensures err { OnErr result (self.new ≡ self.old) }
         ensures unasked { OnErr result (W.seen world.new ≡ W.seen world.old) }
@@ -305,8 +319,8 @@ impl TcpSocket {
         bound
     }
 
-    /// The receiving half, which is taken once. Taken already, or not Connected: `InvalidState`. Closed: its code.
-    /// Takes no memory.
+    /// The receiving half, which is taken once. Taken already, or not Connected: `InvalidState`.
+    /// Closed: its code. Takes no memory.
     pub fn take_receive_stream(&mut self) -> Result<TcpReceiveStream, ErrorCode>
         ensures taken { (result, self.new) ≡ in_socket self.old (take_receive self.old.state) }
         ensures side { side_of self.new ≡ side_of self.old }
@@ -320,8 +334,8 @@ impl TcpSocket {
         }
     }
 
-    /// The sending half, which is taken once. Taken already, or not Connected: `InvalidState`. Closed: its code.
-    /// Takes no memory.
+    /// The sending half, which is taken once. Taken already, or not Connected: `InvalidState`.
+    /// Closed: its code. Takes no memory.
     pub fn take_send_stream(&mut self) -> Result<TcpSendStream, ErrorCode>
         ensures taken { (result, self.new) ≡ in_socket self.old (take_send self.old.state) }
         ensures side { side_of self.new ≡ side_of self.old }
@@ -335,12 +349,14 @@ impl TcpSocket {
         }
     }
 
-    /// Closes the network socket, where there is one, as the drop of a `tcp-socket` does; the socket is Closed then, and its
-    /// code is `Other`. One that has no network socket asks nothing and stays as it is. After running out of memory nothing was
-    /// asked, and the socket is as it was.
+    /// Closes the network socket, where there is one, as the drop of a `tcp-socket` does; the
+    /// socket is Closed then, and its code is `Other`. One that has no network socket asks nothing
+    /// and stays as it is. After running out of memory nothing was asked, and the socket is as it
+    /// was.
     pub fn close<W: World>(&mut self, world: &mut W, op: OpId) -> Result<(), AllocError>
         requires { (W.seen world.old).ended ≡ false }
-        ensures asked { AsksFor (close_asks op self.old) (W.seen world.old) (W.seen world.new) (λ done. (done, self.new)) result }
+        ensures asked { AsksFor (close_asks op self.old) (W.seen world.old) (W.seen world.new)
+            (λ done. (done, self.new)) result }
         ensures err { OnErr result (self.new ≡ self.old) }
         ensures unasked { OnErr result (W.seen world.new ≡ W.seen world.old) }
         ensures gone { OnOk result (side_of self.new ≡ None) }

@@ -12,7 +12,8 @@ use wasi_world::{Answer, Octets, OpId, World};
 
 /// Whether a look reports something: room, or an error.
 fn told(answer: Result<Answer<()>, StreamError>) -> Result<bool, AllocError>
-    ensures told { IfOk result (λ told. IsOkAnd (stream_outcome answer) (λ answer. told ≡ is_told answer)) }
+    ensures told { IfOk result (λ told. IsOkAnd (stream_outcome answer)
+        (λ answer. told ≡ is_told answer)) }
     ensures memory { OnErr result (IsErr (stream_outcome answer)) }
 {
     match answer {

@@ -3,7 +3,10 @@
 ghost use Rattle.std.specs.Prelude.{◌≡◌, true, false, Ok, Err, OnErr};
 ghost use Rattle.wasi_world.specs.Asks.{AsksFor, Reaches};
 ghost use Rattle.wasi_streams.specs.StreamStop.{stream_outcome};
-ghost use Rattle.wasi_tcp.specs.Writer.{error_of_code, stop_of, collected, look_in, look_asks, with_permit, check_write_asks, turn_asks, write_on_asks, write_state_asks, flush_of, writer_side, is_ready, now_closing, writer_shutdown_asks, writer_give_up_asks};
+ghost use Rattle.wasi_tcp.specs.Writer.{error_of_code, stop_of, collected, look_in, look_asks};
+ghost use Rattle.wasi_tcp.specs.Writer.{with_permit, check_write_asks, turn_asks, write_on_asks};
+ghost use Rattle.wasi_tcp.specs.Writer.{write_state_asks, flush_of, writer_side, is_ready};
+ghost use Rattle.wasi_tcp.specs.Writer.{now_closing, writer_shutdown_asks, writer_give_up_asks};
 ghost use Rattle.wasi_tcp.specs.Bounds.{HoldsWrite};
 
 use crate::halves::TcpSendStream;
@@ -112,16 +115,18 @@ impl WriteState {
         }
     }
 
-    /// Whether something may be written. A write that ended is collected first: where it ended well the half is ready
-    /// again, with no permit, unless it was to be released. One that is in progress is pending. Closed: its error.
-    /// After running out of memory only the collecting is done.
+    /// Whether something may be written. A write that ended is collected first: where it ended well
+    /// the half is ready again, with no permit, unless it was to be released. One that is in
+    /// progress is pending. Closed: its error. After running out of memory only the collecting is
+    /// done.
     pub fn poll_ready<W: World>(
         &mut self,
         world: &mut W,
         op: OpId,
     ) -> Result<Answer<()>, StreamError>
         requires { (W.seen world.old).ended ≡ false }
-        ensures asked { AsksFor (look_asks op self.old) (W.seen world.old) (W.seen world.new) (λ answer. (answer, self.new)) (stream_outcome result) }
+        ensures asked { AsksFor (look_asks op self.old) (W.seen world.old) (W.seen world.new)
+            (λ answer. (answer, self.new)) (stream_outcome result) }
         ensures state { self.new ≡ collected self.old }
         ensures err { OnErr (stream_outcome result) (W.seen world.new ≡ W.seen world.old) }
         ensures ready { OnErr (stream_outcome result) (is_ready self.new ≡ true) }
@@ -133,7 +138,8 @@ impl WriteState {
     /// The look, where a job that ended was collected.
     fn look<W: World>(&self, world: &mut W, op: OpId) -> Result<Answer<()>, StreamError>
         requires { (W.seen world.old).ended ≡ false }
-        ensures asked { AsksFor (look_in op self.now) (W.seen world.old) (W.seen world.new) (λ answer. (answer, self.now)) (stream_outcome result) }
+        ensures asked { AsksFor (look_in op self.now) (W.seen world.old) (W.seen world.new)
+            (λ answer. (answer, self.now)) (stream_outcome result) }
         ensures err { OnErr (stream_outcome result) (W.seen world.new ≡ W.seen world.old) }
         ensures ready { OnErr (stream_outcome result) (is_ready self.now ≡ true) }
     {
@@ -156,11 +162,12 @@ impl WriteState {
         }
     }
 
-    /// How many bytes may be written: 65536 where a look is ready, none where it is pending, and the permit stays then.
-    /// After running out of memory only the collecting of the look is done.
+    /// How many bytes may be written: 65536 where a look is ready, none where it is pending, and
+    /// the permit stays then. After running out of memory only the collecting of the look is done.
     pub fn check_write<W: World>(&mut self, world: &mut W, op: OpId) -> Result<usize, StreamError>
         requires { (W.seen world.old).ended ≡ false }
-        ensures asked { AsksFor (check_write_asks op self.old) (W.seen world.old) (W.seen world.new) (λ count. (count, self.new)) (stream_outcome result) }
+        ensures asked { AsksFor (check_write_asks op self.old) (W.seen world.old) (W.seen world.new)
+            (λ count. (count, self.new)) (stream_outcome result) }
         ensures state { OnErr (stream_outcome result) (self.new ≡ collected self.old) }
         ensures err { OnErr (stream_outcome result) (W.seen world.new ≡ W.seen world.old) }
     {
@@ -173,10 +180,10 @@ impl WriteState {
         }
     }
 
-    /// Begins a background write, polls it once and looks; an error that the look answers is answered. No bytes to a
-    /// half that is ready: nothing is done. More than the permit, or a write is in progress: `NotPermitted`. After
-    /// running out of memory the write has begun: what is left of the call is a poll of its job, where it is in
-    /// progress, and a look.
+    /// Begins a background write, polls it once and looks; an error that the look answers is
+    /// answered. No bytes to a half that is ready: nothing is done. More than the permit, or a
+    /// write is in progress: `NotPermitted`. After running out of memory the write has begun: what
+    /// is left of the call is a poll of its job, where it is in progress, and a look.
     pub fn write<W: World>(
         &mut self,
         world: &mut W,
@@ -184,8 +191,10 @@ impl WriteState {
         bytes: Octets,
     ) -> Result<(), StreamError>
         requires { (W.seen world.old).ended ≡ false }
-        ensures asked { AsksFor (write_state_asks op self.old bytes) (W.seen world.old) (W.seen world.new) (λ done. (done, self.new)) (stream_outcome result) }
-        ensures err { OnErr (stream_outcome result) (Reaches (write_state_asks op self.old bytes) (write_on_asks op self.new) (W.seen world.old) (W.seen world.new)) }
+        ensures asked { AsksFor (write_state_asks op self.old bytes) (W.seen world.old)
+            (W.seen world.new) (λ done. (done, self.new)) (stream_outcome result) }
+        ensures err { OnErr (stream_outcome result) (Reaches (write_state_asks op self.old bytes)
+            (write_on_asks op self.new) (W.seen world.old) (W.seen world.new)) }
     {
         match self {
             WriteState::Ready { half, permit } => {
@@ -209,8 +218,10 @@ impl WriteState {
     /// Polls the job once, where it is in progress, and looks.
     fn write_on<W: World>(&mut self, world: &mut W, op: OpId) -> Result<(), StreamError>
         requires { (W.seen world.old).ended ≡ false }
-        ensures asked { AsksFor (write_on_asks op self.old) (W.seen world.old) (W.seen world.new) (λ done. (done, self.new)) (stream_outcome result) }
-        ensures err { OnErr (stream_outcome result) (Reaches (write_on_asks op self.old) (write_on_asks op self.new) (W.seen world.old) (W.seen world.new)) }
+        ensures asked { AsksFor (write_on_asks op self.old) (W.seen world.old) (W.seen world.new)
+            (λ done. (done, self.new)) (stream_outcome result) }
+        ensures err { OnErr (stream_outcome result) (Reaches (write_on_asks op self.old)
+            (write_on_asks op self.new) (W.seen world.old) (W.seen world.new)) }
     {
         self.turn(world)?;
         self.poll_ready(world, op)?;
@@ -228,11 +239,14 @@ impl WriteState {
         }
     }
 
-    /// Polls a write in progress, once. After running out of memory it is as after its last answered ask.
+    /// Polls a write in progress, once. After running out of memory it is as after its last
+    /// answered ask.
     pub fn turn<W: World>(&mut self, world: &mut W) -> Result<(), AllocError>
         requires { (W.seen world.old).ended ≡ false }
-        ensures asked { AsksFor (turn_asks self.old) (W.seen world.old) (W.seen world.new) (λ done. (done, self.new)) result }
-        ensures err { OnErr result (Reaches (turn_asks self.old) (turn_asks self.new) (W.seen world.old) (W.seen world.new)) }
+        ensures asked { AsksFor (turn_asks self.old) (W.seen world.old) (W.seen world.new)
+            (λ done. (done, self.new)) result }
+        ensures err { OnErr result (Reaches (turn_asks self.old) (turn_asks self.new)
+            (W.seen world.old) (W.seen world.new)) }
         ensures write { HoldsWrite self.old }
     {
         match self {
@@ -242,11 +256,12 @@ impl WriteState {
         }
     }
 
-    /// Releases the half: at once where no write is in progress, else once it has ended. After running out of memory
-    /// the state is as it was.
+    /// Releases the half: at once where no write is in progress, else once it has ended. After
+    /// running out of memory the state is as it was.
     pub fn shutdown<W: World>(&mut self, world: &mut W, op: OpId) -> Result<(), AllocError>
         requires { (W.seen world.old).ended ≡ false }
-        ensures asked { AsksFor (writer_shutdown_asks op self.old) (W.seen world.old) (W.seen world.new) (λ done. (done, self.new)) result }
+        ensures asked { AsksFor (writer_shutdown_asks op self.old) (W.seen world.old)
+            (W.seen world.new) (λ done. (done, self.new)) result }
         ensures err { OnErr result (self.new ≡ self.old) }
         ensures unasked { OnErr result (W.seen world.new ≡ W.seen world.old) }
     {
@@ -280,7 +295,8 @@ impl WriteState {
     /// unwritten. Out of memory the half isn't released.
     pub fn give_up<W: World>(self, world: &mut W, op: OpId) -> Result<(), AllocError>
         requires { (W.seen world.old).ended ≡ false }
-        ensures asked { AsksFor (writer_give_up_asks op self) (W.seen world.old) (W.seen world.new) (λ done. done) result }
+        ensures asked { AsksFor (writer_give_up_asks op self) (W.seen world.old) (W.seen world.new)
+            (λ done. done) result }
         ensures err { OnErr result (W.seen world.new ≡ W.seen world.old) }
     {
         match self.side() {

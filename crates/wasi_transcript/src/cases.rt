@@ -1,9 +1,11 @@
 //! Files of transcripts: what one says of each of its scripts.
 
-ghost use Rattle.std.specs.Prelude.{◌≡◌, ◌++◌, ◌∷◌, ◌<◌, ◌↔◌, ℕ, [], Some, None, IsTrue, IfSome, IfNone, IfOk, OnOk, codes, length, option_copied};
+ghost use Rattle.std.specs.Prelude.{◌≡◌, ◌++◌, ◌∷◌, ◌<◌, ◌↔◌, ℕ, [], Some, None, IsTrue, IfSome};
+ghost use Rattle.std.specs.Prelude.{IfNone, IfOk, OnOk, codes, length, option_copied};
 ghost use Rattle.world_text.specs.Lines.{lines_of, rest_of};
 ghost use Rattle.wasi_transcript.specs.Cases.{after};
-ghost use Rattle.wasi_transcript.specs.CaseRead.{ReadsCase, ReadsPlanned, ReadsShown, PushesStep, TakesAfter};
+ghost use Rattle.wasi_transcript.specs.CaseRead.{ReadsCase, ReadsPlanned, ReadsShown, PushesStep};
+ghost use Rattle.wasi_transcript.specs.CaseRead.{TakesAfter};
 
 use std::alloc::{AllocError, Global};
 use std::marker::Model;
@@ -123,7 +125,8 @@ fn read_planned(alloc: Global, lines: &mut TextLines<'_>) -> Result<Vec<u8>, All
 
 /// Appends the line of a script, if this line of its transcript shows one.
 fn push_step(script: &mut Vec<u8>, line: &[u8]) -> Result<(), AllocError>
-    ensures { OnOk result (PushesStep line.now script.old.items script.new.items (after (codes "> ") line.now)) }
+    ensures { OnOk result (PushesStep line.now script.old.items script.new.items
+        (after (codes "> ") line.now)) }
 {
     match after(line, b"> ") {
         Some(step) => push_line(script, step),

@@ -1,9 +1,11 @@
 //! One line of a script with the calls that it makes and its reply, as text.
 
-ghost use Rattle.std.specs.Prelude.{◌≡◌, ◌++◌, ◌+◌, ◌<◌, ◌^◌, IfOk, OnOk, string_bytes, length, true, false};
+ghost use Rattle.std.specs.Prelude.{◌≡◌, ◌++◌, ◌+◌, ◌<◌, ◌^◌, IfOk, OnOk, string_bytes, length};
+ghost use Rattle.std.specs.Prelude.{true, false};
 ghost use Rattle.world_scripted.specs.Scripted.{seen_by};
 ghost use Rattle.wasi_host.specs.KnownSides.{KnowsSides};
-ghost use Rattle.wasi_transcript.specs.Transcript.{line_text, calls_text, answered_text, no_step_text};
+ghost use Rattle.wasi_transcript.specs.Transcript.{line_text, calls_text, answered_text};
+ghost use Rattle.wasi_transcript.specs.Transcript.{no_step_text};
 ghost use Rattle.wasi_transcript.specs.Done.{LineDone};
 
 use std::alloc::{AllocError, Global};
@@ -86,8 +88,10 @@ pub fn do_line(
     requires open { (seen_by world.old).ended ≡ false }
     requires few { length contexts.now < 2 ^ 32 }
     requires numbers { session.old.lines + 1 < 2 ^ 32 }
-    ensures done { LineDone contexts.now session.old session.new line.now (seen_by world.old) (seen_by world.new) result }
-    ensures sides { KnowsSides (seen_by world.old) session.old.machine.store → KnowsSides (seen_by world.new) session.new.machine.store }
+    ensures done { LineDone contexts.now session.old session.new line.now (seen_by world.old)
+        (seen_by world.new) result }
+    ensures sides { KnowsSides (seen_by world.old) session.old.machine.store
+        → KnowsSides (seen_by world.new) session.new.machine.store }
     ensures open { (seen_by world.new).ended ≡ false }
 {
     let Some(step) = parse_step(alloc, line, contexts.len() as u32)? else {

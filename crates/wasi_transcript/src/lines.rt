@@ -43,9 +43,14 @@ impl Model for LineReader {
 
     ghost Value = { Held };
 
-    ghost view = { λ r. record { limit = r.limit; taken = r.taken; held = drop r.start r.piece.items } };
+    ghost view = { λ r. record {
+      limit = r.limit;
+      taken = r.taken;
+      held = drop r.start r.piece.items;
+    } };
 
-    ghost invariant = { λ r. (r.start ≤ length r.piece.items) × (r.taken ≤ r.limit + 1) × (r.limit < 2 ^ 32) };
+    ghost invariant = { λ r. (r.start ≤ length r.piece.items) × (r.taken ≤ r.limit + 1)
+        × (r.limit < 2 ^ 32) };
 }
 
 /// What one read gave.
@@ -71,7 +76,8 @@ impl LineReader {
     /// Takes the rest of a line from what is held, and returns `true` where it is whole; else it
     /// takes all that is held.
     fn take_line(&mut self, line: &mut Vec<u8>) -> Result<bool, AllocError>
-        ensures whole { IfOk result (λ whole. TakesLine self.old self.new line.old.items line.new.items whole) }
+        ensures whole { IfOk result (λ whole. TakesLine self.old self.new line.old.items
+            line.new.items whole) }
         ensures limit { self.new.limit ≡ self.old.limit }
         ensures taken { self.new.taken ≡ self.old.taken }
         ensures within { self.new.taken ≤ self.new.limit + 1 }
@@ -95,7 +101,8 @@ impl LineReader {
     fn read_piece<S: Source>(&mut self, source: &mut S) -> Result<Piece, AllocError>
         requires nothing { self.old.held ≡ [] }
         requires within { self.old.taken ≤ self.old.limit }
-        ensures { ReadsPiece (S.reading source.old) (S.reading source.new) self.old self.new result }
+        ensures { ReadsPiece (S.reading source.old) (S.reading source.new) self.old self.new
+            result }
     {
         let mut buffer = [0u8; PIECE_SIZE];
         let room = (self.limit + 1 - self.taken).min(PIECE_SIZE);
@@ -121,7 +128,8 @@ impl LineReader {
         source: &mut S,
         line: &mut Vec<u8>,
     ) -> Result<NextLine, AllocError>
-        ensures { Reads (S.reading source.old) (S.reading source.new) self.old self.new line.new.items result }
+        ensures { Reads (S.reading source.old) (S.reading source.new) self.old self.new
+            line.new.items result }
     {
         line.clear();
         'reading: loop {

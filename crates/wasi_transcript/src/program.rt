@@ -90,7 +90,9 @@ pub fn show<C: Source, S: Source, K: Sink>(
     source: &mut S,
     sink: &mut K,
 ) -> End
-    ensures { ShowEnds limit (C.reading scenario.old) (C.reading scenario.new) (S.reading source.old) (S.reading source.new) (K.writing sink.old) (K.writing sink.new) result }
+    ensures { ShowEnds limit (C.reading scenario.old) (C.reading scenario.new)
+        (S.reading source.old) (S.reading source.new) (K.writing sink.old) (K.writing sink.new)
+        result }
 {
     let text = match read_scenario(alloc, scenario) {
         Ok(text) => text,

@@ -1,6 +1,7 @@
 //! Prints the transcript of a script.
 
-ghost use Rattle.std.specs.Prelude.{◌≡◌, ◌++◌, ◌<◌, ◌^◌, IfOk, IfErr, OnOk, OnErr, length, true, false};
+ghost use Rattle.std.specs.Prelude.{◌≡◌, ◌++◌, ◌<◌, ◌^◌, IfOk, IfErr, OnOk, OnErr, length, true};
+ghost use Rattle.std.specs.Prelude.{false};
 ghost use Rattle.wasi_world.specs.Script.{GoesByPlan};
 ghost use Rattle.world_scripted.specs.Scripted.{seen_by};
 ghost use Rattle.wasi_host.specs.Machine.{first_state};
@@ -53,7 +54,8 @@ impl Stop {
 /// Writes a text whole.
 fn put<K: Sink>(writer: &mut K, text: &[u8]) -> Result<(), RunError>
     ensures all { OnOk result (TookAll (K.writing writer.old) (K.writing writer.new) text.now) }
-    ensures front { OnErr result (TookFront (K.writing writer.old) (K.writing writer.new) text.now) }
+    ensures front { OnErr result (TookFront (K.writing writer.old) (K.writing writer.new)
+        text.now) }
     ensures fault { OnErr result (result ≡ Err RunError.WriteFault) }
 {
     match write_all(writer, text) {

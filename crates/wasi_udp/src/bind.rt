@@ -53,7 +53,8 @@ impl UdpSocket {
         addr: IpSocketAddress,
     ) -> Result<UdpBindOp, Refusal>
         requires { (W.seen world.old).ended ≡ false }
-        ensures asked { AsksFor (bind_asks op self.old addr) (W.seen world.old) (W.seen world.new) (λ begun. (begun, self.new)) (outcome result) }
+        ensures asked { AsksFor (bind_asks op self.old addr) (W.seen world.old) (W.seen world.new)
+            (λ begun. (begun, self.new)) (outcome result) }
         ensures its_socket { IfOk result (λ begun. IsOf begun self.new) }
         ensures going { IfOk result (λ begun. is_going begun ≡ true) }
         ensures err { OnErr (outcome result) (self.new ≡ self.old) }
@@ -93,9 +94,12 @@ impl UdpBindOp {
     /// - One that has ended is `InvalidState`, and nothing is asked.
     pub fn poll<W: World>(&mut self, world: &mut W) -> Result<Answer<()>, Refusal>
         requires { (W.seen world.old).ended ≡ false }
-        ensures polled { is_going self.old ≡ true → PollsFor (λ done. Nothing) Nothing self.old self.new (W.seen world.old) (W.seen world.new) result }
+        ensures polled { is_going self.old ≡ true
+            → PollsFor (λ done. Nothing) Nothing self.old self.new (W.seen world.old)
+            (W.seen world.new) result }
         ensures going { is_going self.new ≡ stays_going result }
-        ensures over { is_going self.old ≡ false → result ≡ Err (Refusal.Code ErrorCode.InvalidState) }
+        ensures over { is_going self.old ≡ false
+            → result ≡ Err (Refusal.Code ErrorCode.InvalidState) }
         ensures unasked { is_going self.old ≡ false → W.seen world.new ≡ W.seen world.old }
         ensures stays { is_going self.old ≡ false → self.new ≡ self.old }
         ensures before { IsBind self.old }
@@ -117,7 +121,8 @@ fn poll_check<W: World>(
 ) -> Result<Answer<()>, Refusal>
     requires open { (W.seen world.old).ended ≡ false }
     requires stage { stage.old ≡ UdpBindStage.Check }
-    ensures polled { PollsFor (λ done. Nothing) Nothing (bind_operation asker addr stage.old) (bind_operation asker addr stage.new) (W.seen world.old) (W.seen world.new) result }
+    ensures polled { PollsFor (λ done. Nothing) Nothing (bind_operation asker addr stage.old)
+        (bind_operation asker addr stage.new) (W.seen world.old) (W.seen world.new) result }
     ensures going { is_going (bind_operation asker addr stage.new) ≡ stays_going result }
 {
     let verdict = asks::check(world, asker.op, asker.maker, addr, SocketAddrUse::UdpBind)?;
@@ -141,7 +146,8 @@ fn poll_bind<W: World>(
 ) -> Result<Answer<()>, Refusal>
     requires open { (W.seen world.old).ended ≡ false }
     requires stage { stage.old ≡ UdpBindStage.Bind }
-    ensures polled { PollsFor (λ done. Nothing) Nothing (bind_operation asker addr stage.old) (bind_operation asker addr stage.new) (W.seen world.old) (W.seen world.new) result }
+    ensures polled { PollsFor (λ done. Nothing) Nothing (bind_operation asker addr stage.old)
+        (bind_operation asker addr stage.new) (W.seen world.old) (W.seen world.new) result }
     ensures going { is_going (bind_operation asker addr stage.new) ≡ stays_going result }
 {
     let told = asks::udp_bind(world, asker.op, asker.side, addr)?;

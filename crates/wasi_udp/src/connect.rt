@@ -1,10 +1,14 @@
-//! A connect that is polled. Its last ask is for the remote address, whatever the network answered before.
+//! A connect that is polled. Its last ask is for the remote address, whatever the network answered
+//! before.
 
 ghost use Rattle.std.specs.Prelude.{◌≡◌, true, false, OnErr, IfOk};
 ghost use Rattle.wasi_world.specs.Asks.{AsksFor, Reaches, outcome};
 ghost use Rattle.socket_common.specs.Rounds.{is_going, stays_going};
 ghost use Rattle.wasi_udp.specs.Bind.{IsOf};
-ghost use Rattle.wasi_udp.specs.Connect.{connect_operation, connect_start, connect_asks, connect_poll_asks, is_connectable, connect_told, connect_settled, connect_going, PollsConnect, IsConnect, connect_first};
+ghost use Rattle.wasi_udp.specs.Connect.{connect_operation, connect_start, connect_asks};
+ghost use Rattle.wasi_udp.specs.Connect.{connect_poll_asks, is_connectable, connect_told};
+ghost use Rattle.wasi_udp.specs.Connect.{connect_settled, connect_going, PollsConnect, IsConnect};
+ghost use Rattle.wasi_udp.specs.Connect.{connect_first};
 
 use crate::address::remote_told;
 use crate::socket::UdpSocket;
@@ -75,7 +79,8 @@ impl UdpSocket {
         addr: IpSocketAddress,
     ) -> Result<UdpConnectOp, Refusal>
         requires { (W.seen world.old).ended ≡ false }
-        ensures asked { AsksFor (connect_asks op self.old addr) (W.seen world.old) (W.seen world.new) (λ begun. (begun, self.new)) (outcome result) }
+        ensures asked { AsksFor (connect_asks op self.old addr) (W.seen world.old)
+            (W.seen world.new) (λ begun. (begun, self.new)) (outcome result) }
         ensures its_socket { IfOk result (λ begun. IsOf begun self.new) }
         ensures going { IfOk result (λ begun. is_going begun ≡ true) }
         ensures err { OnErr (outcome result) (self.new ≡ self.old) }
@@ -154,8 +159,10 @@ impl UdpConnectOp {
         socket: &mut UdpSocket,
     ) -> Result<Answer<()>, Refusal>
         requires { (W.seen world.old).ended ≡ false }
-        ensures asked { AsksFor (connect_poll_asks self.old socket.old) (W.seen world.old) (W.seen world.new) (λ answer. (answer, (self.new, socket.new))) (outcome result) }
-        ensures err { OnErr (outcome result) (Reaches (connect_poll_asks self.old socket.old) (connect_poll_asks self.new socket.new) (W.seen world.old) (W.seen world.new)) }
+        ensures asked { AsksFor (connect_poll_asks self.old socket.old) (W.seen world.old)
+            (W.seen world.new) (λ answer. (answer, (self.new, socket.new))) (outcome result) }
+        ensures err { OnErr (outcome result) (Reaches (connect_poll_asks self.old socket.old)
+            (connect_poll_asks self.new socket.new) (W.seen world.old) (W.seen world.new)) }
         ensures going { is_going self.new ≡ stays_going result }
         ensures side { socket.new.side ≡ socket.old.side }
         ensures before { IsConnect self.old }
@@ -187,7 +194,8 @@ impl UdpConnectOp {
     fn poll_stage<W: World>(&mut self, world: &mut W) -> Result<Answer<ConnectEnd>, AllocError>
         requires open { (W.seen world.old).ended ≡ false }
         requires going { is_going self.old ≡ true }
-        ensures polled { PollsConnect self.old self.new (W.seen world.old) (W.seen world.new) result }
+        ensures polled { PollsConnect self.old self.new (W.seen world.old) (W.seen world.new)
+            result }
         ensures going { is_going self.new ≡ connect_going result }
         ensures after { IsConnect self.new }
         ensures open { (W.seen world.new).ended ≡ false }
@@ -221,8 +229,11 @@ fn poll_wildcard<W: World>(
 ) -> Result<Answer<ConnectEnd>, AllocError>
     requires open { (W.seen world.old).ended ≡ false }
     requires stage { stage.old ≡ UdpConnectStage.CheckWildcard }
-    ensures polled { PollsConnect (connect_operation asker family addr stage.old) (connect_operation asker family addr stage.new) (W.seen world.old) (W.seen world.new) result }
-    ensures going { is_going (connect_operation asker family addr stage.new) ≡ connect_going result }
+    ensures polled { PollsConnect (connect_operation asker family addr stage.old)
+        (connect_operation asker family addr stage.new) (W.seen world.old) (W.seen world.new)
+        result }
+    ensures going { is_going (connect_operation asker family addr stage.new)
+        ≡ connect_going result }
     ensures open { (W.seen world.new).ended ≡ false }
 {
     let wildcard = unspecified_addr(family);
@@ -251,8 +262,11 @@ fn poll_check_send<W: World>(
 ) -> Result<Answer<ConnectEnd>, AllocError>
     requires open { (W.seen world.old).ended ≡ false }
     requires stage { stage.old ≡ UdpConnectStage.CheckSend }
-    ensures polled { PollsConnect (connect_operation asker family addr stage.old) (connect_operation asker family addr stage.new) (W.seen world.old) (W.seen world.new) result }
-    ensures going { is_going (connect_operation asker family addr stage.new) ≡ connect_going result }
+    ensures polled { PollsConnect (connect_operation asker family addr stage.old)
+        (connect_operation asker family addr stage.new) (W.seen world.old) (W.seen world.new)
+        result }
+    ensures going { is_going (connect_operation asker family addr stage.new)
+        ≡ connect_going result }
     ensures open { (W.seen world.new).ended ≡ false }
 {
     let verdict = asks::check(world, asker.op, asker.maker, addr, SocketAddrUse::UdpSend)?;
@@ -274,8 +288,11 @@ fn poll_check_receive<W: World>(
 ) -> Result<Answer<ConnectEnd>, AllocError>
     requires open { (W.seen world.old).ended ≡ false }
     requires stage { stage.old ≡ UdpConnectStage.CheckReceive }
-    ensures polled { PollsConnect (connect_operation asker family addr stage.old) (connect_operation asker family addr stage.new) (W.seen world.old) (W.seen world.new) result }
-    ensures going { is_going (connect_operation asker family addr stage.new) ≡ connect_going result }
+    ensures polled { PollsConnect (connect_operation asker family addr stage.old)
+        (connect_operation asker family addr stage.new) (W.seen world.old) (W.seen world.new)
+        result }
+    ensures going { is_going (connect_operation asker family addr stage.new)
+        ≡ connect_going result }
     ensures open { (W.seen world.new).ended ≡ false }
 {
     let verdict = asks::check(
@@ -312,8 +329,11 @@ fn poll_connect<W: World>(
 ) -> Result<Answer<ConnectEnd>, AllocError>
     requires open { (W.seen world.old).ended ≡ false }
     requires stage { stage.old ≡ UdpConnectStage.Connect }
-    ensures polled { PollsConnect (connect_operation asker family addr stage.old) (connect_operation asker family addr stage.new) (W.seen world.old) (W.seen world.new) result }
-    ensures going { is_going (connect_operation asker family addr stage.new) ≡ connect_going result }
+    ensures polled { PollsConnect (connect_operation asker family addr stage.old)
+        (connect_operation asker family addr stage.new) (W.seen world.old) (W.seen world.new)
+        result }
+    ensures going { is_going (connect_operation asker family addr stage.new)
+        ≡ connect_going result }
     ensures open { (W.seen world.new).ended ≡ false }
 {
     let told = asks::udp_connect(world, asker.op, asker.side, addr)?;
@@ -331,8 +351,11 @@ fn poll_peer<W: World>(
 ) -> Result<Answer<ConnectEnd>, AllocError>
     requires open { (W.seen world.old).ended ≡ false }
     requires stage { stage.old ≡ UdpConnectStage.Peer told }
-    ensures polled { PollsConnect (connect_operation asker family addr stage.old) (connect_operation asker family addr stage.new) (W.seen world.old) (W.seen world.new) result }
-    ensures going { is_going (connect_operation asker family addr stage.new) ≡ connect_going result }
+    ensures polled { PollsConnect (connect_operation asker family addr stage.old)
+        (connect_operation asker family addr stage.new) (W.seen world.old) (W.seen world.new)
+        result }
+    ensures going { is_going (connect_operation asker family addr stage.new)
+        ≡ connect_going result }
     ensures open { (W.seen world.new).ended ≡ false }
 {
     let peer = asks::peer(world, asker.op, asker.side)?;

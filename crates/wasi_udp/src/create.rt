@@ -4,7 +4,8 @@ ghost use Rattle.std.specs.Prelude.{◌≡◌, true, false, OnErr, IfOk};
 ghost use Rattle.wasi_world.specs.Asks.{AsksFor, Reaches, outcome};
 ghost use Rattle.wasi_world.specs.Operation.{PollsFor, Nothing};
 ghost use Rattle.socket_common.specs.Rounds.{is_going, stays_going};
-ghost use Rattle.wasi_udp.specs.Create.{create_operation, create_at, new_asks, create_told, create_poll_asks, create_cancel_asks, IsCreate};
+ghost use Rattle.wasi_udp.specs.Create.{create_operation, create_at, new_asks, create_told};
+ghost use Rattle.wasi_udp.specs.Create.{create_poll_asks, create_cancel_asks, IsCreate};
 
 use crate::socket::UdpSocket;
 use socket_common::Asker;
@@ -53,7 +54,8 @@ impl UdpSocket {
         family: SocketAddressFamily,
     ) -> Result<CreateOp, Refusal>
         requires { (W.seen world.old).ended ≡ false }
-        ensures asked { AsksFor (new_asks op ctx.now family) (W.seen world.old) (W.seen world.new) (λ begun. begun) (outcome result) }
+        ensures asked { AsksFor (new_asks op ctx.now family) (W.seen world.old) (W.seen world.new)
+            (λ begun. begun) (outcome result) }
         ensures side { IfOk result (λ begun. begun.operation.who.side ≡ op) }
         ensures going { IfOk result (λ begun. is_going begun.operation ≡ true) }
         ensures unasked { OnErr (outcome result) (W.seen world.new ≡ W.seen world.old) }
@@ -104,8 +106,10 @@ impl CreateOp {
     /// - One that has ended is `InvalidState`, and nothing is asked.
     pub fn poll<W: World>(&mut self, world: &mut W) -> Result<Answer<UdpSocket>, Refusal>
         requires { (W.seen world.old).ended ≡ false }
-        ensures asked { AsksFor (create_poll_asks self.old) (W.seen world.old) (W.seen world.new) (λ answer. (answer, self.new)) (outcome result) }
-        ensures err { OnErr (outcome result) (Reaches (create_poll_asks self.old) (create_poll_asks self.new) (W.seen world.old) (W.seen world.new)) }
+        ensures asked { AsksFor (create_poll_asks self.old) (W.seen world.old) (W.seen world.new)
+            (λ answer. (answer, self.new)) (outcome result) }
+        ensures err { OnErr (outcome result) (Reaches (create_poll_asks self.old)
+            (create_poll_asks self.new) (W.seen world.old) (W.seen world.new)) }
         ensures going { is_going self.new.operation ≡ stays_going result }
         ensures before { IsCreate self.old.operation }
         ensures after { IsCreate self.new.operation }
@@ -121,7 +125,8 @@ impl CreateOp {
     fn poll_stage<W: World>(&mut self, world: &mut W) -> Result<Answer<()>, Refusal>
         requires open { (W.seen world.old).ended ≡ false }
         requires going { is_going self.old.operation ≡ true }
-        ensures polled { PollsFor (λ done. Nothing) Nothing self.old.operation self.new.operation (W.seen world.old) (W.seen world.new) result }
+        ensures polled { PollsFor (λ done. Nothing) Nothing self.old.operation self.new.operation
+            (W.seen world.old) (W.seen world.new) result }
         ensures family { self.new.family ≡ self.old.family }
         ensures going { is_going self.new.operation ≡ stays_going result }
         ensures before { IsCreate self.old.operation }
@@ -156,7 +161,8 @@ impl CreateOp {
     /// isn't closed.
     pub fn cancel<W: World>(&self, world: &mut W) -> Result<(), AllocError>
         requires { (W.seen world.old).ended ≡ false }
-        ensures asked { AsksFor (create_cancel_asks self.now) (W.seen world.old) (W.seen world.new) (λ done. done) result }
+        ensures asked { AsksFor (create_cancel_asks self.now) (W.seen world.old) (W.seen world.new)
+            (λ done. done) result }
         ensures unasked { OnErr result (W.seen world.new ≡ W.seen world.old) }
     {
         if !self.is_going() {
@@ -173,7 +179,8 @@ fn poll_writable<W: World>(
 ) -> Result<Answer<()>, Refusal>
     requires open { (W.seen world.old).ended ≡ false }
     requires stage { stage.old ≡ CreateStage.Writable }
-    ensures polled { PollsFor (λ done. Nothing) Nothing (create_operation asker stage.old) (create_operation asker stage.new) (W.seen world.old) (W.seen world.new) result }
+    ensures polled { PollsFor (λ done. Nothing) Nothing (create_operation asker stage.old)
+        (create_operation asker stage.new) (W.seen world.old) (W.seen world.new) result }
     ensures going { is_going (create_operation asker stage.new) ≡ stays_going result }
 {
     let told = asks::udp_writable(world, asker.op, asker.side)?;
@@ -197,7 +204,8 @@ fn poll_close<W: World>(
 ) -> Result<Answer<()>, Refusal>
     requires open { (W.seen world.old).ended ≡ false }
     requires stage { stage.old ≡ CreateStage.Close code }
-    ensures polled { PollsFor (λ done. Nothing) Nothing (create_operation asker stage.old) (create_operation asker stage.new) (W.seen world.old) (W.seen world.new) result }
+    ensures polled { PollsFor (λ done. Nothing) Nothing (create_operation asker stage.old)
+        (create_operation asker stage.new) (W.seen world.old) (W.seen world.new) result }
     ensures going { is_going (create_operation asker stage.new) ≡ stays_going result }
 {
     asks::close(world, asker.op, asker.side)?;

@@ -26,17 +26,20 @@ pub fn late_datagrams_are_not_sent()
         SendsNone entries }
 {}
 
-/// A receive gives a datagram only after a yes for its sender: where a poll gives one, the last call of that poll is the
-/// check of its sender by the context that made the socket, and the check said yes. Where one sender alone is wanted, it
-/// is that one. Both hold at whatever stage the poll begins, and whatever the network answers.
+/// A receive gives a datagram only after a yes for its sender: where a poll gives one, the last
+/// call of that poll is the check of its sender by the context that made the socket, and the check
+/// said yes. Where one sender alone is wanted, it is that one. Both hold at whatever stage the poll
+/// begins, and whatever the network answers.
 ///
 /// It runs no code: its contract is a law about the definitions that contracts cite.
 pub fn datagrams_are_given_after_a_yes()
-    ensures yes { (asker : Asker) (only : Option IpSocketAddress) (stage : RecvStage) (entries : List Entry)
+    ensures yes { (asker : Asker) (only : Option IpSocketAddress) (stage : RecvStage)
+        (entries : List Entry)
         (bytes : List ℕ) (peer : IpSocketAddress) (left : List Item) →
         Left (poll_asks (receive_operation asker only stage)) entries (Give (Done (Datagram bytes peer), left)) →
         EndsInYes asker.maker peer entries }
-    ensures wanted { (asker : Asker) (only : Option IpSocketAddress) (stage : RecvStage) (entries : List Entry)
+    ensures wanted { (asker : Asker) (only : Option IpSocketAddress) (stage : RecvStage)
+        (entries : List Entry)
         (bytes : List ℕ) (peer : IpSocketAddress) (left : List Item) →
         Left (poll_asks (receive_operation asker only stage)) entries (Give (Done (Datagram bytes peer), left)) →
         is_wanted only peer ≡ true }

@@ -1,6 +1,8 @@
-//! UDP sockets, and operations on them that are polled (`sockets/udp` of the crate `wasmtime-wasi`).
+//! UDP sockets, and operations on them that are polled (`sockets/udp` of the crate
+//! `wasmtime-wasi`).
 //!
-//! Each call's contract says by one tree what it asks of the world, what it answers and what the socket is then.
+//! Each call's contract says by one tree what it asks of the world, what it answers and what the
+//! socket is then.
 #![tactic(auto)]
 
 mod address;

@@ -20,7 +20,8 @@ impl UdpSocket {
     /// - A reported value above the option's `largest_value` is `NotSupported`.
     pub fn get_option<W: World>(&self, world: &mut W, op: OpId, option: Opt) -> Result<u64, Refusal>
         requires { (W.seen world.old).ended ≡ false }
-        ensures asked { AsksFor (get_option_asks op self.now option) (W.seen world.old) (W.seen world.new) (λ answer. answer) (outcome result) }
+        ensures asked { AsksFor (get_option_asks op self.now option) (W.seen world.old)
+            (W.seen world.new) (λ answer. answer) (outcome result) }
         ensures within { IfOk result (λ answer. answer ≤ largest_value option) }
         ensures unasked { OnErr (outcome result) (W.seen world.new ≡ W.seen world.old) }
     {
@@ -40,7 +41,9 @@ impl UdpSocket {
         setting: Setting,
     ) -> Result<(), Refusal>
         requires { (W.seen world.old).ended ≡ false }
-        ensures asked { AsksFor (set_option_asks op self.old (option_of setting) (number_of setting)) (W.seen world.old) (W.seen world.new) (λ answer. answer) (outcome result) }
+        ensures asked { AsksFor (set_option_asks op self.old (option_of setting)
+            (number_of setting)) (W.seen world.old) (W.seen world.new) (λ answer. answer)
+            (outcome result) }
         ensures same { self.new ≡ self.old }
         ensures unasked { OnErr (outcome result) (W.seen world.new ≡ W.seen world.old) }
     {
@@ -50,19 +53,20 @@ impl UdpSocket {
         set_of_side(world, op, self.side(), setting)
     }
 
-    /// How many hops a datagram lives (`udp-socket.unicast-hop-limit`). A number above 255 that is reported:
-    /// `NotSupported`. Other errors are those of `get_option`.
+    /// How many hops a datagram lives (`udp-socket.unicast-hop-limit`). A number above 255 that is
+    /// reported: `NotSupported`. Other errors are those of `get_option`.
     pub fn unicast_hop_limit<W: World>(&self, world: &mut W, op: OpId) -> Result<u8, Refusal>
         requires { (W.seen world.old).ended ≡ false }
-        ensures asked { AsksFor (get_option_asks op self.now Opt.HopLimit) (W.seen world.old) (W.seen world.new) (λ answer. answer) (outcome result) }
+        ensures asked { AsksFor (get_option_asks op self.now Opt.HopLimit) (W.seen world.old)
+            (W.seen world.new) (λ answer. answer) (outcome result) }
         ensures unasked { OnErr (outcome result) (W.seen world.new ≡ W.seen world.old) }
     {
         let value = self.get_option(world, op, Opt::HopLimit)?;
         Ok(value as u8)
     }
 
-    /// How many hops a datagram is to live (`udp-socket.set-unicast-hop-limit`): set as it is. 0: `InvalidArgument`.
-    /// Other errors are those of `set_option`.
+    /// How many hops a datagram is to live (`udp-socket.set-unicast-hop-limit`): set as it is. 0:
+    /// `InvalidArgument`. Other errors are those of `set_option`.
     pub fn set_unicast_hop_limit<W: World>(
         &mut self,
         world: &mut W,
@@ -70,25 +74,28 @@ impl UdpSocket {
         value: u8,
     ) -> Result<(), Refusal>
         requires { (W.seen world.old).ended ≡ false }
-        ensures asked { AsksFor (set_option_asks op self.old Opt.HopLimit value) (W.seen world.old) (W.seen world.new) (λ answer. answer) (outcome result) }
+        ensures asked { AsksFor (set_option_asks op self.old Opt.HopLimit value) (W.seen world.old)
+            (W.seen world.new) (λ answer. answer) (outcome result) }
         ensures same { self.new ≡ self.old }
         ensures unasked { OnErr (outcome result) (W.seen world.new ≡ W.seen world.old) }
     {
         self.set_option(world, op, Setting::HopLimit(value))
     }
 
-    /// The size of the buffer for what comes in, in bytes (`udp-socket.receive-buffer-size`): half of what is reported.
-    /// Errors are those of `get_option`.
+    /// The size of the buffer for what comes in, in bytes (`udp-socket.receive-buffer-size`): half
+    /// of what is reported. Errors are those of `get_option`.
     pub fn receive_buffer_size<W: World>(&self, world: &mut W, op: OpId) -> Result<u64, Refusal>
         requires { (W.seen world.old).ended ≡ false }
-        ensures asked { AsksFor (get_option_asks op self.now Opt.ReceiveBufferSize) (W.seen world.old) (W.seen world.new) (λ answer. answer) (outcome result) }
+        ensures asked { AsksFor (get_option_asks op self.now Opt.ReceiveBufferSize)
+            (W.seen world.old) (W.seen world.new) (λ answer. answer) (outcome result) }
         ensures unasked { OnErr (outcome result) (W.seen world.new ≡ W.seen world.old) }
     {
         self.get_option(world, op, Opt::ReceiveBufferSize)
     }
 
-    /// The size of the buffer for what comes in, in bytes (`udp-socket.set-receive-buffer-size`): brought into 1 to
-    /// 2,147,483,647. 0: `InvalidArgument`. Other errors are those of `set_option`.
+    /// The size of the buffer for what comes in, in bytes (`udp-socket.set-receive-buffer-size`):
+    /// brought into 1 to 2,147,483,647. 0: `InvalidArgument`. Other errors are those of
+    /// `set_option`.
     pub fn set_receive_buffer_size<W: World>(
         &mut self,
         world: &mut W,
@@ -96,25 +103,28 @@ impl UdpSocket {
         value: u64,
     ) -> Result<(), Refusal>
         requires { (W.seen world.old).ended ≡ false }
-        ensures asked { AsksFor (set_option_asks op self.old Opt.ReceiveBufferSize value) (W.seen world.old) (W.seen world.new) (λ answer. answer) (outcome result) }
+        ensures asked { AsksFor (set_option_asks op self.old Opt.ReceiveBufferSize value)
+            (W.seen world.old) (W.seen world.new) (λ answer. answer) (outcome result) }
         ensures same { self.new ≡ self.old }
         ensures unasked { OnErr (outcome result) (W.seen world.new ≡ W.seen world.old) }
     {
         self.set_option(world, op, Setting::ReceiveBufferSize(value))
     }
 
-    /// The size of the buffer for what goes out, in bytes (`udp-socket.send-buffer-size`): half of what is reported.
-    /// Errors are those of `get_option`.
+    /// The size of the buffer for what goes out, in bytes (`udp-socket.send-buffer-size`): half of
+    /// what is reported. Errors are those of `get_option`.
     pub fn send_buffer_size<W: World>(&self, world: &mut W, op: OpId) -> Result<u64, Refusal>
         requires { (W.seen world.old).ended ≡ false }
-        ensures asked { AsksFor (get_option_asks op self.now Opt.SendBufferSize) (W.seen world.old) (W.seen world.new) (λ answer. answer) (outcome result) }
+        ensures asked { AsksFor (get_option_asks op self.now Opt.SendBufferSize) (W.seen world.old)
+            (W.seen world.new) (λ answer. answer) (outcome result) }
         ensures unasked { OnErr (outcome result) (W.seen world.new ≡ W.seen world.old) }
     {
         self.get_option(world, op, Opt::SendBufferSize)
     }
 
-    /// The size of the buffer for what goes out, in bytes (`udp-socket.set-send-buffer-size`): brought into 1 to
-    /// 2,147,483,647. 0: `InvalidArgument`. Other errors are those of `set_option`.
+    /// The size of the buffer for what goes out, in bytes (`udp-socket.set-send-buffer-size`):
+    /// brought into 1 to 2,147,483,647. 0: `InvalidArgument`. Other errors are those of
+    /// `set_option`.
     pub fn set_send_buffer_size<W: World>(
         &mut self,
         world: &mut W,
@@ -122,7 +132,8 @@ impl UdpSocket {
         value: u64,
     ) -> Result<(), Refusal>
         requires { (W.seen world.old).ended ≡ false }
-        ensures asked { AsksFor (set_option_asks op self.old Opt.SendBufferSize value) (W.seen world.old) (W.seen world.new) (λ answer. answer) (outcome result) }
+        ensures asked { AsksFor (set_option_asks op self.old Opt.SendBufferSize value)
+            (W.seen world.old) (W.seen world.new) (λ answer. answer) (outcome result) }
         ensures same { self.new ≡ self.old }
         ensures unasked { OnErr (outcome result) (W.seen world.new ≡ W.seen world.old) }
     {

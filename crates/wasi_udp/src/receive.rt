@@ -5,7 +5,8 @@ ghost use Rattle.wasi_world.specs.Asks.{AsksFor};
 ghost use Rattle.wasi_world.specs.Operation.{Nothing, is_wanted};
 ghost use Rattle.socket_common.specs.Rounds.{PollsRounds, RoundFor, is_going, stays_going};
 ghost use Rattle.wasi_udp.specs.Bind.{IsOf};
-ghost use Rattle.wasi_udp.specs.Receive.{receive_operation, datagram_of, wanting, bytes_in, receive_start, receive_asks, IsReceive, receive_first};
+ghost use Rattle.wasi_udp.specs.Receive.{receive_operation, datagram_of, wanting, bytes_in};
+ghost use Rattle.wasi_udp.specs.Receive.{receive_start, receive_asks, IsReceive, receive_first};
 
 use crate::address::same_address;
 use crate::socket::UdpSocket;
@@ -55,7 +56,8 @@ impl UdpSocket {
     /// poll, with `InvalidState`. Out of memory nothing was asked, and the socket stays as it was.
     pub fn recv<W: World>(&mut self, world: &mut W, op: OpId) -> Result<RecvOp, AllocError>
         requires { (W.seen world.old).ended ≡ false }
-        ensures asked { AsksFor (receive_asks op self.old) (W.seen world.old) (W.seen world.new) (λ begun. (begun, self.new)) result }
+        ensures asked { AsksFor (receive_asks op self.old) (W.seen world.old) (W.seen world.new)
+            (λ begun. (begun, self.new)) result }
         ensures its_socket { IfOk result (λ begun. IsOf begun self.new) }
         ensures going { IfOk result (λ begun. is_going begun ≡ true) }
         ensures err { OnErr result (self.new ≡ self.old) }
@@ -101,9 +103,12 @@ impl RecvOp {
         only: Option<IpSocketAddress>,
     ) -> Result<Answer<(Octets, IpSocketAddress)>, Refusal>
         requires { (W.seen world.old).ended ≡ false }
-        ensures polled { is_going self.old ≡ true → PollsRounds datagram_of Nothing (wanting only self.old) self.new (W.seen world.old) (W.seen world.new) result }
+        ensures polled { is_going self.old ≡ true
+            → PollsRounds datagram_of Nothing (wanting only self.old) self.new (W.seen world.old)
+            (W.seen world.new) result }
         ensures going { is_going self.new ≡ stays_going result }
-        ensures over { is_going self.old ≡ false → result ≡ Err (Refusal.Code ErrorCode.InvalidState) }
+        ensures over { is_going self.old ≡ false
+            → result ≡ Err (Refusal.Code ErrorCode.InvalidState) }
         ensures unasked { is_going self.old ≡ false → W.seen world.new ≡ W.seen world.old }
         ensures stays { is_going self.old ≡ false → self.new ≡ self.old }
         ensures who { self.new.who ≡ self.old.who }
@@ -169,7 +174,8 @@ fn poll_round<W: World>(
 ) -> Result<Option<Answer<(Octets, IpSocketAddress)>>, Refusal>
     requires open { (W.seen world.old).ended ≡ false }
     requires going { is_going (receive_operation asker only stage.old) ≡ true }
-    ensures round { RoundFor datagram_of Nothing (receive_operation asker only stage.old) (receive_operation asker only stage.new) (W.seen world.old) (W.seen world.new) result }
+    ensures round { RoundFor datagram_of Nothing (receive_operation asker only stage.old)
+        (receive_operation asker only stage.new) (W.seen world.old) (W.seen world.new) result }
     ensures open { (W.seen world.new).ended ≡ false }
 {
     match stage {
@@ -195,7 +201,8 @@ fn poll_receive<W: World>(
 ) -> Result<Option<Answer<(Octets, IpSocketAddress)>>, Refusal>
     requires open { (W.seen world.old).ended ≡ false }
     requires stage { stage.old ≡ RecvStage.Receive }
-    ensures round { RoundFor datagram_of Nothing (receive_operation asker only stage.old) (receive_operation asker only stage.new) (W.seen world.old) (W.seen world.new) result }
+    ensures round { RoundFor datagram_of Nothing (receive_operation asker only stage.old)
+        (receive_operation asker only stage.new) (W.seen world.old) (W.seen world.new) result }
     ensures open { (W.seen world.new).ended ≡ false }
 {
     let told = asks::recv(world, asker.op, asker.side)?;
@@ -221,7 +228,8 @@ fn poll_check<W: World>(
 ) -> Result<Option<Answer<(Octets, IpSocketAddress)>>, Refusal>
     requires open { (W.seen world.old).ended ≡ false }
     requires stage { stage.old ≡ RecvStage.Check (bytes_in stage.old) peer }
-    ensures round { RoundFor datagram_of Nothing (receive_operation asker only stage.old) (receive_operation asker only stage.new) (W.seen world.old) (W.seen world.new) result }
+    ensures round { RoundFor datagram_of Nothing (receive_operation asker only stage.old)
+        (receive_operation asker only stage.new) (W.seen world.old) (W.seen world.new) result }
     ensures open { (W.seen world.new).ended ≡ false }
 {
     let verdict = asks::check(

@@ -5,7 +5,8 @@ ghost use Rattle.wasi_world.specs.Asks.{AsksFor};
 ghost use Rattle.wasi_world.specs.Operation.{PollsFor, Nothing, is_now};
 ghost use Rattle.socket_common.specs.Rounds.{is_going, stays_going};
 ghost use Rattle.wasi_udp.specs.Bind.{IsOf};
-ghost use Rattle.wasi_udp.specs.Send.{send_operation, where_to, send_to, send_first, send_start, send_asks, at_remote, IsSend};
+ghost use Rattle.wasi_udp.specs.Send.{send_operation, where_to, send_to, send_first, send_start};
+ghost use Rattle.wasi_udp.specs.Send.{send_asks, at_remote, IsSend};
 
 use crate::address::same_address;
 use crate::socket::UdpSocket;
@@ -22,7 +23,8 @@ use wasi_world::{Answer, Octets, OpId, Refusal, World, asks};
 /// How many bytes a datagram has at most.
 const MOST_BYTES: usize = 65_535;
 
-/// Where a datagram goes, and whether that is the remote address that the socket had when the send began.
+/// Where a datagram goes, and whether that is the remote address that the socket had when the send
+/// began.
 #[derive(Clone, Copy, Debug, PartialEq, Eq)]
 pub struct Destination {
     pub addr: IpSocketAddress,
@@ -82,7 +84,8 @@ impl UdpSocket {
         addr: Option<IpSocketAddress>,
     ) -> Result<SendOp, AllocError>
         requires { (W.seen world.old).ended ≡ false }
-        ensures asked { AsksFor (send_asks op self.old bytes addr) (W.seen world.old) (W.seen world.new) (λ begun. (begun, self.new)) result }
+        ensures asked { AsksFor (send_asks op self.old bytes addr) (W.seen world.old)
+            (W.seen world.new) (λ begun. (begun, self.new)) result }
         ensures its_socket { IfOk result (λ begun. IsOf begun self.new) }
         ensures going { IfOk result (λ begun. is_going begun ≡ true) }
         ensures err { OnErr result (self.new ≡ self.old) }
@@ -192,9 +195,12 @@ impl SendOp {
         socket: &UdpSocket,
     ) -> Result<Answer<()>, Refusal>
         requires { (W.seen world.old).ended ≡ false }
-        ensures polled { is_going self.old ≡ true → PollsFor (λ done. Nothing) Nothing (at_remote socket.now.remote self.old) (at_remote socket.now.remote self.new) (W.seen world.old) (W.seen world.new) result }
+        ensures polled { is_going self.old ≡ true
+            → PollsFor (λ done. Nothing) Nothing (at_remote socket.now.remote self.old)
+            (at_remote socket.now.remote self.new) (W.seen world.old) (W.seen world.new) result }
         ensures going { is_going self.new ≡ stays_going result }
-        ensures over { is_going self.old ≡ false → result ≡ Err (Refusal.Code ErrorCode.InvalidState) }
+        ensures over { is_going self.old ≡ false
+            → result ≡ Err (Refusal.Code ErrorCode.InvalidState) }
         ensures unasked { is_going self.old ≡ false → W.seen world.new ≡ W.seen world.old }
         ensures stays { is_going self.old ≡ false → self.new ≡ self.old }
         ensures who { self.new.who ≡ self.old.who }
@@ -233,8 +239,12 @@ fn poll_wildcard<W: World>(
 ) -> Result<Answer<()>, Refusal>
     requires open { (W.seen world.old).ended ≡ false }
     requires stage { stage.old ≡ SendStage.CheckWildcard to }
-    ensures polled { PollsFor (λ done. Nothing) Nothing (at_remote remote (send_operation asker family bytes.now stage.old)) (at_remote remote (send_operation asker family bytes.now stage.new)) (W.seen world.old) (W.seen world.new) result }
-    ensures going { is_going (send_operation asker family bytes.now stage.new) ≡ stays_going result }
+    ensures polled { PollsFor (λ done. Nothing) Nothing (at_remote remote
+        (send_operation asker family bytes.now stage.old))
+        (at_remote remote (send_operation asker family bytes.now stage.new)) (W.seen world.old)
+        (W.seen world.new) result }
+    ensures going { is_going (send_operation asker family bytes.now stage.new)
+        ≡ stays_going result }
 {
     let wildcard = unspecified_addr(family);
     let verdict = asks::check(
@@ -267,8 +277,12 @@ fn poll_check<W: World>(
 ) -> Result<Answer<()>, Refusal>
     requires open { (W.seen world.old).ended ≡ false }
     requires stage { stage.old ≡ SendStage.Check to }
-    ensures polled { PollsFor (λ done. Nothing) Nothing (at_remote remote (send_operation asker family bytes.now stage.old)) (at_remote remote (send_operation asker family bytes.now stage.new)) (W.seen world.old) (W.seen world.new) result }
-    ensures going { is_going (send_operation asker family bytes.now stage.new) ≡ stays_going result }
+    ensures polled { PollsFor (λ done. Nothing) Nothing (at_remote remote
+        (send_operation asker family bytes.now stage.old))
+        (at_remote remote (send_operation asker family bytes.now stage.new)) (W.seen world.old)
+        (W.seen world.new) result }
+    ensures going { is_going (send_operation asker family bytes.now stage.new)
+        ≡ stays_going result }
 {
     let verdict = asks::check(
         world,
@@ -300,8 +314,12 @@ fn poll_send<W: World>(
 ) -> Result<Answer<()>, Refusal>
     requires open { (W.seen world.old).ended ≡ false }
     requires stage { stage.old ≡ SendStage.Send to }
-    ensures polled { PollsFor (λ done. Nothing) Nothing (at_remote remote (send_operation asker family bytes.now stage.old)) (at_remote remote (send_operation asker family bytes.now stage.new)) (W.seen world.old) (W.seen world.new) result }
-    ensures going { is_going (send_operation asker family bytes.now stage.new) ≡ stays_going result }
+    ensures polled { PollsFor (λ done. Nothing) Nothing (at_remote remote
+        (send_operation asker family bytes.now stage.old))
+        (at_remote remote (send_operation asker family bytes.now stage.new)) (W.seen world.old)
+        (W.seen world.new) result }
+    ensures going { is_going (send_operation asker family bytes.now stage.new)
+        ≡ stays_going result }
 {
     if to.is_late(remote) {
         *stage = SendStage::Over;

@@ -27,11 +27,19 @@ impl Model for UdpSocket {
 
     ghost Value = { Socket };
 
-    ghost view = { λ s. record { side = s.side; family = s.family; bound = s.bound; remote = s.remote; maker = s.maker } };
+    ghost view = { λ s. record {
+      side = s.side;
+      family = s.family;
+      bound = s.bound;
+      remote = s.remote;
+      maker = s.maker;
+    } };
 }
 
 impl UdpSocket {
-    ghost use Rattle.wasi_udp.specs.Socket.{new_socket, asker_of, is_connected, remote_of, bound_asks, after_local, local_where, local_asks, after_peer, disconnect_asks, disconnect_in};
+    ghost use Rattle.wasi_udp.specs.Socket.{new_socket, asker_of, is_connected, remote_of};
+    ghost use Rattle.wasi_udp.specs.Socket.{bound_asks, after_local, local_where, local_asks};
+    ghost use Rattle.wasi_udp.specs.Socket.{after_peer, disconnect_asks, disconnect_in};
 
     /// What a create makes: it isn't known to be bound, and has no remote address.
     pub(crate) fn made(side: Sock, family: SocketAddressFamily, maker: u32) -> UdpSocket
@@ -100,7 +108,8 @@ impl UdpSocket {
     /// and any but the wildcard is a yes. Out of memory nothing was asked.
     pub fn is_bound<W: World>(&mut self, world: &mut W, op: OpId) -> Result<bool, AllocError>
         requires { (W.seen world.old).ended ≡ false }
-        ensures asked { AsksFor (bound_asks op self.old) (W.seen world.old) (W.seen world.new) (λ bound. (bound, self.new)) result }
+        ensures asked { AsksFor (bound_asks op self.old) (W.seen world.old) (W.seen world.new)
+            (λ bound. (bound, self.new)) result }
         ensures kept { IfOk result (λ bound. self.new.bound ≡ bound) }
         ensures err { OnErr result (self.new ≡ self.old) }
         ensures unasked { OnErr result (W.seen world.new ≡ W.seen world.old) }
@@ -134,8 +143,10 @@ impl UdpSocket {
         op: OpId,
     ) -> Result<IpSocketAddress, Refusal>
         requires { (W.seen world.old).ended ≡ false }
-        ensures asked { AsksFor (local_asks op self.old) (W.seen world.old) (W.seen world.new) (λ answer. (answer, self.new)) (outcome result) }
-        ensures err { OnErr (outcome result) (Reaches (local_asks op self.old) (local_asks op self.new) (W.seen world.old) (W.seen world.new)) }
+        ensures asked { AsksFor (local_asks op self.old) (W.seen world.old) (W.seen world.new)
+            (λ answer. (answer, self.new)) (outcome result) }
+        ensures err { OnErr (outcome result) (Reaches (local_asks op self.old)
+            (local_asks op self.new) (W.seen world.old) (W.seen world.new)) }
         ensures side { self.new.side ≡ self.old.side }
     {
         let bound = self.is_bound(world, op)?;
@@ -150,7 +161,8 @@ impl UdpSocket {
         bound: bool,
     ) -> Result<IpSocketAddress, Refusal>
         requires { (W.seen world.old).ended ≡ false }
-        ensures asked { AsksFor (local_where op self.now bound) (W.seen world.old) (W.seen world.new) (λ answer. (answer, self.now)) (outcome result) }
+        ensures asked { AsksFor (local_where op self.now bound) (W.seen world.old)
+            (W.seen world.new) (λ answer. (answer, self.now)) (outcome result) }
         ensures err { OnErr (outcome result) (W.seen world.new ≡ W.seen world.old) }
         ensures bound { OnErr (outcome result) (bound ≡ true) }
     {
@@ -174,7 +186,8 @@ impl UdpSocket {
     /// - Out of memory the remote address stays as it was.
     pub fn disconnect<W: World>(&mut self, world: &mut W, op: OpId) -> Result<(), Refusal>
         requires { (W.seen world.old).ended ≡ false }
-        ensures asked { AsksFor (disconnect_asks op self.old) (W.seen world.old) (W.seen world.new) (λ answer. (answer, self.new)) (outcome result) }
+        ensures asked { AsksFor (disconnect_asks op self.old) (W.seen world.old) (W.seen world.new)
+            (λ answer. (answer, self.new)) (outcome result) }
         ensures err { OnErr (outcome result) (self.new ≡ record self.old { bound = true }) }
         ensures side { self.new.side ≡ self.old.side }
     {
@@ -209,7 +222,8 @@ impl UdpSocket {
     /// asked, and the network socket isn't closed.
     pub fn close<W: World>(self, world: &mut W, op: OpId) -> Result<(), AllocError>
         requires { (W.seen world.old).ended ≡ false }
-        ensures asked { AsksFor (ask_close op self.side) (W.seen world.old) (W.seen world.new) (λ done. done) result }
+        ensures asked { AsksFor (ask_close op self.side) (W.seen world.old) (W.seen world.new)
+            (λ done. done) result }
         ensures unasked { OnErr result (W.seen world.new ≡ W.seen world.old) }
     {
         asks::close(world, op, self.side)

@@ -1,9 +1,14 @@
-//! Each kind of ask, with a type that has just the answers that fit. Those of UDP are in `udp`; only `told` looks at
-//! what a world answered.
+//! Each kind of ask, with a type that has just the answers that fit. Those of UDP are in `udp`;
+//! only `told` looks at what a world answered.
 
 ghost use Rattle.std.specs.Prelude.{◌≡◌, ◌<◌, ◌≤◌, ◌^◌, OnErr, IfOk, length, false};
 ghost use Rattle.wasi_world.specs.Asks.{AsksFor};
-ghost use Rattle.wasi_world.specs.Typed.{ask_check, ask_lookup, ask_tcp_create, ask_local, ask_peer, ask_bind, ask_listen, ask_set_backlog, ask_connect, ask_accept, ask_hand, ask_refuse, ask_read, ask_read_ready, ask_write_ready, ask_shutdown, ask_get_option, ask_set_option, ask_close, ask_made, ask_write, IsTakenOf, IsReadOf};
+ghost use Rattle.wasi_world.specs.Typed.{ask_check, ask_lookup, ask_tcp_create, ask_local};
+ghost use Rattle.wasi_world.specs.Typed.{ask_peer, ask_bind, ask_listen, ask_set_backlog};
+ghost use Rattle.wasi_world.specs.Typed.{ask_connect, ask_accept, ask_hand, ask_refuse, ask_read};
+ghost use Rattle.wasi_world.specs.Typed.{ask_read_ready, ask_write_ready, ask_shutdown};
+ghost use Rattle.wasi_world.specs.Typed.{ask_get_option, ask_set_option, ask_close, ask_made};
+ghost use Rattle.wasi_world.specs.Typed.{ask_write, IsTakenOf, IsReadOf};
 
 mod told;
 mod udp;
@@ -55,7 +60,8 @@ pub fn check<W: World>(
     usage: SocketAddrUse,
 ) -> Result<Verdict, AllocError>
     requires { (W.seen world.old).ended ≡ false }
-    ensures asked { AsksFor (ask_check op ctx addr usage) (W.seen world.old) (W.seen world.new) (λ answer. answer) result }
+    ensures asked { AsksFor (ask_check op ctx addr usage) (W.seen world.old) (W.seen world.new)
+        (λ answer. answer) result }
     ensures err { OnErr result (W.seen world.new ≡ W.seen world.old) }
 {
     let told = world.call(op, Call::Check { ctx, addr, usage })?;
@@ -70,7 +76,8 @@ pub fn lookup<W: World>(
     host: NameText,
 ) -> Result<Polled<IpList>, AllocError>
     requires { (W.seen world.old).ended ≡ false }
-    ensures asked { AsksFor (ask_lookup op host) (W.seen world.old) (W.seen world.new) (λ answer. answer) result }
+    ensures asked { AsksFor (ask_lookup op host) (W.seen world.old) (W.seen world.new)
+        (λ answer. answer) result }
     ensures err { OnErr result (W.seen world.new ≡ W.seen world.old) }
 {
     let told = world.call(op, Call::Lookup { host })?;
@@ -86,7 +93,8 @@ pub fn tcp_create<W: World>(
     family: SocketAddressFamily,
 ) -> Result<Result<(), ErrorCode>, AllocError>
     requires { (W.seen world.old).ended ≡ false }
-    ensures asked { AsksFor (ask_tcp_create op ctx family) (W.seen world.old) (W.seen world.new) (λ answer. answer) result }
+    ensures asked { AsksFor (ask_tcp_create op ctx family) (W.seen world.old) (W.seen world.new)
+        (λ answer. answer) result }
     ensures err { OnErr result (W.seen world.new ≡ W.seen world.old) }
 {
     let told = world.call(op, Call::TcpCreate { ctx, family })?;
@@ -100,7 +108,8 @@ pub fn local<W: World>(
     sock: Sock,
 ) -> Result<Result<IpSocketAddress, ErrorCode>, AllocError>
     requires { (W.seen world.old).ended ≡ false }
-    ensures asked { AsksFor (ask_local op sock) (W.seen world.old) (W.seen world.new) (λ answer. answer) result }
+    ensures asked { AsksFor (ask_local op sock) (W.seen world.old) (W.seen world.new)
+        (λ answer. answer) result }
     ensures err { OnErr result (W.seen world.new ≡ W.seen world.old) }
 {
     let told = world.call(op, Call::Local { sock })?;
@@ -115,7 +124,8 @@ pub fn peer<W: World>(
     sock: Sock,
 ) -> Result<Result<IpSocketAddress, ErrorCode>, AllocError>
     requires { (W.seen world.old).ended ≡ false }
-    ensures asked { AsksFor (ask_peer op sock) (W.seen world.old) (W.seen world.new) (λ answer. answer) result }
+    ensures asked { AsksFor (ask_peer op sock) (W.seen world.old) (W.seen world.new)
+        (λ answer. answer) result }
     ensures err { OnErr result (W.seen world.new ≡ W.seen world.old) }
 {
     let told = world.call(op, Call::Peer { sock })?;
@@ -130,7 +140,8 @@ pub fn bind<W: World>(
     addr: IpSocketAddress,
 ) -> Result<Result<(), ErrorCode>, AllocError>
     requires { (W.seen world.old).ended ≡ false }
-    ensures asked { AsksFor (ask_bind op sock addr) (W.seen world.old) (W.seen world.new) (λ answer. answer) result }
+    ensures asked { AsksFor (ask_bind op sock addr) (W.seen world.old) (W.seen world.new)
+        (λ answer. answer) result }
     ensures err { OnErr result (W.seen world.new ≡ W.seen world.old) }
 {
     let told = world.call(op, Call::Bind { sock, addr })?;
@@ -146,7 +157,8 @@ pub fn listen<W: World>(
     backlog: u32,
 ) -> Result<Result<(), ErrorCode>, AllocError>
     requires { (W.seen world.old).ended ≡ false }
-    ensures asked { AsksFor (ask_listen op sock backlog) (W.seen world.old) (W.seen world.new) (λ answer. answer) result }
+    ensures asked { AsksFor (ask_listen op sock backlog) (W.seen world.old) (W.seen world.new)
+        (λ answer. answer) result }
     ensures err { OnErr result (W.seen world.new ≡ W.seen world.old) }
 {
     let told = world.call(op, Call::Listen { sock, backlog })?;
@@ -162,7 +174,8 @@ pub fn set_backlog<W: World>(
     backlog: u32,
 ) -> Result<Result<(), ErrorCode>, AllocError>
     requires { (W.seen world.old).ended ≡ false }
-    ensures asked { AsksFor (ask_set_backlog op sock backlog) (W.seen world.old) (W.seen world.new) (λ answer. answer) result }
+    ensures asked { AsksFor (ask_set_backlog op sock backlog) (W.seen world.old) (W.seen world.new)
+        (λ answer. answer) result }
     ensures err { OnErr result (W.seen world.new ≡ W.seen world.old) }
 {
     let told = world.call(op, Call::SetBacklog { sock, backlog })?;
@@ -178,7 +191,8 @@ pub fn connect<W: World>(
     addr: IpSocketAddress,
 ) -> Result<Polled<()>, AllocError>
     requires { (W.seen world.old).ended ≡ false }
-    ensures asked { AsksFor (ask_connect op sock addr) (W.seen world.old) (W.seen world.new) (λ answer. answer) result }
+    ensures asked { AsksFor (ask_connect op sock addr) (W.seen world.old) (W.seen world.new)
+        (λ answer. answer) result }
     ensures err { OnErr result (W.seen world.new ≡ W.seen world.old) }
 {
     let told = world.call(op, Call::Connect { sock, addr })?;
@@ -194,7 +208,8 @@ pub fn accept<W: World>(
     sock: Sock,
 ) -> Result<Polled<IpSocketAddress>, AllocError>
     requires { (W.seen world.old).ended ≡ false }
-    ensures asked { AsksFor (ask_accept op sock) (W.seen world.old) (W.seen world.new) (λ answer. answer) result }
+    ensures asked { AsksFor (ask_accept op sock) (W.seen world.old) (W.seen world.new)
+        (λ answer. answer) result }
     ensures err { OnErr result (W.seen world.new ≡ W.seen world.old) }
 {
     let told = world.call(op, Call::Accept { sock })?;
@@ -210,7 +225,8 @@ pub fn hand<W: World>(
     peer: IpSocketAddress,
 ) -> Result<(), AllocError>
     requires { (W.seen world.old).ended ≡ false }
-    ensures asked { AsksFor (ask_hand op sock peer) (W.seen world.old) (W.seen world.new) (λ answer. answer) result }
+    ensures asked { AsksFor (ask_hand op sock peer) (W.seen world.old) (W.seen world.new)
+        (λ answer. answer) result }
     ensures err { OnErr result (W.seen world.new ≡ W.seen world.old) }
 {
     world.call(op, Call::Hand { sock, peer })?;
@@ -226,7 +242,8 @@ pub fn refuse<W: World>(
     peer: IpSocketAddress,
 ) -> Result<(), AllocError>
     requires { (W.seen world.old).ended ≡ false }
-    ensures asked { AsksFor (ask_refuse op sock peer) (W.seen world.old) (W.seen world.new) (λ answer. answer) result }
+    ensures asked { AsksFor (ask_refuse op sock peer) (W.seen world.old) (W.seen world.new)
+        (λ answer. answer) result }
     ensures err { OnErr result (W.seen world.new ≡ W.seen world.old) }
 {
     world.call(op, Call::Refuse { sock, peer })?;
@@ -242,7 +259,8 @@ pub fn read<W: World>(
     size: u32,
 ) -> Result<Polled<Octets>, AllocError>
     requires { (W.seen world.old).ended ≡ false }
-    ensures asked { AsksFor (ask_read op sock size) (W.seen world.old) (W.seen world.new) (λ answer. answer) result }
+    ensures asked { AsksFor (ask_read op sock size) (W.seen world.old) (W.seen world.new)
+        (λ answer. answer) result }
     ensures within { IfOk result (λ answer. IsReadOf size answer) }
     ensures err { OnErr result (W.seen world.new ≡ W.seen world.old) }
 {
@@ -254,7 +272,8 @@ pub fn read<W: World>(
 /// memory the call wasn't made.
 pub fn read_ready<W: World>(world: &mut W, op: OpId, sock: Sock) -> Result<Answer<()>, AllocError>
     requires { (W.seen world.old).ended ≡ false }
-    ensures asked { AsksFor (ask_read_ready op sock) (W.seen world.old) (W.seen world.new) (λ answer. answer) result }
+    ensures asked { AsksFor (ask_read_ready op sock) (W.seen world.old) (W.seen world.new)
+        (λ answer. answer) result }
     ensures err { OnErr result (W.seen world.new ≡ W.seen world.old) }
 {
     let told = world.call(op, Call::ReadReady { sock })?;
@@ -265,7 +284,8 @@ pub fn read_ready<W: World>(world: &mut W, op: OpId, sock: Sock) -> Result<Answe
 /// wasn't made.
 pub fn write_ready<W: World>(world: &mut W, op: OpId, sock: Sock) -> Result<Answer<()>, AllocError>
     requires { (W.seen world.old).ended ≡ false }
-    ensures asked { AsksFor (ask_write_ready op sock) (W.seen world.old) (W.seen world.new) (λ answer. answer) result }
+    ensures asked { AsksFor (ask_write_ready op sock) (W.seen world.old) (W.seen world.new)
+        (λ answer. answer) result }
     ensures err { OnErr result (W.seen world.new ≡ W.seen world.old) }
 {
     let told = world.call(op, Call::WriteReady { sock })?;
@@ -281,7 +301,8 @@ pub fn shutdown<W: World>(
     how: ShutdownType,
 ) -> Result<(), AllocError>
     requires { (W.seen world.old).ended ≡ false }
-    ensures asked { AsksFor (ask_shutdown op sock how) (W.seen world.old) (W.seen world.new) (λ answer. answer) result }
+    ensures asked { AsksFor (ask_shutdown op sock how) (W.seen world.old) (W.seen world.new)
+        (λ answer. answer) result }
     ensures err { OnErr result (W.seen world.new ≡ W.seen world.old) }
 {
     world.call(op, Call::Shutdown { sock, how })?;
@@ -297,7 +318,8 @@ pub fn get_option<W: World>(
     option: Opt,
 ) -> Result<Result<u64, ErrorCode>, AllocError>
     requires { (W.seen world.old).ended ≡ false }
-    ensures asked { AsksFor (ask_get_option op sock option) (W.seen world.old) (W.seen world.new) (λ answer. answer) result }
+    ensures asked { AsksFor (ask_get_option op sock option) (W.seen world.old) (W.seen world.new)
+        (λ answer. answer) result }
     ensures err { OnErr result (W.seen world.new ≡ W.seen world.old) }
 {
     let told = world.call(op, Call::GetOption { sock, option })?;
@@ -314,7 +336,8 @@ pub fn set_option<W: World>(
     value: u64,
 ) -> Result<Result<(), ErrorCode>, AllocError>
     requires { (W.seen world.old).ended ≡ false }
-    ensures asked { AsksFor (ask_set_option op sock option value) (W.seen world.old) (W.seen world.new) (λ answer. answer) result }
+    ensures asked { AsksFor (ask_set_option op sock option value) (W.seen world.old)
+        (W.seen world.new) (λ answer. answer) result }
     ensures err { OnErr result (W.seen world.new ≡ W.seen world.old) }
 {
     let told = world.call(
@@ -331,7 +354,8 @@ pub fn set_option<W: World>(
 /// Closes a socket; the call can't fail but for memory, and then it wasn't made.
 pub fn close<W: World>(world: &mut W, op: OpId, sock: Sock) -> Result<(), AllocError>
     requires { (W.seen world.old).ended ≡ false }
-    ensures asked { AsksFor (ask_close op sock) (W.seen world.old) (W.seen world.new) (λ answer. answer) result }
+    ensures asked { AsksFor (ask_close op sock) (W.seen world.old) (W.seen world.new)
+        (λ answer. answer) result }
     ensures err { OnErr result (W.seen world.new ≡ W.seen world.old) }
 {
     world.call(op, Call::Close { sock })?;
@@ -349,7 +373,8 @@ pub fn made<W: World>(
     sock: Option<Sock>,
 ) -> Result<(), AllocError>
     requires { (W.seen world.old).ended ≡ false }
-    ensures asked { AsksFor (ask_made op handle kind parent sock) (W.seen world.old) (W.seen world.new) (λ answer. answer) result }
+    ensures asked { AsksFor (ask_made op handle kind parent sock) (W.seen world.old)
+        (W.seen world.new) (λ answer. answer) result }
     ensures err { OnErr result (W.seen world.new ≡ W.seen world.old) }
 {
     world.call(
@@ -375,7 +400,8 @@ pub fn write<W: World>(
     requires open { (W.seen world.old).ended ≡ false }
     requires some { 1 ≤ length bytes.now }
     requires short { length bytes.now < 2 ^ 32 }
-    ensures asked { AsksFor (ask_write op sock bytes.now) (W.seen world.old) (W.seen world.new) (λ answer. answer) result }
+    ensures asked { AsksFor (ask_write op sock bytes.now) (W.seen world.old) (W.seen world.new)
+        (λ answer. answer) result }
     ensures within { IfOk result (λ answer. IsTakenOf (length bytes.now) answer) }
     ensures err { OnErr result (W.seen world.new ≡ W.seen world.old) }
 {

@@ -13,8 +13,8 @@ pub struct IncomingDatagram {
     pub remote_address: IpSocketAddress,
 }
 
-/// A datagram to send, and where to; with no address it goes to the one that its socket is connected to
-/// (`outgoing-datagram`).
+/// A datagram to send, and where to; with no address it goes to the one that its socket is
+/// connected to (`outgoing-datagram`).
 #[derive(Drop)]
 pub struct OutgoingDatagram {
     pub bytes: Octets,

@@ -1,9 +1,9 @@
-//! The network, the address check and name lookup behind one trait, [`World`]: what may be asked of it, what it
-//! answers, and how the host asks.
+//! The network, the address check and name lookup behind one trait, [`World`]: what may be asked of
+//! it, what it answers, and how the host asks.
 //!
-//! What a call asks of a `World` is stated once, as a tree over the answers (specs/Asks), and the operations that
-//! are polled are lists of asks under one rule (specs/Operation). What a world answers that goes by a plan is a
-//! definition (specs/Script); `world_scripted` has such a world.
+//! What a call asks of a `World` is stated once, as a tree over the answers (specs/Asks), and the
+//! operations that are polled are lists of asks under one rule (specs/Operation). What a world
+//! answers that goes by a plan is a definition (specs/Script); `world_scripted` has such a world.
 #![tactic(auto)]
 
 pub mod asks;

@@ -1,5 +1,5 @@
-//! What a world that goes by a plan knows of a network socket: what the defaults of `local`, `peer` and `get-option`
-//! go by.
+//! What a world that goes by a plan knows of a network socket: what the defaults of `local`, `peer`
+//! and `get-option` go by.
 
 use wasi_addr::{IpSocketAddress, SocketAddressFamily};
 

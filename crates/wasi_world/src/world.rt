@@ -7,9 +7,9 @@ use wasi_addr::IpSocketAddress;
 
 /// What the host asks: an address check, a network and name lookup.
 ///
-/// Each call that is answered appends one entry to the log, with an answer that fits, and raises the count of faults
-/// exactly where a code is reported. Where a call runs out of memory it wasn't made. The log need not be reported: what
-/// is known of a world is its ghost `seen`.
+/// Each call that is answered appends one entry to the log, with an answer that fits, and raises
+/// the count of faults exactly where a code is reported. Where a call runs out of memory it wasn't
+/// made. The log need not be reported: what is known of a world is its ghost `seen`.
 pub trait World {
     ghost use Rattle.std.specs.Prelude.{◌≡◌, ◌<◌, ◌≤◌, ◌^◌, IfOk, OnErr, length, true, false};
     ghost use Rattle.wasi_world.specs.Fits.{Fits, IsPlain, IsWritten};
@@ -24,7 +24,8 @@ pub trait World {
     fn call(&mut self, op: OpId, call: Call) -> Result<Told, AllocError>
         requires open { (seen self.old).ended ≡ false }
         requires plain { IsPlain call }
-        ensures asked { AsksFor (one op call) (seen self.old) (seen self.new) (λ told. told) result }
+        ensures asked { AsksFor (one op call) (seen self.old) (seen self.new) (λ told. told)
+            result }
         ensures fits { IfOk result (λ told. Fits call told) }
         ensures err { OnErr result (seen self.new ≡ seen self.old) };
 
@@ -34,7 +35,8 @@ pub trait World {
         requires open { (seen self.old).ended ≡ false }
         requires some { 1 ≤ length bytes.now }
         requires short { length bytes.now < 2 ^ 32 }
-        ensures asked { AsksFor (one_write op sock bytes.now) (seen self.old) (seen self.new) (λ told. told) result }
+        ensures asked { AsksFor (one_write op sock bytes.now) (seen self.old) (seen self.new)
+            (λ told. told) result }
         ensures fits { IfOk result (λ told. IsWritten (length bytes.now) told) }
         ensures err { OnErr result (seen self.new ≡ seen self.old) };
 
@@ -47,7 +49,8 @@ pub trait World {
         bytes: &[u8],
     ) -> Result<Told, AllocError>
         requires open { (seen self.old).ended ≡ false }
-        ensures asked { AsksFor (one op (Call.Send sock addr bytes.now)) (seen self.old) (seen self.new) (λ told. told) result }
+        ensures asked { AsksFor (one op (Call.Send sock addr bytes.now)) (seen self.old)
+            (seen self.new) (λ told. told) result }
         ensures err { OnErr result (seen self.new ≡ seen self.old) };
 
     /// Sets the end mark; can't be refused.
@@ -55,7 +58,8 @@ pub trait World {
         requires open { (seen self.old).ended ≡ false }
         ensures { Ends (seen self.old) (seen self.new) };
 
-    /// Closes a network socket after the end mark. It is counted and not logged, and can't be refused.
+    /// Closes a network socket after the end mark. It is counted and not logged, and can't be
+    /// refused.
     fn close_after_end(&mut self, sock: Sock)
         requires ended { (seen self.old).ended ≡ true }
         ensures { Closes (seen self.old) (seen self.new) };

@@ -1,11 +1,14 @@
 //! What the owner and the worker of a write stream have under one lock.
 
-ghost use Rattle.std.specs.Prelude.{◌≡◌, ◌≤◌, ◌<◌, IfOk, IfErr, IfSome, IfNone, OnSome, true, false, not, ◌||◌, length, is_ok, Ok};
+ghost use Rattle.std.specs.Prelude.{◌≡◌, ◌≤◌, ◌<◌, IfOk, IfErr, IfSome, IfNone, OnSome, true};
+ghost use Rattle.std.specs.Prelude.{false, not, ◌||◌, length, is_ok, Ok};
 ghost use Rattle.wasi_pipes.specs.WriteRecord.{accept_answer};
 ghost use Rattle.wasi_pipes.specs.WriteState.{fresh_state};
 ghost use Rattle.wasi_writer.specs.Knows.{nothing_yet, idle};
 ghost use Rattle.wasi_writer.specs.Keeps.{KeepsCounts, KeepsOwner, KeepsWorker, KeepsFlush};
-ghost use Rattle.wasi_writer.specs.Answers.{after_write, after_flush, after_check, after_push, with_bytes, TrapCause, ErrorCause, IsRefused, IsFull, HasTask, Settled};
+ghost use Rattle.wasi_writer.specs.Answers.{after_write, after_flush, after_check, after_push};
+ghost use Rattle.wasi_writer.specs.Answers.{with_bytes, TrapCause, ErrorCause, IsRefused, IsFull};
+ghost use Rattle.wasi_writer.specs.Answers.{HasTask, Settled};
 
 use crate::names::Names;
 use crate::owner_facts::{OwnerFacts, OwnerKeys};
@@ -60,7 +63,8 @@ impl<N: Names> Locked<N> {
         requires { push.old.line ≡ line.now }
         ensures knows { keys.new ≡ after_write keys.old (length chunk) result }
         ensures pushed { push.new ≡ after_push push.old chunk result }
-        ensures cause { IfErr result (ErrorCause keys.old (TrapCause N.initial keys.old (length chunk))) }
+        ensures cause { IfErr result (ErrorCause keys.old (TrapCause N.initial keys.old
+            (length chunk))) }
         ensures refused { IsRefused keys.old result }
     {
         self.owner.agree(keys);
@@ -138,7 +142,8 @@ impl<N: Names> Locked<N> {
     /// stopped before.
     pub fn close(&mut self, keys: &mut OwnerKeys<N>) -> Option<bool>
         ensures was { IfSome result (λ cancelled. cancelled ≡ keys.old.stopped) }
-        ensures some { OnSome result (keys.new ≡ record keys.old { stopped = true; done = not keys.old.stopped || keys.old.done }) }
+        ensures some { OnSome result (keys.new ≡ record keys.old
+            { stopped = true; done = not keys.old.stopped || keys.old.done }) }
         ensures none { IfNone result (keys.new ≡ keys.old) }
     {
         self.owner.agree(keys);
@@ -227,7 +232,8 @@ impl<N: Names> Locked<N> {
     fn accept(&mut self, keys: &mut OwnerKeys<N>, len: usize) -> Result<(), StreamError>
         requires agreed { self.old.owner ≡ keys.old }
         requires bytes { 0 < len }
-        requires fits { accept_answer self.old.core.state.flags self.old.core.state.budget len ≡ Ok tt }
+        requires fits { accept_answer self.old.core.state.flags self.old.core.state.budget len
+            ≡ Ok tt }
         requires room { self.old.core.room ≡ true }
         ensures ok { result ≡ Ok tt }
         ensures knows { keys.new ≡ with_bytes keys.old len }
@@ -241,7 +247,8 @@ impl<N: Names> Locked<N> {
     /// A write that pushes nothing: it is refused, or has no bytes.
     fn accept_none(&mut self, keys: &mut OwnerKeys<N>, len: usize) -> Result<(), StreamError>
         requires agreed { self.old.owner ≡ keys.old }
-        requires none { 0 < len → is_ok (accept_answer self.old.core.state.flags self.old.core.state.budget len) ≡ false }
+        requires none { 0 < len → is_ok (accept_answer self.old.core.state.flags
+            self.old.core.state.budget len) ≡ false }
         ensures knows { keys.new ≡ after_write keys.old len result }
         ensures empty { IfOk result (λ done. len ≡ 0) }
         ensures cause { IfErr result (ErrorCause keys.old (TrapCause N.initial keys.old len)) }

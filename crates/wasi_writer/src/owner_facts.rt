@@ -73,9 +73,12 @@ impl<N: LedgerNames> Model for OwnerKeys<N> {
 impl<N: LedgerNames> OwnerFacts<N> {
     /// What is known of a new stream.
     pub(crate) fn open(blanks: OwnerBlanks) -> (OwnerFacts<N>, OwnerKeys<N>)
-        requires counts { (blanks.accepted.name ≡ N.ledgers.accepted) × (blanks.pushed.name ≡ N.ledgers.pushed) × (blanks.permit.name ≡ N.ledgers.permit) }
-        requires asked { (blanks.flush.name ≡ N.ledgers.flush) × (blanks.ready.name ≡ N.ledgers.ready) }
-        requires ended { (blanks.told.name ≡ N.ledgers.told) × (blanks.stopped.name ≡ N.ledgers.stopped) × (blanks.done.name ≡ N.ledgers.done) }
+        requires counts { (blanks.accepted.name ≡ N.ledgers.accepted)
+            × (blanks.pushed.name ≡ N.ledgers.pushed) × (blanks.permit.name ≡ N.ledgers.permit) }
+        requires asked { (blanks.flush.name ≡ N.ledgers.flush)
+            × (blanks.ready.name ≡ N.ledgers.ready) }
+        requires ended { (blanks.told.name ≡ N.ledgers.told)
+            × (blanks.stopped.name ≡ N.ledgers.stopped) × (blanks.done.name ≡ N.ledgers.done) }
         ensures facts { result.0 ≡ nothing_yet }
         ensures keys { result.1 ≡ nothing_yet }
     {
@@ -142,7 +145,13 @@ impl<N: LedgerNames> OwnerFacts<N> {
     /// A chunk of so many bytes was accepted and pushed.
     pub fn accept(&mut self, keys: &mut OwnerKeys<N>, len: u64)
         requires { self.old ≡ keys.old }
-        ensures facts { self.new ≡ record self.old { accepted = self.old.accepted + len; pushed = self.old.pushed + 1; permit = self.old.permit - len; flush = false; ready = false } }
+        ensures facts { self.new ≡ record self.old {
+          accepted = self.old.accepted + len;
+          pushed = self.old.pushed + 1;
+          permit = self.old.permit - len;
+          flush = false;
+          ready = false;
+        } }
         ensures keys { keys.new ≡ self.new }
     {
         self.accepted.add(&mut keys.accepted, len);

@@ -1,7 +1,9 @@
 //! What the two sides of a write stream share, and how each waits for the other.
 
 ghost use Rattle.std.specs.Prelude.{◌≡◌, ◌≤◌, ◌<◌, IfOk, IfErr, true, false, not, ◌||◌, length};
-ghost use Rattle.wasi_writer.specs.Answers.{after_write, after_flush, after_check, after_push, TrapCause, ErrorCause, IsRefused, IsFull, HasTask, Settled, HasLeft};
+ghost use Rattle.wasi_writer.specs.Answers.{after_write, after_flush, after_check, after_push};
+ghost use Rattle.wasi_writer.specs.Answers.{TrapCause, ErrorCause, IsRefused, IsFull, HasTask};
+ghost use Rattle.wasi_writer.specs.Answers.{Settled, HasLeft};
 
 use crate::lock::Locked;
 use crate::names::Names;
@@ -51,7 +53,8 @@ impl<N: Names> Shared<N> {
         requires { push.old.line ≡ N.line }
         ensures knows { keys.new ≡ after_write keys.old (length chunk) result }
         ensures pushed { push.new ≡ after_push push.old chunk result }
-        ensures cause { IfErr result (ErrorCause keys.old (TrapCause N.initial keys.old (length chunk))) }
+        ensures cause { IfErr result (ErrorCause keys.old (TrapCause N.initial keys.old
+            (length chunk))) }
         ensures refused { IsRefused keys.old result }
     {
         let result = self.lock.lock(rt).write(rt, keys, &self.line, push, chunk);
@@ -117,7 +120,11 @@ impl<N: Names> Shared<N> {
     /// was stopped before.
     pub fn close<R: Wait>(&self, rt: &R, keys: &mut OwnerKeys<N>) -> bool
         ensures was { result ≡ keys.old.stopped }
-        ensures knows { keys.new ≡ record keys.old { stopped = true; done = not keys.old.stopped || keys.old.done } }
+        ensures knows { keys.new ≡ record keys.old {
+          stopped = true;
+          done = not keys.old.stopped
+              || keys.old.done;
+        } }
     {
         let mut guard = self.lock.lock(rt);
         for _ in rt.forever() {
@@ -183,7 +190,8 @@ impl<N: Names> Shared<N> {
         mut worker: WorkerKeys<N>,
     )
         requires line { (push.line ≡ N.line) × (pop.line ≡ N.line) }
-        requires counted { (owner.pushed ≡ length push.chunks) × (worker.popped ≡ length pop.chunks) }
+        requires counted { (owner.pushed ≡ length push.chunks)
+            × (worker.popped ≡ length pop.chunks) }
         ensures knows { Settled owner worker }
         ensures chunks { HasLeft push.chunks pop.chunks (owner.done ≡ true) (worker.met ≡ false) }
     {

@@ -1,13 +1,15 @@
 //! The write stream.
 
-ghost use Rattle.std.specs.Prelude.{◌≡◌, ◌≤◌, ◌<◌, IfOk, IfErr, OnOk, OnErr, true, false, [], length};
+ghost use Rattle.std.specs.Prelude.{◌≡◌, ◌≤◌, ◌<◌, IfOk, IfErr, OnOk, OnErr, true, false, []};
+ghost use Rattle.std.specs.Prelude.{length};
 ghost use Rattle.wasi_world.specs.Seen.{Rose};
 ghost use Rattle.wasi_spawn.specs.Start.{job_of, RefusedAs};
 ghost use Rattle.wasi_spawn.specs.Handles.{started_with};
 ghost use Rattle.wasi_writer.specs.Names.{ledgers_of};
 ghost use Rattle.wasi_writer.specs.Knows.{nothing_yet, idle};
 ghost use Rattle.wasi_writer.specs.Answers.{TrapCause, ErrorCause, IsRefused, IsFull};
-ghost use Rattle.wasi_writer.specs.Stream.{opened, knows_of, after_write, after_flush, after_check, outcome_of, HasFinished};
+ghost use Rattle.wasi_writer.specs.Stream.{opened, knows_of, after_write, after_flush, after_check};
+ghost use Rattle.wasi_writer.specs.Stream.{outcome_of, HasFinished};
 
 use crate::lock::Locked;
 use crate::names::{Names, WriteParts};
@@ -90,7 +92,8 @@ impl<K: Sink + Drop + Send + 'static, N: Names + Send + Sync + 'static> AsyncWri
         ensures rose { OnOk result (Rose (P.starts spawner.old) (P.starts spawner.new)) }
         ensures stayed { OnErr result (P.starts spawner.new ≡ P.starts spawner.old) }
         ensures back { IfErr result (λ e. job_of e ≡ writer) }
-        ensures refused { IfErr result (λ e. RefusedAs e (P.refusals spawner.old) (P.refusals spawner.new)) }
+        ensures refused { IfErr result (λ e. RefusedAs e (P.refusals spawner.old)
+            (P.refusals spawner.new)) }
     {
         let Ok(
             Sides {
@@ -123,7 +126,8 @@ impl<K: Sink + Drop + Send + 'static, N: Names + Send + Sync + 'static> AsyncWri
     /// memory for a copy of the bytes and a place in the line; running out of it changes nothing.
     pub fn write<R: Wait>(&mut self, rt: &R, bytes: &[u8]) -> Result<(), StreamError>
         ensures stream { self.new ≡ after_write self.old bytes.now result }
-        ensures cause { IfErr result (ErrorCause (knows_of self.old) (TrapCause N.initial (knows_of self.old) (length bytes.now))) }
+        ensures cause { IfErr result (ErrorCause (knows_of self.old)
+            (TrapCause N.initial (knows_of self.old) (length bytes.now))) }
         ensures refused { IsRefused (knows_of self.old) result }
     {
         let chunk = Bytes::copy_from_slice(self.alloc, bytes)?;
@@ -133,7 +137,8 @@ impl<K: Sink + Drop + Send + 'static, N: Names + Send + Sync + 'static> AsyncWri
     /// Writes the bytes as [`write`](AsyncWriteStream::write) does, without a copy.
     pub fn write_chunk<R: Wait>(&mut self, rt: &R, chunk: Bytes) -> Result<(), StreamError>
         ensures stream { self.new ≡ after_write self.old chunk result }
-        ensures cause { IfErr result (ErrorCause (knows_of self.old) (TrapCause N.initial (knows_of self.old) (length chunk))) }
+        ensures cause { IfErr result (ErrorCause (knows_of self.old)
+            (TrapCause N.initial (knows_of self.old) (length chunk))) }
         ensures refused { IsRefused (knows_of self.old) result }
     {
         self.shared.write(rt, &mut self.keys, &mut self.push, chunk)
@@ -285,7 +290,8 @@ fn start_worker<
     ensures rose { OnOk result (Rose (P.starts spawner.old) (P.starts spawner.new)) }
     ensures stayed { OnErr result (P.starts spawner.new ≡ P.starts spawner.old) }
     ensures back { IfErr result (λ e. job_of e ≡ worker.sink) }
-    ensures refused { IfErr result (λ e. RefusedAs e (P.refusals spawner.old) (P.refusals spawner.new)) }
+    ensures refused { IfErr result (λ e. RefusedAs e (P.refusals spawner.old)
+        (P.refusals spawner.new)) }
 {
     match spawner.start(rt, alloc, worker) {
         Ok(handle) => Ok(handle),

@@ -92,7 +92,8 @@ fn work<K: Sink, N: Names, R: Wait>(
     side: &mut WorkerSide<N>,
 ) -> Result<(), Failed>
     requires { (side.old.keys ≡ idle) × (side.old.pop.chunks ≡ []) }
-    ensures worked { Worked (K.writing sink.old) side.new.pop.chunks side.new.keys (K.writing sink.new) }
+    ensures worked { Worked (K.writing sink.old) side.new.pop.chunks side.new.keys
+        (K.writing sink.new) }
     ensures met { side.new.keys.met ≡ is_err result }
 {
     for _ in rt.forever() {
@@ -110,7 +111,8 @@ fn step<K: Sink, N: Names, R: Wait>(
     side: &mut WorkerSide<N>,
 ) -> Result<bool, Failed>
     requires { (side.old.keys.hand ≡ false) × (side.old.keys.met ≡ false) }
-    ensures worked { (began : Writing) → Worked began side.old.pop.chunks side.old.keys (K.writing sink.old) → Worked began side.new.pop.chunks side.new.keys (K.writing sink.new) }
+    ensures worked { (began : Writing) → Worked began side.old.pop.chunks side.old.keys
+        (K.writing sink.old) → Worked began side.new.pop.chunks side.new.keys (K.writing sink.new) }
     ensures met { side.new.keys.met ≡ is_err result }
     ensures hand { OnOk result (side.new.keys.hand ≡ false) }
 {
@@ -139,7 +141,8 @@ fn write_chunk<K: Sink, N: Names, R: Wait>(
     ensures ok { OnOk result (TookAll (K.writing sink.old) chunk.now (K.writing sink.new)) }
     ensures err { OnErr result (TookFault (K.writing sink.old) chunk.now (K.writing sink.new)) }
     ensures wrote { OnOk result (side.new.keys ≡ record side.old.keys { hand = false }) }
-    ensures failed { OnErr result (side.new.keys ≡ record side.old.keys { met = true; drained = false }) }
+    ensures failed { OnErr result (side.new.keys ≡ record side.old.keys
+        { met = true; drained = false }) }
     ensures pop { side.new.pop ≡ side.old.pop }
 {
     if let Err(failed) = write_all(sink, chunk.as_slice()) {
@@ -158,8 +161,10 @@ fn flush_sink<K: Sink, N: Names, R: Wait>(
 ) -> Result<(), Failed>
     requires { (side.old.keys.drained ≡ true) × (side.old.keys.met ≡ false) }
     ensures sink { HasFlushed (K.writing sink.old) (K.writing sink.new) result }
-    ensures flushed { OnOk result (side.new.keys ≡ record side.old.keys { drained = false; flushed = true }) }
-    ensures failed { OnErr result (side.new.keys ≡ record side.old.keys { met = true; drained = false }) }
+    ensures flushed { OnOk result (side.new.keys ≡ record side.old.keys
+        { drained = false; flushed = true }) }
+    ensures failed { OnErr result (side.new.keys ≡ record side.old.keys
+        { met = true; drained = false }) }
     ensures pop { side.new.pop ≡ side.old.pop }
 {
     if let Err(failed) = sink.flush() {
@@ -173,7 +178,8 @@ fn flush_sink<K: Sink, N: Names, R: Wait>(
 impl<K: Sink + Drop + Send + 'static, N: Names + Send + Sync + 'static> Job for WriteWorker<K, N> {
     type Out = WriteEnd<K, N>;
 
-    ghost may_give = { λ job end. Worked (K.writing job.sink) end.side.pop.chunks end.side.keys (K.writing end.sink) };
+    ghost may_give = { λ job end. Worked (K.writing job.sink) end.side.pop.chunks end.side.keys
+        (K.writing end.sink) };
 
     fn run<R: Threads + Wait>(self, rt: &R) -> WriteEnd<K, N> {
         let WriteWorker { mut sink, mut side } = self;

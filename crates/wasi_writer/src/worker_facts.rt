@@ -22,7 +22,13 @@ impl<N: LedgerNames> Model for WorkerFacts<N> {
 
     ghost Value = { WorkerKnows };
 
-    ghost view = { λ facts. record { popped = facts.popped; met = facts.met; hand = facts.hand; drained = facts.drained; flushed = facts.flushed } };
+    ghost view = { λ facts. record {
+      popped = facts.popped;
+      met = facts.met;
+      hand = facts.hand;
+      drained = facts.drained;
+      flushed = facts.flushed;
+    } };
 }
 
 /// What the worker knows, as the worker holds it.
@@ -40,7 +46,13 @@ impl<N: LedgerNames> Model for WorkerKeys<N> {
 
     ghost Value = { WorkerKnows };
 
-    ghost view = { λ keys. record { popped = keys.popped; met = keys.met; hand = keys.hand; drained = keys.drained; flushed = keys.flushed } };
+    ghost view = { λ keys. record {
+      popped = keys.popped;
+      met = keys.met;
+      hand = keys.hand;
+      drained = keys.drained;
+      flushed = keys.flushed;
+    } };
 }
 
 impl<N: LedgerNames> WorkerFacts<N> {
@@ -49,7 +61,8 @@ impl<N: LedgerNames> WorkerFacts<N> {
         requires popped { blanks.popped.name ≡ N.ledgers.popped }
         requires met { blanks.met.name ≡ N.ledgers.met }
         requires hand { blanks.hand.name ≡ N.ledgers.hand }
-        requires sink { (blanks.drained.name ≡ N.ledgers.drained) × (blanks.flushed.name ≡ N.ledgers.flushed) }
+        requires sink { (blanks.drained.name ≡ N.ledgers.drained)
+            × (blanks.flushed.name ≡ N.ledgers.flushed) }
         ensures facts { result.0 ≡ idle }
         ensures keys { result.1 ≡ idle }
     {
@@ -90,7 +103,11 @@ impl<N: LedgerNames> WorkerFacts<N> {
     /// A chunk was popped, and is in hand.
     pub fn take(&mut self, keys: &mut WorkerKeys<N>)
         requires { self.old ≡ keys.old }
-        ensures facts { self.new ≡ record self.old { popped = self.old.popped + 1; hand = true; flushed = false } }
+        ensures facts { self.new ≡ record self.old {
+          popped = self.old.popped + 1;
+          hand = true;
+          flushed = false;
+        } }
         ensures keys { keys.new ≡ self.new }
     {
         self.popped.add(&mut keys.popped, 1);

@@ -1,6 +1,7 @@
 //! A line of chunks between two threads, and its two ends. Each chunk in it has bytes.
 
-ghost use Rattle.std.specs.Prelude.{◌≡◌, ◌<◌, ◌++◌, ◌∷◌, [], IfOk, IfErr, OnOk, OnErr, IfSome, IfNone, length};
+ghost use Rattle.std.specs.Prelude.{◌≡◌, ◌<◌, ◌++◌, ◌∷◌, [], IfOk, IfErr, OnOk, OnErr, IfSome};
+ghost use Rattle.std.specs.Prelude.{IfNone, length};
 ghost use Rattle.worker_shared.specs.Relay.{log};
 ghost use Rattle.worker_shared.specs.Ends.{IsLeft};
 
@@ -45,9 +46,13 @@ impl Model for PushEnd {
 
     ghost Value = { End };
 
-    ghost view = { λ end. record { line = line_at end.pass.web end.pass.heap; chunks = end.pass.me.view.client.pushed } };
+    ghost view = { λ end. record {
+      line = line_at end.pass.web end.pass.heap;
+      chunks = end.pass.me.view.client.pushed;
+    } };
 
-    ghost invariant = { λ end. IsSegPassOf (line_at end.pass.web end.pass.heap) end.pass × (end.pass.me.view.client ≡ log true false end.pass.me.view.client.pushed []) };
+    ghost invariant = { λ end. IsSegPassOf (line_at end.pass.web end.pass.heap) end.pass
+        × (end.pass.me.view.client ≡ log true false end.pass.me.view.client.pushed []) };
 }
 
 /// The right to pop from a line. Contracts see which line, and the chunks that were popped.
@@ -64,9 +69,13 @@ impl Model for PopEnd {
 
     ghost Value = { End };
 
-    ghost view = { λ end. record { line = line_at end.pass.web end.pass.heap; chunks = end.pass.me.view.client.popped } };
+    ghost view = { λ end. record {
+      line = line_at end.pass.web end.pass.heap;
+      chunks = end.pass.me.view.client.popped;
+    } };
 
-    ghost invariant = { λ end. IsSegPassOf (line_at end.pass.web end.pass.heap) end.pass × (end.pass.me.view.client ≡ log false true [] end.pass.me.view.client.popped) };
+    ghost invariant = { λ end. IsSegPassOf (line_at end.pass.web end.pass.heap) end.pass
+        × (end.pass.me.view.client ≡ log false true [] end.pass.me.view.client.popped) };
 }
 
 /// An empty line, with its two ends.
@@ -84,7 +93,10 @@ impl PushEnd {
     pub fn push<R: Wait>(&mut self, rt: &R, line: &Line, chunk: Bytes) -> Result<(), Bytes>
         requires line { self.old.line ≡ line.now }
         requires filled { 0 < length chunk }
-        ensures ok { OnOk result (self.new ≡ record self.old { chunks = self.old.chunks ++ chunk ∷ [] }) }
+        ensures ok { OnOk result (self.new ≡ record self.old {
+          chunks = self.old.chunks ++ chunk
+              ∷ [];
+        }) }
         ensures err { OnErr result (self.new ≡ self.old) }
         ensures back { IfErr result (λ back. back ≡ chunk) }
     {
@@ -96,7 +108,8 @@ impl PopEnd {
     /// Pops the chunk that was pushed first. None where there was none at one moment.
     pub fn pop<R: Wait>(&mut self, rt: &R, line: &Line) -> Option<Bytes>
         requires { self.old.line ≡ line.now }
-        ensures some { IfSome result (λ chunk. self.new ≡ record self.old { chunks = self.old.chunks ++ chunk ∷ [] }) }
+        ensures some { IfSome result (λ chunk. self.new ≡ record self.old
+            { chunks = self.old.chunks ++ chunk ∷ [] }) }
         ensures filled { IfSome result (λ chunk. 0 < length chunk) }
         ensures none { IfNone result (self.new ≡ self.old) }
     {

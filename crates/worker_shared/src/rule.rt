@@ -64,7 +64,8 @@ impl Outcome<Bytes, Log> for Popped {
     ghost use Rattle.std.specs.Prelude.{◌≡◌, ◌<◌, ◌++◌, ◌∷◌, [], length};
     ghost use Rattle.worker_shared.specs.Relay.{log};
 
-    ghost then = { λ v x w. (w ≡ log v.pushes v.pops v.pushed (v.popped ++ x ∷ [])) × (0 < length x) };
+    ghost then = { λ v x w. (w ≡ log v.pushes v.pops v.pushed (v.popped ++ x ∷ []))
+        × (0 < length x) };
 }
 
 impl Lesson<Bytes, Log> for Popped {

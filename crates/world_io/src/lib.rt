@@ -1,4 +1,5 @@
-//! Sources and sinks of bytes: the traits, those in memory, and those over std's files and standard streams.
+//! Sources and sinks of bytes: the traits, those in memory, and those over std's files and standard
+//! streams.
 #![tactic(auto)]
 
 pub mod io;

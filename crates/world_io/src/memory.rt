@@ -1,9 +1,12 @@
 //! A source and a sink in memory.
 
-ghost use Rattle.std.specs.Prelude.{◌≡◌, ◌≤◌, ◌+◌, ◌++◌, [], false, length, min, take, drop, IfOk, OnOk, OnErr, IsErr, IsTrue, ◌↔◌};
+ghost use Rattle.std.specs.Prelude.{◌≡◌, ◌≤◌, ◌+◌, ◌++◌, [], false, length, min, take, drop, IfOk};
+ghost use Rattle.std.specs.Prelude.{OnOk, OnErr, IsErr, IsTrue, ◌↔◌};
 ghost use Rattle.world_io.specs.Io.{HasRead, HasWritten, HasFlushed};
 ghost use Rattle.wasi_world.specs.Seen.{one_more};
-ghost use Rattle.world_io.specs.Memory.{reading_of, writing_of, IsFailing, ended_after, refused_after, after_read, after_failed_read, after_write, after_failed_write, after_flush, after_failed_flush};
+ghost use Rattle.world_io.specs.Memory.{reading_of, writing_of, IsFailing, ended_after};
+ghost use Rattle.world_io.specs.Memory.{refused_after, after_read, after_failed_read, after_write};
+ghost use Rattle.world_io.specs.Memory.{after_failed_write, after_flush, after_failed_flush};
 
 use crate::io::{Failed, Sink, Source};
 use std::alloc::{AllocError, Global};
@@ -54,7 +57,8 @@ impl Calls {
     }
 }
 
-/// A source that gives the bytes that it was made of, some at a time, and fails at some calls. Its reads take no memory.
+/// A source that gives the bytes that it was made of, some at a time, and fails at some calls. Its
+/// reads take no memory.
 #[derive(Drop)]
 pub struct MemorySource {
     bytes: Vec<u8>,
@@ -71,17 +75,31 @@ impl Model for MemorySource {
 
     ghost Value = { MemoryReading };
 
-    ghost view = { λ s. record { left = drop s.given s.bytes.items; most = s.most; fails = s.calls.fails.items; calls = s.calls.made; ended = s.ended; faults = s.faults } };
+    ghost view = { λ s. record {
+      left = drop s.given s.bytes.items;
+      most = s.most;
+      fails = s.calls.fails.items;
+      calls = s.calls.made;
+      ended = s.ended;
+      faults = s.faults;
+    } };
 
     ghost invariant = { λ s. (s.given ≤ length s.bytes.items) × (1 ≤ s.most) };
 }
 
 impl MemorySource {
-    /// A source of these bytes, that gives at most `most` of them at a time. The reads whose numbers, counted from 1,
-    /// are in `fails` fail.
+    /// A source of these bytes, that gives at most `most` of them at a time. The reads whose
+    /// numbers, counted from 1, are in `fails` fail.
     pub fn new(bytes: Vec<u8>, most: usize, fails: Vec<u32>) -> MemorySource
         requires { 1 ≤ most }
-        ensures { result ≡ record { left = bytes.items; most = most; fails = fails.items; calls = 0; ended = false; faults = 0 } }
+        ensures { result ≡ record {
+          left = bytes.items;
+          most = most;
+          fails = fails.items;
+          calls = 0;
+          ended = false;
+          faults = 0;
+        } }
     {
         MemorySource {
             bytes,
@@ -120,12 +138,15 @@ impl Source for MemorySource {
 
     /// Gives the least of `most`, the buffer's length and the number of bytes left.
     fn read(&mut self, buf: &mut [u8]) -> Result<usize, Failed>
-        ensures read { HasRead (reading_of self.old) (reading_of self.new) (length buf.old) buf.new result }
+        ensures read { HasRead (reading_of self.old) (reading_of self.new) (length buf.old) buf.new
+            result }
 
         // The answer, and what lies in the buffer.
         ensures fails { IsErr result ↔ IsFailing self.old.fails self.old.calls }
-        ensures count { IfOk result (λ count. count ≡ min self.old.most (min (length buf.old) (length self.old.left))) }
-        ensures buffer { IfOk result (λ count. buf.new ≡ take count self.old.left ++ drop count buf.old) }
+        ensures count { IfOk result (λ count. count ≡ min self.old.most
+            (min (length buf.old) (length self.old.left))) }
+        ensures buffer { IfOk result (λ count. buf.new ≡ take count self.old.left ++ drop count
+            buf.old) }
         ensures untouched { OnErr result (buf.new ≡ buf.old) }
 
         // The source afterwards.
@@ -145,7 +166,8 @@ impl Source for MemorySource {
     }
 }
 
-/// A sink that keeps the bytes it takes, some at a time and as many as it has room for, and fails at some calls.
+/// A sink that keeps the bytes it takes, some at a time and as many as it has room for, and fails
+/// at some calls.
 #[derive(Drop)]
 pub struct MemorySink {
     bytes: Vec<u8>,
@@ -163,22 +185,41 @@ impl Model for MemorySink {
 
     ghost Value = { MemoryWriting };
 
-    ghost view = { λ s. record { written = s.bytes.items; room = s.room; most = s.most; fails = s.calls.fails.items; calls = s.calls.made; flushed = s.flushed; faults = s.faults; refused = s.refused } };
+    ghost view = { λ s. record {
+      written = s.bytes.items;
+      room = s.room;
+      most = s.most;
+      fails = s.calls.fails.items;
+      calls = s.calls.made;
+      flushed = s.flushed;
+      faults = s.faults;
+      refused = s.refused;
+    } };
 
     ghost invariant = { λ s. length s.bytes.items + s.room ≤ vec_capacity s.bytes };
 }
 
 impl MemorySink {
-    /// An empty sink with room for so many bytes, that takes at most `most` of them at a time. The calls whose numbers
-    /// are in `fails` fail: writes and flushes are counted together, from 1. The memory for all the room is taken
-    /// here, and none later, so a write never fails for lack of it.
+    /// An empty sink with room for so many bytes, that takes at most `most` of them at a time. The
+    /// calls whose numbers are in `fails` fail: writes and flushes are counted together, from 1.
+    /// The memory for all the room is taken here, and none later, so a write never fails for lack
+    /// of it.
     pub fn new(
         alloc: Global,
         most: usize,
         room: usize,
         fails: Vec<u32>,
     ) -> Result<MemorySink, AllocError>
-        ensures { IfOk result (λ sink. sink ≡ record { written = []; room = room; most = most; fails = fails.items; calls = 0; flushed = false; faults = 0; refused = 0 }) }
+        ensures { IfOk result (λ sink. sink ≡ record {
+          written = [];
+          room = room;
+          most = most;
+          fails = fails.items;
+          calls = 0;
+          flushed = false;
+          faults = 0;
+          refused = 0;
+        }) }
     {
         let mut bytes = Vec::new(alloc);
         bytes.reserve(room)?;
@@ -231,7 +272,8 @@ impl Sink for MemorySink {
 
         // The answer.
         ensures fails { IsErr result ↔ IsFailing self.old.fails self.old.calls }
-        ensures count { IfOk result (λ count. count ≡ min self.old.most (min (length bytes.now) self.old.room)) }
+        ensures count { IfOk result (λ count. count ≡ min self.old.most
+            (min (length bytes.now) self.old.room)) }
 
         // The sink afterwards.
         ensures ok { IfOk result (λ count. self.new ≡ after_write self.old count bytes.now) }
@@ -262,8 +304,8 @@ impl Sink for MemorySink {
     }
 }
 
-/// A sink that keeps all bytes it is given, for which it takes memory. A write that finds none is a fault and takes
-/// nothing; no other call fails, and no piece is refused.
+/// A sink that keeps all bytes it is given, for which it takes memory. A write that finds none is a
+/// fault and takes nothing; no other call fails, and no piece is refused.
 #[derive(Drop)]
 pub struct GrowingSink {
     bytes: Vec<u8>,
@@ -277,13 +319,23 @@ impl Model for GrowingSink {
 
     ghost Value = { Writing };
 
-    ghost view = { λ s. record { written = Some s.bytes.items; flushed = Some s.flushed; faults = s.faults; refused = 0 } };
+    ghost view = { λ s. record {
+      written = Some s.bytes.items;
+      flushed = Some s.flushed;
+      faults = s.faults;
+      refused = 0;
+    } };
 }
 
 impl GrowingSink {
     /// An empty sink. Takes no memory.
     pub fn new(alloc: Global) -> GrowingSink
-        ensures { result ≡ record { written = Some []; flushed = Some false; faults = 0; refused = 0 } }
+        ensures { result ≡ record {
+          written = Some [];
+          flushed = Some false;
+          faults = 0;
+          refused = 0;
+        } }
     {
         GrowingSink {
             bytes: Vec::new(alloc),

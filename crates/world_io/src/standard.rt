@@ -12,8 +12,8 @@ use std::fs;
 use std::io::{Read, Write};
 use std::rt::Files;
 
-/// A reader as a source, which it keeps: the standard input, say. It reports no bytes of its own; what each read gives
-/// is what the reader gave.
+/// A reader as a source, which it keeps: the standard input, say. It reports no bytes of its own;
+/// what each read gives is what the reader gave.
 ///
 /// ```
 /// fn main(rt: HostRuntime) {
@@ -59,13 +59,17 @@ impl<I> StdSource<I> {
 impl<I: Read> Source for StdSource<I> {
     ghost reading = { reading_by };
 
-    /// One read of the reader. Whatever error it has, an interrupted call too, is a fault and not the end.
+    /// One read of the reader. Whatever error it has, an interrupted call too, is a fault and not
+    /// the end.
     fn read(&mut self, buf: &mut [u8]) -> Result<usize, Failed>
-        ensures read { HasRead (reading_by self.old) (reading_by self.new) (length buf.old) buf.new result }
+        ensures read { HasRead (reading_by self.old) (reading_by self.new) (length buf.old) buf.new
+            result }
 
         // The bytes are those that the reader gave, and none were lost.
-        ensures bytes { ReadConsumes (I.remaining self.old.reader) (I.remaining self.new.reader) result buf.new }
-        ensures end { IfOk result (λ count. self.new.ended ≡ ended_after self.old.ended count (length buf.old)) }
+        ensures bytes { ReadConsumes (I.remaining self.old.reader) (I.remaining self.new.reader)
+            result buf.new }
+        ensures end { IfOk result (λ count. self.new.ended ≡ ended_after self.old.ended count
+            (length buf.old)) }
     {
         match self.reader.read(buf) {
             Ok(count) => {
@@ -77,8 +81,8 @@ impl<I: Read> Source for StdSource<I> {
     }
 }
 
-/// A file that is read from its start. One that can't be opened fails at each read. It reports no bytes of its own;
-/// what each read gives is what the file gave.
+/// A file that is read from its start. One that can't be opened fails at each read. It reports no
+/// bytes of its own; what each read gives is what the file gave.
 #[derive(Drop)]
 pub struct FileSource<F> {
     file: Option<F>,
@@ -87,7 +91,8 @@ pub struct FileSource<F> {
 }
 
 impl<F> FileSource<F> {
-    /// Opens the file at the path; that it can't be opened shows at the first read. No clause speaks of the path.
+    /// Opens the file at the path; that it can't be opened shows at the first read. No clause
+    /// speaks of the path.
     pub fn open<R: Files<File = F>>(rt: &R, path: &str) -> FileSource<F>
         ensures { reading_of_file result ≡ record { left = None; ended = false; faults = 0 } }
     {
@@ -104,10 +109,12 @@ impl<F: Read> Source for FileSource<F> {
 
     /// One read of the file. Whatever error it has is a fault and not the end.
     fn read(&mut self, buf: &mut [u8]) -> Result<usize, Failed>
-        ensures read { HasRead (reading_of_file self.old) (reading_of_file self.new) (length buf.old) buf.new result }
+        ensures read { HasRead (reading_of_file self.old) (reading_of_file self.new)
+            (length buf.old) buf.new result }
 
         // The bytes are those that the file gave, and none were lost.
-        ensures bytes { ReadConsumes (left_in F.remaining self.old.file) (left_in F.remaining self.new.file) result buf.new }
+        ensures bytes { ReadConsumes (left_in F.remaining self.old.file)
+            (left_in F.remaining self.new.file) result buf.new }
     {
         let Some(file) = &mut self.file else {
             return Err(count_fault(&mut self.faults));
@@ -120,8 +127,9 @@ impl<F: Read> Source for FileSource<F> {
     }
 }
 
-/// A writer as a sink, which it keeps: the standard output, say. Each piece is passed on at once, and each flush. It
-/// reports no bytes and no flush of its own; what each write takes is what the writer took.
+/// A writer as a sink, which it keeps: the standard output, say. Each piece is passed on at once,
+/// and each flush. It reports no bytes and no flush of its own; what each write takes is what the
+/// writer took.
 ///
 /// ```
 /// fn main(rt: HostRuntime) {
@@ -166,13 +174,16 @@ impl<O> StdSink<O> {
 impl<O: Write> Sink for StdSink<O> {
     ghost writing = { writing_by };
 
-    /// One write to the writer, which may take a part. Whatever error it has, an interrupted call too, is a fault.
+    /// One write to the writer, which may take a part. Whatever error it has, an interrupted call
+    /// too, is a fault.
     fn write(&mut self, bytes: &[u8]) -> Result<usize, Failed>
         ensures written { HasWritten (writing_by self.old) (writing_by self.new) bytes.now result }
 
         // The writer took the first of the bytes, as many as are told.
-        ensures bytes { WriteAppends (O.contents self.old.writer) (O.contents self.new.writer) result bytes.now }
-        ensures refused { IfOk result (λ count. self.new.refused ≡ refused_after self.old.refused count (length bytes.now)) }
+        ensures bytes { WriteAppends (O.contents self.old.writer) (O.contents self.new.writer)
+            result bytes.now }
+        ensures refused { IfOk result (λ count. self.new.refused
+            ≡ refused_after self.old.refused count (length bytes.now)) }
     {
         match self.writer.write(bytes) {
             Ok(count) => {

@@ -1,5 +1,5 @@
-//! Codes of system faults, and addresses beside those that std reads. Rows of the tests on addresses and of the clamps are
-//! computed on their definitions (`proofs/AddressRows`).
+//! Codes of system faults, and addresses beside those that std reads. Rows of the tests on
+//! addresses and of the clamps are computed on their definitions (`proofs/AddressRows`).
 
 use crate::same::same;
 use std::net::{SocketAddr, SocketAddrV6};

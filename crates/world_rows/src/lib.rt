@@ -1,5 +1,5 @@
-//! The scripted world and the sources and sinks: what no transcript of a script shows. These tests are in a crate of
-//! their own, since a crate with tests is proved twice.
+//! The scripted world and the sources and sinks: what no transcript of a script shows. These tests
+//! are in a crate of their own, since a crate with tests is proved twice.
 #![tactic(auto)]
 
 #[cfg(test)]

@@ -82,7 +82,8 @@ fn offer_text(rt: &impl Abort, sink: &mut MemorySink, answers: Answers) {
     }
 }
 
-/// The sink takes `abc` by these answers; then it has this text, and counted so many refused pieces and each failure.
+/// The sink takes `abc` by these answers; then it has this text, and counted so many refused pieces
+/// and each failure.
 fn expect_sink(rt: &impl Abort, sink: MemorySink, answers: Answers, text: &str, refused: u64) {
     let mut sink = sink;
     offer_text(rt, &mut sink, answers);

@@ -1,4 +1,5 @@
-//! A network that goes by a plan: the scenario that spells the plan, and the world that answers by it.
+//! A network that goes by a plan: the scenario that spells the plan, and the world that answers by
+//! it.
 #![tactic(auto)]
 
 pub mod lists;

@@ -1,6 +1,7 @@
 //! The planned answers of every kind, and how far they are used.
 
-ghost use Rattle.std.specs.Prelude.{◌≡◌, ◌<◌, IfOk, OnOk, OnErr, Some, None, true, length, slice_get, option_map, IfSome};
+ghost use Rattle.std.specs.Prelude.{◌≡◌, ◌<◌, IfOk, OnOk, OnErr, Some, None, true, length};
+ghost use Rattle.std.specs.Prelude.{slice_get, option_map, IfSome};
 ghost use Rattle.wasi_world.specs.Asks.{IsFront};
 ghost use Rattle.wasi_world.specs.Fits.{Fits};
 ghost use Rattle.world_scripted.specs.declared.lists.TheConstants.{KINDS};
@@ -60,8 +61,8 @@ fn kind_of(call: &Call) -> Option<Kind>
     }
 }
 
-/// A list of answers for each kind, which a scripted world uses in order. Contracts see all of them, and those that
-/// are left.
+/// A list of answers for each kind, which a scripted world uses in order. Contracts see all of
+/// them, and those that are left.
 #[derive(Drop)]
 pub struct Lists {
     queues: Vec<Queue>,
@@ -94,7 +95,10 @@ impl Lists {
     /// Plans one answer more of this kind, the last.
     pub fn push(&mut self, kind: Kind, answer: Planned) -> Result<(), AllocError>
         requires { takes kind answer ≡ true }
-        ensures ok { OnOk result (self.new ≡ record { all = with_answer self.old.all kind answer; left = with_answer self.old.left kind answer }) }
+        ensures ok { OnOk result (self.new ≡ record {
+          all = with_answer self.old.all kind answer;
+          left = with_answer self.old.left kind answer;
+        }) }
         ensures err { OnErr result (self.new ≡ self.old) }
     {
         let queue = &mut self.queues[place(kind)];
@@ -102,8 +106,8 @@ impl Lists {
         Ok(())
     }
 
-    /// What the next of its answers gives a call; none where all are used, or the call takes none. `bytes` are those
-    /// that a write offers. Takes memory for bytes and names.
+    /// What the next of its answers gives a call; none where all are used, or the call takes none.
+    /// `bytes` are those that a write offers. Takes memory for bytes and names.
     pub(crate) fn tell(
         &self,
         alloc: Global,
@@ -112,7 +116,9 @@ impl Lists {
     ) -> Result<Option<Told>, AllocError>
         requires some { Offers call.now }
         requires offered { length bytes.now ≡ offered call.now }
-        ensures told { IfOk result (λ told. option_map as_planned told ≡ option_map (given call.now) (slice_get (waiting self.now.left (kind_of call.now)) 0)) }
+        ensures told { IfOk result (λ told. option_map as_planned told
+            ≡ option_map (given call.now) (slice_get (waiting self.now.left (kind_of call.now))
+            0)) }
         ensures fits { IfOk result (λ told. IfSome told (λ told. Fits call.now told)) }
         ensures front { IfOk result (λ told. IfSome told (λ told. IsFront told bytes.now)) }
     {
@@ -124,7 +130,10 @@ impl Lists {
 
     /// Goes on to what is left after a call; takes no memory.
     pub(crate) fn advance(&mut self, call: &Call)
-        ensures { self.new ≡ record { all = self.old.all; left = plan_after self.old.left call.now } }
+        ensures { self.new ≡ record {
+          all = self.old.all;
+          left = plan_after self.old.left call.now;
+        } }
     {
         if let Some(kind) = kind_of(call) {
             let queue = &mut self.queues[place(kind)];

@@ -1,6 +1,7 @@
 //! The planned answers of one kind, and how far they are used.
 
-ghost use Rattle.std.specs.Prelude.{◌≡◌, IfOk, OnOk, OnErr, [], ◌∷◌, ◌++◌, Some, None, length, take, drop, min, option_map, IfSome, ◌≤◌, slice_get};
+ghost use Rattle.std.specs.Prelude.{◌≡◌, IfOk, OnOk, OnErr, [], ◌∷◌, ◌++◌, Some, None, length};
+ghost use Rattle.std.specs.Prelude.{take, drop, min, option_map, IfSome, ◌≤◌, slice_get};
 ghost use Rattle.wasi_world.specs.Asks.{IsFront};
 ghost use Rattle.world_scripted.specs.Queued.{planned_after, HasFront};
 ghost use Rattle.wasi_world.specs.Script.{asked, offered, given, left_after, as_planned};
@@ -23,9 +24,14 @@ impl Model for Queue {
 
     ghost Value = { Queued };
 
-    ghost view = { λ q. record { all = q.answers.items; left = without_front q.front (drop q.used q.answers.items) } };
+    ghost view = { λ q. record {
+      all = q.answers.items;
+      left = without_front q.front
+          (drop q.used q.answers.items);
+    } };
 
-    ghost invariant = { λ q. (q.used ≤ length q.answers.items) × HasFront q.front (drop q.used q.answers.items) };
+    ghost invariant = { λ q. (q.used ≤ length q.answers.items)
+        × HasFront q.front (drop q.used q.answers.items) };
 }
 
 /// How many bytes a read asks for.
@@ -56,8 +62,8 @@ fn part(alloc: Global, bytes: &[u8], front: usize, size: usize) -> Result<Octets
     Octets::copy_of(alloc, &rest[..size])
 }
 
-/// What a planned answer gives a call, once the first `front` of its bytes are used. `bytes` are those that the call
-/// offers.
+/// What a planned answer gives a call, once the first `front` of its bytes are used. `bytes` are
+/// those that the call offers.
 fn tell(
     alloc: Global,
     planned: &Planned,
@@ -67,7 +73,8 @@ fn tell(
 ) -> Result<Told, AllocError>
     requires front { HasFront front (planned.now ∷ []) }
     requires offered { length bytes.now ≡ offered call.now }
-    ensures told { IfOk result (λ told. as_planned told ≡ given call.now (planned_after front planned.now)) }
+    ensures told { IfOk result (λ told. as_planned told ≡ given call.now
+        (planned_after front planned.now)) }
     ensures front { IfOk result (λ told. IsFront told bytes.now) }
 {
     match planned {
@@ -114,17 +121,22 @@ impl Queue {
 
     /// One more answer, the last.
     pub fn push(&mut self, answer: Planned) -> Result<(), AllocError>
-        ensures ok { OnOk result (self.new ≡ record { all = self.old.all ++ answer ∷ []; left = self.old.left ++ answer ∷ [] }) }
+        ensures ok { OnOk result (self.new ≡ record {
+          all = self.old.all ++ answer ∷ [];
+          left = self.old.left ++ answer ∷ [];
+        }) }
         ensures err { OnErr result (self.new ≡ self.old) }
     {
         self.answers.push(answer)?;
         Ok(())
     }
 
-    /// What the next answer gives a call; none where all are used. Takes memory for the bytes or names.
+    /// What the next answer gives a call; none where all are used. Takes memory for the bytes or
+    /// names.
     pub fn tell(&self, alloc: Global, call: &Call, bytes: &[u8]) -> Result<Option<Told>, AllocError>
         requires { length bytes.now ≡ offered call.now }
-        ensures told { IfOk result (λ told. option_map as_planned told ≡ option_map (given call.now) (slice_get self.now.left 0)) }
+        ensures told { IfOk result (λ told. option_map as_planned told
+            ≡ option_map (given call.now) (slice_get self.now.left 0)) }
         ensures front { IfOk result (λ told. IfSome told (λ told. IsFront told bytes.now)) }
     {
         match self.answers.get(self.used) {
@@ -138,7 +150,10 @@ impl Queue {
 
     /// Goes on to what is left after a call; takes no memory.
     pub fn advance(&mut self, call: &Call)
-        ensures { self.new ≡ record { all = self.old.all; left = left_after call.now self.old.left } }
+        ensures { self.new ≡ record {
+          all = self.old.all;
+          left = left_after call.now self.old.left;
+        } }
     {
         let Some(planned) = self.answers.get(self.used) else {
             return;

@@ -1,10 +1,14 @@
-//! Reads a scenario: a line for each planned answer, and a line `context T U K` for each context, where T, U and K are
-//! `yes` or `no`: whether TCP, UDP and name lookup are allowed.
+//! Reads a scenario: a line for each planned answer, and a line `context T U K` for each context,
+//! where T, U and K are `yes` or `no`: whether TCP, UDP and name lookup are allowed.
 
-ghost use Rattle.std.specs.Prelude.{◌≡◌, ◌==◌, ◌≤◌, ◌<◌, ◌+◌, ◌^◌, IfOk, OnOk, [], ◌∷◌, ◌++◌, Some, None, true, IfErr, IfSome, Ok, Err, length, take};
+ghost use Rattle.std.specs.Prelude.{◌≡◌, ◌==◌, ◌≤◌, ◌<◌, ◌+◌, ◌^◌, IfOk, OnOk, [], ◌∷◌, ◌++◌, Some};
+ghost use Rattle.std.specs.Prelude.{None, true, IfErr, IfSome, Ok, Err, length, take};
 ghost use Rattle.world_text.specs.Fields.{Reads, after_word};
 ghost use Rattle.wasi_world.specs.Kinds.{takes};
-ghost use Rattle.world_scripted.specs.Scenario.{kind_text, kind_in, kind_at, short_answers, answer_at, planned_in, yes_or_no_at, allowed_at, context_in, setup, with_line, setup_within, or_free, scenario_of, bad_line};
+ghost use Rattle.world_scripted.specs.Scenario.{kind_text, kind_in, kind_at, short_answers};
+ghost use Rattle.world_scripted.specs.Scenario.{answer_at, planned_in, yes_or_no_at, allowed_at};
+ghost use Rattle.world_scripted.specs.Scenario.{context_in, setup, with_line, setup_within};
+ghost use Rattle.world_scripted.specs.Scenario.{or_free, scenario_of, bad_line};
 ghost use Rattle.wasi_world.specs.Contexts.{AreNumbered};
 ghost use Rattle.world_text.specs.Fields.{names_at};
 
@@ -22,8 +26,8 @@ const MOST_BYTES: usize = 1_048_576;
 /// Why a scenario wasn't read.
 #[derive(Clone, Copy, Debug, PartialEq, Eq, Error)]
 pub enum ScenarioError {
-    /// The first line that isn't in the grammar, counted from 1: also a last line without its newline, and the line
-    /// that holds byte 1,048,577.
+    /// The first line that isn't in the grammar, counted from 1: also a last line without its
+    /// newline, and the line that holds byte 1,048,577.
     #[error("line {0} of the scenario is not in its grammar")]
     BadScenario(u32),
     #[error("memory ran out")]
@@ -279,11 +283,16 @@ fn take_line(
     line: &[u8],
 ) -> Result<(), ScenarioError>
     requires few { length given.old.contexts.items < 2 ^ 32 }
-    ensures ok { OnOk result (with_line (setup given.old.lists.all given.old.contexts.items) line.now ≡ Some (setup given.new.lists.all given.new.contexts.items)) }
-    ensures fresh { given.old.lists.left ≡ given.old.lists.all → given.new.lists.left ≡ given.new.lists.all }
-    ensures numbered { OnOk result (AreNumbered given.old.contexts.items → AreNumbered given.new.contexts.items) }
-    ensures few { OnOk result (length given.new.contexts.items ≤ length given.old.contexts.items + 1) }
-    ensures bad { IfErr result (λ e. IfSome (bad_line e) (λ n. (n ≡ number) × (with_line (setup given.old.lists.all given.old.contexts.items) line.now ≡ None))) }
+    ensures ok { OnOk result (with_line (setup given.old.lists.all given.old.contexts.items)
+        line.now ≡ Some (setup given.new.lists.all given.new.contexts.items)) }
+    ensures fresh { given.old.lists.left ≡ given.old.lists.all
+        → given.new.lists.left ≡ given.new.lists.all }
+    ensures numbered { OnOk result (AreNumbered given.old.contexts.items
+        → AreNumbered given.new.contexts.items) }
+    ensures few { OnOk result (length given.new.contexts.items ≤ length given.old.contexts.items
+        + 1) }
+    ensures bad { IfErr result (λ e. IfSome (bad_line e) (λ n. (n ≡ number)
+        × (with_line (setup given.old.lists.all given.old.contexts.items) line.now ≡ None))) }
 {
     if let Some(context) = context(line, given.contexts.len() as u32) {
         add_context(&mut given.contexts, context)?;
@@ -307,11 +316,13 @@ fn first_bytes(bytes: &[u8], limit: usize) -> &[u8]
 /// What the lines of a text of at most so many bytes give.
 fn read_lines(alloc: Global, bytes: &[u8], most: usize) -> Result<Setup, ScenarioError>
     requires { most + 1 < 2 ^ 32 }
-    ensures ok { IfOk result (λ given. setup_within most bytes.now ≡ Ok (setup given.lists.all given.contexts.items)) }
+    ensures ok { IfOk result (λ given. setup_within most bytes.now
+        ≡ Ok (setup given.lists.all given.contexts.items)) }
     ensures fresh { IfOk result (λ given. given.lists.left ≡ given.lists.all) }
     ensures numbered { IfOk result (λ given. AreNumbered given.contexts.items) }
     ensures few { IfOk result (λ given. length given.contexts.items < 2 ^ 32) }
-    ensures bad { IfErr result (λ e. IfSome (bad_line e) (λ n. setup_within most bytes.now ≡ Err n)) }
+    ensures bad { IfErr result (λ e. IfSome (bad_line e) (λ n. setup_within most bytes.now
+        ≡ Err n)) }
 {
     let text = first_bytes(bytes, most);
     let mut given = Setup {
@@ -353,13 +364,15 @@ fn or_free(mut contexts: Vec<WasiSocketsCtx>) -> Result<Vec<WasiSocketsCtx>, All
 impl ScriptedWorld {
     ghost use Rattle.world_scripted.specs.Scripted.{seen_by, started};
 
-    /// The world that a scenario plans, and its contexts, numbered from 0 in the order of their lines; with no such line
-    /// one, numbered 0, that allows all three. Takes memory for the answers and the contexts.
+    /// The world that a scenario plans, and its contexts, numbered from 0 in the order of their
+    /// lines; with no such line one, numbered 0, that allows all three. Takes memory for the
+    /// answers and the contexts.
     pub fn parse(
         alloc: Global,
         bytes: &[u8],
     ) -> Result<(ScriptedWorld, Vec<WasiSocketsCtx>), ScenarioError>
-        ensures scenario { IfOk result (λ parsed. started (scenario_of bytes.now) ≡ Ok (seen_by parsed.0, parsed.1.items)) }
+        ensures scenario { IfOk result (λ parsed. started (scenario_of bytes.now)
+            ≡ Ok (seen_by parsed.0, parsed.1.items)) }
         ensures numbered { IfOk result (λ parsed. AreNumbered parsed.1.items) }
         ensures few { IfOk result (λ parsed. length parsed.1.items < 2 ^ 32) }
         ensures bad { IfErr result (λ e. IfSome (bad_line e) (λ n. scenario_of bytes.now ≡ Err n)) }

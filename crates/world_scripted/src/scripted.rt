@@ -7,7 +7,8 @@ ghost use Rattle.wasi_world.specs.Fits.{Fits};
 ghost use Rattle.wasi_world.specs.Seen.{Counts, Passes};
 ghost use Rattle.wasi_world.specs.Kinds.{kind_of};
 ghost use Rattle.wasi_world.specs.Sides.{known};
-ghost use Rattle.wasi_world.specs.Script.{Offers, offered, default, as_planned, waiting, next_answer, progress, IsScripted};
+ghost use Rattle.wasi_world.specs.Script.{Offers, offered, default, as_planned, waiting};
+ghost use Rattle.wasi_world.specs.Script.{next_answer, progress, IsScripted};
 
 use crate::lists::Lists;
 use crate::sides::{Sides, default_local, keep, known, value_of};
@@ -64,7 +65,8 @@ fn tell(
 ) -> Result<Told, AllocError>
     requires some { Offers call.now }
     requires offered { length bytes.now ≡ offered call.now }
-    ensures told { IfOk result (λ told. as_planned told ≡ next_answer (waiting lists.now.left (kind_of call.now)) (known sides.now) call.now) }
+    ensures told { IfOk result (λ told. as_planned told ≡ next_answer
+        (waiting lists.now.left (kind_of call.now)) (known sides.now) call.now) }
     ensures fits { IfOk result (λ told. Fits call.now told) }
     ensures front { IfOk result (λ told. IsFront told bytes.now) }
 {
@@ -74,8 +76,8 @@ fn tell(
     }
 }
 
-/// A network that answers each call from a list for its kind, in order and over all network sockets, and by a default once that
-/// list is used up. It keeps its log.
+/// A network that answers each call from a list for its kind, in order and over all network
+/// sockets, and by a default once that list is used up. It keeps its log.
 #[derive(Drop)]
 pub struct ScriptedWorld {
     lists: Lists,
@@ -85,14 +87,16 @@ pub struct ScriptedWorld {
     closings: u64,
     faults: u64,
     ghost left: { lists.left ≡ (progress lists.all log.items).left },
-    ghost sides_known: { (sock : OpId) → known sides sock ≡ (progress lists.all log.items).sides sock },
+    ghost sides_known: { (sock : OpId) → known sides sock
+        ≡ (progress lists.all log.items).sides sock },
     ghost scripted: { IsScripted lists.all log.items },
 }
 
 impl ScriptedWorld {
     ghost use Rattle.world_scripted.specs.Scripted.{seen_by, at_start};
 
-    /// A world that goes by these lists, from their start: with an empty log, no end mark and no faults. Takes no memory.
+    /// A world that goes by these lists, from their start: with an empty log, no end mark and no
+    /// faults. Takes no memory.
     pub fn new(alloc: Global, lists: Lists) -> ScriptedWorld
         requires { lists.left ≡ lists.all }
         ensures { seen_by result ≡ at_start lists.all }
@@ -111,7 +115,8 @@ impl ScriptedWorld {
     fn answer(&mut self, op: OpId, call: Call, bytes: &[u8]) -> Result<Told, AllocError>
         requires some { Offers call }
         requires offered { length bytes.now ≡ offered call }
-        ensures passed { IfOk result (λ told. Passes (seen_by self.old) ((record { op = op; call = call; answer = told }) ∷ []) (seen_by self.new)) }
+        ensures passed { IfOk result (λ told. Passes (seen_by self.old)
+            ((record { op = op; call = call; answer = told }) ∷ []) (seen_by self.new)) }
         ensures fits { IfOk result (λ told. Fits call told) }
         ensures front { IfOk result (λ told. IsFront told bytes.now) }
         ensures err { OnErr result (seen_by self.new ≡ seen_by self.old) }
@@ -152,7 +157,8 @@ impl ScriptedWorld {
         self.ended
     }
 
-    /// How many network sockets were closed after the end mark. The count stays at its greatest value.
+    /// How many network sockets were closed after the end mark. The count stays at its greatest
+    /// value.
     pub fn closed_after_end(&self) -> u64
         ensures { result ≡ (seen_by self.now).closings }
     {

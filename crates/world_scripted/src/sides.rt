@@ -1,9 +1,13 @@
-//! What a scripted world knows of its network sockets: what the defaults of `local`, `peer` and `get-option` go by.
+//! What a scripted world knows of its network sockets: what the defaults of `local`, `peer` and
+//! `get-option` go by.
 
 ghost use Rattle.std.specs.Prelude.{◌≡◌, OnOk, OnErr, None};
 ghost use Rattle.std.specs.BTreeMap.{IsUnchanged};
 ghost use Rattle.wasi_addr.specs.Address.{wildcard};
-ghost use Rattle.wasi_world.specs.Sides.{unset, value_of, with_value, new_side, chosen_port, with_port, bound, bound_anyway, default_local, connected, disconnected, handed, with_option, change, sides_after, known};
+ghost use Rattle.wasi_world.specs.Sides.{unset, value_of, with_value, new_side, chosen_port};
+ghost use Rattle.wasi_world.specs.Sides.{with_port, bound, bound_anyway, default_local, connected};
+ghost use Rattle.wasi_world.specs.Sides.{disconnected, handed, with_option, change, sides_after};
+ghost use Rattle.wasi_world.specs.Sides.{known};
 
 use std::alloc::AllocError;
 use std::collections::BTreeMap;
@@ -160,7 +164,8 @@ fn with_option(side: Side, option: Opt, value: u64) -> Side
 /// What is known of each network socket that was made or changed.
 pub type Sides = BTreeMap<OpId, Side>;
 
-/// What is known of a network socket; of one that wasn't made, that of an IPv4 socket that was just made.
+/// What is known of a network socket; of one that wasn't made, that of an IPv4 socket that was just
+/// made.
 pub fn known(sides: &Sides, sock: Sock) -> Side
     ensures { result ≡ known sides.now sock }
 {
@@ -170,7 +175,8 @@ pub fn known(sides: &Sides, sock: Sock) -> Side
     }
 }
 
-/// The network socket that a call changes once it is answered done, and what is known of that network socket then.
+/// The network socket that a call changes once it is answered done, and what is known of that
+/// network socket then.
 fn change(sides: &Sides, op: OpId, call: &Call) -> Option<(Sock, Side)>
     ensures { result ≡ change (known sides.now) op call.now }
 {
@@ -198,7 +204,8 @@ fn change(sides: &Sides, op: OpId, call: &Call) -> Option<(Sock, Side)>
 
 /// Keeps what an answered call changed; takes memory where its network socket is new.
 pub fn keep(sides: &mut Sides, op: OpId, call: &Call, told: &Told) -> Result<(), AllocError>
-    ensures ok { OnOk result ((sock : OpId) → known sides.new sock ≡ sides_after (known sides.old) op call.now told.now sock) }
+    ensures ok { OnOk result ((sock : OpId) → known sides.new sock
+        ≡ sides_after (known sides.old) op call.now told.now sock) }
     ensures err { OnErr result (IsUnchanged sides.old sides.new) }
 {
     let Told::Done = told else {

@@ -1,10 +1,18 @@
 //! The fields of a line, which scripts and scenarios share.
 
-ghost use Rattle.std.specs.Prelude.{IsUtf8, ◌≢◌, OnOk, OnErr, string_bytes, ◌++◌, ◌<◌, ◌^◌, option_copied, IfOk, ◌≡◌, ◌≤◌, ℕ, List, ◌∷◌, [], decimal, Some, IsTrue, ◌↔◌, IfSome, IfNone, position};
+ghost use Rattle.std.specs.Prelude.{IsUtf8, ◌≢◌, OnOk, OnErr, string_bytes, ◌++◌, ◌<◌, ◌^◌};
+ghost use Rattle.std.specs.Prelude.{option_copied, IfOk, ◌≡◌, ◌≤◌, ℕ, List, ◌∷◌, [], decimal, Some};
+ghost use Rattle.std.specs.Prelude.{IsTrue, ◌↔◌, IfSome, IfNone, position};
 ghost use Rattle.std.specs.List.{list_all};
 ghost use Rattle.hex.specs.Hex.{encode_lower};
-ghost use Rattle.world_text.specs.Written.{ReadsExactly, AreVisible, AreBytes, number_fields, family_fields, ip_fields, address_fields, code_fields, bytes_fields, FitsIp, FitsAddress};
-ghost use Rattle.world_text.specs.Fields.{fields_of, line_with, is_space, Reads, is_lower_digit, is_lower_hex, bytes_in, bytes_text, code_text, code_in, code_at, bytes_at, BeginsPlain, rest_at, word_at, number_in, number_at, family_of, family_at, ipv4_at, ipv6_at, ip_at, address_at};
+ghost use Rattle.world_text.specs.Written.{ReadsExactly, AreVisible, AreBytes, number_fields};
+ghost use Rattle.world_text.specs.Written.{family_fields, ip_fields, address_fields, code_fields};
+ghost use Rattle.world_text.specs.Written.{bytes_fields, FitsIp, FitsAddress};
+ghost use Rattle.world_text.specs.Fields.{fields_of, line_with, is_space, Reads, is_lower_digit};
+ghost use Rattle.world_text.specs.Fields.{is_lower_hex, bytes_in, bytes_text, code_text, code_in};
+ghost use Rattle.world_text.specs.Fields.{code_at, bytes_at, BeginsPlain, rest_at, word_at};
+ghost use Rattle.world_text.specs.Fields.{number_in, number_at, family_of, family_at, ipv4_at};
+ghost use Rattle.world_text.specs.Fields.{ipv6_at, ip_at, address_at};
 
 use hex::FromHexError;
 use std::alloc::{AllocError, Global};
@@ -16,8 +24,8 @@ use wasi_addr::{
 };
 use wasi_world::Octets;
 
-/// The fields of a line that are left to read, which contracts see as a list. Fields are separated by exactly one
-/// space, so an empty line has one field, which is empty. It takes no memory.
+/// The fields of a line that are left to read, which contracts see as a list. Fields are separated
+/// by exactly one space, so an empty line has one field, which is empty. It takes no memory.
 #[derive(Drop)]
 pub struct Fields<'a> {
     rest: Option<&'a [u8]>,
@@ -79,7 +87,8 @@ impl<'a> Fields<'a> {
         self.rest.is_none()
     }
 
-    /// Takes all that is left of the line, with the spaces in it; there is nothing exactly at the end.
+    /// Takes all that is left of the line, with the spaces in it; there is nothing exactly at the
+    /// end.
     #[tactic(auto, unfolding(crate::specs::Fields::rest_at))]
     pub fn rest(&mut self) -> Option<&'a [u8]>
         ensures { Reads rest_at self.old (option_copied result) self.new }
@@ -165,7 +174,8 @@ impl<'a> Fields<'a> {
         Some(code)
     }
 
-    /// Takes bytes, for which it takes memory, or nothing; after running out of memory nothing was taken.
+    /// Takes bytes, for which it takes memory, or nothing; after running out of memory nothing was
+    /// taken.
     pub fn octets(&mut self, alloc: Global) -> Result<Option<Octets>, AllocError>
         ensures read { IfOk result (λ bytes. Reads bytes_at self.old bytes self.new) }
         ensures kept { IfOk result (λ bytes. IfNone bytes (self.new ≡ self.old)) }
@@ -301,7 +311,8 @@ fn begins_plain(field: &[u8]) -> bool
     matches!(field, [b'0'] | [b'1'..=b'9', ..])
 }
 
-/// The number that the field is, if it is at most this: decimal digits with no sign and no leading zero.
+/// The number that the field is, if it is at most this: decimal digits with no sign and no leading
+/// zero.
 pub fn number(field: &[u8], most: u64) -> Option<u64>
     ensures value { result ≡ number_in field.now most }
     ensures exact { (n : ℕ) → (result ≡ Some n) ↔ ((field.now ≡ decimal n) × (n ≤ most)) }
@@ -388,8 +399,8 @@ fn is_lower_hex(field: &[u8]) -> bool
     !field.is_empty() && are_lower_digits(field)
 }
 
-/// The bytes that the field says: `-` for none, else pairs of digits of `0` to `9` and `a` to `f`, so an empty field
-/// says none. Takes memory for the bytes.
+/// The bytes that the field says: `-` for none, else pairs of digits of `0` to `9` and `a` to `f`,
+/// so an empty field says none. Takes memory for the bytes.
 #[tactic(auto, unfolding(crate::specs::Fields::bytes_in))]
 pub fn octets(alloc: Global, field: &[u8]) -> Result<Option<Octets>, AllocError>
     ensures { IfOk result (λ bytes. bytes ≡ bytes_in field.now) }
@@ -410,12 +421,14 @@ pub fn octets(alloc: Global, field: &[u8]) -> Result<Option<Octets>, AllocError>
 /// Appends the two digits of a byte.
 #[tactic(auto, unfolding(hex::specs::Hex::encode_with))]
 fn push_byte(text: &mut String, byte: u8) -> Result<(), AllocError>
-    ensures { OnOk result (string_bytes text.new ≡ string_bytes text.old ++ encode_lower (byte ∷ [])) }
+    ensures { OnOk result (string_bytes text.new ≡ string_bytes text.old ++ encode_lower
+        (byte ∷ [])) }
 {
     write!(text, "{byte:02x}")
 }
 
-/// Appends the text of the bytes; takes memory for it. After running out of memory a part of it may be there.
+/// Appends the text of the bytes; takes memory for it. After running out of memory a part of it may
+/// be there.
 pub fn push_octets(text: &mut String, bytes: &[u8]) -> Result<(), AllocError>
     ensures { OnOk result (string_bytes text.new ≡ string_bytes text.old ++ bytes_text bytes.now) }
 {
@@ -430,7 +443,8 @@ pub fn push_octets(text: &mut String, bytes: &[u8]) -> Result<(), AllocError>
 
 /// What is read is written so, and what is written so is read, whatever follows it.
 pub fn fields_are_read_exactly()
-    ensures numbers { (most : ℕ) → most < 2 ^ 64 → ReadsExactly (number_at most) number_fields (λ n. n ≤ most) }
+    ensures numbers { (most : ℕ) → most < 2 ^ 64
+        → ReadsExactly (number_at most) number_fields (λ n. n ≤ most) }
     ensures families { ReadsExactly family_at family_fields (λ f. Unit {0}) }
     ensures ips { ReadsExactly ip_at ip_fields FitsIp }
     ensures addresses { ReadsExactly address_at address_fields FitsAddress }
@@ -441,6 +455,7 @@ pub fn fields_are_read_exactly()
 
 /// A line of visible fields has these fields, and no other line has.
 pub fn lines_have_their_fields()
-    ensures fields { (fields : List (List ℕ)) → fields ≢ [] → AreVisible fields → fields_of (line_with fields) ≡ fields }
+    ensures fields { (fields : List (List ℕ)) → fields ≢ [] → AreVisible fields
+        → fields_of (line_with fields) ≡ fields }
     ensures only { (line : List ℕ) → line ≡ line_with (fields_of line) }
 {}

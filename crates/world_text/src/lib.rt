@@ -1,4 +1,5 @@
-//! Text: the fields of a line, which scripts and scenarios share, and the text of an entry of a log.
+//! Text: the fields of a line, which scripts and scenarios share, and the text of an entry of a
+//! log.
 #![tactic(auto)]
 
 pub mod fields;

@@ -1,11 +1,16 @@
-//! The text of an entry of a log: its operation, its call and its answer, as in `3.0 bind 2 0 4 127 0 0 1 80 = done`.
+//! The text of an entry of a log: its operation, its call and its answer, as in
+//! `3.0 bind 2 0 4 127 0 0 1 80 = done`.
 
 ghost use Rattle.std.specs.Prelude.{◌≡◌, ◌∷◌, ◌++◌, [], Some, codes, decimal};
 ghost use Rattle.std.specs.Fmt.{DisplaysOnOk};
 ghost use Rattle.hex.specs.Hex.{encode_lower};
 ghost use Rattle.world_text.specs.Written.{family_number};
 ghost use Rattle.world_text.specs.Fields.{line_with, bytes_text};
-ghost use Rattle.world_text.specs.EntryText.{use_text, half_text, option_text, handle_kind_text, sock_text, maybe_sock_text, maybe_handle_text, address_text, ip_text, call_word, on_text, to_text, with_number_text, create_text, op_text, call_text, told_text, entry_text};
+ghost use Rattle.world_text.specs.EntryText.{use_text, half_text, option_text, handle_kind_text};
+ghost use Rattle.world_text.specs.EntryText.{sock_text, maybe_sock_text, maybe_handle_text};
+ghost use Rattle.world_text.specs.EntryText.{address_text, ip_text, call_word, on_text, to_text};
+ghost use Rattle.world_text.specs.EntryText.{with_number_text, create_text, op_text, call_text};
+ghost use Rattle.world_text.specs.EntryText.{told_text, entry_text};
 
 use crate::fields::code_text;
 use std::fmt;
@@ -256,7 +261,8 @@ fn write_to<W: fmt::Write>(
     sock: Sock,
     addr: IpSocketAddress,
 ) -> fmt::Result
-    ensures { DisplaysOnOk W.write_str_gives f.old result (Some (to_text word.now sock addr)) f.new }
+    ensures { DisplaysOnOk W.write_str_gives f.old result (Some (to_text word.now sock addr))
+        f.new }
 {
     write!(f, "{word} {} {}", SockText(sock), AddressText(addr))
 }
@@ -268,7 +274,8 @@ fn write_with_number<W: fmt::Write>(
     sock: Sock,
     number: u32,
 ) -> fmt::Result
-    ensures { DisplaysOnOk W.write_str_gives f.old result (Some (with_number_text word.now sock number)) f.new }
+    ensures { DisplaysOnOk W.write_str_gives f.old result
+        (Some (with_number_text word.now sock number)) f.new }
 {
     write!(f, "{word} {} {number}", SockText(sock))
 }
@@ -280,7 +287,8 @@ fn write_create<W: fmt::Write>(
     ctx: u32,
     family: SocketAddressFamily,
 ) -> fmt::Result
-    ensures { DisplaysOnOk W.write_str_gives f.old result (Some (create_text word.now ctx family)) f.new }
+    ensures { DisplaysOnOk W.write_str_gives f.old result (Some (create_text word.now ctx family))
+        f.new }
 {
     write!(f, "{word} {ctx} {}", family_number(family))
 }
@@ -328,7 +336,8 @@ fn write_with_word<W: fmt::Write>(
     sock: Sock,
     other: &str,
 ) -> fmt::Result
-    ensures { DisplaysOnOk W.write_str_gives f.old result (Some (line_with (word.now ∷ sock_text sock ∷ other.now ∷ []))) f.new }
+    ensures { DisplaysOnOk W.write_str_gives f.old result
+        (Some (line_with (word.now ∷ sock_text sock ∷ other.now ∷ []))) f.new }
 {
     write!(f, "{word} {} {other}", SockText(sock))
 }
@@ -341,7 +350,9 @@ fn write_setting<W: fmt::Write>(
     option: Opt,
     value: u64,
 ) -> fmt::Result
-    ensures { DisplaysOnOk W.write_str_gives f.old result (Some (line_with (word.now ∷ sock_text sock ∷ option_text option ∷ decimal value ∷ []))) f.new }
+    ensures { DisplaysOnOk W.write_str_gives f.old result
+        (Some (line_with (word.now ∷ sock_text sock ∷ option_text option ∷ decimal value ∷ [])))
+        f.new }
 {
     let option = option_word(option);
     write!(f, "{word} {} {option} {value}", SockText(sock))
@@ -355,7 +366,9 @@ fn write_check<W: fmt::Write>(
     addr: IpSocketAddress,
     usage: SocketAddrUse,
 ) -> fmt::Result
-    ensures { DisplaysOnOk W.write_str_gives f.old result (Some (line_with (word.now ∷ decimal ctx ∷ address_text addr ∷ use_text usage ∷ []))) f.new }
+    ensures { DisplaysOnOk W.write_str_gives f.old result
+        (Some (line_with (word.now ∷ decimal ctx ∷ address_text addr ∷ use_text usage ∷ [])))
+        f.new }
 {
     let usage = use_word(usage);
     write!(f, "{word} {ctx} {} {usage}", AddressText(addr))
@@ -369,7 +382,9 @@ fn write_send<W: fmt::Write>(
     addr: IpSocketAddress,
     bytes: &[u8],
 ) -> fmt::Result
-    ensures { DisplaysOnOk W.write_str_gives f.old result (Some (line_with (word.now ∷ sock_text sock ∷ address_text addr ∷ bytes_text bytes.now ∷ []))) f.new }
+    ensures { DisplaysOnOk W.write_str_gives f.old result
+        (Some (line_with (word.now ∷ sock_text sock ∷ address_text addr ∷ bytes_text bytes.now
+        ∷ []))) f.new }
 {
     write!(
         f,
@@ -389,7 +404,9 @@ fn write_made<W: fmt::Write>(
     parent: Option<u32>,
     sock: Option<Sock>,
 ) -> fmt::Result
-    ensures { DisplaysOnOk W.write_str_gives f.old result (Some (line_with (word.now ∷ decimal handle ∷ handle_kind_text kind ∷ maybe_handle_text parent ∷ maybe_sock_text sock ∷ []))) f.new }
+    ensures { DisplaysOnOk W.write_str_gives f.old result
+        (Some (line_with (word.now ∷ decimal handle ∷ handle_kind_text kind ∷ maybe_handle_text
+        parent ∷ maybe_sock_text sock ∷ []))) f.new }
 {
     let kind = handle_kind_word(kind);
     write!(

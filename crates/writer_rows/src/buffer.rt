@@ -21,15 +21,26 @@ impl Model for Buffer {
 
     ghost Value = { BufferView };
 
-    ghost view = { λ b. record { held = b.bytes.items; capacity = b.capacity; reader_gone = b.reader_gone; writer_gone = b.writer_gone } };
+    ghost view = { λ b. record {
+      held = b.bytes.items;
+      capacity = b.capacity;
+      reader_gone = b.reader_gone;
+      writer_gone = b.writer_gone;
+    } };
 
-    ghost invariant = { λ b. (length b.bytes.items ≤ b.capacity) × (b.capacity ≤ vec_capacity b.bytes) };
+    ghost invariant = { λ b. (length b.bytes.items ≤ b.capacity)
+        × (b.capacity ≤ vec_capacity b.bytes) };
 }
 
 impl Buffer {
     /// An empty one. The memory for all of its capacity is taken here, and none later.
     pub fn new(alloc: Global, capacity: usize) -> Result<Buffer, AllocError>
-        ensures { IfOk result (λ buffer. buffer ≡ record { held = []; capacity = capacity; reader_gone = false; writer_gone = false }) }
+        ensures { IfOk result (λ buffer. buffer ≡ record {
+          held = [];
+          capacity = capacity;
+          reader_gone = false;
+          writer_gone = false;
+        }) }
     {
         Ok(Buffer {
             bytes: Vec::with_capacity(alloc, capacity)?,
@@ -42,7 +53,9 @@ impl Buffer {
     /// Takes in as much of the front of the bytes as there is room for, and returns how much.
     pub fn put(&mut self, bytes: &[u8]) -> usize
         ensures count { result ≡ min (length bytes.now) (self.old.capacity - length self.old.held) }
-        ensures held { self.new ≡ record self.old { held = self.old.held ++ take result bytes.now } }
+        ensures held { self.new ≡ record self.old {
+          held = self.old.held ++ take result bytes.now;
+        } }
     {
         let count = bytes.len().min(self.capacity - self.bytes.len());
         self.bytes.extend_from_slice(&bytes[..count]).unwrap();

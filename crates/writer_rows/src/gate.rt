@@ -82,7 +82,8 @@ impl GatedSink {
         self.bytes
     }
 
-    /// Signals that the first write began, and waits for the owner. Returns whether the write may continue.
+    /// Signals that the first write began, and waits for the owner. Returns whether the write may
+    /// continue.
     fn pass(&mut self) -> bool
         ensures { self.new.faults ≡ self.old.faults }
     {
@@ -95,7 +96,12 @@ impl GatedSink {
 impl Sink for GatedSink {
     ghost use Rattle.std.specs.Prelude.{None};
 
-    ghost writing = { λ s. record { written = None; flushed = None; faults = s.faults; refused = 0 } };
+    ghost writing = { λ s. record {
+      written = None;
+      flushed = None;
+      faults = s.faults;
+      refused = 0;
+    } };
 
     fn write(&mut self, bytes: &[u8]) -> Result<usize, Failed> {
         if !self.passed && !self.pass() {

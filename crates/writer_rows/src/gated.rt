@@ -21,8 +21,8 @@ const ABOVE: Answer = Answer::Done(Err(StreamError::Trap(TrapKind::Budget)));
 
 const PENDING: Answer = Answer::Done(Err(StreamError::Trap(TrapKind::FlushPending)));
 
-/// Takes the steps on a stream with a budget of 10 bytes, each of which is to be answered so. Then it is to end so, with
-/// so many bytes in the sink.
+/// Takes the steps on a stream with a budget of 10 bytes, each of which is to be answered so. Then
+/// it is to end so, with so many bytes in the sink.
 fn plays<R: Threads + Wait + Abort + Copy + Send + 'static>(
     rt: &R,
     alloc: Global,

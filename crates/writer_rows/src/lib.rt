@@ -1,5 +1,5 @@
-//! The write stream with its worker in a real thread, and what it builds on. These tests are in a crate of their own,
-//! since a crate with tests is proved twice.
+//! The write stream with its worker in a real thread, and what it builds on. These tests are in a
+//! crate of their own, since a crate with tests is proved twice.
 #![tactic(auto)]
 
 #[cfg(test)]

@@ -6,8 +6,9 @@ use std::test::*;
 use wasi_spawn::ThreadSpawner;
 use world_io::MemorySink;
 
-/// The budget; the sizes of pieces and of the sink's writes, small, odd and large; and how many bytes go through the stream so:
-/// a million, and fewer in pieces or writes of a few bytes. The least budget is one byte.
+/// The budget; the sizes of pieces and of the sink's writes, small, odd and large; and how many
+/// bytes go through the stream so: a million, and fewer in pieces or writes of a few bytes. The
+/// least budget is one byte.
 const SIZES: [(usize, usize, usize, usize); 9] = [
     (4096, 1, 1, 20_000),
     (4096, 3, 700, 20_000),

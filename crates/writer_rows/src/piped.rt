@@ -72,7 +72,8 @@ fn a_write_fails_once_the_reader_is_gone(rt: HostRuntime) -> Result<(), Fail> {
     Ok(())
 }
 
-/// A stream over a pipe that holds as much as its budget: the worker waits for room until the other end is read.
+/// A stream over a pipe that holds as much as its budget: the worker waits for room until the other
+/// end is read.
 fn writes_into_a_pipe<
     N: Names + Send + Sync + 'static,
     R: Threads + Wait + Abort + Copy + Send + 'static,

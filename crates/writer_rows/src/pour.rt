@@ -34,7 +34,8 @@ pub fn pattern(alloc: Global, len: usize) -> Result<Vec<u8>, AllocError> {
     Ok(bytes)
 }
 
-/// Writes the bytes through a stream as its budget allows, flushes and finishes it. Returns how many were accepted.
+/// Writes the bytes through a stream as its budget allows, flushes and finishes it. Returns how
+/// many were accepted.
 fn pour_by<
     K: Sink + Drop + Send + 'static,
     P: Spawner,

@@ -146,7 +146,12 @@ impl<R: Wait + Copy> Drop for SimplexWriter<R> {
 impl<R: Wait + Copy> Sink for SimplexWriter<R> {
     ghost use Rattle.std.specs.Prelude.{None};
 
-    ghost writing = { λ end. record { written = None; flushed = None; faults = end.faults; refused = 0 } };
+    ghost writing = { λ end. record {
+      written = None;
+      flushed = None;
+      faults = end.faults;
+      refused = 0;
+    } };
 
     fn write(&mut self, bytes: &[u8]) -> Result<usize, Failed> {
         if bytes.is_empty() {

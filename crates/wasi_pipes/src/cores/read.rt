@@ -1,8 +1,10 @@
 //! The core of a read stream.
 
-ghost use Rattle.std.specs.Prelude.{◌≡◌, ◌<◌, ◌↔◌, IsTrue, IsSome, OnOk, OnErr, true, None, Some, unwrap_or};
+ghost use Rattle.std.specs.Prelude.{◌≡◌, ◌<◌, ◌↔◌, IsTrue, IsSome, OnOk, OnErr, true, None, Some};
+ghost use Rattle.std.specs.Prelude.{unwrap_or};
 ghost use Rattle.std.specs.Option.{option_to_list};
-ghost use Rattle.wasi_pipes.specs.ReadRecord.{fresh, admission, take_answer, after_told, Offer, End, Fail, Starve, Take, Stop, Silent, Taken};
+ghost use Rattle.wasi_pipes.specs.ReadRecord.{fresh, admission, take_answer, after_told, Offer};
+ghost use Rattle.wasi_pipes.specs.ReadRecord.{End, Fail, Starve, Take, Stop, Silent, Taken};
 ghost use Rattle.wasi_pipes.specs.ReadState.{fresh_state, is_ready, StandsFor, Follows};
 
 pub mod laws;
@@ -119,7 +121,9 @@ impl ReadCore {
 
     /// The worker has met the end of its source.
     pub fn end(&mut self)
-        ensures state { self.new ≡ record self.old { flags = record self.old.flags { ended = true } } }
+        ensures state { self.new ≡ record self.old {
+          flags = record self.old.flags { ended = true };
+        } }
         ensures follows { Follows self.old End Silent self.new }
     {
         self.flags.ended = true;
@@ -128,7 +132,10 @@ impl ReadCore {
     /// A read failed, which is the worker's first fault: it is kept for the owner.
     pub fn fail(&mut self, code: ErrorCode)
         requires { self.old.flags.fault ≡ WorkerFault.Unmet }
-        ensures state { self.new ≡ record self.old { flags = record self.old.flags { fault = WorkerFault.Kept (ReadFault.Failed code) } } }
+        ensures state { self.new ≡ record self.old {
+          flags = record self.old.flags
+              { fault = WorkerFault.Kept (ReadFault.Failed code) };
+        } }
         ensures follows { Follows self.old (Fail code) Silent self.new }
     {
         self.flags.fault = WorkerFault::Kept(ReadFault::Failed(code));
@@ -137,7 +144,10 @@ impl ReadCore {
     /// The worker found no memory for a chunk, which is its first fault: it is kept for the owner.
     pub fn starve(&mut self)
         requires { self.old.flags.fault ≡ WorkerFault.Unmet }
-        ensures state { self.new ≡ record self.old { flags = record self.old.flags { fault = WorkerFault.Kept ReadFault.Starved } } }
+        ensures state { self.new ≡ record self.old {
+          flags = record self.old.flags
+              { fault = WorkerFault.Kept ReadFault.Starved };
+        } }
         ensures follows { Follows self.old Starve Silent self.new }
     {
         self.flags.fault = WorkerFault::Kept(ReadFault::Starved);
@@ -151,7 +161,8 @@ impl ReadCore {
     pub fn take(&mut self) -> Result<usize, StreamError>
         ensures answer { result ≡ take_answer self.old.flags (option_to_list self.old.slot) }
         ensures ok { OnOk result (self.new ≡ record self.old { slot = None }) }
-        ensures err { OnErr result (self.new ≡ record self.old { flags = after_told self.old.flags }) }
+        ensures err { OnErr result (self.new ≡ record self.old
+            { flags = after_told self.old.flags }) }
         ensures follows { Follows self.old Take (Taken result) self.new }
     {
         if let Some(len) = self.slot.take() {
@@ -163,7 +174,10 @@ impl ReadCore {
 
     /// The owner wants no more of the stream. What was read before may still be taken.
     pub fn stop(&mut self)
-        ensures state { self.new ≡ record self.old { flags = record self.old.flags { stopped = true } } }
+        ensures state { self.new ≡ record self.old {
+          flags = record self.old.flags
+              { stopped = true };
+        } }
         ensures follows { Follows self.old Stop Silent self.new }
     {
         self.flags.stopped = true;

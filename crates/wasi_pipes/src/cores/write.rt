@@ -2,8 +2,13 @@
 
 ghost use Rattle.std.specs.Prelude.{◌≡◌, ◌<◌, IsSome, OnOk, OnErr, true, false, is_ok, [], Ok};
 ghost use Rattle.wasi_streams.specs.StreamError.{OnMemory, UnlessMemory};
-ghost use Rattle.wasi_pipes.specs.WriteRecord.{fresh, admission, accept_answer, check_answer, next_work, chunk, after_told, Accept, Flush, Check, Stop, Pop, Wrote, Flushed, Failed, Silent, Answered, Allowed, Given};
-ghost use Rattle.wasi_pipes.specs.WriteState.{fresh_state, initial_of, outstanding, with_accepted, after_pop, after_write, with_flags, is_ready, is_done, StandsFor, Follows};
+ghost use Rattle.wasi_pipes.specs.WriteRecord.{fresh, admission, accept_answer, check_answer};
+ghost use Rattle.wasi_pipes.specs.WriteRecord.{next_work, chunk, after_told, Accept, Flush, Check};
+ghost use Rattle.wasi_pipes.specs.WriteRecord.{Stop, Pop, Wrote, Flushed, Failed, Silent, Answered};
+ghost use Rattle.wasi_pipes.specs.WriteRecord.{Allowed, Given};
+ghost use Rattle.wasi_pipes.specs.WriteState.{fresh_state, initial_of, outstanding, with_accepted};
+ghost use Rattle.wasi_pipes.specs.WriteState.{after_pop, after_write, with_flags, is_ready};
+ghost use Rattle.wasi_pipes.specs.WriteState.{is_done, StandsFor, Follows};
 
 pub mod laws;
 
@@ -134,20 +139,25 @@ impl WriteCore {
     /// flush is pending, and `Budget` for a length above the budget. Running out of memory, and a
     /// refusal that reports no fault, change nothing.
     pub fn accept(&mut self, len: usize) -> Result<(), StreamError>
-        ensures answer { UnlessMemory result (result ≡ accept_answer self.old.state.flags self.old.state.budget len) }
-        ensures reserved { self.old.room ≡ true → result ≡ accept_answer self.old.state.flags self.old.state.budget len }
+        ensures answer { UnlessMemory result (result ≡ accept_answer self.old.state.flags
+            self.old.state.budget len) }
+        ensures reserved { self.old.room ≡ true
+            → result ≡ accept_answer self.old.state.flags self.old.state.budget len }
 
         // Memory is wanted for a length that would be accepted alone.
-        ensures wanting { OnMemory result (accept_answer self.old.state.flags self.old.state.budget len ≡ Ok tt) }
+        ensures wanting { OnMemory result (accept_answer self.old.state.flags self.old.state.budget
+            len ≡ Ok tt) }
         ensures bytes { OnMemory result (0 < len) }
         ensures unchanged { OnMemory result (self.new.state ≡ self.old.state) }
 
         ensures ok { OnOk result (self.new.state ≡ with_accepted self.old.state (chunk len)) }
-        ensures err { OnErr result (self.new.state ≡ record self.old.state { flags = after_told self.old.state.flags }) }
+        ensures err { OnErr result (self.new.state ≡ record self.old.state
+            { flags = after_told self.old.state.flags }) }
         ensures room { OnErr result (self.old.room ≡ true → self.new.room ≡ true) }
         ensures adds_up { initial_of self.new.state ≡ initial_of self.old.state }
 
-        ensures follows { UnlessMemory result (Follows self.old.state (Accept len) (Answered result) self.new.state) }
+        ensures follows { UnlessMemory result (Follows self.old.state (Accept len) (Answered result)
+            self.new.state) }
     {
         self.flags.admit()?;
         if self.flags.flushing {
@@ -169,8 +179,10 @@ impl WriteCore {
     /// Reports a kept fault, once, and then `Closed`, as after a stop.
     pub fn flush(&mut self) -> Result<(), StreamError>
         ensures answer { result ≡ admission self.old.state.flags }
-        ensures ok { OnOk result (self.new ≡ with_flags self.old (record self.old.state.flags { flushing = true })) }
-        ensures err { OnErr result (self.new ≡ with_flags self.old (after_told self.old.state.flags)) }
+        ensures ok { OnOk result (self.new ≡ with_flags self.old
+            (record self.old.state.flags { flushing = true })) }
+        ensures err { OnErr result (self.new ≡ with_flags self.old
+            (after_told self.old.state.flags)) }
         ensures follows { Follows self.old.state Flush (Answered result) self.new.state }
     {
         self.flags.admit()?;
@@ -184,7 +196,8 @@ impl WriteCore {
     pub fn check(&mut self) -> Result<usize, StreamError>
         ensures answer { result ≡ check_answer self.old.state.flags self.old.state.budget }
         ensures ok { OnOk result (self.new ≡ self.old) }
-        ensures err { OnErr result (self.new ≡ with_flags self.old (after_told self.old.state.flags)) }
+        ensures err { OnErr result (self.new ≡ with_flags self.old
+            (after_told self.old.state.flags)) }
         ensures follows { Follows self.old.state Check (Allowed result) self.new.state }
     {
         self.flags.admit()?;
@@ -193,7 +206,8 @@ impl WriteCore {
 
     /// The owner wants no more of the stream.
     pub fn stop(&mut self)
-        ensures state { self.new ≡ with_flags self.old (record self.old.state.flags { stopped = true }) }
+        ensures state { self.new ≡ with_flags self.old (record self.old.state.flags
+            { stopped = true }) }
         ensures follows { Follows self.old.state Stop Silent self.new.state }
     {
         self.flags.stopped = true;
@@ -253,7 +267,8 @@ impl WriteCore {
     pub fn flushed(&mut self)
         requires pending { self.old.state.flags.flushing ≡ true }
         requires written { outstanding self.old.state ≡ [] }
-        ensures state { self.new ≡ with_flags self.old (record self.old.state.flags { flushing = false }) }
+        ensures state { self.new ≡ with_flags self.old (record self.old.state.flags
+            { flushing = false }) }
         ensures follows { Follows self.old.state Flushed Silent self.new.state }
     {
         self.flags.flushing = false;
@@ -262,7 +277,8 @@ impl WriteCore {
     /// The worker's first fault: it is kept for the owner, and ends a pending flush.
     pub fn failed(&mut self, code: ErrorCode)
         requires { self.old.state.flags.fault ≡ WorkerFault.Unmet }
-        ensures state { self.new ≡ with_flags self.old (record self.old.state.flags { flushing = false; fault = WorkerFault.Kept code }) }
+        ensures state { self.new ≡ with_flags self.old (record self.old.state.flags
+            { flushing = false; fault = WorkerFault.Kept code }) }
         ensures follows { Follows self.old.state (Failed code) Silent self.new.state }
     {
         self.flags.fault = WorkerFault::Kept(code);

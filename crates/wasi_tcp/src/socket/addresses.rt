@@ -10,7 +10,8 @@ use wasi_world::{OpId, Refusal, Sock, World, asks};
 
 impl TcpSocket {
     ghost use Rattle.wasi_tcp.specs.Socket.{side_of};
-    ghost use Rattle.wasi_tcp.specs.Addresses.{usable_side, local_side, local_asks, local_where, remote_asks};
+    ghost use Rattle.wasi_tcp.specs.Addresses.{usable_side, local_side, local_asks, local_where};
+    ghost use Rattle.wasi_tcp.specs.Addresses.{remote_asks};
 
     /// The local address (`tcp-socket.local-address`). Not bound, or connecting: `InvalidState`.
     /// Closed: its code. A code that the network reports is returned.
@@ -20,8 +21,10 @@ impl TcpSocket {
         op: OpId,
     ) -> Result<IpSocketAddress, Refusal>
         requires { (W.seen world.old).ended ≡ false }
-        ensures asked { AsksFor (local_asks op self.old) (W.seen world.old) (W.seen world.new) (λ answer. (answer, self.new)) (outcome result) }
-        ensures err { OnErr (outcome result) (Reaches (local_asks op self.old) (local_asks op self.new) (W.seen world.old) (W.seen world.new)) }
+        ensures asked { AsksFor (local_asks op self.old) (W.seen world.old) (W.seen world.new)
+            (λ answer. (answer, self.new)) (outcome result) }
+        ensures err { OnErr (outcome result) (Reaches (local_asks op self.old)
+            (local_asks op self.new) (W.seen world.old) (W.seen world.new)) }
         ensures side { side_of self.new ≡ side_of self.old }
     {
         let bound = self.is_bound(world, op)?;
@@ -36,7 +39,8 @@ impl TcpSocket {
         bound: bool,
     ) -> Result<IpSocketAddress, Refusal>
         requires { (W.seen world.old).ended ≡ false }
-        ensures asked { AsksFor (local_where op self.now bound) (W.seen world.old) (W.seen world.new) (λ answer. (answer, self.now)) (outcome result) }
+        ensures asked { AsksFor (local_where op self.now bound) (W.seen world.old)
+            (W.seen world.new) (λ answer. (answer, self.now)) (outcome result) }
         ensures err { OnErr (outcome result) (W.seen world.new ≡ W.seen world.old) }
         ensures bound { OnErr (outcome result) (bound ≡ true) }
     {
@@ -56,7 +60,8 @@ impl TcpSocket {
         self.usable_side()
     }
 
-    /// The network socket that may be asked about its address and its options: none while it connects. Closed: its code.
+    /// The network socket that may be asked about its address and its options: none while it
+    /// connects. Closed: its code.
     pub(crate) fn usable_side(&self) -> Result<Sock, ErrorCode>
         ensures { result ≡ usable_side self.now.state }
     {
@@ -77,7 +82,8 @@ impl TcpSocket {
         op: OpId,
     ) -> Result<IpSocketAddress, Refusal>
         requires { (W.seen world.old).ended ≡ false }
-        ensures asked { AsksFor (remote_asks op self.old) (W.seen world.old) (W.seen world.new) (λ answer. (answer, self.new)) (outcome result) }
+        ensures asked { AsksFor (remote_asks op self.old) (W.seen world.old) (W.seen world.new)
+            (λ answer. (answer, self.new)) (outcome result) }
         ensures err { OnErr (outcome result) (self.new ≡ self.old) }
         ensures unasked { OnErr (outcome result) (W.seen world.new ≡ W.seen world.old) }
         ensures side { side_of self.new ≡ side_of self.old }
@@ -89,7 +95,8 @@ impl TcpSocket {
 /// The local address of a network socket.
 fn told_address<W: World>(world: &mut W, op: OpId, side: Sock) -> Result<IpSocketAddress, Refusal>
     requires { (W.seen world.old).ended ≡ false }
-    ensures asked { AsksFor (ask_local op side) (W.seen world.old) (W.seen world.new) (λ told. told) (outcome result) }
+    ensures asked { AsksFor (ask_local op side) (W.seen world.old) (W.seen world.new) (λ told. told)
+        (outcome result) }
     ensures err { OnErr (outcome result) (W.seen world.new ≡ W.seen world.old) }
 {
     let told = asks::local(world, op, side)?;

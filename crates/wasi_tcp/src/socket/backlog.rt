@@ -27,7 +27,8 @@ impl TcpSocket {
         value: u64,
     ) -> Result<(), Refusal>
         requires { (W.seen world.old).ended ≡ false }
-        ensures asked { AsksFor (set_backlog_asks op self.old value) (W.seen world.old) (W.seen world.new) (λ answer. (answer, self.new)) (outcome result) }
+        ensures asked { AsksFor (set_backlog_asks op self.old value) (W.seen world.old)
+            (W.seen world.new) (λ answer. (answer, self.new)) (outcome result) }
         ensures err { OnErr (outcome result) (self.new ≡ self.old) }
         ensures unasked { OnErr (outcome result) (W.seen world.new ≡ W.seen world.old) }
         ensures side { side_of self.new ≡ side_of self.old }

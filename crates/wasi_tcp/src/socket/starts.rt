@@ -19,11 +19,14 @@ use wasi_world::{Answer, OpId, Refusal, Sock, World};
 
 impl TcpSocket {
     ghost use Rattle.wasi_tcp.specs.Socket.{side_of, bind_asks, bind_start};
-    ghost use Rattle.wasi_tcp.specs.Connecting.{start_connect_asks, connect_start, finish_connect_asks, HoldsConnect};
-    ghost use Rattle.wasi_tcp.specs.Listening.{listen_asks, listen_start, listen_told, listen_settled};
+    ghost use Rattle.wasi_tcp.specs.Connecting.{start_connect_asks, connect_start};
+    ghost use Rattle.wasi_tcp.specs.Connecting.{finish_connect_asks, HoldsConnect};
+    ghost use Rattle.wasi_tcp.specs.Listening.{listen_asks, listen_start, listen_told};
+    ghost use Rattle.wasi_tcp.specs.Listening.{listen_settled};
 
-    /// Begins a bind to the address. Bound, or not in the state Default: `InvalidState`. Not unicast, or not of the
-    /// socket's family: `InvalidArgument`. After running out of memory nothing was asked, and the socket is as it was.
+    /// Begins a bind to the address. Bound, or not in the state Default: `InvalidState`. Not
+    /// unicast, or not of the socket's family: `InvalidArgument`. After running out of memory
+    /// nothing was asked, and the socket is as it was.
     pub fn bind<W: World>(
         &mut self,
         world: &mut W,
@@ -31,7 +34,8 @@ impl TcpSocket {
         addr: IpSocketAddress,
     ) -> Result<BindOp, Refusal>
         requires { (W.seen world.old).ended ≡ false }
-        ensures asked { AsksFor (bind_asks op self.old addr) (W.seen world.old) (W.seen world.new) (λ begun. (begun, self.new)) (outcome result) }
+        ensures asked { AsksFor (bind_asks op self.old addr) (W.seen world.old) (W.seen world.new)
+            (λ begun. (begun, self.new)) (outcome result) }
         ensures its_socket { IfOk result (λ begun. IsOf begun self.new) }
         ensures going { IfOk result (λ begun. is_going begun ≡ true) }
         ensures err { OnErr (outcome result) (self.new ≡ self.old) }
@@ -64,9 +68,10 @@ impl TcpSocket {
         }
     }
 
-    /// Begins a connect to the address, which `poll_finish_connect` polls; nothing is checked yet. Not in the state Default:
-    /// `InvalidState`, without an ask. Not unicast, not remote, or not of the socket's family: `InvalidArgument`, and the
-    /// socket stays in the state Default. After running out of memory nothing was asked, and the socket is as it was.
+    /// Begins a connect to the address, which `poll_finish_connect` polls; nothing is checked yet.
+    /// Not in the state Default: `InvalidState`, without an ask. Not unicast, not remote, or not of
+    /// the socket's family: `InvalidArgument`, and the socket stays in the state Default. After
+    /// running out of memory nothing was asked, and the socket is as it was.
     pub fn start_connect<W: World>(
         &mut self,
         world: &mut W,
@@ -74,7 +79,8 @@ impl TcpSocket {
         addr: IpSocketAddress,
     ) -> Result<(), Refusal>
         requires { (W.seen world.old).ended ≡ false }
-        ensures asked { AsksFor (start_connect_asks op self.old addr) (W.seen world.old) (W.seen world.new) (λ answer. (answer, self.new)) (outcome result) }
+        ensures asked { AsksFor (start_connect_asks op self.old addr) (W.seen world.old)
+            (W.seen world.new) (λ answer. (answer, self.new)) (outcome result) }
         ensures err { OnErr (outcome result) (self.new ≡ self.old) }
         ensures unasked { OnErr (outcome result) (W.seen world.new ≡ W.seen world.old) }
         ensures side { side_of self.new ≡ side_of self.old }
@@ -115,13 +121,16 @@ impl TcpSocket {
         Ok(())
     }
 
-    /// Polls the connect that was started: done, the socket is Connected; refused, its network socket is closed, and it is
-    /// Closed with the code that is answered. Connected already: ready. Closed: its code. Default: `InvalidState`.
-    /// After running out of memory the connect is as after its last answered ask, and may be polled again.
+    /// Polls the connect that was started: done, the socket is Connected; refused, its network
+    /// socket is closed, and it is Closed with the code that is answered. Connected already: ready.
+    /// Closed: its code. Default: `InvalidState`. After running out of memory the connect is as
+    /// after its last answered ask, and may be polled again.
     pub fn poll_finish_connect<W: World>(&mut self, world: &mut W) -> Result<Answer<()>, Refusal>
         requires { (W.seen world.old).ended ≡ false }
-        ensures asked { AsksFor (finish_connect_asks self.old) (W.seen world.old) (W.seen world.new) (λ answer. (answer, self.new)) (outcome result) }
-        ensures err { OnErr (outcome result) (Reaches (finish_connect_asks self.old) (finish_connect_asks self.new) (W.seen world.old) (W.seen world.new)) }
+        ensures asked { AsksFor (finish_connect_asks self.old) (W.seen world.old) (W.seen world.new)
+            (λ answer. (answer, self.new)) (outcome result) }
+        ensures err { OnErr (outcome result) (Reaches (finish_connect_asks self.old)
+            (finish_connect_asks self.new) (W.seen world.old) (W.seen world.new)) }
         ensures side { OnErr (outcome result) (side_of self.new ≡ side_of self.old) }
         ensures before { HoldsConnect self.old.state }
         ensures after { HoldsConnect self.new.state }
@@ -129,14 +138,16 @@ impl TcpSocket {
         self.state.poll_finish_connect(world)
     }
 
-    /// Begins to listen (`tcp-socket.start-listen`); `ListenOp::poll` continues with it. Not in the state Default:
-    /// `InvalidState`. The operation takes the network socket with it: from here on the socket is Closed, with the code
-    /// `Other`, until the listen is done. Nothing is checked yet. After running out of memory nothing was asked, and
-    /// the socket is as it was.
+    /// Begins to listen (`tcp-socket.start-listen`); `ListenOp::poll` continues with it. Not in the
+    /// state Default: `InvalidState`. The operation takes the network socket with it: from here on
+    /// the socket is Closed, with the code `Other`, until the listen is done. Nothing is checked
+    /// yet. After running out of memory nothing was asked, and the socket is as it was.
     pub fn listen<W: World>(&mut self, world: &mut W, op: OpId) -> Result<ListenOp, Refusal>
         requires { (W.seen world.old).ended ≡ false }
-        ensures asked { AsksFor (listen_asks op self.old) (W.seen world.old) (W.seen world.new) (λ begun. (begun, self.new)) (outcome result) }
-        ensures taken { IfOk result (λ begun. (side_of self.old ≡ Some begun.who.side) × (side_of self.new ≡ None)) }
+        ensures asked { AsksFor (listen_asks op self.old) (W.seen world.old) (W.seen world.new)
+            (λ begun. (begun, self.new)) (outcome result) }
+        ensures taken { IfOk result (λ begun. (side_of self.old ≡ Some begun.who.side)
+            × (side_of self.new ≡ None)) }
         ensures refused { OnErr result (side_of self.new ≡ side_of self.old) }
         ensures err { OnErr (outcome result) (self.new ≡ self.old) }
         ensures unasked { OnErr (outcome result) (W.seen world.new ≡ W.seen world.old) }
@@ -149,7 +160,8 @@ impl TcpSocket {
     fn begin_listen(&mut self, op: OpId, bound: bool) -> Result<ListenOp, Refusal>
         ensures begun { outcome result ≡ Ok (listen_start op self.old bound self.old.state).0 }
         ensures socket { self.new ≡ (listen_start op self.old bound self.old.state).1 }
-        ensures taken { IfOk result (λ begun. (side_of self.old ≡ Some begun.who.side) × (side_of self.new ≡ None)) }
+        ensures taken { IfOk result (λ begun. (side_of self.old ≡ Some begun.who.side)
+            × (side_of self.new ≡ None)) }
         ensures refused { OnErr result (side_of self.new ≡ side_of self.old) }
     {
         let TcpState::Default(side) = self.state else {

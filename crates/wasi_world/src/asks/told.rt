@@ -1,7 +1,9 @@
 //! What a world told, as a type that has just the answers that fit.
 
 ghost use Rattle.std.specs.Prelude.{◌≡◌};
-ghost use Rattle.wasi_world.specs.Typed.{told_verdict, told_done, told_addr, told_value, told_ready, told_polled, told_arrival, told_bytes, told_taken, told_datagram, told_names};
+ghost use Rattle.wasi_world.specs.Typed.{told_verdict, told_done, told_addr, told_value};
+ghost use Rattle.wasi_world.specs.Typed.{told_ready, told_polled, told_arrival, told_bytes};
+ghost use Rattle.wasi_world.specs.Typed.{told_taken, told_datagram, told_names};
 
 use crate::asks::{Polled, Verdict};
 use crate::call::Told;

@@ -2,7 +2,8 @@
 
 ghost use Rattle.std.specs.Prelude.{◌≡◌, OnErr, false};
 ghost use Rattle.wasi_world.specs.Asks.{AsksFor};
-ghost use Rattle.wasi_world.specs.Typed.{ask_udp_create, ask_udp_writable, ask_udp_bind, ask_udp_connect, ask_udp_disconnect, ask_recv, ask_send};
+ghost use Rattle.wasi_world.specs.Typed.{ask_udp_create, ask_udp_writable, ask_udp_bind};
+ghost use Rattle.wasi_world.specs.Typed.{ask_udp_connect, ask_udp_disconnect, ask_recv, ask_send};
 
 use crate::asks::Polled;
 use crate::asks::told::{told_datagram, told_done, told_polled};
@@ -22,7 +23,8 @@ pub fn udp_create<W: World>(
     family: SocketAddressFamily,
 ) -> Result<Result<(), ErrorCode>, AllocError>
     requires { (W.seen world.old).ended ≡ false }
-    ensures asked { AsksFor (ask_udp_create op ctx family) (W.seen world.old) (W.seen world.new) (λ answer. answer) result }
+    ensures asked { AsksFor (ask_udp_create op ctx family) (W.seen world.old) (W.seen world.new)
+        (λ answer. answer) result }
     ensures err { OnErr result (W.seen world.new ≡ W.seen world.old) }
 {
     let told = world.call(op, Call::UdpCreate { ctx, family })?;
@@ -32,7 +34,8 @@ pub fn udp_create<W: World>(
 /// Whether a UDP socket can send now: pending, done, or a code. Out of memory the call wasn't made.
 pub fn udp_writable<W: World>(world: &mut W, op: OpId, sock: Sock) -> Result<Polled<()>, AllocError>
     requires { (W.seen world.old).ended ≡ false }
-    ensures asked { AsksFor (ask_udp_writable op sock) (W.seen world.old) (W.seen world.new) (λ answer. answer) result }
+    ensures asked { AsksFor (ask_udp_writable op sock) (W.seen world.old) (W.seen world.new)
+        (λ answer. answer) result }
     ensures err { OnErr result (W.seen world.new ≡ W.seen world.old) }
 {
     let told = world.call(op, Call::UdpWritable { sock })?;
@@ -47,7 +50,8 @@ pub fn udp_bind<W: World>(
     addr: IpSocketAddress,
 ) -> Result<Result<(), ErrorCode>, AllocError>
     requires { (W.seen world.old).ended ≡ false }
-    ensures asked { AsksFor (ask_udp_bind op sock addr) (W.seen world.old) (W.seen world.new) (λ answer. answer) result }
+    ensures asked { AsksFor (ask_udp_bind op sock addr) (W.seen world.old) (W.seen world.new)
+        (λ answer. answer) result }
     ensures err { OnErr result (W.seen world.new ≡ W.seen world.old) }
 {
     let told = world.call(op, Call::UdpBind { sock, addr })?;
@@ -63,7 +67,8 @@ pub fn udp_connect<W: World>(
     addr: IpSocketAddress,
 ) -> Result<Result<(), ErrorCode>, AllocError>
     requires { (W.seen world.old).ended ≡ false }
-    ensures asked { AsksFor (ask_udp_connect op sock addr) (W.seen world.old) (W.seen world.new) (λ answer. answer) result }
+    ensures asked { AsksFor (ask_udp_connect op sock addr) (W.seen world.old) (W.seen world.new)
+        (λ answer. answer) result }
     ensures err { OnErr result (W.seen world.new ≡ W.seen world.old) }
 {
     let told = world.call(op, Call::UdpConnect { sock, addr })?;
@@ -78,7 +83,8 @@ pub fn udp_disconnect<W: World>(
     sock: Sock,
 ) -> Result<Result<(), ErrorCode>, AllocError>
     requires { (W.seen world.old).ended ≡ false }
-    ensures asked { AsksFor (ask_udp_disconnect op sock) (W.seen world.old) (W.seen world.new) (λ answer. answer) result }
+    ensures asked { AsksFor (ask_udp_disconnect op sock) (W.seen world.old) (W.seen world.new)
+        (λ answer. answer) result }
     ensures err { OnErr result (W.seen world.new ≡ W.seen world.old) }
 {
     let told = world.call(op, Call::UdpDisconnect { sock })?;
@@ -93,7 +99,8 @@ pub fn recv<W: World>(
     sock: Sock,
 ) -> Result<Polled<(Octets, IpSocketAddress)>, AllocError>
     requires { (W.seen world.old).ended ≡ false }
-    ensures asked { AsksFor (ask_recv op sock) (W.seen world.old) (W.seen world.new) (λ answer. answer) result }
+    ensures asked { AsksFor (ask_recv op sock) (W.seen world.old) (W.seen world.new)
+        (λ answer. answer) result }
     ensures err { OnErr result (W.seen world.new ≡ W.seen world.old) }
 {
     let told = world.call(op, Call::Recv { sock })?;
@@ -110,7 +117,8 @@ pub fn send<W: World>(
     bytes: &[u8],
 ) -> Result<Polled<()>, AllocError>
     requires { (W.seen world.old).ended ≡ false }
-    ensures asked { AsksFor (ask_send op sock addr bytes.now) (W.seen world.old) (W.seen world.new) (λ answer. answer) result }
+    ensures asked { AsksFor (ask_send op sock addr bytes.now) (W.seen world.old) (W.seen world.new)
+        (λ answer. answer) result }
     ensures err { OnErr result (W.seen world.new ≡ W.seen world.old) }
 {
     let told = world.send(op, sock, addr, bytes)?;
