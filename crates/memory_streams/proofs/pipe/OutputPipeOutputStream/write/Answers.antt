@@ -6,5 +6,5 @@ use Rattle.memory_streams.proofs.Settled.{settled}
 use Rattle.memory_streams.proofs.pipe.OutputPipeOutputStream.write.Goals as goal
 
 -- src/pipe.rt:77:5
-pub returns-clause-asked : goal.returns-clause-asked
-returns-clause-asked g c = rw (sym c.as_slice.ensures) (settled _ c.write.ensures.given)
+pub returns : goal.returns
+returns g c = record { asked = rw (sym c.as_slice.ensures) (settled _ c.write.ensures.given) }
