@@ -391,7 +391,7 @@ pub fn blocking_write_zeroes_and_flush<W: World>(
     if len > MOST_BYTES {
         return Err(CallError::Trap(TrapKind::TooLong));
     }
-    let bytes = zeros(alloc, len)?;
+    let bytes = zeros(alloc, len as usize)?;
     write_rounds(alloc, view, world, ids, output, bytes, MOST_ROUNDS)
 }
 

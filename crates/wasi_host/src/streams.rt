@@ -24,7 +24,7 @@ use crate::plain_streams::{flush_plain, plain};
 use crate::view::WasiSocketsCtxView;
 use std::alloc::{AllocError, Global};
 use wasi_addr::ErrorCode;
-use wasi_streams::{Fault, StreamError};
+use wasi_streams::{Fault, StreamError, zeros};
 use wasi_world::{Handle, Ids, Octets, World};
 
 /// Reads at most `len` bytes from an input (`input-stream.read`). No bytes: there is nothing yet,
@@ -204,17 +204,6 @@ fn flush_connection<W: World>(
     }
 }
 
-/// More than any permit.
-const MOST_ZEROS: usize = 65537;
-
-/// So many zeros, at most 65,537. Takes memory for them.
-pub(crate) fn zeros(alloc: Global, len: u64) -> Result<Octets, AllocError>
-    ensures { IfOk result (λ bytes. bytes ≡ zeros len) }
-{
-    let bytes = vec![in alloc; 0; (len as usize).min(MOST_ZEROS)]?;
-    Ok(Octets::from_vec(bytes))
-}
-
 /// Reads at most `len` bytes from an input and discards them; returns how many there were
 /// (`input-stream.skip`).
 pub fn skip<W: World>(
@@ -253,7 +242,7 @@ pub fn write_zeroes<W: World>(
     ensures kept { HostKept view.old view.new ids.old ids.new (W.seen world.old)
         (W.seen world.new) }
 {
-    let bytes = zeros(alloc, len)?;
+    let bytes = zeros(alloc, len as usize)?;
     write(view, world, ids, this, bytes)
 }
 

@@ -7,5 +7,5 @@ pub mod stream;
 
 pub use error::StreamError;
 pub use fault::{Fault, HostError};
-pub use stream::{InputStream, OutputStream, Pollable};
+pub use stream::{InputStream, OutputStream, Pollable, zeros};
 pub use wasi_world::TrapKind;

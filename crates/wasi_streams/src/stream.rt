@@ -10,8 +10,8 @@ use wasi_world::{Octets, OpId, World};
 /// More than any permit.
 const MOST_ZEROS: usize = 65537;
 
-/// So many zeros, at most 65,537. Takes memory for them.
-fn zeros(alloc: Global, size: usize) -> Result<Octets, AllocError>
+/// So many zeros, at most 65,537, which is one more than any permit. Takes memory for them.
+pub fn zeros(alloc: Global, size: usize) -> Result<Octets, AllocError>
     ensures { IfOk result (λ bytes. bytes ≡ zeros size) }
 {
     let bytes = vec![in alloc; 0; size.min(MOST_ZEROS)]?;
