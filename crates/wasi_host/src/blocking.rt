@@ -22,11 +22,11 @@ ghost use Rattle.wasi_host.specs.Views.{state_of, HostKept};
 use crate::error::CallError;
 use crate::handles;
 use crate::store::{Standing, StandingCall, Store};
-use crate::streams::{check_write, flush, read, skip, write, zeros};
+use crate::streams::{check_write, flush, read, skip, write};
 use crate::view::WasiSocketsCtxView;
 use std::alloc::{AllocError, Global};
 use wasi_records::tcp2_mut;
-use wasi_streams::Fault;
+use wasi_streams::{Fault, zeros};
 use wasi_world::{Answer, Handle, Ids, NumberList, Octets, OpId, TrapKind, World};
 
 /// How many bytes a blocking write has at most.
