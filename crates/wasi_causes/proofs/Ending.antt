@@ -17,7 +17,6 @@ use Rattle.wasi_causes.specs.Udp.{udp_given_up, udp_left}
 use Rattle.wasi_causes.proofs.GivenBack.{no_job, put_gone}
 use Rattle.wasi_host.specs.UdpCalls as calls
 use Rattle.wasi_records.specs.declared.records.Record.{Record}
-use Rattle.wasi_walks.proofs.UdpLists.{udp_set_same}
 use Rattle.wasi_causes.proofs.streams.Halves.{OutputRow, outputs}
 use Rattle.wasi_causes.proofs.tables.Meets.{Rows, Meets, ends, asks, chain, onto, told_so, widen}
 use Rattle.wasi_causes.proofs.tables.Routes.{Replied, Says, put_back, Names, its, on_record, apart, none_has}
@@ -43,6 +42,7 @@ use Rattle.memory_streams.specs.Plain.{Contents}
 use Rattle.wasi_host.specs.declared.kind.PlainInput.TheVariants as plain_input
 use Rattle.wasi_host.specs.declared.kind.PlainOutput.TheVariants as plain_output
 use Rattle.wasi_host.specs.PlainStreams.{drop_input_pipe_at, drop_output_pipe_at}
+use Rattle.wasi_walks.proofs.Places.{put_again, udp_sort}
 
 abbrev Adds : {A : Type 0} → List Entry → List Entry → Rows A
 Adds es more fs done = fs ≡ es ++ more
@@ -220,7 +220,7 @@ module _ (contexts : List WasiSocketsCtx) (m : Machine) (line c handle : ℕ) wh
       udp_gone (udp.Open o) at now e = subst (UdpLeaves (udp.Open o)) (sym e) (put_gone (without m handle) place (Record.Udp2 (udp.Closed o.inner.side)))
       udp_gone (udp.Closed side) at now e = subst (UdpLeaves (udp.Closed side)) (sym e) (put_gone (without m handle) place (Record.Udp2 (udp.Closed side)))
       udp_gone (udp.Creating create) at now e =
-          subst (UdpLeaves (udp.Creating create)) (sym e) (ap (λ (rs : List Record). let after : Machine = record (without m handle) { store = record m.store { records = rs } } in after) (udp_set_same m.store.records place (udp.Creating create) at))
+          subst (UdpLeaves (udp.Creating create)) (sym e) (ap (λ (rs : List Record). let after : Machine = record (without m handle) { store = record m.store { records = rs } } in after) (put_again udp_sort m.store.records place (udp.Creating create) at))
 
       udp_ends : (u : Udp2Socket) → udp2_at m.store.records place ≡ Some u → (es : List Entry) (done : Unit {0} × Udp2Socket) → (es ≡ udp_given_up own u) × UdpShut u done.1 → DropRow es (answered (with_store (without m handle) (at_once (udp_closed m.store place done))))
       udp_ends u at es done k =

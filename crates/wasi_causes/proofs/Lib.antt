@@ -1,5 +1,4 @@
 pub mod Words
-pub mod PipeLists
 pub mod tables
 pub mod operations
 pub mod udp_streams
@@ -13,14 +12,11 @@ pub mod Machine
 pub mod Resumes
 pub mod Slots
 pub mod GivenBack
+pub mod Derived
 pub mod Steady
-pub mod InputHandles
-pub mod PollableHandles
-pub mod UdpHandles
 pub mod UdpConnects
 pub mod StreamsLive
 pub mod StreamHandles
-pub mod PipeHandles
 pub mod Pending
 pub mod Runs
 pub mod Watching

@@ -9,7 +9,7 @@ use Rattle.wasi_world.specs.declared.ids.Ids.{Ids}
 use Rattle.wasi_causes.proofs.Words.{Answered, CallFails, CodeWord, Entry, ErrorCode, Give, HoldsCall, IfSome}
 use Rattle.wasi_causes.proofs.Words.{IsListening, IsSomeAnd, Left, List, ListenFailed, Listening, Machine, None, Option}
 use Rattle.wasi_causes.proofs.Words.{Reply, Some, Standing, StandingCall, Step, Tcp2Socket, TcpState, WasiSocketsCtx}
-use Rattle.wasi_causes.proofs.Words.{[], ap, first_state, nothing_stands, putting, refl, run, set_there, subst, sym, ℕ}
+use Rattle.wasi_causes.proofs.Words.{[], ap, first_state, nothing_stands, putting, refl, run, subst, sym, ℕ}
 use Rattle.wasi_causes.proofs.Words.{◌∙◌, ◌≡◌}
 use Rattle.wasi_causes.proofs.Runs.{fits, runs_bind}
 use Rattle.wasi_causes.proofs.Steady.{AsksToListen, runs_are_steady}
@@ -21,6 +21,7 @@ use Rattle.wasi_host.specs.Standing.{standing_as}
 use Rattle.wasi_steps.specs.declared.reply.Field.{Field}
 use Rattle.wasi_steps.specs.declared.reply.Reply.TheVariants as reply
 use Rattle.wasi_steps.specs.declared.step.Step.TheVariants as step
+use Rattle.wasi_walks.proofs.Places.{put_finds, tcp_sort}
 
 module _ (contexts : List WasiSocketsCtx) (steps : List Step) (log : List Entry) (replies : List Reply) (m : Machine) (ran : Left (run contexts [] first_state 1 steps) log (Give (replies, m))) where
   closed_so : (s : TcpState) (l : Listening) → IsBeginning l → AsksToListen s l → s ≡ state.Closed Other
@@ -30,7 +31,7 @@ module _ (contexts : List WasiSocketsCtx) (steps : List Step) (log : List Entry)
   -- while a listen is in progress
   pub begins_closed : (place : ℕ) (r : Tcp2Socket) → tcp2_at m.store.records place ≡ Some r → IsBeginning r.listening
       → r.inner.state ≡ state.Closed Other
-  begins_closed place r at begins = closed_so r.inner.state r.listening begins ((runs_are_steady contexts steps log replies m ran).records place r at).2.1
+  begins_closed place r at begins = closed_so r.inner.state r.listening begins (runs_are_steady contexts steps log replies m ran place r at).2.1
 
   -- a pending listen is one in progress
   is_begun : (s : TcpState) (l : Listening) → IsListening s l → IsBeginning l
@@ -41,7 +42,7 @@ module _ (contexts : List WasiSocketsCtx) (steps : List Step) (log : List Entry)
   left_closed : (place : ℕ) (r : Tcp2Socket) → tcp2_at m.store.records place ≡ Some r → IsBeginning r.listening
       → (after : Machine) → after ≡ putting (nothing_stands m) place (with_listening r listening.Not)
       → IsClosedByListen after place × ListensNoMore after place
-  left_closed place r at begins after left = rw left (rw (set_there m.store.records place r (with_listening r listening.Not) at) (begins_closed place r at begins, refl))
+  left_closed place r at begins after left = rw left (rw (put_finds tcp_sort m.store.records place r (with_listening r listening.Not) at) (begins_closed place r at begins, refl))
 
   -- it failed
   failed_closed : (entries : List Entry) (call : StandingCall) (place : ℕ) → call ≡ standing.Listen place

@@ -1,30 +1,25 @@
 -- Of the machines that runs lead to: the record of a pending call is there, since none is given back while a call is pending, and so is
 -- that of each job, since a record takes its jobs with it; and that of each live handle, since nothing live is of one that is gone.
-use Rattle.wasi_causes.proofs.Words.{Allows, End, Entry, Err, ErrorCode, ErrorValue, Give, Item, Kind, Left, List, Machine, None, Ok, OpId, Operation, Option, Reply, Result, Socket, Some, Standing, StandingCall, Step, Tcp2, Tcp2Socket, WasiSocketsCtx, Watched, []}
-use Rattle.wasi_causes.proofs.Words.{allows_then, ap, call_place, created_asks, first_state, give_up_asks, is_some, kind_at, length, machine_asks, make_asks, new_asks, new_record, own_of, poll_asks, refl, run, side_at, side_of, slice_get, subst, sym, told_done, true, turn_asks, with_listening, with_record, with_writer, ℕ, ⊤, ◌++◌, ◌∷◌, ◌∙◌, ◌≡◌}
+use Rattle.wasi_causes.proofs.Words.{Allows, End, Entry, Err, ErrorCode, ErrorValue, Give, Item, Kind, Left, List, Machine, None, Ok, Operation, Option, Reply, Result, Some, Standing, StandingCall, Step, Tcp2, Tcp2Socket, WasiSocketsCtx, Watched, []}
+use Rattle.wasi_causes.proofs.Words.{ap, call_place, first_state, is_some, kind_at, machine_asks, own_of, poll_asks, refl, run, slice_get, subst, sym, true, turn_asks, with_writer, ℕ, ⊤, ◌++◌, ◌∷◌, ◌∙◌, ◌≡◌}
 use Rattle.std.proofs.Common.{slice_set, suc, zero}
 use Rattle.wasi_tcp.specs.declared.listener.Accepting.TheVariants as accepting
-use Rattle.wasi_udp.specs.Create.{Create, after_create as udp_after_create, create_cancel_asks}
+use Rattle.wasi_udp.specs.Create.{Create, after_create as udp_after_create}
 use Rattle.wasi_records.specs.Records.{input_pipe_of, lookup_of, output_pipe_of, tcp2_at, tcp2_of, tcp2_put, udp2_at, udp2_of}
-use Rattle.wasi_records.specs.Udp.{udp_side}
-use Rattle.wasi_host.specs.UdpCreates.{udp_side_at}
 use Rattle.wasi_host.specs.declared.kind.Kind.TheVariants.{Incoming, Input, Lookup, Network, Outgoing, Output, PlainInput, PlainOutput, Pollable, Udp2}
 use Rattle.wasi_host.specs.declared.kind.PlainInput.TheVariants as plain_input
 use Rattle.wasi_host.specs.declared.kind.PlainOutput.TheVariants as plain_output
-use Rattle.wasi_records.specs.declared.listening.Listening.TheVariants as listening
 use Rattle.wasi_records.specs.declared.name_lookup.LookupOp.{LookupOp}
 use Rattle.wasi_records.specs.declared.records.Record.{Record}
 use Rattle.wasi_records.specs.declared.udp.Udp2Socket.{Udp2Socket}
 use Rattle.wasi_walks.proofs.fits.Law.{whatever}
 use Rattle.wasi_walks.proofs.fits.Polls.{Anything}
-use Rattle.wasi_walks.proofs.owners.Owned.{named_by, named_stays}
-use Rattle.wasi_walks.proofs.owners.There.{Stays}
-use Rattle.wasi_walks.proofs.walks.Law.{BeginsWrites, Law}
+use Rattle.wasi_walks.proofs.owners.Owned.{named_by, named_record}
 use Rattle.wasi_walks.proofs.walks.Moves as walk
 use Rattle.wasi_walks.proofs.walks.Moves.{GoesOn, Held, Here, Move, SameSockets, put, put_udp, udp_begun, with_records}
 use Rattle.wasi_walks.proofs.walks.Runs.{run_ends}
 use Rattle.wasi_walks.proofs.walks.Steps.{machine_walks}
-use Rattle.wasi_causes.proofs.Steady.{runs_stay}
+use Rattle.wasi_causes.proofs.Derived.{runs_own}
 use Rattle.wasi_causes.specs.NamedRecords.{IsGivenBack, call_names, record_named}
 use Rattle.wasi_causes.proofs.GivenBack.{no_job}
 use Rattle.wasi_causes.proofs.Words.{Bool, false, if◌then◌else◌, inl, inr, ◌⊎◌}
@@ -35,6 +30,9 @@ use Rattle.wasi_jobs.specs.declared.job.HostJob.{HostJob}
 use Rattle.wasi_jobs.specs.declared.job.HostJob.TheVariants as job
 use Rattle.wasi_walks.specs.Licence.{Has}
 use Rattle.wasi_walks.proofs.walks.Moves.{IsRecord, KeepsJobs, job_place}
+use Rattle.wasi_walks.proofs.walks.OfState.{Becomes, Created, CreatedWith, GivenUp, IsClosed, Learnt, OfState, Resolved, UdpBegun}
+use Rattle.wasi_walks.proofs.walks.OfState.{UdpGivenUp, UdpIsClosed, UdpLearnt, Writing, begins_state, of_state}
+use Rattle.wasi_walks.proofs.walks.Law.{InCall}
 
 -- == records that are there
 tcp_kept : (o : Option Record) (r : Tcp2Socket) → tcp2_of o ≡ Some r → IsRecord o
@@ -203,13 +201,6 @@ module _ (contexts : List WasiSocketsCtx) (line : ℕ) (origin : Step) where
   moves_in _ _ (walk.Lists h jobs keeps) i = (i.0, listed_in h.machine.store.records h.machine.store.jobs jobs keeps i.1)
   moves_in _ _ _ i = i
 
-  joins : (es : List Entry) (m : Machine) (op : OpId) (made : Result Socket ErrorCode) → MachineIn m → Allows Anything (λ fs done. MachineIn done.1) es (created_asks m op made)
-  joins es m op (Ok socket) i =
-      let now : Machine = record m { store = with_record m.store socket } in
-      allows_then Anything (λ fs made. ⊤) (λ fs done. MachineIn done.1) es (make_asks m.table op (Tcp2 (length m.store.records)) None (side_of socket)) _
-      (whatever (λ made. ⊤) (λ made. tt) es (make_asks m.table op (Tcp2 (length m.store.records)) None (side_of socket))) (λ fs made k. push_in m.store.records (Record.Tcp2 (new_record socket)) m.store.jobs m.store.standing i)
-  joins es m op (Err c) i = i
-
   polls_in : (h : Here) (op : Operation) (after : End × List Item → Here) → Held h op after → (end : End × List Item) → In h → In (after end)
   polls_in h _ _ (walk.BindsOn place r op q g e) end i = put_in h place _ i
   polls_in h _ _ (walk.Connects place r op g e) end i = put_in h place _ i
@@ -221,41 +212,35 @@ module _ (contexts : List WasiSocketsCtx) (line : ℕ) (origin : Step) where
   polls_in h _ _ (walk.SendsOn place o out op left g e s settles) end i = put_udp_in h place _ i
   polls_in h _ _ (walk.ReceivesOn place o inc op g e s) end i = put_udp_in h place _ i
 
-  unfoldable stands_in : Law contexts line origin
-  stands_in = record {
-    P = Anything;
-    Inv = λ es h. In h;
-    moves = λ es h now m i. moves_in h now m i;
-    asks = λ es h place n r side c at g o q i. (tt, λ told fits. i);
-    sets = λ es h place r side b at g s is i. (tt, λ told fits. i);
-    learns = λ es h place r side at g e i. (tt, λ told fits. put_in h place _ i);
-    closes = λ es h place r side q g e i. (tt, λ told fits. put_in h place _ i);
-    marks = λ es h kind parent sock m i. whatever (λ made. In (record h { machine = record h.machine { table = made.1 } })) (λ made. i) es (make_asks h.machine.table (own_of line) kind parent sock);
-    creates = λ es h ctx family c a o m i. allows_then Anything (λ fs made. ⊤) (λ fs done. In (record h { machine = done.1; own = walk.Used })) es (new_asks (own_of line) ctx family) (created_asks h.machine (own_of line)) (whatever (λ made. ⊤) (λ made. tt) es (new_asks (own_of line) ctx family)) (λ fs made k. joins fs h.machine (own_of line) made i);
-    accepted = λ es h c s place r is e o g i. whatever (λ made. In (record h { machine = record h.machine { table = made.1 }; made = walk.made_so place made.0 })) (λ made. i) es (make_asks h.machine.table (own_of line) (Tcp2 place) (Some s) (side_at (tcp2_at h.machine.store.records place)));
-    polls = λ es h op after held i. whatever (λ end. In (after end)) (λ end. polls_in h op after held end i) es (poll_asks op);
-    turns = λ es h place r s g e i. whatever (λ done. In (put h place (with_writer r s done.1))) (λ done. put_in h place _ i) es (turn_asks s.writer);
-    gives_up = λ es h place r q g i. whatever (λ done. In (put h place (with_listening r listening.Not))) (λ done. put_in h place _ i) es (give_up_asks r.listening);
-    udp_asks = λ es h place n o c at g q i. (tt, λ told fits. i);
-    udp_learns = λ es h place part o at g i. (tt, λ told fits. put_udp_in h place _ i);
-    udp_peers = λ es h place o at g i. (tt, λ told fits. put_udp_in h place _ i);
-    udp_closes = λ es h place o q g i. (tt, λ told fits. put_udp_in h place _ i);
-    udp_creates = λ es h ctx family c may t o m i. (tt, λ told fits. begun_in h (udp_after_create (own_of line) ctx.name family (told_done told)) i);
-    udp_marks = λ es h place u g i. whatever (λ made. In (record h { machine = record h.machine { table = made.1 }; made = walk.Past })) (λ made. i) es (make_asks h.machine.table (udp_side u) (Udp2 place) None (Some (udp_side u)));
-    stream_marks = λ es h place n handle reached kind next new of i. whatever (λ made. In (record h { machine = record h.machine { table = made.1 }; made = walk.ToSend n handle reached })) (λ made. i) es (make_asks h.machine.table (own_of n) kind (Some handle) (udp_side_at (udp2_at h.machine.store.records place)));
-    error_marks = λ es h n handle place handles m k e f i. whatever (λ made. In (record h { machine = record h.machine { table = made.1 } })) (λ made. i) es (make_asks h.machine.table (own_of n) ErrorValue (Some handle) (side_at (tcp2_at h.machine.store.records place)));
-    udp_gives_up = λ es h place create q g i. whatever (λ done. In (put_udp h place (Udp2Socket.Closed create.operation.who.side))) (λ done. put_udp_in h place _ i) es (create_cancel_asks create);
-    lookups = λ es h host l i. (tt, λ told fits records same. same_in h records same i);
-    looks = λ es h place op at i. (tt, λ told fits. i);
+  becomes_in : (h now : Here) → Becomes contexts line origin h now → In h → In now
+  becomes_in h _ (Learnt place r side told at g e) i = put_in h place _ i
+  becomes_in h _ (IsClosed place r side q g e) i = put_in h place _ i
+  becomes_in h _ (GivenUp place r q g) i = put_in h place _ i
+  becomes_in h _ (UdpLearnt place o socket g e) i = put_udp_in h place _ i
+  becomes_in h _ (UdpIsClosed place o q g) i = put_udp_in h place _ i
+  becomes_in h _ (UdpGivenUp place create q g) i = put_udp_in h place _ i
+  becomes_in h _ (UdpBegun ctx family r c u m) i = begun_in h (udp_after_create (own_of line) ctx.name family r) i
+  becomes_in h _ (Resolved host records l same) i = same_in h records same i
+  becomes_in h _ (Created ctx family c u m) i =
+      push_in h.machine.store.records _ h.machine.store.jobs h.machine.store.standing i
+  becomes_in h _ (CreatedWith ctx family c u m) i =
+      push_in h.machine.store.records _ h.machine.store.jobs h.machine.store.standing i
+  becomes_in h _ (Writing _ (InCall place n r s half permit bytes at g e w within used)) i = put_in h place _ i
+  becomes_in h _ _ i = i
+
+  abbrev in_state : OfState contexts line origin (λ es h. ⊤)
+  in_state = record {
+    Holds = In;
+    moves = λ es h now m b i. moves_in h now m i;
+    becomes = λ es h now k b i. becomes_in h now k i;
+    polls = λ es h op after held b i. whatever (λ end. In (after end)) (λ end. polls_in h op after held end i) es (poll_asks op);
+    turns = λ es h place r s g e b i.
+        whatever (λ done. In (put h place (with_writer r s done.1))) (λ done. put_in h place _ i) es (turn_asks s.writer);
   }
 
-  stands_begin : BeginsWrites stands_in
-  unfolding stands_in
-  stands_begin = record { begins = λ es h place n r s half permit bytes at g e w within used i. put_in h place _ i }
-
-  line_stands : (m : Machine) (es : List Entry) → MachineIn m → Allows Anything (λ fs done. MachineIn done.1) es (machine_asks contexts m line origin)
-  unfolding stands_in
-  line_stands m es i = (machine_walks line origin {law = stands_in} stands_begin m m.store.standing refl).along es i
+  line_stands : (m : Machine) (es : List Entry) → MachineIn m
+      → Allows Anything (λ fs done. MachineIn done.1) es (machine_asks contexts m line origin)
+  line_stands m es i = (machine_walks line origin {law = of_state in_state} (begins_state in_state) m m.store.standing refl).along es i
 
 -- == of a run
 -- a handle names what the law of owners says it does
@@ -286,7 +271,7 @@ same_name (Pollable Watched.Plain) = refl
 module _ (contexts : List WasiSocketsCtx) (steps : List Step) (es : List Entry) (replies : List Reply) (m : Machine) (w : Left (run contexts [] first_state 1 steps) es (Give (replies, m))) where
   pub handles_name : (handle place : ℕ) (kind : Kind) → kind_at m.table handle ≡ Some kind → record_named kind ≡ Some place → IsGivenBack m place → ⊥
   handles_name handle place kind e named gone =
-      let k = named_stays m.table m.store.records (runs_stay contexts steps es replies m w).0 handle place kind e (sym (same_name kind) ∙ named) in subst Stays gone k
+      let k = named_record m.table m.store.records (runs_own contexts steps es replies m w) handle place kind e (sym (same_name kind) ∙ named) in subst IsRecord gone k
 
   all_in : MachineIn m
   all_in = (run_ends contexts Anything (λ line fs now. MachineIn now) (λ line s now fs i. line_stands contexts line s now fs i) (tt, λ job l. absurd l) steps es replies m w).1

@@ -1,9 +1,9 @@
 -- In a run what is pending is on handles that are live and on streams that are there: a step makes
 -- datagram streams or a call of a stream pending only where it asks for the one or is the other, and while such a call is pending,
 -- nothing takes its handle away.
-use Rattle.wasi_causes.proofs.Words.{Allows, Answered, End, Entry, Err, ErrorCode, Give, IfSome, IsSome, IsSomeAnd, Item, Left, List, Machine, None, Ok, OpId, Operation, Option, Reply, Result, Some}
-use Rattle.wasi_causes.proofs.Words.{Socket, Standing, StandingCall, Step, Stop, Tcp2Socket, WasiSocketsCtx, [], allows_then, ap, arith, created_asks, eqb-true, first_ids, first_state, gives_more, is_some, kind_at, length, machine_asks, nothing_stands}
-use Rattle.wasi_causes.proofs.Words.{make_asks, new_asks, own_of, poll_asks, refl, run, subst, sym, told_done, turn_asks, give_up_asks, side_of, standing_as, stands_as, true, false, Bool, Tcp2, ℕ, ⊤, inl, inr, ◌≡◌, ◌⊎◌, ◌==◌, ◌∙◌}
+use Rattle.wasi_causes.proofs.Words.{Allows, Answered, End, Entry, Err, ErrorCode, Give, IfSome, IsSome, IsSomeAnd, Item, Left, List, Machine, None, Ok, Operation, Option, Reply, Result, Some}
+use Rattle.wasi_causes.proofs.Words.{Standing, StandingCall, Step, Tcp2Socket, WasiSocketsCtx, [], ap, arith, eqb-true, first_ids, first_state, gives_more, is_some, kind_at, length, machine_asks, nothing_stands}
+use Rattle.wasi_causes.proofs.Words.{own_of, poll_asks, refl, run, subst, sym, turn_asks, standing_as, stands_as, true, false, Bool, ℕ, ⊤, inl, inr, ◌≡◌, ◌⊎◌, ◌==◌, ◌∙◌}
 use Rattle.std.specs.Prelude.{◌≤◌, min}
 use Rattle.std.proofs.Math.Nat.{min-le_left}
 use Rattle.std.proofs.lemmas.List.{length-replicate}
@@ -12,13 +12,11 @@ use Rattle.wasi_streams.specs.Streams.{zeros}
 use Rattle.wasi_host.specs.declared.blocking.BlockingCall.{BlockingCall}
 use Rattle.wasi_host.specs.declared.blocking.BlockingCall.TheVariants as blocking
 use Rattle.wasi_host.specs.Kinds.{udp_of, input_of, is_readable, is_writable, plain_input_of}
-use Rattle.wasi_records.specs.Udp.{udp_side}
-use Rattle.wasi_host.specs.declared.kind.Kind.TheVariants.{Udp2, PlainInput}
-use Rattle.wasi_udp.specs.Create.{Create, after_create as udp_after_create, create_cancel_asks}
+use Rattle.wasi_host.specs.declared.kind.Kind.TheVariants.{PlainInput}
+use Rattle.wasi_udp.specs.Create.{Create, after_create as udp_after_create}
 use Rattle.wasi_walks.proofs.fits.Law.{whatever}
 use Rattle.wasi_walks.proofs.fits.Polls.{Anything}
-use Rattle.wasi_walks.proofs.walks.Law.{BeginsWrites, Law}
-use Rattle.wasi_walks.proofs.walks.Moves.{Numbers, AwaitsCreate, CallKind, CallsHandles, Empties, GoesOn, Held, Here, IsCall, IsStreamCall, Joins, LooksAtPollables, OfPollables, OfStreams, Leaves, Made, Move, RecallsCall, RecallsStreams, RemembersStreams, Stands, StandsBlocking, StandsDropOutgoing, StandsUdpBind, StandsUdpConnect, StandsUdpCreate, Unstands, Watches, made_so, udp_begun}
+use Rattle.wasi_walks.proofs.walks.Moves.{Numbers, AwaitsCreate, CallKind, CallsHandles, Empties, GoesOn, Held, Here, IsCall, IsStreamCall, Joins, LooksAtPollables, OfPollables, OfStreams, Leaves, Made, Move, RecallsCall, RecallsStreams, RemembersStreams, Stands, StandsBlocking, StandsDropOutgoing, StandsUdpBind, StandsUdpConnect, StandsUdpCreate, Unstands, Watches, udp_begun}
 use Rattle.wasi_walks.proofs.walks.Moves.{Awaits, BindsOn, Connects, Listens, ReceivesOn, SendsOn, UdpBindsOn, UdpConnectsOn, UdpCreates}
 use Rattle.wasi_walks.proofs.walks.Runs.{run_ends}
 use Rattle.wasi_walks.proofs.walks.Steps.{machine_walks}
@@ -39,13 +37,15 @@ use Rattle.wasi_causes.specs.Blocking.{BlockingCallStands, IsBlocking, SplicesOn
 use Rattle.wasi_causes.specs.Datagrams.{HasItsHandle, HasItsSocket, IsUdpStream, PendingHandleIsLive}
 use Rattle.wasi_causes.specs.Outcomes.{Outcome}
 use Rattle.wasi_causes.specs.Outcomes.{InputIsThere}
-use Rattle.wasi_causes.proofs.InputHandles.{HasInputs, first_inputs, input_streams_there, line_inputs}
-use Rattle.wasi_causes.proofs.PipeHandles.{HasPipes, first_pipes, line_pipes, pipe_in_of}
+use Rattle.wasi_causes.proofs.Derived.{OwnedIn, first_in, its_record, line_owned}
 use Rattle.wasi_causes.proofs.Words.{Input, Kind, asks_while, record_in, streams_in}
 use Rattle.wasi_host.specs.Blocking.{blocking_splice_when}
 use Rattle.wasi_records.specs.Records.{input_pipe_at, open_at, tcp2_at}
 use Rattle.wasi_host.specs.declared.kind.PlainInput.TheVariants as plain_input
 use Rattle.wasi_walks.specs.Missing.{MissesInputPipe}
+use Rattle.wasi_walks.proofs.walks.OfState.{Becomes, Handles, HasHandle, HasNoRoom, NoRoom, OfError, OfLine, OfState, UdpBegun, Writing, begins_state, of_state}
+use Rattle.wasi_walks.proofs.walks.Law.{InCall}
+use Rattle.wasi_walks.proofs.walks.Moves.{Past, ToSend}
 
 -- == no datagram streams, and no call that blocks, are pending
 abbrev NoStreamsIn : StandingCall → Type 0
@@ -81,11 +81,6 @@ goes_none : (call : StandingCall) (r : Tcp2Socket) → GoesOn call r → NoStrea
 goes_none (StandingCall.UdpConnect place handle) r k = k
 goes_none (StandingCall.Blocking call) r k = k
 goes_none _ r k = tt
-
--- nor does a handle of an accept
-made_none : (place : ℕ) (made : Result ℕ Stop) → MakesNone (made_so place made)
-made_none place (Ok handle) = tt
-made_none place (Err why) = tt
 
 -- nor a create
 begun_none : (h : Here) (made : Result Create ErrorCode) → NoStreams h → NoStreams (udp_begun h made)
@@ -126,51 +121,40 @@ module _ (contexts : List WasiSocketsCtx) (line : ℕ) (origin : Step) (plain : 
   polled_none h _ _ (SendsOn place o out op left g e s settles) end i = i
   polled_none h _ _ (ReceivesOn place o inc op g e s) end i = i
 
-  -- a create leaves pending what was
-  joins : (es : List Entry) (m : Machine) (op : OpId) (made : Result Socket ErrorCode) → NoStreamsStand m.store.standing → Allows Anything (λ fs done. NoStreamsStand done.1.store.standing) es (created_asks m op made)
-  joins es m op (Ok socket) i =
-      allows_then Anything (λ fs made. ⊤) (λ fs done. NoStreamsStand done.1.store.standing) es (make_asks m.table op (Tcp2 (length m.store.records)) None (side_of socket)) _
-      (whatever (λ made. ⊤) (λ made. tt) es (make_asks m.table op (Tcp2 (length m.store.records)) None (side_of socket))) (λ fs made k. i)
-  joins es m op (Err c) i = i
+  -- what is made is no call on handles
+  handles_none : (h : Here) (kind : Kind) (parent : Option ℕ) (made : Made) → Handles origin h kind parent made
+      → MakesNone h.made
+      → MakesNone made
+  handles_none h _ _ _ (OfLine kind parent sock m) i = i
+  handles_none h _ _ _ (OfError n handle place handles m k e) i = i
+  handles_none h _ _ _ _ i = tt
+
+  no_room : (made : Made) → HasNoRoom made → MakesNone made
+  no_room Past none = tt
+  no_room (ToSend n handle reached) none = tt
+  no_room _ none = absurd none
+
+  becomes_none : (h now : Here) → Becomes contexts line origin h now → NoStreams h → NoStreams now
+  becomes_none h _ (UdpBegun ctx family r c u m) i = begun_none h (udp_after_create (own_of line) ctx.name family r) i
+  becomes_none h _ (HasHandle kind parent made k) i = (i.0, handles_none h kind parent made k i.1)
+  becomes_none h _ (NoRoom made none) i = (i.0, no_room made none)
+  becomes_none h _ (Writing _ (InCall place n r s half permit bytes at g e w within used)) i = i
+  becomes_none h _ _ i = i
 
   -- the law of it
-  unfoldable none_pending : Law contexts line origin
+  abbrev none_pending : OfState contexts line origin (λ es h. ⊤)
   none_pending = record {
-    P = Anything;
-    Inv = λ es h. NoStreams h;
-    moves = λ es h now m i. moves_none h now m i;
-    asks = λ es h place n r side c at g o q i. (tt, λ told fits. i);
-    sets = λ es h place r side b at g s is i. (tt, λ told fits. i);
-    learns = λ es h place r side at g e i. (tt, λ told fits. i);
-    closes = λ es h place r side q g e i. (tt, λ told fits. i);
-    marks = λ es h kind parent sock m i. whatever (λ made. NoStreams h) (λ made. i) es (make_asks h.machine.table (own_of line) kind parent sock);
-    creates = λ es h ctx family c a o m i. allows_then Anything (λ fs made. ⊤) (λ fs done. NoStreamsStand done.1.store.standing × MakesNone h.made) es (new_asks (own_of line) ctx family) (created_asks h.machine (own_of line)) (whatever (λ made. ⊤) (λ made. tt) es (new_asks (own_of line) ctx family)) (λ fs made k. gives_more (λ gs done. NoStreamsStand done.1.store.standing) (λ gs done. NoStreamsStand done.1.store.standing × MakesNone h.made) (λ gs done s. (s, i.1)) fs (created_asks h.machine (own_of line) made) (joins fs h.machine (own_of line) made i.0));
-    accepted = λ es h c s place r is e o g i. whatever (λ made. NoStreamsStand h.machine.store.standing × MakesNone (made_so place made.0)) (λ made. (i.0, made_none place made.0)) es (make_asks h.machine.table (own_of line) (Tcp2 place) (Some s) _);
-    polls = λ es h op after held i. whatever (λ end. NoStreams (after end)) (λ end. polled_none h op after held end i) es (poll_asks op);
-    turns = λ es h place r s g e i. whatever (λ done. NoStreams h) (λ done. i) es (turn_asks s.writer);
-    gives_up = λ es h place r q g i. whatever (λ done. NoStreams h) (λ done. i) es (give_up_asks r.listening);
-    udp_asks = λ es h place n o c at g q i. (tt, λ told fits. i);
-    udp_learns = λ es h place part o at g i. (tt, λ told fits. i);
-    udp_peers = λ es h place o at g i. (tt, λ told fits. i);
-    udp_closes = λ es h place o q g i. (tt, λ told fits. i);
-    udp_creates = λ es h ctx family c may t o m i. (tt, λ told fits. begun_none h (udp_after_create (own_of line) ctx.name family (told_done told)) i);
-    udp_marks = λ es h place u g i. whatever (λ made. NoStreamsStand h.machine.store.standing × ⊤) (λ made. (i.0, tt)) es (make_asks h.machine.table (udp_side u) (Udp2 place) None (Some (udp_side u)));
-    stream_marks = λ es h place n handle reached kind next new of i. whatever (λ made. NoStreamsStand h.machine.store.standing × ⊤) (λ made. (i.0, tt)) es (make_asks h.machine.table (own_of n) kind (Some handle) _);
-    error_marks = λ es h n handle place handles made k e f i. absurd (subst MakesNone made i.1);
-    udp_gives_up = λ es h place create q g i. whatever (λ done. NoStreams h) (λ done. i) es (create_cancel_asks create);
-    lookups = λ es h host l i. (tt, λ told fits records same. i);
-    looks = λ es h place op at i. (tt, λ told fits. i);
+    Holds = NoStreams;
+    moves = λ es h now m b i. moves_none h now m i;
+    becomes = λ es h now k b i. becomes_none h now k i;
+    polls = λ es h op after held b i.
+        whatever (λ end. NoStreams (after end)) (λ end. polled_none h op after held end i) es (poll_asks op);
+    turns = λ es h place r s g e b i. whatever (λ done. NoStreams h) (λ done. i) es (turn_asks s.writer);
   }
-
-  -- a write that begins in a call of streams
-  none_begins : BeginsWrites none_pending
-  unfolding none_pending
-  none_begins = record { begins = λ es h place n r s half permit bytes at g e w within used i. i }
 
   -- so it holds of what the line leaves
   stays_none : (m : Machine) → NoStreamsStand m.store.standing → Allows Anything (λ fs done. NoStreamsStand done.1.store.standing) [] (machine_asks contexts m line origin)
-  unfolding none_pending
-  stays_none m i = gives_more (λ fs done. NoStreamsStand done.1.store.standing × ⊤) (λ fs done. NoStreamsStand done.1.store.standing) (λ fs done k. k.0) [] (machine_asks contexts m line origin) ((machine_walks line origin {law = none_pending} none_begins m m.store.standing refl).along [] (i, tt))
+  stays_none m i = gives_more (λ fs done. NoStreamsStand done.1.store.standing × ⊤) (λ fs done. NoStreamsStand done.1.store.standing) (λ fs done k. k.0) [] (machine_asks contexts m line origin) ((machine_walks line origin {law = of_state none_pending} (begins_state none_pending) m m.store.standing refl).along [] (i, tt))
 
 -- == of a step
 of_none : (m : Machine) (o : Option Standing) → NoStreamsStand o → IfSome o (λ s. HasItsHandle m s.call)
@@ -227,12 +211,12 @@ few_zeros : (len : ℕ) → len ≤ 4096 → length (zeros len) ≤ 4096
 few_zeros len few = let k = length-replicate {A = ℕ} (min len 65537) 0 in let l = min-le_left len 65537 in omega (arith, k, l, few)
 
 -- each live input is there
-pub inputs_are_there : (m : Machine) → HasInputs m → HasPipes m → (handle : ℕ) → InputIsThere m handle
-inputs_are_there m inputs pipes handle readable missing = by_kind (kind_at m.table handle) refl readable missing.0 missing.1
+pub inputs_are_there : (m : Machine) → OwnedIn m → (handle : ℕ) → InputIsThere m handle
+inputs_are_there m i handle readable missing = by_kind (kind_at m.table handle) refl readable missing.0 missing.1
   where
     by_kind : (k : Option Kind) → kind_at m.table handle ≡ k → is_readable k ≡ true → streams_in (record_in m (input_of k)) ≡ None → MissesInputPipe m (plain_input_of k) → ⊥
-    by_kind (Some (Input place)) e r none pipe = let has : IsSome (streams_in (tcp2_at m.store.records place)) = input_streams_there m handle place inputs e in absurd (cc)
-    by_kind (Some (PlainInput (plain_input.Pipe place))) e r none pipe = let has : is_some (input_pipe_at m.store.records place) ≡ true = pipes.1.inputs handle place (ap pipe_in_of e) in absurd (cc)
+    by_kind (Some (Input place)) e r none pipe = let has : IsSome (streams_in (tcp2_at m.store.records place)) = its_record m i handle place (Input place) e (inr refl) in absurd (cc)
+    by_kind (Some (PlainInput (plain_input.Pipe place))) e r none pipe = let has : is_some (input_pipe_at m.store.records place) ≡ true = its_record m i handle place (PlainInput (plain_input.Pipe place)) e (inl refl) in absurd (cc)
     by_kind (Some (PlainInput plain_input.Closed)) e r none pipe = pipe
     by_kind _ e r none pipe = absurd (cc)
 
@@ -322,12 +306,6 @@ module _ (contexts : List WasiSocketsCtx) (m : Machine) (line : ℕ) (inputs : (
 
   -- and so does each step
   module _ (es : List Entry) (r : Reply) (after : Machine) where
-    abbrev WellAfter : Step → Type 0
-    WellAfter s = (IsHeldUp contexts m line s → ⊥) → Outcome contexts m line s es r after → PendingHandleIsLive after
-
-    abbrev FreeAfter : Step → Type 0
-    FreeAfter s = (IsHeldUp contexts m line s → ⊥) → Answered contexts m line s es r after → after.store.standing ≡ None
-
     spliced_well : (c to from len : ℕ) → m.store.standing ≡ None → Answered contexts m line (step.BlockingSplice c to from len) es r after → (reads : Bool) → is_readable (kind_at m.table from) ≡ reads → SplicesOn contexts m c (first_ids line) to from len es r after → PendingHandleIsLive after
     spliced_well c to from len none w true e goes = splice_live contexts c (first_ids line) m to from len es r after none (inputs from e) goes
     spliced_well c to from len none w false e goes =
@@ -377,17 +355,17 @@ module _ (contexts : List WasiSocketsCtx) (m : Machine) (line : ℕ) (inputs : (
   lasts s = by_left (machine_asks contexts m line s) (λ es done w. by_answer s es done.0 done.1 w (answers contexts m line s es done.0 done.1 w) (λ p. met {a = done} (record { along = stays_none contexts line s p.0 m p.1 }) w))
 
 -- == of a run
--- what is pending is well, and each live input is there
+-- what is pending is well, and what each live handle is of is there
 abbrev pub Holds : Machine → Type 0
-Holds m = PendingHandleIsLive m × (HasInputs m × HasPipes m)
+Holds m = PendingHandleIsLive m × OwnedIn m
 
 line_holds : (contexts : List WasiSocketsCtx) (line : ℕ) (s : Step) (m : Machine) (es : List Entry) → Holds m → Allows Anything (λ fs done. Holds done.1) es (machine_asks contexts m line s)
 line_holds contexts line s m es h =
-    (both (widen (λ gs done k. k.row h.0) (shifted es (lasts contexts m line (inputs_are_there m h.1.0 h.1.1) s)))
-    (both (record { along = line_inputs contexts line s m es h.1.0 }) (record { along = line_pipes contexts line s m es h.1.1 }))).along
+    (both (widen (λ gs done k. k.row h.0) (shifted es (lasts contexts m line (inputs_are_there m h.1) s)))
+    (record { along = line_owned contexts line s m es h.1 })).along
 
 pub runs_hold : (contexts : List WasiSocketsCtx) (steps : List Step) (es : List Entry) (replies : List Reply) (m : Machine) → Left (run contexts [] first_state 1 steps) es (Give (replies, m)) → Holds m
-runs_hold contexts steps es replies m w = (run_ends contexts Anything (λ line fs now. Holds now) (λ line s now fs h. line_holds contexts line s now fs h) (tt, (first_inputs, first_pipes)) steps es replies m w).1
+runs_hold contexts steps es replies m w = (run_ends contexts Anything (λ line fs now. Holds now) (λ line s now fs h. line_holds contexts line s now fs h) (tt, first_in) steps es replies m w).1
 
 -- so datagram streams that are pending have their handle
 pub runs_keep_sockets : (m : Machine) → PendingHandleIsLive m → IfSome m.store.standing (λ s. HasItsSocket m s.call)

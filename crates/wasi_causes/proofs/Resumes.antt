@@ -46,7 +46,6 @@ use Rattle.wasi_records.specs.declared.udp.UdpInProgress.{UdpInProgress}
 use Rattle.wasi_records.specs.declared.udp.UdpInProgress.TheVariants as doing
 use Rattle.wasi_udp.specs.Bind.{IsBind as IsUdpBind}
 use Rattle.wasi_udp.specs.Create.{Create, made_by, with_left}
-use Rattle.wasi_walks.proofs.UdpLists.{udp_set_there}
 use Rattle.wasi_walks.specs.Waiting.{CreateFailed, CreateWaits, IsCreating, IsRestOfUdpConnect, IsUdpBinding, IsUdpConnecting, UdpConnectFailed, UdpConnectWaits, UdpBindFailed, UdpBindFails, UdpBindWaits}
 use Rattle.wasi_records.specs.declared.listening.Listening.TheVariants as listening
 use Rattle.wasi_host.specs.declared.pending.Outcome.{Outcome as Given}
@@ -59,6 +58,7 @@ use Rattle.wasi_tcp.specs.Listen.{is_over as listen_over}
 use Rattle.wasi_world.specs.declared.call.Call.TheVariants as call
 use Rattle.wasi_world.specs.declared.call.HandleKind.TheVariants as name
 use Rattle.wasi_world.specs.declared.call.Told.TheVariants as told
+use Rattle.wasi_walks.proofs.Places.{put_finds, udp_sort}
 
 -- it gives nothing where it is done
 abbrev pub IsOfNoCreate : StandingCall → Type 0
@@ -260,7 +260,7 @@ module _ (contexts : List WasiSocketsCtx) (m : Machine) (line : ℕ) (ids : Ids)
       made_so = record m { store = with_udp free place (opened_udp (made_by create)) }
 
       there : udp2_at made_so.store.records place ≡ Some (opened_udp (made_by create))
-      there = udp_set_there m.store.records place (udp.Creating create) (opened_udp (made_by create)) at
+      there = put_finds udp_sort m.store.records place (udp.Creating create) (opened_udp (made_by create)) at
 
       abbrev mark : Entry
       mark = entry create.operation.who.side (call.Made m.table.next name.Udp2 None (Some create.operation.who.side)) told.Done

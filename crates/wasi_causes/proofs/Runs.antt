@@ -1,18 +1,15 @@
 -- Of the machines that runs lead to: what a socket connects by is a connect, what a listener accepts by an accept, what is
 -- pending as a bind is a bind, as a listen a listen, and as a create a create; each live handle is of a record that is there, a
 -- connect in progress may be finished, and a socket that does nothing yet doesn't listen.
-use Rattle.wasi_records.specs.Records.{tcp2_at, open_at, open_of, lookup_at}
+use Rattle.wasi_records.specs.Records.{tcp2_at, udp2_at, open_at, open_of}
 use Rattle.wasi_host.specs.declared.kind.Kind.TheVariants.{Udp2, Lookup, Incoming, Outgoing, PlainInput, PlainOutput, Network, ErrorValue}
 use Rattle.wasi_host.specs.Kinds.{lookup_of}
 use Rattle.wasi_host.specs.Machine.{lookup_number}
-use Rattle.wasi_records.specs.declared.name_lookup.Lookup.{Lookup as NameLookup}
 use Rattle.wasi_walks.specs.Answered.{lookup_in}
-use Rattle.wasi_causes.proofs.Words.{is_some}
 use Rattle.wasi_causes.specs.Lookups.{found_lookup}
 use Rattle.wasi_records.specs.declared.udp.OpenUdp.{OpenUdp}
 use Rattle.wasi_records.specs.declared.udp.Udp2Socket.{Udp2Socket}
 use Rattle.wasi_records.specs.declared.udp.UdpInProgress.{UdpInProgress}
-use Rattle.wasi_walks.proofs.walks.Moves.{udp_record_of}
 use Rattle.wasi_causes.specs.Udp.{IsPendingCreate}
 use Rattle.wasi_walks.specs.Waiting.{IsCreating, IsUdpBinding}
 use Rattle.wasi_records.specs.declared.binding.InProgress.TheVariants.{Binding}
@@ -38,9 +35,9 @@ use Rattle.wasi_walks.proofs.fits.Law.{Fit, begins_fit, fits_along}
 use Rattle.wasi_walks.proofs.fits.Lines.{first_fit, starts_fit}
 use Rattle.wasi_walks.proofs.fits.Polls.{Anything}
 use Rattle.wasi_walks.proofs.fits.Records.{FitListening, FitProgress, FitRecord, FitCall, FitUdpProgress}
-use Rattle.wasi_walks.proofs.walks.Moves.{HasBinding, HasListen, record_of}
+use Rattle.wasi_walks.proofs.walks.Moves.{HasBinding, HasListen}
 use Rattle.wasi_walks.proofs.walks.Runs.{run_ends}
-use Rattle.wasi_walks.proofs.walks.States.{Over, socket_record}
+use Rattle.wasi_walks.proofs.walks.States.{Over}
 use Rattle.wasi_walks.proofs.walks.Steps.{may_while, machine_walks}
 use Rattle.wasi_walks.specs.Answered.{AllOf, ConnectsOn}
 use Rattle.wasi_walks.specs.Listens.{RefusedListen}
@@ -52,7 +49,6 @@ use Rattle.wasi_steps.specs.declared.reply.Reply.TheVariants as reply
 use Rattle.wasi_steps.specs.declared.step.Step.TheVariants as step
 use Rattle.wasi_tcp.specs.declared.socket.TcpState.TheVariants as state
 use Rattle.wasi_causes.proofs.Pending.{Holds, inputs_are_there, runs_hold, runs_keep_sockets}
-use Rattle.wasi_causes.proofs.PipeHandles.{HasPipes, pipe_in_of, pipe_out_of}
 use Rattle.wasi_world.specs.declared.ids.Ids.{Ids}
 use Rattle.wasi_host.specs.declared.blocking.BlockingCall.{BlockingCall}
 use Rattle.wasi_host.specs.Polling.{are_pollables}
@@ -63,7 +59,10 @@ use Rattle.wasi_causes.specs.Blocking.{IsCallOfStream, StreamCallStands}
 use Rattle.wasi_causes.specs.PollableCalls.{WatchedAreThere}
 use Rattle.wasi_host.specs.declared.kind.PlainInput.TheVariants as plain_input
 use Rattle.wasi_host.specs.declared.kind.PlainOutput.TheVariants as plain_output
-use Rattle.wasi_causes.proofs.Steady.{AsksToConnect, AsksToListen, IsThere, IsUdpThere, Steady, lookup_record_of, runs_are_steady}
+use Rattle.wasi_causes.proofs.Steady.{AsksToConnect, AsksToListen, Steady, runs_are_steady}
+use Rattle.wasi_causes.proofs.Derived.{OwnedIn, its_record, watched_record}
+use Rattle.wasi_causes.proofs.Words.{streams_in}
+use Rattle.wasi_host.specs.Kinds.{place_of}
 use Rattle.wasi_causes.specs.Datagrams.{HasItsHandle, HasItsSocket, LacksRoomForStreams, PendingHandleIsLive}
 use Rattle.wasi_world.specs.declared.outcome.TrapKind.TheVariants.{Capacity, StreamsAlive, EmptyList, TooLong}
 use Rattle.wasi_walks.proofs.fits.Records.{FitConnecting}
@@ -106,7 +105,7 @@ module _ (m : Machine) (P : Tcp2Socket → Type 0) (so : (place : ℕ) (r : Tcp2
   of_watched None = tt
   of_watched (Some w) = at_place (place_in w) (tcp2_at m.store.records (place_in w)) refl
 
-module _ (m : Machine) (f : Fit (Over m)) (i : Steady m) where
+module _ (m : Machine) (f : Fit (Over m)) (i : Steady m.store.records) where
   binds_so : (r : Tcp2Socket) (doing : InProgress) → r.in_progress ≡ doing → FitRecord r → HasBinding doing → IsBinding doing
   binds_so r (Binding op) e k b = (subst (FitProgress r.inner.state) e k.2).1
   binds_so r _ e k b = absurd b
@@ -115,7 +114,7 @@ module _ (m : Machine) (f : Fit (Over m)) (i : Steady m) where
   by_call (standing.Bind place) h = subst (λ (o : Option Tcp2Socket). IfSome o (λ r. IsBinding r.in_progress)) (sym h.at) (binds_so h.was h.was.in_progress refl (f.records place h.was h.at) h.goes)
   by_call (standing.Listen place) h =
       subst (λ (o : Option Tcp2Socket). IfSome o (λ r. IsListening r.inner.state r.listening)) (sym h.at)
-      (listens_so h.was.inner.state h.was.listening (f.records place h.was h.at).1 (i.records place h.was h.at).2.1 h.goes)
+      (listens_so h.was.inner.state h.was.listening (f.records place h.was h.at).1 (i place h.was h.at).2.1 h.goes)
   by_call (standing.DropOutput place) h = tt
   by_call (standing.UdpCreate place) h = subst (λ (o : Option Udp2Socket). IfSome o IsCreating) (sym h.at) (f.udps place (Udp2Socket.Creating h.was) h.at)
   by_call (standing.UdpBind place) h =
@@ -131,59 +130,61 @@ module _ (m : Machine) (f : Fit (Over m)) (i : Steady m) where
   stands_by None h = tt
   stands_by (Some s) h = by_call s.call (h s refl)
 
-module _ (m : Machine) (i : Steady m) (pipes : HasPipes m) where
-  has_record : (place : ℕ) → IsThere m.store.records place → HasRecord m place
-  has_record place (r, g) = subst IsSome (sym g) refl
+-- what a handle needs of its record is more than that it is there
+with_streams : (o : Option Tcp2Socket) → IsSome (streams_in o) → IsSome o
+with_streams (Some r) s = refl
+with_streams None s = s
 
-  has_udp : (place : ℕ) → IsUdpThere m.store.records place → HasUdpRecord m place
-  has_udp place (u, g) = subst IsSome (sym g) refl
+with_open : (o : Option Udp2Socket) → IsSome (open_of o) → IsSome o
+with_open (Some u) s = refl
+with_open None s = s
+
+module _ (m : Machine) (i : OwnedIn m) where
+  tcp_there : (place : ℕ) → IsSome (streams_in (tcp2_at m.store.records place)) → HasRecord m place
+  tcp_there place names = with_streams (tcp2_at m.store.records place) names
+
+  udp_there : (place : ℕ) → IsSome (open_at m.store.records place) → HasUdpRecord m place
+  udp_there place names = with_open (udp2_at m.store.records place) names
 
   of_its_record : (handle : ℕ) (kind : Kind) → kind_at m.table handle ≡ Some kind → OfItsRecord m kind
-  of_its_record handle (Tcp2 place) e = has_record place (i.handles handle place (ap record_of e))
-  of_its_record handle (Input place) e = has_record place (i.handles handle place (ap record_of e))
-  of_its_record handle (Output place) e = has_record place (i.handles handle place (ap record_of e))
-  of_its_record handle (Udp2 place) e = has_udp place (i.udps handle place (ap udp_record_of e))
-  of_its_record handle (Incoming place) e = has_udp place (i.udps handle place (ap udp_record_of e))
-  of_its_record handle (Outgoing place) e = has_udp place (i.udps handle place (ap udp_record_of e))
-  of_its_record handle (Pollable (Watched.Incoming place)) e = has_udp place (i.udps handle place (ap udp_record_of e))
-  of_its_record handle (Pollable (Watched.Outgoing place)) e = has_udp place (i.udps handle place (ap udp_record_of e))
-  of_its_record handle (Pollable (Watched.Udp place)) e = has_udp place (i.udps handle place (ap udp_record_of e))
-  of_its_record handle (Lookup place) e = i.lookups handle place (ap lookup_record_of e)
-  of_its_record handle (Pollable (Watched.Lookup place)) e = i.lookups handle place (ap lookup_record_of e)
-  of_its_record handle (Pollable (Watched.Socket place)) e = has_record place (i.handles handle place (ap record_of e))
-  of_its_record handle (Pollable (Watched.Input place)) e = has_record place (i.handles handle place (ap record_of e))
-  of_its_record handle (Pollable (Watched.Output place)) e = has_record place (i.handles handle place (ap record_of e))
-  of_its_record handle (PlainInput (plain_input.Pipe place)) e = pipes.1.inputs handle place (ap pipe_in_of e)
-  of_its_record handle (PlainOutput (plain_output.Pipe place)) e = pipes.1.outputs handle place (ap pipe_out_of e)
+  of_its_record handle (Tcp2 place) e = its_record m i handle place (Tcp2 place) e (inl refl)
+  of_its_record handle (Input place) e = tcp_there place (its_record m i handle place (Input place) e (inr refl))
+  of_its_record handle (Output place) e = tcp_there place (its_record m i handle place (Output place) e (inr refl))
+  of_its_record handle (Udp2 place) e = udp_there place (its_record m i handle place (Udp2 place) e (inl refl))
+  of_its_record handle (Incoming place) e = udp_there place (its_record m i handle place (Incoming place) e (inr refl))
+  of_its_record handle (Outgoing place) e = udp_there place (its_record m i handle place (Outgoing place) e (inr refl))
+  of_its_record handle (Lookup place) e = its_record m i handle place (Lookup place) e (inl refl)
+  of_its_record handle (PlainInput (plain_input.Pipe place)) e = its_record m i handle place (PlainInput (plain_input.Pipe place)) e (inl refl)
+  of_its_record handle (PlainOutput (plain_output.Pipe place)) e = its_record m i handle place (PlainOutput (plain_output.Pipe place)) e (inl refl)
+  of_its_record handle (Pollable (Watched.Socket place)) e = watched_record m i handle place (Watched.Socket place) e refl
+  of_its_record handle (Pollable (Watched.Input place)) e = tcp_there place (watched_record m i handle place (Watched.Input place) e refl)
+  of_its_record handle (Pollable (Watched.Output place)) e = tcp_there place (watched_record m i handle place (Watched.Output place) e refl)
+  of_its_record handle (Pollable (Watched.Udp place)) e = udp_there place (watched_record m i handle place (Watched.Udp place) e refl)
+  of_its_record handle (Pollable (Watched.Incoming place)) e = udp_there place (watched_record m i handle place (Watched.Incoming place) e refl)
+  of_its_record handle (Pollable (Watched.Outgoing place)) e = udp_there place (watched_record m i handle place (Watched.Outgoing place) e refl)
+  of_its_record handle (Pollable (Watched.Lookup place)) e = watched_record m i handle place (Watched.Lookup place) e refl
+  of_its_record handle (Pollable Watched.Plain) e = tt
   of_its_record handle (PlainInput plain_input.Closed) e = tt
   of_its_record handle (PlainOutput plain_output.Sink) e = tt
   of_its_record handle (PlainOutput plain_output.Closed) e = tt
-  of_its_record handle (Pollable Watched.Plain) e = tt
   of_its_record handle Network e = tt
   of_its_record handle ErrorValue e = tt
 
-module _ (m : Machine) (i : Steady m) where
-  not_none : (place : ℕ) → IsThere m.store.records place → tcp2_at m.store.records place ≡ None → ⊥
-  not_none place (r, g) e = absurd (cc)
-
+  -- a handle of a socket has its record
   is_no_socket : (handle : ℕ) → record_at m handle ≡ None → socket_at m handle ≡ None
-  is_no_socket handle e = by_place (socket_at m handle) refl e
+  is_no_socket handle none = by_kind (kind_at m.table handle) refl none
     where
-      by_place : (o : Option ℕ) → socket_at m handle ≡ o → record_in m o ≡ None → o ≡ None
-      by_place None q k = refl
-      by_place (Some place) q k = absurd (not_none place (i.handles handle place (socket_record (kind_at m.table handle) place q)) k)
+      by_kind : (o : Option Kind) → kind_at m.table handle ≡ o → record_in m (place_of o) ≡ None → place_of o ≡ None
+      by_kind (Some (Tcp2 place)) e none = absurd (let there = of_its_record handle (Tcp2 place) e in cc)
+      by_kind _ e none = refl
 
   -- and a handle of a lookup has it
   no_lookup_missing : (handle : ℕ) → found_lookup m handle ≡ None → lookup_number m handle ≡ None
-  no_lookup_missing handle e = by_place (lookup_number m handle) refl e
+  no_lookup_missing handle none = by_kind (kind_at m.table handle) refl none
     where
-      its_record : (k : Option Kind) (place : ℕ) → lookup_of k ≡ Some place → lookup_record_of k ≡ Some place
-      its_record (Some (Lookup p)) place q = q
-      its_record _ place q = absurd (cc)
-
-      by_place : (o : Option ℕ) → lookup_number m handle ≡ o → lookup_in m o ≡ None → o ≡ None
-      by_place None q k = refl
-      by_place (Some place) q k = let there : is_some (lookup_at m.store.records place) ≡ true = i.lookups handle place (its_record (kind_at m.table handle) place q) in let gone : is_some (lookup_at m.store.records place) ≡ false = ap (λ (o : Option NameLookup). is_some o) k in absurd (cc)
+      by_kind : (o : Option Kind) → kind_at m.table handle ≡ o → lookup_in m (lookup_of o) ≡ None → lookup_of o ≡ None
+      by_kind (Some (Lookup place)) e none = absurd (let there = of_its_record handle (Lookup place) e in cc)
+      by_kind _ e none = refl
 
 -- a pending call is in progress in its record, if it is of one, and on its streams
 module _ (m : Machine) (f : Fit (Over m)) (well : PendingHandleIsLive m) where
@@ -233,19 +234,16 @@ module _ (contexts : List WasiSocketsCtx) (steps : List Step) (es : List Entry) 
   run_live = run_well
 
   pub runs_have_inputs : (handle : ℕ) → InputIsThere m handle
-  runs_have_inputs = inputs_are_there m run_holds.1.0 run_holds.1.1
+  runs_have_inputs = inputs_are_there m run_holds.1
 
   pub run_socket : IfSome m.store.standing (λ s. HasItsSocket m s.call)
   run_socket = runs_keep_sockets m run_well
 
-  run_pipes : HasPipes m
-  run_pipes = run_holds.1.1
-
-  run_steady : Steady m
+  run_steady : Steady m.store.records
   run_steady = runs_are_steady contexts steps es replies m w
 
   connects_there : (place : ℕ) (r : Tcp2Socket) → tcp2_at m.store.records place ≡ Some r → ConnectsOn r.inner.state
-  connects_there place r g = connects_so r.inner.state (fits.records place r g).0 (run_steady.records place r g).2.0
+  connects_there place r g = connects_so r.inner.state (fits.records place r g).0 (run_steady place r g).2.0
 
   accepts_there : (place : ℕ) (r : Tcp2Socket) → tcp2_at m.store.records place ≡ Some r → AcceptsIn r.listening
   accepts_there place r g = accepts_so r.listening (fits.records place r g).1
@@ -266,26 +264,26 @@ module _ (contexts : List WasiSocketsCtx) (steps : List Step) (es : List Entry) 
   runs_bind = stands_by m fits run_steady m.store.standing fits.stands
 
   pub runs_have_records : (handle : ℕ) (kind : Kind) → kind_at m.table handle ≡ Some kind → OfItsRecord m kind
-  runs_have_records = of_its_record m run_steady run_pipes
+  runs_have_records = of_its_record m run_holds.1
 
   pub runs_miss_no_record : (handle : ℕ) → record_at m handle ≡ None → socket_at m handle ≡ None
-  runs_miss_no_record = is_no_socket m run_steady
+  runs_miss_no_record = is_no_socket m run_holds.1
 
   pub runs_miss_no_lookup : (handle : ℕ) → found_lookup m handle ≡ None → lookup_number m handle ≡ None
-  runs_miss_no_lookup = no_lookup_missing m run_steady
+  runs_miss_no_lookup = no_lookup_missing m run_holds.1
 
   pub runs_stand_on_records : (n : ℕ) → StandsOnNothing m n → ⊥
   runs_stand_on_records = stands_on m fits run_well
 
   pub runs_may_finish : (place : ℕ) (r : Tcp2Socket) → tcp2_at m.store.records place ≡ Some r → is_connect r.in_progress ≡ true → MayFinish r.inner.state
-  runs_may_finish place r g = (run_steady.records place r g).0
+  runs_may_finish place r g = (run_steady place r g).0
 
   pub runs_listen_late : (place : ℕ) (r : Tcp2Socket) → tcp2_at m.store.records place ≡ Some r → ListensLate r
-  runs_listen_late place r g = (run_steady.records place r g).1
+  runs_listen_late place r g = (run_steady place r g).1
 
   pub finishes_refused_in_runs : (line ctx handle : ℕ) (entries : List Entry) (word : CodeWord) (after : Machine) → Answered contexts m line (step.TcpFinishConnect ctx handle) entries (reply.Err word) after → RefusedOf m handle (FinishRefusal m) entries word after
   finishes_refused_in_runs line ctx handle entries word after a =
-      (its_own contexts m line (step.TcpFinishConnect ctx handle) entries (reply.Err word) after a (λ e. cc)).1.1.cause (runs_connect handle) (of_record m Finishes (λ place r g. (run_steady.records place r g).0) (socket_at m handle))
+      (its_own contexts m line (step.TcpFinishConnect ctx handle) entries (reply.Err word) after a (λ e. cc)).1.1.cause (runs_connect handle) (of_record m Finishes (λ place r g. (run_steady place r g).0) (socket_at m handle))
 
   pub listens_refused_in_runs : (line ctx handle : ℕ) (entries : List Entry) (word : CodeWord) (after : Machine) → Answered contexts m line (step.TcpStartListen ctx handle) entries (reply.Err word) after → RefusedListen m (own_of line) handle entries word after
   listens_refused_in_runs line ctx handle entries word after a = (its_own contexts m line (step.TcpStartListen ctx handle) entries (reply.Err word) after a (λ e. cc)).1.1.0 (of_record m ListensLate runs_listen_late (socket_at m handle))

@@ -1,40 +1,38 @@
 -- Of the machines that runs lead to: a live incoming datagram stream has its stream in the record of an open UDP socket, no other
 -- handle of that record is one, and a socket whose connect is in progress has no streams.
-use Rattle.wasi_causes.proofs.Words.{Allows, End, Entry, Err, ErrorCode, ErrorValue, Give, HandleTable, Input, Item, Kind, Left, List, Machine, None, Ok, OpId, Operation, Option, Output, Reply, Result, Socket, Some, StandingCall, Step, Stop, Tcp2, Tcp2Socket, WasiSocketsCtx, []}
-use Rattle.wasi_causes.proofs.Words.{allows_then, created_asks, first_state, gives_more, give_up_asks, inl, inr, is_some, kind_at, length, machine_asks, make_asks, new_asks, new_record, own_of, poll_asks, refl, run, side_at, side_of, standing_as, subst, sym, told_done, false, turn_asks, with_listening, with_writer, ℕ, ◌≡◌, ◌⊎◌}
+use Rattle.wasi_causes.proofs.Words.{End, Entry, ErrorValue, HandleTable, Input, Item, Kind, List, Machine, None, OpId, Operation, Option, Output, Some, StandingCall, Step, Tcp2, Tcp2Socket, WasiSocketsCtx}
+use Rattle.wasi_causes.proofs.Words.{first_state, inl, inr, is_some, length, new_record, own_of, poll_asks, refl, standing_as, subst, sym, false, turn_asks, with_writer, ℕ, ◌≡◌, ◌⊎◌}
 use Rattle.std.specs.Prelude.{◌||◌}
 use Rattle.wasi_table.specs.Table.{Live}
 use Rattle.wasi_tcp.specs.declared.listener.Accepting.TheVariants as accepting
-use Rattle.wasi_udp.specs.Create.{after_create as udp_after_create, create_cancel_asks}
+use Rattle.wasi_udp.specs.Create.{after_create as udp_after_create}
 use Rattle.wasi_records.specs.Datagrams.{has_streams}
-use Rattle.wasi_records.specs.Records.{tcp2_at, tcp2_put, tcp2_pushed, udp2_at}
-use Rattle.wasi_records.specs.Udp.{udp_side}
+use Rattle.wasi_records.specs.Records.{tcp2_put, tcp2_pushed, udp2_at}
 use Rattle.wasi_records.specs.declared.datagrams.Incoming.{Incoming as IncomingStream}
 use Rattle.wasi_records.specs.declared.datagrams.Outgoing.{Outgoing as OutgoingStream}
 use Rattle.wasi_host.specs.declared.kind.Kind.TheVariants.{Incoming, Udp2}
-use Rattle.wasi_records.specs.declared.listening.Listening.TheVariants as listening
 use Rattle.wasi_records.specs.declared.records.Record.{Record}
 use Rattle.wasi_records.specs.declared.udp.OpenUdp.{OpenUdp}
 use Rattle.wasi_records.specs.declared.udp.Udp2Socket.{Udp2Socket}
 use Rattle.wasi_walks.specs.Licence.{Has}
 use Rattle.wasi_walks.proofs.fits.Law.{whatever}
-use Rattle.wasi_walks.proofs.fits.Polls.{Anything}
 use Rattle.wasi_walks.proofs.received.Handles.{AreUnder, begun_same, moves_under, polled_same}
-use Rattle.wasi_walks.proofs.walks.Begins.{begins_stand}
-use Rattle.wasi_walks.proofs.walks.Law.{BeginsWrites, Law}
-use Rattle.wasi_walks.proofs.walks.OnBase.{Above, stand}
+use Rattle.wasi_walks.proofs.walks.Law.{BeginsWrites, InCall, Law}
 use Rattle.wasi_walks.proofs.walks.Moves as walk
 use Rattle.wasi_walks.proofs.walks.Moves.{Found, FoundUdp, GoesOn, NoStartIn, NoStartStands, HasNewStream, Held, Here, KeepsStreams, Made, Marks, MarksNext, Move, Own, Past, SameSockets, ToSend, made_so, put, put_udp, udp_begun}
-use Rattle.wasi_walks.proofs.walks.Runs.{run_ends}
 use Rattle.wasi_walks.proofs.walks.States.{Over, Starts}
-use Rattle.wasi_walks.proofs.walks.Steps.{machine_walks, may_while}
 use Rattle.wasi_causes.proofs.GivenBack.{open_stays}
-use Rattle.wasi_causes.proofs.Slots.{slot_of}
 use Rattle.wasi_causes.proofs.Steady.{IsPlain, makes_plain}
-use Rattle.wasi_causes.proofs.UdpHandles as udp
 use Rattle.wasi_causes.proofs.UdpConnects.{HasConnects, Quiet, connects, connects_begin, first_connects, starts_with}
-use Rattle.wasi_causes.proofs.UdpHandles.{HasUdps, Udps, first_udps, udps_begin, udps_there}
-use Rattle.wasi_causes.proofs.StreamsLive.{Both, HasIncoming, IsOther, CallSo, MadeSo, Parts, StandsSo, Streams, begun, changed, connect_keeps, emptied, found, has_none, makes_left, mark_next, mark_other, mark_so, not_yet, push_tcp, put_none, put_open, put_tcp, remade, restood, stay, taken}
+use Rattle.wasi_causes.proofs.StreamsLive.{Both, HasIncoming, IsOther, CallSo, MadeSo, Parts, StandsSo, Streams, begun, changed, connect_keeps, emptied, found, has_none, makes_left, has_next, has_other, has_handle, not_yet, push_tcp, put_none, put_open, put_tcp, remade, restood, stay, taken}
+use Rattle.wasi_walks.proofs.walks.OfState.{Becomes, Created, CreatedWith, GivenUp, Handles, HasHandle, HasNoRoom, IsClosed, Learnt, NoRoom}
+use Rattle.wasi_walks.proofs.walks.OfState.{OfAccepted, OfCreated, OfError, OfLine, OfState, OfStream, Resolved, UdpBegun, UdpGivenUp, UdpIsClosed, UdpLearnt, Writing, begins_state, of_state}
+use Rattle.wasi_walks.proofs.walks.Layers.{begins_layer, begins_over, begins_stand, layer, over, stand}
+use Rattle.wasi_walks.proofs.owners.Law.{Owns, owners, owners_begin}
+use Rattle.wasi_walks.proofs.owners.Owned as owned
+use Rattle.wasi_walks.proofs.owners.Owned.{stream_place}
+use Rattle.wasi_causes.proofs.Derived.{OwnedIn, first_in}
+use Rattle.wasi_causes.proofs.Words.{ap, new_socket, with_handle, with_record}
 
 -- == what is live
 -- A live incoming stream is there, and is one of its own; a socket whose connect is in progress has no streams.
@@ -43,12 +41,9 @@ pub record StreamsApart (t : HandleTable) (records : List Record) : Type 0 where
   pub single : (a b : Live Kind) (place : ℕ) → Has t.live a → Has t.live b → a.value ≡ Incoming place → b.value ≡ Incoming place → a.handle ≡ b.handle
   pub quiet : (place : ℕ) (o : OpenUdp) (op : Operation) → udp2_at records place ≡ Some (Udp2Socket.Open o) → o.connecting ≡ Some op → (o.incoming ≡ None) × (o.outgoing ≡ None)
 
-abbrev pub HasStreamsApart : Machine → Type 0
-HasStreamsApart m = StreamsApart m.table m.store.records
-
 -- with what it rests on
 abbrev pub Apart : Here → Type 0
-Apart h = (Udps h × Quiet h) × Both h
+Apart h = (Owns h × Quiet h) × Both h
 
 no_streams : (o : OpenUdp) → has_streams o ≡ false → (o.incoming ≡ None) × (o.outgoing ≡ None)
 no_streams o e = by_streams o.incoming o.outgoing e
@@ -65,7 +60,7 @@ goes_so t (StandingCall.UdpConnect place handle) r k = absurd k
 goes_so t _ r k = tt
 
 module _ (contexts : List WasiSocketsCtx) (line : ℕ) (origin : Step) where
-  moves_apart : (h now : Here) → Move line origin h now → Parts h → Parts now
+  pub moves_apart : (h now : Here) → Move line origin h now → Parts h → Parts now
   moves_apart _ _ (walk.Changes h place r now g p) i = put_tcp h place r g now i
   moves_apart _ _ (walk.ClosesReader h place r s g e) i = put_tcp h place r g _ i
   moves_apart _ _ (walk.Writes h place r s w g e m) i = put_tcp h place r g _ i
@@ -126,18 +121,7 @@ module _ (contexts : List WasiSocketsCtx) (line : ℕ) (origin : Step) where
   is_other h kind _ _ (walk.APlain _ makes numbered) = plain_other kind (makes_plain origin kind makes)
   is_other h _ _ _ _ = tt
 
-  joins : (es : List Entry) (h : Here) (made : Result Socket ErrorCode) → h.made ≡ Past → Both h → Allows Anything (λ fs done. Both (record h { machine = done.1; own = Own.Used })) es (created_asks h.machine (own_of line) made)
-  joins es h (Err c) past i = i
-  joins es h (Ok socket) past i =
-      let next : Here = record h { machine = record h.machine { store = record h.machine.store { records = tcp2_pushed h.machine.store.records (new_record socket) } } } in
-      allows_then Anything (λ fs made. Both (record next { machine = record next.machine { table = made.1 } })) (λ fs done. Both (record h { machine = done.1; own = Own.Used })) es (make_asks h.machine.table (own_of line) (Tcp2 (length h.machine.store.records)) None (side_of socket)) _
-      (mark_other es next (own_of line) (Tcp2 (length h.machine.store.records)) None (side_of socket) tt (push_tcp h.machine.table h.machine.store.records (new_record socket) h.made h.machine.store.standing i.0, i.1)) (λ fs made k. k)
-
-  accepted_so : (t : HandleTable) (place : ℕ) (made : Result ℕ Stop) → MadeSo t (made_so place made)
-  accepted_so t place (Ok handle) = tt
-  accepted_so t place (Err why) = tt
-
-  polls_apart : (h : Here) (op : Operation) (after : End × List Item → Here) → Held h op after → (end : End × List Item) → Parts h → Parts (after end)
+  pub polls_apart : (h : Here) (op : Operation) (after : End × List Item → Here) → Held h op after → (end : End × List Item) → Parts h → Parts (after end)
   polls_apart h _ _ (walk.BindsOn place r op q g e) end i = put_tcp h place r g _ i
   polls_apart h _ _ (walk.Connects place r op g e) end i = put_tcp h place r g _ i
   polls_apart h _ _ (walk.Listens place r op q g e c) end i = put_tcp h place r g _ i
@@ -148,74 +132,100 @@ module _ (contexts : List WasiSocketsCtx) (line : ℕ) (origin : Step) where
   polls_apart h _ _ (walk.SendsOn place o out op left g e s settles) end i = put_open h place o _ g (λ e. e) i
   polls_apart h _ _ (walk.ReceivesOn place o inc op g e s) end i = put_open h place o _ g (λ e. refl) i
 
-  -- the law: the calls may be any
-  unfoldable aparts : Above contexts line origin (λ es h. Udps h × Quiet h)
-  aparts = record {
-    P = Anything;
-    Inv = λ es h. Both h;
+  -- a handle is made
+  handles_apart : (h : Here) (kind : Kind) (parent : Option ℕ) (made : Made) → Handles origin h kind parent made
+      → Both h
+      → Both (record h { machine = record h.machine { table = with_handle h.machine.table kind parent }; made = made })
+  handles_apart h _ _ _ (OfLine kind parent sock m) i = has_other h kind parent (is_other h kind parent sock m) i
+  handles_apart h _ _ _ (OfAccepted c s place r is e o g) i =
+      has_handle h (Tcp2 place) (Some s) (Made.Marked h.machine.table.next place) tt tt tt i
+  handles_apart h _ _ _ (OfCreated place u g) i = has_handle h (Udp2 place) None Past tt tt tt i
+  handles_apart h _ _ _ (OfStream place n handle reached kind next new of) i =
+      has_next h n handle reached new place kind next of i
+  handles_apart h _ _ _ (OfError n handle place handles m k e) i = has_other h ErrorValue (Some handle) tt i
+
+  no_room : (h : Here) (made : Made) → HasNoRoom made → Both h → Both (record h { made = made })
+  no_room h Past none i =
+      (remade _ _ h.made Past _ tt i.0, record { older = i.1.older; makes = tt; stands = i.1.stands })
+  no_room h (ToSend n handle reached) none i = (
+    remade _ _ h.made (ToSend n handle reached) _ tt i.0,
+    record { older = i.1.older; makes = tt; stands = i.1.stands },
+  )
+  no_room h _ none i = absurd none
+
+  -- a socket is created
+  created : (h : Here) (new : Tcp2Socket) → Both h
+      → Both (record h { machine = record h.machine { store = record h.machine.store { records = tcp2_pushed h.machine.store.records new } } })
+  created h new i = (push_tcp h.machine.table h.machine.store.records new h.made h.machine.store.standing i.0, i.1)
+
+  pub becomes_apart : (es : List Entry) (h now : Here) → Becomes contexts line origin h now → Owns h × Quiet h
+      → Both h → Both now
+  becomes_apart es h _ (Learnt place r side told at g e) b i = (put_tcp h place r g _ i.0, i.1)
+  becomes_apart es h _ (IsClosed place r side q g e) b i = (put_tcp h place r g _ i.0, i.1)
+  becomes_apart es h _ (GivenUp place r q g) b i = (put_tcp h place r g _ i.0, i.1)
+  becomes_apart es h _ (UdpLearnt place o socket g e) b i = (put_open h place o _ g (λ e. e) i.0, i.1)
+  becomes_apart es h _ (UdpIsClosed place o q g) b i =
+      let none = subst (owned.MadeSo h.machine.table h.machine.store.records) q.1 b.0.1 place refl in
+      (put_none h place (Udp2Socket.Closed o.inner.side) (λ a l e. none a l (inr (ap stream_place e))) i.0, i.1)
+  becomes_apart es h _ (UdpGivenUp place create q g) b i =
+      (put_none h place (Udp2Socket.Closed create.operation.who.side) (not_yet h place create g i.0) i.0, i.1)
+  becomes_apart es h _ (UdpBegun ctx family r c u m) b i =
+      let made = udp_after_create (own_of line) ctx.name family r in
+      (begun h made i.0, begun_same (λ t made standing. AreUnder t made standing) h made i.1)
+  becomes_apart es h _ (Resolved host records l same) b i = (found h records same i.0, i.1)
+  becomes_apart es h _ (HasHandle kind parent made k) b i = handles_apart h kind parent made k i
+  becomes_apart es h _ (NoRoom made none) b i = no_room h made none i
+  becomes_apart es h _ (Created ctx family c u m) b i = created h _ i
+  becomes_apart es h _ (CreatedWith ctx family c u m) b i =
+      let new = new_record (new_socket (own_of line) ctx.name family) in
+      let now : Here = record h { machine = record h.machine { store = with_record h.machine.store (new_socket (own_of line) ctx.name family) } } in
+      has_other now (Tcp2 (length h.machine.store.records)) None tt (created h new i)
+  becomes_apart es h _ (Writing _ (InCall place n r s half permit bytes at g e w within used)) b i = (put_tcp h place r g _ i.0, i.1)
+
+  abbrev apart_state : OfState contexts line origin (λ es h. Owns h × Quiet h)
+  apart_state = record {
+    Holds = Both;
     moves = λ es h now m b i. (moves_apart h now m i.0, moves_under h now m i.1);
-    asks = λ es h place n r side c at g o q b i. (tt, λ told fits. i);
-    sets = λ es h place r side backlog at g s is b i. (tt, λ told fits. i);
-    learns = λ es h place r side at g e b i. (tt, λ told fits. (put_tcp h place r g _ i.0, i.1));
-    closes = λ es h place r side q g e b i. (tt, λ told fits. (put_tcp h place r g _ i.0, i.1));
-    marks = λ es h kind parent sock m b i. mark_other es h (own_of line) kind parent sock (is_other h kind parent sock m) i;
-    creates = λ es h ctx family c a o m b i.
-        allows_then Anything (λ fs made. Both h) (λ fs done. Both (record h { machine = done.1; own = Own.Used })) es (new_asks (own_of line) ctx family) (created_asks h.machine (own_of line)) (whatever (λ made. Both h) (λ made. i) es (new_asks (own_of line) ctx family))
-        (λ fs made k. joins fs h made m k);
-    accepted = λ es h c s place r is e o g b i. mark_so es h (own_of line) (Tcp2 place) (Some s) _ tt (made_so place) tt tt tt tt i;
-    polls = λ es h op after held b i. whatever (λ end. Both (after end)) (λ end. (polls_apart h op after held end i.0, polled_same (λ t made standing. AreUnder t made standing) h op after held end i.1)) es (poll_asks op);
-    turns = λ es h place r s g e b i. whatever (λ done. Both (put h place (with_writer r s done.1))) (λ done. (put_tcp h place r g _ i.0, i.1)) es (turn_asks s.writer);
-    gives_up = λ es h place r q g b i. whatever (λ done. Both (put h place (with_listening r listening.Not))) (λ done. (put_tcp h place r g _ i.0, i.1)) es (give_up_asks r.listening);
-    udp_asks = λ es h place n o c at g q b i. (tt, λ told fits. i);
-    udp_learns = λ es h place part o at g b i. (tt, λ told fits. (put_open h place o _ g (λ e. e) i.0, i.1));
-    udp_peers = λ es h place o at g b i. (tt, λ told fits. (put_open h place o _ g (λ e. e) i.0, i.1));
-    udp_closes = λ es h place o q g b i. (tt, λ told fits. (put_none h place (Udp2Socket.Closed o.inner.side) (let none = subst (udp.MadeSo h.machine.table) q.1 b.0.1 in λ a l e. none a l (inr e)) i.0, i.1));
-    udp_creates = λ es h ctx family c may t o m b i. (tt, λ told fits. let made = udp_after_create (own_of line) ctx.name family (told_done told) in (begun h made i.0, begun_same (λ t made standing. AreUnder t made standing) h made i.1));
-    udp_marks = λ es h place u g b i. mark_so es h (udp_side u) (Udp2 place) None (Some (udp_side u)) tt (λ made. Past) tt tt tt tt i;
-    stream_marks = λ es h place n handle reached kind next new of b i. mark_next es h place n handle reached kind next new of _ i;
-    error_marks = λ es h n handle place handles m k e f b i. mark_other es h (own_of n) ErrorValue (Some handle) (side_at (tcp2_at h.machine.store.records place)) tt i;
-    udp_gives_up = λ es h place create q g b i. whatever (λ done. Both (put_udp h place (Udp2Socket.Closed create.operation.who.side))) (λ done. (put_none h place (Udp2Socket.Closed create.operation.who.side) (not_yet h place create g i.0) i.0, i.1)) es (create_cancel_asks create);
-    lookups = λ es h host l b i. (tt, λ told fits records same. (found h records same i.0, i.1));
-    looks = λ es h place op at b i. (tt, λ told fits. i);
+    becomes = becomes_apart;
+    polls = λ es h op after held b i.
+        let under = polled_same (λ t made standing. AreUnder t made standing) h op after held in
+        whatever (λ end. Both (after end)) (λ end. (polls_apart h op after held end i.0, under end i.1)) es
+        (poll_asks op);
+    turns = λ es h place r s g e b i.
+        whatever (λ done. Both (put h place (with_writer r s done.1))) (λ done. (put_tcp h place r g _ i.0, i.1)) es (turn_asks s.writer);
   }
 
   -- the three as one law
-  unfoldable streams_there : Law contexts line origin
-  unfolding udps_there connects stand
-  streams_there = stand (stand (udps_there contexts line origin) (connects contexts line origin)) aparts
-
-  streams_begin : BeginsWrites streams_there
-  unfolding streams_there udps_there connects aparts stand
-  streams_begin =
-      begins_stand (stand (udps_there contexts line origin) (connects contexts line origin)) aparts (begins_stand (udps_there contexts line origin) (connects contexts line origin) (udps_begin contexts line origin) (connects_begin contexts line origin))
-      (record { begins = λ es h place n r s half permit bytes at g e w within used b i. (put_tcp h place r g _ i.0, i.1) })
+  unfoldable below : Law contexts line origin
+  unfolding owners connects
+  below = layer (owners contexts line origin) (over (λ es h b. tt) (connects contexts line origin))
 
   -- for laws that rest on it
-  pub streams_law : Law contexts line origin
-  unfolding streams_there
-  streams_law = streams_there
+  unfoldable pub streams_law : Law contexts line origin
+  unfolding below owners connects
+  streams_law = stand below (of_state apart_state)
 
   pub apart_in : (es : List Entry) (h : Here) → streams_law.Inv es h → Apart h
-  unfolding streams_law streams_there udps_there connects aparts stand
+  unfolding streams_law below owners connects
   apart_in es h i = i
 
   pub in_apart : (es : List Entry) (h : Here) → Apart h → streams_law.Inv es h
-  unfolding streams_law streams_there udps_there connects aparts stand
+  unfolding streams_law below owners connects
   in_apart es h i = i
 
   pub streams_law_begins : BeginsWrites streams_law
-  unfolding streams_law
-  streams_law_begins = streams_begin
-
-  -- what it says of a line
-  streams_along : (m : Machine) (es : List Entry) → Apart (Starts m (may_while m origin m.store.standing)) → Allows Anything (λ fs done. Apart (Over done.1)) es (machine_asks contexts m line origin)
-  unfolding streams_there udps_there connects aparts stand
-  streams_along m es i = (machine_walks line origin {law = streams_there} streams_begin m m.store.standing refl).along es i
+  unfolding streams_law below owners connects
+  streams_law_begins =
+      let lower =
+      begins_layer (owners contexts line origin) (over (λ es h b. tt) (connects contexts line origin))
+      (owners_begin contexts line origin)
+      (begins_over (λ es h b. tt) (connects contexts line origin) (connects_begin contexts line origin)) in
+      begins_stand below (of_state apart_state) lower (begins_state apart_state)
 
 -- == of a run
--- what holds between the lines: of UDP sockets, of connects, and of incoming streams and the call that is pending
+-- what holds between the lines: of handles, of connects, and of incoming streams and the call that is pending
 abbrev pub HasStreams : Machine → Type 0
-HasStreams m = (HasUdps m × HasConnects m) × (Streams m.table m.store.records Past m.store.standing × AreUnder m.table Past m.store.standing)
+HasStreams m = (OwnedIn m × HasConnects m) × (Streams m.table m.store.records Past m.store.standing × AreUnder m.table Past m.store.standing)
 
 -- so it is where a line begins, and where it is over
 pub streams_start : (m : Machine) (own : Own) → HasStreams m → Apart (Starts m own)
@@ -224,26 +234,10 @@ streams_start m own i = (((i.0.0, tt), (starts_with m.store.records m.store.stan
 pub streams_over : (m : Machine) → Apart (Over m) → HasStreams m
 streams_over m i = ((i.0.0.0, i.0.1.0), i.1)
 
-pub line_streams : (contexts : List WasiSocketsCtx) (line : ℕ) (s : Step) (m : Machine) (es : List Entry) → HasStreams m → Allows Anything (λ fs done. HasStreams done.1) es (machine_asks contexts m line s)
-line_streams contexts line s m es i =
-    gives_more (λ fs done. Apart (Over done.1)) (λ fs done. HasStreams done.1) (λ fs done k. streams_over done.1 k) es (machine_asks contexts m line s)
-    (streams_along contexts line s m es (streams_start m (may_while m s m.store.standing) i))
-
 pub first_streams : HasStreams first_state
-first_streams = ((first_udps, first_connects), (record { apart = record { there = λ a place l e. absurd l; single = λ a b place l m d e. absurd l }; makes = tt; stands = tt }, record { older = λ k kind e. absurd (cc); makes = tt; stands = tt }))
+first_streams = ((first_in, first_connects), (record { apart = record { there = λ a place l e. absurd l; single = λ a b place l m d e. absurd l }; makes = tt; stands = tt }, record { older = λ k kind e. absurd (cc); makes = tt; stands = tt }))
 
 -- == what it says
 -- within a line
 pub apart_here : (h : Here) → Apart h → StreamsApart h.machine.table h.machine.store.records
 apart_here h i = record { there = i.1.0.apart.there; single = i.1.0.apart.single; quiet = λ place o op at c. no_streams o (i.0.1.0.quiet place o op at c) }
-
--- between the lines
-pub streams_apart : (m : Machine) → HasStreams m → HasStreamsApart m
-streams_apart m i = record { there = i.1.0.apart.there; single = i.1.0.apart.single; quiet = λ place o op at c. no_streams o (i.0.1.quiet place o op at c) }
-
-pub runs_keep_streams_apart : (contexts : List WasiSocketsCtx) (steps : List Step) (es : List Entry) (replies : List Reply) (m : Machine) → Left (run contexts [] first_state 1 steps) es (Give (replies, m)) → HasStreamsApart m
-runs_keep_streams_apart contexts steps es replies m w = streams_apart m (run_ends contexts Anything (λ line fs now. HasStreams now) (λ line s now fs i. line_streams contexts line s now fs i) first_streams steps es replies m w).1
-
--- a handle of an incoming stream that is live has its stream
-pub incoming_is_there : (m : Machine) (handle place : ℕ) → HasStreamsApart m → kind_at m.table handle ≡ Some (Incoming place) → HasIncoming m.store.records place
-incoming_is_there m handle place i e = let s = slot_of m.table.live handle (Incoming place) e in i.there s.slot place s.live_one s.value

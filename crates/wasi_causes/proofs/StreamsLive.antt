@@ -1,8 +1,8 @@
 -- The handles of incoming datagram streams: what is live has its stream in the record of an open UDP socket, and no other handle of
 -- that record is one. While a line makes the streams of a socket, or a pending call is to, none of them has its handle. It is kept where
 -- records change, and where handles are made and taken out.
-use Rattle.wasi_causes.proofs.Words.{Allows, End, Entry, Err, ErrorCode, Full, HandleTable, Item, Kind, List, None, Ok, OpId, Operation, Option, Result, Some, Standing, StandingCall, Stop, Tcp2Socket, Trap}
-use Rattle.wasi_causes.proofs.Words.{allows_if, ap, bind, inl, inr, is_full, is_some, kind_at, make_asks, own_of, refl, subst, sym, true, false, with_handle, without_handle, ℕ, ⊤, ◌∙◌, ◌≡◌, ◌⊎◌}
+use Rattle.wasi_causes.proofs.Words.{End, Err, ErrorCode, HandleTable, Item, Kind, List, None, Ok, Operation, Option, Result, Some, Standing, StandingCall, Tcp2Socket}
+use Rattle.wasi_causes.proofs.Words.{ap, inl, inr, is_some, kind_at, refl, subst, sym, true, false, with_handle, without_handle, ℕ, ⊤, ◌∙◌, ◌≡◌, ◌⊎◌}
 use Rattle.wasi_table.specs.Table.{Live}
 use Rattle.wasi_udp.specs.Create.{Create}
 use Rattle.wasi_world.specs.Operation.{Done, Refused, Waits}
@@ -16,11 +16,10 @@ use Rattle.wasi_records.specs.declared.records.Record.{Record}
 use Rattle.wasi_records.specs.declared.udp.OpenUdp.{OpenUdp}
 use Rattle.wasi_records.specs.declared.udp.Udp2Socket.{Udp2Socket}
 use Rattle.wasi_walks.specs.Licence.{Has}
-use Rattle.wasi_walks.proofs.UdpLists.{udp_front, udp_in_push, udp_in_put, udp_set_get}
-use Rattle.wasi_walks.proofs.fits.Polls.{Anything}
 use Rattle.wasi_walks.proofs.received.Handles.{MakesUnder, Under, makes_more, under_so}
 use Rattle.wasi_walks.proofs.walks.Moves.{Found, FoundUdp, NoStartIn, NoStartStands, HasNewStream, Here, Made, MarksNext, SameSockets, ToSend, put, put_udp, udp_begun}
 use Rattle.wasi_causes.proofs.Slots.{SlotOf, has_without, is_another, new_slot, one_of, slot_of, value_of}
+use Rattle.wasi_walks.proofs.Places.{push_still, put_stays, put_still, tcp_sort, udp_sort}
 
 -- == what is live
 -- The record is that of an open UDP socket, whose incoming stream is there.
@@ -86,10 +85,10 @@ pub restood : (t : HandleTable) (records : List Record) (made : Made) (was stand
 restood t records made was standing so i = record { apart = i.apart; makes = i.makes; stands = so }
 
 pub put_tcp : (h : Here) (place : ℕ) (r : Tcp2Socket) → Found h place r → (now : Tcp2Socket) → Parts h → Parts (put h place now)
-put_tcp h place r g now i = stay h.machine.table _ _ h.made h.machine.store.standing (λ a k l e has. record { socket = has.socket; at = udp_in_put h.machine.store.records place r now k _ g has.at; stream = has.stream; has = has.has }) i
+put_tcp h place r g now i = stay h.machine.table _ _ h.made h.machine.store.standing (λ a k l e has. record { socket = has.socket; at = put_still tcp_sort udp_sort (λ t. refl) h.machine.store.records place r now k _ g has.at; stream = has.stream; has = has.has }) i
 
 pub push_tcp : (t : HandleTable) (records : List Record) (new : Tcp2Socket) (made : Made) (standing : Option Standing) → Streams t records made standing → Streams t (tcp2_pushed records new) made standing
-push_tcp t records new made standing i = stay t _ _ made standing (λ a k l e has. record { socket = has.socket; at = udp_in_push records new k _ has.at; stream = has.stream; has = has.has }) i
+push_tcp t records new made standing i = stay t _ _ made standing (λ a k l e has. record { socket = has.socket; at = push_still tcp_sort udp_sort records new k _ has.at; stream = has.stream; has = has.has }) i
 
 -- where a stream of it is live, the record keeps that
 module _ (h : Here) (place : ℕ) (now : Udp2Socket) where
@@ -100,7 +99,7 @@ module _ (h : Here) (place : ℕ) (now : Udp2Socket) where
   put_by keeps i = stay h.machine.table _ _ h.made h.machine.store.standing still i
     where
       still : Stays h.machine.table h.machine.store.records (udp2_put h.machine.store.records place now)
-      still a k l e has = elim (udp_set_get h.machine.store.records place now k (Udp2Socket.Open has.socket) has.at) [
+      still a k l e has = elim (put_stays udp_sort h.machine.store.records place now k (Udp2Socket.Open has.socket) has.at) [
         | inl same ↦ record { socket = has.socket; at = same; stream = has.stream; has = has.has }
         | inr its ↦ (let q = keeps a l (subst (λ (x : ℕ). a.value ≡ Incoming x) its.0 e) (subst (HasIncoming h.machine.store.records) its.0 has) in let s = some_is q.0.incoming q.1.1 in record { socket = q.0; at = its.1 ∙ ap (λ (u : Udp2Socket). Some u) q.1.0; stream = s.0; has = s.1 })
       ]
@@ -130,7 +129,7 @@ has_none h place o g none i a l e =
     absurd (cc)
 
 pub begun : (h : Here) (made : Result Create ErrorCode) → Parts h → Parts (udp_begun h made)
-begun h (Ok create) i = stay h.machine.table _ _ h.made h.machine.store.standing (λ a k l e has. record { socket = has.socket; at = udp_front h.machine.store.records (Udp2Socket.Creating create) k _ has.at; stream = has.stream; has = has.has }) i
+begun h (Ok create) i = stay h.machine.table _ _ h.made h.machine.store.standing (λ a k l e has. record { socket = has.socket; at = push_still udp_sort udp_sort h.machine.store.records (Udp2Socket.Creating create) k _ has.at; stream = has.stream; has = has.has }) i
 begun h (Err c) i = i
 
 -- other lookups, whichever
@@ -200,57 +199,55 @@ module _ (t : HandleTable) (place : ℕ) (parent : Option ℕ) (none : NoIncomin
     single = λ a b k l m d e. single_now records i a b k (one_of t (Incoming place) parent a l) (one_of t (Incoming place) parent b m) d e;
   }
 
-module _ (es : List Entry) (h : Here) (op : OpId) (kind : Kind) (parent : Option ℕ) (sock : Option OpId) (other : IsOther kind) where
-  abbrev pub fuller : HandleTable
+abbrev pub with_one : Here → Kind → Option ℕ → Made → Here
+with_one h kind parent made = record h { machine = record h.machine { table = with_handle h.machine.table kind parent }; made = made }
+
+module _ (h : Here) (kind : Kind) (parent : Option ℕ) where
+  abbrev fuller : HandleTable
   fuller = with_handle h.machine.table kind parent
 
   -- with what the line has made afterwards
-  pub mark_so : (so : Result ℕ Stop → Made) → MadeSo h.machine.table (so (Err (Trap Full))) → MakesUnder h.machine.table (so (Err (Trap Full))) → MadeSo fuller (so (Ok h.machine.table.next)) → MakesUnder fuller (so (Ok h.machine.table.next)) → Both h
-      → Allows Anything (λ fs made. Both (record h { machine = record h.machine { table = made.1 }; made = so made.0 })) es (make_asks h.machine.table op kind parent sock)
-  unfolding bind
-  mark_so so full under_full room under_room i =
-      allows_if Anything (λ fs made. Both (record h { machine = record h.machine { table = made.1 }; made = so made.0 })) es (is_full h.machine.table) _ _
-      (λ no. (remade h.machine.table h.machine.store.records h.made (so (Err (Trap Full))) h.machine.store.standing full i.0, record { older = i.1.older; makes = under_full; stands = i.1.stands }))
-      (λ free. (tt, λ told f. (made_other h.machine.table kind parent other h.machine.store.records h.made (so (Ok h.machine.table.next)) h.machine.store.standing room i.0, under_so h.machine.table kind parent (so (Ok h.machine.table.next)) h.machine.store.standing i.1.older under_room i.1.stands)))
+  pub has_handle : (made : Made) → IsOther kind → MadeSo fuller made → MakesUnder fuller made → Both h
+      → Both (with_one h kind parent made)
+  has_handle made other so under i = (
+    made_other h.machine.table kind parent other h.machine.store.records h.made made h.machine.store.standing so i.0,
+    under_so h.machine.table kind parent made h.machine.store.standing i.1.older under i.1.stands,
+  )
 
-  pub mark_other : Both h → Allows Anything (λ fs made. Both (record h { machine = record h.machine { table = made.1 } })) es (make_asks h.machine.table op kind parent sock)
-  mark_other i = mark_so (λ made. h.made) i.0.makes i.1.makes (makes_still h.machine.table kind parent other h.made i.0.makes) (makes_more h.machine.table kind parent h.made i.1.makes) i
+  pub has_other : IsOther kind → Both h → Both (with_one h kind parent h.made)
+  has_other other i = has_handle h.made other (makes_still h.machine.table kind parent other h.made i.0.makes) (makes_more h.machine.table kind parent h.made i.1.makes) i
 
 -- that of a new stream, which the handle is of
-module _ (es : List Entry) (h : Here) (n handle reached : ℕ) (sock : Option OpId) (new : HasNewStream h.machine.store reached) where
-  no_start : (t : HandleTable) (standing : Option Standing) → NoStartStands standing → StandsSo t standing
-  no_start t None q = tt
-  no_start t (Some s) q = by_call s.call q
-    where
-      by_call : (call : StandingCall) → NoStartIn call → CallSo t call
-      by_call (StandingCall.UdpConnect place handle) q = absurd q
-      by_call _ q = tt
+no_start : (t : HandleTable) (standing : Option Standing) → NoStartStands standing → StandsSo t standing
+no_start t None q = tt
+no_start t (Some s) q = by_call s.call q
+  where
+    by_call : (call : StandingCall) → NoStartIn call → CallSo t call
+    by_call (StandingCall.UdpConnect place handle) q = absurd q
+    by_call _ q = tt
 
-  mark_new : NoIncoming h.machine.table reached → Both h → Allows Anything (λ fs made. Both (record h { machine = record h.machine { table = made.1 }; made = ToSend n handle reached })) es (make_asks h.machine.table (own_of n) (Incoming reached) (Some handle) sock)
-  unfolding bind
-  mark_new none i =
-      allows_if Anything (λ fs made. Both (record h { machine = record h.machine { table = made.1 }; made = ToSend n handle reached })) es (is_full h.machine.table) _ _
-      (λ no. (remade h.machine.table h.machine.store.records h.made (ToSend n handle reached) h.machine.store.standing tt i.0, record { older = i.1.older; makes = tt; stands = i.1.stands }))
-      (λ free. (
-        tt,
-        λ told f. (
-          record {
-            apart = made_new h.machine.table reached (Some handle) none h.machine.store.records (record { socket = new.socket; at = new.at; stream = _; has = new.new }) i.0.apart;
-            makes = tt;
-            stands = no_start (with_handle h.machine.table (Incoming reached) (Some handle)) h.machine.store.standing new.quiet;
-          },
-          under_so h.machine.table (Incoming reached) (Some handle) (ToSend n handle reached) h.machine.store.standing i.1.older tt i.1.stands,
-        ),
-      ))
+module _ (h : Here) (n handle reached : ℕ) (new : HasNewStream h.machine.store reached) where
+  has_new : NoIncoming h.machine.table reached → Both h
+      → Both (with_one h (Incoming reached) (Some handle) (ToSend n handle reached))
+  has_new none i = (
+    record {
+      apart = made_new h.machine.table reached (Some handle) none h.machine.store.records (record { socket = new.socket; at = new.at; stream = _; has = new.new }) i.0.apart;
+      makes = tt;
+      stands = no_start (with_handle h.machine.table (Incoming reached) (Some handle)) h.machine.store.standing new.quiet;
+    },
+    under_so h.machine.table (Incoming reached) (Some handle) (ToSend n handle reached) h.machine.store.standing i.1.older tt i.1.stands,
+  )
 
-pub mark_next : (es : List Entry) (h : Here) (place n handle reached : ℕ) (kind : Kind) → MarksNext h.made n handle reached kind place → HasNewStream h.machine.store reached → udp_of (kind_at h.machine.table handle) ≡ Some place → (sock : Option OpId) → Both h
-    → Allows Anything (λ fs made. Both (record h { machine = record h.machine { table = made.1 }; made = ToSend n handle reached })) es (make_asks h.machine.table (own_of n) kind (Some handle) sock)
-mark_next es h place n handle reached kind (inl (e, made)) new of sock i =
-    let same : place ≡ reached = (subst (MakesUnder h.machine.table) made i.1.makes).of place of in
-    let its : kind ≡ Incoming reached = e ∙ ap (λ (x : ℕ). Incoming x) same in
-    subst (λ (k : Kind). Allows Anything (λ fs made. Both (record h { machine = record h.machine { table = made.1 }; made = ToSend n handle reached })) es (make_asks h.machine.table (own_of n) k (Some handle) sock)) (sym its)
-    (mark_new es h n handle reached sock new (subst (MadeSo h.machine.table) made i.0.makes) i)
-mark_next es h place n handle reached kind (inr (e, made)) new of sock i = mark_so es h (own_of n) kind (Some handle) sock (subst IsOther (sym e) tt) (λ made. ToSend n handle reached) tt tt tt tt i
+  pub has_next : (place : ℕ) (kind : Kind) → MarksNext h.made n handle reached kind place
+      → udp_of (kind_at h.machine.table handle) ≡ Some place
+      → Both h → Both (with_one h kind (Some handle) (ToSend n handle reached))
+  has_next place kind (inl (e, made)) of i =
+      let same : place ≡ reached = (subst (MakesUnder h.machine.table) made i.1.makes).of place of in
+      let its : kind ≡ Incoming reached = e ∙ ap (λ (x : ℕ). Incoming x) same in
+      subst (λ (k : Kind). Both (with_one h k (Some handle) (ToSend n handle reached))) (sym its)
+      (has_new (subst (MadeSo h.machine.table) made i.0.makes) i)
+  has_next place kind (inr (e, made)) of i =
+      has_handle h kind (Some handle) (ToSend n handle reached) (subst IsOther (sym e) tt) tt tt i
 
 -- == a handle is taken out
 module _ (t : HandleTable) (records : List Record) (handle : ℕ) where

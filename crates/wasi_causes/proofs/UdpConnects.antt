@@ -1,30 +1,28 @@
 -- Of the machines that runs lead to: a UDP socket whose connect is in progress has no datagram streams. The connect is pending, or the
 -- line that is done goes on with it.
-use Rattle.wasi_causes.proofs.Words.{Allows, Bool, End, Entry, Err, ErrorCode, ErrorValue, Item, List, Machine, None, Ok, OpId, Operation, Option, Result, Socket, Some, Standing, StandingCall, Step, Stop, Tcp2, Tcp2Socket, WasiSocketsCtx}
-use Rattle.wasi_causes.proofs.Words.{allows_then, ap, created_asks, first_state, give_up_asks, inl, inr, length, make_asks, new_asks, new_record, own_of, poll_asks, refl, side_of, standing_as, subst, sym, told_done, true, false, turn_asks, with_listening, with_writer, ℕ, ⊤, ◌∙◌, ◌≡◌, ◌⊎◌}
+use Rattle.wasi_walks.proofs.walks.Law.{BeginsWrites, InCall, Law}
+use Rattle.wasi_causes.proofs.Words.{Bool, End, Err, ErrorCode, Item, List, Machine, None, Ok, OpId, Operation, Option, Result, Some, Standing, StandingCall, Step, Tcp2Socket, WasiSocketsCtx}
+use Rattle.wasi_causes.proofs.Words.{ap, first_state, inl, inr, own_of, poll_asks, refl, standing_as, subst, sym, true, false, turn_asks, with_writer, ℕ, ⊤, ◌∙◌, ◌≡◌, ◌⊎◌}
 use Rattle.std.specs.Prelude.{is_some, ◌+◌}
 use Rattle.wasi_tcp.specs.declared.listener.Accepting.TheVariants as accepting
-use Rattle.wasi_udp.specs.Create.{Create, after_create as udp_after_create, create_cancel_asks}
+use Rattle.wasi_udp.specs.Create.{Create, after_create as udp_after_create}
 use Rattle.wasi_world.specs.Operation.{Done, Refused, Waits}
 use Rattle.wasi_records.specs.Datagrams.{has_streams, udp_connect_left}
 use Rattle.wasi_records.specs.Records.{tcp2_put, tcp2_pushed, udp2_at, udp2_of, udp2_put, udp2_pushed}
-use Rattle.wasi_records.specs.Udp.{udp_create_left, udp_side}
-use Rattle.wasi_host.specs.declared.kind.Kind.TheVariants.{Udp2}
-use Rattle.wasi_records.specs.declared.listening.Listening.TheVariants as listening
+use Rattle.wasi_records.specs.Udp.{udp_create_left}
 use Rattle.wasi_records.specs.declared.name_lookup.LookupOp.{LookupOp}
 use Rattle.wasi_records.specs.declared.records.Record.{Record}
 use Rattle.wasi_records.specs.declared.udp.OpenUdp.{OpenUdp}
 use Rattle.wasi_records.specs.declared.udp.Udp2Socket.{Udp2Socket}
 use Rattle.wasi_walks.proofs.GoneLists.{was_there}
-use Rattle.wasi_walks.proofs.UdpLists.{udp_get_set, udp_of_push, udp_of_put, udp_split}
 use Rattle.wasi_walks.proofs.fits.Law.{whatever}
-use Rattle.wasi_walks.proofs.fits.Polls.{Anything}
 use Rattle.wasi_walks.proofs.walks.Here.{ConnectStands, IsConnectOf, NoConnectIn, NoStart, NoStartIn, NoStartStands, or_true}
-use Rattle.wasi_walks.proofs.walks.Begins.{BeginsAbove}
 use Rattle.wasi_walks.proofs.walks.Moves as walk
 use Rattle.wasi_walks.proofs.walks.Moves.{Found, FoundUdp, GoesOn, Held, Here, Made, Move, Own, Past, SameSockets, ToConnect, Unused, Used, made_so, put, put_udp, udp_begun}
-use Rattle.wasi_walks.proofs.walks.OnBase.{Above}
-use Rattle.wasi_causes.proofs.UdpHandles.{Udps}
+use Rattle.wasi_walks.proofs.walks.OfState.{Becomes, Created, CreatedWith, GivenUp, Handles, HasHandle, HasNoRoom, IsClosed, Learnt, NoRoom}
+use Rattle.wasi_walks.proofs.walks.OfState.{OfError, OfLine, OfState, Resolved, UdpBegun, UdpGivenUp, UdpIsClosed, UdpLearnt, Writing, begins_state, of_state}
+use Rattle.wasi_causes.proofs.Words.{Kind}
+use Rattle.wasi_walks.proofs.Places.{push_found, push_was, put_found, put_was, tcp_sort, udp_sort}
 
 -- == what is in progress
 -- the connect of the record is pending, or the line goes on with it
@@ -82,16 +80,16 @@ stands_now records was standing own none i = record { quiet = i.quiet; goes = λ
 
 -- == records change
 pub put_tcp : (h : Here) (place : ℕ) (now : Tcp2Socket) → Quiet h → Quiet (put h place now)
-put_tcp h place now i = (record { quiet = λ k o op at c. i.0.quiet k o op (udp_of_put h.machine.store.records place now k _ at) c; goes = λ k o op at c. i.0.goes k o op (udp_of_put h.machine.store.records place now k _ at) c }, i.1)
+put_tcp h place now i = (record { quiet = λ k o op at c. i.0.quiet k o op (put_was tcp_sort udp_sort (λ t. refl) h.machine.store.records place now k _ at) c; goes = λ k o op at c. i.0.goes k o op (put_was tcp_sort udp_sort (λ t. refl) h.machine.store.records place now k _ at) c }, i.1)
 
 push_tcp : (records : List Record) (new : Tcp2Socket) (standing : Option Standing) (own : Own) → Connects records standing own → Connects (tcp2_pushed records new) standing own
-push_tcp records new standing own i = record { quiet = λ k o op at c. i.quiet k o op (udp_of_push records new k _ at) c; goes = λ k o op at c. i.goes k o op (udp_of_push records new k _ at) c }
+push_tcp records new standing own i = record { quiet = λ k o op at c. i.quiet k o op (push_was tcp_sort udp_sort (λ t. refl) records new k _ at) c; goes = λ k o op at c. i.goes k o op (push_was tcp_sort udp_sort (λ t. refl) records new k _ at) c }
 
 push_create : (records : List Record) (create : Create) (standing : Option Standing) (own : Own) → Connects records standing own → Connects (udp2_pushed records (Udp2Socket.Creating create)) standing own
 push_create records create standing own i = record { quiet = λ k o op at c. i.quiet k o op (was k o at) c; goes = λ k o op at c. i.goes k o op (was k o at) c }
   where
     was : (k : ℕ) (o : OpenUdp) → udp2_at (udp2_pushed records (Udp2Socket.Creating create)) k ≡ Some (Udp2Socket.Open o) → udp2_at records k ≡ Some (Udp2Socket.Open o)
-    was k o at = elim (udp_split records (Udp2Socket.Creating create) k (Udp2Socket.Open o) at) [ inl e ↦ e | inr e ↦ absurd (let x = e.0 in cc) ]
+    was k o at = elim (push_found udp_sort records (Udp2Socket.Creating create) k (Udp2Socket.Open o) at) [ inl e ↦ e | inr e ↦ absurd (let x = e.0 in cc) ]
 
 pub found : {new : LookupOp → Type 0} (h : Here) (records : List Record) → SameSockets new h.machine.store.records records → Quiet h → Connects records h.machine.store.standing h.own × CallsSo h.made h.machine.store.standing
 found h records same i = (record { quiet = λ k o op at c. i.0.quiet k o op (sym (same.udp k) ∙ at) c; goes = λ k o op at c. i.0.goes k o op (sym (same.udp k) ∙ at) c }, i.1)
@@ -105,7 +103,7 @@ module _ (records : List Record) (standing : Option Standing) (own now : Own) (p
   put_by its stay i = record { quiet = λ k o op at c. (both k o op at c).0; goes = λ k o op at c. (both k o op at c).1 }
     where
       both : (k : ℕ) (o : OpenUdp) (op : Operation) → udp2_at (udp2_put records place u) k ≡ Some (Udp2Socket.Open o) → o.connecting ≡ Some op → (has_streams o ≡ false) × GoesBy standing now k
-      both k o op at c = elim (udp_get_set records place u k (Udp2Socket.Open o) at) [
+      both k o op at c = elim (put_found udp_sort records place u k (Udp2Socket.Open o) at) [
         | inl here ↦ (let x = its o op here.1 c in (x.0, subst (GoesBy standing now) (sym here.0) x.1))
         | inr other ↦ (i.quiet k o op other c, elim (i.goes k o op other c) [ inl s ↦ inl s | inr e ↦ inr (stay k e) ])
       ]
@@ -280,54 +278,61 @@ module _ (contexts : List WasiSocketsCtx) (line : ℕ) (origin : Step) where
   polls_quiet h _ _ (walk.SendsOn place o out op left g e s settles) end i = put_open h place o _ g refl (λ some. rw e (or_true (is_some o.incoming))) i
   polls_quiet h _ _ (walk.ReceivesOn place o inc op g e s) end i = put_open h place o _ g refl (λ some. rw e refl) i
 
-  pub joins : (es : List Entry) (h : Here) (made : Result Socket ErrorCode) → h.own ≡ Unused → Quiet h → Allows Anything (λ fs done. Quiet (record h { machine = done.1; own = Used })) es (created_asks h.machine (own_of line) made)
-  joins es h (Err c) own i = spent h Used Unused own unused i
-  joins es h (Ok socket) own i =
-      let so : Quiet (record h { machine = record h.machine { store = record h.machine.store { records = tcp2_pushed h.machine.store.records (new_record socket) } }; own = Used }) = (owns _ h.machine.store.standing h.own Used (λ k c. unused k (sym own ∙ c)) (push_tcp h.machine.store.records (new_record socket) h.machine.store.standing h.own i.0), i.1) in
-      allows_then Anything (λ fs made. ⊤) (λ fs done. Quiet (record h { machine = done.1; own = Used })) es (make_asks h.machine.table (own_of line) (Tcp2 (length h.machine.store.records)) None (side_of socket)) _
-      (whatever (λ made. ⊤) (λ made. tt) es (make_asks h.machine.table (own_of line) (Tcp2 (length h.machine.store.records)) None (side_of socket))) (λ fs made k. so)
-
-  pub accepted_so : (standing : Option Standing) (place : ℕ) (made : Result ℕ Stop) → CallsSo (made_so place made) standing
-  accepted_so standing place (Ok handle) = tt
-  accepted_so standing place (Err why) = tt
-
-  pub begun : (h : Here) (made : Result Create ErrorCode) → h.own ≡ Unused → Quiet h → Quiet (udp_begun h made)
+  begun : (h : Here) (made : Result Create ErrorCode) → h.own ≡ Unused → Quiet h → Quiet (udp_begun h made)
   begun h (Ok create) own i = (owns _ h.machine.store.standing h.own Used (λ k c. unused k (sym own ∙ c)) (push_create h.machine.store.records create h.machine.store.standing h.own i.0), i.1)
   begun h (Err c) own i = spent h Used Unused own unused i
 
-  -- the law: the calls may be any
-  unfoldable pub connects : Above contexts line origin (λ es h. Udps h)
-  connects = record {
-    P = Anything;
-    Inv = λ es h. Quiet h;
+  -- what is made is no call on handles
+  handles_quiet : (h : Here) (kind : Kind) (parent : Option ℕ) (made : Made) → Handles origin h kind parent made
+      → Quiet h
+      → CallsSo made h.machine.store.standing
+  handles_quiet h _ _ _ (OfLine kind parent sock m) i = i.1
+  handles_quiet h _ _ _ (OfError n handle place handles m k e) i = i.1
+  handles_quiet h _ _ _ _ i = tt
+
+  no_room : (made : Made) (standing : Option Standing) → HasNoRoom made → CallsSo made standing
+  no_room (Made.Calls kind n handles) standing none = absurd none
+  no_room _ standing none = tt
+
+  created : (h : Here) (new : Tcp2Socket) → h.own ≡ Unused → Quiet h
+      → Connects (tcp2_pushed h.machine.store.records new) h.machine.store.standing Used
+  created h new own i =
+      owns _ h.machine.store.standing h.own Used (λ k c. unused k (sym own ∙ c))
+      (push_tcp h.machine.store.records new h.machine.store.standing h.own i.0)
+
+  pub becomes_quiet : (h now : Here) → Becomes contexts line origin h now → Quiet h → Quiet now
+  becomes_quiet h _ (Learnt place r side told at g e) i = put_tcp h place _ i
+  becomes_quiet h _ (IsClosed place r side q g e) i = put_tcp h place _ i
+  becomes_quiet h _ (GivenUp place r q g) i = put_tcp h place _ i
+  becomes_quiet h _ (UdpLearnt place o socket g e) i = put_open h place o _ g refl (λ some. some) i
+  becomes_quiet h _ (UdpIsClosed place o q g) i = put_none h place (Udp2Socket.Closed o.inner.side) (closed_none o.inner.side) i
+  becomes_quiet h _ (UdpGivenUp place create q g) i =
+      let side = create.operation.who.side in put_none h place (Udp2Socket.Closed side) (closed_none side) i
+  becomes_quiet h _ (UdpBegun ctx family r c own m) i = begun h (udp_after_create (own_of line) ctx.name family r) own i
+  becomes_quiet h _ (Resolved host records l same) i = found h records same i
+  becomes_quiet h _ (HasHandle kind parent made k) i = (i.0, handles_quiet h kind parent made k i)
+  becomes_quiet h _ (NoRoom made none) i = (i.0, no_room made h.machine.store.standing none)
+  becomes_quiet h _ (Created ctx family c own m) i = (created h _ own i, i.1)
+  becomes_quiet h _ (CreatedWith ctx family c own m) i = (created h _ own i, i.1)
+  becomes_quiet h _ (Writing _ (InCall place n r s half permit bytes at g e w within own)) i = begun_tcp h place _ Used Used own used i
+
+  abbrev connects_state : OfState contexts line origin (λ es h. ⊤)
+  connects_state = record {
+    Holds = Quiet;
     moves = λ es h now m b i. moves_quiet h now m i;
-    asks = λ es h place n r side c at g o q b i. (tt, λ told fits. i);
-    sets = λ es h place r side backlog at g s is b i. (tt, λ told fits. i);
-    learns = λ es h place r side at g e b i. (tt, λ told fits. put_tcp h place _ i);
-    closes = λ es h place r side q g e b i. (tt, λ told fits. put_tcp h place _ i);
-    marks = λ es h kind parent sock m b i. whatever (λ made. Quiet h) (λ made. i) es (make_asks h.machine.table (own_of line) kind parent sock);
-    creates = λ es h ctx family c a o m b i. allows_then Anything (λ fs made. Quiet h) (λ fs done. Quiet (record h { machine = done.1; own = Used })) es (new_asks (own_of line) ctx family) (created_asks h.machine (own_of line)) (whatever (λ made. Quiet h) (λ made. i) es (new_asks (own_of line) ctx family)) (λ fs made k. joins fs h made o k);
-    accepted = λ es h c s place r is e o g b i. whatever (λ made. Connects h.machine.store.records h.machine.store.standing h.own × CallsSo (made_so place made.0) h.machine.store.standing) (λ made. (i.0, accepted_so h.machine.store.standing place made.0)) es (make_asks h.machine.table (own_of line) (Tcp2 place) (Some s) _);
-    polls = λ es h op after held b i. whatever (λ end. Quiet (after end)) (λ end. polls_quiet h op after held end i) es (poll_asks op);
-    turns = λ es h place r s g e b i. whatever (λ done. Quiet (put h place (with_writer r s done.1))) (λ done. put_tcp h place _ i) es (turn_asks s.writer);
-    gives_up = λ es h place r q g b i. whatever (λ done. Quiet (put h place (with_listening r listening.Not))) (λ done. put_tcp h place _ i) es (give_up_asks r.listening);
-    udp_asks = λ es h place n o c at g q b i. (tt, λ told fits. i);
-    udp_learns = λ es h place part o at g b i. (tt, λ told fits. put_open h place o _ g refl (λ some. some) i);
-    udp_peers = λ es h place o at g b i. (tt, λ told fits. put_open h place o _ g refl (λ some. some) i);
-    udp_closes = λ es h place o q g b i. (tt, λ told fits. put_none h place (Udp2Socket.Closed o.inner.side) (closed_none o.inner.side) i);
-    udp_creates = λ es h ctx family c may t o m b i. (tt, λ told fits. begun h (udp_after_create (own_of line) ctx.name family (told_done told)) o i);
-    udp_marks = λ es h place u g b i. whatever (λ made. Connects h.machine.store.records h.machine.store.standing h.own × ⊤) (λ made. (i.0, tt)) es (make_asks h.machine.table (udp_side u) (Udp2 place) None (Some (udp_side u)));
-    stream_marks = λ es h place n handle reached kind next new of b i. whatever (λ made. Connects h.machine.store.records h.machine.store.standing h.own × ⊤) (λ made. (i.0, tt)) es (make_asks h.machine.table (own_of n) kind (Some handle) _);
-    error_marks = λ es h n handle place handles m k e f b i. whatever (λ made. Quiet h) (λ made. i) es (make_asks h.machine.table (own_of n) ErrorValue (Some handle) _);
-    udp_gives_up = λ es h place create q g b i. whatever (λ done. Quiet (put_udp h place (Udp2Socket.Closed create.operation.who.side))) (λ done. put_none h place (Udp2Socket.Closed create.operation.who.side) (closed_none create.operation.who.side) i) es (create_cancel_asks create);
-    lookups = λ es h host l b i. (tt, λ told fits records same. found h records same i);
-    looks = λ es h place op at b i. (tt, λ told fits. i);
+    becomes = λ es h now k b i. becomes_quiet h now k i;
+    polls = λ es h op after held b i.
+        whatever (λ end. Quiet (after end)) (λ end. polls_quiet h op after held end i) es (poll_asks op);
+    turns = λ es h place r s g e b i.
+        whatever (λ done. Quiet (put h place (with_writer r s done.1))) (λ done. put_tcp h place _ i) es (turn_asks s.writer);
   }
 
-  -- a write that begins in a call of streams
-  pub connects_begin : BeginsAbove connects
+  unfoldable pub connects : Law contexts line origin
+  connects = of_state connects_state
+
+  pub connects_begin : BeginsWrites connects
   unfolding connects
-  connects_begin = record { begins = λ es h place n r s half permit bytes at g e w within own b i. begun_tcp h place _ Used Used own used i }
+  connects_begin = begins_state connects_state
 
 -- a line begins with what it may write
 pub starts_with : (records : List Record) (standing : Option Standing) (own : Own) → Connects records standing Used → Connects records standing own

@@ -76,7 +76,7 @@ pub use Rattle.wasi_steps.specs.declared.reply.Field.{Field}
 pub use Rattle.wasi_machine.specs.Machine.{address_reply, answer_reply, bytes_reply, done_reply, family_reply, handle_reply, pair_reply, permit_reply}
 pub use Rattle.wasi_machine.specs.Machine.{taken_reply, triple_reply, truth_reply, value_reply}
 pub use Rattle.wasi_walks.proofs.Gives.{Gives, allows_ask, given, gives_any, gives_both, gives_more, gives_then, gives_where}
-pub use Rattle.wasi_walks.proofs.Lists.{get_front, get_seam, get_set, get_split, has_split, marks_in-push, set_get, set_there, value_split}
+pub use Rattle.wasi_walks.proofs.Lists.{get_front, get_seam, has_split, marks_in-push, value_split}
 pub use Rattle.wasi_walks.specs.Answered.{AlreadyBound, AlreadyClosed, Answered, Begins, BindRefusal, BoundElsewhere, CheckFails, ClosedBy, Closes}
 pub use Rattle.wasi_walks.specs.Answered.{CodeTold, ConnectRefusal, Connects, ConnectsAt, CreateRefusal, Denied, Elsewhere, EndsClosing, EndsPending}
 pub use Rattle.wasi_walks.specs.Answered.{ErrorKept, Failed, FailsWith, FinishRefusal, HasNoConnectInProgress, IsBound, IsFoundUnbound}

@@ -6,6 +6,7 @@ pub mod WatchedLooks
 pub mod JobLists
 pub mod Pipes
 pub mod Blocks
+pub mod Called
 pub mod Cancels
 pub mod PollLists
 pub mod FoundMaps

@@ -4,6 +4,8 @@ pub mod Store
 pub mod Standing
 pub mod GivingBack
 pub mod TcpCalls
+pub mod Block
+pub mod Lines
 pub mod Options
 pub mod Jobs
 pub mod Readiness

@@ -10,9 +10,10 @@ ghost use Rattle.wasi_records.specs.Records.{tcp2_at};
 ghost use Rattle.wasi_records.specs.Stops.{host_outcome};
 ghost use Rattle.wasi_host.specs.KnownSides.{KnowsSides};
 ghost use Rattle.wasi_host.specs.TcpCalls.{start_bind_at, finish_at, start_connect_at};
-ghost use Rattle.wasi_host.specs.TcpCalls.{finish_connect_at, local_address_at, remote_address_at};
-ghost use Rattle.wasi_host.specs.TcpCalls.{is_listening_at, address_family_at, start_listen_at};
-ghost use Rattle.wasi_host.specs.TcpCalls.{accept_at, accept_ids_at, shutdown_at};
+ghost use Rattle.wasi_host.specs.TcpCalls.{start_listen_at, accept_at, accept_ids_at, shutdown_at};
+ghost use Rattle.wasi_host.specs.Lines.{finish_connect_of, on_tcp, told_of};
+ghost use Rattle.wasi_records.specs.Sockets.{tell_local_asks, tell_remote_asks};
+ghost use Rattle.wasi_tcp.specs.Addresses.{is_listening};
 
 use crate::store::{StandingCall, Store};
 use wasi_addr::{IpSocketAddress, ShutdownType, SocketAddressFamily, p2};
@@ -101,8 +102,8 @@ impl Store {
         place: usize,
     ) -> Result<(), SocketError>
         requires { (W.seen world.old).ended ≡ false }
-        ensures asked { AsksFor (finish_connect_at self.old place (tcp2_at self.old.records place))
-            (W.seen world.old) (W.seen world.new) (λ done. (done, self.new)) (host_outcome result) }
+        ensures asked { AsksFor (finish_connect_of place self.old) (W.seen world.old)
+            (W.seen world.new) (λ done. (done, self.new)) (host_outcome result) }
         ensures sides { KnowsSides (W.seen world.old) self.old
             → KnowsSides (W.seen world.new) self.new }
     {
@@ -123,9 +124,8 @@ impl Store {
         place: usize,
     ) -> Result<IpSocketAddress, SocketError>
         requires { (W.seen world.old).ended ≡ false }
-        ensures asked { AsksFor (local_address_at self.old op place
-            (tcp2_at self.old.records place)) (W.seen world.old) (W.seen world.new)
-            (λ told. (told, self.new)) (host_outcome result) }
+        ensures asked { AsksFor (on_tcp place (tell_local_asks op) self.old) (W.seen world.old)
+            (W.seen world.new) (λ told. (told, self.new)) (host_outcome result) }
         ensures sides { KnowsSides (W.seen world.old) self.old
             → KnowsSides (W.seen world.new) self.new }
     {
@@ -144,9 +144,8 @@ impl Store {
         place: usize,
     ) -> Result<IpSocketAddress, SocketError>
         requires { (W.seen world.old).ended ≡ false }
-        ensures asked { AsksFor (remote_address_at self.old op place
-            (tcp2_at self.old.records place)) (W.seen world.old) (W.seen world.new)
-            (λ told. (told, self.new)) (host_outcome result) }
+        ensures asked { AsksFor (on_tcp place (tell_remote_asks op) self.old) (W.seen world.old)
+            (W.seen world.new) (λ told. (told, self.new)) (host_outcome result) }
         ensures sides { KnowsSides (W.seen world.old) self.old
             → KnowsSides (W.seen world.new) self.new }
     {
@@ -159,7 +158,8 @@ impl Store {
 
     /// Whether the TCP socket with this record number is listening.
     pub fn is_listening(&self, place: usize) -> Result<bool, SocketError>
-        ensures { host_outcome result ≡ Ok (is_listening_at (tcp2_at self.now.records place)) }
+        ensures { host_outcome result ≡ Ok (told_of (λ r. is_listening r.inner.state)
+            (tcp2_at self.now.records place)) }
     {
         match tcp2(&self.records, place) {
             Some(record) => Ok(record.inner.is_listening()),
@@ -169,7 +169,8 @@ impl Store {
 
     /// The family of the TCP socket with this record number.
     pub fn address_family(&self, place: usize) -> Result<SocketAddressFamily, SocketError>
-        ensures { host_outcome result ≡ Ok (address_family_at (tcp2_at self.now.records place)) }
+        ensures { host_outcome result ≡ Ok (told_of (λ r. r.inner.family)
+            (tcp2_at self.now.records place)) }
     {
         match tcp2(&self.records, place) {
             Some(record) => Ok(record.inner.address_family()),

@@ -34,21 +34,21 @@ pub use Rattle.wasi_tcp.specs.Connect.{connect_left}
 pub use Rattle.wasi_tcp.specs.Job.{job_after}
 pub use Rattle.wasi_tcp.specs.Listen.{IsListen}
 pub use Rattle.wasi_tcp.specs.Taken.{IsFrontOf, bytes_left, taken_by, taken_in}
-pub use Rattle.wasi_walks.proofs.Lists.{cut_of, get_front, get_set, get_split, has_back, has_front, has_last, has_split, set_get, set_there}
+pub use Rattle.wasi_walks.proofs.Lists.{cut_of, get_front, has_back, has_front, has_last, has_split}
 pub use Rattle.wasi_walks.proofs.claims.Law.{Base, Claims, Named, accept_plain, fresh, no_some, on_along, on_names, taken_fresh}
 pub use Rattle.wasi_walks.proofs.claims.Lines.{BaseBetween, base_over, base_starts, first_base}
 pub use Rattle.wasi_walks.proofs.claims.Polls.{ArePlain, NoWrite, Quiet, none_taken, plain_poll, quiet_if, quiet_then}
 pub use Rattle.wasi_walks.proofs.fits.Law.{Fit, told_same, whatever}
 pub use Rattle.wasi_walks.proofs.fits.Records.{FitListening, FitProgress}
 pub use Rattle.wasi_walks.proofs.licence.State.{accept_name, name_in}
-pub use Rattle.wasi_walks.proofs.walks.Law.{BeginsWrites, Law, Walks}
+pub use Rattle.wasi_walks.proofs.walks.Law.{BeginsIn, BeginsWrites, InCall, Law, Rests, Walks}
 pub use Rattle.wasi_walks.proofs.walks.Moves.{Awaits, BeginsAccept, BeginsBind, BeginsConnect, BeginsListen, BeginsWrite, BindsOn, Changes, Closes}
 pub use Rattle.wasi_walks.proofs.walks.Moves.{ClosesReader, Collects, Connects, Forgets, Found, Held, Here, IsGone, IsOn, IsQuestionOf, Joins}
 pub use Rattle.wasi_walks.proofs.walks.Moves.{KeepsBinding, Lasts, LastsAfter, Listens, Made, Move, OfReader, OfSocket, OfWriter, Opens, Own, Permits}
 pub use Rattle.wasi_walks.proofs.walks.Moves.{Plain, Reconnects, Spends, ToConnect, ToWrite, Unlistens, Unused, Used, WriterMoves, Writes, accepting_now}
 pub use Rattle.wasi_walks.proofs.walks.Moves.{beginning_listen, begun_bind, begun_listen, closed_record, joined, joining, listen_after, made_so}
 pub use Rattle.wasi_walks.proofs.walks.Moves.{new_accept, opened_by, part_of, put}
-pub use Rattle.wasi_walks.proofs.walks.OnBase.{Above, both}
+pub use Rattle.wasi_walks.proofs.walks.Layers.{both, layer}
 pub use Rattle.wasi_walks.proofs.walks.States.{Over, Starts}
 pub use Rattle.wasi_walks.proofs.walks.Steps.{machine_walks, may_while}
 pub use Rattle.wasi_walks.specs.Answered.{Answered, record_in}

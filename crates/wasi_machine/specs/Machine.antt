@@ -31,7 +31,7 @@ use Rattle.wasi_host.specs.Pending.{resume_asks}
 use Rattle.wasi_host.specs.Polling.{block_by, poll_asks}
 use Rattle.wasi_host.specs.declared.polling.Look.TheVariants.{First}
 use Rattle.wasi_host.specs.UdpCreates.{create_udp_asks}
-use Rattle.wasi_p2.specs.Tcp.{network_asks, start_bind_asks, finish_on, start_connect_asks, finish_connect_asks, local_address_on, remote_address_on, is_listening_on, address_family_on, shutdown_on, start_listen_on, accept_asks}
+use Rattle.wasi_p2.specs.Tcp.{network_asks, start_bind_asks, finish_on, start_connect_asks, finish_connect, local_address, remote_address, is_listening, address_family, shutdown_on, start_listen_on, accept_asks}
 use Rattle.wasi_p2.specs.Options.{get_option_on, set_option_on, set_backlog_on}
 use Rattle.wasi_p2.specs.Lookup.{resolve_asks, next_address_on, error_code_on}
 use Rattle.wasi_p2.specs.Udp.{start_udp_bind_asks, finish_udp_bind_on, udp_local_on, udp_remote_on, udp_family_on, get_udp_option_on, set_udp_option_on, udp_stream_asks, check_send_on, send_datagrams_on, receive_datagrams_on}
@@ -166,14 +166,14 @@ call_asks ctx m line (step.TcpCreate c family) = bind (create_asks m (own_of lin
 call_asks ctx m line (step.TcpStartBind c s n a) = bind (start_bind_asks m (first_ids line) s n a) (λ done. Give (answer_reply_of no_values line done.0, done.1))
 call_asks ctx m line (step.TcpFinishBind c s) = let done = finish_on is_bind m (socket_at m s) in Give (reply_of no_values done.0, done.1)
 call_asks ctx m line (step.TcpStartConnect c s n a) = bind (start_connect_asks m (own_of line) s n a) (λ done. Give (reply_of no_values done.0, done.1))
-call_asks ctx m line (step.TcpFinishConnect c s) = bind (finish_connect_asks m (own_of line) s) (λ done. Give (reply_of pair_values done.0, done.1))
+call_asks ctx m line (step.TcpFinishConnect c s) = bind (finish_connect (own_of line) s m) (λ done. Give (reply_of pair_values done.0, done.1))
 call_asks ctx m line (step.TcpStartListen c s) = bind (start_listen_on m (first_ids line) (socket_at m s)) (λ done. Give (answer_reply_of no_values line done.0, done.1))
 call_asks ctx m line (step.TcpFinishListen c s) = let done = finish_on is_listen m (socket_at m s) in Give (reply_of no_values done.0, done.1)
 call_asks ctx m line (step.TcpAccept c s) = bind (accept_asks m (first_ids line) s) (λ done. Give (reply_of triple_values done.0, done.1))
-call_asks ctx m line (step.TcpLocalAddress c s) = bind (local_address_on m (own_of line) (socket_at m s)) (λ done. Give (reply_of address_values done.0, done.1))
-call_asks ctx m line (step.TcpRemoteAddress c s) = bind (remote_address_on m (own_of line) (socket_at m s)) (λ done. Give (reply_of address_values done.0, done.1))
-call_asks ctx m line (step.TcpIsListening c s) = Give (reply_of truth_fields (is_listening_on m (socket_at m s)), m)
-call_asks ctx m line (step.TcpAddressFamily c s) = Give (reply_of family_fields (address_family_on m (socket_at m s)), m)
+call_asks ctx m line (step.TcpLocalAddress c s) = bind (local_address (own_of line) s m) (λ done. Give (reply_of address_values done.0, done.1))
+call_asks ctx m line (step.TcpRemoteAddress c s) = bind (remote_address (own_of line) s m) (λ done. Give (reply_of address_values done.0, done.1))
+call_asks ctx m line (step.TcpIsListening c s) = Give (reply_of truth_fields (is_listening m s), m)
+call_asks ctx m line (step.TcpAddressFamily c s) = Give (reply_of family_fields (address_family m s), m)
 call_asks ctx m line (step.TcpGet c s option) = bind (get_option_on m (own_of line) option (socket_at m s)) (λ done. Give (reply_of number_fields done.0, done.1))
 call_asks ctx m line (step.TcpSet c s setting) = bind (set_chosen m (own_of line) (socket_at m s) (chosen setting)) (λ done. Give (reply_of no_values done.0, done.1))
 call_asks ctx m line (step.UdpCreate c family) = bind (create_udp_asks m (first_ids line) ctx family) (λ done. Give (answer_reply_of number_fields line done.0, done.1))

@@ -12,8 +12,8 @@ ghost use Rattle.wasi_host.specs.Machine.{own_of, socket_at, create_asks};
 ghost use Rattle.wasi_host.specs.KnownSides.{KnowsSides};
 ghost use Rattle.wasi_host.specs.Views.{SameView, state_of, HostKept};
 ghost use Rattle.wasi_p2.specs.Tcp.{start_bind_asks, finish_on, start_connect_asks};
-ghost use Rattle.wasi_p2.specs.Tcp.{finish_connect_on, streams_asks, local_address_on};
-ghost use Rattle.wasi_p2.specs.Tcp.{remote_address_on, is_listening_on, address_family_on};
+ghost use Rattle.wasi_p2.specs.Tcp.{finish_connect, make_streams, local_address, remote_address};
+ghost use Rattle.wasi_p2.specs.Tcp.{is_listening, address_family};
 ghost use Rattle.wasi_p2.specs.Tcp.{shutdown_on, start_listen_on, accepted_handles, accept_asks};
 ghost use Rattle.wasi_p2.specs.Tcp.{ids_after_accept};
 
@@ -115,9 +115,9 @@ pub fn finish_connect<W: World>(
     this: Handle,
 ) -> Result<(Handle, Handle), SocketError>
     requires { (W.seen world.old).ended ≡ false }
-    ensures asked { AsksFor (finish_connect_on (state_of view.old) (own_of ids.old.line) this
-        (socket_at (state_of view.old) this)) (W.seen world.old) (W.seen world.new)
-        (λ made. (made, state_of view.new)) (host_outcome result) }
+    ensures asked { AsksFor (finish_connect (own_of ids.old.line) this (state_of view.old))
+        (W.seen world.old) (W.seen world.new) (λ made. (made, state_of view.new))
+        (host_outcome result) }
     ensures kept { HostKept view.old view.new ids.old ids.new (W.seen world.old)
         (W.seen world.new) }
 {
@@ -138,7 +138,7 @@ fn make_streams<W: World>(
 ) -> Result<(Handle, Handle), SocketError>
     requires open { (W.seen world.old).ended ≡ false }
     requires parent { IsSome (kind_at view.old.table.now this) }
-    ensures asked { AsksFor (streams_asks (state_of view.old) (own_of ids.old.line) this place side)
+    ensures asked { AsksFor (make_streams (own_of ids.old.line) this place side (state_of view.old))
         (W.seen world.old) (W.seen world.new) (λ made. (made, state_of view.new))
         (host_outcome result) }
     ensures kept { HostKept view.old view.new ids.old ids.new (W.seen world.old)
@@ -257,9 +257,9 @@ pub fn local_address<W: World>(
     this: Handle,
 ) -> Result<IpSocketAddress, SocketError>
     requires { (W.seen world.old).ended ≡ false }
-    ensures asked { AsksFor (local_address_on (state_of view.old) (own_of ids.old.line)
-        (socket_at (state_of view.old) this)) (W.seen world.old) (W.seen world.new)
-        (λ told. (told, state_of view.new)) (host_outcome result) }
+    ensures asked { AsksFor (local_address (own_of ids.old.line) this (state_of view.old))
+        (W.seen world.old) (W.seen world.new) (λ told. (told, state_of view.new))
+        (host_outcome result) }
     ensures kept { HostKept view.old view.new ids.old ids.new (W.seen world.old)
         (W.seen world.new) }
 {
@@ -276,9 +276,9 @@ pub fn remote_address<W: World>(
     this: Handle,
 ) -> Result<IpSocketAddress, SocketError>
     requires { (W.seen world.old).ended ≡ false }
-    ensures asked { AsksFor (remote_address_on (state_of view.old) (own_of ids.old.line)
-        (socket_at (state_of view.old) this)) (W.seen world.old) (W.seen world.new)
-        (λ told. (told, state_of view.new)) (host_outcome result) }
+    ensures asked { AsksFor (remote_address (own_of ids.old.line) this (state_of view.old))
+        (W.seen world.old) (W.seen world.new) (λ told. (told, state_of view.new))
+        (host_outcome result) }
     ensures kept { HostKept view.old view.new ids.old ids.new (W.seen world.old)
         (W.seen world.new) }
 {
@@ -288,8 +288,7 @@ pub fn remote_address<W: World>(
 
 /// Whether a socket is listening (`is-listening`). Asks nothing.
 pub fn is_listening(view: &mut WasiSocketsCtxView<'_>, this: Handle) -> Result<bool, SocketError>
-    ensures answer { host_outcome result ≡ Ok (is_listening_on (state_of view.old)
-        (socket_at (state_of view.old) this)) }
+    ensures answer { host_outcome result ≡ Ok (is_listening (state_of view.old) this) }
     ensures state { state_of view.new ≡ state_of view.old }
     ensures sides { (s : Seen) → KnowsSides s view.old.store.now → KnowsSides s view.new.store.now }
     ensures view { SameView view.old view.new }
@@ -303,8 +302,7 @@ pub fn address_family(
     view: &mut WasiSocketsCtxView<'_>,
     this: Handle,
 ) -> Result<SocketAddressFamily, SocketError>
-    ensures answer { host_outcome result ≡ Ok (address_family_on (state_of view.old)
-        (socket_at (state_of view.old) this)) }
+    ensures answer { host_outcome result ≡ Ok (address_family (state_of view.old) this) }
     ensures state { state_of view.new ≡ state_of view.old }
     ensures sides { (s : Seen) → KnowsSides s view.old.store.now → KnowsSides s view.new.store.now }
     ensures view { SameView view.old view.new }

@@ -1,9 +1,9 @@
 pub mod Words
 pub mod Lists
-pub mod UdpLists
-pub mod LookupLists
+pub mod PipeLists
 pub mod GoneLists
 pub mod Slots
+pub mod Places
 pub mod owners
 pub mod Gives
 pub mod walks

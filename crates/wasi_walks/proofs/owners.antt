@@ -1,4 +1,5 @@
 -- Each record has one handle at most, what else is of it is under that, and none is of a record that is given back.
-pub mod There
+pub mod Kinds
+pub mod Names
 pub mod Owned
 pub mod Law

@@ -12,12 +12,6 @@ use Rattle.wasi_causes.specs.PollableCalls.{LooksInTurn, NoMore, OneMore, is_amo
 abbrev pub AreFound : List ℕ → Found → Type 0
 AreFound before found = (p : ℕ) → is_among before p ≡ is_some (found_of found p)
 
-same_test : (b c : Bool) (x : Bool) → (if b then true else (if c then true else x)) ≡ (if c then true else (if b then true else x))
-same_test true true x = refl
-same_test true false x = refl
-same_test false true x = refl
-same_test false false x = refl
-
 one_more : (found : Found) (q : ℕ) (ready : Bool) (p : ℕ) → is_some (found_of (found ++ (q, ready) ∷ []) p) ≡ (if q == p then true else is_some (found_of found p))
 one_more [] q ready p = by (q == p)
   where

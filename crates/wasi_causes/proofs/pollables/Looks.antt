@@ -1,5 +1,5 @@
 -- A look at a pollable: it finds something out where what is watched is there, and keeps what others watch.
-use Rattle.wasi_causes.proofs.Words.{◌≡◌, ◌∙◌, ℕ, Bool, true, false, List, [], ◌∷◌, Option, Some, None, Result, Ok, Err, refl, sym, subst, ap, inl, inr, Entry, Give, HandleTable, Left, Listening, Machine, NoSuchHandle, Records, Stop, Streams, Tcp2Socket, Trap, Watched, is_connect, is_nothing, kind_at, own_of, ready_asks, ready_on, set_get, streams_in, watch_of, with_job, with_socket, with_store}
+use Rattle.wasi_causes.proofs.Words.{◌≡◌, ◌∙◌, ℕ, Bool, true, false, List, [], ◌∷◌, Option, Some, None, Result, Ok, Err, refl, sym, subst, ap, inl, inr, Entry, Give, HandleTable, Left, Listening, Machine, NoSuchHandle, Records, Stop, Streams, Tcp2Socket, Trap, Watched, is_connect, is_nothing, kind_at, own_of, ready_asks, ready_on, streams_in, watch_of, with_job, with_socket, with_store}
 use Rattle.wasi_world.specs.declared.ids.Ids.{Ids}
 use Rattle.wasi_tcp.specs.Connecting.{finish_connect_asks}
 use Rattle.wasi_tcp.specs.Listener.{listener_ready_asks}
@@ -21,13 +21,13 @@ use Rattle.wasi_records.specs.Looks.{ready_idle, ready_listening, ready_reader, 
 use Rattle.wasi_records.specs.Receiving.{look_incoming}
 use Rattle.wasi_records.specs.Records.{open_at, open_of, open_put, tcp2_at, tcp2_put, udp2_at}
 use Rattle.wasi_host.specs.UdpCalls.{with_open_udp}
-use Rattle.wasi_walks.proofs.UdpLists.{tcp_in_put, udp_in_put, udp_set_get}
 use Rattle.wasi_walks.proofs.walks.Udp.{open_is}
 use Rattle.wasi_walks.specs.Missing.{MissesOneOf, MissesRecord, MissesWatched}
 use Rattle.wasi_causes.proofs.tables.Meets.{Meets, Rows, both, ends, onto, whatever, widen}
 use Rattle.wasi_causes.proofs.tables.Parts.{by_left}
 use Rattle.wasi_causes.proofs.tables.Routes.{put_store_same}
 use Rattle.wasi_causes.specs.PollableCalls.{Finds, FindsAgain, FindsFirst, FindsToBegin}
+use Rattle.wasi_walks.proofs.Places.{put_stays, put_still, tcp_sort, udp_sort}
 
 -- == what is watched stays there
 -- Sockets, streams and open UDP sockets that were there are.
@@ -46,18 +46,18 @@ stay_then s t = record { sockets = λ k h. s.sockets k (t.sockets k h); streams 
 module _ (xs : List Record) (i : ℕ) (r now : Tcp2Socket) (at : tcp2_at xs i ≡ Some r) (keeps : now.streams ≡ None → r.streams ≡ None) where
   socket_stays : (k : ℕ) (o : Option Tcp2Socket) → tcp2_at xs k ≡ o → tcp2_at (tcp2_put xs i now) k ≡ None → o ≡ None
   socket_stays k None e none = refl
-  socket_stays k (Some x) e none = elim (set_get xs i now k x e) [ inl same ↦ absurd (cc) | inr changed ↦ absurd (let its = changed.1 in cc) ]
+  socket_stays k (Some x) e none = elim (put_stays tcp_sort xs i now k x e) [ inl same ↦ absurd (cc) | inr changed ↦ absurd (let its = changed.1 in cc) ]
 
   streams_stay : (k : ℕ) (o : Option Tcp2Socket) → tcp2_at xs k ≡ o → streams_in (tcp2_at (tcp2_put xs i now) k) ≡ None → streams_in o ≡ None
   streams_stay k None e none = refl
-  streams_stay k (Some x) e none = elim (set_get xs i now k x e) [
+  streams_stay k (Some x) e none = elim (put_stays tcp_sort xs i now k x e) [
     | inl same ↦ sym (ap streams_in same) ∙ none
     | inr changed ↦ let was : tcp2_at xs i ≡ Some x = subst (λ (j : ℕ). tcp2_at xs j ≡ Some x) changed.0 e in let its : r ≡ x = cc in subst (λ (y : Tcp2Socket). y.streams ≡ None) its (keeps (sym (ap streams_in changed.1) ∙ none))
   ]
 
   open_stays : (k : ℕ) (o : Option Udp2Socket) → udp2_at xs k ≡ o → open_at (tcp2_put xs i now) k ≡ None → open_of o ≡ None
   open_stays k None e none = refl
-  open_stays k (Some u) e none = sym (ap open_of (udp_in_put xs i r now k u at e)) ∙ none
+  open_stays k (Some u) e none = sym (ap open_of (put_still tcp_sort udp_sort (λ t. refl) xs i r now k u at e)) ∙ none
 
   stay_put : WatchedStay xs (tcp2_put xs i now)
   stay_put = record { sockets = λ k. socket_stays k (tcp2_at xs k) refl; streams = λ k. streams_stay k (tcp2_at xs k) refl; opens = λ k. open_stays k (udp2_at xs k) refl }
@@ -66,15 +66,15 @@ module _ (xs : List Record) (i : ℕ) (r now : Tcp2Socket) (at : tcp2_at xs i �
 module _ (xs : List Record) (i : ℕ) (o now : OpenUdp) (at : udp2_at xs i ≡ Some (Open o)) where
   socket_too : (k : ℕ) (was : Option Tcp2Socket) → tcp2_at xs k ≡ was → tcp2_at (open_put xs i now) k ≡ None → was ≡ None
   socket_too k None e none = refl
-  socket_too k (Some x) e none = let same = tcp_in_put xs i (Open o) (Open now) k x at e in absurd (cc)
+  socket_too k (Some x) e none = let same = put_still udp_sort tcp_sort (λ t. refl) xs i (Open o) (Open now) k x at e in absurd (cc)
 
   streams_too : (k : ℕ) (was : Option Tcp2Socket) → tcp2_at xs k ≡ was → streams_in (tcp2_at (open_put xs i now) k) ≡ None → streams_in was ≡ None
   streams_too k None e none = refl
-  streams_too k (Some x) e none = sym (ap streams_in (tcp_in_put xs i (Open o) (Open now) k x at e)) ∙ none
+  streams_too k (Some x) e none = sym (ap streams_in (put_still udp_sort tcp_sort (λ t. refl) xs i (Open o) (Open now) k x at e)) ∙ none
 
   open_too : (k : ℕ) (was : Option Udp2Socket) → udp2_at xs k ≡ was → open_at (open_put xs i now) k ≡ None → open_of was ≡ None
   open_too k None e none = refl
-  open_too k (Some u) e none = elim (udp_set_get xs i (Open now) k u e) [ inl same ↦ sym (ap open_of same) ∙ none | inr changed ↦ absurd (let its : open_at (open_put xs i now) k ≡ Some now = ap open_of changed.1 in cc) ]
+  open_too k (Some u) e none = elim (put_stays udp_sort xs i (Open now) k u e) [ inl same ↦ sym (ap open_of same) ∙ none | inr changed ↦ absurd (let its : open_at (open_put xs i now) k ≡ Some now = ap open_of changed.1 in cc) ]
 
   stay_open : WatchedStay xs (open_put xs i now)
   stay_open = record { sockets = λ k. socket_too k (tcp2_at xs k) refl; streams = λ k. streams_too k (tcp2_at xs k) refl; opens = λ k. open_too k (udp2_at xs k) refl }

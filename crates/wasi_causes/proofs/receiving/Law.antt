@@ -1,4 +1,6 @@
 -- The law that of what the stream of a handle received all was handed out but what waits: by each line but one that receives on it.
+use Rattle.wasi_walks.proofs.walks.Law.{BeginsWrites, Rests, begins_by}
+use Rattle.wasi_walks.proofs.walks.Asked.{Asked, Questions, SetsBacklog, Learns, Closes, MarksOne, AsksCreate, MarksAccepted, Polls, Turns, GivesUp, UdpQuestions, UdpLearns, UdpPeers, UdpCloses, UdpBegins, MarksUdp, MarksStream, MarksError, UdpGivesUp, Resolves, Looks}
 use Rattle.wasi_causes.proofs.Words.{Allows, Asks, Call, End, Entry, Err, ErrorCode, ErrorValue, HoldsAccept, HoldsConnect, Input, IsAcceptOn, Item, Job, Kind, List, None, Ok, OpId, Operation, Option, Output, Result, Socket, Some, Step, Streams, Tcp2, Tcp2Socket, Told, WasiSocketsCtx, WriteState, [], accept_ended, allows_if, allows_then, ap, arith, bind, bind_progress, connect_ended, created_asks, entry, give_up_asks, inl, inr, is_full, kind_at, length, make_asks, name_of, new_asks, new_record, own_of, poll_asks, refl, side_at, side_of, subst, sym, told_done, turn_asks, with_handle, with_inner, with_listening, with_progress, with_state, with_writer, Bool, ℕ, ⊤, ◌++◌, ◌∙◌, ◌∷◌, ◌≡◌, ◌⊎◌}
 use Rattle.wasi_tcp.specs.Connect as connect
 use Rattle.wasi_tcp.specs.Listen.{IsListen}
@@ -20,7 +22,6 @@ use Rattle.wasi_records.specs.declared.listening.Listening.TheVariants as listen
 use Rattle.wasi_records.specs.declared.udp.OpenUdp.{OpenUdp}
 use Rattle.wasi_records.specs.declared.udp.Udp2Socket.{Udp2Socket}
 use Rattle.wasi_walks.proofs.Words.{Fits, told_addr}
-use Rattle.wasi_walks.proofs.UdpLists.{udp_set_there}
 use Rattle.wasi_walks.proofs.fits.Polls.{Anything}
 use Rattle.wasi_walks.proofs.fits.Records.{FitConnecting, FitListening, FitProgress, FitSending, FitReceiving, FitUdpProgress, SendOn, UdpBindOn, UdpConnectOn}
 use Rattle.wasi_walks.proofs.fits.UdpFits.{learnt_side}
@@ -28,10 +29,8 @@ use Rattle.wasi_walks.proofs.received.Handles.{MakesUnder, Under, was_or_new}
 use Rattle.wasi_walks.proofs.received.Polls.{AreSilent, Elsewhere, IsApart}
 use Rattle.wasi_walks.proofs.received.Silent.{WritesApart, accept_silent, bind_silent, cancelled_silent, connect_silent, given_up_silent, listen_silent, new_silent, send_silent, turn_silent, udp_bind_silent, udp_connect_silent}
 use Rattle.wasi_walks.proofs.remotes.State.{OpenKeeps, WritesBy}
-use Rattle.wasi_walks.proofs.walks.Begins.{BeginsAbove}
 use Rattle.wasi_walks.proofs.walks.Moves as walk
 use Rattle.wasi_walks.proofs.walks.Moves.{Found, FoundUdp, HasNewStream, Held, Here, Marks, MarksNext, Move, StreamMoves, ToSend, ToStream, UdpPlain, joined, listen_after, part_of, put, put_udp, receive_op, receiving_in, send_op, sending_in, udp_begun}
-use Rattle.wasi_walks.proofs.walks.OnBase.{Above}
 use Rattle.wasi_causes.proofs.Slots.{SlotOf, slot_of}
 use Rattle.wasi_causes.proofs.Steady.{IsPlain, makes_plain}
 use Rattle.wasi_causes.proofs.StreamHandles.{apart_in, streams_law}
@@ -41,6 +40,7 @@ use Rattle.wasi_causes.proofs.receiving.Polled.{Exact, hand_of}
 use Rattle.wasi_causes.proofs.GivenBack.{open_stays}
 use Rattle.wasi_causes.proofs.receiving.Polls.{Mine, Rest, apart_of, begun_none, connecting_none, no_stream, not_first, polled_tcp, polled_udp, question_else, quietly, receives, same_open, udp_question_else}
 use Rattle.wasi_causes.proofs.receiving.Streams.{Becomes, IsElse, IsFresh, Knows, NotStream, StreamAt, StreamIs, fresh_with, put_at, stays_so, stream_more, stream_push, stream_push_tcp, stream_put, stream_put_tcp, stream_same, stream_stays, stream_with, stream_without, tcp_at}
+use Rattle.wasi_walks.proofs.Places.{put_finds, udp_sort}
 
 module _ (handle : ℕ) (list : List IncomingDatagram) (contexts : List WasiSocketsCtx) (line : ℕ) (origin : Step) where
   abbrev pub B : List Entry → Here → Type 0
@@ -66,8 +66,8 @@ module _ (handle : ℕ) (list : List IncomingDatagram) (contexts : List WasiSock
   still_there es h b k o now g m live none =
       let after : Here = put_udp h k (Udp2Socket.Open now) in
       let s : SlotOf h.machine.table.live handle (Incoming k) = slot_of h.machine.table.live handle (Incoming k) live in
-      let has = (apart_of handle list contexts line origin es after ((streams_law contexts line origin).moves es h after m b.1.0)).there s.slot k s.live_one s.value in
-      let same : now ≡ has.socket = same_open now has.socket (let p : Some (Udp2Socket.Open now) ≡ Some (Udp2Socket.Open has.socket) = sym (udp_set_there h.machine.store.records k (Udp2Socket.Open o) (Udp2Socket.Open now) g) ∙ has.at in cc) in
+      let has = (apart_of handle list contexts line origin es after ((streams_law contexts line origin).moves es h after m tt b.1.0)).there s.slot k s.live_one s.value in
+      let same : now ≡ has.socket = same_open now has.socket (let p : Some (Udp2Socket.Open now) ≡ Some (Udp2Socket.Open has.socket) = sym (put_finds udp_sort h.machine.store.records k (Udp2Socket.Open o) (Udp2Socket.Open now) g) ∙ has.at in cc) in
       let p : None ≡ Some has.stream = sym none ∙ (ap (λ (x : OpenUdp). x.incoming) same ∙ has.has) in
       absurd (cc)
 
@@ -275,40 +275,45 @@ module _ (handle : ℕ) (list : List IncomingDatagram) (contexts : List WasiSock
     closed_none es h b k o q g told f live =
         let after : Here = put_udp h k (Udp2Socket.Closed o.inner.side) in
         let s : SlotOf h.machine.table.live handle (Incoming k) = slot_of h.machine.table.live handle (Incoming k) live in
-        let has = (apart_of handle list contexts line origin _ after (((streams_law contexts line origin).udp_closes es h k o q g b.1.0).1 told f)).there s.slot k s.live_one s.value in
-        let p : Some (Udp2Socket.Closed o.inner.side) ≡ Some (Udp2Socket.Open has.socket) = sym (udp_set_there h.machine.store.records k (Udp2Socket.Open o) (Udp2Socket.Closed o.inner.side) g) ∙ has.at in
+        let has = (apart_of handle list contexts line origin _ after (((streams_law contexts line origin).asks es h _ _ _ (UdpCloses k o q g) tt b.1.0).1 told f)).there s.slot k s.live_one s.value in
+        let p : Some (Udp2Socket.Closed o.inner.side) ≡ Some (Udp2Socket.Open has.socket) = sym (put_finds udp_sort h.machine.store.records k (Udp2Socket.Open o) (Udp2Socket.Closed o.inner.side) g) ∙ has.at in
         absurd (cc)
 
     -- the law: the calls may be any
-    unfoldable pub exacts : Above contexts line origin B
+    pub exacts_asks : (es : List Entry) (h : Here) (A : Type 0) (tree : Asks A) (end : A → Here)
+        → Asked contexts line origin es h A tree end → B es h → Inv es h
+        → Allows (Anything) (λ fs x. (Inv) fs (end x)) es tree
+    exacts_asks es h _ _ _ (Questions place n r x c at g o q) b i = (tt, λ told f. asked es h (own_of n) c told (question_else line origin n x c q) i)
+    exacts_asks es h _ _ _ (SetsBacklog place r x backlog at g s is) b i = (tt, λ told f. asked es h (own_of line) (Call.SetBacklog x backlog) told tt i)
+    exacts_asks es h _ _ _ (Learns place r x at g e) b i = (tt, λ told f. tcp _ h place r _ g (asked es h (own_of line) (Call.Local x) told tt i))
+    exacts_asks es h _ _ _ (Closes place r x q g e) b i = (tt, λ told f. tcp _ h place r _ g (asked es h (own_of line) (Call.Close x) told tt i))
+    exacts_asks es h _ _ _ (MarksOne kind parent sock m) b i = marks_other es h (own_of line) kind parent sock (not_stream h kind parent sock m) i
+    exacts_asks es h _ _ _ (AsksCreate ctx family c a o m) b i = allows_then Anything (λ fs made. Inv fs h) (λ fs done. StreamIs handle list fs done.1.table done.1.store.records × IsFresh handle list done.1.table) es (new_asks (own_of line) ctx family) (created_asks h.machine (own_of line)) (silent es h (new_asks (own_of line) ctx family) (λ side Names. new_silent side ⊤ Names es (own_of line) ctx family) i) (λ fs made k. joins fs h (own_of line) made k)
+    exacts_asks es h _ _ _ (MarksAccepted c s place r is e o g) b i = marks_other es h (own_of line) (Tcp2 place) (Some s) _ tt i
+    exacts_asks es h _ _ _ (Polls op after k) b i = polls_exact es h op after k b i
+    exacts_asks es h _ _ _ (Turns place r s g e) b i = quietly handle list contexts line origin h (λ done. tcp2_put h.machine.store.records place (with_writer r s done.1)) es (turn_asks s.writer) i (λ fs done p live st. tcp_at handle list fs h.machine.store.records place p r _ g st) (λ p live st. turn_silent st.socket.inner.side ⊤ (HandName (hand_of st.stream.receiving)) es s.writer (writer_apart es h b place r s g e p st))
+    exacts_asks es h _ _ _ (GivesUp place r q g) b i = quietly handle list contexts line origin h (λ done. tcp2_put h.machine.store.records place (with_listening r listening.Not)) es (give_up_asks r.listening) i (λ fs done p live st. tcp_at handle list fs h.machine.store.records place p r _ g st) (λ p live st. given_up_silent st.socket.inner.side ⊤ (HandName (hand_of st.stream.receiving)) es r.listening)
+    exacts_asks es h _ _ _ (UdpQuestions place n o c at g q) b i = (tt, λ told f. asked es h (own_of n) c told (udp_question_else line origin n o.inner.side c q) i)
+    exacts_asks es h _ _ _ (UdpLearns place part o at g) b i = (tt, λ told f. udp_same _ h place o _ g (learnt_side o.inner (told_addr told)) refl (asked es h (part_of line part) (Call.Local o.inner.side) told tt i))
+    exacts_asks es h _ _ _ (UdpPeers place o at g) b i = (tt, λ told f. udp_same _ h place o _ g refl refl (asked es h (own_of line) (Call.Peer o.inner.side) told tt i))
+    exacts_asks es h _ _ _ (UdpCloses place o q g) b i = (tt, λ told f. udp _ h place (Udp2Socket.Open o) (Udp2Socket.Closed o.inner.side) g (λ live. absurd (closed_none es h b place o q g told f live)) (asked es h (own_of line) (Call.Close o.inner.side) told tt i))
+    exacts_asks es h _ _ _ (UdpBegins ctx family c may a o m) b i = (tt, λ told f. begun _ h (udp_after_create (own_of line) ctx.name family (told_done told)) (asked es h (own_of line) (Call.UdpCreate ctx.name family) told tt i))
+    exacts_asks es h _ _ _ (MarksUdp place u g) b i = marks_other es h (udp_side u) (Udp2 place) None (Some (udp_side u)) tt i
+    exacts_asks es h _ _ _ (MarksStream place n socket reached kind next new of) b i = marks_next es h b place n socket reached kind next new of i
+    exacts_asks es h _ _ _ (MarksError n its place handles m k e f) b i = marks_other es h (own_of n) ErrorValue (Some its) (side_at (tcp2_at h.machine.store.records place)) tt i
+    exacts_asks es h _ _ _ (UdpGivesUp place create q g) b i = quietly handle list contexts line origin h (λ done. udp2_put h.machine.store.records place (Udp2Socket.Closed create.operation.who.side)) es (create_cancel_asks create) i (λ fs done p live st. put_at handle list fs h.machine.table h.machine.store.records place p (Udp2Socket.Creating create) (Udp2Socket.Closed create.operation.who.side) g live (λ same. no_stream handle list contexts line origin fs create (Udp2Socket.Closed create.operation.who.side)) st) (λ p live st. cancelled_silent st.socket.inner.side ⊤ (HandName (hand_of st.stream.receiving)) es create)
+    exacts_asks es h _ _ _ (Resolves host records l same) b i = (tt, λ told f. (stream_same handle list _ h.machine.table h.machine.store.records (records told) (same told) (asked es h (own_of line) (Call.Lookup host) told tt i).0, i.1))
+    exacts_asks es h _ _ _ (Looks place op g) b i = (tt, λ told f. asked es h op.id (Call.Lookup op.host) told tt i)
+
+    unfoldable pub exacts : Rests contexts line origin B
     exacts = record {
       P = Anything;
       Inv = Inv;
       moves = λ es h now m b i. moves_exact es h now m b i;
-      asks = λ es h place n r x c at g o q b i. (tt, λ told f. asked es h (own_of n) c told (question_else line origin n x c q) i);
-      sets = λ es h place r x backlog at g s is b i. (tt, λ told f. asked es h (own_of line) (Call.SetBacklog x backlog) told tt i);
-      learns = λ es h place r x at g e b i. (tt, λ told f. tcp _ h place r _ g (asked es h (own_of line) (Call.Local x) told tt i));
-      closes = λ es h place r x q g e b i. (tt, λ told f. tcp _ h place r _ g (asked es h (own_of line) (Call.Close x) told tt i));
-      marks = λ es h kind parent sock m b i. marks_other es h (own_of line) kind parent sock (not_stream h kind parent sock m) i;
-      creates = λ es h ctx family c a o m b i. allows_then Anything (λ fs made. Inv fs h) (λ fs done. StreamIs handle list fs done.1.table done.1.store.records × IsFresh handle list done.1.table) es (new_asks (own_of line) ctx family) (created_asks h.machine (own_of line)) (silent es h (new_asks (own_of line) ctx family) (λ side Names. new_silent side ⊤ Names es (own_of line) ctx family) i) (λ fs made k. joins fs h (own_of line) made k);
-      accepted = λ es h c s place r is e o g b i. marks_other es h (own_of line) (Tcp2 place) (Some s) _ tt i;
-      polls = λ es h op after k b i. polls_exact es h op after k b i;
-      turns = λ es h place r s g e b i. quietly handle list contexts line origin h (λ done. tcp2_put h.machine.store.records place (with_writer r s done.1)) es (turn_asks s.writer) i (λ fs done p live st. tcp_at handle list fs h.machine.store.records place p r _ g st) (λ p live st. turn_silent st.socket.inner.side ⊤ (HandName (hand_of st.stream.receiving)) es s.writer (writer_apart es h b place r s g e p st));
-      gives_up = λ es h place r q g b i. quietly handle list contexts line origin h (λ done. tcp2_put h.machine.store.records place (with_listening r listening.Not)) es (give_up_asks r.listening) i (λ fs done p live st. tcp_at handle list fs h.machine.store.records place p r _ g st) (λ p live st. given_up_silent st.socket.inner.side ⊤ (HandName (hand_of st.stream.receiving)) es r.listening);
-      udp_asks = λ es h place n o c at g q b i. (tt, λ told f. asked es h (own_of n) c told (udp_question_else line origin n o.inner.side c q) i);
-      udp_peers = λ es h place o at g b i. (tt, λ told f. udp_same _ h place o _ g refl refl (asked es h (own_of line) (Call.Peer o.inner.side) told tt i));
-      udp_learns = λ es h place part o at g b i. (tt, λ told f. udp_same _ h place o _ g (learnt_side o.inner (told_addr told)) refl (asked es h (part_of line part) (Call.Local o.inner.side) told tt i));
-      udp_closes = λ es h place o q g b i. (tt, λ told f. udp _ h place (Udp2Socket.Open o) (Udp2Socket.Closed o.inner.side) g (λ live. absurd (closed_none es h b place o q g told f live)) (asked es h (own_of line) (Call.Close o.inner.side) told tt i));
-      udp_creates = λ es h ctx family c may a o m b i. (tt, λ told f. begun _ h (udp_after_create (own_of line) ctx.name family (told_done told)) (asked es h (own_of line) (Call.UdpCreate ctx.name family) told tt i));
-      udp_marks = λ es h place u g b i. marks_other es h (udp_side u) (Udp2 place) None (Some (udp_side u)) tt i;
-      stream_marks = λ es h place n socket reached kind next new of b i. marks_next es h b place n socket reached kind next new of i;
-      error_marks = λ es h n its place handles m k e f b i. marks_other es h (own_of n) ErrorValue (Some its) (side_at (tcp2_at h.machine.store.records place)) tt i;
-      udp_gives_up = λ es h place create q g b i. quietly handle list contexts line origin h (λ done. udp2_put h.machine.store.records place (Udp2Socket.Closed create.operation.who.side)) es (create_cancel_asks create) i (λ fs done p live st. put_at handle list fs h.machine.table h.machine.store.records place p (Udp2Socket.Creating create) (Udp2Socket.Closed create.operation.who.side) g live (λ same. no_stream handle list contexts line origin fs create (Udp2Socket.Closed create.operation.who.side)) st) (λ p live st. cancelled_silent st.socket.inner.side ⊤ (HandName (hand_of st.stream.receiving)) es create);
-      lookups = λ es h host l b i. (tt, λ told f records s. (stream_same handle list _ h.machine.table h.machine.store.records records s (asked es h (own_of line) (Call.Lookup host) told tt i).0, i.1));
-      looks = λ es h place op g b i. (tt, λ told f. asked es h op.id (Call.Lookup op.host) told tt i);
+      asks = exacts_asks;
     }
 
     -- a write that begins in a call of streams
-    pub begins_exacts : BeginsAbove exacts
+    pub begins_exacts : BeginsWrites exacts
     unfolding exacts
-    begins_exacts = record { begins = λ es h place n r s half permit bytes at g e w within own b i. tcp es h place r _ g i }
+    begins_exacts = begins_by exacts (λ es h place n r s half permit bytes at g e w within own b i. tcp es h place r _ g i)

@@ -10,10 +10,9 @@ use Rattle.wasi_records.specs.declared.name_lookup.LookupOp.{LookupOp}
 use Rattle.wasi_records.specs.declared.records.Record.{Record}
 use Rattle.wasi_records.specs.declared.udp.Udp2Socket.{Udp2Socket}
 use Rattle.wasi_walks.proofs.GoneLists.{was_there}
-use Rattle.wasi_walks.proofs.Lists.{get_set, get_split}
-use Rattle.wasi_walks.proofs.UdpLists.{tcp_of_put, tcp_of_push, udp_get_set, udp_of_put, udp_of_push, udp_split}
 use Rattle.wasi_walks.proofs.walks.Here.{Grows, IsOlder}
 use Rattle.wasi_walks.proofs.walks.Moves.{Collects, Closes, KeepsOp, Lasts, LastsAfter, Names, Own, Permits, SameSockets, WriterMoves, receive_op, receiving_in}
+use Rattle.wasi_walks.proofs.Places.{push_found, push_new, push_was, put_found, put_was, tcp_sort, udp_sort}
 
 -- == of a record
 abbrev pub name_of_op : Option Operation → Option OpId
@@ -64,19 +63,19 @@ module _ (line : ℕ) where
     -- a TCP socket changes, or joins them
     pub put_tcp : (place : ℕ) (now : Tcp2Socket) → IsFirst (streams_name now.streams) → NamesApart line own records → NamesApart line own (tcp2_put records place now)
     put_tcp place now f i = record {
-      later = λ k u x e r. i.later k u x (udp_of_put records place now k u e) r;
-      apart = λ a b u v x e g r s. i.apart a b u v x (udp_of_put records place now a u e) (udp_of_put records place now b v g) r s;
-      connects = λ k u e. i.connects k u (udp_of_put records place now k u e);
-      writes = λ k r e. elim (get_set records place now k r e) [ inl p ↦ subst (λ (q : Tcp2Socket). IsFirst (streams_name q.streams)) p.1 f | inr p ↦ i.writes k r p ];
+      later = λ k u x e r. i.later k u x (put_was tcp_sort udp_sort (λ t. refl) records place now k u e) r;
+      apart = λ a b u v x e g r s. i.apart a b u v x (put_was tcp_sort udp_sort (λ t. refl) records place now a u e) (put_was tcp_sort udp_sort (λ t. refl) records place now b v g) r s;
+      connects = λ k u e. i.connects k u (put_was tcp_sort udp_sort (λ t. refl) records place now k u e);
+      writes = λ k r e. elim (put_found tcp_sort records place now k r e) [ inl p ↦ subst (λ (q : Tcp2Socket). IsFirst (streams_name q.streams)) p.1 f | inr p ↦ i.writes k r p ];
       gives = i.gives;
     }
 
     pub push_tcp : (now : Tcp2Socket) → IsFirst (streams_name now.streams) → NamesApart line own records → NamesApart line own (tcp2_pushed records now)
     push_tcp now f i = record {
-      later = λ k u x e r. i.later k u x (udp_of_push records now k u e) r;
-      apart = λ a b u v x e g r s. i.apart a b u v x (udp_of_push records now a u e) (udp_of_push records now b v g) r s;
-      connects = λ k u e. i.connects k u (udp_of_push records now k u e);
-      writes = λ k r e. elim (get_split records now k r e) [ inl p ↦ i.writes k r p | inr p ↦ subst (λ (q : Tcp2Socket). IsFirst (streams_name q.streams)) p f ];
+      later = λ k u x e r. i.later k u x (push_was tcp_sort udp_sort (λ t. refl) records now k u e) r;
+      apart = λ a b u v x e g r s. i.apart a b u v x (push_was tcp_sort udp_sort (λ t. refl) records now a u e) (push_was tcp_sort udp_sort (λ t. refl) records now b v g) r s;
+      connects = λ k u e. i.connects k u (push_was tcp_sort udp_sort (λ t. refl) records now k u e);
+      writes = λ k r e. elim (push_new tcp_sort records now k r e) [ inl p ↦ i.writes k r p | inr p ↦ subst (λ (q : Tcp2Socket). IsFirst (streams_name q.streams)) p f ];
       gives = i.gives;
     }
 
@@ -84,7 +83,7 @@ module _ (line : ℕ) where
     module _ (place : ℕ) (old now : Udp2Socket) (at : udp2_at records place ≡ Some old) (names : (receive_name now ≡ receive_name old) ⊎ (receive_name now ≡ None)) (i : NamesApart line own records) where
       -- it had the name before
       had : (k : ℕ) (u : Udp2Socket) (x : OpId) → udp2_at (udp2_put records place now) k ≡ Some u → receive_name u ≡ Some x → (v : Udp2Socket) × ((udp2_at records k ≡ Some v) × (receive_name v ≡ Some x))
-      had k u x e r = elim (udp_get_set records place now k u e) [
+      had k u x e r = elim (put_found udp_sort records place now k u e) [
         | inl p ↦ elim names [
           | inl same ↦ (old, (ap (udp2_at records) p.0 ∙ at, sym same ∙ (ap receive_name p.1 ∙ r)))
           | inr none ↦ absurd (let q : None ≡ Some x = sym none ∙ (ap receive_name p.1 ∙ r) in cc)
@@ -96,8 +95,8 @@ module _ (line : ℕ) where
       put_udps f = record {
         later = λ k u x e r. (let h = had k u x e r in i.later k h.0 x h.1.0 h.1.1);
         apart = λ a b u v x e g r s. (let h = had a u x e r in let j = had b v x g s in i.apart a b h.0 j.0 x h.1.0 j.1.0 h.1.1 j.1.1);
-        connects = λ k u e. elim (udp_get_set records place now k u e) [ inl p ↦ subst (λ (v : Udp2Socket). IsFirst (connect_name v)) p.1 f | inr p ↦ i.connects k u p ];
-        writes = λ k r e. i.writes k r (tcp_of_put records place now k r e);
+        connects = λ k u e. elim (put_found udp_sort records place now k u e) [ inl p ↦ subst (λ (v : Udp2Socket). IsFirst (connect_name v)) p.1 f | inr p ↦ i.connects k u p ];
+        writes = λ k r e. i.writes k r (put_was udp_sort tcp_sort (λ t. refl) records place now k r e);
         gives = i.gives;
       }
 
@@ -105,16 +104,16 @@ module _ (line : ℕ) where
     pub begins_apart : (place : ℕ) (now : Udp2Socket) (x : OpId) (next : Own) → receive_name now ≡ Some x → IsFirst (connect_name now) → 1 ≤ x.part → (IsOlder line own x → ⊥) → IsOlder line next x → Grows line own next → GivesLater next
         → NamesApart line own records → NamesApart line next (udp2_put records place now)
     begins_apart place now x next its f part new given l g i = record {
-      later = λ k u y e r. elim (udp_get_set records place now k u e) [
+      later = λ k u y e r. elim (put_found udp_sort records place now k u e) [
         | inl p ↦ (let q : x ≡ y = same y (ap receive_name p.1 ∙ r) in subst (λ (z : OpId). (1 ≤ z.part) × IsOlder line next z) q (part, given))
         | inr p ↦ (let b = i.later k u y p r in (b.0, l y b.1))
       ];
-      apart = λ a b u v y e h r s. elim (udp_get_set records place now a u e) [
-        | inl p ↦ elim (udp_get_set records place now b v h) [ inl q ↦ p.0 ∙ sym q.0 | inr q ↦ absurd (new (subst (IsOlder line own) (sym (same y (ap receive_name p.1 ∙ r))) (i.later b v y q s).1)) ]
-        | inr p ↦ elim (udp_get_set records place now b v h) [ inl q ↦ absurd (new (subst (IsOlder line own) (sym (same y (ap receive_name q.1 ∙ s))) (i.later a u y p r).1)) | inr q ↦ i.apart a b u v y p q r s ]
+      apart = λ a b u v y e h r s. elim (put_found udp_sort records place now a u e) [
+        | inl p ↦ elim (put_found udp_sort records place now b v h) [ inl q ↦ p.0 ∙ sym q.0 | inr q ↦ absurd (new (subst (IsOlder line own) (sym (same y (ap receive_name p.1 ∙ r))) (i.later b v y q s).1)) ]
+        | inr p ↦ elim (put_found udp_sort records place now b v h) [ inl q ↦ absurd (new (subst (IsOlder line own) (sym (same y (ap receive_name q.1 ∙ s))) (i.later a u y p r).1)) | inr q ↦ i.apart a b u v y p q r s ]
       ];
-      connects = λ k u e. elim (udp_get_set records place now k u e) [ inl p ↦ subst (λ (v : Udp2Socket). IsFirst (connect_name v)) p.1 f | inr p ↦ i.connects k u p ];
-      writes = λ k r e. i.writes k r (tcp_of_put records place now k r e);
+      connects = λ k u e. elim (put_found udp_sort records place now k u e) [ inl p ↦ subst (λ (v : Udp2Socket). IsFirst (connect_name v)) p.1 f | inr p ↦ i.connects k u p ];
+      writes = λ k r e. i.writes k r (put_was udp_sort tcp_sort (λ t. refl) records place now k r e);
       gives = g;
     }
       where
@@ -124,13 +123,13 @@ module _ (line : ℕ) where
     -- a UDP socket joins them, which does nothing yet
     pub push_udps : (now : Udp2Socket) → receive_name now ≡ None → IsFirst (connect_name now) → NamesApart line own records → NamesApart line own (udp2_pushed records now)
     push_udps now none f i = record {
-      later = λ k u x e r. elim (udp_split records now k u e) [ inl p ↦ i.later k u x p r | inr p ↦ absurd (no_name u x p.0 r) ];
-      apart = λ a b u v x e g r s. elim (udp_split records now a u e) [
-        | inl p ↦ elim (udp_split records now b v g) [ inl q ↦ i.apart a b u v x p q r s | inr q ↦ absurd (no_name v x q.0 s) ]
+      later = λ k u x e r. elim (push_found udp_sort records now k u e) [ inl p ↦ i.later k u x p r | inr p ↦ absurd (no_name u x p.0 r) ];
+      apart = λ a b u v x e g r s. elim (push_found udp_sort records now a u e) [
+        | inl p ↦ elim (push_found udp_sort records now b v g) [ inl q ↦ i.apart a b u v x p q r s | inr q ↦ absurd (no_name v x q.0 s) ]
         | inr p ↦ absurd (no_name u x p.0 r)
       ];
-      connects = λ k u e. elim (udp_split records now k u e) [ inl p ↦ i.connects k u p | inr p ↦ subst (λ (v : Udp2Socket). IsFirst (connect_name v)) p.0 f ];
-      writes = λ k r e. i.writes k r (tcp_of_push records now k r e);
+      connects = λ k u e. elim (push_found udp_sort records now k u e) [ inl p ↦ i.connects k u p | inr p ↦ subst (λ (v : Udp2Socket). IsFirst (connect_name v)) p.0 f ];
+      writes = λ k r e. i.writes k r (push_was udp_sort tcp_sort (λ t. refl) records now k r e);
       gives = i.gives;
     }
       where

@@ -1,24 +1,24 @@
 -- The law that names of receives in progress are apart, from one another and from those of connects and writes.
-use Rattle.wasi_causes.proofs.Words.{Allows, Done, End, Entry, Err, ErrorCode, ErrorValue, Item, Job, List, None, Ok, OpId, Operation, Option, Refused, Result, Socket, Some, Step, Tcp2, Tcp2Socket, Waits, WasiSocketsCtx, WriteState, allows_then, ap, arith, created_asks, give_up_asks, inl, inr, job_asks, job_in, length, make_asks, new_asks, new_record, own_of, poll_asks, refl, side_at, side_of, subst, sym, told_done, turn_asks, with_listening, with_writer, ℕ, ⊤, ◌+◌, ◌∙◌, ◌≡◌}
-use Rattle.wasi_udp.specs.Create.{Create, after_create as udp_after_create, create_cancel_asks}
+use Rattle.wasi_walks.proofs.walks.Law.{BeginsWrites, InCall, Rests}
+use Rattle.wasi_causes.proofs.Words.{Allows, Done, End, Entry, Err, ErrorCode, Item, Job, List, None, Ok, Operation, Option, Refused, Result, Some, Step, Tcp2Socket, Waits, WasiSocketsCtx, WriteState, allows_then, ap, arith, inl, inr, job_asks, job_in, own_of, poll_asks, refl, subst, sym, turn_asks, with_writer, ℕ, ⊤, ◌+◌, ◌∙◌, ◌≡◌}
+use Rattle.wasi_udp.specs.Create.{Create, after_create as udp_after_create}
 use Rattle.wasi_records.specs.Datagrams.{udp_connect_left}
 use Rattle.wasi_records.specs.Receiving.{receive_left, with_receiving}
-use Rattle.wasi_records.specs.Records.{tcp2_at}
-use Rattle.wasi_records.specs.Udp.{udp_create_left, udp_side}
+use Rattle.wasi_records.specs.Udp.{udp_create_left}
 use Rattle.wasi_records.specs.declared.datagrams.Receiving.{Receiving}
-use Rattle.wasi_host.specs.declared.kind.Kind.TheVariants.{Udp2}
-use Rattle.wasi_records.specs.declared.listening.Listening.TheVariants as listening
 use Rattle.wasi_records.specs.declared.udp.OpenUdp.{OpenUdp}
 use Rattle.wasi_records.specs.declared.udp.Udp2Socket.{Udp2Socket}
 use Rattle.wasi_walks.proofs.Words.{allows_weaker}
 use Rattle.wasi_walks.proofs.fits.Law.{whatever}
 use Rattle.wasi_walks.proofs.fits.Polls.{Anything}
-use Rattle.wasi_walks.proofs.walks.Begins.{BeginsAbove}
 use Rattle.wasi_walks.proofs.walks.Here.{grows_to, next_given, next_grows, next_to_come, not_given, older_unused, older_used}
 use Rattle.wasi_walks.proofs.walks.Moves as walk
 use Rattle.wasi_walks.proofs.walks.Moves.{FoundUdp, Held, Here, Move, Names, Own, ToConnect, Unused, Used, joined, part_of, put, put_udp, udp_begun}
-use Rattle.wasi_walks.proofs.walks.OnBase.{Above}
 use Rattle.wasi_causes.proofs.receiving.Named.{GivesLater, IsFirst, NamesApart, begins_apart, connect_name, job_name, kept_name, moves_first, name_of_op, owns_apart, polled_name, push_tcp, push_udps, put_tcp, put_udps, receive_name, same_apart, fewer_apart, streams_name}
+use Rattle.wasi_walks.proofs.walks.OfState.{Becomes, Created, CreatedWith, GivenUp, IsClosed, Learnt, OfState, Resolved, UdpBegun}
+use Rattle.wasi_walks.proofs.walks.OfState.{UdpGivenUp, UdpIsClosed, UdpLearnt, Writing, begins_state, of_state}
+use Rattle.wasi_records.specs.Records.{tcp2_pushed}
+use Rattle.wasi_causes.proofs.Words.{Streams}
 
 module _ (contexts : List WasiSocketsCtx) (line : ℕ) (origin : Step) where
   abbrev pub Apart : Here → Type 0
@@ -125,54 +125,62 @@ module _ (contexts : List WasiSocketsCtx) (line : ℕ) (origin : Step) where
   begun_apart h (Ok create) i = used (record h { machine = (udp_begun h (Ok create)).machine }) (push_udps line h.own h.machine.store.records (Udp2Socket.Creating create) refl tt i)
   begun_apart h (Err c) i = used h i
 
-  -- a socket that is created joins the records
-  pub joins : (es : List Entry) (h : Here) (own : OpId) (made : Result Socket ErrorCode) → Apart h → Allows Anything (λ fs done. Apart (record h { machine = done.1; own = Used })) es (created_asks h.machine own made)
-  joins es h own (Err c) i = used h i
-  joins es h own (Ok socket) i =
-      allows_then Anything (λ fs made. ⊤) (λ fs done. Apart (record h { machine = done.1; own = Used })) es (make_asks h.machine.table own (Tcp2 (length h.machine.store.records)) None (side_of socket)) _
-      (whatever (λ made. ⊤) (λ made. tt) es (make_asks h.machine.table own (Tcp2 (length h.machine.store.records)) None (side_of socket)))
-      (λ fs made k. owns_apart line h.own Used _ (older_used line h.own) tt (push_tcp line h.own h.machine.store.records (new_record socket) tt i))
+  created : (h : Here) (new : Tcp2Socket) → new.streams ≡ None → Apart h
+      → NamesApart line Used (tcp2_pushed h.machine.store.records new)
+  created h new none i =
+      let first : IsFirst (streams_name new.streams) =
+      subst (λ (s : Option _). IsFirst (streams_name s)) (sym none) tt in
+      owns_apart line h.own Used _ (older_used line h.own) tt (push_tcp line h.own h.machine.store.records new first i)
+
+  pub becomes_apart : (h now : Here) → Becomes contexts line origin h now → Apart h → Apart now
+  becomes_apart h _ (Learnt place r side told at g e) i = tcp_stays h place r _ g refl i
+  becomes_apart h _ (IsClosed place r side q g e) i = tcp_none h place _ refl i
+  becomes_apart h _ (GivenUp place r q g) i = tcp_stays h place r _ g refl i
+  becomes_apart h _ (UdpLearnt place o socket g e) i = udp_stays h place o _ g refl refl i
+  becomes_apart h _ (UdpIsClosed place o q g) i =
+      udp_other h place (Udp2Socket.Open o) (Udp2Socket.Closed o.inner.side) g refl tt i
+  becomes_apart h _ (UdpGivenUp place create q g) i = udp_other h place (Udp2Socket.Creating create) _ g refl tt i
+  becomes_apart h _ (UdpBegun ctx family r c u m) i = begun_apart h (udp_after_create (own_of line) ctx.name family r) i
+  becomes_apart h _ (Resolved host records l same) i = same_apart line h.own h.machine.store.records records same i
+  becomes_apart h _ (Created ctx family c u m) i = created h _ refl i
+  becomes_apart h _ (CreatedWith ctx family c u m) i = created h _ refl i
+  becomes_apart h _ (Writing _ (InCall place n r s half permit bytes at g e w within own)) i =
+      used (put h place _) (put_tcp line h.own h.machine.store.records place _ refl i)
+  becomes_apart h _ _ i = record { later = i.later; apart = i.apart; connects = i.connects; writes = i.writes; gives = i.gives }
 
   -- a turn of a writer
   job_first : (es : List Entry) (job : Job) (end : End) → IsFirst (Some job.write.who.id) → Allows Anything (λ fs j. IsFirst (Some j.write.who.id)) es (job_in job end)
   job_first es job Waits f = allows_then Anything (λ fs ended. ⊤) (λ fs j. IsFirst (Some j.write.who.id)) es (poll_asks job.write) _ (whatever (λ ended. ⊤) (λ ended. tt) es (poll_asks job.write)) (λ fs ended k. f)
   job_first es job _ f = f
 
-  pub turn_first : (es : List Entry) (w : WriteState) → IsFirst (job_name w) → Allows Anything (λ fs done. IsFirst (job_name done.1)) es (turn_asks w)
+  turn_first : (es : List Entry) (w : WriteState) → IsFirst (job_name w) → Allows Anything (λ fs done. IsFirst (job_name done.1)) es (turn_asks w)
   turn_first es (WriteState.Writing job) f = allows_then Anything (λ fs j. IsFirst (Some j.write.who.id)) (λ fs done. IsFirst (job_name done.1)) es (job_asks job) _ (job_first es job job.end f) (λ fs j k. k)
   turn_first es (WriteState.Closing job) f = allows_then Anything (λ fs j. IsFirst (Some j.write.who.id)) (λ fs done. IsFirst (job_name done.1)) es (job_asks job) _ (job_first es job job.end f) (λ fs j k. k)
   turn_first es _ f = f
 
+  pub turns_apart : (es : List Entry) (h : Here) (place : ℕ) (r : Tcp2Socket) (s : Streams) → walk.Found h place r
+      → r.streams ≡ Some s → Apart h
+      → Allows Anything (λ fs done. Apart (put h place (with_writer r s done.1))) es (turn_asks s.writer)
+  turns_apart es h place r s g e i =
+      allows_weaker Anything (λ fs done. IsFirst (job_name done.1))
+      (λ fs done. Apart (put h place (with_writer r s done.1)))
+      (λ fs done k. put_tcp line h.own h.machine.store.records place _ k i) es (turn_asks s.writer)
+      (turn_first es s.writer (subst (λ (s : Option _). IsFirst (streams_name s)) e (i.writes place r g)))
+
   module _ (B : List Entry → Here → Type 0) where
-    -- the law: the calls may be any
-    unfoldable pub names_apart : Above contexts line origin B
-    names_apart = record {
-      P = Anything;
-      Inv = λ es h. Apart h;
+    abbrev names_state : OfState contexts line origin B
+    names_state = record {
+      Holds = Apart;
       moves = λ es h now m b i. moves_apart h now m i;
-      asks = λ es h place n r x c at g o q b i. (tt, λ told f. i);
-      sets = λ es h place r x backlog at g s is b i. (tt, λ told f. i);
-      learns = λ es h place r x at g e b i. (tt, λ told f. tcp_stays h place r _ g refl i);
-      closes = λ es h place r x q g e b i. (tt, λ told f. tcp_none h place _ refl i);
-      marks = λ es h kind parent sock m b i. whatever (λ made. Apart h) (λ made. i) es (make_asks h.machine.table (own_of line) kind parent sock);
-      creates = λ es h ctx family c a o m b i. allows_then Anything (λ fs made. ⊤) (λ fs done. Apart (record h { machine = done.1; own = Used })) es (new_asks (own_of line) ctx family) (created_asks h.machine (own_of line)) (whatever (λ made. ⊤) (λ made. tt) es (new_asks (own_of line) ctx family)) (λ fs made k. joins fs h (own_of line) made i);
-      accepted = λ es h c s place r is e o g b i. whatever (λ made. Apart h) (λ made. i) es (make_asks h.machine.table (own_of line) (Tcp2 place) (Some s) _);
+      becomes = λ es h now k b i. becomes_apart h now k i;
       polls = λ es h op after k b i. whatever (λ ended. Apart (after ended)) (λ ended. polls_apart h op after k ended i) es (poll_asks op);
-      turns = λ es h place r s g e b i. allows_weaker Anything (λ fs done. IsFirst (job_name done.1)) (λ fs done. Apart (put h place (with_writer r s done.1))) (λ fs done k. put_tcp line h.own h.machine.store.records place _ k i) es (turn_asks s.writer) (turn_first es s.writer (subst (λ (s : Option _). IsFirst (streams_name s)) e (i.writes place r g)));
-      gives_up = λ es h place r q g b i. whatever (λ done. Apart (put h place (with_listening r listening.Not))) (λ done. tcp_stays h place r _ g refl i) es (give_up_asks r.listening);
-      udp_asks = λ es h place n o c at g q b i. (tt, λ told f. i);
-      udp_peers = λ es h place o at g b i. (tt, λ told f. udp_stays h place o _ g refl refl i);
-      udp_learns = λ es h place part o at g b i. (tt, λ told f. udp_stays h place o _ g refl refl i);
-      udp_closes = λ es h place o q g b i. (tt, λ told f. udp_other h place (Udp2Socket.Open o) (Udp2Socket.Closed o.inner.side) g refl tt i);
-      udp_creates = λ es h ctx family c may a o m b i. (tt, λ told f. begun_apart h (udp_after_create (own_of line) ctx.name family (told_done told)) i);
-      udp_marks = λ es h place u g b i. whatever (λ made. Apart h) (λ made. i) es (make_asks h.machine.table (udp_side u) (Udp2 place) None (Some (udp_side u)));
-      stream_marks = λ es h place n handle reached kind m new e b i. whatever (λ made. Apart h) (λ made. i) es (make_asks h.machine.table (own_of n) kind (Some handle) _);
-      error_marks = λ es h n handle place handles m k e f b i. whatever (λ made. Apart h) (λ made. i) es (make_asks h.machine.table (own_of n) ErrorValue (Some handle) (side_at (tcp2_at h.machine.store.records place)));
-      udp_gives_up = λ es h place create q g b i. whatever (λ done. Apart (put_udp h place (Udp2Socket.Closed create.operation.who.side))) (λ done. udp_other h place (Udp2Socket.Creating create) _ g refl tt i) es (create_cancel_asks create);
-      lookups = λ es h host l b i. (tt, λ told f records s. same_apart line h.own h.machine.store.records records s i);
-      looks = λ es h place op g b i. (tt, λ told f. i);
+      turns = λ es h place r s g e b i. turns_apart es h place r s g e i;
     }
 
-    pub begins_names : BeginsAbove names_apart
+    -- the law: the calls may be any
+    unfoldable pub names_apart : Rests contexts line origin B
+    names_apart = of_state names_state
+
+    pub begins_names : BeginsWrites names_apart
     unfolding names_apart
-    begins_names = record { begins = λ es h place n r s half permit bytes at g e w within own b i. used (put h place _) (put_tcp line h.own h.machine.store.records place _ refl i) }
+    begins_names = begins_state names_state

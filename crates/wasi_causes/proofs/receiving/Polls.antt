@@ -13,7 +13,6 @@ use Rattle.wasi_records.specs.declared.records.Record.{Record}
 use Rattle.wasi_records.specs.declared.udp.OpenUdp.{OpenUdp}
 use Rattle.wasi_records.specs.declared.udp.Udp2Socket.{Udp2Socket}
 use Rattle.wasi_walks.proofs.Words.{allows_weaker}
-use Rattle.wasi_walks.proofs.UdpLists.{udp_set_there}
 use Rattle.wasi_walks.proofs.claims.Law.{Base}
 use Rattle.wasi_walks.proofs.fits.Polls.{Anything}
 use Rattle.wasi_walks.proofs.fits.Records.{ReceiveOn}
@@ -26,6 +25,7 @@ use Rattle.wasi_causes.proofs.receiving.Along.{HandName}
 use Rattle.wasi_causes.proofs.receiving.Named.{NamesApart, name_of_op, receive_name}
 use Rattle.wasi_causes.proofs.receiving.Polled.{Exact, hand_in, hand_of, poll_exact}
 use Rattle.wasi_causes.proofs.receiving.Streams.{Becomes, IsElse, IsFresh, Knows, StreamAt, StreamIs, at_other, at_silent, its_name, put_at, same_place, stream_along, tcp_at}
+use Rattle.wasi_walks.proofs.Places.{put_finds, udp_sort}
 
 -- no question does anything to a stream
 pub question_else : (line : ℕ) (origin : Step) (n : ℕ) (x : OpId) (c : Call) → IsQuestionOf line origin n x c → IsElse c
@@ -119,7 +119,7 @@ module _ (handle : ℕ) (list : List IncomingDatagram) (contexts : List WasiSock
       let knows : Knows handle list es o inc = subst (λ (x : IncomingStream). Knows handle list es o x) (sym stream) first in
       let hand : Exact handle o.inner.side inc.remote es list (Receiving.InProgress op) = subst (λ (r : Receiving). Exact handle o.inner.side inc.remote es list r) f knows in
       allows_weaker Anything (λ fs ended. Exact handle op.who.side inc.remote fs list (receive_left op ended)) (λ fs ended. StreamAt handle list fs (udp2_put h.machine.store.records k (Udp2Socket.Open (now ended))) k)
-      (λ fs ended n. record { socket = now ended; at = udp_set_there h.machine.store.records k (Udp2Socket.Open o) (Udp2Socket.Open (now ended)) g; stream = with_receiving inc (receive_left op ended); has = refl; knows = subst (λ (x : OpId). Exact handle x inc.remote fs list (receive_left op ended)) its.of_side n }) es (poll_asks (wanting inc.remote op))
+      (λ fs ended n. record { socket = now ended; at = put_finds udp_sort h.machine.store.records k (Udp2Socket.Open o) (Udp2Socket.Open (now ended)) g; stream = with_receiving inc (receive_left op ended); has = refl; knows = subst (λ (x : OpId). Exact handle x inc.remote fs list (receive_left op ended)) its.of_side n }) es (poll_asks (wanting inc.remote op))
       (poll_exact handle inc.remote list op es its.receive (subst (λ (x : OpId). Exact handle x inc.remote es list (Receiving.InProgress op)) (sym its.of_side) hand))
 
   -- of another one: it asks another network socket, by another name

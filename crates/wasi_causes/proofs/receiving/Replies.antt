@@ -24,7 +24,6 @@ use Rattle.wasi_steps.specs.Reply.{datagram_values, received_values}
 use Rattle.wasi_steps.specs.declared.step.Step.TheVariants as step
 use Rattle.wasi_walks.proofs.Words.{allows_weaker}
 use Rattle.wasi_walks.proofs.Lists.{cut_more}
-use Rattle.wasi_walks.proofs.UdpLists.{udp_set_there}
 use Rattle.wasi_walks.proofs.fits.Polls.{Anything}
 use Rattle.wasi_walks.proofs.licence.Replies.{allows_both}
 use Rattle.wasi_walks.proofs.licence.State.{RemoteIs}
@@ -36,6 +35,7 @@ use Rattle.wasi_causes.proofs.receiving.Handed.{IsGiven, Leaves, receives_exact}
 use Rattle.wasi_causes.proofs.receiving.Lines.{RestBetween, line_exact, line_rest}
 use Rattle.wasi_causes.proofs.receiving.Polled.{Exact, with_waiting}
 use Rattle.wasi_causes.proofs.receiving.Streams.{IsFresh, StreamAt, StreamIs, same_place}
+use Rattle.wasi_walks.proofs.Places.{put_finds, udp_sort}
 
 -- == what was handed out on a handle
 pub waiting_is : (list : List IncomingDatagram) (r : Receiving) → with_waiting list r ≡ list ++ waiting r
@@ -156,7 +156,7 @@ module _ (handle : ℕ) where
             new = x.new;
             gives = gives_so done.0 x.new o.inner.side inc.remote x.gives;
             stream = λ other d. subst (StreamAt handle (list ++ x.new) fs (with_receive m.store place o done.1).records) (let p : Some (Incoming place) ≡ Some (Incoming other) = sym live ∙ d in cc)
-                (record { socket = done.1; at = ap (λ rs. udp2_at rs place) (jobbed m.store place o done.1) ∙ udp_set_there m.store.records place (Udp2Socket.Open o) (Udp2Socket.Open done.1) at; stream = x.stream; has = x.has; knows = x.knows });
+                (record { socket = done.1; at = ap (λ rs. udp2_at rs place) (jobbed m.store place o done.1) ∙ put_finds udp_sort m.store.records place (Udp2Socket.Open o) (Udp2Socket.Open done.1) at; stream = x.stream; has = x.has; knows = x.knows });
             fresh = λ l. (let older = k.rest.streams.1.1.older handle (Incoming place) live in absurd (omega (arith, l, older)));
             fronts = inr (front_of (list ++ x.new) fs done.1.inner.side x.stream.remote x.stream.receiving x.knows);
           }

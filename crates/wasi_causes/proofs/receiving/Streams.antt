@@ -14,7 +14,6 @@ use Rattle.wasi_records.specs.declared.records.Record.{Record}
 use Rattle.wasi_records.specs.declared.udp.OpenUdp.{OpenUdp}
 use Rattle.wasi_records.specs.declared.udp.Udp2Socket.{Udp2Socket}
 use Rattle.wasi_walks.proofs.Words.{allows_weaker, ◌≤◌}
-use Rattle.wasi_walks.proofs.UdpLists.{udp_front, udp_in_push, udp_in_put, udp_set_get}
 use Rattle.wasi_walks.proofs.fits.Law.{whatever}
 use Rattle.wasi_walks.proofs.fits.Polls.{Anything}
 use Rattle.wasi_walks.proofs.received.Handles.{was_or_new}
@@ -24,6 +23,7 @@ use Rattle.wasi_walks.proofs.walks.Moves.{SameSockets, receive_op}
 use Rattle.wasi_causes.proofs.receiving.Along.{HandName, along_quiet, along_silent, quiet}
 use Rattle.wasi_causes.proofs.receiving.Named.{name_of_op}
 use Rattle.wasi_causes.proofs.receiving.Polled.{Exact, hand_in, hand_of, with_waiting}
+use Rattle.wasi_walks.proofs.Places.{push_still, put_stays, put_still, tcp_sort, udp_sort}
 
 -- two numbers are the same or not
 pub same_place : (a b : ℕ) → (a ≡ b) ⊎ (a ≡ b → ⊥)
@@ -126,7 +126,7 @@ module _ (handle : ℕ) (list : List IncomingDatagram) where
   same_udp u v e = cc
 
   at_put : (es : List Entry) (records : List Record) (k place : ℕ) (u now : Udp2Socket) → udp2_at records k ≡ Some u → (place ≡ k → Becomes es u now) → StreamAt es records place → StreamAt es (udp2_put records k now) place
-  at_put es records k place u now g becomes s = elim (udp_set_get records k now place (Udp2Socket.Open s.socket) s.at) [
+  at_put es records k place u now g becomes s = elim (put_stays udp_sort records k now place (Udp2Socket.Open s.socket) s.at) [
     | inl same ↦ record { socket = s.socket; at = same; stream = s.stream; has = s.has; knows = s.knows }
     | inr its ↦ (
         let it : u ≡ Udp2Socket.Open s.socket = same_udp u (Udp2Socket.Open s.socket) (sym g ∙ (ap (udp2_at records) (sym its.0) ∙ s.at)) in
@@ -136,7 +136,7 @@ module _ (handle : ℕ) (list : List IncomingDatagram) where
 
   -- one at another place
   pub at_other : (es : List Entry) (records : List Record) (k place : ℕ) (now : Udp2Socket) → (k ≡ place → ⊥) → StreamAt es records place → StreamAt es (udp2_put records k now) place
-  at_other es records k place now n s = elim (udp_set_get records k now place (Udp2Socket.Open s.socket) s.at) [
+  at_other es records k place now n s = elim (put_stays udp_sort records k now place (Udp2Socket.Open s.socket) s.at) [
     | inl same ↦ record { socket = s.socket; at = same; stream = s.stream; has = s.has; knows = s.knows }
     | inr its ↦ absurd (n (sym its.0))
   ]
@@ -148,16 +148,16 @@ module _ (handle : ℕ) (list : List IncomingDatagram) where
   stream_put es t records k u now g becomes i place e = put_at es t records k place u now g e becomes (i place e)
 
   pub tcp_at : (es : List Entry) (records : List Record) (k place : ℕ) (r now : Tcp2Socket) → tcp2_at records k ≡ Some r → StreamAt es records place → StreamAt es (tcp2_put records k now) place
-  tcp_at es records k place r now g s = record { socket = s.socket; at = udp_in_put records k r now place _ g s.at; stream = s.stream; has = s.has; knows = s.knows }
+  tcp_at es records k place r now g s = record { socket = s.socket; at = put_still tcp_sort udp_sort (λ t. refl) records k r now place _ g s.at; stream = s.stream; has = s.has; knows = s.knows }
 
   pub stream_put_tcp : (es : List Entry) (t : HandleTable) (records : List Record) (k : ℕ) (r now : Tcp2Socket) → tcp2_at records k ≡ Some r → StreamIs es t records → StreamIs es t (tcp2_put records k now)
   stream_put_tcp es t records k r now g i place e = tcp_at es records k place r now g (i place e)
 
   pub stream_push_tcp : (es : List Entry) (t : HandleTable) (records : List Record) (now : Tcp2Socket) → StreamIs es t records → StreamIs es t (tcp2_pushed records now)
-  stream_push_tcp es t records now i place e = let s = i place e in record { socket = s.socket; at = udp_in_push records now place _ s.at; stream = s.stream; has = s.has; knows = s.knows }
+  stream_push_tcp es t records now i place e = let s = i place e in record { socket = s.socket; at = push_still tcp_sort udp_sort records now place _ s.at; stream = s.stream; has = s.has; knows = s.knows }
 
   pub stream_push : (es : List Entry) (t : HandleTable) (records : List Record) (now : Udp2Socket) → StreamIs es t records → StreamIs es t (udp2_pushed records now)
-  stream_push es t records now i place e = let s = i place e in record { socket = s.socket; at = udp_front records now place _ s.at; stream = s.stream; has = s.has; knows = s.knows }
+  stream_push es t records now i place e = let s = i place e in record { socket = s.socket; at = push_still udp_sort udp_sort records now place _ s.at; stream = s.stream; has = s.has; knows = s.knows }
 
   pub stream_same : {new : LookupOp → Type 0} (es : List Entry) (t : HandleTable) (records now : List Record) → SameSockets new records now → StreamIs es t records → StreamIs es t now
   stream_same es t records now same i place e = let s = i place e in record { socket = s.socket; at = same.udp place ∙ s.at; stream = s.stream; has = s.has; knows = s.knows }

@@ -20,10 +20,10 @@ use Rattle.wasi_steps.specs.declared.reply.Reply.{Reply}
 use Rattle.wasi_steps.specs.declared.reply.Reply.TheVariants as reply
 use Rattle.wasi_steps.specs.declared.step.Step.TheVariants as step
 use Rattle.wasi_walks.specs.Answered.{lookup_in}
-use Rattle.wasi_causes.proofs.resolving.Lists.{lookup_same, lookup_there}
 use Rattle.wasi_causes.proofs.tables.Meets.{Meets, Rows, ends}
 use Rattle.wasi_causes.proofs.tables.Routes.{Replied, Says, apart}
 use Rattle.wasi_causes.specs.Lookups.{FirstLeft, HandsOut, NoneLeft, OfLookup, TellsNext, found_lookup, putting_lookup}
+use Rattle.wasi_walks.proofs.Places.{lookup_sort, put_again, put_finds}
 
 -- == what is replied
 -- an address isn't none
@@ -52,7 +52,7 @@ tells_none = record { quiet = refl; in_progress = apart (λ e. cc) (λ k. cc); f
 -- a lookup that stays as it was
 put_lookup_back : (P : Machine → Type 0) (m : Machine) (place : ℕ) (l : Lookup) → lookup_at m.store.records place ≡ Some l → P m → P (putting_lookup m place l)
 put_lookup_back P m place l at h =
-    let same : putting_lookup m place l ≡ m = ap (λ (rs : List Record). let left : Machine = record m { store = record m.store { records = rs } } in left) (lookup_same m.store.records place l at) in
+    let same : putting_lookup m place l ≡ m = ap (λ (rs : List Record). let left : Machine = record m { store = record m.store { records = rs } } in left) (put_again lookup_sort m.store.records place l at) in
     subst P (sym same) h
 
 module _ (contexts : List WasiSocketsCtx) (m : Machine) (line c handle : ℕ) where
@@ -96,7 +96,7 @@ module _ (contexts : List WasiSocketsCtx) (m : Machine) (line c handle : ℕ) wh
       by_hand _ _ _ at (FirstLeft b rest) =
           let same = named (Found (b ∷ rest)) at in
           let those : rest ≡ left = cc in
-          ap (lookup_in (putting_lookup m on.place (Found rest))) on.names ∙ (lookup_there m.store.records on.place (Found (b ∷ rest)) (Found rest) at ∙ ap (λ (xs : List IpAddress). Some (Found xs)) those)
+          ap (lookup_in (putting_lookup m on.place (Found rest))) on.names ∙ (put_finds lookup_sort m.store.records on.place (Found (b ∷ rest)) (Found rest) at ∙ ap (λ (xs : List IpAddress). Some (Found xs)) those)
 
 -- == an error's code
 module _ (contexts : List WasiSocketsCtx) (m : Machine) (line c handle : ℕ) where

@@ -17,11 +17,10 @@ use Rattle.wasi_records.specs.declared.records.Record.{Record}
 use Rattle.wasi_records.specs.declared.udp.OpenUdp.{OpenUdp}
 use Rattle.wasi_records.specs.declared.udp.Udp2Socket.TheVariants.{Open}
 use Rattle.wasi_walks.proofs.Lists.{has_front, has_last}
-use Rattle.wasi_walks.proofs.LookupLists.{lookup_get_set}
 use Rattle.wasi_walks.proofs.walks.Udp.{open_is}
-use Rattle.wasi_causes.proofs.resolving.Lists.{lookup_same, lookup_tcp_put, lookup_udp_put}
 use Rattle.wasi_causes.proofs.tables.Meets.{Meets, Rows, asks, chain, ends, onto, shifted, whatever, widen}
 use Rattle.wasi_causes.specs.Lookups.{IsAsItWas, LookedOn, TurnToldCode, TurnToldNames, lookup_entry}
+use Rattle.wasi_walks.proofs.Places.{lookup_sort, other_put, put_again, put_found, tcp_sort, udp_sort}
 
 module _ (m : Machine) where
   -- each lookup among these records is as the entries say
@@ -44,15 +43,15 @@ module _ (m : Machine) where
 
   write_so : (records : List Record) (place : ℕ) (o : Option Tcp2Socket) → tcp2_at records place ≡ o → (es : List Entry) → LooksSo es records → Meets LooksSo es (turn_at records place o)
   write_so records place None at es so = ends so
-  write_so records place (Some r) at es so = onto _ (widen (λ fs now k. of_others es fs k.rest records (tcp2_put records place now) k.cut (λ i. lookup_tcp_put records place r now i at) so) (shifted es (whatever (turn_record r))))
+  write_so records place (Some r) at es so = onto _ (widen (λ fs now k. of_others es fs k.rest records (tcp2_put records place now) k.cut (λ i. other_put tcp_sort lookup_sort (λ t. refl) records place r now i at) so) (shifted es (whatever (turn_record r))))
 
   datagram_so : (records : List Record) (place : ℕ) (o : Option OpenUdp) → open_at records place ≡ o → (es : List Entry) → LooksSo es records → Meets LooksSo es (turn_datagram_at records place o)
   datagram_so records place None at es so = ends so
-  datagram_so records place (Some o) at es so = onto _ (widen (λ fs now k. of_others es fs k.rest records (open_put records place now) k.cut (λ i. lookup_udp_put records place (Open o) (Open now) i (open_is (udp2_at records place) o at)) so) (shifted es (whatever (turn_outgoing o o.outgoing))))
+  datagram_so records place (Some o) at es so = onto _ (widen (λ fs now k. of_others es fs k.rest records (open_put records place now) k.cut (λ i. other_put udp_sort lookup_sort (λ t. refl) records place (Open o) (Open now) i (open_is (udp2_at records place) o at)) so) (shifted es (whatever (turn_outgoing o o.outgoing))))
 
   receive_so : (records : List Record) (place : ℕ) (o : Option OpenUdp) → open_at records place ≡ o → (es : List Entry) → LooksSo es records → Meets LooksSo es (turn_receive_at records place o)
   receive_so records place None at es so = ends so
-  receive_so records place (Some o) at es so = onto _ (widen (λ fs now k. of_others es fs k.rest records (open_put records place now) k.cut (λ i. lookup_udp_put records place (Open o) (Open now) i (open_is (udp2_at records place) o at)) so) (shifted es (whatever (turn_incoming o o.incoming))))
+  receive_so records place (Some o) at es so = onto _ (widen (λ fs now k. of_others es fs k.rest records (open_put records place now) k.cut (λ i. other_put udp_sort lookup_sort (λ t. refl) records place (Open o) (Open now) i (open_is (udp2_at records place) o at)) so) (shifted es (whatever (turn_incoming o o.incoming))))
 
   -- == that of a lookup
   module _ (records : List Record) (place : ℕ) (es : List Entry) (so : LooksSo es records) where
@@ -64,7 +63,7 @@ module _ (m : Machine) where
     its_now op at _ fits = absurd fits
 
     told_so : (op : LookupOp) → lookup_at records place ≡ Some (InProgress op) → (t : Told) → IsNames t → LooksSo (es ++ lookup_entry op.id op.host t ∷ []) (lookup_put records place (lookup_told op (told_names t)))
-    told_so op at t fits k l e = elim (lookup_get_set records place (lookup_told op (told_names t)) k l e) [
+    told_so op at t fits k l e = elim (put_found lookup_sort records place (lookup_told op (told_names t)) k l e) [
       | inl p ↦ rw (p.0, sym p.1) (its_now op at t fits)
       | inr p ↦ longer es (lookup_entry op.id op.host t ∷ []) k l (so k l p)
     ]
@@ -72,8 +71,8 @@ module _ (m : Machine) where
     looked : (l : Lookup) → lookup_at records place ≡ Some l → Meets (λ fs now. LooksSo fs (lookup_put records place now)) es (turn_lookup l)
     unfolding bind
     looked (InProgress op) at = asks (λ t fits. ends (told_so op at t fits))
-    looked (Found left) at = ends (subst (LooksSo es) (sym (lookup_same records place (Found left) at)) so)
-    looked Failed at = ends (subst (LooksSo es) (sym (lookup_same records place Failed at)) so)
+    looked (Found left) at = ends (subst (LooksSo es) (sym (put_again lookup_sort records place (Found left) at)) so)
+    looked Failed at = ends (subst (LooksSo es) (sym (put_again lookup_sort records place Failed at)) so)
 
     lookup_so : (o : Option Lookup) → lookup_at records place ≡ o → Meets LooksSo es (turn_lookup_at records place o)
     lookup_so None at = ends so

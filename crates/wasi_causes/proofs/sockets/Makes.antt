@@ -26,7 +26,6 @@ use Rattle.wasi_causes.specs.Reached.{Finishes, FinishesAt, MayFinish}
 use Rattle.wasi_records.specs.Records.{tcp2_at, tcp2_put, tcp2_pushed}
 use Rattle.wasi_records.specs.declared.listening.Listening.TheVariants as listening
 use Rattle.wasi_p2.specs.Tcp.{accept_asks}
-use Rattle.wasi_walks.proofs.Lists.{tcp2_seam}
 use Rattle.wasi_walks.specs.Answered.{ConnectsOn, StillConnects, WasClosed}
 use Rattle.wasi_steps.specs.declared.reply.CodeWord.TheVariants as word
 use Rattle.wasi_steps.specs.declared.reply.Reply.TheVariants as reply
@@ -36,6 +35,7 @@ use Rattle.wasi_tcp.specs.declared.socket.TcpState.TheVariants as state
 use Rattle.wasi_world.specs.declared.call.Call.TheVariants as call
 use Rattle.wasi_world.specs.declared.call.HandleKind.TheVariants as name
 use Rattle.wasi_world.specs.declared.call.Told.TheVariants as told
+use Rattle.wasi_walks.proofs.Places.{push_finds, tcp_sort}
 
 -- == a network, and a create
 module _ (contexts : List WasiSocketsCtx) (m : Machine) (line c : ℕ) where
@@ -210,7 +210,7 @@ module _ (contexts : List WasiSocketsCtx) (m : Machine) (line c handle : ℕ) wh
         peer = peer;
         given = given;
         left = refl;
-        its_side = ap side_at (tcp2_seam (tcp2_put m.store.records place (with_listening r (listening.Accepts (accept_end l (accepting.Arrived new peer)).1))) (accepted_record (accepted_socket l.family l.maker (accepted_state new peer))).1);
+        its_side = ap side_at (push_finds tcp_sort (tcp2_put m.store.records place (with_listening r (listening.Accepts (accept_end l (accepting.Arrived new peer)).1))) (accepted_record (accepted_socket l.family l.maker (accepted_state new peer))).1);
         none = none;
       }
 

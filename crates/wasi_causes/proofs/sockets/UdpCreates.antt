@@ -17,11 +17,11 @@ use Rattle.wasi_records.specs.declared.udp.Udp2Socket.TheVariants as udp
 use Rattle.wasi_machine.specs.Machine.{answer_reply_of}
 use Rattle.wasi_steps.specs.declared.step.Step.TheVariants as step
 use Rattle.wasi_udp.specs.Create.{Create, new_create, after_create, new_asks, with_left}
-use Rattle.wasi_walks.proofs.UdpLists.{udp_seam}
 use Rattle.wasi_world.specs.Operation.{UdpWritable}
 use Rattle.wasi_world.specs.declared.call.Call.TheVariants as call
 use Rattle.wasi_world.specs.declared.call.HandleKind.TheVariants as name
 use Rattle.wasi_world.specs.declared.call.Told.TheVariants as told
+use Rattle.wasi_walks.proofs.Places.{push_finds, udp_sort}
 
 -- == the record that joined last
 pub put_last : (xs : List Record) (old now : Udp2Socket) → udp2_put (udp2_pushed xs old) (length xs) now ≡ udp2_pushed xs now
@@ -98,7 +98,7 @@ module _ (contexts : List WasiSocketsCtx) (m : Machine) (line c : ℕ) (family :
       let asked : es ≡ begun ∷ writable_entry own told.Done ∷ [] = k.cut ∙ ap (λ (xs : List Entry). begun ∷ xs) (over k.rest given items k.row) in
       let its_machine = put_so (new_udp own ctx family) in
       subst (λ (x : Machine). Meets CreateRow es (mark_udp x place (udp2_at x.store.records place))) (sym its_machine)
-      (marks_udp (with_udp_record m (new_udp own ctx family)) place (new_udp own ctx family) (udp_seam m.store.records (new_udp own ctx family))
+      (marks_udp (with_udp_record m (new_udp own ctx family)) place (new_udp own ctx family) (push_finds udp_sort m.store.records (new_udp own ctx family))
       (λ full. (only may, (tt, full_so m (with_udp_record m (new_udp own ctx family)) es full refl (ap marks_in asked), (full, asked, refl))))
       (only may, ((tt, tt), record { number = refl; asked = ap (λ (xs : List Entry). xs ++ entry own (call.Made m.table.next name.Udp2 None (Some own)) told.Done ∷ []) asked; left = refl })))
   polled_so may es (Refused code given, items) k =
@@ -107,7 +107,7 @@ module _ (contexts : List WasiSocketsCtx) (m : Machine) (line c : ℕ) (family :
   polls : ctx.udp ≡ true → Meets CreateRow (begun ∷ []) (create_on now (first_ids line) place)
   polls may =
       chain {Mid = λ es done. Meets CreateRow es (create_so (first_ids line) place now done)}
-      (subst (λ (o : Option Udp2Socket). Meets (λ es done. Meets CreateRow es (create_so (first_ids line) place now done)) (begun ∷ []) (poll_create_at now.store place o)) (sym (udp_seam m.store.records (udp.Creating its)))
+      (subst (λ (o : Option Udp2Socket). Meets (λ es done. Meets CreateRow es (create_so (first_ids line) place now done)) (begun ∷ []) (poll_create_at now.store place o)) (sym (push_finds udp_sort m.store.records (udp.Creating its)))
       (onto _ (onto _ (widen (polled_so may) (shifted (begun ∷ []) (polled its.operation (tt, tt)))))))
       (λ es done k. k)
 

@@ -5,7 +5,7 @@ use Rattle.wasi_causes.proofs.Words.{Standing, StreamStop, Streams, Tcp2Socket, 
 use Rattle.wasi_causes.proofs.Words.{[], ap, asks_while, begins_job, bind, bytes_fields}
 use Rattle.wasi_causes.proofs.Words.{converted, entry, false, input_at}
 use Rattle.wasi_causes.proofs.Words.{number_fields, output_at, own_of, reader_of}
-use Rattle.wasi_causes.proofs.Words.{refl, set_there, side_at, stream_at, stream_on, true}
+use Rattle.wasi_causes.proofs.Words.{refl, side_at, stream_at, stream_on, true}
 use Rattle.wasi_causes.proofs.Words.{with_job, with_socket, with_store, write_on}
 use Rattle.wasi_causes.proofs.Words.{writer_of, ℕ, ⊤, ◌++◌, ◌∙◌, ◌∷◌, ◌≡◌}
 use Rattle.wasi_world.specs.declared.call.Call.TheVariants as call
@@ -31,6 +31,7 @@ use Rattle.wasi_machine.specs.Machine.{stream_reply_of}
 use Rattle.wasi_causes.proofs.tables.Meets.{Meets, Rows, chain, ends, met, onto, whatever, widen}
 use Rattle.wasi_causes.proofs.tables.Routes.{makes}
 use Rattle.wasi_causes.specs.ErrorMarks.{MarksItsSocket}
+use Rattle.wasi_walks.proofs.Places.{put_finds, tcp_sort}
 
 -- == a call on a record keeps its network socket
 abbrev KeepsSide : {T : Type 0} → Tcp2Socket → Rows (Result T StreamStop × Tcp2Socket)
@@ -96,7 +97,7 @@ module _ (m : Machine) (own : OpId) (handle : ℕ) where
         → Meets Converted [] (stream_at m.store place call o)
     by_stream call keeps None at = ends (lost [] m)
     by_stream call keeps (Some r) at =
-        onto _ (widen (λ es done k. converts r done.1 at es (with_socket m.store place done.1) (set_there m.store.records place r done.1 at) k done.0) (keeps r))
+        onto _ (widen (λ es done k. converts r done.1 at es (with_socket m.store place done.1) (put_finds tcp_sort m.store.records place r done.1 at) k done.0) (keeps r))
 
     -- and a job may begin
     noted_there : (store : Records) (job : HostJob) (b : Bool)
@@ -114,7 +115,7 @@ module _ (m : Machine) (own : OpId) (handle : ℕ) where
         onto _ (onto _ (widen (λ es done k.
         let put = with_socket m.store place done.1 in
         let b = begins_job (Some r) (tcp2_at put.records place) in
-        converts r done.1 at es (with_job put (WriteJob place) b) (noted_there put (WriteJob place) b ∙ set_there m.store.records place r done.1 at) k done.0) (keeps r)))
+        converts r done.1 at es (with_job put (WriteJob place) b) (noted_there put (WriteJob place) b ∙ put_finds tcp_sort m.store.records place r done.1 at) k done.0) (keeps r)))
 
   on_stream : {T : Type 0} (call : Tcp2Socket → Asks (Result T StreamStop × Tcp2Socket))
       → ((r : Tcp2Socket) → Meets (KeepsSide r) [] (call r))

@@ -23,7 +23,7 @@ use Rattle.wasi_causes.proofs.Words.{bind, bytes_reply, check_asks, check_write_
 use Rattle.wasi_causes.proofs.Words.{eqb-true, false, flush_asks, flushed_asks, has_job, inl, if◌then◌else◌, input_at, length, less_one, look_asks}
 use Rattle.wasi_causes.proofs.Words.{look_in, ltb-false, ltb-true, marks_in, marks_in-push, min, nat_lt, new_job, not, output_at, output_streams}
 use Rattle.wasi_causes.proofs.Words.{own_of, permit_reply, permitted, poll_asks, polled_answer, polls, putting, read_asks, read_entry}
-use Rattle.wasi_causes.proofs.Words.{read_state_asks, reader_of, refl, round, set_there, standing_as, subst, suc, sym, taken_front}
+use Rattle.wasi_causes.proofs.Words.{read_state_asks, reader_of, refl, round, standing_as, subst, suc, sym, taken_front}
 use Rattle.wasi_causes.proofs.Words.{taken_reply, told_bytes, told_ready, told_taken, true, wait_answer, wait_at, wait_put, wait_writer, with_error}
 use Rattle.wasi_causes.proofs.Words.{with_job, with_reader, with_socket, with_writer, write_asks, write_front, write_on_asks, write_state_asks}
 use Rattle.wasi_causes.proofs.Words.{writer_of, zero, ℕ, ⊤, ◌&&◌, ◌++◌, ◌==◌, ◌∙◌, ◌∷◌, ◌≡◌}
@@ -46,6 +46,7 @@ use Rattle.wasi_tcp.specs.declared.writer.WriteState.TheVariants as writing
 use Rattle.wasi_world.specs.Fits.{IsReady as FitsReady}
 use Rattle.wasi_world.specs.declared.call.Call.TheVariants as call
 use Rattle.wasi_world.specs.declared.call.Told.TheVariants as told
+use Rattle.wasi_walks.proofs.Places.{put_finds, tcp_sort}
 
 -- == a look at a writer
 module _ (own : OpId) (writer : WriteState) where
@@ -375,7 +376,7 @@ module _ (contexts : List WasiSocketsCtx) (m : Machine) (line c output : ℕ) wh
       written_closed now e p =
           let closed : Tcp2Socket = with_writer r s (writing.Closed e) in
           let store : Records = with_socket m.store place closed in
-          let there : tcp2_at store.records place ≡ Some closed = set_there m.store.records place r closed n.at in
+          let there : tcp2_at store.records place ≡ Some closed = put_finds tcp_sort m.store.records place r closed n.at in
           ap written p
           ∙ ap (λ (kept : Records). let after : Machine = record m { store = kept } in after)
           (ap (λ (o : Option Tcp2Socket). with_job store (HostJob.Write place) (begins_job (Some r) o)) there ∙ ap (with_job store (HostJob.Write place)) (and_not (not (has_job (Some r)))))

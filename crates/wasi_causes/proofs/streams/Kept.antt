@@ -1,5 +1,5 @@
 -- What each call of a stream keeps: what is pending, the streams and the pipes that are there, and the handles, where it gives something.
-use Rattle.wasi_causes.proofs.Words.{◌≡◌, ◌∙◌, ℕ, ⊤, Bool, true, false, if◌then◌else◌, nat_lt, List, [], ◌∷◌, ◌++◌, Option, Some, None, Result, Ok, Err, IsSome, is_some, inl, inr, refl, sym, subst, ap, CallStop, Entry, Machine, OpId, Permits, ReadState, Records, StreamStop, Tcp2Socket, WriteState, check_asks, check_write_asks, flush_asks, flushed_asks, input_at, length, marks_in, output_at, read_asks, read_state_asks, reader_of, set_get, slice_get, streams_in, with_job, with_reader, with_writer, write_asks, write_state_asks, writer_of}
+use Rattle.wasi_causes.proofs.Words.{◌≡◌, ◌∙◌, ℕ, ⊤, Bool, true, false, if◌then◌else◌, nat_lt, List, [], ◌∷◌, ◌++◌, Option, Some, None, Result, Ok, Err, IsSome, is_some, inl, inr, refl, sym, subst, ap, CallStop, Entry, Machine, OpId, Permits, ReadState, Records, StreamStop, Tcp2Socket, WriteState, check_asks, check_write_asks, flush_asks, flushed_asks, input_at, length, marks_in, output_at, read_asks, read_state_asks, reader_of, streams_in, with_job, with_reader, with_writer, write_asks, write_state_asks, writer_of}
 use Rattle.memory_streams.specs.Plain.{Contents, left_in}
 use Rattle.wasi_streams.specs.StreamStop as stop
 use Rattle.wasi_jobs.specs.declared.job.HostJob.{HostJob}
@@ -13,14 +13,14 @@ use Rattle.wasi_host.specs.PlainStreams.{flush_plain, read_pipe_at, check_plain,
 use Rattle.wasi_records.specs.Records.{input_pipe_at, input_pipe_put, output_pipe_at, output_pipe_put, tcp2_at, tcp2_put}
 use Rattle.std.specs.Prelude.{drop}
 use Rattle.wasi_causes.proofs.Words.{ReadsNone, begins_job, with_socket}
-use Rattle.wasi_causes.proofs.streams.Pipes.{input_no_tcp, output_no_tcp, tcp_set}
 use Rattle.wasi_world.specs.declared.outcome.TrapKind.TheVariants.{Capacity}
 use Rattle.wasi_host.specs.StreamCalls.{check_by, flush_by, plain_answer, plain_done, plain_input_at, plain_output_at, read_by, write_by}
-use Rattle.wasi_causes.proofs.PipeLists.{input_no_output, input_stays, output_no_input, output_stays, tcp_no_input, tcp_no_output}
+use Rattle.wasi_walks.proofs.Places.{input_sort, other_put, output_sort, put_some}
 use Rattle.wasi_walks.specs.Answered.{LengthZero, ToldToWait, IsReady, NotReady, GoesOn}
 use Rattle.wasi_causes.proofs.streams.Halves.{CheckRow, FlushRow, ReadRow, WriteRow, checks, flushes, reads, writes}
 use Rattle.wasi_causes.proofs.streams.Routes.{Told, job_noted, on_stream, on_write}
 use Rattle.wasi_causes.proofs.tables.Meets.{Meets, Rows, ends, widen}
+use Rattle.wasi_walks.proofs.Places.{put_stays, tcp_sort}
 
 -- == what is there
 -- Streams and pipes that were there are.
@@ -32,9 +32,6 @@ pub record PartsThere (old now : List Record) : Type 0 where
 pub there_same : (xs : List Record) → PartsThere xs xs
 there_same xs = record { streams = λ k h. h; inputs = λ k h. h; outputs = λ k h. h }
 
-pub there_then : {one two three : List Record} → PartsThere one two → PartsThere two three → PartsThere one three
-there_then s t = record { streams = λ k h. t.streams k (s.streams k h); inputs = λ k h. t.inputs k (s.inputs k h); outputs = λ k h. t.outputs k (s.outputs k h) }
-
 streams_by : (o : Option Tcp2Socket) → IsSome (streams_in o) → (r : Tcp2Socket) × (o ≡ Some r)
 streams_by None h = absurd (cc)
 streams_by (Some r) h = (r, refl)
@@ -44,27 +41,27 @@ pub there_put : (xs : List Record) (i : ℕ) (r now : Tcp2Socket) → tcp2_at xs
 there_put xs i r now at has = record {
   streams = λ k h.
       let found = streams_by (tcp2_at xs k) h in
-      elim (set_get xs i now k found.0 found.1) [
+      elim (put_stays tcp_sort xs i now k found.0 found.1) [
         | inl e ↦ subst (λ (o : Option Tcp2Socket). IsSome (streams_in o)) (found.1 ∙ sym e) h
         | inr e ↦ subst (λ (o : Option Tcp2Socket). IsSome (streams_in o)) (sym e.1) has
       ];
-  inputs = λ k h. input_stays xs i (Record.Tcp2 now) k (λ is. absurd (tcp_no_input (slice_get xs i) r at is)) h;
-  outputs = λ k h. output_stays xs i (Record.Tcp2 now) k (λ is. absurd (tcp_no_output (slice_get xs i) r at is)) h;
+  inputs = λ k h. ap (λ o. is_some o) (other_put tcp_sort input_sort (λ t. refl) xs i r now k at) ∙ h;
+  outputs = λ k h. ap (λ o. is_some o) (other_put tcp_sort output_sort (λ t. refl) xs i r now k at) ∙ h;
 }
 
 -- a pipe is replaced by a pipe
 pub there_input : (xs : List Record) (i : ℕ) (was now : List ℕ) → input_pipe_at xs i ≡ Some was → PartsThere xs (input_pipe_put xs i now)
 there_input xs i was now at = record {
-  streams = λ k h. subst (λ (o : Option Tcp2Socket). IsSome (streams_in o)) (sym (tcp_set xs i (Record.InputPipe now) k (input_no_tcp (slice_get xs i) was at).0 refl)) h;
-  inputs = λ k h. input_stays xs i (Record.InputPipe now) k (λ is. refl) h;
-  outputs = λ k h. output_stays xs i (Record.InputPipe now) k (λ is. absurd (input_no_output (slice_get xs i) was at is)) h;
+  streams = λ k h. subst (λ (o : Option Tcp2Socket). IsSome (streams_in o)) (sym (other_put input_sort tcp_sort (λ t. refl) xs i was now k at)) h;
+  inputs = λ k h. put_some input_sort xs i now k h;
+  outputs = λ k h. ap (λ o. is_some o) (other_put input_sort output_sort (λ t. refl) xs i was now k at) ∙ h;
 }
 
 pub there_output : (xs : List Record) (i : ℕ) (was now : Contents) → output_pipe_at xs i ≡ Some was → PartsThere xs (output_pipe_put xs i now)
 there_output xs i was now at = record {
-  streams = λ k h. subst (λ (o : Option Tcp2Socket). IsSome (streams_in o)) (sym (tcp_set xs i (Record.OutputPipe now) k (output_no_tcp (slice_get xs i) was at).0 refl)) h;
-  inputs = λ k h. input_stays xs i (Record.OutputPipe now) k (λ is. absurd (output_no_input (slice_get xs i) was at is)) h;
-  outputs = λ k h. output_stays xs i (Record.OutputPipe now) k (λ is. refl) h;
+  streams = λ k h. subst (λ (o : Option Tcp2Socket). IsSome (streams_in o)) (sym (other_put output_sort tcp_sort (λ t. refl) xs i was now k at)) h;
+  inputs = λ k h. ap (λ o. is_some o) (other_put output_sort input_sort (λ t. refl) xs i was now k at) ∙ h;
+  outputs = λ k h. put_some output_sort xs i now k h;
 }
 
 -- == what a call keeps

@@ -1,5 +1,5 @@
 -- What a look at what may be written permits stays permitted, also after a read; and a read gives no more than was wanted.
-use Rattle.wasi_causes.proofs.Words.{◌≡◌, ◌∙◌, ◌<◌, ℕ, ⊤, Bool, true, false, zero, suc, arith, if◌then◌else◌, min, List, [], ◌∷◌, Option, Some, None, Result, Ok, Err, IsRead, IsSomeAnd, IsUnpermitted, refl, sym, subst, ap, CallStop, Entry, Give, Machine, OpId, ReadState, Ready, StreamStop, Streams, Tcp2Socket, TcpReceiveStream, Told, WriteState, after_read, ask_read, bind, check_asks, check_write_asks, collected, input_at, length, look_in, output_at, output_streams, permitted, polled_answer, read_asks, read_state_asks, reader_of, record_in, set_there, slice_get, streams_in, told_bytes, told_ready, with_reader, with_writer, writer_of, ◌==◌}
+use Rattle.wasi_causes.proofs.Words.{◌≡◌, ◌∙◌, ◌<◌, ℕ, ⊤, Bool, true, false, zero, suc, arith, if◌then◌else◌, min, List, [], ◌∷◌, Option, Some, None, Result, Ok, Err, IsRead, IsSomeAnd, IsUnpermitted, refl, sym, subst, ap, CallStop, Entry, Give, Machine, OpId, ReadState, Ready, StreamStop, Streams, Tcp2Socket, TcpReceiveStream, Told, WriteState, after_read, ask_read, bind, check_asks, check_write_asks, collected, input_at, length, look_in, output_at, output_streams, permitted, polled_answer, read_asks, read_state_asks, reader_of, record_in, slice_get, streams_in, told_bytes, told_ready, with_reader, with_writer, writer_of, ◌==◌}
 use Rattle.std.specs.Prelude.{◌≤◌, take, drop}
 use Rattle.std.proofs.Math.Nat.{min-le_left}
 use Rattle.std.proofs.lemmas.List.{length-take}
@@ -26,6 +26,7 @@ use Rattle.wasi_causes.proofs.streams.Routes.{HasStreams, Told as TellsStream, o
 use Rattle.wasi_causes.proofs.streams.Plain.{no_output_streams}
 use Rattle.wasi_causes.proofs.tables.Routes.{none_has}
 use Rattle.wasi_causes.proofs.tables.Meets.{Meets, Rows, asks, ends, whatever, widen}
+use Rattle.wasi_walks.proofs.Places.{put_finds, tcp_sort}
 
 -- == what may be written
 -- so many bytes may be written by the writer, if it is one, and into the pipe, if it is one
@@ -94,7 +95,7 @@ module _ (m : Machine) (own : OpId) (h : ℕ) where
       left = record m { store = record m.store { records = tcp2_put m.store.records place (with_writer r s now) } }
 
       streams_now : output_streams left h ≡ Some (record s { writer = now })
-      streams_now = ap (λ (o : Option ℕ). streams_in (record_in left o)) n.names ∙ ap streams_in (set_there m.store.records place r (with_writer r s now) n.at)
+      streams_now = ap (λ (o : Option ℕ). streams_in (record_in left o)) n.names ∙ ap streams_in (put_finds tcp_sort m.store.records place r (with_writer r s now) n.at)
 
       its : IsSomeAnd (output_streams left h) (λ s. IsUnpermitted s.writer k) → IsUnpermitted now k
       its u = rw streams_now at u
@@ -169,9 +170,6 @@ still_may m after h n same may = (
   by_writer n (output_streams m h) (output_streams after h) (ap (λ (t : HandleTable). writer_in (streams_in (record_in after (output_of (kind_at t h))))) same.table ∙ writer_at m after same (output_at m h)) may.0,
   subst (λ (o : Option Contents). MayWriteInto o n) (sym (ap (λ (t : HandleTable). pipe_of after (plain_output_of (kind_at t h))) same.table ∙ pipe_as m after same (plain_output_at m h))) may.1,
 )
-
-same_writers : (m : Machine) → SameWriters m m
-same_writers m = record { table = refl; writers = λ k. refl; pipes = λ k. refl }
 
 abbrev pub Writable : Machine → Rows (Result (List ℕ) CallStop × Machine)
 Writable m es (Ok bytes, after) = SameWriters m after

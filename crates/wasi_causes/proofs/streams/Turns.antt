@@ -33,10 +33,9 @@ use Rattle.wasi_world.specs.declared.asks.Polled.{Polled}
 use Rattle.wasi_world.specs.declared.asks.Polled.TheVariants as polled
 use Rattle.wasi_records.specs.declared.udp.Udp2Socket.{Udp2Socket}
 use Rattle.wasi_records.specs.declared.udp.Udp2Socket.TheVariants.{Open}
-use Rattle.wasi_walks.proofs.LookupLists.{tcp_lookup_put, udp_lookup_put}
 use Rattle.wasi_walks.proofs.walks.Udp.{open_is}
 use Rattle.wasi_causes.proofs.resolving.Turns.{lookups_turned}
-use Rattle.wasi_causes.proofs.resolving.Lists.{lookup_put_at, lookup_tcp_put, lookup_udp_put}
+use Rattle.wasi_walks.proofs.Places.{lookup_sort, other_put, put_either, tcp_sort, udp_sort}
 
 -- == one write
 -- it asks by its operation, which stays the same
@@ -204,7 +203,7 @@ tcp_keeps : (xs : List Record) (i : ℕ) (r y : Tcp2Socket) → tcp2_at xs i ≡
 tcp_keeps xs i r y at same (Write k) = set_job xs i y k (same ∙ sym (ap job_of at))
 tcp_keeps xs i r y at same (Datagram k) = ap datagram_of (set_open xs i r y k at)
 tcp_keeps xs i r y at same (Receive k) = ap receive_of (set_open xs i r y k at)
-tcp_keeps xs i r y at same (LookupJob k) = ap lookup_of (lookup_tcp_put xs i r y k at)
+tcp_keeps xs i r y at same (LookupJob k) = ap lookup_of (other_put tcp_sort lookup_sort (λ t. refl) xs i r y k at)
 
 -- what is read of a UDP socket
 by_change : (of : Option OpenUdp → Option OpId) (xs : List Record) (i : ℕ) (o now : OpenUdp) (k : ℕ) → open_at xs i ≡ Some o → Keeps (of (Some now)) (of (Some o)) → Keeps (of (open_at (open_put xs i now) k)) (of (open_at xs k))
@@ -214,13 +213,13 @@ udp_keeps : (xs : List Record) (i : ℕ) (o now : OpenUdp) → open_at xs i ≡ 
 udp_keeps xs i o now at kept (Write k) = inl (ap job_of (set_tcp xs i o now k at))
 udp_keeps xs i o now at kept (Datagram k) = by_change datagram_of xs i o now k at kept.0
 udp_keeps xs i o now at kept (Receive k) = by_change receive_of xs i o now k at kept.1
-udp_keeps xs i o now at kept (LookupJob k) = inl (ap lookup_of (lookup_udp_put xs i (Open o) (Open now) k (open_is (udp2_at xs i) o at)))
+udp_keeps xs i o now at kept (LookupJob k) = inl (ap lookup_of (other_put udp_sort lookup_sort (λ t. refl) xs i (Open o) (Open now) k (open_is (udp2_at xs i) o at)))
 
 look_keeps : (xs : List Record) (i : ℕ) (l now : Lookup) → lookup_at xs i ≡ Some l → Keeps (looks_by now) (looks_by l) → (job : HostJob) → Keeps (asks_by (lookup_put xs i now) job) (asks_by xs job)
-look_keeps xs i l now at kept (Write k) = inl (ap job_of (tcp_lookup_put xs i l now k at))
-look_keeps xs i l now at kept (Datagram k) = inl (ap (λ (u : Option Udp2Socket). datagram_of (open_of u)) (udp_lookup_put xs i l now k at))
-look_keeps xs i l now at kept (Receive k) = inl (ap (λ (u : Option Udp2Socket). receive_of (open_of u)) (udp_lookup_put xs i l now k at))
-look_keeps xs i l now at kept (LookupJob k) = elim (lookup_put_at xs i l now k at) [ inl e ↦ inl (ap lookup_of e) | inr e ↦ rw (e.0, e.1) kept ]
+look_keeps xs i l now at kept (Write k) = inl (ap job_of (other_put lookup_sort tcp_sort (λ t. refl) xs i l now k at))
+look_keeps xs i l now at kept (Datagram k) = inl (ap (λ (u : Option Udp2Socket). datagram_of (open_of u)) (other_put lookup_sort udp_sort (λ t. refl) xs i l now k at))
+look_keeps xs i l now at kept (Receive k) = inl (ap (λ (u : Option Udp2Socket). receive_of (open_of u)) (other_put lookup_sort udp_sort (λ t. refl) xs i l now k at))
+look_keeps xs i l now at kept (LookupJob k) = elim (put_either lookup_sort xs i l now k at) [ inl e ↦ inl (ap lookup_of e) | inr e ↦ rw (e.0, e.1) kept ]
 
 -- == all of them
 kept_then : (now mid old : Option OpId) → Keeps now mid → Keeps mid old → Keeps now old

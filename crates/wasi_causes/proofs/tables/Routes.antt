@@ -1,5 +1,4 @@
 -- How a call finds its record, and how a handle is made: what every step shares that does so.
-use Rattle.wasi_walks.proofs.Lists.{set_same}
 use Rattle.wasi_causes.proofs.Words.{AccessDenied, Asks, Bool, Code, CodeWord, Entry, Err, ErrorCode, Full, Give, HandleTable, Input, IsDone, IsSomeAnd}
 use Rattle.wasi_causes.proofs.Words.{Kind, List, Machine, NoSuchHandle, None, OfRecord, Ok, OpId, Option, Output, Records, Reply, Result, Some, Step}
 use Rattle.wasi_causes.proofs.Words.{Stop, Tcp2Socket, Told, Trap, WasiSocketsCtx, [], ap, arith, bind, entry, false, is_full, is_nothing, make_asks}
@@ -16,6 +15,7 @@ use Rattle.wasi_causes.specs.Outcomes.{IsCodeWord, FullAfter, Conflicts, Outcome
 use Rattle.wasi_causes.proofs.tables.Meets.{onto, Rows, Meets, ends, asks, chain, widen, branch}
 use Rattle.wasi_records.specs.Records.{tcp2_at}
 use Rattle.wasi_records.specs.declared.records.Record.{Record}
+use Rattle.wasi_walks.proofs.Places.{put_again, tcp_sort}
 
 -- the step's replies, where what it gives is reported so
 abbrev pub Replied : {T : Type 0} → List WasiSocketsCtx → Machine → ℕ → Step → (T → Reply) → Rows (T × Machine)
@@ -26,7 +26,7 @@ Says contexts m line s es done = Outcome contexts m line s es done.0 done.1
 
 -- == a record that is put back
 pub put_store_same : (store : Records) (place : ℕ) (r : Tcp2Socket) → tcp2_at store.records place ≡ Some r → with_socket store place r ≡ store
-put_store_same store place r at = ap (λ (rs : List Record). let left : Records = record store { records = rs } in left) (set_same store.records place r at)
+put_store_same store place r at = ap (λ (rs : List Record). let left : Records = record store { records = rs } in left) (put_again tcp_sort store.records place r at)
 
 pub put_same : (m : Machine) (place : ℕ) (r : Tcp2Socket) → tcp2_at m.store.records place ≡ Some r → putting m place r ≡ m
 put_same m place r at = ap (λ (store : Records). let left : Machine = record m { store = store } in left) (put_store_same m.store place r at)

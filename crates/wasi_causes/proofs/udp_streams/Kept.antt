@@ -15,7 +15,6 @@ use Rattle.wasi_host.specs.UdpCalls.{with_open_udp}
 use Rattle.wasi_steps.specs.declared.reply.Field.{Field}
 use Rattle.wasi_steps.specs.declared.reply.Reply.TheVariants as reply
 use Rattle.wasi_steps.specs.declared.step.Step.TheVariants as step
-use Rattle.wasi_walks.proofs.UdpLists.{udp_set_there}
 use Rattle.wasi_walks.proofs.walks.Udp.{open_is}
 use Rattle.wasi_records.specs.Records.{udp2_at}
 use Rattle.wasi_causes.proofs.tables.Steps.{its_own}
@@ -23,6 +22,7 @@ use Rattle.wasi_causes.specs.KeptAddress.{AreNew, KeepsNone, KeepsReported, NewS
 use Rattle.wasi_causes.specs.StreamCauses.{MakesStreams, StreamsBegin, StreamsConnected, StreamsDisconnected}
 use Rattle.wasi_causes.specs.StreamCauses.{StreamsUnchanged, both_marks, disconnect_entry, peer_entry}
 use Rattle.wasi_causes.specs.Udp.{OfUdp}
+use Rattle.wasi_walks.proofs.Places.{put_finds, udp_sort}
 
 -- what was reported is what the machine makes of it
 told_so : (family : SocketAddressFamily) (peer : Told) → remote_told family (told_addr peer) ≡ reported family peer
@@ -33,7 +33,7 @@ told_so family _ = refl
 module _ (m : Machine) (own : OpId) (handle place : ℕ) (o : OpenUdp) (remote : Option IpSocketAddress) (at : open_at m.store.records place ≡ Some o) where
   -- what is put there is there
   put_there : (now : OpenUdp) → open_at (with_open_udp m.store place now).records place ≡ Some now
-  put_there now = ap open_of (udp_set_there m.store.records place (udp.Open o) (udp.Open now) (open_is (udp2_at m.store.records place) o at))
+  put_there now = ap open_of (put_finds udp_sort m.store.records place (udp.Open o) (udp.Open now) (open_is (udp2_at m.store.records place) o at))
 
   -- the peer's entry is the last before the marks
   last_peer : (es front : List Entry) (peer : Told) → es ≡ front ++ peer_entry own o peer ∷ [] → (entries : List Entry)

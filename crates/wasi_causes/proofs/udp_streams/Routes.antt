@@ -7,14 +7,14 @@ use Rattle.wasi_jobs.specs.declared.job.HostJob.{HostJob}
 use Rattle.wasi_records.specs.declared.records.Record.{Record}
 use Rattle.wasi_records.specs.declared.udp.OpenUdp.{OpenUdp}
 use Rattle.wasi_records.specs.declared.udp.Udp2Socket.TheVariants as udp
-use Rattle.wasi_walks.proofs.UdpLists.{udp_set_same, udp_set_there}
 use Rattle.wasi_walks.proofs.walks.Udp.{open_is}
 use Rattle.wasi_walks.specs.Answered.{open_in}
 use Rattle.wasi_causes.proofs.tables.Meets.{Meets, Rows, ends, onto}
+use Rattle.wasi_walks.proofs.Places.{put_again, put_finds, udp_sort}
 
 -- == a socket that is put back
 pub open_same : (store : Records) (place : ℕ) (o : OpenUdp) → open_at store.records place ≡ Some o → with_open_udp store place o ≡ store
-open_same store place o at = ap (λ (rs : List Record). let left : Records = record store { records = rs } in left) (udp_set_same store.records place (udp.Open o) (open_is (udp2_at store.records place) o at))
+open_same store place o at = ap (λ (rs : List Record). let left : Records = record store { records = rs } in left) (put_again udp_sort store.records place (udp.Open o) (open_is (udp2_at store.records place) o at))
 
 -- a job begins where it wasn't there before
 never_both : (b : Bool) → (not b && b) ≡ false
@@ -39,7 +39,7 @@ pub job_there : (store : Records) (place : ℕ) (o now : OpenUdp) (job : HostJob
 job_there store place o now job b at = by_job b
   where
     there : open_at (with_open_udp store place now).records place ≡ Some now
-    there = ap open_of (udp_set_there store.records place (udp.Open o) (udp.Open now) (open_is (udp2_at store.records place) o at))
+    there = ap open_of (put_finds udp_sort store.records place (udp.Open o) (udp.Open now) (open_is (udp2_at store.records place) o at))
 
     by_job : (b : Bool) → open_at (with_job (with_open_udp store place now) job b).records place ≡ Some now
     by_job true = there

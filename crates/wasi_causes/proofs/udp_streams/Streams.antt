@@ -11,7 +11,6 @@ use Rattle.wasi_records.specs.Datagrams.{begin_streams_asks, disconnect_streams,
 use Rattle.wasi_records.specs.Udp.{with_udp_inner}
 use Rattle.wasi_records.specs.Records.{open_at, open_of, udp2_at}
 use Rattle.wasi_records.specs.declared.udp.Udp2Socket.TheVariants as udp
-use Rattle.wasi_walks.proofs.UdpLists.{udp_set_there}
 use Rattle.wasi_walks.proofs.walks.Udp.{open_is}
 use Rattle.wasi_host.specs.UdpCreates.{udp_side_at}
 use Rattle.wasi_host.specs.UdpCalls.{udp_call_answered, with_open_udp}
@@ -35,6 +34,7 @@ use Rattle.wasi_causes.proofs.tables.Routes.{Replied, Says, apart, code_word, no
 use Rattle.wasi_causes.specs.Datagrams.{HasItsHandle, HasUdpStreams, PendingHandleIsLive, with_both}
 use Rattle.wasi_causes.specs.StreamCauses.{MakesStreams, StreamsBegin, StreamsConnected, StreamsDisconnected, StreamsElsewhere, StreamsStillConnected, StreamsUnbound, StreamsUnchanged, StreamsUnconnected, UdpStreamRefusal, disconnect_entry, its_connect, peer_entry}
 use Rattle.wasi_causes.specs.Udp.{IsUdpBound, UdpKnown, UdpToldBound, putting_udp, udp_local_entry}
+use Rattle.wasi_walks.proofs.Places.{put_finds, udp_sort}
 
 module _ (m : Machine) (line handle place : ℕ) (o : OpenUdp) (n : NamesUdp m handle place o) (remote : Option IpSocketAddress) where
   -- the line's own operation
@@ -159,11 +159,11 @@ module _ (contexts : List WasiSocketsCtx) (m : Machine) (line c handle : ℕ) (r
 
   -- the socket that is put is there
   new_there : (place : ℕ) (o : OpenUdp) → NamesUdp m handle place o → (now : OpenUdp) → open_at (with_open_udp m.store place now).records place ≡ Some now
-  new_there place o n now = ap open_of (udp_set_there m.store.records place (udp.Open o) (udp.Open now) (open_is (udp2_at m.store.records place) o n.at))
+  new_there place o n now = ap open_of (put_finds udp_sort m.store.records place (udp.Open o) (udp.Open now) (open_is (udp2_at m.store.records place) o n.at))
 
   -- the marks are those of its network socket
   side_there : (place : ℕ) (o : OpenUdp) → NamesUdp m handle place o → (now : OpenUdp) → now.inner.side ≡ o.inner.side → udp_side_at (udp2_at (with_open_udp m.store place now).records place) ≡ Some o.inner.side
-  side_there place o n now same = ap udp_side_at (udp_set_there m.store.records place (udp.Open o) (udp.Open now) (open_is (udp2_at m.store.records place) o n.at)) ∙ ap Some same
+  side_there place o n now same = ap udp_side_at (put_finds udp_sort m.store.records place (udp.Open o) (udp.Open now) (open_is (udp2_at m.store.records place) o n.at)) ∙ ap Some same
 
   -- they are made so
   made_so : (place : ℕ) (o : OpenUdp) → NamesUdp m handle place o → (es : List Entry) (now : OpenUdp) → StreamsBegin (own_of line) o remote es now

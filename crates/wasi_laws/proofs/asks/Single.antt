@@ -2,20 +2,22 @@
 -- shape of records.
 use Rattle.wasi_world.specs.declared.call.Call.TheVariants as call
 use Rattle.wasi_world.specs.declared.call.Told.TheVariants as told
-use Rattle.wasi_tcp.specs.declared.halves.TcpSendStream.{TcpSendStream}
 use Rattle.wasi_tcp.specs.declared.listener.Accepting.TheVariants as accepting
 use Rattle.wasi_tcp.specs.declared.socket.TcpState.TheVariants as state
-use Rattle.wasi_tcp.specs.declared.writer.WriteState.TheVariants as writing
 use Rattle.socket_common.specs.Rounds.{is_going, some_left}
 use Rattle.wasi_walks.proofs.claims.Law.{begins_on_names}
 use Rattle.wasi_walks.proofs.walks.Runs.{each_entry}
-use Rattle.wasi_walks.proofs.fits.Polls.{Anything}
-use Rattle.wasi_laws.proofs.Words.{false, nat_lt, new_job, ErrorValue, BeginsWrites, Above, Accepts, Allows, Asks, Base, BaseBetween, Begins, Call, End, Entry, Err, ErrorCode, FitListening, Found, HandleTable, Held, Here, HoldsAccept, IpSocketAddress, IsAcceptOn, IsDoneOrCode, Item, Job, Kind, Law, Left, List, Listener, Machine, Made, Move, None, Not, Ok, OpId, Operation, Option, Over, Own, Reply, Result, Socket, SocketAddressFamily, Some, Spends, Starts, Step, Streams, Tcp2, Tcp2Socket, Told, Unused, Used, Walks, WasiSocketsCtx, WriteState, [], after_create, allows_if, allows_then, allows_weaker, ap, base_over, base_starts, bind, both, closed_record, created_asks, entry, first_base, first_state, job_after, length, machine_asks, machine_walks, made_so, make_asks, may_while, new_asks, new_socket, on_along, on_names, own_of, poll_asks, put, refl, run, side_at, side_in, side_of, socket_of, subst, sym, told_addr, told_done, told_same, true, with_listening, with_record, with_writer, ℕ, ◌++◌, ◌+◌, ◌∙◌, ◌∷◌, ◌≡◌}
+use Rattle.wasi_laws.proofs.Words.{false, ErrorValue, BeginsWrites, Accepts, Allows, Asks, Base, BaseBetween, Begins, Call, End, Entry, Err, ErrorCode, FitListening, Found, HandleTable, Held, Here, HoldsAccept, IpSocketAddress, IsAcceptOn, IsDoneOrCode, Item, Job, Kind, Law, Left, List, Listener, Machine, Made, Move, None, Not, Ok, OpId, Operation, Option, Over, Own, Reply, Result, Socket, SocketAddressFamily, Some, Spends, Starts, Step, Streams, Tcp2, Tcp2Socket, Told, Unused, Used, Walks, WasiSocketsCtx, WriteState, [], after_create, allows_if, allows_then, allows_weaker, ap, base_over, base_starts, bind, closed_record, created_asks, entry, first_base, first_state, job_after, length, machine_asks, machine_walks, made_so, make_asks, may_while, new_asks, new_socket, on_along, on_names, own_of, poll_asks, put, refl, run, side_at, side_in, side_of, socket_of, subst, sym, told_addr, told_done, told_same, true, with_listening, with_writer, ℕ, ◌++◌, ◌+◌, ◌∙◌, ◌∷◌, ◌≡◌}
+use Rattle.wasi_walks.proofs.walks.Asked.{Asked, Questions, SetsBacklog, Learns, Closes, UdpQuestions, UdpLearns, UdpPeers, UdpCloses, UdpBegins, Resolves, Looks, MarksOne, MarksAccepted, MarksUdp, MarksStream, MarksError, AsksCreate, Polls, Turns, GivesUp, UdpGivesUp}
+use Rattle.wasi_walks.proofs.walks.Layers.{begins_layer, layer}
+use Rattle.wasi_walks.proofs.walks.OfState.{begins_state, creating, of_state}
+use Rattle.wasi_laws.proofs.Words.{BeginsIn, Rests}
+use Rattle.wasi_walks.proofs.Words.{Stop}
 use Rattle.wasi_laws.proofs.asks.Fronts.{is_calm, CalmOn, question_calm, udp_question_calm}
 use Rattle.wasi_laws.proofs.asks.Trees as tree
 use Rattle.wasi_laws.proofs.asks.Trees.{GoesOn, Undoes, Then, makes_by, turns_by, gives_up_by}
 use Rattle.wasi_laws.proofs.shapes.Shape.{ListenerShape, on_socket, Same, SocketsStay, sockets_stay, UdpLives}
-use Rattle.wasi_laws.proofs.shapes.Law.{Shaped, udp_shape, begun_shape, put_shape, lookup_shape, write_shape, moves_shape, polls_shape, turns_shape, created_shape}
+use Rattle.wasi_laws.proofs.shapes.Law.{Shaped, shapes}
 use Rattle.wasi_records.specs.Records.{tcp2_at, udp2_at}
 use Rattle.wasi_host.specs.declared.kind.Kind.TheVariants.{Udp2}
 use Rattle.wasi_records.specs.declared.records.Record.{Record}
@@ -34,10 +36,6 @@ pub data Closing (r : Tcp2Socket) : Tcp2Socket → OpId → Type 0 where
   ClosesSocket : (side : OpId) → side_of r.inner ≡ Some side → Closing r (closed_record r) side
   ClosesListen : (op : Operation) → r.listening ≡ Begins op → Closing r (with_listening r Not) op.who.side
   ClosesArrived : (l : Listener) (new : OpId) (peer : IpSocketAddress) → r.listening ≡ Accepts l → l.accept ≡ accepting.Arrived new peer → Closing r (with_listening r Not) new
-
--- a socket that is created joins the records
-abbrev pub creating : Here → OpId → WasiSocketsCtx → SocketAddressFamily → Here
-creating h own ctx family = record h { machine = record h.machine { store = with_record h.machine.store (new_socket own ctx.name family) }; own = Used }
 
 module _ (contexts : List WasiSocketsCtx) (line : ℕ) (origin : Step) where
   abbrev pub Grounds : Here → Type 0
@@ -73,17 +71,12 @@ module _ (contexts : List WasiSocketsCtx) (line : ℕ) (origin : Step) where
 
   -- it is kept where a write begins in a call of streams, of whatever line
   abbrev pub KeepsWrites : (List Entry → Here → Type 0) → Type 0
-  KeepsWrites Inv = (es : List Entry) (h : Here) (place n : ℕ) (r : Tcp2Socket) (s : Streams) (half : TcpSendStream) (permit : ℕ) (bytes : List ℕ) → h.at ≡ Some (place, n) → Found h place r → r.streams ≡ Some s → s.writer ≡ writing.Ready half permit → nat_lt permit (length bytes) ≡ false → Grounds h → Inv es h
-      → Inv es (record (put h place (with_writer r s (writing.Writing (new_job (own_of n) half.side bytes)))) { own = Used })
+  KeepsWrites Inv = (es : List Entry) (h now : Here) → BeginsIn h now → Grounds h → Inv es h → Inv es now
 
   module _ {P : List Entry → OpId → Call → Type 0} {Inv : List Entry → Here → Type 0} (a : Single P Inv) where
     -- a calm call on a record
     on_record : (es : List Entry) (h : Here) (place : ℕ) (r : Tcp2Socket) (op side : OpId) (c : Call) → Found h place r → side_of r.inner ≡ Some side → CalmOn side c → Grounds h → Inv es h → Then P (λ fs. Inv fs h) es op c
     on_record es h place r op side c g s k b i = a.asks es h op c k.calm (OnSide place r side g s k.on b) i
-
-    -- a mark, of whatever name
-    marked_by : (es : List Entry) (h : Here) (op : OpId) (kind : Kind) (parent : Option ℕ) (sock : Option OpId) → Inv es h → Allows P (λ fs made. Inv fs h) es (make_asks h.machine.table op kind parent sock)
-    marked_by es h op kind parent sock i = makes_by P (λ fs. Inv fs h) es h.machine.table op kind parent sock i (a.asks es h op _ refl (OnNone refl) i)
 
     -- a create of a UDP socket that was answered
     udp_created : (es : List Entry) (h : Here) (ctx : WasiSocketsCtx) (family : SocketAddressFamily) → h.own ≡ Unused → Grounds h → Inv es h → (t : Told) → IsDoneOrCode t → Inv (es ++ entry (own_of line) (call.UdpCreate ctx.name family) t ∷ []) (udp_begun h (udp_after_create (own_of line) ctx.name family (told_done t)))
@@ -141,57 +134,55 @@ module _ (contexts : List WasiSocketsCtx) (line : ℕ) (origin : Step) where
         let goes : is_going create.operation ≡ true = ap some_left (b.0.0.udps place (Udp2Socket.Creating create) g).1 in
         allows_if P (λ fs done. Inv fs (put_udp h place (Udp2Socket.Closed create.operation.who.side))) es (is_going create.operation) _ _ (λ going. (x.0, λ told fits. x.1 told)) (λ over. absurd (let z : true ≡ false = sym goes ∙ over in cc))
 
-    -- the law, and with it that the records have their shape
-    single : Above contexts line origin (λ es h. Base contexts line origin h)
-    single = record {
-      P = P;
-      Inv = λ es h. Shaped h × Inv es h;
-      moves = λ es h now m b i. (moves_shape contexts line origin h now m i.0, a.moves es h now m (b, i.0) i.1);
-      asks = λ es h place n r side c at g o q b i. let x = on_record es h place r (own_of n) side c g (on_socket r side (i.0 place r g) o) (question_calm line origin n side c q) (b, i.0) i.1 in (x.0, λ told f. (i.0, x.1 told));
-      sets = λ es h place r side backlog at g s is b i. let x = on_record es h place r (own_of line) side (call.SetBacklog side backlog) g (ap side_in s) (record { calm = refl; on = refl }) (b, i.0) i.1 in (x.0, λ told f. (i.0, x.1 told));
-      learns = λ es h place r side at g e b i.
-          let x = on_record es h place r (own_of line) side (call.Local side) g (ap side_in e) (record { calm = refl; on = refl }) (b, i.0) i.1 in
-          (x.0, λ told f. (put_shape h place _ (rw (told_same r.inner (told_addr told)) (i.0 place r g)) i.0, a.same _ h place r _ g (record { side = refl; streams = refl; listening = refl; does = told_same r.inner (told_addr told); doing = refl }) (x.1 told)));
-      closes = λ es h place r side q g e b i. let x = a.closes es h place r _ (own_of line) side g (ClosesSocket side e) (b, i.0) i.1 in (x.0, λ told f. (put_shape h place (closed_record r) (tt, tt) i.0, x.1 told));
-      udp_asks = λ es h place n o c at g q b i. let k = udp_question_calm line origin n o.inner.side c q in let x = a.asks es h (own_of n) c k.calm (OnUdp place o g k.on (b, i.0)) i.1 in (x.0, λ told f. (i.0, x.1 told));
-      udp_learns = λ es h place part o at g b i.
-          let x = udp_told es h place o (part_of line part) (call.Local o.inner.side) (λ told. (udp_after_local o.inner (told_addr told)).1) refl refl (λ told. learnt_side o.inner (told_addr told)) g (b, i.0) i.1 in (x.0, λ told f. (udp_shape h place _ i.0, x.1 told));
-      udp_peers = λ es h place o at g b i. let x = udp_told es h place o (own_of line) (call.Peer o.inner.side) (λ told. after_peer o.inner (told_addr told)) refl refl (λ told. refl) g (b, i.0) i.1 in (x.0, λ told f. (udp_shape h place _ i.0, x.1 told));
-      udp_closes = λ es h place o q g b i. let x = a.udp_closes es h place (Udp2Socket.Open o) (own_of line) g tt (b, i.0) i.1 in (x.0, λ told f. (udp_shape h place _ i.0, x.1 told));
-      udp_creates = λ es h ctx family c may at u m b i. ((a.asks es h (own_of line) (call.UdpCreate ctx.name family) refl (OnNone refl) i.1).0, λ told f. (begun_shape h _ i.0, udp_created es h ctx family u (b, i.0) i.1 told f));
-      udp_marks = λ es h place u g b i. allows_weaker P (λ fs made. Inv fs h) (λ fs made. Shaped h × Inv fs (record h { machine = record h.machine { table = made.1 }; made = Past })) (λ fs made k. (i.0, a.tables fs h made.1 Past k)) es _ (marked_by es h (udp_side u) (Udp2 place) None (Some (udp_side u)) i.1);
-      stream_marks = λ es h place n handle reached kind m new e b i. allows_weaker P (λ fs made. Inv fs h) (λ fs made. Shaped h × Inv fs (record h { machine = record h.machine { table = made.1 }; made = ToSend n handle reached })) (λ fs made k. (i.0, a.tables fs h made.1 (ToSend n handle reached) k)) es _ (marked_by es h (own_of n) kind (Some handle) (udp_side_at (udp2_at h.machine.store.records place)) i.1);
-      error_marks = λ es h n handle place handles m k e f b i. allows_weaker P (λ fs made. Inv fs h) (λ fs made. Shaped h × Inv fs (record h { machine = record h.machine { table = made.1 } })) (λ fs made k. (i.0, a.tables fs h made.1 h.made k)) es _ (marked_by es h (own_of n) ErrorValue (Some handle) (side_at (tcp2_at h.machine.store.records place)) i.1);
-      udp_gives_up = λ es h place create q g b i. allows_weaker P (λ fs done. Inv fs (put_udp h place (Udp2Socket.Closed create.operation.who.side))) (λ fs done. Shaped (put_udp h place (Udp2Socket.Closed create.operation.who.side)) × Inv fs (put_udp h place (Udp2Socket.Closed create.operation.who.side))) (λ fs done k. (udp_shape h place _ i.0, k)) es _ (udp_gone es h place create g (b, i.0) i.1);
-      lookups = λ es h host l b i. let x = a.asks es h (own_of line) (call.Lookup host) refl (OnNone refl) i.1 in (x.0, λ told f records s. (lookup_shape h records (sockets_stay s) i.0, a.lookups _ h records (sockets_stay s) (x.1 told)));
-      looks = λ es h place op g b i. let x = a.asks es h op.id (call.Lookup op.host) refl (OnNone refl) i.1 in (x.0, λ told f. (i.0, x.1 told));
-      marks = λ es h kind parent sock m b i. allows_weaker P (λ fs made. Inv fs h) (λ fs made. Shaped h × Inv fs (record h { machine = record h.machine { table = made.1 } })) (λ fs made k. (i.0, a.tables fs h made.1 h.made k)) es _ (marked es h kind parent sock i.1);
-      creates = λ es h ctx family c at u m b i.
-          both P Anything _ _ es _ (allows_then P (Created h ctx family) (λ fs done. Inv fs (record h { machine = done.1; own = Used })) es (new_asks (own_of line) ctx family) (created_asks h.machine (own_of line)) (created es h ctx family u (b, i.0) i.1) (λ fs made k. joins fs h ctx family made u k (b, i.0)))
-          (created_shape contexts line origin es h ctx family i.0);
-      accepted = λ es h c listener place r is e o g b i.
-          allows_weaker P (λ fs made. Inv fs h) (λ fs made. Shaped h × Inv fs (record h { machine = record h.machine { table = made.1 }; made = made_so place made.0 })) (λ fs made k. (i.0, a.tables fs h made.1 (made_so place made.0) k)) es _
-          (marked es h (Tcp2 place) (Some listener) (side_at (tcp2_at h.machine.store.records place)) i.1);
-      polls = λ es h op after k b i. both P Anything _ _ es _ (a.polls es h op after k (b, i.0) i.1) (polls_shape contexts line origin es h op after k i.0);
-      turns = λ es h place r s g e b i. both P Anything _ _ es _ (turns_by P (λ fs w. Inv fs (put h place (with_writer r s w))) es s.writer (a.same es h place r (with_writer r s s.writer) g (record { side = refl; streams = sym e; listening = refl; does = refl; doing = refl }) i.1)
-          (λ job now on. a.turns es h place r s job now g e on (b, i.0) i.1)) (turns_shape contexts line origin es h place r s g e i.0);
-      gives_up = λ es h place r q g b i. let k = i.0 place r g in let now = put h place (with_listening r Not) in
-          allows_weaker P (λ fs done. Inv fs now) (λ fs done. Shaped now × Inv fs now) (λ fs done m. (put_shape h place (with_listening r Not) (k.0, tt) i.0, m)) es _
-          (gives_up_by P (λ fs. Inv fs now) es (a.stops es h place r g i.1) r.inner.state r.listening k.1 (λ op c u. undoes es h place r op c g u (b, i.0) i.1));
-    }
+    -- a handle is made, or there is no room for it
+    made_by : (es : List Entry) (h : Here) (op : OpId) (kind : Kind) (parent : Option ℕ) (sock : Option OpId) (so : Result ℕ Stop × HandleTable → Made) → Inv es h → Allows P (λ fs made. Inv fs (record h { machine = record h.machine { table = made.1 }; made = so made })) es (make_asks h.machine.table op kind parent sock)
+    made_by es h op kind parent sock so i =
+        allows_weaker P (λ fs made. Inv fs h) (λ fs made. Inv fs (record h { machine = record h.machine { table = made.1 }; made = so made })) (λ fs made k. a.tables fs h made.1 (so made) k) es _ (makes_by P (λ fs. Inv fs h) es h.machine.table op kind parent sock i (a.asks es h op _ refl (OnNone refl) i))
+
+    single_asks : (es : List Entry) (h : Here) (A : Type 0) (tree : Asks A) (end : A → Here)
+        → Asked contexts line origin es h A tree end → Grounds h → Inv es h
+        → Allows P (λ fs x. Inv fs (end x)) es tree
+    single_asks es h _ _ _ (Questions place n r side c at g o q) b i = let x = on_record es h place r (own_of n) side c g (on_socket r side (b.1 place r g) o) (question_calm line origin n side c q) b i in (x.0, λ told f. x.1 told)
+    single_asks es h _ _ _ (SetsBacklog place r side backlog at g s is) b i = let x = on_record es h place r (own_of line) side (call.SetBacklog side backlog) g (ap side_in s) (record { calm = refl; on = refl }) b i in (x.0, λ told f. x.1 told)
+    single_asks es h _ _ _ (Learns place r side at g e) b i =
+        let x = on_record es h place r (own_of line) side (call.Local side) g (ap side_in e) (record { calm = refl; on = refl }) b i in
+        (x.0, λ told f. a.same _ h place r _ g (record { side = refl; streams = refl; listening = refl; does = told_same r.inner (told_addr told); doing = refl }) (x.1 told))
+    single_asks es h _ _ _ (Closes place r side q g e) b i = let x = a.closes es h place r _ (own_of line) side g (ClosesSocket side e) b i in (x.0, λ told f. x.1 told)
+    single_asks es h _ _ _ (UdpQuestions place n o c at g q) b i = let k = udp_question_calm line origin n o.inner.side c q in let x = a.asks es h (own_of n) c k.calm (OnUdp place o g k.on b) i in (x.0, λ told f. x.1 told)
+    single_asks es h _ _ _ (UdpLearns place part o at g) b i = let x = udp_told es h place o (part_of line part) (call.Local o.inner.side) (λ told. (udp_after_local o.inner (told_addr told)).1) refl refl (λ told. learnt_side o.inner (told_addr told)) g b i in (x.0, λ told f. x.1 told)
+    single_asks es h _ _ _ (UdpPeers place o at g) b i = let x = udp_told es h place o (own_of line) (call.Peer o.inner.side) (λ told. after_peer o.inner (told_addr told)) refl refl (λ told. refl) g b i in (x.0, λ told f. x.1 told)
+    single_asks es h _ _ _ (UdpCloses place o q g) b i = let x = a.udp_closes es h place (Udp2Socket.Open o) (own_of line) g tt b i in (x.0, λ told f. x.1 told)
+    single_asks es h _ _ _ (UdpBegins ctx family c may at u m) b i = ((a.asks es h (own_of line) (call.UdpCreate ctx.name family) refl (OnNone refl) i).0, λ told f. udp_created es h ctx family u b i told f)
+    single_asks es h _ _ _ (Resolves host records l s) b i = let x = a.asks es h (own_of line) (call.Lookup host) refl (OnNone refl) i in (x.0, λ told f. a.lookups _ h (records told) (sockets_stay (s told)) (x.1 told))
+    single_asks es h _ _ _ (Looks place op g) b i = let x = a.asks es h op.id (call.Lookup op.host) refl (OnNone refl) i in (x.0, λ told f. x.1 told)
+    single_asks es h _ _ _ (MarksOne kind parent sock m) b i = made_by es h (own_of line) kind parent sock (λ made. h.made) i
+    single_asks es h _ _ _ (MarksAccepted c listener place r is e o g) b i = made_by es h (own_of line) (Tcp2 place) (Some listener) (side_at (tcp2_at h.machine.store.records place)) (λ made. made_so place made.0) i
+    single_asks es h _ _ _ (MarksUdp place u g) b i = made_by es h (udp_side u) (Udp2 place) None (Some (udp_side u)) (λ made. Past) i
+    single_asks es h _ _ _ (MarksStream place n handle reached kind m new e) b i = made_by es h (own_of n) kind (Some handle) (udp_side_at (udp2_at h.machine.store.records place)) (λ made. ToSend n handle reached) i
+    single_asks es h _ _ _ (MarksError n handle place handles m k e f) b i = made_by es h (own_of n) ErrorValue (Some handle) (side_at (tcp2_at h.machine.store.records place)) (λ made. h.made) i
+    single_asks es h _ _ _ (AsksCreate ctx family c at u m) b i = allows_then P (Created h ctx family) (λ fs done. Inv fs (record h { machine = done.1; own = Used })) es (new_asks (own_of line) ctx family) (created_asks h.machine (own_of line)) (created es h ctx family u b i) (λ fs made k. joins fs h ctx family made u k b)
+    single_asks es h _ _ _ (Polls op after k) b i = a.polls es h op after k b i
+    single_asks es h _ _ _ (Turns place r s g e) b i = turns_by P (λ fs w. Inv fs (put h place (with_writer r s w))) es s.writer (a.same es h place r (with_writer r s s.writer) g (record { side = refl; streams = sym e; listening = refl; does = refl; doing = refl }) i) (λ job now on. a.turns es h place r s job now g e on b i)
+    single_asks es h _ _ _ (GivesUp place r q g) b i = gives_up_by P (λ fs. Inv fs (put h place (with_listening r Not))) es (a.stops es h place r g i) r.inner.state r.listening (b.1 place r g).1 (λ op c u. undoes es h place r op c g u b i)
+    single_asks es h _ _ _ (UdpGivesUp place create q g) b i = udp_gone es h place create g b i
+
+    -- the law, over that the records have their shape
+    unfoldable single : Rests contexts line origin (λ es h. Base contexts line origin h × Shaped h)
+    single = record { P = P; Inv = Inv; moves = λ es h now m b i. a.moves es h now m b i; asks = single_asks }
 
     -- what it says of a tree
     pub single_law : Law contexts line origin
-    single_law = on_names contexts line origin single
+    unfolding shapes
+    single_law = on_names contexts line origin (layer (of_state (shapes contexts line origin)) single)
 
     -- what begins a write keeps it
     pub single_begins : KeepsWrites Inv → BeginsWrites single_law
-    unfolding single_law single
-    single_begins k = begins_on_names contexts line origin single (record { begins = λ es h place n r s half permit bytes at g e w within used b i. (write_shape contexts line origin h place n r s half permit bytes g e w i.0, k es h place n r s half permit bytes at g e w within (b, i.0) i.1) })
+    unfolding single_law single shapes
+    single_begins k = begins_on_names contexts line origin (layer (of_state (shapes contexts line origin)) single) (begins_layer (of_state (shapes contexts line origin)) single (begins_state (shapes contexts line origin)) (record { begins = λ es h now w b i. k es h now w b i }))
 
     pub single_along : {A : Type 0} {h : Here} {end : A → Here} {asks : Asks A} → Walks single_law h end asks → (es : List Entry) → Base contexts line origin h → Shaped h → Inv es h → Allows P (λ fs x. Base contexts line origin (end x) × (Shaped (end x) × Inv fs (end x))) es asks
-    unfolding single_law single
-    single_along w es b s i = on_along contexts line origin single w es b (s, i)
+    unfolding single_law single shapes
+    single_along w es b s i = on_along contexts line origin (layer (of_state (shapes contexts line origin)) single) w es b (s, i)
 
 module _ (contexts : List WasiSocketsCtx) {P : List Entry → OpId → Call → Type 0} (Inv : ℕ → List Entry → Here → Type 0) (law : (line : ℕ) (origin : Step) → Single contexts line origin P (Inv line)) (writes : (line : ℕ) (origin : Step) → KeepsWrites contexts line origin (Inv line)) where
   -- Before the line of this number.

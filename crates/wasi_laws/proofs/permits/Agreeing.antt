@@ -2,7 +2,7 @@
 use Rattle.wasi_tcp.specs.declared.writer.WriteState.TheVariants as writing
 use Rattle.wasi_world.specs.declared.outcome.Answer.{Answer}
 use Rattle.wasi_world.specs.declared.outcome.Answer.TheVariants.{Ready, Pending}
-use Rattle.wasi_laws.proofs.Words.{◌≡◌, ◌⊎◌, inl, inr, ℕ, List, [], ◌∷◌, ◌++◌, Option, Some, None, sym, ap, subst, ◌∙◌, ◌<◌, Ok, Err, Result, refl, arith, ⊤, OpId, Item, End, Waits, Done, Refused, WriteState, IsFrontOf, bytes_left, Streams, Tcp2Socket, get_set, get_split, set_get, set_there, Entry, bind, told_ready, Write, StreamStop, Job, then_closed, written_by, closed_by, collected, look_in, look_asks, permitted, check_write_asks, Quiet, quiet_then, WriterMoves, Collects, Permits, Lasts, LastsAfter}
+use Rattle.wasi_laws.proofs.Words.{◌≡◌, ◌⊎◌, inl, inr, ℕ, List, [], ◌∷◌, ◌++◌, Option, Some, None, sym, ap, subst, ◌∙◌, ◌<◌, Ok, Err, Result, refl, arith, ⊤, OpId, Item, End, Waits, Done, Refused, WriteState, IsFrontOf, bytes_left, Streams, Tcp2Socket, Entry, bind, told_ready, Write, StreamStop, Job, then_closed, written_by, closed_by, collected, look_in, look_asks, permitted, check_write_asks, Quiet, quiet_then, WriterMoves, Collects, Permits, Lasts, LastsAfter}
 use Rattle.wasi_laws.proofs.shapes.Shape.{some_same, Lives}
 use Rattle.wasi_records.specs.Numbered.{record_gone}
 use Rattle.wasi_records.specs.Records.{tcp2_at, tcp2_of, tcp2_put, tcp2_pushed}
@@ -10,7 +10,7 @@ use Rattle.std.proofs.Common.{Bool, true, false, ◌==◌, eqb-true}
 use Rattle.std.proofs.lemmas.Bool.{eq-eqb}
 use Rattle.wasi_walks.proofs.GoneLists.{stays_there, was_there}
 use Rattle.wasi_records.specs.declared.records.Record.{Record}
-use Rattle.wasi_walks.proofs.Lists.{tcp2_front}
+use Rattle.wasi_walks.proofs.Places.{push_new, push_still, put_finds, put_found, put_stays, tcp_sort}
 
 -- what was taken, with what a job is still to write, is what was permitted; after a code it is the front, of any length
 abbrev pub JobAgrees : List ℕ → List ℕ → List Item → End → Type 0
@@ -54,7 +54,7 @@ module _ (side : OpId) where
 
   module _ (records : List Record) (place : ℕ) (old now : Tcp2Socket) (g : tcp2_at records place ≡ Some old) (s : now.side ≡ old.side) where
     made_put : MadeWith records → MadeWith (tcp2_put records place now)
-    made_put m = elim (set_get records place now m.place m.was m.at) [
+    made_put m = elim (put_stays tcp_sort records place now m.place m.was m.at) [
       | inl e ↦ record { place = m.place; was = m.was; at = e; of = m.of }
       | inr e ↦ record { place = m.place; was = now; at = e.1; of = s ∙ (ap (λ (r : Tcp2Socket). r.side) (some_same old m.was (sym g ∙ (ap (tcp2_at records) (sym e.0) ∙ m.at))) ∙ m.of) }
     ]
@@ -64,7 +64,7 @@ module _ (side : OpId) where
     agrees_put taken permitted f h = record {
       front = h.front;
       made = elim h.made [ inl u ↦ inl u | inr m ↦ inr (elim m [ inl w ↦ inl (made_put records place old now g s w) | inr o ↦ inr o ]) ];
-      lives = λ i r e. elim (get_set records place now i r e) [ inl p ↦ subst (λ (x : Tcp2Socket). Lives side x → Agree taken permitted x.streams) p.1 f | inr p ↦ h.lives i r p ];
+      lives = λ i r e. elim (put_found tcp_sort records place now i r e) [ inl p ↦ subst (λ (x : Tcp2Socket). Lives side x → Agree taken permitted x.streams) p.1 f | inr p ↦ h.lives i r p ];
     }
 
     -- the record of the network socket changes, and with it what was taken and permitted
@@ -72,9 +72,9 @@ module _ (side : OpId) where
     agrees_moved taken permitted more bytes its one front f h = record {
       front = front;
       made = inr (inl (made_put records place old now g s (record { place = place; was = old; at = g; of = sym s ∙ its })));
-      lives = λ i r e l. elim (get_set records place now i r e) [
+      lives = λ i r e l. elim (put_found tcp_sort records place now i r e) [
         | inl p ↦ subst (λ (x : Tcp2Socket). Agree more bytes x.streams) p.1 f
-        | inr p ↦ (let at = ap (tcp2_at (tcp2_put records place now)) (one i r p l.0) ∙ set_there records place old now g in subst (λ (x : Tcp2Socket). Agree more bytes x.streams) (some_same now r (sym at ∙ e)) f)
+        | inr p ↦ (let at = ap (tcp2_at (tcp2_put records place now)) (one i r p l.0) ∙ put_finds tcp_sort records place old now g in subst (λ (x : Tcp2Socket). Agree more bytes x.streams) (some_same now r (sym at ∙ e)) f)
       ];
     }
 
@@ -83,8 +83,8 @@ module _ (side : OpId) where
       → (Untouched taken permitted → Agree taken permitted now.streams) → Agreeing over taken permitted records → Agreeing over taken permitted (tcp2_pushed records now)
   agrees_push {over} taken permitted records now fresh ended f h = record {
     front = h.front;
-    made = elim h.made [ inl u ↦ inl u | inr m ↦ inr (elim m [ inl w ↦ inl (record { place = w.place; was = w.was; at = tcp2_front records now w.place w.was w.at; of = w.of }) | inr o ↦ inr o ]) ];
-    lives = λ i r e l. elim (get_split records now i r e) [ inl p ↦ h.lives i r p l | inr p ↦ subst (λ (x : Tcp2Socket). Agree taken permitted x.streams) p (f (untouched (ap (λ (x : Tcp2Socket). x.side) p ∙ l.0) h.made)) ];
+    made = elim h.made [ inl u ↦ inl u | inr m ↦ inr (elim m [ inl w ↦ inl (record { place = w.place; was = w.was; at = push_still tcp_sort tcp_sort records now w.place w.was w.at; of = w.of }) | inr o ↦ inr o ]) ];
+    lives = λ i r e l. elim (push_new tcp_sort records now i r e) [ inl p ↦ h.lives i r p l | inr p ↦ subst (λ (x : Tcp2Socket). Agree taken permitted x.streams) p (f (untouched (ap (λ (x : Tcp2Socket). x.side) p ∙ l.0) h.made)) ];
   }
     where
       untouched : now.side ≡ Some side → Untouched taken permitted ⊎ (MadeWith records ⊎ over) → Untouched taken permitted

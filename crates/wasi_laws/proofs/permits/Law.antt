@@ -14,7 +14,6 @@ use Rattle.wasi_udp.specs.Create.{new_create}
 use Rattle.wasi_udp.specs.Receive.{wanted_in}
 use Rattle.wasi_records.specs.declared.udp.Udp2Socket.{Udp2Socket}
 use Rattle.wasi_records.specs.Udp.{udp_create_left, udp_side}
-use Rattle.wasi_walks.proofs.UdpLists.{tcp_of_put, tcp_of_push, tcp_in_put, tcp_in_push}
 use Rattle.wasi_walks.proofs.claims.Polls.{send_plain, receive_plain, udp_connect_plain}
 use Rattle.wasi_walks.proofs.fits.DatagramPolls.{wanted_left}
 use Rattle.wasi_walks.proofs.fits.Records.{FitConnecting, FitUdpProgress, ReceiveOn, SendOn, UdpBindOn, UdpConnectOn}
@@ -24,19 +23,20 @@ use Rattle.wasi_walks.specs.Waiting.{IsLeftOfBind}
 use Rattle.wasi_walks.specs.Waiting as binding
 use Rattle.wasi_laws.proofs.Words.{Allows, ArePlain, Asks, Awaits, Begins, BeginsAccept, BeginsBind, BeginsConnect, BeginsListen, BeginsWrite, BindsOn, Bool, Call, Changes, ClosesReader, Connects, Done, End, Entry, Fit, FitListening, FitProgress, Forgets, Found, Held, Here, HoldsAccept, HoldsConnect, IsAcceptOn, IsConnect, IsFrontOf, IsGone, IsLeftOfConnect, IsLeftOfListen, IsListen, Item, Job, Joins, List, Listens, Move, Named, NoWrite, None, Not, OpId, Opens, Operation, Option, Own, Quiet, Reconnects, Refused, SocketAddressFamily, Some, Spends, Step, Streams, Tcp2Socket, TcpState, ToConnect, ToWrite, Told, Unlistens, Unused, Used, Waits, WasiSocketsCtx, WriteState, Writes, [], accept_ended, accept_name, accept_plain, accepting_now, allows_keep, allows_weaker, ap, append-nil, append_assoc, bytes_left, closed_record, connect_ended, entry, false, fresh, if◌then◌else◌, inl, inr, is_same, job_after, joined, name_in, new_accept, new_job, new_record, new_socket, none_taken, opened_by, own_of, part_of, poll_asks, put, refl, rules, side_in, side_of, subst, sym, taken_fresh, taken_in, true, with_inner, with_listening, with_reader, with_state, with_writer, ℕ, ⊤, ◌+◌, ◌++◌, ◌∙◌, ◌∷◌, ◌≡◌, Ok, length}
 use Rattle.wasi_laws.proofs.asks.Fronts.{unwritten, polls_by}
-use Rattle.wasi_laws.proofs.asks.Single.{Single, Grounds, Closing, ClosesSocket, ClosesListen, ClosesArrived, creating}
+use Rattle.wasi_laws.proofs.asks.Single.{Single, Grounds, Closing, ClosesSocket, ClosesListen, ClosesArrived}
+use Rattle.wasi_walks.proofs.walks.OfState.{creating}
 use Rattle.wasi_laws.proofs.asks.Trees.{GoesOn, InWriting, InClosing}
 use Rattle.wasi_laws.proofs.shapes.Shape.{same_side, not_same, some_same, WriterIs, HasStreams, StreamsShape, IsBegun, Lives, Follows, follows_plain, follows_same, follows_state, follows_quiet, follows_begun, follows_gone, gone_lacks, SocketsStay, sockets_stay}
 use Rattle.wasi_laws.proofs.shapes.Law.{job_of}
 use Rattle.wasi_laws.proofs.permits.Agreeing.{JobAgrees, Agrees, Agree, Agreeing, agrees_put, agrees_moved, agrees_push, writer_agrees, agrees_beside, agrees_fewer, agrees_over}
 use Rattle.wasi_laws.proofs.permits.Spent.{IsSpent, moves_spent, polls_spent, spent_by, spent_fewer, spent_own, spent_push, spent_put}
-use Rattle.wasi_walks.proofs.Lists.{tcp2_seam}
 use Rattle.wasi_walks.proofs.claims.Polls.{GivesOwn, own_poll}
 use Rattle.wasi_walks.proofs.walks.Here.{older_used, own_not_given}
 use Rattle.wasi_walks.proofs.walks.Moves.{GivesBack, udp_begun}
 use Rattle.wasi_laws.proofs.permits.Taken.{After, write_law, taken_push, Fronts, quiet_keep, Accounts}
 use Rattle.wasi_records.specs.Records.{tcp2_put, udp2_put, udp2_pushed}
 use Rattle.wasi_records.specs.declared.records.Record.{Record}
+use Rattle.wasi_walks.proofs.Places.{push_finds, push_still, push_was, put_still, put_was, tcp_sort, udp_sort}
 
 -- == what is in progress besides a write writes nothing
 bind_plain : (items : List Item) → IsLeftOfBind items → ArePlain items
@@ -142,12 +142,12 @@ module _ (side : OpId) (given : List ℕ) where
     put_udp_kept : (es : List Entry) (h : Here) (place : ℕ) (u now : Udp2Socket) → FoundUdp h place u → KeptBy over es h → KeptBy over es (put_udp h place now)
     put_udp_kept es h place u now g k = record {
       held = k.held;
-      stands = agrees_beside side (taken_in side es) k.held h.machine.store.records (udp2_put h.machine.store.records place now) (tcp_of_put h.machine.store.records place now) (λ i r e. tcp_in_put h.machine.store.records place u now i r g e) k.stands;
+      stands = agrees_beside side (taken_in side es) k.held h.machine.store.records (udp2_put h.machine.store.records place now) (put_was udp_sort tcp_sort (λ t. refl) h.machine.store.records place now) (λ i r e. put_still udp_sort tcp_sort (λ t. refl) h.machine.store.records place u now i r g e) k.stands;
       owes = k.owes;
     }
 
     push_udp_kept : (es : List Entry) (records : List Record) (now : Udp2Socket) (own : Own) → Permitted over es records own → Permitted over es (udp2_pushed records now) own
-    push_udp_kept es records now own k = record { held = k.held; stands = agrees_beside side (taken_in side es) k.held records (udp2_pushed records now) (tcp_of_push records now) (tcp_in_push records now) k.stands; owes = k.owes }
+    push_udp_kept es records now own k = record { held = k.held; stands = agrees_beside side (taken_in side es) k.held records (udp2_pushed records now) (push_was udp_sort tcp_sort (λ t. refl) records now) (push_still udp_sort tcp_sort records now) k.stands; owes = k.owes }
 
     -- a lookup was let write nothing
     looked : (es : List Entry) (h : Here) (records : List Record) → SocketsStay h.machine.store.records records → KeptBy over es h → KeptBy over es (with_records h records)
@@ -212,7 +212,7 @@ module _ (side : OpId) (given : List ℕ) where
             let i = put_same es h place r idle g (follows_quiet r idle refl refl (λ b. b)) refl k in
             record {
               held = i.held;
-              stands = agrees_push side (taken_in side es) i.held (tcp2_put h.machine.store.records place idle) (joined l new peer) (λ q j x d v. taken_fresh contexts line origin h place r idle new g (ap accept_name e ∙ ap name_in a) refl refl b.0.1 j x d (inl (v ∙ sym q))) (λ q o. (says o).none (length (tcp2_put h.machine.store.records place idle)) (joined l new peer) (tcp2_seam (tcp2_put h.machine.store.records place idle) (joined l new peer)) (inl q)) (λ t. t.0 ∙ sym t.1) i.stands;
+              stands = agrees_push side (taken_in side es) i.held (tcp2_put h.machine.store.records place idle) (joined l new peer) (λ q j x d v. taken_fresh contexts line origin h place r idle new g (ap accept_name e ∙ ap name_in a) refl refl b.0.1 j x d (inl (v ∙ sym q))) (λ q o. (says o).none (length (tcp2_put h.machine.store.records place idle)) (joined l new peer) (push_finds tcp_sort (tcp2_put h.machine.store.records place idle) (joined l new peer)) (inl q)) (λ t. t.0 ∙ sym t.1) i.stands;
               owes = i.owes;
             }
         moves es _ _ (UdpChanges h place o now g p keeps) says makes b k = put_udp_kept es h place (Udp2Socket.Open o) (Udp2Socket.Open now) g k
@@ -278,7 +278,7 @@ module _ (side : OpId) (given : List ℕ) where
             let k = asked es h (own_of line) (call.TcpCreate ctx.name family) told.Done tt i in
             spends _ _ h.own u (record {
               held = k.held;
-              stands = agrees_push side _ k.held h.machine.store.records (new_record (new_socket (own_of line) ctx.name family)) (λ q p x d v. fresh contexts line origin h u n side (ap (λ (x : OpId). x.step) (sym (some_same (own_of line) side q))) p x d (inl v)) (λ q o. (let new = new_record (new_socket (own_of line) ctx.name family) in (is o).none (length h.machine.store.records) new (tcp2_seam h.machine.store.records new) (inl q))) (λ t. t) k.stands;
+              stands = agrees_push side _ k.held h.machine.store.records (new_record (new_socket (own_of line) ctx.name family)) (λ q p x d v. fresh contexts line origin h u n side (ap (λ (x : OpId). x.step) (sym (some_same (own_of line) side q))) p x d (inl v)) (λ q o. (let new = new_record (new_socket (own_of line) ctx.name family) in (is o).none (length h.machine.store.records) new (push_finds tcp_sort h.machine.store.records new) (inl q))) (λ t. t) k.stands;
               owes = k.owes;
             })
 
@@ -307,7 +307,7 @@ module _ (side : OpId) (given : List ℕ) where
       bare_spent h place r now g s none i = spent_put side line h.own h.machine.store.records place r now g s (λ e. absurd (let never : None ≡ Some side = sym none ∙ e in cc)) i
 
       udp_spent : (h : Here) (place : ℕ) (now : Udp2Socket) → IsSpent side line h → IsSpent side line (put_udp h place now)
-      udp_spent h place now i = spent_by side line h.own _ _ (tcp_of_put h.machine.store.records place now) i
+      udp_spent h place now i = spent_by side line h.own _ _ (put_was udp_sort tcp_sort (λ t. refl) h.machine.store.records place now) i
 
       -- a new socket has the line's own name, which wasn't given
       made_spent : (h : Here) (ctx : WasiSocketsCtx) (family : SocketAddressFamily) → h.own ≡ Unused → IsSpent side line h → IsSpent side line (creating h (own_of line) ctx family)
@@ -334,7 +334,7 @@ module _ (side : OpId) (given : List ℕ) where
             let new = Udp2Socket.Creating (new_create (own_of line) ctx.name family) in
             let now = udp_begun h (Ok (new_create (own_of line) ctx.name family)) in
             let over = IsSpent side line now in
-            let m = asked over es h (own_of line) (call.UdpCreate ctx.name family) told.Done tt (on es h now (λ i. spent_own side line h.own Used _ (older_used line h.own) (spent_by side line h.own _ _ (tcp_of_push h.machine.store.records new) i)) k) in
+            let m = asked over es h (own_of line) (call.UdpCreate ctx.name family) told.Done tt (on es h now (λ i. spent_own side line h.own Used _ (older_used line h.own) (spent_by side line h.own _ _ (push_was udp_sort tcp_sort (λ t. refl) h.machine.store.records new) i)) k) in
             spends over _ _ h.own u (push_udp_kept over _ h.machine.store.records new h.own m);
         udp_closes = λ es h place u op g l b k.
             let now = put_udp h place (Udp2Socket.Closed (udp_side u)) in

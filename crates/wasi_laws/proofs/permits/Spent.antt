@@ -6,13 +6,12 @@ use Rattle.wasi_records.specs.Numbered.{record_gone}
 use Rattle.wasi_records.specs.declared.records.Record.{Record}
 use Rattle.wasi_world.specs.Operation.{Done, Refused, Waits}
 use Rattle.wasi_walks.proofs.GoneLists.{is_gone, was_there}
-use Rattle.wasi_walks.proofs.Lists.{get_set, get_split}
-use Rattle.wasi_walks.proofs.UdpLists.{tcp_of_put}
 use Rattle.wasi_walks.proofs.claims.Law.{Named}
 use Rattle.wasi_walks.proofs.claims.Polls.{GivesOwn, ended_name}
 use Rattle.wasi_walks.proofs.walks.Here.{Grows, IsOlder, IsToCome, grows_to, next_grows, next_to_come, not_given, older_unused, older_used}
 use Rattle.wasi_walks.proofs.walks.Moves as walk
 use Rattle.wasi_walks.proofs.walks.Moves.{Held, Move, Own, accepting_now, joined, listen_after, new_accept, part_of}
+use Rattle.wasi_walks.proofs.Places.{push_new, put_found, put_was, tcp_sort, udp_sort}
 
 module _ (side : OpId) (line : ℕ) where
   pub record Spent (own : Own) (records : List Record) : Type 0 where
@@ -27,14 +26,14 @@ module _ (side : OpId) (line : ℕ) where
   spent_by own records now was s = record { older = s.older; none = λ i r e c. s.none i r (was i r e) c }
 
   pub spent_put : (own : Own) (records : List Record) (place : ℕ) (r now : Tcp2Socket) → tcp2_at records place ≡ Some r → now.side ≡ r.side → (accept_name now.listening ≡ Some side → accept_name r.listening ≡ Some side) → Spent own records → Spent own (tcp2_put records place now)
-  spent_put own records place r now g sides names s = record { older = s.older; none = λ i q e c. elim (get_set records place now i q e) [ inl p ↦ s.none place r g (back (subst (Claims side) (sym p.1) c)) | inr p ↦ s.none i q p c ] }
+  spent_put own records place r now g sides names s = record { older = s.older; none = λ i q e c. elim (put_found tcp_sort records place now i q e) [ inl p ↦ s.none place r g (back (subst (Claims side) (sym p.1) c)) | inr p ↦ s.none i q p c ] }
     where
       back : Claims side now → Claims side r
       back (inl e) = inl (sym sides ∙ e)
       back (inr e) = inr (names e)
 
   pub spent_push : (own : Own) (records : List Record) (now : Tcp2Socket) → (Claims side now → ⊥) → Spent own records → Spent own (tcp2_pushed records now)
-  spent_push own records now other s = record { older = s.older; none = λ i q e c. elim (get_split records now i q e) [ inl p ↦ s.none i q p c | inr p ↦ other (subst (Claims side) (sym p) c) ] }
+  spent_push own records now other s = record { older = s.older; none = λ i q e c. elim (push_new tcp_sort records now i q e) [ inl p ↦ s.none i q p c | inr p ↦ other (subst (Claims side) (sym p) c) ] }
 
   pub spent_own : (own now : Own) (records : List Record) → Grows line own now → Spent own records → Spent now records
   spent_own own now records g s = record { older = g side s.older; none = s.none }
@@ -84,13 +83,13 @@ module _ (side : OpId) (line : ℕ) where
     moves_spent _ _ (walk.Joins h c handle place r l new peer is of u g e a) i =
         let idle = accepting_now r l accepting.Idle in
         spent_push h.own (tcp2_put h.machine.store.records place idle) (joined l new peer) (λ c. elim c [ inl q ↦ i.none place r g (inr (ap accept_name e ∙ (ap name_in a ∙ q))) | inr q ↦ absurd (cc) ]) (put_bare h place r idle g refl refl i)
-    moves_spent _ _ (walk.UdpChanges h place o now g p keeps) i = spent_by h.own _ _ (tcp_of_put h.machine.store.records place _) i
-    moves_spent _ _ (walk.BeginsUdpBind h place o a at g to idle own) i = spent_own h.own Own.Used _ (older_used line h.own) (spent_by h.own _ _ (tcp_of_put h.machine.store.records place _) i)
-    moves_spent _ _ (walk.BeginsUdpConnect h place o a at g to bound none own) i = spent_own h.own (Own.ToConnect place) _ (grows_to line h.own Own.Unused (Own.ToConnect place) own (older_unused line (Own.ToConnect place))) (spent_by h.own _ _ (tcp_of_put h.machine.store.records place _) i)
-    moves_spent _ _ (walk.BeginsSend h place n o out d bound at g e is known own) i = spent_own h.own (Own.Names (n + 1)) _ (next_grows line n h.own own) (spent_by h.own _ _ (tcp_of_put h.machine.store.records place _) i)
-    moves_spent _ _ (walk.BeginsReceive h place n o inc bound at g e is own) i = spent_own h.own (Own.Names (n + 1)) _ (next_grows line n h.own own) (spent_by h.own _ _ (tcp_of_put h.machine.store.records place _) i)
-    moves_spent _ _ (walk.CancelsUdpBind h place o op q g e) i = spent_by h.own _ _ (tcp_of_put h.machine.store.records place _) i
-    moves_spent _ _ (walk.CancelsUdpConnect h place o q g) i = spent_by h.own _ _ (tcp_of_put h.machine.store.records place _) i
+    moves_spent _ _ (walk.UdpChanges h place o now g p keeps) i = spent_by h.own _ _ (put_was udp_sort tcp_sort (λ t. refl) h.machine.store.records place _) i
+    moves_spent _ _ (walk.BeginsUdpBind h place o a at g to idle own) i = spent_own h.own Own.Used _ (older_used line h.own) (spent_by h.own _ _ (put_was udp_sort tcp_sort (λ t. refl) h.machine.store.records place _) i)
+    moves_spent _ _ (walk.BeginsUdpConnect h place o a at g to bound none own) i = spent_own h.own (Own.ToConnect place) _ (grows_to line h.own Own.Unused (Own.ToConnect place) own (older_unused line (Own.ToConnect place))) (spent_by h.own _ _ (put_was udp_sort tcp_sort (λ t. refl) h.machine.store.records place _) i)
+    moves_spent _ _ (walk.BeginsSend h place n o out d bound at g e is known own) i = spent_own h.own (Own.Names (n + 1)) _ (next_grows line n h.own own) (spent_by h.own _ _ (put_was udp_sort tcp_sort (λ t. refl) h.machine.store.records place _) i)
+    moves_spent _ _ (walk.BeginsReceive h place n o inc bound at g e is own) i = spent_own h.own (Own.Names (n + 1)) _ (next_grows line n h.own own) (spent_by h.own _ _ (put_was udp_sort tcp_sort (λ t. refl) h.machine.store.records place _) i)
+    moves_spent _ _ (walk.CancelsUdpBind h place o op q g e) i = spent_by h.own _ _ (put_was udp_sort tcp_sort (λ t. refl) h.machine.store.records place _) i
+    moves_spent _ _ (walk.CancelsUdpConnect h place o q g) i = spent_by h.own _ _ (put_was udp_sort tcp_sort (λ t. refl) h.machine.store.records place _) i
     moves_spent _ _ (walk.Finds h records s) i = spent_by h.own _ _ (λ k r e. sym (s.tcp k) ∙ e) i
     moves_spent _ _ (walk.GivesBack h place idle left) i = spent_by h.own _ _ (was_there tcp2_of refl h.machine.store.records place) i
     moves_spent _ _ _ i = i
@@ -106,8 +105,8 @@ module _ (side : OpId) (line : ℕ) where
     polls_spent h _ _ (walk.Connects place r op g e) end k i = put_same h place r _ g refl refl i
     polls_spent h _ _ (walk.Listens place r op q g e c) end k i = listened h place r op end g i
     polls_spent h _ _ (walk.Awaits place r l op g e a) end k i = spent_put h.own h.machine.store.records place r _ g refl (λ p. ap accept_name e ∙ (ap name_in a ∙ ended_name op end k side p)) i
-    polls_spent h _ _ (walk.UdpCreates place create q g) end k i = spent_by h.own _ _ (tcp_of_put h.machine.store.records place _) i
-    polls_spent h _ _ (walk.UdpBindsOn place o op q g e) end k i = spent_by h.own _ _ (tcp_of_put h.machine.store.records place _) i
-    polls_spent h _ _ (walk.UdpConnectsOn place o op q g e) end k i = spent_by h.own _ _ (tcp_of_put h.machine.store.records place _) i
-    polls_spent h _ _ (walk.SendsOn place o out op left g e s settles) end k i = spent_by h.own _ _ (tcp_of_put h.machine.store.records place _) i
-    polls_spent h _ _ (walk.ReceivesOn place o inc op g e s) end k i = spent_by h.own _ _ (tcp_of_put h.machine.store.records place _) i
+    polls_spent h _ _ (walk.UdpCreates place create q g) end k i = spent_by h.own _ _ (put_was udp_sort tcp_sort (λ t. refl) h.machine.store.records place _) i
+    polls_spent h _ _ (walk.UdpBindsOn place o op q g e) end k i = spent_by h.own _ _ (put_was udp_sort tcp_sort (λ t. refl) h.machine.store.records place _) i
+    polls_spent h _ _ (walk.UdpConnectsOn place o op q g e) end k i = spent_by h.own _ _ (put_was udp_sort tcp_sort (λ t. refl) h.machine.store.records place _) i
+    polls_spent h _ _ (walk.SendsOn place o out op left g e s settles) end k i = spent_by h.own _ _ (put_was udp_sort tcp_sort (λ t. refl) h.machine.store.records place _) i
+    polls_spent h _ _ (walk.ReceivesOn place o inc op g e s) end k i = spent_by h.own _ _ (put_was udp_sort tcp_sort (λ t. refl) h.machine.store.records place _) i

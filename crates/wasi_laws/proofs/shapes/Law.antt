@@ -5,7 +5,9 @@ use Rattle.wasi_tcp.specs.declared.socket.Connection.{Connection}
 use Rattle.wasi_tcp.specs.declared.socket.TcpState.TheVariants as state
 use Rattle.wasi_tcp.specs.declared.writer.WriteState.TheVariants as writing
 use Rattle.wasi_walks.proofs.fits.Polls.{Anything}
-use Rattle.wasi_laws.proofs.Words.{Accepts, Allows, Awaits, BeginsAccept, BeginsBind, BeginsConnect, BeginsListen, BeginsWrite, BindsOn, Changes, CloseLast, ClosesReader, Connects, Done, End, Entry, Err, ErrorCode, Forgets, Found, Given, Held, Here, IsGone, Item, Job, Joins, LastAsk, List, Listener, Listening, Listens, Move, None, NothingLast, Ok, OpId, Opens, Operation, Option, Reconnects, Result, ShutdownLast, Socket, SocketAddressFamily, Some, Step, Streams, Tcp2, Tcp2Socket, TcpState, Unclosed, Unlistens, Used, WasiSocketsCtx, Who, WriteState, Writes, accepting_now, allows_then, allows_weaker, ap, bind, bind_progress, connect_ended, create_asks, created_asks, get_set, get_split, inl, inr, job_after, joined, last_ask, length, listen_after, make_asks, new_asks, new_job, new_record, opened_by, own_of, poll_asks, put, refl, side_of, subst, sym, true, turn_asks, whatever, with_inner, with_progress, with_reader, with_state, with_writer, ℕ, ⊤, ◌∙◌, ◌≡◌}
+use Rattle.wasi_walks.proofs.walks.OfState.{Becomes as Leaves, Learnt, IsClosed, GivenUp, UdpLearnt, UdpIsClosed, UdpGivenUp, UdpBegun, Resolved, Created, CreatedWith, Writing, OfState}
+use Rattle.wasi_laws.proofs.Words.{Base, InCall, closed_record, told_addr, told_same, with_listening, Not}
+use Rattle.wasi_laws.proofs.Words.{Accepts, Allows, Awaits, BeginsAccept, BeginsBind, BeginsConnect, BeginsListen, BeginsWrite, BindsOn, Changes, CloseLast, ClosesReader, Connects, Done, End, Entry, Err, ErrorCode, Forgets, Found, Given, Held, Here, IsGone, Item, Job, Joins, LastAsk, List, Listener, Listening, Listens, Move, None, NothingLast, Ok, OpId, Opens, Operation, Option, Reconnects, Result, ShutdownLast, Some, Step, Streams, Tcp2Socket, TcpState, Unclosed, Unlistens, WasiSocketsCtx, Who, WriteState, Writes, accepting_now, allows_weaker, ap, bind, bind_progress, connect_ended, inl, inr, job_after, joined, last_ask, listen_after, new_job, opened_by, own_of, poll_asks, put, refl, side_of, subst, sym, true, turn_asks, whatever, with_inner, with_progress, with_reader, with_state, with_writer, ℕ, ◌∙◌, ◌≡◌}
 use Rattle.wasi_laws.proofs.asks.Fronts.{Becomes, ToldAddress, PollLaw, polls_by}
 use Rattle.wasi_laws.proofs.asks.Trees.{GoesOn, InWriting, InClosing, turns_by}
 use Rattle.wasi_laws.proofs.shapes.Shape.{IsOfWrite, AreOfWrite, end_write, JobIs, WriterIs, writer_moves, HasStreams, StreamsShape, ListenerShape, RecordShape, Unconnected, bare, sideless, restated, SocketsStay, sockets_stay}
@@ -14,9 +16,9 @@ use Rattle.wasi_walks.proofs.GoneLists.{was_there}
 use Rattle.wasi_records.specs.declared.udp.Udp2Socket.{Udp2Socket}
 use Rattle.wasi_records.specs.Udp.{udp_create_left}
 use Rattle.wasi_udp.specs.Create.{Create}
-use Rattle.wasi_walks.proofs.UdpLists.{tcp_of_put, tcp_of_push}
 use Rattle.wasi_walks.proofs.walks.Moves.{GivesBack, CancelsBind, CancelsUdpBind, CancelsUdpConnect, put_udp, udp_begun, with_records, Finds, UdpChanges, BeginsUdpBind, BeginsUdpConnect, BeginsSend, BeginsReceive, UdpCreates, UdpBindsOn, UdpConnectsOn, SendsOn, ReceivesOn}
 use Rattle.wasi_records.specs.declared.records.Record.{Record}
+use Rattle.wasi_walks.proofs.Places.{push_new, push_was, put_found, put_was, tcp_sort, udp_sort}
 
 -- what is left of a write takes no other form
 pub never : (i j : Item) → Becomes i j → IsOfWrite i → ⊥
@@ -96,17 +98,17 @@ abbrev pub Shaped : Here → Type 0
 Shaped h = (place : ℕ) (r : Tcp2Socket) → Found h place r → RecordShape r
 
 pub put_shape : (h : Here) (place : ℕ) (now : Tcp2Socket) → RecordShape now → Shaped h → Shaped (put h place now)
-put_shape h place now k i = λ n r e. elim (get_set h.machine.store.records place now n r e) [ inl p ↦ subst RecordShape p.1 k | inr p ↦ i n r p ]
+put_shape h place now k i = λ n r e. elim (put_found tcp_sort h.machine.store.records place now n r e) [ inl p ↦ subst RecordShape p.1 k | inr p ↦ i n r p ]
 
 pub udp_shape : (h : Here) (place : ℕ) (now : Udp2Socket) → Shaped h → Shaped (put_udp h place now)
-udp_shape h place now i = λ n r e. i n r (tcp_of_put h.machine.store.records place now n r e)
+udp_shape h place now i = λ n r e. i n r (put_was udp_sort tcp_sort (λ t. refl) h.machine.store.records place now n r e)
 
 -- a UDP socket is polled: the records keep their shape, whatever is left of it
 udp_polled : (es : List Entry) (h : Here) (place : ℕ) (op : Operation) (now : End × List Item → Udp2Socket) → Shaped h → Allows Anything (λ fs ended. Shaped (put_udp h place (now ended))) es (poll_asks op)
 udp_polled es h place op now i = whatever (λ ended. Shaped (put_udp h place (now ended))) (λ ended. udp_shape h place (now ended) i) es (poll_asks op)
 
 pub begun_shape : (h : Here) (made : Result Create ErrorCode) → Shaped h → Shaped (udp_begun h made)
-begun_shape h (Ok create) i = λ n r e. i n r (tcp_of_push h.machine.store.records (Udp2Socket.Creating create) n r e)
+begun_shape h (Ok create) i = λ n r e. i n r (push_was udp_sort tcp_sort (λ t. refl) h.machine.store.records (Udp2Socket.Creating create) n r e)
 begun_shape h (Err c) i = i
 
 -- a lookup has no shape
@@ -114,7 +116,7 @@ pub lookup_shape : (h : Here) (records : List Record) → SocketsStay h.machine.
 lookup_shape h records s i = λ place r e. i place r (sym (s.tcp place) ∙ e)
 
 push_shape : (records : List Record) (now : Tcp2Socket) → RecordShape now → ((place : ℕ) (r : Tcp2Socket) → tcp2_at records place ≡ Some r → RecordShape r) → (place : ℕ) (r : Tcp2Socket) → tcp2_at (tcp2_pushed records now) place ≡ Some r → RecordShape r
-push_shape records now k i place r e = elim (get_split records now place r e) [ inl p ↦ i place r p | inr p ↦ subst RecordShape p k ]
+push_shape records now k i place r e = elim (push_new tcp_sort records now place r e) [ inl p ↦ i place r p | inr p ↦ subst RecordShape p k ]
 
 module _ (contexts : List WasiSocketsCtx) (line : ℕ) (origin : Step) where
   -- a write begins, of whatever line
@@ -177,9 +179,19 @@ module _ (contexts : List WasiSocketsCtx) (line : ℕ) (origin : Step) where
       (λ job now on. allows_weaker Anything (λ fs ended. WriterIs o.connection.side (now (job_after job.write.who ended))) (λ fs ended. Shaped (put h place (with_writer r s (now (job_after job.write.who ended)))))
       (λ fs ended l. put_shape h place _ (writes_on r s _ e k l) i) es (poll_asks job.write) (turned o.connection.side es s.writer job now on o.writer))
 
-  pub created_shape : (es : List Entry) (h : Here) (ctx : WasiSocketsCtx) (family : SocketAddressFamily) → Shaped h → Allows Anything (λ fs done. Shaped (record h { machine = done.1; own = Used })) es (create_asks h.machine (own_of line) ctx family)
-  created_shape es h ctx family i = allows_then Anything (λ fs made. ⊤) (λ fs done. Shaped (record h { machine = done.1; own = Used })) es (new_asks (own_of line) ctx family) (created_asks h.machine (own_of line)) (whatever (λ made. ⊤) (λ made. tt) es _) (λ fs made k. joins fs made)
-    where
-      joins : (fs : List Entry) (made : Result Socket ErrorCode) → Allows Anything (λ gs done. Shaped (record h { machine = done.1; own = Used })) fs (created_asks h.machine (own_of line) made)
-      joins fs (Err c) = i
-      joins fs (Ok socket) = allows_then Anything (λ gs made. ⊤) (λ gs done. Shaped (record h { machine = done.1; own = Used })) fs (make_asks h.machine.table (own_of line) (Tcp2 (length h.machine.store.records)) None (side_of socket)) _ (whatever (λ made. ⊤) (λ made. tt) fs _) (λ gs made k. push_shape h.machine.store.records (new_record socket) (tt, tt) i)
+  pub becomes_shape : (h now : Here) → Leaves contexts line origin h now → Shaped h → Shaped now
+  becomes_shape h _ (Learnt place r side told at g e) i = put_shape h place _ (rw (told_same r.inner (told_addr told)) (i place r g)) i
+  becomes_shape h _ (IsClosed place r side q g e) i = put_shape h place (closed_record r) (tt, tt) i
+  becomes_shape h _ (GivenUp place r q g) i = put_shape h place (with_listening r Not) ((i place r g).0, tt) i
+  becomes_shape h _ (UdpLearnt place o socket g e) i = udp_shape h place _ i
+  becomes_shape h _ (UdpIsClosed place o q g) i = udp_shape h place _ i
+  becomes_shape h _ (UdpGivenUp place create q g) i = udp_shape h place _ i
+  becomes_shape h _ (UdpBegun ctx family r c u m) i = begun_shape h _ i
+  becomes_shape h _ (Resolved host records l s) i = lookup_shape h records (sockets_stay s) i
+  becomes_shape h _ (Created ctx family c u m) i = push_shape h.machine.store.records _ (tt, tt) i
+  becomes_shape h _ (CreatedWith ctx family c u m) i = push_shape h.machine.store.records _ (tt, tt) i
+  becomes_shape h _ (Writing _ (InCall place n r s half permit bytes at g e w within used)) i = write_shape h place n r s half permit bytes g e w i
+  becomes_shape h _ _ i = i
+
+  unfoldable pub shapes : OfState contexts line origin (λ es h. Base contexts line origin h)
+  shapes = record { Holds = Shaped; moves = λ es h now m b i. moves_shape h now m i; becomes = λ es h now k b i. becomes_shape h now k i; polls = λ es h op after k b i. polls_shape es h op after k i; turns = λ es h place r s g e b i. turns_shape es h place r s g e i }

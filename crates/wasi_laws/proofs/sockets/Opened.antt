@@ -3,7 +3,7 @@
 use Rattle.wasi_world.specs.declared.call.Call.TheVariants as call
 use Rattle.wasi_tcp.specs.declared.listener.Accepting.TheVariants as accepting
 use Rattle.wasi_walks.proofs.walks.Here.{IsOlder}
-use Rattle.wasi_laws.proofs.Words.{Accepts, Call, Claims, Created, Entry, Found, HandedOver, Here, IpSocketAddress, IsClosed, IsMade, IsOpen, List, Listener, Named, None, OpId, Some, Tcp2Socket, Told, [], accept_name, ap, entry, get_set, get_split, has_front, has_split, inl, inr, name_in, no_some, put, refl, set_there, subst, sym, ℕ, ◌++◌, ◌∙◌, ◌∷◌, ◌≡◌, ◌⊎◌, ⊤}
+use Rattle.wasi_laws.proofs.Words.{Accepts, Call, Claims, Created, Entry, Found, HandedOver, Here, IpSocketAddress, IsClosed, IsMade, IsOpen, List, Listener, Named, None, OpId, Some, Tcp2Socket, Told, [], accept_name, ap, entry, has_front, has_split, inl, inr, name_in, no_some, put, refl, subst, sym, ℕ, ◌++◌, ◌∙◌, ◌∷◌, ◌≡◌, ◌⊎◌, ⊤}
 use Rattle.wasi_laws.proofs.shapes.Shape.{some_same, Lives, Follows, SocketsStay, UdpLives}
 use Rattle.wasi_records.specs.Numbered.{record_gone}
 use Rattle.wasi_records.specs.Records.{tcp2_at, tcp2_of, tcp2_put, tcp2_pushed, udp2_at, udp2_of, udp2_put, udp2_pushed}
@@ -11,9 +11,9 @@ use Rattle.wasi_walks.proofs.GoneLists.{was_there}
 use Rattle.wasi_records.specs.declared.udp.Udp2Socket.{Udp2Socket}
 use Rattle.wasi_records.specs.Udp.{udp_side}
 use Rattle.wasi_laws.specs.Opened.{UdpCreated}
-use Rattle.wasi_walks.proofs.UdpLists.{udp_of_put, udp_of_push, tcp_of_put, tcp_of_push, udp_get_set, udp_set_there, udp_split}
 use Rattle.wasi_walks.proofs.walks.Moves.{put_udp, FoundUdp}
 use Rattle.wasi_records.specs.declared.records.Record.{Record}
+use Rattle.wasi_walks.proofs.Places.{push_found, push_new, push_was, put_finds, put_found, put_was, tcp_sort, udp_sort}
 
 -- a close, of this socket
 abbrev pub Closes : Call → OpId → Type 0
@@ -124,17 +124,17 @@ module _ {given : OpId → Type 0} {records : List Record} where
 
   -- a record changes, or there is one more
   pub put_open : (es : List Entry) (place : ℕ) (now : Tcp2Socket) → RecordOpen es now → Opened given es records → Opened given es (tcp2_put records place now)
-  put_open es place now k i = record { records = λ n r e. elim (get_set records place now n r e) [ inl p ↦ subst (RecordOpen es) p.1 k | inr p ↦ i.records n r p ]; udps = λ n u e. i.udps n u (udp_of_put records place now n u e); older = i.older }
+  put_open es place now k i = record { records = λ n r e. elim (put_found tcp_sort records place now n r e) [ inl p ↦ subst (RecordOpen es) p.1 k | inr p ↦ i.records n r p ]; udps = λ n u e. i.udps n u (put_was tcp_sort udp_sort (λ t. refl) records place now n u e); older = i.older }
 
   pub push_open : (es : List Entry) (now : Tcp2Socket) → RecordOpen es now → Opened given es records → Opened given es (tcp2_pushed records now)
-  push_open es now k i = record { records = λ n r e. elim (get_split records now n r e) [ inl p ↦ i.records n r p | inr p ↦ subst (RecordOpen es) p k ]; udps = λ n u e. i.udps n u (udp_of_push records now n u e); older = i.older }
+  push_open es now k i = record { records = λ n r e. elim (push_new tcp_sort records now n r e) [ inl p ↦ i.records n r p | inr p ↦ subst (RecordOpen es) p k ]; udps = λ n u e. i.udps n u (push_was tcp_sort udp_sort (λ t. refl) records now n u e); older = i.older }
 
   -- the same of a UDP socket
   pub put_udp_open : (es : List Entry) (place : ℕ) (now : Udp2Socket) → UdpOpen es now → Opened given es records → Opened given es (udp2_put records place now)
-  put_udp_open es place now k i = record { records = λ n r e. i.records n r (tcp_of_put records place now n r e); udps = λ n u e. elim (udp_get_set records place now n u e) [ inl p ↦ subst (UdpOpen es) p.1 k | inr p ↦ i.udps n u p ]; older = i.older }
+  put_udp_open es place now k i = record { records = λ n r e. i.records n r (put_was udp_sort tcp_sort (λ t. refl) records place now n r e); udps = λ n u e. elim (put_found udp_sort records place now n u e) [ inl p ↦ subst (UdpOpen es) p.1 k | inr p ↦ i.udps n u p ]; older = i.older }
 
   pub push_udp_open : (es : List Entry) (now : Udp2Socket) → UdpOpen es now → Opened given es records → Opened given es (udp2_pushed records now)
-  push_udp_open es now k i = record { records = λ n r e. i.records n r (tcp_of_push records now n r e); udps = λ n u e. elim (udp_split records now n u e) [ inl p ↦ i.udps n u p | inr p ↦ subst (UdpOpen es) p.0 k ]; older = i.older }
+  push_udp_open es now k i = record { records = λ n r e. i.records n r (push_was udp_sort tcp_sort (λ t. refl) records now n r e); udps = λ n u e. elim (push_found udp_sort records now n u e) [ inl p ↦ i.udps n u p | inr p ↦ subst (UdpOpen es) p.0 k ]; older = i.older }
 
   -- a lookup has no network socket
   pub looked_open : (es : List Entry) (now : List Record) → SocketsStay records now → Opened given es records → Opened given es now
@@ -155,7 +155,7 @@ Kept line es h = Opened (IsOlder line h.own) es h.machine.store.records
 pub closed_put : (line : ℕ) (C : OpId → Type 0) (es fs : List Entry) (h : Here) (place : ℕ) (r now : Tcp2Socket) (side : OpId) → Found h place r → Claims side r → ((x : OpId) → C x → side ≡ x) → (HasIt now side → ⊥) → Grows C es fs → Named line h → RecordOpen es now → Kept line es h → Kept line fs (put h place now)
 closed_put line C es fs h place r now side g claims of none grows named k i = record {
   records = λ n q e. record_more C es fs q grows (λ x u d. lacks n q e (subst (HasIt q) (sym (of x d)) u)) ((put_open es place now k i).records n q e);
-  udps = λ n u e. (let f = udp_of_put h.machine.store.records place now n u e in udp_more C es fs u grows (λ l d. named.udps.apart side place n r u g f claims (sym (of (udp_side u) d))) (i.udps n u f));
+  udps = λ n u e. (let f = put_was tcp_sort udp_sort (λ t. refl) h.machine.store.records place now n u e in udp_more C es fs u grows (λ l d. named.udps.apart side place n r u g f claims (sym (of (udp_side u) d))) (i.udps n u f));
   older = λ x c. elim (grows.closed x c) [ inl a ↦ i.older x a | inr d ↦ subst (IsOlder line h.own) (of x d) (named.older side place r g claims) ];
 }
   where
@@ -166,11 +166,11 @@ closed_put line C es fs h place r now side g claims of none grows named k i = re
     other : (n : ℕ) (q : Tcp2Socket) → Found (put h place now) n q → Found h n q → HasIt q side → ⊥
     other n q e p u =
         let at : n ≡ place = named.one side n place q r p g (its q u) claims in
-        let is : now ≡ q = some_same now q (sym (ap (tcp2_at (tcp2_put h.machine.store.records place now)) at ∙ set_there h.machine.store.records place r now g) ∙ e) in
+        let is : now ≡ q = some_same now q (sym (ap (tcp2_at (tcp2_put h.machine.store.records place now)) at ∙ put_finds tcp_sort h.machine.store.records place r now g) ∙ e) in
         none (subst (λ (y : Tcp2Socket). HasIt y side) (sym is) u)
 
     lacks : (n : ℕ) (q : Tcp2Socket) → Found (put h place now) n q → HasIt q side → ⊥
-    lacks n q e u = elim (get_set h.machine.store.records place now n q e) [ inl p ↦ none (subst (λ (y : Tcp2Socket). HasIt y side) (sym p.1) u) | inr p ↦ other n q e p u ]
+    lacks n q e u = elim (put_found tcp_sort h.machine.store.records place now n q e) [ inl p ↦ none (subst (λ (y : Tcp2Socket). HasIt y side) (sym p.1) u) | inr p ↦ other n q e p u ]
 
 some_udp : (a b : Udp2Socket) → Some a ≡ Some b → a ≡ b
 some_udp a b e = cc
@@ -178,8 +178,8 @@ some_udp a b e = cc
 -- the network socket of a UDP socket is closed, and its record says so
 pub udp_closed_put : (line : ℕ) (C : OpId → Type 0) (es fs : List Entry) (h : Here) (place : ℕ) (u : Udp2Socket) → FoundUdp h place u → ((x : OpId) → C x → udp_side u ≡ x) → Grows C es fs → Named line h → Kept line es h → Kept line fs (put_udp h place (Udp2Socket.Closed (udp_side u)))
 udp_closed_put line C es fs h place u g of grows named i = record {
-  records = λ n r e. (let f = tcp_of_put h.machine.store.records place (Udp2Socket.Closed (udp_side u)) n r e in record_more C es fs r grows (λ x l d. named.udps.apart x n place r u f g (its r x l) (of x d)) (i.records n r f));
-  udps = λ n v e. elim (udp_get_set h.machine.store.records place (Udp2Socket.Closed (udp_side u)) n v e) [
+  records = λ n r e. (let f = put_was udp_sort tcp_sort (λ t. refl) h.machine.store.records place (Udp2Socket.Closed (udp_side u)) n r e in record_more C es fs r grows (λ x l d. named.udps.apart x n place r u f g (its r x l) (of x d)) (i.records n r f));
+  udps = λ n v e. elim (put_found udp_sort h.machine.store.records place (Udp2Socket.Closed (udp_side u)) n v e) [
     | inl p ↦ subst (UdpOpen fs) p.1 tt
     | inr p ↦ udp_more C es fs v grows (λ l d. other n v e p l (of (udp_side v) d)) (i.udps n v p)
   ];
@@ -193,5 +193,5 @@ udp_closed_put line C es fs h place u g of grows named i = record {
     other : (n : ℕ) (v : Udp2Socket) → FoundUdp (put_udp h place (Udp2Socket.Closed (udp_side u))) n v → FoundUdp h n v → UdpLives v → udp_side u ≡ udp_side v → ⊥
     other n v e p l s =
         let at : n ≡ place = named.udps.one (udp_side v) n place v u p g refl s in
-        let is : Some (Udp2Socket.Closed (udp_side u)) ≡ Some v = sym (ap (udp2_at (udp2_put h.machine.store.records place (Udp2Socket.Closed (udp_side u)))) at ∙ udp_set_there h.machine.store.records place u (Udp2Socket.Closed (udp_side u)) g) ∙ e in
+        let is : Some (Udp2Socket.Closed (udp_side u)) ≡ Some v = sym (ap (udp2_at (udp2_put h.machine.store.records place (Udp2Socket.Closed (udp_side u)))) at ∙ put_finds udp_sort h.machine.store.records place u (Udp2Socket.Closed (udp_side u)) g) ∙ e in
         subst UdpLives (sym (some_udp (Udp2Socket.Closed (udp_side u)) v is)) l

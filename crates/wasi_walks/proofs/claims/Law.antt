@@ -2,39 +2,37 @@
 -- that was made with it, and the name of an accept by the record of its listener.
 use Rattle.wasi_walks.proofs.Words.{Machine, Accepting, Accepts, Allows, Asks, Begins, Done, End, Entry, Err, ErrorCode}
 use Rattle.wasi_walks.proofs.Words.{HoldsAccept, IsAcceptOn, IsLeftOfAccept, Item, List, Listener, Listening, None, Not, Ok, OpId, Operation}
-use Rattle.wasi_walks.proofs.Words.{Refused, Result, Socket, SocketAddressFamily, Some, Step, Tcp2, Tcp2Socket, TcpState, Waits, WasiSocketsCtx}
-use Rattle.wasi_walks.proofs.Words.{accept_ended, after_create, allows_if, allows_then, allows_weaker, ap, arith, bind, bind_progress}
-use Rattle.wasi_walks.proofs.Words.{connect_ended, create_asks, created_asks, give_up_asks, gone, inl, inr, length, make_asks, new_asks, new_record}
-use Rattle.wasi_walks.proofs.Words.{own_of, poll_asks, refl, side_in, side_of, subst, sym, told_addr, told_done, turn_asks}
+use Rattle.wasi_walks.proofs.Words.{Refused, Result, SocketAddressFamily, Some, Step, Tcp2Socket, Waits, WasiSocketsCtx}
+use Rattle.wasi_walks.proofs.Words.{accept_ended, allows_weaker, ap, arith, bind_progress}
+use Rattle.wasi_walks.proofs.Words.{connect_ended, gone, inl, inr, new_record}
+use Rattle.wasi_walks.proofs.Words.{own_of, poll_asks, refl, side_in, side_of, subst, sym, told_addr}
 use Rattle.wasi_walks.proofs.Words.{with_inner, with_listening, with_progress, with_state, with_writer, ℕ, ⊤, ◌+◌, ◌∙◌, ◌≡◌, ◌⊎◌}
-use Rattle.wasi_walks.proofs.walks.Begins.{BeginsAbove, begins_stand}
-use Rattle.wasi_walks.proofs.walks.OnBase.{both, Above, stand}
+use Rattle.wasi_walks.proofs.walks.Layers.{begins_stand, layer, over, restate, stand}
+use Rattle.wasi_walks.proofs.walks.OfState.{Becomes, Learnt, IsClosed, GivenUp, UdpLearnt, UdpIsClosed, UdpGivenUp, UdpBegun, Resolved, Created, CreatedWith, Writing, OfState, creating, of_state}
 use Rattle.wasi_walks.proofs.walks.Here.{Grows, IsOlder, IsToCome, grows_to, next_given, next_grows, next_to_come, not_given, older_unused, older_used, own_not_given}
 use Rattle.wasi_walks.proofs.licence.State.{name_in, accept_name}
 use Rattle.wasi_walks.proofs.fits.Polls.{Anything}
 use Rattle.wasi_walks.proofs.fits.Records.{FitListening}
-use Rattle.wasi_walks.proofs.Lists.{split_place, get_set, get_split, set_there}
 use Rattle.wasi_walks.proofs.claims.Polls.{AllAskBut, ArePlain, GivesOwn, any_quiet, ended_name, ended_sides, none_of, own_poll}
-use Rattle.wasi_walks.proofs.walks.Here.{Made, Past}
 use Rattle.wasi_walks.proofs.GoneLists.{was_there}
-use Rattle.wasi_walks.proofs.owners.Law.{Owns, owners, put_owns}
-use Rattle.wasi_walks.proofs.walks.Moves.{closed_record, Own, Used, Unused, Here, put, Found, joined, part_of, new_accept, accepting_now, listen_after, beginning_listen, made_so, Held, BindsOn, Connects, Listens, Awaits, Move, Spends, Changes, ClosesReader, Writes, IsGone, Reconnects, Opens, BeginsConnect, BeginsBind, BeginsWrite, CancelsBind, CancelsUdpBind, CancelsUdpConnect, BeginsListen, BeginsAccept, Unlistens, Forgets, Joins}
-use Rattle.wasi_walks.proofs.walks.Law.{BeginsWrites, Law, Walks}
-use Rattle.wasi_walks.proofs.fits.Law.{Fit, told_same, whatever, fits, moves_fit, polls_fit, put_fit, created, write_fit}
+use Rattle.wasi_walks.proofs.owners.Law.{Owns, owners, owners_begin}
+use Rattle.wasi_walks.proofs.walks.Moves.{closed_record, Own, Used, Unused, Here, put, Found, joined, part_of, new_accept, accepting_now, listen_after, beginning_listen, Held, BindsOn, Connects, Listens, Awaits, Move, Spends, Changes, ClosesReader, Writes, IsGone, Reconnects, Opens, BeginsConnect, BeginsBind, BeginsWrite, CancelsBind, CancelsUdpBind, CancelsUdpConnect, BeginsListen, BeginsAccept, Unlistens, Forgets, Joins}
+use Rattle.wasi_walks.proofs.walks.Law.{BeginsWrites, InCall, Law, Rests, Walks}
+use Rattle.wasi_walks.proofs.Words.{new_socket}
+use Rattle.wasi_walks.proofs.fits.Law.{Fit, begins_fit, told_same, whatever, fits}
 use Rattle.wasi_walks.proofs.fits.UdpPolls.{create_side}
-use Rattle.wasi_walks.proofs.fits.UdpFits.{connected_side, learnt_side}
+use Rattle.wasi_walks.proofs.fits.UdpFits.{connected_side}
 use Rattle.wasi_tcp.specs.Accept as accept
 use Rattle.wasi_records.specs.Datagrams.{udp_connect_left, with_sending}
-use Rattle.wasi_host.specs.Kinds.{HandleTable}
 use Rattle.wasi_records.specs.Receiving.{receive_left, with_receiving}
 use Rattle.wasi_records.specs.Records.{tcp2_at, tcp2_of, tcp2_put, tcp2_pushed, udp2_at, udp2_of, udp2_pushed}
 use Rattle.wasi_records.specs.declared.name_lookup.LookupOp.{LookupOp}
 use Rattle.wasi_records.specs.declared.records.Record.{Record}
 use Rattle.wasi_records.specs.declared.udp.Udp2Socket.{Udp2Socket}
 use Rattle.wasi_records.specs.Udp.{udp_bind_progress, udp_create_left, udp_side, with_udp_progress}
-use Rattle.wasi_udp.specs.Create.{create_cancel_asks, new_create, after_create as udp_after_create}
-use Rattle.wasi_walks.proofs.UdpLists.{tcp_of_put, tcp_of_push, udp_of_put, udp_of_push, udp_get_set, udp_split}
-use Rattle.wasi_walks.proofs.walks.Moves.{EndsConnect, RecallsStreams, ToConnect, with_records, SameSockets, Finds, put_udp, FoundUdp, udp_begun, Names, UdpChanges, BeginsUdpBind, BeginsUdpConnect, BeginsSend, BeginsReceive, Counts, SpendsNames, UdpCreates, UdpBindsOn, UdpConnectsOn, SendsOn, ReceivesOn, GivesBack, ToSend, without_record}
+use Rattle.wasi_udp.specs.Create.{new_create, after_create as udp_after_create}
+use Rattle.wasi_walks.proofs.walks.Moves.{EndsConnect, RecallsStreams, ToConnect, with_records, SameSockets, Finds, put_udp, FoundUdp, udp_begun, Names, UdpChanges, BeginsUdpBind, BeginsUdpConnect, BeginsSend, BeginsReceive, Counts, SpendsNames, UdpCreates, UdpBindsOn, UdpConnectsOn, SendsOn, ReceivesOn, GivesBack, without_record}
+use Rattle.wasi_walks.proofs.Places.{push_found, push_new, push_was, put_finds, put_found, put_was, tcp_sort, udp_sort}
 
 -- it was made with this network socket, or its accept has this name, by which a network socket will be made
 abbrev pub Claims : OpId → Tcp2Socket → Type 0
@@ -89,9 +87,9 @@ module _ (line : ℕ) where
     at_most x i q e c d = elim (claimed x d) [ inl p ↦ n.one x i place q r e g c p | inr p ↦ absurd (p.1 i q e c) ]
 
     one_put : (x : OpId) (i j : ℕ) (a b : Tcp2Socket) → Found (put h place now) i a → Found (put h place now) j b → Claims x a → Claims x b → i ≡ j
-    one_put x i j a b e f c d = elim (get_set h.machine.store.records place now i a e) [
-      | inl p ↦ elim (get_set h.machine.store.records place now j b f) [ inl q ↦ p.0 ∙ sym q.0 | inr q ↦ p.0 ∙ sym (at_most x j b q d (subst (Claims x) (sym p.1) c)) ]
-      | inr p ↦ elim (get_set h.machine.store.records place now j b f) [ inl q ↦ at_most x i a p c (subst (Claims x) (sym q.1) d) ∙ sym q.0 | inr q ↦ n.one x i j a b p q c d ]
+    one_put x i j a b e f c d = elim (put_found tcp_sort h.machine.store.records place now i a e) [
+      | inl p ↦ elim (put_found tcp_sort h.machine.store.records place now j b f) [ inl q ↦ p.0 ∙ sym q.0 | inr q ↦ p.0 ∙ sym (at_most x j b q d (subst (Claims x) (sym p.1) c)) ]
+      | inr p ↦ elim (put_found tcp_sort h.machine.store.records place now j b f) [ inl q ↦ at_most x i a p c (subst (Claims x) (sym q.1) d) ∙ sym q.0 | inr q ↦ n.one x i j a b p q c d ]
     ]
 
     apart_now : (x : OpId) → now.side ≡ Some x → accept_name now.listening ≡ Some x → ⊥
@@ -99,10 +97,10 @@ module _ (line : ℕ) where
 
     udps_put : (own : Own) → Grows line h.own own → UdpNamed line (record (put h place now) { own = own })
     udps_put own l =
-        let same : (i : ℕ) (u : Udp2Socket) → FoundUdp (put h place now) i u → FoundUdp h i u = udp_of_put h.machine.store.records place now in
+        let same : (i : ℕ) (u : Udp2Socket) → FoundUdp (put h place now) i u → FoundUdp h i u = put_was tcp_sort udp_sort (λ t. refl) h.machine.store.records place now in
         record {
           one = λ x i j u v e f c d. n.udps.one x i j u v (same i u e) (same j v f) c d;
-          apart = λ x i j q u e f c d. elim (get_set h.machine.store.records place now i q e) [
+          apart = λ x i j q u e f c d. elim (put_found tcp_sort h.machine.store.records place now i q e) [
             | inl p ↦ elim (claimed x (subst (Claims x) (sym p.1) c)) [ inl y ↦ n.udps.apart x place j r u g (same j u f) y d | inr y ↦ y.2 j u (same j u f) d ]
             | inr p ↦ n.udps.apart x i j q u p (same j u f) c d
           ];
@@ -112,13 +110,13 @@ module _ (line : ℕ) where
     pub put_by : (own : Own) → Grows line h.own own → ((x : OpId) → given x → IsOlder line own x) → Named line (record (put h place now) { own = own })
     put_by own l b = record {
       one = one_put;
-      apart = λ x i q e s a. elim (get_set h.machine.store.records place now i q e) [ inl p ↦ apart_now x (ap (λ (y : Tcp2Socket). y.side) p.1 ∙ s) (ap (λ (y : Tcp2Socket). accept_name y.listening) p.1 ∙ a) | inr p ↦ n.apart x i q p s a ];
-      older = λ x i q e c. elim (get_set h.machine.store.records place now i q e) [
+      apart = λ x i q e s a. elim (put_found tcp_sort h.machine.store.records place now i q e) [ inl p ↦ apart_now x (ap (λ (y : Tcp2Socket). y.side) p.1 ∙ s) (ap (λ (y : Tcp2Socket). accept_name y.listening) p.1 ∙ a) | inr p ↦ n.apart x i q p s a ];
+      older = λ x i q e c. elim (put_found tcp_sort h.machine.store.records place now i q e) [
         | inl p ↦ elim (claimed x (subst (Claims x) (sym p.1) c)) [ inl d ↦ l x (n.older x place r g d) | inr d ↦ b x d.0 ]
         | inr p ↦ l x (n.older x i q p c)
       ];
-      named = λ x i q e s. elim (get_set h.machine.store.records place now i q e) [ inl p ↦ subst (λ (y : Tcp2Socket). y.side ≡ Some x) p.1 (k.named x (ap (λ (y : Tcp2Socket). side_of y.inner) p.1 ∙ s)) | inr p ↦ n.named x i q p s ];
-      held = λ op i q e s. elim (get_set h.machine.store.records place now i q e) [
+      named = λ x i q e s. elim (put_found tcp_sort h.machine.store.records place now i q e) [ inl p ↦ subst (λ (y : Tcp2Socket). y.side ≡ Some x) p.1 (k.named x (ap (λ (y : Tcp2Socket). side_of y.inner) p.1 ∙ s)) | inr p ↦ n.named x i q p s ];
+      held = λ op i q e s. elim (put_found tcp_sort h.machine.store.records place now i q e) [
         | inl p ↦ subst (λ (y : Tcp2Socket). (y.side ≡ Some op.who.side) × (side_of y.inner ≡ None)) p.1 (k.held op (ap (λ (y : Tcp2Socket). y.listening) p.1 ∙ s))
         | inr p ↦ n.held op i q p s
       ];
@@ -133,42 +131,42 @@ module _ (line : ℕ) where
       → Named line h → Named line (record h { machine = record h.machine { store = record h.machine.store { records = tcp2_pushed h.machine.store.records now } }; own = own })
   push_named h now own none fresh named held l n = record {
     one = one;
-    apart = λ x i q e s a. elim (get_split h.machine.store.records now i q e) [ inl p ↦ n.apart x i q p s a | inr p ↦ no_some x (sym none ∙ (ap (λ (y : Tcp2Socket). accept_name y.listening) p ∙ a)) ];
-    older = λ x i q e c. elim (get_split h.machine.store.records now i q e) [ inl p ↦ l x (n.older x i q p c) | inr p ↦ (fresh x (its x q p c)).0 ];
-    named = λ x i q e s. elim (get_split h.machine.store.records now i q e) [ inl p ↦ n.named x i q p s | inr p ↦ subst (λ (y : Tcp2Socket). y.side ≡ Some x) p (named x (ap (λ (y : Tcp2Socket). side_of y.inner) p ∙ s)) ];
-    held = λ op i q e s. elim (get_split h.machine.store.records now i q e) [ inl p ↦ n.held op i q p s | inr p ↦ absurd (held op (ap (λ (y : Tcp2Socket). y.listening) p ∙ s)) ];
+    apart = λ x i q e s a. elim (push_new tcp_sort h.machine.store.records now i q e) [ inl p ↦ n.apart x i q p s a | inr p ↦ no_some x (sym none ∙ (ap (λ (y : Tcp2Socket). accept_name y.listening) p ∙ a)) ];
+    older = λ x i q e c. elim (push_new tcp_sort h.machine.store.records now i q e) [ inl p ↦ l x (n.older x i q p c) | inr p ↦ (fresh x (its x q p c)).0 ];
+    named = λ x i q e s. elim (push_new tcp_sort h.machine.store.records now i q e) [ inl p ↦ n.named x i q p s | inr p ↦ subst (λ (y : Tcp2Socket). y.side ≡ Some x) p (named x (ap (λ (y : Tcp2Socket). side_of y.inner) p ∙ s)) ];
+    held = λ op i q e s. elim (push_new tcp_sort h.machine.store.records now i q e) [ inl p ↦ n.held op i q p s | inr p ↦ absurd (held op (ap (λ (y : Tcp2Socket). y.listening) p ∙ s)) ];
     udps = record {
       one = λ x i k u v e f c d. n.udps.one x i k u v (same i u e) (same k v f) c d;
-      apart = λ x i k q u e f c d. elim (get_split h.machine.store.records now i q e) [ inl p ↦ n.udps.apart x i k q u p (same k u f) c d | inr p ↦ (fresh x (its x q p c)).2 k u (same k u f) d ];
+      apart = λ x i k q u e f c d. elim (push_new tcp_sort h.machine.store.records now i q e) [ inl p ↦ n.udps.apart x i k q u p (same k u f) c d | inr p ↦ (fresh x (its x q p c)).2 k u (same k u f) d ];
       older = λ i u e. l (udp_side u) (n.udps.older i u (same i u e));
     };
   }
     where
       same : (i : ℕ) (u : Udp2Socket) → udp2_at (tcp2_pushed h.machine.store.records now) i ≡ Some u → FoundUdp h i u
-      same = udp_of_push h.machine.store.records now
+      same = push_was tcp_sort udp_sort (λ t. refl) h.machine.store.records now
 
       its : (x : OpId) (q : Tcp2Socket) → now ≡ q → Claims x q → now.side ≡ Some x
       its x q p (inl e) = ap (λ (y : Tcp2Socket). y.side) p ∙ e
       its x q p (inr e) = absurd (no_some x (sym none ∙ (ap (λ (y : Tcp2Socket). accept_name y.listening) p ∙ e)))
 
       one : (x : OpId) (i k : ℕ) (a b : Tcp2Socket) → tcp2_at (tcp2_pushed h.machine.store.records now) i ≡ Some a → tcp2_at (tcp2_pushed h.machine.store.records now) k ≡ Some b → Claims x a → Claims x b → i ≡ k
-      one x i k a b e f c d = elim (split_place h.machine.store.records now i a e) [
-        | inl p ↦ elim (split_place h.machine.store.records now k b f) [ inl q ↦ n.one x i k a b p q c d | inr q ↦ absurd ((fresh x (its x b q.1 d)).1 i a p c) ]
-        | inr p ↦ elim (split_place h.machine.store.records now k b f) [ inl q ↦ absurd ((fresh x (its x a p.1 c)).1 k b q d) | inr q ↦ p.0 ∙ sym q.0 ]
+      one x i k a b e f c d = elim (push_found tcp_sort h.machine.store.records now i a e) [
+        | inl p ↦ elim (push_found tcp_sort h.machine.store.records now k b f) [ inl q ↦ n.one x i k a b p q c d | inr q ↦ absurd ((fresh x (its x b q.0 d)).1 i a p c) ]
+        | inr p ↦ elim (push_found tcp_sort h.machine.store.records now k b f) [ inl q ↦ absurd ((fresh x (its x a p.0 c)).1 k b q d) | inr q ↦ p.1 ∙ sym q.1 ]
       ]
 
   -- a UDP socket changes, and keeps its network socket
   module _ (h : Here) (place : ℕ) (u now : Udp2Socket) (g : FoundUdp h place u) (s : udp_side now ≡ udp_side u) (n : Named line h) where
     -- what there is at a place was there, with the same network socket
     before : (i : ℕ) (v : Udp2Socket) → FoundUdp (put_udp h place now) i v → (w : Udp2Socket) × (FoundUdp h i w × (udp_side w ≡ udp_side v))
-    before i v e = elim (udp_get_set h.machine.store.records place now i v e) [
+    before i v e = elim (put_found udp_sort h.machine.store.records place now i v e) [
       | inl p ↦ (u, (ap (udp2_at h.machine.store.records) p.0 ∙ g, sym s ∙ ap udp_side p.1))
       | inr p ↦ (v, (p, refl))
     ]
 
     pub put_udp_by : (own : Own) → Grows line h.own own → Named line (record (put_udp h place now) { own = own })
     put_udp_by own l =
-        let tcp : (i : ℕ) (r : Tcp2Socket) → Found (put_udp h place now) i r → Found h i r = tcp_of_put h.machine.store.records place now in
+        let tcp : (i : ℕ) (r : Tcp2Socket) → Found (put_udp h place now) i r → Found h i r = put_was udp_sort tcp_sort (λ t. refl) h.machine.store.records place now in
         record {
           one = λ x i k r q e f c d. n.one x i k r q (tcp i r e) (tcp k q f) c d;
           apart = λ x i r e a b. n.apart x i r (tcp i r e) a b;
@@ -195,17 +193,17 @@ module _ (line : ℕ) where
     named = λ x i r e a. n.named x i r (tcp i r e) a;
     held = λ op i r e a. n.held op i r (tcp i r e) a;
     udps = record {
-      one = λ x i k u v e f c d. elim (udp_split h.machine.store.records now i u e) [
-        | inl p ↦ elim (udp_split h.machine.store.records now k v f) [ inl q ↦ n.udps.one x i k u v p q c d | inr q ↦ absurd (free i u p (c ∙ (sym d ∙ sym (ap udp_side q.0)))) ]
-        | inr p ↦ elim (udp_split h.machine.store.records now k v f) [ inl q ↦ absurd (free k v q (d ∙ (sym c ∙ sym (ap udp_side p.0)))) | inr q ↦ p.1 ∙ sym q.1 ]
+      one = λ x i k u v e f c d. elim (push_found udp_sort h.machine.store.records now i u e) [
+        | inl p ↦ elim (push_found udp_sort h.machine.store.records now k v f) [ inl q ↦ n.udps.one x i k u v p q c d | inr q ↦ absurd (free i u p (c ∙ (sym d ∙ sym (ap udp_side q.0)))) ]
+        | inr p ↦ elim (push_found udp_sort h.machine.store.records now k v f) [ inl q ↦ absurd (free k v q (d ∙ (sym c ∙ sym (ap udp_side p.0)))) | inr q ↦ p.1 ∙ sym q.1 ]
       ];
-      apart = λ x i k r u e f c d. elim (udp_split h.machine.store.records now k u f) [ inl p ↦ n.udps.apart x i k r u (tcp i r e) p c d | inr p ↦ fresh i r (tcp i r e) (subst (λ (y : OpId). Claims y r) (sym d ∙ sym (ap udp_side p.0)) c) ];
-      older = λ i u e. elim (udp_split h.machine.store.records now i u e) [ inl p ↦ l (udp_side u) (n.udps.older i u p) | inr p ↦ subst (λ (y : Udp2Socket). IsOlder line own (udp_side y)) p.0 small ];
+      apart = λ x i k r u e f c d. elim (push_found udp_sort h.machine.store.records now k u f) [ inl p ↦ n.udps.apart x i k r u (tcp i r e) p c d | inr p ↦ fresh i r (tcp i r e) (subst (λ (y : OpId). Claims y r) (sym d ∙ sym (ap udp_side p.0)) c) ];
+      older = λ i u e. elim (push_found udp_sort h.machine.store.records now i u e) [ inl p ↦ l (udp_side u) (n.udps.older i u p) | inr p ↦ subst (λ (y : Udp2Socket). IsOlder line own (udp_side y)) p.0 small ];
     };
   }
     where
       tcp : (i : ℕ) (r : Tcp2Socket) → tcp2_at (udp2_pushed h.machine.store.records now) i ≡ Some r → Found h i r
-      tcp = tcp_of_push h.machine.store.records now
+      tcp = push_was udp_sort tcp_sort (λ t. refl) h.machine.store.records now
 
   -- each socket among the records was there
   part_named : (h : Here) (machine : Machine) → ((i : ℕ) (r : Tcp2Socket) → tcp2_at machine.store.records i ≡ Some r → Found h i r) → ((i : ℕ) (u : Udp2Socket) → udp2_at machine.store.records i ≡ Some u → FoundUdp h i u) → Named line h → Named line (record h { machine = machine })
@@ -246,7 +244,7 @@ module _ (contexts : List WasiSocketsCtx) (line : ℕ) (origin : Step) where
     held = λ op e. let d = n.held op place r g (sym l ∙ e) in (s ∙ d.0, none_of (side_of now.inner) (λ x e. no_some x (sym d.1 ∙ k x e)));
   }
 
-  put_inner : (h : Here) (place : ℕ) (r now : Tcp2Socket) → Found h place r → now.side ≡ r.side → now.listening ≡ r.listening → ((x : OpId) → side_of now.inner ≡ Some x → side_of r.inner ≡ Some x) → Named line h → Named line (put h place now)
+  pub put_inner : (h : Here) (place : ℕ) (r now : Tcp2Socket) → Found h place r → now.side ≡ r.side → now.listening ≡ r.listening → ((x : OpId) → side_of now.inner ≡ Some x → side_of r.inner ≡ Some x) → Named line h → Named line (put h place now)
   put_inner h place r now g s l k n = put_named line h place r now g (inner_names h place r now g s l k n) n
 
   -- the listening changes, and none begins
@@ -283,11 +281,11 @@ module _ (contexts : List WasiSocketsCtx) (line : ℕ) (origin : Step) where
 
   -- the name of an accept is claimed by no record, once its record has it no more
   pub taken_fresh : (h : Here) (place : ℕ) (r now : Tcp2Socket) (new : OpId) → Found h place r → accept_name r.listening ≡ Some new → now.side ≡ r.side → accept_name now.listening ≡ None → Named line h → Fresh (put h place now) new
-  taken_fresh h place r now new g a s none n i q e c = elim (get_set h.machine.store.records place now i q e) [
+  taken_fresh h place r now new g a s none n i q e c = elim (put_found tcp_sort h.machine.store.records place now i q e) [
     | inl p ↦ idle (subst (Claims new) (sym p.1) c)
     | inr p ↦ (
         let here : i ≡ place = n.one new i place q r p g c (inr a) in
-        let there : Found (put h place now) i now = ap (tcp2_at (tcp2_put h.machine.store.records place now)) here ∙ set_there h.machine.store.records place r now g in
+        let there : Found (put h place now) i now = ap (tcp2_at (tcp2_put h.machine.store.records place now)) here ∙ put_finds tcp_sort h.machine.store.records place r now g in
         idle (subst (Claims new) (sym (same_record now q (sym there ∙ e))) c))
   ]
     where
@@ -331,7 +329,7 @@ module _ (contexts : List WasiSocketsCtx) (line : ℕ) (origin : Step) where
       let mid = put h place (accepting_now r l Accepting.Idle) in
       let k = put_named line h place r (accepting_now r l Accepting.Idle) g (listening_names h place r _ g (λ x p. absurd (cc)) (λ op p. absurd (cc)) n) n in
       let name : accept_name r.listening ≡ Some new = ap accept_name e ∙ ap name_in a in
-      let j = push_named line mid (joined l new peer) h.own refl (λ x p. (let s : new ≡ x = cc in subst (λ (y : OpId). IsOlder line h.own y × Fresh mid y × FreshUdp mid y) s (n.older new place r g (inr name), taken_fresh h place r (accepting_now r l Accepting.Idle) new g name refl refl n, λ i v f q. n.udps.apart new place i r v g (udp_of_put h.machine.store.records place (accepting_now r l Accepting.Idle) i v f) (inr name) q))) (λ x p. p) (λ op p. absurd (cc)) (λ x o. o) k in
+      let j = push_named line mid (joined l new peer) h.own refl (λ x p. (let s : new ≡ x = cc in subst (λ (y : OpId). IsOlder line h.own y × Fresh mid y × FreshUdp mid y) s (n.older new place r g (inr name), taken_fresh h place r (accepting_now r l Accepting.Idle) new g name refl refl n, λ i v f q. n.udps.apart new place i r v g (put_was tcp_sort udp_sort (λ t. refl) h.machine.store.records place (accepting_now r l Accepting.Idle) i v f) (inr name) q))) (λ x p. p) (λ op p. absurd (cc)) (λ x o. o) k in
       record { one = j.one; apart = j.apart; older = j.older; named = j.named; held = j.held; udps = record { one = j.udps.one; apart = j.udps.apart; older = j.udps.older } }
   moves_named _ _ (UdpChanges h place o now g p keeps) n = put_udp_named line h place (Udp2Socket.Open o) (Udp2Socket.Open now) g p.side n
   moves_named _ _ (BeginsUdpBind h place o a at g to idle own) n = put_udp_by line h place (Udp2Socket.Open o) (Udp2Socket.Open _) g refl n Used (older_used line h.own)
@@ -355,17 +353,14 @@ module _ (contexts : List WasiSocketsCtx) (line : ℕ) (origin : Step) where
   awaited_names h place r l op end g e a k n = put_named line h place r _ g (listening_names h place r _ g (λ x p. ap accept_name e ∙ (ap name_in a ∙ ended_name op end k x p)) (λ o p. absurd (cc)) n) n
 
   -- == the law
-  abbrev Pair : Here → Type 0
+  abbrev pub Pair : Here → Type 0
   Pair h = Fit h × Named line h
 
   -- and what is live of each record
   abbrev pub Base : Here → Type 0
   Base h = Fit h × Named line h × Owns h
 
-  all : {A : Type 0} (now : A → Here) (es : List Entry) (asks : Asks A) → Allows Anything (λ fs a. Pair (now a)) es asks → Allows Anything (λ fs a. Owns (now a)) es asks → Allows Anything (λ fs a. Base (now a)) es asks
-  all now es asks p o = allows_weaker Anything (λ fs a. Owns (now a) × (Fit (now a) × Named line (now a))) (λ fs a. Base (now a)) (λ fs a k. (k.1.0, k.1.1, k.0)) es asks (both Anything Anything (λ fs a. Pair (now a)) (λ fs a. Owns (now a)) es asks p o)
-
-  names_polled : (es : List Entry) (h : Here) (op : Operation) (after : End × List Item → Here) → Held h op after → Base h → Allows Anything (λ fs ended. Named line (after ended)) es (poll_asks op)
+  pub names_polled : (es : List Entry) (h : Here) (op : Operation) (after : End × List Item → Here) → Held h op after → Pair h → Allows Anything (λ fs ended. Named line (after ended)) es (poll_asks op)
   names_polled es h _ _ (BindsOn place r op q g e) n = whatever (λ ended. Named line (put h place (with_progress r (bind_progress op ended)))) (λ ended. put_inner h place r _ g refl refl (λ x p. p) n.1) es _
   names_polled es h _ _ (Connects place r op g e) n =
       whatever (λ ended. Named line (put h place (with_inner r (with_state r.inner (connect_ended op.who ended).1)))) (λ ended. put_inner h place r _ g refl refl (λ x p. ap side_in e ∙ ended_sides op ended x p) n.1) es _
@@ -391,101 +386,85 @@ module _ (contexts : List WasiSocketsCtx) (line : ℕ) (origin : Step) where
   begun_named h maker family (Err c) u n = spends_named h n
 
   -- a socket that is created has the line's own name
-  abbrev MadeNamed : Result Socket ErrorCode → Type 0
-  MadeNamed (Ok socket) = socket.state ≡ TcpState.Default (own_of line)
-  MadeNamed (Err c) = ⊤
+  created_named : (h : Here) (ctx : WasiSocketsCtx) (family : SocketAddressFamily) → h.own ≡ Unused → Named line h → Named line (creating h (own_of line) ctx family)
+  created_named h ctx family u n =
+      push_named line h (new_record (new_socket (own_of line) ctx.name family)) Used refl
+      (λ x p. (let s : own_of line ≡ x = cc in let z : x.step ≡ line = ap (λ (o : OpId). o.step) (sym s) in
+      (omega (arith, z), fresh h u n x z, fresh_udp h u n x z))) (λ x p. p) (λ op p. absurd (cc))
+      (older_used line h.own) n
 
-  made_named : (es : List Entry) (ctx : WasiSocketsCtx) (family : SocketAddressFamily) → Allows Anything (λ fs made. MadeNamed made) es (new_asks (own_of line) ctx family)
-  unfolding bind
-  made_named es ctx family = allows_if Anything (λ fs made. MadeNamed made) es ctx.tcp _ _ (λ tcp. (tt, λ t f. by_told (told_done t))) (λ other. tt)
-    where
-      by_told : (r : Result (Unit {0}) ErrorCode) → MadeNamed (after_create (own_of line) ctx.name family r)
-      by_told (Ok done) = refl
-      by_told (Err c) = tt
+  pub becomes_named : (h now : Here) → Becomes contexts line origin h now → Named line h → Named line now
+  becomes_named h _ (Learnt place r side told at g e) n =
+      put_inner h place r _ g refl refl (λ x p. sym (ap side_in (told_same r.inner (told_addr told))) ∙ p) n
+  becomes_named h _ (IsClosed place r side q g e) n =
+      put_named line h place r (closed_record r) g
+      (record {
+        side = refl;
+        accepts = λ x p. absurd (cc);
+        named = λ x p. absurd (cc);
+        held = λ op p. absurd (cc);
+      }) n
+  becomes_named h _ (GivenUp place r q g) n =
+      put_named line h place r (with_listening r Not) g
+      (listening_names h place r Not g (λ x p. absurd (cc)) (λ op p. absurd (cc)) n) n
+  becomes_named h _ (UdpLearnt place o socket g e) n =
+      put_udp_named line h place (Udp2Socket.Open o) (Udp2Socket.Open _) g e n
+  becomes_named h _ (UdpIsClosed place o q g) n =
+      put_udp_named line h place (Udp2Socket.Open o) (Udp2Socket.Closed o.inner.side) g refl n
+  becomes_named h _ (UdpGivenUp place create q g) n =
+      put_udp_named line h place (Udp2Socket.Creating create) (Udp2Socket.Closed create.operation.who.side) g refl n
+  becomes_named h _ (UdpBegun ctx family r c u m) n = begun_named h ctx.name family r u n
+  becomes_named h _ (Resolved host records l s) n = records_named line h records s n
+  becomes_named h _ (Created ctx family c u m) n = created_named h ctx family u n
+  becomes_named h _ (CreatedWith ctx family c u m) n = let j = created_named h ctx family u n in record { one = j.one; apart = j.apart; older = j.older; named = j.named; held = j.held; udps = record { one = j.udps.one; apart = j.udps.apart; older = j.udps.older } }
+  becomes_named h _ (Writing _ (InCall place k r s half permit bytes at g e w within used)) n =
+      put_spent h place r _ g refl refl (λ x p. p) n
+  becomes_named h _ _ n = record { one = n.one; apart = n.apart; older = n.older; named = n.named; held = n.held; udps = record { one = n.udps.one; apart = n.udps.apart; older = n.udps.older } }
 
-  created_named : (es : List Entry) (h : Here) (ctx : WasiSocketsCtx) (family : SocketAddressFamily) → h.own ≡ Unused → Named line h → Allows Anything (λ fs done. Named line (record h { machine = done.1; own = Used })) es (create_asks h.machine (own_of line) ctx family)
-  created_named es h ctx family u n = allows_then Anything (λ fs made. MadeNamed made) (λ fs done. Named line (record h { machine = done.1; own = Used })) es (new_asks (own_of line) ctx family) (created_asks h.machine (own_of line)) (made_named es ctx family) (λ fs made k. joins fs made k)
-    where
-      same : (socket : Socket) (x : OpId) → socket.state ≡ TcpState.Default (own_of line) → side_of socket ≡ Some x → own_of line ≡ x
-      same socket x k p = let q : Some (own_of line) ≡ Some x = ap side_in (sym k) ∙ p in cc
+  -- it takes that the records fit: that an accept is one
+  abbrev pub named_state : OfState contexts line origin (λ es h. ⊤ × Fit h)
+  named_state = record { Holds = Named line; moves = λ es h now m b i. moves_named h now m i; becomes = λ es h now k b i. becomes_named h now k i; polls = λ es h op after k b i. names_polled es h op after k (b.1, i); turns = λ es h place r s g e b n. whatever (λ done. Named line (put h place (with_writer r s done.1))) (λ done. put_inner h place r _ g refl refl (λ x p. p) n) es _ }
 
-      joins : (fs : List Entry) (made : Result Socket ErrorCode) → MadeNamed made → Allows Anything (λ fs done. Named line (record h { machine = done.1; own = Used })) fs (created_asks h.machine (own_of line) made)
-      joins fs (Err c) k = spends_named h n
-      joins fs (Ok socket) k =
-          allows_then Anything (λ fs made. ⊤) (λ fs done. Named line (record h { machine = done.1; own = Used })) fs (make_asks h.machine.table (own_of line) (Tcp2 (length h.machine.store.records)) None (side_of socket)) _ (whatever (λ made. ⊤) (λ made. tt) fs _)
-          (λ gs made t. let j = push_named line h (new_record socket) Used refl (λ x p. (let s : own_of line ≡ x = same socket x k p in let z : x.step ≡ line = ap (λ (o : OpId). o.step) (sym s) in (omega (arith, z), fresh h u n x z, fresh_udp h u n x z))) (λ x p. p) (λ op p. absurd (cc)) (older_used line h.own) n in
-          record { one = j.one; apart = j.apart; older = j.older; named = j.named; held = j.held; udps = record { one = j.udps.one; apart = j.udps.apart; older = j.udps.older } })
-
-  -- a handle is made
-  marked : {A : Type 0} (es : List Entry) (h : Here) (so : Made) (asks : Asks (A × HandleTable)) → Pair h → Allows Anything (λ fs made. Pair (record h { machine = record h.machine { table = made.1 }; made = so })) es asks
-  marked es h so asks i = whatever (λ made. Pair (record h { machine = record h.machine { table = made.1 }; made = so })) (λ made. let k = i.1 in (record { records = i.0.records; udps = i.0.udps; stands = i.0.stands }, record { one = k.one; apart = k.apart; older = k.older; named = k.named; held = k.held; udps = record { one = k.udps.one; apart = k.udps.apart; older = k.udps.older } })) es asks
-
-  -- this and that the records fit, of which it takes that an accept is one
-  pub names : Law contexts line origin
+  -- the three
+  unfoldable three : Law contexts line origin
   unfolding fits owners
-  names =
-      let f = fits contexts line origin in
-      let w = owners contexts line origin in
-      record {
-        P = Anything;
-        Inv = λ es h. Base h;
-        moves = λ es h now m i. (moves_fit contexts line origin h now m i.0, moves_named h now m i.1, w.moves es h now m i.2);
-        asks = λ es h place n r side c at g o q i. (tt, λ told k. i);
-        sets = λ es h place r side b at g s is i. (tt, λ told k. i);
-        learns = λ es h place r side at g e i. (tt, λ told k. ((f.learns es h place r side at g e i.0).1 told k, put_inner h place r _ g refl refl (λ x p. sym (ap side_in (told_same r.inner (told_addr told))) ∙ p) i.1, (w.learns es h place r side at g e i.2).1 told k));
-        closes = λ es h place r side q g e i. (tt, λ told k. ((f.closes es h place r side q g e i.0).1 told k, put_named line h place r (closed_record r) g (record { side = refl; accepts = λ x p. absurd (cc); named = λ x p. absurd (cc); held = λ op p. absurd (cc) }) i.1, (w.closes es h place r side q g e i.2).1 told k));
-        marks = λ es h kind parent sock m i. all (λ made. record h { machine = record h.machine { table = made.1 } }) es _ (marked es h h.made _ (i.0, i.1)) (w.marks es h kind parent sock m i.2);
-        creates = λ es h ctx family c a o m i. all (λ done. record h { machine = done.1; own = Used }) es _ (both Anything Anything (λ fs done. Named line (record h { machine = done.1; own = Used })) (λ fs done. Fit (record h { machine = done.1; own = Used })) es _ (created_named es h ctx family o i.1) (created contexts line origin es h (own_of line) ctx family i.0)) (w.creates es h ctx family c a o m i.2);
-        accepted = λ es h c s place r is e o g i. all (λ made. record h { machine = record h.machine { table = made.1 }; made = made_so place made.0 }) es _ (whatever (λ made. Pair (record h { machine = record h.machine { table = made.1 }; made = made_so place made.0 })) (λ made. let k = i.1 in (record { records = i.0.records; udps = i.0.udps; stands = i.0.stands }, record { one = k.one; apart = k.apart; older = k.older; named = k.named; held = k.held; udps = record { one = k.udps.one; apart = k.udps.apart; older = k.udps.older } })) es _) (w.accepted es h c s place r is e o g i.2);
-        polls = λ es h op after k i. all after es _ (both Anything Anything (λ fs ended. Named line (after ended)) (λ fs ended. Fit (after ended)) es _ (names_polled es h op after k i) (polls_fit contexts line origin es h op after k i.0)) (w.polls es h op after k i.2);
-        turns = λ es h place r s g e i. all (λ done. put h place (with_writer r s done.1)) es _ (whatever (λ done. Pair (put h place (with_writer r s done.1))) (λ done. (put_fit h place r _ g (inr (λ b. b, λ l. l)) (i.0.records place r g) i.0, put_inner h place r _ g refl refl (λ x p. p) i.1)) es (turn_asks s.writer)) (w.turns es h place r s g e i.2);
-        udp_asks = λ es h place n o c at g q i. (tt, λ told k. i);
-        udp_learns = λ es h place part o at g i. (tt, λ told k. ((f.udp_learns es h place part o at g i.0).1 told k, put_udp_named line h place (Udp2Socket.Open o) (Udp2Socket.Open _) g (learnt_side o.inner (told_addr told)) i.1, (w.udp_learns es h place part o at g i.2).1 told k));
-        udp_peers = λ es h place o at g i. (tt, λ told k. ((f.udp_peers es h place o at g i.0).1 told k, put_udp_named line h place (Udp2Socket.Open o) (Udp2Socket.Open _) g refl i.1, (w.udp_peers es h place o at g i.2).1 told k));
-        udp_closes = λ es h place o q g i. (tt, λ told k. ((f.udp_closes es h place o q g i.0).1 told k, put_udp_named line h place (Udp2Socket.Open o) (Udp2Socket.Closed o.inner.side) g refl i.1, (w.udp_closes es h place o q g i.2).1 told k));
-        udp_creates = λ es h ctx family c may a o m i. (tt, λ told k. ((f.udp_creates es h ctx family c may a o m i.0).1 told k, begun_named h ctx.name family (told_done told) o i.1, (w.udp_creates es h ctx family c may a o m i.2).1 told k));
-        udp_marks = λ es h place u g i. all (λ made. record h { machine = record h.machine { table = made.1 }; made = Past }) es _ (marked es h Past _ (i.0, i.1)) (w.udp_marks es h place u g i.2);
-        stream_marks = λ es h place part handle reached kind m new e i. all (λ made. record h { machine = record h.machine { table = made.1 }; made = ToSend part handle reached }) es _ (marked es h _ _ (i.0, i.1)) (w.stream_marks es h place part handle reached kind m new e i.2);
-        error_marks = λ es h part handle place handles m k e f i. all (λ made. record h { machine = record h.machine { table = made.1 } }) es _ (marked es h h.made _ (i.0, i.1)) (w.error_marks es h part handle place handles m k e f i.2);
-        udp_gives_up = λ es h place create q g i. all (λ done. put_udp h place (Udp2Socket.Closed create.operation.who.side)) es _ (
-            both Anything Anything (λ fs done. Named line (put_udp h place (Udp2Socket.Closed create.operation.who.side))) (λ fs done. Fit (put_udp h place (Udp2Socket.Closed create.operation.who.side))) es _
-            (whatever (λ done. Named line (put_udp h place (Udp2Socket.Closed create.operation.who.side))) (λ done. put_udp_named line h place (Udp2Socket.Creating create) (Udp2Socket.Closed create.operation.who.side) g refl i.1) es (create_cancel_asks create)) (f.udp_gives_up es h place create q g i.0)) (w.udp_gives_up es h place create q g i.2);
-        lookups = λ es h host l i. (tt, λ told k records s. ((f.lookups es h host l i.0).1 told k records s, records_named line h records s i.1, (w.lookups es h host l i.2).1 told k records s));
-        looks = λ es h place op g i. (tt, λ told k. i);
-        gives_up = λ es h place r q g i. all (λ done. put h place (with_listening r Not)) es _ (
-            whatever (λ done. Pair (put h place (with_listening r Not)))
-            (λ done. let b = i.0.records place r g in (put_fit h place r _ g (inl q) (b.0, tt, b.2) i.0, put_named line h place r (with_listening r Not) g (listening_names h place r Not g (λ x p. absurd (cc)) (λ op p. absurd (cc)) i.1) i.1)) es (give_up_asks r.listening)) (w.gives_up es h place r q g i.2);
-      }
+  three =
+      layer (fits contexts line origin) (layer (of_state named_state)
+      (over (λ es h b. tt) (owners contexts line origin)))
+
+  pub names : Law contexts line origin
+  unfolding three fits owners
+  names = restate (λ es h. Base h) three (λ es h k. (k.0, k.1.0, k.1.1)) (λ es h k. (k.0, (k.1, k.2)))
 
   -- a write that begins in a call of streams
   pub begins_named : BeginsWrites names
-  unfolding names owners
-  begins_named = record { begins = λ es h place n r s half permit bytes at g e w within used i. (write_fit contexts line origin h place r s _ Used g i.0, put_spent h place r _ g refl refl (λ x p. p) i.1, put_owns h place _ i.2) }
+  unfolding names fits owners
+  begins_named = record { begins = λ es h now w b i. ((begins_fit contexts line origin).begins es h now w tt i.0, becomes_named h now (Writing now w) i.1, (owners_begin contexts line origin).begins es h now w tt i.2) }
 
   -- the laws that rest on it
-  pub on_names : Above contexts line origin (λ es h. Base h) → Law contexts line origin
+  pub on_names : Rests contexts line origin (λ es h. Base h) → Law contexts line origin
   unfolding names
   on_names a = stand names a
 
-  -- what such a law says of a tree
   -- a law that rests on another one that rests on it
-  pub on_two : (r : Above contexts line origin (λ es h. Base h)) → Above contexts line origin (λ es h. Base h × r.Inv es h) → Law contexts line origin
-  unfolding on_names names stand
+  pub on_two : (r : Rests contexts line origin (λ es h. Base h)) → Rests contexts line origin (λ es h. Base h × r.Inv es h) → Law contexts line origin
+  unfolding on_names names
   on_two r a = stand (on_names r) a
 
   -- a write that begins in a call of streams, in both
-  pub begins_on_names : (a : Above contexts line origin (λ es h. Base h)) → BeginsAbove a → BeginsWrites (on_names a)
+  pub begins_on_names : (a : Rests contexts line origin (λ es h. Base h)) → BeginsWrites a → BeginsWrites (on_names a)
   unfolding on_names names
   begins_on_names a k = begins_stand names a begins_named k
 
-  pub begins_on_two : (r : Above contexts line origin (λ es h. Base h)) (a : Above contexts line origin (λ es h. Base h × r.Inv es h)) → BeginsAbove r → BeginsAbove a → BeginsWrites (on_two r a)
-  unfolding on_two on_names names stand
+  pub begins_on_two : (r : Rests contexts line origin (λ es h. Base h)) (a : Rests contexts line origin (λ es h. Base h × r.Inv es h)) → BeginsWrites r → BeginsWrites a → BeginsWrites (on_two r a)
+  unfolding on_two on_names names
   begins_on_two r a j k = begins_stand (on_names r) a (begins_on_names r j) k
 
-  pub on_two_along : (r : Above contexts line origin (λ es h. Base h)) (a : Above contexts line origin (λ es h. Base h × r.Inv es h)) {A : Type 0} {h : Here} {end : A → Here} {asks : Asks A} → Walks (on_two r a) h end asks → (es : List Entry) → Base h → r.Inv es h → a.Inv es h → Allows a.P (λ fs x. (Base (end x) × r.Inv fs (end x)) × a.Inv fs (end x)) es asks
-  unfolding on_two on_names names stand
+  -- what such a law says of a tree
+  pub on_two_along : (r : Rests contexts line origin (λ es h. Base h)) (a : Rests contexts line origin (λ es h. Base h × r.Inv es h)) {A : Type 0} {h : Here} {end : A → Here} {asks : Asks A} → Walks (on_two r a) h end asks → (es : List Entry) → Base h → r.Inv es h → a.Inv es h → Allows a.P (λ fs x. (Base (end x) × r.Inv fs (end x)) × a.Inv fs (end x)) es asks
+  unfolding on_two on_names names
   on_two_along r a w es b k i = w.along es ((b, k), i)
 
-  pub on_along : (a : Above contexts line origin (λ es h. Base h)) {A : Type 0} {h : Here} {end : A → Here} {asks : Asks A} → Walks (on_names a) h end asks → (es : List Entry) → Base h → a.Inv es h → Allows a.P (λ fs x. Base (end x) × a.Inv fs (end x)) es asks
-  unfolding on_names names stand
+  pub on_along : (a : Rests contexts line origin (λ es h. Base h)) {A : Type 0} {h : Here} {end : A → Here} {asks : Asks A} → Walks (on_names a) h end asks → (es : List Entry) → Base h → a.Inv es h → Allows a.P (λ fs x. Base (end x) × a.Inv fs (end x)) es asks
+  unfolding on_names names
   on_along a w es b i = w.along es (b, i)

@@ -2,25 +2,24 @@
 -- that a bind is in progress where one stands.
 use Rattle.wasi_walks.proofs.Words.{Accepting, Allows, Ask, AskWrite, Asks, Bool, End, Entry, Err, ErrorCode, Give, HoldsAccept}
 use Rattle.wasi_walks.proofs.Words.{HoldsConnect, InProgress, IpSocketAddress, IsAcceptOn, IsConnect, IsLeftOfBind, IsLeftOfConnect, IsLeftOfListen}
-use Rattle.wasi_walks.proofs.Words.{Item, List, None, Not, Ok, OpId, Operation, Result, Socket, SocketAddressFamily, Some}
-use Rattle.wasi_walks.proofs.Words.{Standing, StandingCall, Step, Streams, Tcp2, Tcp2Socket, TcpState, WasiSocketsCtx, WriteState, accept_ended, after_create}
-use Rattle.wasi_walks.proofs.Words.{after_local, allows_if, allows_then, allows_weaker, ap, bind, bind_progress, call_place, connect_ended}
-use Rattle.wasi_walks.proofs.Words.{create_asks, created_asks, false, give_up_asks, if◌then◌else◌, inl, inr}
-use Rattle.wasi_walks.proofs.Words.{is_nothing, is_wildcard, length, make_asks, new_asks, new_job, new_record, own_of, poll_asks, refl, side_of}
-use Rattle.wasi_walks.proofs.Words.{standing_as, subst, sym, told_addr, told_done, true, turn_asks, wildcard, with_inner, with_listening}
+use Rattle.wasi_walks.proofs.Words.{Item, List, None, Ok, OpId, Operation, Result, Socket, SocketAddressFamily, Some}
+use Rattle.wasi_walks.proofs.Words.{Standing, StandingCall, Step, Streams, Tcp2Socket, TcpState, WasiSocketsCtx, WriteState, accept_ended}
+use Rattle.wasi_walks.proofs.Words.{after_local, allows_weaker, ap, bind_progress, call_place, connect_ended}
+use Rattle.wasi_walks.proofs.Words.{false, if◌then◌else◌, inl, inr}
+use Rattle.wasi_walks.proofs.Words.{is_nothing, is_wildcard, new_job, new_record, own_of, poll_asks, refl}
+use Rattle.wasi_walks.proofs.Words.{standing_as, subst, sym, told_addr, true, wildcard, with_inner}
 use Rattle.wasi_walks.proofs.Words.{with_progress, with_state, with_writer, ℕ, ⊤, ◌+◌, ◌∙◌, ◌≡◌, ◌⊎◌}
 use Rattle.wasi_world.specs.declared.ids.Ids.{Ids}
 use Rattle.wasi_tcp.specs.Listen.{IsListen}
-use Rattle.wasi_walks.proofs.walks.Here.{Made, Past}
-use Rattle.wasi_walks.proofs.walks.Moves.{Names, Own, NoStart, NoStartIn, NoStartStands, IsSettled, KeepsBinding, HasBinding, HasListen, GoesOn, begun_bind, closed_record, Held, BindsOn, Connects, Used, Here, put, Move, Changes, ClosesReader, Writes, IsGone, Reconnects, Opens, BeginsConnect, BeginsBind, BeginsWrite, Stands, StandsBlocking, CancelsBind, CancelsUdpBind, CancelsUdpConnect, BeginsListen, BeginsAccept, Unlistens, Forgets, Joins, Unstands, Listens, Awaits, listen_after, accepting_now, beginning_listen, new_accept, joined, made_so, Found}
+use Rattle.wasi_walks.proofs.walks.Moves.{Names, Own, NoStart, NoStartIn, NoStartStands, IsSettled, KeepsBinding, HasBinding, HasListen, GoesOn, begun_bind, closed_record, Held, BindsOn, Connects, Used, Here, put, Move, Changes, ClosesReader, Writes, IsGone, Reconnects, Opens, BeginsConnect, BeginsBind, BeginsWrite, Stands, StandsBlocking, CancelsBind, CancelsUdpBind, CancelsUdpConnect, BeginsListen, BeginsAccept, Unlistens, Forgets, Joins, Unstands, Listens, Awaits, listen_after, accepting_now, beginning_listen, new_accept, joined, Found}
 use Rattle.wasi_walks.proofs.fits.Records.{FitListening, FitProgress, FitRecord, FitCall, FitUdp, FitUdpProgress, FitConnecting, UdpBindOn, UdpConnectOn, SendOn, ReceiveOn}
-use Rattle.wasi_walks.proofs.Lists.{get_set, get_split, set_get, tcp2_front}
 use Rattle.wasi_walks.proofs.fits.Polls.{Anything, bind_left, udp_bind_left, connect_left, listen_left, accept_left, AcceptLeaves}
-use Rattle.wasi_walks.proofs.walks.Law.{BeginsWrites, Law, Walks}
+use Rattle.wasi_walks.proofs.walks.Law.{BeginsWrites, InCall, Law, Walks}
+use Rattle.wasi_walks.proofs.walks.OfState.{Becomes, Learnt, IsClosed, GivenUp, UdpLearnt, UdpIsClosed, UdpGivenUp, UdpBegun, Resolved, Created, CreatedWith, Writing, OfState, begins_state, creating, of_state}
+use Rattle.wasi_walks.proofs.Words.{new_socket}
 use Rattle.wasi_tcp.specs.Accept as accept
 use Rattle.wasi_tcp.specs.Listen as listen
 use Rattle.wasi_walks.specs.Waiting as binding
-use Rattle.wasi_host.specs.Kinds.{HandleTable}
 use Rattle.wasi_records.specs.Records.{tcp2_at, tcp2_of, tcp2_put, tcp2_pushed, udp2_at, udp2_of, udp2_put, udp2_pushed}
 use Rattle.wasi_walks.proofs.GoneLists.{was_there}
 use Rattle.wasi_records.specs.declared.name_lookup.LookupOp.{LookupOp}
@@ -33,16 +32,15 @@ use Rattle.wasi_records.specs.Udp.{udp_bind_progress, udp_create_left, with_udp_
 use Rattle.wasi_udp.specs.Bind as udp
 use Rattle.wasi_udp.specs.Receive.{IsLeftOfReceive, receive_start, wanting}
 use Rattle.wasi_udp.specs.Send.{IsLeftOfSend, at_remote, send_start}
-use Rattle.wasi_udp.specs.Create.{create_cancel_asks, new_create, after_create as udp_after_create}
+use Rattle.wasi_udp.specs.Create.{new_create, after_create as udp_after_create}
 use Rattle.wasi_udp.specs.Shape.{Socket as UdpSocket}
-use Rattle.wasi_udp.specs.Socket.{after_peer}
-use Rattle.wasi_walks.proofs.UdpLists.{udp_of_put, udp_of_push, udp_in_put, udp_in_push, tcp_of_put, tcp_of_push, tcp_in_put, tcp_in_push, udp_set_get, udp_get_set, udp_split, udp_front}
 use Rattle.wasi_walks.proofs.fits.UdpPolls.{LeavesCreate, create_left, create_fits}
 use Rattle.wasi_walks.proofs.fits.DatagramPolls.{LeavesConnect, datagram_left, received_left, udp_connect_leaves, wanted_left}
 use Rattle.wasi_walks.proofs.fits.TcpFits.{first_of, ended_fits, listened_fits, bound_fits, accepted_fits, joined_fits}
-use Rattle.wasi_walks.proofs.fits.UdpFits.{KeepsOpen, same_udp, same_open, no_open, stays_open, idle_keeps, plain_open, plain_fits, inner_fits, learnt_side, bound_udp, connected_udp, begun_send, sends_on, sent_udp, begun_receive, receives_on, received_udp}
+use Rattle.wasi_walks.proofs.fits.UdpFits.{KeepsOpen, same_udp, same_open, no_open, stays_open, idle_keeps, plain_open, plain_fits, inner_fits, bound_udp, connected_udp, begun_send, sends_on, sent_udp, begun_receive, receives_on, received_udp}
 use Rattle.wasi_walks.proofs.walks.Moves.{ToConnect, with_records, SameSockets, Finds, put_udp, FoundUdp, udp_begun, begun_udp_bind, begun_udp_connect, sending_now, receiving_now, part_of, UdpChanges, BeginsUdpBind, StandsUdpBind, StandsUdpCreate, BeginsUdpConnect, StandsUdpConnect, StandsDropOutgoing, BeginsSend, BeginsReceive, UdpCreates, UdpBindsOn, UdpConnectsOn, SendsOn, ReceivesOn, GivesBack, without_record}
 use Rattle.wasi_records.specs.declared.records.Record.{Record}
+use Rattle.wasi_walks.proofs.Places.{push_found, push_new, push_still, push_was, put_found, put_stays, put_still, put_was, tcp_sort, udp_sort}
 
 -- Each record fits, and so does the pending call.
 pub record Fit (h : Here) : Type 0 where
@@ -57,7 +55,7 @@ KeepsBind h r now = NoStart h ⊎ ((HasBinding r.in_progress → HasBinding now.
 -- one record changes
 module _ (h : Here) (place : ℕ) (r now : Tcp2Socket) (g : Found h place r) (k : KeepsBind h r now) where
   call_put : (c : Standing) → h.machine.store.standing ≡ Some c → (call : StandingCall) → c.call ≡ call → FitCall h.machine.store.records call → FitCall (tcp2_put h.machine.store.records place now) call
-  call_put c e (StandingCall.Bind n) q b = elim (set_get h.machine.store.records place now n b.was b.at) [
+  call_put c e (StandingCall.Bind n) q b = elim (put_stays tcp_sort h.machine.store.records place now n b.was b.at) [
     | inl p ↦ record { was = b.was; at = p; goes = b.goes }
     | inr p ↦ record { was = now; at = p.1; goes = goes (ap (tcp2_at h.machine.store.records) (sym p.0) ∙ b.at) }
   ]
@@ -67,7 +65,7 @@ module _ (h : Here) (place : ℕ) (r now : Tcp2Socket) (g : Found h place r) (k 
 
       goes : tcp2_at h.machine.store.records place ≡ Some b.was → HasBinding now.in_progress
       goes at = let same : b.was ≡ r = cc in elim k [ inl quiet ↦ absurd (none quiet) | inr f ↦ f.0 (subst (λ (x : Tcp2Socket). HasBinding x.in_progress) same b.goes) ]
-  call_put c e (StandingCall.Listen n) q b = elim (set_get h.machine.store.records place now n b.was b.at) [
+  call_put c e (StandingCall.Listen n) q b = elim (put_stays tcp_sort h.machine.store.records place now n b.was b.at) [
     | inl p ↦ record { was = b.was; at = p; goes = b.goes }
     | inr p ↦ record { was = now; at = p.1; goes = goes (ap (tcp2_at h.machine.store.records) (sym p.0) ∙ b.at) }
   ]
@@ -78,16 +76,16 @@ module _ (h : Here) (place : ℕ) (r now : Tcp2Socket) (g : Found h place r) (k 
       goes : tcp2_at h.machine.store.records place ≡ Some b.was → HasListen now.listening
       goes at = let same : b.was ≡ r = cc in elim k [ inl quiet ↦ absurd (none quiet) | inr f ↦ f.1 (subst (λ (x : Tcp2Socket). HasListen x.listening) same b.goes) ]
   call_put c e (StandingCall.DropOutput n) q b = tt
-  call_put c e (StandingCall.UdpCreate n) q b = record { was = b.was; at = udp_in_put h.machine.store.records place r now n (Udp2Socket.Creating b.was) g b.at }
-  call_put c e (StandingCall.UdpBind n) q b = record { was = b.was; at = udp_in_put h.machine.store.records place r now n (Udp2Socket.Open b.was) g b.at; op = b.op; goes = b.goes }
-  call_put c e (StandingCall.UdpConnect n handle) q b = record { was = b.was; at = udp_in_put h.machine.store.records place r now n (Udp2Socket.Open b.was) g b.at; op = b.op; goes = b.goes }
+  call_put c e (StandingCall.UdpCreate n) q b = record { was = b.was; at = put_still tcp_sort udp_sort (λ t. refl) h.machine.store.records place r now n (Udp2Socket.Creating b.was) g b.at }
+  call_put c e (StandingCall.UdpBind n) q b = record { was = b.was; at = put_still tcp_sort udp_sort (λ t. refl) h.machine.store.records place r now n (Udp2Socket.Open b.was) g b.at; op = b.op; goes = b.goes }
+  call_put c e (StandingCall.UdpConnect n handle) q b = record { was = b.was; at = put_still tcp_sort udp_sort (λ t. refl) h.machine.store.records place r now n (Udp2Socket.Open b.was) g b.at; op = b.op; goes = b.goes }
   call_put c e (StandingCall.DropOutgoing n) q b = tt
   call_put c e (StandingCall.Blocking call) q b = tt
 
   pub put_fit : FitRecord now → Fit h → Fit (put h place now)
   put_fit f i = record {
-    records = λ k r e. elim (get_set h.machine.store.records place now k r e) [ inl p ↦ subst FitRecord p.1 f | inr p ↦ i.records k r p ];
-    udps = λ k u e. i.udps k u (udp_of_put h.machine.store.records place now k u e);
+    records = λ k r e. elim (put_found tcp_sort h.machine.store.records place now k r e) [ inl p ↦ subst FitRecord p.1 f | inr p ↦ i.records k r p ];
+    udps = λ k u e. i.udps k u (put_was tcp_sort udp_sort (λ t. refl) h.machine.store.records place now k u e);
     stands = λ c e. call_put c e c.call refl (i.stands c e);
   }
 
@@ -104,7 +102,7 @@ call_kept records now t u (StandingCall.Blocking call) b = tt
 
 -- one joins them
 call_push : (records : List Record) (now : Tcp2Socket) (call : StandingCall) → FitCall records call → FitCall (tcp2_pushed records now) call
-call_push records now = call_kept records (tcp2_pushed records now) (tcp2_front records now) (udp_in_push records now)
+call_push records now = call_kept records (tcp2_pushed records now) (push_still tcp_sort tcp_sort records now) (push_still tcp_sort udp_sort records now)
 
 -- the records are others with the same sockets
 pub records_fit : {new : LookupOp → Type 0} (h : Here) (records : List Record) → SameSockets new h.machine.store.records records → Fit h → Fit (with_records h records)
@@ -142,24 +140,24 @@ module _ (h : Here) (place : ℕ) (u now : Udp2Socket) (g : FoundUdp h place u) 
   same_was n was at p o = let there : Some (Udp2Socket.Open was) ≡ Some u = sym at ∙ (ap (udp2_at h.machine.store.records) p ∙ g) in same_open was o.was (same_udp (Udp2Socket.Open was) u there ∙ o.from)
 
   udp_call_put : (c : Standing) → h.machine.store.standing ≡ Some c → (call : StandingCall) → c.call ≡ call → FitCall h.machine.store.records call → FitCall (udp2_put h.machine.store.records place now) call
-  udp_call_put c e (StandingCall.Bind n) q b = record { was = b.was; at = tcp_in_put h.machine.store.records place u now n b.was g b.at; goes = b.goes }
-  udp_call_put c e (StandingCall.Listen n) q b = record { was = b.was; at = tcp_in_put h.machine.store.records place u now n b.was g b.at; goes = b.goes }
+  udp_call_put c e (StandingCall.Bind n) q b = record { was = b.was; at = put_still udp_sort tcp_sort (λ t. refl) h.machine.store.records place u now n b.was g b.at; goes = b.goes }
+  udp_call_put c e (StandingCall.Listen n) q b = record { was = b.was; at = put_still udp_sort tcp_sort (λ t. refl) h.machine.store.records place u now n b.was g b.at; goes = b.goes }
   udp_call_put c e (StandingCall.DropOutput n) q b = tt
-  udp_call_put c e (StandingCall.UdpCreate n) q b = elim (udp_set_get h.machine.store.records place now n (Udp2Socket.Creating b.was) b.at) [
+  udp_call_put c e (StandingCall.UdpCreate n) q b = elim (put_stays udp_sort h.machine.store.records place now n (Udp2Socket.Creating b.was) b.at) [
     | inl p ↦ record { was = b.was; at = p }
     | inr p ↦ elim k [
       | inl quiet ↦ absurd (none c e (StandingCall.UdpCreate n) q quiet)
       | inr o ↦ (let at : Some (Udp2Socket.Creating b.was) ≡ Some u = sym b.at ∙ (ap (udp2_at h.machine.store.records) p.0 ∙ g) in absurd (no_open b.was o.was (same_udp (Udp2Socket.Creating b.was) u at ∙ o.from)))
     ]
   ]
-  udp_call_put c e (StandingCall.UdpBind n) q b = elim (udp_set_get h.machine.store.records place now n (Udp2Socket.Open b.was) b.at) [
+  udp_call_put c e (StandingCall.UdpBind n) q b = elim (put_stays udp_sort h.machine.store.records place now n (Udp2Socket.Open b.was) b.at) [
     | inl p ↦ record { was = b.was; at = p; op = b.op; goes = b.goes }
     | inr p ↦ elim k [
       | inl quiet ↦ absurd (none c e (StandingCall.UdpBind n) q quiet)
       | inr o ↦ record { was = o.is; at = p.1 ∙ ap (λ (x : Udp2Socket). Some x) o.to; op = b.op; goes = o.binds b.op (subst (λ (x : OpenUdp). x.in_progress ≡ UdpInProgress.Binding b.op) (same_was n b.was b.at p.0 o) b.goes) }
     ]
   ]
-  udp_call_put c e (StandingCall.UdpConnect n handle) q b = elim (udp_set_get h.machine.store.records place now n (Udp2Socket.Open b.was) b.at) [
+  udp_call_put c e (StandingCall.UdpConnect n handle) q b = elim (put_stays udp_sort h.machine.store.records place now n (Udp2Socket.Open b.was) b.at) [
     | inl p ↦ record { was = b.was; at = p; op = b.op; goes = b.goes }
     | inr p ↦ elim k [
       | inl quiet ↦ absurd (none c e (StandingCall.UdpConnect n handle) q quiet)
@@ -171,22 +169,22 @@ module _ (h : Here) (place : ℕ) (u now : Udp2Socket) (g : FoundUdp h place u) 
 
   pub put_udp_fit : FitUdp now → Fit h → Fit (put_udp h place now)
   put_udp_fit f i = record {
-    records = λ n r e. i.records n r (tcp_of_put h.machine.store.records place now n r e);
-    udps = λ n x e. elim (udp_get_set h.machine.store.records place now n x e) [ inl p ↦ subst FitUdp p.1 f | inr p ↦ i.udps n x p ];
+    records = λ n r e. i.records n r (put_was udp_sort tcp_sort (λ t. refl) h.machine.store.records place now n r e);
+    udps = λ n x e. elim (put_found udp_sort h.machine.store.records place now n x e) [ inl p ↦ subst FitUdp p.1 f | inr p ↦ i.udps n x p ];
     stands = λ c e. udp_call_put c e c.call refl (i.stands c e);
   }
 
 -- one joins the records
 udp_call_push : (records : List Record) (now : Udp2Socket) (call : StandingCall) → FitCall records call → FitCall (udp2_pushed records now) call
-udp_call_push records now = call_kept records (udp2_pushed records now) (tcp_in_push records now) (udp_front records now)
+udp_call_push records now = call_kept records (udp2_pushed records now) (push_still udp_sort tcp_sort records now) (push_still udp_sort udp_sort records now)
 
 pub begun_fits : (h : Here) (op : OpId) (maker : ℕ) (family : SocketAddressFamily) (r : Result (Unit {0}) ErrorCode) → Fit h → Fit (udp_begun h (udp_after_create op maker family r))
 begun_fits h op maker family (Ok done) i =
     let now : Udp2Socket = Udp2Socket.Creating (new_create op maker family) in
     let records = h.machine.store.records in
     record {
-      records = λ n r e. i.records n r (tcp_of_push records now n r e);
-      udps = λ n u e. elim (udp_split records now n u e) [ inl p ↦ i.udps n u p | inr p ↦ subst FitUdp p.0 (refl, refl) ];
+      records = λ n r e. i.records n r (push_was udp_sort tcp_sort (λ t. refl) records now n r e);
+      udps = λ n u e. elim (push_found udp_sort records now n u e) [ inl p ↦ i.udps n u p | inr p ↦ subst FitUdp p.0 (refl, refl) ];
       stands = λ c e. udp_call_push records now c.call (i.stands c e);
     }
 begun_fits h op maker family (Err c) i = record { records = i.records; udps = i.udps; stands = i.stands }
@@ -284,8 +282,8 @@ module _ (contexts : List WasiSocketsCtx) (line : ℕ) (origin : Step) where
       let idle : Tcp2Socket = accepting_now r l Accepting.Idle in
       let k = put_fit h place r idle g (inr (λ b. b, λ k. absurd (subst HasListen e k))) (f.0, tt, f.2) i in
       record {
-        records = λ p q d. elim (get_split (tcp2_put h.machine.store.records place idle) (joined l new peer) p q d) [ inl x ↦ k.records p q x | inr x ↦ subst FitRecord x (joined_fits l new peer) ];
-        udps = λ p u d. k.udps p u (udp_of_push (tcp2_put h.machine.store.records place idle) (joined l new peer) p u d);
+        records = λ p q d. elim (push_new tcp_sort (tcp2_put h.machine.store.records place idle) (joined l new peer) p q d) [ inl x ↦ k.records p q x | inr x ↦ subst FitRecord x (joined_fits l new peer) ];
+        udps = λ p u d. k.udps p u (push_was tcp_sort udp_sort (λ t. refl) (tcp2_put h.machine.store.records place idle) (joined l new peer) p u d);
         stands = λ c e. call_push (tcp2_put h.machine.store.records place idle) (joined l new peer) c.call (k.stands c e);
       }
   moves_fit _ _ (Stands h ids call r quiet at g b) i = stood_fit h ids call (call_stands h.machine.store.records call r g b) i
@@ -321,31 +319,13 @@ module _ (contexts : List WasiSocketsCtx) (line : ℕ) (origin : Step) where
   moves_fit _ _ _ i = record { records = i.records; udps = i.udps; stands = i.stands }
 
   -- a socket that is created connects by nothing
-  abbrev pub MadeFits : Result Socket ErrorCode → Type 0
-  MadeFits (Ok socket) = HoldsConnect socket.state
-  MadeFits (Err c) = ⊤
-
-  pub made_fits : (es : List Entry) (op : OpId) (ctx : WasiSocketsCtx) (family : SocketAddressFamily) → Allows Anything (λ fs made. MadeFits made) es (new_asks op ctx family)
-  unfolding bind
-  made_fits es op ctx family = allows_if Anything (λ fs made. MadeFits made) es ctx.tcp _ _ (λ tcp. (tt, λ t f. by_told (told_done t))) (λ other. tt)
-    where
-      by_told : (r : Result (Unit {0}) ErrorCode) → MadeFits (after_create op ctx.name family r)
-      by_told (Ok done) = tt
-      by_told (Err c) = tt
-
-  pub joins : (es : List Entry) (h : Here) (op : OpId) (made : Result Socket ErrorCode) → MadeFits made → Fit h → Allows Anything (λ fs done. Fit (record h { machine = done.1; own = Used })) es (created_asks h.machine op made)
-  joins es h op (Ok socket) f i =
-      allows_then Anything (λ fs made. ⊤) (λ fs done. Fit (record h { machine = done.1; own = Used })) es (make_asks h.machine.table op (Tcp2 (length h.machine.store.records)) None (side_of socket)) _ (whatever (λ made. ⊤) (λ made. tt) es _)
-      (λ fs made t. record {
-        records = λ p r e. elim (get_split h.machine.store.records (new_record socket) p r e) [ inl q ↦ i.records p r q | inr q ↦ subst FitRecord q (f, tt, tt) ];
-        udps = λ p u e. i.udps p u (udp_of_push h.machine.store.records (new_record socket) p u e);
-        stands = λ c e. call_push h.machine.store.records (new_record socket) c.call (i.stands c e);
-      })
-  joins es h op (Err c) f i = record { records = i.records; udps = i.udps; stands = i.stands }
-
-  pub created : (es : List Entry) (h : Here) (op : OpId) (ctx : WasiSocketsCtx) (family : SocketAddressFamily) → Fit h → Allows Anything (λ fs done. Fit (record h { machine = done.1; own = Used })) es (create_asks h.machine op ctx family)
-  created es h op ctx family i =
-      allows_then Anything (λ fs made. MadeFits made) (λ fs done. Fit (record h { machine = done.1; own = Used })) es (new_asks op ctx family) (created_asks h.machine op) (made_fits es op ctx family) (λ fs made k. joins fs h op made k i)
+  created_fit : (h : Here) (op : OpId) (ctx : WasiSocketsCtx) (family : SocketAddressFamily) → Fit h
+      → Fit (creating h op ctx family)
+  created_fit h op ctx family i = let new = new_record (new_socket op ctx.name family) in record {
+    records = λ p r e. elim (push_new tcp_sort h.machine.store.records new p r e) [ inl q ↦ i.records p r q | inr q ↦ subst FitRecord q (tt, tt, tt) ];
+    udps = λ p u e. i.udps p u (push_was tcp_sort udp_sort (λ t. refl) h.machine.store.records new p u e);
+    stands = λ c e. call_push h.machine.store.records new c.call (i.stands c e);
+  }
 
   pub polls_fit : (es : List Entry) (h : Here) (op : Operation) (after : End × List Item → Here) → Held h op after → Fit h → Allows Anything (λ fs ended. Fit (after ended)) es (poll_asks op)
   polls_fit es h _ _ (BindsOn place r op q g e) i =
@@ -394,42 +374,36 @@ module _ (contexts : List WasiSocketsCtx) (line : ℕ) (origin : Step) where
   pub udp_inner_fit : (h : Here) (place : ℕ) (o : OpenUdp) (socket : UdpSocket) → FoundUdp h place (Udp2Socket.Open o) → socket.side ≡ o.inner.side → Fit h → Fit (put_udp h place (Udp2Socket.Open (with_udp_inner o socket)))
   udp_inner_fit h place o socket g e i = put_udp_fit h place (Udp2Socket.Open o) _ g (inr (stays_open o (with_udp_inner o socket) refl refl)) (inner_fits o socket e (i.udps place (Udp2Socket.Open o) g)) i
 
-  -- a handle is made
-  pub marked_fit : {A : Type 0} (es : List Entry) (h : Here) (so : Made) (asks : Asks (A × HandleTable)) → Fit h → Allows Anything (λ fs made. Fit (record h { machine = record h.machine { table = made.1 }; made = so })) es asks
-  marked_fit es h so asks i = whatever (λ made. Fit (record h { machine = record h.machine { table = made.1 }; made = so })) (λ made. record { records = i.records; udps = i.udps; stands = i.stands }) es asks
+  pub becomes_fit : (h now : Here) → Becomes contexts line origin h now → Fit h → Fit now
+  becomes_fit h _ (Learnt place r side told at g e) i =
+      let f = i.records place r g in
+      put_fit h place r _ g (inr (λ b. b, λ l. l)) (subst HoldsConnect (sym (told_same r.inner (told_addr told))) f.0, f.1, same_progress r.in_progress (told_same r.inner (told_addr told)) f.2) i
+  becomes_fit h _ (IsClosed place r side q g e) i = put_fit h place r (closed_record r) g (inl q.0) (tt, tt, tt) i
+  becomes_fit h _ (GivenUp place r q g) i =
+      let f = i.records place r g in put_fit h place r _ g (inl q) (f.0, tt, f.2) i
+  becomes_fit h _ (UdpLearnt place o socket g e) i = udp_inner_fit h place o socket g e i
+  becomes_fit h _ (UdpIsClosed place o q g) i = put_udp_fit h place (Udp2Socket.Open o) (Udp2Socket.Closed o.inner.side) g (inl q.0) tt i
+  becomes_fit h _ (UdpGivenUp place create q g) i =
+      put_udp_fit h place (Udp2Socket.Creating create) (Udp2Socket.Closed create.operation.who.side) g (inl q) tt i
+  becomes_fit h _ (UdpBegun ctx family r c u m) i = begun_fits h (own_of line) ctx.name family r i
+  becomes_fit h _ (Resolved host records l s) i = records_fit h records s i
+  becomes_fit h _ (Created ctx family c u m) i = created_fit h (own_of line) ctx family i
+  becomes_fit h _ (CreatedWith ctx family c u m) i =
+      let j = created_fit h (own_of line) ctx family i in
+      record { records = j.records; udps = j.udps; stands = j.stands }
+  becomes_fit h _ (Writing _ (InCall place n r s half permit bytes at g e w within used)) i =
+      write_fit h place r s _ Used g i
+  becomes_fit h _ _ i = record { records = i.records; udps = i.udps; stands = i.stands }
+
+  abbrev pub fit_state : OfState contexts line origin (λ es h. ⊤)
+  fit_state = record { Holds = Fit; moves = λ es h now m b i. moves_fit h now m i; becomes = λ es h now k b i. becomes_fit h now k i; polls = λ es h op after k b i. polls_fit es h op after k i; turns = λ es h place r s g e b i. whatever (λ done. Fit (put h place (with_writer r s done.1))) (λ done. put_fit h place r _ g (inr (λ b. b, λ l. l)) (i.records place r g) i) es _ }
 
   unfoldable pub fits : Law contexts line origin
-  fits = record {
-    P = Anything;
-    Inv = λ es h. Fit h;
-    moves = λ es h now m i. moves_fit h now m i;
-    asks = λ es h place n r side c at g o q i. (tt, λ told fits. i);
-    sets = λ es h place r side b at g s is i. (tt, λ told fits. i);
-    learns = λ es h place r side at g e i. (tt, λ told fits. let f = i.records place r g in put_fit h place r _ g (inr (λ b. b, λ l. l)) (subst HoldsConnect (sym (told_same r.inner (told_addr told))) f.0, f.1, same_progress r.in_progress (told_same r.inner (told_addr told)) f.2) i);
-    closes = λ es h place r side q g e i. (tt, λ told fits. put_fit h place r (closed_record r) g (inl q.0) (tt, tt, tt) i);
-    marks = λ es h kind parent sock m i. marked_fit es h h.made _ i;
-    creates = λ es h ctx family c a o m i. created es h (own_of line) ctx family i;
-    accepted = λ es h c s place r is e o g i. whatever (λ made. Fit (record h { machine = record h.machine { table = made.1 }; made = made_so place made.0 })) (λ made. record { records = i.records; udps = i.udps; stands = i.stands }) es _;
-    polls = polls_fit;
-    turns = λ es h place r s g e i. whatever (λ done. Fit (put h place (with_writer r s done.1))) (λ done. put_fit h place r _ g (inr (λ b. b, λ l. l)) (i.records place r g) i) es (turn_asks s.writer);
-    udp_asks = λ es h place n o c at g q i. (tt, λ told fits. i);
-    udp_learns = λ es h place part o at g i. (tt, λ told fits. udp_inner_fit h place o _ g (learnt_side o.inner (told_addr told)) i);
-    udp_peers = λ es h place o at g i. (tt, λ told fits. udp_inner_fit h place o (after_peer o.inner (told_addr told)) g refl i);
-    udp_closes = λ es h place o q g i. (tt, λ told fits. put_udp_fit h place (Udp2Socket.Open o) (Udp2Socket.Closed o.inner.side) g (inl q.0) tt i);
-    udp_creates = λ es h ctx family c may a o m i. (tt, λ told fits. begun_fits h (own_of line) ctx.name family (told_done told) i);
-    udp_marks = λ es h place u g i. marked_fit es h Past _ i;
-    stream_marks = λ es h place n handle reached kind m new e i. marked_fit es h _ _ i;
-    error_marks = λ es h n handle place handles m k e f i. marked_fit es h h.made _ i;
-    udp_gives_up = λ es h place create q g i. whatever (λ done. Fit (put_udp h place (Udp2Socket.Closed create.operation.who.side))) (λ done. put_udp_fit h place (Udp2Socket.Creating create) (Udp2Socket.Closed create.operation.who.side) g (inl q) tt i) es (create_cancel_asks create);
-    lookups = λ es h host l i. (tt, λ told fits records s. records_fit h records s i);
-    looks = λ es h place op g i. (tt, λ told fits. i);
-    gives_up = λ es h place r q g i. whatever (λ done. Fit (put h place (with_listening r Not))) (λ done. let f = i.records place r g in put_fit h place r _ g (inl q) (f.0, tt, f.2) i) es (give_up_asks r.listening);
-  }
+  fits = of_state fit_state
 
-  -- a write that begins in a call of streams
   pub begins_fit : BeginsWrites fits
   unfolding fits
-  begins_fit = record { begins = λ es h place n r s half permit bytes at g e w within used i. write_fit h place r s (WriteState.Writing (new_job (own_of n) half.side bytes)) Used g i }
+  begins_fit = begins_state fit_state
 
   -- what it says of a tree
   pub fits_along : {A : Type 0} {h : Here} {end : A → Here} {asks : Asks A} → Walks fits h end asks → (es : List Entry) → Fit h → Allows Anything (λ fs a. Fit (end a)) es asks

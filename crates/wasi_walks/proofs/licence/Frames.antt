@@ -10,7 +10,7 @@ use Rattle.wasi_world.specs.declared.call.Call.TheVariants.{Accept}
 use Rattle.wasi_records.specs.Records.{tcp2_at, tcp2_put, tcp2_pushed}
 use Rattle.wasi_records.specs.declared.records.Record.{Record}
 use Rattle.wasi_tcp.specs.declared.socket.TcpState.TheVariants.{Connected}
-use Rattle.wasi_walks.proofs.Lists.{has_front, get_split, get_set, set_get, has_split}
+use Rattle.wasi_walks.proofs.Lists.{has_front, has_split}
 use Rattle.wasi_walks.specs.Licence.{IsMarkedAs, MakesTcp, WriteFailed}
 use Rattle.wasi_tcp.specs.declared.writer.WriteError.{WriteError}
 use Rattle.wasi_world.specs.Operation.{End, Refused}
@@ -18,6 +18,7 @@ use Rattle.wasi_walks.proofs.licence.State.{NamesRecord, EndTold, ErrorTold, Kno
 use Rattle.wasi_walks.proofs.walks.Moves.{KeepsBinding}
 use Rattle.wasi_world.specs.declared.call.HandleKind.TheVariants.{Tcp2}
 use Rattle.wasi_walks.specs.Licence.{UdpCreated}
+use Rattle.wasi_walks.proofs.Places.{push_new, put_found, put_stays, tcp_sort}
 
 -- == one more entry
 -- an accept or a hand by this name, or a mark of a socket with it
@@ -113,7 +114,7 @@ Only records place x = (k : ℕ) (s : Tcp2Socket) → tcp2_at records k ≡ Some
 
 pub stands_put : (es : List Entry) (records : List Record) (i : ℕ) (now : Tcp2Socket) → ListeningStands es now.listening → ((k : ℕ) (s : Tcp2Socket) → tcp2_at records k ≡ Some s → ListeningStands es s.listening)
     → (k : ℕ) (s : Tcp2Socket) → tcp2_at (tcp2_put records i now) k ≡ Some s → ListeningStands es s.listening
-stands_put es records i now f h k s e = elim (get_set records i now k s e) [
+stands_put es records i now f h k s e = elim (put_found tcp_sort records i now k s e) [
   | inl q ↦ subst (λ (r : Tcp2Socket). ListeningStands es r.listening) q.1 f
   | inr q ↦ h k s q
 ]
@@ -127,12 +128,12 @@ one_of records i now o h k j r s x (inr a) (inl b) n m = o x (subst (λ (t : Tcp
 one_of records i now o h k j r s x (inr a) (inr b) n m = h k j r s x a b n m
 
 pub one_put : (records : List Record) (i : ℕ) (now : Tcp2Socket) → ((x : OpId) → accept_name now.listening ≡ Some x → Only records i x) → OneHolds records → OneHolds (tcp2_put records i now)
-one_put records i now o h k j r s x a b n m = one_of records i now o h k j r s x (get_set records i now k r a) (get_set records i now j s b) n m
+one_put records i now o h k j r s x a b n m = one_of records i now o h k j r s x (put_found tcp_sort records i now k r a) (put_found tcp_sort records i now j s b) n m
 
 -- a record more, which has no accept
 pub stands_push : (es : List Entry) (records : List Record) (now : Tcp2Socket) → ListeningStands es now.listening → ((k : ℕ) (s : Tcp2Socket) → tcp2_at records k ≡ Some s → ListeningStands es s.listening)
     → (k : ℕ) (s : Tcp2Socket) → tcp2_at (tcp2_pushed records now) k ≡ Some s → ListeningStands es s.listening
-stands_push es records now f h k s e = elim (get_split records now k s e) [
+stands_push es records now f h k s e = elim (push_new tcp_sort records now k s e) [
   | inl q ↦ h k s q
   | inr q ↦ subst (λ (r : Tcp2Socket). ListeningStands es r.listening) q f
 ]
@@ -147,7 +148,7 @@ one_among records now none h k j r s x (inl a) (inr b) n m = absurd (unnamed now
 one_among records now none h k j r s x (inl a) (inl b) n m = h k j r s x a b n m
 
 pub one_push : (records : List Record) (now : Tcp2Socket) → accept_name now.listening ≡ None → OneHolds records → OneHolds (tcp2_pushed records now)
-one_push records now none h k j r s x a b n m = one_among records now none h k j r s x (get_split records now k r a) (get_split records now j s b) n m
+one_push records now none h k j r s x a b n m = one_among records now none h k j r s x (push_new tcp_sort records now k r a) (push_new tcp_sort records now j s b) n m
 
 -- no record has an accept of this name
 abbrev pub Free : List Record → OpId → Type 0
@@ -259,7 +260,7 @@ same_record a b p = cc
 
 -- among those of which one was replaced by one that was made with the same network socket
 pub made_put : (records : List Record) (i : ℕ) (old now : Tcp2Socket) (place : ℕ) (found : Tcp2Socket) → tcp2_at records i ≡ Some old → now.side ≡ old.side → tcp2_at records place ≡ Some found → IsMadeWith (tcp2_put records i now) place found.side
-made_put records i old now place found g k h = elim (set_get records i now place found h) [
+made_put records i old now place found g k h = elim (put_stays tcp_sort records i now place found h) [
   | inl e ↦ record { found = found; at = e; same = refl }
   | inr e ↦ (let p : found ≡ old = same_record found old (sym h ∙ (ap (tcp2_at records) e.0 ∙ g)) in record { found = now; at = e.1; same = k ∙ ap (λ (r : Tcp2Socket). r.side) (sym p) })
 ]

@@ -15,7 +15,6 @@ use Rattle.wasi_walks.proofs.licence.Fresh.{spared_as}
 use Rattle.wasi_walks.proofs.claims.Polls.{AllAskBut, IsPlainCall, poll_plainly}
 use Rattle.wasi_walks.proofs.claims.Law.{accept_plain, Named, Base, same_begun, fresh_to_come, taken_fresh, Fresh}
 use Rattle.wasi_walks.proofs.walks.Moves.{Held, BindsOn, Connects, Here, put, Found, Listens, Awaits, UdpCreates, UdpBindsOn, UdpConnectsOn, SendsOn, ReceivesOn, listen_after, accepting_now}
-use Rattle.wasi_walks.proofs.Lists.{get_set, set_there}
 use Rattle.wasi_walks.specs.Licence.{MakesTcp}
 use Rattle.wasi_walks.proofs.licence.State.{ConnectIsFine, accept_name, Names, BindIsFine, JobIsFine, WritesOn, StreamsAreFine, AcceptingIsFine, ListeningIsFine, ProgressIsFine, RecordIsFine, AcceptStands, AcceptingStands, ListeningStands, name_in, AcceptLeft, AcceptIsFine}
 use Rattle.wasi_walks.proofs.licence.Frames.{Touches, same_listening, listening_gone, same_record, record_kept, maker_more}
@@ -33,6 +32,7 @@ use Rattle.wasi_tcp.specs.Listen as listen
 use Rattle.wasi_tcp.specs.Connect as connecting
 use Rattle.wasi_walks.specs.Waiting as binding
 use Rattle.wasi_records.specs.Records.{tcp2_at, tcp2_put}
+use Rattle.wasi_walks.proofs.Places.{put_finds, put_found, tcp_sort}
 
 module _ (contexts : List WasiSocketsCtx) (steps : List Step) (line : ℕ) (origin : Step) (is_line : step_at steps line ≡ Some origin) where
   -- == what is in progress
@@ -101,7 +101,7 @@ module _ (contexts : List WasiSocketsCtx) (steps : List Step) (line : ℕ) (orig
   taken_out es h place r g i = let f = i.fine.records place r g in put_fine es h place r (with_listening r Not) g refl (listening_gone r.listening) (λ op p. absurd (cc)) (record { socket = f.socket; named = f.named; streams = f.streams; listening = tt; progress = f.progress }) i
 
   there : (h : Here) (place : ℕ) (r now : Tcp2Socket) → Found h place r → Found (put h place now) place now
-  there h place r now g = set_there h.machine.store.records place r now g
+  there h place r now g = put_finds tcp_sort h.machine.store.records place r now g
 
   -- the record that a listen leaves has one that is in progress only where it waits
   still_goes : (fs : List Entry) (r : Tcp2Socket) (op : Operation) (end : End × List Item) → op.who.context ≡ r.inner.maker → IsMaker fs r.inner.maker r.inner.family op.who.side → BeganBy steps op.who.side MakesTcp → ListenEnds steps fs op.who end.0 end.1 → (o : Operation) → (listen_after op r end).listening ≡ Begins o → ListenGoesOn steps fs (listen_after op r end) o
@@ -126,7 +126,7 @@ module _ (contexts : List WasiSocketsCtx) (steps : List Step) (line : ℕ) (orig
     where
       -- the other listens are on other network sockets
       others : (c : Call) → Its op.who.side c → r.side ≡ Some op.who.side → Spares contexts steps line origin is_line (put h place (with_listening r Not)) c
-      others c m d k q o f x p = elim (get_set h.machine.store.records place (with_listening r Not) k q f) [
+      others c m d k q o f x p = elim (put_found tcp_sort h.machine.store.records place (with_listening r Not) k q f) [
         | inl v ↦ no_listen o (ap (λ (y : Tcp2Socket). y.listening) v.1 ∙ x)
         | inr v ↦ (
             let side : op.who.side ≡ o.who.side = m o.who.side p in

@@ -7,8 +7,6 @@ use Rattle.wasi_walks.proofs.licence.ListenAsks.{ListenIsFine}
 use Rattle.wasi_walks.proofs.licence.Fresh.{NoMadeBy}
 use Rattle.wasi_walks.proofs.walks.Moves.{Own, Used, Unused, ToSend, ToStream, Calls, Past, Here, put, put_udp, Found, FoundUdp, record_of, udp_record_of, Plain, Made, Unmade, Joined, Marked, part_of}
 use Rattle.wasi_walks.proofs.walks.Here.{IsToCome, Shrinks}
-use Rattle.wasi_walks.proofs.Lists.{get_set, tcp2_seam}
-use Rattle.wasi_walks.proofs.UdpLists.{udp_get_set, udp_of_put, tcp_of_put}
 use Rattle.wasi_walks.specs.Licence.{MakesTcp}
 use Rattle.wasi_walks.proofs.licence.State.{NamesIf, NamesRecord, NamesUdp, NamesUdpIf, HandleIsFine, Names, RecordIsFine, UdpIsFine, StateIsFine, IsHanded, MakesStreams, MakesCalls}
 use Rattle.wasi_walks.proofs.licence.Frames.{KeepsListening, KeepsRecord, same_record}
@@ -18,6 +16,7 @@ use Rattle.wasi_records.specs.Records.{tcp2_at, tcp2_pushed, udp2_at}
 use Rattle.wasi_records.specs.Udp.{udp_side}
 use Rattle.wasi_records.specs.declared.records.Record.{Record}
 use Rattle.wasi_records.specs.declared.udp.Udp2Socket.{Udp2Socket}
+use Rattle.wasi_walks.proofs.Places.{push_finds, put_found, put_was, tcp_sort, udp_sort}
 
 pub names_record : (es : List Entry) (records : List Record) (handle place : ℕ) (k : Option Kind) → record_of k ≡ Some place → ((kind : Kind) → k ≡ Some kind → HandleIsFine es records handle kind) → NamesRecord es records handle place
 names_record es records handle place None e h = absurd (cc)
@@ -40,7 +39,7 @@ keeps_plain r now p = record {
 }
 
 pub seam : (xs : List Record) (now : Tcp2Socket) (p : ℕ) (q : Tcp2Socket) → Joined (length xs) ≡ Joined p → tcp2_at (tcp2_pushed xs now) p ≡ Some q → now ≡ q
-seam xs now p q e d = let at : length xs ≡ p = cc in same_record now q (sym (tcp2_seam xs now) ∙ (ap (tcp2_at (tcp2_pushed xs now)) at ∙ d))
+seam xs now p q e d = let at : length xs ≡ p = cc in same_record now q (sym (push_finds tcp_sort xs now) ∙ (ap (tcp2_at (tcp2_pushed xs now)) at ∙ d))
 
 abbrev SamePair : ℕ → ℕ → ℕ → ℕ → Type 0
 SamePair a b c d = let x : Option (ℕ × ℕ) = Some (a, b) in let y : Option (ℕ × ℕ) = Some (c, d) in x ≡ y
@@ -145,7 +144,7 @@ pub record Licensed (contexts : List WasiSocketsCtx) (steps : List Step) (line :
 -- == moves
 -- of a record at a place, by its network socket alone
 by_side : (P : Option OpId → Type 0) (h : Here) (place : ℕ) (r now : Tcp2Socket) → Found h place r → now.side ≡ r.side → (k : ℕ) → ((q : Tcp2Socket) → Found h k q → P q.side) → (q : Tcp2Socket) → Found (put h place now) k q → P q.side
-by_side P h place r now g s k f q e = elim (get_set h.machine.store.records place now k q e) [
+by_side P h place r now g s k f q e = elim (put_found tcp_sort h.machine.store.records place now k q e) [
   | inl p ↦ subst P (sym s ∙ ap (λ (x : Tcp2Socket). x.side) p.1) (f r (ap (tcp2_at h.machine.store.records) p.0 ∙ g))
   | inr p ↦ f q p
 ]
@@ -168,8 +167,8 @@ module _ {contexts : List WasiSocketsCtx} {steps : List Step} {line : ℕ} {orig
     put_with f l = record {
       fine = f;
       names = λ k n q a e. by_side (λ (o : Option OpId). (side : OpId) → o ≡ Some side → Names steps es (own_of n) side) h place r now g s k (λ x d. i.names k n x a d) q e;
-      udp_names = λ k n u a e. i.udp_names k n u a (udp_of_put h.machine.store.records place now k u e);
-      listens = λ k q op e b. elim (get_set h.machine.store.records place now k q e) [ inl p ↦ subst (λ (x : Tcp2Socket). ListenGoesOn steps es x op) p.1 (l op (ap (λ (x : Tcp2Socket). x.listening) p.1 ∙ b)) | inr p ↦ i.listens k q op p b ];
+      udp_names = λ k n u a e. i.udp_names k n u a (put_was tcp_sort udp_sort (λ t. refl) h.machine.store.records place now k u e);
+      listens = λ k q op e b. elim (put_found tcp_sort h.machine.store.records place now k q e) [ inl p ↦ subst (λ (x : Tcp2Socket). ListenGoesOn steps es x op) p.1 (l op (ap (λ (x : Tcp2Socket). x.listening) p.1 ∙ b)) | inr p ↦ i.listens k q op p b ];
       new = i.new;
       unmade = i.unmade;
       joined = λ p e. joined_put p (i.joined p e);
@@ -183,11 +182,11 @@ module _ {contexts : List WasiSocketsCtx} {steps : List Step} {line : ℕ} {orig
   -- a UDP socket changes
   pub put_udp_fine : (es : List Entry) (h : Here) (place : ℕ) (u now : Udp2Socket) → FoundUdp h place u → udp_side now ≡ udp_side u → UdpIsFine steps es now → Licensed contexts steps line origin es h → Licensed contexts steps line origin es (put_udp h place now)
   put_udp_fine es h place u now g s f i =
-      let old : (k : ℕ) (r : Tcp2Socket) → Found (put_udp h place now) k r → Found h k r = λ k r e. tcp_of_put h.machine.store.records place now k r e in
+      let old : (k : ℕ) (r : Tcp2Socket) → Found (put_udp h place now) k r → Found h k r = λ k r e. put_was udp_sort tcp_sort (λ t. refl) h.machine.store.records place now k r e in
       record {
         fine = state_put_udp contexts steps es h.machine place u now g s f i.fine;
         names = λ k n r a e. i.names k n r a (old k r e);
-        udp_names = λ k n v a e. elim (udp_get_set h.machine.store.records place now k v e) [
+        udp_names = λ k n v a e. elim (put_found udp_sort h.machine.store.records place now k v e) [
           | inl p ↦ subst (Names steps es (own_of n)) (sym s ∙ ap udp_side p.1) (i.udp_names k n u a (ap (udp2_at h.machine.store.records) p.0 ∙ g))
           | inr p ↦ i.udp_names k n v a p
         ];

@@ -9,7 +9,7 @@ use Rattle.wasi_walks.proofs.Words.{refl, side_at, side_in, slice_get, step_at, 
 use Rattle.wasi_walks.proofs.claims.Law.{Named, fresh}
 use Rattle.wasi_walks.proofs.walks.Here.{IsToCome}
 use Rattle.wasi_walks.proofs.walks.Moves.{Own, Used, Unused, Marks, ANetwork, AStream, ALookup, ALookupPollable, APlain, APlainPollable, MakesPlain, Here, Found, Joined, Marked, made_so, APollable, AUdpPollable, tcp_place, udp_place, FoundUdp, AnAcceptedStream, Creates, Past}
-use Rattle.wasi_walks.proofs.Lists.{has_last, has_split, has_front, get_split, tcp2_seam}
+use Rattle.wasi_walks.proofs.Lists.{has_last, has_split, has_front}
 use Rattle.wasi_walks.specs.Licence.{MakesTcp}
 use Rattle.wasi_walks.proofs.licence.State.{accept_name, NamesRecord, NamesUdp, HandleIsFine, NamesItsOwn, SocketIsFine}
 use Rattle.wasi_walks.proofs.licence.Frames.{Touches, Spared, handed_unless, stay, same_record, names_on}
@@ -27,6 +27,7 @@ use Rattle.wasi_host.specs.Kinds.{watched_by}
 use Rattle.wasi_host.specs.declared.kind.Watched.{Watched}
 use Rattle.wasi_records.specs.declared.udp.Udp2Socket.{Udp2Socket}
 use Rattle.wasi_records.specs.declared.records.Record.{Record}
+use Rattle.wasi_walks.proofs.Places.{push_finds, push_new, tcp_sort}
 
 not_used : Used ≡ Unused → ⊥
 not_used e = absurd (cc)
@@ -333,20 +334,20 @@ module _ (contexts : List WasiSocketsCtx) (steps : List Step) (line : ℕ) (orig
         fine = state_push contexts steps es h.machine now made_it i.fine;
         names = λ p n r a e. absurd (no_place p n (sym nowhere ∙ a));
         udp_names = λ p n u a e. absurd (no_place p n (sym nowhere ∙ a));
-        listens = λ p q op d m. elim (get_split h.machine.store.records (new_record now) p q d) [ inl v ↦ i.listens p q op v m | inr v ↦ absurd (no_listen op (ap (λ (y : Tcp2Socket). y.listening) v ∙ m)) ];
+        listens = λ p q op d m. elim (push_new tcp_sort h.machine.store.records (new_record now) p q d) [ inl v ↦ i.listens p q op v m | inr v ↦ absurd (no_listen op (ap (λ (y : Tcp2Socket). y.listening) v ∙ m)) ];
         new = λ x t. absurd t;
         unmade = λ e d s is. absurd (creates_only ctx family c d s is);
         joined = λ p e. absurd (not_joined p (sym past ∙ e));
-        marked = λ a p e q d. elim (get_split h.machine.store.records (new_record now) p q d) [ inl v ↦ i.marked a p e q v | inr v ↦ absurd (not_marked a p (sym past ∙ e)) ];
+        marked = λ a p e q d. elim (push_new tcp_sort h.machine.store.records (new_record now) p q d) [ inl v ↦ i.marked a p e q v | inr v ↦ absurd (not_marked a p (sym past ∙ e)) ];
         making = subst (MakingStands steps) (sym past) tt;
       } in
       subst (λ (s : Socket). Allows (MayAsk contexts steps) (λ fs done. Licensed contexts steps line origin fs (record h { machine = done.1; own = Used })) es (create_handle h.machine own s)) (sym k.1)
       (allows_then (MayAsk contexts steps) (λ fs made. Licensed contexts steps line origin fs (record next { machine = record next.machine { table = made.1 } })) (λ fs done. Licensed contexts steps line origin fs (record h { machine = done.1; own = Used })) es
       (make_asks h.machine.table own (Tcp2 (length h.machine.store.records)) None (Some own)) _
       (made_fine contexts steps line origin is_line es next (Tcp2 (length h.machine.store.records)) None (Some own) (record { origin = origin; at = is_line; holds = created_mark es ctx.name family ctx family origin c k.0 })
-      (λ p r x e n t. elim (get_split h.machine.store.records (new_record now) p r e) [ inl v ↦ fresh contexts line origin h u b x (of_line x t) p r v (inr n) | inr v ↦ no_name x (ap (λ (y : Tcp2Socket). accept_name y.listening) v ∙ n) ])
+      (λ p r x e n t. elim (push_new tcp_sort h.machine.store.records (new_record now) p r e) [ inl v ↦ fresh contexts line origin h u b x (of_line x t) p r v (inr n) | inr v ↦ no_name x (ap (λ (y : Tcp2Socket). accept_name y.listening) v ∙ n) ])
       (λ a s is w. creates_only ctx family c a s is) (λ x w p q. elim w [ inl d ↦ absurd d | inr d ↦ not_joined d.0 (sym past ∙ d.1) ])
-      (λ t. (record { found = new_record now; at = tcp2_seam h.machine.store.records (new_record now); marked = record { op = own; kind = name.Tcp2; parent = None; told = t; mark = has_last es _ } }, tt, tt)) j) (λ fs made l. l))
+      (λ t. (record { found = new_record now; at = push_finds tcp_sort h.machine.store.records (new_record now); marked = record { op = own; kind = name.Tcp2; parent = None; told = t; mark = has_last es _ } }, tt, tt)) j) (λ fs made l. l))
     where
       default_side : (a b : OpId) → TcpState.Default a ≡ TcpState.Default b → Some a ≡ Some b
       default_side a b e = ap side_in e

@@ -1,5 +1,6 @@
 -- Each ask of a run is licensed: the law that it is, on the base law; and between two lines the state fits the log, each line being
 -- judged by the steps up to it.
+use Rattle.wasi_walks.proofs.walks.Asked.{Asked, Questions, SetsBacklog, Learns, Closes, MarksOne, AsksCreate, MarksAccepted, Polls, Turns, GivesUp, UdpQuestions, UdpLearns, UdpPeers, UdpCloses, UdpBegins, MarksUdp, MarksStream, MarksError, UdpGivesUp, Resolves, Looks}
 use Rattle.wasi_walks.proofs.Words.{Allows, Asks, Begins, Call, Entry, Give, HasRun, IsLicensed, Left, List, Machine, MayAsk, Not, OpId, Operation, Reply}
 use Rattle.wasi_walks.proofs.Words.{Some, Step, Tcp2Socket, WasiSocketsCtx, [], add-one, allows_at, allows_if, allows_keep, allows_then}
 use Rattle.wasi_walks.proofs.Words.{allows_weaker, ap, append-nil, append_assoc, arith, created_asks, entry, first_state, give_up_asks, inl, is_trap}
@@ -18,14 +19,13 @@ use Rattle.wasi_walks.proofs.Lists.{get_seam}
 use Rattle.wasi_walks.proofs.licence.Line.{ListenGoesOn, Licensed, put_fine}
 use Rattle.wasi_walks.proofs.walks.Steps.{may_while, machine_walks}
 use Rattle.wasi_walks.proofs.claims.Lines.{BaseBetween, first_base, base_starts, base_over}
-use Rattle.wasi_walks.proofs.walks.OnBase.{Above}
 use Rattle.wasi_walks.proofs.claims.Law.{Base, begins_on_two, on_two, on_two_along}
 use Rattle.wasi_walks.proofs.remotes.State.{Keeps, first_keeps}
 use Rattle.wasi_walks.proofs.remotes.Law.{begins_kept, remotes}
 use Rattle.wasi_walks.proofs.walks.Here.{IsToCome}
 use Rattle.wasi_walks.proofs.walks.Moves.{closed_record, Here, Names, OfSocket, Own, ToConnect, ToWrite, Unused, Used, put}
 use Rattle.wasi_walks.proofs.licence.Frames.{listening_gone}
-use Rattle.wasi_walks.proofs.walks.Law.{BeginsWrites, Law, Walks}
+use Rattle.wasi_walks.proofs.walks.Law.{BeginsWrites, Law, Rests, Walks, begins_by}
 use Rattle.wasi_walks.proofs.licence.Moves.{begins_write, closed_fine, gone_maker, moves_fine}
 use Rattle.wasi_walks.proofs.licence.Asked.{spares, asked_fine, on_side, names_on_side, not_held, question_local, question_may, learned_fine, kept}
 use Rattle.wasi_walks.proofs.licence.Marks.{marked_fine, accepted_fine, CreatedIsFine, new_fine, joins}
@@ -37,46 +37,52 @@ use Rattle.wasi_walks.proofs.licence.GoesOn.{taken_out, turned_fine, given_up, p
 use Rattle.wasi_records.specs.Records.{tcp2_at}
 
 module _ (contexts : List WasiSocketsCtx) (steps : List Step) (line : ℕ) (origin : Step) (is_line : step_at steps line ≡ Some origin) where
-  licences : Above contexts line origin (λ es h. Base contexts line origin h × Keeps es h.machine.store.records)
+  licences_asks : (es : List Entry) (h : Here) (A : Type 0) (tree : Asks A) (end : A → Here)
+      → Asked contexts line origin es h A tree end → Base contexts line origin h × Keeps es h.machine.store.records
+      → Licensed contexts steps line origin es h
+      → Allows (MayAsk contexts steps) (λ fs x. (Licensed contexts steps line origin) fs (end x)) es tree
+  licences_asks es h _ _ _ (Questions place n r side c at g o q) b i =
+      let k = question_may contexts steps line origin is_line n es side c q (names_on_side contexts steps line origin is_line es h place n r side at g o i) in
+      let s = on_side contexts steps line origin is_line es r side o (i.fine.records place r g) in
+      (k.0, λ told fits. asked_fine contexts steps line origin is_line es h (own_of n) c told k.1 (λ p z op d l e. not_held contexts steps line origin is_line h place r side g s b.0.1 p z op d l (question_local contexts steps line origin is_line n side op.who.side c q e)) i)
+  licences_asks es h _ _ _ (SetsBacklog place r side backlog at g s is) b i =
+      let f = i.fine.records place r g in
+      ((inl (i.names place line r at g side (f.named side (ap side_in s))), record { origin = origin; at = is_line; holds = is }, f.socket.listens side s), λ told fits. asked_fine contexts steps line origin is_line es h (own_of line) (Call.SetBacklog side backlog) told tt (spares contexts steps line origin is_line h (Call.SetBacklog side backlog) tt) i)
+  licences_asks es h _ _ _ (Learns place r side at g e) b i = (inl (names_on_side contexts steps line origin is_line es h place line r side at g (OfSocket (ap side_in e)) i), λ told fits. learned_fine contexts steps line origin is_line es h place r side told g e fits b.0.1 i)
+  licences_asks es h _ _ _ (Closes place r side q g e) b i = (
+    tt,
+    λ told fits.
+        let fs = es ++ entry (own_of line) (Call.Close side) told ∷ [] in
+        put_fine fs h place r (closed_record r) g refl (listening_gone r.listening) (gone_maker contexts steps line origin is_line r (closed_record r).inner) (closed_fine contexts steps line origin is_line fs r) (asked_fine contexts steps line origin is_line es h (own_of line) (Call.Close side) told tt (spares contexts steps line origin is_line h (Call.Close side) tt) i),
+  )
+  licences_asks es h _ _ _ (MarksOne kind parent sock m) b i = marked_fine contexts steps line origin is_line es h kind parent sock m i
+  licences_asks es h _ _ _ (AsksCreate ctx family c a o past) b i =
+      allows_then (MayAsk contexts steps) (λ fs made. Licensed contexts steps line origin fs h × CreatedIsFine contexts steps line origin is_line ctx.name family fs made) (λ fs done. Licensed contexts steps line origin fs (record h { machine = done.1; own = Used })) es (new_asks (own_of line) ctx family) (created_asks h.machine (own_of line))
+      (kept contexts steps line origin is_line h (CreatedIsFine contexts steps line origin is_line ctx.name family) es (new_asks (own_of line) ctx family) i (new_fine contexts steps line origin is_line es ctx family c)) (λ fs made k. joins contexts steps line origin is_line fs h ctx family made c a o past k.1 b.0.1 k.0)
+  licences_asks es h _ _ _ (MarksAccepted c s place r is e o g) b i = accepted_fine contexts steps line origin is_line es h c s place r is e o g b.0.1 i
+  licences_asks es h _ _ _ (Polls x0 x1 x2) b i = (polls_fine contexts steps line origin is_line) es h x0 x1 x2 b i
+  licences_asks es h _ _ _ (Turns place r s g e) b i = turned_fine contexts steps line origin is_line es h place r s g e i
+  licences_asks es h _ _ _ (GivesUp place r q g) b i =
+      allows_weaker (MayAsk contexts steps) (λ fs done. Licensed contexts steps line origin fs h × ⊤) (λ fs done. Licensed contexts steps line origin fs (put h place (with_listening r Not))) (λ fs done k. taken_out contexts steps line origin is_line fs h place r g k.0) es (give_up_asks r.listening)
+      (kept contexts steps line origin is_line h (λ fs done. ⊤) es (give_up_asks r.listening) i (given_up contexts steps line origin is_line es r.side r.listening (i.fine.records place r g).listening))
+  licences_asks es h _ _ _ (UdpQuestions place n o c at g q) b i = (let a = udp_asked contexts steps line origin is_line es h place n o c at g q i in (a.0, λ told fits. a.1 told))
+  licences_asks es h _ _ _ (UdpLearns place part o at g) b i = udp_learned contexts steps line origin is_line es h place part o at g i
+  licences_asks es h _ _ _ (UdpPeers place o at g) b i = (let a = udp_peered contexts steps line origin is_line es h place o at g i in (a.0, λ told fits. a.1 told))
+  licences_asks es h _ _ _ (UdpCloses place o q g) b i = (tt, λ told fits. udp_closed contexts steps line origin is_line es h place o told g i)
+  licences_asks es h _ _ _ (UdpBegins ctx family c may a o past) b i = udp_creates contexts steps line origin is_line es h ctx family c may a past i
+  licences_asks es h _ _ _ (MarksUdp place u g) b i = udp_marked contexts steps line origin is_line es h place u g.found i
+  licences_asks es h _ _ _ (MarksStream place n handle reached kind m new e) b i = stream_marked contexts steps line origin is_line es h place n handle reached kind m e i
+  licences_asks es h _ _ _ (MarksError n handle place handles m k e f) b i = error_marked contexts steps line origin is_line es h n handle place handles m k e f i
+  licences_asks es h _ _ _ (UdpGivesUp place create q g) b i = udp_given_up contexts steps line origin is_line es h place create g i
+  licences_asks es h _ _ _ (Resolves host records l same) b i = (let a = looked_up contexts steps line origin is_line es h host l i in (a.0, λ told fits. a.1 told (records told) (same told)))
+  licences_asks es h _ _ _ (Looks place op g) b i = (let a = looked_on contexts steps line origin is_line es h place op g i in (a.0, λ told fits. a.1 told))
+
+  licences : Rests contexts line origin (λ es h. Base contexts line origin h × Keeps es h.machine.store.records)
   licences = record {
     P = MayAsk contexts steps;
     Inv = Licensed contexts steps line origin;
     moves = λ es h now m b i. moves_fine contexts steps line origin is_line es h now m b.0 i;
-    asks = λ es h place n r side c at g o q b i.
-        let k = question_may contexts steps line origin is_line n es side c q (names_on_side contexts steps line origin is_line es h place n r side at g o i) in
-        let s = on_side contexts steps line origin is_line es r side o (i.fine.records place r g) in
-        (k.0, λ told fits. asked_fine contexts steps line origin is_line es h (own_of n) c told k.1 (λ p z op d l e. not_held contexts steps line origin is_line h place r side g s b.0.1 p z op d l (question_local contexts steps line origin is_line n side op.who.side c q e)) i);
-    sets = λ es h place r side backlog at g s is b i.
-        let f = i.fine.records place r g in
-        ((inl (i.names place line r at g side (f.named side (ap side_in s))), record { origin = origin; at = is_line; holds = is }, f.socket.listens side s), λ told fits. asked_fine contexts steps line origin is_line es h (own_of line) (Call.SetBacklog side backlog) told tt (spares contexts steps line origin is_line h (Call.SetBacklog side backlog) tt) i);
-    learns = λ es h place r side at g e b i. (inl (names_on_side contexts steps line origin is_line es h place line r side at g (OfSocket (ap side_in e)) i), λ told fits. learned_fine contexts steps line origin is_line es h place r side told g e fits b.0.1 i);
-    closes = λ es h place r side q g e b i. (
-      tt,
-      λ told fits.
-          let fs = es ++ entry (own_of line) (Call.Close side) told ∷ [] in
-          put_fine fs h place r (closed_record r) g refl (listening_gone r.listening) (gone_maker contexts steps line origin is_line r (closed_record r).inner) (closed_fine contexts steps line origin is_line fs r) (asked_fine contexts steps line origin is_line es h (own_of line) (Call.Close side) told tt (spares contexts steps line origin is_line h (Call.Close side) tt) i),
-    );
-    marks = λ es h kind parent sock m b i. marked_fine contexts steps line origin is_line es h kind parent sock m i;
-    creates = λ es h ctx family c a o past b i.
-        allows_then (MayAsk contexts steps) (λ fs made. Licensed contexts steps line origin fs h × CreatedIsFine contexts steps line origin is_line ctx.name family fs made) (λ fs done. Licensed contexts steps line origin fs (record h { machine = done.1; own = Used })) es (new_asks (own_of line) ctx family) (created_asks h.machine (own_of line))
-        (kept contexts steps line origin is_line h (CreatedIsFine contexts steps line origin is_line ctx.name family) es (new_asks (own_of line) ctx family) i (new_fine contexts steps line origin is_line es ctx family c)) (λ fs made k. joins contexts steps line origin is_line fs h ctx family made c a o past k.1 b.0.1 k.0);
-    accepted = λ es h c s place r is e o g b i. accepted_fine contexts steps line origin is_line es h c s place r is e o g b.0.1 i;
-    polls = polls_fine contexts steps line origin is_line;
-    turns = λ es h place r s g e b i. turned_fine contexts steps line origin is_line es h place r s g e i;
-    gives_up = λ es h place r q g b i.
-        allows_weaker (MayAsk contexts steps) (λ fs done. Licensed contexts steps line origin fs h × ⊤) (λ fs done. Licensed contexts steps line origin fs (put h place (with_listening r Not))) (λ fs done k. taken_out contexts steps line origin is_line fs h place r g k.0) es (give_up_asks r.listening)
-        (kept contexts steps line origin is_line h (λ fs done. ⊤) es (give_up_asks r.listening) i (given_up contexts steps line origin is_line es r.side r.listening (i.fine.records place r g).listening));
-    udp_asks = λ es h place n o c at g q b i. (let a = udp_asked contexts steps line origin is_line es h place n o c at g q i in (a.0, λ told fits. a.1 told));
-    udp_learns = λ es h place part o at g b i. udp_learned contexts steps line origin is_line es h place part o at g i;
-    udp_peers = λ es h place o at g b i. (let a = udp_peered contexts steps line origin is_line es h place o at g i in (a.0, λ told fits. a.1 told));
-    udp_closes = λ es h place o q g b i. (tt, λ told fits. udp_closed contexts steps line origin is_line es h place o told g i);
-    udp_creates = λ es h ctx family c may a o past b i. udp_creates contexts steps line origin is_line es h ctx family c may a past i;
-    udp_marks = λ es h place u g b i. udp_marked contexts steps line origin is_line es h place u g.found i;
-    stream_marks = λ es h place n handle reached kind m new e b i. stream_marked contexts steps line origin is_line es h place n handle reached kind m e i;
-    error_marks = λ es h n handle place handles m k e f b i. error_marked contexts steps line origin is_line es h n handle place handles m k e f i;
-    udp_gives_up = λ es h place create q g b i. udp_given_up contexts steps line origin is_line es h place create g i;
-    lookups = λ es h host l b i. (let a = looked_up contexts steps line origin is_line es h host l i in (a.0, λ told fits. a.1 told));
-    looks = λ es h place op g b i. (let a = looked_on contexts steps line origin is_line es h place op g i in (a.0, λ told fits. a.1 told));
+    asks = licences_asks;
   }
 
   pub licence : Law contexts line origin
@@ -88,7 +94,7 @@ module _ (contexts : List WasiSocketsCtx) (steps : List Step) (line : ℕ) (orig
   unfolding licence licences remotes
   begins_licence =
       begins_on_two contexts line origin (remotes contexts line origin) licences (begins_kept contexts line origin)
-      (record { begins = λ es h place n r s half permit bytes at g e w within used b i. begins_write contexts steps line origin is_line es h place n r s half permit bytes at g e w i })
+      (begins_by licences (λ es h place n r s half permit bytes at g e w within used b i. begins_write contexts steps line origin is_line es h place n r s half permit bytes at g e w i))
 
   -- what it says of a tree
   pub licence_along : {A : Type 0} {h : Here} {end : A → Here} {asks : Asks A} → Walks licence h end asks → (es : List Entry) → Base contexts line origin h → Keeps es h.machine.store.records → Licensed contexts steps line origin es h

@@ -11,12 +11,12 @@ use Rattle.wasi_host.specs.UdpCalls.{with_udp}
 use Rattle.wasi_jobs.specs.declared.job.HostJob.{HostJob}
 use Rattle.wasi_records.specs.declared.records.Record.TheVariants.{Tcp2, Udp2}
 use Rattle.wasi_records.specs.declared.udp.Udp2Socket.{Udp2Socket}
-use Rattle.wasi_walks.proofs.Lists.{has_last, marks_in-push, get_split, get_set, value_split}
-use Rattle.wasi_walks.proofs.UdpLists.{udp_get_set, udp_split, udp_of_put, udp_of_push, tcp_of_put, tcp_of_push}
+use Rattle.wasi_walks.proofs.Lists.{has_last, marks_in-push, value_split}
 use Rattle.wasi_walks.proofs.licence.Lookups.{lookups_put, lookups_push}
 use Rattle.wasi_walks.proofs.licence.State.{HandleIsFine, NamesItsOwn, ListeningStands, accept_name, SocketIsFine, RecordIsFine, UdpIsFine, StandingIsFine, StateIsFine}
 use Rattle.wasi_walks.proofs.licence.Frames.{Spared, stands_more, KeepsListening, Only, stands_put, one_put, stands_push, one_push, stay, record_more}
 use Rattle.wasi_walks.proofs.licence.UdpFrames.{sides_put, sides_push, sides_put_udp, sides_push_udp, handle_more, handle_kept, standing_more, standing_kept, udp_more}
+use Rattle.wasi_walks.proofs.Places.{push_found, push_new, push_was, put_found, put_was, tcp_sort, udp_sort}
 
 module _ (contexts : List WasiSocketsCtx) (steps : List Step) where
   -- == the state
@@ -75,11 +75,11 @@ module _ (contexts : List WasiSocketsCtx) (steps : List Step) where
   state_renewed es m place old now g k f a o h = record {
     count = h.count;
     handles = λ handle x e. handle_kept es m.store.records _ (sides_put m.store.records place old now g k) handle x (h.handles handle x e);
-    records = λ i r e. elim (get_set m.store.records place now i r e) [
+    records = λ i r e. elim (put_found tcp_sort m.store.records place now i r e) [
       | inl q ↦ subst (RecordIsFine steps es) q.1 f
       | inr q ↦ h.records i r q
     ];
-    udp = λ i u e. h.udp i u (udp_of_put m.store.records place now i u e);
+    udp = λ i u e. h.udp i u (put_was tcp_sort udp_sort (λ t. refl) m.store.records place now i u e);
     lookups = lookups_put contexts steps m.store.records place (Tcp2 now) refl h.lookups;
     standing = λ s e. standing_kept es m.store.records _ (sides_put m.store.records place old now g k) s (h.standing s e);
     accepts = stands_put es m.store.records place now a h.accepts;
@@ -97,11 +97,11 @@ module _ (contexts : List WasiSocketsCtx) (steps : List Step) where
   state_joined es m now f a n h = record {
     count = h.count;
     handles = λ handle x e. handle_kept es m.store.records _ (sides_push m.store.records now) handle x (h.handles handle x e);
-    records = λ i r e. elim (get_split m.store.records now i r e) [
+    records = λ i r e. elim (push_new tcp_sort m.store.records now i r e) [
       | inl q ↦ h.records i r q
       | inr q ↦ subst (RecordIsFine steps es) q f
     ];
-    udp = λ i u e. h.udp i u (udp_of_push m.store.records now i u e);
+    udp = λ i u e. h.udp i u (push_was tcp_sort udp_sort (λ t. refl) m.store.records now i u e);
     lookups = lookups_push contexts steps m.store.records (Tcp2 now) refl h.lookups;
     standing = λ s e. standing_kept es m.store.records _ (sides_push m.store.records now) s (h.standing s e);
     accepts = stands_push es m.store.records now a h.accepts;
@@ -116,15 +116,15 @@ module _ (contexts : List WasiSocketsCtx) (steps : List Step) where
   state_put_udp es m place old now g k f h = record {
     count = h.count;
     handles = λ handle x e. handle_kept es m.store.records _ (sides_put_udp m.store.records place old now g k) handle x (h.handles handle x e);
-    records = λ i r e. h.records i r (tcp_of_put m.store.records place now i r e);
-    udp = λ i u e. elim (udp_get_set m.store.records place now i u e) [
+    records = λ i r e. h.records i r (put_was udp_sort tcp_sort (λ t. refl) m.store.records place now i r e);
+    udp = λ i u e. elim (put_found udp_sort m.store.records place now i u e) [
       | inl q ↦ subst (UdpIsFine steps es) q.1 f
       | inr q ↦ h.udp i u q
     ];
     lookups = lookups_put contexts steps m.store.records place (Udp2 now) refl h.lookups;
     standing = λ s e. standing_kept es m.store.records _ (sides_put_udp m.store.records place old now g k) s (h.standing s e);
-    accepts = λ i r e. h.accepts i r (tcp_of_put m.store.records place now i r e);
-    one = λ i j r s x a b. h.one i j r s x (tcp_of_put m.store.records place now i r a) (tcp_of_put m.store.records place now j s b);
+    accepts = λ i r e. h.accepts i r (put_was udp_sort tcp_sort (λ t. refl) m.store.records place now i r e);
+    one = λ i j r s x a b. h.one i j r s x (put_was udp_sort tcp_sort (λ t. refl) m.store.records place now i r a) (put_was udp_sort tcp_sort (λ t. refl) m.store.records place now j s b);
   }
 
   -- there is one more
@@ -132,15 +132,15 @@ module _ (contexts : List WasiSocketsCtx) (steps : List Step) where
   state_joined_udp es m now f h = record {
     count = h.count;
     handles = λ handle x e. handle_kept es m.store.records _ (sides_push_udp m.store.records now) handle x (h.handles handle x e);
-    records = λ i r e. h.records i r (tcp_of_push m.store.records now i r e);
-    udp = λ i u e. elim (udp_split m.store.records now i u e) [
+    records = λ i r e. h.records i r (push_was udp_sort tcp_sort (λ t. refl) m.store.records now i r e);
+    udp = λ i u e. elim (push_found udp_sort m.store.records now i u e) [
       | inl q ↦ h.udp i u q
       | inr q ↦ subst (UdpIsFine steps es) q.0 f
     ];
     lookups = lookups_push contexts steps m.store.records (Udp2 now) refl h.lookups;
     standing = λ s e. standing_kept es m.store.records _ (sides_push_udp m.store.records now) s (h.standing s e);
-    accepts = λ i r e. h.accepts i r (tcp_of_push m.store.records now i r e);
-    one = λ i j r s x a b. h.one i j r s x (tcp_of_push m.store.records now i r a) (tcp_of_push m.store.records now j s b);
+    accepts = λ i r e. h.accepts i r (push_was udp_sort tcp_sort (λ t. refl) m.store.records now i r e);
+    one = λ i j r s x a b. h.one i j r s x (push_was udp_sort tcp_sort (λ t. refl) m.store.records now i r a) (push_was udp_sort tcp_sort (λ t. refl) m.store.records now j s b);
   }
 
   -- a call is pending

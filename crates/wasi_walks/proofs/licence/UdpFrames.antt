@@ -2,8 +2,7 @@
 use Rattle.wasi_walks.proofs.Words.{Entry, IpSocketAddress, IsMarkedWith, Item, Kind, List, None, OpId, Operation, Option, Pollable, Some}
 use Rattle.wasi_walks.proofs.Words.{SocketAddressFamily, Standing, Step, Tcp2Socket, Watched, ap, call_place, inl, inr, own_of, refl, subst, sym, ℕ, ◌++◌}
 use Rattle.wasi_walks.proofs.Words.{◌∙◌, ◌≡◌}
-use Rattle.wasi_walks.proofs.Lists.{has_front, tcp2_front}
-use Rattle.wasi_walks.proofs.UdpLists.{udp_front, udp_set_get, tcp_in_put, tcp_in_push, udp_in_put, udp_in_push}
+use Rattle.wasi_walks.proofs.Lists.{has_front}
 use Rattle.wasi_walks.proofs.walks.Moves.{record_of, udp_record_of, sending_in, receiving_in}
 use Rattle.wasi_walks.proofs.licence.Lookups.{NamesNone}
 use Rattle.wasi_walks.proofs.licence.State.{NamesIf, NamesUdp, NamesUdpIf, HandleIsFine, UdpBindLeft, UdpUnchecked, UdpChecked, UdpOver, Names, UdpMade, UdpBindIsFine, UdpProgressIsFine, UdpIsFine, LineNames, OfTcp, OfUdp, IfOp, StreamsStand, StandingIsFine}
@@ -16,6 +15,7 @@ use Rattle.wasi_records.specs.Udp.{udp_side}
 use Rattle.wasi_records.specs.declared.records.Record.{Record}
 use Rattle.wasi_records.specs.declared.udp.Udp2Socket.{Udp2Socket}
 use Rattle.wasi_records.specs.declared.udp.UdpInProgress.{UdpInProgress}
+use Rattle.wasi_walks.proofs.Places.{push_still, put_stays, put_still, tcp_sort, udp_sort}
 
 -- what holds of an operation, where there is one, goes over to what follows from it
 pub if_op : {P Q : Operation → Type 0} → ((op : Operation) → P op → Q op) → (o : Option Operation) → IfOp P o → IfOp Q o
@@ -41,13 +41,13 @@ pub record KeepsSides (old now : List Record) : Type 0 where
 pub sides_put : (records : List Record) (i : ℕ) (old now : Tcp2Socket) → tcp2_at records i ≡ Some old → now.side ≡ old.side → KeepsSides records (tcp2_put records i now)
 sides_put records i old now g k = record {
   tcp = λ place r e. made_put records i old now place r g k e;
-  udp = λ place u e. record { found = u; at = udp_in_put records i old now place u g e; same = refl };
+  udp = λ place u e. record { found = u; at = put_still tcp_sort udp_sort (λ t. refl) records i old now place u g e; same = refl };
 }
 
 pub sides_put_udp : (records : List Record) (i : ℕ) (old now : Udp2Socket) → udp2_at records i ≡ Some old → udp_side now ≡ udp_side old → KeepsSides records (udp2_put records i now)
 sides_put_udp records i old now g k = record {
-  tcp = λ place r e. record { found = r; at = tcp_in_put records i old now place r g e; same = refl };
-  udp = λ place u e. elim (udp_set_get records i now place u e) [
+  tcp = λ place r e. record { found = r; at = put_still udp_sort tcp_sort (λ t. refl) records i old now place r g e; same = refl };
+  udp = λ place u e. elim (put_stays udp_sort records i now place u e) [
     | inl p ↦ record { found = u; at = p; same = refl }
     | inr p ↦ record { found = now; at = p.1; same = k ∙ ap udp_side (same_udp old u (sym g ∙ (ap (udp2_at records) (sym p.0) ∙ e))) }
   ];
@@ -56,14 +56,14 @@ sides_put_udp records i old now g k = record {
 -- there is one more
 pub sides_push : (records : List Record) (now : Tcp2Socket) → KeepsSides records (tcp2_pushed records now)
 sides_push records now = record {
-  tcp = λ place r e. record { found = r; at = tcp2_front records now place r e; same = refl };
-  udp = λ place u e. record { found = u; at = udp_in_push records now place u e; same = refl };
+  tcp = λ place r e. record { found = r; at = push_still tcp_sort tcp_sort records now place r e; same = refl };
+  udp = λ place u e. record { found = u; at = push_still tcp_sort udp_sort records now place u e; same = refl };
 }
 
 pub sides_push_udp : (records : List Record) (now : Udp2Socket) → KeepsSides records (udp2_pushed records now)
 sides_push_udp records now = record {
-  tcp = λ place r e. record { found = r; at = tcp_in_push records now place r e; same = refl };
-  udp = λ place u e. record { found = u; at = udp_front records now place u e; same = refl };
+  tcp = λ place r e. record { found = r; at = push_still udp_sort tcp_sort records now place r e; same = refl };
+  udp = λ place u e. record { found = u; at = push_still udp_sort udp_sort records now place u e; same = refl };
 }
 
 -- == what a handle stands for

@@ -6,7 +6,6 @@ use Rattle.wasi_walks.proofs.Words.{told_done, true, ℕ, ◌++◌, ◌∙◌, �
 use Rattle.wasi_walks.specs.Licence.{IsDisconnect, IsGetOf, IsMarkedWith, IsSetTo, IsStreamOf, IsUdpCreate, MayUseUdp, UdpCreated}
 use Rattle.wasi_walks.proofs.walks.Moves.{Here, Made, MarksNext, one_stream, put_udp, FoundUdp, CreatesUdp, udp_begun, udp_record_of, part_of, ToSend, IsUdpQuestionOf, Past, Joined, Marked}
 use Rattle.wasi_walks.proofs.Lists.{has_front, has_last, has_split}
-use Rattle.wasi_walks.proofs.UdpLists.{tcp_of_push}
 use Rattle.wasi_walks.specs.Licence.{MakesTcp, MakesUdp}
 use Rattle.wasi_walks.proofs.licence.State.{NamesItsOwn, MakesStreams, Names, NamesUdp, UdpMade, UdpIsFine, OpenIsFine}
 use Rattle.wasi_walks.proofs.licence.Frames.{NoMark, handed_unless, stay, names_on}
@@ -31,6 +30,7 @@ use Rattle.wasi_records.specs.declared.udp.Udp2Socket.{Udp2Socket}
 use Rattle.wasi_udp.specs.Create.{after_create, new_create}
 use Rattle.wasi_udp.specs.Shape.{Socket}
 use Rattle.wasi_udp.specs.Socket.{after_local, after_peer}
+use Rattle.wasi_walks.proofs.Places.{push_was, tcp_sort, udp_sort}
 
 module _ (contexts : List WasiSocketsCtx) (steps : List Step) (line : ℕ) (origin : Step) (is_line : step_at steps line ≡ Some origin) where
   -- == a UDP socket's network socket is none of a TCP socket's
@@ -148,7 +148,7 @@ module _ (contexts : List WasiSocketsCtx) (steps : List Step) (line : ℕ) (orig
         fine = state_joined_udp contexts steps fs h.machine now (record { made = record { by = record { origin = origin; at = is_line; holds = makes_udp ctx family origin c }; created = has }; own = refl; last = refl; left = refl }) j.fine;
         names = λ p n r a e. absurd (no_place p n (sym nowhere ∙ a));
         udp_names = λ p n u a e. absurd (no_place p n (sym nowhere ∙ a));
-        listens = λ p q op d m. j.listens p q op (tcp_of_push h.machine.store.records now p q d) m;
+        listens = λ p q op d m. j.listens p q op (push_was udp_sort tcp_sort (λ t. refl) h.machine.store.records now p q d) m;
         new = λ x t. absurd t;
         unmade = λ e d s is. absurd (creates_only ctx family c d s is);
         joined = λ p e. absurd (not_joined p (sym past ∙ e));

@@ -63,9 +63,6 @@ goes_for d socket = by_size (nat_lt 65535 (length d.bytes))
     by_size true = tt
     by_size false = for_where d socket.family socket.remote d.remote_address refl
 
-abbrev SameAt : ℕ → ℕ → ℕ → ℕ → Type 0
-SameAt place line k n = let x : Option (ℕ × ℕ) = Some (place, line) in let y : Option (ℕ × ℕ) = Some (k, n) in x ≡ y
-
 module _ (contexts : List WasiSocketsCtx) (steps : List Step) (line : ℕ) (origin : Step) (is_line : step_at steps line ≡ Some origin) where
   -- == the record that the line works on
   names_at : (es : List Entry) (h : Here) (handle place : ℕ) → Has (handles_of origin) handle → udp_record_of (kind_at h.machine.table handle) ≡ Some place → Licensed contexts steps line origin es h → (u : Udp2Socket) → FoundUdp h place u → Names steps es (own_of line) (udp_side u)

@@ -10,29 +10,12 @@ use Rattle.wasi_records.specs.declared.records.Record.{Record}
 use Rattle.wasi_walks.specs.Licence.{Has}
 use Rattle.wasi_walks.proofs.Lists.{has_front}
 use Rattle.wasi_walks.proofs.Slots.{SlotOf, has_still, has_without, is_another, new_slot, no_child, one_of, slot_of, value_of}
-use Rattle.wasi_walks.proofs.walks.Moves.{Awaited, Emptied, Joined, Made, Marked, Numbered, record_of, tcp_place, udp_place, udp_record_of}
-use Rattle.wasi_walks.proofs.owners.There.{Stays}
-
--- == whose a handle is
--- the record that a handle is of, where no other is
-abbrev pub owner_of : Kind → Option ℕ
-owner_of (Tcp2 place) = Some place
-owner_of (Udp2 place) = Some place
-owner_of (Lookup place) = Some place
-owner_of (PlainInput (plain_input.Pipe place)) = Some place
-owner_of (PlainOutput (plain_output.Pipe place)) = Some place
-owner_of _ = None
-
--- and that of the socket which a stream is of
-abbrev pub stream_place : Kind → Option ℕ
-stream_place (Input place) = Some place
-stream_place (Output place) = Some place
-stream_place (Incoming place) = Some place
-stream_place (Outgoing place) = Some place
-stream_place _ = None
-
-abbrev pub IsOf : Kind → ℕ → Type 0
-IsOf kind place = (owner_of kind ≡ Some place) ⊎ (stream_place kind ≡ Some place)
+use Rattle.wasi_walks.proofs.walks.Moves.{Awaited, Emptied, IsRecord, Joined, Made, Marked, Numbered, record_of, tcp_place, udp_place, udp_record_of}
+use Rattle.std.specs.Prelude.{IsSome}
+use Rattle.wasi_records.specs.Records.{tcp2_at}
+use Rattle.wasi_walks.specs.Answered.{streams_in}
+pub use Rattle.wasi_walks.proofs.owners.Kinds.{IsOf, owner_of, stream_place}
+use Rattle.wasi_walks.proofs.owners.Names.{Names, names_record}
 
 -- Of a pollable that watches this: its parent is a live handle of it.
 pub record Above (t : HandleTable) (parent : Option ℕ) (w : Watched) : Type 0 where
@@ -45,7 +28,7 @@ pub record Above (t : HandleTable) (parent : Option ℕ) (w : Watched) : Type 0 
 pub record Owned (t : HandleTable) (records : List Record) : Type 0 where
   pub one : (a b : Live Kind) (place : ℕ) → Has t.live a → Has t.live b → owner_of a.value ≡ Some place → owner_of b.value ≡ Some place → a.handle ≡ b.handle
   pub under : (a b : Live Kind) (place : ℕ) → Has t.live a → Has t.live b → stream_place a.value ≡ Some place → owner_of b.value ≡ Some place → a.parent ≡ Some b.handle
-  pub there : (a : Live Kind) (place : ℕ) → Has t.live a → IsOf a.value place → Stays (slice_get records place)
+  pub there : (a : Live Kind) (place : ℕ) → Has t.live a → IsOf a.value place → Names a.value (slice_get records place)
   pub watches : (a : Live Kind) (w : Watched) → Has t.live a → a.value ≡ Pollable w → Above t a.parent w
 
 -- nothing of the record is live, or but for this handle
@@ -56,27 +39,41 @@ abbrev pub OneOwner : HandleTable → ℕ → ℕ → Type 0
 OneOwner t handle place = (a : Live Kind) → Has t.live a → owner_of a.value ≡ Some place → a.handle ≡ handle
 
 -- what is made has no handle yet, and what was dropped has none any more
-abbrev pub MadeSo : HandleTable → Made → Type 0
-MadeSo t (Joined place) = NoneOf t place
-MadeSo t (Marked handle place) = OneOwner t handle place
-MadeSo t (Emptied kind) = (place : ℕ) → owner_of kind ≡ Some place → NoneOf t place
-MadeSo t (Awaited place) = NoneOf t place
-MadeSo t (Numbered place next) = (next ≤ t.next) × (t.next ≡ next → NoneOf t place)
-MadeSo t _ = ⊤
+abbrev pub HasStreams : List Record → ℕ → Type 0
+HasStreams records place = IsSome (streams_in (tcp2_at records place))
+
+abbrev pub MadeSo : HandleTable → List Record → Made → Type 0
+MadeSo t records (Joined place) = NoneOf t place × HasStreams records place
+MadeSo t records (Marked handle place) = OneOwner t handle place × HasStreams records place
+MadeSo t records (Emptied kind) = (place : ℕ) → owner_of kind ≡ Some place → NoneOf t place
+MadeSo t records (Awaited place) = NoneOf t place
+MadeSo t records (Numbered place next) = (next ≤ t.next) × (t.next ≡ next → NoneOf t place)
+MadeSo t records _ = ⊤
+
+-- streams that were there are
+pub made_stays : (t : HandleTable) (old now : List Record)
+    → ((place : ℕ) → HasStreams old place → HasStreams now place) → (made : Made) → MadeSo t old made
+    → MadeSo t now made
+made_stays t old now s (Joined place) k = (k.0, s place k.1)
+made_stays t old now s (Marked handle place) k = (k.0, s place k.1)
+made_stays t old now s (Emptied kind) k = k
+made_stays t old now s (Awaited place) k = k
+made_stays t old now s (Numbered place next) k = k
+made_stays t old now s _ k = tt
 
 -- nothing is live in the first state
 pub first_owned : {records : List Record} → Owned first_state.table records
 first_owned = record { one = λ a b place l k d e. absurd l; under = λ a b place l k d e. absurd l; there = λ a place l e. absurd l; watches = λ a w l e. absurd l }
 
 -- == records change
-pub owned_still : (t : HandleTable) (old now : List Record) → ((a : Live Kind) (place : ℕ) → Has t.live a → IsOf a.value place → Stays (slice_get old place) → Stays (slice_get now place)) → Owned t old → Owned t now
+pub owned_still : (t : HandleTable) (old now : List Record) → ((a : Live Kind) (place : ℕ) → Has t.live a → IsOf a.value place → Names a.value (slice_get old place) → Names a.value (slice_get now place)) → Owned t old → Owned t now
 owned_still t old now still i = record { one = i.one; under = i.under; there = λ a place l e. still a place l e (i.there a place l e); watches = i.watches }
 
 -- == a handle is made
 -- What a new handle has to be: the first of its record, a stream under that, or a pollable under what it watches.
 pub record IsNew (t : HandleTable) (records : List Record) (kind : Kind) (parent : Option ℕ) : Type 0 where
-  pub owner : (place : ℕ) → owner_of kind ≡ Some place → NoneOf t place × Stays (slice_get records place)
-  pub stream : (place : ℕ) → stream_place kind ≡ Some place → ((b : Live Kind) → Has t.live b → owner_of b.value ≡ Some place → parent ≡ Some b.handle) × Stays (slice_get records place)
+  pub owner : (place : ℕ) → owner_of kind ≡ Some place → NoneOf t place × Names kind (slice_get records place)
+  pub stream : (place : ℕ) → stream_place kind ≡ Some place → ((b : Live Kind) → Has t.live b → owner_of b.value ≡ Some place → parent ≡ Some b.handle) × Names kind (slice_get records place)
   pub watch : (w : Watched) → kind ≡ Pollable w → Above t parent w
 
 -- a kind of handle is of a record as one or the other
@@ -113,10 +110,14 @@ module _ (t : HandleTable) (records : List Record) (kind : Kind) (parent : Optio
     under_now a b place (inr n) (inl k) d e = ap (λ (s : Live Kind). s.parent) (sym n) ∙ (fits.stream place (its_stream a place n d)).0 b k e
     under_now a b place (inr n) (inr m) d e = absurd (one_way kind place place (its_stream a place n d) (its_owner b place m e))
 
-    there_now : (a : Live Kind) (place : ℕ) → Has t.live a ⊎ (new ≡ a) → IsOf a.value place → Stays (slice_get records place)
+    there_now : (a : Live Kind) (place : ℕ) → Has t.live a ⊎ (new ≡ a) → IsOf a.value place → Names a.value (slice_get records place)
     there_now a place (inl l) e = i.there a place l e
-    there_now a place (inr n) (inl e) = (fits.owner place (its_owner a place n e)).1
-    there_now a place (inr n) (inr e) = (fits.stream place (its_stream a place n e)).1
+    there_now a place (inr n) (inl e) =
+        subst (λ (s : Live Kind). Names s.value (slice_get records place)) n
+        (fits.owner place (its_owner a place n e)).1
+    there_now a place (inr n) (inr e) =
+        subst (λ (s : Live Kind). Names s.value (slice_get records place)) n
+        (fits.stream place (its_stream a place n e)).1
 
     above_still : (a : Option ℕ) (w : Watched) → Above t a w → Above after a w
     above_still a w k = record { slot = k.slot; live_one = has_front t.live _ k.slot k.live_one; its = k.its; watched = k.watched }
@@ -140,13 +141,15 @@ module _ (t : HandleTable) (records : List Record) (kind : Kind) (parent : Optio
   pub one_still : (handle place : ℕ) → (owner_of kind ≡ Some place → ⊥) → OneOwner t handle place → OneOwner after handle place
   one_still handle place other one a l e = elim (one_of t kind parent a l) [ inl old ↦ one a old e | inr n ↦ absurd (other (its_owner a place n e)) ]
 
-  pub numbered_still : (place next : ℕ) → MadeSo t (Numbered place next) → MadeSo after (Numbered place next)
+  pub numbered_still : (place next : ℕ) → MadeSo t records (Numbered place next)
+      → MadeSo after records (Numbered place next)
   numbered_still place next k = let small = k.0 in (omega (arith, small), λ e. absurd (omega (arith, small, e)))
 
   -- whatever the line has made, where the new handle is of no record
-  pub other_still : (made : Made) → ((place : ℕ) → IsOf kind place → ⊥) → MadeSo t made → MadeSo after made
-  other_still (Joined place) other k = none_still place (other place) k
-  other_still (Marked handle place) other k = one_still handle place (λ e. other place (inl e)) k
+  pub other_still : (made : Made) → ((place : ℕ) → IsOf kind place → ⊥) → MadeSo t records made
+      → MadeSo after records made
+  other_still (Joined place) other k = (none_still place (other place) k.0, k.1)
+  other_still (Marked handle place) other k = (one_still handle place (λ e. other place (inl e)) k.0, k.1)
   other_still (Emptied gone) other k = λ place e. none_still place (other place) (k place e)
   other_still (Awaited place) other k = none_still place (other place) k
   other_still (Numbered place next) other k = numbered_still place next k
@@ -165,16 +168,16 @@ module _ (t : HandleTable) (records : List Record) (handle : ℕ) (none : has_no
         record { slot = k.slot; live_one = has_still t.live handle k.slot k.live_one (λ same. no_child t.live handle a was (k.its ∙ ap (λ (x : ℕ). Some x) same) none); its = k.its; watched = k.watched };
   }
 
-  pub taken_made : (made : Made) → MadeSo t made → MadeSo (without_handle t handle) made
-  taken_made (Joined place) k = λ a l e. k a (has_without t.live handle a l) e
-  taken_made (Marked n place) k = λ a l e. k a (has_without t.live handle a l) e
+  pub taken_made : (made : Made) → MadeSo t records made → MadeSo (without_handle t handle) records made
+  taken_made (Joined place) k = (λ a l e. k.0 a (has_without t.live handle a l) e, k.1)
+  taken_made (Marked n place) k = (λ a l e. k.0 a (has_without t.live handle a l) e, k.1)
   taken_made (Emptied kind) k = λ place its a l e. k place its a (has_without t.live handle a l) e
   taken_made (Awaited place) k = λ a l e. k a (has_without t.live handle a l) e
   taken_made (Numbered place next) k = (k.0, λ same a l e. k.1 same a (has_without t.live handle a l) e)
   taken_made _ k = tt
 
   -- it has no child, so where it was the one of its record nothing of that is left
-  pub emptied_made : (kind : Kind) → kind_at t handle ≡ Some kind → Owned t records → MadeSo (without_handle t handle) (Emptied kind)
+  pub emptied_made : (kind : Kind) → kind_at t handle ≡ Some kind → Owned t records → MadeSo (without_handle t handle) records (Emptied kind)
   emptied_made kind e i = λ place owns a l is. elim is [ inl owner ↦ no_owner place owns a l owner | inr stream ↦ no_stream place owns a l stream ]
     where
       its : SlotOf t.live handle kind
@@ -225,7 +228,7 @@ named_by (Outgoing place) = Some place
 named_by (Pollable w) = watched_place w
 named_by _ = None
 
-watched_is_of : (kind : Kind) (w : Watched) (place : ℕ) → watched_by (Some kind) ≡ Some w → watched_place w ≡ Some place → IsOf kind place
+pub watched_is_of : (kind : Kind) (w : Watched) (place : ℕ) → watched_by (Some kind) ≡ Some w → watched_place w ≡ Some place → IsOf kind place
 watched_is_of (Tcp2 n) w place e f = let p : Watched.Socket n ≡ w = cc in inl (ap watched_place p ∙ f)
 watched_is_of (Udp2 n) w place e f = let p : Watched.Udp n ≡ w = cc in inl (ap watched_place p ∙ f)
 watched_is_of (Lookup n) w place e f = let p : Watched.Lookup n ≡ w = cc in inl (ap watched_place p ∙ f)
@@ -256,8 +259,14 @@ module _ (t : HandleTable) (records : List Record) (i : Owned t records) where
       by_kind _ s n = absurd (cc)
 
   -- so the record of each live handle is there
-  pub named_stays : (handle place : ℕ) (kind : Kind) → kind_at t handle ≡ Some kind → named_by kind ≡ Some place → Stays (slice_get records place)
-  named_stays handle place kind e named = let k = names_live handle place kind e named in i.there k.0 place k.1.0 k.1.1
+  pub named_record : (handle place : ℕ) (kind : Kind) → kind_at t handle ≡ Some kind → named_by kind ≡ Some place → IsRecord (slice_get records place)
+  named_record handle place kind e named = let k = names_live handle place kind e named in names_record k.0.value place (slice_get records place) k.1.1 (i.there k.0 place k.1.0 k.1.1)
+
+  -- and is what the handle needs
+  pub named_there : (handle place : ℕ) (kind : Kind) → kind_at t handle ≡ Some kind → IsOf kind place → Names kind (slice_get records place)
+  named_there handle place kind e its =
+      let s = slot_of t.live handle kind e in subst (λ (k : Kind). Names k (slice_get records place)) s.value
+      (i.there s.slot place s.live_one (subst (λ (k : Kind). IsOf k place) (sym s.value) its))
 
   -- and where nothing is of it nothing names it
   pub none_named : (place : ℕ) → NoneOf t place → (handle : ℕ) (kind : Kind) → kind_at t handle ≡ Some kind → named_by kind ≡ Some place → ⊥

@@ -4,7 +4,7 @@ use Rattle.wasi_walks.proofs.Words.{Allows, Answer, Asks, Bool, End, Entry, Err,
 use Rattle.wasi_walks.proofs.Words.{Item, List, None, Ok, OpId, Operation, Option, Pending, Ready, Result, Some}
 use Rattle.wasi_walks.proofs.Words.{Stop, [], allows_if, allows_keep, allows_then, arith}
 use Rattle.wasi_walks.proofs.Words.{bind, false, if◌then◌else◌, is_wildcard, length, min, poll_asks}
-use Rattle.wasi_walks.proofs.Words.{refl, subst, suc, sym, told_addr, true, zero, ℕ, ⊤, ◌++◌, ◌∷◌, ◌≡◌, ◌≤◌}
+use Rattle.wasi_walks.proofs.Words.{refl, subst, suc, sym, told_addr, true, zero, ℕ, ◌++◌, ◌∷◌, ◌≡◌, ◌≤◌}
 use Rattle.std.specs.Prelude.{◌-◌}
 use Rattle.wasi_world.specs.declared.datagram.IncomingDatagram.{IncomingDatagram}
 use Rattle.wasi_world.specs.declared.ids.Ids.{Ids}
@@ -51,11 +51,6 @@ module _ (Exact : Type 0) (side : OpId) (from : ℕ) where
   -- and its stream holds what was received from the place on
   abbrev pub Holds : ℕ → List Entry → Socket × Incoming → Type 0
   Holds at es s = SocketOn es s.0 × (at ≤ length es) × (Exact → ReceivingLate at es side s.1.receiving)
-
-  -- what has come was received from the place on
-  abbrev Comes : ℕ → List Entry → Result (Answer IncomingDatagram) ErrorCode → Type 0
-  Comes at es (Ok (Ready d)) = ReceivedLate at es side d
-  Comes at es _ = ⊤
 
   on_more : (socket : Socket) (es fs : List Entry) → SocketOn es socket → SocketOn (es ++ fs) socket
   on_more socket es fs k = (k.0, maker_more es fs socket.maker socket.family side k.1)

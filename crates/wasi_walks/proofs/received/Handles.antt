@@ -1,6 +1,6 @@
 -- Handles in the table: each is older than the next one; and the handle under which datagram streams are made, or are to be made by a
 -- pending call, is of no other UDP socket than theirs.
-use Rattle.wasi_walks.proofs.Words.{End, Err, ErrorCode, HandleTable, Item, Kind, List, None, Ok, Operation, Option, Result, Some, Standing, StandingCall, Stop, Step, Tcp2Socket}
+use Rattle.wasi_walks.proofs.Words.{End, Err, ErrorCode, HandleTable, Item, Kind, List, None, Ok, Operation, Option, Result, Some, Standing, StandingCall, Step, Tcp2Socket}
 use Rattle.wasi_walks.proofs.Words.{ap, arith, inl, inr, kind_at, refl, standing_as, subst, sym, table_parent, with_handle, without_handle, ℕ, ⊤, ◌<◌, ◌≤◌, ◌≡◌, ◌∙◌, ◌⊎◌}
 use Rattle.wasi_table.proofs.Tables.{value_without}
 use Rattle.wasi_udp.specs.Create.{Create}
@@ -154,8 +154,3 @@ polled_same P h _ _ (walk.ReceivesOn place o inc op g e s) end i = i
 pub begun_same : (P : HandleTable → Made → Option Standing → Type 0) (h : Here) (made : Result Create ErrorCode) → P h.machine.table h.made h.machine.store.standing → P (udp_begun h made).machine.table (udp_begun h made).made (udp_begun h made).machine.store.standing
 begun_same P h (Ok create) i = i
 begun_same P h (Err c) i = i
-
--- what an accept has made
-pub accept_makes : (t : HandleTable) (place : ℕ) (made : Result ℕ Stop) → MakesUnder t (made_so place made)
-accept_makes t place (Ok handle) = tt
-accept_makes t place (Err why) = tt

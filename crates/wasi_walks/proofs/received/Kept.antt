@@ -1,4 +1,6 @@
 -- The law that an incoming stream holds only what came from the remote address that it keeps.
+use Rattle.wasi_walks.proofs.walks.Asked.{Asked, Questions, SetsBacklog, Learns, Closes, MarksOne, AsksCreate, MarksAccepted, Polls, Turns, GivesUp, UdpQuestions, UdpLearns, UdpPeers, UdpCloses, UdpBegins, MarksUdp, MarksStream, MarksError, UdpGivesUp, Resolves, Looks}
+use Rattle.wasi_walks.proofs.Words.{Asks}
 use Rattle.wasi_walks.proofs.Words.{Allows, Done, End, Entry, Err, ErrorCode, ErrorValue, Item, List, Machine, None, Not, Ok, OpId, Operation, Option, Refused, Result, Socket, Some, Step, Tcp2, Tcp2Socket, Waits, WasiSocketsCtx}
 use Rattle.wasi_walks.proofs.Words.{allows_then, allows_weaker, ap, created_asks, first_state, give_up_asks, inl, inr, length, machine_asks, make_asks, new_asks, new_record, own_of, poll_asks, refl, side_at, side_of, subst, sym, told_done, true, turn_asks}
 use Rattle.wasi_walks.proofs.Words.{with_listening, with_writer, ℕ, ⊤, ◌+◌, ◌∙◌, ◌≡◌}
@@ -17,7 +19,6 @@ use Rattle.wasi_records.specs.declared.records.Record.{Record}
 use Rattle.wasi_records.specs.declared.udp.OpenUdp.{OpenUdp}
 use Rattle.wasi_records.specs.declared.udp.Udp2Socket.{Udp2Socket}
 use Rattle.wasi_world.specs.Operation.{is_wanted}
-use Rattle.wasi_walks.proofs.UdpLists.{udp_get_set, udp_of_put, udp_of_push, udp_split}
 use Rattle.wasi_walks.proofs.claims.Law.{Base, begins_on_names, on_along, on_names}
 use Rattle.wasi_walks.proofs.claims.Lines.{BaseBetween, base_over, base_starts, first_base}
 use Rattle.wasi_walks.proofs.fits.Law.{whatever}
@@ -25,11 +26,11 @@ use Rattle.wasi_walks.proofs.fits.Polls.{Anything}
 use Rattle.wasi_walks.proofs.fits.Records.{FitReceiving, ReceiveOn}
 use Rattle.wasi_walks.proofs.fits.UdpFits.{kept_op}
 use Rattle.wasi_walks.proofs.received.Wanted.{IncomingWanted, ReceivingWanted, poll_wanted}
-use Rattle.wasi_walks.proofs.walks.Law.{BeginsWrites, Law}
+use Rattle.wasi_walks.proofs.walks.Law.{BeginsWrites, Law, Rests, begins_by}
 use Rattle.wasi_walks.proofs.walks.Moves as walk
 use Rattle.wasi_walks.proofs.walks.Moves.{Held, Here, Kept, Move, SameSockets, UdpPlain, came_from, came_in, came_of, joined, put_udp, receive_op, receiving_in, udp_begun}
-use Rattle.wasi_walks.proofs.walks.OnBase.{Above}
 use Rattle.wasi_walks.proofs.walks.Steps.{machine_walks, may_while}
+use Rattle.wasi_walks.proofs.Places.{push_found, push_was, put_found, put_was, tcp_sort, udp_sort}
 
 abbrev pub UdpWanted : Udp2Socket → Type 0
 UdpWanted (Udp2Socket.Open o) = IncomingWanted o.incoming
@@ -41,19 +42,19 @@ AllWanted records = (place : ℕ) (u : Udp2Socket) → udp2_at records place ≡
 
 -- == a record changes, or joins them
 put_tcp : (records : List Record) (place : ℕ) (now : Tcp2Socket) → AllWanted records → AllWanted (tcp2_put records place now)
-put_tcp records place now k i u e = k i u (udp_of_put records place now i u e)
+put_tcp records place now k i u e = k i u (put_was tcp_sort udp_sort (λ t. refl) records place now i u e)
 
 push_tcp : (records : List Record) (now : Tcp2Socket) → AllWanted records → AllWanted (tcp2_pushed records now)
-push_tcp records now k i u e = k i u (udp_of_push records now i u e)
+push_tcp records now k i u e = k i u (push_was tcp_sort udp_sort (λ t. refl) records now i u e)
 
 put_udps : (records : List Record) (place : ℕ) (now : Udp2Socket) → UdpWanted now → AllWanted records → AllWanted (udp2_put records place now)
-put_udps records place now f k i u e = elim (udp_get_set records place now i u e) [ inl p ↦ subst UdpWanted p.1 f | inr p ↦ k i u p ]
+put_udps records place now f k i u e = elim (put_found udp_sort records place now i u e) [ inl p ↦ subst UdpWanted p.1 f | inr p ↦ k i u p ]
 
 same_wanted : {new : LookupOp → Type 0} (old now : List Record) → SameSockets new old now → AllWanted old → AllWanted now
 same_wanted old now s k i u e = k i u (sym (s.udp i) ∙ e)
 
 begun_wanted : (h : Here) (made : Result Create ErrorCode) → AllWanted h.machine.store.records → AllWanted (udp_begun h made).machine.store.records
-begun_wanted h (Ok create) k = λ i u e. elim (udp_split h.machine.store.records (Udp2Socket.Creating create) i u e) [ inl p ↦ k i u p | inr p ↦ subst UdpWanted p.0 tt ]
+begun_wanted h (Ok create) k = λ i u e. elim (push_found udp_sort h.machine.store.records (Udp2Socket.Creating create) i u e) [ inl p ↦ k i u p | inr p ↦ subst UdpWanted p.0 tt ]
 begun_wanted h (Err c) k = k
 
 -- a plain change
@@ -145,32 +146,37 @@ module _ (contexts : List WasiSocketsCtx) (line : ℕ) (origin : Step) where
       (whatever (λ made. ⊤) (λ made. tt) es (make_asks m.table own (Tcp2 (length m.store.records)) None (side_of socket))) (λ fs made k. push_tcp m.store.records (new_record socket) i)
 
   -- the law: the calls may be any
-  unfoldable wanteds : Above contexts line origin (λ es h. Base contexts line origin h)
+  wanteds_asks : (es : List Entry) (h : Here) (A : Type 0) (tree : Asks A) (end : A → Here)
+      → Asked contexts line origin es h A tree end → Base contexts line origin h → Wants h
+      → Allows (Anything) (λ fs x. (λ (es : List Entry) (h : Here). Wants h) fs (end x)) es tree
+  wanteds_asks es h _ _ _ (Questions place n r x c at g o q) b i = (tt, λ told f. i)
+  wanteds_asks es h _ _ _ (SetsBacklog place r x backlog at g s is) b i = (tt, λ told f. i)
+  wanteds_asks es h _ _ _ (Learns place r x at g e) b i = (tt, λ told f. put_tcp _ place _ i)
+  wanteds_asks es h _ _ _ (Closes place r x q g e) b i = (tt, λ told f. put_tcp _ place _ i)
+  wanteds_asks es h _ _ _ (MarksOne kind parent sock m) b i = whatever (λ made. Wants h) (λ made. i) es (make_asks h.machine.table (own_of line) kind parent sock)
+  wanteds_asks es h _ _ _ (AsksCreate ctx family c a o m) b i = allows_then Anything (λ fs made. ⊤) (λ fs done. AllWanted done.1.store.records) es (new_asks (own_of line) ctx family) (created_asks h.machine (own_of line)) (whatever (λ made. ⊤) (λ made. tt) es (new_asks (own_of line) ctx family)) (λ fs made k. joins fs h.machine (own_of line) made i)
+  wanteds_asks es h _ _ _ (MarksAccepted c s place r is e o g) b i = whatever (λ made. Wants h) (λ made. i) es (make_asks h.machine.table (own_of line) (Tcp2 place) (Some s) _)
+  wanteds_asks es h _ _ _ (Polls op after k) b i = polls_wanted es h op after k b i
+  wanteds_asks es h _ _ _ (Turns place r s g e) b i = whatever (λ done. AllWanted (tcp2_put h.machine.store.records place (with_writer r s done.1))) (λ done. put_tcp _ place _ i) es (turn_asks s.writer)
+  wanteds_asks es h _ _ _ (GivesUp place r q g) b i = whatever (λ done. AllWanted (tcp2_put h.machine.store.records place (with_listening r Not))) (λ done. put_tcp _ place _ i) es (give_up_asks r.listening)
+  wanteds_asks es h _ _ _ (UdpQuestions place n o c at g q) b i = (tt, λ told f. i)
+  wanteds_asks es h _ _ _ (UdpLearns place part o at g) b i = (tt, λ told f. put_udps _ place (Udp2Socket.Open _) (i place (Udp2Socket.Open o) g) i)
+  wanteds_asks es h _ _ _ (UdpPeers place o at g) b i = (tt, λ told f. put_udps _ place (Udp2Socket.Open _) (i place (Udp2Socket.Open o) g) i)
+  wanteds_asks es h _ _ _ (UdpCloses place o q g) b i = (tt, λ told f. put_udps _ place (Udp2Socket.Closed o.inner.side) tt i)
+  wanteds_asks es h _ _ _ (UdpBegins ctx family c may a o m) b i = (tt, λ told f. begun_wanted h (udp_after_create (own_of line) ctx.name family (told_done told)) i)
+  wanteds_asks es h _ _ _ (MarksUdp place u g) b i = whatever (λ made. Wants h) (λ made. i) es (make_asks h.machine.table (udp_side u) (Udp2 place) None (Some (udp_side u)))
+  wanteds_asks es h _ _ _ (MarksStream place n handle reached kind m new e) b i = whatever (λ made. Wants h) (λ made. i) es (make_asks h.machine.table (own_of n) kind (Some handle) _)
+  wanteds_asks es h _ _ _ (MarksError n handle place handles m k e f) b i = whatever (λ made. Wants h) (λ made. i) es (make_asks h.machine.table (own_of n) ErrorValue (Some handle) (side_at (tcp2_at h.machine.store.records place)))
+  wanteds_asks es h _ _ _ (UdpGivesUp place create q g) b i = whatever (λ done. AllWanted (udp2_put h.machine.store.records place (Udp2Socket.Closed create.operation.who.side))) (λ done. put_udps _ place _ tt i) es (create_cancel_asks create)
+  wanteds_asks es h _ _ _ (Resolves host records l same) b i = (tt, λ told f. same_wanted h.machine.store.records (records told) (same told) i)
+  wanteds_asks es h _ _ _ (Looks place op g) b i = (tt, λ told f. i)
+
+  unfoldable wanteds : Rests contexts line origin (λ es h. Base contexts line origin h)
   wanteds = record {
     P = Anything;
     Inv = λ es h. Wants h;
     moves = λ es h now m b i. moves_wanted h now m i;
-    asks = λ es h place n r x c at g o q b i. (tt, λ told f. i);
-    sets = λ es h place r x backlog at g s is b i. (tt, λ told f. i);
-    learns = λ es h place r x at g e b i. (tt, λ told f. put_tcp _ place _ i);
-    closes = λ es h place r x q g e b i. (tt, λ told f. put_tcp _ place _ i);
-    marks = λ es h kind parent sock m b i. whatever (λ made. Wants h) (λ made. i) es (make_asks h.machine.table (own_of line) kind parent sock);
-    creates = λ es h ctx family c a o m b i. allows_then Anything (λ fs made. ⊤) (λ fs done. AllWanted done.1.store.records) es (new_asks (own_of line) ctx family) (created_asks h.machine (own_of line)) (whatever (λ made. ⊤) (λ made. tt) es (new_asks (own_of line) ctx family)) (λ fs made k. joins fs h.machine (own_of line) made i);
-    accepted = λ es h c s place r is e o g b i. whatever (λ made. Wants h) (λ made. i) es (make_asks h.machine.table (own_of line) (Tcp2 place) (Some s) _);
-    polls = λ es h op after k b i. polls_wanted es h op after k b i;
-    turns = λ es h place r s g e b i. whatever (λ done. AllWanted (tcp2_put h.machine.store.records place (with_writer r s done.1))) (λ done. put_tcp _ place _ i) es (turn_asks s.writer);
-    gives_up = λ es h place r q g b i. whatever (λ done. AllWanted (tcp2_put h.machine.store.records place (with_listening r Not))) (λ done. put_tcp _ place _ i) es (give_up_asks r.listening);
-    udp_asks = λ es h place n o c at g q b i. (tt, λ told f. i);
-    udp_peers = λ es h place o at g b i. (tt, λ told f. put_udps _ place (Udp2Socket.Open _) (i place (Udp2Socket.Open o) g) i);
-    udp_learns = λ es h place part o at g b i. (tt, λ told f. put_udps _ place (Udp2Socket.Open _) (i place (Udp2Socket.Open o) g) i);
-    udp_closes = λ es h place o q g b i. (tt, λ told f. put_udps _ place (Udp2Socket.Closed o.inner.side) tt i);
-    udp_creates = λ es h ctx family c may a o m b i. (tt, λ told f. begun_wanted h (udp_after_create (own_of line) ctx.name family (told_done told)) i);
-    udp_marks = λ es h place u g b i. whatever (λ made. Wants h) (λ made. i) es (make_asks h.machine.table (udp_side u) (Udp2 place) None (Some (udp_side u)));
-    stream_marks = λ es h place n handle reached kind m new e b i. whatever (λ made. Wants h) (λ made. i) es (make_asks h.machine.table (own_of n) kind (Some handle) _);
-    error_marks = λ es h n handle place handles m k e f b i. whatever (λ made. Wants h) (λ made. i) es (make_asks h.machine.table (own_of n) ErrorValue (Some handle) (side_at (tcp2_at h.machine.store.records place)));
-    udp_gives_up = λ es h place create q g b i. whatever (λ done. AllWanted (udp2_put h.machine.store.records place (Udp2Socket.Closed create.operation.who.side))) (λ done. put_udps _ place _ tt i) es (create_cancel_asks create);
-    lookups = λ es h host l b i. (tt, λ told f records s. same_wanted h.machine.store.records records s i);
-    looks = λ es h place op g b i. (tt, λ told f. i);
+    asks = wanteds_asks;
   }
 
   wanted_law : Law contexts line origin
@@ -178,7 +184,7 @@ module _ (contexts : List WasiSocketsCtx) (line : ℕ) (origin : Step) where
 
   begins_wanted : BeginsWrites wanted_law
   unfolding wanted_law wanteds
-  begins_wanted = begins_on_names contexts line origin wanteds (record { begins = λ es h place n r s half permit bytes at g e w within used b i. put_tcp _ place _ i })
+  begins_wanted = begins_on_names contexts line origin wanteds (begins_by wanteds (λ es h place n r s half permit bytes at g e w within used b i. put_tcp _ place _ i))
 
   -- what a line leaves
   pub line_wanted : (m : Machine) (es : List Entry) → BaseBetween line m × AllWanted m.store.records → Allows Anything (λ fs done. BaseBetween (line + 1) done.1 × AllWanted done.1.store.records) es (machine_asks contexts m line origin)

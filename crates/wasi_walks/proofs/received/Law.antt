@@ -1,4 +1,5 @@
 -- The law that what the incoming stream of a network socket holds was received from a place of the log on.
+use Rattle.wasi_walks.proofs.walks.Asked.{Asked, Questions, SetsBacklog, Learns, Closes, MarksOne, AsksCreate, MarksAccepted, Polls, Turns, GivesUp, UdpQuestions, UdpLearns, UdpPeers, UdpCloses, UdpBegins, MarksUdp, MarksStream, MarksError, UdpGivesUp, Resolves, Looks}
 use Rattle.wasi_walks.proofs.Words.{refl, Option, HoldsAccept, HoldsConnect, IsAcceptOn, Job, HandleTable, Kind, Streams, WriteState, allows_keep, arith, inl, inr, ⊤, ◌⊎◌, ◌≤◌, Allows, Asks, Call, Done, End, Entry, Err, ErrorCode, ErrorValue, IsDoneOrCode, Item, List, Machine}
 use Rattle.wasi_walks.proofs.Words.{None, Not, Ok, OpId, Operation, Refused, Result, Socket, SocketAddressFamily, Some, Step, Tcp2, Tcp2Socket, Told, Waits}
 use Rattle.wasi_walks.proofs.Words.{WasiSocketsCtx, [], allows_then, allows_weaker, ap, bind_progress, connect_ended, accept_ended, create_asks, created_asks, entry, give_up_asks, length, make_asks}
@@ -23,8 +24,7 @@ use Rattle.wasi_walks.proofs.claims.Law.{begins_on_two, Named, Base, on_two, on_
 use Rattle.wasi_walks.proofs.fits.Polls.{Anything}
 use Rattle.wasi_walks.proofs.fits.Records.{FitProgress, FitListening, FitUdpProgress, FitConnecting, FitSending, UdpBindOn, UdpConnectOn, SendOn, FitReceiving, ReceiveOn}
 use Rattle.wasi_walks.proofs.fits.UdpFits.{learnt_side}
-use Rattle.wasi_walks.proofs.walks.Law.{BeginsWrites, Law, Walks}
-use Rattle.wasi_walks.proofs.walks.OnBase.{Above}
+use Rattle.wasi_walks.proofs.walks.Law.{BeginsWrites, Law, Rests, Walks, begins_by}
 use Rattle.wasi_walks.proofs.walks.Moves as walk
 use Rattle.wasi_walks.proofs.walks.Moves.{IsQuestionOf, IsUdpQuestionOf, Found, send_op, sending_in, FoundUdp, Held, Here, Move, Used, accepting_now, closed_record, joined, listen_after, opened_by, part_of, receive_op, receiving_in, udp_begun}
 use Rattle.wasi_walks.proofs.remotes.Law.{begins_kept, remotes}
@@ -198,32 +198,38 @@ module _ (side : OpId) (from : ℕ) where
         receives_late es h place o inc op g e f its keeps (λ x k p q a c z. b.1.udps.one q.inner.side x k (Udp2Socket.Open p) (Udp2Socket.Open q) a c z refl) i (same_or_not o.inner.side side)
 
     -- the law: the calls may be any
-    unfoldable pub lates : Above contexts line origin (λ es h. Base contexts line origin h × Keeps es h.machine.store.records)
+    pub lates_asks : (es : List Entry) (h : Here) (A : Type 0) (tree : Asks A) (end : A → Here)
+        → Asked contexts line origin es h A tree end → Base contexts line origin h × Keeps es h.machine.store.records
+        → It es h.machine.store.records → Allows (Anything)
+        (λ fs x. (λ (es : List Entry) (h : Here). It es h.machine.store.records) fs (end x)) es tree
+    lates_asks es h _ _ _ (Questions place n r x c at g o q) b i = (tt, λ told f. one_late side from es (own_of n) c told _ (λ y. question_quiet line origin n x c q) i)
+    lates_asks es h _ _ _ (SetsBacklog place r x backlog at g s is) b i = (tt, λ told f. one_late side from es (own_of line) (Call.SetBacklog x backlog) told _ (λ y. tt) i)
+    lates_asks es h _ _ _ (Learns place r x at g e) b i = (tt, λ told f. put_tcp side from _ _ place _ (one_late side from es (own_of line) (Call.Local x) told _ (λ y. tt) i))
+    lates_asks es h _ _ _ (Closes place r x q g e) b i = (tt, λ told f. put_tcp side from _ _ place (closed_record r) (one_late side from es (own_of line) (Call.Close x) told _ (λ y. tt) i))
+    lates_asks es h _ _ _ (MarksOne kind parent sock m) b i = marks_late _ es h.machine.table (own_of line) kind parent sock i
+    lates_asks es h _ _ _ (AsksCreate ctx family c a o m) b i = creates_late es h.machine (own_of line) ctx family i
+    lates_asks es h _ _ _ (MarksAccepted c s place r is e o g) b i = marks_late _ es h.machine.table (own_of line) (Tcp2 place) (Some s) _ i
+    lates_asks es h _ _ _ (Polls op after k) b i = polls_late es h op after k b.0 b.1 i
+    lates_asks es h _ _ _ (Turns place r s g e) b i = allows_weaker Anything (λ fs done. It fs h.machine.store.records) (λ fs done. It fs (tcp2_put h.machine.store.records place (with_writer r s done.1))) (λ fs done k. put_tcp side from fs _ place _ k) es (turn_asks s.writer) (along _ es (turn_asks s.writer) i (turn_silent side (IsHeld side h.machine.store.records) NoName es s.writer (writer_apart line es h place r s g e b.0.1 b.1)))
+    lates_asks es h _ _ _ (GivesUp place r q g) b i = allows_weaker Anything (λ fs done. It fs h.machine.store.records) (λ fs done. It fs (tcp2_put h.machine.store.records place (with_listening r Not))) (λ fs done k. put_tcp side from fs _ place _ k) es (give_up_asks r.listening) (along _ es (give_up_asks r.listening) i (given_up_silent side (IsHeld side h.machine.store.records) NoName es r.listening))
+    lates_asks es h _ _ _ (UdpQuestions place n o c at g q) b i = (tt, λ told f. one_late side from es (own_of n) c told _ (λ y. udp_question_quiet line origin n o.inner.side c q) i)
+    lates_asks es h _ _ _ (UdpLearns place part o at g) b i = (tt, λ told f. (let k = one_late side from es (part_of line part) (Call.Local o.inner.side) told _ (λ y. tt) i in put_udps side from _ _ place (Udp2Socket.Open _) (λ q. k.udps place (Udp2Socket.Open o) g (sym (learnt_side o.inner (told_addr told)) ∙ q)) k))
+    lates_asks es h _ _ _ (UdpPeers place o at g) b i = (tt, λ told f. (let k = one_late side from es (own_of line) (Call.Peer o.inner.side) told _ (λ y. tt) i in put_udps side from _ _ place (Udp2Socket.Open _) (k.udps place (Udp2Socket.Open o) g) k))
+    lates_asks es h _ _ _ (UdpCloses place o q g) b i = (tt, λ told f. put_udps side from _ _ place (Udp2Socket.Closed o.inner.side) tt (one_late side from es (own_of line) (Call.Close o.inner.side) told _ (λ y. tt) i))
+    lates_asks es h _ _ _ (UdpBegins ctx family c may a o m) b i = (tt, λ told f. begun_late es h (own_of line) ctx.name family told f i)
+    lates_asks es h _ _ _ (MarksUdp place u g) b i = marks_late _ es h.machine.table (udp_side u) (Udp2 place) None (Some (udp_side u)) i
+    lates_asks es h _ _ _ (MarksStream place n handle reached kind m new e) b i = marks_late _ es h.machine.table (own_of n) kind (Some handle) _ i
+    lates_asks es h _ _ _ (MarksError n handle place handles m k e f) b i = marks_late _ es h.machine.table (own_of n) ErrorValue (Some handle) _ i
+    lates_asks es h _ _ _ (UdpGivesUp place create q g) b i = allows_weaker Anything (λ fs done. It fs h.machine.store.records) (λ fs done. It fs (udp2_put h.machine.store.records place (Udp2Socket.Closed create.operation.who.side))) (λ fs done k. put_udps side from fs _ place (Udp2Socket.Closed create.operation.who.side) tt k) es (create_cancel_asks create) (along _ es (create_cancel_asks create) i (cancelled_silent side (IsHeld side h.machine.store.records) NoName es create))
+    lates_asks es h _ _ _ (Resolves host records l same) b i = (tt, λ told f. same_late side from _ _ (records told) (same told) (one_late side from es (own_of line) (Call.Lookup host) told _ (λ y. tt) i))
+    lates_asks es h _ _ _ (Looks place op g) b i = (tt, λ told f. one_late side from es op.id (Call.Lookup op.host) told _ (λ y. tt) i)
+
+    unfoldable pub lates : Rests contexts line origin (λ es h. Base contexts line origin h × Keeps es h.machine.store.records)
     lates = record {
       P = Anything;
       Inv = λ es h. It es h.machine.store.records;
       moves = λ es h now m b i. moves_late es h now m i;
-      asks = λ es h place n r x c at g o q b i. (tt, λ told f. one_late side from es (own_of n) c told _ (λ y. question_quiet line origin n x c q) i);
-      sets = λ es h place r x backlog at g s is b i. (tt, λ told f. one_late side from es (own_of line) (Call.SetBacklog x backlog) told _ (λ y. tt) i);
-      learns = λ es h place r x at g e b i. (tt, λ told f. put_tcp side from _ _ place _ (one_late side from es (own_of line) (Call.Local x) told _ (λ y. tt) i));
-      closes = λ es h place r x q g e b i. (tt, λ told f. put_tcp side from _ _ place (closed_record r) (one_late side from es (own_of line) (Call.Close x) told _ (λ y. tt) i));
-      marks = λ es h kind parent sock m b i. marks_late _ es h.machine.table (own_of line) kind parent sock i;
-      creates = λ es h ctx family c a o m b i. creates_late es h.machine (own_of line) ctx family i;
-      accepted = λ es h c s place r is e o g b i. marks_late _ es h.machine.table (own_of line) (Tcp2 place) (Some s) _ i;
-      polls = λ es h op after k b i. polls_late es h op after k b.0 b.1 i;
-      turns = λ es h place r s g e b i. allows_weaker Anything (λ fs done. It fs h.machine.store.records) (λ fs done. It fs (tcp2_put h.machine.store.records place (with_writer r s done.1))) (λ fs done k. put_tcp side from fs _ place _ k) es (turn_asks s.writer) (along _ es (turn_asks s.writer) i (turn_silent side (IsHeld side h.machine.store.records) NoName es s.writer (writer_apart line es h place r s g e b.0.1 b.1)));
-      gives_up = λ es h place r q g b i. allows_weaker Anything (λ fs done. It fs h.machine.store.records) (λ fs done. It fs (tcp2_put h.machine.store.records place (with_listening r Not))) (λ fs done k. put_tcp side from fs _ place _ k) es (give_up_asks r.listening) (along _ es (give_up_asks r.listening) i (given_up_silent side (IsHeld side h.machine.store.records) NoName es r.listening));
-      udp_asks = λ es h place n o c at g q b i. (tt, λ told f. one_late side from es (own_of n) c told _ (λ y. udp_question_quiet line origin n o.inner.side c q) i);
-      udp_peers = λ es h place o at g b i. (tt, λ told f. (let k = one_late side from es (own_of line) (Call.Peer o.inner.side) told _ (λ y. tt) i in put_udps side from _ _ place (Udp2Socket.Open _) (k.udps place (Udp2Socket.Open o) g) k));
-      udp_learns = λ es h place part o at g b i. (tt, λ told f. (let k = one_late side from es (part_of line part) (Call.Local o.inner.side) told _ (λ y. tt) i in put_udps side from _ _ place (Udp2Socket.Open _) (λ q. k.udps place (Udp2Socket.Open o) g (sym (learnt_side o.inner (told_addr told)) ∙ q)) k));
-      udp_closes = λ es h place o q g b i. (tt, λ told f. put_udps side from _ _ place (Udp2Socket.Closed o.inner.side) tt (one_late side from es (own_of line) (Call.Close o.inner.side) told _ (λ y. tt) i));
-      udp_creates = λ es h ctx family c may a o m b i. (tt, λ told f. begun_late es h (own_of line) ctx.name family told f i);
-      udp_marks = λ es h place u g b i. marks_late _ es h.machine.table (udp_side u) (Udp2 place) None (Some (udp_side u)) i;
-      stream_marks = λ es h place n handle reached kind m new e b i. marks_late _ es h.machine.table (own_of n) kind (Some handle) _ i;
-      error_marks = λ es h n handle place handles m k e f b i. marks_late _ es h.machine.table (own_of n) ErrorValue (Some handle) _ i;
-      udp_gives_up = λ es h place create q g b i. allows_weaker Anything (λ fs done. It fs h.machine.store.records) (λ fs done. It fs (udp2_put h.machine.store.records place (Udp2Socket.Closed create.operation.who.side))) (λ fs done k. put_udps side from fs _ place (Udp2Socket.Closed create.operation.who.side) tt k) es (create_cancel_asks create) (along _ es (create_cancel_asks create) i (cancelled_silent side (IsHeld side h.machine.store.records) NoName es create));
-      lookups = λ es h host l b i. (tt, λ told f records s. same_late side from _ _ records s (one_late side from es (own_of line) (Call.Lookup host) told _ (λ y. tt) i));
-      looks = λ es h place op g b i. (tt, λ told f. one_late side from es op.id (Call.Lookup op.host) told _ (λ y. tt) i);
+      asks = lates_asks;
     }
 
     pub later : Law contexts line origin
@@ -233,7 +239,7 @@ module _ (side : OpId) (from : ℕ) where
     -- a write that begins in a call of streams
     pub begins_later : BeginsWrites later
     unfolding later lates remotes
-    begins_later = begins_on_two contexts line origin (remotes contexts line origin) lates (begins_kept contexts line origin) (record { begins = λ es h place n r s half permit bytes at g e w within used b i. put_tcp side from es _ place _ i })
+    begins_later = begins_on_two contexts line origin (remotes contexts line origin) lates (begins_kept contexts line origin) (begins_by lates (λ es h place n r s half permit bytes at g e w within used b i. put_tcp side from es _ place _ i))
 
     -- what it says of a tree
     pub later_along : {A : Type 0} {h : Here} {end : A → Here} {asks : Asks A} → Walks later h end asks → (es : List Entry) → Base contexts line origin h → Keeps es h.machine.store.records → It es h.machine.store.records

@@ -1,4 +1,5 @@
 -- The law that what the incoming streams of a network socket hold was received after the marks of their handles.
+use Rattle.wasi_walks.proofs.walks.Asked.{Asked, Questions, SetsBacklog, Learns, Closes, MarksOne, AsksCreate, MarksAccepted, Polls, Turns, GivesUp, UdpQuestions, UdpLearns, UdpPeers, UdpCloses, UdpBegins, MarksUdp, MarksStream, MarksError, UdpGivesUp, Resolves, Looks}
 use Rattle.wasi_walks.proofs.Words.{Allows, Asks, Call, Entry, Err, ErrorCode, ErrorValue, Full, HandleTable, Kind, List, None, Not, Ok, OpId, Option, Result, Socket, Some, Step, Stop, Tcp2, Told, Trap, WasiSocketsCtx, []}
 use Rattle.wasi_walks.proofs.Words.{allows_if, allows_keep, allows_then, allows_weaker, ap, arith, bind, created_asks, entry, give_up_asks, inl, inr, is_full, kind_at, length, length-append, make_asks, name_of, new_asks, new_record, own_of, poll_asks}
 use Rattle.wasi_walks.proofs.Words.{refl, side_of, subst, sym, told_done, turn_asks, with_handle, with_listening, with_writer, ℕ, ◌++◌, ◌∷◌, ◌≡◌, ◌⊎◌}
@@ -11,7 +12,6 @@ use Rattle.wasi_host.specs.declared.kind.Kind.TheVariants.{Incoming, Udp2}
 use Rattle.wasi_records.specs.declared.records.Record.{Record}
 use Rattle.wasi_records.specs.declared.udp.OpenUdp.{OpenUdp}
 use Rattle.wasi_records.specs.declared.udp.Udp2Socket.{Udp2Socket}
-use Rattle.wasi_walks.proofs.UdpLists.{udp_set_same}
 use Rattle.wasi_walks.proofs.claims.Law.{begins_on_two, Base, on_two, on_two_along}
 use Rattle.wasi_walks.proofs.fits.Polls.{Anything}
 use Rattle.wasi_walks.proofs.remotes.Law.{begins_kept, remotes}
@@ -23,9 +23,9 @@ use Rattle.wasi_walks.proofs.received.Marks.{AreEarly, NotIncoming, Since, are_e
 use Rattle.wasi_walks.proofs.received.Polls.{NoName}
 use Rattle.wasi_walks.proofs.received.Silent.{new_silent}
 use Rattle.wasi_walks.proofs.received.State.{IsHeld, Late, OneEach, one_late, put_later, push_tcp, put_tcp, same_or_not}
-use Rattle.wasi_walks.proofs.walks.Law.{BeginsWrites, Law, Walks}
+use Rattle.wasi_walks.proofs.walks.Law.{BeginsWrites, Law, Rests, Walks, begins_by}
 use Rattle.wasi_walks.proofs.walks.Moves.{HasNewStream, Here, Made, MarksNext, Past, ToSend, Used, made_so, put, put_udp, udp_begun}
-use Rattle.wasi_walks.proofs.walks.OnBase.{Above}
+use Rattle.wasi_walks.proofs.Places.{put_again, udp_sort}
 
 module _ (side : OpId) (from : ℕ) where
   abbrev pub SinceIn : List Entry → Here → Type 0
@@ -81,7 +81,7 @@ module _ (side : OpId) (from : ℕ) where
 
     -- nothing is held, so any later place will do
     emptied : (fs : List Entry) → o.inner.side ≡ side → IncomingLate (length fs) fs side o.incoming → Late side (length fs) fs h.machine.store.records
-    emptied fs is holds = subst (Late side (length fs) fs) (udp_set_same h.machine.store.records place (Udp2Socket.Open o) at) (put_later side (length fs) fs h.machine.store.records place o o one at is (omega arith) (λ q. holds))
+    emptied fs is holds = subst (Late side (length fs) fs) (put_again udp_sort h.machine.store.records place (Udp2Socket.Open o) at) (put_later side (length fs) fs h.machine.store.records place o o one at is (omega arith) (λ q. holds))
 
     since : (told : Told) → ((fs : List Entry) → IncomingLate (length fs) fs side o.incoming) → (o.inner.side ≡ side) ⊎ (o.inner.side ≡ side → ⊥) → (let e : Entry = marked (Some o.inner.side) told in Since side from (es ++ e ∷ []) h.machine.store.records table)
     since told none (inl is) =
@@ -131,42 +131,48 @@ module _ (side : OpId) (from : ℕ) where
 
   module _ (contexts : List WasiSocketsCtx) (line : ℕ) (origin : Step) where
     -- the law: the calls may be any
-    unfoldable sinces : Above contexts line origin (λ es h. Base contexts line origin h × Keeps es h.machine.store.records)
+    sinces_asks : (es : List Entry) (h : Here) (A : Type 0) (tree : Asks A) (end : A → Here)
+        → Asked contexts line origin es h A tree end → Base contexts line origin h × Keeps es h.machine.store.records
+        → Inv es h → Allows (Anything) (λ fs x. (λ (es : List Entry) (h : Here). Inv es h) fs (end x)) es tree
+    unfolding lates
+    sinces_asks es h _ _ _ (Questions place n r x c at g o q) b i = (tt, λ told f. (longer es _ _ _ _ i.0 (((lates side i.0.start contexts line origin).asks es h _ _ _ (Questions place n r x c at g o q) b i.0.late).1 told f), i.1))
+    sinces_asks es h _ _ _ (SetsBacklog place r x backlog at g s is) b i = (tt, λ told f. (longer es _ _ _ _ i.0 (((lates side i.0.start contexts line origin).asks es h _ _ _ (SetsBacklog place r x backlog at g s is) b i.0.late).1 told f), i.1))
+    sinces_asks es h _ _ _ (Learns place r x at g e) b i = (tt, λ told f. (longer es _ _ _ _ i.0 (((lates side i.0.start contexts line origin).asks es h _ _ _ (Learns place r x at g e) b i.0.late).1 told f), i.1))
+    sinces_asks es h _ _ _ (Closes place r x q g e) b i = (tt, λ told f. (longer es _ _ _ _ i.0 (((lates side i.0.start contexts line origin).asks es h _ _ _ (Closes place r x q g e) b i.0.late).1 told f), i.1))
+    sinces_asks es h _ _ _ (MarksOne kind parent sock m) b i = marks_other es h (own_of line) kind parent sock (is_other side origin h kind parent sock m) i
+    sinces_asks es h _ _ _ (AsksCreate ctx family c a o m) b i =
+        allows_then Anything (λ fs made. Inv fs h) (λ fs done. Inv fs (record h { machine = done.1; own = Used })) es (new_asks (own_of line) ctx family) (created_asks h.machine (own_of line))
+        (kept h (λ made. h) es (new_asks (own_of line) ctx family) i (λ made. i.1) (λ fs made k. k) (along side i.0.start h.machine.store.records es (new_asks (own_of line) ctx family) i.0.late (new_silent side (IsHeld side h.machine.store.records) NoName es (own_of line) ctx family)))
+        (λ fs made k. joins fs h (own_of line) made m k)
+    sinces_asks es h _ _ _ (MarksAccepted c s place r is e o g) b i = marks_so es h (own_of line) (Tcp2 place) (Some s) _ (made_so place) tt tt tt i
+    sinces_asks es h _ _ _ (Polls op after k) b i = kept h after es (poll_asks op) i (λ end. polled_same (λ t made standing. AreUnder t made standing) h op after k end i.1) (λ fs end. polled_same (λ t made standing. AreEarly side i.0.start fs t) h op after k end) ((lates side i.0.start contexts line origin).asks es h _ _ _ (Polls op after k) b i.0.late)
+    sinces_asks es h _ _ _ (Turns place r s g e) b i = kept h (λ done. put h place (with_writer r s done.1)) es (turn_asks s.writer) i (λ done. i.1) (λ fs done k. k) ((lates side i.0.start contexts line origin).asks es h _ _ _ (Turns place r s g e) b i.0.late)
+    sinces_asks es h _ _ _ (GivesUp place r q g) b i = kept h (λ done. put h place (with_listening r Not)) es (give_up_asks r.listening) i (λ done. i.1) (λ fs done k. k) ((lates side i.0.start contexts line origin).asks es h _ _ _ (GivesUp place r q g) b i.0.late)
+    sinces_asks es h _ _ _ (UdpQuestions place n o c at g q) b i = (tt, λ told f. (longer es _ _ _ _ i.0 (((lates side i.0.start contexts line origin).asks es h _ _ _ (UdpQuestions place n o c at g q) b i.0.late).1 told f), i.1))
+    sinces_asks es h _ _ _ (UdpLearns place part o at g) b i = (tt, λ told f. (longer es _ _ _ _ i.0 (((lates side i.0.start contexts line origin).asks es h _ _ _ (UdpLearns place part o at g) b i.0.late).1 told f), i.1))
+    sinces_asks es h _ _ _ (UdpPeers place o at g) b i = (tt, λ told f. (longer es _ _ _ _ i.0 (((lates side i.0.start contexts line origin).asks es h _ _ _ (UdpPeers place o at g) b i.0.late).1 told f), i.1))
+    sinces_asks es h _ _ _ (UdpCloses place o q g) b i = (tt, λ told f. (longer es _ _ _ _ i.0 (((lates side i.0.start contexts line origin).asks es h _ _ _ (UdpCloses place o q g) b i.0.late).1 told f), i.1))
+    sinces_asks es h _ _ _ (UdpBegins ctx family c may a o m) b i = (
+      tt,
+      λ told f.
+          let begun = udp_after_create (own_of line) ctx.name family (told_done told) in
+          let s = longer es _ _ _ _ i.0 (((lates side i.0.start contexts line origin).asks es h _ _ _ (UdpBegins ctx family c may a o m) b i.0.late).1 told f) in
+          (begun_same (λ t made standing. Since side from (es ++ entry (own_of line) (Call.UdpCreate ctx.name family) told ∷ []) (udp_begun h begun).machine.store.records t) h begun s, begun_same (λ t made standing. AreUnder t made standing) h begun i.1),
+    )
+    sinces_asks es h _ _ _ (MarksUdp place u g) b i = marks_so es h (udp_side u) (Udp2 place) None (Some (udp_side u)) (λ made. Past) tt tt tt i
+    sinces_asks es h _ _ _ (MarksStream place n handle reached kind m new e) b i = streams_so es h place n handle reached kind m new e (λ x y p q a c z. b.0.1.udps.one q.inner.side x y (Udp2Socket.Open p) (Udp2Socket.Open q) a c z refl) i
+    sinces_asks es h _ _ _ (MarksError n handle place handles m k e f) b i = marks_other es h (own_of n) ErrorValue (Some handle) _ tt i
+    sinces_asks es h _ _ _ (UdpGivesUp place create q g) b i = kept h (λ done. put_udp h place (Udp2Socket.Closed create.operation.who.side)) es (create_cancel_asks create) i (λ done. i.1) (λ fs done k. k) ((lates side i.0.start contexts line origin).asks es h _ _ _ (UdpGivesUp place create q g) b i.0.late)
+    sinces_asks es h _ _ _ (Resolves host records l same) b i = (tt, λ told f. (longer es _ _ _ _ i.0 (((lates side i.0.start contexts line origin).asks es h _ _ _ (Resolves host records l same) b i.0.late).1 told f), i.1))
+    sinces_asks es h _ _ _ (Looks place op g) b i = (tt, λ told f. (longer es _ _ _ _ i.0 (((lates side i.0.start contexts line origin).asks es h _ _ _ (Looks place op g) b i.0.late).1 told f), i.1))
+
+    unfoldable sinces : Rests contexts line origin (λ es h. Base contexts line origin h × Keeps es h.machine.store.records)
     unfolding lates
     sinces = record {
       P = Anything;
       Inv = λ es h. Inv es h;
       moves = λ es h now m b i. (record { start = i.0.start; on = i.0.on; late = (lates side i.0.start contexts line origin).moves es h now m b i.0.late; early = moves_early side i.0.start es h now m i.0.early }, moves_under h now m i.1);
-      asks = λ es h place n r x c at g o q b i. (tt, λ told f. (longer es _ _ _ _ i.0 (((lates side i.0.start contexts line origin).asks es h place n r x c at g o q b i.0.late).1 told f), i.1));
-      sets = λ es h place r x backlog at g s is b i. (tt, λ told f. (longer es _ _ _ _ i.0 (((lates side i.0.start contexts line origin).sets es h place r x backlog at g s is b i.0.late).1 told f), i.1));
-      learns = λ es h place r x at g e b i. (tt, λ told f. (longer es _ _ _ _ i.0 (((lates side i.0.start contexts line origin).learns es h place r x at g e b i.0.late).1 told f), i.1));
-      closes = λ es h place r x q g e b i. (tt, λ told f. (longer es _ _ _ _ i.0 (((lates side i.0.start contexts line origin).closes es h place r x q g e b i.0.late).1 told f), i.1));
-      marks = λ es h kind parent sock m b i. marks_other es h (own_of line) kind parent sock (is_other side origin h kind parent sock m) i;
-      creates = λ es h ctx family c a o m b i.
-          allows_then Anything (λ fs made. Inv fs h) (λ fs done. Inv fs (record h { machine = done.1; own = Used })) es (new_asks (own_of line) ctx family) (created_asks h.machine (own_of line))
-          (kept h (λ made. h) es (new_asks (own_of line) ctx family) i (λ made. i.1) (λ fs made k. k) (along side i.0.start h.machine.store.records es (new_asks (own_of line) ctx family) i.0.late (new_silent side (IsHeld side h.machine.store.records) NoName es (own_of line) ctx family)))
-          (λ fs made k. joins fs h (own_of line) made m k);
-      accepted = λ es h c s place r is e o g b i. marks_so es h (own_of line) (Tcp2 place) (Some s) _ (made_so place) tt tt tt i;
-      polls = λ es h op after k b i. kept h after es (poll_asks op) i (λ end. polled_same (λ t made standing. AreUnder t made standing) h op after k end i.1) (λ fs end. polled_same (λ t made standing. AreEarly side i.0.start fs t) h op after k end) ((lates side i.0.start contexts line origin).polls es h op after k b i.0.late);
-      turns = λ es h place r s g e b i. kept h (λ done. put h place (with_writer r s done.1)) es (turn_asks s.writer) i (λ done. i.1) (λ fs done k. k) ((lates side i.0.start contexts line origin).turns es h place r s g e b i.0.late);
-      gives_up = λ es h place r q g b i. kept h (λ done. put h place (with_listening r Not)) es (give_up_asks r.listening) i (λ done. i.1) (λ fs done k. k) ((lates side i.0.start contexts line origin).gives_up es h place r q g b i.0.late);
-      udp_asks = λ es h place n o c at g q b i. (tt, λ told f. (longer es _ _ _ _ i.0 (((lates side i.0.start contexts line origin).udp_asks es h place n o c at g q b i.0.late).1 told f), i.1));
-      udp_peers = λ es h place o at g b i. (tt, λ told f. (longer es _ _ _ _ i.0 (((lates side i.0.start contexts line origin).udp_peers es h place o at g b i.0.late).1 told f), i.1));
-      udp_learns = λ es h place part o at g b i. (tt, λ told f. (longer es _ _ _ _ i.0 (((lates side i.0.start contexts line origin).udp_learns es h place part o at g b i.0.late).1 told f), i.1));
-      udp_closes = λ es h place o q g b i. (tt, λ told f. (longer es _ _ _ _ i.0 (((lates side i.0.start contexts line origin).udp_closes es h place o q g b i.0.late).1 told f), i.1));
-      udp_creates = λ es h ctx family c may a o m b i. (
-        tt,
-        λ told f.
-            let begun = udp_after_create (own_of line) ctx.name family (told_done told) in
-            let s = longer es _ _ _ _ i.0 (((lates side i.0.start contexts line origin).udp_creates es h ctx family c may a o m b i.0.late).1 told f) in
-            (begun_same (λ t made standing. Since side from (es ++ entry (own_of line) (Call.UdpCreate ctx.name family) told ∷ []) (udp_begun h begun).machine.store.records t) h begun s, begun_same (λ t made standing. AreUnder t made standing) h begun i.1),
-      );
-      udp_marks = λ es h place u g b i. marks_so es h (udp_side u) (Udp2 place) None (Some (udp_side u)) (λ made. Past) tt tt tt i;
-      stream_marks = λ es h place n handle reached kind m new e b i. streams_so es h place n handle reached kind m new e (λ x y p q a c z. b.0.1.udps.one q.inner.side x y (Udp2Socket.Open p) (Udp2Socket.Open q) a c z refl) i;
-      error_marks = λ es h n handle place handles m k e f b i. marks_other es h (own_of n) ErrorValue (Some handle) _ tt i;
-      udp_gives_up = λ es h place create q g b i. kept h (λ done. put_udp h place (Udp2Socket.Closed create.operation.who.side)) es (create_cancel_asks create) i (λ done. i.1) (λ fs done k. k) ((lates side i.0.start contexts line origin).udp_gives_up es h place create q g b i.0.late);
-      lookups = λ es h host l b i. (tt, λ told f records s. (longer es _ _ _ _ i.0 (((lates side i.0.start contexts line origin).lookups es h host l b i.0.late).1 told f records s), i.1));
-      looks = λ es h place op g b i. (tt, λ told f. (longer es _ _ _ _ i.0 (((lates side i.0.start contexts line origin).looks es h place op g b i.0.late).1 told f), i.1));
+      asks = sinces_asks;
     }
 
     pub since_law : Law contexts line origin
@@ -176,7 +182,7 @@ module _ (side : OpId) (from : ℕ) where
     -- a write that begins in a call of streams
     pub begins_since : BeginsWrites since_law
     unfolding since_law sinces remotes
-    begins_since = begins_on_two contexts line origin (remotes contexts line origin) sinces (begins_kept contexts line origin) (record { begins = λ es h place n r s half permit bytes at g e w within used b i. (record { start = i.0.start; on = i.0.on; late = put_tcp side i.0.start es _ place _ i.0.late; early = i.0.early }, i.1) })
+    begins_since = begins_on_two contexts line origin (remotes contexts line origin) sinces (begins_kept contexts line origin) (begins_by sinces (λ es h place n r s half permit bytes at g e w within used b i. (record { start = i.0.start; on = i.0.on; late = put_tcp side i.0.start es _ place _ i.0.late; early = i.0.early }, i.1)))
 
     -- what it says of a tree
     pub since_along : {A : Type 0} {h : Here} {end : A → Here} {asks : Asks A} → Walks since_law h end asks → (es : List Entry) → Base contexts line origin h → Keeps es h.machine.store.records → Inv es h

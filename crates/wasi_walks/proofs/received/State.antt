@@ -11,13 +11,13 @@ use Rattle.wasi_records.specs.declared.name_lookup.LookupOp.{LookupOp}
 use Rattle.wasi_records.specs.declared.records.Record.{Record}
 use Rattle.wasi_records.specs.declared.udp.OpenUdp.{OpenUdp}
 use Rattle.wasi_records.specs.declared.udp.Udp2Socket.{Udp2Socket}
-use Rattle.wasi_walks.proofs.UdpLists.{udp_get_set, udp_of_put, udp_of_push, udp_split, udp_set_there}
 use Rattle.wasi_walks.proofs.fits.Polls.{Anything}
 use Rattle.wasi_walks.proofs.fits.UdpFits.{kept_op}
 use Rattle.wasi_walks.proofs.walks.Moves.{Kept, SameSockets, UdpPlain, came_from, came_in, came_of, receive_op, receiving_in}
 use Rattle.wasi_walks.specs.Received.{ReceivesNone}
 use Rattle.wasi_walks.proofs.received.Polls.{Elsewhere, NoName, spares_recv}
 use Rattle.wasi_walks.proofs.received.Late.{NoRecvOf, one_none, InHandLate, IncomingLate, ReceivedLate, ReceivingLate, incoming_late_more, long_more}
+use Rattle.wasi_walks.proofs.Places.{push_found, push_was, put_finds, put_found, put_was, tcp_sort, udp_sort}
 
 -- two names are the same or not
 pub same_or_not : (a b : OpId) → (a ≡ b) ⊎ (a ≡ b → ⊥)
@@ -110,21 +110,21 @@ module _ (side : OpId) where
 
   -- == a record changes, or joins them
   pub put_tcp : (from : ℕ) (es : List Entry) (records : List Record) (place : ℕ) (now : Tcp2Socket) → Late from es records → Late from es (tcp2_put records place now)
-  put_tcp from es records place now k = record { long = k.long; udps = λ i u e. k.udps i u (udp_of_put records place now i u e) }
+  put_tcp from es records place now k = record { long = k.long; udps = λ i u e. k.udps i u (put_was tcp_sort udp_sort (λ t. refl) records place now i u e) }
 
   pub push_tcp : (from : ℕ) (es : List Entry) (records : List Record) (now : Tcp2Socket) → Late from es records → Late from es (tcp2_pushed records now)
-  push_tcp from es records now k = record { long = k.long; udps = λ i u e. k.udps i u (udp_of_push records now i u e) }
+  push_tcp from es records now k = record { long = k.long; udps = λ i u e. k.udps i u (push_was tcp_sort udp_sort (λ t. refl) records now i u e) }
 
   pub put_udps : (from : ℕ) (es : List Entry) (records : List Record) (place : ℕ) (now : Udp2Socket) → UdpLate from es now → Late from es records → Late from es (udp2_put records place now)
   put_udps from es records place now f k = record {
     long = k.long;
-    udps = λ i u e. elim (udp_get_set records place now i u e) [ inl p ↦ subst (UdpLate from es) p.1 f | inr p ↦ k.udps i u p ];
+    udps = λ i u e. elim (put_found udp_sort records place now i u e) [ inl p ↦ subst (UdpLate from es) p.1 f | inr p ↦ k.udps i u p ];
   }
 
   pub push_udps : (from : ℕ) (es : List Entry) (records : List Record) (now : Udp2Socket) → UdpLate from es now → Late from es records → Late from es (udp2_pushed records now)
   push_udps from es records now f k = record {
     long = k.long;
-    udps = λ i u e. elim (udp_split records now i u e) [ inl p ↦ k.udps i u p | inr p ↦ subst (UdpLate from es) p.0 f ];
+    udps = λ i u e. elim (push_found udp_sort records now i u e) [ inl p ↦ k.udps i u p | inr p ↦ subst (UdpLate from es) p.0 f ];
   }
 
   pub same_late : {new : LookupOp → Type 0} (from : ℕ) (es : List Entry) (old now : List Record) → SameSockets new old now → Late from es old → Late from es now
@@ -152,11 +152,11 @@ module _ (side : OpId) where
       same_udp u v e = cc
 
       by_kind : (i : ℕ) (u : Udp2Socket) → udp2_at (udp2_put records place (Udp2Socket.Open now)) i ≡ Some u → UdpLate upto es u
-      by_kind i (Udp2Socket.Open p) e = λ q. elim (udp_get_set records place (Udp2Socket.Open now) i (Udp2Socket.Open p) e) [
+      by_kind i (Udp2Socket.Open p) e = λ q. elim (put_found udp_sort records place (Udp2Socket.Open now) i (Udp2Socket.Open p) e) [
         | inl a ↦ (let t : UdpLate upto es (Udp2Socket.Open p) = subst (UdpLate upto es) a.1 k in t q)
         | inr a ↦ (
             let at : place ≡ i = one place i o p g a (is ∙ sym q) in
-            let there : udp2_at (udp2_put records place (Udp2Socket.Open now)) i ≡ Some (Udp2Socket.Open now) = subst (λ (x : ℕ). udp2_at (udp2_put records place (Udp2Socket.Open now)) x ≡ Some (Udp2Socket.Open now)) at (udp_set_there records place (Udp2Socket.Open o) (Udp2Socket.Open now) g) in
+            let there : udp2_at (udp2_put records place (Udp2Socket.Open now)) i ≡ Some (Udp2Socket.Open now) = subst (λ (x : ℕ). udp2_at (udp2_put records place (Udp2Socket.Open now)) x ≡ Some (Udp2Socket.Open now)) at (put_finds udp_sort records place (Udp2Socket.Open o) (Udp2Socket.Open now) g) in
             let t : UdpLate upto es (Udp2Socket.Open p) = subst (UdpLate upto es) (same_udp (Udp2Socket.Open now) (Udp2Socket.Open p) (sym there ∙ e)) k in
             t q)
       ]

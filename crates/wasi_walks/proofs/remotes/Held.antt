@@ -28,7 +28,6 @@ use Rattle.wasi_records.specs.declared.udp.OpenUdp.{OpenUdp}
 use Rattle.wasi_records.specs.declared.udp.Udp2Socket.{Udp2Socket}
 use Rattle.wasi_world.specs.Operation.{Datagram, Given, Remote}
 use Rattle.wasi_walks.proofs.Lists.{has_front}
-use Rattle.wasi_walks.proofs.UdpLists.{udp_set_set, udp_set_there, udp_get_set}
 use Rattle.wasi_walks.proofs.claims.Law.{Named, Base}
 use Rattle.wasi_walks.proofs.fits.DatagramPolls.{wanted_left}
 use Rattle.wasi_walks.proofs.fits.Polls.{Anything}
@@ -39,6 +38,7 @@ use Rattle.wasi_walks.proofs.walks.Moves.{FoundUdp, Held, Here, accepting_now, l
 use Rattle.wasi_walks.proofs.remotes.Polls.{AreSilent, Unpeered, silent_poll}
 use Rattle.wasi_walks.proofs.remotes.ConnectPolls.{After, AsksOwn, connect_poll, none_kept, told_kept}
 use Rattle.wasi_walks.proofs.remotes.State.{ConnectsBy, Keeps, OpenKeeps, ReceivesFor, TcpKeeps, UdpKeeps, asked, kept, maker_of, put_tcp, put_udps, Spares}
+use Rattle.wasi_walks.proofs.Places.{put_finds, put_found, put_twice, udp_sort}
 
 -- == items that ask for no remote address
 -- a bind
@@ -169,11 +169,11 @@ remote_of _ = None
 
 -- its own remote address is that of no other socket
 spares_but : (line : ℕ) (h : Here) (place : ℕ) (o : OpenUdp) (c : Call) → FoundUdp h place (Udp2Socket.Open o) → Named line h → ((x : OpId) → c ≡ Call.Peer x → o.inner.side ≡ x) → Spares (udp2_put h.machine.store.records place (Udp2Socket.Open (forgotten o))) c
-spares_but line h place o c g n own k p e q = elim (udp_get_set h.machine.store.records place (Udp2Socket.Open (forgotten o)) k (Udp2Socket.Open p) e) [
+spares_but line h place o c g n own k p e q = elim (put_found udp_sort h.machine.store.records place (Udp2Socket.Open (forgotten o)) k (Udp2Socket.Open p) e) [
   | inl a ↦ sym (ap remote_of a.1)
   | inr a ↦ (
       let at : place ≡ k = n.udps.one p.inner.side place k (Udp2Socket.Open o) (Udp2Socket.Open p) g a (own p.inner.side q) refl in
-      let there : udp2_at (udp2_put h.machine.store.records place (Udp2Socket.Open (forgotten o))) k ≡ Some (Udp2Socket.Open (forgotten o)) = subst (λ (x : ℕ). udp2_at (udp2_put h.machine.store.records place (Udp2Socket.Open (forgotten o))) x ≡ Some (Udp2Socket.Open (forgotten o))) at (udp_set_there h.machine.store.records place (Udp2Socket.Open o) (Udp2Socket.Open (forgotten o)) g) in
+      let there : udp2_at (udp2_put h.machine.store.records place (Udp2Socket.Open (forgotten o))) k ≡ Some (Udp2Socket.Open (forgotten o)) = subst (λ (x : ℕ). udp2_at (udp2_put h.machine.store.records place (Udp2Socket.Open (forgotten o))) x ≡ Some (Udp2Socket.Open (forgotten o))) at (put_finds udp_sort h.machine.store.records place (Udp2Socket.Open o) (Udp2Socket.Open (forgotten o)) g) in
       let same : Some (Udp2Socket.Open (forgotten o)) ≡ Some (Udp2Socket.Open p) = sym there ∙ e in
       let is : Udp2Socket.Open (forgotten o) ≡ Udp2Socket.Open p = cc in
       sym (ap remote_of is))
@@ -196,7 +196,7 @@ connected_keeps fs o op (Refused c given, items) s k a = given_keeps fs o given 
 
 -- a socket is put back
 put_back : (fs : List Entry) (records : List Record) (place : ℕ) (out now : Udp2Socket) → UdpKeeps fs now → Keeps fs (udp2_put records place out) → Keeps fs (udp2_put records place now)
-put_back fs records place out now k m = subst (Keeps fs) (udp_set_set records place out now) (put_udps fs (udp2_put records place out) place now k m)
+put_back fs records place out now k m = subst (Keeps fs) (put_twice udp_sort records place out now) (put_udps fs (udp2_put records place out) place now k m)
 
 -- a connect is polled
 polled_connect : (line : ℕ) (es : List Entry) (h : Here) (place : ℕ) (o : OpenUdp) (op : Operation) → FoundUdp h place (Udp2Socket.Open o) → o.connecting ≡ Some op → UdpConnectOn o.inner.side op → Named line h → Keeps es h.machine.store.records
@@ -205,7 +205,7 @@ polled_connect line es h place o op g e its n i =
     let k : OpenKeeps es o = i.udps place (Udp2Socket.Open o) g in
     let out : List Record = udp2_put h.machine.store.records place (Udp2Socket.Open (forgotten o)) in
     allows_weaker Anything (λ fs ended. Keeps fs out × After op.who o.inner.maker o.inner.family o.inner fs ended) (λ fs ended. Keeps fs (udp2_put h.machine.store.records place (Udp2Socket.Open (udp_connect_left op o ended))))
-    (λ fs ended m. put_back fs h.machine.store.records place (Udp2Socket.Open (forgotten o)) (Udp2Socket.Open (udp_connect_left op o ended)) (connected_keeps fs o op ended its.of_side (m.0.udps place (Udp2Socket.Open (forgotten o)) (udp_set_there h.machine.store.records place (Udp2Socket.Open o) (Udp2Socket.Open (forgotten o)) g)) m.1) m.0) es (poll_asks op)
+    (λ fs ended m. put_back fs h.machine.store.records place (Udp2Socket.Open (forgotten o)) (Udp2Socket.Open (udp_connect_left op o ended)) (connected_keeps fs o op ended its.of_side (m.0.udps place (Udp2Socket.Open (forgotten o)) (put_finds udp_sort h.machine.store.records place (Udp2Socket.Open o) (Udp2Socket.Open (forgotten o)) g)) m.1) m.0) es (poll_asks op)
     (allows_keep (AsksOwn op.who o.inner.maker o.inner.family o.inner) Anything (λ fs. Keeps fs out) (λ fs ended. After op.who o.inner.maker o.inner.family o.inner fs ended)
     (λ fs own c t fits m a. asked fs out own c t (spares_but line h place o c g n (λ x p. sym its.of_side ∙ a x p)) m) (λ fs own c a. tt) es (poll_asks op)
     (put_udps es h.machine.store.records place (Udp2Socket.Open (forgotten o)) (forget es o k) i)

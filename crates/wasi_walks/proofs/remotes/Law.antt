@@ -1,4 +1,7 @@
 -- The law that the remote address that an open UDP socket keeps is what the network reported last.
+use Rattle.wasi_walks.proofs.walks.Law.{BeginsWrites, Rests, begins_by}
+use Rattle.wasi_walks.proofs.walks.Asked.{Asked, Questions, SetsBacklog, Learns, Closes, MarksOne, AsksCreate, MarksAccepted, Polls, Turns, GivesUp, UdpQuestions, UdpLearns, UdpPeers, UdpCloses, UdpBegins, MarksUdp, MarksStream, MarksError, UdpGivesUp, Resolves, Looks}
+use Rattle.wasi_walks.proofs.Words.{Asks}
 use Rattle.wasi_walks.proofs.Words.{Accepting, Accepts, Allows, Begins, Bool, Call, Done, End, Entry, Err, ErrorCode, Give, HandleTable}
 use Rattle.wasi_walks.proofs.Words.{ErrorValue, IpSocketAddress, IsDoneOrCode, Job, Kind, List, Listening, Machine, None, Not, Ok, OpId, Option}
 use Rattle.wasi_walks.proofs.Words.{ReadState, Refused, Result, Socket, SocketAddressFamily, Some, Step, Streams, Tcp2, Tcp2Socket, TcpSendStream, Told, Unclosed}
@@ -21,8 +24,6 @@ use Rattle.wasi_walks.proofs.Lists.{has_last}
 use Rattle.wasi_walks.proofs.claims.Law.{Named, Base}
 use Rattle.wasi_walks.proofs.fits.Polls.{Anything}
 use Rattle.wasi_walks.proofs.fits.UdpFits.{kept_op}
-use Rattle.wasi_walks.proofs.walks.Begins.{BeginsAbove}
-use Rattle.wasi_walks.proofs.walks.OnBase.{Above}
 use Rattle.wasi_walks.proofs.walks.Moves as walk
 use Rattle.wasi_walks.proofs.walks.Moves.{closed_record, udp_begun, opened_by, part_of, Found, Here, IsOn, IsQuestionOf, IsUdpQuestionOf, Move, OfReader, OfSocket, OfWriter, UdpPlain, joined, receiving_in}
 use Rattle.wasi_walks.proofs.remotes.Held.{peer_keeps, polls_keep}
@@ -210,39 +211,45 @@ module _ (contexts : List WasiSocketsCtx) (line : ℕ) (origin : Step) where
   moves_keep es _ _ _ b i = i
 
   -- the law: the calls may be any
-  unfoldable pub remotes : Above contexts line origin (λ es h. Base contexts line origin h)
+  pub remotes_asks : (es : List Entry) (h : Here) (A : Type 0) (tree : Asks A) (end : A → Here)
+      → Asked contexts line origin es h A tree end → Base contexts line origin h → Keeps es h.machine.store.records
+      → Allows (Anything) (λ fs x. (λ (es : List Entry) (h : Here). Keeps es h.machine.store.records) fs (end x)) es
+      tree
+  remotes_asks es h _ _ _ (Questions place n r side c at g o q) b i = (tt, λ told f. asked es _ (own_of n) c told (tcp_spares line origin n es h place r side c g o q b.1 i) i)
+  remotes_asks es h _ _ _ (SetsBacklog place r side backlog at g s is) b i = (tt, λ told f. asked es _ (own_of line) _ told (quiet _ _ tt) i)
+  remotes_asks es h _ _ _ (Learns place r side at g e) b i = (tt, λ told f. put_tcp _ _ place _ (i.tcps place r g) (asked es _ (own_of line) _ told (quiet _ _ tt) i))
+  remotes_asks es h _ _ _ (Closes place r side q g e) b i = (tt, λ told f. put_tcp _ _ place (closed_record r) (with_none (closed_record r) refl) (asked es _ (own_of line) _ told (quiet _ _ tt) i))
+  remotes_asks es h _ _ _ (MarksOne kind parent sock m) b i = marks_keep es _ h.machine.table (own_of line) kind parent sock i
+  remotes_asks es h _ _ _ (AsksCreate ctx family c a o m) b i = creates_keep es h.machine (own_of line) ctx family i
+  remotes_asks es h _ _ _ (MarksAccepted c s place r is e o g) b i = marks_keep es _ h.machine.table (own_of line) (Tcp2 place) (Some s) _ i
+  remotes_asks es h _ _ _ (Polls op after k) b i = polls_keep contexts line origin es h op after k b i
+  remotes_asks es h _ _ _ (Turns place r s g e) b i = turned_keeps es h place r s g e i
+  remotes_asks es h _ _ _ (GivesUp place r q g) b i =
+      allows_weaker Anything (λ fs done. Keeps fs h.machine.store.records × ⊤) (λ fs done. Keeps fs (tcp2_put h.machine.store.records place (with_listening r Not)))
+      (λ fs done k. put_tcp fs _ place (with_listening r Not) (i.tcps place r g) k.0) es _ (kept h.machine.store.records (λ fs done. ⊤) es (give_up_asks r.listening) i (given_up es r.listening))
+  remotes_asks es h _ _ _ (UdpQuestions place n o c at g q) b i = (tt, λ told f. asked es _ (own_of n) c told (quiet _ c (udp_question_quiet line origin n o.inner.side c q)) i)
+  remotes_asks es h _ _ _ (UdpLearns place part o at g) b i = (tt, λ told f. (let k = asked es h.machine.store.records (part_of line part) (Call.Local o.inner.side) told (quiet _ _ tt) i in put_udps _ _ place (Udp2Socket.Open _) (learnt_keeps _ o (told_addr told) (k.udps place (Udp2Socket.Open o) g)) k))
+  remotes_asks es h _ _ _ (UdpPeers place o at g) b i = (tt, λ told f. peer_keeps line es h place o (own_of line) told g b.1 i)
+  remotes_asks es h _ _ _ (UdpCloses place o q g) b i = (tt, λ told f. put_udps _ _ place (Udp2Socket.Closed o.inner.side) tt (asked es _ (own_of line) _ told (quiet _ _ tt) i))
+  remotes_asks es h _ _ _ (UdpBegins ctx family c may a o m) b i = (tt, λ told f. begun_keeps es h (own_of line) ctx.name family told f i)
+  remotes_asks es h _ _ _ (MarksUdp place u g) b i = marks_keep es _ h.machine.table (udp_side u) (Udp2 place) None (Some (udp_side u)) i
+  remotes_asks es h _ _ _ (MarksStream place n handle reached kind m new e) b i = marks_keep es _ h.machine.table (own_of n) kind (Some handle) _ i
+  remotes_asks es h _ _ _ (MarksError n handle place handles m k e f) b i = marks_keep es _ h.machine.table (own_of n) ErrorValue (Some handle) _ i
+  remotes_asks es h _ _ _ (UdpGivesUp place create q g) b i =
+      allows_weaker Anything (λ fs done. Keeps fs h.machine.store.records × ⊤) (λ fs done. Keeps fs (udp2_put h.machine.store.records place (Udp2Socket.Closed create.operation.who.side)))
+      (λ fs done k. put_udps fs _ place (Udp2Socket.Closed create.operation.who.side) tt k.0) es _ (kept h.machine.store.records (λ fs done. ⊤) es (create_cancel_asks create) i (cancelled_quiet es create))
+  remotes_asks es h _ _ _ (Resolves host records l same) b i = (tt, λ told f. records_keep _ _ (records told) (same told) (asked es _ (own_of line) _ told (quiet _ _ tt) i))
+  remotes_asks es h _ _ _ (Looks place op g) b i = (tt, λ told f. asked es _ op.id _ told (quiet _ _ tt) i)
+
+  unfoldable pub remotes : Rests contexts line origin (λ es h. Base contexts line origin h)
   remotes = record {
     P = Anything;
     Inv = λ es h. Keeps es h.machine.store.records;
     moves = moves_keep;
-    asks = λ es h place n r side c at g o q b i. (tt, λ told f. asked es _ (own_of n) c told (tcp_spares line origin n es h place r side c g o q b.1 i) i);
-    sets = λ es h place r side backlog at g s is b i. (tt, λ told f. asked es _ (own_of line) _ told (quiet _ _ tt) i);
-    learns = λ es h place r side at g e b i. (tt, λ told f. put_tcp _ _ place _ (i.tcps place r g) (asked es _ (own_of line) _ told (quiet _ _ tt) i));
-    closes = λ es h place r side q g e b i. (tt, λ told f. put_tcp _ _ place (closed_record r) (with_none (closed_record r) refl) (asked es _ (own_of line) _ told (quiet _ _ tt) i));
-    marks = λ es h kind parent sock m b i. marks_keep es _ h.machine.table (own_of line) kind parent sock i;
-    creates = λ es h ctx family c a o m b i. creates_keep es h.machine (own_of line) ctx family i;
-    accepted = λ es h c s place r is e o g b i. marks_keep es _ h.machine.table (own_of line) (Tcp2 place) (Some s) _ i;
-    polls = λ es h op after k b i. polls_keep contexts line origin es h op after k b i;
-    turns = λ es h place r s g e b i. turned_keeps es h place r s g e i;
-    gives_up = λ es h place r q g b i.
-        allows_weaker Anything (λ fs done. Keeps fs h.machine.store.records × ⊤) (λ fs done. Keeps fs (tcp2_put h.machine.store.records place (with_listening r Not)))
-        (λ fs done k. put_tcp fs _ place (with_listening r Not) (i.tcps place r g) k.0) es _ (kept h.machine.store.records (λ fs done. ⊤) es (give_up_asks r.listening) i (given_up es r.listening));
-    udp_asks = λ es h place n o c at g q b i. (tt, λ told f. asked es _ (own_of n) c told (quiet _ c (udp_question_quiet line origin n o.inner.side c q)) i);
-    udp_peers = λ es h place o at g b i. (tt, λ told f. peer_keeps line es h place o (own_of line) told g b.1 i);
-    udp_learns = λ es h place part o at g b i. (tt, λ told f. (let k = asked es h.machine.store.records (part_of line part) (Call.Local o.inner.side) told (quiet _ _ tt) i in put_udps _ _ place (Udp2Socket.Open _) (learnt_keeps _ o (told_addr told) (k.udps place (Udp2Socket.Open o) g)) k));
-    udp_closes = λ es h place o q g b i. (tt, λ told f. put_udps _ _ place (Udp2Socket.Closed o.inner.side) tt (asked es _ (own_of line) _ told (quiet _ _ tt) i));
-    udp_creates = λ es h ctx family c may a o m b i. (tt, λ told f. begun_keeps es h (own_of line) ctx.name family told f i);
-    udp_marks = λ es h place u g b i. marks_keep es _ h.machine.table (udp_side u) (Udp2 place) None (Some (udp_side u)) i;
-    stream_marks = λ es h place n handle reached kind m new e b i. marks_keep es _ h.machine.table (own_of n) kind (Some handle) _ i;
-    error_marks = λ es h n handle place handles m k e f b i. marks_keep es _ h.machine.table (own_of n) ErrorValue (Some handle) _ i;
-    udp_gives_up = λ es h place create q g b i.
-        allows_weaker Anything (λ fs done. Keeps fs h.machine.store.records × ⊤) (λ fs done. Keeps fs (udp2_put h.machine.store.records place (Udp2Socket.Closed create.operation.who.side)))
-        (λ fs done k. put_udps fs _ place (Udp2Socket.Closed create.operation.who.side) tt k.0) es _ (kept h.machine.store.records (λ fs done. ⊤) es (create_cancel_asks create) i (cancelled_quiet es create));
-    lookups = λ es h host l b i. (tt, λ told f records s. records_keep _ _ records s (asked es _ (own_of line) _ told (quiet _ _ tt) i));
-    looks = λ es h place op g b i. (tt, λ told f. asked es _ op.id _ told (quiet _ _ tt) i);
+    asks = remotes_asks;
   }
 
   -- a write that begins in a call of streams
-  pub begins_kept : BeginsAbove remotes
+  pub begins_kept : BeginsWrites remotes
   unfolding remotes
-  begins_kept = record { begins = λ es h place n r s half permit bytes at g e w within used b i. write_keeps es h place n r s half permit bytes g e w i }
+  begins_kept = begins_by remotes (λ es h place n r s half permit bytes at g e w within used b i. write_keeps es h place n r s half permit bytes g e w i)

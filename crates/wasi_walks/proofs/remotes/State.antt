@@ -14,13 +14,13 @@ use Rattle.wasi_records.specs.declared.records.Record.{Record}
 use Rattle.wasi_records.specs.declared.udp.OpenUdp.{OpenUdp}
 use Rattle.wasi_records.specs.declared.udp.Udp2Socket.{Udp2Socket}
 use Rattle.wasi_walks.specs.Licence.{UdpCreated}
-use Rattle.wasi_walks.proofs.Lists.{get_set, get_split, has_front}
-use Rattle.wasi_walks.proofs.UdpLists.{tcp_of_put, tcp_of_push, udp_of_put, udp_of_push, udp_get_set, udp_split}
+use Rattle.wasi_walks.proofs.Lists.{has_front}
 use Rattle.wasi_walks.proofs.walks.Moves.{Here, FoundUdp, SameSockets, WriterMoves, Collects, Permits, Lasts, LastsAfter, Closes, receiving_in}
 use Rattle.wasi_walks.proofs.fits.Polls.{Anything}
 use Rattle.wasi_walks.proofs.licence.State.{RemoteIs}
 use Rattle.wasi_walks.proofs.remotes.Polls.{NoPeer, Unpeered, AreSilent}
 use Rattle.wasi_walks.proofs.remotes.ConnectPolls.{ConnectLeft, remote_more, none_kept}
+use Rattle.wasi_walks.proofs.Places.{push_found, push_new, push_was, put_found, put_was, tcp_sort, udp_sort}
 
 -- == what is to be shown
 -- the remote address that an open UDP socket keeps is what the network reported last
@@ -122,29 +122,29 @@ maker_of es o k = UdpCreated o.inner.side Told.Done k.created
 -- a TCP socket changes
 pub put_tcp : (es : List Entry) (records : List Record) (place : ℕ) (now : Tcp2Socket) → TcpKeeps now → Keeps es records → Keeps es (tcp2_put records place now)
 put_tcp es records place now f k = record {
-  udps = λ i u e. k.udps i u (udp_of_put records place now i u e);
-  tcps = λ i r e. elim (get_set records place now i r e) [ inl p ↦ subst TcpKeeps p.1 f | inr p ↦ k.tcps i r p ];
+  udps = λ i u e. k.udps i u (put_was tcp_sort udp_sort (λ t. refl) records place now i u e);
+  tcps = λ i r e. elim (put_found tcp_sort records place now i r e) [ inl p ↦ subst TcpKeeps p.1 f | inr p ↦ k.tcps i r p ];
 }
 
 -- a TCP socket joins them
 pub push_tcp : (es : List Entry) (records : List Record) (now : Tcp2Socket) → TcpKeeps now → Keeps es records → Keeps es (tcp2_pushed records now)
 push_tcp es records now f k = record {
-  udps = λ i u e. k.udps i u (udp_of_push records now i u e);
-  tcps = λ i r e. elim (get_split records now i r e) [ inl p ↦ k.tcps i r p | inr p ↦ subst TcpKeeps p f ];
+  udps = λ i u e. k.udps i u (push_was tcp_sort udp_sort (λ t. refl) records now i u e);
+  tcps = λ i r e. elim (push_new tcp_sort records now i r e) [ inl p ↦ k.tcps i r p | inr p ↦ subst TcpKeeps p f ];
 }
 
 -- a UDP socket changes
 pub put_udps : (es : List Entry) (records : List Record) (place : ℕ) (now : Udp2Socket) → UdpKeeps es now → Keeps es records → Keeps es (udp2_put records place now)
 put_udps es records place now f k = record {
-  udps = λ i u e. elim (udp_get_set records place now i u e) [ inl p ↦ subst (UdpKeeps es) p.1 f | inr p ↦ k.udps i u p ];
-  tcps = λ i r e. k.tcps i r (tcp_of_put records place now i r e);
+  udps = λ i u e. elim (put_found udp_sort records place now i u e) [ inl p ↦ subst (UdpKeeps es) p.1 f | inr p ↦ k.udps i u p ];
+  tcps = λ i r e. k.tcps i r (put_was udp_sort tcp_sort (λ t. refl) records place now i r e);
 }
 
 -- a UDP socket joins them
 pub push_udps : (es : List Entry) (records : List Record) (now : Udp2Socket) → UdpKeeps es now → Keeps es records → Keeps es (udp2_pushed records now)
 push_udps es records now f k = record {
-  udps = λ i u e. elim (udp_split records now i u e) [ inl p ↦ k.udps i u p | inr p ↦ subst (UdpKeeps es) p.0 f ];
-  tcps = λ i r e. k.tcps i r (tcp_of_push records now i r e);
+  udps = λ i u e. elim (push_found udp_sort records now i u e) [ inl p ↦ k.udps i u p | inr p ↦ subst (UdpKeeps es) p.0 f ];
+  tcps = λ i r e. k.tcps i r (push_was udp_sort tcp_sort (λ t. refl) records now i r e);
 }
 
 -- the sockets among them stay the same

@@ -25,7 +25,6 @@ use Rattle.wasi_udp.specs.Connect.{connect_asks, connect_start, is_connectable}
 use Rattle.wasi_udp.specs.Shape.{Socket}
 use Rattle.wasi_udp.specs.Socket.{after_local, ask_bound, bound_asks, disconnect_asks, disconnect_in, is_connected, then_peer}
 use Rattle.wasi_walks.proofs.Lists.{value_front}
-use Rattle.wasi_walks.proofs.UdpLists.{udp_set_there}
 use Rattle.wasi_walks.specs.Licence.{IsDisconnect, IsUdpConnectTo}
 use Rattle.wasi_walks.proofs.walks.Here.{no_open}
 use Rattle.wasi_walks.proofs.walks.Moves.{StreamIsMade, StreamMoves, EndsConnect, HasNewStream, Here, ToConnect, ToSend, ToStream, Own, put_udp, FoundUdp, NoStart, NoStartStands, ReachesUdp, Leaves, Spends, UdpChanges, RemembersStreams, BeginsUdpConnect, StandsUdpConnect, Used, Unused}
@@ -33,6 +32,7 @@ use Rattle.wasi_walks.proofs.walks.Law.{Law, Walks, Given, given_along, given_th
 use Rattle.wasi_walks.proofs.walks.States.{At, Over, OverWith, Starts, udp_record}
 use Rattle.wasi_walks.proofs.walks.Udp.{bound_walks, open_is, udp_there}
 use Rattle.wasi_walks.proofs.walks.UdpLaw.{HasUdp, over_at, udp_put_put, udp_put_same, udp_found, ask_udp, peer_udp, poll_udp_connect_walks, mark_stream}
+use Rattle.wasi_walks.proofs.Places.{put_finds, udp_sort}
 
 -- the incoming stream is new
 abbrev pub IsNew : OpenUdp → Type 0
@@ -164,7 +164,7 @@ AreMade place _ = ⊤
 answered_made : (store : Records) (ids : Ids) (place handle : ℕ) → NoStartStands store.standing → (was : OpenUdp) → udp2_at store.records place ≡ Some (Udp2Socket.Open was) → (done : Result (Answer (Unit {0})) ErrorCode × OpenUdp) → WaitsUdpConnect done
     → AreMade place (udp_call_answered store ids (StandingCall.UdpConnect place handle) done)
 answered_made store ids place handle q was g (Ok Pending, o) w = tt
-answered_made store ids place handle q was g (Ok (Ready d), o) w = record { quiet = q; socket = o; at = udp_set_there store.records place (Udp2Socket.Open was) (Udp2Socket.Open o) g; new = w }
+answered_made store ids place handle q was g (Ok (Ready d), o) w = record { quiet = q; socket = o; at = put_finds udp_sort store.records place (Udp2Socket.Open was) (Udp2Socket.Open o) g; new = w }
 answered_made store ids place handle q was g (Err c, o) w = tt
 
 start_made : (store : Records) (ids : Ids) (place handle : ℕ) → NoStartStands store.standing → (remote : Option IpSocketAddress) (o : OpenUdp) → udp2_at store.records place ≡ Some (Udp2Socket.Open o) → (live : Bool) → Given (AreMade place) (start_streams_by store ids place handle remote o live)

@@ -15,7 +15,8 @@ use Rattle.wasi_jobs.specs.declared.job.HostJob.TheVariants as jobs
 use Rattle.wasi_walks.proofs.Words.{Kind, Machine, ap, input_at, input_of, output_at, output_of}
 use Rattle.wasi_walks.specs.Licence.{ReadFailed}
 use Rattle.wasi_walks.proofs.Gives.{Gives, gives_any, gives_more, gives_then}
-use Rattle.wasi_walks.proofs.Lists.{has_front, has_last, set_there}
+use Rattle.wasi_walks.proofs.Lists.{has_front, has_last}
+use Rattle.wasi_walks.proofs.Places.{put_finds, tcp_sort}
 
 -- the writer is closed with a code
 abbrev pub IsFailed : WriteState → Type 0
@@ -151,7 +152,7 @@ writer_fails {T} es store place call (Some r) g k = gives_then Leaves _ es (writ
     by_streams (Some s) = gives_then WriterSays Leaves es (call s.writer) _ (k es s.writer) (λ fs done f. if_failed done.0 (λ x. record { streams = record s { writer = done.1 }; there = refl; failed = x }) f)
 
     put : (left : Tcp2Socket) → LeftFailed left → WriterFailed (tcp2_put store.records place left) place
-    put left f = record { socket = left; at = set_there store.records place r left g; streams = f.streams; there = f.there; failed = f.failed }
+    put left f = record { socket = left; at = put_finds tcp_sort store.records place r left g; streams = f.streams; there = f.there; failed = f.failed }
 
 -- == a call of a line on the stream of a handle
 abbrev pub Why : {T : Type 0} → ℕ → Machine → ℕ → ℕ → List Entry → Result T StreamStop × Records → Type 0

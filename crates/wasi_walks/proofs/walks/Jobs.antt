@@ -14,10 +14,6 @@ use Rattle.wasi_walks.proofs.Lists.{has_split}
 use Rattle.wasi_walks.proofs.walks.Moves.{IsRecord, KeepsJobs, job_place}
 
 -- == what is a record
-pub tcp_is_record : (o : Option Record) (r : Tcp2Socket) → tcp2_of o ≡ Some r → IsRecord o
-tcp_is_record (Some (Tcp2 x)) r e = tt
-tcp_is_record _ r e = absurd (cc)
-
 pub udp_is_record : (o : Option Record) (u : Udp2Socket) → udp2_of o ≡ Some u → IsRecord o
 udp_is_record (Some (Udp2 x)) u e = tt
 udp_is_record _ u e = absurd (cc)

@@ -1,83 +1,50 @@
 -- A law of runs: what each ask must be, what holds between the asks, and that each move keeps it.
-use Rattle.wasi_walks.proofs.walks.Moves.{IsCreated, Releases, ReleasesUdp}
+use Rattle.wasi_walks.proofs.walks.Moves.{Releases}
 use Rattle.wasi_walks.proofs.Words.{Accepting, Accepts, Allows, Ask, AskWrite, Asks, Begins, Bool, Call, End, Entry, Fits, Give, InProgress}
 use Rattle.wasi_walks.proofs.Words.{IsBacklogSet, Item, Kind, List, Listener, None, Not, OpId, Operation, Option, SocketAddressFamily, Some, Step}
 use Rattle.wasi_walks.proofs.Words.{Streams, Tcp2, Tcp2Socket, TcpState, Told, WasiSocketsCtx, [], accept_ended, after_local, allows_then}
 use Rattle.wasi_walks.proofs.Words.{allows_weaker, ap, bind, bind_progress, connect_ended, create_asks, entry, false, give_up_asks, if◌then◌else◌}
-use Rattle.wasi_walks.proofs.Words.{make_asks, own_of, poll_asks, told_done, refl, side_at, side_of, subst, sym, told_addr, true}
+use Rattle.wasi_walks.proofs.Words.{make_asks, own_of, poll_asks, refl, side_at, side_of, subst, sym, told_addr, true}
 use Rattle.wasi_walks.proofs.Words.{turn_asks, with_inner, with_listening, with_progress, with_state, with_writer, ℕ, ◌++◌, ◌∷◌, ◌≡◌}
-use Rattle.wasi_walks.proofs.walks.Moves.{HasNewStream, Here, MarksNext, ToSend, Own, Calls, OfStreams, record_of, LooksUp, SameSockets, with_records, put, put_udp, Found, FoundUdp, CreatesUdp, udp_begun, part_of, IsUdpQuestionOf, NoStart, closed_record, Past, Joined, made_so, listen_after, accepting_now, Held, BindsOn, Connects, Listens, Awaits, IsQuestionOf, IsOn, Move, Marks, Creates, Used, Unused}
-use Rattle.wasi_walks.proofs.walks.Failures.{Fails}
-use Rattle.wasi_walks.proofs.Lists.{set_there, set_set, set_same}
-use Rattle.wasi_host.specs.Kinds.{kind_at, udp_of}
-use Rattle.wasi_records.specs.Records.{tcp2_at, udp2_at, lookup_at}
-use Rattle.wasi_records.specs.declared.name_lookup.Lookup.TheVariants as lookup
-use Rattle.wasi_records.specs.declared.name_lookup.LookupOp.{LookupOp}
-use Rattle.wasi_host.specs.UdpCreates.{udp_side_at}
-use Rattle.wasi_host.specs.declared.kind.Kind.TheVariants.{Udp2}
-use Rattle.wasi_records.specs.declared.udp.OpenUdp.{OpenUdp}
-use Rattle.wasi_records.specs.declared.udp.Udp2Socket.{Udp2Socket}
-use Rattle.wasi_records.specs.Udp.{udp_side, with_udp_inner}
-use Rattle.wasi_udp.specs.Create.{Create, create_cancel_asks, after_create as udp_after_create}
-use Rattle.wasi_walks.proofs.Words.{ErrorValue, Has, TcpSendStream, WriteState, length, nat_lt, new_job}
-use Rattle.wasi_udp.specs.Socket.{after_local as udp_after_local, after_peer}
+use Rattle.wasi_walks.proofs.walks.Moves.{Here, Own, put, Found, NoStart, closed_record, Past, Joined, made_so, listen_after, accepting_now, Held, BindsOn, Connects, Listens, Awaits, IsQuestionOf, IsOn, Move, Marks, Creates, Used, Unused}
+use Rattle.wasi_records.specs.Records.{tcp2_at}
+use Rattle.wasi_walks.proofs.Words.{TcpSendStream, WriteState, length, nat_lt, new_job}
 use Rattle.wasi_records.specs.declared.records.Record.{Record}
+use Rattle.wasi_walks.proofs.walks.Asked.{Asked, Questions, SetsBacklog, Learns, Closes, MarksOne, MarksAccepted, AsksCreate, Polls, Turns, GivesUp}
+use Rattle.std.specs.Prelude.{⊤}
+use Rattle.wasi_walks.proofs.Places.{put_again, put_finds, put_twice, tcp_sort}
 
-pub record Law (contexts : List WasiSocketsCtx) (line : ℕ) (origin : Step) : Type 1 where
+-- What a law rests on is B: nothing, where it stands alone.
+pub record Rests (contexts : List WasiSocketsCtx) (line : ℕ) (origin : Step) (B : List Entry → Here → Type 0) : Type 1 where
   pub P : List Entry → OpId → Call → Type 0
   pub Inv : List Entry → Here → Type 0
-  pub moves : (es : List Entry) (h now : Here) → Move line origin h now → Inv es h → Inv es now
-  -- what the line's own operation asks
-  pub asks : (es : List Entry) (h : Here) (place n : ℕ) (r : Tcp2Socket) (side : OpId) (c : Call) → h.at ≡ Some (place, n) → Found h place r → IsOn r side → IsQuestionOf line origin n side c → Inv es h
-      → P es (own_of n) c × ((told : Told) → Fits c told → Inv (es ++ entry (own_of n) c told ∷ []) h)
-  pub sets : (es : List Entry) (h : Here) (place : ℕ) (r : Tcp2Socket) (side : OpId) (backlog : ℕ) → h.at ≡ Some (place, line) → Found h place r → r.inner.state ≡ TcpState.Listening side → IsBacklogSet backlog origin → Inv es h
-      → P es (own_of line) (Call.SetBacklog side backlog) × ((told : Told) → Fits (Call.SetBacklog side backlog) told → Inv (es ++ entry (own_of line) (Call.SetBacklog side backlog) told ∷ []) h)
-  pub learns : (es : List Entry) (h : Here) (place : ℕ) (r : Tcp2Socket) (side : OpId) → h.at ≡ Some (place, line) → Found h place r → r.inner.state ≡ TcpState.Default side → Inv es h
-      → P es (own_of line) (Call.Local side) × ((told : Told) → Fits (Call.Local side) told → Inv (es ++ entry (own_of line) (Call.Local side) told ∷ []) (put h place (with_inner r (after_local r.inner (told_addr told)).1)))
-  pub closes : (es : List Entry) (h : Here) (place : ℕ) (r : Tcp2Socket) (side : OpId) → Releases h place → Found h place r → side_of r.inner ≡ Some side → Inv es h
-      → P es (own_of line) (Call.Close side) × ((told : Told) → Fits (Call.Close side) told → Inv (es ++ entry (own_of line) (Call.Close side) told ∷ []) (put h place (closed_record r)))
-  pub marks : (es : List Entry) (h : Here) (kind : Kind) (parent : Option ℕ) (sock : Option OpId) → Marks origin h kind parent sock → Inv es h
-      → Allows P (λ fs made. Inv fs (record h { machine = record h.machine { table = made.1 } })) es (make_asks h.machine.table (own_of line) kind parent sock)
-  pub creates : (es : List Entry) (h : Here) (ctx : WasiSocketsCtx) (family : SocketAddressFamily) → Creates contexts ctx family origin → h.at ≡ None → h.own ≡ Unused → h.made ≡ Past → Inv es h
-      → Allows P (λ fs done. Inv fs (record h { machine = done.1; own = Used })) es (create_asks h.machine (own_of line) ctx family)
-  pub accepted : (es : List Entry) (h : Here) (c listener place : ℕ) (r : Tcp2Socket) → origin ≡ Step.TcpAccept c listener → h.made ≡ Joined place → h.own ≡ Used → Found h place r → Inv es h
-      → Allows P (λ fs made. Inv fs (record h { machine = record h.machine { table = made.1 }; made = made_so place made.0 })) es (make_asks h.machine.table (own_of line) (Tcp2 place) (Some listener) (side_at (tcp2_at h.machine.store.records place)))
-  -- what is in progress
-  pub polls : (es : List Entry) (h : Here) (op : Operation) (after : End × List Item → Here) → Held h op after → Inv es h → Allows P (λ fs ended. Inv fs (after ended)) es (poll_asks op)
-  pub turns : (es : List Entry) (h : Here) (place : ℕ) (r : Tcp2Socket) (s : Streams) → Found h place r → r.streams ≡ Some s → Inv es h → Allows P (λ fs done. Inv fs (put h place (with_writer r s done.1))) es (turn_asks s.writer)
-  pub gives_up : (es : List Entry) (h : Here) (place : ℕ) (r : Tcp2Socket) → NoStart h → Found h place r → Inv es h → Allows P (λ fs done. Inv fs (put h place (with_listening r Not))) es (give_up_asks r.listening)
-  -- UDP sockets
-  pub udp_asks : (es : List Entry) (h : Here) (place n : ℕ) (o : OpenUdp) (c : Call) → h.at ≡ Some (place, n) → FoundUdp h place (Udp2Socket.Open o) → IsUdpQuestionOf line origin n o.inner.side c → Inv es h
-      → P es (own_of n) c × ((told : Told) → Fits c told → Inv (es ++ entry (own_of n) c told ∷ []) h)
-  pub udp_learns : (es : List Entry) (h : Here) (place part : ℕ) (o : OpenUdp) → h.at ≡ Some (place, line) → FoundUdp h place (Udp2Socket.Open o) → Inv es h
-      → P es (part_of line part) (Call.Local o.inner.side) × ((told : Told) → Fits (Call.Local o.inner.side) told → Inv (es ++ entry (part_of line part) (Call.Local o.inner.side) told ∷ []) (put_udp h place (Udp2Socket.Open (with_udp_inner o (udp_after_local o.inner (told_addr told)).1))))
-  pub udp_peers : (es : List Entry) (h : Here) (place : ℕ) (o : OpenUdp) → h.at ≡ Some (place, line) → FoundUdp h place (Udp2Socket.Open o) → Inv es h
-      → P es (own_of line) (Call.Peer o.inner.side) × ((told : Told) → Fits (Call.Peer o.inner.side) told → Inv (es ++ entry (own_of line) (Call.Peer o.inner.side) told ∷ []) (put_udp h place (Udp2Socket.Open (with_udp_inner o (after_peer o.inner (told_addr told))))))
-  pub udp_closes : (es : List Entry) (h : Here) (place : ℕ) (o : OpenUdp) → ReleasesUdp h place → FoundUdp h place (Udp2Socket.Open o) → Inv es h
-      → P es (own_of line) (Call.Close o.inner.side) × ((told : Told) → Fits (Call.Close o.inner.side) told → Inv (es ++ entry (own_of line) (Call.Close o.inner.side) told ∷ []) (put_udp h place (Udp2Socket.Closed o.inner.side)))
-  pub udp_creates : (es : List Entry) (h : Here) (ctx : WasiSocketsCtx) (family : SocketAddressFamily) → CreatesUdp contexts ctx family origin → ctx.udp ≡ true → h.at ≡ None → h.own ≡ Unused → h.made ≡ Past → Inv es h
-      → P es (own_of line) (Call.UdpCreate ctx.name family) × ((told : Told) → Fits (Call.UdpCreate ctx.name family) told → Inv (es ++ entry (own_of line) (Call.UdpCreate ctx.name family) told ∷ []) (udp_begun h (udp_after_create (own_of line) ctx.name family (told_done told))))
-  pub udp_marks : (es : List Entry) (h : Here) (place : ℕ) (u : Udp2Socket) → IsCreated h place u → Inv es h
-      → Allows P (λ fs made. Inv fs (record h { machine = record h.machine { table = made.1 }; made = Past })) es (make_asks h.machine.table (udp_side u) (Udp2 place) None (Some (udp_side u)))
-  pub stream_marks : (es : List Entry) (h : Here) (place n handle reached : ℕ) (kind : Kind) → MarksNext h.made n handle reached kind place → HasNewStream h.machine.store reached → udp_of (kind_at h.machine.table handle) ≡ Some place → Inv es h
-      → Allows P (λ fs made. Inv fs (record h { machine = record h.machine { table = made.1 }; made = ToSend n handle reached })) es (make_asks h.machine.table (own_of n) kind (Some handle) (udp_side_at (udp2_at h.machine.store.records place)))
-  -- the errors of calls of streams that failed
-  pub error_marks : (es : List Entry) (h : Here) (n handle place : ℕ) (handles : List ℕ) → h.made ≡ Calls OfStreams n handles → Has handles handle → record_of (kind_at h.machine.table handle) ≡ Some place → Fails es h.machine n handle place → Inv es h
-      → Allows P (λ fs made. Inv fs (record h { machine = record h.machine { table = made.1 } })) es (make_asks h.machine.table (own_of n) ErrorValue (Some handle) (side_at (tcp2_at h.machine.store.records place)))
-  -- a create that is given up
-  pub udp_gives_up : (es : List Entry) (h : Here) (place : ℕ) (create : Create) → NoStart h → FoundUdp h place (Udp2Socket.Creating create) → Inv es h
-      → Allows P (λ fs done. Inv fs (put_udp h place (Udp2Socket.Closed create.operation.who.side))) es (create_cancel_asks create)
-  -- lookups
-  pub lookups : (es : List Entry) (h : Here) (host : List ℕ) → LooksUp contexts host origin → Inv es h
-      → P es (own_of line) (Call.Lookup host) × ((told : Told) → Fits (Call.Lookup host) told → (records : List Record) → SameSockets (λ op. op ≡ record { id = own_of line; host = host }) h.machine.store.records records → Inv (es ++ entry (own_of line) (Call.Lookup host) told ∷ []) (with_records h records))
-  pub looks : (es : List Entry) (h : Here) (place : ℕ) (op : LookupOp) → lookup_at h.machine.store.records place ≡ Some (lookup.InProgress op) → Inv es h
-      → P es op.id (Call.Lookup op.host) × ((told : Told) → Fits (Call.Lookup op.host) told → Inv (es ++ entry op.id (Call.Lookup op.host) told ∷ []) h)
+  pub moves : (es : List Entry) (h now : Here) → Move line origin h now → B es h → Inv es h → Inv es now
+  pub asks : (es : List Entry) (h : Here) (A : Type 0) (tree : Asks A) (end : A → Here)
+      → Asked contexts line origin es h A tree end → B es h → Inv es h → Allows P (λ fs a. Inv fs (end a)) es tree
 
--- What a law says of a write that begins in a call of streams, of which a line may make more than one. The law of what is
--- permitted, which counts the bytes of a line's one write, says nothing of it.
-pub record BeginsWrites {contexts : List WasiSocketsCtx} {line : ℕ} {origin : Step} (law : Law contexts line origin) : Type 0 where
-  pub begins : (es : List Entry) (h : Here) (place n : ℕ) (r : Tcp2Socket) (s : Streams) (half : TcpSendStream) (permit : ℕ) (bytes : List ℕ) → h.at ≡ Some (place, n) → Found h place r → r.streams ≡ Some s → s.writer ≡ WriteState.Ready half permit → nat_lt permit (length bytes) ≡ false → h.own ≡ Used → law.Inv es h
-      → law.Inv es (record (put h place (with_writer r s (WriteState.Writing (new_job (own_of n) half.side bytes)))) { own = Used })
+abbrev pub Law : List WasiSocketsCtx → ℕ → Step → Type 1
+Law contexts line origin = Rests contexts line origin (λ es h. ⊤)
+
+-- A write begins in a call of streams, of which a line may make more than one.
+pub data BeginsIn (h : Here) : Here → Type 0 where
+  InCall : (place n : ℕ) (r : Tcp2Socket) (s : Streams) (half : TcpSendStream) (permit : ℕ) (bytes : List ℕ) → h.at ≡ Some (place, n) → Found h place r → r.streams ≡ Some s → s.writer ≡ WriteState.Ready half permit → nat_lt permit (length bytes) ≡ false → h.own ≡ Used
+      → BeginsIn h (record (put h place (with_writer r s (WriteState.Writing (new_job (own_of n) half.side bytes)))) { own = Used })
+
+-- What a law says of one. The law of what is permitted, which counts the bytes of a line's one write, says nothing of it.
+pub record BeginsWrites {contexts : List WasiSocketsCtx} {line : ℕ} {origin : Step} {B : List Entry → Here → Type 0} (law : Rests contexts line origin B) : Type 0 where
+  pub begins : (es : List Entry) (h now : Here) → BeginsIn h now → B es h → law.Inv es h → law.Inv es now
+
+-- the same by what is known of it
+pub begins_by : {contexts : List WasiSocketsCtx} {line : ℕ} {origin : Step} {B : List Entry → Here
+    → Type 0} (law : Rests contexts line origin B)
+    → ((es : List Entry) (h : Here) (place n : ℕ) (r : Tcp2Socket) (s : Streams) (half : TcpSendStream) (permit : ℕ) (bytes : List ℕ) → h.at ≡ Some (place, n) → Found h place r → r.streams ≡ Some s → s.writer ≡ WriteState.Ready half permit → nat_lt permit (length bytes) ≡ false → h.own ≡ Used → B es h → law.Inv es h
+    → law.Inv es (record (put h place (with_writer r s (WriteState.Writing (new_job (own_of n) half.side bytes)))) { own = Used }))
+    → BeginsWrites law
+begins_by {B} law k = record { begins = by_case }
+  where
+    by_case : (es : List Entry) (h now : Here) → BeginsIn h now → B es h → law.Inv es h → law.Inv es now
+    by_case es h _ (InCall place n r s half permit bytes at g e w within used) b i =
+        k es h place n r s half permit bytes at g e w within used b i
 
 -- A place that has a record.
 pub record HasRecord (h : Here) (place : ℕ) : Type 0 where
@@ -87,12 +54,12 @@ pub record HasRecord (h : Here) (place : ℕ) : Type 0 where
 pub put_put : (h : Here) (place : ℕ) (r now : Tcp2Socket) → put (put h place r) place now ≡ put h place now
 put_put h place r now =
     let f : List Record → Here = λ xs. record h { machine = record h.machine { store = record h.machine.store { records = xs } } } in
-    ap f (set_set h.machine.store.records place r now)
+    ap f (put_twice tcp_sort h.machine.store.records place r now)
 
 pub put_same : (h : Here) (place : ℕ) (r : Tcp2Socket) → Found h place r → put h place r ≡ h
 put_same h place r e =
     let f : List Record → Here = λ xs. record h { machine = record h.machine { store = record h.machine.store { records = xs } } } in
-    ap f (set_same h.machine.store.records place r e)
+    ap f (put_again tcp_sort h.machine.store.records place r e)
 
 -- what is known of whatever the tree gives, without the log
 abbrev pub Given : {A : Type 0} → (A → Type 0) → Asks A → Type 0
@@ -129,7 +96,7 @@ module _ {contexts : List WasiSocketsCtx} {line : ℕ} {origin : Step} where
     pub along : (es : List Entry) → law.Inv es h → Allows law.P (λ fs a. law.Inv fs (end a)) es asks
 
 pub found : {h : Here} {place : ℕ} → HasRecord h place → (r : Tcp2Socket) → Found (put h place r) place r
-found {h} {place} here r = set_there h.machine.store.records place here.was r here.found
+found {h} {place} here r = put_finds tcp_sort h.machine.store.records place here.was r here.found
 
 pub spent : {h : Here} {place : ℕ} → HasRecord h place → HasRecord (record h { own = Used }) place
 spent here = record { was = here.was; found = here.found }
@@ -164,7 +131,7 @@ module _ {contexts : List WasiSocketsCtx} {line : ℕ} {origin : Step} {law : La
   by_if false w v = v refl
 
   pub move : {A : Type 0} {h now : Here} {end : A → Here} {asks : Asks A} → Move line origin h now → Walks law now end asks → Walks law h end asks
-  move {h} {now} m w = record { along = λ es i. w.along es (law.moves es h now m i) }
+  move {h} {now} m w = record { along = λ es i. w.along es (law.moves es h now m tt i) }
 
   pub gives : {A : Type 0} {h : Here} {end : A → Here} (a : A) → Move line origin h (end a) → Walks law h end (Give a)
   gives {h} {end} a m = move m (give {end = end} a)
@@ -177,14 +144,14 @@ module _ {contexts : List WasiSocketsCtx} {line : ℕ} {origin : Step} {law : La
   ends {mid} {end} {asks} e w = record { along = λ es i. allows_weaker law.P (λ fs a. law.Inv fs (mid a)) (λ fs a. law.Inv fs (end a)) (λ fs a k. subst (law.Inv fs) (e a) k) es asks (w.along es i) }
 
   pub mark : {h : Here} {kind : Kind} {parent : Option ℕ} {sock : Option OpId} → Marks origin h kind parent sock → Walks law h (λ made. record h { machine = record h.machine { table = made.1 } }) (make_asks h.machine.table (own_of line) kind parent sock)
-  mark {h} {kind} {parent} {sock} m = record { along = λ es i. law.marks es h kind parent sock m i }
+  mark {h} {kind} {parent} {sock} m = record { along = λ es i. law.asks es h _ _ _ (MarksOne kind parent sock m) tt i }
 
   pub accept : {h : Here} (c listener place : ℕ) (r : Tcp2Socket) → origin ≡ Step.TcpAccept c listener → h.made ≡ Joined place → h.own ≡ Used → Found h place r
       → Walks law h (λ made. record h { machine = record h.machine { table = made.1 }; made = made_so place made.0 }) (make_asks h.machine.table (own_of line) (Tcp2 place) (Some listener) (side_at (tcp2_at h.machine.store.records place)))
-  accept {h} c listener place r is e o g = record { along = λ es i. law.accepted es h c listener place r is e o g i }
+  accept {h} c listener place r is e o g = record { along = λ es i. law.asks es h _ _ _ (MarksAccepted c listener place r is e o g) tt i }
 
   pub create : {h : Here} (ctx : WasiSocketsCtx) (family : SocketAddressFamily) → Creates contexts ctx family origin → h.at ≡ None → h.own ≡ Unused → h.made ≡ Past → Walks law h (λ done. record h { machine = done.1; own = Used }) (create_asks h.machine (own_of line) ctx family)
-  create {h} ctx family c a o m = record { along = λ es i. law.creates es h ctx family c a o m i }
+  create {h} ctx family c a o m = record { along = λ es i. law.asks es h _ _ _ (AsksCreate ctx family c a o m) tt i }
 
   -- == on the record of a place, whichever it is by now
   module _ {h : Here} {place : ℕ} (here : HasRecord h place) where
@@ -194,21 +161,21 @@ module _ {contexts : List WasiSocketsCtx} {line : ℕ} {origin : Step} {law : La
     pub ask : {A : Type 0} {n : ℕ} {end : A → Here} (r : Tcp2Socket) {side : OpId} {c : Call} {next : Told → Asks A} → h.at ≡ Some (place, n) → IsOn r side → IsQuestionOf line origin n side c → ((told : Told) → Fits c told → Walks law (put h place r) end (next told)) → Walks law (put h place r) end (Ask (own_of n) c next)
     ask {n} r {side} {c} at o q k = record {
       along = λ es i.
-          let a = law.asks es (put h place r) place n r side c at (found here r) o q i in
+          let a = law.asks es (put h place r) _ _ _ (Questions place n r side c at (found here r) o q) tt i in
           (a.0, λ told fits. (k told fits).along (es ++ entry (own_of n) c told ∷ []) (a.1 told fits));
     }
 
     pub set : {A : Type 0} {end : A → Here} (r : Tcp2Socket) {side : OpId} {backlog : ℕ} {next : Told → Asks A} → h.at ≡ Some (place, line) → r.inner.state ≡ TcpState.Listening side → IsBacklogSet backlog origin → ((told : Told) → Walks law (put h place r) end (next told)) → Walks law (put h place r) end (Ask (own_of line) (Call.SetBacklog side backlog) next)
     set r {side} {backlog} at s b k = record {
       along = λ es i.
-          let a = law.sets es (put h place r) place r side backlog at (found here r) s b i in
+          let a = law.asks es (put h place r) _ _ _ (SetsBacklog place r side backlog at (found here r) s b) tt i in
           (a.0, λ told fits. (k told).along (es ++ entry (own_of line) (Call.SetBacklog side backlog) told ∷ []) (a.1 told fits));
     }
 
     pub learn : {A : Type 0} {end : A → Here} (r : Tcp2Socket) {side : OpId} {next : Told → Asks A} → h.at ≡ Some (place, line) → r.inner.state ≡ TcpState.Default side → ((told : Told) → Walks law (put h place (with_inner r (after_local r.inner (told_addr told)).1)) end (next told)) → Walks law (put h place r) end (Ask (own_of line) (Call.Local side) next)
     learn r {side} at s k = record {
       along = λ es i.
-          let a = law.learns es (put h place r) place r side at (found here r) s i in (
+          let a = law.asks es (put h place r) _ _ _ (Learns place r side at (found here r) s) tt i in (
             a.0,
             λ told fits.
                 let fs : List Entry = es ++ entry (own_of line) (Call.Local side) told ∷ [] in
@@ -218,7 +185,7 @@ module _ {contexts : List WasiSocketsCtx} {line : ℕ} {origin : Step} {law : La
 
     -- a poll, and what becomes of the record
     polled : (r : Tcp2Socket) {op : Operation} (now : End × List Item → Tcp2Socket) → Held (put h place r) op (λ ended. put (put h place r) place (now ended)) → Walks law (put h place r) (λ ended. put h place (now ended)) (poll_asks op)
-    polled r {op} now held = ends (λ ended. put_put h place r (now ended)) (record { along = λ es i. law.polls es (put h place r) op _ held i })
+    polled r {op} now held = ends (λ ended. put_put h place r (now ended)) (record { along = λ es i. law.asks es (put h place r) _ _ _ (Polls op _ held) tt i })
 
     pub poll_bind : (r : Tcp2Socket) (op : Operation) → NoStart h → r.in_progress ≡ InProgress.Binding op → Walks law (put h place r) (λ ended. put h place (with_progress r (bind_progress op ended))) (poll_asks op)
     poll_bind r op q e = polled r _ (BindsOn place r op q (found here r) e)
@@ -236,17 +203,17 @@ module _ {contexts : List WasiSocketsCtx} {line : ℕ} {origin : Step} {law : La
     turn r s e = record {
       along = λ es i.
           allows_weaker law.P (λ fs done. law.Inv fs (put (put h place r) place (with_writer r s done.1))) (λ fs done. law.Inv fs (put h place (with_writer r s done.1)))
-          (λ fs done k. subst (law.Inv fs) (put_put h place r (with_writer r s done.1)) k) es (turn_asks s.writer) (law.turns es (put h place r) place r s (found here r) e i);
+          (λ fs done k. subst (law.Inv fs) (put_put h place r (with_writer r s done.1)) k) es (turn_asks s.writer) (law.asks es (put h place r) _ _ _ (Turns place r s (found here r) e) tt i);
     }
 
     -- the record goes: its listening is released, and its network socket is closed
     pub give_up : (r : Tcp2Socket) → NoStart h → Walks law (put h place r) (λ done. put h place (with_listening r Not)) (give_up_asks r.listening)
-    give_up r q = ends (λ done. put_put h place r (with_listening r Not)) (record { along = λ es i. law.gives_up es (put h place r) place r q (found here r) i })
+    give_up r q = ends (λ done. put_put h place r (with_listening r Not)) (record { along = λ es i. law.asks es (put h place r) _ _ _ (GivesUp place r q (found here r)) tt i })
 
     pub close : {A : Type 0} {end : A → Here} (r : Tcp2Socket) {side : OpId} {next : Told → Asks A} → Releases h place → side_of r.inner ≡ Some side → ((told : Told) → Walks law (put h place (closed_record r)) end (next told)) → Walks law (put h place r) end (Ask (own_of line) (Call.Close side) next)
     close r {side} q e k = record {
       along = λ es i.
-          let a = law.closes es (put h place r) place r side q (found here r) e i in (
+          let a = law.asks es (put h place r) _ _ _ (Closes place r side q (found here r) e) tt i in (
             a.0,
             λ told fits.
                 let fs : List Entry = es ++ entry (own_of line) (Call.Close side) told ∷ [] in

@@ -2,7 +2,6 @@
 -- line.
 use Rattle.wasi_walks.proofs.walks.Jobs.{one_begins, udp_is_record}
 use Rattle.std.specs.Prelude.{slice_get}
-use Rattle.wasi_walks.proofs.UdpLists.{udp_set_there}
 use Rattle.std.specs.Prelude.{◌≡◌, ℕ, ◌+◌, not, Bool, true, false, List, Option, Some, None, Result, Ok}
 use Rattle.wasi_walks.proofs.Words.{Accepts, Asks, Give, Has, InProgress, Listening, Machine, Records, Step, Stop, Tcp2Socket, WasiSocketsCtx, Watched}
 use Rattle.wasi_walks.proofs.Words.{ap, bind, handles_of, if◌then◌else◌, is_connect, is_nothing, kind_at, own_of, place_in, ready_on, refl, subst, sym, watch_of, with_listening, with_store, ready_end, ◌∙◌}
@@ -33,6 +32,7 @@ use Rattle.wasi_walks.proofs.walks.States.{there, watch_record, watch_udp}
 use Rattle.wasi_walks.proofs.walks.Streams.{ready_reader_walks, ready_writer_walks}
 use Rattle.wasi_walks.proofs.walks.Udp.{open_is, udp_there}
 use Rattle.wasi_walks.proofs.walks.UdpLaw.{HasUdp, udp_put_same}
+use Rattle.wasi_walks.proofs.Places.{put_finds, udp_sort}
 
 -- a call on pollables is done for line n, which named these handles
 abbrev pub Looking : ℕ → List ℕ → Option (ℕ × ℕ) → Own → Machine → Here
@@ -120,7 +120,7 @@ module _ {contexts : List WasiSocketsCtx} {line : ℕ} {origin : Step} (law : La
         let h = Looking n handles at own m in
         let found : FoundUdp h place (Udp2Socket.Open o) = open_is (udp2_at m.store.records place) o g in
         from (udp_put_same h place (Udp2Socket.Open o) found)
-        (and_then (incoming_walks (udp_there {h = h} found) n part o o.incoming refl named may) (λ now. listed_at at (after own part (would_receive o.incoming)) place (not (receives now.incoming)) (with_open_udp m.store place now) (begins_receive o now) (Udp2Socket.Open now) (udp_set_there m.store.records place (Udp2Socket.Open o) (Udp2Socket.Open now) found)))
+        (and_then (incoming_walks (udp_there {h = h} found) n part o o.incoming refl named may) (λ now. listed_at at (after own part (would_receive o.incoming)) place (not (receives now.incoming)) (with_open_udp m.store place now) (begins_receive o now) (Udp2Socket.Open now) (put_finds udp_sort m.store.records place (Udp2Socket.Open o) (Udp2Socket.Open now) found)))
 
     -- A look leaves the line at the record of one of its handles, or where it was.
     pub record Looked (at : Option (ℕ × ℕ)) (now : Own) (asks : Asks (Result Bool Stop × Machine)) : Type 0 where

@@ -23,13 +23,14 @@ use Rattle.wasi_records.specs.declared.records.Record.{Record}
 use Rattle.wasi_records.specs.declared.records.Record.TheVariants.{Lookup as LookupRecord}
 use Rattle.wasi_p2.specs.Lookup.{next_address_on, resolve_asks, resolved_host}
 use Rattle.wasi_walks.proofs.Lists.{get_seam}
-use Rattle.wasi_walks.proofs.LookupLists.{input_lookup_push, input_lookup_put, lookup_front, lookup_get_set, lookup_last, lookup_split, lookup_stays, output_lookup_push, output_lookup_put, tcp_lookup_push, tcp_lookup_put, udp_lookup_push, udp_lookup_put}
 use Rattle.wasi_walks.proofs.walks.Moves.{ALookup, Emptied, Finds, GivesBack, Here, KeepsJobs, Leaves, Lists, LooksUp, Numbered, Numbers, OfLookup, OfUnnamed, SameSockets, Spends, Unused, with_records}
+use Rattle.wasi_walks.proofs.walks.Asked.{Looks, Resolves}
 use Rattle.wasi_walks.proofs.walks.Law.{Given, Law, Walks, and_given, by_if, give, gives, mark, move}
 use Rattle.wasi_walks.proofs.walks.Jobs.{lookup_is_record, may_begin_one}
 use Rattle.wasi_jobs.specs.declared.job.HostJob.TheVariants as jobs
 use Rattle.std.specs.Prelude.{length, slice_get}
 use Rattle.wasi_walks.proofs.walks.States.{Numbering, Over, OverWith, Sets, Starts}
+use Rattle.wasi_walks.proofs.Places.{input_sort, lookup_sort, other_push, other_put, output_sort, push_found, push_last, push_some, put_found, put_some, tcp_sort, udp_sort}
 
 -- == the sockets are the same
 same_sockets : {new : LookupOp → Type 0} (xs : List Record) → SameSockets new xs xs
@@ -38,23 +39,23 @@ same_sockets xs = record { tcp = λ k. refl; udp = λ k. refl; stays = λ k e. e
 -- a lookup joins the records
 same_by_push : {new : LookupOp → Type 0} (xs : List Record) (l : Lookup) → ((op : LookupOp) → l ≡ InProgress op → new op) → SameSockets new xs (lookup_pushed xs l)
 same_by_push xs l n = record {
-  tcp = tcp_lookup_push xs l;
-  udp = udp_lookup_push xs l;
-  stays = lookup_front xs l;
-  inputs = λ k e. ap (λ (o : Option (List ℕ)). is_some o) (input_lookup_push xs l k) ∙ e;
-  outputs = λ k e. ap (λ (o : Option Contents). is_some o) (output_lookup_push xs l k) ∙ e;
-  looks = λ k op e. elim (lookup_split xs l k (InProgress op) e) [ inl p ↦ inl p | inr p ↦ inr (n op p.1) ];
+  tcp = other_push lookup_sort tcp_sort (λ t. refl) xs l;
+  udp = other_push lookup_sort udp_sort (λ t. refl) xs l;
+  stays = push_some lookup_sort xs (Record.Lookup l);
+  inputs = λ k e. ap (λ (o : Option (List ℕ)). is_some o) (other_push lookup_sort input_sort (λ t. refl) xs l k) ∙ e;
+  outputs = λ k e. ap (λ (o : Option Contents). is_some o) (other_push lookup_sort output_sort (λ t. refl) xs l k) ∙ e;
+  looks = λ k op e. elim (push_found lookup_sort xs l k (InProgress op) e) [ inl p ↦ inl p | inr p ↦ inr (n op p.0) ];
 }
 
 -- a lookup changes, and is in progress only as it was
 same_by_put : {new : LookupOp → Type 0} (xs : List Record) (i : ℕ) (old l : Lookup) → lookup_at xs i ≡ Some old → ((op : LookupOp) → l ≡ InProgress op → old ≡ InProgress op) → SameSockets new xs (lookup_put xs i l)
 same_by_put xs i old l at n = record {
-  tcp = λ k. tcp_lookup_put xs i old l k at;
-  udp = λ k. udp_lookup_put xs i old l k at;
-  stays = lookup_stays xs i l;
-  inputs = λ k e. ap (λ (o : Option (List ℕ)). is_some o) (input_lookup_put xs i old l k at) ∙ e;
-  outputs = λ k e. ap (λ (o : Option Contents). is_some o) (output_lookup_put xs i old l k at) ∙ e;
-  looks = λ k op e. elim (lookup_get_set xs i l k (InProgress op) e) [ inl p ↦ inl (ap (lookup_at xs) p.0 ∙ (at ∙ ap (λ (x : Lookup). Some x) (n op p.1))) | inr p ↦ inl p ];
+  tcp = λ k. other_put lookup_sort tcp_sort (λ t. refl) xs i old l k at;
+  udp = λ k. other_put lookup_sort udp_sort (λ t. refl) xs i old l k at;
+  stays = put_some lookup_sort xs i l;
+  inputs = λ k e. ap (λ (o : Option (List ℕ)). is_some o) (other_put lookup_sort input_sort (λ t. refl) xs i old l k at) ∙ e;
+  outputs = λ k e. ap (λ (o : Option Contents). is_some o) (other_put lookup_sort output_sort (λ t. refl) xs i old l k at) ∙ e;
+  looks = λ k op e. elim (put_found lookup_sort xs i l k (InProgress op) e) [ inl p ↦ inl (ap (lookup_at xs) p.0 ∙ (at ∙ ap (λ (x : Lookup). Some x) (n op p.1))) | inr p ↦ inl p ];
 }
 
 -- what was told leaves the same one in progress, or none
@@ -97,7 +98,7 @@ job_begins : (m : Machine) (l : Lookup) → KeepsJobs (lookup_pushed m.store.rec
 job_begins m l =
     let records = lookup_pushed m.store.records l in
     let n = length m.store.records in
-    may_begin_one records m.store.jobs (jobs.Lookup n) (is_looking l) (lookup_is_record (slice_get records n) (lookup_last m.store.records l))
+    may_begin_one records m.store.jobs (jobs.Lookup n) (is_looking l) (lookup_is_record (slice_get records n) (push_last lookup_sort m.store.records l))
 
 -- where no handle is made the next one is the same
 abbrev SameNext : HandleTable → Result ℕ Stop × HandleTable → Type 0
@@ -119,8 +120,8 @@ module _ {contexts : List WasiSocketsCtx} {line : ℕ} {origin : Step} {law : La
       → ((told : Told) → Walks law (with_records h (records told)) end (next told)) → Walks law h end (Ask (own_of line) (Call.Lookup host) next)
   looks_up {h} {host} records l s k = record {
     along = λ es i.
-        let a = law.lookups es h host l i in
-        (a.0, λ told fits. (k told).along (es ++ entry (own_of line) (Call.Lookup host) told ∷ []) (a.1 told fits (records told) (s told)));
+        let a = law.asks es h _ _ _ (Resolves host records l s) tt i in
+        (a.0, λ told fits. (k told).along (es ++ entry (own_of line) (Call.Lookup host) told ∷ []) (a.1 told fits));
   }
 
   module _ (m : Machine) (idle : m.store.standing ≡ None) (c network : ℕ) (name : List ℕ) (is : origin ≡ Step.Resolve c network name) where
@@ -135,7 +136,7 @@ module _ {contexts : List WasiSocketsCtx} {line : ℕ} {origin : Step} {law : La
     handle_walks : (l : Lookup) → Walks law (Recorded m l m.table) OverWith (lookup_handle m (own_of line) network l)
     handle_walks l =
         and_given (SameNext m.table) (full_given m.table (own_of line) (LookupHandle (length m.store.records)) (Some network) None)
-        (mark {h = Recorded m l m.table} (ALookup c network _ name is (lookup_last m.store.records l) refl)) (looked_up_walks l)
+        (mark {h = Recorded m l m.table} (ALookup c network _ name is (push_last lookup_sort m.store.records l) refl)) (looked_up_walks l)
 
     resolved_walks : (l : Lookup) → Walks law (with_records (Numbering m) (begun_in m.store.records l)) OverWith (resolved m (own_of line) network l)
     resolved_walks Failed = gives _ (Leaves _)
@@ -170,11 +171,11 @@ module _ {contexts : List WasiSocketsCtx} {line : ℕ} {origin : Step} {law : La
   unfolding bind
   looked_walks m records place (InProgress op) e = record {
     along = λ es i.
-        let a = law.looks es (Sets m records) place op e i in (
+        let a = law.asks es (Sets m records) _ _ _ (Looks place op e) tt i in (
           a.0,
           λ told fits.
               let now : Lookup = lookup_told op (told_names told) in
-              law.moves (es ++ entry op.id (Call.Lookup op.host) told ∷ []) (Sets m records) _ (Finds _ _ (same_by_put records place (InProgress op) now e (λ x p. ap (λ (y : LookupOp). InProgress y) (same_asked op (told_names told) x p)))) (a.1 told fits),
+              law.moves (es ++ entry op.id (Call.Lookup op.host) told ∷ []) (Sets m records) _ (Finds _ _ (same_by_put records place (InProgress op) now e (λ x p. ap (λ (y : LookupOp). InProgress y) (same_asked op (told_names told) x p)))) tt (a.1 told fits),
         );
   }
   looked_walks m records place l e = gives _ (Finds _ _ (same_by_put records place l l e (λ op p. p)))

@@ -13,7 +13,7 @@ use Rattle.wasi_host.specs.declared.kind.PlainOutput.{PlainOutput as OutputOf}
 use Rattle.wasi_host.specs.declared.kind.PlainOutput.TheVariants as output
 use Rattle.wasi_records.specs.declared.records.Record.{Record}
 use Rattle.wasi_records.specs.declared.records.Record.TheVariants.{InputPipe, OutputPipe}
-use Rattle.wasi_walks.proofs.LookupLists.{IsPipe, input_pipe_same, output_pipe_same, pipe_push}
+use Rattle.wasi_walks.proofs.PipeLists.{IsPipe, input_pipe_same, output_pipe_same, pipe_push}
 use Rattle.wasi_walks.proofs.walks.Moves.{APlain, Emptied, Finds, GivesBack, Here, IsNumbered, Leaves, MakesPlain, Numbered, Numbers, OfInput, OfOutput, Past, Spends, Unused, with_records}
 use Rattle.wasi_walks.proofs.walks.Law.{Law, Walks, and_then, by_if, give, gives, mark, move}
 use Rattle.wasi_walks.proofs.walks.States.{Numbering, Over, OverWith, Starts}

@@ -1,5 +1,4 @@
 -- Datagrams are received, as moves: a receive begins by the next name of the line, and is polled, by a turn too.
-use Rattle.wasi_walks.proofs.UdpLists.{udp_set_there}
 use Rattle.std.specs.Prelude.{◌≡◌, ⊤, ℕ, zero, suc, ◌+◌, ◌-◌, min, Bool, List, [], ◌∷◌, ◌++◌, length, Option, Some, None, Result, Ok, Err}
 use Rattle.wasi_walks.proofs.Words.{Answer, Asks, ErrorCode, Give, Has, Machine, Operation, Pending, Ready, Step, WasiSocketsCtx}
 use Rattle.wasi_walks.proofs.Words.{ap, bind, handles_of, kind_at, refl, sym, subst, inl, inr, with_store}
@@ -33,6 +32,7 @@ use Rattle.wasi_walks.proofs.walks.Sends.{listed_walks}
 use Rattle.wasi_walks.proofs.walks.States.{At, Emptying, OverWith, Put, Sets, Starts, given_any, incoming_kind, incoming_record}
 use Rattle.wasi_walks.proofs.walks.Udp.{open_is, part_bound_walks, udp_there}
 use Rattle.wasi_walks.proofs.walks.UdpLaw.{HasUdp, udp_put_put, udp_put_same, udp_found, poll_receive_walks}
+use Rattle.wasi_walks.proofs.Places.{put_finds, udp_sort}
 
 -- an incoming stream that has what it had
 kept_in : (o : OpenUdp) (now : Option Incoming) → (receiving_in now ≡ receiving_in o.incoming) → (came_in now ≡ came_in o.incoming) → UdpPlain o (record o { incoming = now })
@@ -158,7 +158,7 @@ module _ {contexts : List WasiSocketsCtx} {line : ℕ} {origin : Step} {law : La
   receives_at is m place most takes (Some o) e =
       let g : FoundUdp (At line m place Unused) place (Udp2Socket.Open o) = open_is (udp2_at m.store.records place) o e in
       from (udp_put_same (At line m place Unused) place (Udp2Socket.Open o) g)
-      (and_then (datagrams_walks (udp_there {h = At line m place Unused} g) refl is takes o o.incoming most refl refl) (λ done. listed_walks m place (Receive place) (done.0, with_open_udp m.store place done.1) (begins_receive o done.1) (udp_set_there m.store.records place (Udp2Socket.Open o) (Udp2Socket.Open done.1) g)))
+      (and_then (datagrams_walks (udp_there {h = At line m place Unused} g) refl is takes o o.incoming most refl refl) (λ done. listed_walks m place (Receive place) (done.0, with_open_udp m.store place done.1) (begins_receive o done.1) (put_finds udp_sort m.store.records place (Udp2Socket.Open o) (Udp2Socket.Open done.1) g)))
 
   -- of the handle that the line names
   receives_on : Receives origin → (m : Machine) (c incoming most : ℕ) → origin ≡ Step.UdpReceive c incoming most → Has (handles_of origin) incoming → (o : Option ℕ) → incoming_at m incoming ≡ o → Walks law (Starts m Unused) OverWith (receive_datagrams_on m (first_ids line) most o)

@@ -2,7 +2,6 @@
 use Rattle.wasi_walks.proofs.walks.Jobs.{one_begins, udp_is_record}
 use Rattle.std.specs.Prelude.{slice_get}
 use Rattle.wasi_walks.proofs.walks.Moves.{job_place}
-use Rattle.wasi_walks.proofs.UdpLists.{udp_set_there}
 use Rattle.std.specs.Prelude.{◌≡◌, ⊤, ℕ, suc, ◌+◌, nat_lt, Bool, true, false, List, [], ◌∷◌, length, Option, Some, None, Result, Ok, Err}
 use Rattle.wasi_walks.proofs.Words.{Answer, Asks, ErrorCode, Give, Has, Machine, Operation, Records, Step, Stop, WasiSocketsCtx}
 use Rattle.wasi_walks.proofs.Words.{ap, arith, bind, handles_of, kind_at, refl, sym, subst, inl, inr, with_store}
@@ -36,6 +35,7 @@ use Rattle.wasi_walks.proofs.walks.Law.{Law, Walks, Given, given_along, give, an
 use Rattle.wasi_walks.proofs.walks.States.{At, Over, OverWith, Put, Sets, Starts, outgoing_record}
 use Rattle.wasi_walks.proofs.walks.Udp.{open_is, on_udp, part_bound_walks, udp_there}
 use Rattle.wasi_walks.proofs.walks.UdpLaw.{HasUdp, udp_put_put, udp_put_same, udp_found, poll_send_walks}
+use Rattle.wasi_walks.proofs.Places.{put_finds, udp_sort}
 
 -- what a first poll leaves, and what a turn leaves
 first_settles : (op : Operation) → SettlesSend op (send_left op)
@@ -176,7 +176,7 @@ module _ {contexts : List WasiSocketsCtx} {line : ℕ} {origin : Step} {law : La
   sends_at m place ds are (Some o) e =
       let g : FoundUdp (At line m place Unused) place (Udp2Socket.Open o) = open_is (udp2_at m.store.records place) o e in
       from (udp_put_same (At line m place Unused) place (Udp2Socket.Open o) g)
-      (and_then (datagrams_walks (udp_there {h = At line m place Unused} g) refl o o.outgoing ds are refl refl) (λ done. listed_walks m place (Datagram place) (done.0, with_open_udp m.store place done.1) (begins_send o done.1) (udp_set_there m.store.records place (Udp2Socket.Open o) (Udp2Socket.Open done.1) g)))
+      (and_then (datagrams_walks (udp_there {h = At line m place Unused} g) refl o o.outgoing ds are refl refl) (λ done. listed_walks m place (Datagram place) (done.0, with_open_udp m.store place done.1) (begins_send o done.1) (put_finds udp_sort m.store.records place (Udp2Socket.Open o) (Udp2Socket.Open done.1) g)))
 
   pub send_walks : (m : Machine) (c outgoing : ℕ) (ds : List OutgoingDatagram) → origin ≡ Step.UdpSend c outgoing ds → Has (handles_of origin) outgoing → Walks law (Starts m Unused) OverWith (send_datagrams_on m (first_ids line) ds (outgoing_at m outgoing))
   send_walks m c outgoing ds is named = on_udp m outgoing (outgoing_at m outgoing) named (outgoing_record (kind_at m.table outgoing)) (λ place. sends_at m place ds (subst (λ (s : Step). AreSent 1 s ds) (sym is) (all_sent_by c outgoing ds)) (open_at m.store.records place) refl)

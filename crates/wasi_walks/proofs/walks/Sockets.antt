@@ -4,7 +4,6 @@ use Rattle.wasi_tcp.specs.Halves.{take_send}
 use Rattle.wasi_records.specs.Records.{tcp2_at, tcp2_put}
 use Rattle.wasi_host.specs.Store.{with_record_put}
 use Rattle.wasi_walks.specs.Answered.{streams_in}
-use Rattle.wasi_walks.proofs.Lists.{set_there}
 use Rattle.wasi_walks.proofs.Words.{Records, TcpReceiveStream, TcpSendStream, finish_connect_at, finish_connect_by}
 use Rattle.wasi_walks.proofs.Words.{Accepting, Accepts, Answer, Begins, Bool, Connection, Done, End, Err, ErrorCode, Give, InProgress}
 use Rattle.wasi_walks.proofs.Words.{InvalidArgument, InvalidState, IpSocketAddress, IsBacklogSet, IsBindTo, IsConnectTo, IsListenStep, Item, List}
@@ -32,8 +31,8 @@ use Rattle.wasi_walks.proofs.walks.Law.{Law, HasRecord, owning, spent, put_put, 
 use Rattle.std.specs.Prelude.{not, ◌+◌}
 use Rattle.wasi_walks.proofs.walks.Here.{MayBegin, after}
 use Rattle.wasi_tcp.specs.Listener.{begun as accept_begun, has_accept}
-use Rattle.wasi_walks.proofs.Lists.{set_set}
 use Rattle.wasi_records.specs.declared.records.Record.{Record}
+use Rattle.wasi_walks.proofs.Places.{put_finds, put_twice, tcp_sort}
 
 -- what a call on the record's socket, its reader or its writer leaves
 abbrev pub Inner : {A : Type 0} → Here → ℕ → Tcp2Socket → A × Socket → Here
@@ -181,7 +180,7 @@ finished_given store place None g = tt
 finished_given store place (Some r) g = by_test (is_connect r.in_progress)
   where
     kept : (done : Result (Unit {0}) Stop × Tcp2Socket) → OpenedSo done → FinishedSo place (with_record_put store place done)
-    kept (Ok d, now) has = subst (λ (o : Option Tcp2Socket). IsSome (streams_in o)) (sym (set_there store.records place r now g)) has
+    kept (Ok d, now) has = subst (λ (o : Option Tcp2Socket). IsSome (streams_in o)) (sym (put_finds tcp_sort store.records place r now g)) has
     kept (Err why, now) has = tt
 
     by_test : (its : Bool) → Given (FinishedSo place) (finish_connect_by store place r its)
@@ -482,6 +481,6 @@ module _ {contexts : List WasiSocketsCtx} {line : ℕ} {origin : Step} {law : La
       let old : Tcp2Socket = accepting_now r l (Accepting.Arrived new peer) in
       let idle : Tcp2Socket = accepting_now r l Accepting.Idle in
       move (Joins (put h place old) c handle place old (with_accept l (Accepting.Arrived new peer)) new peer is of unmade (found here old) refl refl)
-      (from (ap (λ (xs : List Record). joining h xs (joined l new peer)) (sym (set_set h.machine.store.records place old idle))) (give _))
+      (from (ap (λ (xs : List Record). joining h xs (joined l new peer)) (sym (put_twice tcp_sort h.machine.store.records place old idle))) (give _))
   takes_walks r l (Accepting.Failed why) = let old : Tcp2Socket = accepting_now r l (Accepting.Failed why) in on here old _ (Forgets _ _ _ (with_accept l (Accepting.Failed why)) why (found here old) refl refl) (give _)
   takes_walks r l _ = give _

@@ -9,10 +9,11 @@ use Rattle.wasi_world.specs.declared.ids.Ids.{Ids}
 use Rattle.wasi_walks.proofs.walks.Moves.{Own, Used, Here, put, Found, NoStartStands, record_of, udp_record_of, tcp_place, udp_place, Made, Awaited, Emptied, Numbered, Past, Unmade, Joined}
 use Rattle.wasi_host.specs.declared.kind.Kind.TheVariants.{Udp2, PlainInput, PlainOutput, Incoming, Outgoing, Lookup}
 use Rattle.wasi_host.specs.Kinds.{udp_of, incoming_of, outgoing_of}
-use Rattle.wasi_walks.proofs.Lists.{value_front, tcp2_seam}
+use Rattle.wasi_walks.proofs.Lists.{value_front}
 use Rattle.wasi_walks.proofs.walks.Law.{HasRecord, Given, given_then}
 use Rattle.wasi_records.specs.Records.{tcp2_at, tcp2_put}
 use Rattle.wasi_records.specs.declared.records.Record.{Record}
+use Rattle.wasi_walks.proofs.Places.{push_finds, tcp_sort}
 
 -- a line begins, and is over
 abbrev pub Starts : Machine → Own → Here
@@ -176,7 +177,7 @@ joined_given store ids place None = tt
 joined_given store ids place (Some r) = given_then JoinedSo (accept_answered store place) answered (accept_record_asks ids r)
   where
     kept : (records : List Record) (x : Result (Unit {0}) Stop × Tcp2Socket) → JoinedSo (with_records store (kept_accepted records x))
-    kept records (Ok done, now) = record { was = now; found = tcp2_seam records now }
+    kept records (Ok done, now) = record { was = now; found = push_finds tcp_sort records now }
     kept records (Err why, now) = tt
 
     answered : (done : Result (Answer Socket) ErrorCode × Tcp2Socket) → JoinedSo (accept_answered store place done)

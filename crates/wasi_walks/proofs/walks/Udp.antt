@@ -1,7 +1,7 @@
 -- The steps of UDP sockets, as moves: one is made, the handle of one is looked up, and its record does the call.
 use Rattle.std.specs.Prelude.{◌≡◌, ⊤, ℕ, length, Bool, true, false, if◌then◌else◌, List, Option, Some, None, Result, Ok, Err}
 use Rattle.wasi_addr.specs.declared.address.IpSocketAddress.{IpSocketAddress}
-use Rattle.wasi_addr.specs.Address.{is_of_family, is_wildcard, ip_of}
+use Rattle.wasi_addr.specs.Address.{is_of_family, ip_of}
 use Rattle.wasi_walks.proofs.Words.{Answer, Asks, ErrorCode, Give, Has, Item, End, Waits, Done, Refused, Machine, Operation, Pending, Ready, Records, SocketAddressFamily, StandingCall, Step, Stop, WasiSocketsCtx}
 use Rattle.wasi_walks.proofs.Words.{ap, bind, subst, ◌∙◌, handles_of, is_network, kind_at, left_of, own_of, poll_asks, refl, sym, with_store, HandleTable, InvalidArgument, inl, inr}
 use Rattle.wasi_machine.specs.Machine.{first_ids}
@@ -25,13 +25,13 @@ use Rattle.wasi_udp.specs.declared.bind.UdpBindStage.{UdpBindStage}
 use Rattle.wasi_udp.specs.Create.{Create}
 use Rattle.wasi_udp.specs.Options.{get_option_asks, set_option_asks}
 use Rattle.wasi_udp.specs.Shape.{Socket}
-use Rattle.wasi_udp.specs.Socket.{after_local, asker_of, ask_bound, bound_asks, local_where}
+use Rattle.wasi_udp.specs.Socket.{asker_of, ask_bound, bound_asks, local_where}
 use Rattle.wasi_walks.specs.Licence.{IsGetOf, IsSetTo, IsUdpBindTo}
 use Rattle.wasi_walks.proofs.walks.Moves.{StreamStays, AwaitsCreate, Here, put_udp, FoundUdp, IsOpenUdp, NoStart, NoStartStands, ReleasesUdp, CreatesUdp, udp_begun, part_of, udp_record_of, IsUdpSettled, ReachesUdp, Leaves, Spends, UdpChanges, BeginsUdpBind, StandsUdpBind, StandsUdpCreate, Used, Unused, GivesBack, OfUdp}
-use Rattle.wasi_walks.proofs.UdpLists.{udp_set_there}
 use Rattle.wasi_walks.proofs.walks.Law.{Law, Walks, Given, given_then, given_on, given_along, give, and_then, and_so, and_given, by_if, move, gives, from}
 use Rattle.wasi_walks.proofs.walks.States.{At, Awaiting, Emptying, Over, OverWith, Put, Starts, none_stands, udp_record}
 use Rattle.wasi_walks.proofs.walks.UdpLaw.{HasUdp, udp_put_put, udp_put_same, udp_found, create_udp, mark_udp_walks, ask_udp, learn_udp, close_udp, poll_create_walks, poll_udp_bind_walks}
+use Rattle.wasi_walks.proofs.Places.{put_finds, udp_sort}
 
 -- what is open at a place is the UDP socket there
 pub open_is : (u : Option Udp2Socket) (o : OpenUdp) → open_of u ≡ Some o → u ≡ Some (Udp2Socket.Open o)
@@ -86,15 +86,6 @@ create_given (Udp2Socket.Creating create) = given_then WaitsCreate (udp_create_e
 create_given (Udp2Socket.Open o) = tt
 create_given (Udp2Socket.Closed s) = tt
 
--- what is known to be bound was told so
-bound_keeps : (socket : Socket) (told : _) → (after_local socket told).1.side ≡ socket.side
-bound_keeps socket (Ok a) = by_test (is_wildcard socket.family a)
-  where
-    by_test : (b : Bool) → (let answer : Bool × Socket = if b then (false, socket) else (true, record socket { bound = true }) in answer.1.side ≡ socket.side)
-    by_test true = refl
-    by_test false = refl
-bound_keeps socket (Err c) = refl
-
 -- only what was started is finished, and that is no bind in progress
 bound_settles : (doing : UdpInProgress) → is_udp_bound doing ≡ true → IsUdpSettled doing
 bound_settles (UdpInProgress.Binding op) e = absurd (cc)
@@ -129,8 +120,8 @@ CreatedSo m place (_, store) = Over (record m { store = store })
 
 module _ (m : Machine) (place : ℕ) where
   answered_given : NoStartStands m.store.standing → (was : Udp2Socket) → udp2_at m.store.records place ≡ Some was → (done : Result (Answer (Unit {0})) ErrorCode × Udp2Socket) → WaitsCreate done → CreatesOn place (create_answered m.store place done)
-  answered_given q was g (Ok Pending, u) w = (q, (w.create, udp_set_there m.store.records place was u g ∙ ap (λ (x : Udp2Socket). Some x) w.is))
-  answered_given q was g (Ok (Ready d), u) w = record { was = u; at = udp_set_there m.store.records place was u g; opens = w }
+  answered_given q was g (Ok Pending, u) w = (q, (w.create, put_finds udp_sort m.store.records place was u g ∙ ap (λ (x : Udp2Socket). Some x) w.is))
+  answered_given q was g (Ok (Ready d), u) w = record { was = u; at = put_finds udp_sort m.store.records place was u g; opens = w }
   answered_given q was g (Err c, u) w = tt
 
   poll_at_given : NoStartStands m.store.standing → (u : Option Udp2Socket) → udp2_at m.store.records place ≡ u → Given (CreatesOn place) (poll_create_at m.store place u)

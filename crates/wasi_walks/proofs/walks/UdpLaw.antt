@@ -22,9 +22,10 @@ use Rattle.wasi_records.specs.declared.udp.UdpInProgress.{UdpInProgress}
 use Rattle.wasi_records.specs.Udp.{udp_side, udp_create_left, udp_bind_progress, with_udp_inner, with_udp_progress}
 use Rattle.wasi_udp.specs.Create.{Create, new_asks}
 use Rattle.wasi_udp.specs.Socket.{after_local, after_peer}
-use Rattle.wasi_walks.proofs.UdpLists.{udp_set_set, udp_set_same, udp_set_there}
 use Rattle.wasi_walks.proofs.walks.Moves.{HasNewStream, Here, MarksNext, put_udp, FoundUdp, IsCreated, NoStart, ReleasesUdp, IsUdpQuestionOf, CreatesUdp, udp_begun, ToSend, part_of, SettlesSend, Unused, Past, Spends, Held, UdpCreates, UdpBindsOn, UdpConnectsOn, SendsOn, ReceivesOn}
+use Rattle.wasi_walks.proofs.walks.Asked.{MarksStream, MarksUdp, Polls, UdpBegins, UdpCloses, UdpLearns, UdpPeers, UdpQuestions}
 use Rattle.wasi_walks.proofs.walks.Law.{Law, Walks, ends, by_if, gives}
+use Rattle.wasi_walks.proofs.Places.{put_again, put_finds, put_twice, udp_sort}
 
 -- A place that has the record of a UDP socket.
 pub record HasUdp (h : Here) (place : ℕ) : Type 0 where
@@ -34,15 +35,15 @@ pub record HasUdp (h : Here) (place : ℕ) : Type 0 where
 pub udp_put_put : (h : Here) (place : ℕ) (u now : Udp2Socket) → put_udp (put_udp h place u) place now ≡ put_udp h place now
 udp_put_put h place u now =
     let f : List Record → Here = λ xs. record h { machine = record h.machine { store = record h.machine.store { records = xs } } } in
-    ap f (udp_set_set h.machine.store.records place u now)
+    ap f (put_twice udp_sort h.machine.store.records place u now)
 
 pub udp_put_same : (h : Here) (place : ℕ) (u : Udp2Socket) → FoundUdp h place u → put_udp h place u ≡ h
 udp_put_same h place u e =
     let f : List Record → Here = λ xs. record h { machine = record h.machine { store = record h.machine.store { records = xs } } } in
-    ap f (udp_set_same h.machine.store.records place u e)
+    ap f (put_again udp_sort h.machine.store.records place u e)
 
 pub udp_found : {h : Here} {place : ℕ} → HasUdp h place → (u : Udp2Socket) → FoundUdp (put_udp h place u) place u
-udp_found {h} {place} here u = udp_set_there h.machine.store.records place here.was u here.at
+udp_found {h} {place} here u = put_finds udp_sort h.machine.store.records place here.was u here.at
 
 -- no connect goes on where the record has none
 pub over_at : {h : Here} {place : ℕ} → HasUdp h place → (o : OpenUdp) → o.connecting ≡ None → (x : OpenUdp) (op : Operation) → FoundUdp (put_udp h place (Udp2Socket.Open o)) place (Udp2Socket.Open x) → x.connecting ≡ Some op → ⊥
@@ -52,11 +53,11 @@ module _ {contexts : List WasiSocketsCtx} {line : ℕ} {origin : Step} {law : La
   -- its network socket is made
   pub create_udp : {h : Here} (ctx : WasiSocketsCtx) (family : SocketAddressFamily) → CreatesUdp contexts ctx family origin → h.at ≡ None → h.own ≡ Unused → h.made ≡ Past → Walks law h (udp_begun h) (new_asks (own_of line) ctx family)
   unfolding bind
-  create_udp {h} ctx family c t o m = by_if ctx.udp (λ may. record { along = λ es i. let a = law.udp_creates es h ctx family c may t o m i in (a.0, λ told f. a.1 told f) }) (λ other. gives _ (Spends _ o))
+  create_udp {h} ctx family c t o m = by_if ctx.udp (λ may. record { along = λ es i. let a = law.asks es h _ _ _ (UdpBegins ctx family c may t o m) tt i in (a.0, λ told f. a.1 told f) }) (λ other. gives _ (Spends _ o))
 
   -- it gets its handle
   pub mark_udp_walks : {h : Here} (place : ℕ) (u : Udp2Socket) → IsCreated h place u → Walks law h (λ made. record h { machine = record h.machine { table = made.1 }; made = Past }) (make_asks h.machine.table (udp_side u) (Udp2 place) None (Some (udp_side u)))
-  mark_udp_walks {h} place u g = record { along = λ es i. law.udp_marks es h place u g i }
+  mark_udp_walks {h} place u g = record { along = λ es i. law.asks es h _ _ _ (MarksUdp place u g) tt i }
 
   module _ {h : Here} {place : ℕ} (here : HasUdp h place) where
     -- a question
@@ -64,7 +65,7 @@ module _ {contexts : List WasiSocketsCtx} {line : ℕ} {origin : Step} {law : La
         → Walks law (put_udp h place (Udp2Socket.Open o)) end (Ask (own_of n) c next)
     ask_udp {n} o {c} at q k = record {
       along = λ es i.
-          let a = law.udp_asks es (put_udp h place (Udp2Socket.Open o)) place n o c at (udp_found here (Udp2Socket.Open o)) q i in
+          let a = law.asks es (put_udp h place (Udp2Socket.Open o)) _ _ _ (UdpQuestions place n o c at (udp_found here (Udp2Socket.Open o)) q) tt i in
           (a.0, λ told fits. (k told).along (es ++ entry (own_of n) c told ∷ []) (a.1 told fits));
     }
 
@@ -73,7 +74,7 @@ module _ {contexts : List WasiSocketsCtx} {line : ℕ} {origin : Step} {law : La
         → Walks law (put_udp h place (Udp2Socket.Open o)) end (Ask (part_of line part) (Call.Local o.inner.side) next)
     learn_udp {part = part} o at k = record {
       along = λ es i.
-          let a = law.udp_learns es (put_udp h place (Udp2Socket.Open o)) place part o at (udp_found here (Udp2Socket.Open o)) i in (
+          let a = law.asks es (put_udp h place (Udp2Socket.Open o)) _ _ _ (UdpLearns place part o at (udp_found here (Udp2Socket.Open o))) tt i in (
             a.0,
             λ told fits.
                 let fs : List Entry = es ++ entry (part_of line part) (Call.Local o.inner.side) told ∷ [] in
@@ -86,7 +87,7 @@ module _ {contexts : List WasiSocketsCtx} {line : ℕ} {origin : Step} {law : La
         → Walks law (put_udp h place (Udp2Socket.Open o)) end (Ask (own_of line) (Call.Peer o.inner.side) next)
     peer_udp o at k = record {
       along = λ es i.
-          let a = law.udp_peers es (put_udp h place (Udp2Socket.Open o)) place o at (udp_found here (Udp2Socket.Open o)) i in (
+          let a = law.asks es (put_udp h place (Udp2Socket.Open o)) _ _ _ (UdpPeers place o at (udp_found here (Udp2Socket.Open o))) tt i in (
             a.0,
             λ told fits.
                 let fs : List Entry = es ++ entry (own_of line) (Call.Peer o.inner.side) told ∷ [] in
@@ -98,7 +99,7 @@ module _ {contexts : List WasiSocketsCtx} {line : ℕ} {origin : Step} {law : La
     pub close_udp : {A : Type 0} {end : A → Here} (o : OpenUdp) {next : Told → Asks A} → ReleasesUdp h place → ((told : Told) → Walks law (put_udp h place (Udp2Socket.Closed o.inner.side)) end (next told)) → Walks law (put_udp h place (Udp2Socket.Open o)) end (Ask (own_of line) (Call.Close o.inner.side) next)
     close_udp o q k = record {
       along = λ es i.
-          let a = law.udp_closes es (put_udp h place (Udp2Socket.Open o)) place o q (udp_found here (Udp2Socket.Open o)) i in (
+          let a = law.asks es (put_udp h place (Udp2Socket.Open o)) _ _ _ (UdpCloses place o q (udp_found here (Udp2Socket.Open o))) tt i in (
             a.0,
             λ told fits.
                 let fs : List Entry = es ++ entry (own_of line) (Call.Close o.inner.side) told ∷ [] in
@@ -108,7 +109,7 @@ module _ {contexts : List WasiSocketsCtx} {line : ℕ} {origin : Step} {law : La
 
     -- a poll, and what becomes of the record
     udp_polled : (u : Udp2Socket) {op : Operation} (now : End × List Item → Udp2Socket) → Held (put_udp h place u) op (λ ended. put_udp (put_udp h place u) place (now ended)) → Walks law (put_udp h place u) (λ ended. put_udp h place (now ended)) (poll_asks op)
-    udp_polled u {op} now held = ends (λ ended. udp_put_put h place u (now ended)) (record { along = λ es i. law.polls es (put_udp h place u) op _ held i })
+    udp_polled u {op} now held = ends (λ ended. udp_put_put h place u (now ended)) (record { along = λ es i. law.asks es (put_udp h place u) _ _ _ (Polls op _ held) tt i })
 
     pub poll_create_walks : (create : Create) → NoStart h → Walks law (put_udp h place (Udp2Socket.Creating create)) (λ ended. put_udp h place (udp_create_left create ended)) (poll_asks create.operation)
     poll_create_walks create q = udp_polled (Udp2Socket.Creating create) (udp_create_left create) (UdpCreates place create q (udp_found here (Udp2Socket.Creating create)))
@@ -130,4 +131,4 @@ module _ {contexts : List WasiSocketsCtx} {line : ℕ} {origin : Step} {law : La
   -- a datagram stream of the socket of this handle is made
   pub mark_stream : {h : Here} (place n handle reached : ℕ) (kind : Kind) → MarksNext h.made n handle reached kind place → HasNewStream h.machine.store reached → udp_of (kind_at h.machine.table handle) ≡ Some place
       → Walks law h (λ made. record h { machine = record h.machine { table = made.1 }; made = ToSend n handle reached }) (make_asks h.machine.table (own_of n) kind (Some handle) (udp_side_at (udp2_at h.machine.store.records place)))
-  mark_stream {h} place n handle reached kind m new e = record { along = λ es i. law.stream_marks es h place n handle reached kind m new e i }
+  mark_stream {h} place n handle reached kind m new e = record { along = λ es i. law.asks es h _ _ _ (MarksStream place n handle reached kind m new e) tt i }

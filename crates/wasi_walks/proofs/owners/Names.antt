@@ -1,0 +1,146 @@
+-- What a handle says of its record: that it is of the kind that the handle is of, and what else the handle needs of it.
+use Rattle.std.proofs.Common.{◌≡◌, inl, inr, ℕ, List, [], ◌∷◌, ◌++◌, Option, Some, None, refl, subst, sym, slice_get, slice_set}
+use Rattle.std.specs.Prelude.{IsSome, ⊤}
+use Rattle.wasi_host.specs.declared.kind.Kind.{Kind}
+use Rattle.wasi_host.specs.declared.kind.Kind.TheVariants.{Tcp2, Udp2, Input, Output, Incoming, Outgoing, Lookup, PlainInput, PlainOutput}
+use Rattle.wasi_host.specs.declared.kind.PlainInput.TheVariants as plain_input
+use Rattle.wasi_host.specs.declared.kind.PlainOutput.TheVariants as plain_output
+use Rattle.wasi_records.specs.Records.{tcp2_of, udp2_of, open_of, lookup_of, input_pipe_of, output_pipe_of}
+use Rattle.wasi_records.specs.declared.name_lookup.LookupOp.{LookupOp}
+use Rattle.wasi_records.specs.declared.records.Record.{Record}
+use Rattle.wasi_records.specs.declared.socket.Tcp2Socket.{Tcp2Socket}
+use Rattle.wasi_records.specs.declared.udp.OpenUdp.{OpenUdp}
+use Rattle.wasi_records.specs.declared.udp.Udp2Socket.{Udp2Socket}
+use Rattle.wasi_walks.specs.Answered.{streams_in}
+use Rattle.wasi_walks.proofs.walks.Moves.{IsRecord, SameSockets}
+use Rattle.wasi_walks.proofs.owners.Kinds.{IsOf}
+use Rattle.wasi_walks.proofs.Places.{push_at, set_at, tcp_sort, udp_sort}
+
+-- An input and an output of a connection are of a socket that has its streams, and what is of a UDP socket is of an open one.
+abbrev pub Names : Kind → Option Record → Type 0
+Names (Tcp2 place) o = IsSome (tcp2_of o)
+Names (Input place) o = IsSome (streams_in (tcp2_of o))
+Names (Output place) o = IsSome (streams_in (tcp2_of o))
+Names (Udp2 place) o = IsSome (open_of (udp2_of o))
+Names (Incoming place) o = IsSome (open_of (udp2_of o))
+Names (Outgoing place) o = IsSome (open_of (udp2_of o))
+Names (Lookup place) o = IsSome (lookup_of o)
+Names (PlainInput (plain_input.Pipe place)) o = IsSome (input_pipe_of o)
+Names (PlainOutput (plain_output.Pipe place)) o = IsSome (output_pipe_of o)
+Names _ o = ⊤
+
+-- == one is replaced
+tcp_names : (kind : Kind) (r now : Tcp2Socket) → (IsSome r.streams → IsSome now.streams)
+    → Names kind (Some (Record.Tcp2 r)) → Names kind (Some (Record.Tcp2 now))
+tcp_names (Tcp2 place) r now keeps s = refl
+tcp_names (Input place) r now keeps s = keeps s
+tcp_names (Output place) r now keeps s = keeps s
+tcp_names (PlainInput (plain_input.Pipe place)) r now keeps s = s
+tcp_names (PlainInput plain_input.Closed) r now keeps s = s
+tcp_names (PlainOutput (plain_output.Pipe place)) r now keeps s = s
+tcp_names (PlainOutput plain_output.Sink) r now keeps s = s
+tcp_names (PlainOutput plain_output.Closed) r now keeps s = s
+tcp_names _ r now keeps s = s
+
+open_names : (kind : Kind) (o now : OpenUdp) → Names kind (Some (Record.Udp2 (Udp2Socket.Open o)))
+    → Names kind (Some (Record.Udp2 (Udp2Socket.Open now)))
+open_names (Udp2 place) o now s = refl
+open_names (Incoming place) o now s = refl
+open_names (Outgoing place) o now s = refl
+open_names (PlainInput (plain_input.Pipe place)) o now s = s
+open_names (PlainInput plain_input.Closed) o now s = s
+open_names (PlainOutput (plain_output.Pipe place)) o now s = s
+open_names (PlainOutput plain_output.Sink) o now s = s
+open_names (PlainOutput plain_output.Closed) o now s = s
+open_names _ o now s = s
+
+-- where it keeps what this handle needs of it
+pub names_set : (xs : List Record) (i : ℕ) (now : Record) (k : ℕ) (kind : Kind)
+    → (k ≡ i → Names kind (slice_get xs i) → Names kind (Some now)) → Names kind (slice_get xs k)
+    → Names kind (slice_get (slice_set xs i now) k)
+names_set xs i now k kind keeps s = elim (set_at xs i now k) [
+  | inl same ↦ subst (Names kind) (sym same) s
+  | inr its ↦ subst (Names kind) (sym its.1) (keeps its.0 (subst (λ (j : ℕ). Names kind (slice_get xs j)) its.0 s))
+]
+
+pub names_tcp : (xs : List Record) (i : ℕ) (r now : Tcp2Socket) → tcp2_of (slice_get xs i) ≡ Some r
+    → (IsSome r.streams → IsSome now.streams) → (k : ℕ) (kind : Kind) → Names kind (slice_get xs k)
+    → Names kind (slice_get (slice_set xs i (Record.Tcp2 now)) k)
+names_tcp xs i r now g keeps k kind s =
+    names_set xs i (Record.Tcp2 now) k kind (λ same was. tcp_names kind r now keeps
+    (subst (Names kind) (tcp_sort.it _ r g) was)) s
+
+pub names_open : (xs : List Record) (i : ℕ) (o now : OpenUdp) → udp2_of (slice_get xs i) ≡ Some (Udp2Socket.Open o)
+    → (k : ℕ) (kind : Kind) → Names kind (slice_get xs k)
+    → Names kind (slice_get (slice_set xs i (Record.Udp2 (Udp2Socket.Open now))) k)
+names_open xs i o now g k kind s =
+    names_set xs i (Record.Udp2 (Udp2Socket.Open now)) k kind
+    (λ same was. open_names kind o now (subst (Names kind) (udp_sort.it _ (Udp2Socket.Open o) g) was)) s
+
+-- == nothing is of a record that isn't there
+pub names_none : (kind : Kind) (place : ℕ) → IsOf kind place → Names kind None → ⊥
+names_none (Tcp2 p) place e s = absurd (cc)
+names_none (Input p) place e s = absurd (cc)
+names_none (Output p) place e s = absurd (cc)
+names_none (Udp2 p) place e s = absurd (cc)
+names_none (Incoming p) place e s = absurd (cc)
+names_none (Outgoing p) place e s = absurd (cc)
+names_none (Lookup p) place e s = absurd (cc)
+names_none (PlainInput (plain_input.Pipe p)) place e s = absurd (cc)
+names_none (PlainOutput (plain_output.Pipe p)) place e s = absurd (cc)
+names_none _ place (inl e) s = absurd (cc)
+names_none _ place (inr e) s = absurd (cc)
+
+-- nor is a UDP socket's that isn't open
+pub names_push : (xs : List Record) (now : Record) (k : ℕ) (kind : Kind) → IsOf kind k → Names kind (slice_get xs k)
+    → Names kind (slice_get (xs ++ now ∷ []) k)
+names_push xs now k kind e s =
+    elim (push_at xs now k) [
+      | inl same ↦ subst (Names kind) (sym same) s
+      | inr its ↦ absurd
+          (names_none kind k e (subst (Names kind) its.2 s))
+    ]
+
+-- == the sockets stay the same, and lookups and pipes stay such
+pub names_same : {new : LookupOp → Type 0} (old now : List Record) (k : ℕ) (kind : Kind) → SameSockets new old now
+    → Names kind (slice_get old k) → Names kind (slice_get now k)
+names_same old now k (Tcp2 p) same s = subst IsSome (sym (same.tcp k)) s
+names_same old now k (Input p) same s = subst (λ (o : Option Tcp2Socket). IsSome (streams_in o)) (sym (same.tcp k)) s
+names_same old now k (Output p) same s = subst (λ (o : Option Tcp2Socket). IsSome (streams_in o)) (sym (same.tcp k)) s
+names_same old now k (Udp2 p) same s = subst (λ (o : Option Udp2Socket). IsSome (open_of o)) (sym (same.udp k)) s
+names_same old now k (Incoming p) same s = subst (λ (o : Option Udp2Socket). IsSome (open_of o)) (sym (same.udp k)) s
+names_same old now k (Outgoing p) same s = subst (λ (o : Option Udp2Socket). IsSome (open_of o)) (sym (same.udp k)) s
+names_same old now k (Lookup p) same s = same.stays k s
+names_same old now k (PlainInput (plain_input.Pipe p)) same s = same.inputs k s
+names_same old now k (PlainOutput (plain_output.Pipe p)) same s = same.outputs k s
+names_same old now k (PlainInput plain_input.Closed) same s = tt
+names_same old now k (PlainOutput plain_output.Sink) same s = tt
+names_same old now k (PlainOutput plain_output.Closed) same s = tt
+names_same old now k _ same s = tt
+
+-- a UDP socket that isn't open is as nothing, and so is what is given back
+pub as_none : (kind : Kind) (u : Udp2Socket) → open_of (Some u) ≡ None → Names kind (Some (Record.Udp2 u))
+    → Names kind None
+as_none (Udp2 p) u e n = subst IsSome e n
+as_none (Incoming p) u e n = subst IsSome e n
+as_none (Outgoing p) u e n = subst IsSome e n
+as_none (PlainInput (plain_input.Pipe p)) u e n = n
+as_none (PlainInput plain_input.Closed) u e n = n
+as_none (PlainOutput (plain_output.Pipe p)) u e n = n
+as_none (PlainOutput plain_output.Sink) u e n = n
+as_none (PlainOutput plain_output.Closed) u e n = n
+as_none _ u e n = n
+
+gone_none : (kind : Kind) → Names kind (Some Record.Gone) → Names kind None
+gone_none (PlainInput (plain_input.Pipe p)) n = n
+gone_none (PlainInput plain_input.Closed) n = n
+gone_none (PlainOutput (plain_output.Pipe p)) n = n
+gone_none (PlainOutput plain_output.Sink) n = n
+gone_none (PlainOutput plain_output.Closed) n = n
+gone_none _ n = n
+
+-- == what a handle is of is there
+pub names_record : (kind : Kind) (place : ℕ) (o : Option Record) → IsOf kind place → Names kind o → IsRecord o
+names_record kind place None e s = names_none kind place e s
+names_record kind place (Some Record.Gone) e s = names_none kind place e (gone_none kind s)
+names_record kind place _ e s = tt

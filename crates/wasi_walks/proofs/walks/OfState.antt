@@ -1,0 +1,204 @@
+-- A law of the state alone, which says nothing of the log: what each move keeps, what each thing that is asked leaves, and what a poll
+-- does.
+use Rattle.wasi_walks.proofs.Words.{Allows, Asks, End, Entry, Err, ErrorValue, Has, HandleTable, Item, Kind, List, None, Not, Ok, OpId, Operation, Option}
+use Rattle.wasi_walks.proofs.Words.{ErrorCode, Result, SocketAddressFamily, Some, Step, Streams, Tcp2, Tcp2Socket, TcpState, Told, WasiSocketsCtx, Socket}
+use Rattle.wasi_walks.proofs.Words.{after_create, after_local, allows_if, allows_then, bind, created_asks, create_asks, is_full, length, make_asks, new_asks, new_socket, own_of, poll_asks, side_of, told_addr, told_done, turn_asks, with_handle, with_inner, with_listening, with_record, with_writer, ℕ, ◌≡◌, refl, subst, sym}
+use Rattle.wasi_walks.proofs.Words.{Full, Stop, Trap}
+use Rattle.std.specs.Prelude.{⊤}
+use Rattle.wasi_walks.proofs.fits.Polls.{Anything}
+use Rattle.wasi_walks.proofs.Gives.{gives_any}
+use Rattle.wasi_walks.proofs.fits.UdpFits.{learnt_side}
+use Rattle.wasi_walks.proofs.walks.Asked.{Asked, Questions, SetsBacklog, Learns, Closes, UdpQuestions, UdpLearns, UdpPeers, UdpCloses, UdpBegins, Resolves, Looks, MarksOne, MarksAccepted, MarksUdp, MarksStream, MarksError, AsksCreate, Polls, Turns, GivesUp, UdpGivesUp}
+use Rattle.wasi_walks.proofs.walks.Law.{BeginsIn, BeginsWrites, Rests}
+use Rattle.wasi_walks.proofs.walks.Moves.{Calls, Creates, CreatesUdp, Found, FoundUdp, HasNewStream, Held, Here, IsCreated, Joined, LooksUp, Made, Marked, Marks, MarksNext, Move}
+use Rattle.wasi_walks.proofs.walks.Moves.{NoStart, OfStreams, Past, Releases, ReleasesUdp, SameSockets, Spends, ToSend, Unused, Used, closed_record, put, put_udp, record_of, udp_begun, with_records}
+use Rattle.wasi_host.specs.Kinds.{kind_at, udp_of}
+use Rattle.wasi_host.specs.declared.kind.Kind.TheVariants.{Udp2}
+use Rattle.wasi_records.specs.Udp.{with_udp_inner}
+use Rattle.wasi_records.specs.declared.records.Record.{Record}
+use Rattle.wasi_records.specs.declared.udp.OpenUdp.{OpenUdp}
+use Rattle.wasi_records.specs.declared.udp.Udp2Socket.{Udp2Socket}
+use Rattle.wasi_udp.specs.Create.{Create, after_create as udp_after_create}
+use Rattle.wasi_udp.specs.Shape.{Socket as UdpSocket}
+use Rattle.wasi_udp.specs.Socket.{after_local as udp_after_local, after_peer}
+
+-- a handle is made, which is of this kind under this parent; what the line has made is this then
+pub data Handles (origin : Step) (h : Here) : Kind → Option ℕ → Made → Type 0 where
+  OfLine : (kind : Kind) (parent : Option ℕ) (sock : Option OpId) → Marks origin h kind parent sock
+      → Handles origin h kind parent h.made
+  OfAccepted : (c listener place : ℕ) (r : Tcp2Socket) → origin ≡ Step.TcpAccept c listener → h.made ≡ Joined place
+      → h.own ≡ Used → Found h place r → Handles origin h (Tcp2 place) (Some listener)
+      (Marked h.machine.table.next place)
+  OfCreated : (place : ℕ) (u : Udp2Socket) → IsCreated h place u → Handles origin h (Udp2 place) None Past
+  OfStream : (place n handle reached : ℕ) (kind : Kind) → MarksNext h.made n handle reached kind place
+      → HasNewStream h.machine.store reached → udp_of (kind_at h.machine.table handle) ≡ Some place
+      → Handles origin h kind (Some handle) (ToSend n handle reached)
+  OfError : (n handle place : ℕ) (handles : List ℕ) → h.made ≡ Calls OfStreams n handles → Has handles handle
+      → record_of (kind_at h.machine.table handle) ≡ Some place → Handles origin h ErrorValue (Some handle) h.made
+
+-- what the line has made where there was no room for a handle
+abbrev pub HasNoRoom : Made → Type 0
+HasNoRoom Past = ⊤
+HasNoRoom (ToSend n handle reached) = ⊤
+HasNoRoom _ = ⊥
+
+-- a socket that is created joins the records
+abbrev pub creating : Here → OpId → WasiSocketsCtx → SocketAddressFamily → Here
+creating h own ctx family = record h { machine = record h.machine { store = with_record h.machine.store (new_socket own ctx.name family) }; own = Used }
+
+-- what something that is asked leaves
+pub data Becomes (contexts : List WasiSocketsCtx) (line : ℕ) (origin : Step) (h : Here) : Here → Type 0 where
+  Learnt : (place : ℕ) (r : Tcp2Socket) (side : OpId) (told : Told) → h.at ≡ Some (place, line) → Found h place r
+      → r.inner.state ≡ TcpState.Default side
+      → Becomes contexts line origin h (put h place (with_inner r (after_local r.inner (told_addr told)).1))
+  IsClosed : (place : ℕ) (r : Tcp2Socket) (side : OpId) → Releases h place → Found h place r
+      → side_of r.inner ≡ Some side → Becomes contexts line origin h (put h place (closed_record r))
+  GivenUp : (place : ℕ) (r : Tcp2Socket) → NoStart h → Found h place r
+      → Becomes contexts line origin h (put h place (with_listening r Not))
+  UdpLearnt : (place : ℕ) (o : OpenUdp) (socket : UdpSocket) → FoundUdp h place (Udp2Socket.Open o)
+      → socket.side ≡ o.inner.side → Becomes contexts line origin h
+      (put_udp h place (Udp2Socket.Open (with_udp_inner o socket)))
+  UdpIsClosed : (place : ℕ) (o : OpenUdp) → ReleasesUdp h place → FoundUdp h place (Udp2Socket.Open o)
+      → Becomes contexts line origin h (put_udp h place (Udp2Socket.Closed o.inner.side))
+  UdpGivenUp : (place : ℕ) (create : Create) → NoStart h → FoundUdp h place (Udp2Socket.Creating create)
+      → Becomes contexts line origin h (put_udp h place (Udp2Socket.Closed create.operation.who.side))
+  UdpBegun : (ctx : WasiSocketsCtx) (family : SocketAddressFamily) (r : Result (Unit {0}) ErrorCode)
+      → CreatesUdp contexts ctx family origin → h.own ≡ Unused → h.made ≡ Past
+      → Becomes contexts line origin h (udp_begun h (udp_after_create (own_of line) ctx.name family r))
+  Resolved : (host : List ℕ) (records : List Record) → LooksUp contexts host origin
+      → SameSockets (λ op. op ≡ record { id = own_of line; host = host }) h.machine.store.records records
+      → Becomes contexts line origin h (with_records h records)
+  HasHandle : (kind : Kind) (parent : Option ℕ) (made : Made) → Handles origin h kind parent made
+      → Becomes contexts line origin h (record h
+      { machine = record h.machine { table = with_handle h.machine.table kind parent }; made = made })
+  NoRoom : (made : Made) → HasNoRoom made → Becomes contexts line origin h (record h { made = made })
+  Created : (ctx : WasiSocketsCtx) (family : SocketAddressFamily) → Creates contexts ctx family origin
+      → h.own ≡ Unused → h.made ≡ Past → Becomes contexts line origin h (creating h (own_of line) ctx family)
+  CreatedWith : (ctx : WasiSocketsCtx) (family : SocketAddressFamily) → Creates contexts ctx family origin
+      → h.own ≡ Unused → h.made ≡ Past
+      → Becomes contexts line origin h (record (creating h (own_of line) ctx family) {
+        machine = record (creating h (own_of line) ctx family).machine
+            { table = with_handle h.machine.table (Tcp2 (length h.machine.store.records)) None };
+      })
+  Writing : (now : Here) → BeginsIn h now → Becomes contexts line origin h now
+
+pub record OfState (contexts : List WasiSocketsCtx) (line : ℕ) (origin : Step) (B : List Entry → Here → Type 0) : Type 1 where
+  pub Holds : Here → Type 0
+  pub moves : (es : List Entry) (h now : Here) → Move line origin h now → B es h → Holds h → Holds now
+  pub becomes : (es : List Entry) (h now : Here) → Becomes contexts line origin h now → B es h → Holds h → Holds now
+  pub polls : (es : List Entry) (h : Here) (op : Operation) (after : End × List Item → Here) → Held h op after
+      → B es h → Holds h → Allows Anything (λ fs ended. Holds (after ended)) es (poll_asks op)
+  pub turns : (es : List Entry) (h : Here) (place : ℕ) (r : Tcp2Socket) (s : Streams) → Found h place r
+      → r.streams ≡ Some s → B es h → Holds h
+      → Allows Anything (λ fs done. Holds (put h place (with_writer r s done.1))) es (turn_asks s.writer)
+
+abbrev IsNewSocket : Socket → Result Socket ErrorCode → Type 0
+IsNewSocket new (Ok socket) = socket ≡ new
+IsNewSocket new (Err c) = ⊤
+
+module _ {contexts : List WasiSocketsCtx} {line : ℕ} {origin : Step} {B : List Entry → Here → Type 0} (a : OfState contexts line origin B) where
+  -- a handle is made, or there is no room for it
+  makes : (es : List Entry) (op : OpId) (t : HandleTable) (kind : Kind) (parent : Option ℕ) (sock : Option OpId)
+      (end : Result ℕ Stop × HandleTable → Here) → a.Holds (end (Err (Trap Full), t))
+      → a.Holds (end (Ok t.next, with_handle t kind parent))
+      → Allows Anything (λ fs made. a.Holds (end made)) es (make_asks t op kind parent sock)
+  unfolding bind
+  makes es op t kind parent sock end none some =
+      allows_if Anything (λ fs made. a.Holds (end made)) es (is_full t) _ _ (λ full. none)
+      (λ room. (tt, λ told fits. some))
+
+  new_is : (es : List Entry) (ctx : WasiSocketsCtx) (family : SocketAddressFamily)
+      → Allows Anything (λ fs made. IsNewSocket (new_socket (own_of line) ctx.name family) made) es
+      (new_asks (own_of line) ctx family)
+  unfolding bind
+  new_is es ctx family =
+      allows_if Anything (λ fs made. IsNewSocket (new_socket (own_of line) ctx.name family) made) es ctx.tcp _ _
+      (λ tcp. (tt, λ t f. by_told (told_done t))) (λ other. tt)
+    where
+      by_told : (r : Result (Unit {0}) ErrorCode)
+          → IsNewSocket (new_socket (own_of line) ctx.name family) (after_create (own_of line) ctx.name family r)
+      by_told (Ok done) = refl
+      by_told (Err c) = tt
+
+  joins : (es : List Entry) (h : Here) (ctx : WasiSocketsCtx) (family : SocketAddressFamily)
+      (made : Result Socket ErrorCode) → IsNewSocket (new_socket (own_of line) ctx.name family) made
+      → Creates contexts ctx family origin → h.own ≡ Unused → h.made ≡ Past → B es h → a.Holds h
+      → (fs : List Entry) → Allows Anything (λ gs done. a.Holds (record h { machine = done.1; own = Used })) fs
+      (created_asks h.machine (own_of line) made)
+  joins es h ctx family (Err e) k c u m b i fs = a.moves es h _ (Spends h u) b i
+  joins es h ctx family (Ok socket) k c u m b i fs =
+      let now : Here = creating h (own_of line) ctx family in
+      let at : HandleTable → Here = λ t. record now { machine = record now.machine { table = t } } in
+      subst (λ (x : Socket). Allows Anything (λ gs done. a.Holds (record h { machine = done.1; own = Used })) fs
+      (created_asks h.machine (own_of line) (Ok x))) (sym k)
+      (allows_then Anything (λ gs made. a.Holds (at made.1))
+      (λ gs done. a.Holds (record h { machine = done.1; own = Used })) fs
+      (make_asks h.machine.table (own_of line) (Tcp2 (length h.machine.store.records)) None (Some (own_of line))) _
+      (makes fs (own_of line) h.machine.table (Tcp2 (length h.machine.store.records)) None (Some (own_of line))
+      (λ made. at made.1) (a.becomes es h _ (Created ctx family c u m) b i)
+      (a.becomes es h _ (CreatedWith ctx family c u m) b i)) (λ gs made l. l))
+
+  created : (es : List Entry) (h : Here) (ctx : WasiSocketsCtx) (family : SocketAddressFamily)
+      → Creates contexts ctx family origin → h.own ≡ Unused → h.made ≡ Past → B es h → a.Holds h
+      → Allows Anything (λ fs done. a.Holds (record h { machine = done.1; own = Used })) es
+      (create_asks h.machine (own_of line) ctx family)
+  created es h ctx family c u m b i =
+      allows_then Anything (λ fs made. IsNewSocket (new_socket (own_of line) ctx.name family) made)
+      (λ fs done. a.Holds (record h { machine = done.1; own = Used })) es (new_asks (own_of line) ctx family)
+      (created_asks h.machine (own_of line)) (new_is es ctx family)
+      (λ fs made k. joins es h ctx family made k c u m b i fs)
+
+  pub asks : (es : List Entry) (h : Here) (A : Type 0) (tree : Asks A) (end : A → Here)
+      → Asked contexts line origin es h A tree end → B es h → a.Holds h
+      → Allows Anything (λ fs x. a.Holds (end x)) es tree
+  asks es h _ _ _ (Questions place n r side c at g o q) b i = (tt, λ told fits. i)
+  asks es h _ _ _ (SetsBacklog place r side backlog at g s is) b i = (tt, λ told fits. i)
+  asks es h _ _ _ (Learns place r side at g e) b i =
+      (tt, λ told fits. a.becomes es h _ (Learnt place r side told at g e) b i)
+  asks es h _ _ _ (Closes place r side q g e) b i =
+      (tt, λ told fits. a.becomes es h _ (IsClosed place r side q g e) b i)
+  asks es h _ _ _ (UdpQuestions place n o c at g q) b i = (tt, λ told fits. i)
+  asks es h _ _ _ (UdpLearns place part o at g) b i = (
+    tt,
+    λ told fits. a.becomes es h _ (UdpLearnt place o (udp_after_local o.inner (told_addr told)).1 g
+        (learnt_side o.inner (told_addr told))) b i,
+  )
+  asks es h _ _ _ (UdpPeers place o at g) b i =
+      (tt, λ told fits. a.becomes es h _ (UdpLearnt place o (after_peer o.inner (told_addr told)) g refl) b i)
+  asks es h _ _ _ (UdpCloses place o q g) b i = (tt, λ told fits. a.becomes es h _ (UdpIsClosed place o q g) b i)
+  asks es h _ _ _ (UdpBegins ctx family c may t o m) b i =
+      (tt, λ told fits. a.becomes es h _ (UdpBegun ctx family (told_done told) c o m) b i)
+  asks es h _ _ _ (Resolves host records l s) b i =
+      (tt, λ told fits. a.becomes es h _ (Resolved host (records told) l (s told)) b i)
+  asks es h _ _ _ (Looks place op e) b i = (tt, λ told fits. i)
+  asks es h _ _ end (MarksOne kind parent sock m) b i =
+      makes es _ h.machine.table kind parent sock end i
+      (a.becomes es h _ (HasHandle kind parent h.made (OfLine kind parent sock m)) b i)
+  asks es h _ _ end (MarksAccepted c listener place r is e o g) b i =
+      makes es _ h.machine.table _ _ _ end (a.becomes es h _ (NoRoom Past tt) b i)
+      (a.becomes es h _ (HasHandle _ _ _ (OfAccepted c listener place r is e o g)) b i)
+  asks es h _ _ end (MarksUdp place u g) b i =
+      makes es _ h.machine.table _ _ _ end (a.becomes es h _ (NoRoom Past tt) b i)
+      (a.becomes es h _ (HasHandle _ _ _ (OfCreated place u g)) b i)
+  asks es h _ _ end (MarksStream place n handle reached kind m new e) b i =
+      makes es _ h.machine.table _ _ _ end (a.becomes es h _ (NoRoom (ToSend n handle reached) tt) b i)
+      (a.becomes es h _ (HasHandle _ _ _ (OfStream place n handle reached kind m new e)) b i)
+  asks es h _ _ end (MarksError n handle place handles m k e f) b i =
+      makes es _ h.machine.table _ _ _ end i (a.becomes es h _
+      (HasHandle _ _ _ (OfError n handle place handles m k e)) b i)
+  asks es h _ _ _ (AsksCreate ctx family c t o m) b i = created es h ctx family c o m b i
+  asks es h _ _ _ (Polls op after k) b i = a.polls es h op after k b i
+  asks es h _ _ _ (Turns place r s g e) b i = a.turns es h place r s g e b i
+  asks es h _ tree _ (GivesUp place r q g) b i =
+      gives_any (λ fs done. a.Holds (put h place (with_listening r Not)))
+      (λ fs done. a.becomes es h _ (GivenUp place r q g) b i) es tree
+  asks es h _ tree _ (UdpGivesUp place create q g) b i =
+      gives_any (λ fs done. a.Holds (put_udp h place (Udp2Socket.Closed create.operation.who.side)))
+      (λ fs done. a.becomes es h _ (UdpGivenUp place create q g) b i) es tree
+
+  -- as a law
+  abbrev pub of_state : Rests contexts line origin B
+  of_state = record { P = Anything; Inv = λ es h. a.Holds h; moves = λ es h now m b i. a.moves es h now m b i; asks = λ es h A tree end q b i. asks es h A tree end q b i }
+
+  pub begins_state : BeginsWrites of_state
+  begins_state = record { begins = λ es h now w b i. a.becomes es h now (Writing now w) b i }
