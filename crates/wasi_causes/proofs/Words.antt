@@ -16,24 +16,24 @@ pub use Rattle.wasi_walks.proofs.Words.{after_create, after_local, after_read, a
 pub use Rattle.wasi_walks.proofs.Words.{append_assoc, arith, arrival_front, arrived, ask_bound, ask_close, ask_read, asks_while, begin_bind_asks}
 pub use Rattle.wasi_walks.proofs.Words.{begin_connect_asks, begin_listen_asks, begun, bind_allowed, bind_begun, bind_ended, bind_operation}
 pub use Rattle.wasi_walks.proofs.Words.{bind_progress, bound_asks, call_answered, call_of, call_place, check_write_asks, chosen, closed_listening}
-pub use Rattle.wasi_walks.proofs.Words.{collected, connect_begun, connect_ended, connect_polled, connect_start, connected_asks, context_at}
+pub use Rattle.wasi_walks.proofs.Words.{collected, connect_begun, connect_ended, connect_polled, connect_start, context_at}
 pub use Rattle.wasi_walks.proofs.Words.{create_asks, created_asks, done_front, drop_output_at, drop_taken, drop_waits, entry, false, finish_at}
-pub use Rattle.wasi_walks.proofs.Words.{finish_by, finish_connect_at, finish_connect_by, finish_connect_on, finish_in, finish_on, first_ids}
+pub use Rattle.wasi_walks.proofs.Words.{finish_by, finish_in, finish_on, first_ids}
 pub use Rattle.wasi_walks.proofs.Words.{first_state, flush_asks, front, get_where, give_streams_up, give_up_asks, give_up_in, go_on, gone}
 pub use Rattle.wasi_walks.proofs.Words.{has_no_child, idle, if◌then◌else◌, in_hand, in_socket, inl, inner_answered, input_at, inr, is_bind}
 pub use Rattle.wasi_walks.proofs.Words.{is_connect, is_connectable, is_full, is_guest_call, is_listen, is_network, is_nothing, is_over, is_trap}
 pub use Rattle.wasi_walks.proofs.Words.{is_wildcard, job_asks, job_in, kind_at, last_ask, left_of, length, less_one, listen_begun, listen_bound}
-pub use Rattle.wasi_walks.proofs.Words.{listen_ended, listen_once, listen_operation, listen_polled, listen_start, local_address_at, local_front}
+pub use Rattle.wasi_walks.proofs.Words.{listen_ended, listen_once, listen_operation, listen_polled, listen_start, local_front}
 pub use Rattle.wasi_walks.proofs.Words.{look_asks, look_in, machine_asks, make_asks, marked_by, marks_in, min, name_of, nat_lt, new_asks, new_job}
-pub use Rattle.wasi_walks.proofs.Words.{new_record, new_socket, no_fields, number_fields, opened_receive, opened_send, output_asks, output_at}
+pub use Rattle.wasi_walks.proofs.Words.{new_record, new_socket, no_fields, number_fields, opened_receive, opened_send, output_at}
 pub use Rattle.wasi_walks.proofs.Words.{output_of, own_of, permitted, place_in, place_of, poll_asks, poll_begun, poll_binding, poll_listening}
 pub use Rattle.wasi_walks.proofs.Words.{polled_answer, polled_front, read_state_asks, reader_of, reader_ready_asks, reader_shutdown_asks, ready_end}
 pub use Rattle.wasi_walks.proofs.Words.{ready_on, rebind_at, refl, refuse_in, refused_after, refused_before, release_asks, release_at, relisten_at}
-pub use Rattle.wasi_walks.proofs.Words.{remote_address_at, resume_call, resumed, resumed_reply, run, set_backlog_asks, set_backlog_in, set_chosen}
+pub use Rattle.wasi_walks.proofs.Words.{resume_call, resumed, resumed_reply, run, set_backlog_asks, set_backlog_in, set_chosen}
 pub use Rattle.wasi_walks.proofs.Words.{set_option_asks, set_where, shut_record, shut_streams, shutdown_at, side_at, side_of, side_up_asks, slice_get}
 pub use Rattle.wasi_walks.proofs.Words.{slice_set, socket_at, standing_as, start_bind_asks, start_bind_at, start_bind_by, start_bind_on}
 pub use Rattle.wasi_walks.proofs.Words.{start_connect_asks, start_connect_at, start_connect_by, start_connect_in, start_connect_on, start_listen_at}
-pub use Rattle.wasi_walks.proofs.Words.{start_listen_by, step_asks, stream_at, streams_asks, subscribe_on, subst, suc, sym, table_parent, taken_front}
+pub use Rattle.wasi_walks.proofs.Words.{start_listen_by, step_asks, stream_at, subscribe_on, subst, suc, sym, table_parent, taken_front}
 pub use Rattle.wasi_walks.proofs.Words.{taken_out, taken_receive, taken_send, told_addr, told_arrival, told_done, told_polled, told_verdict}
 pub use Rattle.wasi_walks.proofs.Words.{triple_fields, true, turn_asks, turn_machine_asks, unstood, value_set, verdict_front, wait_put, wait_writer}
 pub use Rattle.wasi_walks.proofs.Words.{watch_of, watched_by, wildcard, with_backlog, with_handle, with_inner, with_listening, with_progress}
@@ -52,7 +52,7 @@ pub use Rattle.wasi_world.specs.Typed.{told_bytes, told_datagram, told_ready, to
 pub use Rattle.wasi_world.specs.declared.outcome.TrapKind.{TrapKind}
 pub use Rattle.wasi_world.specs.declared.outcome.TrapKind.TheVariants.{NoSuchHandle}
 pub use Rattle.wasi_table.proofs.Tables.{value_without, value_without_it}
-pub use Rattle.wasi_tcp.specs.Addresses.{after_peer, is_listening, local_asks, local_from, local_where, peer_known, remote_in, still_connected}
+pub use Rattle.wasi_tcp.specs.Addresses.{after_peer, local_asks, local_from, local_where, peer_known, remote_in, still_connected}
 pub use Rattle.wasi_tcp.specs.Addresses.{usable_side}
 pub use Rattle.wasi_tcp.specs.Listen.{IsListen, held_side}
 pub use Rattle.wasi_host.specs.Dropping.{released, wait_at}
@@ -64,11 +64,10 @@ pub use Rattle.wasi_host.specs.Jobs.{is_on, other_jobs, turn_at, turn_job, turn_
 pub use Rattle.wasi_host.specs.Machine.{answered, at_once, drop_asks, drop_kind, no_such_handle, ready_asks, subscribe_asks}
 pub use Rattle.wasi_host.specs.Pending.{resume_asks}
 pub use Rattle.wasi_host.specs.Standing.{allowed_answer, stands_as}
-pub use Rattle.wasi_host.specs.TcpCalls.{address_family_at, is_listening_at}
 pub use Rattle.wasi_host.specs.Store.{with_record_put}
 pub use Rattle.wasi_host.specs.StreamCalls.{check_asks, converted, flushed_asks, read_asks, stream_on, write_asks, write_on}
-pub use Rattle.wasi_p2.specs.Tcp.{accepted_handles, address_family_on, finish_connect_asks, is_listening_on, local_address_on, network_asks}
-pub use Rattle.wasi_p2.specs.Tcp.{remote_address_on, shutdown_on, start_listen_on}
+pub use Rattle.wasi_p2.specs.Tcp.{accepted_handles, network_asks}
+pub use Rattle.wasi_p2.specs.Tcp.{shutdown_on, start_listen_on}
 pub use Rattle.wasi_steps.specs.Replies.{Each, Truth}
 pub use Rattle.wasi_steps.specs.Reply.{bytes_fields, truth_fields}
 pub use Rattle.wasi_steps.specs.declared.reply.CodeWord.{CodeWord}

@@ -70,7 +70,7 @@ pub use Rattle.wasi_records.specs.Releasing.{give_streams_up, gone, release_asks
 pub use Rattle.wasi_records.specs.Looks.{wait_writer}
 pub use Rattle.wasi_records.specs.Stops.{Stop, Trap}
 pub use Rattle.wasi_host.specs.Kinds.{HandleTable, has_no_child, input_of, is_network, is_readable, is_writable, kind_at, make_asks, name_of, output_of, place_in, place_of, table_parent, taken_out, watch_of, watched_by, with_handle, without_handle}
-pub use Rattle.wasi_host.specs.TcpCalls.{accept_answered, accept_at, start_listen_at, start_listen_by, with_records, shutdown_at, start_bind_at, start_bind_by, finish_at, finish_by, finish_connect_at, finish_connect_by, local_address_at, remote_address_at, start_connect_at, start_connect_by}
+pub use Rattle.wasi_host.specs.TcpCalls.{accept_answered, accept_at, start_listen_at, start_listen_by, with_records, shutdown_at, start_bind_at, start_bind_by, finish_at, finish_by, start_connect_at, start_connect_by}
 pub use Rattle.wasi_records.specs.Listening.{accept_listening, accept_record_asks, accepted_record, begin_listen_asks, closed_listening, give_up_asks, kept_accepted, listen_begun, listen_bound, listen_once, listen_polled, poll_begun, poll_listen_asks, poll_listening, with_listening}
 pub use Rattle.wasi_host.specs.Machine.{create_asks, create_handle, created_asks, drop_taken, first_state, input_at, output_at, own_of, ready_on, side_at, socket_at, subscribe_on, turn_machine_asks, with_store, with_table}
 pub use Rattle.wasi_host.specs.Pending.{go_on, rebind_at, relisten_at, resume_call, resumed}
@@ -93,8 +93,8 @@ pub use Rattle.wasi_records.specs.declared.socket.Streams.{Streams}
 pub use Rattle.wasi_records.specs.declared.socket.Tcp2Socket.{Tcp2Socket}
 pub use Rattle.wasi_host.specs.declared.store.Standing.{Standing}
 pub use Rattle.wasi_host.specs.declared.store.StandingCall.{StandingCall}
-pub use Rattle.wasi_p2.specs.Tcp.{accept_on, accepted_asks, accepted_streams, connected_asks, finish_connect_on, finish_on, output_asks}
-pub use Rattle.wasi_p2.specs.Tcp.{start_bind_asks, start_bind_on, start_connect_asks, start_connect_on, streams_asks, with_output, socket_with_streams}
+pub use Rattle.wasi_p2.specs.Tcp.{accept_on, accepted_asks, accepted_streams, finish_on}
+pub use Rattle.wasi_p2.specs.Tcp.{start_bind_asks, start_bind_on, start_connect_asks, start_connect_on, socket_with_streams}
 pub use Rattle.wasi_steps.specs.Reply.{is_trap, no_fields, number_fields, triple_fields}
 pub use Rattle.wasi_steps.specs.Settings.{AnOption, Chosen, TheBacklog, chosen}
 pub use Rattle.wasi_steps.specs.declared.reply.Reply.{Reply}

@@ -8,24 +8,29 @@ use Rattle.wasi_causes.proofs.Words.{Socket, SocketAddressFamily, Some, StillAcc
 use Rattle.wasi_causes.proofs.Words.{WasiSocketsCtx, [], accept_answered, accept_at, accept_end, accept_listening, accept_name, accept_on}
 use Rattle.wasi_causes.proofs.Words.{accepted_asks, accepted_handles, accepted_marks, accepted_record, accepted_socket, accepted_state}
 use Rattle.wasi_causes.proofs.Words.{accepted_streams, accepting_now, after_create, ap, append_assoc, arith, bind, code_stop, connect_ended}
-use Rattle.wasi_causes.proofs.Words.{connect_polled, connected_asks, context_at, create_asks, created_asks, entry, false, finish_connect_asks}
-use Rattle.wasi_causes.proofs.Words.{finish_connect_at, finish_connect_by, finish_connect_on, finish_in, first_ids, handle_reply, idle}
+use Rattle.wasi_causes.proofs.Words.{connect_polled, context_at, create_asks, created_asks, entry, false}
+use Rattle.wasi_causes.proofs.Words.{finish_in, first_ids, handle_reply, idle}
 use Rattle.wasi_causes.proofs.Words.{in_socket, inl, inr, is_connect, length, marks_in, marks_in-push, network_asks, new_asks, new_socket}
 use Rattle.wasi_causes.proofs.Words.{opened_receive, opened_send, own_of, pair_reply, record_at, refl, side_at, side_of}
-use Rattle.wasi_causes.proofs.Words.{still_connected, streams_asks, subst, sym, taken_receive, taken_send, told_done, triple_fields, triple_reply}
+use Rattle.wasi_causes.proofs.Words.{still_connected, subst, sym, taken_receive, taken_send, told_done, triple_fields, triple_reply}
 use Rattle.wasi_causes.proofs.Words.{true, with_handle, with_listening, with_record, with_record_put, with_socket, with_state, with_store}
 use Rattle.wasi_causes.proofs.Words.{socket_with_streams, word_of_code, ℕ, ◌++◌, ◌+◌, ◌∙◌, ◌∷◌, ◌≡◌, ◌≢◌}
 use Rattle.wasi_causes.proofs.operations.Accepts.{AcceptRow, accepts}
 use Rattle.wasi_causes.proofs.operations.Marks.{poll_marks_none}
 use Rattle.wasi_causes.proofs.operations.Polls.{EndsFor, connect_ends}
 use Rattle.wasi_causes.proofs.tables.Meets.{Rows, Meets, ends, asks, chain, onto, branch, widen, both, granted}
-use Rattle.wasi_causes.proofs.tables.Routes.{Replied, Says, makes, full_so, code_word, makes_streams, Names, its, here, through_record, apart, none_has, not_of_code, put_back}
+use Rattle.wasi_causes.proofs.tables.Routes.{Replied, Says, makes, full_so, code_word, makes_streams, Names, its, here, finds, calls, through_record, apart, none_has, not_of_code, put_back}
 use Rattle.wasi_causes.proofs.Words.{CodeWord}
 use Rattle.wasi_causes.specs.Outcomes.{OnlyWhere, Outcome}
 use Rattle.wasi_causes.specs.Reached.{Finishes, FinishesAt, MayFinish}
 use Rattle.wasi_records.specs.Records.{tcp2_at, tcp2_put, tcp2_pushed}
 use Rattle.wasi_records.specs.declared.listening.Listening.TheVariants as listening
-use Rattle.wasi_p2.specs.Tcp.{accept_asks}
+use Rattle.wasi_addr.specs.declared.p2.ErrorCode.TheVariants as word_p2
+use Rattle.wasi_causes.proofs.Words.{Code, record_in, socket_at, if◌then◌else◌}
+use Rattle.wasi_records.specs.Sockets.{poll_connect_asks}
+use Rattle.wasi_host.specs.Block.{Read, last, need, ◌>>=◌, ◌>>◌}
+use Rattle.wasi_host.specs.Lines.{in_store, done_by, finish_connect_of}
+use Rattle.wasi_p2.specs.Tcp.{accept_asks, finish_connect, make_streams}
 use Rattle.wasi_walks.specs.Answered.{ConnectsOn, StillConnects, WasClosed}
 use Rattle.wasi_steps.specs.declared.reply.CodeWord.TheVariants as word
 use Rattle.wasi_steps.specs.declared.reply.Reply.TheVariants as reply
@@ -143,23 +148,32 @@ module _ (contexts : List WasiSocketsCtx) (m : Machine) (line c handle : ℕ) wh
     by_state (state.Connected connection) e = ends (opens_receive connection e connection.receive_taken refl)
     by_state (state.Closed code) e = ends (fails [] code _ (λ h finishes. WasClosed code connects e refl))
 
-  by_progress : (place : ℕ) (r : Tcp2Socket) → Names m handle place r → (b : Bool) → is_connect r.in_progress ≡ b → Meets PollRow [] (finish_connect_by m.store place r b)
+  by_progress : (place : ℕ) (r : Tcp2Socket) → Names m handle place r → (b : Bool) → is_connect r.in_progress ≡ b
+      → Meets PollRow [] (if b then last (done_by place r poll_connect_asks) m.store else Give (Err (Code word_p2.NotInProgress), m.store))
   by_progress place r n false e = ends ((λ same. rw (its n) e, λ k. refl), (inl refl, record { none = λ same. (refl, refl); cause = λ holds finishes. here n (NoConnect e refl) }))
-  by_progress place r n true e = onto _ (onto _ (onto _ (by_state place r n e r.inner.state refl)))
+  by_progress place r n true e =
+      calls {Mid = λ es done. PollRow es (with_record_put m.store place done)} _ (onto _ (onto _ (by_state place r n e r.inner.state refl)))
+      (λ es stop now k. ends k) (λ es done now k. ends k)
 
   -- == the streams
-  connected : (place : ℕ) (es : List Entry) (done : Result (Unit {0}) Stop × Records) → PollRow es done → Meets FinishSays es (connected_asks own handle place (with_store m done))
-  connected place es (Ok done, store) k =
+  connected : (place : ℕ) (es : List Entry) (store : Records) → PollRow es (Ok tt, store) → Meets FinishSays es (make_streams own handle place (side_at (tcp2_at store.records place)) (record m { store = store }))
+  connected place es store k =
       makes_streams (record m { store = store }) es own handle place (side_at (tcp2_at store.records place)) m.table.next (let none = k.1 in omega arith) (λ fs table full count. (apart (λ e. cc) k.0, (tt, (full, count), tt))) (apart (λ e. cc) k.0, ((tt, (tt, tt)), tt))
-  connected place es (Err stop, store) k = ends k
 
-  pub finish_connect : Meets (Says contexts m line (step.TcpFinishConnect c handle)) [] (bind (finish_connect_asks m own handle) (λ done. Give (pair_reply done.0, done.1)))
-  finish_connect =
-      onto _ (through_record m handle (finish_connect_on m own handle) (λ place o. finish_connect_at m.store place o) (λ place done. connected_asks own handle place done) (λ place. refl) (λ place. refl) (λ none. ends (missing none)) (λ none place. ends (missing none))
-      (λ place r n. widen (connected place) (by_progress place r n (is_connect r.in_progress) refl)))
+  pub finish_connect_row : Meets (Says contexts m line (step.TcpFinishConnect c handle)) [] (bind (finish_connect own handle m) (λ done. Give (pair_reply done.0, done.1)))
+  finish_connect_row =
+      onto _ (finds (λ place. in_store (finish_connect_of place) >> (Read (λ m. side_at (tcp2_at m.store.records place)) >>= λ side. make_streams own handle place side)) (socket_at m handle)
+      (λ none. missing (ap (record_in m) none))
+      (λ place names. calls _ (polled place names) (λ es stop store k. ends k) (λ es done store k. connected place es store k)))
     where
       missing : record_at m handle ≡ None → FinishSays [] (Err (Trap NoSuchHandle), m)
       missing none = (apart (λ e. cc) (none_has _ (record_at m handle) none), (none, (refl, refl)))
+
+      polled : (place : ℕ) → socket_at m handle ≡ Some place → Meets PollRow [] (finish_connect_of place m.store)
+      polled place names =
+          finds (λ r. need (is_connect r.in_progress) (Code word_p2.NotInProgress) >> last (done_by place r poll_connect_asks)) (tcp2_at m.store.records place)
+          (λ none. missing (ap (record_in m) names ∙ none))
+          (λ r at. by_progress place r (record { names = names; at = at }) (is_connect r.in_progress) refl)
 
   -- == an accept
   abbrev AcceptSays : Rows (Result (ℕ × ℕ × ℕ) Stop × Machine)
@@ -276,7 +290,7 @@ module _ (contexts : List WasiSocketsCtx) (m : Machine) (line c handle : ℕ) wh
         (makes m.table own (Tcp2 place) (Some handle) side (λ full. ends (tt, (tt, (full, let none = t.none in omega arith), tt))) (onto _ streams))
         (λ fs made k. k)
       where
-        streams : Meets (λ fs made. AcceptSays fs (socket_with_streams next made)) (es ++ first ∷ []) (streams_asks (now one) own next place side)
+        streams : Meets (λ fs made. AcceptSays fs (socket_with_streams next made)) (es ++ first ∷ []) (make_streams own next place side (now one))
         streams = makes_streams (now one) (es ++ first ∷ []) own next place side next (let p = marks_in-push es first in let none = t.none in omega arith) (λ fs table full count. (tt, (tt, (full, count), tt))) all_made
 
   accepted : (es : List Entry) (done : Result ℕ Stop × Records) → StoreRow es done → Meets AcceptSays es (accepted_asks own handle (with_store m done))

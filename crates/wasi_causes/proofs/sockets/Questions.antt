@@ -1,20 +1,24 @@
 -- What a socket says of itself: its addresses, whether it listens, its family, and its options and backlog, which are set too.
-use Rattle.wasi_causes.proofs.Words.{◌≡◌, ◌⊎◌, inl, inr, ℕ, Bool, true, false, List, [], ◌∷◌, ◌++◌, Option, Some, None, Result, Ok, Err, refl, sym, subst, ◌<◌, ◌==◌, if◌then◌else◌, nat_le, arith, eqb-true, eqb-false, leb-true, leb-false, IpSocketAddress, ErrorCode, InvalidState, Stop, code_stop, socket_at, own_of, with_store, with_inner, inner_answered, local_address_at, remote_address_at, is_listening_at, address_family_at, Machine, Tcp2Socket, local_address_on, remote_address_on, is_listening_on, address_family_on, KnowsBound, putting, word_of_code, IsPastDefault, IsBound, LocalRefusal, Connects, LocalClosed, RemoteRefusal, RemoteDefault, RemoteListening, RemoteConnecting, RemoteClosed, RemoteTold, entry, address_reply, truth_reply, family_reply, value_reply, done_reply, set_chosen, Each, Truth, truth_fields, number_fields, Chosen, AnOption, TheBacklog, chosen, CodeWord, TcpSetting, is_listening, usable_side, local_from, local_where, local_asks, after_peer, peer_known, still_connected, remote_in, with_state, in_socket, zero_test, value_set, refused_before, refused_after, get_where, set_where, set_option_asks, with_backlog, after_backlog, set_backlog_in, set_backlog_asks, Socket, Connection, TcpState, Give, bind, IsAddr, IsDoneOrCode, IsValue, told_addr, told_done, told_value, Entry, Told, OpId, Operation, WasiSocketsCtx}
+use Rattle.wasi_causes.proofs.Words.{◌≡◌, ◌⊎◌, inl, inr, ℕ, Bool, true, false, List, [], ◌∷◌, ◌++◌, Option, Some, None, Result, Ok, Err, refl, sym, subst, ◌<◌, ◌==◌, if◌then◌else◌, nat_le, arith, eqb-true, eqb-false, leb-true, leb-false, IpSocketAddress, ErrorCode, InvalidState, Stop, code_stop, socket_at, own_of, with_store, with_inner, inner_answered, Machine, Tcp2Socket, KnowsBound, putting, word_of_code, IsPastDefault, IsBound, LocalRefusal, Connects, LocalClosed, RemoteRefusal, RemoteDefault, RemoteListening, RemoteConnecting, RemoteClosed, RemoteTold, entry, address_reply, truth_reply, family_reply, value_reply, done_reply, set_chosen, Each, Truth, truth_fields, number_fields, Chosen, AnOption, TheBacklog, chosen, CodeWord, TcpSetting, usable_side, local_from, local_where, local_asks, after_peer, peer_known, still_connected, remote_in, with_state, in_socket, zero_test, value_set, refused_before, refused_after, get_where, set_where, set_option_asks, with_backlog, after_backlog, set_backlog_in, set_backlog_asks, Socket, Connection, TcpState, Give, bind, IsAddr, IsDoneOrCode, IsValue, told_addr, told_done, told_value, Entry, Told, OpId, Operation, WasiSocketsCtx}
 use Rattle.wasi_addr.specs.Clamp.{clamped_backlog}
 use Rattle.wasi_addr.specs.declared.code.ErrorCode.TheVariants.{NotSupported}
 use Rattle.wasi_causes.proofs.sockets.Starts.{BoundRow, ItsBound, ItsFree, asked_none, bounds}
 use Rattle.wasi_causes.proofs.tables.Meets.{Rows, Meets, ends, asks, chain, onto, widen, branch}
-use Rattle.wasi_causes.proofs.tables.Routes.{Replied, on_number, Says, put_back, Names, here, on_record, code_word}
+use Rattle.wasi_causes.proofs.tables.Routes.{Replied, on_number, on_handle, Says, put_back, Names, here, on_record, code_word}
 use Rattle.wasi_causes.specs.Options.{GetRefusal, GetConnects, GetClosed, GetTold, ToldTooLarge, SetRefusal, ZeroBefore, SetConnects, SetClosed, ZeroAfter, SetTold, BacklogRefusal, ZeroBacklog, StillConnects, IsConnected, WasClosed, BacklogTold, GetsOption, SetsOption, SetsBacklog, KeptForListen, ToldListener}
 use Rattle.wasi_causes.specs.Outcomes.{AreLike, Outcome}
 use Rattle.wasi_records.specs.Records.{tcp2_at}
 use Rattle.wasi_host.specs.Options.{code_told, get_option_at, set_option_at, set_backlog_at}
+use Rattle.wasi_host.specs.Lines.{tcp_in, told_of}
 use Rattle.wasi_host.specs.Store.{put_back as answer_put}
+use Rattle.wasi_records.specs.Sockets.{tell_local_asks, tell_remote_asks}
+use Rattle.wasi_p2.specs.Tcp.{local_address, remote_address, is_listening, address_family}
 use Rattle.wasi_p2.specs.Options.{get_option_on, set_option_on, set_backlog_on}
 use Rattle.wasi_walks.specs.Answered.{NotBound, LocalTold}
 use Rattle.wasi_steps.specs.declared.reply.CodeWord.TheVariants as word
 use Rattle.wasi_steps.specs.declared.step.Step.TheVariants as step
 use Rattle.socket_common.specs.Options.{largest_value, value_told, option_answer}
+use Rattle.wasi_tcp.specs.Addresses.{is_listening as state_listens}
 use Rattle.wasi_tcp.specs.Options.{option_side}
 use Rattle.wasi_tcp.specs.declared.socket.TcpState.TheVariants as state
 use Rattle.wasi_world.specs.declared.call.Call.TheVariants as call
@@ -174,31 +178,34 @@ module _ (contexts : List WasiSocketsCtx) (m : Machine) (line c handle : ℕ) wh
 
   address_said : (Row : Rows (Result IpSocketAddress Stop × Machine)) (Cause : List Entry → CodeWord → Machine → Type 0) (place : ℕ) (r : Tcp2Socket) → ((es : List Entry) (a : IpSocketAddress) (after : Machine) → Row es (Ok a, after))
       → ((es : List Entry) (code : ErrorCode) (after : Machine) → Cause es (word_of_code code) after → Row es (Err (code_stop code), after))
-      → (es : List Entry) (done : Result IpSocketAddress ErrorCode × Socket) → Answers Cause m place r es done → Row es (with_store m (answer_put m.store place (inner_answered r done)))
+      → (es : List Entry) (done : Result IpSocketAddress ErrorCode × Socket) → Answers Cause m place r es done → Row es (code_told (inner_answered r done).0, putting m place (inner_answered r done).1)
   address_said Row Cause place r told refused es (Ok a, now) h = told es a _
   address_said Row Cause place r told refused es (Err code, now) h = refused es code _ h
 
-  pub local_address : Meets (Says contexts m line (step.TcpLocalAddress c handle)) [] (bind (local_address_on m own (socket_at m handle)) (λ done. Give (address_reply done.0, done.1)))
-  local_address =
-      onto _ (on_record m handle (local_address_on m own) (λ place o. local_address_at m.store own place o) refl (λ place. refl) (λ place. refl) (λ none. (tt, (none, (refl, refl))))
-      (λ place r n. onto _ (onto _ (widen (address_said (Replied contexts m line (step.TcpLocalAddress c handle) address_reply) (LocalRefused m own handle place r n) place r (λ es a after. (tt, ((a, refl), tt))) (λ es code after h. (tt, (code_word code, (here n h.0, h.1))))) (local_row m own handle place r n)))))
+  pub local_address_row : Meets (Says contexts m line (step.TcpLocalAddress c handle)) [] (bind (local_address own handle m) (λ done. Give (address_reply done.0, done.1)))
+  local_address_row =
+      onto _ (on_handle m handle (tell_local_asks own) (λ none. (tt, (none, (refl, refl))))
+      (λ place r n. onto _ (widen (address_said (Replied contexts m line (step.TcpLocalAddress c handle) address_reply) (LocalRefused m own handle place r n) place r (λ es a after. (tt, ((a, refl), tt))) (λ es code after h. (tt, (code_word code, (here n h.0, h.1))))) (local_row m own handle place r n))))
 
-  pub remote_address : Meets (Says contexts m line (step.TcpRemoteAddress c handle)) [] (bind (remote_address_on m own (socket_at m handle)) (λ done. Give (address_reply done.0, done.1)))
-  remote_address =
-      onto _ (on_record m handle (remote_address_on m own) (λ place o. remote_address_at m.store own place o) refl (λ place. refl) (λ place. refl) (λ none. (tt, (none, (refl, refl))))
-      (λ place r n. onto _ (onto _ (widen (address_said (Replied contexts m line (step.TcpRemoteAddress c handle) address_reply) (RemoteRefused m own place r n.at) place r (λ es a after. (tt, ((a, refl), tt))) (λ es code after h. (tt, (code_word code, (here n h.0, h.1))))) (onto (in_socket r.inner) (by_state m own place r n.at r.inner.state refl))))))
+  pub remote_address_row : Meets (Says contexts m line (step.TcpRemoteAddress c handle)) [] (bind (remote_address own handle m) (λ done. Give (address_reply done.0, done.1)))
+  remote_address_row =
+      onto _ (on_handle m handle (tell_remote_asks own) (λ none. (tt, (none, (refl, refl))))
+      (λ place r n. onto _ (widen (address_said (Replied contexts m line (step.TcpRemoteAddress c handle) address_reply) (RemoteRefused m own place r n.at) place r (λ es a after. (tt, ((a, refl), tt))) (λ es code after h. (tt, (code_word code, (here n h.0, h.1))))) (onto (in_socket r.inner) (by_state m own place r n.at r.inner.state refl)))))
 
   -- == what is known without asking
   truth_like : (b : Bool) → AreLike (Each (Truth ∷ [])) (truth_fields b)
   truth_like true = (tt, tt)
   truth_like false = (tt, tt)
 
-  pub is_listens : Meets (Says contexts m line (step.TcpIsListening c handle)) [] (Give (truth_reply (is_listening_on m (socket_at m handle)), m))
-  is_listens =
-      on_number m handle (λ o. Give (truth_reply (is_listening_on m o), m)) (λ place o. Give (truth_reply (is_listening_at o), m)) (λ place. refl) (λ none. ends ((refl, refl), (none, (refl, refl)))) (λ none place. ends ((refl, refl), (none, (refl, refl)))) (λ place r n. ends ((refl, refl), (truth_like (is_listening r.inner.state), tt)))
+  abbrev listens : Tcp2Socket → Bool
+  listens r = state_listens r.inner.state
 
-  pub family : Meets (Says contexts m line (step.TcpAddressFamily c handle)) [] (Give (family_reply (address_family_on m (socket_at m handle)), m))
-  family = on_number m handle (λ o. Give (family_reply (address_family_on m o), m)) (λ place o. Give (family_reply (address_family_at o), m)) (λ place. refl) (λ none. ends ((refl, refl), (none, (refl, refl)))) (λ none place. ends ((refl, refl), (none, (refl, refl)))) (λ place r n. ends ((refl, refl), ((tt, tt), tt)))
+  pub is_listens : Meets (Says contexts m line (step.TcpIsListening c handle)) [] (Give (truth_reply (is_listening m handle), m))
+  is_listens =
+      on_number m handle (λ o. Give (truth_reply (told_of listens (tcp_in m o)), m)) (λ place o. Give (truth_reply (told_of listens o), m)) (λ place. refl) (λ none. ends ((refl, refl), (none, (refl, refl)))) (λ none place. ends ((refl, refl), (none, (refl, refl)))) (λ place r n. ends ((refl, refl), (truth_like (listens r), tt)))
+
+  pub family : Meets (Says contexts m line (step.TcpAddressFamily c handle)) [] (Give (family_reply (address_family m handle), m))
+  family = on_number m handle (λ o. Give (family_reply (told_of (λ r. r.inner.family) (tcp_in m o)), m)) (λ place o. Give (family_reply (told_of (λ r. r.inner.family) o), m)) (λ place. refl) (λ none. ends ((refl, refl), (none, (refl, refl)))) (λ none place. ends ((refl, refl), (none, (refl, refl)))) (λ place r n. ends ((refl, refl), ((tt, tt), tt)))
 
   module _ (option : Opt) where
     got_so : (place : ℕ) (r : Tcp2Socket) → Names m handle place r → (es : List Entry) (done : Result ℕ ErrorCode × Socket) → GetRow own r option es done.0 → Outcome contexts m line (step.TcpGet c handle option) es (value_reply (code_told done.0)) m

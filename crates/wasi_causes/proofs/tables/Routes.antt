@@ -2,8 +2,8 @@
 use Rattle.wasi_causes.proofs.Words.{AccessDenied, Asks, Bool, Code, CodeWord, Entry, Err, ErrorCode, Full, Give, HandleTable, Input, IsDone, IsSomeAnd}
 use Rattle.wasi_causes.proofs.Words.{Kind, List, Machine, NoSuchHandle, None, OfRecord, Ok, OpId, Option, Output, Records, Reply, Result, Some, Step}
 use Rattle.wasi_causes.proofs.Words.{Stop, Tcp2Socket, Told, Trap, WasiSocketsCtx, [], ap, arith, bind, entry, false, is_full, is_nothing, make_asks}
-use Rattle.wasi_causes.proofs.Words.{marks_in, marks_in-push, name_of, no_such_handle, output_asks, putting, record_at, record_in, refl}
-use Rattle.wasi_causes.proofs.Words.{socket_at, streams_asks, subst, sym, true, with_handle, with_socket, with_store, word_of_code}
+use Rattle.wasi_causes.proofs.Words.{marks_in, marks_in-push, name_of, no_such_handle, putting, record_at, record_in, refl}
+use Rattle.wasi_causes.proofs.Words.{socket_at, subst, sym, true, with_handle, with_socket, with_store, word_of_code}
 use Rattle.wasi_causes.proofs.Words.{ℕ, ◌++◌, ◌+◌, ◌↔◌, ◌∙◌, ◌∷◌, ◌≡◌, ◌≢◌}
 use Rattle.wasi_world.specs.declared.call.HandleKind.TheVariants as name
 use Rattle.wasi_world.specs.declared.call.Call.TheVariants as call
@@ -16,6 +16,10 @@ use Rattle.wasi_causes.proofs.tables.Meets.{onto, Rows, Meets, ends, asks, chain
 use Rattle.wasi_records.specs.Records.{tcp2_at}
 use Rattle.wasi_records.specs.declared.records.Record.{Record}
 use Rattle.wasi_walks.proofs.Places.{put_again, tcp_sort}
+use Rattle.wasi_host.specs.Block.{Does, give, last, goes_on, or_trap, after_call, ◌>>=◌}
+use Rattle.wasi_host.specs.Lines.{same_stop, tabling, tcp_named, in_store, asked_of, on_tcp, makes as makes_line}
+use Rattle.wasi_host.specs.Options.{code_told}
+use Rattle.wasi_p2.specs.Tcp.{make_streams}
 
 -- the step's replies, where what it gives is reported so
 abbrev pub Replied : {T : Type 0} → List WasiSocketsCtx → Machine → ℕ → Step → (T → Reply) → Rows (T × Machine)
@@ -100,17 +104,56 @@ makes {Row} {es} t op made parent side full row = branch (is_full t) (λ e. ends
     by_told told.Done fits = ends row
     by_told _ fits = absurd fits
 
+-- == blocks: one lemma a kind of line
+-- a look-up: what isn't found is a trap
+pub finds : {S A B : Type 0} {Row : Rows (Result B Stop × S)} {es : List Entry} {s : S} (next : A → Does S B) (found : Option A) → (found ≡ None → Row es (Err (Trap NoSuchHandle), s))
+    → ((a : A) → found ≡ Some a → Meets Row es (next a s)) → Meets Row es (or_trap next s found)
+finds next None gone goes = ends (gone refl)
+finds next (Some a) gone goes = goes a refl
+
+-- a call: its stops, and what follows
+pub calls : {A E T C : Type 0} {Row : Rows C} {es : List Entry} {Mid : Rows (Result A E × T)} {asks : Asks (Result A E × T)} (f : Result A E × T → Asks C) → Meets Mid es asks
+    → ((fs : List Entry) (e : E) (t : T) → Mid fs (Err e, t) → Meets Row fs (f (Err e, t))) → ((fs : List Entry) (a : A) (t : T) → Mid fs (Ok a, t) → Meets Row fs (f (Ok a, t)))
+    → Meets Row es (bind asks f)
+calls {A} {E} {T} {C} {Row} {es} {Mid} {asks} f w stops goes = chain w by_answer
+  where
+    by_answer : (fs : List Entry) (done : Result A E × T) → Mid fs done → Meets Row fs (f done)
+    by_answer fs (Ok a, t) m = goes fs a t m
+    by_answer fs (Err e, t) m = stops fs e t m
+
+-- a call on the record of a handle: what it answers, with the record as the call leaves it
+pub on_handle : {A : Type 0} {Row : Rows (Result A Stop × Machine)} (m : Machine) (handle : ℕ) (asked : Tcp2Socket → Asks (Result A ErrorCode × Tcp2Socket))
+    → (record_at m handle ≡ None → Row [] (Err (Trap NoSuchHandle), m))
+    → ((place : ℕ) (r : Tcp2Socket) → Names m handle place r → Meets (λ es done. Row es (code_told done.0, putting m place done.1)) [] (asked r))
+    → Meets Row [] (goes_on (tcp_named handle) (λ place. last (in_store (on_tcp place asked))) m)
+on_handle {A} {Row} m handle asked missing rows =
+    finds (λ place. last (in_store (on_tcp place asked))) (socket_at m handle) (λ none. missing (ap (record_in m) none))
+    (λ place names. calls _ (on_place place names) (λ es why store row. ends row) (λ es a store row. ends row))
+  where
+    on_place : (place : ℕ) → socket_at m handle ≡ Some place → Meets (λ es done. Row es (done.0, record m { store = done.1 })) [] (on_tcp place asked m.store)
+    on_place place names =
+        finds (λ r. last (asked_of place r asked)) (tcp2_at m.store.records place) (λ none. missing (ap (record_in m) names ∙ none))
+        (λ r at. calls _ (rows place r (record { names = names; at = at })) (λ es c now row. ends row) (λ es a now row. ends row))
+
 -- the two streams of a connection, under its socket's handle; so many handles were made before
 pub makes_streams : {Row : Rows (Result (ℕ × ℕ) Stop × Machine)} (now : Machine) (es : List Entry) (own : OpId) (handle place : ℕ) (side : Option OpId) (start : ℕ) → now.table.next ≡ start + marks_in es
     → ((fs : List Entry) (table : HandleTable) → is_full table ≡ true → table.next ≡ start + marks_in fs → Row fs (Err (Trap Full), record now { table = table }))
     → let one : HandleTable = with_handle now.table (Input place) (Some handle) in
     Row ((es ++ entry own (call.Made now.table.next name.Input (Some handle) side) told.Done ∷ []) ++ entry own (call.Made one.next name.Output (Some handle) side) told.Done ∷ []) (Ok (now.table.next, one.next), record now { table = with_handle one (Output place) (Some handle) })
-    → Meets Row es (streams_asks now own handle place side)
+    → Meets Row es (make_streams own handle place side now)
 makes_streams {Row} now es own handle place side start count full row =
-    chain {Mid = λ fs made. Meets Row fs (output_asks own handle place side (made.0, record now { table = made.1 }))}
-    (makes now.table own (Input place) (Some handle) side (λ f. ends (full es now.table f count)) (onto _ (makes (with_handle now.table (Input place) (Some handle)) own (Output place) (Some handle) side (λ f. full _ _ f next) row)))
+    chain {Mid = λ fs made. Meets Row fs (after_call same_stop tabling second now made)}
+    (makes now.table own (Input place) (Some handle) side (λ f. ends (full es now.table f count))
+    (chain {Mid = λ fs made. Meets Row fs (after_call same_stop tabling (λ output. give (now.table.next, output)) (record now { table = one }) made)}
+    (makes one own (Output place) (Some handle) side (λ f. ends (full _ _ f next)) (ends row)) (λ fs made k. k)))
     (λ fs made k. k)
   where
+    one : HandleTable
+    one = with_handle now.table (Input place) (Some handle)
+
+    second : ℕ → Does Machine (ℕ × ℕ)
+    second input = makes_line own (Output place) (Some handle) side >>= λ output. give (input, output)
+
     next : now.table.next + 1 ≡ start + marks_in (es ++ entry own (call.Made now.table.next name.Input (Some handle) side) told.Done ∷ [])
     next = let p = marks_in-push es (entry own (call.Made now.table.next name.Input (Some handle) side) told.Done) in omega arith
 

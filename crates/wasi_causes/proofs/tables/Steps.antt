@@ -3,8 +3,8 @@ use Rattle.wasi_causes.proofs.Words.{◌≡◌, ◌≢◌, ℕ, Bool, true, List
 use Rattle.wasi_causes.proofs.Ending.{drop, shutdown}
 use Rattle.wasi_causes.proofs.Machine.{subscribe, ready}
 use Rattle.wasi_causes.proofs.Resumes.{poll}
-use Rattle.wasi_causes.proofs.sockets.Makes.{network, create, finish_connect, accept}
-use Rattle.wasi_causes.proofs.sockets.Questions.{get, set, local_address, remote_address, is_listens, family}
+use Rattle.wasi_causes.proofs.sockets.Makes.{network, create, finish_connect_row, accept}
+use Rattle.wasi_causes.proofs.sockets.Questions.{get, set, local_address_row, remote_address_row, is_listens, family}
 use Rattle.wasi_causes.proofs.sockets.Starts.{finish_bind, finish_listen, start_bind, start_connect, start_listen}
 use Rattle.wasi_causes.proofs.sockets.Udp.{udp_finish_bind, udp_local_address, udp_remote_address, udp_family, udp_get, udp_set}
 use Rattle.wasi_causes.proofs.sockets.UdpBinds.{udp_start_bind}
@@ -39,12 +39,12 @@ module _ (contexts : List WasiSocketsCtx) (m : Machine) (line : ℕ) where
   rows (step.TcpStartBind c s n a) = start_bind contexts m line c s n a
   rows (step.TcpFinishBind c s) = finish_bind contexts m line c s
   rows (step.TcpStartConnect c s n a) = start_connect contexts m line c s n a
-  rows (step.TcpFinishConnect c s) = finish_connect contexts m line c s
+  rows (step.TcpFinishConnect c s) = finish_connect_row contexts m line c s
   rows (step.TcpStartListen c s) = start_listen contexts m line c s
   rows (step.TcpFinishListen c s) = finish_listen contexts m line c s
   rows (step.TcpAccept c s) = accept contexts m line c s
-  rows (step.TcpLocalAddress c s) = local_address contexts m line c s
-  rows (step.TcpRemoteAddress c s) = remote_address contexts m line c s
+  rows (step.TcpLocalAddress c s) = local_address_row contexts m line c s
+  rows (step.TcpRemoteAddress c s) = remote_address_row contexts m line c s
   rows (step.TcpIsListening c s) = is_listens contexts m line c s
   rows (step.TcpAddressFamily c s) = family contexts m line c s
   rows (step.TcpGet c s option) = get contexts m line c s option

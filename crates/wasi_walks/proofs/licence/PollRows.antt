@@ -1,6 +1,7 @@
 -- The definitions on a log of a call for several pollables: one line begins several accepts, and the log is licensed.
 use Rattle.wasi_walks.proofs.Words.{Call, Entry, Give, IpSocketAddress, IsLicensed, Left, List, Machine, None, Reply, SocketAddrUse, SocketAddressFamily, Some, Step, Told, []}
 use Rattle.wasi_walks.proofs.Words.{bind, entry, first_state, no_fields, number_fields, own_of, polls, refl, run, triple_fields, wildcard, ◌++◌, ◌∷◌}
+use Rattle.wasi_world.specs.Asks.{Asks, Ask}
 use Rattle.wasi_steps.specs.Reply.{numbers_fields}
 use Rattle.wasi_walks.proofs.licence.ListenRows.{listens_by}
 use Rattle.wasi_walks.proofs.licence.Refused.{local_81}
@@ -81,9 +82,18 @@ replies = Reply.Ok (number_fields 1)
     ∷ Reply.Ok (triple_fields 6 7 8)
     ∷ []
 
+-- what a tree leaves of the machine by these answers
+abbrev left_by : Asks (List Reply × Machine) → List Entry → Machine
+left_by (Ask op call next) (e ∷ es) = left_by (next e.answer) es
+left_by (Give done) [] = done.1
+left_by _ _ = first_state
+
+abbrev end : Machine
+end = left_by (run allowed [] first_state 1 script) log
+
 poll_run : (m : Machine) × Left (run allowed [] first_state 1 script) log (Give (replies, m))
 unfolding bind polls
-poll_run = (_, ((refl, refl, tt), ((refl, refl, tt), ((refl, refl, tt), ((refl, refl, tt), ((refl, refl, tt), ((refl, refl, tt), ((refl, refl, tt), ((refl, refl, tt), ((refl, refl, tt), ((refl, refl, tt), ((refl, refl, tt), ((refl, refl, tt), ((refl, refl, tt), ((refl, refl, tt), ((refl, refl, tt), ((refl, refl, tt), ((refl, refl, tt), ((refl, refl, tt), ((refl, refl, tt), ((refl, refl, tt), ((refl, refl, tt), ((refl, refl, tt), ((refl, refl, tt), ((refl, refl, tt), ((refl, refl, tt), ((refl, refl, tt), ((refl, refl, tt), ((refl, refl, tt), ((refl, refl, tt), ((refl, refl, tt), refl)))))))))))))))))))))))))))))))
+poll_run = (end, ((refl, refl, tt), ((refl, refl, tt), ((refl, refl, tt), ((refl, refl, tt), ((refl, refl, tt), ((refl, refl, tt), ((refl, refl, tt), ((refl, refl, tt), ((refl, refl, tt), ((refl, refl, tt), ((refl, refl, tt), ((refl, refl, tt), ((refl, refl, tt), ((refl, refl, tt), ((refl, refl, tt), ((refl, refl, tt), ((refl, refl, tt), ((refl, refl, tt), ((refl, refl, tt), ((refl, refl, tt), ((refl, refl, tt), ((refl, refl, tt), ((refl, refl, tt), ((refl, refl, tt), ((refl, refl, tt), ((refl, refl, tt), ((refl, refl, tt), ((refl, refl, tt), ((refl, refl, tt), ((refl, refl, tt), refl {a = Give (replies, end)})))))))))))))))))))))))))))))))
 
 poll_licensed : IsLicensed allowed script log replies
 poll_licensed = whole_licensed allowed script log replies poll_run.0 refl poll_run.1

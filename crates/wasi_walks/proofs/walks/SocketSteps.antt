@@ -2,12 +2,12 @@
 use Rattle.wasi_walks.proofs.Words.{AnOption, Answer, Asks, Bool, Chosen, Err, ErrorCode, Give, HandleTable, Has, InProgress, Input, IpSocketAddress}
 use Rattle.wasi_walks.proofs.Words.{IsBacklogSet, IsBindTo, IsConnectTo, Kind, List, Machine, None, Ok, Option, Output, Pending, Records, Result}
 use Rattle.wasi_walks.proofs.Words.{ShutdownType, Socket, Some, StandingCall, Step, Stop, Streams, Tcp2Socket, TheBacklog, WasiSocketsCtx, bind}
-use Rattle.wasi_walks.proofs.Words.{call_answered, call_place, connected_asks, false, finish_at, finish_by, finish_connect_at, finish_connect_by}
-use Rattle.wasi_walks.proofs.Words.{finish_connect_on, finish_on, handles_of, inl, inner_answered, inr, is_connect, is_network, is_nothing, kind_at}
-use Rattle.wasi_walks.proofs.Words.{local_address_at, make_asks, output_asks, own_of, put_back, refl, remote_address_at, set_chosen, set_option_asks}
+use Rattle.wasi_walks.proofs.Words.{call_answered, call_place, false, finish_at, finish_by}
+use Rattle.wasi_walks.proofs.Words.{finish_on, handles_of, inl, inner_answered, inr, is_connect, is_network, is_nothing, kind_at}
+use Rattle.wasi_walks.proofs.Words.{make_asks, own_of, put_back, refl, set_chosen, set_option_asks}
 use Rattle.wasi_walks.proofs.Words.{shut_record, shutdown_at, side_at, socket_at, start_bind_asks, start_bind_at, start_bind_by}
-use Rattle.wasi_walks.proofs.Words.{start_bind_on, start_connect_asks, start_connect_at, start_connect_by, start_connect_on, streams_asks, sym}
-use Rattle.wasi_walks.proofs.Words.{tell_local_asks, tell_remote_asks, true, with_output, with_store, with_table, ℕ, ◌≡◌, ◌⊎◌}
+use Rattle.wasi_walks.proofs.Words.{start_bind_on, start_connect_asks, start_connect_at, start_connect_by, start_connect_on, sym}
+use Rattle.wasi_walks.proofs.Words.{tell_local_asks, tell_remote_asks, true, with_store, with_table, ℕ, ◌≡◌, ◌⊎◌}
 use Rattle.wasi_machine.specs.Machine.{first_ids}
 use Rattle.wasi_world.specs.declared.ids.Ids.{Ids}
 use Rattle.wasi_addr.specs.Clamp.{clamped_backlog}
@@ -20,8 +20,15 @@ use Rattle.wasi_host.specs.Options.{looked_at, set_backlog_at}
 use Rattle.wasi_p2.specs.Options.{record_asks}
 use Rattle.wasi_walks.proofs.walks.Moves.{NoStartStands, IsSettled, Used, Unused, Here, put, Found, record_of, AStream, Reaches, Leaves, Spends, Changes, Stands, Made, Past, Marks}
 use Rattle.wasi_walks.proofs.walks.Law.{Law, HasRecord, found, put_same, Walks, Given, give, and_then, and_given, by_if, move, gives, from, mark}
-use Rattle.wasi_walks.proofs.walks.Sockets.{WaitsSo, begun_bind_given, idled, connect_settles, set_walks, begin_bind_walks, begin_connect_walks, poll_connect_walks, FinishedSo, finished_given, local_walks, remote_walks, backlog_walks}
+use Rattle.wasi_walks.proofs.walks.Sockets.{WaitsSo, begun_bind_given, idled, connect_settles, set_walks, begin_bind_walks, begin_connect_walks, poll_connect_walks, FinishedSo, finished_of, local_walks, remote_walks, backlog_walks}
 use Rattle.wasi_walks.proofs.walks.Streams.{shut_walks}
+use Rattle.wasi_walks.proofs.walks.Lines.{look, call, call_given}
+use Rattle.wasi_addr.specs.declared.p2.ErrorCode.TheVariants.{NotInProgress}
+use Rattle.wasi_records.specs.Stops.{Code}
+use Rattle.wasi_records.specs.Sockets.{poll_connect_asks}
+use Rattle.wasi_host.specs.Block.{Does, Read, last, need, goes_on, ◌>>=◌, ◌>>◌}
+use Rattle.wasi_host.specs.Lines.{tcp_named, in_store, on_tcp, asked_of, done_by, finish_connect_of}
+use Rattle.wasi_p2.specs.Tcp.{local_address, remote_address, finish_connect, make_streams}
 use Rattle.wasi_walks.proofs.walks.States.{OverWith, Between, socket_record, make_given, socket_kind, At, Starts, streams_are, Put, Over, there}
 
 module _ {contexts : List WasiSocketsCtx} {line : ℕ} {origin : Step} {law : Law contexts line origin} where
@@ -85,53 +92,65 @@ module _ {contexts : List WasiSocketsCtx} {line : ℕ} {origin : Step} {law : La
   pub start_connect_walks : (m : Machine) (s n : ℕ) (a : IpSocketAddress) → Has (handles_of origin) s → IsConnectTo a origin → Walks law (Starts m Unused) OverWith (start_connect_asks m (own_of line) s n a)
   start_connect_walks m s n a named to = by_if (is_network (kind_at m.table n)) (λ yes. start_connect_on_walks m s a (socket_at m s) refl named to) (λ other. gives _ (Spends _ refl))
 
-  finish_by_walks : (m : Machine) (place : ℕ) (r : Tcp2Socket) (its : Bool) → is_connect r.in_progress ≡ its → Found (At line m place Unused) place r → Walks law (At line m place Unused) (Put line m place) (finish_connect_by m.store place r its)
-  finish_by_walks m place r true e g = from (put_same (At line m place Unused) place r g) (and_then (poll_connect_walks (there g) r (connect_settles r.in_progress e)) (λ done. gives _ (Spends _ refl)))
-  finish_by_walks m place r false e g = gives _ (Spends _ refl)
+  -- == blocks: a call on the record of a number, and of a handle
+  on_tcp_walks : {A : Type 0} (m : Machine) (place : ℕ) (asked : Tcp2Socket → Asks (Result A ErrorCode × Tcp2Socket))
+      → ((r : Tcp2Socket) → HasRecord (At line m place Unused) place → Walks law (put (At line m place Unused) place r) (λ done. put (At line m place Unused) place done.1) (asked r))
+      → Walks law (At line m place Unused) (Put line m place) (on_tcp place asked m.store)
+  on_tcp_walks m place asked w =
+      look (λ r. last (asked_of place r asked)) (tcp2_at m.store.records place) (gives _ (Spends _ refl))
+      (λ r g. from (put_same (At line m place Unused) place r g) (call _ (w r (there g)) (λ e t. gives _ (Spends _ refl)) (λ a t. gives _ (Spends _ refl))))
 
-  finish_at_walks : (m : Machine) (place : ℕ) (o : Option Tcp2Socket) → tcp2_at m.store.records place ≡ o → Walks law (At line m place Unused) (Put line m place) (finish_connect_at m.store place o)
-  finish_at_walks m place None g = gives _ (Spends _ refl)
-  finish_at_walks m place (Some r) g = finish_by_walks m place r (is_connect r.in_progress) refl g
+  on_handle : {A : Type 0} (m : Machine) (handle : ℕ) (does : ℕ → Does Records A) → Has (handles_of origin) handle
+      → ((place : ℕ) → Walks law (At line m place Unused) (Put line m place) (does place m.store))
+      → Walks law (Starts m Unused) OverWith (goes_on (tcp_named handle) (λ place. last (in_store (does place))) m)
+  on_handle m handle does named w =
+      look (λ place. last (in_store (does place))) (socket_at m handle) (gives _ (Spends _ refl))
+      (λ place e. move (Reaches _ handle place named (socket_record (kind_at m.table handle) place e))
+      (call _ (w place) (λ e t. gives _ (Leaves _)) (λ a t. gives _ (Leaves _))))
+
+  -- == the addresses
+  pub local_address_walks : (m : Machine) (s : ℕ) → Has (handles_of origin) s → Walks law (Starts m Unused) OverWith (local_address (own_of line) s m)
+  local_address_walks m s named =
+      on_handle m s (λ place. on_tcp place (tell_local_asks (own_of line))) named
+      (λ place. on_tcp_walks m place (tell_local_asks (own_of line)) (λ r here. local_walks here refl r))
+
+  pub remote_address_walks : (m : Machine) (s : ℕ) → Has (handles_of origin) s → Walks law (Starts m Unused) OverWith (remote_address (own_of line) s m)
+  remote_address_walks m s named =
+      on_handle m s (λ place. on_tcp place (tell_remote_asks (own_of line))) named
+      (λ place. on_tcp_walks m place (tell_remote_asks (own_of line)) (λ r here. remote_walks here refl r))
+
+  -- == a connect is finished
+  finish_of_walks : (m : Machine) (place : ℕ) → Walks law (At line m place Unused) (Put line m place) (finish_connect_of place m.store)
+  finish_of_walks m place =
+      look (λ r. need (is_connect r.in_progress) (Code NotInProgress) >> last (done_by place r poll_connect_asks)) (tcp2_at m.store.records place) (gives _ (Spends _ refl))
+      (λ r g. by_if (is_connect r.in_progress)
+      (λ its. from (put_same (At line m place Unused) place r g)
+      (call _ (poll_connect_walks (there g) r (connect_settles r.in_progress its)) (λ e t. gives _ (Spends _ refl)) (λ a t. gives _ (Spends _ refl))))
+      (λ other. gives _ (Spends _ refl)))
 
   -- the two streams, under a socket's handle, by whatever is known of the table
-  module _ (at : Option (ℕ × ℕ)) (made : Made) (s place : ℕ) (m : Machine) (G : HandleTable → Type 0) (more : (t : HandleTable) (kind : Kind) → G t → Given (λ x. G x.1) (make_asks t (own_of line) kind (Some s) (side_at (tcp2_at m.store.records place))))
-      (marks : (t : HandleTable) (kind : Kind) → (kind ≡ Input place) ⊎ (kind ≡ Output place) → G t → Marks origin (record { machine = record m { table = t }; at = at; made = made; own = Used }) kind (Some s) (side_at (tcp2_at m.store.records place))) where
-    second : (input : ℕ) (t : HandleTable) (done : Result ℕ Stop × HandleTable) → Walks law (Between at made (record m { table = done.1 })) OverWith (Give (with_output input (with_table (record m { table = t }) done)))
-    second input t (Ok n, x) = gives _ (Leaves _)
-    second input t (Err why, x) = gives _ (Leaves _)
+  pub streams_walks : (at : Option (ℕ × ℕ)) (made : Made) (s place : ℕ) (m : Machine) (G : HandleTable → Type 0)
+      → ((t : HandleTable) (kind : Kind) → G t → Given (λ x. G x.1) (make_asks t (own_of line) kind (Some s) (side_at (tcp2_at m.store.records place))))
+      → ((t : HandleTable) (kind : Kind) → (kind ≡ Input place) ⊎ (kind ≡ Output place) → G t
+      → Marks origin (record { machine = record m { table = t }; at = at; made = made; own = Used }) kind (Some s) (side_at (tcp2_at m.store.records place)))
+      → G m.table → Walks law (Between at made m) OverWith (make_streams (own_of line) s place (side_at (tcp2_at m.store.records place)) m)
+  streams_walks at made s place m G more marks g =
+      call_given _ (λ done. G done.1) (more m.table (Input place) g) (mark (marks m.table (Input place) (inl refl) g)) (λ why t. gives _ (Leaves _))
+      (λ input t k. call _ (mark (marks t (Output place) (inr refl) k)) (λ why u. gives _ (Leaves _)) (λ output u. gives _ (Leaves _)))
 
-    output_walks : (done : Result ℕ Stop × HandleTable) → G done.1 → Walks law (Between at made (record m { table = done.1 })) OverWith (output_asks (own_of line) s place (side_at (tcp2_at m.store.records place)) (with_table m done))
-    output_walks (Ok input, t) g = and_then (mark (marks t (Output place) (inr refl) g)) (second input t)
-    output_walks (Err why, t) g = gives _ (Leaves _)
+  pub finish_connect_walks : (c s : ℕ) (m : Machine) → Has (handles_of origin) s → origin ≡ Step.TcpFinishConnect c s
+      → Walks law (Starts m Unused) OverWith (finish_connect (own_of line) s m)
+  finish_connect_walks c s m named is =
+      look (λ place. in_store (finish_connect_of place) >> (Read (λ m. side_at (tcp2_at m.store.records place)) >>= λ side. make_streams (own_of line) s place side))
+      (socket_at m s) (gives _ (Spends _ refl))
+      (λ place e. move (Reaches _ s place named (socket_record (kind_at m.table s) place e))
+      (call_given _ (FinishedSo place) (finished_of m.store place) (finish_of_walks m place) (λ why store. gives _ (Leaves _))
+      (λ done store has.
+      streams_walks (Some (place, line)) Past s place (record m { store = store }) (λ t. kind_at t s ≡ Some (Tcp2 place))
+      (λ t kind g. make_given t (own_of line) kind (Some s) (side_at (tcp2_at store.records place)) s (Tcp2 place) g)
+      (λ t kind which g. AStream c s place kind is which (record { past = refl; socket = g; streams = has })) (socket_kind (kind_at m.table s) place e))))
 
-    pub streams_walks : G m.table → Walks law (Between at made m) OverWith (streams_asks m (own_of line) s place (side_at (tcp2_at m.store.records place)))
-    streams_walks g = and_given (λ done. G done.1) (more m.table (Input place) g) (mark (marks m.table (Input place) (inl refl) g)) output_walks
-
-  connected_walks : (c s place : ℕ) (m : Machine) (done : Result (Unit {0}) Stop × Records) → origin ≡ Step.TcpFinishConnect c s → kind_at m.table s ≡ Some (Tcp2 place) → FinishedSo place done → Walks law (Put line m place done) OverWith (connected_asks (own_of line) s place (with_store m done))
-  connected_walks c s place m (Ok d, store) is k has =
-      let now : Machine = record m { store = store } in
-      streams_walks (Some (place, line)) Past s place now (λ t. kind_at t s ≡ Some (Tcp2 place)) (λ t kind g. make_given t (own_of line) kind (Some s) (side_at (tcp2_at store.records place)) s (Tcp2 place) g) (λ t kind which g. AStream c s place kind is which (record { past = refl; socket = g; streams = has })) k
-  connected_walks c s place m (Err why, store) is k has = gives _ (Leaves _)
-
-  pub finish_on_walks : (c s : ℕ) (m : Machine) (o : Option ℕ) → socket_at m s ≡ o → Has (handles_of origin) s → origin ≡ Step.TcpFinishConnect c s → Walks law (Starts m Unused) OverWith (finish_connect_on m (own_of line) s o)
-  finish_on_walks c s m None e named is = gives _ (Spends _ refl)
-  finish_on_walks c s m (Some place) e named is =
-      move (Reaches _ s place named (socket_record (kind_at m.table s) place e))
-      (and_given (FinishedSo place) (finished_given m.store place (tcp2_at m.store.records place) refl) (finish_at_walks m place (tcp2_at m.store.records place) refl) (λ done has. connected_walks c s place m done is (socket_kind (kind_at m.table s) place e) has))
-
-  -- == the addresses, and what is finished
-  puts_back : {T : Type 0} (m : Machine) (place : ℕ) (r : Tcp2Socket) (call : Asks (Result T ErrorCode × Tcp2Socket)) → Found (At line m place Unused) place r → Walks law (put (At line m place Unused) place r) (λ done. put (At line m place Unused) place done.1) call
-      → Walks law (At line m place Unused) (Put line m place) (bind call (λ done. Give (put_back m.store place done)))
-  puts_back m place r call g w = from (put_same (At line m place Unused) place r g) (and_then w (λ done. move (Spends _ refl) (put_back_walks m place done)))
-
-  pub local_at_walks : (m : Machine) (place : ℕ) (o : Option Tcp2Socket) → tcp2_at m.store.records place ≡ o → Walks law (At line m place Unused) (Put line m place) (local_address_at m.store (own_of line) place o)
-  local_at_walks m place None g = gives _ (Spends _ refl)
-  local_at_walks m place (Some r) g = puts_back m place r (tell_local_asks (own_of line) r) g (local_walks (there g) refl r)
-
-  pub remote_at_walks : (m : Machine) (place : ℕ) (o : Option Tcp2Socket) → tcp2_at m.store.records place ≡ o → Walks law (At line m place Unused) (Put line m place) (remote_address_at m.store (own_of line) place o)
-  remote_at_walks m place None g = gives _ (Spends _ refl)
-  remote_at_walks m place (Some r) g = puts_back m place r (tell_remote_asks (own_of line) r) g (remote_walks (there g) refl r)
-
+  -- == what is finished
   pub as_left : {A : Type 0} {h : Here} {x : A} {now : Machine} → Walks law h (λ m. Over m) (Give now) → Walks law h OverWith (Give (x, now))
   as_left w = record { along = w.along }
 

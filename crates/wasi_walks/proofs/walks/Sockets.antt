@@ -2,9 +2,13 @@
 use Rattle.std.specs.Prelude.{IsSome}
 use Rattle.wasi_tcp.specs.Halves.{take_send}
 use Rattle.wasi_records.specs.Records.{tcp2_at, tcp2_put}
-use Rattle.wasi_host.specs.Store.{with_record_put}
+use Rattle.wasi_host.specs.Store.{with_socket}
+use Rattle.wasi_records.specs.Stops.{Code}
+use Rattle.wasi_addr.specs.declared.p2.ErrorCode.TheVariants.{NotInProgress}
+use Rattle.wasi_host.specs.Block.{give as gives_all, after_call, last, need, or_trap, ◌>>◌}
+use Rattle.wasi_host.specs.Lines.{done_by, finish_connect_of, same_stop}
 use Rattle.wasi_walks.specs.Answered.{streams_in}
-use Rattle.wasi_walks.proofs.Words.{Records, TcpReceiveStream, TcpSendStream, finish_connect_at, finish_connect_by}
+use Rattle.wasi_walks.proofs.Words.{Records, TcpReceiveStream, TcpSendStream}
 use Rattle.wasi_walks.proofs.Words.{Accepting, Accepts, Answer, Begins, Bool, Connection, Done, End, Err, ErrorCode, Give, InProgress}
 use Rattle.wasi_walks.proofs.Words.{InvalidArgument, InvalidState, IpSocketAddress, IsBacklogSet, IsBindTo, IsConnectTo, IsListenStep, Item, List}
 use Rattle.wasi_walks.proofs.Words.{Listener, Listening, None, Not, Ok, OpId, Operation, Option, Pending, Ready, Refused, Result, Socket, Some}
@@ -175,17 +179,26 @@ abbrev pub FinishedSo : ℕ → Result (Unit {0}) Stop × Records → Type 0
 FinishedSo place (Ok done, store) = IsSome (streams_in (tcp2_at store.records place))
 FinishedSo place (Err why, store) = ⊤
 
-pub finished_given : (store : Records) (place : ℕ) (o : Option Tcp2Socket) → tcp2_at store.records place ≡ o → Given (FinishedSo place) (finish_connect_at store place o)
-finished_given store place None g = tt
-finished_given store place (Some r) g = by_test (is_connect r.in_progress)
+-- where a connect is finished, its streams are made
+pub finished_of : (store : Records) (place : ℕ) → Given (FinishedSo place) (finish_connect_of place store)
+finished_of store place = by_record (tcp2_at store.records place) refl
   where
-    kept : (done : Result (Unit {0}) Stop × Tcp2Socket) → OpenedSo done → FinishedSo place (with_record_put store place done)
-    kept (Ok d, now) has = subst (λ (o : Option Tcp2Socket). IsSome (streams_in o)) (sym (put_finds tcp_sort store.records place r now g)) has
-    kept (Err why, now) has = tt
+    kept : (r : Tcp2Socket) → tcp2_at store.records place ≡ Some r → (done : Result (Unit {0}) Stop × Tcp2Socket) → OpenedSo done
+        → Given (FinishedSo place) (after_call same_stop (λ s now. with_socket s place now) gives_all store done)
+    kept r g (Ok d, now) has = subst (λ (o : Option Tcp2Socket). IsSome (streams_in o)) (sym (put_finds tcp_sort store.records place r now g)) has
+    kept r g (Err why, now) has = tt
 
-    by_test : (its : Bool) → Given (FinishedSo place) (finish_connect_by store place r its)
-    by_test true = given_along OpenedSo (FinishedSo place) (poll_connect_asks r) (λ done. Give (with_record_put store place done)) (given_then OpenedSo (connect_polled r) (polled_so r) (finish_connect_asks r.inner)) kept
-    by_test false = tt
+    by_test : (r : Tcp2Socket) → tcp2_at store.records place ≡ Some r → (its : Bool)
+        → Given (FinishedSo place) (if its then last (done_by place r poll_connect_asks) store else Give (Err (Code NotInProgress), store))
+    by_test r g true =
+        given_along OpenedSo (FinishedSo place) (poll_connect_asks r) _
+        (given_then OpenedSo (connect_polled r) (polled_so r) (finish_connect_asks r.inner)) (kept r g)
+    by_test r g false = tt
+
+    by_record : (o : Option Tcp2Socket) → tcp2_at store.records place ≡ o
+        → Given (FinishedSo place) (or_trap (λ r. need (is_connect r.in_progress) (Code NotInProgress) >> last (done_by place r poll_connect_asks)) store o)
+    by_record None g = tt
+    by_record (Some r) g = by_test r g (is_connect r.in_progress)
 
 -- a bind that waits is in progress
 abbrev pub WaitsSo : StandingCall → Result (Answer (Unit {0})) ErrorCode × Tcp2Socket → Type 0

@@ -20,7 +20,7 @@ use Rattle.wasi_walks.proofs.walks.Law.{BeginsWrites, Law, Walks, give, and_then
 use Rattle.wasi_walks.proofs.walks.Sockets.{WaitsSo, get_walks, listen_given, poll_bind_walks, poll_listen_walks, polled_given}
 use Rattle.wasi_walks.proofs.walks.Streams.{subscribe_walks, drop_walks, turn_walks, drop_output_walks}
 use Rattle.wasi_walks.proofs.walks.States.{At, Over, OverWith, udp_record, Put, Starts, socket_record, stands_so, there, none_stands}
-use Rattle.wasi_walks.proofs.walks.SocketSteps.{finish_started_walks, local_at_walks, shutdown_at_walks, start_connect_walks, start_bind_walks, looked_walks, set_chosen_walks, remote_at_walks, on_socket, finish_on_walks, as_left, answered_walks}
+use Rattle.wasi_walks.proofs.walks.SocketSteps.{finish_started_walks, local_address_walks, shutdown_at_walks, start_connect_walks, start_bind_walks, looked_walks, set_chosen_walks, remote_address_walks, on_socket, finish_connect_walks, as_left, answered_walks}
 use Rattle.wasi_walks.proofs.walks.ListenSteps.{accept_on_walks, start_listen_at_walks}
 use Rattle.wasi_records.specs.Records.{tcp2_at, open_at}
 use Rattle.wasi_host.specs.declared.pending.Outcome.{Outcome}
@@ -183,12 +183,12 @@ step_walks {contexts} line (Step.TcpCreate c family) m b f = and_then (create (c
 step_walks line (Step.TcpStartBind c s n a) m b f = and_then (start_bind_walks m s n a (inl refl) refl (none_stands (f refl))) (λ done. give _)
 step_walks line (Step.TcpFinishBind c s) m b f = as_left (finish_started_walks m is_bind bind_settles (socket_at m s))
 step_walks line (Step.TcpStartConnect c s n a) m b f = and_then (start_connect_walks m s n a (inl refl) refl) (λ done. give _)
-step_walks line (Step.TcpFinishConnect c s) m b f = and_then (finish_on_walks c s m (socket_at m s) refl (inl refl) refl) (λ done. give _)
+step_walks line (Step.TcpFinishConnect c s) m b f = and_then (finish_connect_walks c s m (inl refl) refl) (λ done. give _)
 step_walks line (Step.TcpStartListen c s) m b f = and_then (on_socket m s (socket_at m s) (inl refl) (socket_record (kind_at m.table s)) (λ place. start_listen_at_walks m place (tcp2_at m.store.records place) refl tt (none_stands (f refl)))) (λ done. give _)
 step_walks line (Step.TcpFinishListen c s) m b f = as_left (finish_started_walks m is_listen listen_settles (socket_at m s))
 step_walks line (Step.TcpAccept c s) m b f = and_then (accept_on_walks c s m (socket_at m s) refl (inl refl) refl) (λ done. give _)
-step_walks line (Step.TcpLocalAddress c s) m b f = and_then (on_socket m s (socket_at m s) (inl refl) (socket_record (kind_at m.table s)) (λ place. local_at_walks m place (tcp2_at m.store.records place) refl)) (λ done. give _)
-step_walks line (Step.TcpRemoteAddress c s) m b f = and_then (on_socket m s (socket_at m s) (inl refl) (socket_record (kind_at m.table s)) (λ place. remote_at_walks m place (tcp2_at m.store.records place) refl)) (λ done. give _)
+step_walks line (Step.TcpLocalAddress c s) m b f = and_then (local_address_walks m s (inl refl)) (λ done. give _)
+step_walks line (Step.TcpRemoteAddress c s) m b f = and_then (remote_address_walks m s (inl refl)) (λ done. give _)
 step_walks line (Step.TcpIsListening c s) m b f = gives _ (Spends _ refl)
 step_walks line (Step.TcpAddressFamily c s) m b f = gives _ (Spends _ refl)
 step_walks line (Step.TcpGet c s option) m b f = and_then (on_socket m s (socket_at m s) (inl refl) (socket_record (kind_at m.table s)) (λ place. looked_walks m place (λ x. get_option_asks (own_of line) x option) (tcp2_at m.store.records place) refl (λ r here. get_walks here refl r option refl refl))) (λ done. give _)
