@@ -13,7 +13,7 @@ ghost use Rattle.wasi_host.specs.Views.{SameView, state_of};
 use crate::store::{StandingCall, Store};
 use crate::view::WasiSocketsCtxView;
 use std::alloc::AllocError;
-use wasi_records::{InProgress, Udp2Socket, UdpInProgress, open_udp_mut, tcp2_mut, udp2};
+use wasi_records::{InProgress, OpenUdp, Tcp2Socket, Udp2Socket, UdpInProgress, find, find_mut};
 use wasi_world::World;
 
 impl Store {
@@ -23,7 +23,7 @@ impl Store {
         ensures state { self.new ≡ cancel_bind_at self.old place (tcp2_at self.old.records place) }
         ensures sides { (s : Seen) → KnowsSides s self.old → KnowsSides s self.new }
     {
-        let Some(record) = tcp2_mut(&mut self.records, place) else {
+        let Some(record) = find_mut::<Tcp2Socket>(&mut self.records, place) else {
             return;
         };
         record.in_progress = InProgress::Nothing;
@@ -38,7 +38,7 @@ impl Store {
         ensures sides { KnowsSides (W.seen world.old) self.old
             → KnowsSides (W.seen world.new) self.new }
     {
-        let Some(record) = tcp2_mut(&mut self.records, place) else {
+        let Some(record) = find_mut::<Tcp2Socket>(&mut self.records, place) else {
             return Ok(());
         };
         record.give_listening_up(world)
@@ -53,7 +53,7 @@ impl Store {
         ensures sides { KnowsSides (W.seen world.old) self.old
             → KnowsSides (W.seen world.new) self.new }
     {
-        let Some(socket) = udp2(&self.records, place) else {
+        let Some(socket) = find::<Udp2Socket>(&self.records, place) else {
             return Ok(());
         };
         let Udp2Socket::Creating(create) = socket else {
@@ -71,7 +71,7 @@ impl Store {
             (open_at self.old.records place) }
         ensures sides { (s : Seen) → KnowsSides s self.old → KnowsSides s self.new }
     {
-        let Some(socket) = open_udp_mut(&mut self.records, place) else {
+        let Some(socket) = find_mut::<OpenUdp>(&mut self.records, place) else {
             return;
         };
         socket.in_progress = UdpInProgress::Nothing;
@@ -84,7 +84,7 @@ impl Store {
             (open_at self.old.records place) }
         ensures sides { (s : Seen) → KnowsSides s self.old → KnowsSides s self.new }
     {
-        let Some(socket) = open_udp_mut(&mut self.records, place) else {
+        let Some(socket) = find_mut::<OpenUdp>(&mut self.records, place) else {
             return;
         };
         socket.connecting = None;
@@ -97,7 +97,7 @@ impl Store {
             (open_at self.old.records place) }
         ensures sides { (s : Seen) → KnowsSides s self.old → KnowsSides s self.new }
     {
-        let Some(socket) = open_udp_mut(&mut self.records, place) else {
+        let Some(socket) = find_mut::<OpenUdp>(&mut self.records, place) else {
             return;
         };
         socket.outgoing = None;

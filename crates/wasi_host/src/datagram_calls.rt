@@ -21,7 +21,7 @@ use crate::store::{StandingCall, Store};
 use std::alloc::Global;
 use wasi_addr::IpSocketAddress;
 use wasi_jobs::HostJob;
-use wasi_records::{SocketError, open_udp, open_udp_mut, open_udp_mut_in};
+use wasi_records::{OpenUdp, SocketError, find, find_mut, find_mut_in};
 use wasi_streams::Fault;
 use wasi_table::Table;
 use wasi_world::{Answer, Handle, Ids, IncomingDatagrams, OpId, OutgoingDatagram, TrapKind, World};
@@ -100,7 +100,7 @@ impl Store {
         ensures sides { KnowsSides (W.seen world.old) self.old
             → KnowsSides (W.seen world.new) self.new }
     {
-        let Some(socket) = open_udp_mut(&mut self.records, place) else {
+        let Some(socket) = find_mut::<OpenUdp>(&mut self.records, place) else {
             return Err(SocketError::Trap(TrapKind::NoSuchHandle));
         };
         if socket.has_streams() {
@@ -130,7 +130,7 @@ impl Store {
         ensures sides { KnowsSides (W.seen world.old) self.old
             → KnowsSides (W.seen world.new) self.new }
     {
-        let Some(socket) = open_udp_mut(&mut self.records, place) else {
+        let Some(socket) = find_mut::<OpenUdp>(&mut self.records, place) else {
             return Err(SocketError::Trap(TrapKind::NoSuchHandle));
         };
         let answer = socket.poll_connect(world)?;
@@ -176,7 +176,7 @@ impl Store {
         ensures state { self.new ≡ (check_send_at self.old place
             (open_at self.old.records place)).1 }
     {
-        let Some(socket) = open_udp_mut(&mut self.records, place) else {
+        let Some(socket) = find_mut::<OpenUdp>(&mut self.records, place) else {
             return Err(SocketError::Trap(TrapKind::NoSuchHandle));
         };
         let Some(outgoing) = &mut socket.outgoing else {
@@ -204,7 +204,7 @@ impl Store {
             → KnowsSides (W.seen world.new) self.new }
     {
         let slot = self.records.slot_of(place);
-        let Some(socket) = open_udp_mut_in(&mut self.records, slot, place) else {
+        let Some(socket) = find_mut_in::<OpenUdp>(&mut self.records, slot, place) else {
             return Err(SocketError::Trap(TrapKind::NoSuchHandle));
         };
         // The job comes first, so that a datagram in the background has its job whatever memory
@@ -239,7 +239,7 @@ impl Store {
             → KnowsSides (W.seen world.new) self.new }
     {
         let slot = self.records.slot_of(place);
-        let Some(socket) = open_udp_mut_in(&mut self.records, slot, place) else {
+        let Some(socket) = find_mut_in::<OpenUdp>(&mut self.records, slot, place) else {
             return Err(SocketError::Trap(TrapKind::NoSuchHandle));
         };
         // The job comes first, so that a receive in progress has its job whatever memory there is.
@@ -272,7 +272,7 @@ impl Store {
             → KnowsSides (W.seen world.new) self.new }
     {
         let slot = self.records.slot_of(place);
-        let Some(socket) = open_udp_mut_in(&mut self.records, slot, place) else {
+        let Some(socket) = find_mut_in::<OpenUdp>(&mut self.records, slot, place) else {
             return Err(Fault::Trap(TrapKind::NoSuchHandle));
         };
         // The job comes first, so that a receive in progress has its job whatever memory there is.
@@ -292,7 +292,7 @@ impl Store {
         ensures state { self.new ≡ (drop_incoming_at self.old place
             (open_at self.old.records place)).1 }
     {
-        if let Some(socket) = open_udp_mut(&mut self.records, place) {
+        if let Some(socket) = find_mut::<OpenUdp>(&mut self.records, place) {
             socket.incoming = None;
             self.forget_receives(place);
         }
@@ -305,7 +305,7 @@ impl Store {
         ensures dropped { (result, self.new) ≡ drop_outgoing_at self.old ids place
             (open_at self.old.records place) }
     {
-        let Some(socket) = open_udp_mut(&mut self.records, place) else {
+        let Some(socket) = find_mut::<OpenUdp>(&mut self.records, place) else {
             return Answer::Ready(());
         };
         if socket.sends() {
@@ -321,7 +321,7 @@ impl Store {
     pub(crate) fn outgoing_ready(&self, place: usize) -> bool
         ensures { result ≡ outgoing_ready (open_at self.now.records place) }
     {
-        match open_udp(&self.records, place) {
+        match find::<OpenUdp>(&self.records, place) {
             Some(socket) => !socket.sends(),
             None => true,
         }

@@ -22,7 +22,7 @@ use crate::store::Store;
 use crate::view::WasiSocketsCtxView;
 use std::alloc::AllocError;
 use wasi_jobs::{HostJob, JobList, Listed};
-use wasi_records::{RecordList, lookup_mut_in, open_udp_mut_in, tcp2_mut_in};
+use wasi_records::{Lookup, OpenUdp, RecordList, Tcp2Socket, find_mut_in};
 use wasi_world::World;
 
 /// Polls the write of the TCP socket with this record number once, if one is in progress. Returns
@@ -40,7 +40,7 @@ fn turn_socket<W: World>(
     ensures held { held_in records.new.items ≡ held_in records.old.items }
     ensures none { MakesNone (W.seen world.old) (W.seen world.new) }
 {
-    let Some(record) = tcp2_mut_in(records, slot, place) else {
+    let Some(record) = find_mut_in::<Tcp2Socket>(records, slot, place) else {
         return Ok(false);
     };
     record.turn(world)?;
@@ -64,7 +64,7 @@ fn turn_datagram<W: World>(
     ensures held { held_in records.new.items ≡ held_in records.old.items }
     ensures none { MakesNone (W.seen world.old) (W.seen world.new) }
 {
-    let Some(socket) = open_udp_mut_in(records, slot, place) else {
+    let Some(socket) = find_mut_in::<OpenUdp>(records, slot, place) else {
         return Ok(false);
     };
     socket.turn_outgoing(world)?;
@@ -88,7 +88,7 @@ fn turn_receive<W: World>(
     ensures held { held_in records.new.items ≡ held_in records.old.items }
     ensures none { MakesNone (W.seen world.old) (W.seen world.new) }
 {
-    let Some(socket) = open_udp_mut_in(records, slot, place) else {
+    let Some(socket) = find_mut_in::<OpenUdp>(records, slot, place) else {
         return Ok(false);
     };
     socket.turn_incoming(world)?;
@@ -112,7 +112,7 @@ fn turn_lookup<W: World>(
     ensures held { held_in records.new.items ≡ held_in records.old.items }
     ensures none { MakesNone (W.seen world.old) (W.seen world.new) }
 {
-    let Some(lookup) = lookup_mut_in(records, slot, place) else {
+    let Some(lookup) = find_mut_in::<Lookup>(records, slot, place) else {
         return Ok(false);
     };
     lookup.turn(world)?;

@@ -19,7 +19,7 @@ use wasi_addr::IpAddress;
 use wasi_jobs::{HostJob, JobList};
 use wasi_names::HostName;
 use wasi_records::{
-    Addresses, Lookup, Record, RecordList, SocketError, lookup, lookup_mut, unresolvable,
+    Addresses, Lookup, Record, RecordList, SocketError, find, find_mut, unresolvable,
 };
 use wasi_table::Table;
 use wasi_world::{Handle, OpId, TrapKind, World};
@@ -141,7 +141,7 @@ impl Store {
         ensures state { self.new ≡ (next_at self.old place (lookup_at self.old.records place)).1 }
         ensures sides { (s : Seen) → KnowsSides s self.old → KnowsSides s self.new }
     {
-        let Some(lookup) = lookup_mut(&mut self.records, place) else {
+        let Some(lookup) = find_mut::<Lookup>(&mut self.records, place) else {
             return Err(SocketError::Trap(TrapKind::NoSuchHandle));
         };
         match lookup.next() {
@@ -154,7 +154,7 @@ impl Store {
     pub(crate) fn lookup_ready(&self, place: usize) -> bool
         ensures { result ≡ lookup_ready (lookup_at self.now.records place) }
     {
-        match lookup(&self.records, place) {
+        match find::<Lookup>(&self.records, place) {
             Some(lookup) => !lookup.is_in_progress(),
             None => true,
         }
@@ -167,7 +167,7 @@ impl Store {
             (lookup_at self.old.records place)).1 }
         ensures sides { (s : Seen) → KnowsSides s self.old → KnowsSides s self.new }
     {
-        let Some(_dropped) = lookup(&self.records, place) else {
+        let Some(_dropped) = find::<Lookup>(&self.records, place) else {
             return;
         };
         self.give_back(place);

@@ -16,7 +16,9 @@ ghost use Rattle.wasi_host.specs.TcpCalls.{accept_at, accept_ids_at, shutdown_at
 
 use crate::store::{StandingCall, Store};
 use wasi_addr::{IpSocketAddress, ShutdownType, SocketAddressFamily, p2};
-use wasi_records::{AsyncOperation, InProgress, SocketError, keep_accepted, tcp2, tcp2_mut};
+use wasi_records::{
+    AsyncOperation, InProgress, SocketError, Tcp2Socket, find, find_mut, keep_accepted,
+};
 use wasi_world::{Answer, Ids, OpId, TrapKind, World};
 
 impl Store {
@@ -36,7 +38,7 @@ impl Store {
         ensures sides { KnowsSides (W.seen world.old) self.old
             → KnowsSides (W.seen world.new) self.new }
     {
-        let Some(record) = tcp2_mut(&mut self.records, place) else {
+        let Some(record) = find_mut::<Tcp2Socket>(&mut self.records, place) else {
             return Err(SocketError::Trap(TrapKind::NoSuchHandle));
         };
         if !record.in_progress.is_nothing() {
@@ -56,7 +58,7 @@ impl Store {
         ensures state { self.new ≡ (finish_at (is_started operation) self.old place
             (tcp2_at self.old.records place)).1 }
     {
-        let Some(record) = tcp2_mut(&mut self.records, place) else {
+        let Some(record) = find_mut::<Tcp2Socket>(&mut self.records, place) else {
             return Err(SocketError::Trap(TrapKind::NoSuchHandle));
         };
         if !record.in_progress.is_started(operation) {
@@ -82,7 +84,7 @@ impl Store {
         ensures sides { KnowsSides (W.seen world.old) self.old
             → KnowsSides (W.seen world.new) self.new }
     {
-        let Some(record) = tcp2_mut(&mut self.records, place) else {
+        let Some(record) = find_mut::<Tcp2Socket>(&mut self.records, place) else {
             return Err(SocketError::Trap(TrapKind::NoSuchHandle));
         };
         if !record.in_progress.is_nothing() {
@@ -106,7 +108,7 @@ impl Store {
         ensures sides { KnowsSides (W.seen world.old) self.old
             → KnowsSides (W.seen world.new) self.new }
     {
-        let Some(record) = tcp2_mut(&mut self.records, place) else {
+        let Some(record) = find_mut::<Tcp2Socket>(&mut self.records, place) else {
             return Err(SocketError::Trap(TrapKind::NoSuchHandle));
         };
         if !record.in_progress.is_started(AsyncOperation::Connect) {
@@ -129,7 +131,7 @@ impl Store {
         ensures sides { KnowsSides (W.seen world.old) self.old
             → KnowsSides (W.seen world.new) self.new }
     {
-        let Some(record) = tcp2_mut(&mut self.records, place) else {
+        let Some(record) = find_mut::<Tcp2Socket>(&mut self.records, place) else {
             return Err(SocketError::Trap(TrapKind::NoSuchHandle));
         };
         let addr = record.local_address(world, op)?;
@@ -150,7 +152,7 @@ impl Store {
         ensures sides { KnowsSides (W.seen world.old) self.old
             → KnowsSides (W.seen world.new) self.new }
     {
-        let Some(record) = tcp2_mut(&mut self.records, place) else {
+        let Some(record) = find_mut::<Tcp2Socket>(&mut self.records, place) else {
             return Err(SocketError::Trap(TrapKind::NoSuchHandle));
         };
         let addr = record.remote_address(world, op)?;
@@ -161,7 +163,7 @@ impl Store {
     pub fn is_listening(&self, place: usize) -> Result<bool, SocketError>
         ensures { host_outcome result ≡ Ok (is_listening_at (tcp2_at self.now.records place)) }
     {
-        match tcp2(&self.records, place) {
+        match find::<Tcp2Socket>(&self.records, place) {
             Some(record) => Ok(record.inner.is_listening()),
             None => Err(SocketError::Trap(TrapKind::NoSuchHandle)),
         }
@@ -171,7 +173,7 @@ impl Store {
     pub fn address_family(&self, place: usize) -> Result<SocketAddressFamily, SocketError>
         ensures { host_outcome result ≡ Ok (address_family_at (tcp2_at self.now.records place)) }
     {
-        match tcp2(&self.records, place) {
+        match find::<Tcp2Socket>(&self.records, place) {
             Some(record) => Ok(record.inner.address_family()),
             None => Err(SocketError::Trap(TrapKind::NoSuchHandle)),
         }
@@ -192,7 +194,7 @@ impl Store {
         ensures sides { KnowsSides (W.seen world.old) self.old
             → KnowsSides (W.seen world.new) self.new }
     {
-        let Some(record) = tcp2_mut(&mut self.records, place) else {
+        let Some(record) = find_mut::<Tcp2Socket>(&mut self.records, place) else {
             return Err(SocketError::Trap(TrapKind::NoSuchHandle));
         };
         if !record.in_progress.is_nothing() {
@@ -225,7 +227,7 @@ impl Store {
             ≡ accept_ids_at ids.old (tcp2_at self.old.records place)) }
     {
         self.records.reserve()?;
-        let Some(record) = tcp2_mut(&mut self.records, place) else {
+        let Some(record) = find_mut::<Tcp2Socket>(&mut self.records, place) else {
             return Err(SocketError::Trap(TrapKind::NoSuchHandle));
         };
         let answer = record.poll_accept(world, ids)?;
@@ -250,7 +252,7 @@ impl Store {
         ensures sides { KnowsSides (W.seen world.old) self.old
             → KnowsSides (W.seen world.new) self.new }
     {
-        let Some(record) = tcp2_mut(&mut self.records, place) else {
+        let Some(record) = find_mut::<Tcp2Socket>(&mut self.records, place) else {
             return Err(SocketError::Trap(TrapKind::NoSuchHandle));
         };
         record.shutdown(world, op, how)

@@ -21,8 +21,7 @@ use socket_common::Setting;
 use std::alloc::AllocError;
 use wasi_addr::{IpSocketAddress, SocketAddressFamily, p2};
 use wasi_records::{
-    PendingCreate, Record, SocketError, Udp2Socket, UdpInProgress, open_udp, open_udp_mut, udp2,
-    udp2_mut,
+    OpenUdp, PendingCreate, Record, SocketError, Udp2Socket, UdpInProgress, find, find_mut,
 };
 use wasi_table::Table;
 use wasi_udp::UdpSocket;
@@ -120,7 +119,7 @@ impl Store {
         ensures sides { KnowsSides (W.seen world.old) self.old
             → KnowsSides (W.seen world.new) self.new }
     {
-        let Some(record) = udp2_mut(&mut self.records, place) else {
+        let Some(record) = find_mut::<Udp2Socket>(&mut self.records, place) else {
             return Err(SocketError::Trap(TrapKind::NoSuchHandle));
         };
         match record.poll_create(world) {
@@ -136,7 +135,7 @@ impl Store {
     pub(crate) fn udp_side(&self, place: usize) -> Option<Sock>
         ensures { result ≡ udp_side_at (udp2_at self.now.records place) }
     {
-        Some(udp2(&self.records, place)?.side())
+        Some(find::<Udp2Socket>(&self.records, place)?.side())
     }
 
     /// Begins a bind of the UDP socket with this record number (`start-bind`). An operation in
@@ -156,7 +155,7 @@ impl Store {
         ensures sides { KnowsSides (W.seen world.old) self.old
             → KnowsSides (W.seen world.new) self.new }
     {
-        let Some(socket) = open_udp_mut(&mut self.records, place) else {
+        let Some(socket) = find_mut::<OpenUdp>(&mut self.records, place) else {
             return Err(SocketError::Trap(TrapKind::NoSuchHandle));
         };
         if !socket.in_progress.is_nothing() {
@@ -184,7 +183,7 @@ impl Store {
         ensures sides { KnowsSides (W.seen world.old) self.old
             → KnowsSides (W.seen world.new) self.new }
     {
-        let Some(socket) = open_udp_mut(&mut self.records, place) else {
+        let Some(socket) = find_mut::<OpenUdp>(&mut self.records, place) else {
             return Err(SocketError::Trap(TrapKind::NoSuchHandle));
         };
         let answer = socket.poll_bind(world)?;
@@ -199,7 +198,7 @@ impl Store {
         ensures state { self.new ≡ (finish_udp_bind_at self.old place
             (open_at self.old.records place)).1 }
     {
-        let Some(socket) = open_udp_mut(&mut self.records, place) else {
+        let Some(socket) = find_mut::<OpenUdp>(&mut self.records, place) else {
             return Err(SocketError::Trap(TrapKind::NoSuchHandle));
         };
         if !socket.in_progress.is_bound() {
@@ -222,7 +221,7 @@ impl Store {
         ensures sides { KnowsSides (W.seen world.old) self.old
             → KnowsSides (W.seen world.new) self.new }
     {
-        let Some(socket) = open_udp_mut(&mut self.records, place) else {
+        let Some(socket) = find_mut::<OpenUdp>(&mut self.records, place) else {
             return Err(SocketError::Trap(TrapKind::NoSuchHandle));
         };
         let addr = socket.local_address(world, op)?;
@@ -234,7 +233,7 @@ impl Store {
     pub fn udp_remote_address(&self, place: usize) -> Result<IpSocketAddress, SocketError>
         ensures { host_outcome result ≡ Ok (udp_remote_at (open_at self.now.records place)) }
     {
-        let Some(socket) = open_udp(&self.records, place) else {
+        let Some(socket) = find::<OpenUdp>(&self.records, place) else {
             return Err(SocketError::Trap(TrapKind::NoSuchHandle));
         };
         match socket.inner.remote_address() {
@@ -247,7 +246,7 @@ impl Store {
     pub fn udp_address_family(&self, place: usize) -> Result<SocketAddressFamily, SocketError>
         ensures { host_outcome result ≡ Ok (udp_family_at (open_at self.now.records place)) }
     {
-        match open_udp(&self.records, place) {
+        match find::<OpenUdp>(&self.records, place) {
             Some(socket) => Ok(socket.inner.address_family()),
             None => Err(SocketError::Trap(TrapKind::NoSuchHandle)),
         }
@@ -269,7 +268,7 @@ impl Store {
         ensures sides { KnowsSides (W.seen world.old) self.now
             → KnowsSides (W.seen world.new) self.now }
     {
-        let Some(socket) = open_udp(&self.records, place) else {
+        let Some(socket) = find::<OpenUdp>(&self.records, place) else {
             return Err(SocketError::Trap(TrapKind::NoSuchHandle));
         };
         let value = socket.inner.get_option(world, op, option)?;
@@ -292,7 +291,7 @@ impl Store {
         ensures sides { KnowsSides (W.seen world.old) self.old
             → KnowsSides (W.seen world.new) self.new }
     {
-        let Some(socket) = open_udp_mut(&mut self.records, place) else {
+        let Some(socket) = find_mut::<OpenUdp>(&mut self.records, place) else {
             return Err(SocketError::Trap(TrapKind::NoSuchHandle));
         };
         socket.inner.set_option(world, op, setting)?;
@@ -313,7 +312,7 @@ impl Store {
         ensures sides { KnowsSides (W.seen world.old) self.old
             → KnowsSides (W.seen world.new) self.new }
     {
-        let Some(record) = udp2_mut(&mut self.records, place) else {
+        let Some(record) = find_mut::<Udp2Socket>(&mut self.records, place) else {
             return Ok(());
         };
         record.close(world, op)?;
@@ -327,7 +326,7 @@ impl Store {
             → self.new ≡ udp_left self.old place u }
         ensures sides { (s : Seen) → KnowsSides s self.old → KnowsSides s self.new }
     {
-        let Some(socket) = udp2(&self.records, place) else {
+        let Some(socket) = find::<Udp2Socket>(&self.records, place) else {
             return;
         };
         let Udp2Socket::Closed(_) = socket else {

@@ -25,9 +25,6 @@ pub use error::SocketError;
 pub use listening::{Listening, keep_accepted};
 pub use name_lookup::{Addresses, Lookup, LookupOp, unresolvable};
 pub use record_list::RecordList;
-pub use records::{
-    Record, input_pipe, input_pipe_mut, lookup, lookup_mut, lookup_mut_in, open_udp, open_udp_mut,
-    open_udp_mut_in, output_pipe, output_pipe_mut, tcp2, tcp2_mut, tcp2_mut_in, udp2, udp2_mut,
-};
+pub use records::{Record, Stored, find, find_mut, find_mut_in};
 pub use socket::{Streams, Tcp2Socket};
 pub use udp::{OpenUdp, PendingCreate, Udp2Socket, UdpInProgress};

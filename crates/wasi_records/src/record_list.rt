@@ -104,24 +104,14 @@ impl RecordList {
         record_of(&self.slots, key_of(&self.keys, place), place)
     }
 
-    /// The record of this number, to be changed. One that was given back or wasn't made is `None`.
-    /// Takes no memory.
-    pub fn get_mut(&mut self, place: usize) -> Option<&mut Record>
-        ensures* writes_back { sem 𝓛 (LendsIf records_row record_row self.entry result
-            (with_item self.old place) self.old) }
-        ensures item { or_gone (option_map (λ r. r.now) result) ≡ item_at self.old.items place }
-    {
-        let slot = self.slot_of(place);
-        self.get_mut_in(slot, place)
-    }
-
-    /// The slot of the record of this number, as a hint for `get_mut_in`; any slot where there is
+    /// The slot of the record of this number, as a hint for `find_mut_in`; any slot where there is
     /// no such record. Takes no memory.
     pub fn slot_of(&self, place: usize) -> usize {
         key_of(&self.keys, place)
     }
 
-    /// `get_mut`, with a slot hint that saves the search where the record is in that slot.
+    /// The record of this number, to be changed, with a slot hint that saves the search where the
+    /// record is in that slot. One that was given back or wasn't made is `None`. Takes no memory.
     pub(crate) fn get_mut_in(&mut self, slot: usize, place: usize) -> Option<&mut Record>
         ensures* writes_back { sem 𝓛 (LendsIf records_row record_row self.entry result
             (with_item self.old place) self.old) }
