@@ -15,7 +15,7 @@ use crate::kind::Kind;
 use crate::store::{StandingCall, Store};
 use crate::view::WasiSocketsCtxView;
 use std::alloc::AllocError;
-use wasi_records::{Tcp2Socket, find_mut};
+use wasi_records::{RecordId, Tcp2Socket, find_mut};
 use wasi_streams::Fault;
 use wasi_world::{Answer, Handle, Ids, OpId, World};
 
@@ -27,7 +27,7 @@ impl Store {
         &mut self,
         world: &mut W,
         op: OpId,
-        place: usize,
+        place: RecordId,
     ) -> Result<(), AllocError>
         requires { (W.seen world.old).ended ≡ false }
         ensures asked { AsksFor (release_at self.old op place (tcp2_at self.old.records place))
@@ -49,7 +49,7 @@ impl Store {
         &mut self,
         world: &mut W,
         ids: Ids,
-        place: usize,
+        place: RecordId,
     ) -> Result<Answer<()>, AllocError>
         requires { (W.seen world.old).ended ≡ false }
         ensures asked { AsksFor (drop_output_at self.old ids place (tcp2_at self.old.records place))
@@ -66,7 +66,7 @@ impl Store {
         &mut self,
         world: &mut W,
         op: OpId,
-        place: usize,
+        place: RecordId,
     ) -> Result<Answer<()>, AllocError>
         requires { (W.seen world.old).ended ≡ false }
         ensures asked { AsksFor (wait_at self.old op place (tcp2_at self.old.records place))

@@ -8,7 +8,7 @@ ghost use Rattle.wasi_records.specs.Stops.{host_outcome};
 ghost use Rattle.wasi_host.specs.KnownSides.{KnowsSides};
 
 use crate::store::Store;
-use wasi_records::{SocketError, Tcp2Socket, find, find_mut};
+use wasi_records::{RecordId, SocketError, Tcp2Socket, find, find_mut};
 use wasi_tcp::Setting;
 use wasi_world::{OpId, Opt, TrapKind, World};
 
@@ -20,7 +20,7 @@ impl Store {
         &self,
         world: &mut W,
         op: OpId,
-        place: usize,
+        place: RecordId,
         option: Opt,
     ) -> Result<u64, SocketError>
         requires { (W.seen world.old).ended ≡ false }
@@ -43,7 +43,7 @@ impl Store {
         &mut self,
         world: &mut W,
         op: OpId,
-        place: usize,
+        place: RecordId,
         setting: Setting,
     ) -> Result<(), SocketError>
         requires { (W.seen world.old).ended ≡ false }
@@ -66,7 +66,7 @@ impl Store {
         &mut self,
         world: &mut W,
         op: OpId,
-        place: usize,
+        place: RecordId,
         value: u64,
     ) -> Result<(), SocketError>
         requires { (W.seen world.old).ended ≡ false }

@@ -21,7 +21,7 @@ use crate::store::{Standing, StandingCall, Store};
 use crate::view::WasiSocketsCtxView;
 use std::alloc::Global;
 use wasi_addr::ErrorCode;
-use wasi_records::{SocketError, Tcp2Socket, find_mut};
+use wasi_records::{RecordId, SocketError, Tcp2Socket, find_mut};
 use wasi_world::{Answer, Handle, Ids, NumberList, Octets, TrapKind, World};
 
 /// What a pending call gives once it is polled: its value, or the error of a call of a stream.
@@ -106,7 +106,7 @@ impl Store {
         &mut self,
         world: &mut W,
         ids: Ids,
-        place: usize,
+        place: RecordId,
     ) -> Result<Answer<()>, SocketError>
         requires { (W.seen world.old).ended ≡ false }
         ensures asked { AsksFor (rebind_at self.old ids place (tcp2_at self.old.records place))
@@ -128,7 +128,7 @@ impl Store {
         &mut self,
         world: &mut W,
         ids: Ids,
-        place: usize,
+        place: RecordId,
     ) -> Result<Answer<()>, SocketError>
         requires { (W.seen world.old).ended ≡ false }
         ensures asked { AsksFor (relisten_at self.old ids place (tcp2_at self.old.records place))

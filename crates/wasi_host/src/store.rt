@@ -21,7 +21,7 @@ use std::marker::Model;
 use wasi_addr::SocketAddressFamily;
 use wasi_jobs::{HostJob, JobList};
 use wasi_records::{
-    Record, RecordList, SocketError, Tcp2Socket, close_sides, find, find_mut, find_mut_in,
+    Record, RecordId, RecordList, SocketError, Tcp2Socket, close_sides, find, find_mut, find_mut_in,
 };
 use wasi_streams::StreamError;
 use wasi_table::Table;
@@ -32,23 +32,23 @@ use wasi_world::{Answer, Handle, Ids, Octets, OpId, Sock, TrapKind, WasiSocketsC
 #[derive(Drop)]
 pub enum StandingCall {
     /// Binds the TCP socket with this record number; its record has the operation.
-    Bind { socket: usize },
+    Bind { socket: RecordId },
     /// Makes the TCP socket with this record number listen; its record has the operation.
-    Listen { socket: usize },
+    Listen { socket: RecordId },
     /// Drops the output of the TCP socket with this record number, and waits until its writer is
     /// ready.
-    DropOutput { socket: usize },
+    DropOutput { socket: RecordId },
     /// Creates the UDP socket with this record number, and then its handle; its record has the
     /// operation.
-    UdpCreate { socket: usize },
+    UdpCreate { socket: RecordId },
     /// Binds the UDP socket with this record number; its record has the operation.
-    UdpBind { socket: usize },
+    UdpBind { socket: RecordId },
     /// Connects the UDP socket with this record number, whose record has the operation, and then
     /// makes its datagram streams under this handle.
-    UdpConnect { socket: usize, handle: Handle },
+    UdpConnect { socket: RecordId, handle: Handle },
     /// Drops the outgoing datagram stream of the UDP socket with this record number, and waits
     /// until its datagram is sent or has failed.
-    DropOutgoing { socket: usize },
+    DropOutgoing { socket: RecordId },
     /// A call of a stream or of pollables that blocks.
     Blocking(BlockingCall),
 }
@@ -134,7 +134,7 @@ impl Store {
 
     /// The network socket that the TCP socket with this record number was made with; `None` where
     /// there is no such socket, or it had none.
-    pub fn side(&self, place: usize) -> Option<Sock>
+    pub fn side(&self, place: RecordId) -> Option<Sock>
         ensures { result ≡ side_at (tcp2_at self.now.records place) }
     {
         find::<Tcp2Socket>(&self.records, place)?.side
@@ -146,7 +146,7 @@ impl Store {
         alloc: Global,
         world: &mut W,
         op: OpId,
-        place: usize,
+        place: RecordId,
         len: usize,
     ) -> Result<Octets, StreamError>
         requires { (W.seen world.old).ended ≡ false }
@@ -168,7 +168,7 @@ impl Store {
         &mut self,
         world: &mut W,
         op: OpId,
-        place: usize,
+        place: RecordId,
     ) -> Result<usize, StreamError>
         requires { (W.seen world.old).ended ≡ false }
         ensures asked { AsksFor (stream_at self.old place (writer_asks (check_write_asks op))
@@ -189,7 +189,7 @@ impl Store {
         &mut self,
         world: &mut W,
         op: OpId,
-        place: usize,
+        place: RecordId,
         bytes: Octets,
     ) -> Result<(), StreamError>
         requires { (W.seen world.old).ended ≡ false }
@@ -213,7 +213,7 @@ impl Store {
 
     /// Returns the error with which the writer of the TCP socket with this record number is closed,
     /// if it is; asks nothing.
-    pub fn flush<W: World>(&mut self, world: &mut W, place: usize) -> Result<(), StreamError>
+    pub fn flush<W: World>(&mut self, world: &mut W, place: RecordId) -> Result<(), StreamError>
         requires { (W.seen world.old).ended ≡ false }
         ensures asked { AsksFor (stream_at self.old place (writer_asks flush_asks)
             (tcp2_at self.old.records place)) (W.seen world.old) (W.seen world.new)

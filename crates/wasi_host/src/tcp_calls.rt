@@ -17,7 +17,7 @@ ghost use Rattle.wasi_host.specs.TcpCalls.{accept_at, accept_ids_at, shutdown_at
 use crate::store::{StandingCall, Store};
 use wasi_addr::{IpSocketAddress, ShutdownType, SocketAddressFamily, p2};
 use wasi_records::{
-    AsyncOperation, InProgress, SocketError, Tcp2Socket, find, find_mut, keep_accepted,
+    AsyncOperation, InProgress, RecordId, SocketError, Tcp2Socket, find, find_mut, keep_accepted,
 };
 use wasi_world::{Answer, Ids, OpId, TrapKind, World};
 
@@ -28,7 +28,7 @@ impl Store {
         &mut self,
         world: &mut W,
         ids: Ids,
-        place: usize,
+        place: RecordId,
         addr: IpSocketAddress,
     ) -> Result<Answer<()>, SocketError>
         requires { (W.seen world.old).ended ≡ false }
@@ -50,7 +50,7 @@ impl Store {
 
     /// Finishes an operation that was started (`finish-bind`, `finish-listen`). It wasn't:
     /// `NotInProgress`.
-    pub fn finish(&mut self, place: usize, operation: AsyncOperation) -> Result<(), SocketError>
+    pub fn finish(&mut self, place: RecordId, operation: AsyncOperation) -> Result<(), SocketError>
         ensures sides { (s : Seen) → KnowsSides s self.old → KnowsSides s self.new }
         ensures answer { host_outcome result
             ≡ Ok (finish_at (is_started operation) self.old place
@@ -74,7 +74,7 @@ impl Store {
         &mut self,
         world: &mut W,
         op: OpId,
-        place: usize,
+        place: RecordId,
         addr: IpSocketAddress,
     ) -> Result<(), SocketError>
         requires { (W.seen world.old).ended ≡ false }
@@ -100,7 +100,7 @@ impl Store {
     pub fn finish_connect<W: World>(
         &mut self,
         world: &mut W,
-        place: usize,
+        place: RecordId,
     ) -> Result<(), SocketError>
         requires { (W.seen world.old).ended ≡ false }
         ensures asked { AsksFor (finish_connect_at self.old place (tcp2_at self.old.records place))
@@ -122,7 +122,7 @@ impl Store {
         &mut self,
         world: &mut W,
         op: OpId,
-        place: usize,
+        place: RecordId,
     ) -> Result<IpSocketAddress, SocketError>
         requires { (W.seen world.old).ended ≡ false }
         ensures asked { AsksFor (local_address_at self.old op place
@@ -143,7 +143,7 @@ impl Store {
         &mut self,
         world: &mut W,
         op: OpId,
-        place: usize,
+        place: RecordId,
     ) -> Result<IpSocketAddress, SocketError>
         requires { (W.seen world.old).ended ≡ false }
         ensures asked { AsksFor (remote_address_at self.old op place
@@ -160,7 +160,7 @@ impl Store {
     }
 
     /// Whether the TCP socket with this record number is listening.
-    pub fn is_listening(&self, place: usize) -> Result<bool, SocketError>
+    pub fn is_listening(&self, place: RecordId) -> Result<bool, SocketError>
         ensures { host_outcome result ≡ Ok (is_listening_at (tcp2_at self.now.records place)) }
     {
         match find::<Tcp2Socket>(&self.records, place) {
@@ -170,7 +170,7 @@ impl Store {
     }
 
     /// The family of the TCP socket with this record number.
-    pub fn address_family(&self, place: usize) -> Result<SocketAddressFamily, SocketError>
+    pub fn address_family(&self, place: RecordId) -> Result<SocketAddressFamily, SocketError>
         ensures { host_outcome result ≡ Ok (address_family_at (tcp2_at self.now.records place)) }
     {
         match find::<Tcp2Socket>(&self.records, place) {
@@ -185,7 +185,7 @@ impl Store {
         &mut self,
         world: &mut W,
         ids: Ids,
-        place: usize,
+        place: RecordId,
     ) -> Result<Answer<()>, SocketError>
         requires { (W.seen world.old).ended ≡ false }
         ensures asked { AsksFor (start_listen_at self.old ids place
@@ -213,8 +213,8 @@ impl Store {
         &mut self,
         world: &mut W,
         ids: &mut Ids,
-        place: usize,
-    ) -> Result<usize, SocketError>
+        place: RecordId,
+    ) -> Result<RecordId, SocketError>
         requires open { (W.seen world.old).ended ≡ false }
         requires names { ids.old.next_part + 1 < 2 ^ 64 }
         ensures asked { AsksFor (accept_at self.old ids.old place (tcp2_at self.old.records place))
@@ -243,7 +243,7 @@ impl Store {
         &mut self,
         world: &mut W,
         op: OpId,
-        place: usize,
+        place: RecordId,
         how: ShutdownType,
     ) -> Result<(), SocketError>
         requires { (W.seen world.old).ended ≡ false }

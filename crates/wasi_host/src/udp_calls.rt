@@ -21,7 +21,8 @@ use socket_common::Setting;
 use std::alloc::AllocError;
 use wasi_addr::{IpSocketAddress, SocketAddressFamily, p2};
 use wasi_records::{
-    OpenUdp, PendingCreate, Record, SocketError, Udp2Socket, UdpInProgress, find, find_mut,
+    OpenUdp, PendingCreate, Record, RecordId, SocketError, Udp2Socket, UdpInProgress, find,
+    find_mut,
 };
 use wasi_table::Table;
 use wasi_udp::UdpSocket;
@@ -62,7 +63,7 @@ impl Store {
         table: &mut Table<Kind>,
         world: &mut W,
         ids: Ids,
-        place: usize,
+        place: RecordId,
     ) -> Result<Answer<Handle>, SocketError>
         requires { (W.seen world.old).ended ≡ false }
         ensures asked { AsksFor (create_on (record { table = table.old; store = self.old }) ids
@@ -88,7 +89,7 @@ impl Store {
         &self,
         table: &mut Table<Kind>,
         world: &mut W,
-        place: usize,
+        place: RecordId,
     ) -> Result<Answer<Handle>, SocketError>
         requires { (W.seen world.old).ended ≡ false }
         ensures asked { AsksFor (mark_udp (record { table = table.old; store = self.now }) place
@@ -110,7 +111,7 @@ impl Store {
     fn poll_create<W: World>(
         &mut self,
         world: &mut W,
-        place: usize,
+        place: RecordId,
     ) -> Result<Answer<()>, SocketError>
         requires { (W.seen world.old).ended ≡ false }
         ensures asked { AsksFor (poll_create_at self.old place (udp2_at self.old.records place))
@@ -132,7 +133,7 @@ impl Store {
     }
 
     /// The network socket that the UDP socket with this record number was made with.
-    pub(crate) fn udp_side(&self, place: usize) -> Option<Sock>
+    pub(crate) fn udp_side(&self, place: RecordId) -> Option<Sock>
         ensures { result ≡ udp_side_at (udp2_at self.now.records place) }
     {
         Some(find::<Udp2Socket>(&self.records, place)?.side())
@@ -145,7 +146,7 @@ impl Store {
         &mut self,
         world: &mut W,
         ids: Ids,
-        place: usize,
+        place: RecordId,
         addr: IpSocketAddress,
     ) -> Result<Answer<()>, SocketError>
         requires { (W.seen world.old).ended ≡ false }
@@ -174,7 +175,7 @@ impl Store {
         &mut self,
         world: &mut W,
         ids: Ids,
-        place: usize,
+        place: RecordId,
     ) -> Result<Answer<()>, SocketError>
         requires { (W.seen world.old).ended ≡ false }
         ensures asked { AsksFor (rebind_udp_at self.old ids place (open_at self.old.records place))
@@ -191,7 +192,7 @@ impl Store {
     }
 
     /// Finishes the bind that was started (`finish-bind`). None was: `NotInProgress`.
-    pub fn finish_udp_bind(&mut self, place: usize) -> Result<(), SocketError>
+    pub fn finish_udp_bind(&mut self, place: RecordId) -> Result<(), SocketError>
         ensures sides { (s : Seen) → KnowsSides s self.old → KnowsSides s self.new }
         ensures answer { host_outcome result
             ≡ Ok (finish_udp_bind_at self.old place (open_at self.old.records place)).0 }
@@ -213,7 +214,7 @@ impl Store {
         &mut self,
         world: &mut W,
         op: OpId,
-        place: usize,
+        place: RecordId,
     ) -> Result<IpSocketAddress, SocketError>
         requires { (W.seen world.old).ended ≡ false }
         ensures asked { AsksFor (udp_local_at self.old op place (open_at self.old.records place))
@@ -230,7 +231,7 @@ impl Store {
 
     /// The remote address of the UDP socket with this record number. None: `InvalidState`. Asks
     /// nothing.
-    pub fn udp_remote_address(&self, place: usize) -> Result<IpSocketAddress, SocketError>
+    pub fn udp_remote_address(&self, place: RecordId) -> Result<IpSocketAddress, SocketError>
         ensures { host_outcome result ≡ Ok (udp_remote_at (open_at self.now.records place)) }
     {
         let Some(socket) = find::<OpenUdp>(&self.records, place) else {
@@ -243,7 +244,7 @@ impl Store {
     }
 
     /// The family of the UDP socket with this record number.
-    pub fn udp_address_family(&self, place: usize) -> Result<SocketAddressFamily, SocketError>
+    pub fn udp_address_family(&self, place: RecordId) -> Result<SocketAddressFamily, SocketError>
         ensures { host_outcome result ≡ Ok (udp_family_at (open_at self.now.records place)) }
     {
         match find::<OpenUdp>(&self.records, place) {
@@ -257,7 +258,7 @@ impl Store {
         &self,
         world: &mut W,
         op: OpId,
-        place: usize,
+        place: RecordId,
         option: Opt,
     ) -> Result<u64, SocketError>
         requires { (W.seen world.old).ended ≡ false }
@@ -281,7 +282,7 @@ impl Store {
         &mut self,
         world: &mut W,
         op: OpId,
-        place: usize,
+        place: RecordId,
         setting: Setting,
     ) -> Result<(), SocketError>
         requires { (W.seen world.old).ended ≡ false }
@@ -304,7 +305,7 @@ impl Store {
         &mut self,
         world: &mut W,
         op: OpId,
-        place: usize,
+        place: RecordId,
     ) -> Result<(), AllocError>
         requires { (W.seen world.old).ended ≡ false }
         ensures asked { AsksFor (release_udp_at self.old op place (udp2_at self.old.records place))
@@ -321,7 +322,7 @@ impl Store {
     }
 
     /// Gives back the record of the UDP socket with this number, if its network socket is closed.
-    fn leave_udp(&mut self, place: usize)
+    fn leave_udp(&mut self, place: RecordId)
         ensures state { (u : Udp2Socket) → udp2_at self.old.records place ≡ Some u
             → self.new ≡ udp_left self.old place u }
         ensures sides { (s : Seen) → KnowsSides s self.old → KnowsSides s self.new }

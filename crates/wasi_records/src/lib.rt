@@ -24,7 +24,7 @@ pub use datagrams::{Incoming, Outgoing, Receiving, Sending};
 pub use error::SocketError;
 pub use listening::{Listening, keep_accepted};
 pub use name_lookup::{Addresses, Lookup, LookupOp, unresolvable};
-pub use record_list::RecordList;
+pub use record_list::{RecordId, RecordList, Slot};
 pub use records::{Record, Stored, find, find_mut, find_mut_in};
 pub use socket::{Streams, Tcp2Socket};
 pub use udp::{OpenUdp, PendingCreate, Udp2Socket, UdpInProgress};

@@ -11,7 +11,7 @@ ghost use Rattle.wasi_records.specs.Sides.{Balances, given_by};
 
 use crate::binding::{AsyncOperation, InProgress};
 use crate::error::SocketError;
-use crate::record_list::RecordList;
+use crate::record_list::{RecordId, RecordList};
 use crate::records::Record;
 use crate::socket::Tcp2Socket;
 use std::alloc::AllocError;
@@ -201,7 +201,7 @@ impl Tcp2Socket {
 
 /// Adds the record of an accepted socket, for which `reserve` took room, and returns its number. A
 /// socket that failed has no record: its code is returned.
-pub fn keep_accepted(records: &mut RecordList, socket: TcpSocket) -> Result<usize, SocketError>
+pub fn keep_accepted(records: &mut RecordList, socket: TcpSocket) -> Result<RecordId, SocketError>
     requires { records.old.room ≡ true }
     ensures told { host_outcome result ≡ Ok (with_accepted_in records.old.items socket).0 }
     ensures records { records.new.items ≡ (with_accepted_in records.old.items socket).1 }

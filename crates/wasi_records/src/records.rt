@@ -8,7 +8,7 @@ ghost use Rattle.wasi_records.specs.declared.records.Record.{Record};
 ghost use Rattle.wasi_records.specs.declared.records.Record.TheVariants.{Gone};
 
 use crate::name_lookup::Lookup;
-use crate::record_list::RecordList;
+use crate::record_list::{RecordId, RecordList, Slot};
 use crate::socket::Tcp2Socket;
 use crate::udp::{OpenUdp, Udp2Socket};
 use memory_streams::{InputPipeCore, OutputPipe};
@@ -220,14 +220,14 @@ impl Stored for OutputPipe {
 }
 
 /// What of this type the record of this number is, if any. Takes no memory.
-pub fn find<T: Stored>(records: &RecordList, place: usize) -> Option<&T>
+pub fn find<T: Stored>(records: &RecordList, place: RecordId) -> Option<&T>
     ensures item { option_map (λ r. r.now) result ≡ stored_at T.of records.now.items place }
 {
     T::of_record(records.get(place)?)
 }
 
 /// The same, to be changed. Takes no memory.
-pub fn find_mut<T: Stored>(records: &mut RecordList, place: usize) -> Option<&mut T>
+pub fn find_mut<T: Stored>(records: &mut RecordList, place: RecordId) -> Option<&mut T>
     ensures* writes_back { sem 𝓛 (LendsIf records_row T.row records.entry result
         (with_stored T.into records.old place) records.old) }
     ensures item { option_map (λ r. r.now) result ≡ stored_at T.of records.old.items place }
@@ -237,7 +237,11 @@ pub fn find_mut<T: Stored>(records: &mut RecordList, place: usize) -> Option<&mu
 }
 
 /// [`find_mut`], with a slot hint that saves the search.
-pub fn find_mut_in<T: Stored>(records: &mut RecordList, slot: usize, place: usize) -> Option<&mut T>
+pub fn find_mut_in<T: Stored>(
+    records: &mut RecordList,
+    slot: Slot,
+    place: RecordId,
+) -> Option<&mut T>
     ensures* writes_back { sem 𝓛 (LendsIf records_row T.row records.entry result
         (with_stored T.into records.old place) records.old) }
     ensures item { option_map (λ r. r.now) result ≡ stored_at T.of records.old.items place }
