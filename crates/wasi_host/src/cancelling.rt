@@ -21,7 +21,7 @@ use wasi_world::World;
 impl Store {
     /// Gives up the bind of the TCP socket with this record number: the socket stays as it was,
     /// with nothing in progress.
-    fn cancel_bind(&mut self, place: RecordId)
+    fn tcp_cancel_bind(&mut self, place: RecordId)
         ensures state { self.new ≡ cancel_bind_at self.old place (tcp2_at self.old.records place) }
         ensures sides { (s : Seen) → KnowsSides s self.old → KnowsSides s self.new }
     {
@@ -123,7 +123,7 @@ impl Store {
             → KnowsSides (W.seen world.new) self.new }
     {
         match call {
-            StandingCall::Bind { socket } => self.cancel_bind(socket),
+            StandingCall::Bind { socket } => self.tcp_cancel_bind(socket),
             StandingCall::Listen { socket } => self.cancel_listen(world, socket)?,
             StandingCall::UdpCreate { socket } => self.cancel_create(world, socket)?,
             StandingCall::UdpBind { socket } => self.cancel_udp_bind(socket),

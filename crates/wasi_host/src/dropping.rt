@@ -23,7 +23,7 @@ impl Store {
     /// Releases what the TCP socket with this record number has: its listener, its open halves, the
     /// receiving one first, and its network socket. A write in progress ends with its rest
     /// unwritten. The record is given back.
-    pub(crate) fn release<W: World>(
+    pub(crate) fn tcp_release<W: World>(
         &mut self,
         world: &mut W,
         op: OpId,
@@ -129,7 +129,7 @@ fn release_kind<W: World>(
 {
     match kind {
         Kind::Tcp2(place) => {
-            view.store.release(world, ids.own(), place)?;
+            view.store.tcp_release(world, ids.own(), place)?;
             Ok(Answer::Ready(()))
         }
         Kind::Udp2(place) => {

@@ -32,7 +32,7 @@ pub fn kind(table: &Table<Kind>, handle: Handle) -> Option<Kind>
 }
 
 /// The record number of a TCP socket.
-pub fn socket(table: &Table<Kind>, handle: Handle) -> Result<RecordId, Fault>
+pub fn tcp_socket(table: &Table<Kind>, handle: Handle) -> Result<RecordId, Fault>
     ensures { Names result (place_of (kind_at table.now handle)) }
 {
     match kind(table, handle) {

@@ -16,7 +16,7 @@ impl Store {
     ghost use Rattle.wasi_host.specs.Options.{get_option_at, set_option_at, set_backlog_at};
 
     /// Reads an option of the TCP socket with this record number (`TcpSocket::get_option`).
-    pub fn get_option<W: World>(
+    pub fn tcp_get_option<W: World>(
         &self,
         world: &mut W,
         op: OpId,
@@ -39,7 +39,7 @@ impl Store {
 
     /// Sets an option of the TCP socket with this record number (`TcpSocket::set_option`). The
     /// records stay as they were.
-    pub fn set_option<W: World>(
+    pub fn tcp_set_option<W: World>(
         &mut self,
         world: &mut W,
         op: OpId,

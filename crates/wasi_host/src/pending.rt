@@ -102,7 +102,7 @@ impl Store {
 
     /// Polls the bind of the TCP socket with this record number. If it is still pending it is
     /// stored again.
-    fn rebind<W: World>(
+    fn tcp_rebind<W: World>(
         &mut self,
         world: &mut W,
         ids: Ids,
@@ -260,7 +260,7 @@ fn go_on<W: World>(
 {
     match call {
         StandingCall::Bind { socket } => {
-            let answer = view.store.rebind(world, ids, socket)?;
+            let answer = view.store.tcp_rebind(world, ids, socket)?;
             Ok(Outcome::of_nothing(answer))
         }
         StandingCall::Listen { socket } => {

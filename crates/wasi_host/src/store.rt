@@ -107,7 +107,7 @@ impl Store {
     /// Creates a TCP socket, its record and its handle (`create-tcp-socket`). Takes memory for the
     /// record before the network socket is made, so that every network socket has a record, also
     /// where no handle can be made for it.
-    pub fn create_socket<W: World>(
+    pub fn tcp_create_socket<W: World>(
         &mut self,
         table: &mut Table<Kind>,
         world: &mut W,

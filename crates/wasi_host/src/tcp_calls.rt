@@ -24,7 +24,7 @@ use wasi_world::{Answer, Ids, OpId, TrapKind, World};
 impl Store {
     /// Begins a bind of the TCP socket with this record number (`start-bind`). An operation in
     /// progress: `ConcurrencyConflict`. While its check is pending it is the pending call.
-    pub fn start_bind<W: World>(
+    pub fn tcp_start_bind<W: World>(
         &mut self,
         world: &mut W,
         ids: Ids,
@@ -50,7 +50,11 @@ impl Store {
 
     /// Finishes an operation that was started (`finish-bind`, `finish-listen`). It wasn't:
     /// `NotInProgress`.
-    pub fn finish(&mut self, place: RecordId, operation: AsyncOperation) -> Result<(), SocketError>
+    pub fn tcp_finish(
+        &mut self,
+        place: RecordId,
+        operation: AsyncOperation,
+    ) -> Result<(), SocketError>
         ensures sides { (s : Seen) → KnowsSides s self.old → KnowsSides s self.new }
         ensures answer { host_outcome result
             ≡ Ok (finish_at (is_started operation) self.old place
@@ -70,7 +74,7 @@ impl Store {
 
     /// Begins a connect of the TCP socket with this record number (`start-connect`). An operation
     /// in progress: `ConcurrencyConflict`.
-    pub fn start_connect<W: World>(
+    pub fn tcp_start_connect<W: World>(
         &mut self,
         world: &mut W,
         op: OpId,
@@ -97,7 +101,7 @@ impl Store {
     /// Polls the connect in progress of the TCP socket with this record number once
     /// (`finish-connect`). None: `NotInProgress`. Pending: `WouldBlock`. Connected or refused, it
     /// is in progress no more.
-    pub fn finish_connect<W: World>(
+    pub fn tcp_finish_connect<W: World>(
         &mut self,
         world: &mut W,
         place: RecordId,
@@ -118,7 +122,7 @@ impl Store {
     }
 
     /// The local address of the TCP socket with this record number.
-    pub fn local_address<W: World>(
+    pub fn tcp_local_address<W: World>(
         &mut self,
         world: &mut W,
         op: OpId,
@@ -139,7 +143,7 @@ impl Store {
     }
 
     /// The remote address of the TCP socket with this record number.
-    pub fn remote_address<W: World>(
+    pub fn tcp_remote_address<W: World>(
         &mut self,
         world: &mut W,
         op: OpId,
@@ -170,7 +174,7 @@ impl Store {
     }
 
     /// The family of the TCP socket with this record number.
-    pub fn address_family(&self, place: RecordId) -> Result<SocketAddressFamily, SocketError>
+    pub fn tcp_address_family(&self, place: RecordId) -> Result<SocketAddressFamily, SocketError>
         ensures { host_outcome result ≡ Ok (address_family_at (tcp2_at self.now.records place)) }
     {
         match find::<Tcp2Socket>(&self.records, place) {

@@ -11,7 +11,7 @@ use Rattle.wasi_records.proofs.Hosts.{host_refused}
 use Rattle.wasi_records.proofs.Lookups.{found_at, none_at, set_back}
 use Rattle.wasi_records.proofs.SideCounts.{Any, held_in-set, calm_begin_connect}
 use Rattle.wasi_host.proofs.KnownSides.{knows_asked, knows_calm, knows_same}
-use Rattle.wasi_host.proofs.store.Store.start_connect.Goals as goal
+use Rattle.wasi_host.proofs.store.Store.tcp_start_connect.Goals as goal
 
 pub returns-in_default-clause-asked : goal.returns-in_default-clause-asked
 returns-in_default-clause-asked g c = rw (← c.self.view_is, none_at c.self.inside.records.items c.args.place c.in_default.ensures.item) (asks_given _ _ refl refl)

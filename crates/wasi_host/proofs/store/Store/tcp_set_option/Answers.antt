@@ -6,7 +6,7 @@ use Rattle.wasi_records.proofs.Lookups.{found_at, none_at, set_back}
 use Rattle.wasi_records.proofs.SideCounts.{Any}
 use Rattle.wasi_host.proofs.KnownSides.{knows_asked, knows_calm}
 use Rattle.wasi_records.proofs.OptionSides.{calm_set}
-use Rattle.wasi_host.proofs.store.Store.set_option.Goals as goal
+use Rattle.wasi_host.proofs.store.Store.tcp_set_option.Goals as goal
 
 pub returns-in_default-clause-asked : goal.returns-in_default-clause-asked
 returns-in_default-clause-asked g c = rw (← c.self.view_is, none_at c.self.inside.records.items c.args.place c.in_default.ensures.item) (asks_given _ _ refl refl)

@@ -9,11 +9,11 @@ ghost use Rattle.wasi_records.specs.Listening.{accept_record_asks, with_accepted
 ghost use Rattle.wasi_records.specs.Listening.{side_in, give_up_asks, unclosed, Accepted, TakesOne};
 ghost use Rattle.wasi_records.specs.Sides.{Balances, given_by};
 
-use crate::binding::{AsyncOperation, InProgress};
 use crate::error::SocketError;
 use crate::record_list::{RecordId, RecordList};
 use crate::records::Record;
 use crate::socket::Tcp2Socket;
+use crate::tcp_binding::{AsyncOperation, InProgress};
 use std::alloc::AllocError;
 use std::mem;
 use wasi_addr::ErrorCode;

@@ -1,13 +1,13 @@
 use Rattle.std.proofs.Common.{Bool, List, ap, sym, ◌∙◌, refl}
 use Rattle.wasi_records.specs.Sides.{held_in}
 use Rattle.wasi_records.specs.declared.records.Record.{Record}
-use Rattle.wasi_records.specs.declared.binding.InProgress.TheVariants.{Nothing}
+use Rattle.wasi_records.specs.declared.tcp_binding.InProgress.TheVariants.{Nothing}
 use Rattle.wasi_host.specs.Store.{Records}
 use Rattle.wasi_host.specs.TcpCalls.{finish_by}
 use Rattle.wasi_records.proofs.Lookups.{found_at, set_back}
 use Rattle.wasi_records.proofs.SideCounts.{held_in-set}
 use Rattle.wasi_host.proofs.KnownSides.{knows_same}
-use Rattle.wasi_host.proofs.store.Store.finish.Goals as goal
+use Rattle.wasi_host.proofs.store.Store.tcp_finish.Goals as goal
 
 pub returns-then-not-is_started-clause-state : goal.returns-then-not-is_started-clause-state
 returns-then-not-is_started-clause-state c =

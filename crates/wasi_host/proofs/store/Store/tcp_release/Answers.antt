@@ -5,7 +5,7 @@ use Rattle.wasi_host.specs.Store.{Records}
 use Rattle.wasi_host.proofs.KnownSides.{knows_polled}
 use Rattle.wasi_records.proofs.Lookups.{found_at, none_at}
 use Rattle.wasi_host.proofs.GivenBack.{put_none}
-use Rattle.wasi_host.proofs.store.Store.release.Goals as goal
+use Rattle.wasi_host.proofs.store.Store.tcp_release.Goals as goal
 
 pub returns-in_default-clause-asked : goal.returns-in_default-clause-asked
 returns-in_default-clause-asked g c = rw (← c.self.view_is, none_at c.self.inside.records.items c.args.place c.in_default.ensures.item) (asks_given _ _ refl refl)

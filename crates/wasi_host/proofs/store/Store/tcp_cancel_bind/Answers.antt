@@ -4,7 +4,7 @@ use Rattle.wasi_records.proofs.ConnectCounts.{balances_as}
 use Rattle.wasi_host.proofs.KnownSides.{knows_polled}
 use Rattle.wasi_records.proofs.Lookups.{found_at}
 use Rattle.wasi_records.proofs.SideCounts.{balances_none}
-use Rattle.wasi_host.proofs.store.Store.cancel_bind.Goals as goal
+use Rattle.wasi_host.proofs.store.Store.tcp_cancel_bind.Goals as goal
 
 pub returns-clause-sides : goal.returns-clause-sides
 returns-clause-sides c = λ s k.

@@ -5,7 +5,7 @@ use Rattle.wasi_records.proofs.Lookups.{got_at, not_got}
 use Rattle.wasi_records.proofs.SideCounts.{Any}
 use Rattle.wasi_host.proofs.KnownSides.{knows_asked, knows_calm}
 use Rattle.wasi_records.proofs.OptionSides.{calm_get}
-use Rattle.wasi_host.proofs.store.Store.get_option.Goals as goal
+use Rattle.wasi_host.proofs.store.Store.tcp_get_option.Goals as goal
 
 pub returns-in_default-clause-asked : goal.returns-in_default-clause-asked
 returns-in_default-clause-asked g c = rw (← c.self.view_is, not_got c.self.inside.records.items c.args.place c.in_default.ensures.item) (asks_given _ _ refl refl)

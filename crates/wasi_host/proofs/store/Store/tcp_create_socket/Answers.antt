@@ -9,7 +9,7 @@ use Rattle.wasi_host.specs.KnownSides.{KnowsSides}
 use Rattle.wasi_records.proofs.Hosts.{fault_told, host_none, host_refused}
 use Rattle.wasi_host.proofs.TcpHandles.{handle_asks}
 use Rattle.wasi_host.proofs.KnownSides.{knows_created, knows_refused}
-use Rattle.wasi_host.proofs.store.Store.create_socket.Goals as goal
+use Rattle.wasi_host.proofs.store.Store.tcp_create_socket.Goals as goal
 
 pub returns-in_err-reserve-clause-asked : goal.returns-in_err-reserve-clause-asked
 returns-in_err-reserve-clause-asked g c = host_none c.from_residual.result c.from_residual.ensures.1 refl

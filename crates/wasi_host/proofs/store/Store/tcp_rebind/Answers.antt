@@ -7,7 +7,7 @@ use Rattle.wasi_records.proofs.Hosts.{host_refused}
 use Rattle.wasi_records.proofs.Lookups.{found_at, none_at}
 use Rattle.wasi_host.proofs.KnownSides.{knows_none, knows_stood}
 use Rattle.wasi_records.proofs.SideCounts.{held_in-set}
-use Rattle.wasi_host.proofs.store.Store.rebind.Goals as goal
+use Rattle.wasi_host.proofs.store.Store.tcp_rebind.Goals as goal
 
 pub returns-in_default-clause-asked : goal.returns-in_default-clause-asked
 returns-in_default-clause-asked g c = rw (← c.self.view_is, none_at c.self.inside.records.items c.args.place c.in_default.ensures.item) (asks_given _ _ refl refl)
