@@ -5,7 +5,7 @@ use Rattle.std.proofs.Common.{◌≡◌, ℕ, Result, Ok, Err, sym, ap}
 use Rattle.wasi_world.specs.Asks.{Give, bind, AsksFor}
 use Rattle.wasi_world.specs.Seen.{Seen}
 use Rattle.wasi_world.proofs.Walks.{asks_end, asks_exit}
-use Rattle.wasi_records.specs.declared.listening.Listening.TheVariants.{Not}
+use Rattle.wasi_records.specs.declared.tcp_listening.Listening.TheVariants.{Not}
 use Rattle.wasi_records.specs.declared.socket.Tcp2Socket.{Tcp2Socket}
 use Rattle.wasi_host.specs.Cancel.{listen_gone}
 use Rattle.wasi_records.specs.Listening.{give_up_asks, side_in, unclosed, with_listening}

@@ -13,17 +13,19 @@ ghost use Rattle.wasi_host.specs.Views.{SameView, state_of};
 use crate::store::{StandingCall, Store};
 use crate::view::WasiSocketsCtxView;
 use std::alloc::AllocError;
-use wasi_records::{InProgress, Udp2Socket, UdpInProgress, open_udp_mut, tcp2_mut, udp2};
+use wasi_records::{
+    InProgress, OpenUdp, RecordId, Tcp2Socket, Udp2Socket, UdpInProgress, find, find_mut,
+};
 use wasi_world::World;
 
 impl Store {
     /// Gives up the bind of the TCP socket with this record number: the socket stays as it was,
     /// with nothing in progress.
-    fn cancel_bind(&mut self, place: usize)
+    fn tcp_cancel_bind(&mut self, place: RecordId)
         ensures state { self.new ≡ cancel_bind_at self.old place (tcp2_at self.old.records place) }
         ensures sides { (s : Seen) → KnowsSides s self.old → KnowsSides s self.new }
     {
-        let Some(record) = tcp2_mut(&mut self.records, place) else {
+        let Some(record) = find_mut::<Tcp2Socket>(&mut self.records, place) else {
             return;
         };
         record.in_progress = InProgress::Nothing;
@@ -31,14 +33,14 @@ impl Store {
 
     /// Gives up the listen of the TCP socket with this record number: its network socket is closed,
     /// and the socket stays closed.
-    fn cancel_listen<W: World>(&mut self, world: &mut W, place: usize) -> Result<(), AllocError>
+    fn cancel_listen<W: World>(&mut self, world: &mut W, place: RecordId) -> Result<(), AllocError>
         requires { (W.seen world.old).ended ≡ false }
         ensures asked { AsksFor (cancel_listen_at self.old place (tcp2_at self.old.records place))
             (W.seen world.old) (W.seen world.new) (λ done. self.new) result }
         ensures sides { KnowsSides (W.seen world.old) self.old
             → KnowsSides (W.seen world.new) self.new }
     {
-        let Some(record) = tcp2_mut(&mut self.records, place) else {
+        let Some(record) = find_mut::<Tcp2Socket>(&mut self.records, place) else {
             return Ok(());
         };
         record.give_listening_up(world)
@@ -46,14 +48,14 @@ impl Store {
 
     /// Gives up the create of the UDP socket with this record number: its network socket is closed
     /// and its record given back. It had no handle.
-    fn cancel_create<W: World>(&mut self, world: &mut W, place: usize) -> Result<(), AllocError>
+    fn cancel_create<W: World>(&mut self, world: &mut W, place: RecordId) -> Result<(), AllocError>
         requires { (W.seen world.old).ended ≡ false }
         ensures asked { AsksFor (cancel_create_at self.old place (udp2_at self.old.records place))
             (W.seen world.old) (W.seen world.new) (λ done. self.new) result }
         ensures sides { KnowsSides (W.seen world.old) self.old
             → KnowsSides (W.seen world.new) self.new }
     {
-        let Some(socket) = udp2(&self.records, place) else {
+        let Some(socket) = find::<Udp2Socket>(&self.records, place) else {
             return Ok(());
         };
         let Udp2Socket::Creating(create) = socket else {
@@ -66,12 +68,12 @@ impl Store {
 
     /// Gives up the bind of the UDP socket with this record number: the socket stays as it was,
     /// with nothing in progress.
-    fn cancel_udp_bind(&mut self, place: usize)
+    fn cancel_udp_bind(&mut self, place: RecordId)
         ensures state { self.new ≡ cancel_udp_bind_at self.old place
             (open_at self.old.records place) }
         ensures sides { (s : Seen) → KnowsSides s self.old → KnowsSides s self.new }
     {
-        let Some(socket) = open_udp_mut(&mut self.records, place) else {
+        let Some(socket) = find_mut::<OpenUdp>(&mut self.records, place) else {
             return;
         };
         socket.in_progress = UdpInProgress::Nothing;
@@ -79,12 +81,12 @@ impl Store {
 
     /// Gives up the connect of the UDP socket with this record number: the socket stays as it was,
     /// without datagram streams.
-    fn cancel_udp_connect(&mut self, place: usize)
+    fn cancel_udp_connect(&mut self, place: RecordId)
         ensures state { self.new ≡ cancel_udp_connect_at self.old place
             (open_at self.old.records place) }
         ensures sides { (s : Seen) → KnowsSides s self.old → KnowsSides s self.new }
     {
-        let Some(socket) = open_udp_mut(&mut self.records, place) else {
+        let Some(socket) = find_mut::<OpenUdp>(&mut self.records, place) else {
             return;
         };
         socket.connecting = None;
@@ -92,12 +94,12 @@ impl Store {
 
     /// Gives up the wait for the outgoing stream of the UDP socket with this record number: the
     /// stream is gone, and its datagram is lost.
-    fn cancel_drop_outgoing(&mut self, place: usize)
+    fn cancel_drop_outgoing(&mut self, place: RecordId)
         ensures state { self.new ≡ cancel_drop_outgoing_at self.old place
             (open_at self.old.records place) }
         ensures sides { (s : Seen) → KnowsSides s self.old → KnowsSides s self.new }
     {
-        let Some(socket) = open_udp_mut(&mut self.records, place) else {
+        let Some(socket) = find_mut::<OpenUdp>(&mut self.records, place) else {
             return;
         };
         socket.outgoing = None;
@@ -105,7 +107,7 @@ impl Store {
     }
 
     /// Takes the sends of this record out of the jobs.
-    fn forget_datagrams(&mut self, place: usize)
+    fn forget_datagrams(&mut self, place: RecordId)
         ensures { self.new ≡ record self.old { jobs = other_than_datagram place self.old.jobs } }
     {
         self.jobs.forget_datagrams(place);
@@ -121,7 +123,7 @@ impl Store {
             → KnowsSides (W.seen world.new) self.new }
     {
         match call {
-            StandingCall::Bind { socket } => self.cancel_bind(socket),
+            StandingCall::Bind { socket } => self.tcp_cancel_bind(socket),
             StandingCall::Listen { socket } => self.cancel_listen(world, socket)?,
             StandingCall::UdpCreate { socket } => self.cancel_create(world, socket)?,
             StandingCall::UdpBind { socket } => self.cancel_udp_bind(socket),

@@ -21,7 +21,7 @@ use crate::store::{StandingCall, Store};
 use std::alloc::Global;
 use wasi_addr::IpSocketAddress;
 use wasi_jobs::HostJob;
-use wasi_records::{SocketError, open_udp, open_udp_mut, open_udp_mut_in};
+use wasi_records::{OpenUdp, RecordId, SocketError, find, find_mut, find_mut_in};
 use wasi_streams::Fault;
 use wasi_table::Table;
 use wasi_world::{Answer, Handle, Ids, IncomingDatagrams, OpId, OutgoingDatagram, TrapKind, World};
@@ -41,7 +41,7 @@ impl Store {
         ids: Ids,
         handle: Handle,
         remote: Option<IpSocketAddress>,
-        place: usize,
+        place: RecordId,
     ) -> Result<Answer<(Handle, Handle)>, SocketError>
         requires { (W.seen world.old).ended ≡ false }
         ensures asked { AsksFor (make_streams_asks (record { table = table.old; store = self.old })
@@ -64,7 +64,7 @@ impl Store {
         table: &mut Table<Kind>,
         world: &mut W,
         ids: Ids,
-        place: usize,
+        place: RecordId,
         handle: Handle,
     ) -> Result<Answer<(Handle, Handle)>, SocketError>
         requires { (W.seen world.old).ended ≡ false }
@@ -89,7 +89,7 @@ impl Store {
         &mut self,
         world: &mut W,
         ids: Ids,
-        place: usize,
+        place: RecordId,
         handle: Handle,
         remote: Option<IpSocketAddress>,
     ) -> Result<Answer<()>, SocketError>
@@ -100,7 +100,7 @@ impl Store {
         ensures sides { KnowsSides (W.seen world.old) self.old
             → KnowsSides (W.seen world.new) self.new }
     {
-        let Some(socket) = open_udp_mut(&mut self.records, place) else {
+        let Some(socket) = find_mut::<OpenUdp>(&mut self.records, place) else {
             return Err(SocketError::Trap(TrapKind::NoSuchHandle));
         };
         if socket.has_streams() {
@@ -120,7 +120,7 @@ impl Store {
         &mut self,
         world: &mut W,
         ids: Ids,
-        place: usize,
+        place: RecordId,
         handle: Handle,
     ) -> Result<Answer<()>, SocketError>
         requires { (W.seen world.old).ended ≡ false }
@@ -130,7 +130,7 @@ impl Store {
         ensures sides { KnowsSides (W.seen world.old) self.old
             → KnowsSides (W.seen world.new) self.new }
     {
-        let Some(socket) = open_udp_mut(&mut self.records, place) else {
+        let Some(socket) = find_mut::<OpenUdp>(&mut self.records, place) else {
             return Err(SocketError::Trap(TrapKind::NoSuchHandle));
         };
         let answer = socket.poll_connect(world)?;
@@ -169,14 +169,14 @@ impl Store {
     /// Permits datagrams on the outgoing stream of the UDP socket with this record number, and
     /// returns how many (`check-send`): 16, or none while the last one isn't sent yet. Asks
     /// nothing. Takes no memory.
-    pub fn check_send(&mut self, place: usize) -> Result<u64, SocketError>
+    pub fn check_send(&mut self, place: RecordId) -> Result<u64, SocketError>
         ensures sides { (s : Seen) → KnowsSides s self.old → KnowsSides s self.new }
         ensures answer { host_outcome result
             ≡ Ok (check_send_at self.old place (open_at self.old.records place)).0 }
         ensures state { self.new ≡ (check_send_at self.old place
             (open_at self.old.records place)).1 }
     {
-        let Some(socket) = open_udp_mut(&mut self.records, place) else {
+        let Some(socket) = find_mut::<OpenUdp>(&mut self.records, place) else {
             return Err(SocketError::Trap(TrapKind::NoSuchHandle));
         };
         let Some(outgoing) = &mut socket.outgoing else {
@@ -191,7 +191,7 @@ impl Store {
         &mut self,
         world: &mut W,
         ids: &mut Ids,
-        place: usize,
+        place: RecordId,
         datagrams: Vec<OutgoingDatagram>,
     ) -> Result<u64, SocketError>
         requires open { (W.seen world.old).ended ≡ false }
@@ -204,7 +204,7 @@ impl Store {
             → KnowsSides (W.seen world.new) self.new }
     {
         let slot = self.records.slot_of(place);
-        let Some(socket) = open_udp_mut_in(&mut self.records, slot, place) else {
+        let Some(socket) = find_mut_in::<OpenUdp>(&mut self.records, slot, place) else {
             return Err(SocketError::Trap(TrapKind::NoSuchHandle));
         };
         // The job comes first, so that a datagram in the background has its job whatever memory
@@ -226,7 +226,7 @@ impl Store {
         alloc: Global,
         world: &mut W,
         ids: &mut Ids,
-        place: usize,
+        place: RecordId,
         most: u64,
     ) -> Result<IncomingDatagrams, SocketError>
         requires open { (W.seen world.old).ended ≡ false }
@@ -239,7 +239,7 @@ impl Store {
             → KnowsSides (W.seen world.new) self.new }
     {
         let slot = self.records.slot_of(place);
-        let Some(socket) = open_udp_mut_in(&mut self.records, slot, place) else {
+        let Some(socket) = find_mut_in::<OpenUdp>(&mut self.records, slot, place) else {
             return Err(SocketError::Trap(TrapKind::NoSuchHandle));
         };
         // The job comes first, so that a receive in progress has its job whatever memory there is.
@@ -258,7 +258,7 @@ impl Store {
         &mut self,
         world: &mut W,
         ids: &mut Ids,
-        place: usize,
+        place: RecordId,
     ) -> Result<bool, Fault>
         requires open { (W.seen world.old).ended ≡ false }
         requires names { ids.old.next_part + 1 < 2 ^ 64 }
@@ -272,7 +272,7 @@ impl Store {
             → KnowsSides (W.seen world.new) self.new }
     {
         let slot = self.records.slot_of(place);
-        let Some(socket) = open_udp_mut_in(&mut self.records, slot, place) else {
+        let Some(socket) = find_mut_in::<OpenUdp>(&mut self.records, slot, place) else {
             return Err(Fault::Trap(TrapKind::NoSuchHandle));
         };
         // The job comes first, so that a receive in progress has its job whatever memory there is.
@@ -287,12 +287,12 @@ impl Store {
 
     /// Drops the incoming stream of the UDP socket with this record number, and gives its receive
     /// up. Takes no memory.
-    pub(crate) fn drop_incoming(&mut self, place: usize)
+    pub(crate) fn drop_incoming(&mut self, place: RecordId)
         ensures sides { (s : Seen) → KnowsSides s self.old → KnowsSides s self.new }
         ensures state { self.new ≡ (drop_incoming_at self.old place
             (open_at self.old.records place)).1 }
     {
-        if let Some(socket) = open_udp_mut(&mut self.records, place) {
+        if let Some(socket) = find_mut::<OpenUdp>(&mut self.records, place) {
             socket.incoming = None;
             self.forget_receives(place);
         }
@@ -300,12 +300,12 @@ impl Store {
 
     /// Drops the outgoing stream of the UDP socket with this record number. While a datagram of it
     /// isn't sent yet, the drop is pending, under the line of these names.
-    pub(crate) fn drop_outgoing(&mut self, ids: Ids, place: usize) -> Answer<()>
+    pub(crate) fn drop_outgoing(&mut self, ids: Ids, place: RecordId) -> Answer<()>
         ensures sides { (s : Seen) → KnowsSides s self.old → KnowsSides s self.new }
         ensures dropped { (result, self.new) ≡ drop_outgoing_at self.old ids place
             (open_at self.old.records place) }
     {
-        let Some(socket) = open_udp_mut(&mut self.records, place) else {
+        let Some(socket) = find_mut::<OpenUdp>(&mut self.records, place) else {
             return Answer::Ready(());
         };
         if socket.sends() {
@@ -318,10 +318,10 @@ impl Store {
 
     /// Whether the outgoing stream of the UDP socket with this record number has no send in
     /// progress. Takes no memory.
-    pub(crate) fn outgoing_ready(&self, place: usize) -> bool
+    pub(crate) fn outgoing_ready(&self, place: RecordId) -> bool
         ensures { result ≡ outgoing_ready (open_at self.now.records place) }
     {
-        match open_udp(&self.records, place) {
+        match find::<OpenUdp>(&self.records, place) {
             Some(socket) => !socket.sends(),
             None => true,
         }

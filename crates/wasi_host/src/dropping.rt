@@ -15,7 +15,7 @@ use crate::kind::Kind;
 use crate::store::{StandingCall, Store};
 use crate::view::WasiSocketsCtxView;
 use std::alloc::AllocError;
-use wasi_records::tcp2_mut;
+use wasi_records::{RecordId, Tcp2Socket, find_mut};
 use wasi_streams::Fault;
 use wasi_world::{Answer, Handle, Ids, OpId, World};
 
@@ -23,11 +23,11 @@ impl Store {
     /// Releases what the TCP socket with this record number has: its listener, its open halves, the
     /// receiving one first, and its network socket. A write in progress ends with its rest
     /// unwritten. The record is given back.
-    pub(crate) fn release<W: World>(
+    pub(crate) fn tcp_release<W: World>(
         &mut self,
         world: &mut W,
         op: OpId,
-        place: usize,
+        place: RecordId,
     ) -> Result<(), AllocError>
         requires { (W.seen world.old).ended ≡ false }
         ensures asked { AsksFor (release_at self.old op place (tcp2_at self.old.records place))
@@ -35,7 +35,7 @@ impl Store {
         ensures sides { KnowsSides (W.seen world.old) self.old
             → KnowsSides (W.seen world.new) self.new }
     {
-        let Some(record) = tcp2_mut(&mut self.records, place) else {
+        let Some(record) = find_mut::<Tcp2Socket>(&mut self.records, place) else {
             return Ok(());
         };
         record.release(world, op)?;
@@ -49,7 +49,7 @@ impl Store {
         &mut self,
         world: &mut W,
         ids: Ids,
-        place: usize,
+        place: RecordId,
     ) -> Result<Answer<()>, AllocError>
         requires { (W.seen world.old).ended ≡ false }
         ensures asked { AsksFor (drop_output_at self.old ids place (tcp2_at self.old.records place))
@@ -66,7 +66,7 @@ impl Store {
         &mut self,
         world: &mut W,
         op: OpId,
-        place: usize,
+        place: RecordId,
     ) -> Result<Answer<()>, AllocError>
         requires { (W.seen world.old).ended ≡ false }
         ensures asked { AsksFor (wait_at self.old op place (tcp2_at self.old.records place))
@@ -74,7 +74,7 @@ impl Store {
         ensures sides { KnowsSides (W.seen world.old) self.old
             → KnowsSides (W.seen world.new) self.new }
     {
-        let Some(record) = tcp2_mut(&mut self.records, place) else {
+        let Some(record) = find_mut::<Tcp2Socket>(&mut self.records, place) else {
             return Ok(Answer::Ready(()));
         };
         record.poll_writer(world, op)
@@ -129,7 +129,7 @@ fn release_kind<W: World>(
 {
     match kind {
         Kind::Tcp2(place) => {
-            view.store.release(world, ids.own(), place)?;
+            view.store.tcp_release(world, ids.own(), place)?;
             Ok(Answer::Ready(()))
         }
         Kind::Udp2(place) => {

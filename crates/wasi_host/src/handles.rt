@@ -16,6 +16,7 @@ ghost use Rattle.wasi_host.specs.Kinds.{make_asks, taken_out, Names, with_handle
 
 use crate::kind::{Kind, PlainInput, PlainOutput, Watched};
 use std::alloc::AllocError;
+use wasi_records::RecordId;
 use wasi_streams::{Fault, TrapKind};
 use wasi_table::{Table, TableError};
 use wasi_world::{Handle, OpId, Sock, World, asks};
@@ -31,7 +32,7 @@ pub fn kind(table: &Table<Kind>, handle: Handle) -> Option<Kind>
 }
 
 /// The record number of a TCP socket.
-pub fn socket(table: &Table<Kind>, handle: Handle) -> Result<usize, Fault>
+pub fn tcp_socket(table: &Table<Kind>, handle: Handle) -> Result<RecordId, Fault>
     ensures { Names result (place_of (kind_at table.now handle)) }
 {
     match kind(table, handle) {
@@ -41,7 +42,7 @@ pub fn socket(table: &Table<Kind>, handle: Handle) -> Result<usize, Fault>
 }
 
 /// The record number of a UDP socket.
-pub fn udp_socket(table: &Table<Kind>, handle: Handle) -> Result<usize, Fault>
+pub fn udp_socket(table: &Table<Kind>, handle: Handle) -> Result<RecordId, Fault>
     ensures { Names result (udp_of (kind_at table.now handle)) }
 {
     match kind(table, handle) {
@@ -127,7 +128,7 @@ pub fn writable(table: &Table<Kind>, handle: Handle) -> Result<(), Fault>
 }
 
 /// The record number of the UDP socket of an incoming datagram stream.
-pub fn incoming(table: &Table<Kind>, handle: Handle) -> Result<usize, Fault>
+pub fn incoming(table: &Table<Kind>, handle: Handle) -> Result<RecordId, Fault>
     ensures { Names result (incoming_of (kind_at table.now handle)) }
 {
     match kind(table, handle) {
@@ -137,7 +138,7 @@ pub fn incoming(table: &Table<Kind>, handle: Handle) -> Result<usize, Fault>
 }
 
 /// The record number of the UDP socket of an outgoing datagram stream.
-pub fn outgoing(table: &Table<Kind>, handle: Handle) -> Result<usize, Fault>
+pub fn outgoing(table: &Table<Kind>, handle: Handle) -> Result<RecordId, Fault>
     ensures { Names result (outgoing_of (kind_at table.now handle)) }
 {
     match kind(table, handle) {
@@ -157,7 +158,7 @@ pub fn stream(table: &Table<Kind>, handle: Handle) -> Result<usize, Fault>
 }
 
 /// The record number of a lookup.
-pub fn lookup(table: &Table<Kind>, handle: Handle) -> Result<usize, Fault>
+pub fn lookup(table: &Table<Kind>, handle: Handle) -> Result<RecordId, Fault>
     ensures { Names result (lookup_of (kind_at table.now handle)) }
 {
     match kind(table, handle) {

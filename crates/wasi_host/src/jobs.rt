@@ -22,7 +22,7 @@ use crate::store::Store;
 use crate::view::WasiSocketsCtxView;
 use std::alloc::AllocError;
 use wasi_jobs::{HostJob, JobList, Listed};
-use wasi_records::{RecordList, lookup_mut_in, open_udp_mut_in, tcp2_mut_in};
+use wasi_records::{Lookup, OpenUdp, RecordId, RecordList, Slot, Tcp2Socket, find_mut_in};
 use wasi_world::World;
 
 /// Polls the write of the TCP socket with this record number once, if one is in progress. Returns
@@ -30,8 +30,8 @@ use wasi_world::World;
 fn turn_socket<W: World>(
     records: &mut RecordList,
     world: &mut W,
-    slot: usize,
-    place: usize,
+    slot: Slot,
+    place: RecordId,
 ) -> Result<bool, AllocError>
     requires { (W.seen world.old).ended ≡ false }
     ensures asked { AsksFor (turn_at records.old.items place (tcp2_at records.old.items place))
@@ -40,7 +40,7 @@ fn turn_socket<W: World>(
     ensures held { held_in records.new.items ≡ held_in records.old.items }
     ensures none { MakesNone (W.seen world.old) (W.seen world.new) }
 {
-    let Some(record) = tcp2_mut_in(records, slot, place) else {
+    let Some(record) = find_mut_in::<Tcp2Socket>(records, slot, place) else {
         return Ok(false);
     };
     record.turn(world)?;
@@ -52,8 +52,8 @@ fn turn_socket<W: World>(
 fn turn_datagram<W: World>(
     records: &mut RecordList,
     world: &mut W,
-    slot: usize,
-    place: usize,
+    slot: Slot,
+    place: RecordId,
 ) -> Result<bool, AllocError>
     requires { (W.seen world.old).ended ≡ false }
     ensures asked { AsksFor (turn_datagram_at records.old.items place
@@ -64,7 +64,7 @@ fn turn_datagram<W: World>(
     ensures held { held_in records.new.items ≡ held_in records.old.items }
     ensures none { MakesNone (W.seen world.old) (W.seen world.new) }
 {
-    let Some(socket) = open_udp_mut_in(records, slot, place) else {
+    let Some(socket) = find_mut_in::<OpenUdp>(records, slot, place) else {
         return Ok(false);
     };
     socket.turn_outgoing(world)?;
@@ -76,8 +76,8 @@ fn turn_datagram<W: World>(
 fn turn_receive<W: World>(
     records: &mut RecordList,
     world: &mut W,
-    slot: usize,
-    place: usize,
+    slot: Slot,
+    place: RecordId,
 ) -> Result<bool, AllocError>
     requires { (W.seen world.old).ended ≡ false }
     ensures asked { AsksFor (turn_receive_at records.old.items place
@@ -88,7 +88,7 @@ fn turn_receive<W: World>(
     ensures held { held_in records.new.items ≡ held_in records.old.items }
     ensures none { MakesNone (W.seen world.old) (W.seen world.new) }
 {
-    let Some(socket) = open_udp_mut_in(records, slot, place) else {
+    let Some(socket) = find_mut_in::<OpenUdp>(records, slot, place) else {
         return Ok(false);
     };
     socket.turn_incoming(world)?;
@@ -100,8 +100,8 @@ fn turn_receive<W: World>(
 fn turn_lookup<W: World>(
     records: &mut RecordList,
     world: &mut W,
-    slot: usize,
-    place: usize,
+    slot: Slot,
+    place: RecordId,
 ) -> Result<bool, AllocError>
     requires { (W.seen world.old).ended ≡ false }
     ensures asked { AsksFor (turn_lookup_at records.old.items place
@@ -112,7 +112,7 @@ fn turn_lookup<W: World>(
     ensures held { held_in records.new.items ≡ held_in records.old.items }
     ensures none { MakesNone (W.seen world.old) (W.seen world.new) }
 {
-    let Some(lookup) = lookup_mut_in(records, slot, place) else {
+    let Some(lookup) = find_mut_in::<Lookup>(records, slot, place) else {
         return Ok(false);
     };
     lookup.turn(world)?;
@@ -187,7 +187,7 @@ impl Store {
     }
 
     /// Takes the receives of this record out of the jobs.
-    pub(crate) fn forget_receives(&mut self, place: usize)
+    pub(crate) fn forget_receives(&mut self, place: RecordId)
         ensures { self.new ≡ record self.old { jobs = other_than_receive place self.old.jobs } }
     {
         self.jobs.forget_receives(place);
@@ -195,7 +195,7 @@ impl Store {
 
     /// Gives back the record with this number, to which nothing refers any more, and takes its jobs
     /// out.
-    pub(crate) fn give_back(&mut self, place: usize)
+    pub(crate) fn give_back(&mut self, place: RecordId)
         ensures state { self.new ≡ given_back place self.old }
         ensures sides { (s : Seen) → held_by (item_at self.old.records place) ≡ 0
             → KnowsSides s self.old → KnowsSides s self.new }

@@ -4,25 +4,26 @@ ghost use Rattle.std.specs.Prelude.{◌≡◌};
 ghost use Rattle.wasi_host.specs.Kinds.{name_of, table_parent, watched_by, watch_of, place_of};
 ghost use Rattle.wasi_host.specs.Kinds.{udp_of, input_of, output_of, is_network};
 
+use wasi_records::RecordId;
 use wasi_world::{Handle, HandleKind};
 
 /// What a pollable watches, with a record number.
 #[derive(Clone, Copy, Debug, PartialEq, Eq)]
 pub enum Watched {
     /// The connect of a TCP socket in progress, or the accept of a listener.
-    Socket(usize),
+    Socket(RecordId),
     /// Whether there is something to read from a connection.
-    Input(usize),
+    Input(RecordId),
     /// Whether something may be written to a connection.
-    Output(usize),
+    Output(RecordId),
     /// A UDP socket, which is always ready.
-    Udp(usize),
+    Udp(RecordId),
     /// Whether a datagram has come.
-    Incoming(usize),
+    Incoming(RecordId),
     /// Whether a datagram may be sent.
-    Outgoing(usize),
+    Outgoing(RecordId),
     /// Whether a lookup has ended.
-    Lookup(usize),
+    Lookup(RecordId),
     /// A stream in memory, which is always ready.
     Plain,
 }
@@ -31,7 +32,7 @@ pub enum Watched {
 #[derive(Clone, Copy, Debug, PartialEq, Eq)]
 pub enum PlainInput {
     /// The pipe with this record number.
-    Pipe(usize),
+    Pipe(RecordId),
     /// Nothing: it is closed.
     Closed,
 }
@@ -40,7 +41,7 @@ pub enum PlainInput {
 #[derive(Clone, Copy, Debug, PartialEq, Eq)]
 pub enum PlainOutput {
     /// The pipe with this record number.
-    Pipe(usize),
+    Pipe(RecordId),
     /// A sink, which takes everything and keeps none of it.
     Sink,
     /// Nothing: it is closed.
@@ -53,25 +54,25 @@ pub enum Kind {
     /// The network.
     Network,
     /// A TCP socket of the 0.2 interface.
-    Tcp2(usize),
+    Tcp2(RecordId),
     /// A UDP socket of the 0.2 interface.
-    Udp2(usize),
+    Udp2(RecordId),
     /// The input of a connection, with the number of its socket's record.
-    Input(usize),
+    Input(RecordId),
     /// The output of a connection, with the number of its socket's record.
-    Output(usize),
+    Output(RecordId),
     /// An input in memory: a pipe, or a closed one.
     PlainInput(PlainInput),
     /// An output in memory: a pipe, a sink, or a closed one.
     PlainOutput(PlainOutput),
     /// The incoming datagram stream of a UDP socket, with the number of its record.
-    Incoming(usize),
+    Incoming(RecordId),
     /// The outgoing datagram stream of a UDP socket, with the number of its record.
-    Outgoing(usize),
+    Outgoing(RecordId),
     /// A pollable, with what it watches.
     Pollable(Watched),
     /// A lookup of a host name, with the number of its record.
-    Lookup(usize),
+    Lookup(RecordId),
     /// The error of a stream's operation.
     ErrorValue,
 }

@@ -19,7 +19,7 @@ use wasi_addr::IpAddress;
 use wasi_jobs::{HostJob, JobList};
 use wasi_names::HostName;
 use wasi_records::{
-    Addresses, Lookup, Record, RecordList, SocketError, lookup, lookup_mut, unresolvable,
+    Addresses, Lookup, Record, RecordId, RecordList, SocketError, find, find_mut, unresolvable,
 };
 use wasi_table::Table;
 use wasi_world::{Handle, OpId, TrapKind, World};
@@ -30,7 +30,7 @@ fn add_lookup(
     records: &mut RecordList,
     jobs: &mut JobList,
     lookup: Lookup,
-) -> Result<usize, AllocError>
+) -> Result<RecordId, AllocError>
     ensures place { IfOk result (λ place. place ≡ length records.old.items) }
     ensures records { OnOk result (records.new.items ≡ lookup_pushed records.old.items lookup) }
     ensures jobs { IfOk result (λ place. jobs.new.items ≡ jobs_with jobs.old.items
@@ -135,13 +135,13 @@ impl Store {
 
     /// Takes the next address of the lookup with this record number (`resolve-next-address`);
     /// `None` once all were handed out. Not answered yet: `WouldBlock`. Failed: `NameUnresolvable`.
-    pub fn next_address(&mut self, place: usize) -> Result<Option<IpAddress>, SocketError>
+    pub fn next_address(&mut self, place: RecordId) -> Result<Option<IpAddress>, SocketError>
         ensures answer { host_outcome result
             ≡ Ok (next_at self.old place (lookup_at self.old.records place)).0 }
         ensures state { self.new ≡ (next_at self.old place (lookup_at self.old.records place)).1 }
         ensures sides { (s : Seen) → KnowsSides s self.old → KnowsSides s self.new }
     {
-        let Some(lookup) = lookup_mut(&mut self.records, place) else {
+        let Some(lookup) = find_mut::<Lookup>(&mut self.records, place) else {
             return Err(SocketError::Trap(TrapKind::NoSuchHandle));
         };
         match lookup.next() {
@@ -151,10 +151,10 @@ impl Store {
     }
 
     /// Whether the lookup with this record number has ended.
-    pub(crate) fn lookup_ready(&self, place: usize) -> bool
+    pub(crate) fn lookup_ready(&self, place: RecordId) -> bool
         ensures { result ≡ lookup_ready (lookup_at self.now.records place) }
     {
-        match lookup(&self.records, place) {
+        match find::<Lookup>(&self.records, place) {
             Some(lookup) => !lookup.is_in_progress(),
             None => true,
         }
@@ -162,12 +162,12 @@ impl Store {
 
     /// Gives up the lookup with this record number: the network isn't asked about it any more, and
     /// its record is given back.
-    pub(crate) fn drop_lookup(&mut self, place: usize)
+    pub(crate) fn drop_lookup(&mut self, place: RecordId)
         ensures state { self.new ≡ (drop_lookup_at self.old place
             (lookup_at self.old.records place)).1 }
         ensures sides { (s : Seen) → KnowsSides s self.old → KnowsSides s self.new }
     {
-        let Some(_dropped) = lookup(&self.records, place) else {
+        let Some(_dropped) = find::<Lookup>(&self.records, place) else {
             return;
         };
         self.give_back(place);

@@ -8,7 +8,7 @@ ghost use Rattle.wasi_records.specs.Stops.{host_outcome};
 ghost use Rattle.wasi_host.specs.KnownSides.{KnowsSides};
 
 use crate::store::Store;
-use wasi_records::{SocketError, tcp2, tcp2_mut};
+use wasi_records::{RecordId, SocketError, Tcp2Socket, find, find_mut};
 use wasi_tcp::Setting;
 use wasi_world::{OpId, Opt, TrapKind, World};
 
@@ -16,11 +16,11 @@ impl Store {
     ghost use Rattle.wasi_host.specs.Options.{get_option_at, set_option_at, set_backlog_at};
 
     /// Reads an option of the TCP socket with this record number (`TcpSocket::get_option`).
-    pub fn get_option<W: World>(
+    pub fn tcp_get_option<W: World>(
         &self,
         world: &mut W,
         op: OpId,
-        place: usize,
+        place: RecordId,
         option: Opt,
     ) -> Result<u64, SocketError>
         requires { (W.seen world.old).ended ≡ false }
@@ -30,7 +30,7 @@ impl Store {
         ensures sides { KnowsSides (W.seen world.old) self.now
             → KnowsSides (W.seen world.new) self.now }
     {
-        let Some(record) = tcp2(&self.records, place) else {
+        let Some(record) = find::<Tcp2Socket>(&self.records, place) else {
             return Err(SocketError::Trap(TrapKind::NoSuchHandle));
         };
         let value = record.inner.get_option(world, op, option)?;
@@ -39,11 +39,11 @@ impl Store {
 
     /// Sets an option of the TCP socket with this record number (`TcpSocket::set_option`). The
     /// records stay as they were.
-    pub fn set_option<W: World>(
+    pub fn tcp_set_option<W: World>(
         &mut self,
         world: &mut W,
         op: OpId,
-        place: usize,
+        place: RecordId,
         setting: Setting,
     ) -> Result<(), SocketError>
         requires { (W.seen world.old).ended ≡ false }
@@ -53,7 +53,7 @@ impl Store {
         ensures sides { KnowsSides (W.seen world.old) self.old
             → KnowsSides (W.seen world.new) self.new }
     {
-        let Some(record) = tcp2_mut(&mut self.records, place) else {
+        let Some(record) = find_mut::<Tcp2Socket>(&mut self.records, place) else {
             return Err(SocketError::Trap(TrapKind::NoSuchHandle));
         };
         record.inner.set_option(world, op, setting)?;
@@ -66,7 +66,7 @@ impl Store {
         &mut self,
         world: &mut W,
         op: OpId,
-        place: usize,
+        place: RecordId,
         value: u64,
     ) -> Result<(), SocketError>
         requires { (W.seen world.old).ended ≡ false }
@@ -76,7 +76,7 @@ impl Store {
         ensures sides { KnowsSides (W.seen world.old) self.old
             → KnowsSides (W.seen world.new) self.new }
     {
-        let Some(record) = tcp2_mut(&mut self.records, place) else {
+        let Some(record) = find_mut::<Tcp2Socket>(&mut self.records, place) else {
             return Err(SocketError::Trap(TrapKind::NoSuchHandle));
         };
         record.inner.set_listen_backlog_size(world, op, value)?;

@@ -21,7 +21,7 @@ use crate::store::{Standing, StandingCall, Store};
 use crate::view::WasiSocketsCtxView;
 use std::alloc::Global;
 use wasi_addr::ErrorCode;
-use wasi_records::{SocketError, tcp2_mut};
+use wasi_records::{RecordId, SocketError, Tcp2Socket, find_mut};
 use wasi_world::{Answer, Handle, Ids, NumberList, Octets, TrapKind, World};
 
 /// What a pending call gives once it is polled: its value, or the error of a call of a stream.
@@ -102,11 +102,11 @@ impl Store {
 
     /// Polls the bind of the TCP socket with this record number. If it is still pending it is
     /// stored again.
-    fn rebind<W: World>(
+    fn tcp_rebind<W: World>(
         &mut self,
         world: &mut W,
         ids: Ids,
-        place: usize,
+        place: RecordId,
     ) -> Result<Answer<()>, SocketError>
         requires { (W.seen world.old).ended ≡ false }
         ensures asked { AsksFor (rebind_at self.old ids place (tcp2_at self.old.records place))
@@ -115,7 +115,7 @@ impl Store {
         ensures sides { KnowsSides (W.seen world.old) self.old
             → KnowsSides (W.seen world.new) self.new }
     {
-        let Some(record) = tcp2_mut(&mut self.records, place) else {
+        let Some(record) = find_mut::<Tcp2Socket>(&mut self.records, place) else {
             return Err(SocketError::Trap(TrapKind::NoSuchHandle));
         };
         let answer = record.poll_bind(world)?;
@@ -128,7 +128,7 @@ impl Store {
         &mut self,
         world: &mut W,
         ids: Ids,
-        place: usize,
+        place: RecordId,
     ) -> Result<Answer<()>, SocketError>
         requires { (W.seen world.old).ended ≡ false }
         ensures asked { AsksFor (relisten_at self.old ids place (tcp2_at self.old.records place))
@@ -137,7 +137,7 @@ impl Store {
         ensures sides { KnowsSides (W.seen world.old) self.old
             → KnowsSides (W.seen world.new) self.new }
     {
-        let Some(record) = tcp2_mut(&mut self.records, place) else {
+        let Some(record) = find_mut::<Tcp2Socket>(&mut self.records, place) else {
             return Err(SocketError::Trap(TrapKind::NoSuchHandle));
         };
         let answer = record.poll_listen(world)?;
@@ -260,7 +260,7 @@ fn go_on<W: World>(
 {
     match call {
         StandingCall::Bind { socket } => {
-            let answer = view.store.rebind(world, ids, socket)?;
+            let answer = view.store.tcp_rebind(world, ids, socket)?;
             Ok(Outcome::of_nothing(answer))
         }
         StandingCall::Listen { socket } => {

@@ -24,7 +24,7 @@ use crate::view::WasiSocketsCtxView;
 use bytes::Bytes;
 use memory_streams::{InputPipeCore, OutputPipe};
 use std::alloc::{AllocError, Global};
-use wasi_records::{Record, input_pipe, input_pipe_mut, output_pipe, output_pipe_mut};
+use wasi_records::{Record, find, find_mut};
 use wasi_streams::{Fault, StreamError};
 use wasi_table::Table;
 use wasi_world::{Handle, Ids, Octets, OpId, TrapKind, World};
@@ -72,7 +72,7 @@ impl Store {
         let PlainInput::Pipe(place) = input else {
             return Err(StreamError::Closed);
         };
-        let Some(pipe) = input_pipe_mut(&mut self.records, place) else {
+        let Some(pipe) = find_mut::<InputPipeCore>(&mut self.records, place) else {
             return Err(StreamError::Trap(TrapKind::NoSuchHandle));
         };
         pipe.read_octets(alloc, len)
@@ -83,7 +83,7 @@ impl Store {
         ensures { stream_outcome result ≡ Ok (check_plain self.now output) }
     {
         match output {
-            PlainOutput::Pipe(place) => match output_pipe(&self.records, place) {
+            PlainOutput::Pipe(place) => match find::<OutputPipe>(&self.records, place) {
                 Some(pipe) => pipe.check_write(),
                 None => Err(StreamError::Trap(TrapKind::NoSuchHandle)),
             },
@@ -118,7 +118,7 @@ impl Store {
         ensures memory { OnErr (stream_outcome result) (self.new ≡ self.old) }
         ensures sides { (s : Seen) → KnowsSides s self.old → KnowsSides s self.new }
     {
-        let Some(pipe) = output_pipe_mut(&mut self.records, place) else {
+        let Some(pipe) = find_mut::<OutputPipe>(&mut self.records, place) else {
             return Err(StreamError::Trap(TrapKind::NoSuchHandle));
         };
         pipe.write(bytes)
@@ -132,7 +132,7 @@ impl Store {
         let PlainInput::Pipe(place) = input else {
             return;
         };
-        let Some(_dropped) = input_pipe(&self.records, place) else {
+        let Some(_dropped) = find::<InputPipeCore>(&self.records, place) else {
             return;
         };
         self.give_back(place);
@@ -146,7 +146,7 @@ impl Store {
         let PlainOutput::Pipe(place) = output else {
             return;
         };
-        let Some(_dropped) = output_pipe(&self.records, place) else {
+        let Some(_dropped) = find::<OutputPipe>(&self.records, place) else {
             return;
         };
         self.give_back(place);
@@ -224,7 +224,7 @@ impl Store {
         ensures { IfOk (fault_outcome result) (λ answer. answer
             ≡ contents_at (output_pipe_at self.now.records place)) }
     {
-        match output_pipe(&self.records, place) {
+        match find::<OutputPipe>(&self.records, place) {
             Some(pipe) => Ok(Octets::copy_of(alloc, pipe.contents())?),
             None => Err(Fault::Trap(TrapKind::NoSuchHandle)),
         }

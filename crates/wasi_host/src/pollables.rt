@@ -16,7 +16,7 @@ use crate::handles;
 use crate::kind::{Kind, Watched};
 use crate::store::Store;
 use crate::view::WasiSocketsCtxView;
-use wasi_records::{Tcp2Socket, tcp2_mut};
+use wasi_records::{Tcp2Socket, find_mut};
 use wasi_streams::{Fault, TrapKind};
 use wasi_world::{Handle, Ids, Sock, World};
 
@@ -80,7 +80,7 @@ impl Store {
             → KnowsSides (W.seen world.new) self.new }
         ensures ids { ids.new ≡ ready_ids_at ids.old watched (tcp2_at self.old.records place) }
     {
-        let Some(record) = tcp2_mut(&mut self.records, place) else {
+        let Some(record) = find_mut::<Tcp2Socket>(&mut self.records, place) else {
             return Err(Fault::Trap(TrapKind::NoSuchHandle));
         };
         poll_ready(record, world, ids, watched)

@@ -22,7 +22,7 @@ use crate::view::WasiSocketsCtxView;
 use std::alloc::{AllocError, Global};
 use std::collections::BTreeMap;
 use std::marker::Model;
-use wasi_records::{open_udp, tcp2};
+use wasi_records::{OpenUdp, Tcp2Socket, find};
 use wasi_streams::{Fault, TrapKind};
 use wasi_table::Table;
 use wasi_world::{Answer, Handle, Ids, NumberList, World};
@@ -117,11 +117,11 @@ impl Store {
         ensures { result ≡ begins_on self.now (Some watched) }
     {
         match watched {
-            Watched::Socket(place) => match tcp2(&self.records, place) {
+            Watched::Socket(place) => match find::<Tcp2Socket>(&self.records, place) {
                 Some(record) => record.would_accept(),
                 None => false,
             },
-            Watched::Incoming(place) => match open_udp(&self.records, place) {
+            Watched::Incoming(place) => match find::<OpenUdp>(&self.records, place) {
                 Some(socket) => socket.would_receive(),
                 None => false,
             },

@@ -21,7 +21,7 @@ use std::marker::Model;
 use wasi_addr::SocketAddressFamily;
 use wasi_jobs::{HostJob, JobList};
 use wasi_records::{
-    Record, RecordList, SocketError, Tcp2Socket, close_sides, tcp2, tcp2_mut, tcp2_mut_in,
+    Record, RecordId, RecordList, SocketError, Tcp2Socket, close_sides, find, find_mut, find_mut_in,
 };
 use wasi_streams::StreamError;
 use wasi_table::Table;
@@ -32,23 +32,23 @@ use wasi_world::{Answer, Handle, Ids, Octets, OpId, Sock, TrapKind, WasiSocketsC
 #[derive(Drop)]
 pub enum StandingCall {
     /// Binds the TCP socket with this record number; its record has the operation.
-    Bind { socket: usize },
+    Bind { socket: RecordId },
     /// Makes the TCP socket with this record number listen; its record has the operation.
-    Listen { socket: usize },
+    Listen { socket: RecordId },
     /// Drops the output of the TCP socket with this record number, and waits until its writer is
     /// ready.
-    DropOutput { socket: usize },
+    DropOutput { socket: RecordId },
     /// Creates the UDP socket with this record number, and then its handle; its record has the
     /// operation.
-    UdpCreate { socket: usize },
+    UdpCreate { socket: RecordId },
     /// Binds the UDP socket with this record number; its record has the operation.
-    UdpBind { socket: usize },
+    UdpBind { socket: RecordId },
     /// Connects the UDP socket with this record number, whose record has the operation, and then
     /// makes its datagram streams under this handle.
-    UdpConnect { socket: usize, handle: Handle },
+    UdpConnect { socket: RecordId, handle: Handle },
     /// Drops the outgoing datagram stream of the UDP socket with this record number, and waits
     /// until its datagram is sent or has failed.
-    DropOutgoing { socket: usize },
+    DropOutgoing { socket: RecordId },
     /// A call of a stream or of pollables that blocks.
     Blocking(BlockingCall),
 }
@@ -107,7 +107,7 @@ impl Store {
     /// Creates a TCP socket, its record and its handle (`create-tcp-socket`). Takes memory for the
     /// record before the network socket is made, so that every network socket has a record, also
     /// where no handle can be made for it.
-    pub fn create_socket<W: World>(
+    pub fn tcp_create_socket<W: World>(
         &mut self,
         table: &mut Table<Kind>,
         world: &mut W,
@@ -134,10 +134,10 @@ impl Store {
 
     /// The network socket that the TCP socket with this record number was made with; `None` where
     /// there is no such socket, or it had none.
-    pub fn side(&self, place: usize) -> Option<Sock>
+    pub fn side(&self, place: RecordId) -> Option<Sock>
         ensures { result ≡ side_at (tcp2_at self.now.records place) }
     {
-        tcp2(&self.records, place)?.side
+        find::<Tcp2Socket>(&self.records, place)?.side
     }
 
     /// Reads from the connection of the TCP socket with this record number.
@@ -146,7 +146,7 @@ impl Store {
         alloc: Global,
         world: &mut W,
         op: OpId,
-        place: usize,
+        place: RecordId,
         len: usize,
     ) -> Result<Octets, StreamError>
         requires { (W.seen world.old).ended ≡ false }
@@ -156,7 +156,7 @@ impl Store {
         ensures sides { KnowsSides (W.seen world.old) self.old
             → KnowsSides (W.seen world.new) self.new }
     {
-        let Some(record) = tcp2_mut(&mut self.records, place) else {
+        let Some(record) = find_mut::<Tcp2Socket>(&mut self.records, place) else {
             return Err(StreamError::Trap(TrapKind::NoSuchHandle));
         };
         record.read(alloc, world, op, len)
@@ -168,7 +168,7 @@ impl Store {
         &mut self,
         world: &mut W,
         op: OpId,
-        place: usize,
+        place: RecordId,
     ) -> Result<usize, StreamError>
         requires { (W.seen world.old).ended ≡ false }
         ensures asked { AsksFor (stream_at self.old place (writer_asks (check_write_asks op))
@@ -177,7 +177,7 @@ impl Store {
         ensures sides { KnowsSides (W.seen world.old) self.old
             → KnowsSides (W.seen world.new) self.new }
     {
-        let Some(record) = tcp2_mut(&mut self.records, place) else {
+        let Some(record) = find_mut::<Tcp2Socket>(&mut self.records, place) else {
             return Err(StreamError::Trap(TrapKind::NoSuchHandle));
         };
         record.check_write(world, op)
@@ -189,7 +189,7 @@ impl Store {
         &mut self,
         world: &mut W,
         op: OpId,
-        place: usize,
+        place: RecordId,
         bytes: Octets,
     ) -> Result<(), StreamError>
         requires { (W.seen world.old).ended ≡ false }
@@ -200,7 +200,7 @@ impl Store {
             → KnowsSides (W.seen world.new) self.new }
     {
         let slot = self.records.slot_of(place);
-        let Some(record) = tcp2_mut_in(&mut self.records, slot, place) else {
+        let Some(record) = find_mut_in::<Tcp2Socket>(&mut self.records, slot, place) else {
             return Err(StreamError::Trap(TrapKind::NoSuchHandle));
         };
         // The job comes before the write, so that a write in progress has its job whatever memory
@@ -213,7 +213,7 @@ impl Store {
 
     /// Returns the error with which the writer of the TCP socket with this record number is closed,
     /// if it is; asks nothing.
-    pub fn flush<W: World>(&mut self, world: &mut W, place: usize) -> Result<(), StreamError>
+    pub fn flush<W: World>(&mut self, world: &mut W, place: RecordId) -> Result<(), StreamError>
         requires { (W.seen world.old).ended ≡ false }
         ensures asked { AsksFor (stream_at self.old place (writer_asks flush_asks)
             (tcp2_at self.old.records place)) (W.seen world.old) (W.seen world.new)
@@ -221,7 +221,7 @@ impl Store {
         ensures sides { KnowsSides (W.seen world.old) self.old
             → KnowsSides (W.seen world.new) self.new }
     {
-        let Some(record) = tcp2_mut(&mut self.records, place) else {
+        let Some(record) = find_mut::<Tcp2Socket>(&mut self.records, place) else {
             return Err(StreamError::Trap(TrapKind::NoSuchHandle));
         };
         record.flush(world)

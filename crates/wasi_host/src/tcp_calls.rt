@@ -17,17 +17,19 @@ ghost use Rattle.wasi_tcp.specs.Addresses.{is_listening};
 
 use crate::store::{StandingCall, Store};
 use wasi_addr::{IpSocketAddress, ShutdownType, SocketAddressFamily, p2};
-use wasi_records::{AsyncOperation, InProgress, SocketError, keep_accepted, tcp2, tcp2_mut};
+use wasi_records::{
+    AsyncOperation, InProgress, RecordId, SocketError, Tcp2Socket, find, find_mut, keep_accepted,
+};
 use wasi_world::{Answer, Ids, OpId, TrapKind, World};
 
 impl Store {
     /// Begins a bind of the TCP socket with this record number (`start-bind`). An operation in
     /// progress: `ConcurrencyConflict`. While its check is pending it is the pending call.
-    pub fn start_bind<W: World>(
+    pub fn tcp_start_bind<W: World>(
         &mut self,
         world: &mut W,
         ids: Ids,
-        place: usize,
+        place: RecordId,
         addr: IpSocketAddress,
     ) -> Result<Answer<()>, SocketError>
         requires { (W.seen world.old).ended ≡ false }
@@ -37,7 +39,7 @@ impl Store {
         ensures sides { KnowsSides (W.seen world.old) self.old
             → KnowsSides (W.seen world.new) self.new }
     {
-        let Some(record) = tcp2_mut(&mut self.records, place) else {
+        let Some(record) = find_mut::<Tcp2Socket>(&mut self.records, place) else {
             return Err(SocketError::Trap(TrapKind::NoSuchHandle));
         };
         if !record.in_progress.is_nothing() {
@@ -49,7 +51,11 @@ impl Store {
 
     /// Finishes an operation that was started (`finish-bind`, `finish-listen`). It wasn't:
     /// `NotInProgress`.
-    pub fn finish(&mut self, place: usize, operation: AsyncOperation) -> Result<(), SocketError>
+    pub fn tcp_finish(
+        &mut self,
+        place: RecordId,
+        operation: AsyncOperation,
+    ) -> Result<(), SocketError>
         ensures sides { (s : Seen) → KnowsSides s self.old → KnowsSides s self.new }
         ensures answer { host_outcome result
             ≡ Ok (finish_at (is_started operation) self.old place
@@ -57,7 +63,7 @@ impl Store {
         ensures state { self.new ≡ (finish_at (is_started operation) self.old place
             (tcp2_at self.old.records place)).1 }
     {
-        let Some(record) = tcp2_mut(&mut self.records, place) else {
+        let Some(record) = find_mut::<Tcp2Socket>(&mut self.records, place) else {
             return Err(SocketError::Trap(TrapKind::NoSuchHandle));
         };
         if !record.in_progress.is_started(operation) {
@@ -69,11 +75,11 @@ impl Store {
 
     /// Begins a connect of the TCP socket with this record number (`start-connect`). An operation
     /// in progress: `ConcurrencyConflict`.
-    pub fn start_connect<W: World>(
+    pub fn tcp_start_connect<W: World>(
         &mut self,
         world: &mut W,
         op: OpId,
-        place: usize,
+        place: RecordId,
         addr: IpSocketAddress,
     ) -> Result<(), SocketError>
         requires { (W.seen world.old).ended ≡ false }
@@ -83,7 +89,7 @@ impl Store {
         ensures sides { KnowsSides (W.seen world.old) self.old
             → KnowsSides (W.seen world.new) self.new }
     {
-        let Some(record) = tcp2_mut(&mut self.records, place) else {
+        let Some(record) = find_mut::<Tcp2Socket>(&mut self.records, place) else {
             return Err(SocketError::Trap(TrapKind::NoSuchHandle));
         };
         if !record.in_progress.is_nothing() {
@@ -96,10 +102,10 @@ impl Store {
     /// Polls the connect in progress of the TCP socket with this record number once
     /// (`finish-connect`). None: `NotInProgress`. Pending: `WouldBlock`. Connected or refused, it
     /// is in progress no more.
-    pub fn finish_connect<W: World>(
+    pub fn tcp_finish_connect<W: World>(
         &mut self,
         world: &mut W,
-        place: usize,
+        place: RecordId,
     ) -> Result<(), SocketError>
         requires { (W.seen world.old).ended ≡ false }
         ensures asked { AsksFor (finish_connect_of place self.old) (W.seen world.old)
@@ -107,7 +113,7 @@ impl Store {
         ensures sides { KnowsSides (W.seen world.old) self.old
             → KnowsSides (W.seen world.new) self.new }
     {
-        let Some(record) = tcp2_mut(&mut self.records, place) else {
+        let Some(record) = find_mut::<Tcp2Socket>(&mut self.records, place) else {
             return Err(SocketError::Trap(TrapKind::NoSuchHandle));
         };
         if !record.in_progress.is_started(AsyncOperation::Connect) {
@@ -117,11 +123,11 @@ impl Store {
     }
 
     /// The local address of the TCP socket with this record number.
-    pub fn local_address<W: World>(
+    pub fn tcp_local_address<W: World>(
         &mut self,
         world: &mut W,
         op: OpId,
-        place: usize,
+        place: RecordId,
     ) -> Result<IpSocketAddress, SocketError>
         requires { (W.seen world.old).ended ≡ false }
         ensures asked { AsksFor (on_tcp place (tell_local_asks op) self.old) (W.seen world.old)
@@ -129,7 +135,7 @@ impl Store {
         ensures sides { KnowsSides (W.seen world.old) self.old
             → KnowsSides (W.seen world.new) self.new }
     {
-        let Some(record) = tcp2_mut(&mut self.records, place) else {
+        let Some(record) = find_mut::<Tcp2Socket>(&mut self.records, place) else {
             return Err(SocketError::Trap(TrapKind::NoSuchHandle));
         };
         let addr = record.local_address(world, op)?;
@@ -137,11 +143,11 @@ impl Store {
     }
 
     /// The remote address of the TCP socket with this record number.
-    pub fn remote_address<W: World>(
+    pub fn tcp_remote_address<W: World>(
         &mut self,
         world: &mut W,
         op: OpId,
-        place: usize,
+        place: RecordId,
     ) -> Result<IpSocketAddress, SocketError>
         requires { (W.seen world.old).ended ≡ false }
         ensures asked { AsksFor (on_tcp place (tell_remote_asks op) self.old) (W.seen world.old)
@@ -149,7 +155,7 @@ impl Store {
         ensures sides { KnowsSides (W.seen world.old) self.old
             → KnowsSides (W.seen world.new) self.new }
     {
-        let Some(record) = tcp2_mut(&mut self.records, place) else {
+        let Some(record) = find_mut::<Tcp2Socket>(&mut self.records, place) else {
             return Err(SocketError::Trap(TrapKind::NoSuchHandle));
         };
         let addr = record.remote_address(world, op)?;
@@ -157,22 +163,22 @@ impl Store {
     }
 
     /// Whether the TCP socket with this record number is listening.
-    pub fn is_listening(&self, place: usize) -> Result<bool, SocketError>
+    pub fn is_listening(&self, place: RecordId) -> Result<bool, SocketError>
         ensures { host_outcome result ≡ Ok (told_of (λ r. is_listening r.inner.state)
             (tcp2_at self.now.records place)) }
     {
-        match tcp2(&self.records, place) {
+        match find::<Tcp2Socket>(&self.records, place) {
             Some(record) => Ok(record.inner.is_listening()),
             None => Err(SocketError::Trap(TrapKind::NoSuchHandle)),
         }
     }
 
     /// The family of the TCP socket with this record number.
-    pub fn address_family(&self, place: usize) -> Result<SocketAddressFamily, SocketError>
+    pub fn tcp_address_family(&self, place: RecordId) -> Result<SocketAddressFamily, SocketError>
         ensures { host_outcome result ≡ Ok (told_of (λ r. r.inner.family)
             (tcp2_at self.now.records place)) }
     {
-        match tcp2(&self.records, place) {
+        match find::<Tcp2Socket>(&self.records, place) {
             Some(record) => Ok(record.inner.address_family()),
             None => Err(SocketError::Trap(TrapKind::NoSuchHandle)),
         }
@@ -184,7 +190,7 @@ impl Store {
         &mut self,
         world: &mut W,
         ids: Ids,
-        place: usize,
+        place: RecordId,
     ) -> Result<Answer<()>, SocketError>
         requires { (W.seen world.old).ended ≡ false }
         ensures asked { AsksFor (start_listen_at self.old ids place
@@ -193,7 +199,7 @@ impl Store {
         ensures sides { KnowsSides (W.seen world.old) self.old
             → KnowsSides (W.seen world.new) self.new }
     {
-        let Some(record) = tcp2_mut(&mut self.records, place) else {
+        let Some(record) = find_mut::<Tcp2Socket>(&mut self.records, place) else {
             return Err(SocketError::Trap(TrapKind::NoSuchHandle));
         };
         if !record.in_progress.is_nothing() {
@@ -212,8 +218,8 @@ impl Store {
         &mut self,
         world: &mut W,
         ids: &mut Ids,
-        place: usize,
-    ) -> Result<usize, SocketError>
+        place: RecordId,
+    ) -> Result<RecordId, SocketError>
         requires open { (W.seen world.old).ended ≡ false }
         requires names { ids.old.next_part + 1 < 2 ^ 64 }
         ensures asked { AsksFor (accept_at self.old ids.old place (tcp2_at self.old.records place))
@@ -226,7 +232,7 @@ impl Store {
             ≡ accept_ids_at ids.old (tcp2_at self.old.records place)) }
     {
         self.records.reserve()?;
-        let Some(record) = tcp2_mut(&mut self.records, place) else {
+        let Some(record) = find_mut::<Tcp2Socket>(&mut self.records, place) else {
             return Err(SocketError::Trap(TrapKind::NoSuchHandle));
         };
         let answer = record.poll_accept(world, ids)?;
@@ -242,7 +248,7 @@ impl Store {
         &mut self,
         world: &mut W,
         op: OpId,
-        place: usize,
+        place: RecordId,
         how: ShutdownType,
     ) -> Result<(), SocketError>
         requires { (W.seen world.old).ended ≡ false }
@@ -251,7 +257,7 @@ impl Store {
         ensures sides { KnowsSides (W.seen world.old) self.old
             → KnowsSides (W.seen world.new) self.new }
     {
-        let Some(record) = tcp2_mut(&mut self.records, place) else {
+        let Some(record) = find_mut::<Tcp2Socket>(&mut self.records, place) else {
             return Err(SocketError::Trap(TrapKind::NoSuchHandle));
         };
         record.shutdown(world, op, how)

@@ -21,8 +21,8 @@ use socket_common::Setting;
 use std::alloc::AllocError;
 use wasi_addr::{IpSocketAddress, SocketAddressFamily, p2};
 use wasi_records::{
-    PendingCreate, Record, SocketError, Udp2Socket, UdpInProgress, open_udp, open_udp_mut, udp2,
-    udp2_mut,
+    OpenUdp, PendingCreate, Record, RecordId, SocketError, Udp2Socket, UdpInProgress, find,
+    find_mut,
 };
 use wasi_table::Table;
 use wasi_udp::UdpSocket;
@@ -63,7 +63,7 @@ impl Store {
         table: &mut Table<Kind>,
         world: &mut W,
         ids: Ids,
-        place: usize,
+        place: RecordId,
     ) -> Result<Answer<Handle>, SocketError>
         requires { (W.seen world.old).ended ≡ false }
         ensures asked { AsksFor (create_on (record { table = table.old; store = self.old }) ids
@@ -89,7 +89,7 @@ impl Store {
         &self,
         table: &mut Table<Kind>,
         world: &mut W,
-        place: usize,
+        place: RecordId,
     ) -> Result<Answer<Handle>, SocketError>
         requires { (W.seen world.old).ended ≡ false }
         ensures asked { AsksFor (mark_udp (record { table = table.old; store = self.now }) place
@@ -111,7 +111,7 @@ impl Store {
     fn poll_create<W: World>(
         &mut self,
         world: &mut W,
-        place: usize,
+        place: RecordId,
     ) -> Result<Answer<()>, SocketError>
         requires { (W.seen world.old).ended ≡ false }
         ensures asked { AsksFor (poll_create_at self.old place (udp2_at self.old.records place))
@@ -120,7 +120,7 @@ impl Store {
         ensures sides { KnowsSides (W.seen world.old) self.old
             → KnowsSides (W.seen world.new) self.new }
     {
-        let Some(record) = udp2_mut(&mut self.records, place) else {
+        let Some(record) = find_mut::<Udp2Socket>(&mut self.records, place) else {
             return Err(SocketError::Trap(TrapKind::NoSuchHandle));
         };
         match record.poll_create(world) {
@@ -133,10 +133,10 @@ impl Store {
     }
 
     /// The network socket that the UDP socket with this record number was made with.
-    pub(crate) fn udp_side(&self, place: usize) -> Option<Sock>
+    pub(crate) fn udp_side(&self, place: RecordId) -> Option<Sock>
         ensures { result ≡ udp_side_at (udp2_at self.now.records place) }
     {
-        Some(udp2(&self.records, place)?.side())
+        Some(find::<Udp2Socket>(&self.records, place)?.side())
     }
 
     /// Begins a bind of the UDP socket with this record number (`start-bind`). An operation in
@@ -146,7 +146,7 @@ impl Store {
         &mut self,
         world: &mut W,
         ids: Ids,
-        place: usize,
+        place: RecordId,
         addr: IpSocketAddress,
     ) -> Result<Answer<()>, SocketError>
         requires { (W.seen world.old).ended ≡ false }
@@ -156,7 +156,7 @@ impl Store {
         ensures sides { KnowsSides (W.seen world.old) self.old
             → KnowsSides (W.seen world.new) self.new }
     {
-        let Some(socket) = open_udp_mut(&mut self.records, place) else {
+        let Some(socket) = find_mut::<OpenUdp>(&mut self.records, place) else {
             return Err(SocketError::Trap(TrapKind::NoSuchHandle));
         };
         if !socket.in_progress.is_nothing() {
@@ -175,7 +175,7 @@ impl Store {
         &mut self,
         world: &mut W,
         ids: Ids,
-        place: usize,
+        place: RecordId,
     ) -> Result<Answer<()>, SocketError>
         requires { (W.seen world.old).ended ≡ false }
         ensures asked { AsksFor (rebind_udp_at self.old ids place (open_at self.old.records place))
@@ -184,7 +184,7 @@ impl Store {
         ensures sides { KnowsSides (W.seen world.old) self.old
             → KnowsSides (W.seen world.new) self.new }
     {
-        let Some(socket) = open_udp_mut(&mut self.records, place) else {
+        let Some(socket) = find_mut::<OpenUdp>(&mut self.records, place) else {
             return Err(SocketError::Trap(TrapKind::NoSuchHandle));
         };
         let answer = socket.poll_bind(world)?;
@@ -192,14 +192,14 @@ impl Store {
     }
 
     /// Finishes the bind that was started (`finish-bind`). None was: `NotInProgress`.
-    pub fn finish_udp_bind(&mut self, place: usize) -> Result<(), SocketError>
+    pub fn finish_udp_bind(&mut self, place: RecordId) -> Result<(), SocketError>
         ensures sides { (s : Seen) → KnowsSides s self.old → KnowsSides s self.new }
         ensures answer { host_outcome result
             ≡ Ok (finish_udp_bind_at self.old place (open_at self.old.records place)).0 }
         ensures state { self.new ≡ (finish_udp_bind_at self.old place
             (open_at self.old.records place)).1 }
     {
-        let Some(socket) = open_udp_mut(&mut self.records, place) else {
+        let Some(socket) = find_mut::<OpenUdp>(&mut self.records, place) else {
             return Err(SocketError::Trap(TrapKind::NoSuchHandle));
         };
         if !socket.in_progress.is_bound() {
@@ -214,7 +214,7 @@ impl Store {
         &mut self,
         world: &mut W,
         op: OpId,
-        place: usize,
+        place: RecordId,
     ) -> Result<IpSocketAddress, SocketError>
         requires { (W.seen world.old).ended ≡ false }
         ensures asked { AsksFor (udp_local_at self.old op place (open_at self.old.records place))
@@ -222,7 +222,7 @@ impl Store {
         ensures sides { KnowsSides (W.seen world.old) self.old
             → KnowsSides (W.seen world.new) self.new }
     {
-        let Some(socket) = open_udp_mut(&mut self.records, place) else {
+        let Some(socket) = find_mut::<OpenUdp>(&mut self.records, place) else {
             return Err(SocketError::Trap(TrapKind::NoSuchHandle));
         };
         let addr = socket.local_address(world, op)?;
@@ -231,10 +231,10 @@ impl Store {
 
     /// The remote address of the UDP socket with this record number. None: `InvalidState`. Asks
     /// nothing.
-    pub fn udp_remote_address(&self, place: usize) -> Result<IpSocketAddress, SocketError>
+    pub fn udp_remote_address(&self, place: RecordId) -> Result<IpSocketAddress, SocketError>
         ensures { host_outcome result ≡ Ok (udp_remote_at (open_at self.now.records place)) }
     {
-        let Some(socket) = open_udp(&self.records, place) else {
+        let Some(socket) = find::<OpenUdp>(&self.records, place) else {
             return Err(SocketError::Trap(TrapKind::NoSuchHandle));
         };
         match socket.inner.remote_address() {
@@ -244,10 +244,10 @@ impl Store {
     }
 
     /// The family of the UDP socket with this record number.
-    pub fn udp_address_family(&self, place: usize) -> Result<SocketAddressFamily, SocketError>
+    pub fn udp_address_family(&self, place: RecordId) -> Result<SocketAddressFamily, SocketError>
         ensures { host_outcome result ≡ Ok (udp_family_at (open_at self.now.records place)) }
     {
-        match open_udp(&self.records, place) {
+        match find::<OpenUdp>(&self.records, place) {
             Some(socket) => Ok(socket.inner.address_family()),
             None => Err(SocketError::Trap(TrapKind::NoSuchHandle)),
         }
@@ -258,7 +258,7 @@ impl Store {
         &self,
         world: &mut W,
         op: OpId,
-        place: usize,
+        place: RecordId,
         option: Opt,
     ) -> Result<u64, SocketError>
         requires { (W.seen world.old).ended ≡ false }
@@ -269,7 +269,7 @@ impl Store {
         ensures sides { KnowsSides (W.seen world.old) self.now
             → KnowsSides (W.seen world.new) self.now }
     {
-        let Some(socket) = open_udp(&self.records, place) else {
+        let Some(socket) = find::<OpenUdp>(&self.records, place) else {
             return Err(SocketError::Trap(TrapKind::NoSuchHandle));
         };
         let value = socket.inner.get_option(world, op, option)?;
@@ -282,7 +282,7 @@ impl Store {
         &mut self,
         world: &mut W,
         op: OpId,
-        place: usize,
+        place: RecordId,
         setting: Setting,
     ) -> Result<(), SocketError>
         requires { (W.seen world.old).ended ≡ false }
@@ -292,7 +292,7 @@ impl Store {
         ensures sides { KnowsSides (W.seen world.old) self.old
             → KnowsSides (W.seen world.new) self.new }
     {
-        let Some(socket) = open_udp_mut(&mut self.records, place) else {
+        let Some(socket) = find_mut::<OpenUdp>(&mut self.records, place) else {
             return Err(SocketError::Trap(TrapKind::NoSuchHandle));
         };
         socket.inner.set_option(world, op, setting)?;
@@ -305,7 +305,7 @@ impl Store {
         &mut self,
         world: &mut W,
         op: OpId,
-        place: usize,
+        place: RecordId,
     ) -> Result<(), AllocError>
         requires { (W.seen world.old).ended ≡ false }
         ensures asked { AsksFor (release_udp_at self.old op place (udp2_at self.old.records place))
@@ -313,7 +313,7 @@ impl Store {
         ensures sides { KnowsSides (W.seen world.old) self.old
             → KnowsSides (W.seen world.new) self.new }
     {
-        let Some(record) = udp2_mut(&mut self.records, place) else {
+        let Some(record) = find_mut::<Udp2Socket>(&mut self.records, place) else {
             return Ok(());
         };
         record.close(world, op)?;
@@ -322,12 +322,12 @@ impl Store {
     }
 
     /// Gives back the record of the UDP socket with this number, if its network socket is closed.
-    fn leave_udp(&mut self, place: usize)
+    fn leave_udp(&mut self, place: RecordId)
         ensures state { (u : Udp2Socket) → udp2_at self.old.records place ≡ Some u
             → self.new ≡ udp_left self.old place u }
         ensures sides { (s : Seen) → KnowsSides s self.old → KnowsSides s self.new }
     {
-        let Some(socket) = udp2(&self.records, place) else {
+        let Some(socket) = find::<Udp2Socket>(&self.records, place) else {
             return;
         };
         let Udp2Socket::Closed(_) = socket else {

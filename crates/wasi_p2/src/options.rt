@@ -38,8 +38,8 @@ pub fn get_option<W: World>(
     ensures kept { HostKept view.old view.new ids.old ids.new (W.seen world.old)
         (W.seen world.new) }
 {
-    let place = handles::socket(view.table, this)?;
-    view.store.get_option(world, ids.own(), place, option)
+    let place = handles::tcp_socket(view.table, this)?;
+    view.store.tcp_get_option(world, ids.own(), place, option)
 }
 
 /// Sets an option. The setters below are this call with their setting.
@@ -64,8 +64,8 @@ fn set_option<W: World>(
     ensures kept { HostKept view.old view.new ids.old ids.new (W.seen world.old)
         (W.seen world.new) }
 {
-    let place = handles::socket(view.table, this)?;
-    view.store.set_option(world, ids.own(), place, setting)
+    let place = handles::tcp_socket(view.table, this)?;
+    view.store.tcp_set_option(world, ids.own(), place, setting)
 }
 
 /// Whether probes are sent on a connection that is idle (`keep-alive-enabled`): any reported number
@@ -349,6 +349,6 @@ pub fn set_listen_backlog_size<W: World>(
     ensures kept { HostKept view.old view.new ids.old ids.new (W.seen world.old)
         (W.seen world.new) }
 {
-    let place = handles::socket(view.table, this)?;
+    let place = handles::tcp_socket(view.table, this)?;
     view.store.set_backlog(world, ids.own(), place, value)
 }

@@ -45,7 +45,7 @@ pub fn create_tcp_socket<W: World>(
         (W.seen world.new) }
 {
     view.store
-        .create_socket(view.table, world, ids.own(), view.ctx, family)
+        .tcp_create_socket(view.table, world, ids.own(), view.ctx, family)
 }
 
 /// Begins to bind a socket to an address (`start-bind`). The handle of the network is tested first.
@@ -67,8 +67,8 @@ pub fn start_bind<W: World>(
         (W.seen world.new) }
 {
     handles::network(view.table, network)?;
-    let place = handles::socket(view.table, this)?;
-    view.store.start_bind(world, *ids, place, addr)
+    let place = handles::tcp_socket(view.table, this)?;
+    view.store.tcp_start_bind(world, *ids, place, addr)
 }
 
 /// Ends a bind in progress (`finish-bind`). None in progress: `NotInProgress`. Asks nothing.
@@ -80,8 +80,8 @@ pub fn finish_bind(view: &mut WasiSocketsCtxView<'_>, this: Handle) -> Result<()
     ensures sides { (s : Seen) → KnowsSides s view.old.store.now → KnowsSides s view.new.store.now }
     ensures view { SameView view.old view.new }
 {
-    let place = handles::socket(view.table, this)?;
-    view.store.finish(place, AsyncOperation::Bind)
+    let place = handles::tcp_socket(view.table, this)?;
+    view.store.tcp_finish(place, AsyncOperation::Bind)
 }
 
 /// Begins to connect a socket to an address (`start-connect`). An operation in progress:
@@ -102,8 +102,8 @@ pub fn start_connect<W: World>(
         (W.seen world.new) }
 {
     handles::network(view.table, network)?;
-    let place = handles::socket(view.table, this)?;
-    view.store.start_connect(world, ids.own(), place, addr)
+    let place = handles::tcp_socket(view.table, this)?;
+    view.store.tcp_start_connect(world, ids.own(), place, addr)
 }
 
 /// Polls the connect in progress, and makes the input and the output of the connection once it is
@@ -121,8 +121,8 @@ pub fn finish_connect<W: World>(
     ensures kept { HostKept view.old view.new ids.old ids.new (W.seen world.old)
         (W.seen world.new) }
 {
-    let place = handles::socket(view.table, this)?;
-    view.store.finish_connect(world, place)?;
+    let place = handles::tcp_socket(view.table, this)?;
+    view.store.tcp_finish_connect(world, place)?;
     let side = view.store.side(place);
     make_streams(view, world, ids, this, place, side)
 }
@@ -177,7 +177,7 @@ pub fn start_listen<W: World>(
     ensures kept { HostKept view.old view.new ids.old ids.new (W.seen world.old)
         (W.seen world.new) }
 {
-    let place = handles::socket(view.table, this)?;
+    let place = handles::tcp_socket(view.table, this)?;
     view.store.start_listen(world, *ids, place)
 }
 
@@ -190,8 +190,8 @@ pub fn finish_listen(view: &mut WasiSocketsCtxView<'_>, this: Handle) -> Result<
     ensures sides { (s : Seen) → KnowsSides s view.old.store.now → KnowsSides s view.new.store.now }
     ensures view { SameView view.old view.new }
 {
-    let place = handles::socket(view.table, this)?;
-    view.store.finish(place, AsyncOperation::Listen)
+    let place = handles::tcp_socket(view.table, this)?;
+    view.store.tcp_finish(place, AsyncOperation::Listen)
 }
 
 /// Accepts a connection of a listener (`accept`): its socket, its input and its output.
@@ -219,7 +219,7 @@ pub fn accept<W: World>(
     ensures names { IfOk (host_outcome result) (λ answer. ids.new
         ≡ ids_after_accept (state_of view.old) ids.old this) }
 {
-    let place = handles::socket(view.table, this)?;
+    let place = handles::tcp_socket(view.table, this)?;
     let accepted = view.store.accept(world, ids, place)?;
     let side = view.store.side(accepted);
     make_accepted(view, world, ids, this, accepted, side)
@@ -263,8 +263,8 @@ pub fn local_address<W: World>(
     ensures kept { HostKept view.old view.new ids.old ids.new (W.seen world.old)
         (W.seen world.new) }
 {
-    let place = handles::socket(view.table, this)?;
-    view.store.local_address(world, ids.own(), place)
+    let place = handles::tcp_socket(view.table, this)?;
+    view.store.tcp_local_address(world, ids.own(), place)
 }
 
 /// The address of the other end of a connection (`remote-address`). Not connected: `InvalidState`.
@@ -282,8 +282,8 @@ pub fn remote_address<W: World>(
     ensures kept { HostKept view.old view.new ids.old ids.new (W.seen world.old)
         (W.seen world.new) }
 {
-    let place = handles::socket(view.table, this)?;
-    view.store.remote_address(world, ids.own(), place)
+    let place = handles::tcp_socket(view.table, this)?;
+    view.store.tcp_remote_address(world, ids.own(), place)
 }
 
 /// Whether a socket is listening (`is-listening`). Asks nothing.
@@ -293,7 +293,7 @@ pub fn is_listening(view: &mut WasiSocketsCtxView<'_>, this: Handle) -> Result<b
     ensures sides { (s : Seen) → KnowsSides s view.old.store.now → KnowsSides s view.new.store.now }
     ensures view { SameView view.old view.new }
 {
-    let place = handles::socket(view.table, this)?;
+    let place = handles::tcp_socket(view.table, this)?;
     view.store.is_listening(place)
 }
 
@@ -307,8 +307,8 @@ pub fn address_family(
     ensures sides { (s : Seen) → KnowsSides s view.old.store.now → KnowsSides s view.new.store.now }
     ensures view { SameView view.old view.new }
 {
-    let place = handles::socket(view.table, this)?;
-    view.store.address_family(place)
+    let place = handles::tcp_socket(view.table, this)?;
+    view.store.tcp_address_family(place)
 }
 
 /// Releases the receiving half of a connection, the sending half, or both in that order
@@ -328,6 +328,6 @@ pub fn shutdown<W: World>(
     ensures kept { HostKept view.old view.new ids.old ids.new (W.seen world.old)
         (W.seen world.new) }
 {
-    let place = handles::socket(view.table, this)?;
+    let place = handles::tcp_socket(view.table, this)?;
     view.store.shutdown(world, ids.own(), place, how)
 }

@@ -14,8 +14,8 @@ use Rattle.wasi_tcp.specs.declared.listener.Accepting.{Accepting}
 use Rattle.wasi_tcp.specs.declared.listener.Accepting.TheVariants as accepting
 use Rattle.wasi_tcp.specs.Listener.{Listener, HoldsAccept, IsListener, StandsAccept, accept_ended, listener_asks, listener_ready_asks, listener_accept_asks, ready_end, accept_end, untaken_side}
 use Rattle.wasi_tcp.specs.Shape.{Socket}
-use Rattle.wasi_records.specs.declared.listening.Listening.{Listening}
-use Rattle.wasi_records.specs.declared.listening.Listening.TheVariants.{Accepts}
+use Rattle.wasi_records.specs.declared.tcp_listening.Listening.{Listening}
+use Rattle.wasi_records.specs.declared.tcp_listening.Listening.TheVariants.{Accepts}
 use Rattle.wasi_records.specs.declared.socket.Tcp2Socket.{Tcp2Socket}
 use Rattle.wasi_records.specs.Stops.{Stop}
 use Rattle.wasi_records.specs.Listening.{with_listening, side_in, Accepted, Connects, Fails}

@@ -17,8 +17,8 @@ use Rattle.wasi_world.proofs.Walks.{asks_at, asks_end, reaches_in, asks_err}
 use Rattle.wasi_tcp.specs.Bind.{IsBind}
 use Rattle.wasi_tcp.specs.Shape.{Socket}
 use Rattle.wasi_tcp.specs.Socket.{bind_asks, bound_asks}
-use Rattle.wasi_records.specs.declared.binding.InProgress.{InProgress}
-use Rattle.wasi_records.specs.declared.binding.InProgress.TheVariants.{Binding}
+use Rattle.wasi_records.specs.declared.tcp_binding.InProgress.{InProgress}
+use Rattle.wasi_records.specs.declared.tcp_binding.InProgress.TheVariants.{Binding}
 use Rattle.wasi_records.specs.declared.socket.Tcp2Socket.{Tcp2Socket}
 use Rattle.wasi_records.specs.Binding.{bind_answer, bind_ended, bind_progress, bind_settled, poll_binding, poll_bind_asks}
 use Rattle.wasi_records.specs.Sides.{MakesNone}

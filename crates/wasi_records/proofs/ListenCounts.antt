@@ -25,8 +25,8 @@ use Rattle.wasi_tcp.specs.Listen.{IsListen, IsLeftOfListen, BoundBefore, Address
 use Rattle.socket_common.specs.Rounds.{some_left, is_going, stays_going}
 use Rattle.wasi_tcp.specs.Listening.{listen_ended, listen_goes_on, listen_poll_asks}
 use Rattle.wasi_tcp.specs.Listener.{Listener}
-use Rattle.wasi_records.specs.declared.listening.Listening.{Listening}
-use Rattle.wasi_records.specs.declared.listening.Listening.TheVariants.{Begins}
+use Rattle.wasi_records.specs.declared.tcp_listening.Listening.{Listening}
+use Rattle.wasi_records.specs.declared.tcp_listening.Listening.TheVariants.{Begins}
 use Rattle.wasi_records.specs.declared.socket.Tcp2Socket.{Tcp2Socket}
 use Rattle.wasi_records.specs.Listening.{side_in, listen_polled, listen_settled, listen_told, poll_begun, poll_listening, closed_listening, poll_listen_asks}
 use Rattle.wasi_records.specs.Sides.{closed_in, one_if_some, holds, Balances}

@@ -14,8 +14,8 @@ use Rattle.wasi_tcp.specs.Shape.{Socket}
 use Rattle.wasi_tcp.specs.Socket.{side_of, bound_asks}
 use Rattle.wasi_tcp.specs.Listen.{is_over}
 use Rattle.wasi_tcp.specs.Listening.{listen_start, listen_asks}
-use Rattle.wasi_records.specs.declared.listening.Listening.{Listening}
-use Rattle.wasi_records.specs.declared.listening.Listening.TheVariants.{Not, Begins}
+use Rattle.wasi_records.specs.declared.tcp_listening.Listening.{Listening}
+use Rattle.wasi_records.specs.declared.tcp_listening.Listening.TheVariants.{Not, Begins}
 use Rattle.wasi_records.specs.declared.socket.Tcp2Socket.{Tcp2Socket}
 use Rattle.wasi_records.specs.Listening.{side_in}
 use Rattle.wasi_records.specs.Sides.{one_if_some, Balances}

@@ -16,9 +16,9 @@ use Rattle.wasi_tcp.specs.Listen.{is_over, cancel_asks, held_side}
 use Rattle.wasi_tcp.specs.Listener.{give_up_in, untaken_side}
 use Rattle.wasi_tcp.specs.Shape.{Socket}
 use Rattle.wasi_tcp.specs.Socket.{side_of}
-use Rattle.wasi_records.specs.declared.listening.Listening.{Listening}
-use Rattle.wasi_records.specs.declared.listening.Listening.TheVariants.{Not, Begins, Accepts, Unclosed}
-use Rattle.wasi_records.specs.declared.binding.InProgress.TheVariants.{Nothing}
+use Rattle.wasi_records.specs.declared.tcp_listening.Listening.{Listening}
+use Rattle.wasi_records.specs.declared.tcp_listening.Listening.TheVariants.{Not, Begins, Accepts, Unclosed}
+use Rattle.wasi_records.specs.declared.tcp_binding.InProgress.TheVariants.{Nothing}
 use Rattle.wasi_records.specs.declared.socket.Tcp2Socket.{Tcp2Socket}
 use Rattle.wasi_records.specs.Releasing.{give_streams_up, gone, close_record, release_connection}
 use Rattle.wasi_records.specs.Listening.{side_in, give_up_asks, unclosed, with_listening}

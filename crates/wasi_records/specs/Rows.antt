@@ -2,33 +2,17 @@
 use denote.RattleType.{RattleType}
 use Rattle.wasi_records.specs.contracts.records.Record as rec
 use Rattle.wasi_records.specs.contracts.record_list.RecordList as numbered
-use Rattle.wasi_records.specs.contracts.socket.Tcp2Socket as socket
 use Rattle.wasi_records.specs.contracts.udp.Udp2Socket as datagrams
 use Rattle.wasi_records.specs.contracts.udp.OpenUdp as opened
-use Rattle.wasi_records.specs.contracts.name_lookup.Lookup as lookups
-use Rattle.memory_streams.specs.contracts.input.InputPipeCore as reads
-use Rattle.memory_streams.specs.contracts.pipe.OutputPipe as writes
 
 abbrev pub record_row : RattleType
 record_row = rec.the_row
-
-abbrev pub socket_row : RattleType
-socket_row = socket.the_row
 
 abbrev pub udp_row : RattleType
 udp_row = datagrams.the_row
 
 abbrev pub open_row : RattleType
 open_row = opened.the_row
-
-abbrev pub lookup_row : RattleType
-lookup_row = lookups.the_row
-
-abbrev pub input_pipe_row : RattleType
-input_pipe_row = reads.the_row
-
-abbrev pub output_pipe_row : RattleType
-output_pipe_row = writes.the_row
 
 abbrev pub records_row : RattleType
 records_row = numbered.the_row

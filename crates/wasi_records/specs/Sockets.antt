@@ -19,10 +19,10 @@ use Rattle.wasi_tcp.specs.declared.writer.WriteState.TheVariants as writing
 use Rattle.wasi_tcp.specs.Connecting.{start_connect_asks, finish_connect_asks, in_socket}
 use Rattle.wasi_tcp.specs.Halves.{take_receive, take_send}
 use Rattle.wasi_tcp.specs.Addresses.{local_asks, remote_asks}
-use Rattle.wasi_records.specs.declared.binding.AsyncOperation.TheVariants.{Connect}
-use Rattle.wasi_records.specs.declared.binding.InProgress.{InProgress}
-use Rattle.wasi_records.specs.declared.binding.InProgress.TheVariants as doing
-use Rattle.wasi_records.specs.declared.listening.Listening.TheVariants as listening
+use Rattle.wasi_records.specs.declared.tcp_binding.AsyncOperation.TheVariants.{Connect}
+use Rattle.wasi_records.specs.declared.tcp_binding.InProgress.{InProgress}
+use Rattle.wasi_records.specs.declared.tcp_binding.InProgress.TheVariants as doing
+use Rattle.wasi_records.specs.declared.tcp_listening.Listening.TheVariants as listening
 use Rattle.wasi_records.specs.declared.socket.Streams.{Streams}
 use Rattle.wasi_records.specs.declared.socket.Tcp2Socket.{Tcp2Socket}
 use Rattle.wasi_records.specs.Stops.{Stop, Code, code_stop}

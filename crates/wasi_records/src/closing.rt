@@ -7,7 +7,7 @@ ghost use Rattle.wasi_records.specs.Sides.{held_by, held_in, one_if_some};
 ghost use Rattle.wasi_records.specs.Closing.{ClosesMore, ClosesSides};
 ghost use Rattle.wasi_records.specs.RecordMap.{record_under, records_of};
 
-use crate::record_list::{NumberedRecord, RecordList, record_of};
+use crate::record_list::{NumberedRecord, RecordId, RecordList, Slot, record_of};
 use crate::records::Record;
 use slab::Slab;
 use std::collections::BTreeMap;
@@ -47,7 +47,11 @@ pub fn close_sides<W: World>(world: &mut W, records: &RecordList)
 }
 
 /// Closes the network sockets that the records of these numbers hold.
-fn close_live<W: World>(world: &mut W, slots: &Slab<NumberedRecord>, keys: &BTreeMap<usize, usize>)
+fn close_live<W: World>(
+    world: &mut W,
+    slots: &Slab<NumberedRecord>,
+    keys: &BTreeMap<RecordId, Slot>,
+)
     requires { (W.seen world.old).ended ≡ true }
     ensures closed { ClosesSides (W.seen world.old) (W.seen world.new)
         (held_in (records_of slots.now keys.now.entries)) }
@@ -59,7 +63,7 @@ fn close_live<W: World>(world: &mut W, slots: &Slab<NumberedRecord>, keys: &BTre
 }
 
 /// Closes the network sockets that the record of this number holds, where it is in this slot.
-fn close_in<W: World>(world: &mut W, slots: &Slab<NumberedRecord>, slot: usize, number: usize)
+fn close_in<W: World>(world: &mut W, slots: &Slab<NumberedRecord>, slot: Slot, number: RecordId)
     requires { (W.seen world.old).ended ≡ true }
     ensures { ClosesMore (W.seen world.old) (W.seen world.new)
         (held_by (record_under slots.now slot number)) }

@@ -2,12 +2,10 @@
 //! what each asks of the network and what it is afterwards, and the list of records by number.
 #![tactic(auto)]
 
-pub mod binding;
 pub mod closing;
 pub mod datagrams;
 pub mod error;
 mod halves;
-pub mod listening;
 pub mod name_lookup;
 mod readiness;
 mod receiving;
@@ -15,19 +13,18 @@ pub mod record_list;
 pub mod records;
 mod releasing;
 pub mod socket;
+pub mod tcp_binding;
+pub mod tcp_listening;
 pub mod udp;
 pub mod udp_connecting;
 
-pub use binding::{AsyncOperation, InProgress};
 pub use closing::close_sides;
 pub use datagrams::{Incoming, Outgoing, Receiving, Sending};
 pub use error::SocketError;
-pub use listening::{Listening, keep_accepted};
 pub use name_lookup::{Addresses, Lookup, LookupOp, unresolvable};
-pub use record_list::RecordList;
-pub use records::{
-    Record, input_pipe, input_pipe_mut, lookup, lookup_mut, lookup_mut_in, open_udp, open_udp_mut,
-    open_udp_mut_in, output_pipe, output_pipe_mut, tcp2, tcp2_mut, tcp2_mut_in, udp2, udp2_mut,
-};
+pub use record_list::{RecordId, RecordList, Slot};
+pub use records::{Record, Stored, find, find_mut, find_mut_in};
 pub use socket::{Streams, Tcp2Socket};
+pub use tcp_binding::{AsyncOperation, InProgress};
+pub use tcp_listening::{Listening, keep_accepted};
 pub use udp::{OpenUdp, PendingCreate, Udp2Socket, UdpInProgress};

@@ -10,9 +10,9 @@ ghost use Rattle.wasi_records.specs.Listening.{ids_of};
 ghost use Rattle.wasi_records.specs.Sides.{Balances};
 ghost use Rattle.wasi_records.specs.InProgress.{is_connect};
 
-use crate::binding::AsyncOperation;
-use crate::listening::Listening;
 use crate::socket::Tcp2Socket;
+use crate::tcp_binding::AsyncOperation;
+use crate::tcp_listening::Listening;
 use std::alloc::AllocError;
 use wasi_streams::{Fault, StreamError};
 use wasi_world::{Answer, Ids, OpId, Refusal, TrapKind, World};

@@ -13,10 +13,18 @@ use std::alloc::{AllocError, Global};
 use std::collections::BTreeMap;
 use std::marker::Model;
 
+/// The number of a record, by which handles, jobs and calls name it. Numbers rise in the order of
+/// making, and none is given again.
+pub type RecordId = usize;
+
+/// The slot in which a record stands. A caller that keeps it has a hint: the record may have been
+/// given back since, and another one have come in its place, so it is tested where it is used.
+pub type Slot = usize;
+
 /// A record in the slab, with its number.
 #[derive(Drop)]
 pub(crate) struct NumberedRecord {
-    number: usize,
+    number: RecordId,
     value: Record,
 }
 
@@ -27,8 +35,8 @@ pub(crate) struct NumberedRecord {
 pub struct RecordList {
     pub(crate) slots: Slab<NumberedRecord>,
     /// Leads from the number of each record to the key of its slot.
-    pub(crate) keys: BTreeMap<usize, usize>,
-    next: usize,
+    pub(crate) keys: BTreeMap<RecordId, Slot>,
+    next: RecordId,
 }
 
 impl Model for RecordList {
@@ -98,31 +106,21 @@ impl RecordList {
 
     /// The record of this number. One that was given back or wasn't made is `None` or `Gone`. Takes
     /// no memory.
-    pub fn get(&self, place: usize) -> Option<&Record>
+    pub fn get(&self, place: RecordId) -> Option<&Record>
         ensures { or_gone (option_map (λ r. r.now) result) ≡ item_at self.now.items place }
     {
         record_of(&self.slots, key_of(&self.keys, place), place)
     }
 
-    /// The record of this number, to be changed. One that was given back or wasn't made is `None`.
-    /// Takes no memory.
-    pub fn get_mut(&mut self, place: usize) -> Option<&mut Record>
-        ensures* writes_back { sem 𝓛 (LendsIf records_row record_row self.entry result
-            (with_item self.old place) self.old) }
-        ensures item { or_gone (option_map (λ r. r.now) result) ≡ item_at self.old.items place }
-    {
-        let slot = self.slot_of(place);
-        self.get_mut_in(slot, place)
-    }
-
-    /// The slot of the record of this number, as a hint for `get_mut_in`; any slot where there is
+    /// The slot of the record of this number, as a hint for `find_mut_in`; any slot where there is
     /// no such record. Takes no memory.
-    pub fn slot_of(&self, place: usize) -> usize {
+    pub fn slot_of(&self, place: RecordId) -> Slot {
         key_of(&self.keys, place)
     }
 
-    /// `get_mut`, with a slot hint that saves the search where the record is in that slot.
-    pub(crate) fn get_mut_in(&mut self, slot: usize, place: usize) -> Option<&mut Record>
+    /// The record of this number, to be changed, with a slot hint that saves the search where the
+    /// record is in that slot. One that was given back or wasn't made is `None`. Takes no memory.
+    pub(crate) fn get_mut_in(&mut self, slot: Slot, place: RecordId) -> Option<&mut Record>
         ensures* writes_back { sem 𝓛 (LendsIf records_row record_row self.entry result
             (with_item self.old place) self.old) }
         ensures item { or_gone (option_map (λ r. r.now) result) ≡ item_at self.old.items place }
@@ -132,7 +130,7 @@ impl RecordList {
     }
 
     /// Drops the record of this number and its slot. Takes no memory.
-    pub fn give_back(&mut self, place: usize)
+    pub fn give_back(&mut self, place: RecordId)
         ensures { self.new.items ≡ record_gone self.old.items place }
     {
         let slot = key_of(&self.keys, place);
@@ -144,14 +142,18 @@ impl RecordList {
 }
 
 /// The key to which a number leads, or 0 where it leads nowhere.
-fn key_of(keys: &BTreeMap<usize, usize>, number: usize) -> usize
+fn key_of(keys: &BTreeMap<RecordId, Slot>, number: RecordId) -> Slot
     ensures { result ≡ key_at keys.now.entries number }
 {
     keys.get(&number).copied().unwrap_or(0)
 }
 
 /// The record in a slot, if it has this number.
-pub(crate) fn record_of(slots: &Slab<NumberedRecord>, slot: usize, number: usize) -> Option<&Record>
+pub(crate) fn record_of(
+    slots: &Slab<NumberedRecord>,
+    slot: Slot,
+    number: RecordId,
+) -> Option<&Record>
     ensures { option_map (λ r. r.now) result ≡ of_number number (get slots.now slot) }
 {
     match slots.get(slot) {
@@ -161,7 +163,7 @@ pub(crate) fn record_of(slots: &Slab<NumberedRecord>, slot: usize, number: usize
 }
 
 /// Whether the record in a slot has this number.
-fn is_in(slots: &Slab<NumberedRecord>, slot: usize, number: usize) -> bool
+fn is_in(slots: &Slab<NumberedRecord>, slot: Slot, number: RecordId) -> bool
     ensures { result ≡ is_some (of_number number (get slots.now slot)) }
 {
     record_of(slots, slot, number).is_some()
@@ -171,10 +173,10 @@ fn is_in(slots: &Slab<NumberedRecord>, slot: usize, number: usize) -> bool
 /// the number leads.
 fn find(
     slots: &Slab<NumberedRecord>,
-    keys: &BTreeMap<usize, usize>,
-    first: usize,
-    number: usize,
-) -> Option<usize>
+    keys: &BTreeMap<RecordId, Slot>,
+    first: Slot,
+    number: RecordId,
+) -> Option<Slot>
     ensures found { IfSome result (λ slot. is_some (of_number number (get slots.now slot)) ≡ true) }
     ensures none { IfNone result (of_number number (get slots.now (key_at keys.now.entries number))
         ≡ None) }

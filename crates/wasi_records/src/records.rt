@@ -1,21 +1,14 @@
 //! What the numbers of a store name, and how it is looked up.
 
-ghost use Rattle.std.specs.Prelude.{◌≡◌, option_map, Some};
+ghost use Rattle.std.specs.Prelude.{◌≡◌, Option, option_map, Some, None, refl};
 ghost use Rattle.std.specs.Borrow.{LendsIf, sem};
-ghost use Rattle.wasi_records.specs.Records.{tcp2_of, tcp2_at, with_tcp2, udp2_of, udp2_at};
-ghost use Rattle.wasi_records.specs.Records.{with_udp2, open_at, with_open, lookup_of, lookup_at};
-ghost use Rattle.wasi_records.specs.Records.{with_lookup_at, input_pipe_of, input_pipe_at};
-ghost use Rattle.wasi_records.specs.Records.{with_input_pipe, output_pipe_of, output_pipe_at};
-ghost use Rattle.wasi_records.specs.Records.{with_output_pipe};
-ghost use Rattle.wasi_records.specs.Rows.{record_row, records_row, socket_row, udp_row, open_row};
-ghost use Rattle.wasi_records.specs.Rows.{lookup_row, input_pipe_row, output_pipe_row};
-ghost use Rattle.wasi_records.specs.declared.records.Record.TheVariants.{Tcp2, Udp2};
-ghost use Rattle.wasi_records.specs.declared.records.Record.TheVariants.{Lookup as LookupRecord};
-ghost use Rattle.wasi_records.specs.declared.records.Record.TheVariants.{InputPipe as ReadPipe};
-ghost use Rattle.wasi_records.specs.declared.records.Record.TheVariants.{OutputPipe as WrittenPipe};
+ghost use Rattle.wasi_records.specs.Records.{stored_at, with_stored};
+ghost use Rattle.wasi_records.specs.Rows.{record_row, records_row};
+ghost use Rattle.wasi_records.specs.declared.records.Record.{Record};
+ghost use Rattle.wasi_records.specs.declared.records.Record.TheVariants.{Gone};
 
 use crate::name_lookup::Lookup;
-use crate::record_list::RecordList;
+use crate::record_list::{RecordId, RecordList, Slot};
 use crate::socket::Tcp2Socket;
 use crate::udp::{OpenUdp, Udp2Socket};
 use memory_streams::{InputPipeCore, OutputPipe};
@@ -38,253 +31,220 @@ pub enum Record {
     Gone,
 }
 
-impl Record {
-    /// This record as a TCP socket, if it is one.
-    fn as_tcp2(&self) -> Option<&Tcp2Socket>
-        ensures { option_map (λ r. r.now) result ≡ tcp2_of (Some self.now) }
-    {
-        match self {
+/// What a store has records of: each implementing type is found in the list by [`find`], and to be
+/// changed by [`find_mut`].
+pub trait Stored {
+    /// Such a record.
+    ghost into: { Self → Record };
+
+    /// What of this type a record is, if any.
+    ghost of: { Option Record → Option Self };
+
+    /// What of this type a record is, if any.
+    fn of_record(one: &Record) -> Option<&Self>
+        ensures { option_map (λ r. r.now) result ≡ of (Some one.now) };
+
+    /// What of this type a record is, if any, to be changed.
+    fn of_record_mut(one: &mut Record) -> Option<&mut Self>
+        ensures* writes_back { sem 𝓛 (LendsIf record_row Self.row one.entry result into one.old) }
+        ensures value { option_map (λ r. r.now) result ≡ of (Some one.old) };
+
+    /// Where there is no record, there is none of this type.
+    ghost none: { of None ≡ None };
+
+    /// Nor where one was given back.
+    ghost gone: { of (Some Gone) ≡ None };
+}
+
+impl Stored for Tcp2Socket {
+    ghost use Rattle.wasi_records.specs.Records.{tcp2_of};
+    ghost use Rattle.wasi_records.specs.declared.records.Record.TheVariants.{Tcp2};
+
+    ghost into = { λ r. Tcp2 r };
+
+    ghost of = { tcp2_of };
+
+    fn of_record(one: &Record) -> Option<&Tcp2Socket> {
+        match one {
             Record::Tcp2(socket) => Some(socket),
             _ => None,
         }
     }
 
-    /// This record as a TCP socket, to be changed, if it is one.
-    fn as_tcp2_mut(&mut self) -> Option<&mut Tcp2Socket>
-        ensures* writes_back { sem 𝓛 (LendsIf record_row socket_row self.entry result Tcp2
-            self.old) }
-        ensures value { option_map (λ r. r.now) result ≡ tcp2_of (Some self.old) }
-    {
-        match self {
+    fn of_record_mut(one: &mut Record) -> Option<&mut Tcp2Socket> {
+        match one {
             Record::Tcp2(socket) => Some(socket),
             _ => None,
         }
     }
 
-    /// This record as a UDP socket, if it is one.
-    fn as_udp2(&self) -> Option<&Udp2Socket>
-        ensures { option_map (λ u. u.now) result ≡ udp2_of (Some self.now) }
-    {
-        match self {
+    ghost none = { refl };
+
+    ghost gone = { refl };
+}
+
+impl Stored for Udp2Socket {
+    ghost use Rattle.wasi_records.specs.Records.{udp2_of};
+    ghost use Rattle.wasi_records.specs.declared.records.Record.TheVariants.{Udp2};
+
+    ghost into = { λ r. Udp2 r };
+
+    ghost of = { udp2_of };
+
+    fn of_record(one: &Record) -> Option<&Udp2Socket> {
+        match one {
             Record::Udp2(socket) => Some(socket),
             _ => None,
         }
     }
 
-    /// This record as a UDP socket, to be changed, if it is one.
-    fn as_udp2_mut(&mut self) -> Option<&mut Udp2Socket>
-        ensures* writes_back { sem 𝓛 (LendsIf record_row udp_row self.entry result Udp2 self.old) }
-        ensures value { option_map (λ u. u.now) result ≡ udp2_of (Some self.old) }
-    {
-        match self {
+    fn of_record_mut(one: &mut Record) -> Option<&mut Udp2Socket> {
+        match one {
             Record::Udp2(socket) => Some(socket),
             _ => None,
         }
     }
 
-    /// This record as a lookup, if it is one.
-    fn as_lookup(&self) -> Option<&Lookup>
-        ensures { option_map (λ l. l.now) result ≡ lookup_of (Some self.now) }
-    {
-        match self {
+    ghost none = { refl };
+
+    ghost gone = { refl };
+}
+
+impl Stored for OpenUdp {
+    ghost use Rattle.wasi_records.specs.Records.{open_record_of};
+    ghost use Rattle.wasi_records.specs.declared.records.Record.TheVariants.{Udp2};
+    ghost use Rattle.wasi_records.specs.declared.udp.Udp2Socket.TheVariants.{Open};
+
+    ghost into = { λ o. Udp2 (Open o) };
+
+    ghost of = { open_record_of };
+
+    fn of_record(one: &Record) -> Option<&OpenUdp> {
+        match one {
+            Record::Udp2(socket) => socket.as_open(),
+            _ => None,
+        }
+    }
+
+    fn of_record_mut(one: &mut Record) -> Option<&mut OpenUdp> {
+        match one {
+            Record::Udp2(socket) => socket.as_open_mut(),
+            _ => None,
+        }
+    }
+
+    ghost none = { refl };
+
+    ghost gone = { refl };
+}
+
+impl Stored for Lookup {
+    ghost use Rattle.wasi_records.specs.Records.{lookup_of};
+    ghost use Rattle.wasi_records.specs.declared.records.Record.TheVariants.{Lookup as LookupRecord};
+
+    ghost into = { λ r. LookupRecord r };
+
+    ghost of = { lookup_of };
+
+    fn of_record(one: &Record) -> Option<&Lookup> {
+        match one {
             Record::Lookup(lookup) => Some(lookup),
             _ => None,
         }
     }
 
-    /// This record as a lookup, to be changed, if it is one.
-    fn as_lookup_mut(&mut self) -> Option<&mut Lookup>
-        ensures* writes_back { sem 𝓛 (LendsIf record_row lookup_row self.entry result LookupRecord
-            self.old) }
-        ensures value { option_map (λ l. l.now) result ≡ lookup_of (Some self.old) }
-    {
-        match self {
+    fn of_record_mut(one: &mut Record) -> Option<&mut Lookup> {
+        match one {
             Record::Lookup(lookup) => Some(lookup),
             _ => None,
         }
     }
 
-    /// This record as a readable pipe, if it is one.
-    fn as_input_pipe(&self) -> Option<&InputPipeCore>
-        ensures { option_map (λ p. p.now) result ≡ input_pipe_of (Some self.now) }
-    {
-        match self {
+    ghost none = { refl };
+
+    ghost gone = { refl };
+}
+
+impl Stored for InputPipeCore {
+    ghost use Rattle.wasi_records.specs.Records.{input_pipe_of};
+    ghost use Rattle.wasi_records.specs.declared.records.Record.TheVariants.{InputPipe};
+
+    ghost into = { λ r. InputPipe r };
+
+    ghost of = { input_pipe_of };
+
+    fn of_record(one: &Record) -> Option<&InputPipeCore> {
+        match one {
             Record::InputPipe(pipe) => Some(pipe),
             _ => None,
         }
     }
 
-    /// This record as a readable pipe, to be changed, if it is one.
-    fn as_input_pipe_mut(&mut self) -> Option<&mut InputPipeCore>
-        ensures* writes_back { sem 𝓛 (LendsIf record_row input_pipe_row self.entry result ReadPipe
-            self.old) }
-        ensures value { option_map (λ p. p.now) result ≡ input_pipe_of (Some self.old) }
-    {
-        match self {
+    fn of_record_mut(one: &mut Record) -> Option<&mut InputPipeCore> {
+        match one {
             Record::InputPipe(pipe) => Some(pipe),
             _ => None,
         }
     }
 
-    /// This record as a writable pipe, if it is one.
-    fn as_output_pipe(&self) -> Option<&OutputPipe>
-        ensures { option_map (λ p. p.now) result ≡ output_pipe_of (Some self.now) }
-    {
-        match self {
+    ghost none = { refl };
+
+    ghost gone = { refl };
+}
+
+impl Stored for OutputPipe {
+    ghost use Rattle.wasi_records.specs.Records.{output_pipe_of};
+    ghost use Rattle.wasi_records.specs.declared.records.Record.TheVariants.{OutputPipe as OutputPipeRecord};
+
+    ghost into = { λ r. OutputPipeRecord r };
+
+    ghost of = { output_pipe_of };
+
+    fn of_record(one: &Record) -> Option<&OutputPipe> {
+        match one {
             Record::OutputPipe(pipe) => Some(pipe),
             _ => None,
         }
     }
 
-    /// This record as a writable pipe, to be changed, if it is one.
-    fn as_output_pipe_mut(&mut self) -> Option<&mut OutputPipe>
-        ensures* writes_back { sem 𝓛 (LendsIf record_row output_pipe_row self.entry result
-            WrittenPipe self.old) }
-        ensures value { option_map (λ p. p.now) result ≡ output_pipe_of (Some self.old) }
-    {
-        match self {
+    fn of_record_mut(one: &mut Record) -> Option<&mut OutputPipe> {
+        match one {
             Record::OutputPipe(pipe) => Some(pipe),
             _ => None,
         }
     }
+
+    ghost none = { refl };
+
+    ghost gone = { refl };
 }
 
-/// The TCP socket of this number, if that record is one.
-pub fn tcp2(records: &RecordList, place: usize) -> Option<&Tcp2Socket>
-    ensures item { option_map (λ r. r.now) result ≡ tcp2_at records.now.items place }
+/// What of this type the record of this number is, if any. Takes no memory.
+pub fn find<T: Stored>(records: &RecordList, place: RecordId) -> Option<&T>
+    ensures item { option_map (λ r. r.now) result ≡ stored_at T.of records.now.items place }
 {
-    records.get(place)?.as_tcp2()
+    T::of_record(records.get(place)?)
 }
 
-/// The TCP socket of this number, to be changed, if that record is one.
-pub fn tcp2_mut(records: &mut RecordList, place: usize) -> Option<&mut Tcp2Socket>
-    ensures* writes_back { sem 𝓛 (LendsIf records_row socket_row records.entry result
-        (with_tcp2 records.old place) records.old) }
-    ensures item { option_map (λ r. r.now) result ≡ tcp2_at records.old.items place }
-{
-    let slot = records.slot_of(place);
-    tcp2_mut_in(records, slot, place)
-}
-
-/// [`tcp2_mut`], with a slot hint that saves the search.
-pub fn tcp2_mut_in(records: &mut RecordList, slot: usize, place: usize) -> Option<&mut Tcp2Socket>
-    ensures* writes_back { sem 𝓛 (LendsIf records_row socket_row records.entry result
-        (with_tcp2 records.old place) records.old) }
-    ensures item { option_map (λ r. r.now) result ≡ tcp2_at records.old.items place }
-{
-    records.get_mut_in(slot, place)?.as_tcp2_mut()
-}
-
-/// The UDP socket of this number, if that record is one.
-pub fn udp2(records: &RecordList, place: usize) -> Option<&Udp2Socket>
-    ensures item { option_map (λ u. u.now) result ≡ udp2_at records.now.items place }
-{
-    records.get(place)?.as_udp2()
-}
-
-/// The UDP socket of this number, to be changed, if that record is one.
-pub fn udp2_mut(records: &mut RecordList, place: usize) -> Option<&mut Udp2Socket>
-    ensures* writes_back { sem 𝓛 (LendsIf records_row udp_row records.entry result
-        (with_udp2 records.old place) records.old) }
-    ensures item { option_map (λ u. u.now) result ≡ udp2_at records.old.items place }
+/// The same, to be changed. Takes no memory.
+pub fn find_mut<T: Stored>(records: &mut RecordList, place: RecordId) -> Option<&mut T>
+    ensures* writes_back { sem 𝓛 (LendsIf records_row T.row records.entry result
+        (with_stored T.into records.old place) records.old) }
+    ensures item { option_map (λ r. r.now) result ≡ stored_at T.of records.old.items place }
 {
     let slot = records.slot_of(place);
-    udp2_mut_in(records, slot, place)
+    find_mut_in(records, slot, place)
 }
 
-/// [`udp2_mut`], with a slot hint that saves the search.
-pub(crate) fn udp2_mut_in(
+/// [`find_mut`], with a slot hint that saves the search.
+pub fn find_mut_in<T: Stored>(
     records: &mut RecordList,
-    slot: usize,
-    place: usize,
-) -> Option<&mut Udp2Socket>
-    ensures* writes_back { sem 𝓛 (LendsIf records_row udp_row records.entry result
-        (with_udp2 records.old place) records.old) }
-    ensures item { option_map (λ u. u.now) result ≡ udp2_at records.old.items place }
+    slot: Slot,
+    place: RecordId,
+) -> Option<&mut T>
+    ensures* writes_back { sem 𝓛 (LendsIf records_row T.row records.entry result
+        (with_stored T.into records.old place) records.old) }
+    ensures item { option_map (λ r. r.now) result ≡ stored_at T.of records.old.items place }
 {
-    records.get_mut_in(slot, place)?.as_udp2_mut()
-}
-
-/// The UDP socket of this number, if that record is one and open.
-pub fn open_udp(records: &RecordList, place: usize) -> Option<&OpenUdp>
-    ensures item { option_map (λ o. o.now) result ≡ open_at records.now.items place }
-{
-    udp2(records, place)?.as_open()
-}
-
-/// The UDP socket of this number, to be changed, if that record is one and open.
-pub fn open_udp_mut(records: &mut RecordList, place: usize) -> Option<&mut OpenUdp>
-    ensures* writes_back { sem 𝓛 (LendsIf records_row open_row records.entry result
-        (with_open records.old place) records.old) }
-    ensures item { option_map (λ o. o.now) result ≡ open_at records.old.items place }
-{
-    let slot = records.slot_of(place);
-    open_udp_mut_in(records, slot, place)
-}
-
-/// [`open_udp_mut`], with a slot hint that saves the search.
-pub fn open_udp_mut_in(records: &mut RecordList, slot: usize, place: usize) -> Option<&mut OpenUdp>
-    ensures* writes_back { sem 𝓛 (LendsIf records_row open_row records.entry result
-        (with_open records.old place) records.old) }
-    ensures item { option_map (λ o. o.now) result ≡ open_at records.old.items place }
-{
-    udp2_mut_in(records, slot, place)?.as_open_mut()
-}
-
-/// The lookup of this number, if that record is one.
-pub fn lookup(records: &RecordList, place: usize) -> Option<&Lookup>
-    ensures item { option_map (λ l. l.now) result ≡ lookup_at records.now.items place }
-{
-    records.get(place)?.as_lookup()
-}
-
-/// The lookup of this number, to be changed, if that record is one.
-pub fn lookup_mut(records: &mut RecordList, place: usize) -> Option<&mut Lookup>
-    ensures* writes_back { sem 𝓛 (LendsIf records_row lookup_row records.entry result
-        (with_lookup_at records.old place) records.old) }
-    ensures item { option_map (λ l. l.now) result ≡ lookup_at records.old.items place }
-{
-    let slot = records.slot_of(place);
-    lookup_mut_in(records, slot, place)
-}
-
-/// [`lookup_mut`], with a slot hint that saves the search.
-pub fn lookup_mut_in(records: &mut RecordList, slot: usize, place: usize) -> Option<&mut Lookup>
-    ensures* writes_back { sem 𝓛 (LendsIf records_row lookup_row records.entry result
-        (with_lookup_at records.old place) records.old) }
-    ensures item { option_map (λ l. l.now) result ≡ lookup_at records.old.items place }
-{
-    records.get_mut_in(slot, place)?.as_lookup_mut()
-}
-
-/// The readable pipe of this number, if that record is one.
-pub fn input_pipe(records: &RecordList, place: usize) -> Option<&InputPipeCore>
-    ensures item { option_map (λ p. p.now) result ≡ input_pipe_at records.now.items place }
-{
-    records.get(place)?.as_input_pipe()
-}
-
-/// The readable pipe of this number, to be changed, if that record is one.
-pub fn input_pipe_mut(records: &mut RecordList, place: usize) -> Option<&mut InputPipeCore>
-    ensures* writes_back { sem 𝓛 (LendsIf records_row input_pipe_row records.entry result
-        (with_input_pipe records.old place) records.old) }
-    ensures item { option_map (λ p. p.now) result ≡ input_pipe_at records.old.items place }
-{
-    records.get_mut(place)?.as_input_pipe_mut()
-}
-
-/// The writable pipe of this number, if that record is one.
-pub fn output_pipe(records: &RecordList, place: usize) -> Option<&OutputPipe>
-    ensures item { option_map (λ p. p.now) result ≡ output_pipe_at records.now.items place }
-{
-    records.get(place)?.as_output_pipe()
-}
-
-/// The writable pipe of this number, to be changed, if that record is one.
-pub fn output_pipe_mut(records: &mut RecordList, place: usize) -> Option<&mut OutputPipe>
-    ensures* writes_back { sem 𝓛 (LendsIf records_row output_pipe_row records.entry result
-        (with_output_pipe records.old place) records.old) }
-    ensures item { option_map (λ p. p.now) result ≡ output_pipe_at records.old.items place }
-{
-    records.get_mut(place)?.as_output_pipe_mut()
+    T::of_record_mut(records.get_mut_in(slot, place)?)
 }

@@ -5,10 +5,10 @@ ghost use Rattle.wasi_world.specs.Asks.{AsksFor};
 ghost use Rattle.wasi_records.specs.Releasing.{give_streams_up, close_record, release_asks};
 ghost use Rattle.wasi_records.specs.Releasing.{release_connection};
 ghost use Rattle.wasi_records.specs.Sides.{Balances, holds};
-ghost use Rattle.wasi_records.specs.declared.listening.Listening.{Listening};
+ghost use Rattle.wasi_records.specs.declared.tcp_listening.Listening.{Listening};
 
-use crate::binding::InProgress;
 use crate::socket::Tcp2Socket;
+use crate::tcp_binding::InProgress;
 use std::alloc::AllocError;
 use wasi_world::{OpId, World};
 

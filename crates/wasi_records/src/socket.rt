@@ -10,9 +10,9 @@ ghost use Rattle.wasi_records.specs.Sockets.{begin_connect_asks, poll_connect_as
 ghost use Rattle.wasi_records.specs.Sockets.{connect_settled, opened, tell_local_asks};
 ghost use Rattle.wasi_records.specs.Sockets.{tell_remote_asks, new_record};
 
-use crate::binding::{AsyncOperation, InProgress};
 use crate::error::SocketError;
-use crate::listening::Listening;
+use crate::tcp_binding::{AsyncOperation, InProgress};
+use crate::tcp_listening::Listening;
 use wasi_addr::{IpSocketAddress, p2};
 use wasi_tcp::{ReadState, TcpSocket, WriteState};
 use wasi_world::{Answer, OpId, Refusal, Sock, World};

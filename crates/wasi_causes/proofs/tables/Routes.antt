@@ -12,7 +12,7 @@ use Rattle.wasi_addr.specs.declared.p2.ErrorCode.TheVariants as p2
 use Rattle.wasi_steps.specs.declared.reply.CodeWord.TheVariants as word
 use Rattle.wasi_steps.specs.declared.reply.Reply.TheVariants as reply
 use Rattle.wasi_causes.specs.Outcomes.{IsCodeWord, FullAfter, Conflicts, Outcome}
-use Rattle.wasi_causes.proofs.tables.Meets.{onto, Rows, Meets, ends, asks, chain, widen, branch}
+use Rattle.wasi_causes.proofs.tables.Meets.{Rows, Meets, ends, asks, chain, widen, branch}
 use Rattle.wasi_records.specs.Records.{tcp2_at}
 use Rattle.wasi_records.specs.declared.records.Record.{Record}
 use Rattle.wasi_walks.proofs.Places.{put_again, tcp_sort}

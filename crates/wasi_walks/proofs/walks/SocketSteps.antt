@@ -1,13 +1,13 @@
 -- The steps on sockets, as moves: the handle is looked up, its record does the call, and is put back.
 use Rattle.wasi_walks.proofs.Words.{AnOption, Answer, Asks, Bool, Chosen, Err, ErrorCode, Give, HandleTable, Has, InProgress, Input, IpSocketAddress}
 use Rattle.wasi_walks.proofs.Words.{IsBacklogSet, IsBindTo, IsConnectTo, Kind, List, Machine, None, Ok, Option, Output, Pending, Records, Result}
-use Rattle.wasi_walks.proofs.Words.{ShutdownType, Socket, Some, StandingCall, Step, Stop, Streams, Tcp2Socket, TheBacklog, WasiSocketsCtx, bind}
+use Rattle.wasi_walks.proofs.Words.{ShutdownType, Socket, Some, StandingCall, Step, Stop, Streams, Tcp2Socket, TheBacklog, WasiSocketsCtx}
 use Rattle.wasi_walks.proofs.Words.{call_answered, call_place, false, finish_at, finish_by}
 use Rattle.wasi_walks.proofs.Words.{finish_on, handles_of, inl, inner_answered, inr, is_connect, is_network, is_nothing, kind_at}
 use Rattle.wasi_walks.proofs.Words.{make_asks, own_of, put_back, refl, set_chosen, set_option_asks}
 use Rattle.wasi_walks.proofs.Words.{shut_record, shutdown_at, side_at, socket_at, start_bind_asks, start_bind_at, start_bind_by}
 use Rattle.wasi_walks.proofs.Words.{start_bind_on, start_connect_asks, start_connect_at, start_connect_by, start_connect_on, sym}
-use Rattle.wasi_walks.proofs.Words.{tell_local_asks, tell_remote_asks, true, with_store, with_table, ℕ, ◌≡◌, ◌⊎◌}
+use Rattle.wasi_walks.proofs.Words.{tell_local_asks, tell_remote_asks, true, with_store, ℕ, ◌≡◌, ◌⊎◌}
 use Rattle.wasi_machine.specs.Machine.{first_ids}
 use Rattle.wasi_world.specs.declared.ids.Ids.{Ids}
 use Rattle.wasi_addr.specs.Clamp.{clamped_backlog}

@@ -4,4 +4,4 @@ use Rattle.wasi_host.specs.Views.{state_of}
 use Rattle.wasi_p2.proofs.options.get_option.Goals as goal
 
 pub returns-clause-asked : goal.returns-clause-asked
-returns-clause-asked g c = rw c.in_ok-place.ensures (asks_gives (with_store (state_of c.args.view.now)) (rw c.own.ensures at c.get_option.ensures.asked))
+returns-clause-asked g c = rw c.in_ok-place.ensures (asks_gives (with_store (state_of c.args.view.now)) (rw c.own.ensures at c.tcp_get_option.ensures.asked))

@@ -4,4 +4,4 @@ use Rattle.wasi_host.specs.Views.{state_of}
 use Rattle.wasi_p2.proofs.tcp.start_bind.Goals as goal
 
 pub returns-clause-asked : goal.returns-clause-asked
-returns-clause-asked g c = rw (c.in_ok-network.ensures.ok, c.in_ok-place.ensures) (asks_gives (with_store (state_of c.args.view.now)) c.start_bind.ensures.asked)
+returns-clause-asked g c = rw (c.in_ok-network.ensures.ok, c.in_ok-place.ensures) (asks_gives (with_store (state_of c.args.view.now)) c.tcp_start_bind.ensures.asked)
