@@ -1,7 +1,8 @@
 //! Which key of a slab belongs to each number.
 #![tactic(auto)]
 
-ghost use Rattle.std.specs.Prelude.{◌≡◌, ◌↔◌, ℕ, [], length, Some, None, IsTrue, OnOk, OnErr};
+ghost use Rattle.std.specs.Prelude.{◌≡◌, ◌↔◌, ◌<◌, ◌^◌, ℕ, [], length, Some, None, IsSome, IsTrue};
+ghost use Rattle.std.specs.Prelude.{OnOk, OnErr};
 ghost use Rattle.std.specs.Ordering.{nat_cmp};
 ghost use Rattle.std.specs.BTreeMap.{insert_entry, is_at};
 ghost use Rattle.std.specs.List.Sorted.{IsStrictlySortedBy};
@@ -76,6 +77,7 @@ impl SlabKeys {
         ensures rest { result ≡ self.now }
         ensures runs { ShowsInOrder (deref_pair {K = ℕ} {X = ℕ}) }
         ensures ordered { IsStrictlySortedBy nat_cmp (keys_of self.now) }
+        ensures fits { length self.now < 2 ^ 63 }
     {
         self.ordered.iter()
     }
@@ -92,6 +94,15 @@ impl SlabKeys {
         // There is room, so it can't fail once the other has the number.
         self.hashed.insert(number, key)?;
         Ok(())
+    }
+
+    /// Gives a number that is there another key. Takes no memory.
+    pub fn set(&mut self, number: usize, key: usize)
+        requires { IsSome (key_at self.old number) }
+        ensures { Rekeys self.old self.new number (Some key) }
+    {
+        *self.ordered.get_mut(&number).unwrap() = key;
+        *self.hashed.get_mut(&number).unwrap() = key;
     }
 
     /// Takes a number out, if it is there. Takes no memory.
