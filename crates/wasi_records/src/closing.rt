@@ -1,7 +1,8 @@
 //! Closes network sockets after the end mark.
 
 ghost use Rattle.std.specs.Prelude.{◌≡◌, true};
-ghost use Rattle.std.specs.BTreeMap.{IsOrdered};
+ghost use Rattle.std.specs.List.Sorted.{IsStrictlySortedBy};
+ghost use Rattle.std.specs.Map.{keys_of};
 ghost use Rattle.std.specs.Ordering.{nat_cmp};
 ghost use Rattle.wasi_records.specs.Sides.{held_by, held_in, one_if_some};
 ghost use Rattle.wasi_records.specs.Closing.{ClosesMore, ClosesSides};
@@ -10,7 +11,7 @@ ghost use Rattle.wasi_records.specs.RecordMap.{record_under, records_of};
 use crate::record_list::{NumberedRecord, RecordId, RecordList, Slot, record_of};
 use crate::records::Record;
 use slab::Slab;
-use std::collections::BTreeMap;
+use slab_keys::SlabKeys;
 use wasi_world::{Sock, World};
 
 /// Closes a network socket, where there is one.
@@ -47,15 +48,11 @@ pub fn close_sides<W: World>(world: &mut W, records: &RecordList)
 }
 
 /// Closes the network sockets that the records of these numbers hold.
-fn close_live<W: World>(
-    world: &mut W,
-    slots: &Slab<NumberedRecord>,
-    keys: &BTreeMap<RecordId, Slot>,
-)
+fn close_live<W: World>(world: &mut W, slots: &Slab<NumberedRecord>, keys: &SlabKeys)
     requires { (W.seen world.old).ended ≡ true }
     ensures closed { ClosesSides (W.seen world.old) (W.seen world.new)
-        (held_in (records_of slots.now keys.now.entries)) }
-    ensures ordered { IsOrdered nat_cmp keys.now }
+        (held_in (records_of slots.now keys.now)) }
+    ensures ordered { IsStrictlySortedBy nat_cmp (keys_of keys.now) }
 {
     for (number, slot) in keys.iter() {
         close_in(world, slots, *slot, *number);

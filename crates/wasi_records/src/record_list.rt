@@ -9,8 +9,8 @@ ghost use Rattle.wasi_records.specs.RecordMap.{key_at, of_number};
 
 use crate::records::Record;
 use slab::Slab;
+use slab_keys::SlabKeys;
 use std::alloc::{AllocError, Global};
-use std::collections::BTreeMap;
 use std::marker::Model;
 
 /// The number of a record, by which handles, jobs and calls name it. Numbers rise in the order of
@@ -35,7 +35,7 @@ pub(crate) struct NumberedRecord {
 pub struct RecordList {
     pub(crate) slots: Slab<NumberedRecord>,
     /// Leads from the number of each record to the key of its slot.
-    pub(crate) keys: BTreeMap<RecordId, Slot>,
+    pub(crate) keys: SlabKeys,
     next: RecordId,
 }
 
@@ -47,11 +47,11 @@ impl Model for RecordList {
     ghost use Rattle.wasi_records.specs.RecordMap.{numbered, record_in, has_room, IsSound};
 
     ghost view = { λ l. record {
-      items = numbered (record_in l.slots l.keys.entries) l.next;
-      room = has_room l.slots l.keys.entries l.next;
+      items = numbered (record_in l.slots l.keys) l.next;
+      room = has_room l.slots l.keys l.next;
     } };
 
-    ghost invariant = { λ l. IsSound l.slots l.keys.entries l.next };
+    ghost invariant = { λ l. IsSound l.slots l.keys l.next };
 }
 
 impl RecordList {
@@ -63,7 +63,7 @@ impl RecordList {
     {
         RecordList {
             slots: Slab::new(alloc),
-            keys: BTreeMap::new(alloc),
+            keys: SlabKeys::new(alloc),
             next: 0,
         }
     }
@@ -100,7 +100,7 @@ impl RecordList {
             number: self.next,
             value: added,
         };
-        *self.keys.get_mut(&self.next).unwrap() = self.slots.insert_reserved(record);
+        self.keys.set(self.next, self.slots.insert_reserved(record));
         self.next += 1;
     }
 
@@ -134,7 +134,7 @@ impl RecordList {
         ensures { self.new.items ≡ record_gone self.old.items place }
     {
         let slot = key_of(&self.keys, place);
-        self.keys.remove(&place);
+        self.keys.remove(place);
         if is_in(&self.slots, slot, place) {
             drop(self.slots.remove(slot));
         }
@@ -142,10 +142,10 @@ impl RecordList {
 }
 
 /// The key to which a number leads, or 0 where it leads nowhere.
-fn key_of(keys: &BTreeMap<RecordId, Slot>, number: RecordId) -> Slot
-    ensures { result ≡ key_at keys.now.entries number }
+fn key_of(keys: &SlabKeys, number: RecordId) -> Slot
+    ensures { result ≡ key_at keys.now number }
 {
-    keys.get(&number).copied().unwrap_or(0)
+    keys.get(number).unwrap_or(0)
 }
 
 /// The record in a slot, if it has this number.
@@ -173,12 +173,12 @@ fn is_in(slots: &Slab<NumberedRecord>, slot: Slot, number: RecordId) -> bool
 /// the number leads.
 fn find(
     slots: &Slab<NumberedRecord>,
-    keys: &BTreeMap<RecordId, Slot>,
+    keys: &SlabKeys,
     first: Slot,
     number: RecordId,
 ) -> Option<Slot>
     ensures found { IfSome result (λ slot. is_some (of_number number (get slots.now slot)) ≡ true) }
-    ensures none { IfNone result (of_number number (get slots.now (key_at keys.now.entries number))
+    ensures none { IfNone result (of_number number (get slots.now (key_at keys.now number))
         ≡ None) }
 {
     if is_in(slots, first, number) {

@@ -1,12 +1,13 @@
 -- What a handle leads to: the key that the map has for it, and the slot that stands there.
-use Rattle.std.proofs.Common.{◌≡◌, ℕ, suc, ◌+◌, ◌<◌, ◌≤◌, ◌==◌, Bool, true, false, cond, Option, None, Some, List, [], ◌∷◌, length, refl, ap, ◌∙◌, sym, arith, Contains, IsSome, is_some}
+use Rattle.std.proofs.Common.{◌≡◌, ℕ, suc, ◌+◌, ◌<◌, ◌≤◌, ◌==◌, Bool, true, false, cond, Option, None, Some, List, [], ◌∷◌, length, refl, ap, ◌∙◌, sym, arith, Contains, IsSome}
 use Rattle.std.proofs.lemmas.Bool.{eqb-true}
 use Rattle.slab.specs.Slab.{Slab, get}
 use Rattle.slab.proofs.SlabLemmas.{Contains-cons}
 use Rattle.wasi_table.specs.declared.slot.Slot.{Slot}
 use Rattle.wasi_table.specs.Slots.{live_in, HasSlot, AreOfLive, HasEach, HasOnce}
 use Rattle.wasi_table.specs.Table.{value_at, children_of}
-use Rattle.wasi_table.specs.Keys.{key_at, live_of, Matches, IsFilled, AreSound}
+use Rattle.slab_keys.specs.Keys.{key_at}
+use Rattle.wasi_table.specs.Keys.{live_of, Matches, IsFilled, AreSound}
 use Rattle.wasi_table.proofs.Orders.{at_is, at_another}
 
 -- a handle has one key
@@ -101,14 +102,6 @@ module _ {K : Type 0} where
       by None e = let n = leads_nowhere keys 0 next s h sound.matches e in let k = rw n at live in cc
       by (Some k) e = refl
 
-  -- what has a key is live
-  pub live_from_key : (keys : List (ℕ × ℕ)) (next : ℕ) (s : Slab (Slot K)) (h : ℕ) → AreSound keys next s → IsSome (key_at keys h) → IsSome (value_at (live_of keys s) h)
-  live_from_key keys next s h sound has = by (key_at keys h) refl
-    where
-      by : (o : Option ℕ) → key_at keys h ≡ o → IsSome (value_at (live_of keys s) h)
-      by None e = let k = rw e at has in absurd (cc)
-      by (Some key) e = let l = leads keys 0 next s h key sound.matches e in rw l.value refl
-
   pub is_live : (keys : List (ℕ × ℕ)) (next : ℕ) (s : Slab (Slot K)) (h key : ℕ) → AreSound keys next s → key_at keys h ≡ Some key → IsSome (value_at (live_of keys s) h)
   is_live keys next s h key sound at = let l = leads keys 0 next s h key sound.matches at in rw l.value refl
 
@@ -117,13 +110,6 @@ module _ {K : Type 0} where
 
   pub is_dead : (keys : List (ℕ × ℕ)) (next : ℕ) (s : Slab (Slot K)) (h : ℕ) → AreSound keys next s → key_at keys h ≡ None → value_at (live_of keys s) h ≡ None
   is_dead keys next s h sound at = leads_nowhere keys 0 next s h sound.matches at
-
-  pub dead_from_key : (keys : List (ℕ × ℕ)) (next : ℕ) (s : Slab (Slot K)) (h : ℕ) → AreSound keys next s → is_some (key_at keys h) ≡ false → value_at (live_of keys s) h ≡ None
-  dead_from_key keys next s h sound has = by (key_at keys h) refl
-    where
-      by : (o : Option ℕ) → key_at keys h ≡ o → value_at (live_of keys s) h ≡ None
-      by None e = is_dead keys next s h sound e
-      by (Some key) e = let k = rw e at has in absurd (cc)
 
   pub has_slot : (keys : List (ℕ × ℕ)) (next : ℕ) (s : Slab (Slot K)) (h key : ℕ) → AreSound keys next s → key_at keys h ≡ Some key → IsSome (get s key)
   has_slot keys next s h key sound at = let l = leads keys 0 next s h key sound.matches at in rw l.stands refl

@@ -10,7 +10,8 @@ use Rattle.slab.specs.Slab.{Slab, get, Updates}
 use Rattle.wasi_table.specs.declared.slot.Slot.{Slot}
 use Rattle.wasi_table.specs.Slots.{live_in}
 use Rattle.wasi_table.specs.Table.{Live, is_child, children_of, without}
-use Rattle.wasi_table.specs.Keys.{key_at, live_of, Matches, IsLed, IsFilled, IsListed, AreSound, IsOut, relisted}
+use Rattle.slab_keys.specs.Keys.{key_at}
+use Rattle.wasi_table.specs.Keys.{live_of, Matches, IsLed, IsFilled, IsListed, AreSound, IsOut, relisted}
 use Rattle.wasi_table.proofs.Orders.{at_is, at_another}
 use Rattle.wasi_table.proofs.Leads.{one_key, one_slot}
 use Rattle.wasi_table.proofs.Stays.{aside, was}

@@ -12,7 +12,8 @@ use Rattle.slab.specs.Slab.{Slab, get}
 use Rattle.wasi_table.specs.declared.slot.Slot.{Slot}
 use Rattle.wasi_table.specs.Slots.{live_in}
 use Rattle.wasi_table.specs.Table.{Live, is_child, children_of}
-use Rattle.wasi_table.specs.Keys.{key_at, live_of, Matches, IsBelow, IsLed, IsListed, AreSound, IsPut, relisted}
+use Rattle.slab_keys.specs.Keys.{key_at}
+use Rattle.wasi_table.specs.Keys.{live_of, Matches, IsBelow, IsLed, IsListed, AreSound, IsPut, relisted}
 use Rattle.wasi_table.proofs.Orders.{above, at_itself, at_another, no_child}
 use Rattle.wasi_table.proofs.Leads.{low_bound, none_next, one_slot}
 use Rattle.wasi_table.proofs.Stays.{aside, was}

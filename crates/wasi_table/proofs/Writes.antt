@@ -6,7 +6,8 @@ use Rattle.slab.proofs.SlabLemmas.{Updates-with_value}
 use Rattle.wasi_table.specs.declared.slot.Slot.{Slot}
 use Rattle.wasi_table.specs.Slots.{live_in}
 use Rattle.wasi_table.specs.Table.{Live, children_of, with_value}
-use Rattle.wasi_table.specs.Keys.{key_at, live_of, Matches, AreSound}
+use Rattle.slab_keys.specs.Keys.{key_at}
+use Rattle.wasi_table.specs.Keys.{live_of, Matches, AreSound}
 use Rattle.wasi_table.proofs.Orders.{at_is}
 use Rattle.wasi_table.proofs.Leads.{named_found, one_slot}
 use Rattle.wasi_table.proofs.Stays.{aside}

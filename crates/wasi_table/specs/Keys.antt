@@ -1,19 +1,16 @@
--- What the code keeps of a table: a slot for each live handle in a slab, and an ordered map from the handle to the slot's key.
+-- What the code keeps of a table: a slot for each live handle in a slab, and a map in order from the handle to the slot's key.
 use Rattle.std.specs.Prelude.{◌≡◌, ◌≢◌, ℕ, ◌+◌, ◌<◌, ◌≤◌, if◌then◌else◌, List, [], ◌∷◌, Option, Some, None}
 use Rattle.std.specs.Option.{option_map}
 use Rattle.std.specs.Ordering.{nat_cmp}
 use Rattle.std.specs.BTreeMap.{is_at, insert_entry}
 use Rattle.std.specs.BTreeSet.{insert_key}
-use Rattle.std.specs.Map.{lookup, remove_entry}
+use Rattle.std.specs.Map.{remove_entry}
 use Rattle.std.specs.Set.{remove_key}
 use Rattle.slab.specs.Slab.{Slab, get, SameValues}
+use Rattle.slab_keys.specs.Keys.{key_at}
 use Rattle.wasi_table.specs.declared.slot.Slot.{Slot}
 use Rattle.wasi_table.specs.Slots.{live_in}
 use Rattle.wasi_table.specs.Table.{Live, is_child, children_of}
-
--- the key of a handle
-abbrev pub key_at : List (ℕ × ℕ) → ℕ → Option ℕ
-key_at keys handle = lookup (is_at (nat_cmp handle)) keys
 
 -- nothing, or a lower handle
 abbrev pub IsBelow : Option ℕ → ℕ → Type 0

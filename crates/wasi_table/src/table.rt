@@ -1,16 +1,17 @@
 //! The table of handles: what a guest holds by number, and what is a child of what.
 //!
-//! Each live handle has a slot in a slab, under a key that the slab picks, and an ordered map leads
-//! from the handle to the key. A slot has the ordered set of its handle's children. So a call's
-//! time grows with the logarithm of the number of live handles (a push's on average, since the slab
-//! takes room ahead), and memory with the most that were live at a time, however many were made.
+//! Each live handle has a slot in a slab, under a key that the slab picks, and a map leads from the
+//! handle to the key, by the handle's hash: so a value is found in the same time however many
+//! handles are live. The map has an order as well, and a slot the ordered set of its handle's
+//! children, so a push's and a delete's time grows with the logarithm of their number (a push's on
+//! average, since room is taken ahead), and memory with the most that were live at a time, however
+//! many were made.
 
 ghost use Rattle.std.specs.Prelude.{◌≡◌, ◌≢◌, ◌↔◌, ◌⊎◌, ◌+◌, ◌<◌, ◌^◌, [], false, true, IfOk};
 ghost use Rattle.std.specs.Prelude.{IfErr, OnOk, OnErr, IsSome, Some, None, Err};
 ghost use Rattle.std.specs.Borrow.{sem};
-ghost use Rattle.std.specs.BTreeMap.{get_by};
-ghost use Rattle.std.specs.Ordering.{nat_cmp};
 ghost use Rattle.slab.specs.Slab.{get};
+ghost use Rattle.slab_keys.specs.Keys.{key_at};
 ghost use Rattle.wasi_table.specs.Table.{empty, is_full, pushed, value_at, children_of, without};
 ghost use Rattle.wasi_table.specs.Table.{number_of};
 ghost use Rattle.wasi_table.specs.Slots.{AreOfLive, HasEach, HasOnce};
@@ -20,8 +21,8 @@ ghost use Rattle.wasi_table.specs.Keys.{IsWithoutChild};
 use crate::handles::Handles;
 use crate::slot::Slot;
 use slab::Slab;
+use slab_keys::SlabKeys;
 use std::alloc::{AllocError, Global};
-use std::collections::BTreeMap;
 use std::marker::Model;
 use thiserror::Error;
 
@@ -67,7 +68,7 @@ pub struct Table<K> {
     alloc: Global,
     slots: Slab<Slot<K>>,
     /// From each live handle to the key of its slot.
-    keys: BTreeMap<u32, usize>,
+    keys: SlabKeys,
     next: u32,
 }
 
@@ -80,9 +81,9 @@ impl<K> Model for Table<K> {
 
     ghost use Rattle.wasi_table.specs.Keys.{live_of, AreSound};
 
-    ghost view = { λ t. record { next = t.next; live = live_of t.keys.entries t.slots } };
+    ghost view = { λ t. record { next = t.next; live = live_of t.keys t.slots } };
 
-    ghost invariant = { λ t. AreSound t.keys.entries t.next t.slots };
+    ghost invariant = { λ t. AreSound t.keys t.next t.slots };
 }
 
 impl<K> Table<K> {
@@ -93,7 +94,7 @@ impl<K> Table<K> {
         Table {
             alloc,
             slots: Slab::new(alloc),
-            keys: BTreeMap::new(alloc),
+            keys: SlabKeys::new(alloc),
             next: 1,
         }
     }
@@ -235,10 +236,10 @@ impl<K> Table<K> {
         ensures missing { IfErr result (λ e. (e ≡ TableError.NoSuchHandle)
             × (value_at self.old.live handle ≡ None)) }
     {
-        if !self.keys.contains_key(&handle) {
-            return Err(TableError::NoSuchHandle);
+        match key_of(&self.keys, handle) {
+            Some(_) => Ok(self.value_mut(handle)),
+            None => Err(TableError::NoSuchHandle),
         }
-        Ok(self.value_mut(handle))
     }
 
     fn value_mut(&mut self, handle: u32) -> &mut K
@@ -246,16 +247,16 @@ impl<K> Table<K> {
         ensures* lends { sem 𝓛 (lends_value K.row self.entry handle result) }
         ensures found { value_at self.old.live handle ≡ Some result.now }
     {
-        let key = self.keys[&handle];
+        let key = key_of(&self.keys, handle).unwrap();
         &mut self.slots[key].value
     }
 }
 
 /// The key of a live handle's slot.
-fn key_of(keys: &BTreeMap<u32, usize>, handle: u32) -> Option<usize>
-    ensures { result ≡ get_by (nat_cmp handle) keys.now }
+fn key_of(keys: &SlabKeys, handle: u32) -> Option<usize>
+    ensures { result ≡ key_at keys.now handle }
 {
-    keys.get(&handle).copied()
+    keys.get(handle as usize)
 }
 
 /// Takes the number of the next handle.
@@ -273,15 +274,15 @@ fn take_number(next: &mut u32) -> u32
 /// or neither does.
 fn put<K: Drop>(
     slots: &mut Slab<Slot<K>>,
-    keys: &mut BTreeMap<u32, usize>,
+    keys: &mut SlabKeys,
     slot: Slot<K>,
 ) -> Result<(), AllocError>
     requires { slot.parent ≡ None }
-    ensures ok { OnOk result (IsPut slots.old slots.new keys.old.entries keys.new.entries slot) }
-    ensures err { OnErr result (IsKept slots.old slots.new keys.old.entries keys.new.entries) }
+    ensures ok { OnOk result (IsPut slots.old slots.new keys.old keys.new slot) }
+    ensures err { OnErr result (IsKept slots.old slots.new keys.old keys.new) }
 {
     slots.reserve(1)?;
-    keys.insert(slot.handle, slots.vacant_key())?;
+    keys.insert(slot.handle as usize, slots.vacant_key())?;
     slots.insert_reserved(slot);
     Ok(())
 }
@@ -290,20 +291,20 @@ fn put<K: Drop>(
 /// Where there is no room for one of these, none of them comes.
 fn put_child<K: Drop>(
     slots: &mut Slab<Slot<K>>,
-    keys: &mut BTreeMap<u32, usize>,
+    keys: &mut SlabKeys,
     at: usize,
     slot: Slot<K>,
 ) -> Result<(), AllocError>
-    requires led { IsLed keys.old.entries slots.old }
+    requires led { IsLed keys.old slots.old }
     requires parent { IsParentAt slots.old at slot.parent }
-    requires fresh { get_by (nat_cmp slot.handle) keys.old ≡ None }
-    ensures ok { OnOk result (IsPut slots.old slots.new keys.old.entries keys.new.entries slot) }
-    ensures err { OnErr result (IsKept slots.old slots.new keys.old.entries keys.new.entries) }
+    requires fresh { key_at keys.old slot.handle ≡ None }
+    ensures ok { OnOk result (IsPut slots.old slots.new keys.old keys.new slot) }
+    ensures err { OnErr result (IsKept slots.old slots.new keys.old keys.new) }
 {
     slots.reserve(1)?;
-    keys.insert(slot.handle, slots.vacant_key())?;
+    keys.insert(slot.handle as usize, slots.vacant_key())?;
     if let Err(error) = slots[at].children.add(slot.handle) {
-        keys.remove(&slot.handle);
+        keys.remove(slot.handle as usize);
         return Err(error);
     }
     slots.insert_reserved(slot);
@@ -312,11 +313,11 @@ fn put_child<K: Drop>(
 
 /// Takes out the slot at `key`, its handle's key, and its handle from among its parent's children,
 /// and gives its value.
-fn take_out<K>(slots: &mut Slab<Slot<K>>, keys: &mut BTreeMap<u32, usize>, key: usize) -> K
-    requires led { IsLed keys.old.entries slots.old }
-    requires filled { IsFilled keys.old.entries slots.old }
+fn take_out<K>(slots: &mut Slab<Slot<K>>, keys: &mut SlabKeys, key: usize) -> K
+    requires led { IsLed keys.old slots.old }
+    requires filled { IsFilled keys.old slots.old }
     requires there { IsSome (get slots.old key) }
-    ensures { IsOut slots.old slots.new keys.old.entries keys.new.entries key result }
+    ensures { IsOut slots.old slots.new keys.old keys.new key result }
 {
     let Slot {
         handle,
@@ -324,20 +325,15 @@ fn take_out<K>(slots: &mut Slab<Slot<K>>, keys: &mut BTreeMap<u32, usize>, key: 
         parent,
         ..
     } = slots.remove(key);
-    keys.remove(&handle);
+    keys.remove(handle as usize);
     forget_child(slots, keys, parent, handle);
     value
 }
 
 /// Takes a child out from among its parent's children, if the parent is live.
-fn forget_child<K>(
-    slots: &mut Slab<Slot<K>>,
-    keys: &BTreeMap<u32, usize>,
-    parent: Option<u32>,
-    child: u32,
-)
-    requires led { IsLed keys.now.entries slots.old }
-    requires filled { IsFilled keys.now.entries slots.old }
+fn forget_child<K>(slots: &mut Slab<Slot<K>>, keys: &SlabKeys, parent: Option<u32>, child: u32)
+    requires led { IsLed keys.now slots.old }
+    requires filled { IsFilled keys.now slots.old }
     ensures { IsWithoutChild slots.old slots.new parent child }
 {
     let Some(parent) = parent else {

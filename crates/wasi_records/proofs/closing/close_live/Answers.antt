@@ -8,8 +8,8 @@ use Rattle.wasi_records.proofs.closing.close_live.Goals as goal
 
 pub loop-number-preserved : goal.loop-number-preserved
 loop-number-preserved g c =
-    let all = records_of c.args.slots.now c.args.keys.now.entries in
-    let same = length_records_of c.args.slots.now c.args.keys.now.entries in
+    let all = records_of c.args.slots.now c.args.keys.now in
+    let same = length_records_of c.args.slots.now c.args.keys.now in
     let fits = c.iter-number-items.ensures.fits in
     let short : length all < 2 ^ 63 = omega (arith, same, fits) in
     let next = rest_more deref_pair c.loop-number.number-iterator c.next.new.self c.next.result (c.in-Some.number, c.in-Some.slot) c.in-Some.is c.next.ensures.steps in (

@@ -26,7 +26,7 @@ returns-clause-ok g c =
     let put = rw key at c.insert_reserved.ensures.updates in
     let parent = c.requires.parent in
     let it = one_slot c.args.slots.now c.args.at c.index_mut.result.now parent.0 (sym (same c.args.at) ∙ c.index_mut.ensures.value) parent.1 in
-    let led : IsLed c.args.keys.now.entries c.reserve.new.self = λ k x f. c.requires.led k x (sym (same k) ∙ f) in
+    let led : IsLed c.args.keys.now c.reserve.new.self = λ k x f. c.requires.led k x (sym (same k) ∙ f) in
     let change : List ℕ → List ℕ = λ ids. insert_key nat_cmp ids c.args.slot.handle in
     record {
       key = c.vacant_key.result;
@@ -34,9 +34,9 @@ returns-clause-ok g c =
       there = put.changed;
       others = λ k other.
           put.others k other
-          ∙ relisted_at c.args.keys.now.entries c.reserve.new.self c.args.at parent.0.handle c.index_mut.result.now c.add.new.self change led c.index_mut.ensures.value (ap (λ (z : Slot g.row.K.Denot). z.handle) it) c.in_default.ensures.ok k
+          ∙ relisted_at c.args.keys.now c.reserve.new.self c.args.at parent.0.handle c.index_mut.result.now c.add.new.self change led c.index_mut.ensures.value (ap (λ (z : Slot g.row.K.Denot). z.handle) it) c.in_default.ensures.ok k
           ∙ ap (λ (o : Option (Slot g.row.K.Denot)). option_map (relisted change (Some parent.0.handle)) o) (same k)
           ∙ ap (λ (q : Option ℕ). option_map (relisted change q) (get c.args.slots.now k)) (sym parent.2);
       entries = c.in_ok-insert.ensures.entries;
-      found = c.in_ok-insert.ensures.updates.0;
+      found = c.in_ok-insert.ensures.found;
     }

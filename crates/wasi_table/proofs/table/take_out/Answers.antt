@@ -8,7 +8,7 @@ use Rattle.wasi_table.proofs.Outs.{filled_out}
 use Rattle.wasi_table.proofs.table.take_out.Goals as goal
 
 pub forget_child-requires-clause-filled : goal.forget_child-requires-clause-filled
-forget_child-requires-clause-filled g c = filled_out _ _ _ _ _ _ c.requires.filled c.remove-handle.ensures.value c.remove-handle.ensures.updates c.remove.ensures.updates.0
+forget_child-requires-clause-filled g c = filled_out _ _ _ _ _ _ c.requires.filled c.remove-handle.ensures.value c.remove-handle.ensures.updates c.remove.ensures.found
 
 pub returns : goal.returns
 returns g c =
@@ -20,5 +20,5 @@ returns g c =
       gone = c.forget_child.ensures c.args.key ∙ ap (option_map change) c.remove-handle.ensures.updates.changed;
       others = λ k other. c.forget_child.ensures k ∙ ap (option_map change) (c.remove-handle.ensures.updates.others k other);
       entries = c.remove.ensures.entries;
-      found = c.remove.ensures.updates.0;
+      found = c.remove.ensures.found;
     }

@@ -7,25 +7,25 @@ use Rattle.wasi_records.proofs.record_list.RecordList.give_back.Goals as goal
 pub invariant_of-self : goal.invariant_of-self
 invariant_of-self c =
     let there = is_in c.args.place (get c.self.inside.slots c.key_of-slot.result) (sym c.is_in.ensures ∙ c.if-is_in.true) in
-    let without = taken_without c.self.inside.slots c.self.inside.keys.entries c.self.inside.next c.self.invariant _ _ _ there c.remove-then-is_in.ensures.updates in
-    sound_gone c.self.inside.slots c.self.inside.keys.entries c.self.inside.next c.self.invariant _ _ _ c.remove.ensures.updates.0 without
+    let without = taken_without c.self.inside.slots c.self.inside.keys c.self.inside.next c.self.invariant _ _ _ there c.remove-then-is_in.ensures.updates in
+    sound_gone c.self.inside.slots c.self.inside.keys c.self.inside.next c.self.invariant _ _ _ c.remove.ensures.found without
 
 pub invariant_of-self-else-is_in : goal.invariant_of-self-else-is_in
 invariant_of-self-else-is_in c =
-    let none : is_some (of_number c.args.place (get c.self.inside.slots (key_at c.self.inside.keys.entries c.args.place))) ≡ false =
+    let none : is_some (of_number c.args.place (get c.self.inside.slots (key_at c.self.inside.keys c.args.place))) ≡ false =
     ap (λ (key : ℕ). is_some (of_number c.args.place (get c.self.inside.slots key))) (sym c.key_of-slot.ensures) ∙ sym c.is_in.ensures ∙ c.if-is_in.false in
-    let without = none_without c.self.inside.slots c.self.inside.keys.entries c.self.inside.next c.self.invariant _ none in
-    sound_gone c.self.inside.slots c.self.inside.keys.entries c.self.inside.next c.self.invariant _ _ _ c.remove.ensures.updates.0 without
+    let without = none_without c.self.inside.slots c.self.inside.keys c.self.inside.next c.self.invariant _ none in
+    sound_gone c.self.inside.slots c.self.inside.keys c.self.inside.next c.self.invariant _ _ _ c.remove.ensures.found without
 
 pub returns-then-is_in : goal.returns-then-is_in
 returns-then-is_in c =
     let there = is_in c.args.place (get c.self.inside.slots c.key_of-slot.result) (sym c.is_in.ensures ∙ c.if-is_in.true) in
-    let without = taken_without c.self.inside.slots c.self.inside.keys.entries c.self.inside.next c.self.invariant _ _ _ there c.remove-then-is_in.ensures.updates in
-    rw (← c.self.view_is) (gone _ _ _ _ _ _ c.self.invariant c.remove.ensures.updates.0 without)
+    let without = taken_without c.self.inside.slots c.self.inside.keys c.self.inside.next c.self.invariant _ _ _ there c.remove-then-is_in.ensures.updates in
+    rw (← c.self.view_is) (gone _ _ _ _ _ _ c.self.invariant c.remove.ensures.found without)
 
 pub returns-else-is_in : goal.returns-else-is_in
 returns-else-is_in c =
-    let none : is_some (of_number c.args.place (get c.self.inside.slots (key_at c.self.inside.keys.entries c.args.place))) ≡ false =
+    let none : is_some (of_number c.args.place (get c.self.inside.slots (key_at c.self.inside.keys c.args.place))) ≡ false =
     ap (λ (key : ℕ). is_some (of_number c.args.place (get c.self.inside.slots key))) (sym c.key_of-slot.ensures) ∙ sym c.is_in.ensures ∙ c.if-is_in.false in
-    let without = none_without c.self.inside.slots c.self.inside.keys.entries c.self.inside.next c.self.invariant _ none in
-    rw (← c.self.view_is) (gone _ _ _ _ _ _ c.self.invariant c.remove.ensures.updates.0 without)
+    let without = none_without c.self.inside.slots c.self.inside.keys c.self.inside.next c.self.invariant _ none in
+    rw (← c.self.view_is) (gone _ _ _ _ _ _ c.self.invariant c.remove.ensures.found without)

@@ -41,7 +41,7 @@ returns-clause-childless g c =
 pub returns-clause-gone : goal.returns-clause-gone
 returns-clause-gone g c =
     let named = named_found _ _ _ _ _ _ c.self.invariant (sym c.in-Some.ensures) c.take_out.ensures.was in
-    let live = out_live _ _ _ _ _ _ _ c.take_out.ensures c.self.invariant ∙ ap (without (live_of c.self.inside.keys.entries c.self.inside.slots)) named in
+    let live = out_live _ _ _ _ _ _ _ c.take_out.ensures c.self.invariant ∙ ap (without (live_of c.self.inside.keys c.self.inside.slots)) named in
     rw (← c.self.view_is) (ap (λ l. record { next = c.self.inside.next; live = l }) live)
 
 pub returns-clause-missing : goal.returns-clause-missing
