@@ -1,5 +1,5 @@
 -- What is released: by a shutdown, by a drop of a handle, and what a drop leaves.
-use Rattle.wasi_causes.proofs.Words.{◌≡◌, Bool, true, false, if◌then◌else◌, List, [], ◌∷◌, ◌++◌, Option, Some, None, refl, sym, ap, ◌∙◌, ⊤, ◌⊎◌, append-nil, append_assoc, ℕ, Result, inl, inr, Ok, Err, subst, ◌≢◌, IsSome, IpSocketAddress, ShutdownType, Receive, Send, Both, give_streams_up, gone, release_asks, released, release_at, Stop, Trap, kind_at, output_of, has_no_child, without_handle, taken_out, place_of, give_up_asks, socket_at, own_of, with_store, answered, at_once, drop_kind, drop_taken, drop_asks, shut_streams, shut_record, shutdown_at, Records, Kind, Tcp2, Output, Listening, Machine, Streams, Tcp2Socket, shutdown_on, record_at, putting, record_in, OfRecord, done_reply, answer_reply, Each, no_fields, OutputWaits, WritesOn, ToldToWait, WriterWaits, Field, Reply, in_hand, refuse_in, Job, is_over, held_side, give_up_in, reader_shutdown_asks, Socket, side_of, writer_side, writer_shutdown_asks, side_up_asks, Accepting, ReadState, WriteState, Give, bind, End, Done, Who, Operation, ask_close, Entry, OpId, Answer, Ready, Pending, HasChildren, NoSuchHandle, Full, NotPermitted, WasiSocketsCtx}
+use Rattle.wasi_causes.proofs.Words.{◌≡◌, Bool, true, false, if◌then◌else◌, List, [], ◌∷◌, ◌++◌, Option, Some, None, refl, sym, ap, ◌∙◌, ⊤, ◌⊎◌, append-nil, append_assoc, ℕ, Result, inl, inr, Ok, Err, subst, ◌≢◌, IsSome, IpSocketAddress, ShutdownType, Receive, Send, Both, give_streams_up, gone, release_asks, released, release_at, Stop, Trap, kind_at, output_of, has_no_child, without_handle, taken_out, place_of, give_up_asks, socket_at, own_of, with_store, answered, at_once, drop_kind, drop_taken, drop_asks, shut_streams, shut_record, shutdown_at, Records, Kind, Tcp2, Output, Listening, Machine, Streams, TcpRecord, shutdown_on, record_at, putting, record_in, OfRecord, done_reply, answer_reply, Each, no_fields, OutputWaits, WritesOn, ToldToWait, WriterWaits, Field, Reply, in_hand, refuse_in, Job, is_over, held_side, give_up_in, reader_shutdown_asks, Socket, side_of, writer_side, writer_shutdown_asks, side_up_asks, Accepting, ReadState, WriteState, Give, bind, End, Done, Who, Operation, ask_close, Entry, OpId, Answer, Ready, Pending, HasChildren, NoSuchHandle, Full, NotPermitted, WasiSocketsCtx}
 use Rattle.wasi_machine.specs.Machine.{first_ids}
 use Rattle.wasi_records.specs.Records.{tcp2_at, udp2_at, open_at, lookup_at, input_pipe_at, output_pipe_at}
 use Rattle.wasi_host.specs.NameLookupCalls.{drop_lookup_at}
@@ -11,8 +11,8 @@ use Rattle.wasi_records.specs.declared.udp.OpenUdp.{OpenUdp}
 use Rattle.wasi_records.specs.Udp.{close_udp_asks}
 use Rattle.wasi_host.specs.UdpCalls.{release_udp_at, udp_closed, with_open_udp, with_udp}
 use Rattle.wasi_host.specs.declared.kind.Kind.TheVariants.{Udp2, Incoming, Outgoing}
-use Rattle.wasi_records.specs.declared.udp.Udp2Socket.{Udp2Socket}
-use Rattle.wasi_records.specs.declared.udp.Udp2Socket.TheVariants as udp
+use Rattle.wasi_records.specs.declared.udp.UdpRecord.{UdpRecord}
+use Rattle.wasi_records.specs.declared.udp.UdpRecord.TheVariants as udp
 use Rattle.wasi_causes.specs.Udp.{udp_given_up, udp_left}
 use Rattle.wasi_causes.proofs.GivenBack.{no_job, put_gone}
 use Rattle.wasi_host.specs.UdpCalls as calls
@@ -96,13 +96,13 @@ module _ (own : OpId) where
   closes es socket (Some side) e = asks (λ t fits. ends (told_so own es (call.Close side) t fits, refl))
 
   -- of the record only its place is left, with a socket that has no network socket
-  pub record Released (r : Tcp2Socket) (es : List Entry) (now : Tcp2Socket) : Type 0 where
+  pub record Released (r : TcpRecord) (es : List Entry) (now : TcpRecord) : Type 0 where
     pub socket : Socket
     pub asked : es ≡ socket_given_up own r
     pub no_side : side_of socket ≡ None
     pub is : now ≡ gone r socket
 
-  pub releases : (r : Tcp2Socket) → Meets (λ es done. Released r es done.1) [] (release_asks own r)
+  pub releases : (r : TcpRecord) → Meets (λ es done. Released r es done.1) [] (release_asks own r)
   releases r =
       chain (listening_up r.listening) (λ es done first. chain (streams_up es r.streams) (λ fs done second. onto _ (widen (λ gs closed third. record {
         socket = closed.1;
@@ -164,7 +164,7 @@ module _ (contexts : List WasiSocketsCtx) (m : Machine) (line c handle : ℕ) wh
 
   -- == a shutdown
   module _ (how : ShutdownType) where
-    module _ (place : ℕ) (r : Tcp2Socket) (n : Names m handle place r) where
+    module _ (place : ℕ) (r : TcpRecord) (n : Names m handle place r) where
       by_streams : (o : Option Streams) → r.streams ≡ o → Meets (λ es done. (Replied contexts m line (step.TcpShutdown c handle how) done_reply) es (with_store m (shut_put m.store place done))) [] (shut_record own how r o)
       by_streams None has = ends (put_back (λ (after : Machine). Outcome contexts m line (step.TcpShutdown c handle how) [] (reply.Err word.InvalidState) after) m place r n.at ((λ e. rw (its n) has, λ k. refl), (refl, (refl, refl))))
       by_streams (Some s) has =
@@ -196,43 +196,43 @@ module _ (contexts : List WasiSocketsCtx) (m : Machine) (line c handle : ℕ) wh
 
     -- == of a socket
     module _ (place : ℕ) (is : IsKind (Tcp2 place)) where
-      left : (r : Tcp2Socket) → tcp2_at m.store.records place ≡ Some r → (es : List Entry) (done : Unit {0} × Tcp2Socket) → Released own r es done.1 → DropRow es (answered (with_store (without m handle) (at_once (tt, released m.store place done.1))))
+      left : (r : TcpRecord) → tcp2_at m.store.records place ≡ Some r → (es : List Entry) (done : Unit {0} × TcpRecord) → Released own r es done.1 → DropRow es (answered (with_store (without m handle) (at_once (tt, released m.store place done.1))))
       left r at es done k = (
         (apart (λ e. cc) no_children, rw is tt),
-        (tt, (refl, rw is (λ q there. let its : r ≡ q = cc in (rw (sym its) k.asked, record { left = put_gone (without m handle) place (Record.Tcp2 done.1); job = no_job place m.store.jobs })))),
+        (tt, (refl, rw is (λ q there. let its : r ≡ q = cc in (rw (sym its) k.asked, record { left = put_gone (without m handle) place (Record.Tcp done.1); job = no_job place m.store.jobs })))),
       )
 
-      by_record : (o : Option Tcp2Socket) → tcp2_at m.store.records place ≡ o → Meets (λ es done. DropRow es (answered (with_store (without m handle) (at_once done)))) [] (release_at m.store own place o)
+      by_record : (o : Option TcpRecord) → tcp2_at m.store.records place ≡ o → Meets (λ es done. DropRow es (answered (with_store (without m handle) (at_once done)))) [] (release_at m.store own place o)
       by_record None at = ends ((apart (λ e. cc) no_children, rw is tt), (tt, (refl, rw is (λ r there. absurd (cc)))))
       by_record (Some r) at = onto _ (widen (left r at) (releases own r))
 
     -- == of a UDP socket
     module _ (place : ℕ) (is : IsKind (Udp2 place)) where
       -- what it closed is given back
-      abbrev UdpShut : Udp2Socket → Udp2Socket → Type 0
+      abbrev UdpShut : UdpRecord → UdpRecord → Type 0
       UdpShut (udp.Open o) now = now ≡ udp.Closed o.inner.side
       UdpShut u now = now ≡ u
 
-      abbrev UdpLeaves : Udp2Socket → Udp2Socket → Type 0
+      abbrev UdpLeaves : UdpRecord → UdpRecord → Type 0
       UdpLeaves u now = record (without m handle) { store = calls.udp_left m.store place now } ≡ udp_left (without m handle) place u
 
-      udp_gone : (u : Udp2Socket) → udp2_at m.store.records place ≡ Some u → (now : Udp2Socket) → UdpShut u now → UdpLeaves u now
-      udp_gone (udp.Open o) at now e = subst (UdpLeaves (udp.Open o)) (sym e) (put_gone (without m handle) place (Record.Udp2 (udp.Closed o.inner.side)))
-      udp_gone (udp.Closed side) at now e = subst (UdpLeaves (udp.Closed side)) (sym e) (put_gone (without m handle) place (Record.Udp2 (udp.Closed side)))
+      udp_gone : (u : UdpRecord) → udp2_at m.store.records place ≡ Some u → (now : UdpRecord) → UdpShut u now → UdpLeaves u now
+      udp_gone (udp.Open o) at now e = subst (UdpLeaves (udp.Open o)) (sym e) (put_gone (without m handle) place (Record.Udp (udp.Closed o.inner.side)))
+      udp_gone (udp.Closed side) at now e = subst (UdpLeaves (udp.Closed side)) (sym e) (put_gone (without m handle) place (Record.Udp (udp.Closed side)))
       udp_gone (udp.Creating create) at now e =
           subst (UdpLeaves (udp.Creating create)) (sym e) (ap (λ (rs : List Record). let after : Machine = record (without m handle) { store = record m.store { records = rs } } in after) (put_again udp_sort m.store.records place (udp.Creating create) at))
 
-      udp_ends : (u : Udp2Socket) → udp2_at m.store.records place ≡ Some u → (es : List Entry) (done : Unit {0} × Udp2Socket) → (es ≡ udp_given_up own u) × UdpShut u done.1 → DropRow es (answered (with_store (without m handle) (at_once (udp_closed m.store place done))))
+      udp_ends : (u : UdpRecord) → udp2_at m.store.records place ≡ Some u → (es : List Entry) (done : Unit {0} × UdpRecord) → (es ≡ udp_given_up own u) × UdpShut u done.1 → DropRow es (answered (with_store (without m handle) (at_once (udp_closed m.store place done))))
       udp_ends u at es done k =
           ((apart (λ e. cc) no_children, rw is tt), (tt, (refl, rw is (λ q there. let its : u ≡ q = cc in (rw (sym its) k.0, udp_gone u at done.1 k.1 ∙ ap (udp_left (without m handle) place) its)))))
 
-      udp_closes : (u : Udp2Socket) → Meets (λ es done. (es ≡ udp_given_up own u) × UdpShut u done.1) [] (close_udp_asks own u)
+      udp_closes : (u : UdpRecord) → Meets (λ es done. (es ≡ udp_given_up own u) × UdpShut u done.1) [] (close_udp_asks own u)
       unfolding bind
       udp_closes (udp.Open o) = asks (λ t fits. ends (told_so own [] (call.Close o.inner.side) t fits, refl))
       udp_closes (udp.Creating create) = ends (refl, refl)
       udp_closes (udp.Closed side) = ends (refl, refl)
 
-      udp_by_record : (o : Option Udp2Socket) → udp2_at m.store.records place ≡ o → Meets (λ es done. DropRow es (answered (with_store (without m handle) (at_once done)))) [] (release_udp_at m.store own place o)
+      udp_by_record : (o : Option UdpRecord) → udp2_at m.store.records place ≡ o → Meets (λ es done. DropRow es (answered (with_store (without m handle) (at_once done)))) [] (release_udp_at m.store own place o)
       udp_by_record None at = ends ((apart (λ e. cc) no_children, rw is tt), (tt, (refl, rw is (λ u there. absurd (cc)))))
       udp_by_record (Some u) at = onto _ (widen (udp_ends u at) (udp_closes u))
 
@@ -359,11 +359,11 @@ module _ (contexts : List WasiSocketsCtx) (m : Machine) (line c handle : ℕ) wh
   pub udp_ok : (place : ℕ) → kind_at m.table handle ≡ Some (Udp2 place) → children_of m.table.live handle ≡ [] → (es : List Entry) (r : Reply) (after : Machine) → DropSays es r after → r ≡ reply.Ok no_fields
   udp_ok place is = done_ok (Udp2 place) is (no_wait (Udp2 place) tt)
 
-  pub record GivesUp (r : Tcp2Socket) (es : List Entry) (after : Machine) : Type 0 where
+  pub record GivesUp (r : TcpRecord) (es : List Entry) (after : Machine) : Type 0 where
     pub asked : es ≡ socket_given_up (own_of line) r
     pub gone : OfRecord m handle (λ place r. IsGone m handle place after)
 
-  pub gives_up : (r : Tcp2Socket) (es : List Entry) (after : Machine) (o : Option Kind) → kind_at m.table handle ≡ o → record_in m (place_of o) ≡ Some r → Gone m line handle o es after → GivesUp r es after
+  pub gives_up : (r : TcpRecord) (es : List Entry) (after : Machine) (o : Option Kind) → kind_at m.table handle ≡ o → record_in m (place_of o) ≡ Some r → Gone m line handle o es after → GivesUp r es after
   gives_up r es after (Some (Tcp2 place)) is at gone = let k = gone r at in record { asked = k.0; gone = record { place = place; found = r; names = ap place_of is; at = at; holds = k.1 } }
   gives_up r es after _ is at gone = absurd (cc)
 

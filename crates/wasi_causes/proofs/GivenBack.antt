@@ -9,17 +9,17 @@ use Rattle.wasi_records.specs.Numbered.{record_gone}
 use Rattle.wasi_records.specs.Records.{input_pipe_at, input_pipe_of, lookup_at, lookup_of, output_pipe_at, output_pipe_of, tcp2_at, tcp2_of, udp2_at, udp2_of}
 use Rattle.wasi_records.specs.declared.records.Record.{Record}
 use Rattle.wasi_records.specs.declared.udp.OpenUdp.{OpenUdp}
-use Rattle.wasi_records.specs.declared.udp.Udp2Socket.{Udp2Socket}
+use Rattle.wasi_records.specs.declared.udp.UdpRecord.{UdpRecord}
 use Rattle.wasi_walks.proofs.GoneLists.{stays_there}
 use Rattle.wasi_walks.proofs.walks.Moves.{Here, IsLeft, OfInput, OfLookup, OfOutput, OfTcp, OfUdp, OfUnnamed}
 
 -- == the record of a place is of one kind
-udp_is : (o : Option Record) (u : Udp2Socket) → udp2_of o ≡ Some u → o ≡ Some (Record.Udp2 u)
-udp_is (Some (Record.Udp2 x)) u e = cc
+udp_is : (o : Option Record) (u : UdpRecord) → udp2_of o ≡ Some u → o ≡ Some (Record.Udp u)
+udp_is (Some (Record.Udp x)) u e = cc
 udp_is _ u e = absurd (cc)
 
 -- and a UDP socket where it is closed
-pub left_udp : (h : Here) (place : ℕ) → IsLeft h place → (u : Udp2Socket) → udp2_at h.machine.store.records place ≡ Some u → (side : OpId) × (u ≡ Udp2Socket.Closed side)
+pub left_udp : (h : Here) (place : ℕ) → IsLeft h place → (u : UdpRecord) → udp2_at h.machine.store.records place ≡ Some u → (side : OpId) × (u ≡ UdpRecord.Closed side)
 left_udp h place (OfUdp side g) u e = (side, cc)
 left_udp h place (OfTcp q made g) u e = let n : tcp2_at h.machine.store.records place ≡ None = ap tcp2_of (udp_is (slice_get h.machine.store.records place) u e) in absurd (cc)
 left_udp h place (OfLookup l made g) u e = let n : lookup_at h.machine.store.records place ≡ None = ap lookup_of (udp_is (slice_get h.machine.store.records place) u e) in absurd (cc)
@@ -28,8 +28,8 @@ left_udp h place (OfInput bytes made g) u e = let n : input_pipe_at h.machine.st
 left_udp h place (OfOutput pipe made g) u e = let n : output_pipe_at h.machine.store.records place ≡ None = ap output_pipe_of (udp_is (slice_get h.machine.store.records place) u e) in absurd (cc)
 
 -- so one that is open stays
-pub open_stays : (h : Here) (place : ℕ) → IsLeft h place → (k : ℕ) (o : OpenUdp) → udp2_at h.machine.store.records k ≡ Some (Udp2Socket.Open o) → udp2_at (record_gone h.machine.store.records place) k ≡ Some (Udp2Socket.Open o)
-open_stays h place left k o e = stays_there udp2_of h.machine.store.records place k (Udp2Socket.Open o) (λ same. let c = left_udp h place left (Udp2Socket.Open o) (ap (udp2_at h.machine.store.records) (sym same) ∙ e) in let never = c.1 in absurd (cc)) e
+pub open_stays : (h : Here) (place : ℕ) → IsLeft h place → (k : ℕ) (o : OpenUdp) → udp2_at h.machine.store.records k ≡ Some (UdpRecord.Open o) → udp2_at (record_gone h.machine.store.records place) k ≡ Some (UdpRecord.Open o)
+open_stays h place left k o e = stays_there udp2_of h.machine.store.records place k (UdpRecord.Open o) (λ same. let c = left_udp h place left (UdpRecord.Open o) (ap (udp2_at h.machine.store.records) (sym same) ∙ e) in let never = c.1 in absurd (cc)) e
 
 -- what is put where the record is given back is gone with it
 gone_put : (xs : List Record) (i : ℕ) (x : Record) → record_gone (slice_set xs i x) i ≡ record_gone xs i
@@ -41,7 +41,7 @@ pub put_gone : (m : Machine) (place : ℕ) (x : Record) → giving_back (record 
 put_gone m place x = ap (λ (rs : List Record). let after : Machine = record m { store = record m.store { records = rs; jobs = other_jobs place m.store.jobs } } in after) (gone_put m.store.records place x)
 
 -- the record that was there
-pub gone_at : (xs : List Record) (i : ℕ) (u : Udp2Socket) → udp2_at xs i ≡ Some u → slice_get (record_gone xs i) i ≡ Some Record.Gone
+pub gone_at : (xs : List Record) (i : ℕ) (u : UdpRecord) → udp2_at xs i ≡ Some u → slice_get (record_gone xs i) i ≡ Some Record.Gone
 gone_at [] i u e = absurd (cc)
 gone_at (z ∷ xs) zero u e = refl
 gone_at (z ∷ xs) (suc i) u e = gone_at xs i u e

@@ -8,7 +8,7 @@ use Rattle.wasi_addr.specs.declared.code.ErrorCode.TheVariants.{Other}
 use Rattle.wasi_world.specs.declared.ids.Ids.{Ids}
 use Rattle.wasi_causes.proofs.Words.{Answered, CallFails, CodeWord, Entry, ErrorCode, Give, HoldsCall, IfSome}
 use Rattle.wasi_causes.proofs.Words.{IsListening, IsSomeAnd, Left, List, ListenFailed, Listening, Machine, None, Option}
-use Rattle.wasi_causes.proofs.Words.{Reply, Some, Standing, StandingCall, Step, Tcp2Socket, TcpState, WasiSocketsCtx}
+use Rattle.wasi_causes.proofs.Words.{Reply, Some, Standing, StandingCall, Step, TcpRecord, TcpState, WasiSocketsCtx}
 use Rattle.wasi_causes.proofs.Words.{[], ap, first_state, nothing_stands, putting, refl, run, subst, sym, ℕ}
 use Rattle.wasi_causes.proofs.Words.{◌∙◌, ◌≡◌}
 use Rattle.wasi_causes.proofs.Runs.{fits, runs_bind}
@@ -29,7 +29,7 @@ module _ (contexts : List WasiSocketsCtx) (steps : List Step) (log : List Entry)
   closed_so s _ none k = absurd none
 
   -- while a listen is in progress
-  pub begins_closed : (place : ℕ) (r : Tcp2Socket) → tcp2_at m.store.records place ≡ Some r → IsBeginning r.listening
+  pub begins_closed : (place : ℕ) (r : TcpRecord) → tcp2_at m.store.records place ≡ Some r → IsBeginning r.listening
       → r.inner.state ≡ state.Closed Other
   begins_closed place r at begins = closed_so r.inner.state r.listening begins (runs_are_steady contexts steps log replies m ran place r at).2.1
 
@@ -39,7 +39,7 @@ module _ (contexts : List WasiSocketsCtx) (steps : List Step) (log : List Entry)
   is_begun s _ k = absurd k
 
   -- of which the record is left without it
-  left_closed : (place : ℕ) (r : Tcp2Socket) → tcp2_at m.store.records place ≡ Some r → IsBeginning r.listening
+  left_closed : (place : ℕ) (r : TcpRecord) → tcp2_at m.store.records place ≡ Some r → IsBeginning r.listening
       → (after : Machine) → after ≡ putting (nothing_stands m) place (with_listening r listening.Not)
       → IsClosedByListen after place × ListensNoMore after place
   left_closed place r at begins after left = rw left (rw (put_finds tcp_sort m.store.records place r (with_listening r listening.Not) at) (begins_closed place r at begins, refl))
@@ -65,7 +65,7 @@ module _ (contexts : List WasiSocketsCtx) (steps : List Step) (log : List Entry)
 
   -- it was cancelled
   module _ (line place : ℕ) (ids : Ids) (entries : List Entry) (fields : List Field) (after : Machine) (stands : m.store.standing ≡ Some (standing_as ids (standing.Listen place))) where
-    begun_at : (o : Option Tcp2Socket) → tcp2_at m.store.records place ≡ o
+    begun_at : (o : Option TcpRecord) → tcp2_at m.store.records place ≡ o
         → IfSome o (λ r. IsListening r.inner.state r.listening) → CancelsBy m entries after (standing.Listen place)
         → IsClosedByListen after place × ListensNoMore after place
     begun_at None at held gives = absurd (let its = (fits contexts steps log replies m ran).stands (standing_as ids (standing.Listen place)) stands in let there = its.at in cc)

@@ -14,7 +14,7 @@ use Rattle.wasi_causes.proofs.Words.{HasNoListener, HoldsAccept, InputWaits, IsI
 use Rattle.wasi_causes.proofs.Words.{IsReady, IsUnready, Item, List}
 use Rattle.wasi_causes.proofs.Words.{Listener, Listening, Machine, MissesRecord, NoSuchHandle, None, OfWatched}
 use Rattle.wasi_causes.proofs.Words.{Ok, OpId, Operation, Option, Pollable, ReadState, Records, Result, Some}
-use Rattle.wasi_causes.proofs.Words.{Stop, StreamStop, Streams, Tcp2Socket, TcpReceiveStream}
+use Rattle.wasi_causes.proofs.Words.{Stop, StreamStop, Streams, TcpRecord, TcpReceiveStream}
 use Rattle.wasi_causes.proofs.Words.{TcpState, Told, Trap, Waits, WasiSocketsCtx, Watched, WatchesAccept, WatchesConnect, WatchesIdle, WriteState}
 use Rattle.wasi_causes.proofs.Words.{WriteWaits, [], accept_name, ap, bind}
 use Rattle.wasi_causes.proofs.Words.{connect_ended, entry, false, finish_in, first_ids, handle_reply}
@@ -71,7 +71,7 @@ IsOfTcp watched.Plain = ⊥
 IsOfTcp _ = ⊤
 
 -- == a look at what is watched, in its record
-module _ (line : ℕ) (r : Tcp2Socket) where
+module _ (line : ℕ) (r : TcpRecord) where
   abbrev its : OpId
   its = own_of line
 
@@ -79,14 +79,14 @@ module _ (line : ℕ) (r : Tcp2Socket) where
   abbrev IsAtWork : Watched → Type 0
   IsAtWork w = IsIdleSocket w r → ⊥
 
-  abbrev IsIdle : List Entry → Tcp2Socket → Watched → Type 0
+  abbrev IsIdle : List Entry → TcpRecord → Watched → Type 0
   IsIdle es now w = IsIdleSocket w r → (es ≡ []) × (now ≡ r)
 
   -- why it isn't ready, where it connects by a connect and accepts by an accept
   abbrev IsUnreadySo : List Entry → Watched → Type 0
   IsUnreadySo es w = ConnectsOn r.inner.state → AcceptsIn r.listening → IsUnready its r es w
 
-  abbrev RecordRow : Watched → Rows (Result Bool Stop × Tcp2Socket)
+  abbrev RecordRow : Watched → Rows (Result Bool Stop × TcpRecord)
   RecordRow w es (Ok true, now) = IsIdle es now w
   RecordRow w es (Ok false, now) = IsAtWork w × IsUnreadySo es w
   RecordRow w es (Err (Trap NoSuchHandle), now) = MissesRecord w (Some r) × (es ≡ []) × (now ≡ r)
@@ -94,14 +94,14 @@ module _ (line : ℕ) (r : Tcp2Socket) where
 
   -- == a socket
   module _ (place : ℕ) where
-    abbrev SocketRow : Rows (Result Bool Stop × Tcp2Socket)
+    abbrev SocketRow : Rows (Result Bool Stop × TcpRecord)
     SocketRow = RecordRow (watched.Socket place)
 
     module _ (connects : is_connect r.in_progress ≡ true) where
       connecting : IsAtWork (watched.Socket place)
       connecting idle = let none = idle.0 in cc
 
-      over : (es : List Entry) (now : Tcp2Socket) → IsIdle es now (watched.Socket place)
+      over : (es : List Entry) (now : TcpRecord) → IsIdle es now (watched.Socket place)
       over es now idle = absurd (connecting idle)
 
       ended : (op : Operation) → r.inner.state ≡ state.Connecting op → (es : List Entry) (end : End × List Item) → (ConnectsOn (state.Connecting op) → EndsFor op (ClosedBy op) es end) → SocketRow es (connect_looked r (in_socket r.inner (connect_ended op.who end)))
@@ -121,7 +121,7 @@ module _ (line : ℕ) (r : Tcp2Socket) where
       accepting_on : IsAtWork (watched.Socket place)
       accepting_on i = not_idle i.1
 
-      has_result : (es : List Entry) (now : Tcp2Socket) → IsIdle es now (watched.Socket place)
+      has_result : (es : List Entry) (now : TcpRecord) → IsIdle es now (watched.Socket place)
       has_result es now i = absurd (accepting_on i)
 
       waits_on : (es : List Entry) → (HoldsAccept l.side l.maker l.accept → AcceptWaits (accept_name line l.accept) es) → IsUnreadySo es (watched.Socket place)
@@ -227,10 +227,10 @@ module _ (contexts : List WasiSocketsCtx) (m : Machine) (line c pollable : ℕ) 
     said_of_none : (es : List Entry) (r : Reply) (after : Machine) → (WatchesIdle m pollable → ReadyAtOnce m es r after) → Always contexts m line (step.Ready c pollable) es r after
     said_of_none es r after idle = (idle, λ at. absurd (not_udp at), λ at. absurd (not_plain at), λ place at. absurd (no_streams place (inl at)), λ place at. absurd (no_streams place (inr at)), λ place at. absurd (not_lookup place at))
 
-    the_record : {P : Watched → Tcp2Socket → Type 0} (on : OfWatched m pollable P) → tcp2_at m.store.records (place_in w) ≡ Some on.found
+    the_record : {P : Watched → TcpRecord → Type 0} (on : OfWatched m pollable P) → tcp2_at m.store.records (place_in w) ≡ Some on.found
     the_record on = let p = on.watches in let same : on.watch ≡ w = cc in rw (sym same) on.at
 
-    module _ (r : Tcp2Socket) (at : tcp2_at m.store.records (place_in w) ≡ Some r) where
+    module _ (r : TcpRecord) (at : tcp2_at m.store.records (place_in w) ≡ Some r) where
       idle_too : WatchesIdle m pollable → IsIdleSocket w r
       idle_too idle =
           let p = idle.watches in
@@ -239,9 +239,9 @@ module _ (contexts : List WasiSocketsCtx) (m : Machine) (line c pollable : ℕ) 
           let same_record : idle.found ≡ r = cc in
           rw (sym same_watch, sym same_record) idle.holds
 
-      put_again : (now : Tcp2Socket) → now ≡ r → record m { store = (ready_put m.store (place_in w) (Ok true, now)).1 } ≡ m
+      put_again : (now : TcpRecord) → now ≡ r → record m { store = (ready_put m.store (place_in w) (Ok true, now)).1 } ≡ m
       put_again now e =
-          ap (λ (x : Tcp2Socket). let left : Machine = record m { store = (ready_put m.store (place_in w) (Ok true, x)).1 } in left) e
+          ap (λ (x : TcpRecord). let left : Machine = record m { store = (ready_put m.store (place_in w) (Ok true, x)).1 } in left) e
           ∙ ap (λ (store : Records). let left : Machine = record m { store = store } in left) (put_store_same m.store (place_in w) r at)
 
       never_idle : (u : Watched) → MissesRecord u (Some r) → IsIdleSocket u r → ⊥
@@ -254,19 +254,19 @@ module _ (contexts : List WasiSocketsCtx) (m : Machine) (line c pollable : ℕ) 
       listens_so : WatchesAccept m pollable → AcceptsIn r.listening
       listens_so listens = rw (is, at) at listens
 
-      said : (es : List Entry) (done : Result Bool Stop × Tcp2Socket) → RecordRow line r w es done → ReadyRow es (with_store m (ready_put m.store (place_in w) done))
+      said : (es : List Entry) (done : Result Bool Stop × TcpRecord) → RecordRow line r w es done → ReadyRow es (with_store m (ready_put m.store (place_in w) done))
       said es (Ok true, now) k = (said_of_none es _ _ (λ idle. let h = k (idle_too idle) in (refl, (h.0, put_again now h.1))), ((tt, tt), tt))
       said es (Ok false, now) k = (said_of_none es _ _ (λ idle. absurd (k.0 (idle_too idle))), ((tt, tt), λ no connects listens. inl (record { watch = w; found = r; watches = is; at = at; holds = k.1 (holds connects) (listens_so listens) })))
       said es (Err (Trap NoSuchHandle), now) k = (said_of_none es _ _ (λ idle. absurd (never_idle w k.0 (idle_too idle))), (rw is (misses_so w tcp (rw at k.0)), (k.1, put_again now k.2)))
       said es (Err _, now) k = absurd k
 
-    by_record : (o : Option Tcp2Socket) → tcp2_at m.store.records (place_in w) ≡ o → Meets (λ es done. ReadyRow es (with_store m done)) [] (ready_at m.store own (first_ids line) w (place_in w) o)
+    by_record : (o : Option TcpRecord) → tcp2_at m.store.records (place_in w) ≡ o → Meets (λ es done. ReadyRow es (with_store m done)) [] (ready_at m.store own (first_ids line) w (place_in w) o)
     by_record None at = ends (said_of_none [] _ _ (λ idle. let there = the_record idle in absurd (cc)), (rw is (misses_so w tcp (rw at (none_there w tcp))), (refl, refl)))
     by_record (Some r) at = onto _ (widen (said r at) (looks_at line r w tcp))
 
   -- == of a datagram stream
   module _ (w : Watched) (is : watch_of (kind_at m.table pollable) ≡ Some w) (of : IsOfDatagrams (Some w)) where
-    never_of_socket : (u : Watched) (r : Tcp2Socket) → IsOfDatagrams (Some u) → IsIdleSocket u r → ⊥
+    never_of_socket : (u : Watched) (r : TcpRecord) → IsOfDatagrams (Some u) → IsIdleSocket u r → ⊥
     never_of_socket (watched.Incoming place) r o i = i
     never_of_socket (watched.Outgoing place) r o i = i
     never_of_socket _ r o i = o

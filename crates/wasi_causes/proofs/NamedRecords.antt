@@ -1,6 +1,6 @@
 -- Of the machines that runs lead to: the record of a pending call is there, since none is given back while a call is pending, and so is
 -- that of each job, since a record takes its jobs with it; and that of each live handle, since nothing live is of one that is gone.
-use Rattle.wasi_causes.proofs.Words.{Allows, End, Entry, Err, ErrorCode, ErrorValue, Give, Item, Kind, Left, List, Machine, None, Ok, Operation, Option, Reply, Result, Some, Standing, StandingCall, Step, Tcp2, Tcp2Socket, WasiSocketsCtx, Watched, []}
+use Rattle.wasi_causes.proofs.Words.{Allows, End, Entry, Err, ErrorCode, ErrorValue, Give, Item, Kind, Left, List, Machine, None, Ok, Operation, Option, Reply, Result, Some, Standing, StandingCall, Step, Tcp2, TcpRecord, WasiSocketsCtx, Watched, []}
 use Rattle.wasi_causes.proofs.Words.{ap, call_place, first_state, is_some, kind_at, machine_asks, own_of, poll_asks, refl, run, slice_get, subst, sym, true, turn_asks, with_writer, ℕ, ⊤, ◌++◌, ◌∷◌, ◌∙◌, ◌≡◌}
 use Rattle.std.proofs.Common.{slice_set, suc, zero}
 use Rattle.wasi_tcp.specs.declared.listener.Accepting.TheVariants as accepting
@@ -11,7 +11,7 @@ use Rattle.wasi_host.specs.declared.kind.PlainInput.TheVariants as plain_input
 use Rattle.wasi_host.specs.declared.kind.PlainOutput.TheVariants as plain_output
 use Rattle.wasi_records.specs.declared.name_lookup.LookupOp.{LookupOp}
 use Rattle.wasi_records.specs.declared.records.Record.{Record}
-use Rattle.wasi_records.specs.declared.udp.Udp2Socket.{Udp2Socket}
+use Rattle.wasi_records.specs.declared.udp.UdpRecord.{UdpRecord}
 use Rattle.wasi_walks.proofs.fits.Law.{whatever}
 use Rattle.wasi_walks.proofs.fits.Polls.{Anything}
 use Rattle.wasi_walks.proofs.owners.Owned.{named_by, named_record}
@@ -35,12 +35,12 @@ use Rattle.wasi_walks.proofs.walks.OfState.{UdpGivenUp, UdpIsClosed, UdpLearnt, 
 use Rattle.wasi_walks.proofs.walks.Law.{InCall}
 
 -- == records that are there
-tcp_kept : (o : Option Record) (r : Tcp2Socket) → tcp2_of o ≡ Some r → IsRecord o
-tcp_kept (Some (Record.Tcp2 x)) r e = tt
+tcp_kept : (o : Option Record) (r : TcpRecord) → tcp2_of o ≡ Some r → IsRecord o
+tcp_kept (Some (Record.Tcp x)) r e = tt
 tcp_kept _ r e = absurd (cc)
 
-udp_kept : (o : Option Record) (u : Udp2Socket) → udp2_of o ≡ Some u → IsRecord o
-udp_kept (Some (Record.Udp2 x)) u e = tt
+udp_kept : (o : Option Record) (u : UdpRecord) → udp2_of o ≡ Some u → IsRecord o
+udp_kept (Some (Record.Udp x)) u e = tt
 udp_kept _ u e = absurd (cc)
 
 lookup_kept : (o : Option Record) → is_some (lookup_of o) ≡ true → IsRecord o
@@ -79,8 +79,8 @@ kept_same : {new : LookupOp → Type 0} (old now : List Record) (k : ℕ) → Sa
 kept_same old now k same = by_record (slice_get old k) refl
   where
     by_record : (o : Option Record) → slice_get old k ≡ o → IsRecord o → IsRecord (slice_get now k)
-    by_record (Some (Record.Tcp2 r)) e s = tcp_kept (slice_get now k) r (same.tcp k ∙ ap tcp2_of e)
-    by_record (Some (Record.Udp2 u)) e s = udp_kept (slice_get now k) u (same.udp k ∙ ap udp2_of e)
+    by_record (Some (Record.Tcp r)) e s = tcp_kept (slice_get now k) r (same.tcp k ∙ ap tcp2_of e)
+    by_record (Some (Record.Udp u)) e s = udp_kept (slice_get now k) u (same.udp k ∙ ap udp2_of e)
     by_record (Some (Record.Lookup l)) e s = lookup_kept (slice_get now k) (same.stays k (ap (λ (x : Option Record). is_some (lookup_of x)) e))
     by_record (Some (Record.InputPipe bytes)) e s = input_kept (slice_get now k) (same.inputs k (ap (λ (x : Option Record). is_some (input_pipe_of x)) e))
     by_record (Some (Record.OutputPipe pipe)) e s = output_kept (slice_get now k) (same.outputs k (ap (λ (x : Option Record). is_some (output_pipe_of x)) e))
@@ -116,11 +116,11 @@ stands_still old now f (Some s) i = λ place e. f place (i place e)
 moved : (old now : List Record) → ((k : ℕ) → IsRecord (slice_get old k) → IsRecord (slice_get now k)) → (jobs : List HostJob) (o : Option Standing) → StoreIn old jobs o → StoreIn now jobs o
 moved old now f jobs o i = (stands_still old now f o i.0, λ job l. f (job_place job) (i.1 job l))
 
-put_in : (h : Here) (place : ℕ) (now : Tcp2Socket) → In h → In (put h place now)
-put_in h place now i = moved h.machine.store.records _ (λ k s. kept_set h.machine.store.records place (Record.Tcp2 now) k tt s) h.machine.store.jobs h.machine.store.standing i
+put_in : (h : Here) (place : ℕ) (now : TcpRecord) → In h → In (put h place now)
+put_in h place now i = moved h.machine.store.records _ (λ k s. kept_set h.machine.store.records place (Record.Tcp now) k tt s) h.machine.store.jobs h.machine.store.standing i
 
-put_udp_in : (h : Here) (place : ℕ) (now : Udp2Socket) → In h → In (put_udp h place now)
-put_udp_in h place now i = moved h.machine.store.records _ (λ k s. kept_set h.machine.store.records place (Record.Udp2 now) k tt s) h.machine.store.jobs h.machine.store.standing i
+put_udp_in : (h : Here) (place : ℕ) (now : UdpRecord) → In h → In (put_udp h place now)
+put_udp_in h place now i = moved h.machine.store.records _ (λ k s. kept_set h.machine.store.records place (Record.Udp now) k tt s) h.machine.store.jobs h.machine.store.standing i
 
 push_in : (records : List Record) (new : Record) (jobs : List HostJob) (o : Option Standing) → StoreIn records jobs o → StoreIn (records ++ new ∷ []) jobs o
 push_in records new jobs o i = moved records _ (λ k s. kept_push records new k s) jobs o i
@@ -129,7 +129,7 @@ same_in : {new : LookupOp → Type 0} (h : Here) (records : List Record) → Sam
 same_in h records same i = moved h.machine.store.records records (λ k s. kept_same h.machine.store.records records k same s) h.machine.store.jobs h.machine.store.standing i
 
 begun_in : (h : Here) (made : Result Create ErrorCode) → In h → In (udp_begun h made)
-begun_in h (Ok create) i = push_in h.machine.store.records (Record.Udp2 (Udp2Socket.Creating create)) h.machine.store.jobs h.machine.store.standing i
+begun_in h (Ok create) i = push_in h.machine.store.records (Record.Udp (UdpRecord.Creating create)) h.machine.store.jobs h.machine.store.standing i
 begun_in h (Err c) i = i
 
 -- jobs that begin are of records that are there
@@ -156,13 +156,13 @@ fewer_in : (records : List Record) (place : ℕ) (jobs : List HostJob) → JobsI
 fewer_in records place jobs i job l = kept_gone records place (job_place job) (λ same. no_job place jobs job l (is_its_job place job same)) (i job (was_a_job place jobs job l))
 
 -- a call that comes to be pending is of a record that is there
-goes_in : (records : List Record) (call : StandingCall) (r : Tcp2Socket) → tcp2_at records (call_place call) ≡ Some r → GoesOn call r → CallIn records call
+goes_in : (records : List Record) (call : StandingCall) (r : TcpRecord) → tcp2_at records (call_place call) ≡ Some r → GoesOn call r → CallIn records call
 goes_in records (StandingCall.Bind n) r g k place e = let same : n ≡ place = cc in subst (λ (x : ℕ). IsRecord (slice_get records x)) same (tcp_kept (slice_get records n) r g)
 goes_in records (StandingCall.Listen n) r g k place e = let same : n ≡ place = cc in subst (λ (x : ℕ). IsRecord (slice_get records x)) same (tcp_kept (slice_get records n) r g)
 goes_in records (StandingCall.DropOutput n) r g k place e = let same : n ≡ place = cc in subst (λ (x : ℕ). IsRecord (slice_get records x)) same (tcp_kept (slice_get records n) r g)
 goes_in records _ r g k place e = absurd k
 
-udp_goes_in : (records : List Record) (n : ℕ) (u : Udp2Socket) → udp2_at records n ≡ Some u → (place : ℕ) → Some n ≡ Some place → IsRecord (slice_get records place)
+udp_goes_in : (records : List Record) (n : ℕ) (u : UdpRecord) → udp2_at records n ≡ Some u → (place : ℕ) → Some n ≡ Some place → IsRecord (slice_get records place)
 udp_goes_in records n u g place e = let same : n ≡ place = cc in subst (λ (x : ℕ). IsRecord (slice_get records x)) same (udp_kept (slice_get records n) u g)
 
 module _ (contexts : List WasiSocketsCtx) (line : ℕ) (origin : Step) where
@@ -181,21 +181,21 @@ module _ (contexts : List WasiSocketsCtx) (line : ℕ) (origin : Step) where
   moves_in _ _ (walk.Unlistens h place r op q g e c o) i = put_in h place _ i
   moves_in _ _ (walk.Forgets h place r l c g e a) i = put_in h place _ i
   moves_in _ _ (walk.CancelsBind h place r op q g e) i = put_in h place _ i
-  moves_in _ _ (walk.UdpChanges h place o now g p keeps) i = put_udp_in h place (Udp2Socket.Open now) i
+  moves_in _ _ (walk.UdpChanges h place o now g p keeps) i = put_udp_in h place (UdpRecord.Open now) i
   moves_in _ _ (walk.BeginsUdpBind h place o a at g to idle own) i = put_udp_in h place _ i
   moves_in _ _ (walk.BeginsUdpConnect h place o a at g to bound none own) i = put_udp_in h place _ i
   moves_in _ _ (walk.BeginsSend h place n o out d bound at g e item known own) i = put_udp_in h place _ i
   moves_in _ _ (walk.BeginsReceive h place n o inc bound at g e is own) i = put_udp_in h place _ i
   moves_in _ _ (walk.CancelsUdpBind h place o op q g e) i = put_udp_in h place _ i
   moves_in _ _ (walk.CancelsUdpConnect h place o q g) i = put_udp_in h place _ i
-  moves_in _ _ (walk.Joins h c handle place r l new peer is of u g e a) i = push_in (tcp2_put h.machine.store.records place (walk.accepting_now r l accepting.Idle)) (Record.Tcp2 (walk.joined l new peer)) h.machine.store.jobs h.machine.store.standing (put_in h place (walk.accepting_now r l accepting.Idle) i)
+  moves_in _ _ (walk.Joins h c handle place r l new peer is of u g e a) i = push_in (tcp2_put h.machine.store.records place (walk.accepting_now r l accepting.Idle)) (Record.Tcp (walk.joined l new peer)) h.machine.store.jobs h.machine.store.standing (put_in h place (walk.accepting_now r l accepting.Idle) i)
   moves_in _ _ (walk.Finds h records same) i = same_in h records same i
   moves_in _ _ (walk.Unstands h over) i = (tt, i.1)
   moves_in _ _ (walk.Stands h ids call r quiet at g k) i = (goes_in h.machine.store.records call r g k, i.1)
-  moves_in _ _ (walk.StandsUdpBind h ids place o op quiet at g e) i = (udp_goes_in h.machine.store.records place (Udp2Socket.Open o) g, i.1)
-  moves_in _ _ (walk.StandsUdpCreate h ids place create quiet g) i = (udp_goes_in h.machine.store.records place (Udp2Socket.Creating create) g, i.1)
-  moves_in _ _ (walk.StandsUdpConnect h ids place handle o op quiet at made g e) i = (udp_goes_in h.machine.store.records place (Udp2Socket.Open o) g, i.1)
-  moves_in _ _ (walk.StandsDropOutgoing h ids place o quiet at g e) i = (udp_goes_in h.machine.store.records place (Udp2Socket.Open o) g, i.1)
+  moves_in _ _ (walk.StandsUdpBind h ids place o op quiet at g e) i = (udp_goes_in h.machine.store.records place (UdpRecord.Open o) g, i.1)
+  moves_in _ _ (walk.StandsUdpCreate h ids place create quiet g) i = (udp_goes_in h.machine.store.records place (UdpRecord.Creating create) g, i.1)
+  moves_in _ _ (walk.StandsUdpConnect h ids place handle o op quiet at made g e) i = (udp_goes_in h.machine.store.records place (UdpRecord.Open o) g, i.1)
+  moves_in _ _ (walk.StandsDropOutgoing h ids place o quiet at g e) i = (udp_goes_in h.machine.store.records place (UdpRecord.Open o) g, i.1)
   moves_in _ _ (walk.StandsBlocking h ids call handles made its) i = (λ place e. absurd (cc), i.1)
   moves_in _ _ (walk.GivesBack h place idle left) i = (subst (StandsIn (walk.without_record h place).machine.store.records) (sym idle) tt, fewer_in h.machine.store.records place h.machine.store.jobs i.1)
   moves_in _ _ (walk.Lists h jobs keeps) i = (i.0, listed_in h.machine.store.records h.machine.store.jobs jobs keeps i.1)

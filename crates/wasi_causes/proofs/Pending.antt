@@ -2,7 +2,7 @@
 -- datagram streams or a call of a stream pending only where it asks for the one or is the other, and while such a call is pending,
 -- nothing takes its handle away.
 use Rattle.wasi_causes.proofs.Words.{Allows, Answered, End, Entry, Err, ErrorCode, Give, IfSome, IsSome, IsSomeAnd, Item, Left, List, Machine, None, Ok, Operation, Option, Reply, Result, Some}
-use Rattle.wasi_causes.proofs.Words.{Standing, StandingCall, Step, Tcp2Socket, WasiSocketsCtx, [], ap, arith, eqb-true, first_ids, first_state, gives_more, is_some, kind_at, length, machine_asks, nothing_stands}
+use Rattle.wasi_causes.proofs.Words.{Standing, StandingCall, Step, TcpRecord, WasiSocketsCtx, [], ap, arith, eqb-true, first_ids, first_state, gives_more, is_some, kind_at, length, machine_asks, nothing_stands}
 use Rattle.wasi_causes.proofs.Words.{own_of, poll_asks, refl, run, subst, sym, turn_asks, standing_as, stands_as, true, false, Bool, ℕ, ⊤, inl, inr, ◌≡◌, ◌⊎◌, ◌==◌, ◌∙◌}
 use Rattle.std.specs.Prelude.{◌≤◌, min}
 use Rattle.std.proofs.Math.Nat.{min-le_left}
@@ -77,7 +77,7 @@ may_call OfStreams s k = inr (inl k)
 may_call OfPollables s k = inr (inr k)
 
 -- what goes on in a TCP record makes no streams
-goes_none : (call : StandingCall) (r : Tcp2Socket) → GoesOn call r → NoStreamsIn call
+goes_none : (call : StandingCall) (r : TcpRecord) → GoesOn call r → NoStreamsIn call
 goes_none (StandingCall.UdpConnect place handle) r k = k
 goes_none (StandingCall.Blocking call) r k = k
 goes_none _ r k = tt

@@ -8,7 +8,7 @@ use Rattle.wasi_records.specs.declared.binding.InProgress.TheVariants.{Binding}
 use Rattle.wasi_walks.proofs.walks.States.{stands_so as stands_under}
 use Rattle.wasi_causes.proofs.Words.{Answer, BindFailed, BindFails, BindWaits, Bool, CallFails, CallWaits, Done, End, EndsPending, Entry, Err, ErrorCode, Full, Give, IfSome, InProgress, InvalidState, IsBinding, IsListening, IsOnNothing, IsRestOfBind}
 use Rattle.wasi_causes.proofs.Words.{IsSome, IsSomeAnd, Item, List, ListenEnds, ListenFailed, ListenWaits, Listening, Machine, NoSuchHandle, None, Ok, OpId, Operation, Option, Pending, PendingCallsFit, Ready, Records, Refused, Reply, Result, Some}
-use Rattle.wasi_causes.proofs.Words.{Standing, StandingCall, Stop, Tcp2Socket, Waits, WasiSocketsCtx, [], allowed_answer, ap, bind, bind_ended, call_answered, call_of, call_place, closed_listening, entry, eq-eqb, false, go_on, if◌then◌else◌, inl}
+use Rattle.wasi_causes.proofs.Words.{Standing, StandingCall, Stop, TcpRecord, Waits, WasiSocketsCtx, [], allowed_answer, ap, bind, bind_ended, call_answered, call_of, call_place, closed_listening, entry, eq-eqb, false, go_on, if◌then◌else◌, inl}
 use Rattle.wasi_causes.proofs.Words.{inr, listen_ended, listen_polled, marks_in, no_fields, nothing_stands, number_fields, own_of, poll_begun, poll_binding, poll_listening, rebind_at, refl, relisten_at, resume_asks, resume_call, resumed}
 use Rattle.wasi_causes.proofs.Words.{resumed_reply, side_of, standing_as, stands_as, subst, sym, true, unstood, with_handle, with_socket, with_store, word_of_code, ℕ, ⊤, ◌++◌, ◌+◌, ◌==◌, ◌∙◌, ◌∷◌, ◌≡◌, ◌≢◌}
 use Rattle.wasi_world.specs.declared.ids.Ids.{Ids}
@@ -40,8 +40,8 @@ use Rattle.wasi_host.specs.UdpCalls.{udp_left, with_udp, with_open_udp, udp_call
 use Rattle.wasi_host.specs.UdpCreates.{create_answered, poll_create_at, create_so, create_on}
 use Rattle.wasi_host.specs.declared.kind.Kind.TheVariants.{Udp2}
 use Rattle.wasi_records.specs.declared.udp.OpenUdp.{OpenUdp}
-use Rattle.wasi_records.specs.declared.udp.Udp2Socket.{Udp2Socket}
-use Rattle.wasi_records.specs.declared.udp.Udp2Socket.TheVariants as udp
+use Rattle.wasi_records.specs.declared.udp.UdpRecord.{UdpRecord}
+use Rattle.wasi_records.specs.declared.udp.UdpRecord.TheVariants as udp
 use Rattle.wasi_records.specs.declared.udp.UdpInProgress.{UdpInProgress}
 use Rattle.wasi_records.specs.declared.udp.UdpInProgress.TheVariants as doing
 use Rattle.wasi_udp.specs.Bind.{IsBind as IsUdpBind}
@@ -144,7 +144,7 @@ module _ (contexts : List WasiSocketsCtx) (m : Machine) (line : ℕ) (ids : Ids)
     Due es (Ok (Ready given)) after = Unit {0}
     Due es (Err code) after = PendingCallsFit m → FailsSo es code after
 
-    pub answered_so : IsOfNoCreate call → (es : List Entry) (begun : Result (Answer (Unit {0})) ErrorCode × Tcp2Socket) → Due es begun.0 (record m { store = with_socket free (call_place call) begun.1 }) → CallRow es (call_answered free ids call begun)
+    pub answered_so : IsOfNoCreate call → (es : List Entry) (begun : Result (Answer (Unit {0})) ErrorCode × TcpRecord) → Due es begun.0 (record m { store = with_socket free (call_place call) begun.1 }) → CallRow es (call_answered free ids call begun)
     answered_so plain es (Ok Pending, r) h = waits es (record m { store = record (with_socket free (call_place call) r) { standing = Some (standing_as ids call) } }) refl refl h
     answered_so plain es (Ok (Ready given), r) h = let left : Machine = record m { store = with_socket free (call_place call) r } in done es left refl (gives_none m left call plain refl)
     answered_so plain es (Err code, r) h = fails es (record m { store = with_socket free (call_place call) r }) code refl refl h
@@ -159,8 +159,8 @@ module _ (contexts : List WasiSocketsCtx) (m : Machine) (line : ℕ) (ids : Ids)
 
   -- == of a listen
   module _ (place : ℕ) (stands : Under (Listen place)) where
-    module _ (r : Tcp2Socket) (at : tcp2_at m.store.records place ≡ Some r) where
-      abbrev ListenRow : Rows (Result (Answer (Unit {0})) ErrorCode × Tcp2Socket)
+    module _ (r : TcpRecord) (at : tcp2_at m.store.records place ≡ Some r) where
+      abbrev ListenRow : Rows (Result (Answer (Unit {0})) ErrorCode × TcpRecord)
       ListenRow es begun = CallRow es (call_answered free ids (Listen place) begun)
 
       listens_on : PendingCallsFit m → IsListening r.inner.state r.listening
@@ -200,14 +200,14 @@ module _ (contexts : List WasiSocketsCtx) (m : Machine) (line : ℕ) (ids : Ids)
       by_side None side = relists_by r.listening refl
       by_side (Some of) side = ends (by_other of side r.listening refl)
 
-    relists : (o : Option Tcp2Socket) → tcp2_at m.store.records place ≡ o → Meets CallRow [] (relisten_at free ids place o)
+    relists : (o : Option TcpRecord) → tcp2_at m.store.records place ≡ o → Meets CallRow [] (relisten_at free ids place o)
     relists None at = ends (missing (Listen place) stands (λ k. k) at)
     relists (Some r) at = onto _ (by_side r at (side_of r.inner) refl)
 
   -- == of a bind
   module _ (place : ℕ) (stands : Under (Bind place)) where
-    module _ (r : Tcp2Socket) (at : tcp2_at m.store.records place ≡ Some r) where
-      abbrev BindRow : Rows (Result (Answer (Unit {0})) ErrorCode × Tcp2Socket)
+    module _ (r : TcpRecord) (at : tcp2_at m.store.records place ≡ Some r) where
+      abbrev BindRow : Rows (Result (Answer (Unit {0})) ErrorCode × TcpRecord)
       BindRow es begun = CallRow es (call_answered free ids (Bind place) begun)
 
       goes_on : PendingCallsFit m → IsBinding r.in_progress
@@ -229,7 +229,7 @@ module _ (contexts : List WasiSocketsCtx) (m : Machine) (line : ℕ) (ids : Ids)
       rebinds_by (Binding op) is = onto _ (widen (bind_ends op is) (granted (bind_polls op)))
       rebinds_by _ is = ends (answered_so (Bind place) stands (λ k. k) tt [] (Err InvalidState, r) (λ binds. let k = goes_on binds in absurd (rw is at k)))
 
-    rebinds : (o : Option Tcp2Socket) → tcp2_at m.store.records place ≡ o → Meets CallRow [] (rebind_at free ids place o)
+    rebinds : (o : Option TcpRecord) → tcp2_at m.store.records place ≡ o → Meets CallRow [] (rebind_at free ids place o)
     rebinds None at = ends (missing (Bind place) stands (λ k. k) at)
     rebinds (Some r) at = onto _ (rebinds_by r at r.in_progress refl)
 
@@ -241,11 +241,11 @@ module _ (contexts : List WasiSocketsCtx) (m : Machine) (line : ℕ) (ids : Ids)
     abbrev MadeRow : Rows (Result (Answer (Unit {0})) Stop × Records)
     MadeRow es made = Meets CreatedRow es (create_so ids place (nothing_stands m) made)
 
-    module _ (u : Udp2Socket) (at : udp2_at m.store.records place ≡ Some u) where
+    module _ (u : UdpRecord) (at : udp2_at m.store.records place ≡ Some u) where
       creates_on : PendingCallsFit m → IsCreating u
       creates_on fits = let k : IfSome (udp2_at m.store.records place) IsCreating = rw stands at fits in rw at at k
 
-      left_free : (now : Udp2Socket) → (udp_left free place now).standing ≡ None
+      left_free : (now : UdpRecord) → (udp_left free place now).standing ≡ None
       left_free (udp.Creating create) = refl
       left_free (udp.Open o) = refl
       left_free (udp.Closed side) = refl
@@ -276,19 +276,19 @@ module _ (contexts : List WasiSocketsCtx) (m : Machine) (line : ℕ) (ids : Ids)
       create_ended : (es : List Entry) (end : End × List Item) → (marks_in es ≡ 0) × (PendingCallsFit m → EndsFor create.operation (CreateFails create.operation) es end) → MadeRow es (create_answered free place (udp_create_ended create end))
       create_ended es (Waits, items) k =
           ends (waits (StandingCall.UdpCreate place) stands (λ k. k) es (record m { store = record (with_udp free place (udp.Creating (with_left create items))) { standing = Some (standing_as ids (StandingCall.UdpCreate place)) } }) refl refl
-          (λ fits. subst (λ (o : Option Udp2Socket). IsSomeAnd o (λ u. CreateWaits u es)) (sym at) (k.1 fits)))
+          (λ fits. subst (λ (o : Option UdpRecord). IsSomeAnd o (λ u. CreateWaits u es)) (sym at) (k.1 fits)))
       create_ended es (Done given, items) k =
           marks_udp made_so place (opened_udp (made_by create)) there
           (λ full. (it_ends (StandingCall.UdpCreate place) stands (λ k. k) es (reply.Trap Full) made_so (λ e. cc) refl, (tt, full_so m made_so es full refl k.0, inl (full, is_create))))
           (it_ends (StandingCall.UdpCreate place) stands (λ k. k) (es ++ mark ∷ []) (reply.Ok (number_fields m.table.next)) (record made_so { table = with_handle m.table (Udp2 place) None }) (λ e. cc) refl, (inl (inr (inl (tt, tt))), gives_handle))
-      create_ended es (Refused code given, items) k = ends (fails (StandingCall.UdpCreate place) stands (λ k. k) es (record m { store = given_back place (with_udp free place (udp.Closed create.operation.who.side)) }) code refl refl (λ fits. (CreateFailed place create code at (k.1 fits), put_gone (nothing_stands m) place (Record.Udp2 (udp.Closed create.operation.who.side)))))
+      create_ended es (Refused code given, items) k = ends (fails (StandingCall.UdpCreate place) stands (λ k. k) es (record m { store = given_back place (with_udp free place (udp.Closed create.operation.who.side)) }) code refl refl (λ fits. (CreateFailed place create code at (k.1 fits), put_gone (nothing_stands m) place (Record.Udp (udp.Closed create.operation.who.side)))))
 
-    recreates_by : (u : Udp2Socket) → udp2_at m.store.records place ≡ Some u → Meets (λ es done. MadeRow es (create_answered free place done)) [] (poll_create_asks u)
+    recreates_by : (u : UdpRecord) → udp2_at m.store.records place ≡ Some u → Meets (λ es done. MadeRow es (create_answered free place done)) [] (poll_create_asks u)
     recreates_by (udp.Creating create) at = onto _ (widen (create_ended create at) (both (record { along = poll_marks_none create.operation }) (granted (λ fits. create_ends create.operation (creates_on (udp.Creating create) at fits)))))
     recreates_by (udp.Open o) at = ends (uncreated (udp.Open o) at (λ k. k))
     recreates_by (udp.Closed side) at = ends (uncreated (udp.Closed side) at (λ k. k))
 
-    recreates_at : (o : Option Udp2Socket) → udp2_at m.store.records place ≡ o → Meets MadeRow [] (poll_create_at free place o)
+    recreates_at : (o : Option UdpRecord) → udp2_at m.store.records place ≡ o → Meets MadeRow [] (poll_create_at free place o)
     recreates_at None at = ends (ends (missing (StandingCall.UdpCreate place) stands (λ k. k) at))
     recreates_at (Some u) at = onto _ (recreates_by u at)
 

@@ -8,7 +8,7 @@ use Rattle.wasi_host.specs.Machine.{lookup_number}
 use Rattle.wasi_walks.specs.Answered.{lookup_in}
 use Rattle.wasi_causes.specs.Lookups.{found_lookup}
 use Rattle.wasi_records.specs.declared.udp.OpenUdp.{OpenUdp}
-use Rattle.wasi_records.specs.declared.udp.Udp2Socket.{Udp2Socket}
+use Rattle.wasi_records.specs.declared.udp.UdpRecord.{UdpRecord}
 use Rattle.wasi_records.specs.declared.udp.UdpInProgress.{UdpInProgress}
 use Rattle.wasi_causes.specs.Udp.{IsPendingCreate}
 use Rattle.wasi_walks.specs.Waiting.{IsCreating, IsUdpBinding}
@@ -18,7 +18,7 @@ use Rattle.wasi_causes.proofs.Words.{FinishRefusal, Full, Give, HasChildren, Hol
 use Rattle.wasi_causes.proofs.Words.{IsOnNothing, IsSome, IsSomeAnd, Item, Kind, Left, List, Listening, Machine}
 use Rattle.wasi_causes.proofs.Words.{NoSuchHandle, None, NotPermitted, Option, Output}
 use Rattle.wasi_causes.proofs.Words.{Pollable, RefusedOf, Reply, Some, Standing, StandingCall}
-use Rattle.wasi_causes.proofs.Words.{PendingCallsFit, StandsOnNothing, Step, Tcp2, Tcp2Socket, TcpState, TrapKind, WasiSocketsCtx, Watched}
+use Rattle.wasi_causes.proofs.Words.{PendingCallsFit, StandsOnNothing, Step, Tcp2, TcpRecord, TcpState, TrapKind, WasiSocketsCtx, Watched}
 use Rattle.wasi_causes.proofs.Words.{WatchesAccept, WatchesConnect, [], ap, call_of}
 use Rattle.wasi_causes.proofs.Words.{false, first_state}
 use Rattle.wasi_causes.proofs.Words.{if◌then◌else◌, inl, inr, is_connect, is_full, kind_at, machine_asks}
@@ -92,8 +92,8 @@ connects_so : (s : TcpState) → HoldsConnect s → AsksToConnect s → Connects
 connects_so (state.Connecting op) h k = (h, k)
 connects_so _ h k = tt
 
-module _ (m : Machine) (P : Tcp2Socket → Type 0) (so : (place : ℕ) (r : Tcp2Socket) → tcp2_at m.store.records place ≡ Some r → P r) where
-  at_place : (place : ℕ) (o : Option Tcp2Socket) → tcp2_at m.store.records place ≡ o → IfSome o P
+module _ (m : Machine) (P : TcpRecord → Type 0) (so : (place : ℕ) (r : TcpRecord) → tcp2_at m.store.records place ≡ Some r → P r) where
+  at_place : (place : ℕ) (o : Option TcpRecord) → tcp2_at m.store.records place ≡ o → IfSome o P
   at_place place None at = tt
   at_place place (Some r) at = so place r at
 
@@ -106,22 +106,22 @@ module _ (m : Machine) (P : Tcp2Socket → Type 0) (so : (place : ℕ) (r : Tcp2
   of_watched (Some w) = at_place (place_in w) (tcp2_at m.store.records (place_in w)) refl
 
 module _ (m : Machine) (f : Fit (Over m)) (i : Steady m.store.records) where
-  binds_so : (r : Tcp2Socket) (doing : InProgress) → r.in_progress ≡ doing → FitRecord r → HasBinding doing → IsBinding doing
+  binds_so : (r : TcpRecord) (doing : InProgress) → r.in_progress ≡ doing → FitRecord r → HasBinding doing → IsBinding doing
   binds_so r (Binding op) e k b = (subst (FitProgress r.inner.state) e k.2).1
   binds_so r _ e k b = absurd b
 
   by_call : (call : StandingCall) → FitCall m.store.records call → HoldsCall m call
-  by_call (standing.Bind place) h = subst (λ (o : Option Tcp2Socket). IfSome o (λ r. IsBinding r.in_progress)) (sym h.at) (binds_so h.was h.was.in_progress refl (f.records place h.was h.at) h.goes)
+  by_call (standing.Bind place) h = subst (λ (o : Option TcpRecord). IfSome o (λ r. IsBinding r.in_progress)) (sym h.at) (binds_so h.was h.was.in_progress refl (f.records place h.was h.at) h.goes)
   by_call (standing.Listen place) h =
-      subst (λ (o : Option Tcp2Socket). IfSome o (λ r. IsListening r.inner.state r.listening)) (sym h.at)
+      subst (λ (o : Option TcpRecord). IfSome o (λ r. IsListening r.inner.state r.listening)) (sym h.at)
       (listens_so h.was.inner.state h.was.listening (f.records place h.was h.at).1 (i place h.was h.at).2.1 h.goes)
   by_call (standing.DropOutput place) h = tt
-  by_call (standing.UdpCreate place) h = subst (λ (o : Option Udp2Socket). IfSome o IsCreating) (sym h.at) (f.udps place (Udp2Socket.Creating h.was) h.at)
+  by_call (standing.UdpCreate place) h = subst (λ (o : Option UdpRecord). IfSome o IsCreating) (sym h.at) (f.udps place (UdpRecord.Creating h.was) h.at)
   by_call (standing.UdpBind place) h =
-      let bind : IsUdpBinding (UdpInProgress.Binding h.op) = (subst (FitUdpProgress h.was.inner.side) h.goes (f.udps place (Udp2Socket.Open h.was) h.at).0).bind in
+      let bind : IsUdpBinding (UdpInProgress.Binding h.op) = (subst (FitUdpProgress h.was.inner.side) h.goes (f.udps place (UdpRecord.Open h.was) h.at).0).bind in
       subst (λ (o : Option OpenUdp). IfSome o (λ q. IsUdpBinding q.in_progress)) (sym (ap open_of h.at)) (subst IsUdpBinding (sym h.goes) bind)
   by_call (standing.UdpConnect place handle) h =
-      let connect : IsUdpConnecting (Some h.op) = (subst (FitConnecting h.was.inner.side) h.goes (f.udps place (Udp2Socket.Open h.was) h.at).1).connect in
+      let connect : IsUdpConnecting (Some h.op) = (subst (FitConnecting h.was.inner.side) h.goes (f.udps place (UdpRecord.Open h.was) h.at).1).connect in
       subst (λ (o : Option OpenUdp). IfSome o (λ q. IsUdpConnecting q.connecting)) (sym (ap open_of h.at)) (subst IsUdpConnecting (sym h.goes) connect)
   by_call (standing.DropOutgoing place) h = tt
   by_call (standing.Blocking call) h = tt
@@ -131,11 +131,11 @@ module _ (m : Machine) (f : Fit (Over m)) (i : Steady m.store.records) where
   stands_by (Some s) h = by_call s.call (h s refl)
 
 -- what a handle needs of its record is more than that it is there
-with_streams : (o : Option Tcp2Socket) → IsSome (streams_in o) → IsSome o
+with_streams : (o : Option TcpRecord) → IsSome (streams_in o) → IsSome o
 with_streams (Some r) s = refl
 with_streams None s = s
 
-with_open : (o : Option Udp2Socket) → IsSome (open_of o) → IsSome o
+with_open : (o : Option UdpRecord) → IsSome (open_of o) → IsSome o
 with_open (Some u) s = refl
 with_open None s = s
 
@@ -242,10 +242,10 @@ module _ (contexts : List WasiSocketsCtx) (steps : List Step) (es : List Entry) 
   run_steady : Steady m.store.records
   run_steady = runs_are_steady contexts steps es replies m w
 
-  connects_there : (place : ℕ) (r : Tcp2Socket) → tcp2_at m.store.records place ≡ Some r → ConnectsOn r.inner.state
+  connects_there : (place : ℕ) (r : TcpRecord) → tcp2_at m.store.records place ≡ Some r → ConnectsOn r.inner.state
   connects_there place r g = connects_so r.inner.state (fits.records place r g).0 (run_steady place r g).2.0
 
-  accepts_there : (place : ℕ) (r : Tcp2Socket) → tcp2_at m.store.records place ≡ Some r → AcceptsIn r.listening
+  accepts_there : (place : ℕ) (r : TcpRecord) → tcp2_at m.store.records place ≡ Some r → AcceptsIn r.listening
   accepts_there place r g = accepts_so r.listening (fits.records place r g).1
 
   pub runs_connect : (handle : ℕ) → ConnectsAt m handle
@@ -275,10 +275,10 @@ module _ (contexts : List WasiSocketsCtx) (steps : List Step) (es : List Entry) 
   pub runs_stand_on_records : (n : ℕ) → StandsOnNothing m n → ⊥
   runs_stand_on_records = stands_on m fits run_well
 
-  pub runs_may_finish : (place : ℕ) (r : Tcp2Socket) → tcp2_at m.store.records place ≡ Some r → is_connect r.in_progress ≡ true → MayFinish r.inner.state
+  pub runs_may_finish : (place : ℕ) (r : TcpRecord) → tcp2_at m.store.records place ≡ Some r → is_connect r.in_progress ≡ true → MayFinish r.inner.state
   runs_may_finish place r g = (run_steady place r g).0
 
-  pub runs_listen_late : (place : ℕ) (r : Tcp2Socket) → tcp2_at m.store.records place ≡ Some r → ListensLate r
+  pub runs_listen_late : (place : ℕ) (r : TcpRecord) → tcp2_at m.store.records place ≡ Some r → ListensLate r
   runs_listen_late place r g = (run_steady place r g).1
 
   pub finishes_refused_in_runs : (line ctx handle : ℕ) (entries : List Entry) (word : CodeWord) (after : Machine) → Answered contexts m line (step.TcpFinishConnect ctx handle) entries (reply.Err word) after → RefusedOf m handle (FinishRefusal m) entries word after

@@ -2,7 +2,7 @@
 -- and a socket that does nothing yet doesn't listen.
 use Rattle.wasi_records.specs.Records.{tcp2_at, tcp2_put, tcp2_pushed, udp2_put, tcp2_of}
 use Rattle.wasi_host.specs.declared.kind.Kind.TheVariants.{PlainInput, PlainOutput}
-use Rattle.wasi_records.specs.declared.udp.Udp2Socket.{Udp2Socket}
+use Rattle.wasi_records.specs.declared.udp.UdpRecord.{UdpRecord}
 use Rattle.wasi_records.specs.Udp.{udp_bind_progress, udp_create_left, with_udp_progress}
 use Rattle.wasi_udp.specs.Create.{Create, after_create as udp_after_create}
 use Rattle.wasi_walks.proofs.walks.Moves.{put_udp, udp_begun, UdpChanges, BeginsUdpBind, UdpCreates, UdpBindsOn}
@@ -12,7 +12,7 @@ use Rattle.wasi_causes.proofs.Words.{ErrorCode, Give}
 use Rattle.wasi_causes.proofs.Words.{Item, Kind, Left, List, Listener, Listening, Machine}
 use Rattle.wasi_causes.proofs.Words.{None, Ok, OpId, Operation}
 use Rattle.wasi_causes.proofs.Words.{Refused, Reply, Result, Some}
-use Rattle.wasi_causes.proofs.Words.{Step, Tcp2Socket, TcpState, Waits, WasiSocketsCtx}
+use Rattle.wasi_causes.proofs.Words.{Step, TcpRecord, TcpState, Waits, WasiSocketsCtx}
 use Rattle.wasi_causes.proofs.Words.{Who, [], accept_ended, ap, bind_progress}
 use Rattle.wasi_causes.proofs.Words.{connect_ended, false, first_state}
 use Rattle.wasi_causes.proofs.Words.{inl, inr, is_connect, machine_asks}
@@ -64,26 +64,26 @@ abbrev pub AsksToListen : TcpState → Listening → Type 0
 AsksToListen s (listening.Begins op) = AllOf IsAskOfListen op.left × (is_over op ≡ false) × (s ≡ state.Closed Other)
 AsksToListen s _ = ⊤
 
-abbrev pub Asking : Tcp2Socket → Type 0
+abbrev pub Asking : TcpRecord → Type 0
 Asking r = AsksToConnect r.inner.state × AsksToListen r.inner.state r.listening
 
-abbrev pub Sound : Tcp2Socket → Type 0
+abbrev pub Sound : TcpRecord → Type 0
 Sound r = Finishes r × ListensLate r × Asking r
 
 abbrev pub Steady : List Record → Type 0
-Steady records = (place : ℕ) (r : Tcp2Socket) → tcp2_at records place ≡ Some r → Sound r
+Steady records = (place : ℕ) (r : TcpRecord) → tcp2_at records place ≡ Some r → Sound r
 
 -- == one record changes, or joins
-put_steady : (h : Here) (place : ℕ) (now : Tcp2Socket) → Sound now → Steady h.machine.store.records
+put_steady : (h : Here) (place : ℕ) (now : TcpRecord) → Sound now → Steady h.machine.store.records
     → Steady (tcp2_put h.machine.store.records place now)
 put_steady h place now f i = λ k r e. elim (put_found tcp_sort h.machine.store.records place now k r e) [ inl p ↦ subst Sound p.1 f | inr p ↦ i k r p ]
 
-put_udp_steady : (h : Here) (place : ℕ) (now : Udp2Socket) → Steady h.machine.store.records
+put_udp_steady : (h : Here) (place : ℕ) (now : UdpRecord) → Steady h.machine.store.records
     → Steady (udp2_put h.machine.store.records place now)
 put_udp_steady h place now i =
     λ k r e. i k r (put_was udp_sort tcp_sort (λ t. refl) h.machine.store.records place now k r e)
 
-push_steady : (records : List Record) (new : Tcp2Socket) → Sound new → Steady records → Steady (tcp2_pushed records new)
+push_steady : (records : List Record) (new : TcpRecord) → Sound new → Steady records → Steady (tcp2_pushed records new)
 push_steady records new f i = λ k r e. elim (push_new tcp_sort records new k r e) [ inl p ↦ i k r p | inr p ↦ subst Sound p f ]
 
 -- other lookups, whichever
@@ -92,7 +92,7 @@ found_steady old records same i = λ k r e. i k r (sym (same.tcp k) ∙ e)
 
 begun_steady : (h : Here) (made : Result Create ErrorCode) → Steady h.machine.store.records → Steady (udp_begun h made).machine.store.records
 begun_steady h (Ok create) i =
-    λ k r e. i k r (push_was udp_sort tcp_sort (λ t. refl) h.machine.store.records (Udp2Socket.Creating create) k r e)
+    λ k r e. i k r (push_was udp_sort tcp_sort (λ t. refl) h.machine.store.records (UdpRecord.Creating create) k r e)
 begun_steady h (Err c) i = i
 
 -- == moves
@@ -113,13 +113,13 @@ no_connect : (op : Operation) (end : End × List Item) → is_connect (bind_prog
 no_connect op (Waits, left) c = absurd (cc)
 no_connect op (_, left) c = absurd (cc)
 
-never_unlistened : (r : Tcp2Socket) (l : Listening) (side : OpId) → r.listening ≡ l → IsPastNot l → Sound r → r.inner.state ≡ state.Default side → ⊥
+never_unlistened : (r : TcpRecord) (l : Listening) (side : OpId) → r.listening ≡ l → IsPastNot l → Sound r → r.inner.state ≡ state.Default side → ⊥
 never_unlistened r l side e p s d = subst IsPastNot (sym e ∙ s.1 side d) p
 
-listens_on : (r : Tcp2Socket) (l : Listener) (a : Accepting) → r.listening ≡ listening.Accepts l → Sound r → Sound (accepting_now r l a)
+listens_on : (r : TcpRecord) (l : Listener) (a : Accepting) → r.listening ≡ listening.Accepts l → Sound r → Sound (accepting_now r l a)
 listens_on r l a e s = (s.0, λ side d. absurd (never_unlistened r (listening.Accepts l) side e tt s d), (s.2.0, tt))
 
-listened_sound : (op : Operation) (r : Tcp2Socket) (end : End × List Item) → r.listening ≡ listening.Begins op → Keeps IsAskOfListen end → Sound r → Sound (listen_after op r end)
+listened_sound : (op : Operation) (r : TcpRecord) (end : End × List Item) → r.listening ≡ listening.Begins op → Keeps IsAskOfListen end → Sound r → Sound (listen_after op r end)
 listened_sound op r (Waits, left) e k s = let was = subst (AsksToListen r.inner.state) e s.2.1 in (s.0, λ side d. absurd (never_unlistened r (listening.Begins op) side e tt s d), (s.2.0, (k.0, k.1, was.2)))
 listened_sound op r (Done given, left) e k s = (λ c. absurd (cc), λ side d. absurd (cc), (tt, tt))
 listened_sound op r (Refused c given, left) e k s = (s.0, λ side d. refl, (s.2.0, tt))
@@ -190,7 +190,7 @@ module _ (contexts : List WasiSocketsCtx) (line : ℕ) (origin : Step) where
   moves_steady _ _ (Forgets h place r l c g e a) i = put_steady h place _ (listens_on r l accepting.Idle e (i place r g)) i
   moves_steady _ _ (Joins h c handle place r l new peer is of u g e a) i =
       let k = put_steady h place (accepting_now r l accepting.Idle) (listens_on r l accepting.Idle e (i place r g)) i in push_steady (tcp2_put h.machine.store.records place (accepting_now r l accepting.Idle)) (joined l new peer) (λ c. absurd (cc), λ side d. absurd (cc), (tt, tt)) k
-  moves_steady _ _ (UdpChanges h place o now g p keeps) i = put_udp_steady h place (Udp2Socket.Open now) i
+  moves_steady _ _ (UdpChanges h place o now g p keeps) i = put_udp_steady h place (UdpRecord.Open now) i
   moves_steady _ _ (BeginsUdpBind h place o a at g to idle own) i = put_udp_steady h place _ i
   moves_steady _ _ (BeginsUdpConnect h place o a at g to bound none own) i = put_udp_steady h place _ i
   moves_steady _ _ (BeginsSend h place n o out d bound at g e item known own) i = put_udp_steady h place _ i
@@ -204,7 +204,7 @@ module _ (contexts : List WasiSocketsCtx) (line : ℕ) (origin : Step) where
   moves_steady _ _ _ i = i
 
   -- == what is asked
-  learnt_sound : (r : Tcp2Socket) (told : Told) → Sound r
+  learnt_sound : (r : TcpRecord) (told : Told) → Sound r
       → Sound (with_inner r (after_local r.inner (told_addr told)).1)
   learnt_sound r told s =
       let same = sym (told_same r.inner (told_addr told)) in (
@@ -251,14 +251,14 @@ module _ (contexts : List WasiSocketsCtx) (line : ℕ) (origin : Step) where
       (λ fs end k. put_steady h place _ (listened_sound op r end e k (i place r g)) i) es (poll_asks op) (listen_leaves op (subst (AsksToListen r.inner.state) e (i place r g).2.1).0 es)
   polls_steady es h _ _ (Awaits place r l op g e a) i = whatever (λ end. Steady (put h place (accepting_now r l (accept_ended op.who end))).machine.store.records) (λ end. put_steady h place _ (listens_on r l _ e (i place r g)) i) es (poll_asks op)
   polls_steady es h _ _ (UdpCreates place create q g) i = whatever (λ end. Steady (put_udp h place (udp_create_left create end)).machine.store.records) (λ end. put_udp_steady h place _ i) es (poll_asks create.operation)
-  polls_steady es h _ _ (UdpBindsOn place o op q g e) i = whatever (λ end. Steady (put_udp h place (Udp2Socket.Open (with_udp_progress o (udp_bind_progress op end)))).machine.store.records) (λ end. put_udp_steady h place _ i) es (poll_asks op)
-  polls_steady es h _ _ (UdpConnectsOn place o op q g e) i = whatever (λ end. Steady (put_udp h place (Udp2Socket.Open (udp_connect_left op o end))).machine.store.records) (λ end. put_udp_steady h place _ i) es (poll_asks op)
+  polls_steady es h _ _ (UdpBindsOn place o op q g e) i = whatever (λ end. Steady (put_udp h place (UdpRecord.Open (with_udp_progress o (udp_bind_progress op end)))).machine.store.records) (λ end. put_udp_steady h place _ i) es (poll_asks op)
+  polls_steady es h _ _ (UdpConnectsOn place o op q g e) i = whatever (λ end. Steady (put_udp h place (UdpRecord.Open (udp_connect_left op o end))).machine.store.records) (λ end. put_udp_steady h place _ i) es (poll_asks op)
   polls_steady es h _ _ (SendsOn place o out op left g e s settles) i =
       whatever (λ end. Steady (put_udp h place
-      (Udp2Socket.Open (record o { outgoing = Some (with_sending out (left end)) }))).machine.store.records)
+      (UdpRecord.Open (record o { outgoing = Some (with_sending out (left end)) }))).machine.store.records)
       (λ end. put_udp_steady h place _ i) es (poll_asks (at_remote o.inner.remote op))
   polls_steady es h _ _ (ReceivesOn place o inc op g e s) i =
-      whatever (λ end. Steady (put_udp h place (Udp2Socket.Open (record o { incoming = Some (with_receiving inc (receive_left op end)) }))).machine.store.records) (λ end. put_udp_steady h place _ i) es (poll_asks (wanting inc.remote op))
+      whatever (λ end. Steady (put_udp h place (UdpRecord.Open (record o { incoming = Some (with_receiving inc (receive_left op end)) }))).machine.store.records) (λ end. put_udp_steady h place _ i) es (poll_asks (wanting inc.remote op))
 
   abbrev steady_state : OfState contexts line origin (λ es h. ⊤)
   steady_state = record {

@@ -1,6 +1,6 @@
 -- Of the machines that runs lead to: a live incoming datagram stream has its stream in the record of an open UDP socket, no other
 -- handle of that record is one, and a socket whose connect is in progress has no streams.
-use Rattle.wasi_causes.proofs.Words.{End, Entry, ErrorValue, HandleTable, Input, Item, Kind, List, Machine, None, OpId, Operation, Option, Output, Some, StandingCall, Step, Tcp2, Tcp2Socket, WasiSocketsCtx}
+use Rattle.wasi_causes.proofs.Words.{End, Entry, ErrorValue, HandleTable, Input, Item, Kind, List, Machine, None, OpId, Operation, Option, Output, Some, StandingCall, Step, Tcp2, TcpRecord, WasiSocketsCtx}
 use Rattle.wasi_causes.proofs.Words.{first_state, inl, inr, is_some, length, new_record, own_of, poll_asks, refl, standing_as, subst, sym, false, turn_asks, with_writer, ℕ, ◌≡◌, ◌⊎◌}
 use Rattle.std.specs.Prelude.{◌||◌}
 use Rattle.wasi_table.specs.Table.{Live}
@@ -13,7 +13,7 @@ use Rattle.wasi_records.specs.declared.datagrams.Outgoing.{Outgoing as OutgoingS
 use Rattle.wasi_host.specs.declared.kind.Kind.TheVariants.{Incoming, Udp2}
 use Rattle.wasi_records.specs.declared.records.Record.{Record}
 use Rattle.wasi_records.specs.declared.udp.OpenUdp.{OpenUdp}
-use Rattle.wasi_records.specs.declared.udp.Udp2Socket.{Udp2Socket}
+use Rattle.wasi_records.specs.declared.udp.UdpRecord.{UdpRecord}
 use Rattle.wasi_walks.specs.Licence.{Has}
 use Rattle.wasi_walks.proofs.fits.Law.{whatever}
 use Rattle.wasi_walks.proofs.received.Handles.{AreUnder, begun_same, moves_under, polled_same}
@@ -39,7 +39,7 @@ use Rattle.wasi_causes.proofs.Words.{ap, new_socket, with_handle, with_record}
 pub record StreamsApart (t : HandleTable) (records : List Record) : Type 0 where
   pub there : (a : Live Kind) (place : ℕ) → Has t.live a → a.value ≡ Incoming place → HasIncoming records place
   pub single : (a b : Live Kind) (place : ℕ) → Has t.live a → Has t.live b → a.value ≡ Incoming place → b.value ≡ Incoming place → a.handle ≡ b.handle
-  pub quiet : (place : ℕ) (o : OpenUdp) (op : Operation) → udp2_at records place ≡ Some (Udp2Socket.Open o) → o.connecting ≡ Some op → (o.incoming ≡ None) × (o.outgoing ≡ None)
+  pub quiet : (place : ℕ) (o : OpenUdp) (op : Operation) → udp2_at records place ≡ Some (UdpRecord.Open o) → o.connecting ≡ Some op → (o.incoming ≡ None) × (o.outgoing ≡ None)
 
 -- with what it rests on
 abbrev pub Apart : Here → Type 0
@@ -55,7 +55,7 @@ no_streams o e = by_streams o.incoming o.outgoing e
 
 -- == of the moves
 -- what goes on in a TCP record is no connect of this kind
-goes_so : (t : HandleTable) (call : StandingCall) (r : Tcp2Socket) → GoesOn call r → CallSo t call
+goes_so : (t : HandleTable) (call : StandingCall) (r : TcpRecord) → GoesOn call r → CallSo t call
 goes_so t (StandingCall.UdpConnect place handle) r k = absurd k
 goes_so t _ r k = tt
 
@@ -154,7 +154,7 @@ module _ (contexts : List WasiSocketsCtx) (line : ℕ) (origin : Step) where
   no_room h _ none i = absurd none
 
   -- a socket is created
-  created : (h : Here) (new : Tcp2Socket) → Both h
+  created : (h : Here) (new : TcpRecord) → Both h
       → Both (record h { machine = record h.machine { store = record h.machine.store { records = tcp2_pushed h.machine.store.records new } } })
   created h new i = (push_tcp h.machine.table h.machine.store.records new h.made h.machine.store.standing i.0, i.1)
 
@@ -166,9 +166,9 @@ module _ (contexts : List WasiSocketsCtx) (line : ℕ) (origin : Step) where
   becomes_apart es h _ (UdpLearnt place o socket g e) b i = (put_open h place o _ g (λ e. e) i.0, i.1)
   becomes_apart es h _ (UdpIsClosed place o q g) b i =
       let none = subst (owned.MadeSo h.machine.table h.machine.store.records) q.1 b.0.1 place refl in
-      (put_none h place (Udp2Socket.Closed o.inner.side) (λ a l e. none a l (inr (ap stream_place e))) i.0, i.1)
+      (put_none h place (UdpRecord.Closed o.inner.side) (λ a l e. none a l (inr (ap stream_place e))) i.0, i.1)
   becomes_apart es h _ (UdpGivenUp place create q g) b i =
-      (put_none h place (Udp2Socket.Closed create.operation.who.side) (not_yet h place create g i.0) i.0, i.1)
+      (put_none h place (UdpRecord.Closed create.operation.who.side) (not_yet h place create g i.0) i.0, i.1)
   becomes_apart es h _ (UdpBegun ctx family r c u m) b i =
       let made = udp_after_create (own_of line) ctx.name family r in
       (begun h made i.0, begun_same (λ t made standing. AreUnder t made standing) h made i.1)

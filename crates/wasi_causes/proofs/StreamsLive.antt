@@ -1,7 +1,7 @@
 -- The handles of incoming datagram streams: what is live has its stream in the record of an open UDP socket, and no other handle of
 -- that record is one. While a line makes the streams of a socket, or a pending call is to, none of them has its handle. It is kept where
 -- records change, and where handles are made and taken out.
-use Rattle.wasi_causes.proofs.Words.{End, Err, ErrorCode, HandleTable, Item, Kind, List, None, Ok, Operation, Option, Result, Some, Standing, StandingCall, Tcp2Socket}
+use Rattle.wasi_causes.proofs.Words.{End, Err, ErrorCode, HandleTable, Item, Kind, List, None, Ok, Operation, Option, Result, Some, Standing, StandingCall, TcpRecord}
 use Rattle.wasi_causes.proofs.Words.{ap, inl, inr, is_some, kind_at, refl, subst, sym, true, false, with_handle, without_handle, ℕ, ⊤, ◌∙◌, ◌≡◌, ◌⊎◌}
 use Rattle.wasi_table.specs.Table.{Live}
 use Rattle.wasi_udp.specs.Create.{Create}
@@ -14,7 +14,7 @@ use Rattle.wasi_host.specs.declared.kind.Kind.TheVariants.{Incoming}
 use Rattle.wasi_records.specs.declared.name_lookup.LookupOp.{LookupOp}
 use Rattle.wasi_records.specs.declared.records.Record.{Record}
 use Rattle.wasi_records.specs.declared.udp.OpenUdp.{OpenUdp}
-use Rattle.wasi_records.specs.declared.udp.Udp2Socket.{Udp2Socket}
+use Rattle.wasi_records.specs.declared.udp.UdpRecord.{UdpRecord}
 use Rattle.wasi_walks.specs.Licence.{Has}
 use Rattle.wasi_walks.proofs.received.Handles.{MakesUnder, Under, makes_more, under_so}
 use Rattle.wasi_walks.proofs.walks.Moves.{Found, FoundUdp, NoStartIn, NoStartStands, HasNewStream, Here, Made, MarksNext, SameSockets, ToSend, put, put_udp, udp_begun}
@@ -25,7 +25,7 @@ use Rattle.wasi_walks.proofs.Places.{push_still, put_stays, put_still, tcp_sort,
 -- The record is that of an open UDP socket, whose incoming stream is there.
 pub record HasIncoming (records : List Record) (place : ℕ) : Type 0 where
   pub socket : OpenUdp
-  pub at : udp2_at records place ≡ Some (Udp2Socket.Open socket)
+  pub at : udp2_at records place ≡ Some (UdpRecord.Open socket)
   pub stream : IncomingStream
   pub has : socket.incoming ≡ Some stream
 
@@ -84,43 +84,43 @@ remade t records was made standing so i = record { apart = i.apart; makes = so; 
 pub restood : (t : HandleTable) (records : List Record) (made : Made) (was standing : Option Standing) → StandsSo t standing → Streams t records made was → Streams t records made standing
 restood t records made was standing so i = record { apart = i.apart; makes = i.makes; stands = so }
 
-pub put_tcp : (h : Here) (place : ℕ) (r : Tcp2Socket) → Found h place r → (now : Tcp2Socket) → Parts h → Parts (put h place now)
+pub put_tcp : (h : Here) (place : ℕ) (r : TcpRecord) → Found h place r → (now : TcpRecord) → Parts h → Parts (put h place now)
 put_tcp h place r g now i = stay h.machine.table _ _ h.made h.machine.store.standing (λ a k l e has. record { socket = has.socket; at = put_still tcp_sort udp_sort (λ t. refl) h.machine.store.records place r now k _ g has.at; stream = has.stream; has = has.has }) i
 
-pub push_tcp : (t : HandleTable) (records : List Record) (new : Tcp2Socket) (made : Made) (standing : Option Standing) → Streams t records made standing → Streams t (tcp2_pushed records new) made standing
+pub push_tcp : (t : HandleTable) (records : List Record) (new : TcpRecord) (made : Made) (standing : Option Standing) → Streams t records made standing → Streams t (tcp2_pushed records new) made standing
 push_tcp t records new made standing i = stay t _ _ made standing (λ a k l e has. record { socket = has.socket; at = push_still tcp_sort udp_sort records new k _ has.at; stream = has.stream; has = has.has }) i
 
 -- where a stream of it is live, the record keeps that
-module _ (h : Here) (place : ℕ) (now : Udp2Socket) where
+module _ (h : Here) (place : ℕ) (now : UdpRecord) where
   abbrev Keeps : Type 0
-  Keeps = (a : Live Kind) → Has h.machine.table.live a → a.value ≡ Incoming place → HasIncoming h.machine.store.records place → (o : OpenUdp) × ((now ≡ Udp2Socket.Open o) × (is_some o.incoming ≡ true))
+  Keeps = (a : Live Kind) → Has h.machine.table.live a → a.value ≡ Incoming place → HasIncoming h.machine.store.records place → (o : OpenUdp) × ((now ≡ UdpRecord.Open o) × (is_some o.incoming ≡ true))
 
   put_by : Keeps → Parts h → Parts (put_udp h place now)
   put_by keeps i = stay h.machine.table _ _ h.made h.machine.store.standing still i
     where
       still : Stays h.machine.table h.machine.store.records (udp2_put h.machine.store.records place now)
-      still a k l e has = elim (put_stays udp_sort h.machine.store.records place now k (Udp2Socket.Open has.socket) has.at) [
+      still a k l e has = elim (put_stays udp_sort h.machine.store.records place now k (UdpRecord.Open has.socket) has.at) [
         | inl same ↦ record { socket = has.socket; at = same; stream = has.stream; has = has.has }
-        | inr its ↦ (let q = keeps a l (subst (λ (x : ℕ). a.value ≡ Incoming x) its.0 e) (subst (HasIncoming h.machine.store.records) its.0 has) in let s = some_is q.0.incoming q.1.1 in record { socket = q.0; at = its.1 ∙ ap (λ (u : Udp2Socket). Some u) q.1.0; stream = s.0; has = s.1 })
+        | inr its ↦ (let q = keeps a l (subst (λ (x : ℕ). a.value ≡ Incoming x) its.0 e) (subst (HasIncoming h.machine.store.records) its.0 has) in let s = some_is q.0.incoming q.1.1 in record { socket = q.0; at = its.1 ∙ ap (λ (u : UdpRecord). Some u) q.1.0; stream = s.0; has = s.1 })
       ]
 
   -- none of it is live
   pub put_none : NoIncoming h.machine.table place → Parts h → Parts (put_udp h place now)
   put_none none i = put_by (λ a l e has. absurd (none a l e)) i
 
-pub put_open : (h : Here) (place : ℕ) (o now : OpenUdp) → FoundUdp h place (Udp2Socket.Open o) → (is_some o.incoming ≡ true → is_some now.incoming ≡ true) → Parts h → Parts (put_udp h place (Udp2Socket.Open now))
+pub put_open : (h : Here) (place : ℕ) (o now : OpenUdp) → FoundUdp h place (UdpRecord.Open o) → (is_some o.incoming ≡ true → is_some now.incoming ≡ true) → Parts h → Parts (put_udp h place (UdpRecord.Open now))
 put_open h place o now g keeps i =
-    put_by h place (Udp2Socket.Open now)
+    put_by h place (UdpRecord.Open now)
     (λ a l e has. (now, (refl, keeps (let same : has.socket ≡ o = (let at = has.at in cc) in ap (λ (x : OpenUdp). is_some x.incoming) (sym same) ∙ ap (λ x. is_some x) has.has)))) i
 
-pub changed : (h : Here) (place : ℕ) (o now : OpenUdp) → FoundUdp h place (Udp2Socket.Open o) → (is_some o.incoming ≡ true → is_some now.incoming ≡ true) ⊎ (h.made ≡ Made.Emptied (Incoming place)) → Parts h → Parts (put_udp h place (Udp2Socket.Open now))
-changed h place o now g k i = elim k [ inl keeps ↦ put_open h place o now g keeps i | inr gone ↦ put_none h place (Udp2Socket.Open now) (subst (MadeSo h.machine.table) gone i.makes) i ]
+pub changed : (h : Here) (place : ℕ) (o now : OpenUdp) → FoundUdp h place (UdpRecord.Open o) → (is_some o.incoming ≡ true → is_some now.incoming ≡ true) ⊎ (h.made ≡ Made.Emptied (Incoming place)) → Parts h → Parts (put_udp h place (UdpRecord.Open now))
+changed h place o now g k i = elim k [ inl keeps ↦ put_open h place o now g keeps i | inr gone ↦ put_none h place (UdpRecord.Open now) (subst (MadeSo h.machine.table) gone i.makes) i ]
 
 -- no stream of a create is live, nor of a socket that has none
-pub not_yet : (h : Here) (place : ℕ) (create : Create) → FoundUdp h place (Udp2Socket.Creating create) → Parts h → NoIncoming h.machine.table place
+pub not_yet : (h : Here) (place : ℕ) (create : Create) → FoundUdp h place (UdpRecord.Creating create) → Parts h → NoIncoming h.machine.table place
 not_yet h place create g i a l e = let has = i.apart.there a place l e in let at = has.at in absurd (cc)
 
-pub has_none : (h : Here) (place : ℕ) (o : OpenUdp) → FoundUdp h place (Udp2Socket.Open o) → has_streams o ≡ false → Parts h → NoIncoming h.machine.table place
+pub has_none : (h : Here) (place : ℕ) (o : OpenUdp) → FoundUdp h place (UdpRecord.Open o) → has_streams o ≡ false → Parts h → NoIncoming h.machine.table place
 has_none h place o g none i a l e =
     let has = i.apart.there a place l e in
     let same : has.socket ≡ o = (let at = has.at in cc) in
@@ -129,7 +129,7 @@ has_none h place o g none i a l e =
     absurd (cc)
 
 pub begun : (h : Here) (made : Result Create ErrorCode) → Parts h → Parts (udp_begun h made)
-begun h (Ok create) i = stay h.machine.table _ _ h.made h.machine.store.standing (λ a k l e has. record { socket = has.socket; at = push_still udp_sort udp_sort h.machine.store.records (Udp2Socket.Creating create) k _ has.at; stream = has.stream; has = has.has }) i
+begun h (Ok create) i = stay h.machine.table _ _ h.made h.machine.store.standing (λ a k l e has. record { socket = has.socket; at = push_still udp_sort udp_sort h.machine.store.records (UdpRecord.Creating create) k _ has.at; stream = has.stream; has = has.has }) i
 begun h (Err c) i = i
 
 -- other lookups, whichever

@@ -1,7 +1,7 @@
 -- Of the machines that runs lead to: a UDP socket whose connect is in progress has no datagram streams. The connect is pending, or the
 -- line that is done goes on with it.
 use Rattle.wasi_walks.proofs.walks.Law.{BeginsWrites, InCall, Law}
-use Rattle.wasi_causes.proofs.Words.{Bool, End, Err, ErrorCode, Item, List, Machine, None, Ok, OpId, Operation, Option, Result, Some, Standing, StandingCall, Step, Tcp2Socket, WasiSocketsCtx}
+use Rattle.wasi_causes.proofs.Words.{Bool, End, Err, ErrorCode, Item, List, Machine, None, Ok, OpId, Operation, Option, Result, Some, Standing, StandingCall, Step, TcpRecord, WasiSocketsCtx}
 use Rattle.wasi_causes.proofs.Words.{ap, first_state, inl, inr, own_of, poll_asks, refl, standing_as, subst, sym, true, false, turn_asks, with_writer, ℕ, ⊤, ◌∙◌, ◌≡◌, ◌⊎◌}
 use Rattle.std.specs.Prelude.{is_some, ◌+◌}
 use Rattle.wasi_tcp.specs.declared.listener.Accepting.TheVariants as accepting
@@ -13,7 +13,7 @@ use Rattle.wasi_records.specs.Udp.{udp_create_left}
 use Rattle.wasi_records.specs.declared.name_lookup.LookupOp.{LookupOp}
 use Rattle.wasi_records.specs.declared.records.Record.{Record}
 use Rattle.wasi_records.specs.declared.udp.OpenUdp.{OpenUdp}
-use Rattle.wasi_records.specs.declared.udp.Udp2Socket.{Udp2Socket}
+use Rattle.wasi_records.specs.declared.udp.UdpRecord.{UdpRecord}
 use Rattle.wasi_walks.proofs.GoneLists.{was_there}
 use Rattle.wasi_walks.proofs.fits.Law.{whatever}
 use Rattle.wasi_walks.proofs.walks.Here.{ConnectStands, IsConnectOf, NoConnectIn, NoStart, NoStartIn, NoStartStands, or_true}
@@ -31,8 +31,8 @@ GoesBy standing own place = ConnectStands standing place ⊎ (own ≡ ToConnect 
 
 -- Where a connect is in progress, the socket has no streams.
 pub record Connects (records : List Record) (standing : Option Standing) (own : Own) : Type 0 where
-  pub quiet : (place : ℕ) (o : OpenUdp) (op : Operation) → udp2_at records place ≡ Some (Udp2Socket.Open o) → o.connecting ≡ Some op → has_streams o ≡ false
-  goes : (place : ℕ) (o : OpenUdp) (op : Operation) → udp2_at records place ≡ Some (Udp2Socket.Open o) → o.connecting ≡ Some op → GoesBy standing own place
+  pub quiet : (place : ℕ) (o : OpenUdp) (op : Operation) → udp2_at records place ≡ Some (UdpRecord.Open o) → o.connecting ≡ Some op → has_streams o ≡ false
+  goes : (place : ℕ) (o : OpenUdp) (op : Operation) → udp2_at records place ≡ Some (UdpRecord.Open o) → o.connecting ≡ Some op → GoesBy standing own place
 
 abbrev pub HasConnects : Machine → Type 0
 HasConnects m = Connects m.store.records m.store.standing Used
@@ -79,37 +79,37 @@ stands_now : (records : List Record) (was standing : Option Standing) (own : Own
 stands_now records was standing own none i = record { quiet = i.quiet; goes = λ k o op at c. elim (i.goes k o op at c) [ inl s ↦ absurd (none_stands was k none s) | inr e ↦ inr e ] }
 
 -- == records change
-pub put_tcp : (h : Here) (place : ℕ) (now : Tcp2Socket) → Quiet h → Quiet (put h place now)
+pub put_tcp : (h : Here) (place : ℕ) (now : TcpRecord) → Quiet h → Quiet (put h place now)
 put_tcp h place now i = (record { quiet = λ k o op at c. i.0.quiet k o op (put_was tcp_sort udp_sort (λ t. refl) h.machine.store.records place now k _ at) c; goes = λ k o op at c. i.0.goes k o op (put_was tcp_sort udp_sort (λ t. refl) h.machine.store.records place now k _ at) c }, i.1)
 
-push_tcp : (records : List Record) (new : Tcp2Socket) (standing : Option Standing) (own : Own) → Connects records standing own → Connects (tcp2_pushed records new) standing own
+push_tcp : (records : List Record) (new : TcpRecord) (standing : Option Standing) (own : Own) → Connects records standing own → Connects (tcp2_pushed records new) standing own
 push_tcp records new standing own i = record { quiet = λ k o op at c. i.quiet k o op (push_was tcp_sort udp_sort (λ t. refl) records new k _ at) c; goes = λ k o op at c. i.goes k o op (push_was tcp_sort udp_sort (λ t. refl) records new k _ at) c }
 
-push_create : (records : List Record) (create : Create) (standing : Option Standing) (own : Own) → Connects records standing own → Connects (udp2_pushed records (Udp2Socket.Creating create)) standing own
+push_create : (records : List Record) (create : Create) (standing : Option Standing) (own : Own) → Connects records standing own → Connects (udp2_pushed records (UdpRecord.Creating create)) standing own
 push_create records create standing own i = record { quiet = λ k o op at c. i.quiet k o op (was k o at) c; goes = λ k o op at c. i.goes k o op (was k o at) c }
   where
-    was : (k : ℕ) (o : OpenUdp) → udp2_at (udp2_pushed records (Udp2Socket.Creating create)) k ≡ Some (Udp2Socket.Open o) → udp2_at records k ≡ Some (Udp2Socket.Open o)
-    was k o at = elim (push_found udp_sort records (Udp2Socket.Creating create) k (Udp2Socket.Open o) at) [ inl e ↦ e | inr e ↦ absurd (let x = e.0 in cc) ]
+    was : (k : ℕ) (o : OpenUdp) → udp2_at (udp2_pushed records (UdpRecord.Creating create)) k ≡ Some (UdpRecord.Open o) → udp2_at records k ≡ Some (UdpRecord.Open o)
+    was k o at = elim (push_found udp_sort records (UdpRecord.Creating create) k (UdpRecord.Open o) at) [ inl e ↦ e | inr e ↦ absurd (let x = e.0 in cc) ]
 
 pub found : {new : LookupOp → Type 0} (h : Here) (records : List Record) → SameSockets new h.machine.store.records records → Quiet h → Connects records h.machine.store.standing h.own × CallsSo h.made h.machine.store.standing
 found h records same i = (record { quiet = λ k o op at c. i.0.quiet k o op (sym (same.udp k) ∙ at) c; goes = λ k o op at c. i.0.goes k o op (sym (same.udp k) ∙ at) c }, i.1)
 
 -- a UDP socket's record, which is as this one
-module _ (records : List Record) (standing : Option Standing) (own now : Own) (place : ℕ) (u : Udp2Socket) where
+module _ (records : List Record) (standing : Option Standing) (own now : Own) (place : ℕ) (u : UdpRecord) where
   abbrev Its : Type 0
-  Its = (o : OpenUdp) (op : Operation) → u ≡ Udp2Socket.Open o → o.connecting ≡ Some op → (has_streams o ≡ false) × GoesBy standing now place
+  Its = (o : OpenUdp) (op : Operation) → u ≡ UdpRecord.Open o → o.connecting ≡ Some op → (has_streams o ≡ false) × GoesBy standing now place
 
   put_by : Its → ((k : ℕ) → own ≡ ToConnect k → now ≡ ToConnect k) → Connects records standing own → Connects (udp2_put records place u) standing now
   put_by its stay i = record { quiet = λ k o op at c. (both k o op at c).0; goes = λ k o op at c. (both k o op at c).1 }
     where
-      both : (k : ℕ) (o : OpenUdp) (op : Operation) → udp2_at (udp2_put records place u) k ≡ Some (Udp2Socket.Open o) → o.connecting ≡ Some op → (has_streams o ≡ false) × GoesBy standing now k
-      both k o op at c = elim (put_found udp_sort records place u k (Udp2Socket.Open o) at) [
+      both : (k : ℕ) (o : OpenUdp) (op : Operation) → udp2_at (udp2_put records place u) k ≡ Some (UdpRecord.Open o) → o.connecting ≡ Some op → (has_streams o ≡ false) × GoesBy standing now k
+      both k o op at c = elim (put_found udp_sort records place u k (UdpRecord.Open o) at) [
         | inl here ↦ (let x = its o op here.1 c in (x.0, subst (GoesBy standing now) (sym here.0) x.1))
         | inr other ↦ (i.quiet k o op other c, elim (i.goes k o op other c) [ inl s ↦ inl s | inr e ↦ inr (stay k e) ])
       ]
 
 -- of which no connect is in progress
-pub put_none : (h : Here) (place : ℕ) (u : Udp2Socket) → ((o : OpenUdp) (op : Operation) → u ≡ Udp2Socket.Open o → o.connecting ≡ Some op → ⊥) → Quiet h → Quiet (put_udp h place u)
+pub put_none : (h : Here) (place : ℕ) (u : UdpRecord) → ((o : OpenUdp) (op : Operation) → u ≡ UdpRecord.Open o → o.connecting ≡ Some op → ⊥) → Quiet h → Quiet (put_udp h place u)
 put_none h place u none i = (put_by h.machine.store.records h.machine.store.standing h.own h.own place u (λ o op e c. absurd (none o op e c)) (λ k e. e) i.0, i.1)
 
 false_too : (a b : Bool) → (b ≡ true → a ≡ true) → a ≡ false → b ≡ false
@@ -117,34 +117,34 @@ false_too a true less e = absurd (let t = less refl in cc)
 false_too a false less e = refl
 
 -- the same connect, and no more streams
-module _ (h : Here) (place : ℕ) (o now : OpenUdp) (g : FoundUdp h place (Udp2Socket.Open o)) (same : now.connecting ≡ o.connecting) (less : has_streams now ≡ true → has_streams o ≡ true) where
-  its : (i : Quiet h) (x : OpenUdp) (op : Operation) → Udp2Socket.Open now ≡ Udp2Socket.Open x → x.connecting ≡ Some op → (has_streams x ≡ false) × GoesBy h.machine.store.standing h.own place
+module _ (h : Here) (place : ℕ) (o now : OpenUdp) (g : FoundUdp h place (UdpRecord.Open o)) (same : now.connecting ≡ o.connecting) (less : has_streams now ≡ true → has_streams o ≡ true) where
+  its : (i : Quiet h) (x : OpenUdp) (op : Operation) → UdpRecord.Open now ≡ UdpRecord.Open x → x.connecting ≡ Some op → (has_streams x ≡ false) × GoesBy h.machine.store.standing h.own place
   its i x op e c =
       let is : now ≡ x = cc in
       let was : o.connecting ≡ Some op = sym same ∙ (ap (λ (y : OpenUdp). y.connecting) is ∙ c) in
       (subst (λ (y : OpenUdp). has_streams y ≡ false) is (false_too (has_streams o) (has_streams now) less (i.0.quiet place o op g was)), i.0.goes place o op g was)
 
-  pub put_open : Quiet h → Quiet (put_udp h place (Udp2Socket.Open now))
-  put_open i = (put_by h.machine.store.records h.machine.store.standing h.own h.own place (Udp2Socket.Open now) (its i) (λ k e. e) i.0, i.1)
+  pub put_open : Quiet h → Quiet (put_udp h place (UdpRecord.Open now))
+  put_open i = (put_by h.machine.store.records h.machine.store.standing h.own h.own place (UdpRecord.Open now) (its i) (λ k e. e) i.0, i.1)
 
 -- streams that a line makes which has begun nothing: no connect is in progress
-new_streams : (h : Here) (place : ℕ) (o now : OpenUdp) → FoundUdp h place (Udp2Socket.Open o) → now.connecting ≡ o.connecting → h.own ≡ Unused → NoStartStands h.machine.store.standing → Quiet h → Quiet (put_udp h place (Udp2Socket.Open now))
-new_streams h place o now g same own q i = put_none h place (Udp2Socket.Open now) none i
+new_streams : (h : Here) (place : ℕ) (o now : OpenUdp) → FoundUdp h place (UdpRecord.Open o) → now.connecting ≡ o.connecting → h.own ≡ Unused → NoStartStands h.machine.store.standing → Quiet h → Quiet (put_udp h place (UdpRecord.Open now))
+new_streams h place o now g same own q i = put_none h place (UdpRecord.Open now) none i
   where
-    none : (x : OpenUdp) (op : Operation) → Udp2Socket.Open now ≡ Udp2Socket.Open x → x.connecting ≡ Some op → ⊥
+    none : (x : OpenUdp) (op : Operation) → UdpRecord.Open now ≡ UdpRecord.Open x → x.connecting ≡ Some op → ⊥
     none x op e c =
         let is : now ≡ x = cc in
         elim (i.0.goes place o op g (sym same ∙ (ap (λ (y : OpenUdp). y.connecting) is ∙ c))) [ inl s ↦ none_stands h.machine.store.standing place (no_start h.machine.store.standing q) s | inr e ↦ absurd (let p : Unused ≡ ToConnect place = sym own ∙ e in cc) ]
 
-changed : (h : Here) (place : ℕ) (o now : OpenUdp) → FoundUdp h place (Udp2Socket.Open o) → now.connecting ≡ o.connecting → (has_streams now ≡ true → has_streams o ≡ true) ⊎ ((h.own ≡ Unused) × NoStart h) → Quiet h → Quiet (put_udp h place (Udp2Socket.Open now))
+changed : (h : Here) (place : ℕ) (o now : OpenUdp) → FoundUdp h place (UdpRecord.Open o) → now.connecting ≡ o.connecting → (has_streams now ≡ true → has_streams o ≡ true) ⊎ ((h.own ≡ Unused) × NoStart h) → Quiet h → Quiet (put_udp h place (UdpRecord.Open now))
 changed h place o now g same keeps i = elim keeps [ inl less ↦ put_open h place o now g same less i | inr new ↦ new_streams h place o now g same new.0 new.1 i ]
 
 -- one is given back
 fewer : (h : Here) (place : ℕ) → Quiet h → Quiet (walk.without_record h place)
 fewer h place i = (
   record {
-    quiet = λ k o op at c. i.0.quiet k o op (was_there udp2_of refl h.machine.store.records place k (Udp2Socket.Open o) at) c;
-    goes = λ k o op at c. i.0.goes k o op (was_there udp2_of refl h.machine.store.records place k (Udp2Socket.Open o) at) c;
+    quiet = λ k o op at c. i.0.quiet k o op (was_there udp2_of refl h.machine.store.records place k (UdpRecord.Open o) at) c;
+    goes = λ k o op at c. i.0.goes k o op (was_there udp2_of refl h.machine.store.records place k (UdpRecord.Open o) at) c;
   },
   i.1,
 )
@@ -154,11 +154,11 @@ spent : (h : Here) (own was : Own) → h.own ≡ was → ((k : ℕ) → was ≡ 
 spent h own was e none i = (owns h.machine.store.records h.machine.store.standing h.own own (λ k c. none k (sym e ∙ c)) i.0, i.1)
 
 -- and a record changes
-begun_tcp : (h : Here) (place : ℕ) (now : Tcp2Socket) (own was : Own) → h.own ≡ was → ((k : ℕ) → was ≡ ToConnect k → ⊥) → Quiet h → Quiet (record (put h place now) { own = own })
+begun_tcp : (h : Here) (place : ℕ) (now : TcpRecord) (own was : Own) → h.own ≡ was → ((k : ℕ) → was ≡ ToConnect k → ⊥) → Quiet h → Quiet (record (put h place now) { own = own })
 begun_tcp h place now own was e none i = spent (put h place now) own was e none (put_tcp h place now i)
 
-begun_udp : (h : Here) (place : ℕ) (o now : OpenUdp) → FoundUdp h place (Udp2Socket.Open o) → now.connecting ≡ o.connecting → (has_streams now ≡ true → has_streams o ≡ true) → (own was : Own) → h.own ≡ was → ((k : ℕ) → was ≡ ToConnect k → ⊥) → Quiet h → Quiet (record (put_udp h place (Udp2Socket.Open now)) { own = own })
-begun_udp h place o now g same less own was e none i = spent (put_udp h place (Udp2Socket.Open now)) own was e none (put_open h place o now g same less i)
+begun_udp : (h : Here) (place : ℕ) (o now : OpenUdp) → FoundUdp h place (UdpRecord.Open o) → now.connecting ≡ o.connecting → (has_streams now ≡ true → has_streams o ≡ true) → (own was : Own) → h.own ≡ was → ((k : ℕ) → was ≡ ToConnect k → ⊥) → Quiet h → Quiet (record (put_udp h place (UdpRecord.Open now)) { own = own })
+begun_udp h place o now g same less own was e none i = spent (put_udp h place (UdpRecord.Open now)) own was e none (put_open h place o now g same less i)
 
 unused : (k : ℕ) → Unused ≡ ToConnect k → ⊥
 unused k e = absurd (cc)
@@ -173,9 +173,9 @@ to_write : (side : OpId) (bytes : List ℕ) (k : ℕ) → Own.ToWrite side bytes
 to_write side bytes k e = absurd (cc)
 
 -- a connect begins
-begins : (h : Here) (place : ℕ) (o : OpenUdp) (op : Operation) → has_streams o ≡ false → h.own ≡ Unused → Quiet h → Quiet (record (put_udp h place (Udp2Socket.Open (record o { connecting = Some op }))) { own = ToConnect place })
+begins : (h : Here) (place : ℕ) (o : OpenUdp) (op : Operation) → has_streams o ≡ false → h.own ≡ Unused → Quiet h → Quiet (record (put_udp h place (UdpRecord.Open (record o { connecting = Some op }))) { own = ToConnect place })
 begins h place o op none own i = (
-  put_by h.machine.store.records h.machine.store.standing h.own (ToConnect place) place (Udp2Socket.Open (record o { connecting = Some op }))
+  put_by h.machine.store.records h.machine.store.standing h.own (ToConnect place) place (UdpRecord.Open (record o { connecting = Some op }))
       (λ x p e c. (let is : record o { connecting = Some op } ≡ x = cc in subst (λ (y : OpenUdp). has_streams y ≡ false) is none, inr refl)) (λ k e. absurd (unused k (sym own ∙ e))) i.0,
   i.1,
 )
@@ -184,12 +184,12 @@ begins h place o op none own i = (
 ended : (h : Here) (place : ℕ) → h.own ≡ ToConnect place → walk.ConnectIsOver h place → Quiet h → Quiet (record h { own = Used })
 ended h place own over i = (record { quiet = i.0.quiet; goes = λ k o op at c. elim (i.0.goes k o op at c) [ inl s ↦ inl s | inr e ↦ inl (by_place k o op at c (let p : ToConnect k ≡ ToConnect place = sym e ∙ own in cc) over) ] }, i.1)
   where
-    by_place : (k : ℕ) (o : OpenUdp) (op : Operation) → udp2_at h.machine.store.records k ≡ Some (Udp2Socket.Open o) → o.connecting ≡ Some op → k ≡ place → walk.ConnectIsOver h place → ConnectStands h.machine.store.standing k
-    by_place k o op at c e (inl none) = absurd (none o op (subst (λ (x : ℕ). udp2_at h.machine.store.records x ≡ Some (Udp2Socket.Open o)) e at) c)
+    by_place : (k : ℕ) (o : OpenUdp) (op : Operation) → udp2_at h.machine.store.records k ≡ Some (UdpRecord.Open o) → o.connecting ≡ Some op → k ≡ place → walk.ConnectIsOver h place → ConnectStands h.machine.store.standing k
+    by_place k o op at c e (inl none) = absurd (none o op (subst (λ (x : ℕ). udp2_at h.machine.store.records x ≡ Some (UdpRecord.Open o)) e at) c)
     by_place k o op at c e (inr s) = subst (ConnectStands h.machine.store.standing) (sym e) s
 
 -- == of the moves
-goes_none : (call : StandingCall) (r : Tcp2Socket) → GoesOn call r → NoConnectIn call
+goes_none : (call : StandingCall) (r : TcpRecord) → GoesOn call r → NoConnectIn call
 goes_none (StandingCall.UdpConnect place handle) r k = k
 goes_none _ r k = tt
 
@@ -249,23 +249,23 @@ module _ (contexts : List WasiSocketsCtx) (line : ℕ) (origin : Step) where
   moves_quiet _ _ _ i = i
 
   -- a create that was polled has no connect, nor has a socket that is closed
-  created_none : (create : Create) (end : End × List Item) (o : OpenUdp) (op : Operation) → udp_create_left create end ≡ Udp2Socket.Open o → o.connecting ≡ Some op → ⊥
+  created_none : (create : Create) (end : End × List Item) (o : OpenUdp) (op : Operation) → udp_create_left create end ≡ UdpRecord.Open o → o.connecting ≡ Some op → ⊥
   created_none create (Waits, items) o op e c = absurd (cc)
-  created_none create (Done given, items) o op e c = absurd (let none : o.connecting ≡ None = (let p : udp_create_left create (Done given, items) ≡ Udp2Socket.Open o = e in cc) in cc)
+  created_none create (Done given, items) o op e c = absurd (let none : o.connecting ≡ None = (let p : udp_create_left create (Done given, items) ≡ UdpRecord.Open o = e in cc) in cc)
   created_none create (Refused code given, items) o op e c = absurd (cc)
 
-  pub closed_none : (side : OpId) (o : OpenUdp) (op : Operation) → Udp2Socket.Closed side ≡ Udp2Socket.Open o → o.connecting ≡ Some op → ⊥
+  pub closed_none : (side : OpId) (o : OpenUdp) (op : Operation) → UdpRecord.Closed side ≡ UdpRecord.Open o → o.connecting ≡ Some op → ⊥
   closed_none side o op e c = absurd (cc)
 
   -- a connect that was polled goes on, or is none
-  polled_connect : (h : Here) (place : ℕ) (o : OpenUdp) (op : Operation) → FoundUdp h place (Udp2Socket.Open o) → o.connecting ≡ Some op → (end : End × List Item) → Quiet h → Quiet (put_udp h place (Udp2Socket.Open (udp_connect_left op o end)))
+  polled_connect : (h : Here) (place : ℕ) (o : OpenUdp) (op : Operation) → FoundUdp h place (UdpRecord.Open o) → o.connecting ≡ Some op → (end : End × List Item) → Quiet h → Quiet (put_udp h place (UdpRecord.Open (udp_connect_left op o end)))
   polled_connect h place o op g e (Waits, items) i =
       let none = i.0.quiet place o op g e in
       let goes = i.0.goes place o op g e in
       let now = udp_connect_left op o (Waits, items) in
-      (put_by h.machine.store.records h.machine.store.standing h.own h.own place (Udp2Socket.Open now) (λ x p d c. (let is : now ≡ x = cc in subst (λ (y : OpenUdp). has_streams y ≡ false) is none, goes)) (λ k d. d) i.0, i.1)
-  polled_connect h place o op g e (Done given, items) i = let now = udp_connect_left op o (Done given, items) in put_none h place (Udp2Socket.Open now) (λ x p d c. (let is : now ≡ x = cc in let none : x.connecting ≡ None = ap (λ (y : OpenUdp). y.connecting) (sym is) in absurd (cc))) i
-  polled_connect h place o op g e (Refused code given, items) i = let now = udp_connect_left op o (Refused code given, items) in put_none h place (Udp2Socket.Open now) (λ x p d c. (let is : now ≡ x = cc in let none : x.connecting ≡ None = ap (λ (y : OpenUdp). y.connecting) (sym is) in absurd (cc))) i
+      (put_by h.machine.store.records h.machine.store.standing h.own h.own place (UdpRecord.Open now) (λ x p d c. (let is : now ≡ x = cc in subst (λ (y : OpenUdp). has_streams y ≡ false) is none, goes)) (λ k d. d) i.0, i.1)
+  polled_connect h place o op g e (Done given, items) i = let now = udp_connect_left op o (Done given, items) in put_none h place (UdpRecord.Open now) (λ x p d c. (let is : now ≡ x = cc in let none : x.connecting ≡ None = ap (λ (y : OpenUdp). y.connecting) (sym is) in absurd (cc))) i
+  polled_connect h place o op g e (Refused code given, items) i = let now = udp_connect_left op o (Refused code given, items) in put_none h place (UdpRecord.Open now) (λ x p d c. (let is : now ≡ x = cc in let none : x.connecting ≡ None = ap (λ (y : OpenUdp). y.connecting) (sym is) in absurd (cc))) i
 
   pub polls_quiet : (h : Here) (op : Operation) (after : End × List Item → Here) → Held h op after → (end : End × List Item) → Quiet h → Quiet (after end)
   polls_quiet h _ _ (walk.BindsOn place r op q g e) end i = put_tcp h place _ i
@@ -294,7 +294,7 @@ module _ (contexts : List WasiSocketsCtx) (line : ℕ) (origin : Step) where
   no_room (Made.Calls kind n handles) standing none = absurd none
   no_room _ standing none = tt
 
-  created : (h : Here) (new : Tcp2Socket) → h.own ≡ Unused → Quiet h
+  created : (h : Here) (new : TcpRecord) → h.own ≡ Unused → Quiet h
       → Connects (tcp2_pushed h.machine.store.records new) h.machine.store.standing Used
   created h new own i =
       owns _ h.machine.store.standing h.own Used (λ k c. unused k (sym own ∙ c))
@@ -305,9 +305,9 @@ module _ (contexts : List WasiSocketsCtx) (line : ℕ) (origin : Step) where
   becomes_quiet h _ (IsClosed place r side q g e) i = put_tcp h place _ i
   becomes_quiet h _ (GivenUp place r q g) i = put_tcp h place _ i
   becomes_quiet h _ (UdpLearnt place o socket g e) i = put_open h place o _ g refl (λ some. some) i
-  becomes_quiet h _ (UdpIsClosed place o q g) i = put_none h place (Udp2Socket.Closed o.inner.side) (closed_none o.inner.side) i
+  becomes_quiet h _ (UdpIsClosed place o q g) i = put_none h place (UdpRecord.Closed o.inner.side) (closed_none o.inner.side) i
   becomes_quiet h _ (UdpGivenUp place create q g) i =
-      let side = create.operation.who.side in put_none h place (Udp2Socket.Closed side) (closed_none side) i
+      let side = create.operation.who.side in put_none h place (UdpRecord.Closed side) (closed_none side) i
   becomes_quiet h _ (UdpBegun ctx family r c own m) i = begun h (udp_after_create (own_of line) ctx.name family r) own i
   becomes_quiet h _ (Resolved host records l same) i = found h records same i
   becomes_quiet h _ (HasHandle kind parent made k) i = (i.0, handles_quiet h kind parent made k i)

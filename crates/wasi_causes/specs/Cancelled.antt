@@ -9,11 +9,11 @@ use Rattle.wasi_records.specs.declared.binding.InProgress.TheVariants as doing
 use Rattle.wasi_jobs.specs.declared.job.HostJob.TheVariants.{Datagram}
 use Rattle.wasi_records.specs.declared.listening.Listening.TheVariants.{Not}
 use Rattle.wasi_host.specs.declared.machine.Machine.{Machine}
-use Rattle.wasi_records.specs.declared.socket.Tcp2Socket.{Tcp2Socket}
+use Rattle.wasi_records.specs.declared.socket.TcpRecord.{TcpRecord}
 use Rattle.wasi_host.specs.declared.store.StandingCall.{StandingCall}
 use Rattle.wasi_host.specs.declared.store.StandingCall.TheVariants.{Bind, Listen, DropOutput, UdpCreate, UdpBind, UdpConnect, DropOutgoing, Blocking}
 use Rattle.wasi_records.specs.declared.udp.OpenUdp.{OpenUdp}
-use Rattle.wasi_records.specs.declared.udp.Udp2Socket.TheVariants as udp
+use Rattle.wasi_records.specs.declared.udp.UdpRecord.TheVariants as udp
 use Rattle.wasi_records.specs.declared.udp.UdpInProgress.TheVariants as udp_doing
 use Rattle.wasi_host.specs.Cancel.{without_datagrams}
 use Rattle.wasi_records.specs.Listening.{with_listening}
@@ -38,7 +38,7 @@ abbrev pub OnlyUnstands : Machine → List Entry → Machine → Type 0
 OnlyUnstands m es after = (es ≡ []) × (after ≡ nothing_stands m)
 
 -- What is left of a listen: its network socket was closed, and none is left of its socket, where that one had none any more.
-pub record ListenGivenUp (m : Machine) (place : ℕ) (r : Tcp2Socket) (es : List Entry) (after : Machine) : Type 0 where
+pub record ListenGivenUp (m : Machine) (place : ℕ) (r : TcpRecord) (es : List Entry) (after : Machine) : Type 0 where
   pub asked : es ≡ listening_given_up r.listening
   pub left : after ≡ putting (nothing_stands m) place (with_listening r Not)
   pub closed : PendingCallsFit m → side_of r.inner ≡ None
@@ -56,8 +56,8 @@ pub record OutgoingGivenUp (m : Machine) (place : ℕ) (o : OpenUdp) (es : List 
 
 -- a bind and a connect leave nothing in progress; an output that waits stays as it is, and what a call that blocks has written or begun
 abbrev pub CancelsBy : Machine → List Entry → Machine → StandingCall → Type 0
-CancelsBy m es after (Bind place) = (r : Tcp2Socket) → tcp2_at m.store.records place ≡ Some r → (es ≡ []) × (after ≡ putting (nothing_stands m) place (with_progress r doing.Nothing))
-CancelsBy m es after (Listen place) = (r : Tcp2Socket) → tcp2_at m.store.records place ≡ Some r → ListenGivenUp m place r es after
+CancelsBy m es after (Bind place) = (r : TcpRecord) → tcp2_at m.store.records place ≡ Some r → (es ≡ []) × (after ≡ putting (nothing_stands m) place (with_progress r doing.Nothing))
+CancelsBy m es after (Listen place) = (r : TcpRecord) → tcp2_at m.store.records place ≡ Some r → ListenGivenUp m place r es after
 CancelsBy m es after (DropOutput place) = OnlyUnstands m es after
 CancelsBy m es after (UdpCreate place) = (create : Create) → udp2_at m.store.records place ≡ Some (udp.Creating create) → CreateGivenUp m place create es after
 CancelsBy m es after (UdpBind place) = (o : OpenUdp) → open_at m.store.records place ≡ Some o → (es ≡ []) × (after ≡ putting_udp (nothing_stands m) place (with_udp_progress o udp_doing.Nothing))

@@ -6,7 +6,7 @@ use Rattle.wasi_world.specs.declared.call.HandleKind.TheVariants.{ErrorValue}
 use Rattle.wasi_world.specs.declared.call.Told.TheVariants.{Done}
 use Rattle.wasi_world.specs.declared.ids.OpId.{OpId}
 use Rattle.wasi_records.specs.Records.{tcp2_at}
-use Rattle.wasi_records.specs.declared.socket.Tcp2Socket.{Tcp2Socket}
+use Rattle.wasi_records.specs.declared.socket.TcpRecord.{TcpRecord}
 use Rattle.wasi_host.specs.declared.machine.Machine.{Machine}
 use Rattle.wasi_walks.specs.Licence.{entry}
 
@@ -15,7 +15,7 @@ use Rattle.wasi_walks.specs.Licence.{entry}
 pub record MarksItsSocket (m : Machine) (own : OpId) (stream : ℕ) (number : Option ℕ) (entries : List Entry)
     : Type 0 where
   pub place : ℕ
-  pub found : Tcp2Socket
+  pub found : TcpRecord
   pub names : number ≡ Some place
   pub at : tcp2_at m.store.records place ≡ Some found
   pub before : List Entry

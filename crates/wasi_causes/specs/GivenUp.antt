@@ -32,7 +32,7 @@ use Rattle.wasi_records.specs.declared.listening.Listening.{Listening}
 use Rattle.wasi_records.specs.declared.listening.Listening.TheVariants as listening
 use Rattle.wasi_host.specs.declared.machine.Machine.{Machine}
 use Rattle.wasi_records.specs.declared.socket.Streams.{Streams}
-use Rattle.wasi_records.specs.declared.socket.Tcp2Socket.{Tcp2Socket}
+use Rattle.wasi_records.specs.declared.socket.TcpRecord.{TcpRecord}
 use Rattle.wasi_host.specs.Kinds.{kind_at, without_handle}
 use Rattle.wasi_host.specs.Jobs.{is_on}
 use Rattle.wasi_steps.specs.declared.reply.Reply.{Reply}
@@ -124,7 +124,7 @@ listening_given_up (listening.Accepts l) = accept_given_up l.accept
 listening_given_up (listening.Unclosed side) = entry side (call.Close side) told.Done ∷ []
 
 -- a socket releases what it listens by, its open halves, and then its network socket
-abbrev pub socket_given_up : OpId → Tcp2Socket → List Entry
+abbrev pub socket_given_up : OpId → TcpRecord → List Entry
 socket_given_up own r = listening_given_up r.listening ++ streams_given_up own r.streams ++ side_closed own (side_of r.inner)
 
 -- Nothing is left of what was dropped: the machine is as it was without the handle, but that the record was given back, and no job is
@@ -140,7 +140,7 @@ pub data LooksOnce (own : OpId) : List Entry → Type 0 where
 
 -- == a shutdown
 -- it is the record of a socket whose streams weren't made yet
-abbrev pub HasNoStreams : Option Tcp2Socket → Type 0
+abbrev pub HasNoStreams : Option TcpRecord → Type 0
 HasNoStreams found = IsSomeAnd found (λ r. r.streams ≡ None)
 
 -- the network socket of a write's half, where the write ended well

@@ -13,7 +13,7 @@ use Rattle.wasi_tcp.specs.declared.socket.TcpState.TheVariants as state
 use Rattle.socket_common.specs.Options.{largest_value, zero_test, value_set, value_told, refused_before, refused_after}
 use Rattle.wasi_tcp.specs.Options.{option_side, with_backlog}
 use Rattle.wasi_host.specs.declared.machine.Machine.{Machine}
-use Rattle.wasi_records.specs.declared.socket.Tcp2Socket.{Tcp2Socket}
+use Rattle.wasi_records.specs.declared.socket.TcpRecord.{TcpRecord}
 use Rattle.wasi_records.specs.Sockets.{with_inner}
 use Rattle.wasi_steps.specs.declared.reply.CodeWord.{CodeWord}
 use Rattle.wasi_steps.specs.declared.reply.CodeWord.TheVariants as word
@@ -27,7 +27,7 @@ use Rattle.wasi_steps.specs.Settings.{Chosen, AnOption, TheBacklog, chosen}
 -- == refusals
 -- A get is refused: the socket connects, or is closed with a code, and nothing is asked; or its network socket returned a code;
 -- or its network socket returned a value that is too large for the option.
-pub data GetRefusal (own : OpId) (option : Opt) (r : Tcp2Socket) : List Entry → CodeWord → Type 0 where
+pub data GetRefusal (own : OpId) (option : Opt) (r : TcpRecord) : List Entry → CodeWord → Type 0 where
   GetConnects : (op : Operation) → r.inner.state ≡ state.Connecting op → GetRefusal own option r [] word.InvalidState
   GetClosed : (c : ErrorCode) → r.inner.state ≡ state.Closed c → GetRefusal own option r [] (word_of_code c)
   GetTold : (side : OpId) (c : ErrorCode) → option_side r.inner ≡ Ok side → GetRefusal own option r (entry own (call.GetOption side option) (told.Code c) ∷ []) (word_of_code c)
@@ -37,7 +37,7 @@ pub data GetRefusal (own : OpId) (option : Opt) (r : Tcp2Socket) : List Entry �
 -- A set is refused: 0 is no value of the option, which is tested before the state; or the socket connects, or is closed with a
 -- code; or it has a network socket that may be asked, and 0 is no value of the option; or, the value being one, its network
 -- socket returned a code. Only then is anything asked.
-pub data SetRefusal (own : OpId) (option : Opt) (value : ℕ) (r : Tcp2Socket) : List Entry → CodeWord → Type 0 where
+pub data SetRefusal (own : OpId) (option : Opt) (value : ℕ) (r : TcpRecord) : List Entry → CodeWord → Type 0 where
   ZeroBefore : refused_before (zero_test option) value ≡ true → SetRefusal own option value r [] word.InvalidArgument
   SetConnects : (op : Operation) → refused_before (zero_test option) value ≡ false → r.inner.state ≡ state.Connecting op → SetRefusal own option value r [] word.InvalidState
   SetClosed : (c : ErrorCode) → refused_before (zero_test option) value ≡ false → r.inner.state ≡ state.Closed c → SetRefusal own option value r [] (word_of_code c)
@@ -48,7 +48,7 @@ pub data SetRefusal (own : OpId) (option : Opt) (value : ℕ) (r : Tcp2Socket) :
 
 -- A set of the backlog is refused: it is 0, in any state; or the socket connects, or is connected, or is closed with a code; or
 -- the network socket that listens returned a code, whichever.
-pub data BacklogRefusal (own : OpId) (value : ℕ) (r : Tcp2Socket) : List Entry → CodeWord → Type 0 where
+pub data BacklogRefusal (own : OpId) (value : ℕ) (r : TcpRecord) : List Entry → CodeWord → Type 0 where
   ZeroBacklog : value ≡ 0 → BacklogRefusal own value r [] word.InvalidArgument
   StillConnects : (op : Operation) → 0 < value → r.inner.state ≡ state.Connecting op → BacklogRefusal own value r [] word.InvalidState
   IsConnected : (connection : Connection) → 0 < value → r.inner.state ≡ state.Connected connection → BacklogRefusal own value r [] word.InvalidState
@@ -57,7 +57,7 @@ pub data BacklogRefusal (own : OpId) (value : ℕ) (r : Tcp2Socket) : List Entry
       → BacklogRefusal own value r (entry own (call.SetBacklog side (clamped_backlog value)) (told.Code c) ∷ []) word.NotSupported
 
 -- the record's call is refused so, and the machine stays as it was
-abbrev pub RefusedHere : Machine → (Tcp2Socket → List Entry → CodeWord → Type 0) → ℕ → Tcp2Socket → List Entry → CodeWord → Machine → Type 0
+abbrev pub RefusedHere : Machine → (TcpRecord → List Entry → CodeWord → Type 0) → ℕ → TcpRecord → List Entry → CodeWord → Machine → Type 0
 RefusedHere m Cause place r entries reply after = Cause r entries reply × (after ≡ m)
 
 -- the get of an option of the handle's socket was refused
@@ -65,7 +65,7 @@ abbrev pub RefusedGet : Machine → OpId → ℕ → Opt → List Entry → Code
 RefusedGet m own handle option = RefusedOf m handle (RefusedHere m (GetRefusal own option))
 
 -- why the set of what was chosen is refused
-abbrev pub ChosenRefusal : OpId → Chosen → Tcp2Socket → List Entry → CodeWord → Type 0
+abbrev pub ChosenRefusal : OpId → Chosen → TcpRecord → List Entry → CodeWord → Type 0
 ChosenRefusal own (AnOption option value) = SetRefusal own option value
 ChosenRefusal own (TheBacklog value) = BacklogRefusal own value
 
@@ -76,7 +76,7 @@ RefusedSet m own handle setting = RefusedOf m handle (RefusedHere m (ChosenRefus
 -- == what is got and set
 -- The one thing asked was the option of the socket's network socket, and the fields are the number that it was answered, as the
 -- option reads it, which isn't too large.
-pub record GetsOption (own : OpId) (option : Opt) (r : Tcp2Socket) (fields : List Field) (entries : List Entry) : Type 0 where
+pub record GetsOption (own : OpId) (option : Opt) (r : TcpRecord) (fields : List Field) (entries : List Entry) : Type 0 where
   pub side : OpId
   pub value : ℕ
   pub has : option_side r.inner ≡ Ok side
@@ -86,7 +86,7 @@ pub record GetsOption (own : OpId) (option : Opt) (r : Tcp2Socket) (fields : Lis
 
 -- The value wasn't refused, and the one thing asked was to set the option of the socket's network socket to it, brought into
 -- its range, and that was answered done.
-pub record SetsOption (own : OpId) (option : Opt) (value : ℕ) (r : Tcp2Socket) (entries : List Entry) : Type 0 where
+pub record SetsOption (own : OpId) (option : Opt) (value : ℕ) (r : TcpRecord) (entries : List Entry) : Type 0 where
   pub side : OpId
   pub has : option_side r.inner ≡ Ok side
   pub before : refused_before (zero_test option) value ≡ false
@@ -95,15 +95,15 @@ pub record SetsOption (own : OpId) (option : Opt) (value : ℕ) (r : Tcp2Socket)
 
 -- The backlog is kept for a listen to come, and nothing was asked; or the network socket that listens was asked to take it, and
 -- that was answered done.
-pub data SetsBacklog (own : OpId) (value : ℕ) (r : Tcp2Socket) : List Entry → Type 0 where
+pub data SetsBacklog (own : OpId) (value : ℕ) (r : TcpRecord) : List Entry → Type 0 where
   KeptForListen : (side : OpId) → r.inner.state ≡ state.Default side → SetsBacklog own value r []
   ToldListener : (side : OpId) → r.inner.state ≡ state.Listening side → SetsBacklog own value r (entry own (call.SetBacklog side (clamped_backlog value)) told.Done ∷ [])
 
 -- the machine, where the socket has the backlog, brought into its range
-abbrev pub keeping_backlog : Machine → ℕ → Tcp2Socket → ℕ → Machine
+abbrev pub keeping_backlog : Machine → ℕ → TcpRecord → ℕ → Machine
 keeping_backlog m place r value = putting m place (with_inner r (with_backlog r.inner (clamped_backlog value)))
 
 -- what was chosen is set: an option, and the machine stays; or a backlog other than 0, and the socket keeps it
-abbrev pub SetsChosen : Machine → OpId → Chosen → ℕ → Tcp2Socket → List Entry → Machine → Type 0
+abbrev pub SetsChosen : Machine → OpId → Chosen → ℕ → TcpRecord → List Entry → Machine → Type 0
 SetsChosen m own (AnOption option value) place r entries after = SetsOption own option value r entries × (after ≡ m)
 SetsChosen m own (TheBacklog value) place r entries after = (0 < value) × SetsBacklog own value r entries × (after ≡ keeping_backlog m place r value)

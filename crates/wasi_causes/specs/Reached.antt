@@ -13,7 +13,7 @@ use Rattle.wasi_host.specs.declared.kind.Watched.TheVariants as watched
 use Rattle.wasi_records.specs.declared.listening.Listening.{Listening}
 use Rattle.wasi_records.specs.declared.listening.Listening.TheVariants as listening
 use Rattle.wasi_host.specs.declared.machine.Machine.{Machine}
-use Rattle.wasi_records.specs.declared.socket.Tcp2Socket.{Tcp2Socket}
+use Rattle.wasi_records.specs.declared.socket.TcpRecord.{TcpRecord}
 use Rattle.wasi_host.specs.Kinds.{place_in}
 use Rattle.wasi_records.specs.InProgress.{is_connect}
 use Rattle.wasi_walks.specs.Answered.{record_at}
@@ -69,7 +69,7 @@ MayFinish (state.Connected c) = (c.receive_taken ≡ false) × (c.send_taken ≡
 MayFinish _ = ⊥
 
 -- where the record has a connect in progress, that may be finished
-abbrev pub Finishes : Tcp2Socket → Type 0
+abbrev pub Finishes : TcpRecord → Type 0
 Finishes r = is_connect r.in_progress ≡ true → MayFinish r.inner.state
 
 abbrev pub FinishesAt : Machine → ℕ → Type 0
@@ -77,7 +77,7 @@ FinishesAt m handle = IfSome (record_at m handle) Finishes
 
 -- == a listen
 -- a socket that does nothing yet has no listener, and none begins
-abbrev pub ListensLate : Tcp2Socket → Type 0
+abbrev pub ListensLate : TcpRecord → Type 0
 ListensLate r = (side : OpId) → r.inner.state ≡ state.Default side → r.listening ≡ listening.Not
 
 abbrev pub ListensLateAt : Machine → ℕ → Type 0

@@ -18,7 +18,7 @@ use Rattle.wasi_records.specs.declared.records.Record.{Record}
 use Rattle.wasi_records.specs.declared.udp.OpenUdp.{OpenUdp}
 use Rattle.wasi_host.specs.declared.machine.Machine.{Machine}
 use Rattle.wasi_records.specs.declared.socket.Streams.{Streams}
-use Rattle.wasi_records.specs.declared.socket.Tcp2Socket.{Tcp2Socket}
+use Rattle.wasi_records.specs.declared.socket.TcpRecord.{TcpRecord}
 use Rattle.wasi_walks.specs.Answered.{streams_in}
 use Rattle.wasi_walks.specs.Licence.{Has}
 
@@ -34,7 +34,7 @@ writer_asks_by None = None
 writer_asks_by (Some s) = writes_by s.writer
 
 -- by which operation the write of a record asks
-abbrev pub job_of : Option Tcp2Socket → Option OpId
+abbrev pub job_of : Option TcpRecord → Option OpId
 job_of found = writer_asks_by (streams_in found)
 
 -- by which operation a datagram is sent in the background, and by which one is received

@@ -27,8 +27,8 @@ use Rattle.wasi_host.specs.declared.machine.Machine.{Machine}
 use Rattle.wasi_host.specs.declared.store.StandingCall.{StandingCall}
 use Rattle.wasi_host.specs.declared.store.StandingCall.TheVariants as standing
 use Rattle.wasi_records.specs.declared.udp.OpenUdp.{OpenUdp}
-use Rattle.wasi_records.specs.declared.udp.Udp2Socket.{Udp2Socket}
-use Rattle.wasi_records.specs.declared.udp.Udp2Socket.TheVariants as udp
+use Rattle.wasi_records.specs.declared.udp.UdpRecord.{UdpRecord}
+use Rattle.wasi_records.specs.declared.udp.UdpRecord.TheVariants as udp
 use Rattle.wasi_records.specs.declared.udp.UdpInProgress.TheVariants as doing
 use Rattle.wasi_records.specs.Datagrams.{has_streams}
 use Rattle.wasi_host.specs.Kinds.{kind_at, watch_of, with_handle}
@@ -89,11 +89,11 @@ abbrev pub writable_entry : OpId → Told → Entry
 writable_entry own told = entry own (call.UdpWritable own) told
 
 -- the machine, with the record of a network socket that was made
-abbrev pub with_udp_record : Machine → Udp2Socket → Machine
+abbrev pub with_udp_record : Machine → UdpRecord → Machine
 with_udp_record m u = record m { store = record m.store { records = udp2_pushed m.store.records u } }
 
 -- the record of a socket that was made so, which is in the middle of nothing
-abbrev pub new_udp : OpId → WasiSocketsCtx → SocketAddressFamily → Udp2Socket
+abbrev pub new_udp : OpId → WasiSocketsCtx → SocketAddressFamily → UdpRecord
 new_udp own ctx family = opened_udp (made_by (new_create own ctx.name family))
 
 -- A create is refused: the context may not use UDP, and nothing is asked; or the create returned a code, and nothing is made; or
@@ -242,12 +242,12 @@ pub record SetsUdpOption (own : OpId) (setting : UdpSetting) (o : OpenUdp) (entr
 
 -- == the end
 -- a drop closes the network socket of a socket that is made and not closed
-abbrev pub udp_given_up : OpId → Udp2Socket → List Entry
+abbrev pub udp_given_up : OpId → UdpRecord → List Entry
 udp_given_up own (udp.Open o) = entry own (call.Close o.inner.side) told.Done ∷ []
 udp_given_up own _ = []
 
 -- and nothing is left of its record; a create, which has no handle, stays
-abbrev pub udp_left : Machine → ℕ → Udp2Socket → Machine
+abbrev pub udp_left : Machine → ℕ → UdpRecord → Machine
 udp_left m place (udp.Creating create) = m
 udp_left m place (udp.Open o) = giving_back m place
 udp_left m place (udp.Closed side) = giving_back m place

@@ -17,7 +17,7 @@ ghost use Rattle.wasi_host.specs.declared.kind.Kind.{Kind};
 ghost use Rattle.wasi_host.specs.declared.kind.PlainInput.{PlainInput};
 ghost use Rattle.wasi_host.specs.declared.kind.PlainOutput.{PlainOutput};
 ghost use Rattle.wasi_host.specs.declared.machine.Machine.{Machine};
-ghost use Rattle.wasi_records.specs.declared.socket.Tcp2Socket.{Tcp2Socket};
+ghost use Rattle.wasi_records.specs.declared.socket.TcpRecord.{TcpRecord};
 ghost use Rattle.wasi_steps.specs.declared.reply.CodeWord.{CodeWord};
 ghost use Rattle.wasi_steps.specs.declared.reply.Field.{Field};
 ghost use Rattle.wasi_steps.specs.declared.reply.Reply.{Reply};
@@ -214,9 +214,9 @@ pub fn runs_keep_their_records()
         → Left (run contexts [] first_state 1 steps) log (Give (replies, m)) → WatchedIsThere m pollable }
     ensures stands { (contexts : List WasiSocketsCtx) (steps : List Step) (log : List Entry) (replies : List Reply) (m : Machine) (number : ℕ)
         → Left (run contexts [] first_state 1 steps) log (Give (replies, m)) → StandsOnNothing m number → ⊥ }
-    ensures connects { (contexts : List WasiSocketsCtx) (steps : List Step) (log : List Entry) (replies : List Reply) (m : Machine) (place : ℕ) (r : Tcp2Socket)
+    ensures connects { (contexts : List WasiSocketsCtx) (steps : List Step) (log : List Entry) (replies : List Reply) (m : Machine) (place : ℕ) (r : TcpRecord)
         → Left (run contexts [] first_state 1 steps) log (Give (replies, m)) → tcp2_at m.store.records place ≡ Some r → is_connect r.in_progress ≡ true → MayFinish r.inner.state }
-    ensures listens { (contexts : List WasiSocketsCtx) (steps : List Step) (log : List Entry) (replies : List Reply) (m : Machine) (place : ℕ) (r : Tcp2Socket)
+    ensures listens { (contexts : List WasiSocketsCtx) (steps : List Step) (log : List Entry) (replies : List Reply) (m : Machine) (place : ℕ) (r : TcpRecord)
         → Left (run contexts [] first_state 1 steps) log (Give (replies, m)) → tcp2_at m.store.records place ≡ Some r → ListensLate r }
 {}
 
@@ -266,10 +266,10 @@ pub fn drops_give_up_what_is_open()
     ensures socket { (contexts : List WasiSocketsCtx) (m : Machine) (line ctx handle place : ℕ) (entries : List Entry) (reply : Reply) (after : Machine)
         → m.store.standing ≡ None → kind_at m.table handle ≡ Some (Kind.Tcp2 place) → children_of m.table.live handle ≡ []
         → Answered contexts m line (Step.Drop ctx handle) entries reply after → reply ≡ Reply.Ok no_fields }
-    ensures given_up { (contexts : List WasiSocketsCtx) (m : Machine) (line ctx handle : ℕ) (r : Tcp2Socket) (fields : List Field) (entries : List Entry) (after : Machine)
+    ensures given_up { (contexts : List WasiSocketsCtx) (m : Machine) (line ctx handle : ℕ) (r : TcpRecord) (fields : List Field) (entries : List Entry) (after : Machine)
         → record_at m handle ≡ Some r → Answered contexts m line (Step.Drop ctx handle) entries (Reply.Ok fields) after
         → entries ≡ socket_given_up (own_of line) r }
-    ensures gone { (contexts : List WasiSocketsCtx) (m : Machine) (line ctx handle : ℕ) (r : Tcp2Socket) (fields : List Field) (entries : List Entry) (after : Machine)
+    ensures gone { (contexts : List WasiSocketsCtx) (m : Machine) (line ctx handle : ℕ) (r : TcpRecord) (fields : List Field) (entries : List Entry) (after : Machine)
         → record_at m handle ≡ Some r → Answered contexts m line (Step.Drop ctx handle) entries (Reply.Ok fields) after
         → OfRecord m handle (λ place r. IsGone m handle place after) }
     ensures plain { (contexts : List WasiSocketsCtx) (m : Machine) (line ctx handle : ℕ) (kind : Kind) (entries : List Entry) (reply : Reply) (after : Machine)

@@ -8,7 +8,7 @@ ghost use Rattle.wasi_world.specs.declared.ids.Ids.{Ids};
 ghost use Rattle.wasi_world.specs.declared.outcome.WasiSocketsCtx.{WasiSocketsCtx};
 ghost use Rattle.wasi_world.specs.Asks.{Give, Left};
 ghost use Rattle.wasi_tcp.specs.declared.socket.TcpState.{TcpState};
-ghost use Rattle.wasi_records.specs.declared.socket.Tcp2Socket.{Tcp2Socket};
+ghost use Rattle.wasi_records.specs.declared.socket.TcpRecord.{TcpRecord};
 ghost use Rattle.wasi_records.specs.Records.{tcp2_at};
 ghost use Rattle.wasi_host.specs.declared.machine.Machine.{Machine};
 ghost use Rattle.wasi_host.specs.declared.store.StandingCall.{StandingCall};
@@ -83,7 +83,7 @@ pub fn start_listen_refusals()
 ///   code is by which the listen failed, and no listen is in progress.
 /// - `cancelled`: likewise after a cancel of it.
 pub fn listens_leave_a_closed_socket()
-    ensures begins { (contexts : List WasiSocketsCtx) (steps : List Step) (log : List Entry) (replies : List Reply) (m : Machine) (place : ℕ) (r : Tcp2Socket)
+    ensures begins { (contexts : List WasiSocketsCtx) (steps : List Step) (log : List Entry) (replies : List Reply) (m : Machine) (place : ℕ) (r : TcpRecord)
         → Left (run contexts [] first_state 1 steps) log (Give (replies, m)) → tcp2_at m.store.records place ≡ Some r → IsBeginning r.listening → r.inner.state ≡ TcpState.Closed ErrorCode.Other }
     ensures fails { (contexts : List WasiSocketsCtx) (steps : List Step) (log : List Entry) (replies : List Reply) (m : Machine) (line place : ℕ) (ids : Ids) (entries : List Entry) (word : CodeWord) (after : Machine)
         → Left (run contexts [] first_state 1 steps) log (Give (replies, m)) → m.store.standing ≡ Some (standing_as ids (StandingCall.Listen place))

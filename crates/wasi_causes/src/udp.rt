@@ -10,7 +10,7 @@ ghost use Rattle.wasi_world.specs.declared.outcome.TrapKind.{TrapKind};
 ghost use Rattle.wasi_world.specs.declared.outcome.WasiSocketsCtx.{WasiSocketsCtx};
 ghost use Rattle.wasi_host.specs.declared.kind.Kind.{Kind};
 ghost use Rattle.wasi_host.specs.declared.machine.Machine.{Machine};
-ghost use Rattle.wasi_records.specs.declared.udp.Udp2Socket.{Udp2Socket};
+ghost use Rattle.wasi_records.specs.declared.udp.UdpRecord.{UdpRecord};
 ghost use Rattle.wasi_host.specs.Kinds.{is_network, kind_at};
 ghost use Rattle.wasi_host.specs.Machine.{own_of};
 ghost use Rattle.wasi_records.specs.Records.{udp2_at};
@@ -232,10 +232,10 @@ pub fn udp_drops_close()
     ensures socket { (contexts : List WasiSocketsCtx) (m : Machine) (line ctx handle place : ℕ) (entries : List Entry) (reply : Reply) (after : Machine)
         → m.store.standing ≡ None → kind_at m.table handle ≡ Some (Kind.Udp2 place) → children_of m.table.live handle ≡ []
         → Answered contexts m line (Step.Drop ctx handle) entries reply after → reply ≡ Reply.Ok no_fields }
-    ensures closed { (contexts : List WasiSocketsCtx) (m : Machine) (line ctx handle place : ℕ) (u : Udp2Socket) (fields : List Field) (entries : List Entry) (after : Machine)
+    ensures closed { (contexts : List WasiSocketsCtx) (m : Machine) (line ctx handle place : ℕ) (u : UdpRecord) (fields : List Field) (entries : List Entry) (after : Machine)
         → kind_at m.table handle ≡ Some (Kind.Udp2 place) → udp2_at m.store.records place ≡ Some u
         → Answered contexts m line (Step.Drop ctx handle) entries (Reply.Ok fields) after → entries ≡ udp_given_up (own_of line) u }
-    ensures left { (contexts : List WasiSocketsCtx) (m : Machine) (line ctx handle place : ℕ) (u : Udp2Socket) (fields : List Field) (entries : List Entry) (after : Machine)
+    ensures left { (contexts : List WasiSocketsCtx) (m : Machine) (line ctx handle place : ℕ) (u : UdpRecord) (fields : List Field) (entries : List Entry) (after : Machine)
         → kind_at m.table handle ≡ Some (Kind.Udp2 place) → udp2_at m.store.records place ≡ Some u
         → Answered contexts m line (Step.Drop ctx handle) entries (Reply.Ok fields) after → after ≡ udp_left (without m handle) place u }
 {}

@@ -9,7 +9,7 @@ use Rattle.wasi_tcp.specs.Socket.{side_of}
 use Rattle.wasi_tcp.specs.Listener.{accepted_socket, accepted_state}
 use Rattle.wasi_records.specs.Records.{tcp2_at, tcp2_put}
 use Rattle.wasi_records.specs.declared.records.Record.{Record}
-use Rattle.wasi_records.specs.declared.socket.Tcp2Socket.{Tcp2Socket}
+use Rattle.wasi_records.specs.declared.socket.TcpRecord.{TcpRecord}
 use Rattle.wasi_records.specs.Listening.{IsAccepted, Connects, Fails, with_accepted_in, accepted_record, ids_of}
 use Rattle.wasi_host.specs.TcpCalls.{accept_ids_at}
 use Rattle.wasi_records.specs.Sides.{one_if_some, held_in, Balances}
@@ -26,7 +26,7 @@ held_accepted records _ (Connects family maker new peer) = held_in-append record
 held_accepted records _ (Fails family maker c) = omega arith
 
 -- a record gave away so many network sockets, and the records hold them now
-knows_given : {s t : Seen} (store : Records) (place : ℕ) (old now : Tcp2Socket) (given : ℕ) (records : List Record) → tcp2_at store.records place ≡ Some old → Balances s t given old now
+knows_given : {s t : Seen} (store : Records) (place : ℕ) (old now : TcpRecord) (given : ℕ) (records : List Record) → tcp2_at store.records place ≡ Some old → Balances s t given old now
     → held_in records ≡ held_in (tcp2_put store.records place now) + given → KnowsSides s store → KnowsSides t (record store { records = records })
 knows_given store place old now given records g c e k =
     let p = held_in-swap store.records place old now g in
@@ -34,7 +34,7 @@ knows_given store place old now given records g c e k =
     knows_then c.entries store (record store { records = records }) c.passed (omega arith) k
 
 -- also where the records are in a list that was made larger
-pub knows_accepted : {s t : Seen} (store : Records) (place : ℕ) (old now : Tcp2Socket) (socket : Socket) (roomy records : List Record) → roomy ≡ store.records → records ≡ (with_accepted_in (tcp2_put roomy place now) socket).1
+pub knows_accepted : {s t : Seen} (store : Records) (place : ℕ) (old now : TcpRecord) (socket : Socket) (roomy records : List Record) → roomy ≡ store.records → records ≡ (with_accepted_in (tcp2_put roomy place now) socket).1
     → tcp2_at store.records place ≡ Some old → IsAccepted socket → Balances s t (one_if_some (side_of socket)) old now → KnowsSides s store → KnowsSides t (record store { records = records })
 knows_accepted store place old now socket roomy records e f g a c k =
     let same : held_in (tcp2_put roomy place now) ≡ held_in (tcp2_put store.records place now) = ap (λ (l : List Record). held_in (tcp2_put l place now)) e in
@@ -43,13 +43,13 @@ knows_accepted store place old now socket roomy records e f g a c k =
     knows_given store place old now (one_if_some (side_of socket)) records g c (put ∙ (held ∙ ap (λ (n : ℕ). n + one_if_some (side_of socket)) same)) k
 
 -- what is in it
-pub found_still : (roomy records : List Record) (i : ℕ) (x : MutBor Tcp2Socket) → roomy ≡ records → Some x.now ≡ tcp2_at roomy i → tcp2_at records i ≡ Some x.now
+pub found_still : (roomy records : List Record) (i : ℕ) (x : MutBor TcpRecord) → roomy ≡ records → Some x.now ≡ tcp2_at roomy i → tcp2_at records i ≡ Some x.now
 found_still roomy records i x e h = subst (λ (l : List Record). tcp2_at l i ≡ Some x.now) e (found_at roomy i x h)
 
 pub none_still : (roomy records : List Record) (i : ℕ) → roomy ≡ records → None ≡ tcp2_at roomy i → tcp2_at records i ≡ None
 none_still roomy records i e h = subst (λ (l : List Record). tcp2_at l i ≡ None) e (none_at roomy i h)
 
 -- the names that were taken, reported at success
-pub names_left : {T E : Type 0} (r : Result T E) (records : List Record) (place : ℕ) (ids now : Ids) (old : Tcp2Socket) → tcp2_at records place ≡ Some old → now ≡ ids_of old.listening ids → IfOk r (λ t. now ≡ accept_ids_at ids (tcp2_at records place))
+pub names_left : {T E : Type 0} (r : Result T E) (records : List Record) (place : ℕ) (ids now : Ids) (old : TcpRecord) → tcp2_at records place ≡ Some old → now ≡ ids_of old.listening ids → IfOk r (λ t. now ≡ accept_ids_at ids (tcp2_at records place))
 names_left (Ok x) records place ids now old h e = rw h e
 names_left (Err x) records place ids now old h e = tt

@@ -13,7 +13,7 @@ use Rattle.wasi_records.specs.Records.{tcp2_at, tcp2_put}
 use Rattle.wasi_records.specs.declared.records.Record.{Record}
 use Rattle.wasi_jobs.specs.declared.job.HostJob.{HostJob}
 use Rattle.wasi_jobs.specs.declared.job.HostJob.TheVariants.{Write}
-use Rattle.wasi_records.specs.declared.socket.Tcp2Socket.{Tcp2Socket}
+use Rattle.wasi_records.specs.declared.socket.TcpRecord.{TcpRecord}
 use Rattle.wasi_host.specs.Store.{Records, with_socket}
 use Rattle.wasi_records.specs.Halves.{works_in, begins_job}
 use Rattle.wasi_host.specs.Jobs.{jobs_with, with_job, is_going, turn_job, turn_jobs, write_at}
@@ -24,10 +24,10 @@ pub with_job_is : (store : Records) (job : HostJob) (b : Bool) → with_job stor
 with_job_is store job true = refl
 with_job_is store job false = refl
 
-pub noted_as : (store : Records) (place : ℕ) (old now : Tcp2Socket) (b : Bool) (jobs : List HostJob) → tcp2_at store.records place ≡ Some old → b ≡ (not (works_in old.streams) && works_in now.streams) → jobs ≡ jobs_with store.jobs (Write place) b
+pub noted_as : (store : Records) (place : ℕ) (old now : TcpRecord) (b : Bool) (jobs : List HostJob) → tcp2_at store.records place ≡ Some old → b ≡ (not (works_in old.streams) && works_in now.streams) → jobs ≡ jobs_with store.jobs (Write place) b
     → with_job (with_socket store place now) (Write place) (begins_job (Some old) (tcp2_at (tcp2_put store.records place now) place)) ≡ record { records = tcp2_put store.records place now; jobs = jobs; standing = store.standing }
 noted_as store place old now b jobs g e h =
-    ap (λ (found : Option Tcp2Socket). with_job (with_socket store place now) (Write place) (begins_job (Some old) found)) (set_there store.records place now old g)
+    ap (λ (found : Option TcpRecord). with_job (with_socket store place now) (Write place) (begins_job (Some old) found)) (set_there store.records place now old g)
     ∙ (ap (with_job (with_socket store place now) (Write place)) (sym e)
     ∙ (with_job_is (with_socket store place now) (Write place) b ∙ ap (λ (l : List HostJob). let r : Records = record { records = tcp2_put store.records place now; jobs = l; standing = store.standing } in r) (sym h)))
 
@@ -63,6 +63,6 @@ turn_stops first records kept jobs rest job before Q (Err d) q e went h =
     asks_err (bind h.rest (λ now. turn_jobs (jobs_with kept job (is_going now job)) rest now)) (reaches_then (rw e at went) (reaches_in _ h.reached))
 
 -- a write on no record asks nothing
-pub noted_none : {T : Type 0} (store : Records) (place : ℕ) (call : Tcp2Socket → Asks (Result T StreamStop × Tcp2Socket)) → tcp2_at store.records place ≡ None → write_at store place call None ≡ Give (Err (stop.Trap NoSuchHandle), store)
+pub noted_none : {T : Type 0} (store : Records) (place : ℕ) (call : TcpRecord → Asks (Result T StreamStop × TcpRecord)) → tcp2_at store.records place ≡ None → write_at store place call None ≡ Give (Err (stop.Trap NoSuchHandle), store)
 unfolding bind
-noted_none store place call e = ap (λ (found : Option Tcp2Socket). Give (Err (stop.Trap NoSuchHandle), with_job store (Write place) (begins_job None found))) e
+noted_none store place call e = ap (λ (found : Option TcpRecord). Give (Err (stop.Trap NoSuchHandle), with_job store (Write place) (begins_job None found))) e

@@ -23,8 +23,8 @@ use Rattle.wasi_records.specs.Sockets.{new_record}
 use Rattle.wasi_records.specs.Sides.{made_in, closed_in, held_in, MakesNone, Balances, HoldsFewer}
 use Rattle.wasi_host.specs.KnownSides.{KnowsSides}
 use Rattle.wasi_records.specs.Records.{tcp2_at, udp2_at}
-use Rattle.wasi_records.specs.declared.socket.Tcp2Socket.{Tcp2Socket}
-use Rattle.wasi_records.specs.declared.udp.Udp2Socket.{Udp2Socket}
+use Rattle.wasi_records.specs.declared.socket.TcpRecord.{TcpRecord}
+use Rattle.wasi_records.specs.declared.udp.UdpRecord.{UdpRecord}
 use Rattle.wasi_records.specs.Udp.{udp_holds}
 use Rattle.wasi_host.specs.UdpCalls.{with_udp}
 use Rattle.wasi_records.proofs.UdpLookups.{held_in-udp_swap}
@@ -69,14 +69,14 @@ pub knows_none : {s t : Seen} (a b : Records) → MakesNone s t → held_in b.re
 knows_none {s} {t} a b n e k =
     let m = n.made in let c = n.closed in record { count = knows_grown s.log t.log n.entries (held_in a.records) (held_in b.records) n.log (omega arith) k.count }
 
-pub knows_polled : {s t : Seen} (store : Records) (place : ℕ) (old now : Tcp2Socket) → tcp2_at store.records place ≡ Some old → Balances s t 0 old now → KnowsSides s store → KnowsSides t (with_socket store place now)
+pub knows_polled : {s t : Seen} (store : Records) (place : ℕ) (old now : TcpRecord) → tcp2_at store.records place ≡ Some old → Balances s t 0 old now → KnowsSides s store → KnowsSides t (with_socket store place now)
 knows_polled store place old now g c k =
     let p = held_in-swap store.records place old now g in
     let b = c.balance in
     knows_then c.entries store (with_socket store place now) c.passed (omega arith) k
 
 -- == the records, where one of them holds fewer
-pub knows_fewer : {s t : Seen} (store : Records) (place : ℕ) (old now : Udp2Socket) → udp2_at store.records place ≡ Some old → HoldsFewer s t (udp_holds old) (udp_holds now) → KnowsSides s store → KnowsSides t (with_udp store place now)
+pub knows_fewer : {s t : Seen} (store : Records) (place : ℕ) (old now : UdpRecord) → udp2_at store.records place ≡ Some old → HoldsFewer s t (udp_holds old) (udp_holds now) → KnowsSides s store → KnowsSides t (with_udp store place now)
 knows_fewer store place old now g c k =
     let p = held_in-udp_swap store.records place old now g in
     let b = c.balance in

@@ -17,7 +17,7 @@ use Rattle.wasi_host.specs.declared.error.CallError.{CallError}
 use Rattle.wasi_host.specs.declared.kind.Kind.{Kind}
 use Rattle.wasi_host.specs.declared.machine.Machine.{Machine}
 use Rattle.wasi_records.specs.declared.records.Record.{Record}
-use Rattle.wasi_records.specs.declared.records.Record.TheVariants.{Tcp2, Udp2, Lookup, InputPipe, OutputPipe, Gone}
+use Rattle.wasi_records.specs.declared.records.Record.TheVariants.{Tcp, Udp, Lookup, InputPipe, OutputPipe, Gone}
 use Rattle.wasi_host.specs.CallStops.{CallStop, call_outcome, plain_outcome}
 use Rattle.wasi_records.specs.Stops.{Stop, fault_outcome}
 use Rattle.wasi_host.specs.Kinds.{HandleTable, make_asks}
@@ -39,8 +39,8 @@ knows_output store place x now e k = knows_same store (with_contents store place
 -- == a pipe that is given back as it was
 input_put_same : (xs : List Record) (i : ℕ) (bytes : List ℕ) → input_pipe_at xs i ≡ Some bytes → input_pipe_put xs i bytes ≡ xs
 input_put_same [] i bytes h = absurd (cc)
-input_put_same (Tcp2 r ∷ xs) zero bytes h = absurd (cc)
-input_put_same (Udp2 u ∷ xs) zero bytes h = absurd (cc)
+input_put_same (Tcp r ∷ xs) zero bytes h = absurd (cc)
+input_put_same (Udp u ∷ xs) zero bytes h = absurd (cc)
 input_put_same (Lookup l ∷ xs) zero bytes h = absurd (cc)
 input_put_same (OutputPipe p ∷ xs) zero bytes h = absurd (cc)
 input_put_same (Gone ∷ xs) zero bytes h = absurd (cc)
@@ -49,8 +49,8 @@ input_put_same (x ∷ xs) (suc i) bytes h = ap (λ (l : List Record). x ∷ l) (
 
 output_put_same : (xs : List Record) (i : ℕ) (pipe : Contents) → output_pipe_at xs i ≡ Some pipe → output_pipe_put xs i pipe ≡ xs
 output_put_same [] i pipe h = absurd (cc)
-output_put_same (Tcp2 r ∷ xs) zero pipe h = absurd (cc)
-output_put_same (Udp2 u ∷ xs) zero pipe h = absurd (cc)
+output_put_same (Tcp r ∷ xs) zero pipe h = absurd (cc)
+output_put_same (Udp u ∷ xs) zero pipe h = absurd (cc)
 output_put_same (Lookup l ∷ xs) zero pipe h = absurd (cc)
 output_put_same (InputPipe b ∷ xs) zero pipe h = absurd (cc)
 output_put_same (OutputPipe p ∷ xs) zero pipe h = cc

@@ -21,8 +21,8 @@ use Rattle.wasi_udp.specs.Create.{Create, after_create, new_asks}
 use Rattle.wasi_host.specs.declared.kind.Kind.TheVariants.{Udp2}
 use Rattle.wasi_host.specs.declared.machine.Machine.{Machine}
 use Rattle.wasi_records.specs.declared.records.Record.{Record}
-use Rattle.wasi_records.specs.declared.udp.Udp2Socket.{Udp2Socket}
-use Rattle.wasi_records.specs.declared.udp.Udp2Socket.TheVariants.{Creating}
+use Rattle.wasi_records.specs.declared.udp.UdpRecord.{UdpRecord}
+use Rattle.wasi_records.specs.declared.udp.UdpRecord.TheVariants.{Creating}
 use Rattle.wasi_records.specs.Stops.{Stop}
 use Rattle.wasi_host.specs.Kinds.{make_asks}
 use Rattle.wasi_records.specs.Records.{udp2_pushed}
@@ -77,6 +77,6 @@ pub begun_on : (m : Machine) (ids : Ids) (create : Create) {place : ℕ} {record
 begun_on m ids create p r h = rw (p, r) at h
 
 -- == its handle
-pub marked : (m : Machine) (place : ℕ) (u : Option Udp2Socket) (side : OpId) → Some side ≡ udp_side_at u → mark_udp m place u ≡ bind (make_asks m.table side (Udp2 place) None (Some side)) (λ made. Give (handle_made m made))
+pub marked : (m : Machine) (place : ℕ) (u : Option UdpRecord) (side : OpId) → Some side ≡ udp_side_at u → mark_udp m place u ≡ bind (make_asks m.table side (Udp2 place) None (Some side)) (λ made. Give (handle_made m made))
 marked m place None side h = absurd (cc)
 marked m place (Some u) side h = let e : side ≡ udp_side u = cc in rw e refl

@@ -18,7 +18,7 @@ use Rattle.wasi_host.specs.declared.kind.Kind.TheVariants.{Tcp2, Udp2, Output, P
 use Rattle.wasi_host.specs.declared.kind.Watched.{Watched}
 use Rattle.wasi_host.specs.declared.kind.Watched.TheVariants as watched
 use Rattle.wasi_host.specs.declared.machine.Machine.{Machine}
-use Rattle.wasi_records.specs.declared.socket.Tcp2Socket.{Tcp2Socket}
+use Rattle.wasi_records.specs.declared.socket.TcpRecord.{TcpRecord}
 use Rattle.wasi_records.specs.Stops.{Stop, Trap, code_stop}
 use Rattle.wasi_host.specs.Kinds.{HandleTable, kind_at, place_of, udp_of, input_of, output_of, incoming_of, outgoing_of, lookup_of, watched_by, watch_of, place_in, make_asks, taken_out}
 pub use Rattle.wasi_records.specs.Names.{own_of}
@@ -68,7 +68,7 @@ abbrev pub no_such_handle : {A : Type 0} → Machine → Asks (Result A Stop × 
 no_such_handle m = Give (Err (Trap NoSuchHandle), m)
 
 -- the network socket that a record was made with, by which its handles are marked
-abbrev pub side_at : Option Tcp2Socket → Option OpId
+abbrev pub side_at : Option TcpRecord → Option OpId
 side_at None = None
 side_at (Some r) = r.side
 

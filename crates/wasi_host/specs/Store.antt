@@ -7,7 +7,7 @@ use Rattle.wasi_tcp.specs.Shape.{Socket}
 use Rattle.wasi_streams.specs.StreamStop.{StreamStop}
 use Rattle.wasi_streams.specs.StreamStop as stream
 use Rattle.wasi_jobs.specs.declared.job.HostJob.{HostJob}
-use Rattle.wasi_records.specs.declared.socket.Tcp2Socket.{Tcp2Socket}
+use Rattle.wasi_records.specs.declared.socket.TcpRecord.{TcpRecord}
 use Rattle.wasi_records.specs.declared.records.Record.{Record}
 use Rattle.wasi_host.specs.declared.store.Standing.{Standing}
 use Rattle.wasi_records.specs.Stops.{Stop, code_stop}
@@ -22,20 +22,20 @@ pub record Records : Type 0 where
 abbrev pub no_records : Records
 no_records = record { records = []; jobs = []; standing = None }
 
-abbrev pub with_socket : Records → ℕ → Tcp2Socket → Records
+abbrev pub with_socket : Records → ℕ → TcpRecord → Records
 with_socket store place r = record store { records = tcp2_put store.records place r }
 
 -- == a connect
 -- what a call on a record answered, and the records afterwards
-abbrev pub put_back : {T : Type 0} → Records → ℕ → Result T ErrorCode × Tcp2Socket → Result T Stop × Records
+abbrev pub put_back : {T : Type 0} → Records → ℕ → Result T ErrorCode × TcpRecord → Result T Stop × Records
 put_back store place (Ok value, r) = (Ok value, with_socket store place r)
 put_back store place (Err c, r) = (Err (code_stop c), with_socket store place r)
 
-abbrev pub with_record_put : {T : Type 0} → Records → ℕ → T × Tcp2Socket → T × Records
+abbrev pub with_record_put : {T : Type 0} → Records → ℕ → T × TcpRecord → T × Records
 with_record_put store place done = (done.0, with_socket store place done.1)
 
 -- a call on a stream of a record
-abbrev pub stream_at : {T : Type 0} → Records → ℕ → (Tcp2Socket → Asks (Result T StreamStop × Tcp2Socket)) → Option Tcp2Socket → Asks (Result T StreamStop × Records)
+abbrev pub stream_at : {T : Type 0} → Records → ℕ → (TcpRecord → Asks (Result T StreamStop × TcpRecord)) → Option TcpRecord → Asks (Result T StreamStop × Records)
 stream_at store place call None = Give (Err (stream.Trap NoSuchHandle), store)
 stream_at store place call (Some r) = bind (call r) (λ done. Give (with_record_put store place done))
 

@@ -12,7 +12,7 @@ use Rattle.wasi_tcp.specs.Writer.{check_write_asks, write_state_asks}
 use Rattle.wasi_records.specs.Records.{tcp2_at}
 use Rattle.wasi_host.specs.declared.kind.Kind.TheVariants.{ErrorValue}
 use Rattle.wasi_host.specs.declared.machine.Machine.{Machine}
-use Rattle.wasi_records.specs.declared.socket.Tcp2Socket.{Tcp2Socket}
+use Rattle.wasi_records.specs.declared.socket.TcpRecord.{TcpRecord}
 use Rattle.wasi_records.specs.Stops.{Stop}
 use Rattle.wasi_host.specs.CallStops.{CallStop, Closed, Traps, failed_with}
 use Rattle.wasi_host.specs.declared.kind.PlainInput.{PlainInput}
@@ -49,12 +49,12 @@ converted own handle place (Ok value, m) = Give (Ok value, m)
 converted own handle place (Err stop, m) = bind (convert_asks m own handle place stop) (λ c. Give (stopped c))
 
 -- a call on a stream of the record of this number
-abbrev pub stream_on : {T : Type 0} → Machine → OpId → ℕ → (Tcp2Socket → Asks (Result T StreamStop × Tcp2Socket)) → Option ℕ → Asks (Result T CallStop × Machine)
+abbrev pub stream_on : {T : Type 0} → Machine → OpId → ℕ → (TcpRecord → Asks (Result T StreamStop × TcpRecord)) → Option ℕ → Asks (Result T CallStop × Machine)
 stream_on m own handle call None = Give (Err (Traps NoSuchHandle), m)
 stream_on m own handle call (Some place) = bind (stream_at m.store place call (tcp2_at m.store.records place)) (λ done. converted own handle place (with_store m done))
 
 -- a write, which may become a job
-abbrev pub write_on : {T : Type 0} → Machine → OpId → ℕ → (Tcp2Socket → Asks (Result T StreamStop × Tcp2Socket)) → Option ℕ → Asks (Result T CallStop × Machine)
+abbrev pub write_on : {T : Type 0} → Machine → OpId → ℕ → (TcpRecord → Asks (Result T StreamStop × TcpRecord)) → Option ℕ → Asks (Result T CallStop × Machine)
 write_on m own handle call None = Give (Err (Traps NoSuchHandle), m)
 write_on m own handle call (Some place) = bind (write_at m.store place call (tcp2_at m.store.records place)) (λ done. converted own handle place (with_store m done))
 

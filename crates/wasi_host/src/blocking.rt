@@ -25,7 +25,7 @@ use crate::store::{Standing, StandingCall, Store};
 use crate::streams::{check_write, flush, read, skip, write};
 use crate::view::WasiSocketsCtxView;
 use std::alloc::{AllocError, Global};
-use wasi_records::{Tcp2Socket, find_mut};
+use wasi_records::{TcpRecord, find_mut};
 use wasi_streams::{Fault, zeros};
 use wasi_world::{Answer, Handle, Ids, NumberList, Octets, OpId, TrapKind, World};
 
@@ -93,7 +93,7 @@ impl Store {
         ensures sides { KnowsSides (W.seen world.old) self.old
             → KnowsSides (W.seen world.new) self.new }
     {
-        let Some(record) = find_mut::<Tcp2Socket>(&mut self.records, place) else {
+        let Some(record) = find_mut::<TcpRecord>(&mut self.records, place) else {
             return Err(Fault::Trap(TrapKind::NoSuchHandle));
         };
         record.input_ready(world, op)

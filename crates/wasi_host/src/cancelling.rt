@@ -14,7 +14,7 @@ use crate::store::{StandingCall, Store};
 use crate::view::WasiSocketsCtxView;
 use std::alloc::AllocError;
 use wasi_records::{
-    InProgress, OpenUdp, RecordId, Tcp2Socket, Udp2Socket, UdpInProgress, find, find_mut,
+    InProgress, OpenUdp, RecordId, TcpRecord, UdpInProgress, UdpRecord, find, find_mut,
 };
 use wasi_world::World;
 
@@ -25,7 +25,7 @@ impl Store {
         ensures state { self.new ≡ cancel_bind_at self.old place (tcp2_at self.old.records place) }
         ensures sides { (s : Seen) → KnowsSides s self.old → KnowsSides s self.new }
     {
-        let Some(record) = find_mut::<Tcp2Socket>(&mut self.records, place) else {
+        let Some(record) = find_mut::<TcpRecord>(&mut self.records, place) else {
             return;
         };
         record.in_progress = InProgress::Nothing;
@@ -40,7 +40,7 @@ impl Store {
         ensures sides { KnowsSides (W.seen world.old) self.old
             → KnowsSides (W.seen world.new) self.new }
     {
-        let Some(record) = find_mut::<Tcp2Socket>(&mut self.records, place) else {
+        let Some(record) = find_mut::<TcpRecord>(&mut self.records, place) else {
             return Ok(());
         };
         record.give_listening_up(world)
@@ -55,10 +55,10 @@ impl Store {
         ensures sides { KnowsSides (W.seen world.old) self.old
             → KnowsSides (W.seen world.new) self.new }
     {
-        let Some(socket) = find::<Udp2Socket>(&self.records, place) else {
+        let Some(socket) = find::<UdpRecord>(&self.records, place) else {
             return Ok(());
         };
-        let Udp2Socket::Creating(create) = socket else {
+        let UdpRecord::Creating(create) = socket else {
             return Ok(());
         };
         create.cancel(world)?;

@@ -15,7 +15,7 @@ use crate::kind::Kind;
 use crate::store::{StandingCall, Store};
 use crate::view::WasiSocketsCtxView;
 use std::alloc::AllocError;
-use wasi_records::{RecordId, Tcp2Socket, find_mut};
+use wasi_records::{RecordId, TcpRecord, find_mut};
 use wasi_streams::Fault;
 use wasi_world::{Answer, Handle, Ids, OpId, World};
 
@@ -35,7 +35,7 @@ impl Store {
         ensures sides { KnowsSides (W.seen world.old) self.old
             → KnowsSides (W.seen world.new) self.new }
     {
-        let Some(record) = find_mut::<Tcp2Socket>(&mut self.records, place) else {
+        let Some(record) = find_mut::<TcpRecord>(&mut self.records, place) else {
             return Ok(());
         };
         record.release(world, op)?;
@@ -74,7 +74,7 @@ impl Store {
         ensures sides { KnowsSides (W.seen world.old) self.old
             → KnowsSides (W.seen world.new) self.new }
     {
-        let Some(record) = find_mut::<Tcp2Socket>(&mut self.records, place) else {
+        let Some(record) = find_mut::<TcpRecord>(&mut self.records, place) else {
             return Ok(Answer::Ready(()));
         };
         record.poll_writer(world, op)

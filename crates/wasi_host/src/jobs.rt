@@ -22,7 +22,7 @@ use crate::store::Store;
 use crate::view::WasiSocketsCtxView;
 use std::alloc::AllocError;
 use wasi_jobs::{HostJob, JobList, Listed};
-use wasi_records::{Lookup, OpenUdp, RecordId, RecordList, Slot, Tcp2Socket, find_mut_in};
+use wasi_records::{Lookup, OpenUdp, RecordId, RecordList, Slot, TcpRecord, find_mut_in};
 use wasi_world::World;
 
 /// Polls the write of the TCP socket with this record number once, if one is in progress. Returns
@@ -40,7 +40,7 @@ fn turn_socket<W: World>(
     ensures held { held_in records.new.items ≡ held_in records.old.items }
     ensures none { MakesNone (W.seen world.old) (W.seen world.new) }
 {
-    let Some(record) = find_mut_in::<Tcp2Socket>(records, slot, place) else {
+    let Some(record) = find_mut_in::<TcpRecord>(records, slot, place) else {
         return Ok(false);
     };
     record.turn(world)?;

@@ -50,6 +50,6 @@ pub use view::{
 pub use wasi_jobs::HostJob;
 pub use wasi_records::{
     Addresses, AsyncOperation, InProgress, Incoming, Listening, Lookup, LookupOp, OpenUdp,
-    Outgoing, Receiving, Record, Sending, SocketError, Streams, Tcp2Socket, Udp2Socket,
-    UdpInProgress,
+    Outgoing, Receiving, Record, Sending, SocketError, Streams, TcpRecord, UdpInProgress,
+    UdpRecord,
 };

@@ -8,7 +8,7 @@ ghost use Rattle.wasi_records.specs.Stops.{host_outcome};
 ghost use Rattle.wasi_host.specs.KnownSides.{KnowsSides};
 
 use crate::store::Store;
-use wasi_records::{RecordId, SocketError, Tcp2Socket, find, find_mut};
+use wasi_records::{RecordId, SocketError, TcpRecord, find, find_mut};
 use wasi_tcp::Setting;
 use wasi_world::{OpId, Opt, TrapKind, World};
 
@@ -30,7 +30,7 @@ impl Store {
         ensures sides { KnowsSides (W.seen world.old) self.now
             → KnowsSides (W.seen world.new) self.now }
     {
-        let Some(record) = find::<Tcp2Socket>(&self.records, place) else {
+        let Some(record) = find::<TcpRecord>(&self.records, place) else {
             return Err(SocketError::Trap(TrapKind::NoSuchHandle));
         };
         let value = record.inner.get_option(world, op, option)?;
@@ -53,7 +53,7 @@ impl Store {
         ensures sides { KnowsSides (W.seen world.old) self.old
             → KnowsSides (W.seen world.new) self.new }
     {
-        let Some(record) = find_mut::<Tcp2Socket>(&mut self.records, place) else {
+        let Some(record) = find_mut::<TcpRecord>(&mut self.records, place) else {
             return Err(SocketError::Trap(TrapKind::NoSuchHandle));
         };
         record.inner.set_option(world, op, setting)?;
@@ -76,7 +76,7 @@ impl Store {
         ensures sides { KnowsSides (W.seen world.old) self.old
             → KnowsSides (W.seen world.new) self.new }
     {
-        let Some(record) = find_mut::<Tcp2Socket>(&mut self.records, place) else {
+        let Some(record) = find_mut::<TcpRecord>(&mut self.records, place) else {
             return Err(SocketError::Trap(TrapKind::NoSuchHandle));
         };
         record.inner.set_listen_backlog_size(world, op, value)?;

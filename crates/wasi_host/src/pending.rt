@@ -21,7 +21,7 @@ use crate::store::{Standing, StandingCall, Store};
 use crate::view::WasiSocketsCtxView;
 use std::alloc::Global;
 use wasi_addr::ErrorCode;
-use wasi_records::{RecordId, SocketError, Tcp2Socket, find_mut};
+use wasi_records::{RecordId, SocketError, TcpRecord, find_mut};
 use wasi_world::{Answer, Handle, Ids, NumberList, Octets, TrapKind, World};
 
 /// What a pending call gives once it is polled: its value, or the error of a call of a stream.
@@ -115,7 +115,7 @@ impl Store {
         ensures sides { KnowsSides (W.seen world.old) self.old
             → KnowsSides (W.seen world.new) self.new }
     {
-        let Some(record) = find_mut::<Tcp2Socket>(&mut self.records, place) else {
+        let Some(record) = find_mut::<TcpRecord>(&mut self.records, place) else {
             return Err(SocketError::Trap(TrapKind::NoSuchHandle));
         };
         let answer = record.poll_bind(world)?;
@@ -137,7 +137,7 @@ impl Store {
         ensures sides { KnowsSides (W.seen world.old) self.old
             → KnowsSides (W.seen world.new) self.new }
     {
-        let Some(record) = find_mut::<Tcp2Socket>(&mut self.records, place) else {
+        let Some(record) = find_mut::<TcpRecord>(&mut self.records, place) else {
             return Err(SocketError::Trap(TrapKind::NoSuchHandle));
         };
         let answer = record.poll_listen(world)?;

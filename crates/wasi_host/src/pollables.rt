@@ -16,13 +16,13 @@ use crate::handles;
 use crate::kind::{Kind, Watched};
 use crate::store::Store;
 use crate::view::WasiSocketsCtxView;
-use wasi_records::{Tcp2Socket, find_mut};
+use wasi_records::{TcpRecord, find_mut};
 use wasi_streams::{Fault, TrapKind};
 use wasi_world::{Handle, Ids, Sock, World};
 
 /// Looks once at what a pollable watches of a TCP socket.
 fn poll_ready<W: World>(
-    record: &mut Tcp2Socket,
+    record: &mut TcpRecord,
     world: &mut W,
     ids: &mut Ids,
     watched: Watched,
@@ -80,7 +80,7 @@ impl Store {
             → KnowsSides (W.seen world.new) self.new }
         ensures ids { ids.new ≡ ready_ids_at ids.old watched (tcp2_at self.old.records place) }
     {
-        let Some(record) = find_mut::<Tcp2Socket>(&mut self.records, place) else {
+        let Some(record) = find_mut::<TcpRecord>(&mut self.records, place) else {
             return Err(Fault::Trap(TrapKind::NoSuchHandle));
         };
         poll_ready(record, world, ids, watched)

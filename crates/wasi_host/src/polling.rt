@@ -22,7 +22,7 @@ use crate::view::WasiSocketsCtxView;
 use std::alloc::{AllocError, Global};
 use std::collections::BTreeMap;
 use std::marker::Model;
-use wasi_records::{OpenUdp, Tcp2Socket, find};
+use wasi_records::{OpenUdp, TcpRecord, find};
 use wasi_streams::{Fault, TrapKind};
 use wasi_table::Table;
 use wasi_world::{Answer, Handle, Ids, NumberList, World};
@@ -117,7 +117,7 @@ impl Store {
         ensures { result ≡ begins_on self.now (Some watched) }
     {
         match watched {
-            Watched::Socket(place) => match find::<Tcp2Socket>(&self.records, place) {
+            Watched::Socket(place) => match find::<TcpRecord>(&self.records, place) {
                 Some(record) => record.would_accept(),
                 None => false,
             },

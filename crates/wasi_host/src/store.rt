@@ -21,7 +21,7 @@ use std::marker::Model;
 use wasi_addr::SocketAddressFamily;
 use wasi_jobs::{HostJob, JobList};
 use wasi_records::{
-    Record, RecordId, RecordList, SocketError, Tcp2Socket, close_sides, find, find_mut, find_mut_in,
+    Record, RecordId, RecordList, SocketError, TcpRecord, close_sides, find, find_mut, find_mut_in,
 };
 use wasi_streams::StreamError;
 use wasi_table::Table;
@@ -127,7 +127,7 @@ impl Store {
         let place = self.records.len();
         let side = socket.side();
         self.records
-            .push_reserved(Record::Tcp2(Tcp2Socket::new(socket)));
+            .push_reserved(Record::Tcp(TcpRecord::new(socket)));
         let handle = handles::make(table, world, own, Kind::Tcp2(place), None, side)?;
         Ok(handle)
     }
@@ -137,7 +137,7 @@ impl Store {
     pub fn side(&self, place: RecordId) -> Option<Sock>
         ensures { result ≡ side_at (tcp2_at self.now.records place) }
     {
-        find::<Tcp2Socket>(&self.records, place)?.side
+        find::<TcpRecord>(&self.records, place)?.side
     }
 
     /// Reads from the connection of the TCP socket with this record number.
@@ -156,7 +156,7 @@ impl Store {
         ensures sides { KnowsSides (W.seen world.old) self.old
             → KnowsSides (W.seen world.new) self.new }
     {
-        let Some(record) = find_mut::<Tcp2Socket>(&mut self.records, place) else {
+        let Some(record) = find_mut::<TcpRecord>(&mut self.records, place) else {
             return Err(StreamError::Trap(TrapKind::NoSuchHandle));
         };
         record.read(alloc, world, op, len)
@@ -177,7 +177,7 @@ impl Store {
         ensures sides { KnowsSides (W.seen world.old) self.old
             → KnowsSides (W.seen world.new) self.new }
     {
-        let Some(record) = find_mut::<Tcp2Socket>(&mut self.records, place) else {
+        let Some(record) = find_mut::<TcpRecord>(&mut self.records, place) else {
             return Err(StreamError::Trap(TrapKind::NoSuchHandle));
         };
         record.check_write(world, op)
@@ -200,7 +200,7 @@ impl Store {
             → KnowsSides (W.seen world.new) self.new }
     {
         let slot = self.records.slot_of(place);
-        let Some(record) = find_mut_in::<Tcp2Socket>(&mut self.records, slot, place) else {
+        let Some(record) = find_mut_in::<TcpRecord>(&mut self.records, slot, place) else {
             return Err(StreamError::Trap(TrapKind::NoSuchHandle));
         };
         // The job comes before the write, so that a write in progress has its job whatever memory
@@ -221,7 +221,7 @@ impl Store {
         ensures sides { KnowsSides (W.seen world.old) self.old
             → KnowsSides (W.seen world.new) self.new }
     {
-        let Some(record) = find_mut::<Tcp2Socket>(&mut self.records, place) else {
+        let Some(record) = find_mut::<TcpRecord>(&mut self.records, place) else {
             return Err(StreamError::Trap(TrapKind::NoSuchHandle));
         };
         record.flush(world)

@@ -18,7 +18,7 @@ ghost use Rattle.wasi_tcp.specs.Addresses.{is_listening};
 use crate::store::{StandingCall, Store};
 use wasi_addr::{IpSocketAddress, ShutdownType, SocketAddressFamily, p2};
 use wasi_records::{
-    AsyncOperation, InProgress, RecordId, SocketError, Tcp2Socket, find, find_mut, keep_accepted,
+    AsyncOperation, InProgress, RecordId, SocketError, TcpRecord, find, find_mut, keep_accepted,
 };
 use wasi_world::{Answer, Ids, OpId, TrapKind, World};
 
@@ -39,7 +39,7 @@ impl Store {
         ensures sides { KnowsSides (W.seen world.old) self.old
             → KnowsSides (W.seen world.new) self.new }
     {
-        let Some(record) = find_mut::<Tcp2Socket>(&mut self.records, place) else {
+        let Some(record) = find_mut::<TcpRecord>(&mut self.records, place) else {
             return Err(SocketError::Trap(TrapKind::NoSuchHandle));
         };
         if !record.in_progress.is_nothing() {
@@ -63,7 +63,7 @@ impl Store {
         ensures state { self.new ≡ (finish_at (is_started operation) self.old place
             (tcp2_at self.old.records place)).1 }
     {
-        let Some(record) = find_mut::<Tcp2Socket>(&mut self.records, place) else {
+        let Some(record) = find_mut::<TcpRecord>(&mut self.records, place) else {
             return Err(SocketError::Trap(TrapKind::NoSuchHandle));
         };
         if !record.in_progress.is_started(operation) {
@@ -89,7 +89,7 @@ impl Store {
         ensures sides { KnowsSides (W.seen world.old) self.old
             → KnowsSides (W.seen world.new) self.new }
     {
-        let Some(record) = find_mut::<Tcp2Socket>(&mut self.records, place) else {
+        let Some(record) = find_mut::<TcpRecord>(&mut self.records, place) else {
             return Err(SocketError::Trap(TrapKind::NoSuchHandle));
         };
         if !record.in_progress.is_nothing() {
@@ -113,7 +113,7 @@ impl Store {
         ensures sides { KnowsSides (W.seen world.old) self.old
             → KnowsSides (W.seen world.new) self.new }
     {
-        let Some(record) = find_mut::<Tcp2Socket>(&mut self.records, place) else {
+        let Some(record) = find_mut::<TcpRecord>(&mut self.records, place) else {
             return Err(SocketError::Trap(TrapKind::NoSuchHandle));
         };
         if !record.in_progress.is_started(AsyncOperation::Connect) {
@@ -135,7 +135,7 @@ impl Store {
         ensures sides { KnowsSides (W.seen world.old) self.old
             → KnowsSides (W.seen world.new) self.new }
     {
-        let Some(record) = find_mut::<Tcp2Socket>(&mut self.records, place) else {
+        let Some(record) = find_mut::<TcpRecord>(&mut self.records, place) else {
             return Err(SocketError::Trap(TrapKind::NoSuchHandle));
         };
         let addr = record.local_address(world, op)?;
@@ -155,7 +155,7 @@ impl Store {
         ensures sides { KnowsSides (W.seen world.old) self.old
             → KnowsSides (W.seen world.new) self.new }
     {
-        let Some(record) = find_mut::<Tcp2Socket>(&mut self.records, place) else {
+        let Some(record) = find_mut::<TcpRecord>(&mut self.records, place) else {
             return Err(SocketError::Trap(TrapKind::NoSuchHandle));
         };
         let addr = record.remote_address(world, op)?;
@@ -167,7 +167,7 @@ impl Store {
         ensures { host_outcome result ≡ Ok (told_of (λ r. is_listening r.inner.state)
             (tcp2_at self.now.records place)) }
     {
-        match find::<Tcp2Socket>(&self.records, place) {
+        match find::<TcpRecord>(&self.records, place) {
             Some(record) => Ok(record.inner.is_listening()),
             None => Err(SocketError::Trap(TrapKind::NoSuchHandle)),
         }
@@ -178,7 +178,7 @@ impl Store {
         ensures { host_outcome result ≡ Ok (told_of (λ r. r.inner.family)
             (tcp2_at self.now.records place)) }
     {
-        match find::<Tcp2Socket>(&self.records, place) {
+        match find::<TcpRecord>(&self.records, place) {
             Some(record) => Ok(record.inner.address_family()),
             None => Err(SocketError::Trap(TrapKind::NoSuchHandle)),
         }
@@ -199,7 +199,7 @@ impl Store {
         ensures sides { KnowsSides (W.seen world.old) self.old
             → KnowsSides (W.seen world.new) self.new }
     {
-        let Some(record) = find_mut::<Tcp2Socket>(&mut self.records, place) else {
+        let Some(record) = find_mut::<TcpRecord>(&mut self.records, place) else {
             return Err(SocketError::Trap(TrapKind::NoSuchHandle));
         };
         if !record.in_progress.is_nothing() {
@@ -232,7 +232,7 @@ impl Store {
             ≡ accept_ids_at ids.old (tcp2_at self.old.records place)) }
     {
         self.records.reserve()?;
-        let Some(record) = find_mut::<Tcp2Socket>(&mut self.records, place) else {
+        let Some(record) = find_mut::<TcpRecord>(&mut self.records, place) else {
             return Err(SocketError::Trap(TrapKind::NoSuchHandle));
         };
         let answer = record.poll_accept(world, ids)?;
@@ -257,7 +257,7 @@ impl Store {
         ensures sides { KnowsSides (W.seen world.old) self.old
             → KnowsSides (W.seen world.new) self.new }
     {
-        let Some(record) = find_mut::<Tcp2Socket>(&mut self.records, place) else {
+        let Some(record) = find_mut::<TcpRecord>(&mut self.records, place) else {
             return Err(SocketError::Trap(TrapKind::NoSuchHandle));
         };
         record.shutdown(world, op, how)

@@ -21,8 +21,7 @@ use socket_common::Setting;
 use std::alloc::AllocError;
 use wasi_addr::{IpSocketAddress, SocketAddressFamily, p2};
 use wasi_records::{
-    OpenUdp, PendingCreate, Record, RecordId, SocketError, Udp2Socket, UdpInProgress, find,
-    find_mut,
+    OpenUdp, PendingCreate, Record, RecordId, SocketError, UdpInProgress, UdpRecord, find, find_mut,
 };
 use wasi_table::Table;
 use wasi_udp::UdpSocket;
@@ -51,8 +50,8 @@ impl Store {
         self.records.reserve()?;
         let create = UdpSocket::new(world, ids.own(), ctx, family)?;
         let place = self.records.len();
-        let creating = Udp2Socket::Creating(PendingCreate::new(create));
-        self.records.push_reserved(Record::Udp2(creating));
+        let creating = UdpRecord::Creating(PendingCreate::new(create));
+        self.records.push_reserved(Record::Udp(creating));
         self.create_on(table, world, ids, place)
     }
 
@@ -120,7 +119,7 @@ impl Store {
         ensures sides { KnowsSides (W.seen world.old) self.old
             → KnowsSides (W.seen world.new) self.new }
     {
-        let Some(record) = find_mut::<Udp2Socket>(&mut self.records, place) else {
+        let Some(record) = find_mut::<UdpRecord>(&mut self.records, place) else {
             return Err(SocketError::Trap(TrapKind::NoSuchHandle));
         };
         match record.poll_create(world) {
@@ -136,7 +135,7 @@ impl Store {
     pub(crate) fn udp_side(&self, place: RecordId) -> Option<Sock>
         ensures { result ≡ udp_side_at (udp2_at self.now.records place) }
     {
-        Some(find::<Udp2Socket>(&self.records, place)?.side())
+        Some(find::<UdpRecord>(&self.records, place)?.side())
     }
 
     /// Begins a bind of the UDP socket with this record number (`start-bind`). An operation in
@@ -313,7 +312,7 @@ impl Store {
         ensures sides { KnowsSides (W.seen world.old) self.old
             → KnowsSides (W.seen world.new) self.new }
     {
-        let Some(record) = find_mut::<Udp2Socket>(&mut self.records, place) else {
+        let Some(record) = find_mut::<UdpRecord>(&mut self.records, place) else {
             return Ok(());
         };
         record.close(world, op)?;
@@ -323,14 +322,14 @@ impl Store {
 
     /// Gives back the record of the UDP socket with this number, if its network socket is closed.
     fn leave_udp(&mut self, place: RecordId)
-        ensures state { (u : Udp2Socket) → udp2_at self.old.records place ≡ Some u
+        ensures state { (u : UdpRecord) → udp2_at self.old.records place ≡ Some u
             → self.new ≡ udp_left self.old place u }
         ensures sides { (s : Seen) → KnowsSides s self.old → KnowsSides s self.new }
     {
-        let Some(socket) = find::<Udp2Socket>(&self.records, place) else {
+        let Some(socket) = find::<UdpRecord>(&self.records, place) else {
             return;
         };
-        let Udp2Socket::Closed(_) = socket else {
+        let UdpRecord::Closed(_) = socket else {
             return;
         };
         self.give_back(place);

@@ -12,7 +12,7 @@ use Rattle.wasi_host.specs.declared.blocking.BlockingCall.{BlockingCall}
 use Rattle.wasi_host.specs.declared.blocking.BlockingCall.TheVariants.{Write, Splice}
 use Rattle.wasi_host.specs.declared.machine.Machine.{Machine}
 use Rattle.wasi_records.specs.declared.socket.Streams.{Streams}
-use Rattle.wasi_records.specs.declared.socket.Tcp2Socket.{Tcp2Socket}
+use Rattle.wasi_records.specs.declared.socket.TcpRecord.{TcpRecord}
 use Rattle.wasi_host.specs.declared.store.Standing.{Standing}
 use Rattle.wasi_host.specs.declared.store.StandingCall.{StandingCall}
 use Rattle.wasi_host.specs.declared.store.StandingCall.TheVariants.{Blocking}
@@ -47,7 +47,7 @@ let_after asks next entries = let_by next (run_front asks entries)
 abbrev pub writer_in : Option Streams → Option WriteState
 writer_in streams = option_map (λ (s : Streams). s.writer) streams
 
-abbrev pub writer_of_record : Option Tcp2Socket → Option WriteState
+abbrev pub writer_of_record : Option TcpRecord → Option WriteState
 writer_of_record (Some r) = writer_in r.streams
 writer_of_record None = None
 

@@ -16,7 +16,7 @@ use Rattle.wasi_tcp.specs.Listener.{Listener, HoldsAccept, IsListener, StandsAcc
 use Rattle.wasi_tcp.specs.Shape.{Socket}
 use Rattle.wasi_records.specs.declared.tcp_listening.Listening.{Listening}
 use Rattle.wasi_records.specs.declared.tcp_listening.Listening.TheVariants.{Accepts}
-use Rattle.wasi_records.specs.declared.socket.Tcp2Socket.{Tcp2Socket}
+use Rattle.wasi_records.specs.declared.socket.TcpRecord.{TcpRecord}
 use Rattle.wasi_records.specs.Stops.{Stop}
 use Rattle.wasi_records.specs.Listening.{with_listening, side_in, Accepted, Connects, Fails}
 use Rattle.wasi_records.specs.Looks.{accept_looked, read_told}
@@ -65,7 +65,7 @@ module _ {A : Type 0} (weight : A → ℕ) (P : A → Type 0) (ends : Accepting 
       record { entries = stands.reached.entries; passed = stands.reached.passed; balance = omega arith }
 
 -- == the record of a listener
-record_evens : (r : Tcp2Socket) (l new : Listener) (given : ℕ) {s t : Seen} → r.listening ≡ Accepts l → Evens s t (one_if_some (untaken_side l.accept)) (one_if_some (untaken_side new.accept) + given) → Balances s t given r (with_listening r (Accepts new))
+record_evens : (r : TcpRecord) (l new : Listener) (given : ℕ) {s t : Seen} → r.listening ≡ Accepts l → Evens s t (one_if_some (untaken_side l.accept)) (one_if_some (untaken_side new.accept) + given) → Balances s t given r (with_listening r (Accepts new))
 record_evens r l new given e h =
     let held : one_if_some (side_in r.listening) ≡ one_if_some (untaken_side l.accept) = ap (λ (g : Listening). one_if_some (side_in g)) e in
     let b = h.balance in
@@ -83,13 +83,13 @@ looked_evens : (l new : Listener) (ids : Ids) (looked : Result (Answer (Unit {0}
 looked_evens l new ids (Ok answer) h k asked stands = evens_done looked_weight Any (ready_end l) (λ a. (refl, tt)) l ids h asked.ok
 looked_evens l new ids (Err e) h k asked stands = evens_stands looked_weight Any (ready_end l) (λ a. (refl, tt)) l new ids h k stands
 
-pub looked_balances : (r : Tcp2Socket) (l new : Listener) (ids : Ids) (looked : Result (Answer (Unit {0})) AllocError) {s t : Seen} → r.listening ≡ Accepts l → IsListener l → IsListener new → AsksFor (listener_ready_asks l ids) s t (λ answer. (answer, new)) looked
+pub looked_balances : (r : TcpRecord) (l new : Listener) (ids : Ids) (looked : Result (Answer (Unit {0})) AllocError) {s t : Seen} → r.listening ≡ Accepts l → IsListener l → IsListener new → AsksFor (listener_ready_asks l ids) s t (λ answer. (answer, new)) looked
     → OnErr looked (StandsAccept (listener_ready_asks l ids) (ready_end l) new.accept s t) → Balances s t 0 r (with_listening r (Accepts new))
 looked_balances r l new ids looked e h k asked stands = record_evens r l new 0 e (more_evens _ _ 0 refl (looked_evens l new ids looked h k asked stands))
 
 -- how it is reported
-pub accept_over : (r : Tcp2Socket) (l new : Listener) (ids : Ids) {s t : Seen} (looked : Result (Answer (Unit {0})) AllocError) → AsksFor (listener_ready_asks l ids) s t (λ answer. (answer, new)) looked
-    → AsksFor {A = Result Bool Stop × Tcp2Socket} (bind (listener_ready_asks l ids) (λ done. Give (accept_looked r done))) s t (λ (ready : Result Bool Stop). (ready, with_listening r (Accepts new))) (read_told looked)
+pub accept_over : (r : TcpRecord) (l new : Listener) (ids : Ids) {s t : Seen} (looked : Result (Answer (Unit {0})) AllocError) → AsksFor (listener_ready_asks l ids) s t (λ answer. (answer, new)) looked
+    → AsksFor {A = Result Bool Stop × TcpRecord} (bind (listener_ready_asks l ids) (λ done. Give (accept_looked r done))) s t (λ (ready : Result Bool Stop). (ready, with_listening r (Accepts new))) (read_told looked)
 accept_over r l new ids (Ok answer) h = asks_end _ h.ok refl
 accept_over r l new ids (Err e) h = asks_err (bind h.err.rest _) (reaches_in _ h.err.reached)
 
@@ -106,7 +106,7 @@ accept_keeps l (accepting.Asking op) = (refl, tt)
 accept_keeps l (accepting.Arrived new peer) = (refl, Connects l.family l.maker new peer)
 accept_keeps l (accepting.Failed c) = (refl, Fails l.family l.maker c)
 
-pub accepted_balances : (r : Tcp2Socket) (l new : Listener) (ids : Ids) (answer : Answer Socket) {s t : Seen} → r.listening ≡ Accepts l → IsListener l → Reaches (listener_accept_asks l ids) (Give (answer, new)) s t → Balances s t (given_by (Ok answer)) r (with_listening r (Accepts new))
+pub accepted_balances : (r : TcpRecord) (l new : Listener) (ids : Ids) (answer : Answer Socket) {s t : Seen} → r.listening ≡ Accepts l → IsListener l → Reaches (listener_accept_asks l ids) (Give (answer, new)) s t → Balances s t (given_by (Ok answer)) r (with_listening r (Accepts new))
 accepted_balances r l new ids answer e h reached = record_evens r l new (given_by (Ok answer)) e (evens_done accepted_weight IsTaken (accept_end l) (accept_keeps l) l ids h reached)
 
 pub accepted_is : (l new : Listener) (ids : Ids) (answer : Answer Socket) {s t : Seen} → IsListener l → Reaches (listener_accept_asks l ids) (Give (answer, new)) s t → Accepted (Ok answer)
@@ -117,6 +117,6 @@ given_none Q (Ok answer) h = absurd h
 given_none Q (Err x) h = refl
 
 -- for lack of memory
-pub stood_balances : (Q : Refusal → Type 0) (r : Tcp2Socket) (l new : Listener) (ids : Ids) (result : Result (Answer Socket) Refusal) {s t : Seen} → IsErrAnd result Q → r.listening ≡ Accepts l → IsListener l → IsListener new
+pub stood_balances : (Q : Refusal → Type 0) (r : TcpRecord) (l new : Listener) (ids : Ids) (result : Result (Answer Socket) Refusal) {s t : Seen} → IsErrAnd result Q → r.listening ≡ Accepts l → IsListener l → IsListener new
     → StandsAccept (listener_accept_asks l ids) (accept_end l) new.accept s t → Balances s t (given_by result) r (with_listening r (Accepts new))
 stood_balances Q r l new ids result x e h k stands = record_evens r l new (given_by result) e (more_evens _ _ (given_by result) (given_none Q result x) (evens_stands accepted_weight IsTaken (accept_end l) (accept_keeps l) l new ids h k stands))

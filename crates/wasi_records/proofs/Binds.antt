@@ -19,21 +19,21 @@ use Rattle.wasi_tcp.specs.Shape.{Socket}
 use Rattle.wasi_tcp.specs.Socket.{bind_asks, bound_asks}
 use Rattle.wasi_records.specs.declared.tcp_binding.InProgress.{InProgress}
 use Rattle.wasi_records.specs.declared.tcp_binding.InProgress.TheVariants.{Binding}
-use Rattle.wasi_records.specs.declared.socket.Tcp2Socket.{Tcp2Socket}
+use Rattle.wasi_records.specs.declared.socket.TcpRecord.{TcpRecord}
 use Rattle.wasi_records.specs.Binding.{bind_answer, bind_ended, bind_progress, bind_settled, poll_binding, poll_bind_asks}
 use Rattle.wasi_records.specs.Sides.{MakesNone}
 use Rattle.wasi_records.specs.Sockets.{with_progress}
 use Rattle.wasi_records.proofs.SideCounts.{Calm, Any, calm_then, calm_bound, calm_polled, none_calm}
 
 -- what it made of its record
-polled_so : (r : Tcp2Socket) (op now : Operation) (p : Result (Answer (Unit {0})) Refusal) {s t : Seen} → PollsFor (λ (done : Unit {0}). Nothing) Nothing op now s t p
+polled_so : (r : TcpRecord) (op now : Operation) (p : Result (Answer (Unit {0})) Refusal) {s t : Seen} → PollsFor (λ (done : Unit {0}). Nothing) Nothing op now s t p
     → AsksFor (poll_binding r (Binding op)) s t (λ answer. (answer, bind_settled (with_progress r (Binding now)) p)) (outcome p)
 polled_so r op now (Ok (Ready done)) h = asks_end _ h.ended refl
 polled_so r op now (Ok Pending) h = asks_end _ h.ended (rw (← h.who) refl)
 polled_so r op now (Err (refusal.Code c)) h = asks_end _ h.ended refl
 polled_so r op now (Err (refusal.Memory e)) h = asks_err (bind (poll_asks now) (λ ended. Give (bind_ended op r ended))) (reaches_in _ h.ended)
 
-pub bind_polled : (r : Tcp2Socket) (op now : Operation) (p : Result (Answer (Unit {0})) Refusal) {s t : Seen} → r.in_progress ≡ Binding op → PollsFor (λ (done : Unit {0}). Nothing) Nothing op now s t p
+pub bind_polled : (r : TcpRecord) (op now : Operation) (p : Result (Answer (Unit {0})) Refusal) {s t : Seen} → r.in_progress ≡ Binding op → PollsFor (λ (done : Unit {0}). Nothing) Nothing op now s t p
     → AsksFor (poll_bind_asks r) s t (λ answer. (answer, bind_settled (with_progress r (Binding now)) p)) (outcome p)
 bind_polled r op now p e h = asks_at (poll_binding r) e (polled_so r op now p h)
 
@@ -44,15 +44,15 @@ progress_so op left (Done given, items) = refl
 progress_so op left (Refused c given, items) = refl
 
 -- out of memory, what is left is a poll of what the record has then
-pub bind_left : (r : Tcp2Socket) (socket : Socket) (op now : Operation) (p : Result (Answer (Unit {0})) Refusal) (s t : Seen) → socket ≡ r.inner → r.in_progress ≡ Binding op → PollsFor (λ (done : Unit {0}). Nothing) Nothing op now s t p
+pub bind_left : (r : TcpRecord) (socket : Socket) (op now : Operation) (p : Result (Answer (Unit {0})) Refusal) (s t : Seen) → socket ≡ r.inner → r.in_progress ≡ Binding op → PollsFor (λ (done : Unit {0}). Nothing) Nothing op now s t p
     → OnErr (outcome p) (Reaches (poll_bind_asks r) (poll_bind_asks (bind_settled (with_progress (record r { inner = socket }) (Binding now)) p)) s t)
 bind_left r socket op now (Ok (Ready done)) s t same e h = tt
 bind_left r socket op now (Ok Pending) s t same e h = tt
 bind_left r socket op now (Err (refusal.Code c)) s t same e h = tt
 bind_left r socket op now (Err (refusal.Memory m)) s t same e h =
-    let rest : Who → Asks (Result (Answer (Unit {0})) ErrorCode × Tcp2Socket) = λ w. bind (poll_asks now) (λ ended. Give (bind_ended (record { who = w; left = now.left }) r ended)) in
+    let rest : Who → Asks (Result (Answer (Unit {0})) ErrorCode × TcpRecord) = λ w. bind (poll_asks now) (λ ended. Give (bind_ended (record { who = w; left = now.left }) r ended)) in
     let so : Reaches (poll_binding r (Binding op)) (rest op.who) s t =
-    subst (λ (asks : Asks (Result (Answer (Unit {0})) ErrorCode × Tcp2Socket)). Reaches (poll_binding r (Binding op)) asks s t) (λ i. bind (poll_asks now) (λ ended. Give (bind_answer ended.0, with_progress r (progress_so op now.left ended i)))) (reaches_in (λ ended. Give (bind_ended op r ended)) h.ended) in
+    subst (λ (asks : Asks (Result (Answer (Unit {0})) ErrorCode × TcpRecord)). Reaches (poll_binding r (Binding op)) asks s t) (λ i. bind (poll_asks now) (λ ended. Give (bind_answer ended.0, with_progress r (progress_so op now.left ended i)))) (reaches_in (λ ended. Give (bind_ended op r ended)) h.ended) in
     let its : Reaches (poll_binding r (Binding op)) (rest now.who) s t = subst (λ (w : Who). Reaches (poll_binding r (Binding op)) (rest w) s t) (sym h.who) so in
     let here : Reaches (poll_bind_asks r) (rest now.who) s t = subst (λ (x : InProgress). Reaches (poll_binding r x) (rest now.who) s t) (sym e) its in
     subst (λ (k : Socket). Reaches (poll_bind_asks r) (poll_bind_asks (with_progress (record r { inner = k }) (Binding now))) s t) (sym same) here

@@ -6,9 +6,9 @@ use Rattle.wasi_world.specs.declared.call.Entry.{Entry}
 use Rattle.wasi_world.specs.Seen.{Seen}
 use Rattle.wasi_tcp.specs.Socket.{side_of}
 use Rattle.wasi_records.specs.declared.records.Record.{Record}
-use Rattle.wasi_records.specs.declared.records.Record.TheVariants.{Tcp2, Udp2, Lookup, InputPipe, OutputPipe, Gone}
-use Rattle.wasi_records.specs.declared.udp.Udp2Socket.{Udp2Socket}
-use Rattle.wasi_records.specs.declared.udp.Udp2Socket.TheVariants.{Creating, Open, Closed}
+use Rattle.wasi_records.specs.declared.records.Record.TheVariants.{Tcp, Udp, Lookup, InputPipe, OutputPipe, Gone}
+use Rattle.wasi_records.specs.declared.udp.UdpRecord.{UdpRecord}
+use Rattle.wasi_records.specs.declared.udp.UdpRecord.TheVariants.{Creating, Open, Closed}
 use Rattle.wasi_records.specs.Sides.{made_in, closed_in, held_by, held_in, one_if_some}
 use Rattle.wasi_records.specs.Closing.{AsksNothing, ClosesMore, ClosesSides}
 use Rattle.wasi_records.specs.Listening.{side_in}
@@ -26,15 +26,15 @@ some_or_none : (o : Option OpId) → one_if_some o ≤ 1
 some_or_none None = omega arith
 some_or_none (Some side) = omega arith
 
-few_udp : (u : Udp2Socket) → udp_holds u ≤ 2
+few_udp : (u : UdpRecord) → udp_holds u ≤ 2
 few_udp (Creating create) = omega arith
 few_udp (Open o) = omega arith
 few_udp (Closed side) = omega arith
 
 -- a record holds two at most
 few_by : (x : Record) → held_by x ≤ 2
-few_by (Tcp2 r) = let k = some_or_none (side_of r.inner) in let l = some_or_none (side_in r.listening) in omega arith
-few_by (Udp2 u) = few_udp u
+few_by (Tcp r) = let k = some_or_none (side_of r.inner) in let l = some_or_none (side_in r.listening) in omega arith
+few_by (Udp u) = few_udp u
 few_by (Lookup l) = omega arith
 few_by (InputPipe bytes) = omega arith
 few_by (OutputPipe pipe) = omega arith

@@ -29,8 +29,8 @@ use Rattle.wasi_tcp.specs.Connect.{IsConnect, IsLeftOfConnect, Unbound, Unchecke
 use Rattle.wasi_tcp.specs.Connecting.{HoldsConnect, connect_ended, finish_in, in_socket, finish_connect_asks}
 use Rattle.wasi_records.specs.Records.{tcp2_at, tcp2_put}
 use Rattle.wasi_records.specs.declared.records.Record.{Record}
-use Rattle.wasi_records.specs.declared.records.Record.TheVariants.{Tcp2, Udp2, Lookup, InputPipe, OutputPipe, Gone}
-use Rattle.wasi_records.specs.declared.socket.Tcp2Socket.{Tcp2Socket}
+use Rattle.wasi_records.specs.declared.records.Record.TheVariants.{Tcp, Udp, Lookup, InputPipe, OutputPipe, Gone}
+use Rattle.wasi_records.specs.declared.socket.TcpRecord.{TcpRecord}
 use Rattle.wasi_world.proofs.Walks.{asks_end, reaches_in, asks_err}
 use Rattle.wasi_records.specs.Sockets.{with_inner, opened_send, opened_receive, opened, connect_polled, connect_settled, connect_told, poll_connect_asks}
 use Rattle.wasi_records.specs.Sides.{made_by, closed_by, made_in, closed_in, one_if_some, holds, held_in, Balances}
@@ -148,7 +148,7 @@ count_socket socket h =
     counted_then (λ n done. Balanced (held socket.state) n (in_socket socket done)) (Balanced (held socket.state)) 0 (finish_in socket.state) _ (count_finish socket socket.state h) (λ n done c. c)
 
 -- the poll came to its end
-closes_done : (r : Tcp2Socket) {answer : Result (Answer (Unit {0})) ErrorCode} {now : Socket} {s t : Seen} → HoldsConnect r.inner.state → Reaches (finish_connect_asks r.inner) (Give (answer, now)) s t → Balances s t 0 r (with_inner r now)
+closes_done : (r : TcpRecord) {answer : Result (Answer (Unit {0})) ErrorCode} {now : Socket} {s t : Seen} → HoldsConnect r.inner.state → Reaches (finish_connect_asks r.inner) (Give (answer, now)) s t → Balances s t 0 r (with_inner r now)
 closes_done r h e =
     let w = counted_left (Balanced (held r.inner.state)) 0 (finish_connect_asks r.inner) e.entries _ (count_socket r.inner h) e.left in
     let balance = w.left in
@@ -156,7 +156,7 @@ closes_done r h e =
     record { entries = e.entries; passed = e.passed; balance = omega arith }
 
 -- or memory ran out
-closes_memory : (r : Tcp2Socket) (now : Socket) {s t : Seen} → HoldsConnect r.inner.state → HoldsConnect now.state → side_of now ≡ side_of r.inner → Reaches (finish_connect_asks r.inner) (finish_connect_asks now) s t → Balances s t 0 r (with_inner r now)
+closes_memory : (r : TcpRecord) (now : Socket) {s t : Seen} → HoldsConnect r.inner.state → HoldsConnect now.state → side_of now ≡ side_of r.inner → Reaches (finish_connect_asks r.inner) (finish_connect_asks now) s t → Balances s t 0 r (with_inner r now)
 closes_memory r now h k e f =
     let same : held now.state ≡ held r.inner.state = ap one_if_some e in
     let w = counted_left (Balanced (held r.inner.state)) 0 (finish_connect_asks r.inner) f.entries (finish_connect_asks now) (count_socket r.inner h) f.left in
@@ -166,7 +166,7 @@ closes_memory r now h k e f =
     record { entries = f.entries; passed = f.passed; balance = omega arith }
 
 -- == a record whose connect was polled
-pub poll_asked : (r : Tcp2Socket) (now : Socket) (p : Result (Answer (Unit {0})) Refusal) {s t : Seen} → AsksFor (finish_connect_asks r.inner) s t (λ answer. (answer, now)) (outcome p)
+pub poll_asked : (r : TcpRecord) (now : Socket) (p : Result (Answer (Unit {0})) Refusal) {s t : Seen} → AsksFor (finish_connect_asks r.inner) s t (λ answer. (answer, now)) (outcome p)
     → AsksFor (poll_connect_asks r) s t (λ done. (done, connect_settled (with_inner r now) p)) (connect_told (with_inner r now) p)
 poll_asked r now (Ok Pending) h = asks_end _ h.ok refl
 poll_asked r now (Ok (Ready done)) h = asks_end _ h.ok refl
@@ -196,61 +196,61 @@ send_keeps (state.Connected c) = by_taken c c.send_taken
     by_taken c false = refl
 send_keeps (state.Closed c) = refl
 
-opened_send_side : (r : Tcp2Socket) (receive : TcpReceiveStream) (done : Result TcpSendStream ErrorCode × Socket) → side_of (opened_send r receive done).1.inner ≡ side_of done.1
+opened_send_side : (r : TcpRecord) (receive : TcpReceiveStream) (done : Result TcpSendStream ErrorCode × Socket) → side_of (opened_send r receive done).1.inner ≡ side_of done.1
 opened_send_side r receive (Ok send, socket) = refl
 opened_send_side r receive (Err c, socket) = refl
 
-opened_receive_side : (r : Tcp2Socket) (done : Result TcpReceiveStream ErrorCode × Socket) → side_of (opened_receive r done).1.inner ≡ side_of done.1
+opened_receive_side : (r : TcpRecord) (done : Result TcpReceiveStream ErrorCode × Socket) → side_of (opened_receive r done).1.inner ≡ side_of done.1
 opened_receive_side r (Ok receive, socket) = opened_send_side r receive (in_socket socket (take_send socket.state)) ∙ send_keeps socket.state
 opened_receive_side r (Err c, socket) = refl
 
-pub opened_side : (r : Tcp2Socket) (socket : Socket) → side_of (opened r socket).1.inner ≡ side_of socket
+pub opened_side : (r : TcpRecord) (socket : Socket) → side_of (opened r socket).1.inner ≡ side_of socket
 opened_side r socket = opened_receive_side r (in_socket socket (take_receive socket.state)) ∙ receive_keeps socket.state
 
-settled_side : (r : Tcp2Socket) (p : Result (Answer (Unit {0})) Refusal) → side_of (connect_settled r p).inner ≡ side_of r.inner
+settled_side : (r : TcpRecord) (p : Result (Answer (Unit {0})) Refusal) → side_of (connect_settled r p).inner ≡ side_of r.inner
 settled_side r (Ok Pending) = refl
 settled_side r (Ok (Ready done)) = opened_side r r.inner
 settled_side r (Err (refusal.Code c)) = refl
 settled_side r (Err (refusal.Memory e)) = refl
 
 -- nor does it touch what the record listens by
-opened_send_listening : (r : Tcp2Socket) (receive : TcpReceiveStream) (done : Result TcpSendStream ErrorCode × Socket) → (opened_send r receive done).1.listening ≡ r.listening
+opened_send_listening : (r : TcpRecord) (receive : TcpReceiveStream) (done : Result TcpSendStream ErrorCode × Socket) → (opened_send r receive done).1.listening ≡ r.listening
 opened_send_listening r receive (Ok send, socket) = refl
 opened_send_listening r receive (Err c, socket) = refl
 
-opened_receive_listening : (r : Tcp2Socket) (done : Result TcpReceiveStream ErrorCode × Socket) → (opened_receive r done).1.listening ≡ r.listening
+opened_receive_listening : (r : TcpRecord) (done : Result TcpReceiveStream ErrorCode × Socket) → (opened_receive r done).1.listening ≡ r.listening
 opened_receive_listening r (Ok receive, socket) = opened_send_listening r receive (in_socket socket (take_send socket.state))
 opened_receive_listening r (Err c, socket) = refl
 
-pub opened_listening : (r : Tcp2Socket) (socket : Socket) → (opened r socket).1.listening ≡ r.listening
+pub opened_listening : (r : TcpRecord) (socket : Socket) → (opened r socket).1.listening ≡ r.listening
 opened_listening r socket = opened_receive_listening r (in_socket socket (take_receive socket.state))
 
-settled_listening : (r : Tcp2Socket) (p : Result (Answer (Unit {0})) Refusal) → (connect_settled r p).listening ≡ r.listening
+settled_listening : (r : TcpRecord) (p : Result (Answer (Unit {0})) Refusal) → (connect_settled r p).listening ≡ r.listening
 settled_listening r (Ok Pending) = refl
 settled_listening r (Ok (Ready done)) = opened_listening r r.inner
 settled_listening r (Err (refusal.Code c)) = refl
 settled_listening r (Err (refusal.Memory e)) = refl
 
 -- another record that holds as many network sockets
-pub balances_as : {s t : Seen} {n : ℕ} {old now : Tcp2Socket} (other : Tcp2Socket) → holds other ≡ holds now → Balances s t n old now → Balances s t n old other
+pub balances_as : {s t : Seen} {n : ℕ} {old now : TcpRecord} (other : TcpRecord) → holds other ≡ holds now → Balances s t n old now → Balances s t n old other
 balances_as other e c = let b = c.balance in record { entries = c.entries; passed = c.passed; balance = omega arith }
 
-pub closed_by_poll : (r : Tcp2Socket) (now : Socket) (p : Result (Answer (Unit {0})) Refusal) {s t : Seen} → HoldsConnect r.inner.state → HoldsConnect now.state → AsksFor (finish_connect_asks r.inner) s t (λ answer. (answer, now)) (outcome p)
+pub closed_by_poll : (r : TcpRecord) (now : Socket) (p : Result (Answer (Unit {0})) Refusal) {s t : Seen} → HoldsConnect r.inner.state → HoldsConnect now.state → AsksFor (finish_connect_asks r.inner) s t (λ answer. (answer, now)) (outcome p)
     → OnErr (outcome p) (Reaches (finish_connect_asks r.inner) (finish_connect_asks now) s t) → OnErr (outcome p) (side_of now ≡ side_of r.inner) → Balances s t 0 r (with_inner r now)
 closed_by_poll r now (Ok a) h k asked e side = closes_done r h asked.ok
 closed_by_poll r now (Err (refusal.Code c)) h k asked e side = closes_done r h asked.ok
 closed_by_poll r now (Err (refusal.Memory d)) h k asked e side = closes_memory r now h k side e
 
-pub poll_closes : (r : Tcp2Socket) (now : Socket) (p : Result (Answer (Unit {0})) Refusal) {s t : Seen} → HoldsConnect r.inner.state → HoldsConnect now.state → AsksFor (finish_connect_asks r.inner) s t (λ answer. (answer, now)) (outcome p)
+pub poll_closes : (r : TcpRecord) (now : Socket) (p : Result (Answer (Unit {0})) Refusal) {s t : Seen} → HoldsConnect r.inner.state → HoldsConnect now.state → AsksFor (finish_connect_asks r.inner) s t (λ answer. (answer, now)) (outcome p)
     → OnErr (outcome p) (Reaches (finish_connect_asks r.inner) (finish_connect_asks now) s t) → OnErr (outcome p) (side_of now ≡ side_of r.inner) → Balances s t 0 r (connect_settled (with_inner r now) p)
 poll_closes r now p h k asked e side =
     balances_as (connect_settled (with_inner r now) p) (holds-same (with_inner r now) (connect_settled (with_inner r now) p) (settled_side (with_inner r now) p) (settled_listening (with_inner r now) p)) (closed_by_poll r now p h k asked e side)
 
 -- == the records, where one of them was polled
-pub held_in-swap : (rs : List Record) (i : ℕ) (old now : Tcp2Socket) → tcp2_at rs i ≡ Some old → held_in (tcp2_put rs i now) + holds old ≡ held_in rs + holds now
+pub held_in-swap : (rs : List Record) (i : ℕ) (old now : TcpRecord) → tcp2_at rs i ≡ Some old → held_in (tcp2_put rs i now) + holds old ≡ held_in rs + holds now
 held_in-swap [] i old now h = absurd (cc)
-held_in-swap (Tcp2 x ∷ rs) zero old now h = let k : x ≡ old = cc in let p = ap (λ (r : Tcp2Socket). holds r) k in omega arith
-held_in-swap (Udp2 u ∷ rs) zero r s h = absurd (cc)
+held_in-swap (Tcp x ∷ rs) zero old now h = let k : x ≡ old = cc in let p = ap (λ (r : TcpRecord). holds r) k in omega arith
+held_in-swap (Udp u ∷ rs) zero r s h = absurd (cc)
 held_in-swap (Lookup l ∷ rs) zero r s h = absurd (cc)
 held_in-swap (InputPipe b ∷ rs) zero r s h = absurd (cc)
 held_in-swap (OutputPipe p ∷ rs) zero r s h = absurd (cc)

@@ -27,7 +27,7 @@ use Rattle.wasi_tcp.specs.Listening.{listen_ended, listen_goes_on, listen_poll_a
 use Rattle.wasi_tcp.specs.Listener.{Listener}
 use Rattle.wasi_records.specs.declared.tcp_listening.Listening.{Listening}
 use Rattle.wasi_records.specs.declared.tcp_listening.Listening.TheVariants.{Begins}
-use Rattle.wasi_records.specs.declared.socket.Tcp2Socket.{Tcp2Socket}
+use Rattle.wasi_records.specs.declared.socket.TcpRecord.{TcpRecord}
 use Rattle.wasi_records.specs.Listening.{side_in, listen_polled, listen_settled, listen_told, poll_begun, poll_listening, closed_listening, poll_listen_asks}
 use Rattle.wasi_records.specs.Sides.{closed_in, one_if_some, holds, Balances}
 use Rattle.wasi_world.proofs.Walks.{asks_at, asks_end, reaches_in, asks_err}
@@ -97,22 +97,22 @@ count_poll op h = count_round op.who h.last (polls 63 op.who) op.left h.left
 abbrev Ending : Type 0
 Ending = Result (Answer Listener) ErrorCode × (Operation × Socket)
 
-abbrev Balanced : Tcp2Socket → ℕ → ℕ → Ending → Type 0
+abbrev Balanced : TcpRecord → ℕ → ℕ → Ending → Type 0
 Balanced r before n done = n + holds (listen_polled r done).1 ≡ before
 
 -- one that isn't over holds its network socket
 pub held_going : (op : Operation) → is_over op ≡ false → one_if_some (held_side op) ≡ 1
 held_going op h = rw h refl
 
-count_end : (r : Tcp2Socket) (socket : Socket) (who : Who) (n : ℕ) (end : End × List Item) → side_of socket ≡ None → Stops n end → Balanced r 1 n (listen_ended who socket end)
+count_end : (r : TcpRecord) (socket : Socket) (who : Who) (n : ℕ) (end : End × List Item) → side_of socket ≡ None → Stops n end → Balanced r 1 n (listen_ended who socket end)
 count_end r socket who n (Waits, items) e h = let z : one_if_some (side_of socket) ≡ 0 = ap one_if_some e in let p = held_going (record { who = who; left = items }) h.1 in let m = h.0 in omega arith
 count_end r socket who n (Done given, items) e h = rw h refl
 count_end r socket who n (Refused c given, items) e h = let z : one_if_some (side_of socket) ≡ 0 = ap one_if_some e in omega arith
 
-count_goes_on : (r : Tcp2Socket) (op : Operation) (socket : Socket) → side_of socket ≡ None → IsListen op → Counted (Balanced r 1) 0 (listen_goes_on op socket)
+count_goes_on : (r : TcpRecord) (op : Operation) (socket : Socket) → side_of socket ≡ None → IsListen op → Counted (Balanced r 1) 0 (listen_goes_on op socket)
 count_goes_on r op socket e h = counted_then Stops (Balanced r 1) 0 (poll_asks op) _ (count_poll op h) (λ n end s. count_end r socket op.who n end e s)
 
-count_asks : (r : Tcp2Socket) (op : Operation) (socket : Socket) → side_of socket ≡ None → IsListen op → Counted (Balanced r (one_if_some (held_side op))) 0 (listen_poll_asks op socket)
+count_asks : (r : TcpRecord) (op : Operation) (socket : Socket) → side_of socket ≡ None → IsListen op → Counted (Balanced r (one_if_some (held_side op))) 0 (listen_poll_asks op socket)
 count_asks r op socket e h = by (is_over op)
   where
     by : (over : Bool) → Counted (Balanced r (one_if_some (if over then None else Some op.who.side))) 0 (if over then Give (Err InvalidState, (op, socket)) else listen_goes_on op socket)
@@ -120,7 +120,7 @@ count_asks r op socket e h = by (is_over op)
     by false = count_goes_on r op socket e h
 
 -- the poll came to its end
-balances_done : (r : Tcp2Socket) (op now : Operation) (socket : Socket) (answer : Result (Answer Listener) ErrorCode) {s t : Seen} → r.listening ≡ Begins op → side_of r.inner ≡ None → IsListen op → Reaches (listen_poll_asks op r.inner) (Give (answer, (now, socket))) s t
+balances_done : (r : TcpRecord) (op now : Operation) (socket : Socket) (answer : Result (Answer Listener) ErrorCode) {s t : Seen} → r.listening ≡ Begins op → side_of r.inner ≡ None → IsListen op → Reaches (listen_poll_asks op r.inner) (Give (answer, (now, socket))) s t
     → Balances s t 0 r (listen_polled r (answer, (now, socket))).1
 balances_done r op now socket answer l e h reached =
     let w = counted_left (Balanced r (one_if_some (held_side op))) 0 (listen_poll_asks op r.inner) reached.entries (Give (answer, (now, socket))) (count_asks r op r.inner e h) reached.left in
@@ -175,7 +175,7 @@ stays_held : (items : List Item) → some_left items ≡ true → none_left item
 stays_held [] h = absurd (cc)
 stays_held (item ∷ items) h = refl
 
-balances_memory : (r : Tcp2Socket) (op now : Operation) (socket : Socket) {s t : Seen} → r.listening ≡ Begins op → side_of r.inner ≡ None → IsListen op → IsListen now → is_going now ≡ true → Reaches (listen_goes_on op r.inner) (listen_goes_on now socket) s t
+balances_memory : (r : TcpRecord) (op now : Operation) (socket : Socket) {s t : Seen} → r.listening ≡ Begins op → side_of r.inner ≡ None → IsListen op → IsListen now → is_going now ≡ true → Reaches (listen_goes_on op r.inner) (listen_goes_on now socket) s t
     → Balances s t 0 r (record r { inner = socket; listening = Begins now })
 balances_memory r op now socket l e h k g reached =
     let w = counted_left (Balanced r 1) 0 (listen_goes_on op r.inner) reached.entries (listen_goes_on now socket) (count_goes_on r op r.inner e h) reached.left in
@@ -188,7 +188,7 @@ balances_memory r op now socket l e h k g reached =
     record { entries = reached.entries; passed = reached.passed; balance = omega arith }
 
 -- == a record whose listen was polled
-pub listen_balances : (r : Tcp2Socket) (op now : Operation) (socket : Socket) (p : Result (Answer Listener) Refusal) {s t : Seen} → r.listening ≡ Begins op → side_of r.inner ≡ None → IsListen op → IsListen now → is_going now ≡ stays_going p
+pub listen_balances : (r : TcpRecord) (op now : Operation) (socket : Socket) (p : Result (Answer Listener) Refusal) {s t : Seen} → r.listening ≡ Begins op → side_of r.inner ≡ None → IsListen op → IsListen now → is_going now ≡ stays_going p
     → AsksFor (listen_poll_asks op r.inner) s t (λ answer. (answer, (now, socket))) (outcome p) → OnErr (outcome p) (Reaches (listen_goes_on op r.inner) (listen_goes_on now socket) s t)
     → Balances s t 0 r (listen_settled (record r { inner = socket; listening = Begins now }) p)
 listen_balances r op now socket (Ok (Ready listener)) l e h k g asked err = balances_done r op now socket (Ok (Ready listener)) l e h asked.ok
@@ -196,14 +196,14 @@ listen_balances r op now socket (Ok Pending) l e h k g asked err = balances_done
 listen_balances r op now socket (Err (refusal.Code c)) l e h k g asked err = balances_done r op now socket (Err c) l e h asked.ok
 listen_balances r op now socket (Err (refusal.Memory d)) l e h k g asked err = balances_memory r op now socket l e h k g err
 
-begun_asked : (r : Tcp2Socket) (op now : Operation) (socket : Socket) (p : Result (Answer Listener) Refusal) {s t : Seen} → AsksFor (listen_poll_asks op r.inner) s t (λ answer. (answer, (now, socket))) (outcome p)
+begun_asked : (r : TcpRecord) (op now : Operation) (socket : Socket) (p : Result (Answer Listener) Refusal) {s t : Seen} → AsksFor (listen_poll_asks op r.inner) s t (λ answer. (answer, (now, socket))) (outcome p)
     → AsksFor (poll_begun r op) s t (λ answer. (answer, listen_settled (record r { inner = socket; listening = Begins now }) p)) (outcome (listen_told p))
 begun_asked r op now socket (Ok (Ready listener)) h = asks_end _ h.ok refl
 begun_asked r op now socket (Ok Pending) h = asks_end _ h.ok refl
 begun_asked r op now socket (Err (refusal.Code c)) h = asks_end _ h.ok refl
 begun_asked r op now socket (Err (refusal.Memory e)) h = asks_err (bind h.err.rest (λ done. Give (listen_polled r done))) (reaches_in _ h.err.reached)
 
-pub listen_asked : (r : Tcp2Socket) (op now : Operation) (socket : Socket) (p : Result (Answer Listener) Refusal) {s t : Seen} → r.listening ≡ Begins op → side_of r.inner ≡ None → AsksFor (listen_poll_asks op r.inner) s t (λ answer. (answer, (now, socket))) (outcome p)
+pub listen_asked : (r : TcpRecord) (op now : Operation) (socket : Socket) (p : Result (Answer Listener) Refusal) {s t : Seen} → r.listening ≡ Begins op → side_of r.inner ≡ None → AsksFor (listen_poll_asks op r.inner) s t (λ answer. (answer, (now, socket))) (outcome p)
     → AsksFor (poll_listen_asks r) s t (λ answer. (answer, listen_settled (record r { inner = socket; listening = Begins now }) p)) (outcome (listen_told p))
 listen_asked r op now socket p l e h = asks_at (closed_listening r) e (asks_at (poll_listening r) l (begun_asked r op now socket p h))
 

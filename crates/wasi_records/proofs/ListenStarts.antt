@@ -16,7 +16,7 @@ use Rattle.wasi_tcp.specs.Listen.{is_over}
 use Rattle.wasi_tcp.specs.Listening.{listen_start, listen_asks}
 use Rattle.wasi_records.specs.declared.tcp_listening.Listening.{Listening}
 use Rattle.wasi_records.specs.declared.tcp_listening.Listening.TheVariants.{Not, Begins}
-use Rattle.wasi_records.specs.declared.socket.Tcp2Socket.{Tcp2Socket}
+use Rattle.wasi_records.specs.declared.socket.TcpRecord.{TcpRecord}
 use Rattle.wasi_records.specs.Listening.{side_in}
 use Rattle.wasi_records.specs.Sides.{one_if_some, Balances}
 use Rattle.wasi_records.specs.Sockets.{with_inner}
@@ -31,7 +31,7 @@ calm_given Q (Ask op call next) (e ∷ es) a h w = calm_given Q (next e.answer) 
 calm_given Q (AskWrite op sock bytes next) (e ∷ es) a h w = calm_given Q (next e.answer) es a (h e.answer) w.2
 
 -- calm asks of the socket, which keeps its network socket
-pub balances_inner : {A T : Type 0} {asks : Asks A} {s t : Seen} {view : T → A} (r : Tcp2Socket) (socket : Socket) (o : Result T AllocError) → Calm Any asks → AsksFor asks s t view o → side_of socket ≡ side_of r.inner → Balances s t 0 r (with_inner r socket)
+pub balances_inner : {A T : Type 0} {asks : Asks A} {s t : Seen} {view : T → A} (r : TcpRecord) (socket : Socket) (o : Result T AllocError) → Calm Any asks → AsksFor asks s t view o → side_of socket ≡ side_of r.inner → Balances s t 0 r (with_inner r socket)
 balances_inner r socket o q h e = balances_calm q o h (holds-same r (with_inner r socket) e refl)
 
 -- == the start of a listen is calm, and an operation that begins isn't over
@@ -51,7 +51,7 @@ fresh_listen : (op : OpId) (socket : Socket) → Calm IsFresh (listen_asks op so
 fresh_listen op socket = calm_then Any IsFresh (bound_asks op socket) _ (calm_bound op socket) (λ b k. fresh_start op b.1 b.0 b.1.state)
 
 -- the network socket goes from the socket to the operation
-pub listen_begins : (op : OpId) (r : Tcp2Socket) (begun : Operation) (now : Socket) {s t : Seen} → r.listening ≡ Not → (side_of r.inner ≡ Some begun.who.side) × (side_of now ≡ None) → Reaches (listen_asks op r.inner) (Give (Ok begun, now)) s t
+pub listen_begins : (op : OpId) (r : TcpRecord) (begun : Operation) (now : Socket) {s t : Seen} → r.listening ≡ Not → (side_of r.inner ≡ Some begun.who.side) × (side_of now ≡ None) → Reaches (listen_asks op r.inner) (Give (Ok begun, now)) s t
     → Balances s t 0 r (record r { inner = now; listening = Begins begun })
 listen_begins op r begun now l taken reached =
     let a : one_if_some (side_of r.inner) ≡ 1 = ap one_if_some taken.0 in

@@ -28,7 +28,7 @@ use Rattle.wasi_tcp.specs.Reader.{reader_ready_asks, reader_shutdown_asks}
 use Rattle.wasi_tcp.specs.Shape.{Socket}
 use Rattle.wasi_tcp.specs.Writer.{collected, look_asks, writer_side, writer_shutdown_asks, side_up_asks}
 use Rattle.wasi_records.specs.declared.socket.Streams.{Streams}
-use Rattle.wasi_records.specs.declared.socket.Tcp2Socket.{Tcp2Socket}
+use Rattle.wasi_records.specs.declared.socket.TcpRecord.{TcpRecord}
 use Rattle.wasi_records.specs.Releasing.{give_streams_up}
 use Rattle.wasi_records.specs.Looks.{wait_answer, waits_told, wait_writer, is_over, is_done, over_told, read_told, look_told, connect_looked, ready_reader, ready_writer}
 use Rattle.wasi_records.specs.Stops.{Stop}
@@ -43,10 +43,10 @@ waits_answer : (answer : Answer (Unit {0})) → wait_answer (Ok answer) ≡ answ
 waits_answer Pending = refl
 waits_answer (Ready tt) = refl
 
-module _ (op : OpId) (r : Tcp2Socket) (streams : Streams) where
+module _ (op : OpId) (r : TcpRecord) (streams : Streams) where
   -- by one that waits
   pub look_waits : {w : WriteState} {s t : Seen} (looked : Result (Answer (Unit {0})) StreamError) → AsksFor (look_asks op streams.writer) s t (λ answer. (answer, w)) (stream_outcome looked)
-      → AsksFor {A = Answer (Unit {0}) × Tcp2Socket} (bind (look_asks op streams.writer) (λ l. Give (wait_answer l.0, with_writer r streams l.1))) s t (λ answer. (answer, with_writer r streams w)) (waits_told looked)
+      → AsksFor {A = Answer (Unit {0}) × TcpRecord} (bind (look_asks op streams.writer) (λ l. Give (wait_answer l.0, with_writer r streams l.1))) s t (λ answer. (answer, with_writer r streams w)) (waits_told looked)
   look_waits {w} (Ok answer) h = asks_end _ h.ok (ap (λ (a : Answer (Unit {0})). Give (a, with_writer r streams w)) (waits_answer answer))
   look_waits (Err (error.LastOperationFailed c)) h = asks_end _ h.ok refl
   look_waits (Err error.Closed) h = asks_end _ h.ok refl
@@ -59,15 +59,15 @@ module _ (op : OpId) (r : Tcp2Socket) (streams : Streams) where
 
   -- by a pollable
   pub look_over : {w : WriteState} {s t : Seen} (looked : Result (Answer (Unit {0})) StreamError) → AsksFor (look_asks op streams.writer) s t (λ answer. (answer, w)) (stream_outcome looked)
-      → AsksFor {A = Result Bool Stop × Tcp2Socket} (bind (look_asks op streams.writer) (λ l. Give (Ok (is_over l.0), with_writer r streams l.1))) s t (λ (ready : Result Bool Stop). (ready, with_writer r streams w)) (look_told looked)
+      → AsksFor {A = Result Bool Stop × TcpRecord} (bind (look_asks op streams.writer) (λ l. Give (Ok (is_over l.0), with_writer r streams l.1))) s t (λ (ready : Result Bool Stop). (ready, with_writer r streams w)) (look_told looked)
   look_over {w} (Ok answer) h = asks_end _ h.ok (ap (λ (b : Bool). let told : Result Bool Stop = Ok b in Give (told, with_writer r streams w)) (over_answer answer))
   look_over (Err (error.LastOperationFailed c)) h = asks_end _ h.ok refl
   look_over (Err error.Closed) h = asks_end _ h.ok refl
   look_over (Err (error.Trap k)) h = asks_end _ h.ok refl
   look_over (Err (error.Memory e)) h = asks_err (bind h.err.rest _) (reaches_in _ h.err.reached)
 
-pub read_over : (r : Tcp2Socket) (op : OpId) (streams : Streams) {now : ReadState} {s t : Seen} (looked : Result (Answer (Unit {0})) AllocError) → AsksFor (reader_ready_asks op streams.reader) s t (λ answer. (answer, now)) looked
-    → AsksFor {A = Result Bool Stop × Tcp2Socket} (bind (reader_ready_asks op streams.reader) (λ done. Give (Ok (is_done done.0), with_reader r streams done.1))) s t (λ (ready : Result Bool Stop). (ready, with_reader r streams now)) (read_told looked)
+pub read_over : (r : TcpRecord) (op : OpId) (streams : Streams) {now : ReadState} {s t : Seen} (looked : Result (Answer (Unit {0})) AllocError) → AsksFor (reader_ready_asks op streams.reader) s t (λ answer. (answer, now)) looked
+    → AsksFor {A = Result Bool Stop × TcpRecord} (bind (reader_ready_asks op streams.reader) (λ done. Give (Ok (is_done done.0), with_reader r streams done.1))) s t (λ (ready : Result Bool Stop). (ready, with_reader r streams now)) (read_told looked)
 read_over r op streams (Ok answer) h = asks_end _ h.ok refl
 read_over r op streams (Err e) h = asks_err (bind h.err.rest _) (reaches_in _ h.err.reached)
 
@@ -75,7 +75,7 @@ over_connect : (answer : Answer (Unit {0})) → is_over {E = ErrorCode} (Ok answ
 over_connect Pending = refl
 over_connect (Ready tt) = refl
 
-pub connect_over : (r : Tcp2Socket) (now : Socket) {s t : Seen} (polled : Result (Answer (Unit {0})) Refusal) → AsksFor (finish_connect_asks r.inner) s t (λ answer. (answer, now)) (outcome polled)
+pub connect_over : (r : TcpRecord) (now : Socket) {s t : Seen} (polled : Result (Answer (Unit {0})) Refusal) → AsksFor (finish_connect_asks r.inner) s t (λ answer. (answer, now)) (outcome polled)
     → AsksFor (bind (finish_connect_asks r.inner) (λ done. Give (connect_looked r done))) s t (λ (ready : Result Bool Stop). (ready, with_inner r now)) (over_told polled)
 connect_over r now (Ok answer) h = asks_end _ h.ok (ap (λ (b : Bool). let told : Result Bool Stop = Ok b in Give (told, with_inner r now)) (over_connect answer))
 connect_over r now (Err (refusal.Code c)) h = asks_end _ h.ok refl
@@ -87,15 +87,15 @@ unfolding bind
 calm_reader_ready op (reading.Open half) = ((λ t. refl, refl), λ t. tt)
 calm_reader_ready op reading.Closed = tt
 
-pub calm_ready_reader : (op : OpId) (r : Tcp2Socket) (o : Option Streams) → Calm Any (ready_reader op r o)
+pub calm_ready_reader : (op : OpId) (r : TcpRecord) (o : Option Streams) → Calm Any (ready_reader op r o)
 calm_ready_reader op r None = tt
 calm_ready_reader op r (Some s) = calm_then Any Any (reader_ready_asks op s.reader) _ (calm_reader_ready op s.reader) (λ d k. tt)
 
-pub calm_ready_writer : (op : OpId) (r : Tcp2Socket) (o : Option Streams) → Calm Any (ready_writer op r o)
+pub calm_ready_writer : (op : OpId) (r : TcpRecord) (o : Option Streams) → Calm Any (ready_writer op r o)
 calm_ready_writer op r None = tt
 calm_ready_writer op r (Some s) = calm_then Any Any (look_asks op s.writer) _ (calm_look_in op (collected s.writer)) (λ d k. tt)
 
-pub calm_wait_writer : (op : OpId) (r : Tcp2Socket) (o : Option Streams) → Calm Any (wait_writer op r o)
+pub calm_wait_writer : (op : OpId) (r : TcpRecord) (o : Option Streams) → Calm Any (wait_writer op r o)
 calm_wait_writer op r None = tt
 calm_wait_writer op r (Some s) = calm_then Any Any (look_asks op s.writer) _ (calm_look_in op (collected s.writer)) (λ d k. tt)
 
@@ -128,7 +128,7 @@ calm_shut op Receive s = calm_shut_receive op s
 calm_shut op Send s = calm_shut_send op s
 calm_shut op Both s = calm_then Any Any (shut_receive op s) _ (calm_shut_receive op s) (λ d k. calm_shut_send op d.1)
 
-pub calm_shut_record : (op : OpId) (how : ShutdownType) (r : Tcp2Socket) (o : Option Streams) → Calm Any (shut_record op how r o)
+pub calm_shut_record : (op : OpId) (how : ShutdownType) (r : TcpRecord) (o : Option Streams) → Calm Any (shut_record op how r o)
 calm_shut_record op how r None = tt
 calm_shut_record op how r (Some s) = calm_then Any Any (shut_streams op how s) _ (calm_shut op how s) (λ d k. tt)
 

@@ -3,7 +3,7 @@ use Rattle.std.specs.Borrow.{Bor, MutBor}
 use Rattle.std.proofs.Common.{◌≡◌, ℕ, zero, suc, ◌+◌, ◌<◌, List, [], ◌∷◌, Some, None, sym, ap, refl, map, length, slice_set, get_or, arith}
 use Rattle.wasi_records.specs.declared.name_lookup.Lookup.{Lookup as NameLookup}
 use Rattle.wasi_records.specs.declared.records.Record.{Record}
-use Rattle.wasi_records.specs.declared.records.Record.TheVariants.{Tcp2, Udp2, Lookup, InputPipe, OutputPipe, Gone}
+use Rattle.wasi_records.specs.declared.records.Record.TheVariants.{Tcp, Udp, Lookup, InputPipe, OutputPipe, Gone}
 use Rattle.wasi_records.specs.Numbered.{item_at}
 use Rattle.wasi_records.specs.Records.{lookup_at, lookup_put, lookup_pushed}
 use Rattle.wasi_records.specs.Sides.{held_by, held_in}
@@ -57,8 +57,8 @@ lookup_there (x ∷ xs) (suc i) now old h = lookup_there xs i now old h
 -- == the network sockets of the records
 pub held_in-lookup : (rs : List Record) (i : ℕ) (old now : NameLookup) → lookup_at rs i ≡ Some old → held_in (lookup_put rs i now) ≡ held_in rs
 held_in-lookup [] i old now h = refl
-held_in-lookup (Tcp2 r ∷ rs) zero old now h = absurd (cc)
-held_in-lookup (Udp2 u ∷ rs) zero old now h = absurd (cc)
+held_in-lookup (Tcp r ∷ rs) zero old now h = absurd (cc)
+held_in-lookup (Udp u ∷ rs) zero old now h = absurd (cc)
 held_in-lookup (InputPipe b ∷ rs) zero old now h = absurd (cc)
 held_in-lookup (OutputPipe p ∷ rs) zero old now h = absurd (cc)
 held_in-lookup (Gone ∷ rs) zero old now h = absurd (cc)

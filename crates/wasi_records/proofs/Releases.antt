@@ -19,7 +19,7 @@ use Rattle.wasi_tcp.specs.Socket.{side_of}
 use Rattle.wasi_records.specs.declared.tcp_listening.Listening.{Listening}
 use Rattle.wasi_records.specs.declared.tcp_listening.Listening.TheVariants.{Not, Begins, Accepts, Unclosed}
 use Rattle.wasi_records.specs.declared.tcp_binding.InProgress.TheVariants.{Nothing}
-use Rattle.wasi_records.specs.declared.socket.Tcp2Socket.{Tcp2Socket}
+use Rattle.wasi_records.specs.declared.socket.TcpRecord.{TcpRecord}
 use Rattle.wasi_records.specs.Releasing.{give_streams_up, gone, close_record, release_connection}
 use Rattle.wasi_records.specs.Listening.{side_in, give_up_asks, unclosed, with_listening}
 use Rattle.wasi_records.specs.Sides.{closed_by, one_if_some, holds, Balances}
@@ -47,18 +47,18 @@ unfolding bind
 count_close op socket None e = omega arith
 count_close op socket (Some side) e = ((λ t. refl), λ t. rw e refl)
 
-abbrev Releases : Tcp2Socket → ℕ → Unit {0} × Tcp2Socket → Type 0
+abbrev Releases : TcpRecord → ℕ → Unit {0} × TcpRecord → Type 0
 Releases r n done = n + holds done.1 ≡ one_if_some (side_of r.inner)
 
-count_record : (op : OpId) (r : Tcp2Socket) → Counted (Releases r) 0 (close_record op r)
+count_record : (op : OpId) (r : TcpRecord) → Counted (Releases r) 0 (close_record op r)
 count_record op r = counted_then (λ n done. n + one_if_some (side_of done.1) ≡ one_if_some (side_of r.inner)) (Releases r) 0 (close_asks op r.inner) _ (count_close op r.inner (side_of r.inner) refl) (λ n done k. omega arith)
 
-count_connection : (op : OpId) (r : Tcp2Socket) → Counted (Releases r) 0 (release_connection op r)
+count_connection : (op : OpId) (r : TcpRecord) → Counted (Releases r) 0 (release_connection op r)
 count_connection op r =
     counted_then (λ n done. n ≡ 0) (Releases r) 0 (give_streams_up op r.streams) _ (counted_calm 0 (give_streams_up op r.streams) (calm_give_up op r.streams)) (λ n done k. subst (λ (m : ℕ). Counted (Releases r) m (close_record op r)) (sym k) (count_record op r))
 
 -- it is closed, unless memory ran out before
-pub connection_closes : (op : OpId) (r now : Tcp2Socket) {s t u : Seen} (result : Result (Unit {0}) AllocError) → r.listening ≡ Not → Reaches (give_streams_up op r.streams) (Give tt) s t
+pub connection_closes : (op : OpId) (r now : TcpRecord) {s t u : Seen} (result : Result (Unit {0}) AllocError) → r.listening ≡ Not → Reaches (give_streams_up op r.streams) (Give tt) s t
     → AsksFor (release_connection op r) s u (λ done. (done, now)) result → OnErr result (now ≡ record r { streams = None }) → OnErr result (u ≡ t) → Balances s u 0 r now
 connection_closes op r now (Ok done) l g h e q =
     let w = counted_left (Releases r) 0 (release_connection op r) h.ok.entries _ (count_connection op r) h.ok.left in
@@ -69,8 +69,8 @@ connection_closes op r now (Ok done) l g h e q =
 connection_closes op r now (Err d) l g h e q = rw (e, q) (balances_walk (calm_give_up op r.streams) g refl)
 
 -- one that doesn't listen is gone with its socket, its operation and its streams
-pub gone_as : (r : Tcp2Socket) (socket : Socket) → r.listening ≡ Not → ◌≡◌ {A = Asks (Unit {0} × Tcp2Socket)} (Give (tt, gone r socket)) (Give (tt, record r { inner = socket; in_progress = Nothing; streams = None }))
-gone_as r socket l = ap (λ (l : Listening). let n : Tcp2Socket = record r { inner = socket; in_progress = Nothing; listening = l; streams = None } in let done : Asks (Unit {0} × Tcp2Socket) = Give (tt, n) in done) (sym l)
+pub gone_as : (r : TcpRecord) (socket : Socket) → r.listening ≡ Not → ◌≡◌ {A = Asks (Unit {0} × TcpRecord)} (Give (tt, gone r socket)) (Give (tt, record r { inner = socket; in_progress = Nothing; streams = None }))
+gone_as r socket l = ap (λ (l : Listening). let n : TcpRecord = record r { inner = socket; in_progress = Nothing; listening = l; streams = None } in let done : Asks (Unit {0} × TcpRecord) = Give (tt, n) in done) (sym l)
 
 -- == what it listens by
 count_side_closed : (op side : OpId) → Counted (Closed 1) 0 (ask_close op side)
@@ -102,7 +102,7 @@ count_given_up (Begins op) = count_cancel op
 count_given_up (Accepts l) = count_untaken l.accept
 count_given_up (Unclosed side) = count_side_closed side side
 
-pub given_up_closes : (r : Tcp2Socket) {s t : Seen} → Reaches (give_up_asks r.listening) (Give tt) s t → Balances s t 0 r (with_listening r Not)
+pub given_up_closes : (r : TcpRecord) {s t : Seen} → Reaches (give_up_asks r.listening) (Give tt) s t → Balances s t 0 r (with_listening r Not)
 given_up_closes r h =
     let w = counted_left (Closed (one_if_some (side_in r.listening))) 0 (give_up_asks r.listening) h.entries _ (count_given_up r.listening) h.left in
     let closed = w.left in
@@ -114,5 +114,5 @@ unclosed_side : (o : Option OpId) → side_in (unclosed o) ≡ o
 unclosed_side None = refl
 unclosed_side (Some side) = refl
 
-pub unclosed_holds : (r : Tcp2Socket) (s : Seen) → Balances s s 0 r (with_listening r (unclosed (side_in r.listening)))
+pub unclosed_holds : (r : TcpRecord) (s : Seen) → Balances s s 0 r (with_listening r (unclosed (side_in r.listening)))
 unclosed_holds r s = balances_as (with_listening r (unclosed (side_in r.listening))) (ap (λ (o : Option OpId). one_if_some (side_of r.inner) + one_if_some o) (unclosed_side (side_in r.listening))) (balances_none r s)

@@ -34,8 +34,8 @@ use Rattle.wasi_tcp.specs.Socket.{side_of, after_create, ask_bound, bound_asks}
 use Rattle.wasi_world.proofs.Walks.{reaches_all}
 use Rattle.wasi_records.specs.Records.{tcp2_put, tcp2_at, tcp2_pushed}
 use Rattle.wasi_records.specs.declared.records.Record.{Record}
-use Rattle.wasi_records.specs.declared.records.Record.TheVariants.{Tcp2, Udp2, Lookup, InputPipe, OutputPipe, Gone}
-use Rattle.wasi_records.specs.declared.socket.Tcp2Socket.{Tcp2Socket}
+use Rattle.wasi_records.specs.declared.records.Record.TheVariants.{Tcp, Udp, Lookup, InputPipe, OutputPipe, Gone}
+use Rattle.wasi_records.specs.declared.socket.TcpRecord.{TcpRecord}
 use Rattle.wasi_records.specs.Sockets.{begin_connect_asks, tell_local_asks, tell_remote_asks}
 use Rattle.wasi_records.specs.Sides.{one_if_done, made_by, closed_by, made_in, closed_in, holds, held_in, Balances, MakesNone, held_by}
 
@@ -90,40 +90,40 @@ knows_grown None new es a b e h k = rw e tt
 knows_grown (Some log) new es a b e h k = rw e (let m = made_in-append log es in let c = closed_in-append log es in omega arith)
 
 -- == a record that is replaced holds as many network sockets
-pub held_in-same : (rs : List Record) (i : ℕ) (r s : Tcp2Socket) → tcp2_at rs i ≡ Some r → holds s ≡ holds r → held_in (tcp2_put rs i s) ≡ held_in rs
+pub held_in-same : (rs : List Record) (i : ℕ) (r s : TcpRecord) → tcp2_at rs i ≡ Some r → holds s ≡ holds r → held_in (tcp2_put rs i s) ≡ held_in rs
 held_in-same [] i r s h e = refl
-held_in-same (Tcp2 x ∷ rs) zero r s h e = let k : x ≡ r = cc in ap (λ n. n + held_in rs) (e ∙ ap (λ (y : Tcp2Socket). holds y) (sym k))
-held_in-same (Udp2 u ∷ rs) zero r s h e = absurd (cc)
+held_in-same (Tcp x ∷ rs) zero r s h e = let k : x ≡ r = cc in ap (λ n. n + held_in rs) (e ∙ ap (λ (y : TcpRecord). holds y) (sym k))
+held_in-same (Udp u ∷ rs) zero r s h e = absurd (cc)
 held_in-same (Lookup l ∷ rs) zero r s h e = absurd (cc)
 held_in-same (InputPipe b ∷ rs) zero r s h e = absurd (cc)
 held_in-same (OutputPipe p ∷ rs) zero r s h e = absurd (cc)
 held_in-same (Gone ∷ rs) zero r s h e = absurd (cc)
 held_in-same (x ∷ rs) (suc i) r s h e = ap (λ n. held_by x + n) (held_in-same rs i r s h e)
 
-pub holds-same : (r s : Tcp2Socket) → side_of s.inner ≡ side_of r.inner → s.listening ≡ r.listening → holds s ≡ holds r
+pub holds-same : (r s : TcpRecord) → side_of s.inner ≡ side_of r.inner → s.listening ≡ r.listening → holds s ≡ holds r
 holds-same r s e l = rw (e, l) refl
 
-pub held_in-set : (rs : List Record) (i : ℕ) (r s : Tcp2Socket) → tcp2_at rs i ≡ Some r → side_of s.inner ≡ side_of r.inner → s.listening ≡ r.listening → held_in (tcp2_put rs i s) ≡ held_in rs
+pub held_in-set : (rs : List Record) (i : ℕ) (r s : TcpRecord) → tcp2_at rs i ≡ Some r → side_of s.inner ≡ side_of r.inner → s.listening ≡ r.listening → held_in (tcp2_put rs i s) ≡ held_in rs
 held_in-set rs i r s h e l = held_in-same rs i r s h (holds-same r s e l)
 
-pub held_in-append : (rs : List Record) (r : Tcp2Socket) → held_in (tcp2_pushed rs r) ≡ held_in rs + holds r
+pub held_in-append : (rs : List Record) (r : TcpRecord) → held_in (tcp2_pushed rs r) ≡ held_in rs + holds r
 held_in-append [] r = omega arith
 held_in-append (x ∷ rs) r = let h = held_in-append rs r in omega arith
 
 -- == what calm asks make of a record's network sockets
-pub balances_walk : {A : Type 0} {asks rest : Asks A} {s t : Seen} {old now : Tcp2Socket} → Calm Any asks → Reaches asks rest s t → holds now ≡ holds old → Balances s t 0 old now
+pub balances_walk : {A : Type 0} {asks rest : Asks A} {s t : Seen} {old now : TcpRecord} → Calm Any asks → Reaches asks rest s t → holds now ≡ holds old → Balances s t 0 old now
 balances_walk {asks = asks} {rest} q h e =
     let n = calm_left Any asks h.entries rest q h.left in
     let m = n.made in
     let c = n.closed in
     record { entries = h.entries; passed = h.passed; balance = omega arith }
 
-pub balances_calm : {A T : Type 0} {asks : Asks A} {s t : Seen} {view : T → A} {old now : Tcp2Socket} → Calm Any asks → (r : Result T AllocError) → AsksFor asks s t view r → holds now ≡ holds old → Balances s t 0 old now
+pub balances_calm : {A T : Type 0} {asks : Asks A} {s t : Seen} {view : T → A} {old now : TcpRecord} → Calm Any asks → (r : Result T AllocError) → AsksFor asks s t view r → holds now ≡ holds old → Balances s t 0 old now
 balances_calm q (Ok x) h e = balances_walk q h.ok e
 balances_calm q (Err d) h e = balances_walk q h.err.reached e
 
 -- no ask, and the record as it was
-pub balances_none : (r : Tcp2Socket) (s : Seen) → Balances s s 0 r r
+pub balances_none : (r : TcpRecord) (s : Seen) → Balances s s 0 r r
 balances_none r s = let done : Unit {0} = tt in balances_walk {asks = Give done} {rest = Give done} tt (reaches_all (Give done) s) refl
 
 -- == a bind is calm
@@ -206,7 +206,7 @@ calm_start_in : (op : OpId) (s : Socket) (a : IpSocketAddress) (st : TcpState) �
 calm_start_in op s a (state.Default side) = calm_then Any Any (bound_asks op s) _ (calm_bound op s) (λ b k. tt)
 calm_start_in op s a _ = tt
 
-pub calm_begin_connect : (op : OpId) (r : Tcp2Socket) (a : IpSocketAddress) → Calm Any (begin_connect_asks op r a)
+pub calm_begin_connect : (op : OpId) (r : TcpRecord) (a : IpSocketAddress) → Calm Any (begin_connect_asks op r a)
 calm_begin_connect op r a = calm_then Any Any (start_connect_asks op r.inner a) _ (calm_start_in op r.inner a r.inner.state) (λ d k. tt)
 
 calm_local_from : (op : OpId) (s : Socket) (r : Result OpId ErrorCode) → Calm Any (local_from op s r)
@@ -214,7 +214,7 @@ unfolding bind
 calm_local_from op s (Ok side) = ((λ t. refl, refl), λ t. tt)
 calm_local_from op s (Err c) = tt
 
-pub calm_tell_local : (op : OpId) (r : Tcp2Socket) → Calm Any (tell_local_asks op r)
+pub calm_tell_local : (op : OpId) (r : TcpRecord) → Calm Any (tell_local_asks op r)
 calm_tell_local op r =
     calm_then Any Any (local_asks op r.inner) _ (calm_then Any Any (bound_asks op r.inner) _ (calm_bound op r.inner) (λ b k. calm_local_from op b.1 (local_side b.1 b.0))) (λ d k. tt)
 
@@ -227,7 +227,7 @@ calm_remote_in : (op : OpId) (st : TcpState) → Calm Any (remote_in op st)
 calm_remote_in op (state.Connected c) = calm_then Any Any (peer_asks op c) _ (calm_peer op c c.peer) (λ p k. tt)
 calm_remote_in op _ = tt
 
-pub calm_tell_remote : (op : OpId) (r : Tcp2Socket) → Calm Any (tell_remote_asks op r)
+pub calm_tell_remote : (op : OpId) (r : TcpRecord) → Calm Any (tell_remote_asks op r)
 calm_tell_remote op r = calm_then Any Any (remote_asks op r.inner) _ (calm_then Any Any (remote_in op r.inner.state) _ (calm_remote_in op r.inner.state) (λ d k. tt)) (λ d k. tt)
 
 -- == a create makes one network socket where it gives a socket, and none where it doesn't
@@ -293,7 +293,7 @@ passes_then {s} {t} {u} {es} {fs} h k = record {
   plan = k.plan ∙ h.plan;
 }
 
-pub balances_then : {s t u : Seen} {n : ℕ} {old mid now : Tcp2Socket} → Balances s t 0 old mid → Balances t u n mid now → Balances s u n old now
+pub balances_then : {s t u : Seen} {n : ℕ} {old mid now : TcpRecord} → Balances s t 0 old mid → Balances t u n mid now → Balances s u n old now
 balances_then h k =
     let a = h.balance in
     let b = k.balance in

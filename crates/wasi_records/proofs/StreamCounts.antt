@@ -26,7 +26,7 @@ use Rattle.wasi_tcp.specs.Bounds.{IsWrite, HoldsWrite}
 use Rattle.wasi_tcp.specs.Job.{Job, new_job, writer, write_left, job_in, job_asks}
 use Rattle.wasi_tcp.specs.Writer.{collected, look_in, look_asks, check_write_asks, turn_asks, write_on_asks, write_state_asks}
 use Rattle.wasi_records.specs.declared.socket.Streams.{Streams}
-use Rattle.wasi_records.specs.declared.socket.Tcp2Socket.{Tcp2Socket}
+use Rattle.wasi_records.specs.declared.socket.TcpRecord.{TcpRecord}
 use Rattle.wasi_records.specs.Halves.{reader_of, reader_asks, writer_of, writer_asks}
 use Rattle.wasi_records.proofs.SideCounts.{Calm, Any, calm_then}
 
@@ -167,16 +167,16 @@ calm_turn (writing.Closing job) h = calm_then Any Any (job_asks job) _ (calm_job
 calm_turn (writing.Closed e) h = tt
 
 -- == of a record
-calm_reader_of : {T : Type 0} (r : Tcp2Socket) (call : ReadState → Asks (Result T StreamStop × ReadState)) (o : Option Streams) → ((s : ReadState) → Calm Any (call s)) → Calm Any (reader_of r call o)
+calm_reader_of : {T : Type 0} (r : TcpRecord) (call : ReadState → Asks (Result T StreamStop × ReadState)) (o : Option Streams) → ((s : ReadState) → Calm Any (call s)) → Calm Any (reader_of r call o)
 calm_reader_of r call None h = tt
 calm_reader_of r call (Some s) h = calm_then Any Any (call s.reader) _ (h s.reader) (λ d k. tt)
 
-pub calm_reader : {T : Type 0} (call : ReadState → Asks (Result T StreamStop × ReadState)) (r : Tcp2Socket) → ((s : ReadState) → Calm Any (call s)) → Calm Any (reader_asks call r)
+pub calm_reader : {T : Type 0} (call : ReadState → Asks (Result T StreamStop × ReadState)) (r : TcpRecord) → ((s : ReadState) → Calm Any (call s)) → Calm Any (reader_asks call r)
 calm_reader call r h = calm_reader_of r call r.streams h
 
-calm_writer_of : {T : Type 0} (r : Tcp2Socket) (call : WriteState → Asks (Result T StreamStop × WriteState)) (o : Option Streams) → ((s : WriteState) → Calm Any (call s)) → Calm Any (writer_of r call o)
+calm_writer_of : {T : Type 0} (r : TcpRecord) (call : WriteState → Asks (Result T StreamStop × WriteState)) (o : Option Streams) → ((s : WriteState) → Calm Any (call s)) → Calm Any (writer_of r call o)
 calm_writer_of r call None h = tt
 calm_writer_of r call (Some s) h = calm_then Any Any (call s.writer) _ (h s.writer) (λ d k. tt)
 
-pub calm_writer : {T : Type 0} (call : WriteState → Asks (Result T StreamStop × WriteState)) (r : Tcp2Socket) → ((s : WriteState) → Calm Any (call s)) → Calm Any (writer_asks call r)
+pub calm_writer : {T : Type 0} (call : WriteState → Asks (Result T StreamStop × WriteState)) (r : TcpRecord) → ((s : WriteState) → Calm Any (call s)) → Calm Any (writer_asks call r)
 calm_writer call r h = calm_writer_of r call r.streams h

@@ -2,16 +2,16 @@
 use Rattle.std.specs.Borrow.{Bor, MutBor}
 use Rattle.std.proofs.Common.{◌≡◌, ℕ, zero, suc, ◌+◌, List, [], ◌∷◌, Option, Some, None, refl, sym, ap, arith}
 use Rattle.wasi_records.specs.declared.records.Record.{Record}
-use Rattle.wasi_records.specs.declared.records.Record.TheVariants.{Tcp2, Udp2, Lookup, InputPipe, OutputPipe, Gone}
+use Rattle.wasi_records.specs.declared.records.Record.TheVariants.{Tcp, Udp, Lookup, InputPipe, OutputPipe, Gone}
 use Rattle.wasi_records.specs.declared.udp.OpenUdp.{OpenUdp}
-use Rattle.wasi_records.specs.declared.udp.Udp2Socket.{Udp2Socket}
-use Rattle.wasi_records.specs.declared.udp.Udp2Socket.TheVariants.{Creating, Open, Closed}
+use Rattle.wasi_records.specs.declared.udp.UdpRecord.{UdpRecord}
+use Rattle.wasi_records.specs.declared.udp.UdpRecord.TheVariants.{Creating, Open, Closed}
 use Rattle.wasi_records.specs.Records.{udp2_at, udp2_put, udp2_pushed, open_of, open_at, open_put}
 use Rattle.wasi_records.specs.Sides.{held_in}
 use Rattle.wasi_records.specs.Udp.{udp_holds}
 
 -- == what is lent, by its number
-pub udp_at : (xs : List Record) (i : ℕ) (x : MutBor Udp2Socket) → Some x.now ≡ udp2_at xs i → udp2_at xs i ≡ Some x.now
+pub udp_at : (xs : List Record) (i : ℕ) (x : MutBor UdpRecord) → Some x.now ≡ udp2_at xs i → udp2_at xs i ≡ Some x.now
 udp_at xs i x h = sym h
 
 pub no_udp : (xs : List Record) (i : ℕ) → None ≡ udp2_at xs i → udp2_at xs i ≡ None
@@ -27,7 +27,7 @@ pub not_open : (xs : List Record) (i : ℕ) → None ≡ open_at xs i → open_a
 not_open xs i h = sym h
 
 -- an open socket is a UDP socket
-open_is : (u : Option Udp2Socket) (o : OpenUdp) → open_of u ≡ Some o → u ≡ Some (Open o)
+open_is : (u : Option UdpRecord) (o : OpenUdp) → open_of u ≡ Some o → u ≡ Some (Open o)
 open_is None o h = absurd (cc)
 open_is (Some (Creating create)) o h = absurd (cc)
 open_is (Some (Open x)) o h = cc
@@ -37,14 +37,14 @@ pub open_there : (xs : List Record) (i : ℕ) (o : OpenUdp) → open_at xs i ≡
 open_there xs i o h = open_is (udp2_at xs i) o h
 
 -- == and it is given back as it was
-pub udp_put_same : (xs : List Record) (i : ℕ) (u : Udp2Socket) → udp2_at xs i ≡ Some u → udp2_put xs i u ≡ xs
+pub udp_put_same : (xs : List Record) (i : ℕ) (u : UdpRecord) → udp2_at xs i ≡ Some u → udp2_put xs i u ≡ xs
 udp_put_same [] i u h = absurd (cc)
-udp_put_same (Tcp2 r ∷ xs) zero u h = absurd (cc)
+udp_put_same (Tcp r ∷ xs) zero u h = absurd (cc)
 udp_put_same (Lookup l ∷ xs) zero u h = absurd (cc)
 udp_put_same (InputPipe b ∷ xs) zero u h = absurd (cc)
 udp_put_same (OutputPipe p ∷ xs) zero u h = absurd (cc)
 udp_put_same (Gone ∷ xs) zero u h = absurd (cc)
-udp_put_same (Udp2 x ∷ xs) zero u h = cc
+udp_put_same (Udp x ∷ xs) zero u h = cc
 udp_put_same (x ∷ xs) (suc i) u h = ap (λ (l : List Record). x ∷ l) (udp_put_same xs i u h)
 
 pub open_back : (xs : List Record) (i : ℕ) (x : MutBor OpenUdp) → Some x.now ≡ open_at xs i → open_put xs i x.now ≡ xs
@@ -57,20 +57,20 @@ open_put_there (x ∷ xs) zero now old h = refl
 open_put_there (x ∷ xs) (suc i) now old h = open_put_there xs i now old h
 
 -- == the network sockets of the records
-pub held_in-udp_swap : (rs : List Record) (i : ℕ) (old now : Udp2Socket) → udp2_at rs i ≡ Some old → held_in (udp2_put rs i now) + udp_holds old ≡ held_in rs + udp_holds now
+pub held_in-udp_swap : (rs : List Record) (i : ℕ) (old now : UdpRecord) → udp2_at rs i ≡ Some old → held_in (udp2_put rs i now) + udp_holds old ≡ held_in rs + udp_holds now
 held_in-udp_swap [] i old now h = absurd (cc)
-held_in-udp_swap (Tcp2 r ∷ rs) zero old now h = absurd (cc)
+held_in-udp_swap (Tcp r ∷ rs) zero old now h = absurd (cc)
 held_in-udp_swap (Lookup l ∷ rs) zero old now h = absurd (cc)
 held_in-udp_swap (InputPipe b ∷ rs) zero old now h = absurd (cc)
 held_in-udp_swap (OutputPipe p ∷ rs) zero old now h = absurd (cc)
 held_in-udp_swap (Gone ∷ rs) zero old now h = absurd (cc)
-held_in-udp_swap (Udp2 u ∷ rs) zero old now h = let k : u ≡ old = cc in let p = ap (λ (y : Udp2Socket). udp_holds y) k in omega arith
+held_in-udp_swap (Udp u ∷ rs) zero old now h = let k : u ≡ old = cc in let p = ap (λ (y : UdpRecord). udp_holds y) k in omega arith
 held_in-udp_swap (x ∷ rs) (suc i) old now h = let p = held_in-udp_swap rs i old now h in omega arith
 
 -- an open socket holds its own, whatever it is in the middle of
 pub held_in-open : (rs : List Record) (i : ℕ) (old now : OpenUdp) → open_at rs i ≡ Some old → held_in (open_put rs i now) ≡ held_in rs
 held_in-open rs i old now h = let p = held_in-udp_swap rs i (Open old) (Open now) (open_there rs i old h) in omega arith
 
-pub held_in-udp_more : (rs : List Record) (u : Udp2Socket) → held_in (udp2_pushed rs u) ≡ held_in rs + udp_holds u
+pub held_in-udp_more : (rs : List Record) (u : UdpRecord) → held_in (udp2_pushed rs u) ≡ held_in rs + udp_holds u
 held_in-udp_more [] u = omega arith
 held_in-udp_more (x ∷ rs) u = let h = held_in-udp_more rs u in omega arith

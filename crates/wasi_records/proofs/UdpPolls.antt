@@ -18,8 +18,8 @@ use Rattle.socket_common.specs.Rounds.{is_going, stays_going}
 use Rattle.wasi_udp.specs.Create.{Create, create_ended, create_poll_asks, IsCreate, IsLeftOfCreate, Unready, ToClose, Ended, create_cancel_asks}
 use Rattle.wasi_udp.specs.Shape.{Socket}
 use Rattle.wasi_records.specs.declared.udp.OpenUdp.{OpenUdp}
-use Rattle.wasi_records.specs.declared.udp.Udp2Socket.{Udp2Socket}
-use Rattle.wasi_records.specs.declared.udp.Udp2Socket.TheVariants.{Creating, Open, Closed}
+use Rattle.wasi_records.specs.declared.udp.UdpRecord.{UdpRecord}
+use Rattle.wasi_records.specs.declared.udp.UdpRecord.TheVariants.{Creating, Open, Closed}
 use Rattle.wasi_records.specs.Records.{open_of}
 use Rattle.wasi_records.specs.Sides.{closed_in, HoldsFewer}
 use Rattle.wasi_records.specs.Udp.{udp_holds, opened_udp, udp_create_ended, poll_create_asks, udp_create_settled, udp_create_done}
@@ -35,7 +35,7 @@ gives_twice f g (Ask op call next) = λ i. Ask op call (λ told. gives_twice f g
 gives_twice f g (AskWrite op sock bytes next) = λ i. AskWrite op sock bytes (λ told. gives_twice f g (next told) i)
 
 -- the record of what the create gave
-abbrev made_of : Result (Answer Socket) ErrorCode × Create → Result (Answer (Unit {0})) ErrorCode × Udp2Socket
+abbrev made_of : Result (Answer Socket) ErrorCode × Create → Result (Answer (Unit {0})) ErrorCode × UdpRecord
 made_of (Ok (Ready socket), create) = (Ok (Ready tt), opened_udp socket)
 made_of (Ok Pending, create) = (Ok Pending, Creating create)
 made_of (Err c, create) = (Err c, Closed create.operation.who.side)
@@ -58,7 +58,7 @@ created_as create now (Err (refusal.Memory e)) h = asks_err _ h.err.reached
 pub create_polled : (create now : Create) (p : Result (Answer Socket) Refusal) {s t : Seen} → is_going create.operation ≡ true → AsksFor (create_poll_asks create) s t (λ answer. (answer, now)) (outcome p)
     → AsksFor (poll_create_asks (Creating create)) s t (λ answer. (answer, udp_create_settled now p)) (outcome (udp_create_done p))
 create_polled create now p {s} {t} going h =
-    let P : Asks (Result (Answer (Unit {0})) ErrorCode × Udp2Socket) → Type 0 = λ asks. AsksFor asks s t (λ (answer : Result (Answer Socket) ErrorCode). made_of (answer, now)) (outcome p) in
+    let P : Asks (Result (Answer (Unit {0})) ErrorCode × UdpRecord) → Type 0 = λ asks. AsksFor asks s t (λ (answer : Result (Answer Socket) ErrorCode). made_of (answer, now)) (outcome p) in
     created_as create now p (subst P (same_tree create) (asks_gives made_of (rw going at h)))
 
 -- out of memory, what is left is a poll of what the record is then
@@ -68,10 +68,10 @@ create_left_over create now (Ok (Ready socket)) s t going still h = tt
 create_left_over create now (Ok Pending) s t going still h = tt
 create_left_over create now (Err (refusal.Code c)) s t going still h = tt
 create_left_over create now (Err (refusal.Memory e)) s t going still h =
-    let whole : Create → Asks (Result (Answer (Unit {0})) ErrorCode × Udp2Socket) = λ c. bind (bind (poll_asks c.operation) (λ ended. Give (create_ended c ended))) (λ done. Give (made_of done)) in
+    let whole : Create → Asks (Result (Answer (Unit {0})) ErrorCode × UdpRecord) = λ c. bind (bind (poll_asks c.operation) (λ ended. Give (create_ended c ended))) (λ done. Give (made_of done)) in
     let so : Reaches (whole create) (whole now) s t = reaches_in (λ done. Give (made_of done)) (rw (going, still) at h) in
-    let its : Reaches (whole create) (poll_create_asks (Creating now)) s t = subst (λ (asks : Asks (Result (Answer (Unit {0})) ErrorCode × Udp2Socket)). Reaches (whole create) asks s t) (same_tree now) so in
-    subst (λ (asks : Asks (Result (Answer (Unit {0})) ErrorCode × Udp2Socket)). Reaches asks (poll_create_asks (Creating now)) s t) (same_tree create) its
+    let its : Reaches (whole create) (poll_create_asks (Creating now)) s t = subst (λ (asks : Asks (Result (Answer (Unit {0})) ErrorCode × UdpRecord)). Reaches (whole create) asks s t) (same_tree now) so in
+    subst (λ (asks : Asks (Result (Answer (Unit {0})) ErrorCode × UdpRecord)). Reaches asks (poll_create_asks (Creating now)) s t) (same_tree create) its
 
 -- == what a poll of the create closes
 -- refused, it closed its network socket; else it closed none
@@ -130,7 +130,7 @@ create_holds create now (Err (refusal.Memory d)) its kept going still h e =
     fewer 1 (count_create create its going) e (λ z. let n = counted_once ClosesBy one_number (0 + closed_in e.entries) 0 (create_poll_asks now) z (count_create now kept still) in omega arith)
 
 -- == an open socket is closed
-pub is_open : (u : Udp2Socket) (o : OpenUdp) → Some o ≡ open_of (Some u) → u ≡ Open o
+pub is_open : (u : UdpRecord) (o : OpenUdp) → Some o ≡ open_of (Some u) → u ≡ Open o
 is_open (Creating create) o h = absurd (cc)
 is_open (Open x) o h = cc
 is_open (Closed side) o h = absurd (cc)

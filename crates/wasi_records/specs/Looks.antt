@@ -20,7 +20,7 @@ use Rattle.wasi_tcp.specs.Writer.{look_asks}
 use Rattle.wasi_records.specs.declared.tcp_listening.Listening.{Listening}
 use Rattle.wasi_records.specs.declared.tcp_listening.Listening.TheVariants.{Accepts}
 use Rattle.wasi_records.specs.declared.socket.Streams.{Streams}
-use Rattle.wasi_records.specs.declared.socket.Tcp2Socket.{Tcp2Socket}
+use Rattle.wasi_records.specs.declared.socket.TcpRecord.{TcpRecord}
 use Rattle.wasi_records.specs.Stops.{Stop, Trap}
 use Rattle.wasi_records.specs.InProgress.{is_nothing, is_connect}
 use Rattle.wasi_records.specs.Sockets.{with_inner}
@@ -56,28 +56,28 @@ look_told (Err (error.Trap k)) = Ok (Ok true)
 look_told (Err (error.Memory e)) = Err e
 
 -- == a socket
-abbrev pub connect_looked : Tcp2Socket → Result (Answer (Unit {0})) ErrorCode × Socket → Result Bool Stop × Tcp2Socket
+abbrev pub connect_looked : TcpRecord → Result (Answer (Unit {0})) ErrorCode × Socket → Result Bool Stop × TcpRecord
 connect_looked r done = (Ok (is_over done.0), with_inner r done.1)
 
-abbrev pub accept_looked : Tcp2Socket → Answer (Unit {0}) × Listener → Result Bool Stop × Tcp2Socket
+abbrev pub accept_looked : TcpRecord → Answer (Unit {0}) × Listener → Result Bool Stop × TcpRecord
 accept_looked r done = (Ok (is_done done.0), with_listening r (Accepts done.1))
 
 -- a listener's accept is polled, and its result isn't taken
-abbrev pub ready_listening : Ids → Tcp2Socket → Listening → Asks (Result Bool Stop × Tcp2Socket)
+abbrev pub ready_listening : Ids → TcpRecord → Listening → Asks (Result Bool Stop × TcpRecord)
 ready_listening ids r (Accepts l) = bind (listener_ready_asks l ids) (λ done. Give (accept_looked r done))
 ready_listening ids r _ = Give (Ok true, r)
 
-abbrev pub ready_idle : Ids → Tcp2Socket → Bool → Asks (Result Bool Stop × Tcp2Socket)
+abbrev pub ready_idle : Ids → TcpRecord → Bool → Asks (Result Bool Stop × TcpRecord)
 ready_idle ids r true = ready_listening ids r r.listening
 ready_idle ids r false = Give (Ok true, r)
 
 -- a connect in progress is polled, and stays in progress; with nothing in progress it is a listener's accept that is polled;
 -- else it is ready
-abbrev pub ready_socket_by : Ids → Tcp2Socket → Bool → Asks (Result Bool Stop × Tcp2Socket)
+abbrev pub ready_socket_by : Ids → TcpRecord → Bool → Asks (Result Bool Stop × TcpRecord)
 ready_socket_by ids r true = bind (finish_connect_asks r.inner) (λ done. Give (connect_looked r done))
 ready_socket_by ids r false = ready_idle ids r (is_nothing r.in_progress)
 
-abbrev pub ready_socket : Ids → Tcp2Socket → Asks (Result Bool Stop × Tcp2Socket)
+abbrev pub ready_socket : Ids → TcpRecord → Asks (Result Bool Stop × TcpRecord)
 ready_socket ids r = ready_socket_by ids r (is_connect r.in_progress)
 
 -- a look would begin an accept, where none was begun
@@ -85,15 +85,15 @@ abbrev pub begins_accept : Listening → Bool
 begins_accept (Accepts listener) = not (has_accept listener.accept)
 begins_accept _ = false
 
-abbrev pub socket_begins : Tcp2Socket → Bool
+abbrev pub socket_begins : TcpRecord → Bool
 socket_begins r = if is_nothing r.in_progress then begins_accept r.listening else false
 
 -- == a stream
-abbrev pub ready_reader : OpId → Tcp2Socket → Option Streams → Asks (Result Bool Stop × Tcp2Socket)
+abbrev pub ready_reader : OpId → TcpRecord → Option Streams → Asks (Result Bool Stop × TcpRecord)
 ready_reader op r None = Give (Err (Trap NoSuchHandle), r)
 ready_reader op r (Some s) = bind (reader_ready_asks op s.reader) (λ done. Give (Ok (is_done done.0), with_reader r s done.1))
 
-abbrev pub ready_writer : OpId → Tcp2Socket → Option Streams → Asks (Result Bool Stop × Tcp2Socket)
+abbrev pub ready_writer : OpId → TcpRecord → Option Streams → Asks (Result Bool Stop × TcpRecord)
 ready_writer op r None = Give (Err (Trap NoSuchHandle), r)
 ready_writer op r (Some s) = bind (look_asks op s.writer) (λ done. Give (Ok (is_over done.0), with_writer r s done.1))
 
@@ -102,7 +102,7 @@ abbrev pub idle_ids : Listening → Ids → Bool → Ids
 idle_ids l ids true = ids_of l ids
 idle_ids l ids false = ids
 
-abbrev pub socket_ids : Tcp2Socket → Ids → Bool → Ids
+abbrev pub socket_ids : TcpRecord → Ids → Bool → Ids
 socket_ids r ids true = ids
 socket_ids r ids false = idle_ids r.listening ids (is_nothing r.in_progress)
 
@@ -121,6 +121,6 @@ waits_told (Err error.Closed) = Ok (Ready tt)
 waits_told (Err (error.Trap k)) = Ok (Ready tt)
 waits_told (Err (error.Memory e)) = Err e
 
-abbrev pub wait_writer : OpId → Tcp2Socket → Option Streams → Asks (Answer (Unit {0}) × Tcp2Socket)
+abbrev pub wait_writer : OpId → TcpRecord → Option Streams → Asks (Answer (Unit {0}) × TcpRecord)
 wait_writer op r None = Give (Ready tt, r)
 wait_writer op r (Some s) = bind (look_asks op s.writer) (λ looked. Give (wait_answer looked.0, with_writer r s looked.1))

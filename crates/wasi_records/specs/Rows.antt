@@ -2,7 +2,7 @@
 use denote.RattleType.{RattleType}
 use Rattle.wasi_records.specs.contracts.records.Record as rec
 use Rattle.wasi_records.specs.contracts.record_list.RecordList as numbered
-use Rattle.wasi_records.specs.contracts.udp.Udp2Socket as datagrams
+use Rattle.wasi_records.specs.contracts.udp.UdpRecord as datagrams
 use Rattle.wasi_records.specs.contracts.udp.OpenUdp as opened
 
 abbrev pub record_row : RattleType

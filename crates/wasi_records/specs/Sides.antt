@@ -13,8 +13,8 @@ use Rattle.wasi_world.specs.Seen.{Seen, Passes}
 use Rattle.wasi_tcp.specs.Shape.{Socket}
 use Rattle.wasi_tcp.specs.Socket.{side_of}
 use Rattle.wasi_records.specs.declared.records.Record.{Record}
-use Rattle.wasi_records.specs.declared.records.Record.TheVariants.{Tcp2, Udp2, Lookup, InputPipe, OutputPipe, Gone}
-use Rattle.wasi_records.specs.declared.socket.Tcp2Socket.{Tcp2Socket}
+use Rattle.wasi_records.specs.declared.records.Record.TheVariants.{Tcp, Udp, Lookup, InputPipe, OutputPipe, Gone}
+use Rattle.wasi_records.specs.declared.socket.TcpRecord.{TcpRecord}
 use Rattle.wasi_records.specs.Listening.{side_in}
 use Rattle.wasi_records.specs.Udp.{udp_holds}
 
@@ -47,12 +47,12 @@ one_if_some None = 0
 
 -- how many network sockets the record of a socket holds: the socket's, and that of a listen in progress, or of a connection that
 -- isn't taken
-abbrev pub holds : Tcp2Socket → ℕ
+abbrev pub holds : TcpRecord → ℕ
 holds r = one_if_some (side_of r.inner) + one_if_some (side_in r.listening)
 
 abbrev pub held_by : Record → ℕ
-held_by (Tcp2 r) = holds r
-held_by (Udp2 u) = udp_holds u
+held_by (Tcp r) = holds r
+held_by (Udp u) = udp_holds u
 held_by (Lookup l) = 0
 held_by (InputPipe bytes) = 0
 held_by (OutputPipe pipe) = 0
@@ -70,7 +70,7 @@ given_by _ = 0
 
 -- The record holds as many network sockets more than before, beside so many that it gave away, as were made and not
 -- closed.
-pub record Balances (before after : Seen) (given : ℕ) (old now : Tcp2Socket) : Type 0 where
+pub record Balances (before after : Seen) (given : ℕ) (old now : TcpRecord) : Type 0 where
   pub entries : List Entry
   pub passed : Passes before entries after
   pub balance : closed_in entries + (holds now + given) ≡ made_in entries + holds old

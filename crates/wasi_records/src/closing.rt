@@ -30,11 +30,11 @@ fn close_record<W: World>(world: &mut W, closed: &Record)
     ensures { ClosesMore (W.seen world.old) (W.seen world.new) (held_by closed.now) }
 {
     match closed {
-        Record::Tcp2(socket) => {
+        Record::Tcp(socket) => {
             close_one(world, socket.inner.side());
             close_one(world, socket.listening.side());
         }
-        Record::Udp2(socket) => close_one(world, socket.held()),
+        Record::Udp(socket) => close_one(world, socket.held()),
         Record::Lookup(_) | Record::InputPipe(_) | Record::OutputPipe(_) | Record::Gone => (),
     }
 }

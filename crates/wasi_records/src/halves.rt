@@ -14,7 +14,7 @@ ghost use Rattle.wasi_records.specs.Shutdowns.{shut_receive, shut_send, shut_str
 ghost use Rattle.wasi_records.specs.Sides.{MakesNone};
 
 use crate::error::SocketError;
-use crate::socket::{Streams, Tcp2Socket};
+use crate::socket::{Streams, TcpRecord};
 use std::alloc::{AllocError, Global};
 use wasi_addr::{ShutdownType, p2};
 use wasi_streams::StreamError;
@@ -85,7 +85,7 @@ impl Streams {
     }
 }
 
-impl Tcp2Socket {
+impl TcpRecord {
     /// Reads from the connection. A record without streams traps; no handle of a stream leads to
     /// one.
     pub fn read<W: World>(

@@ -10,7 +10,7 @@ ghost use Rattle.wasi_records.specs.Listening.{ids_of};
 ghost use Rattle.wasi_records.specs.Sides.{Balances};
 ghost use Rattle.wasi_records.specs.InProgress.{is_connect};
 
-use crate::socket::Tcp2Socket;
+use crate::socket::TcpRecord;
 use crate::tcp_binding::AsyncOperation;
 use crate::tcp_listening::Listening;
 use std::alloc::AllocError;
@@ -61,7 +61,7 @@ fn wait_answer(looked: Result<Answer<()>, StreamError>) -> Result<Answer<()>, Al
     }
 }
 
-impl Tcp2Socket {
+impl TcpRecord {
     /// Whether the socket is ready. A connect in progress is polled, and stays in progress. With no
     /// operation in progress the accept of a listener is polled, and keeps its result. Any other
     /// socket is ready.

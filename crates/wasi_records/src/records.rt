@@ -9,17 +9,17 @@ ghost use Rattle.wasi_records.specs.declared.records.Record.TheVariants.{Gone};
 
 use crate::name_lookup::Lookup;
 use crate::record_list::{RecordId, RecordList, Slot};
-use crate::socket::Tcp2Socket;
-use crate::udp::{OpenUdp, Udp2Socket};
+use crate::socket::TcpRecord;
+use crate::udp::{OpenUdp, UdpRecord};
 use memory_streams::{InputPipeCore, OutputPipe};
 
 /// What a record number in a handle stands for, a case for each kind.
 #[derive(Drop)]
 pub enum Record {
-    /// A TCP socket of the 0.2 interface, with its listener and its streams.
-    Tcp2(Tcp2Socket),
-    /// A UDP socket of the 0.2 interface.
-    Udp2(Udp2Socket),
+    /// A TCP socket, with its listener and its streams.
+    Tcp(TcpRecord),
+    /// A UDP socket.
+    Udp(UdpRecord),
     /// A lookup of a host name.
     Lookup(Lookup),
     /// A pipe that a guest reads.
@@ -56,24 +56,24 @@ pub trait Stored {
     ghost gone: { of (Some Gone) ≡ None };
 }
 
-impl Stored for Tcp2Socket {
+impl Stored for TcpRecord {
     ghost use Rattle.wasi_records.specs.Records.{tcp2_of};
-    ghost use Rattle.wasi_records.specs.declared.records.Record.TheVariants.{Tcp2};
+    ghost use Rattle.wasi_records.specs.declared.records.Record.TheVariants.{Tcp};
 
-    ghost into = { λ r. Tcp2 r };
+    ghost into = { λ r. Tcp r };
 
     ghost of = { tcp2_of };
 
-    fn of_record(one: &Record) -> Option<&Tcp2Socket> {
+    fn of_record(one: &Record) -> Option<&TcpRecord> {
         match one {
-            Record::Tcp2(socket) => Some(socket),
+            Record::Tcp(socket) => Some(socket),
             _ => None,
         }
     }
 
-    fn of_record_mut(one: &mut Record) -> Option<&mut Tcp2Socket> {
+    fn of_record_mut(one: &mut Record) -> Option<&mut TcpRecord> {
         match one {
-            Record::Tcp2(socket) => Some(socket),
+            Record::Tcp(socket) => Some(socket),
             _ => None,
         }
     }
@@ -83,24 +83,24 @@ impl Stored for Tcp2Socket {
     ghost gone = { refl };
 }
 
-impl Stored for Udp2Socket {
+impl Stored for UdpRecord {
     ghost use Rattle.wasi_records.specs.Records.{udp2_of};
-    ghost use Rattle.wasi_records.specs.declared.records.Record.TheVariants.{Udp2};
+    ghost use Rattle.wasi_records.specs.declared.records.Record.TheVariants.{Udp};
 
-    ghost into = { λ r. Udp2 r };
+    ghost into = { λ r. Udp r };
 
     ghost of = { udp2_of };
 
-    fn of_record(one: &Record) -> Option<&Udp2Socket> {
+    fn of_record(one: &Record) -> Option<&UdpRecord> {
         match one {
-            Record::Udp2(socket) => Some(socket),
+            Record::Udp(socket) => Some(socket),
             _ => None,
         }
     }
 
-    fn of_record_mut(one: &mut Record) -> Option<&mut Udp2Socket> {
+    fn of_record_mut(one: &mut Record) -> Option<&mut UdpRecord> {
         match one {
-            Record::Udp2(socket) => Some(socket),
+            Record::Udp(socket) => Some(socket),
             _ => None,
         }
     }
@@ -112,23 +112,23 @@ impl Stored for Udp2Socket {
 
 impl Stored for OpenUdp {
     ghost use Rattle.wasi_records.specs.Records.{open_record_of};
-    ghost use Rattle.wasi_records.specs.declared.records.Record.TheVariants.{Udp2};
-    ghost use Rattle.wasi_records.specs.declared.udp.Udp2Socket.TheVariants.{Open};
+    ghost use Rattle.wasi_records.specs.declared.records.Record.TheVariants.{Udp};
+    ghost use Rattle.wasi_records.specs.declared.udp.UdpRecord.TheVariants.{Open};
 
-    ghost into = { λ o. Udp2 (Open o) };
+    ghost into = { λ o. Udp (Open o) };
 
     ghost of = { open_record_of };
 
     fn of_record(one: &Record) -> Option<&OpenUdp> {
         match one {
-            Record::Udp2(socket) => socket.as_open(),
+            Record::Udp(socket) => socket.as_open(),
             _ => None,
         }
     }
 
     fn of_record_mut(one: &mut Record) -> Option<&mut OpenUdp> {
         match one {
-            Record::Udp2(socket) => socket.as_open_mut(),
+            Record::Udp(socket) => socket.as_open_mut(),
             _ => None,
         }
     }

@@ -7,12 +7,12 @@ ghost use Rattle.wasi_records.specs.Releasing.{release_connection};
 ghost use Rattle.wasi_records.specs.Sides.{Balances, holds};
 ghost use Rattle.wasi_records.specs.declared.tcp_listening.Listening.{Listening};
 
-use crate::socket::Tcp2Socket;
+use crate::socket::TcpRecord;
 use crate::tcp_binding::InProgress;
 use std::alloc::AllocError;
 use wasi_world::{OpId, World};
 
-impl Tcp2Socket {
+impl TcpRecord {
     /// Releases its listener or listen in progress, then the open halves, the receiving one first,
     /// and then its network socket. A write in progress ends with its rest unwritten.
     pub fn release<W: World>(&mut self, world: &mut W, op: OpId) -> Result<(), AllocError>

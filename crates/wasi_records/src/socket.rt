@@ -27,7 +27,7 @@ pub struct Streams {
 /// The record of a TCP socket of 0.2: the socket, its operation in progress, how far it is with
 /// listening, and its streams once they were made.
 #[derive(Drop)]
-pub struct Tcp2Socket {
+pub struct TcpRecord {
     // First, since each turn looks here: fields lie in this order, and a record is several cache
     // lines long.
     pub streams: Option<Streams>,
@@ -39,13 +39,13 @@ pub struct Tcp2Socket {
     pub listening: Listening,
 }
 
-impl Tcp2Socket {
+impl TcpRecord {
     /// The record of a socket with no operation in progress and no streams. Takes no memory.
-    pub fn new(inner: TcpSocket) -> Tcp2Socket
+    pub fn new(inner: TcpSocket) -> TcpRecord
         ensures { result ≡ new_record inner }
     {
         let side = inner.side();
-        Tcp2Socket {
+        TcpRecord {
             inner,
             side,
             in_progress: InProgress::Nothing,

@@ -9,7 +9,7 @@ ghost use Rattle.wasi_records.specs.Binding.{begin_bind_asks, poll_bind_asks, bi
 ghost use Rattle.wasi_records.specs.Sockets.{with_progress};
 ghost use Rattle.wasi_records.specs.Sides.{MakesNone};
 
-use crate::socket::Tcp2Socket;
+use crate::socket::TcpRecord;
 use std::marker::Model;
 use std::mem;
 use wasi_addr::{ErrorCode, IpSocketAddress};
@@ -91,7 +91,7 @@ impl InProgress {
     }
 }
 
-impl Tcp2Socket {
+impl TcpRecord {
     /// Begins a bind (`tcp-socket.start-bind`) and polls it once.
     pub fn begin_bind<W: World>(
         &mut self,

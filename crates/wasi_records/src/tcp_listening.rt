@@ -12,7 +12,7 @@ ghost use Rattle.wasi_records.specs.Sides.{Balances, given_by};
 use crate::error::SocketError;
 use crate::record_list::{RecordId, RecordList};
 use crate::records::Record;
-use crate::socket::Tcp2Socket;
+use crate::socket::TcpRecord;
 use crate::tcp_binding::{AsyncOperation, InProgress};
 use std::alloc::AllocError;
 use std::mem;
@@ -74,7 +74,7 @@ impl Listening {
     }
 }
 
-impl Tcp2Socket {
+impl TcpRecord {
     /// Begins a listen (`tcp-socket.start-listen`) and polls it once. A socket that isn't bound, or
     /// that listens already: `InvalidState`.
     pub fn begin_listen<W: World>(&mut self, world: &mut W, op: OpId) -> Result<Answer<()>, Refusal>
@@ -207,8 +207,8 @@ pub fn keep_accepted(records: &mut RecordList, socket: TcpSocket) -> Result<Reco
     ensures records { records.new.items ≡ (with_accepted_in records.old.items socket).1 }
 {
     let place = records.len();
-    let mut accepted = Tcp2Socket::new(socket);
+    let mut accepted = TcpRecord::new(socket);
     accepted.open_streams()?;
-    records.push_reserved(Record::Tcp2(accepted));
+    records.push_reserved(Record::Tcp(accepted));
     Ok(place)
 }

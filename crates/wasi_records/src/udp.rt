@@ -14,7 +14,7 @@ ghost use Rattle.wasi_records.specs.Udp.{udp_create_done, is_udp_idle, is_udp_bo
 ghost use Rattle.wasi_records.specs.Udp.{begin_udp_bind_asks, poll_udp_bind_asks, udp_bind_settled};
 ghost use Rattle.wasi_records.specs.Udp.{with_udp_progress, udp_local_asks, close_udp_asks};
 ghost use Rattle.wasi_records.specs.Udp.{opened_udp};
-ghost use Rattle.wasi_records.specs.declared.udp.Udp2Socket.TheVariants.{Open};
+ghost use Rattle.wasi_records.specs.declared.udp.UdpRecord.TheVariants.{Open};
 
 use crate::datagrams::{Incoming, Outgoing};
 use crate::udp_connecting::PendingUdpConnect;
@@ -157,7 +157,7 @@ pub struct OpenUdp {
 
 /// A UDP socket of the 0.2 interface.
 #[derive(Drop)]
-pub enum Udp2Socket {
+pub enum UdpRecord {
     /// Its network socket was made, and is waited for until it can send; it has no handle yet.
     Creating(PendingCreate),
     /// It was created, and isn't dropped.
@@ -166,15 +166,15 @@ pub enum Udp2Socket {
     Closed(Sock),
 }
 
-impl Udp2Socket {
+impl UdpRecord {
     /// The network socket that it was made with, also after that is closed.
     pub fn side(&self) -> Sock
         ensures { result ≡ udp_side self.now }
     {
         match self {
-            Udp2Socket::Creating(create) => create.side(),
-            Udp2Socket::Open(open) => open.inner.side(),
-            Udp2Socket::Closed(side) => *side,
+            UdpRecord::Creating(create) => create.side(),
+            UdpRecord::Open(open) => open.inner.side(),
+            UdpRecord::Closed(side) => *side,
         }
     }
 
@@ -183,9 +183,9 @@ impl Udp2Socket {
         ensures { one_if_some result ≡ udp_holds self.now }
     {
         match self {
-            Udp2Socket::Creating(create) => Some(create.side()),
-            Udp2Socket::Open(open) => Some(open.inner.side()),
-            Udp2Socket::Closed(_) => None,
+            UdpRecord::Creating(create) => Some(create.side()),
+            UdpRecord::Open(open) => Some(open.inner.side()),
+            UdpRecord::Closed(_) => None,
         }
     }
 
@@ -194,8 +194,8 @@ impl Udp2Socket {
         ensures { option_map (λ o. o.now) result ≡ open_of (Some self.now) }
     {
         match self {
-            Udp2Socket::Open(open) => Some(open),
-            Udp2Socket::Creating(_) | Udp2Socket::Closed(_) => None,
+            UdpRecord::Open(open) => Some(open),
+            UdpRecord::Creating(_) | UdpRecord::Closed(_) => None,
         }
     }
 
@@ -205,8 +205,8 @@ impl Udp2Socket {
         ensures value { option_map (λ o. o.now) result ≡ open_of (Some self.old) }
     {
         match self {
-            Udp2Socket::Open(open) => Some(open),
-            Udp2Socket::Creating(_) | Udp2Socket::Closed(_) => None,
+            UdpRecord::Open(open) => Some(open),
+            UdpRecord::Creating(_) | UdpRecord::Closed(_) => None,
         }
     }
 
@@ -223,17 +223,17 @@ impl Udp2Socket {
             (udp_holds self.new) }
     {
         let side = self.side();
-        match mem::replace(self, Udp2Socket::Closed(side)) {
-            Udp2Socket::Creating(create) => {
+        match mem::replace(self, UdpRecord::Closed(side)) {
+            UdpRecord::Creating(create) => {
                 let mut create = create.into_inner();
                 let polled = create.poll(world);
                 self.settle_create(create, polled)
             }
-            Udp2Socket::Open(open) => {
-                *self = Udp2Socket::Open(open);
+            UdpRecord::Open(open) => {
+                *self = UdpRecord::Open(open);
                 Err(Refusal::Code(ErrorCode::InvalidState))
             }
-            Udp2Socket::Closed(_) => Err(Refusal::Code(ErrorCode::InvalidState)),
+            UdpRecord::Closed(_) => Err(Refusal::Code(ErrorCode::InvalidState)),
         }
     }
 
@@ -249,7 +249,7 @@ impl Udp2Socket {
     {
         match polled {
             Ok(Answer::Ready(inner)) => {
-                *self = Udp2Socket::Open(OpenUdp {
+                *self = UdpRecord::Open(OpenUdp {
                     inner,
                     in_progress: UdpInProgress::Nothing,
                     connecting: None,
@@ -259,15 +259,15 @@ impl Udp2Socket {
                 Ok(Answer::Ready(()))
             }
             Ok(Answer::Pending) => {
-                *self = Udp2Socket::Creating(PendingCreate::new(create));
+                *self = UdpRecord::Creating(PendingCreate::new(create));
                 Ok(Answer::Pending)
             }
             Err(Refusal::Code(code)) => {
-                *self = Udp2Socket::Closed(create.side());
+                *self = UdpRecord::Closed(create.side());
                 Err(Refusal::Code(code))
             }
             Err(Refusal::Memory(e)) => {
-                *self = Udp2Socket::Creating(PendingCreate::new(create));
+                *self = UdpRecord::Creating(PendingCreate::new(create));
                 Err(Refusal::Memory(e))
             }
         }
@@ -289,7 +289,7 @@ impl Udp2Socket {
         };
         let side = open.inner.side();
         asks::close(world, op, side)?;
-        *self = Udp2Socket::Closed(side);
+        *self = UdpRecord::Closed(side);
         Ok(())
     }
 }

@@ -6,9 +6,9 @@ use Rattle.memory_streams.specs.Plain.{Contents}
 use Rattle.wasi_records.specs.Records.{tcp2_of, udp2_of, lookup_of, input_pipe_of, output_pipe_of}
 use Rattle.wasi_records.specs.declared.name_lookup.Lookup.{Lookup}
 use Rattle.wasi_records.specs.declared.records.Record.{Record}
-use Rattle.wasi_records.specs.declared.records.Record.TheVariants.{Tcp2, Udp2, Lookup as LookupRecord, InputPipe, OutputPipe}
-use Rattle.wasi_records.specs.declared.socket.Tcp2Socket.{Tcp2Socket}
-use Rattle.wasi_records.specs.declared.udp.Udp2Socket.{Udp2Socket}
+use Rattle.wasi_records.specs.declared.records.Record.TheVariants.{Tcp, Udp, Lookup as LookupRecord, InputPipe, OutputPipe}
+use Rattle.wasi_records.specs.declared.socket.TcpRecord.{TcpRecord}
+use Rattle.wasi_records.specs.declared.udp.UdpRecord.{UdpRecord}
 
 -- == of any list
 -- at a place a list is as it was, or this is the place that was replaced, where something was
@@ -181,12 +181,12 @@ module _ {T U : Type 0} (s : Sort T) (u : Sort U) (apart : Apart s u) (xs : List
   push_was now k x e = sym (other_push now k) ∙ e
 
 -- == the kinds
-pub tcp_it : (o : Option Record) (r : Tcp2Socket) → tcp2_of o ≡ Some r → o ≡ Some (Tcp2 r)
-tcp_it (Some (Tcp2 x)) r e = let p : x ≡ r = cc in ap (λ (y : Tcp2Socket). Some (Tcp2 y)) p
+pub tcp_it : (o : Option Record) (r : TcpRecord) → tcp2_of o ≡ Some r → o ≡ Some (Tcp r)
+tcp_it (Some (Tcp x)) r e = let p : x ≡ r = cc in ap (λ (y : TcpRecord). Some (Tcp y)) p
 tcp_it _ r e = absurd (cc)
 
-pub udp_it : (o : Option Record) (u : Udp2Socket) → udp2_of o ≡ Some u → o ≡ Some (Udp2 u)
-udp_it (Some (Udp2 x)) u e = let p : x ≡ u = cc in ap (λ (y : Udp2Socket). Some (Udp2 y)) p
+pub udp_it : (o : Option Record) (u : UdpRecord) → udp2_of o ≡ Some u → o ≡ Some (Udp u)
+udp_it (Some (Udp x)) u e = let p : x ≡ u = cc in ap (λ (y : UdpRecord). Some (Udp y)) p
 udp_it _ u e = absurd (cc)
 
 pub lookup_it : (o : Option Record) (l : Lookup) → lookup_of o ≡ Some l → o ≡ Some (LookupRecord l)
@@ -201,11 +201,11 @@ pub output_it : (o : Option Record) (pipe : Contents) → output_pipe_of o ≡ S
 output_it (Some (OutputPipe x)) pipe e = let p : x ≡ pipe = cc in ap (λ (y : Contents). Some (OutputPipe y)) p
 output_it _ pipe e = absurd (cc)
 
-abbrev pub tcp_sort : Sort Tcp2Socket
-tcp_sort = record { into = λ r. Tcp2 r; of = tcp2_of; is = λ r. refl; none = refl; it = tcp_it }
+abbrev pub tcp_sort : Sort TcpRecord
+tcp_sort = record { into = λ r. Tcp r; of = tcp2_of; is = λ r. refl; none = refl; it = tcp_it }
 
-abbrev pub udp_sort : Sort Udp2Socket
-udp_sort = record { into = λ u. Udp2 u; of = udp2_of; is = λ u. refl; none = refl; it = udp_it }
+abbrev pub udp_sort : Sort UdpRecord
+udp_sort = record { into = λ u. Udp u; of = udp2_of; is = λ u. refl; none = refl; it = udp_it }
 
 abbrev pub lookup_sort : Sort Lookup
 lookup_sort = record { into = λ l. LookupRecord l; of = lookup_of; is = λ l. refl; none = refl; it = lookup_it }

@@ -90,7 +90,7 @@ pub use Rattle.wasi_records.specs.declared.listening.Listening.{Listening}
 pub use Rattle.wasi_records.specs.declared.listening.Listening.TheVariants.{Accepts, Begins, Not, Unclosed}
 pub use Rattle.wasi_host.specs.declared.machine.Machine.{Machine}
 pub use Rattle.wasi_records.specs.declared.socket.Streams.{Streams}
-pub use Rattle.wasi_records.specs.declared.socket.Tcp2Socket.{Tcp2Socket}
+pub use Rattle.wasi_records.specs.declared.socket.TcpRecord.{TcpRecord}
 pub use Rattle.wasi_host.specs.declared.store.Standing.{Standing}
 pub use Rattle.wasi_host.specs.declared.store.StandingCall.{StandingCall}
 pub use Rattle.wasi_p2.specs.Tcp.{accept_on, accepted_asks, accepted_streams, finish_on}

@@ -41,7 +41,7 @@ use Rattle.wasi_steps.specs.declared.reply.CodeWord.{CodeWord}
 use Rattle.wasi_steps.specs.declared.reply.CodeWord.TheVariants as word
 use Rattle.wasi_steps.specs.declared.reply.Reply.{Reply}
 use Rattle.wasi_records.specs.declared.socket.Streams.{Streams}
-use Rattle.wasi_records.specs.declared.socket.Tcp2Socket.{Tcp2Socket}
+use Rattle.wasi_records.specs.declared.socket.TcpRecord.{TcpRecord}
 use Rattle.wasi_records.specs.declared.udp.OpenUdp.{OpenUdp}
 use Rattle.wasi_steps.specs.declared.step.Step.{Step}
 use Rattle.wasi_steps.specs.declared.step.Step.TheVariants as step
@@ -65,12 +65,12 @@ abbrev pub Answered : List WasiSocketsCtx → Machine → ℕ → Step → List 
 Answered contexts m line s entries reply after = Left (machine_asks contexts m line s) entries (Give (reply, after))
 
 -- == the records that handles name
-abbrev pub record_in : Machine → Option ℕ → Option Tcp2Socket
+abbrev pub record_in : Machine → Option ℕ → Option TcpRecord
 record_in m None = None
 record_in m (Some place) = tcp2_at m.store.records place
 
 -- the record of a live handle of a socket
-abbrev pub record_at : Machine → ℕ → Option Tcp2Socket
+abbrev pub record_at : Machine → ℕ → Option TcpRecord
 record_at m h = record_in m (socket_at m h)
 
 -- the UDP socket of a live handle of one
@@ -82,31 +82,31 @@ abbrev pub open_udp_at : Machine → ℕ → Option OpenUdp
 open_udp_at m h = open_in m (udp_socket_at m h)
 
 -- The handle names a record, at this place, of which this holds.
-pub record OfRecord (m : Machine) (handle : ℕ) (P : ℕ → Tcp2Socket → Type 0) : Type 0 where
+pub record OfRecord (m : Machine) (handle : ℕ) (P : ℕ → TcpRecord → Type 0) : Type 0 where
   pub place : ℕ
-  pub found : Tcp2Socket
+  pub found : TcpRecord
   pub names : socket_at m handle ≡ Some place
   pub at : tcp2_at m.store.records place ≡ Some found
   pub holds : P place found
 
 -- the machine, where this is the record at that place
-abbrev pub putting : Machine → ℕ → Tcp2Socket → Machine
+abbrev pub putting : Machine → ℕ → TcpRecord → Machine
 putting m place r = record m { store = with_socket m.store place r }
 
 -- it is the record of a socket with an operation in progress, whichever
-abbrev pub HasOperationInProgress : Option Tcp2Socket → Type 0
+abbrev pub HasOperationInProgress : Option TcpRecord → Type 0
 HasOperationInProgress found = IsSomeAnd found (λ r. is_nothing r.in_progress ≡ false)
 
 -- it is the record of a socket with no bind in progress
-abbrev pub HasNoBindInProgress : Option Tcp2Socket → Type 0
+abbrev pub HasNoBindInProgress : Option TcpRecord → Type 0
 HasNoBindInProgress found = IsSomeAnd found (λ r. is_bind r.in_progress ≡ false)
 
 -- it is the record of a socket with no connect in progress
-abbrev pub HasNoConnectInProgress : Option Tcp2Socket → Type 0
+abbrev pub HasNoConnectInProgress : Option TcpRecord → Type 0
 HasNoConnectInProgress found = IsSomeAnd found (λ r. is_connect r.in_progress ≡ false)
 
 -- the streams of a record, where it has them
-abbrev pub streams_in : Option Tcp2Socket → Option Streams
+abbrev pub streams_in : Option TcpRecord → Option Streams
 streams_in None = None
 streams_in (Some r) = r.streams
 
@@ -118,9 +118,9 @@ abbrev pub output_streams : Machine → ℕ → Option Streams
 output_streams m h = streams_in (record_in m (output_at m h))
 
 -- The number names a record that has streams, and of all three this holds.
-pub record OfStreams (m : Machine) (number : Option ℕ) (P : ℕ → Tcp2Socket → Streams → Type 0) : Type 0 where
+pub record OfStreams (m : Machine) (number : Option ℕ) (P : ℕ → TcpRecord → Streams → Type 0) : Type 0 where
   pub place : ℕ
-  pub found : Tcp2Socket
+  pub found : TcpRecord
   pub streams : Streams
   pub names : number ≡ Some place
   pub at : tcp2_at m.store.records place ≡ Some found
@@ -162,7 +162,7 @@ abbrev pub word_of_code : ErrorCode → CodeWord
 word_of_code c = word_of_p2 (p2_of_code c)
 
 -- what was asked and answered, the word, and the machine afterwards, by the record that the handle names
-abbrev pub RefusedOf : Machine → ℕ → (ℕ → Tcp2Socket → List Entry → CodeWord → Machine → Type 0) → List Entry → CodeWord → Machine → Type 0
+abbrev pub RefusedOf : Machine → ℕ → (ℕ → TcpRecord → List Entry → CodeWord → Machine → Type 0) → List Entry → CodeWord → Machine → Type 0
 RefusedOf m handle Cause entries reply after = OfRecord m handle (λ place r. Cause place r entries reply after)
 
 -- A create is refused: the context may not use TCP, or the world returned a code.
@@ -194,7 +194,7 @@ pub record IsFoundUnbound (socket : Socket) (side : OpId) (told : Told) : Type 0
   pub free : says_bound socket.family told ≡ false
 
 -- the machine, where the socket is known to be bound
-abbrev pub knowing_bound : Machine → ℕ → Tcp2Socket → Machine
+abbrev pub knowing_bound : Machine → ℕ → TcpRecord → Machine
 knowing_bound m place r = putting m place (with_inner r (record r.inner { bound = true }))
 
 -- the machine is as it was, but that the handle's socket is known to be bound
@@ -203,7 +203,7 @@ KnowsBound m handle after = OfRecord m handle (λ place r. after ≡ knowing_bou
 
 -- == the starts of operations
 -- A start is refused: an operation is in progress, or none is and what was begun is refused.
-pub data StartRefusal (m : Machine) (r : Tcp2Socket) (Begun : List Entry → CodeWord → Machine → Type 0) (entries : List Entry) (reply : CodeWord) (after : Machine) : Type 0 where
+pub data StartRefusal (m : Machine) (r : TcpRecord) (Begun : List Entry → CodeWord → Machine → Type 0) (entries : List Entry) (reply : CodeWord) (after : Machine) : Type 0 where
   InProgress : is_nothing r.in_progress ≡ false → entries ≡ [] → reply ≡ word.ConcurrencyConflict → after ≡ m → StartRefusal m r Begun entries reply after
   Begins : is_nothing r.in_progress ≡ true → Begun entries reply after → StartRefusal m r Begun entries reply after
 
@@ -212,7 +212,7 @@ abbrev pub may_bind_to : SocketAddressFamily → IpSocketAddress → Bool
 may_bind_to family a = is_unicast (ip_of a) && is_of_family (ip_of a) family
 
 -- A bind that was begun is refused: what was asked and answered, the word, and the machine afterwards.
-pub data BindRefusal (m : Machine) (own : OpId) (place : ℕ) (r : Tcp2Socket) (a : IpSocketAddress) : List Entry → CodeWord → Machine → Type 0 where
+pub data BindRefusal (m : Machine) (own : OpId) (place : ℕ) (r : TcpRecord) (a : IpSocketAddress) : List Entry → CodeWord → Machine → Type 0 where
   AlreadyBound : (asked : List Entry) → IsBound own r.inner asked → BindRefusal m own place r a asked word.InvalidState (knowing_bound m place r)
   WrongAddress : (side : OpId) (local : Told) → IsFoundUnbound r.inner side local → may_bind_to r.inner.family a ≡ false
       → BindRefusal m own place r a (entry own (call.Local side) local ∷ []) word.InvalidArgument m
@@ -226,7 +226,7 @@ abbrev pub RefusedBind : Machine → OpId → ℕ → IpSocketAddress → List E
 RefusedBind m own handle a = RefusedOf m handle (λ place r. StartRefusal m r (BindRefusal m own place r a))
 
 -- A connect that was begun is refused: it isn't in the state Default, or may not connect to the address, bound or not.
-pub data ConnectRefusal (m : Machine) (own : OpId) (place : ℕ) (r : Tcp2Socket) (a : IpSocketAddress) : List Entry → CodeWord → Machine → Type 0 where
+pub data ConnectRefusal (m : Machine) (own : OpId) (place : ℕ) (r : TcpRecord) (a : IpSocketAddress) : List Entry → CodeWord → Machine → Type 0 where
   NotDefault : IsPastDefault r.inner.state → ConnectRefusal m own place r a [] word.InvalidState m
   BoundElsewhere : (side : OpId) (asked : List Entry) → r.inner.state ≡ state.Default side → IsBound own r.inner asked → is_connectable r.inner a ≡ false
       → ConnectRefusal m own place r a asked word.InvalidArgument (knowing_bound m place r)
@@ -249,12 +249,12 @@ pub data ClosedBy (op : Operation) (entries : List Entry) : ErrorCode → Type 0
   ToldWhy : (a : IpSocketAddress) (c : ErrorCode) → Has op.left (Connect a) → EndsClosing op.who (call.Connect op.who.side a) (told.Code c) entries → ClosedBy op entries c
 
 -- the machine, where the socket is closed with the code and nothing is in progress
-abbrev pub closed_with : Machine → ℕ → Tcp2Socket → ErrorCode → Machine
+abbrev pub closed_with : Machine → ℕ → TcpRecord → ErrorCode → Machine
 closed_with m place r c = putting m place (idle r (with_state r.inner (state.Closed c)))
 
 -- The finish of a connect is refused: none is in progress; or it waits, and is in progress; or it was closed with a code, now
 -- or before.
-pub data FinishRefusal (m : Machine) (place : ℕ) (r : Tcp2Socket) (entries : List Entry) : CodeWord → Machine → Type 0 where
+pub data FinishRefusal (m : Machine) (place : ℕ) (r : TcpRecord) (entries : List Entry) : CodeWord → Machine → Type 0 where
   NoConnect : is_connect r.in_progress ≡ false → entries ≡ [] → FinishRefusal m place r entries word.NotInProgress m
   StillConnects : (op : Operation) (left : List Item) → is_connect r.in_progress ≡ true → r.inner.state ≡ state.Connecting op → EndsPending op.who.id entries
       → FinishRefusal m place r entries word.WouldBlock (putting m place (with_inner r (with_state r.inner (state.Connecting (left_of op left)))))
@@ -286,7 +286,7 @@ ConnectsAt m handle = IfSome (record_at m handle) (λ r. ConnectsOn r.inner.stat
 -- == addresses
 -- The local address is refused: the socket isn't bound, or connects, or is closed with a code, or its network socket returned a
 -- code.
-pub data LocalRefusal (m : Machine) (own : OpId) (place : ℕ) (r : Tcp2Socket) : List Entry → CodeWord → Machine → Type 0 where
+pub data LocalRefusal (m : Machine) (own : OpId) (place : ℕ) (r : TcpRecord) : List Entry → CodeWord → Machine → Type 0 where
   NotBound : (side : OpId) (local : Told) → IsFoundUnbound r.inner side local → LocalRefusal m own place r (entry own (call.Local side) local ∷ []) word.InvalidState m
   Connects : (op : Operation) → r.inner.state ≡ state.Connecting op → LocalRefusal m own place r [] word.InvalidState (knowing_bound m place r)
   LocalClosed : (c : ErrorCode) → r.inner.state ≡ state.Closed c → LocalRefusal m own place r [] (word_of_code c) (knowing_bound m place r)
@@ -295,7 +295,7 @@ pub data LocalRefusal (m : Machine) (own : OpId) (place : ℕ) (r : Tcp2Socket) 
 
 -- The remote address is refused, and the machine stays: the socket isn't connected yet, or is closed with a code, or its
 -- network socket returned a code.
-pub data RemoteRefusal (m : Machine) (own : OpId) (place : ℕ) (r : Tcp2Socket) : List Entry → CodeWord → Machine → Type 0 where
+pub data RemoteRefusal (m : Machine) (own : OpId) (place : ℕ) (r : TcpRecord) : List Entry → CodeWord → Machine → Type 0 where
   RemoteDefault : (side : OpId) → r.inner.state ≡ state.Default side → RemoteRefusal m own place r [] word.InvalidState m
   RemoteListening : (side : OpId) → r.inner.state ≡ state.Listening side → RemoteRefusal m own place r [] word.InvalidState m
   RemoteConnecting : (op : Operation) → r.inner.state ≡ state.Connecting op → RemoteRefusal m own place r [] word.InvalidState m
@@ -342,7 +342,7 @@ pub record ReadFails (own : OpId) (len : ℕ) (reader : ReadState) (c : ErrorCod
   pub asked : entries ≡ read_entry own len half (told.Code c) ∷ shut_entry own half ∷ []
 
 -- the machine, where the reader is closed
-abbrev pub closing_reader : Machine → ℕ → Tcp2Socket → Streams → Machine
+abbrev pub closing_reader : Machine → ℕ → TcpRecord → Streams → Machine
 closing_reader m place r s = putting m place (with_reader r s reading.Closed)
 
 -- A call on a stream failed with a code, because of these entries; after them comes the mark of the error's handle, whose
@@ -392,7 +392,7 @@ abbrev pub WasClosedWith : WriteState → ErrorCode → List Entry → Type 0
 WasClosedWith writer c entries = (writer ≡ writing.Closed (error.LastOperationFailed c)) × (entries ≡ [])
 
 -- the machine, where the writer is closed with the error
-abbrev pub closing_writer : Machine → ℕ → Tcp2Socket → Streams → WriteError → Machine
+abbrev pub closing_writer : Machine → ℕ → TcpRecord → Streams → WriteError → Machine
 closing_writer m place r s e = putting m place (with_writer r s (writing.Closed e))
 
 -- a look fails with the error that the writer is closed with, once a write that ended is collected; it asks nothing

@@ -21,7 +21,7 @@ use Rattle.wasi_records.specs.Records.{tcp2_pushed}
 use Rattle.wasi_records.specs.declared.listening.Listening.{Listening}
 use Rattle.wasi_records.specs.declared.listening.Listening.TheVariants as listening
 use Rattle.wasi_host.specs.declared.machine.Machine.{Machine}
-use Rattle.wasi_records.specs.declared.socket.Tcp2Socket.{Tcp2Socket}
+use Rattle.wasi_records.specs.declared.socket.TcpRecord.{TcpRecord}
 use Rattle.wasi_records.specs.Listening.{with_listening, accepted_record}
 use Rattle.wasi_records.specs.InProgress.{is_listen}
 use Rattle.wasi_steps.specs.declared.reply.CodeWord.{CodeWord}
@@ -31,7 +31,7 @@ use Rattle.wasi_walks.specs.Licence.{entry}
 
 -- == a listen
 -- it is the record of a socket with no listen in progress
-abbrev pub HasNoListenInProgress : Option Tcp2Socket → Type 0
+abbrev pub HasNoListenInProgress : Option TcpRecord → Type 0
 HasNoListenInProgress found = IsSomeAnd found (λ r. is_listen r.in_progress ≡ false)
 
 -- The last asks of a listen that is refused: what was asked of its network socket, the answer that refused it, and the close of
@@ -45,12 +45,12 @@ pub data ListenFails (own side : OpId) (maker backlog : ℕ) : List Entry → Er
       → ListenFails own side maker backlog (entry own (call.Local side) (told.Addr a) ∷ entry own (call.Check maker a TcpListen) told.Yes ∷ entry own (call.Listen side backlog) (told.Code c) ∷ entry own (call.Close side) told.Done ∷ []) c
 
 -- the machine, where a listen was refused: the socket is closed, and its code is Other
-abbrev pub closed_by_listen : Machine → ℕ → Tcp2Socket → Machine
+abbrev pub closed_by_listen : Machine → ℕ → TcpRecord → Machine
 closed_by_listen m place r = putting m place (with_listening (record r { inner = with_state (record r.inner { bound = true }) (state.Closed Other) }) listening.Not)
 
 -- A listen that was begun is refused: the socket isn't bound; or isn't in the state Default; or it was refused by what it was
 -- answered, and then the socket is closed.
-pub data ListenRefusal (m : Machine) (own : OpId) (place : ℕ) (r : Tcp2Socket) : List Entry → CodeWord → Machine → Type 0 where
+pub data ListenRefusal (m : Machine) (own : OpId) (place : ℕ) (r : TcpRecord) : List Entry → CodeWord → Machine → Type 0 where
   NotBound : (side : OpId) (local : Told) → IsFoundUnbound r.inner side local → ListenRefusal m own place r (entry own (call.Local side) local ∷ []) word.InvalidState m
   NotDefault : IsPastDefault r.inner.state → ListenRefusal m own place r [] word.InvalidState (knowing_bound m place r)
   ListenRefused : (side : OpId) (asked entries : List Entry) (c : ErrorCode) → r.inner.state ≡ state.Default side → r.listening ≡ listening.Not → IsBound own r.inner asked
@@ -88,7 +88,7 @@ pub data AcceptFails (id side : OpId) (accept : Accepting) (c : ErrorCode) : Lis
   IsTold : (front : List Entry) → AcceptFails id side accept c (front ++ entry id (call.Accept side) (told.Code c) ∷ [])
 
 -- the machine, with this accept of the listener
-abbrev pub accepting_now : Machine → ℕ → Tcp2Socket → Listener → Accepting → Machine
+abbrev pub accepting_now : Machine → ℕ → TcpRecord → Listener → Accepting → Machine
 accepting_now m place r l a = putting m place (with_listening r (listening.Accepts (with_accept l a)))
 
 -- the socket has no listener
@@ -97,7 +97,7 @@ HasNoListener (listening.Accepts l) = ⊥
 HasNoListener _ = ⊤
 
 -- An accept is refused: the socket has no listener; or the accept waits, and stays; or it failed with a code, and is over.
-pub data AcceptRefusal (m : Machine) (line place : ℕ) (r : Tcp2Socket) (entries : List Entry) : CodeWord → Machine → Type 0 where
+pub data AcceptRefusal (m : Machine) (line place : ℕ) (r : TcpRecord) (entries : List Entry) : CodeWord → Machine → Type 0 where
   NoListener : HasNoListener r.listening → entries ≡ [] → AcceptRefusal m line place r entries word.InvalidState m
   StillAccepts : (l : Listener) (op : Operation) → r.listening ≡ listening.Accepts l → op.who.id ≡ accept_name line l.accept → AcceptWaits op.who.id entries
       → AcceptRefusal m line place r entries word.WouldBlock (accepting_now m place r l (accepting.Asking op))
@@ -121,7 +121,7 @@ accepted_marks own listener next side =
     ∷ entry own (call.Made (next + 2) name.Output (Some next) (Some side)) told.Done ∷ []
 
 -- The connection was taken from the handle's listener: what it gave, and then the three marks; the socket has a record of its own.
-pub record AcceptTakes (m : Machine) (own : OpId) (line handle place : ℕ) (r : Tcp2Socket) (entries : List Entry) (after : Machine) : Type 0 where
+pub record AcceptTakes (m : Machine) (own : OpId) (line handle place : ℕ) (r : TcpRecord) (entries : List Entry) (after : Machine) : Type 0 where
   pub listener : Listener
   pub listens : r.listening ≡ listening.Accepts listener
   pub side : OpId

@@ -11,7 +11,7 @@ use Rattle.wasi_host.specs.declared.kind.PlainOutput.TheVariants as plain_output
 use Rattle.wasi_host.specs.declared.kind.Watched.{Watched}
 use Rattle.wasi_host.specs.declared.kind.Watched.TheVariants as watched
 use Rattle.wasi_host.specs.declared.machine.Machine.{Machine}
-use Rattle.wasi_records.specs.declared.socket.Tcp2Socket.{Tcp2Socket}
+use Rattle.wasi_records.specs.declared.socket.TcpRecord.{TcpRecord}
 use Rattle.wasi_host.specs.declared.store.StandingCall.{StandingCall}
 use Rattle.wasi_host.specs.declared.store.StandingCall.TheVariants as standing
 use Rattle.wasi_host.specs.Kinds.{kind_at, is_network, is_error, udp_of, watched_by, watch_of, place_in}
@@ -56,7 +56,7 @@ MissesEither m to from = MissesOutput m to ⊎ MissesInput m from
 
 -- == what a pollable watches
 -- what is watched isn't there
-abbrev pub MissesRecord : Watched → Option Tcp2Socket → Type 0
+abbrev pub MissesRecord : Watched → Option TcpRecord → Type 0
 MissesRecord (watched.Socket place) found = found ≡ None
 MissesRecord (watched.Input place) found = streams_in found ≡ None
 MissesRecord (watched.Output place) found = streams_in found ≡ None

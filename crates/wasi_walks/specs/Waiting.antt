@@ -35,10 +35,10 @@ use Rattle.wasi_records.specs.declared.listening.Listening.{Listening}
 use Rattle.wasi_records.specs.declared.listening.Listening.TheVariants as listening
 use Rattle.wasi_host.specs.declared.machine.Machine.{Machine}
 use Rattle.wasi_records.specs.declared.socket.Streams.{Streams}
-use Rattle.wasi_records.specs.declared.socket.Tcp2Socket.{Tcp2Socket}
+use Rattle.wasi_records.specs.declared.socket.TcpRecord.{TcpRecord}
 use Rattle.wasi_records.specs.declared.udp.OpenUdp.{OpenUdp}
-use Rattle.wasi_records.specs.declared.udp.Udp2Socket.{Udp2Socket}
-use Rattle.wasi_records.specs.declared.udp.Udp2Socket.TheVariants as udp
+use Rattle.wasi_records.specs.declared.udp.UdpRecord.{UdpRecord}
+use Rattle.wasi_records.specs.declared.udp.UdpRecord.TheVariants as udp
 use Rattle.wasi_records.specs.declared.udp.UdpInProgress.{UdpInProgress}
 use Rattle.wasi_records.specs.declared.udp.UdpInProgress.TheVariants as udp_doing
 use Rattle.wasi_udp.specs.Bind.{IsBind as IsUdpBind}
@@ -75,16 +75,16 @@ abbrev pub pollable_mark : Machine → OpId → ℕ → Watched → Entry
 pollable_mark m own handle w = entry own (call.Made m.table.next name.Pollable (Some handle) (watched_side m.store w)) told.Done
 
 -- The pollable watches this in a record, and of both this holds.
-pub record OfWatched (m : Machine) (pollable : ℕ) (P : Watched → Tcp2Socket → Type 0) : Type 0 where
+pub record OfWatched (m : Machine) (pollable : ℕ) (P : Watched → TcpRecord → Type 0) : Type 0 where
   pub watch : Watched
-  pub found : Tcp2Socket
+  pub found : TcpRecord
   pub watches : watch_of (kind_at m.table pollable) ≡ Some watch
   pub at : tcp2_at m.store.records (place_in watch) ≡ Some found
   pub holds : P watch found
 
 -- What is watched isn't ready: the connect in progress waits, or with nothing in progress the listener's accept, or the open
 -- input was answered pending, or the output's writer waits.
-pub data IsUnready (own : OpId) (r : Tcp2Socket) (entries : List Entry) : Watched → Type 0 where
+pub data IsUnready (own : OpId) (r : TcpRecord) (entries : List Entry) : Watched → Type 0 where
   AcceptWaitsOn : (place : ℕ) (l : Listener) → is_nothing r.in_progress ≡ true → r.listening ≡ listening.Accepts l → AcceptWaits (accept_name own.step l.accept) entries → IsUnready own r entries (watched.Socket place)
   ConnectWaits : (place : ℕ) (op : Operation) → is_connect r.in_progress ≡ true → r.inner.state ≡ state.Connecting op → EndsPending op.who.id entries → IsUnready own r entries (watched.Socket place)
   InputWaits : (place : ℕ) (s : Streams) (half : TcpReceiveStream) → r.streams ≡ Some s → s.reader ≡ reading.Open half → entries ≡ entry own (call.ReadReady half.side) told.Pending ∷ []
@@ -92,7 +92,7 @@ pub data IsUnready (own : OpId) (r : Tcp2Socket) (entries : List Entry) : Watche
   WriteWaits : (place : ℕ) (s : Streams) → r.streams ≡ Some s → WriterWaits own s.writer entries → IsUnready own r entries (watched.Output place)
 
 -- the record that the pollable watches in
-abbrev pub watched_in : Machine → Option Watched → Option Tcp2Socket
+abbrev pub watched_in : Machine → Option Watched → Option TcpRecord
 watched_in m None = None
 watched_in m (Some w) = tcp2_at m.store.records (place_in w)
 
@@ -105,7 +105,7 @@ abbrev pub WatchesAccept : Machine → ℕ → Type 0
 WatchesAccept m pollable = IfSome (watched_in m (watch_of (kind_at m.table pollable))) (λ r. AcceptsIn r.listening)
 
 -- it is a socket with no connect in progress, and with no listener unless another operation is in progress
-abbrev pub IsIdleSocket : Watched → Tcp2Socket → Type 0
+abbrev pub IsIdleSocket : Watched → TcpRecord → Type 0
 IsIdleSocket (watched.Socket place) r = (is_connect r.in_progress ≡ false) × ((is_nothing r.in_progress ≡ false) ⊎ HasNoListener r.listening)
 IsIdleSocket _ r = ⊥
 
@@ -186,7 +186,7 @@ IsBinding (Binding op) = IsRestOfBind op
 IsBinding _ = ⊥
 
 -- a create is in progress, which waits for its network socket
-abbrev pub IsCreating : Udp2Socket → Type 0
+abbrev pub IsCreating : UdpRecord → Type 0
 IsCreating (udp.Creating create) = (create.operation.who.last ≡ CloseLast) × (create.operation.left ≡ UdpWritable ∷ [])
 IsCreating _ = ⊥
 
@@ -235,7 +235,7 @@ ListenWaits (listening.Begins op) entries = EndsPending op.who.id entries
 ListenWaits _ entries = ⊥
 
 -- the create was answered pending
-abbrev pub CreateWaits : Udp2Socket → List Entry → Type 0
+abbrev pub CreateWaits : UdpRecord → List Entry → Type 0
 CreateWaits (udp.Creating create) entries = EndsPending create.operation.who.id entries
 CreateWaits _ entries = ⊥
 
@@ -301,8 +301,8 @@ pub data CallFails (m : Machine) (entries : List Entry) : StandingCall → Error
   CreateFailed : (place : ℕ) (create : Create) (c : ErrorCode) → udp2_at m.store.records place ≡ Some (udp.Creating create) → EndsClosing create.operation.who (call.UdpWritable create.operation.who.side) (told.Code c) entries → CallFails m entries (standing.UdpCreate place) c
   UdpConnectFailed : (place handle : ℕ) (o : OpenUdp) (op : Operation) (c : ErrorCode) → open_at m.store.records place ≡ Some o → o.connecting ≡ Some op → UdpConnectFails op entries c → CallFails m entries (standing.UdpConnect place handle) c
   UdpBindFailed : (place : ℕ) (o : OpenUdp) (op : Operation) (c : ErrorCode) → open_at m.store.records place ≡ Some o → o.in_progress ≡ udp_doing.Binding op → UdpBindFails op entries c → CallFails m entries (standing.UdpBind place) c
-  BindFailed : (place : ℕ) (r : Tcp2Socket) (op : Operation) (c : ErrorCode) → tcp2_at m.store.records place ≡ Some r → r.in_progress ≡ Binding op → BindFails op entries c → CallFails m entries (standing.Bind place) c
-  ListenFailed : (place : ℕ) (r : Tcp2Socket) (op : Operation) (c : ErrorCode) → tcp2_at m.store.records place ≡ Some r → r.listening ≡ listening.Begins op → ListenEnds op entries c → CallFails m entries (standing.Listen place) c
+  BindFailed : (place : ℕ) (r : TcpRecord) (op : Operation) (c : ErrorCode) → tcp2_at m.store.records place ≡ Some r → r.in_progress ≡ Binding op → BindFails op entries c → CallFails m entries (standing.Bind place) c
+  ListenFailed : (place : ℕ) (r : TcpRecord) (op : Operation) (c : ErrorCode) → tcp2_at m.store.records place ≡ Some r → r.listening ≡ listening.Begins op → ListenEnds op entries c → CallFails m entries (standing.Listen place) c
 
 -- A call is pending under this number, and failed with a code of this word.
 pub record StandingFails (m : Machine) (n : ℕ) (entries : List Entry) (word : CodeWord) : Type 0 where

@@ -1,5 +1,5 @@
 -- A look at a pollable: it finds something out where what is watched is there, and keeps what others watch.
-use Rattle.wasi_causes.proofs.Words.{◌≡◌, ◌∙◌, ℕ, Bool, true, false, List, [], ◌∷◌, Option, Some, None, Result, Ok, Err, refl, sym, subst, ap, inl, inr, Entry, Give, HandleTable, Left, Listening, Machine, NoSuchHandle, Records, Stop, Streams, Tcp2Socket, Trap, Watched, is_connect, is_nothing, kind_at, own_of, ready_asks, ready_on, streams_in, watch_of, with_job, with_socket, with_store}
+use Rattle.wasi_causes.proofs.Words.{◌≡◌, ◌∙◌, ℕ, Bool, true, false, List, [], ◌∷◌, Option, Some, None, Result, Ok, Err, refl, sym, subst, ap, inl, inr, Entry, Give, HandleTable, Left, Listening, Machine, NoSuchHandle, Records, Stop, Streams, TcpRecord, Trap, Watched, is_connect, is_nothing, kind_at, own_of, ready_asks, ready_on, streams_in, watch_of, with_job, with_socket, with_store}
 use Rattle.wasi_world.specs.declared.ids.Ids.{Ids}
 use Rattle.wasi_tcp.specs.Connecting.{finish_connect_asks}
 use Rattle.wasi_tcp.specs.Listener.{listener_ready_asks}
@@ -12,8 +12,8 @@ use Rattle.wasi_host.specs.declared.polling.Look.{Look}
 use Rattle.wasi_host.specs.declared.polling.Look.TheVariants.{First, Later}
 use Rattle.wasi_records.specs.declared.records.Record.{Record}
 use Rattle.wasi_records.specs.declared.udp.OpenUdp.{OpenUdp}
-use Rattle.wasi_records.specs.declared.udp.Udp2Socket.{Udp2Socket}
-use Rattle.wasi_records.specs.declared.udp.Udp2Socket.TheVariants.{Open}
+use Rattle.wasi_records.specs.declared.udp.UdpRecord.{UdpRecord}
+use Rattle.wasi_records.specs.declared.udp.UdpRecord.TheVariants.{Open}
 use Rattle.wasi_host.specs.DatagramCalls.{begins_receive, ready_incoming_at}
 use Rattle.wasi_host.specs.Polling.{begins_at, begins_on, look_at_pollable, look_later, tcp_begins, udp_begins}
 use Rattle.wasi_host.specs.Readiness.{ready_at, ready_put, ready_record}
@@ -43,19 +43,19 @@ stay_then : {one two three : List Record} → WatchedStay one two → WatchedSta
 stay_then s t = record { sockets = λ k h. s.sockets k (t.sockets k h); streams = λ k h. s.streams k (t.streams k h); opens = λ k h. s.opens k (t.opens k h) }
 
 -- the record of a TCP socket changes, and keeps its streams
-module _ (xs : List Record) (i : ℕ) (r now : Tcp2Socket) (at : tcp2_at xs i ≡ Some r) (keeps : now.streams ≡ None → r.streams ≡ None) where
-  socket_stays : (k : ℕ) (o : Option Tcp2Socket) → tcp2_at xs k ≡ o → tcp2_at (tcp2_put xs i now) k ≡ None → o ≡ None
+module _ (xs : List Record) (i : ℕ) (r now : TcpRecord) (at : tcp2_at xs i ≡ Some r) (keeps : now.streams ≡ None → r.streams ≡ None) where
+  socket_stays : (k : ℕ) (o : Option TcpRecord) → tcp2_at xs k ≡ o → tcp2_at (tcp2_put xs i now) k ≡ None → o ≡ None
   socket_stays k None e none = refl
   socket_stays k (Some x) e none = elim (put_stays tcp_sort xs i now k x e) [ inl same ↦ absurd (cc) | inr changed ↦ absurd (let its = changed.1 in cc) ]
 
-  streams_stay : (k : ℕ) (o : Option Tcp2Socket) → tcp2_at xs k ≡ o → streams_in (tcp2_at (tcp2_put xs i now) k) ≡ None → streams_in o ≡ None
+  streams_stay : (k : ℕ) (o : Option TcpRecord) → tcp2_at xs k ≡ o → streams_in (tcp2_at (tcp2_put xs i now) k) ≡ None → streams_in o ≡ None
   streams_stay k None e none = refl
   streams_stay k (Some x) e none = elim (put_stays tcp_sort xs i now k x e) [
     | inl same ↦ sym (ap streams_in same) ∙ none
-    | inr changed ↦ let was : tcp2_at xs i ≡ Some x = subst (λ (j : ℕ). tcp2_at xs j ≡ Some x) changed.0 e in let its : r ≡ x = cc in subst (λ (y : Tcp2Socket). y.streams ≡ None) its (keeps (sym (ap streams_in changed.1) ∙ none))
+    | inr changed ↦ let was : tcp2_at xs i ≡ Some x = subst (λ (j : ℕ). tcp2_at xs j ≡ Some x) changed.0 e in let its : r ≡ x = cc in subst (λ (y : TcpRecord). y.streams ≡ None) its (keeps (sym (ap streams_in changed.1) ∙ none))
   ]
 
-  open_stays : (k : ℕ) (o : Option Udp2Socket) → udp2_at xs k ≡ o → open_at (tcp2_put xs i now) k ≡ None → open_of o ≡ None
+  open_stays : (k : ℕ) (o : Option UdpRecord) → udp2_at xs k ≡ o → open_at (tcp2_put xs i now) k ≡ None → open_of o ≡ None
   open_stays k None e none = refl
   open_stays k (Some u) e none = sym (ap open_of (put_still tcp_sort udp_sort (λ t. refl) xs i r now k u at e)) ∙ none
 
@@ -64,15 +64,15 @@ module _ (xs : List Record) (i : ℕ) (r now : Tcp2Socket) (at : tcp2_at xs i �
 
 -- that of an open UDP socket changes
 module _ (xs : List Record) (i : ℕ) (o now : OpenUdp) (at : udp2_at xs i ≡ Some (Open o)) where
-  socket_too : (k : ℕ) (was : Option Tcp2Socket) → tcp2_at xs k ≡ was → tcp2_at (open_put xs i now) k ≡ None → was ≡ None
+  socket_too : (k : ℕ) (was : Option TcpRecord) → tcp2_at xs k ≡ was → tcp2_at (open_put xs i now) k ≡ None → was ≡ None
   socket_too k None e none = refl
   socket_too k (Some x) e none = let same = put_still udp_sort tcp_sort (λ t. refl) xs i (Open o) (Open now) k x at e in absurd (cc)
 
-  streams_too : (k : ℕ) (was : Option Tcp2Socket) → tcp2_at xs k ≡ was → streams_in (tcp2_at (open_put xs i now) k) ≡ None → streams_in was ≡ None
+  streams_too : (k : ℕ) (was : Option TcpRecord) → tcp2_at xs k ≡ was → streams_in (tcp2_at (open_put xs i now) k) ≡ None → streams_in was ≡ None
   streams_too k None e none = refl
   streams_too k (Some x) e none = sym (ap streams_in (put_still udp_sort tcp_sort (λ t. refl) xs i (Open o) (Open now) k x at e)) ∙ none
 
-  open_too : (k : ℕ) (was : Option Udp2Socket) → udp2_at xs k ≡ was → open_at (open_put xs i now) k ≡ None → open_of was ≡ None
+  open_too : (k : ℕ) (was : Option UdpRecord) → udp2_at xs k ≡ was → open_at (open_put xs i now) k ≡ None → open_of was ≡ None
   open_too k None e none = refl
   open_too k (Some u) e none = elim (put_stays udp_sort xs i (Open now) k u e) [ inl same ↦ sym (ap open_of same) ∙ none | inr changed ↦ absurd (let its : open_at (open_put xs i now) k ≡ Some now = ap open_of changed.1 in cc) ]
 
@@ -115,8 +115,8 @@ module _ (m after : Machine) (there : WatchedStay m.store.records after.store.re
     missed_one (p ∷ ps) (inr h) = inr (missed_one ps h)
 
 -- == in the record of a TCP socket
-module _ (ids : Ids) (r : Tcp2Socket) where
-  abbrev RecordRow : Watched → Rows (Result Bool Stop × Tcp2Socket)
+module _ (ids : Ids) (r : TcpRecord) where
+  abbrev RecordRow : Watched → Rows (Result Bool Stop × TcpRecord)
   RecordRow w es (Ok b, now) = (now.streams ≡ None → r.streams ≡ None) × (MissesRecord w (Some r) → ⊥)
   RecordRow w es (Err (Trap NoSuchHandle), now) = MissesRecord w (Some r) × (es ≡ []) × (now ≡ r)
   RecordRow w es (Err _, now) = ⊥
@@ -159,21 +159,21 @@ module _ (m : Machine) where
 
   module _ (ids : Ids) where
     module _ (w : Watched) (place : ℕ) (to_watched : MissesRecord w (tcp2_at m.store.records place) → MissesWatched m (Some w)) (of_watched : MissesWatched m (Some w) → MissesRecord w (tcp2_at m.store.records place)) where
-      module _ (r : Tcp2Socket) (at : tcp2_at m.store.records place ≡ Some r) where
-        put : Tcp2Socket → Machine
+      module _ (r : TcpRecord) (at : tcp2_at m.store.records place ≡ Some r) where
+        put : TcpRecord → Machine
         put x = record m { store = with_socket m.store place x }
 
-        left_so : (now : Tcp2Socket) → now ≡ r → record m { store = with_socket m.store place now } ≡ m
+        left_so : (now : TcpRecord) → now ≡ r → record m { store = with_socket m.store place now } ≡ m
         unfolding put
         left_so now same = ap put same ∙ ap (λ (store : Records). let left : Machine = record m { store = store } in left) (put_store_same m.store place r at)
 
-        said : (es : List Entry) (done : Result Bool Stop × Tcp2Socket) → RecordRow ids r w es done → FoundRow (Some w) es (with_store m (ready_put m.store place done))
+        said : (es : List Entry) (done : Result Bool Stop × TcpRecord) → RecordRow ids r w es done → FoundRow (Some w) es (with_store m (ready_put m.store place done))
         said es (Ok b, now) k = (record { table = refl; standing = refl; there = stay_put m.store.records place r now at k.0 }, λ none. k.1 (subst (MissesRecord w) at (of_watched none)))
         said es (Err (Trap NoSuchHandle), now) k = (to_watched (subst (MissesRecord w) (sym at) k.0), k.1, left_so now k.2)
         said es (Err _, now) k = absurd k
 
       -- a look in the record, where it is there
-      in_record : MissesRecord w None → ((r : Tcp2Socket) → Meets (RecordRow ids r w) [] (ready_record (own_of ids.line) ids w r)) → (o : Option Tcp2Socket) → tcp2_at m.store.records place ≡ o
+      in_record : MissesRecord w None → ((r : TcpRecord) → Meets (RecordRow ids r w) [] (ready_record (own_of ids.line) ids w r)) → (o : Option TcpRecord) → tcp2_at m.store.records place ≡ o
           → Meets (λ es done. FoundRow (Some w) es (with_store m done)) [] (ready_at m.store (own_of ids.line) ids w place o)
       in_record none by None at = ends (to_watched (subst (MissesRecord w) (sym at) none), refl, refl)
       in_record none by (Some r) at = onto _ (widen (said r at) (by r))

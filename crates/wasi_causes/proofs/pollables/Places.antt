@@ -1,5 +1,5 @@
 -- At which pollables a wait looks, what it finds of each, and the places that it answers.
-use Rattle.wasi_causes.proofs.Words.{◌≡◌, ◌∙◌, ◌==◌, ◌+◌, ℕ, zero, suc, arith, Bool, true, false, if◌then◌else◌, List, [], ◌∷◌, Option, Some, None, IsSomeAnd, Has, InProgress, Machine, Tcp2Socket, Watched, refl, subst, ap, inl, inr, eqb-true, eq-eqb, is_connect, is_nothing, not, slice_get, watch_of, kind_at, ◌↔◌}
+use Rattle.wasi_causes.proofs.Words.{◌≡◌, ◌∙◌, ◌==◌, ◌+◌, ℕ, zero, suc, arith, Bool, true, false, if◌then◌else◌, List, [], ◌∷◌, Option, Some, None, IsSomeAnd, Has, InProgress, Machine, TcpRecord, Watched, refl, subst, ap, inl, inr, eqb-true, eq-eqb, is_connect, is_nothing, not, slice_get, watch_of, kind_at, ◌↔◌}
 use Rattle.std.specs.Prelude.{◌≤◌, ◌⊎◌}
 use Rattle.wasi_world.specs.declared.ids.Ids.{Ids}
 use Rattle.wasi_tcp.specs.declared.listener.Accepting.{Accepting}
@@ -48,11 +48,11 @@ module _ (ids : Ids) where
   by_progress (doing.Started _) l = refl
   by_progress _ l = refl
 
-  by_connect : (r : Tcp2Socket) (b : Bool) → socket_ids r ids b ≡ (if b then ids else idle_ids r.listening ids (is_nothing r.in_progress))
+  by_connect : (r : TcpRecord) (b : Bool) → socket_ids r ids b ≡ (if b then ids else idle_ids r.listening ids (is_nothing r.in_progress))
   by_connect r true = refl
   by_connect r false = refl
 
-  by_socket : (place : ℕ) (o : Option Tcp2Socket) → ready_ids_at ids (watched.Socket place) o ≡ Taking (tcp_begins o)
+  by_socket : (place : ℕ) (o : Option TcpRecord) → ready_ids_at ids (watched.Socket place) o ≡ Taking (tcp_begins o)
   by_socket place None = refl
   by_socket place (Some r) = by_connect r (is_connect r.in_progress) ∙ by_progress r.in_progress r.listening
 
@@ -68,7 +68,7 @@ module _ (ids : Ids) where
   by_udp None = refl
   by_udp (Some o) = by_incoming o.incoming
 
-  other_ids : (w : Watched) (o : Option Tcp2Socket) → ((r : Tcp2Socket) → ready_ids ids w r ≡ ids) → ready_ids_at ids w o ≡ ids
+  other_ids : (w : Watched) (o : Option TcpRecord) → ((r : TcpRecord) → ready_ids ids w r ≡ ids) → ready_ids_at ids w o ≡ ids
   other_ids w None same = refl
   other_ids w (Some r) same = same r
 

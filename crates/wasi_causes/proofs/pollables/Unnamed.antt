@@ -1,5 +1,5 @@
 -- A look that begins nothing asks the same whatever names are left.
-use Rattle.wasi_causes.proofs.Words.{◌≡◌, ℕ, Bool, true, false, if◌then◌else◌, not, Asks, Option, Some, None, Give, Listening, Machine, OpId, Result, Stop, Tcp2Socket, Watched, ap, bind, is_connect, is_nothing, kind_at, own_of, ready_asks, ready_end, ready_on, refl, watch_of, with_store}
+use Rattle.wasi_causes.proofs.Words.{◌≡◌, ℕ, Bool, true, false, if◌then◌else◌, not, Asks, Option, Some, None, Give, Listening, Machine, OpId, Result, Stop, TcpRecord, Watched, ap, bind, is_connect, is_nothing, kind_at, own_of, ready_asks, ready_end, ready_on, refl, watch_of, with_store}
 use Rattle.wasi_world.specs.declared.ids.Ids.{Ids}
 use Rattle.wasi_tcp.specs.Listener.{accept_asks, begun, has_accept}
 use Rattle.wasi_tcp.specs.declared.listener.Accepting.{Accepting}
@@ -33,27 +33,27 @@ module _ (ids : Ids) (part : ℕ) where
   same_begun side maker (accepting.Arrived new peer) e = refl
   same_begun side maker (accepting.Failed c) e = refl
 
-  same_listening : (r : Tcp2Socket) (l : Listening) → begins_accept l ≡ false → ready_listening ids r l ≡ ready_listening other r l
+  same_listening : (r : TcpRecord) (l : Listening) → begins_accept l ≡ false → ready_listening ids r l ≡ ready_listening other r l
   same_listening r (listening.Accepts l) e = ap (λ (a : Accepting). bind (accept_asks (ready_end l) a) (λ done. Give (accept_looked r done))) (same_begun l.side l.maker l.accept e)
   same_listening r _ e = refl
 
-  same_idle : (r : Tcp2Socket) (b : Bool) → (if b then begins_accept r.listening else false) ≡ false → ready_idle ids r b ≡ ready_idle other r b
+  same_idle : (r : TcpRecord) (b : Bool) → (if b then begins_accept r.listening else false) ≡ false → ready_idle ids r b ≡ ready_idle other r b
   same_idle r true e = same_listening r r.listening e
   same_idle r false e = refl
 
-  same_progress : (r : Tcp2Socket) (b : Bool) → socket_begins r ≡ false → ready_socket_by ids r b ≡ ready_socket_by other r b
+  same_progress : (r : TcpRecord) (b : Bool) → socket_begins r ≡ false → ready_socket_by ids r b ≡ ready_socket_by other r b
   same_progress r true e = refl
   same_progress r false e = same_idle r (is_nothing r.in_progress) e
 
-  same_socket : (store : Records) (place : ℕ) (o : Option Tcp2Socket) → tcp_begins o ≡ false → ready_at store (own_of ids.line) ids (watched.Socket place) place o ≡ ready_at store (own_of ids.line) other (watched.Socket place) place o
+  same_socket : (store : Records) (place : ℕ) (o : Option TcpRecord) → tcp_begins o ≡ false → ready_at store (own_of ids.line) ids (watched.Socket place) place o ≡ ready_at store (own_of ids.line) other (watched.Socket place) place o
   same_socket store place None e = refl
-  same_socket store place (Some r) e = ap (λ (t : Asks (Result Bool Stop × Tcp2Socket)). bind t (λ done. Give (ready_put store place done))) (same_progress r (is_connect r.in_progress) e)
+  same_socket store place (Some r) e = ap (λ (t : Asks (Result Bool Stop × TcpRecord)). bind t (λ done. Give (ready_put store place done))) (same_progress r (is_connect r.in_progress) e)
 
-  same_input : (store : Records) (place : ℕ) (o : Option Tcp2Socket) → ready_at store (own_of ids.line) ids (watched.Input place) place o ≡ ready_at store (own_of ids.line) other (watched.Input place) place o
+  same_input : (store : Records) (place : ℕ) (o : Option TcpRecord) → ready_at store (own_of ids.line) ids (watched.Input place) place o ≡ ready_at store (own_of ids.line) other (watched.Input place) place o
   same_input store place None = refl
   same_input store place (Some r) = refl
 
-  same_output : (store : Records) (place : ℕ) (o : Option Tcp2Socket) → ready_at store (own_of ids.line) ids (watched.Output place) place o ≡ ready_at store (own_of ids.line) other (watched.Output place) place o
+  same_output : (store : Records) (place : ℕ) (o : Option TcpRecord) → ready_at store (own_of ids.line) ids (watched.Output place) place o ≡ ready_at store (own_of ids.line) other (watched.Output place) place o
   same_output store place None = refl
   same_output store place (Some r) = refl
 

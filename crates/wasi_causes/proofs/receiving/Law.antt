@@ -1,7 +1,7 @@
 -- The law that of what the stream of a handle received all was handed out but what waits: by each line but one that receives on it.
 use Rattle.wasi_walks.proofs.walks.Law.{BeginsWrites, Rests, begins_by}
 use Rattle.wasi_walks.proofs.walks.Asked.{Asked, Questions, SetsBacklog, Learns, Closes, MarksOne, AsksCreate, MarksAccepted, Polls, Turns, GivesUp, UdpQuestions, UdpLearns, UdpPeers, UdpCloses, UdpBegins, MarksUdp, MarksStream, MarksError, UdpGivesUp, Resolves, Looks}
-use Rattle.wasi_causes.proofs.Words.{Allows, Asks, Call, End, Entry, Err, ErrorCode, ErrorValue, HoldsAccept, HoldsConnect, Input, IsAcceptOn, Item, Job, Kind, List, None, Ok, OpId, Operation, Option, Output, Result, Socket, Some, Step, Streams, Tcp2, Tcp2Socket, Told, WasiSocketsCtx, WriteState, [], accept_ended, allows_if, allows_then, ap, arith, bind, bind_progress, connect_ended, created_asks, entry, give_up_asks, inl, inr, is_full, kind_at, length, make_asks, name_of, new_asks, new_record, own_of, poll_asks, refl, side_at, side_of, subst, sym, told_done, turn_asks, with_handle, with_inner, with_listening, with_progress, with_state, with_writer, Bool, ℕ, ⊤, ◌++◌, ◌∙◌, ◌∷◌, ◌≡◌, ◌⊎◌}
+use Rattle.wasi_causes.proofs.Words.{Allows, Asks, Call, End, Entry, Err, ErrorCode, ErrorValue, HoldsAccept, HoldsConnect, Input, IsAcceptOn, Item, Job, Kind, List, None, Ok, OpId, Operation, Option, Output, Result, Socket, Some, Step, Streams, Tcp2, TcpRecord, Told, WasiSocketsCtx, WriteState, [], accept_ended, allows_if, allows_then, ap, arith, bind, bind_progress, connect_ended, created_asks, entry, give_up_asks, inl, inr, is_full, kind_at, length, make_asks, name_of, new_asks, new_record, own_of, poll_asks, refl, side_at, side_of, subst, sym, told_done, turn_asks, with_handle, with_inner, with_listening, with_progress, with_state, with_writer, Bool, ℕ, ⊤, ◌++◌, ◌∙◌, ◌∷◌, ◌≡◌, ◌⊎◌}
 use Rattle.wasi_tcp.specs.Connect as connect
 use Rattle.wasi_tcp.specs.Listen.{IsListen}
 use Rattle.wasi_tcp.specs.declared.listener.Accepting.TheVariants as accepting
@@ -20,7 +20,7 @@ use Rattle.wasi_records.specs.declared.datagrams.Receiving.{Receiving}
 use Rattle.wasi_host.specs.declared.kind.Kind.TheVariants.{Incoming, Udp2}
 use Rattle.wasi_records.specs.declared.listening.Listening.TheVariants as listening
 use Rattle.wasi_records.specs.declared.udp.OpenUdp.{OpenUdp}
-use Rattle.wasi_records.specs.declared.udp.Udp2Socket.{Udp2Socket}
+use Rattle.wasi_records.specs.declared.udp.UdpRecord.{UdpRecord}
 use Rattle.wasi_walks.proofs.Words.{Fits, told_addr}
 use Rattle.wasi_walks.proofs.fits.Polls.{Anything}
 use Rattle.wasi_walks.proofs.fits.Records.{FitConnecting, FitListening, FitProgress, FitSending, FitReceiving, FitUdpProgress, SendOn, UdpBindOn, UdpConnectOn}
@@ -50,24 +50,24 @@ module _ (handle : ℕ) (list : List IncomingDatagram) (contexts : List WasiSock
   Inv es h = Mine handle list contexts line origin es h
 
   -- == records change
-  pub tcp : (es : List Entry) (h : Here) (k : ℕ) (r now : Tcp2Socket) → Found h k r → Inv es h → Inv es (put h k now)
+  pub tcp : (es : List Entry) (h : Here) (k : ℕ) (r now : TcpRecord) → Found h k r → Inv es h → Inv es (put h k now)
   tcp es h k r now g i = (stream_put_tcp handle list es h.machine.table h.machine.store.records k r now g i.0, i.1)
 
-  pub udp : (es : List Entry) (h : Here) (k : ℕ) (u now : Udp2Socket) → FoundUdp h k u → (kind_at h.machine.table handle ≡ Some (Incoming k) → Becomes handle list es u now) → Inv es h → Inv es (put_udp h k now)
+  pub udp : (es : List Entry) (h : Here) (k : ℕ) (u now : UdpRecord) → FoundUdp h k u → (kind_at h.machine.table handle ≡ Some (Incoming k) → Becomes handle list es u now) → Inv es h → Inv es (put_udp h k now)
   udp es h k u now g becomes i = (stream_put handle list es h.machine.table h.machine.store.records k u now g becomes i.0, i.1)
 
   -- the stream is as it was
-  pub udp_same : (es : List Entry) (h : Here) (k : ℕ) (o now : OpenUdp) → FoundUdp h k (Udp2Socket.Open o) → now.inner.side ≡ o.inner.side → now.incoming ≡ o.incoming → Inv es h → Inv es (put_udp h k (Udp2Socket.Open now))
-  udp_same es h k o now g side same i = udp es h k (Udp2Socket.Open o) (Udp2Socket.Open now) g (λ live. stays_so handle list es o now side same) i
+  pub udp_same : (es : List Entry) (h : Here) (k : ℕ) (o now : OpenUdp) → FoundUdp h k (UdpRecord.Open o) → now.inner.side ≡ o.inner.side → now.incoming ≡ o.incoming → Inv es h → Inv es (put_udp h k (UdpRecord.Open now))
+  udp_same es h k o now g side same i = udp es h k (UdpRecord.Open o) (UdpRecord.Open now) g (λ live. stays_so handle list es o now side same) i
 
   -- == moves
   -- where the stream is live, it is there afterwards
-  still_there : (es : List Entry) (h : Here) (b : B es h) (k : ℕ) (o now : OpenUdp) → FoundUdp h k (Udp2Socket.Open o) → Move line origin h (put_udp h k (Udp2Socket.Open now)) → kind_at h.machine.table handle ≡ Some (Incoming k) → now.incoming ≡ None → ⊥
+  still_there : (es : List Entry) (h : Here) (b : B es h) (k : ℕ) (o now : OpenUdp) → FoundUdp h k (UdpRecord.Open o) → Move line origin h (put_udp h k (UdpRecord.Open now)) → kind_at h.machine.table handle ≡ Some (Incoming k) → now.incoming ≡ None → ⊥
   still_there es h b k o now g m live none =
-      let after : Here = put_udp h k (Udp2Socket.Open now) in
+      let after : Here = put_udp h k (UdpRecord.Open now) in
       let s : SlotOf h.machine.table.live handle (Incoming k) = slot_of h.machine.table.live handle (Incoming k) live in
       let has = (apart_of handle list contexts line origin es after ((streams_law contexts line origin).moves es h after m tt b.1.0)).there s.slot k s.live_one s.value in
-      let same : now ≡ has.socket = same_open now has.socket (let p : Some (Udp2Socket.Open now) ≡ Some (Udp2Socket.Open has.socket) = sym (put_finds udp_sort h.machine.store.records k (Udp2Socket.Open o) (Udp2Socket.Open now) g) ∙ has.at in cc) in
+      let same : now ≡ has.socket = same_open now has.socket (let p : Some (UdpRecord.Open now) ≡ Some (UdpRecord.Open has.socket) = sym (put_finds udp_sort h.machine.store.records k (UdpRecord.Open o) (UdpRecord.Open now) g) ∙ has.at in cc) in
       let p : None ≡ Some has.stream = sym none ∙ (ap (λ (x : OpenUdp). x.incoming) same ∙ has.has) in
       absurd (cc)
 
@@ -80,17 +80,17 @@ module _ (handle : ℕ) (list : List IncomingDatagram) (contexts : List WasiSock
         let same : takes.handle ≡ handle = sym t.its ∙ ((apart_of handle list contexts line origin es h b.1.0).single t.slot s.slot k t.live_one s.live_one t.value s.value ∙ s.its) in
         other takes.ctx takes.most (takes.is ∙ ap (λ (n : ℕ). Step.UdpReceive takes.ctx n takes.most) same)
 
-    changes : (es : List Entry) (h : Here) (b : B es h) (k : ℕ) (o now : OpenUdp) → FoundUdp h k (Udp2Socket.Open o) → UdpPlain o now → StreamMoves origin h k o.incoming now.incoming → Move line origin h (put_udp h k (Udp2Socket.Open now)) → kind_at h.machine.table handle ≡ Some (Incoming k) → Becomes handle list es (Udp2Socket.Open o) (Udp2Socket.Open now)
+    changes : (es : List Entry) (h : Here) (b : B es h) (k : ℕ) (o now : OpenUdp) → FoundUdp h k (UdpRecord.Open o) → UdpPlain o now → StreamMoves origin h k o.incoming now.incoming → Move line origin h (put_udp h k (UdpRecord.Open now)) → kind_at h.machine.table handle ≡ Some (Incoming k) → Becomes handle list es (UdpRecord.Open o) (UdpRecord.Open now)
     changes es h b k o now g p stream m live = by_move o.incoming now.incoming stream refl refl
       where
-        by_move : (old new : Option IncomingStream) → StreamMoves origin h k old new → o.incoming ≡ old → now.incoming ≡ new → Becomes handle list es (Udp2Socket.Open o) (Udp2Socket.Open now)
+        by_move : (old new : Option IncomingStream) → StreamMoves origin h k old new → o.incoming ≡ old → now.incoming ≡ new → Becomes handle list es (UdpRecord.Open o) (UdpRecord.Open now)
         by_move _ _ (walk.StreamStays inc) e f = stays_so handle list es o now p.side (f ∙ sym e)
         by_move _ _ (walk.StreamIsMade inc) e f = λ q stream is has knows. let none : None ≡ Some stream = sym e ∙ (ap (λ (x : OpenUdp). x.incoming) (same_open o q is) ∙ has) in absurd (cc)
         by_move _ _ (walk.StreamIsTaken inc takes) e f = absurd (taken_other es h b k takes live)
         by_move _ _ (walk.StreamGoes inc gone) e f = absurd (still_there es h b k o now g m live f)
 
     -- a receive begins, where the stream holds nothing
-    begins : (es : List Entry) (n : ℕ) (o : OpenUdp) (inc : IncomingStream) (bound : Bool) → o.incoming ≡ Some inc → inc.receiving ≡ Receiving.Nothing → Becomes handle list es (Udp2Socket.Open o) (Udp2Socket.Open (walk.receiving_now o inc (receive_start (part_of line n) o.inner bound)))
+    begins : (es : List Entry) (n : ℕ) (o : OpenUdp) (inc : IncomingStream) (bound : Bool) → o.incoming ≡ Some inc → inc.receiving ≡ Receiving.Nothing → Becomes handle list es (UdpRecord.Open o) (UdpRecord.Open (walk.receiving_now o inc (receive_start (part_of line n) o.inner bound)))
     begins es n o inc bound e idle q stream is has k =
         let same : q ≡ o = sym (same_open o q is) in
         let its : stream ≡ inc = (let p : Some stream ≡ Some inc = sym has ∙ (ap (λ (x : OpenUdp). x.incoming) same ∙ e) in cc) in
@@ -121,11 +121,11 @@ module _ (handle : ℕ) (list : List IncomingDatagram) (contexts : List WasiSock
     moves_exact es _ _ (walk.Forgets h place r l c g e a) b i = tcp es h place r _ g i
     moves_exact es _ _ (walk.Joins h c its place r l new peer is of u g e a) b i =
         (stream_push_tcp handle list es h.machine.table (tcp2_put h.machine.store.records place (walk.accepting_now r l accepting.Idle)) (joined l new peer) (tcp es h place r (walk.accepting_now r l accepting.Idle) g i).0, i.1)
-    moves_exact es _ _ (walk.UdpChanges h place o now g p keeps) b i = udp es h place (Udp2Socket.Open o) (Udp2Socket.Open now) g (changes es h b place o now g p keeps.incoming (walk.UdpChanges h place o now g p keeps)) i
+    moves_exact es _ _ (walk.UdpChanges h place o now g p keeps) b i = udp es h place (UdpRecord.Open o) (UdpRecord.Open now) g (changes es h b place o now g p keeps.incoming (walk.UdpChanges h place o now g p keeps)) i
     moves_exact es _ _ (walk.BeginsUdpBind h place o a at g to idle own) b i = udp_same es h place o _ g refl refl i
     moves_exact es _ _ (walk.BeginsUdpConnect h place o a at g to bound none own) b i = udp_same es h place o _ g refl refl i
     moves_exact es _ _ (walk.BeginsSend h place n o out d bound at g e is known own) b i = udp_same es h place o _ g refl refl i
-    moves_exact es _ _ (walk.BeginsReceive h place n o inc bound at g e is own) b i = udp es h place (Udp2Socket.Open o) (Udp2Socket.Open _) g (λ live. begins es n o inc bound e is.1) i
+    moves_exact es _ _ (walk.BeginsReceive h place n o inc bound at g e is own) b i = udp es h place (UdpRecord.Open o) (UdpRecord.Open _) g (λ live. begins es n o inc bound e is.1) i
     moves_exact es _ _ (walk.CancelsBind h place r op q g e) b i = tcp es h place r _ g i
     moves_exact es _ _ (walk.CancelsUdpBind h place o op q g e) b i = udp_same es h place o _ g refl refl i
     moves_exact es _ _ (walk.CancelsUdpConnect h place o q g) b i = udp_same es h place o _ g refl refl i
@@ -146,22 +146,22 @@ module _ (handle : ℕ) (list : List IncomingDatagram) (contexts : List WasiSock
     polls_exact es h _ _ (walk.Awaits place r l op g e a) b i = let its : IsAcceptOn l.side l.maker op = subst (HoldsAccept l.side l.maker) a (subst FitListening e (b.0.0.0.records place r g).1) in
         polled_tcp handle list contexts line origin es h place r op (λ ended. walk.accepting_now r l (accept_ended op.who ended)) g (λ side Names. accept_silent side ⊤ Names op.who op.left its.accept.left) i
     polls_exact es h _ _ (walk.UdpCreates place create q g) b i =
-        polled_udp handle list contexts line origin es h place (Udp2Socket.Creating create) create.operation (udp_create_left create) g (λ fs ended. no_stream handle list contexts line origin fs create (udp_create_left create ended))
-        (λ p s. subst (AreSilent s.socket.inner.side ⊤ (HandName (hand_of s.stream.receiving)) create.operation.who) (sym (b.0.0.0.udps place (Udp2Socket.Creating create) g).1) (tt, tt)) i
-    polls_exact es h _ _ (walk.UdpBindsOn place o op q g e) b i = let its : UdpBindOn o.inner.side op = subst (FitUdpProgress o.inner.side) e (b.0.0.0.udps place (Udp2Socket.Open o) g).0 in
-        polled_udp handle list contexts line origin es h place (Udp2Socket.Open o) op (λ ended. Udp2Socket.Open (with_udp_progress o (udp_bind_progress op ended))) g (λ fs ended. stays_so handle list fs o _ refl refl)
+        polled_udp handle list contexts line origin es h place (UdpRecord.Creating create) create.operation (udp_create_left create) g (λ fs ended. no_stream handle list contexts line origin fs create (udp_create_left create ended))
+        (λ p s. subst (AreSilent s.socket.inner.side ⊤ (HandName (hand_of s.stream.receiving)) create.operation.who) (sym (b.0.0.0.udps place (UdpRecord.Creating create) g).1) (tt, tt)) i
+    polls_exact es h _ _ (walk.UdpBindsOn place o op q g e) b i = let its : UdpBindOn o.inner.side op = subst (FitUdpProgress o.inner.side) e (b.0.0.0.udps place (UdpRecord.Open o) g).0 in
+        polled_udp handle list contexts line origin es h place (UdpRecord.Open o) op (λ ended. UdpRecord.Open (with_udp_progress o (udp_bind_progress op ended))) g (λ fs ended. stays_so handle list fs o _ refl refl)
         (λ p s. udp_bind_silent s.socket.inner.side ⊤ (HandName (hand_of s.stream.receiving)) op.who op.left its.bind.left) i
     polls_exact es h _ _ (walk.UdpConnectsOn place o op q g e) b i =
-        let its : UdpConnectOn o.inner.side op = subst (FitConnecting o.inner.side) e (b.0.0.0.udps place (Udp2Socket.Open o) g).1 in
-        let first : IsFirst (Some op.who.id) = subst (λ (x : Option Operation). IsFirst (name_of_op x)) e (b.1.1.connects place (Udp2Socket.Open o) g) in
-        polled_udp handle list contexts line origin es h place (Udp2Socket.Open o) op (λ ended. Udp2Socket.Open (udp_connect_left op o ended)) g (λ fs ended. connecting_none handle list contexts line origin es h b place o op g e fs (Udp2Socket.Open (udp_connect_left op o ended)))
+        let its : UdpConnectOn o.inner.side op = subst (FitConnecting o.inner.side) e (b.0.0.0.udps place (UdpRecord.Open o) g).1 in
+        let first : IsFirst (Some op.who.id) = subst (λ (x : Option Operation). IsFirst (name_of_op x)) e (b.1.1.connects place (UdpRecord.Open o) g) in
+        polled_udp handle list contexts line origin es h place (UdpRecord.Open o) op (λ ended. UdpRecord.Open (udp_connect_left op o ended)) g (λ fs ended. connecting_none handle list contexts line origin es h b place o op g e fs (UdpRecord.Open (udp_connect_left op o ended)))
         (λ p s. udp_connect_silent s.socket.inner.side ⊤ (HandName (hand_of s.stream.receiving)) op.who (λ x. not_first handle list contexts line origin es h b p s op.who.id first) op.left its.connect.left) i
     polls_exact es h _ _ (walk.SendsOn place o out op left g e f s) b i =
-        let its : SendOn o.inner.side op = subst (FitSending o.inner.side) (ap sending_in e ∙ ap send_op f) (b.0.0.0.udps place (Udp2Socket.Open o) g).2 in
-        polled_udp handle list contexts line origin es h place (Udp2Socket.Open o) (at_remote o.inner.remote op) (λ ended. Udp2Socket.Open (record o { outgoing = Some (with_sending out (left ended)) })) g (λ fs ended. stays_so handle list fs o _ refl refl)
+        let its : SendOn o.inner.side op = subst (FitSending o.inner.side) (ap sending_in e ∙ ap send_op f) (b.0.0.0.udps place (UdpRecord.Open o) g).2 in
+        polled_udp handle list contexts line origin es h place (UdpRecord.Open o) (at_remote o.inner.remote op) (λ ended. UdpRecord.Open (record o { outgoing = Some (with_sending out (left ended)) })) g (λ fs ended. stays_so handle list fs o _ refl refl)
         (λ p s. send_silent s.socket.inner.side ⊤ (HandName (hand_of s.stream.receiving)) op.who op.left its.send.left) i
     polls_exact es h _ _ (walk.ReceivesOn place o inc op g e f) b i =
-        receives handle list contexts line origin es h b place o inc op g e f (subst (FitReceiving o.inner.side) (ap receiving_in e ∙ ap receive_op f) (b.0.0.0.udps place (Udp2Socket.Open o) g).3) i
+        receives handle list contexts line origin es h b place o inc op g e f (subst (FitReceiving o.inner.side) (ap receiving_in e ∙ ap receive_op f) (b.0.0.0.udps place (UdpRecord.Open o) g).3) i
 
     -- == marks
     -- of anything but an incoming stream
@@ -178,7 +178,7 @@ module _ (handle : ℕ) (list : List IncomingDatagram) (contexts : List WasiSock
         ))
 
     -- that of a new stream: nothing was received on it
-    module _ (es : List Entry) (h : Here) (b : B es h) (place n socket : ℕ) (o : OpenUdp) (at : FoundUdp h place (Udp2Socket.Open o)) (new : o.incoming ≡ Some (record { remote = o.inner.remote; receiving = Receiving.Nothing })) (i : Inv es h) where
+    module _ (es : List Entry) (h : Here) (b : B es h) (place n socket : ℕ) (o : OpenUdp) (at : FoundUdp h place (UdpRecord.Open o)) (new : o.incoming ≡ Some (record { remote = o.inner.remote; receiving = Receiving.Nothing })) (i : Inv es h) where
       abbrev mark : ℕ → Told → Entry
       mark number told = entry (own_of n) (Call.Made number (name_of (Incoming place)) (Some socket) (Some o.inner.side)) told
 
@@ -191,7 +191,7 @@ module _ (handle : ℕ) (list : List IncomingDatagram) (contexts : List WasiSock
         knows = record {
           later = [];
           marked = record { front = es; op = own_of n; parent = Some socket; told = told; cut = ap (λ (number : ℕ). es ++ mark number told ∷ []) its };
-          reported = (let keeps : OpenKeeps es o = b.0.1.udps place (Udp2Socket.Open o) at in keeps.remote);
+          reported = (let keeps : OpenKeeps es o = b.0.1.udps place (UdpRecord.Open o) at in keeps.remote);
           all = sym (i.1 (omega (arith, its)));
           left = refl;
           one = tt;
@@ -219,7 +219,7 @@ module _ (handle : ℕ) (list : List IncomingDatagram) (contexts : List WasiSock
     marks_next es h b place n socket reached kind (inl (e, made)) new of i =
         let under : Under h = (apart_in contexts line origin es h b.1.0).1.1 in
         let same : place ≡ reached = (subst (MakesUnder h.machine.table) made under.makes).of place of in
-        let at : FoundUdp h place (Udp2Socket.Open new.socket) = ap (udp2_at h.machine.store.records) same ∙ new.at in
+        let at : FoundUdp h place (UdpRecord.Open new.socket) = ap (udp2_at h.machine.store.records) same ∙ new.at in
         subst (λ (k : Kind). Allows Anything (λ fs made. StreamIs handle list fs made.1 h.machine.store.records × IsFresh handle list made.1) es (make_asks h.machine.table (own_of n) k (Some socket) (udp_side_at (udp2_at h.machine.store.records place)))) (sym e)
         (subst (λ (sock : Option OpId). Allows Anything (λ fs made. StreamIs handle list fs made.1 h.machine.store.records × IsFresh handle list made.1) es (make_asks h.machine.table (own_of n) (Incoming place) (Some socket) sock)) (sym (ap udp_side_at at))
         (marks_new es h b place n socket new.socket at new.new i))
@@ -246,7 +246,7 @@ module _ (handle : ℕ) (list : List IncomingDatagram) (contexts : List WasiSock
         (marks_other es h own (Tcp2 (length h.machine.store.records)) None (side_of socket) tt i) (λ fs made k. (stream_push_tcp handle list fs made.1 h.machine.store.records (new_record socket) k.0, k.1))
 
     pub begun : (es : List Entry) (h : Here) (made : Result Create ErrorCode) → Inv es h → Inv es (udp_begun h made)
-    begun es h (Ok create) i = (stream_push handle list es h.machine.table h.machine.store.records (Udp2Socket.Creating create) i.0, i.1)
+    begun es h (Ok create) i = (stream_push handle list es h.machine.table h.machine.store.records (UdpRecord.Creating create) i.0, i.1)
     begun es h (Err c) i = i
 
     -- one ask that does nothing to it
@@ -258,11 +258,11 @@ module _ (handle : ℕ) (list : List IncomingDatagram) (contexts : List WasiSock
     silent es h asks n i = quietly handle list contexts line origin h (λ a. h.machine.store.records) es asks i (λ fs a place e s. s) (λ place e s. n s.socket.inner.side (HandName (hand_of s.stream.receiving)))
 
     -- a write is on a network socket of TCP, and has the first name of its line
-    pub writer_apart : (es : List Entry) (h : Here) (b : B es h) (k : ℕ) (r : Tcp2Socket) (s : Streams) → Found h k r → r.streams ≡ Some s → (place : ℕ) (st : StreamAt handle list es h.machine.store.records place) → WritesApart st.socket.inner.side ⊤ (HandName (hand_of st.stream.receiving)) s.writer
+    pub writer_apart : (es : List Entry) (h : Here) (b : B es h) (k : ℕ) (r : TcpRecord) (s : Streams) → Found h k r → r.streams ≡ Some s → (place : ℕ) (st : StreamAt handle list es h.machine.store.records place) → WritesApart st.socket.inner.side ⊤ (HandName (hand_of st.stream.receiving)) s.writer
     writer_apart es h b k r s g e place st = by_writer s.writer (b.0.1.tcps k r g s e).1 (subst (λ (x : Option Streams). IsFirst (streams_name x)) e (b.1.1.writes k r g))
       where
         apart : (job : Job) → r.side ≡ Some job.write.who.side → IsFirst (Some job.write.who.id) → IsApart st.socket.inner.side ⊤ (HandName (hand_of st.stream.receiving)) job.write.who
-        apart job made first x = ((λ d. b.0.0.1.udps.apart job.write.who.side k place r (Udp2Socket.Open st.socket) g st.at (inl made) (sym d)), (λ d. not_first handle list contexts line origin es h b place st job.write.who.id first d))
+        apart job made first x = ((λ d. b.0.0.1.udps.apart job.write.who.side k place r (UdpRecord.Open st.socket) g st.at (inl made) (sym d)), (λ d. not_first handle list contexts line origin es h b place st job.write.who.id first d))
 
         by_writer : (w : WriteState) → WritesBy r.side w → IsFirst (job_name w) → WritesApart st.socket.inner.side ⊤ (HandName (hand_of st.stream.receiving)) w
         by_writer (WriteState.Writing job) made first = apart job made.0 first
@@ -271,12 +271,12 @@ module _ (handle : ℕ) (list : List IncomingDatagram) (contexts : List WasiSock
         by_writer (WriteState.Closed c) made first = tt
 
     -- a socket that is closed has no live stream
-    pub closed_none : (es : List Entry) (h : Here) (b : B es h) (k : ℕ) (o : OpenUdp) (q : walk.ReleasesUdp h k) (g : FoundUdp h k (Udp2Socket.Open o)) (told : Told) → Fits (Call.Close o.inner.side) told → kind_at h.machine.table handle ≡ Some (Incoming k) → ⊥
+    pub closed_none : (es : List Entry) (h : Here) (b : B es h) (k : ℕ) (o : OpenUdp) (q : walk.ReleasesUdp h k) (g : FoundUdp h k (UdpRecord.Open o)) (told : Told) → Fits (Call.Close o.inner.side) told → kind_at h.machine.table handle ≡ Some (Incoming k) → ⊥
     closed_none es h b k o q g told f live =
-        let after : Here = put_udp h k (Udp2Socket.Closed o.inner.side) in
+        let after : Here = put_udp h k (UdpRecord.Closed o.inner.side) in
         let s : SlotOf h.machine.table.live handle (Incoming k) = slot_of h.machine.table.live handle (Incoming k) live in
         let has = (apart_of handle list contexts line origin _ after (((streams_law contexts line origin).asks es h _ _ _ (UdpCloses k o q g) tt b.1.0).1 told f)).there s.slot k s.live_one s.value in
-        let p : Some (Udp2Socket.Closed o.inner.side) ≡ Some (Udp2Socket.Open has.socket) = sym (put_finds udp_sort h.machine.store.records k (Udp2Socket.Open o) (Udp2Socket.Closed o.inner.side) g) ∙ has.at in
+        let p : Some (UdpRecord.Closed o.inner.side) ≡ Some (UdpRecord.Open has.socket) = sym (put_finds udp_sort h.machine.store.records k (UdpRecord.Open o) (UdpRecord.Closed o.inner.side) g) ∙ has.at in
         absurd (cc)
 
     -- the law: the calls may be any
@@ -296,12 +296,12 @@ module _ (handle : ℕ) (list : List IncomingDatagram) (contexts : List WasiSock
     exacts_asks es h _ _ _ (UdpQuestions place n o c at g q) b i = (tt, λ told f. asked es h (own_of n) c told (udp_question_else line origin n o.inner.side c q) i)
     exacts_asks es h _ _ _ (UdpLearns place part o at g) b i = (tt, λ told f. udp_same _ h place o _ g (learnt_side o.inner (told_addr told)) refl (asked es h (part_of line part) (Call.Local o.inner.side) told tt i))
     exacts_asks es h _ _ _ (UdpPeers place o at g) b i = (tt, λ told f. udp_same _ h place o _ g refl refl (asked es h (own_of line) (Call.Peer o.inner.side) told tt i))
-    exacts_asks es h _ _ _ (UdpCloses place o q g) b i = (tt, λ told f. udp _ h place (Udp2Socket.Open o) (Udp2Socket.Closed o.inner.side) g (λ live. absurd (closed_none es h b place o q g told f live)) (asked es h (own_of line) (Call.Close o.inner.side) told tt i))
+    exacts_asks es h _ _ _ (UdpCloses place o q g) b i = (tt, λ told f. udp _ h place (UdpRecord.Open o) (UdpRecord.Closed o.inner.side) g (λ live. absurd (closed_none es h b place o q g told f live)) (asked es h (own_of line) (Call.Close o.inner.side) told tt i))
     exacts_asks es h _ _ _ (UdpBegins ctx family c may a o m) b i = (tt, λ told f. begun _ h (udp_after_create (own_of line) ctx.name family (told_done told)) (asked es h (own_of line) (Call.UdpCreate ctx.name family) told tt i))
     exacts_asks es h _ _ _ (MarksUdp place u g) b i = marks_other es h (udp_side u) (Udp2 place) None (Some (udp_side u)) tt i
     exacts_asks es h _ _ _ (MarksStream place n socket reached kind next new of) b i = marks_next es h b place n socket reached kind next new of i
     exacts_asks es h _ _ _ (MarksError n its place handles m k e f) b i = marks_other es h (own_of n) ErrorValue (Some its) (side_at (tcp2_at h.machine.store.records place)) tt i
-    exacts_asks es h _ _ _ (UdpGivesUp place create q g) b i = quietly handle list contexts line origin h (λ done. udp2_put h.machine.store.records place (Udp2Socket.Closed create.operation.who.side)) es (create_cancel_asks create) i (λ fs done p live st. put_at handle list fs h.machine.table h.machine.store.records place p (Udp2Socket.Creating create) (Udp2Socket.Closed create.operation.who.side) g live (λ same. no_stream handle list contexts line origin fs create (Udp2Socket.Closed create.operation.who.side)) st) (λ p live st. cancelled_silent st.socket.inner.side ⊤ (HandName (hand_of st.stream.receiving)) es create)
+    exacts_asks es h _ _ _ (UdpGivesUp place create q g) b i = quietly handle list contexts line origin h (λ done. udp2_put h.machine.store.records place (UdpRecord.Closed create.operation.who.side)) es (create_cancel_asks create) i (λ fs done p live st. put_at handle list fs h.machine.table h.machine.store.records place p (UdpRecord.Creating create) (UdpRecord.Closed create.operation.who.side) g live (λ same. no_stream handle list contexts line origin fs create (UdpRecord.Closed create.operation.who.side)) st) (λ p live st. cancelled_silent st.socket.inner.side ⊤ (HandName (hand_of st.stream.receiving)) es create)
     exacts_asks es h _ _ _ (Resolves host records l same) b i = (tt, λ told f. (stream_same handle list _ h.machine.table h.machine.store.records (records told) (same told) (asked es h (own_of line) (Call.Lookup host) told tt i).0, i.1))
     exacts_asks es h _ _ _ (Looks place op g) b i = (tt, λ told f. asked es h op.id (Call.Lookup op.host) told tt i)
 

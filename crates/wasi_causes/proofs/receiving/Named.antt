@@ -1,6 +1,6 @@
 -- The names of operations: a receive in progress has a name of its own, which isn't a line's first one; a connect of a UDP socket and a
 -- write have the first one of their line.
-use Rattle.wasi_causes.proofs.Words.{Done, End, Given, Item, List, None, OpId, Operation, Option, Refused, Some, Streams, Tcp2Socket, Waits, WriteState, ap, collected, inl, inr, refl, subst, sym, ℕ, ⊤, ◌∙◌, ◌≡◌, ◌⊎◌}
+use Rattle.wasi_causes.proofs.Words.{Done, End, Given, Item, List, None, OpId, Operation, Option, Refused, Some, Streams, TcpRecord, Waits, WriteState, ap, collected, inl, inr, refl, subst, sym, ℕ, ⊤, ◌∙◌, ◌≡◌, ◌⊎◌}
 use Rattle.wasi_walks.proofs.Words.{closed_by, written_by, ◌≤◌}
 use Rattle.wasi_world.specs.Operation as item
 use Rattle.wasi_records.specs.Receiving.{receive_left}
@@ -8,7 +8,7 @@ use Rattle.wasi_records.specs.Numbered.{record_gone}
 use Rattle.wasi_records.specs.Records.{tcp2_at, tcp2_of, tcp2_put, tcp2_pushed, udp2_at, udp2_of, udp2_put, udp2_pushed}
 use Rattle.wasi_records.specs.declared.name_lookup.LookupOp.{LookupOp}
 use Rattle.wasi_records.specs.declared.records.Record.{Record}
-use Rattle.wasi_records.specs.declared.udp.Udp2Socket.{Udp2Socket}
+use Rattle.wasi_records.specs.declared.udp.UdpRecord.{UdpRecord}
 use Rattle.wasi_walks.proofs.GoneLists.{was_there}
 use Rattle.wasi_walks.proofs.walks.Here.{Grows, IsOlder}
 use Rattle.wasi_walks.proofs.walks.Moves.{Collects, Closes, KeepsOp, Lasts, LastsAfter, Names, Own, Permits, SameSockets, WriterMoves, receive_op, receiving_in}
@@ -19,12 +19,12 @@ abbrev pub name_of_op : Option Operation → Option OpId
 name_of_op (Some op) = Some op.who.id
 name_of_op None = None
 
-abbrev pub receive_name : Udp2Socket → Option OpId
-receive_name (Udp2Socket.Open o) = name_of_op (receiving_in o.incoming)
+abbrev pub receive_name : UdpRecord → Option OpId
+receive_name (UdpRecord.Open o) = name_of_op (receiving_in o.incoming)
 receive_name u = None
 
-abbrev pub connect_name : Udp2Socket → Option OpId
-connect_name (Udp2Socket.Open o) = name_of_op o.connecting
+abbrev pub connect_name : UdpRecord → Option OpId
+connect_name (UdpRecord.Open o) = name_of_op o.connecting
 connect_name u = None
 
 abbrev pub job_name : WriteState → Option OpId
@@ -48,10 +48,10 @@ GivesLater own = ⊤
 
 -- == of all of them
 pub record NamesApart (line : ℕ) (own : Own) (records : List Record) : Type 0 where
-  pub later : (k : ℕ) (u : Udp2Socket) (x : OpId) → udp2_at records k ≡ Some u → receive_name u ≡ Some x → (1 ≤ x.part) × IsOlder line own x
-  pub apart : (i k : ℕ) (u v : Udp2Socket) (x : OpId) → udp2_at records i ≡ Some u → udp2_at records k ≡ Some v → receive_name u ≡ Some x → receive_name v ≡ Some x → i ≡ k
-  pub connects : (k : ℕ) (u : Udp2Socket) → udp2_at records k ≡ Some u → IsFirst (connect_name u)
-  pub writes : (k : ℕ) (r : Tcp2Socket) → tcp2_at records k ≡ Some r → IsFirst (streams_name r.streams)
+  pub later : (k : ℕ) (u : UdpRecord) (x : OpId) → udp2_at records k ≡ Some u → receive_name u ≡ Some x → (1 ≤ x.part) × IsOlder line own x
+  pub apart : (i k : ℕ) (u v : UdpRecord) (x : OpId) → udp2_at records i ≡ Some u → udp2_at records k ≡ Some v → receive_name u ≡ Some x → receive_name v ≡ Some x → i ≡ k
+  pub connects : (k : ℕ) (u : UdpRecord) → udp2_at records k ≡ Some u → IsFirst (connect_name u)
+  pub writes : (k : ℕ) (r : TcpRecord) → tcp2_at records k ≡ Some r → IsFirst (streams_name r.streams)
   pub gives : GivesLater own
 
 module _ (line : ℕ) where
@@ -61,28 +61,28 @@ module _ (line : ℕ) where
 
   module _ (own : Own) (records : List Record) where
     -- a TCP socket changes, or joins them
-    pub put_tcp : (place : ℕ) (now : Tcp2Socket) → IsFirst (streams_name now.streams) → NamesApart line own records → NamesApart line own (tcp2_put records place now)
+    pub put_tcp : (place : ℕ) (now : TcpRecord) → IsFirst (streams_name now.streams) → NamesApart line own records → NamesApart line own (tcp2_put records place now)
     put_tcp place now f i = record {
       later = λ k u x e r. i.later k u x (put_was tcp_sort udp_sort (λ t. refl) records place now k u e) r;
       apart = λ a b u v x e g r s. i.apart a b u v x (put_was tcp_sort udp_sort (λ t. refl) records place now a u e) (put_was tcp_sort udp_sort (λ t. refl) records place now b v g) r s;
       connects = λ k u e. i.connects k u (put_was tcp_sort udp_sort (λ t. refl) records place now k u e);
-      writes = λ k r e. elim (put_found tcp_sort records place now k r e) [ inl p ↦ subst (λ (q : Tcp2Socket). IsFirst (streams_name q.streams)) p.1 f | inr p ↦ i.writes k r p ];
+      writes = λ k r e. elim (put_found tcp_sort records place now k r e) [ inl p ↦ subst (λ (q : TcpRecord). IsFirst (streams_name q.streams)) p.1 f | inr p ↦ i.writes k r p ];
       gives = i.gives;
     }
 
-    pub push_tcp : (now : Tcp2Socket) → IsFirst (streams_name now.streams) → NamesApart line own records → NamesApart line own (tcp2_pushed records now)
+    pub push_tcp : (now : TcpRecord) → IsFirst (streams_name now.streams) → NamesApart line own records → NamesApart line own (tcp2_pushed records now)
     push_tcp now f i = record {
       later = λ k u x e r. i.later k u x (push_was tcp_sort udp_sort (λ t. refl) records now k u e) r;
       apart = λ a b u v x e g r s. i.apart a b u v x (push_was tcp_sort udp_sort (λ t. refl) records now a u e) (push_was tcp_sort udp_sort (λ t. refl) records now b v g) r s;
       connects = λ k u e. i.connects k u (push_was tcp_sort udp_sort (λ t. refl) records now k u e);
-      writes = λ k r e. elim (push_new tcp_sort records now k r e) [ inl p ↦ i.writes k r p | inr p ↦ subst (λ (q : Tcp2Socket). IsFirst (streams_name q.streams)) p f ];
+      writes = λ k r e. elim (push_new tcp_sort records now k r e) [ inl p ↦ i.writes k r p | inr p ↦ subst (λ (q : TcpRecord). IsFirst (streams_name q.streams)) p f ];
       gives = i.gives;
     }
 
     -- a UDP socket changes: its receive has the name that it had, or is over
-    module _ (place : ℕ) (old now : Udp2Socket) (at : udp2_at records place ≡ Some old) (names : (receive_name now ≡ receive_name old) ⊎ (receive_name now ≡ None)) (i : NamesApart line own records) where
+    module _ (place : ℕ) (old now : UdpRecord) (at : udp2_at records place ≡ Some old) (names : (receive_name now ≡ receive_name old) ⊎ (receive_name now ≡ None)) (i : NamesApart line own records) where
       -- it had the name before
-      had : (k : ℕ) (u : Udp2Socket) (x : OpId) → udp2_at (udp2_put records place now) k ≡ Some u → receive_name u ≡ Some x → (v : Udp2Socket) × ((udp2_at records k ≡ Some v) × (receive_name v ≡ Some x))
+      had : (k : ℕ) (u : UdpRecord) (x : OpId) → udp2_at (udp2_put records place now) k ≡ Some u → receive_name u ≡ Some x → (v : UdpRecord) × ((udp2_at records k ≡ Some v) × (receive_name v ≡ Some x))
       had k u x e r = elim (put_found udp_sort records place now k u e) [
         | inl p ↦ elim names [
           | inl same ↦ (old, (ap (udp2_at records) p.0 ∙ at, sym same ∙ (ap receive_name p.1 ∙ r)))
@@ -95,13 +95,13 @@ module _ (line : ℕ) where
       put_udps f = record {
         later = λ k u x e r. (let h = had k u x e r in i.later k h.0 x h.1.0 h.1.1);
         apart = λ a b u v x e g r s. (let h = had a u x e r in let j = had b v x g s in i.apart a b h.0 j.0 x h.1.0 j.1.0 h.1.1 j.1.1);
-        connects = λ k u e. elim (put_found udp_sort records place now k u e) [ inl p ↦ subst (λ (v : Udp2Socket). IsFirst (connect_name v)) p.1 f | inr p ↦ i.connects k u p ];
+        connects = λ k u e. elim (put_found udp_sort records place now k u e) [ inl p ↦ subst (λ (v : UdpRecord). IsFirst (connect_name v)) p.1 f | inr p ↦ i.connects k u p ];
         writes = λ k r e. i.writes k r (put_was udp_sort tcp_sort (λ t. refl) records place now k r e);
         gives = i.gives;
       }
 
     -- a receive begins, by a name that was never given
-    pub begins_apart : (place : ℕ) (now : Udp2Socket) (x : OpId) (next : Own) → receive_name now ≡ Some x → IsFirst (connect_name now) → 1 ≤ x.part → (IsOlder line own x → ⊥) → IsOlder line next x → Grows line own next → GivesLater next
+    pub begins_apart : (place : ℕ) (now : UdpRecord) (x : OpId) (next : Own) → receive_name now ≡ Some x → IsFirst (connect_name now) → 1 ≤ x.part → (IsOlder line own x → ⊥) → IsOlder line next x → Grows line own next → GivesLater next
         → NamesApart line own records → NamesApart line next (udp2_put records place now)
     begins_apart place now x next its f part new given l g i = record {
       later = λ k u y e r. elim (put_found udp_sort records place now k u e) [
@@ -112,7 +112,7 @@ module _ (line : ℕ) where
         | inl p ↦ elim (put_found udp_sort records place now b v h) [ inl q ↦ p.0 ∙ sym q.0 | inr q ↦ absurd (new (subst (IsOlder line own) (sym (same y (ap receive_name p.1 ∙ r))) (i.later b v y q s).1)) ]
         | inr p ↦ elim (put_found udp_sort records place now b v h) [ inl q ↦ absurd (new (subst (IsOlder line own) (sym (same y (ap receive_name q.1 ∙ s))) (i.later a u y p r).1)) | inr q ↦ i.apart a b u v y p q r s ]
       ];
-      connects = λ k u e. elim (put_found udp_sort records place now k u e) [ inl p ↦ subst (λ (v : Udp2Socket). IsFirst (connect_name v)) p.1 f | inr p ↦ i.connects k u p ];
+      connects = λ k u e. elim (put_found udp_sort records place now k u e) [ inl p ↦ subst (λ (v : UdpRecord). IsFirst (connect_name v)) p.1 f | inr p ↦ i.connects k u p ];
       writes = λ k r e. i.writes k r (put_was udp_sort tcp_sort (λ t. refl) records place now k r e);
       gives = g;
     }
@@ -121,19 +121,19 @@ module _ (line : ℕ) where
         same y e = let q : Some x ≡ Some y = sym its ∙ e in cc
 
     -- a UDP socket joins them, which does nothing yet
-    pub push_udps : (now : Udp2Socket) → receive_name now ≡ None → IsFirst (connect_name now) → NamesApart line own records → NamesApart line own (udp2_pushed records now)
+    pub push_udps : (now : UdpRecord) → receive_name now ≡ None → IsFirst (connect_name now) → NamesApart line own records → NamesApart line own (udp2_pushed records now)
     push_udps now none f i = record {
       later = λ k u x e r. elim (push_found udp_sort records now k u e) [ inl p ↦ i.later k u x p r | inr p ↦ absurd (no_name u x p.0 r) ];
       apart = λ a b u v x e g r s. elim (push_found udp_sort records now a u e) [
         | inl p ↦ elim (push_found udp_sort records now b v g) [ inl q ↦ i.apart a b u v x p q r s | inr q ↦ absurd (no_name v x q.0 s) ]
         | inr p ↦ absurd (no_name u x p.0 r)
       ];
-      connects = λ k u e. elim (push_found udp_sort records now k u e) [ inl p ↦ i.connects k u p | inr p ↦ subst (λ (v : Udp2Socket). IsFirst (connect_name v)) p.0 f ];
+      connects = λ k u e. elim (push_found udp_sort records now k u e) [ inl p ↦ i.connects k u p | inr p ↦ subst (λ (v : UdpRecord). IsFirst (connect_name v)) p.0 f ];
       writes = λ k r e. i.writes k r (push_was udp_sort tcp_sort (λ t. refl) records now k r e);
       gives = i.gives;
     }
       where
-        no_name : (u : Udp2Socket) (x : OpId) → now ≡ u → receive_name u ≡ Some x → ⊥
+        no_name : (u : UdpRecord) (x : OpId) → now ≡ u → receive_name u ≡ Some x → ⊥
         no_name u x e r = let q : None ≡ Some x = sym none ∙ (ap receive_name e ∙ r) in absurd (cc)
 
     -- the sockets among them stay the same

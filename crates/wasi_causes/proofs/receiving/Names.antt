@@ -1,13 +1,13 @@
 -- The law that names of receives in progress are apart, from one another and from those of connects and writes.
 use Rattle.wasi_walks.proofs.walks.Law.{BeginsWrites, InCall, Rests}
-use Rattle.wasi_causes.proofs.Words.{Allows, Done, End, Entry, Err, ErrorCode, Item, Job, List, None, Ok, Operation, Option, Refused, Result, Some, Step, Tcp2Socket, Waits, WasiSocketsCtx, WriteState, allows_then, ap, arith, inl, inr, job_asks, job_in, own_of, poll_asks, refl, subst, sym, turn_asks, with_writer, ℕ, ⊤, ◌+◌, ◌∙◌, ◌≡◌}
+use Rattle.wasi_causes.proofs.Words.{Allows, Done, End, Entry, Err, ErrorCode, Item, Job, List, None, Ok, Operation, Option, Refused, Result, Some, Step, TcpRecord, Waits, WasiSocketsCtx, WriteState, allows_then, ap, arith, inl, inr, job_asks, job_in, own_of, poll_asks, refl, subst, sym, turn_asks, with_writer, ℕ, ⊤, ◌+◌, ◌∙◌, ◌≡◌}
 use Rattle.wasi_udp.specs.Create.{Create, after_create as udp_after_create}
 use Rattle.wasi_records.specs.Datagrams.{udp_connect_left}
 use Rattle.wasi_records.specs.Receiving.{receive_left, with_receiving}
 use Rattle.wasi_records.specs.Udp.{udp_create_left}
 use Rattle.wasi_records.specs.declared.datagrams.Receiving.{Receiving}
 use Rattle.wasi_records.specs.declared.udp.OpenUdp.{OpenUdp}
-use Rattle.wasi_records.specs.declared.udp.Udp2Socket.{Udp2Socket}
+use Rattle.wasi_records.specs.declared.udp.UdpRecord.{UdpRecord}
 use Rattle.wasi_walks.proofs.Words.{allows_weaker}
 use Rattle.wasi_walks.proofs.fits.Law.{whatever}
 use Rattle.wasi_walks.proofs.fits.Polls.{Anything}
@@ -25,7 +25,7 @@ module _ (contexts : List WasiSocketsCtx) (line : ℕ) (origin : Step) where
   Apart h = NamesApart line h.own h.machine.store.records
 
   -- the streams are as they were
-  pub tcp_stays : (h : Here) (place : ℕ) (r now : Tcp2Socket) → walk.Found h place r → now.streams ≡ r.streams → Apart h → Apart (put h place now)
+  pub tcp_stays : (h : Here) (place : ℕ) (r now : TcpRecord) → walk.Found h place r → now.streams ≡ r.streams → Apart h → Apart (put h place now)
   tcp_stays h place r now g e i = put_tcp line h.own h.machine.store.records place now (subst (λ (s : Option _). IsFirst (streams_name s)) (sym e) (i.writes place r g)) i
 
   -- the line has begun something
@@ -36,18 +36,18 @@ module _ (contexts : List WasiSocketsCtx) (line : ℕ) (origin : Step) where
   connects : (h : Here) (place : ℕ) → Apart h → Apart (record h { own = ToConnect place })
   connects h place i = owns_apart line h.own (ToConnect place) h.machine.store.records (older_used line h.own) tt i
 
-  tcp_used : (h : Here) (place : ℕ) (r now : Tcp2Socket) → walk.Found h place r → now.streams ≡ r.streams → Apart h → Apart (record (put h place now) { own = Used })
+  tcp_used : (h : Here) (place : ℕ) (r now : TcpRecord) → walk.Found h place r → now.streams ≡ r.streams → Apart h → Apart (record (put h place now) { own = Used })
   tcp_used h place r now g e i = used (put h place now) (tcp_stays h place r now g e i)
 
-  pub tcp_none : (h : Here) (place : ℕ) (now : Tcp2Socket) → now.streams ≡ None → Apart h → Apart (put h place now)
+  pub tcp_none : (h : Here) (place : ℕ) (now : TcpRecord) → now.streams ≡ None → Apart h → Apart (put h place now)
   tcp_none h place now e i = put_tcp line h.own h.machine.store.records place now (subst (λ (s : Option _). IsFirst (streams_name s)) (sym e) tt) i
 
   -- a UDP socket whose receive and connect are as they were
-  pub udp_stays : (h : Here) (place : ℕ) (o now : OpenUdp) → FoundUdp h place (Udp2Socket.Open o) → now.incoming ≡ o.incoming → now.connecting ≡ o.connecting → Apart h → Apart (put_udp h place (Udp2Socket.Open now))
+  pub udp_stays : (h : Here) (place : ℕ) (o now : OpenUdp) → FoundUdp h place (UdpRecord.Open o) → now.incoming ≡ o.incoming → now.connecting ≡ o.connecting → Apart h → Apart (put_udp h place (UdpRecord.Open now))
   udp_stays h place o now g e f i =
-      put_udps line h.own h.machine.store.records place (Udp2Socket.Open o) (Udp2Socket.Open now) g (inl (ap (λ (x : Option _). name_of_op (walk.receiving_in x)) e)) i (subst (λ (x : Option Operation). IsFirst (name_of_op x)) (sym f) (i.connects place (Udp2Socket.Open o) g))
+      put_udps line h.own h.machine.store.records place (UdpRecord.Open o) (UdpRecord.Open now) g (inl (ap (λ (x : Option _). name_of_op (walk.receiving_in x)) e)) i (subst (λ (x : Option Operation). IsFirst (name_of_op x)) (sym f) (i.connects place (UdpRecord.Open o) g))
 
-  pub udp_other : (h : Here) (place : ℕ) (u now : Udp2Socket) → FoundUdp h place u → receive_name now ≡ None → IsFirst (connect_name now) → Apart h → Apart (put_udp h place now)
+  pub udp_other : (h : Here) (place : ℕ) (u now : UdpRecord) → FoundUdp h place u → receive_name now ≡ None → IsFirst (connect_name now) → Apart h → Apart (put_udp h place now)
   udp_other h place u now g e f i = put_udps line h.own h.machine.store.records place u now g (inr e) i f
 
   next_gives : (own : Own) (n : ℕ) → own ≡ Names n → GivesLater own → GivesLater (Names (n + 1))
@@ -72,18 +72,18 @@ module _ (contexts : List WasiSocketsCtx) (line : ℕ) (origin : Step) where
   moves_apart _ _ (walk.Forgets h place r l c g e a) i = tcp_stays h place r _ g refl i
   moves_apart _ _ (walk.Joins h c handle place r l new peer is of u g e a) i = push_tcp line h.own _ (joined l new peer) tt (tcp_stays h place r _ g refl i)
   moves_apart _ _ (walk.UdpChanges h place o now g p keeps) i =
-      put_udps line h.own h.machine.store.records place (Udp2Socket.Open o) (Udp2Socket.Open now) g (kept_name (walk.receiving_in o.incoming) (walk.receiving_in now.incoming) p.receives) i (subst (λ (x : Option Operation). IsFirst (name_of_op x)) (sym p.connects) (i.connects place (Udp2Socket.Open o) g))
+      put_udps line h.own h.machine.store.records place (UdpRecord.Open o) (UdpRecord.Open now) g (kept_name (walk.receiving_in o.incoming) (walk.receiving_in now.incoming) p.receives) i (subst (λ (x : Option Operation). IsFirst (name_of_op x)) (sym p.connects) (i.connects place (UdpRecord.Open o) g))
   moves_apart _ _ (walk.BeginsUdpBind h place o a at g to idle own) i = used (put_udp h place _) (udp_stays h place o _ g refl refl i)
-  moves_apart _ _ (walk.BeginsUdpConnect h place o a at g to bound none own) i = connects (put_udp h place _) place (put_udps line h.own h.machine.store.records place (Udp2Socket.Open o) (Udp2Socket.Open _) g (inl refl) i refl)
+  moves_apart _ _ (walk.BeginsUdpConnect h place o a at g to bound none own) i = connects (put_udp h place _) place (put_udps line h.own h.machine.store.records place (UdpRecord.Open o) (UdpRecord.Open _) g (inl refl) i refl)
   moves_apart _ _ (walk.RecallsStreams h ids place handle e own) i = connects h place i
   moves_apart _ _ (walk.EndsConnect h place own over) i = used h i
   moves_apart _ _ (walk.BeginsSend h place n o out d bound at g e is known own) i = owns_apart line h.own (Names (n + 1)) _ (next_grows line n h.own own) (next_gives h.own n own i.gives) (udp_stays h place o _ g refl refl i)
   moves_apart _ _ (walk.BeginsReceive h place n o inc bound at g e is own) i =
       let first : GivesLater (Names n) = subst GivesLater own i.gives in
-      begins_apart line h.own h.machine.store.records place (Udp2Socket.Open _) (part_of line n) (Names (n + 1)) refl (i.connects place (Udp2Socket.Open o) g) first (λ old. not_given line h.own (part_of line n) old (next_to_come line n h.own own)) (next_given line n) (next_grows line n h.own own) (next_gives h.own n own i.gives) i
+      begins_apart line h.own h.machine.store.records place (UdpRecord.Open _) (part_of line n) (Names (n + 1)) refl (i.connects place (UdpRecord.Open o) g) first (λ old. not_given line h.own (part_of line n) old (next_to_come line n h.own own)) (next_given line n) (next_grows line n h.own own) (next_gives h.own n own i.gives) i
   moves_apart _ _ (walk.CancelsBind h place r op q g e) i = tcp_stays h place r _ g refl i
   moves_apart _ _ (walk.CancelsUdpBind h place o op q g e) i = udp_stays h place o _ g refl refl i
-  moves_apart _ _ (walk.CancelsUdpConnect h place o q g) i = put_udps line h.own h.machine.store.records place (Udp2Socket.Open o) (Udp2Socket.Open _) g (inl refl) i tt
+  moves_apart _ _ (walk.CancelsUdpConnect h place o q g) i = put_udps line h.own h.machine.store.records place (UdpRecord.Open o) (UdpRecord.Open _) g (inl refl) i tt
   moves_apart _ _ (walk.GivesBack h place idle left) i = fewer_apart line h.own h.machine.store.records place i
   moves_apart _ _ (walk.Finds h records s) i = same_apart line h.own h.machine.store.records records s i
   moves_apart _ _ _ i = record { later = i.later; apart = i.apart; connects = i.connects; writes = i.writes; gives = i.gives }
@@ -95,15 +95,15 @@ module _ (contexts : List WasiSocketsCtx) (line : ℕ) (origin : Step) where
   created_none create (Refused c given, items) = (refl, tt)
 
   -- a connect that is polled keeps its name, and a stream that is made receives nothing yet
-  connected : (h : Here) (place : ℕ) (o : OpenUdp) (op : Operation) (ended : End × List Item) → FoundUdp h place (Udp2Socket.Open o) → o.connecting ≡ Some op → Apart h → Apart (put_udp h place (Udp2Socket.Open (udp_connect_left op o ended)))
-  connected h place o op (Waits, items) g e i = put_udps line h.own h.machine.store.records place (Udp2Socket.Open o) (Udp2Socket.Open _) g (inl refl) i (subst (λ (x : Option Operation). IsFirst (name_of_op x)) e (i.connects place (Udp2Socket.Open o) g))
-  connected h place o op (Done given, items) g e i = udp_other h place (Udp2Socket.Open o) (Udp2Socket.Open _) g refl tt i
-  connected h place o op (Refused c given, items) g e i = put_udps line h.own h.machine.store.records place (Udp2Socket.Open o) (Udp2Socket.Open _) g (inl refl) i tt
+  connected : (h : Here) (place : ℕ) (o : OpenUdp) (op : Operation) (ended : End × List Item) → FoundUdp h place (UdpRecord.Open o) → o.connecting ≡ Some op → Apart h → Apart (put_udp h place (UdpRecord.Open (udp_connect_left op o ended)))
+  connected h place o op (Waits, items) g e i = put_udps line h.own h.machine.store.records place (UdpRecord.Open o) (UdpRecord.Open _) g (inl refl) i (subst (λ (x : Option Operation). IsFirst (name_of_op x)) e (i.connects place (UdpRecord.Open o) g))
+  connected h place o op (Done given, items) g e i = udp_other h place (UdpRecord.Open o) (UdpRecord.Open _) g refl tt i
+  connected h place o op (Refused c given, items) g e i = put_udps line h.own h.machine.store.records place (UdpRecord.Open o) (UdpRecord.Open _) g (inl refl) i tt
 
-  received_name : (h : Here) (place : ℕ) (o : OpenUdp) (inc : _) (op : Operation) (ended : End × List Item) → FoundUdp h place (Udp2Socket.Open o) → o.incoming ≡ Some inc → inc.receiving ≡ Receiving.InProgress op → Apart h → Apart (put_udp h place (Udp2Socket.Open (record o { incoming = Some (with_receiving inc (receive_left op ended)) })))
+  received_name : (h : Here) (place : ℕ) (o : OpenUdp) (inc : _) (op : Operation) (ended : End × List Item) → FoundUdp h place (UdpRecord.Open o) → o.incoming ≡ Some inc → inc.receiving ≡ Receiving.InProgress op → Apart h → Apart (put_udp h place (UdpRecord.Open (record o { incoming = Some (with_receiving inc (receive_left op ended)) })))
   received_name h place o inc op ended g e f i =
-      put_udps line h.own h.machine.store.records place (Udp2Socket.Open o) (Udp2Socket.Open _) g
-      (elim (polled_name op ended) [ inl p ↦ inl (p ∙ sym (ap (λ (x : Option _). name_of_op (walk.receiving_in x)) e ∙ ap (λ (r : _). name_of_op (walk.receive_op r)) f)) | inr p ↦ inr p ]) i (i.connects place (Udp2Socket.Open o) g)
+      put_udps line h.own h.machine.store.records place (UdpRecord.Open o) (UdpRecord.Open _) g
+      (elim (polled_name op ended) [ inl p ↦ inl (p ∙ sym (ap (λ (x : Option _). name_of_op (walk.receiving_in x)) e ∙ ap (λ (r : _). name_of_op (walk.receive_op r)) f)) | inr p ↦ inr p ]) i (i.connects place (UdpRecord.Open o) g)
 
   pub polls_apart : (h : Here) (op : Operation) (after : End × List Item → Here) → Held h op after → (ended : End × List Item) → Apart h → Apart (after ended)
   polls_apart h _ _ (walk.BindsOn place r op q g e) ended i = tcp_stays h place r _ g refl i
@@ -115,17 +115,17 @@ module _ (contexts : List WasiSocketsCtx) (line : ℕ) (origin : Step) where
       listens (Done given, items) = tcp_stays h place r _ g refl i
       listens (Refused code given, items) = tcp_stays h place r _ g refl i
   polls_apart h _ _ (walk.Awaits place r l op g e a) ended i = tcp_stays h place r _ g refl i
-  polls_apart h _ _ (walk.UdpCreates place create q g) ended i = udp_other h place (Udp2Socket.Creating create) _ g (created_none create ended).0 (created_none create ended).1 i
+  polls_apart h _ _ (walk.UdpCreates place create q g) ended i = udp_other h place (UdpRecord.Creating create) _ g (created_none create ended).0 (created_none create ended).1 i
   polls_apart h _ _ (walk.UdpBindsOn place o op q g e) ended i = udp_stays h place o _ g refl refl i
   polls_apart h _ _ (walk.UdpConnectsOn place o op q g e) ended i = connected h place o op ended g e i
   polls_apart h _ _ (walk.SendsOn place o out op left g e f s) ended i = udp_stays h place o _ g refl refl i
   polls_apart h _ _ (walk.ReceivesOn place o inc op g e f) ended i = received_name h place o inc op ended g e f i
 
   pub begun_apart : (h : Here) (made : Result Create ErrorCode) → Apart h → Apart (udp_begun h made)
-  begun_apart h (Ok create) i = used (record h { machine = (udp_begun h (Ok create)).machine }) (push_udps line h.own h.machine.store.records (Udp2Socket.Creating create) refl tt i)
+  begun_apart h (Ok create) i = used (record h { machine = (udp_begun h (Ok create)).machine }) (push_udps line h.own h.machine.store.records (UdpRecord.Creating create) refl tt i)
   begun_apart h (Err c) i = used h i
 
-  created : (h : Here) (new : Tcp2Socket) → new.streams ≡ None → Apart h
+  created : (h : Here) (new : TcpRecord) → new.streams ≡ None → Apart h
       → NamesApart line Used (tcp2_pushed h.machine.store.records new)
   created h new none i =
       let first : IsFirst (streams_name new.streams) =
@@ -138,8 +138,8 @@ module _ (contexts : List WasiSocketsCtx) (line : ℕ) (origin : Step) where
   becomes_apart h _ (GivenUp place r q g) i = tcp_stays h place r _ g refl i
   becomes_apart h _ (UdpLearnt place o socket g e) i = udp_stays h place o _ g refl refl i
   becomes_apart h _ (UdpIsClosed place o q g) i =
-      udp_other h place (Udp2Socket.Open o) (Udp2Socket.Closed o.inner.side) g refl tt i
-  becomes_apart h _ (UdpGivenUp place create q g) i = udp_other h place (Udp2Socket.Creating create) _ g refl tt i
+      udp_other h place (UdpRecord.Open o) (UdpRecord.Closed o.inner.side) g refl tt i
+  becomes_apart h _ (UdpGivenUp place create q g) i = udp_other h place (UdpRecord.Creating create) _ g refl tt i
   becomes_apart h _ (UdpBegun ctx family r c u m) i = begun_apart h (udp_after_create (own_of line) ctx.name family r) i
   becomes_apart h _ (Resolved host records l same) i = same_apart line h.own h.machine.store.records records same i
   becomes_apart h _ (Created ctx family c u m) i = created h _ refl i
@@ -158,7 +158,7 @@ module _ (contexts : List WasiSocketsCtx) (line : ℕ) (origin : Step) where
   turn_first es (WriteState.Closing job) f = allows_then Anything (λ fs j. IsFirst (Some j.write.who.id)) (λ fs done. IsFirst (job_name done.1)) es (job_asks job) _ (job_first es job job.end f) (λ fs j k. k)
   turn_first es _ f = f
 
-  pub turns_apart : (es : List Entry) (h : Here) (place : ℕ) (r : Tcp2Socket) (s : Streams) → walk.Found h place r
+  pub turns_apart : (es : List Entry) (h : Here) (place : ℕ) (r : TcpRecord) (s : Streams) → walk.Found h place r
       → r.streams ≡ Some s → Apart h
       → Allows Anything (λ fs done. Apart (put h place (with_writer r s done.1))) es (turn_asks s.writer)
   turns_apart es h place r s g e i =

@@ -17,7 +17,7 @@ use Rattle.wasi_records.specs.declared.datagrams.Receiving.{Receiving}
 use Rattle.wasi_jobs.specs.declared.job.HostJob.TheVariants.{Receive}
 use Rattle.wasi_host.specs.declared.kind.Kind.TheVariants.{Incoming}
 use Rattle.wasi_records.specs.declared.udp.OpenUdp.{OpenUdp}
-use Rattle.wasi_records.specs.declared.udp.Udp2Socket.{Udp2Socket}
+use Rattle.wasi_records.specs.declared.udp.UdpRecord.{UdpRecord}
 use Rattle.wasi_p2.specs.Udp.{receive_datagrams_on}
 use Rattle.wasi_machine.specs.Machine.{reply_of}
 use Rattle.wasi_steps.specs.Reply.{datagram_values, received_values}
@@ -127,10 +127,10 @@ module _ (handle : ℕ) where
     gives_so (Err (Trap kind)) new side kept e = sym (ap (λ (xs : List IncomingDatagram). flat_map received_values xs) e)
 
     -- a job more leaves the records
-    jobbed : (store : Records) (place : ℕ) (o now : OpenUdp) → (with_receive store place o now).records ≡ udp2_put store.records place (Udp2Socket.Open now)
+    jobbed : (store : Records) (place : ℕ) (o now : OpenUdp) → (with_receive store place o now).records ≡ udp2_put store.records place (UdpRecord.Open now)
     jobbed store place o now = by_test (begins_receive o now)
       where
-        by_test : (b : Bool) → (with_job (with_open_udp store place now) (Receive place) b).records ≡ udp2_put store.records place (Udp2Socket.Open now)
+        by_test : (b : Bool) → (with_job (with_open_udp store place now) (Receive place) b).records ≡ udp2_put store.records place (UdpRecord.Open now)
         by_test true = refl
         by_test false = refl
 
@@ -148,15 +148,15 @@ module _ (handle : ℕ) where
           let knows : Exact handle o.inner.side inc.remote es list inc.receiving = subst (λ (x : IncomingStream). Exact handle o.inner.side x.remote es list x.receiving) stream first in
           allows_weaker Anything (λ fs done. Leaves handle list o inc fs done) (λ fs done. Says m.table fs (done.0, with_receive m.store place o done.1)) (λ fs done x. after fs done x) es (receive_datagrams_asks (first_ids line) most o (Some inc)) (receives_exact handle list o inc es (first_ids line) most knows)
         where
-          at : udp2_at m.store.records place ≡ Some (Udp2Socket.Open o)
-          at = s.at ∙ ap (λ (x : OpenUdp). Some (Udp2Socket.Open x)) (sym same)
+          at : udp2_at m.store.records place ≡ Some (UdpRecord.Open o)
+          at = s.at ∙ ap (λ (x : OpenUdp). Some (UdpRecord.Open x)) (sym same)
 
           after : (fs : List Entry) (done : Result (List IncomingDatagram) Stop × OpenUdp) → Leaves handle list o inc fs done → Says m.table fs (done.0, with_receive m.store place o done.1)
           after fs done x = record {
             new = x.new;
             gives = gives_so done.0 x.new o.inner.side inc.remote x.gives;
             stream = λ other d. subst (StreamAt handle (list ++ x.new) fs (with_receive m.store place o done.1).records) (let p : Some (Incoming place) ≡ Some (Incoming other) = sym live ∙ d in cc)
-                (record { socket = done.1; at = ap (λ rs. udp2_at rs place) (jobbed m.store place o done.1) ∙ put_finds udp_sort m.store.records place (Udp2Socket.Open o) (Udp2Socket.Open done.1) at; stream = x.stream; has = x.has; knows = x.knows });
+                (record { socket = done.1; at = ap (λ rs. udp2_at rs place) (jobbed m.store place o done.1) ∙ put_finds udp_sort m.store.records place (UdpRecord.Open o) (UdpRecord.Open done.1) at; stream = x.stream; has = x.has; knows = x.knows });
             fresh = λ l. (let older = k.rest.streams.1.1.older handle (Incoming place) live in absurd (omega (arith, l, older)));
             fronts = inr (front_of (list ++ x.new) fs done.1.inner.side x.stream.remote x.stream.receiving x.knows);
           }
@@ -165,9 +165,9 @@ module _ (handle : ℕ) where
       socket_says place live None e = nothing _ refl
       socket_says place live (Some o) e =
           let s : StreamAt handle list es m.store.records place = k.stream place live in
-          let at : udp2_at m.store.records place ≡ Some (Udp2Socket.Open o) = open_is (udp2_at m.store.records place) o e in
+          let at : udp2_at m.store.records place ≡ Some (UdpRecord.Open o) = open_is (udp2_at m.store.records place) o e in
           allows_then Anything (λ fs done. Says m.table fs (done.0, with_receive m.store place o done.1)) (λ fs done. Says m.table fs done) es (receive_datagrams_asks (first_ids line) most o o.incoming) _
-          (open_says place live s o (let p : Some (Udp2Socket.Open o) ≡ Some (Udp2Socket.Open s.socket) = sym at ∙ s.at in cc) o.incoming refl) (λ fs done x. x)
+          (open_says place live s o (let p : Some (UdpRecord.Open o) ≡ Some (UdpRecord.Open s.socket) = sym at ∙ s.at in cc) o.incoming refl) (λ fs done x. x)
 
       -- the line, but for what it keeps of the rest
       abbrev Leaving : List Entry → Reply × Machine → Type 0

@@ -1,5 +1,5 @@
 -- The incoming stream of one handle, while it is live: all that it received was taken or waits.
-use Rattle.wasi_causes.proofs.Words.{Allows, Asks, Call, Entry, HandleTable, Kind, List, None, OpId, Option, Some, Tcp2Socket, Told, ap, arith, entry, eqb-false, eqb-true, false, inl, inr, kind_at, refl, subst, sym, true, with_handle, without_handle, Bool, ℕ, ⊤, ◌++◌, ◌==◌, ◌∙◌, ◌∷◌, ◌≡◌, ◌⊎◌, []}
+use Rattle.wasi_causes.proofs.Words.{Allows, Asks, Call, Entry, HandleTable, Kind, List, None, OpId, Option, Some, TcpRecord, Told, ap, arith, entry, eqb-false, eqb-true, false, inl, inr, kind_at, refl, subst, sym, true, with_handle, without_handle, Bool, ℕ, ⊤, ◌++◌, ◌==◌, ◌∙◌, ◌∷◌, ◌≡◌, ◌⊎◌, []}
 use Rattle.wasi_table.proofs.Tables.{value_without}
 use Rattle.wasi_world.specs.declared.datagram.IncomingDatagram.{IncomingDatagram}
 use Rattle.wasi_world.specs.Operation.{CheckPeer}
@@ -12,7 +12,7 @@ use Rattle.wasi_host.specs.declared.kind.Kind.TheVariants.{Incoming}
 use Rattle.wasi_records.specs.declared.name_lookup.LookupOp.{LookupOp}
 use Rattle.wasi_records.specs.declared.records.Record.{Record}
 use Rattle.wasi_records.specs.declared.udp.OpenUdp.{OpenUdp}
-use Rattle.wasi_records.specs.declared.udp.Udp2Socket.{Udp2Socket}
+use Rattle.wasi_records.specs.declared.udp.UdpRecord.{UdpRecord}
 use Rattle.wasi_walks.proofs.Words.{allows_weaker, ◌≤◌}
 use Rattle.wasi_walks.proofs.fits.Law.{whatever}
 use Rattle.wasi_walks.proofs.fits.Polls.{Anything}
@@ -67,7 +67,7 @@ module _ (handle : ℕ) (list : List IncomingDatagram) where
   -- The stream is in the record of this place.
   pub record StreamAt (es : List Entry) (records : List Record) (place : ℕ) : Type 0 where
     pub socket : OpenUdp
-    pub at : udp2_at records place ≡ Some (Udp2Socket.Open socket)
+    pub at : udp2_at records place ≡ Some (UdpRecord.Open socket)
     pub stream : IncomingStream
     pub has : socket.incoming ≡ Some stream
     pub knows : Knows es socket stream
@@ -106,64 +106,64 @@ module _ (handle : ℕ) (list : List IncomingDatagram) where
 
   -- == records change
   -- what the stream's socket becomes, where it was this one
-  pub record NowHas (es : List Entry) (now : Udp2Socket) : Type 0 where
+  pub record NowHas (es : List Entry) (now : UdpRecord) : Type 0 where
     pub socket : OpenUdp
-    pub is : now ≡ Udp2Socket.Open socket
+    pub is : now ≡ UdpRecord.Open socket
     pub stream : IncomingStream
     pub has : socket.incoming ≡ Some stream
     pub knows : Knows es socket stream
 
-  abbrev pub Becomes : List Entry → Udp2Socket → Udp2Socket → Type 0
-  Becomes es u now = (o : OpenUdp) (inc : IncomingStream) → u ≡ Udp2Socket.Open o → o.incoming ≡ Some inc → Knows es o inc → NowHas es now
+  abbrev pub Becomes : List Entry → UdpRecord → UdpRecord → Type 0
+  Becomes es u now = (o : OpenUdp) (inc : IncomingStream) → u ≡ UdpRecord.Open o → o.incoming ≡ Some inc → Knows es o inc → NowHas es now
 
   -- it is on the same network socket, and has the same stream
-  pub stays_so : (es : List Entry) (o now : OpenUdp) → now.inner.side ≡ o.inner.side → now.incoming ≡ o.incoming → Becomes es (Udp2Socket.Open o) (Udp2Socket.Open now)
+  pub stays_so : (es : List Entry) (o now : OpenUdp) → now.inner.side ≡ o.inner.side → now.incoming ≡ o.incoming → Becomes es (UdpRecord.Open o) (UdpRecord.Open now)
   stays_so es o now side same p inc e has k =
       let is : p ≡ o = cc in
       record { socket = now; is = refl; stream = inc; has = same ∙ (ap (λ (x : OpenUdp). x.incoming) (sym is) ∙ has); knows = subst (λ (x : OpId). Exact handle x inc.remote es list inc.receiving) (ap (λ (x : OpenUdp). x.inner.side) is ∙ sym side) k }
 
-  same_udp : (u v : Udp2Socket) → Some u ≡ Some v → u ≡ v
+  same_udp : (u v : UdpRecord) → Some u ≡ Some v → u ≡ v
   same_udp u v e = cc
 
-  at_put : (es : List Entry) (records : List Record) (k place : ℕ) (u now : Udp2Socket) → udp2_at records k ≡ Some u → (place ≡ k → Becomes es u now) → StreamAt es records place → StreamAt es (udp2_put records k now) place
-  at_put es records k place u now g becomes s = elim (put_stays udp_sort records k now place (Udp2Socket.Open s.socket) s.at) [
+  at_put : (es : List Entry) (records : List Record) (k place : ℕ) (u now : UdpRecord) → udp2_at records k ≡ Some u → (place ≡ k → Becomes es u now) → StreamAt es records place → StreamAt es (udp2_put records k now) place
+  at_put es records k place u now g becomes s = elim (put_stays udp_sort records k now place (UdpRecord.Open s.socket) s.at) [
     | inl same ↦ record { socket = s.socket; at = same; stream = s.stream; has = s.has; knows = s.knows }
     | inr its ↦ (
-        let it : u ≡ Udp2Socket.Open s.socket = same_udp u (Udp2Socket.Open s.socket) (sym g ∙ (ap (udp2_at records) (sym its.0) ∙ s.at)) in
+        let it : u ≡ UdpRecord.Open s.socket = same_udp u (UdpRecord.Open s.socket) (sym g ∙ (ap (udp2_at records) (sym its.0) ∙ s.at)) in
         let n = becomes its.0 s.socket s.stream it s.has s.knows in
-        record { socket = n.socket; at = its.1 ∙ ap (λ (x : Udp2Socket). Some x) n.is; stream = n.stream; has = n.has; knows = n.knows })
+        record { socket = n.socket; at = its.1 ∙ ap (λ (x : UdpRecord). Some x) n.is; stream = n.stream; has = n.has; knows = n.knows })
   ]
 
   -- one at another place
-  pub at_other : (es : List Entry) (records : List Record) (k place : ℕ) (now : Udp2Socket) → (k ≡ place → ⊥) → StreamAt es records place → StreamAt es (udp2_put records k now) place
-  at_other es records k place now n s = elim (put_stays udp_sort records k now place (Udp2Socket.Open s.socket) s.at) [
+  pub at_other : (es : List Entry) (records : List Record) (k place : ℕ) (now : UdpRecord) → (k ≡ place → ⊥) → StreamAt es records place → StreamAt es (udp2_put records k now) place
+  at_other es records k place now n s = elim (put_stays udp_sort records k now place (UdpRecord.Open s.socket) s.at) [
     | inl same ↦ record { socket = s.socket; at = same; stream = s.stream; has = s.has; knows = s.knows }
     | inr its ↦ absurd (n (sym its.0))
   ]
 
-  pub put_at : (es : List Entry) (t : HandleTable) (records : List Record) (k place : ℕ) (u now : Udp2Socket) → udp2_at records k ≡ Some u → kind_at t handle ≡ Some (Incoming place) → (kind_at t handle ≡ Some (Incoming k) → Becomes es u now) → StreamAt es records place → StreamAt es (udp2_put records k now) place
+  pub put_at : (es : List Entry) (t : HandleTable) (records : List Record) (k place : ℕ) (u now : UdpRecord) → udp2_at records k ≡ Some u → kind_at t handle ≡ Some (Incoming place) → (kind_at t handle ≡ Some (Incoming k) → Becomes es u now) → StreamAt es records place → StreamAt es (udp2_put records k now) place
   put_at es t records k place u now g e becomes s = at_put es records k place u now g (λ same. becomes (e ∙ ap (λ (x : ℕ). Some (Incoming x)) same)) s
 
-  pub stream_put : (es : List Entry) (t : HandleTable) (records : List Record) (k : ℕ) (u now : Udp2Socket) → udp2_at records k ≡ Some u → (kind_at t handle ≡ Some (Incoming k) → Becomes es u now) → StreamIs es t records → StreamIs es t (udp2_put records k now)
+  pub stream_put : (es : List Entry) (t : HandleTable) (records : List Record) (k : ℕ) (u now : UdpRecord) → udp2_at records k ≡ Some u → (kind_at t handle ≡ Some (Incoming k) → Becomes es u now) → StreamIs es t records → StreamIs es t (udp2_put records k now)
   stream_put es t records k u now g becomes i place e = put_at es t records k place u now g e becomes (i place e)
 
-  pub tcp_at : (es : List Entry) (records : List Record) (k place : ℕ) (r now : Tcp2Socket) → tcp2_at records k ≡ Some r → StreamAt es records place → StreamAt es (tcp2_put records k now) place
+  pub tcp_at : (es : List Entry) (records : List Record) (k place : ℕ) (r now : TcpRecord) → tcp2_at records k ≡ Some r → StreamAt es records place → StreamAt es (tcp2_put records k now) place
   tcp_at es records k place r now g s = record { socket = s.socket; at = put_still tcp_sort udp_sort (λ t. refl) records k r now place _ g s.at; stream = s.stream; has = s.has; knows = s.knows }
 
-  pub stream_put_tcp : (es : List Entry) (t : HandleTable) (records : List Record) (k : ℕ) (r now : Tcp2Socket) → tcp2_at records k ≡ Some r → StreamIs es t records → StreamIs es t (tcp2_put records k now)
+  pub stream_put_tcp : (es : List Entry) (t : HandleTable) (records : List Record) (k : ℕ) (r now : TcpRecord) → tcp2_at records k ≡ Some r → StreamIs es t records → StreamIs es t (tcp2_put records k now)
   stream_put_tcp es t records k r now g i place e = tcp_at es records k place r now g (i place e)
 
-  pub stream_push_tcp : (es : List Entry) (t : HandleTable) (records : List Record) (now : Tcp2Socket) → StreamIs es t records → StreamIs es t (tcp2_pushed records now)
+  pub stream_push_tcp : (es : List Entry) (t : HandleTable) (records : List Record) (now : TcpRecord) → StreamIs es t records → StreamIs es t (tcp2_pushed records now)
   stream_push_tcp es t records now i place e = let s = i place e in record { socket = s.socket; at = push_still tcp_sort udp_sort records now place _ s.at; stream = s.stream; has = s.has; knows = s.knows }
 
-  pub stream_push : (es : List Entry) (t : HandleTable) (records : List Record) (now : Udp2Socket) → StreamIs es t records → StreamIs es t (udp2_pushed records now)
+  pub stream_push : (es : List Entry) (t : HandleTable) (records : List Record) (now : UdpRecord) → StreamIs es t records → StreamIs es t (udp2_pushed records now)
   stream_push es t records now i place e = let s = i place e in record { socket = s.socket; at = push_still udp_sort udp_sort records now place _ s.at; stream = s.stream; has = s.has; knows = s.knows }
 
   pub stream_same : {new : LookupOp → Type 0} (es : List Entry) (t : HandleTable) (records now : List Record) → SameSockets new records now → StreamIs es t records → StreamIs es t now
   stream_same es t records now same i place e = let s = i place e in record { socket = s.socket; at = same.udp place ∙ s.at; stream = s.stream; has = s.has; knows = s.knows }
 
   -- what is open stays
-  pub stream_stays : (es : List Entry) (t : HandleTable) (records now : List Record) → ((k : ℕ) (o : OpenUdp) → udp2_at records k ≡ Some (Udp2Socket.Open o) → udp2_at now k ≡ Some (Udp2Socket.Open o)) → StreamIs es t records → StreamIs es t now
+  pub stream_stays : (es : List Entry) (t : HandleTable) (records now : List Record) → ((k : ℕ) (o : OpenUdp) → udp2_at records k ≡ Some (UdpRecord.Open o) → udp2_at now k ≡ Some (UdpRecord.Open o)) → StreamIs es t records → StreamIs es t now
   stream_stays es t records now stays i place e = let s = i place e in record { socket = s.socket; at = stays place s.socket s.at; stream = s.stream; has = s.has; knows = s.knows }
 
   -- == the table changes

@@ -1,5 +1,5 @@
 -- What a turn leaves of the lookups.
-use Rattle.wasi_causes.proofs.Words.{Entry, List, Machine, None, Option, Some, Tcp2Socket, Told, [], bind, inl, inr, refl, subst, sym, turn_at, turn_job, turn_jobs, turn_machine_asks, turn_record, ℕ, ◌++◌, ◌∙◌, ◌∷◌, ◌≡◌}
+use Rattle.wasi_causes.proofs.Words.{Entry, List, Machine, None, Option, Some, TcpRecord, Told, [], bind, inl, inr, refl, subst, sym, turn_at, turn_job, turn_jobs, turn_machine_asks, turn_record, ℕ, ◌++◌, ◌∙◌, ◌∷◌, ◌≡◌}
 use Rattle.wasi_world.specs.Fits.{IsNames}
 use Rattle.wasi_world.specs.Typed.{told_names}
 use Rattle.wasi_world.specs.declared.call.Told.TheVariants as told
@@ -15,7 +15,7 @@ use Rattle.wasi_records.specs.declared.name_lookup.Lookup.TheVariants.{InProgres
 use Rattle.wasi_records.specs.declared.name_lookup.LookupOp.{LookupOp}
 use Rattle.wasi_records.specs.declared.records.Record.{Record}
 use Rattle.wasi_records.specs.declared.udp.OpenUdp.{OpenUdp}
-use Rattle.wasi_records.specs.declared.udp.Udp2Socket.TheVariants.{Open}
+use Rattle.wasi_records.specs.declared.udp.UdpRecord.TheVariants.{Open}
 use Rattle.wasi_walks.proofs.Lists.{has_front, has_last}
 use Rattle.wasi_walks.proofs.walks.Udp.{open_is}
 use Rattle.wasi_causes.proofs.tables.Meets.{Meets, Rows, asks, chain, ends, onto, shifted, whatever, widen}
@@ -41,7 +41,7 @@ module _ (m : Machine) where
   of_others : (es fs rest : List Entry) (records now : List Record) → fs ≡ es ++ rest → ((k : ℕ) → lookup_at now k ≡ lookup_at records k) → LooksSo es records → LooksSo fs now
   of_others es fs rest records now cut same so place l at = subst (λ (gs : List Entry). LookedOn m place gs l) (sym cut) (longer es rest place l (so place l (sym (same place) ∙ at)))
 
-  write_so : (records : List Record) (place : ℕ) (o : Option Tcp2Socket) → tcp2_at records place ≡ o → (es : List Entry) → LooksSo es records → Meets LooksSo es (turn_at records place o)
+  write_so : (records : List Record) (place : ℕ) (o : Option TcpRecord) → tcp2_at records place ≡ o → (es : List Entry) → LooksSo es records → Meets LooksSo es (turn_at records place o)
   write_so records place None at es so = ends so
   write_so records place (Some r) at es so = onto _ (widen (λ fs now k. of_others es fs k.rest records (tcp2_put records place now) k.cut (λ i. other_put tcp_sort lookup_sort (λ t. refl) records place r now i at) so) (shifted es (whatever (turn_record r))))
 

@@ -4,7 +4,7 @@ use Rattle.wasi_causes.proofs.Words.{ConnectsAt, CreateRefusal, Done, End, Entry
 use Rattle.wasi_causes.proofs.Words.{HasNoConnectInProgress, HoldsAccept, Input, InvalidState, IpSocketAddress, IsDoneOrCode, Item, List}
 use Rattle.wasi_causes.proofs.Words.{Listener, Listening, Machine, Network, NoConnect, NoListener, NoSuchHandle, None, NotAllowed}
 use Rattle.wasi_causes.proofs.Words.{Ok, OpId, Operation, Option, Output, Records, Refused, Result}
-use Rattle.wasi_causes.proofs.Words.{Socket, SocketAddressFamily, Some, StillAccepts, Stop, Tcp2, Tcp2Socket, TcpState, Told, ToldCode, Trap, Waits}
+use Rattle.wasi_causes.proofs.Words.{Socket, SocketAddressFamily, Some, StillAccepts, Stop, Tcp2, TcpRecord, TcpState, Told, ToldCode, Trap, Waits}
 use Rattle.wasi_causes.proofs.Words.{WasiSocketsCtx, [], accept_answered, accept_at, accept_end, accept_listening, accept_name, accept_on}
 use Rattle.wasi_causes.proofs.Words.{accepted_asks, accepted_handles, accepted_marks, accepted_record, accepted_socket, accepted_state}
 use Rattle.wasi_causes.proofs.Words.{accepted_streams, accepting_now, after_create, ap, append_assoc, arith, bind, code_stop, connect_ended}
@@ -97,11 +97,11 @@ module _ (contexts : List WasiSocketsCtx) (m : Machine) (line c handle : ℕ) wh
   PollRow es (Err stop, store) = FinishSays es (Err stop, record m { store = store })
 
   -- == of the record that the handle names
-  module _ (place : ℕ) (r : Tcp2Socket) (n : Names m handle place r) (connects : is_connect r.in_progress ≡ true) where
+  module _ (place : ℕ) (r : TcpRecord) (n : Names m handle place r) (connects : is_connect r.in_progress ≡ true) where
     some : HasNoConnectInProgress (record_at m handle) → ⊥
     some k = let none : is_connect r.in_progress ≡ false = rw (its n) at k in cc
 
-    abbrev RecordRow : Rows (Result (Unit {0}) Stop × Tcp2Socket)
+    abbrev RecordRow : Rows (Result (Unit {0}) Stop × TcpRecord)
     RecordRow es done = PollRow es (with_record_put m.store place done)
 
     abbrev StateRow : Rows (Result (Answer (Unit {0})) ErrorCode × TcpState)
@@ -110,12 +110,12 @@ module _ (contexts : List WasiSocketsCtx) (m : Machine) (line c handle : ℕ) wh
     may : FinishesAt m handle → MayFinish r.inner.state
     may h = let k : Finishes r = rw (its n) at h in k connects
 
-    fails : (es : List Entry) (code : ErrorCode) (now : Tcp2Socket) → (ConnectsAt m handle → FinishesAt m handle → FinishRefusal m place r es (word_of_code code) (record m { store = with_socket m.store place now })) → RecordRow es (Err (code_stop code), now)
+    fails : (es : List Entry) (code : ErrorCode) (now : TcpRecord) → (ConnectsAt m handle → FinishesAt m handle → FinishRefusal m place r es (word_of_code code) (record m { store = with_socket m.store place now })) → RecordRow es (Err (code_stop code), now)
     fails es code now cause =
         let other : reply.Err (word_of_code code) ≢ reply.Err word.NotInProgress = not_of_code code word.NotInProgress (λ no. no) in
         (apart other some, (inr (inr (code_word code)), record { none = λ e. absurd (other (ap reply.Err e)); cause = λ holds finishes. here n (cause holds finishes) }))
 
-    never : (now : Tcp2Socket) → (MayFinish r.inner.state → ⊥) → RecordRow [] (Err (code_stop InvalidState), now)
+    never : (now : TcpRecord) → (MayFinish r.inner.state → ⊥) → RecordRow [] (Err (code_stop InvalidState), now)
     never now unlike = fails [] InvalidState now (λ h k. absurd (unlike (may k)))
 
     module _ (op : Operation) (at_state : r.inner.state ≡ state.Connecting op) where
@@ -148,7 +148,7 @@ module _ (contexts : List WasiSocketsCtx) (m : Machine) (line c handle : ℕ) wh
     by_state (state.Connected connection) e = ends (opens_receive connection e connection.receive_taken refl)
     by_state (state.Closed code) e = ends (fails [] code _ (λ h finishes. WasClosed code connects e refl))
 
-  by_progress : (place : ℕ) (r : Tcp2Socket) → Names m handle place r → (b : Bool) → is_connect r.in_progress ≡ b
+  by_progress : (place : ℕ) (r : TcpRecord) → Names m handle place r → (b : Bool) → is_connect r.in_progress ≡ b
       → Meets PollRow [] (if b then last (done_by place r poll_connect_asks) m.store else Give (Err (Code word_p2.NotInProgress), m.store))
   by_progress place r n false e = ends ((λ same. rw (its n) e, λ k. refl), (inl refl, record { none = λ same. (refl, refl); cause = λ holds finishes. here n (NoConnect e refl) }))
   by_progress place r n true e =
@@ -180,13 +180,13 @@ module _ (contexts : List WasiSocketsCtx) (m : Machine) (line c handle : ℕ) wh
   AcceptSays es done = Outcome contexts m line (step.TcpAccept c handle) es (triple_reply done.0) done.1
 
   -- the records, where this connection was taken from the listener
-  abbrev taking : ℕ → Tcp2Socket → Listener → OpId → IpSocketAddress → Records
+  abbrev taking : ℕ → TcpRecord → Listener → OpId → IpSocketAddress → Records
   taking place r l side peer = let left = accepting_now m place r l accepting.Idle in record left.store { records = tcp2_pushed left.store.records (accepted_record (accepted_socket l.family l.maker (accepted_state side peer))).1 }
 
   -- A connection was taken from the handle's listener, and is at this place.
   record Took (es : List Entry) (place : ℕ) (store : Records) : Type 0 where
     of : ℕ
-    found : Tcp2Socket
+    found : TcpRecord
     named : Names m handle of found
     listener : Listener
     listens : found.listening ≡ listening.Accepts listener
@@ -202,8 +202,8 @@ module _ (contexts : List WasiSocketsCtx) (m : Machine) (line c handle : ℕ) wh
   StoreRow es (Err stop, store) = AcceptSays es (Err stop, record m { store = store })
 
   -- == of the record that the handle names
-  module _ (place : ℕ) (r : Tcp2Socket) (n : Names m handle place r) where
-    abbrev TakingRow : Rows (Result (Answer Socket) ErrorCode × Tcp2Socket)
+  module _ (place : ℕ) (r : TcpRecord) (n : Names m handle place r) where
+    abbrev TakingRow : Rows (Result (Answer Socket) ErrorCode × TcpRecord)
     TakingRow es done = StoreRow es (accept_answered m.store place done)
 
     module _ (l : Listener) (is : r.listening ≡ listening.Accepts l) where

@@ -1,5 +1,5 @@
 -- What a socket says of itself: its addresses, whether it listens, its family, and its options and backlog, which are set too.
-use Rattle.wasi_causes.proofs.Words.{◌≡◌, ◌⊎◌, inl, inr, ℕ, Bool, true, false, List, [], ◌∷◌, ◌++◌, Option, Some, None, Result, Ok, Err, refl, sym, subst, ◌<◌, ◌==◌, if◌then◌else◌, nat_le, arith, eqb-true, eqb-false, leb-true, leb-false, IpSocketAddress, ErrorCode, InvalidState, Stop, code_stop, socket_at, own_of, with_store, with_inner, inner_answered, Machine, Tcp2Socket, KnowsBound, putting, word_of_code, IsPastDefault, IsBound, LocalRefusal, Connects, LocalClosed, RemoteRefusal, RemoteDefault, RemoteListening, RemoteConnecting, RemoteClosed, RemoteTold, entry, address_reply, truth_reply, family_reply, value_reply, done_reply, set_chosen, Each, Truth, truth_fields, number_fields, Chosen, AnOption, TheBacklog, chosen, CodeWord, TcpSetting, usable_side, local_from, local_where, local_asks, after_peer, peer_known, still_connected, remote_in, with_state, in_socket, zero_test, value_set, refused_before, refused_after, get_where, set_where, set_option_asks, with_backlog, after_backlog, set_backlog_in, set_backlog_asks, Socket, Connection, TcpState, Give, bind, IsAddr, IsDoneOrCode, IsValue, told_addr, told_done, told_value, Entry, Told, OpId, Operation, WasiSocketsCtx}
+use Rattle.wasi_causes.proofs.Words.{◌≡◌, ◌⊎◌, inl, inr, ℕ, Bool, true, false, List, [], ◌∷◌, ◌++◌, Option, Some, None, Result, Ok, Err, refl, sym, subst, ◌<◌, ◌==◌, if◌then◌else◌, nat_le, arith, eqb-true, eqb-false, leb-true, leb-false, IpSocketAddress, ErrorCode, InvalidState, Stop, code_stop, socket_at, own_of, with_store, with_inner, inner_answered, Machine, TcpRecord, KnowsBound, putting, word_of_code, IsPastDefault, IsBound, LocalRefusal, Connects, LocalClosed, RemoteRefusal, RemoteDefault, RemoteListening, RemoteConnecting, RemoteClosed, RemoteTold, entry, address_reply, truth_reply, family_reply, value_reply, done_reply, set_chosen, Each, Truth, truth_fields, number_fields, Chosen, AnOption, TheBacklog, chosen, CodeWord, TcpSetting, usable_side, local_from, local_where, local_asks, after_peer, peer_known, still_connected, remote_in, with_state, in_socket, zero_test, value_set, refused_before, refused_after, get_where, set_where, set_option_asks, with_backlog, after_backlog, set_backlog_in, set_backlog_asks, Socket, Connection, TcpState, Give, bind, IsAddr, IsDoneOrCode, IsValue, told_addr, told_done, told_value, Entry, Told, OpId, Operation, WasiSocketsCtx}
 use Rattle.wasi_addr.specs.Clamp.{clamped_backlog}
 use Rattle.wasi_addr.specs.declared.code.ErrorCode.TheVariants.{NotSupported}
 use Rattle.wasi_causes.proofs.sockets.Starts.{BoundRow, ItsBound, ItsFree, asked_none, bounds}
@@ -26,12 +26,12 @@ use Rattle.wasi_world.specs.declared.call.Opt.{Opt}
 use Rattle.wasi_world.specs.declared.call.Told.TheVariants as told
 
 -- a call on a socket: an address, or a code that is refused so
-abbrev pub Answers : (List Entry → CodeWord → Machine → Type 0) → Machine → ℕ → Tcp2Socket → Rows (Result IpSocketAddress ErrorCode × Socket)
+abbrev pub Answers : (List Entry → CodeWord → Machine → Type 0) → Machine → ℕ → TcpRecord → Rows (Result IpSocketAddress ErrorCode × Socket)
 Answers Cause m place r es (Ok a, now) = Unit {0}
 Answers Cause m place r es (Err code, now) = Cause es (word_of_code code) (putting m place (with_inner r now))
 
 -- == the local address
-module _ (m : Machine) (own : OpId) (handle place : ℕ) (r : Tcp2Socket) (n : Names m handle place r) where
+module _ (m : Machine) (own : OpId) (handle place : ℕ) (r : TcpRecord) (n : Names m handle place r) where
   -- why it is refused, and what is left then
   abbrev LocalRefused : List Entry → CodeWord → Machine → Type 0
   LocalRefused es w after = LocalRefusal m own place r es w after × ((after ≡ m) ⊎ KnowsBound m handle after)
@@ -67,7 +67,7 @@ module _ (m : Machine) (own : OpId) (handle place : ℕ) (r : Tcp2Socket) (n : N
   local_row = chain (bounds own r.inner) by_bound
 
 -- == the remote address
-module _ (m : Machine) (own : OpId) (place : ℕ) (r : Tcp2Socket) (at : tcp2_at m.store.records place ≡ Some r) where
+module _ (m : Machine) (own : OpId) (place : ℕ) (r : TcpRecord) (at : tcp2_at m.store.records place ≡ Some r) where
   abbrev RemoteRefused : List Entry → CodeWord → Machine → Type 0
   RemoteRefused es w after = RemoteRefusal m own place r es w after × (after ≡ m)
 
@@ -96,7 +96,7 @@ module _ (m : Machine) (own : OpId) (place : ℕ) (r : Tcp2Socket) (at : tcp2_at
   by_state (state.Closed code) e = ends (stays [] code (state.Closed code) e (RemoteClosed code e))
 
 -- == the options and the backlog
-module _ (own : OpId) (r : Tcp2Socket) where
+module _ (own : OpId) (r : TcpRecord) where
   -- a socket that has no network socket to be asked connects, or is closed
   no_side : (P : ErrorCode → Type 0) → ((op : Operation) → r.inner.state ≡ state.Connecting op → P InvalidState) → ((c : ErrorCode) → r.inner.state ≡ state.Closed c → P c) → (code : ErrorCode) → option_side r.inner ≡ Err code → P code
   no_side P connects closed code none = by r.inner.state refl none
@@ -176,7 +176,7 @@ module _ (contexts : List WasiSocketsCtx) (m : Machine) (line c handle : ℕ) wh
   abbrev own : OpId
   own = own_of line
 
-  address_said : (Row : Rows (Result IpSocketAddress Stop × Machine)) (Cause : List Entry → CodeWord → Machine → Type 0) (place : ℕ) (r : Tcp2Socket) → ((es : List Entry) (a : IpSocketAddress) (after : Machine) → Row es (Ok a, after))
+  address_said : (Row : Rows (Result IpSocketAddress Stop × Machine)) (Cause : List Entry → CodeWord → Machine → Type 0) (place : ℕ) (r : TcpRecord) → ((es : List Entry) (a : IpSocketAddress) (after : Machine) → Row es (Ok a, after))
       → ((es : List Entry) (code : ErrorCode) (after : Machine) → Cause es (word_of_code code) after → Row es (Err (code_stop code), after))
       → (es : List Entry) (done : Result IpSocketAddress ErrorCode × Socket) → Answers Cause m place r es done → Row es (code_told (inner_answered r done).0, putting m place (inner_answered r done).1)
   address_said Row Cause place r told refused es (Ok a, now) h = told es a _
@@ -197,7 +197,7 @@ module _ (contexts : List WasiSocketsCtx) (m : Machine) (line c handle : ℕ) wh
   truth_like true = (tt, tt)
   truth_like false = (tt, tt)
 
-  abbrev listens : Tcp2Socket → Bool
+  abbrev listens : TcpRecord → Bool
   listens r = state_listens r.inner.state
 
   pub is_listens : Meets (Says contexts m line (step.TcpIsListening c handle)) [] (Give (truth_reply (is_listening m handle), m))
@@ -208,7 +208,7 @@ module _ (contexts : List WasiSocketsCtx) (m : Machine) (line c handle : ℕ) wh
   family = on_number m handle (λ o. Give (family_reply (told_of (λ r. r.inner.family) (tcp_in m o)), m)) (λ place o. Give (family_reply (told_of (λ r. r.inner.family) o), m)) (λ place. refl) (λ none. ends ((refl, refl), (none, (refl, refl)))) (λ none place. ends ((refl, refl), (none, (refl, refl)))) (λ place r n. ends ((refl, refl), ((tt, tt), tt)))
 
   module _ (option : Opt) where
-    got_so : (place : ℕ) (r : Tcp2Socket) → Names m handle place r → (es : List Entry) (done : Result ℕ ErrorCode × Socket) → GetRow own r option es done.0 → Outcome contexts m line (step.TcpGet c handle option) es (value_reply (code_told done.0)) m
+    got_so : (place : ℕ) (r : TcpRecord) → Names m handle place r → (es : List Entry) (done : Result ℕ ErrorCode × Socket) → GetRow own r option es done.0 → Outcome contexts m line (step.TcpGet c handle option) es (value_reply (code_told done.0)) m
     got_so place r n es (Ok value, now) h = (refl, ((tt, tt), here n h))
     got_so place r n es (Err code, now) h = (refl, (code_word code, here n (h, refl)))
 
@@ -219,11 +219,11 @@ module _ (contexts : List WasiSocketsCtx) (m : Machine) (line c handle : ℕ) wh
     abbrev Row : Rows (Result (Unit {0}) Stop × Machine)
     Row es done = Outcome contexts m line (step.TcpSet c handle setting) es (done_reply done.0) done.1
 
-    set_so : (place : ℕ) (r : Tcp2Socket) (n : Names m handle place r) (option : Opt) (value : ℕ) → chosen setting ≡ AnOption option value → (es : List Entry) (done : Result (Unit {0}) ErrorCode × Socket) → SetRow own r option value es done.0 → Row es (code_told done.0, m)
+    set_so : (place : ℕ) (r : TcpRecord) (n : Names m handle place r) (option : Opt) (value : ℕ) → chosen setting ≡ AnOption option value → (es : List Entry) (done : Result (Unit {0}) ErrorCode × Socket) → SetRow own r option value es done.0 → Row es (code_told done.0, m)
     set_so place r n option value e es (Ok done, now) h = (tt, (tt, (refl, here n (rw e (h, refl)))))
     set_so place r n option value e es (Err code, now) h = (tt, (code_word code, here n (rw e (h, refl))))
 
-    kept_so : (place : ℕ) (r : Tcp2Socket) (n : Names m handle place r) (value : ℕ) → chosen setting ≡ TheBacklog value → (es : List Entry) (done : Result (Unit {0}) ErrorCode × Socket) → BacklogRow own r value es done → Row es (with_store m (answer_put m.store place (inner_answered r done)))
+    kept_so : (place : ℕ) (r : TcpRecord) (n : Names m handle place r) (value : ℕ) → chosen setting ≡ TheBacklog value → (es : List Entry) (done : Result (Unit {0}) ErrorCode × Socket) → BacklogRow own r value es done → Row es (with_store m (answer_put m.store place (inner_answered r done)))
     kept_so place r n value e es (Ok done, now) h = (tt, (tt, (refl, here n (rw e (h.0, h.1, rw h.2 refl)))))
     kept_so place r n value e es (Err code, now) h = rw h.1 (put_back (λ (after : Machine). Row es (code_told (Err code), after)) m place r n.at (tt, (code_word code, here n (rw e (h.0, refl)))))
 

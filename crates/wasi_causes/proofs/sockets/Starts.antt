@@ -5,7 +5,7 @@ use Rattle.wasi_walks.specs.Answered.{InProgress}
 use Rattle.wasi_causes.proofs.Words.{InvalidState, IpSocketAddress, IsAddr, IsBound, IsFoundUnbound, IsPastDefault, IsSomeAnd, Item, Known}
 use Rattle.wasi_causes.proofs.Words.{KnowsBound, List, ListenDenied, ListenFails, ListenRefusal, ListenRefused, ListenTold, Listening}
 use Rattle.wasi_causes.proofs.Words.{LocalTold, Machine, NoSuchHandle, None, NotBound, NotDefault, OfRecord, Ok, OpId, Operation, Other}
-use Rattle.wasi_causes.proofs.Words.{PastDefault, Pending, Ready, Refused, Reply, Result, Socket, StandingCall, Tcp2Socket, TcpState, Told}
+use Rattle.wasi_causes.proofs.Words.{PastDefault, Pending, Ready, Refused, Reply, Result, Socket, StandingCall, TcpRecord, TcpState, Told}
 use Rattle.wasi_causes.proofs.Words.{ToldBound, Waits, WasiSocketsCtx, WrongAddress, [], after_local, answer_reply, ap, append_assoc, ask_bound}
 use Rattle.wasi_causes.proofs.Words.{begin_bind_asks, begin_connect_asks, begin_listen_asks, bind, bind_allowed, bind_begun, bind_ended}
 use Rattle.wasi_causes.proofs.Words.{bind_operation, bound_asks, call_answered, closed_by_listen, connect_begun, connect_start, done_reply, entry}
@@ -79,13 +79,13 @@ nothing_is (Doing.Binding op) e = absurd (cc)
 nothing_is (Doing.Started o) e = absurd (cc)
 
 -- == a bind
-module _ (m : Machine) (own : OpId) (handle place : ℕ) (r : Tcp2Socket) (n : Names m handle place r) (a : IpSocketAddress) where
+module _ (m : Machine) (own : OpId) (handle place : ℕ) (r : TcpRecord) (n : Names m handle place r) (a : IpSocketAddress) where
   -- why it is refused, and what is left then
   abbrev BindRefused : List Entry → CodeWord → Machine → Type 0
   BindRefused es w after = BindRefusal m own place r a es w after × ((after ≡ m) ⊎ ((w ≡ word.InvalidState) × KnowsBound m handle after))
 
   -- a bind as it was begun: it is pending, or is done, or is refused
-  abbrev BindRow : Rows (Result (Answer (Unit {0})) ErrorCode × Tcp2Socket)
+  abbrev BindRow : Rows (Result (Answer (Unit {0})) ErrorCode × TcpRecord)
   BindRow es (Ok Pending, now) = EndsPending own es
   BindRow es (Ok (Ready done), now) = Unit {0}
   BindRow es (Err code, now) = BindRefused es (word_of_code code) (putting m place now)
@@ -95,7 +95,7 @@ module _ (m : Machine) (own : OpId) (handle place : ℕ) (r : Tcp2Socket) (n : N
 
   -- with nothing in progress the record is as it was
   stays_idle : is_nothing r.in_progress ≡ true → (es : List Entry) (code : ErrorCode) → BindRefusal m own place r a es (word_of_code code) m → BindRow es (Err code, with_progress r Doing.Nothing)
-  stays_idle idle es code cause = subst (λ (now : Tcp2Socket). BindRow es (Err code, now)) (ap (with_progress r) (sym (nothing_is r.in_progress idle))) (stays es code cause)
+  stays_idle idle es code cause = subst (λ (now : TcpRecord). BindRow es (Err code, now)) (ap (with_progress r) (sym (nothing_is r.in_progress idle))) (stays es code cause)
 
   module _ (side : OpId) (local : Told) (free : IsFoundUnbound r.inner side local) (idle : is_nothing r.in_progress ≡ true) where
     abbrev asked : Entry
@@ -126,13 +126,13 @@ module _ (m : Machine) (own : OpId) (handle place : ℕ) (r : Tcp2Socket) (n : N
   bind_begins idle = chain {Mid = λ es start. Meets BindRow es (bind_begun r start)} (onto _ (widen (by_bound idle) (bounds own r.inner))) (λ es start k. k)
 
 -- == a connect
-module _ (m : Machine) (own : OpId) (handle place : ℕ) (r : Tcp2Socket) (n : Names m handle place r) (a : IpSocketAddress) where
+module _ (m : Machine) (own : OpId) (handle place : ℕ) (r : TcpRecord) (n : Names m handle place r) (a : IpSocketAddress) where
   -- why it is refused, and what is left then
   abbrev ConnectRefused : List Entry → CodeWord → Machine → Type 0
   ConnectRefused es w after = ConnectRefusal m own place r a es w after × ((after ≡ m) ⊎ ((w ≡ word.InvalidArgument) × KnowsBound m handle after))
 
   -- a connect as it was begun: it is in progress, or is refused
-  abbrev ConnectRow : Rows (Result (Unit {0}) ErrorCode × Tcp2Socket)
+  abbrev ConnectRow : Rows (Result (Unit {0}) ErrorCode × TcpRecord)
   ConnectRow es (Ok done, now) = Unit {0}
   ConnectRow es (Err code, now) = ConnectRefused es (word_of_code code) (putting m place now)
 
@@ -171,13 +171,13 @@ abbrev pub IsPastNot : Listening → Type 0
 IsPastNot listening.Not = ⊥
 IsPastNot _ = ⊤
 
-module _ (m : Machine) (own : OpId) (handle place : ℕ) (r : Tcp2Socket) (n : Names m handle place r) where
+module _ (m : Machine) (own : OpId) (handle place : ℕ) (r : TcpRecord) (n : Names m handle place r) where
   -- why it is refused, and what is left then
   abbrev ListenRefusedSo : List Entry → CodeWord → Machine → Type 0
   ListenRefusedSo es w after = (ListensLateAt m handle → ListenRefusal m own place r es w after) × ((after ≡ m) ⊎ (KnowsBound m handle after ⊎ OfRecord m handle (λ place r. after ≡ closed_by_listen m place r)))
 
   -- a listen as it was begun: it is pending, or is done, or is refused
-  abbrev ListenRow : Rows (Result (Answer (Unit {0})) ErrorCode × Tcp2Socket)
+  abbrev ListenRow : Rows (Result (Answer (Unit {0})) ErrorCode × TcpRecord)
   ListenRow es (Ok Pending, now) = EndsPending own es
   ListenRow es (Ok (Ready done), now) = Unit {0}
   ListenRow es (Err code, now) = ListenRefusedSo es (word_of_code code) (putting m place now)
@@ -185,7 +185,7 @@ module _ (m : Machine) (own : OpId) (handle place : ℕ) (r : Tcp2Socket) (n : N
   abbrev bound : Socket
   bound = record r.inner { bound = true }
 
-  abbrev known : Tcp2Socket
+  abbrev known : TcpRecord
   known = with_inner r bound
 
   module _ (es : List Entry) (is : IsBound own r.inner es) where
@@ -238,7 +238,7 @@ finishes {Row} is_it m handle gone refused done =
     on_number m handle (λ o. let given = finish_on is_it m o in Give (done_reply given.0, given.1)) (λ place o. let given = with_store m (finish_at is_it m.store place o) in Give (done_reply given.0, given.1)) (λ place. refl) (λ none. ends (gone none)) (λ none place. ends (gone none))
     (λ place r n. by_it place r n (is_it r.in_progress) refl)
   where
-    by_it : (place : ℕ) (r : Tcp2Socket) → Names m handle place r → (b : Bool) → is_it r.in_progress ≡ b → let given = with_store m (finish_by m.store place r b) in Meets Row [] (Give (done_reply given.0, given.1))
+    by_it : (place : ℕ) (r : TcpRecord) → Names m handle place r → (b : Bool) → is_it r.in_progress ≡ b → let given = with_store m (finish_by m.store place r b) in Meets Row [] (Give (done_reply given.0, given.1))
     by_it place r n false e = ends (refused (rw (found_in n) e))
     by_it place r n true e = ends (done (λ k. let none : is_it r.in_progress ≡ false = rw (found_in n) at k in cc) _)
 
@@ -248,12 +248,12 @@ module _ (contexts : List WasiSocketsCtx) (m : Machine) (line c handle : ℕ) wh
   own = own_of line
 
   -- with no operation in progress a code of what was begun is none of the start itself
-  no_code : {place : ℕ} {r : Tcp2Socket} → Names m handle place r → is_nothing r.in_progress ≡ true → (code : ErrorCode) → Conflicts m handle (reply.Err (word_of_code code))
+  no_code : {place : ℕ} {r : TcpRecord} → Names m handle place r → is_nothing r.in_progress ≡ true → (code : ErrorCode) → Conflicts m handle (reply.Err (word_of_code code))
   no_code n idle code = no_conflict n idle _ (not_of_code code word.ConcurrencyConflict (λ no. no))
 
   module _ (network : ℕ) (a : IpSocketAddress) where
     -- == a bind
-    bind_said : (place : ℕ) (r : Tcp2Socket) (n : Names m handle place r) → is_nothing r.in_progress ≡ true → (es : List Entry) (ended : Result (Answer (Unit {0})) ErrorCode × Tcp2Socket) → BindRow m own handle place r n a es ended → (Replied contexts m line (step.TcpStartBind c handle network a) (answer_reply line)) es (with_store m (call_answered m.store (first_ids line) (StandingCall.Bind place) ended))
+    bind_said : (place : ℕ) (r : TcpRecord) (n : Names m handle place r) → is_nothing r.in_progress ≡ true → (es : List Entry) (ended : Result (Answer (Unit {0})) ErrorCode × TcpRecord) → BindRow m own handle place r n a es ended → (Replied contexts m line (step.TcpStartBind c handle network a) (answer_reply line)) es (with_store m (call_answered m.store (first_ids line) (StandingCall.Bind place) ended))
     bind_said place r n idle es (Ok Pending, now) h = (λ is. no_conflict n idle _ (λ e. cc), ((refl, refl), h))
     bind_said place r n idle es (Ok (Ready done), now) h = (λ is. no_conflict n idle _ (λ e. cc), (tt, tt))
     bind_said place r n idle es (Err code, now) h = (λ is. no_code n idle code, (inr (code_word code), (here n (Begins idle h.0), h.1)))
@@ -266,7 +266,7 @@ module _ (contexts : List WasiSocketsCtx) (m : Machine) (line c handle : ℕ) wh
         (λ no. ends (λ is. absurd (cc), (inl no, (refl, refl)))))
 
     -- == a connect
-    connect_said : (place : ℕ) (r : Tcp2Socket) (n : Names m handle place r) → is_nothing r.in_progress ≡ true → (es : List Entry) (done : Result (Unit {0}) ErrorCode × Tcp2Socket) → ConnectRow m own handle place r n a es done → (Replied contexts m line (step.TcpStartConnect c handle network a) done_reply) es (with_store m (answer_put m.store place done))
+    connect_said : (place : ℕ) (r : TcpRecord) (n : Names m handle place r) → is_nothing r.in_progress ≡ true → (es : List Entry) (done : Result (Unit {0}) ErrorCode × TcpRecord) → ConnectRow m own handle place r n a es done → (Replied contexts m line (step.TcpStartConnect c handle network a) done_reply) es (with_store m (answer_put m.store place done))
     connect_said place r n idle es (Ok done, now) h = (λ is. no_conflict n idle _ (λ e. cc), (tt, tt))
     connect_said place r n idle es (Err code, now) h = (λ is. no_code n idle code, (inr (code_word code), (here n (Begins idle h.0), h.1)))
 
@@ -278,7 +278,7 @@ module _ (contexts : List WasiSocketsCtx) (m : Machine) (line c handle : ℕ) wh
         (λ no. ends (λ is. absurd (cc), (inl no, (refl, refl)))))
 
   -- == a listen
-  listen_said : (place : ℕ) (r : Tcp2Socket) (n : Names m handle place r) → is_nothing r.in_progress ≡ true → (es : List Entry) (done : Result (Answer (Unit {0})) ErrorCode × Tcp2Socket) → ListenRow m own handle place r n es done → (Replied contexts m line (step.TcpStartListen c handle) (answer_reply line)) es (with_store m (call_answered m.store (first_ids line) (StandingCall.Listen place) done))
+  listen_said : (place : ℕ) (r : TcpRecord) (n : Names m handle place r) → is_nothing r.in_progress ≡ true → (es : List Entry) (done : Result (Answer (Unit {0})) ErrorCode × TcpRecord) → ListenRow m own handle place r n es done → (Replied contexts m line (step.TcpStartListen c handle) (answer_reply line)) es (with_store m (call_answered m.store (first_ids line) (StandingCall.Listen place) done))
   listen_said place r n idle es (Ok Pending, now) h = (no_conflict n idle _ (λ e. cc), ((refl, refl), h))
   listen_said place r n idle es (Ok (Ready done), now) h = (no_conflict n idle _ (λ e. cc), (tt, tt))
   listen_said place r n idle es (Err code, now) h = (no_code n idle code, (inr (code_word code), (λ late. here n (Begins idle (h.0 late)), h.1)))

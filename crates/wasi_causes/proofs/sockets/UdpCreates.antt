@@ -12,8 +12,8 @@ use Rattle.wasi_host.specs.UdpCreates.{with_create, create_answered, poll_create
 use Rattle.wasi_host.specs.declared.kind.Kind.TheVariants.{Udp2}
 use Rattle.wasi_causes.specs.GivenUp.{giving_back}
 use Rattle.wasi_records.specs.declared.records.Record.{Record}
-use Rattle.wasi_records.specs.declared.udp.Udp2Socket.{Udp2Socket}
-use Rattle.wasi_records.specs.declared.udp.Udp2Socket.TheVariants as udp
+use Rattle.wasi_records.specs.declared.udp.UdpRecord.{UdpRecord}
+use Rattle.wasi_records.specs.declared.udp.UdpRecord.TheVariants as udp
 use Rattle.wasi_machine.specs.Machine.{answer_reply_of}
 use Rattle.wasi_steps.specs.declared.step.Step.TheVariants as step
 use Rattle.wasi_udp.specs.Create.{Create, new_create, after_create, new_asks, with_left}
@@ -24,14 +24,14 @@ use Rattle.wasi_world.specs.declared.call.Told.TheVariants as told
 use Rattle.wasi_walks.proofs.Places.{push_finds, udp_sort}
 
 -- == the record that joined last
-pub put_last : (xs : List Record) (old now : Udp2Socket) → udp2_put (udp2_pushed xs old) (length xs) now ≡ udp2_pushed xs now
+pub put_last : (xs : List Record) (old now : UdpRecord) → udp2_put (udp2_pushed xs old) (length xs) now ≡ udp2_pushed xs now
 put_last [] old now = refl
 put_last (x ∷ xs) old now = ap (λ (rest : List Record). x ∷ rest) (put_last xs old now)
 
 -- == a handle for a socket that is made
-pub marks_udp : {Row : Rows (Result (Answer ℕ) Stop × Machine)} {es : List Entry} (m : Machine) (place : ℕ) (u : Udp2Socket) → udp2_at m.store.records place ≡ Some u → (is_full m.table ≡ true → Row es (Err (Trap Full), m))
+pub marks_udp : {Row : Rows (Result (Answer ℕ) Stop × Machine)} {es : List Entry} (m : Machine) (place : ℕ) (u : UdpRecord) → udp2_at m.store.records place ≡ Some u → (is_full m.table ≡ true → Row es (Err (Trap Full), m))
     → Row (es ++ entry (udp_side u) (call.Made m.table.next name.Udp2 None (Some (udp_side u))) told.Done ∷ []) (Ok (Ready m.table.next), record m { table = with_handle m.table (Udp2 place) None }) → Meets Row es (mark_udp m place (udp2_at m.store.records place))
-marks_udp {Row} {es} m place u at full row = subst (λ (o : Option Udp2Socket). Meets Row es (mark_udp m place o)) (sym at) (onto _ (makes m.table (udp_side u) (Udp2 place) None (Some (udp_side u)) full row))
+marks_udp {Row} {es} m place u at full row = subst (λ (o : Option UdpRecord). Meets Row es (mark_udp m place o)) (sym at) (onto _ (makes m.table (udp_side u) (Udp2 place) None (Some (udp_side u)) full row))
 
 -- == a create
 module _ (contexts : List WasiSocketsCtx) (m : Machine) (line c : ℕ) (family : SocketAddressFamily) where
@@ -76,7 +76,7 @@ module _ (contexts : List WasiSocketsCtx) (m : Machine) (line c : ℕ) (family :
   now = with_create m its
 
   -- its record is the last one
-  put_so : (u : Udp2Socket) → record now { store = record now.store { records = udp2_put now.store.records place u } } ≡ with_udp_record m u
+  put_so : (u : UdpRecord) → record now { store = record now.store { records = udp2_put now.store.records place u } } ≡ with_udp_record m u
   put_so u = ap (λ (rs : List Record). let left : Machine = record m { store = record m.store { records = rs } } in left) (put_last m.store.records (udp.Creating its) u)
 
   polled_so : ctx.udp ≡ true → (es : List Entry) (end : End × List Item) → After PollRow (begun ∷ []) es end → Meets CreateRow es (create_so (first_ids line) place now (create_answered now.store place (udp_create_ended its end)))
@@ -107,7 +107,7 @@ module _ (contexts : List WasiSocketsCtx) (m : Machine) (line c : ℕ) (family :
   polls : ctx.udp ≡ true → Meets CreateRow (begun ∷ []) (create_on now (first_ids line) place)
   polls may =
       chain {Mid = λ es done. Meets CreateRow es (create_so (first_ids line) place now done)}
-      (subst (λ (o : Option Udp2Socket). Meets (λ es done. Meets CreateRow es (create_so (first_ids line) place now done)) (begun ∷ []) (poll_create_at now.store place o)) (sym (push_finds udp_sort m.store.records (udp.Creating its)))
+      (subst (λ (o : Option UdpRecord). Meets (λ es done. Meets CreateRow es (create_so (first_ids line) place now done)) (begun ∷ []) (poll_create_at now.store place o)) (sym (push_finds udp_sort m.store.records (udp.Creating its)))
       (onto _ (onto _ (widen (polled_so may) (shifted (begun ∷ []) (polled its.operation (tt, tt)))))))
       (λ es done k. k)
 

@@ -1,5 +1,5 @@
 -- A cancel of the pending call.
-use Rattle.wasi_causes.proofs.Words.{nothing_stands, ◌≡◌, ◌==◌, ◌∙◌, ℕ, Bool, true, false, if◌then◌else◌, List, [], Option, Some, None, refl, sym, subst, ap, inl, inr, Entry, Give, IfSome, IsListening, IsSomeAnd, Listening, Machine, PendingCallsFit, Records, Standing, StandingCall, Tcp2Socket, WasiSocketsCtx, bind, call_of, eq-eqb, side_of, stands_as, standing_as, unstood}
+use Rattle.wasi_causes.proofs.Words.{nothing_stands, ◌≡◌, ◌==◌, ◌∙◌, ℕ, Bool, true, false, if◌then◌else◌, List, [], Option, Some, None, refl, sym, subst, ap, inl, inr, Entry, Give, IfSome, IsListening, IsSomeAnd, Listening, Machine, PendingCallsFit, Records, Standing, StandingCall, TcpRecord, WasiSocketsCtx, bind, call_of, eq-eqb, side_of, stands_as, standing_as, unstood}
 use Rattle.wasi_world.specs.declared.ids.Ids.{Ids}
 use Rattle.wasi_world.specs.declared.call.Call.TheVariants as call
 use Rattle.wasi_udp.specs.Create.{Create}
@@ -12,8 +12,8 @@ use Rattle.wasi_jobs.specs.declared.job.HostJob.{HostJob}
 use Rattle.wasi_jobs.specs.declared.job.HostJob.TheVariants.{Datagram}
 use Rattle.wasi_records.specs.declared.listening.Listening.TheVariants as listening
 use Rattle.wasi_records.specs.declared.udp.OpenUdp.{OpenUdp}
-use Rattle.wasi_records.specs.declared.udp.Udp2Socket.{Udp2Socket}
-use Rattle.wasi_records.specs.declared.udp.Udp2Socket.TheVariants as udp
+use Rattle.wasi_records.specs.declared.udp.UdpRecord.{UdpRecord}
+use Rattle.wasi_records.specs.declared.udp.UdpRecord.TheVariants as udp
 use Rattle.wasi_records.specs.Records.{tcp2_at, udp2_at, open_at}
 use Rattle.wasi_machine.specs.Machine.{cancelled_reply}
 use Rattle.wasi_steps.specs.declared.step.Step.TheVariants as step
@@ -53,12 +53,12 @@ module _ (m : Machine) where
   LeftRow its es store = let after : Machine = record m { store = store } in CancelsBy m es after its × (store.standing ≡ None)
 
   module _ (ids : Ids) where
-    bind_goes : (place : ℕ) (o : Option Tcp2Socket) → tcp2_at m.store.records place ≡ o → LeftRow (StandingCall.Bind place) [] (cancel_bind_at free place o)
+    bind_goes : (place : ℕ) (o : Option TcpRecord) → tcp2_at m.store.records place ≡ o → LeftRow (StandingCall.Bind place) [] (cancel_bind_at free place o)
     bind_goes place None at = (λ r there. absurd (cc), refl)
-    bind_goes place (Some r) at = (λ q there. let its : r ≡ q = cc in (refl, ap (λ (x : Tcp2Socket). let after : Machine = record m { store = cancel_bind_at free place (Some x) } in after) its), refl)
+    bind_goes place (Some r) at = (λ q there. let its : r ≡ q = cc in (refl, ap (λ (x : TcpRecord). let after : Machine = record m { store = cancel_bind_at free place (Some x) } in after) its), refl)
 
     -- a listen that is pending has taken the network socket
-    listen_closed : (place : ℕ) (r : Tcp2Socket) → tcp2_at m.store.records place ≡ Some r → Under ids (StandingCall.Listen place) → PendingCallsFit m → side_of r.inner ≡ None
+    listen_closed : (place : ℕ) (r : TcpRecord) → tcp2_at m.store.records place ≡ Some r → Under ids (StandingCall.Listen place) → PendingCallsFit m → side_of r.inner ≡ None
     listen_closed place r at stands fits =
         let k : IfSome (tcp2_at m.store.records place) (λ q. IsListening q.inner.state q.listening) = rw stands at fits in
         by_listening r.listening (rw at at k)
@@ -67,10 +67,10 @@ module _ (m : Machine) where
         by_listening (listening.Begins op) h = h.3
         by_listening _ h = absurd h
 
-    listen_goes : (place : ℕ) → Under ids (StandingCall.Listen place) → (o : Option Tcp2Socket) → tcp2_at m.store.records place ≡ o → Meets (LeftRow (StandingCall.Listen place)) [] (cancel_listen_at free place o)
+    listen_goes : (place : ℕ) → Under ids (StandingCall.Listen place) → (o : Option TcpRecord) → tcp2_at m.store.records place ≡ o → Meets (LeftRow (StandingCall.Listen place)) [] (cancel_listen_at free place o)
     listen_goes place stands None at = ends (λ r there. absurd (cc), refl)
     listen_goes place stands (Some r) at =
-        onto _ (widen (λ es done k. (λ q there. let its : r ≡ q = cc in subst (λ (x : Tcp2Socket). ListenGivenUp m place x es (record m { store = listen_gone free place r })) its (record { asked = k; left = refl; closed = listen_closed place r at stands }), refl)) (listening_up r.listening))
+        onto _ (widen (λ es done k. (λ q there. let its : r ≡ q = cc in subst (λ (x : TcpRecord). ListenGivenUp m place x es (record m { store = listen_gone free place r })) its (record { asked = k; left = refl; closed = listen_closed place r at stands }), refl)) (listening_up r.listening))
 
     -- a create that is pending waits for its network socket
     goes_on : (place : ℕ) (create : Create) → udp2_at m.store.records place ≡ Some (udp.Creating create) → Under ids (StandingCall.UdpCreate place) → PendingCallsFit m → is_going create.operation ≡ true
@@ -79,9 +79,9 @@ module _ (m : Machine) where
         let its : IsCreating (udp.Creating create) = rw at at k in ap (λ (items : List Item). is_going (record create.operation { left = items })) its.1
 
     created : (place : ℕ) (create : Create) → udp2_at m.store.records place ≡ Some (udp.Creating create) → Under ids (StandingCall.UdpCreate place) → (es : List Entry) → (PendingCallsFit m → es ≡ entry create.operation.who.id (call.Close create.operation.who.side) told.Done ∷ []) → LeftRow (StandingCall.UdpCreate place) es (given_back place (with_udp free place (udp.Closed create.operation.who.side)))
-    created place create at stands es asked = (λ other there. let its : create ≡ other = cc in subst (λ (x : Create). CreateGivenUp m place x es (record m { store = given_back place (with_udp free place (udp.Closed create.operation.who.side)) })) its (record { asked = asked; left = put_gone (nothing_stands m) place (Record.Udp2 (udp.Closed create.operation.who.side)) }), refl)
+    created place create at stands es asked = (λ other there. let its : create ≡ other = cc in subst (λ (x : Create). CreateGivenUp m place x es (record m { store = given_back place (with_udp free place (udp.Closed create.operation.who.side)) })) its (record { asked = asked; left = put_gone (nothing_stands m) place (Record.Udp (udp.Closed create.operation.who.side)) }), refl)
 
-    create_goes : (place : ℕ) → Under ids (StandingCall.UdpCreate place) → (o : Option Udp2Socket) → udp2_at m.store.records place ≡ o → Meets (LeftRow (StandingCall.UdpCreate place)) [] (cancel_create_at free place o)
+    create_goes : (place : ℕ) → Under ids (StandingCall.UdpCreate place) → (o : Option UdpRecord) → udp2_at m.store.records place ≡ o → Meets (LeftRow (StandingCall.UdpCreate place)) [] (cancel_create_at free place o)
     unfolding bind
     create_goes place stands None at = ends (λ create there. absurd (cc), refl)
     create_goes place stands (Some (udp.Creating create)) at =

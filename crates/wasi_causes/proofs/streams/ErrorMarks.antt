@@ -1,7 +1,7 @@
 -- The mark of the error of a call that failed is of the network socket of the stream's record.
 use Rattle.wasi_causes.proofs.Words.{Answered, Asks, Bool, CallStop, Entry, Err, List}
 use Rattle.wasi_causes.proofs.Words.{Machine, NoSuchHandle, None, Ok, OpId, Option, ReadState, Reply, Result, Some}
-use Rattle.wasi_causes.proofs.Words.{Standing, StreamStop, Streams, Tcp2Socket, WasiSocketsCtx, WriteState}
+use Rattle.wasi_causes.proofs.Words.{Standing, StreamStop, Streams, TcpRecord, WasiSocketsCtx, WriteState}
 use Rattle.wasi_causes.proofs.Words.{[], ap, asks_while, begins_job, bind, bytes_fields}
 use Rattle.wasi_causes.proofs.Words.{converted, entry, false, input_at}
 use Rattle.wasi_causes.proofs.Words.{number_fields, output_at, own_of, reader_of}
@@ -34,15 +34,15 @@ use Rattle.wasi_causes.specs.ErrorMarks.{MarksItsSocket}
 use Rattle.wasi_walks.proofs.Places.{put_finds, tcp_sort}
 
 -- == a call on a record keeps its network socket
-abbrev KeepsSide : {T : Type 0} → Tcp2Socket → Rows (Result T StreamStop × Tcp2Socket)
+abbrev KeepsSide : {T : Type 0} → TcpRecord → Rows (Result T StreamStop × TcpRecord)
 KeepsSide r es done = done.1.side ≡ r.side
 
-reads_keep : {T : Type 0} (r : Tcp2Socket) (call : ReadState → Asks (Result T StreamStop × ReadState)) (o : Option Streams)
+reads_keep : {T : Type 0} (r : TcpRecord) (call : ReadState → Asks (Result T StreamStop × ReadState)) (o : Option Streams)
     → Meets (KeepsSide r) [] (reader_of r call o)
 reads_keep r call None = ends refl
 reads_keep r call (Some s) = onto _ (widen (λ es done k. refl) (whatever (call s.reader)))
 
-writes_keep : {T : Type 0} (r : Tcp2Socket) (call : WriteState → Asks (Result T StreamStop × WriteState)) (o : Option Streams)
+writes_keep : {T : Type 0} (r : TcpRecord) (call : WriteState → Asks (Result T StreamStop × WriteState)) (o : Option Streams)
     → Meets (KeepsSide r) [] (writer_of r call o)
 writes_keep r call None = ends refl
 writes_keep r call (Some s) = onto _ (widen (λ es done k. refl) (whatever (call s.writer)))
@@ -63,7 +63,7 @@ module _ (m : Machine) (own : OpId) (handle : ℕ) where
 
   module _ (place : ℕ) where
     -- a failure is marked, by these records
-    converts : {T : Type 0} (r now : Tcp2Socket) → tcp2_at m.store.records place ≡ Some r
+    converts : {T : Type 0} (r now : TcpRecord) → tcp2_at m.store.records place ≡ Some r
         → (es : List Entry) (store : Records)
         → tcp2_at store.records place ≡ Some now → now.side ≡ r.side → (done : Result T StreamStop)
         → Meets (MarkRow (Some place)) es (converted own handle place (done, record m { store = store }))
@@ -91,9 +91,9 @@ module _ (m : Machine) (own : OpId) (handle : ℕ) where
     unfolding bind
     lost es after = ends tt
 
-    by_stream : {T : Type 0} (call : Tcp2Socket → Asks (Result T StreamStop × Tcp2Socket))
-        → ((r : Tcp2Socket) → Meets (KeepsSide r) [] (call r))
-        → (o : Option Tcp2Socket) → tcp2_at m.store.records place ≡ o
+    by_stream : {T : Type 0} (call : TcpRecord → Asks (Result T StreamStop × TcpRecord))
+        → ((r : TcpRecord) → Meets (KeepsSide r) [] (call r))
+        → (o : Option TcpRecord) → tcp2_at m.store.records place ≡ o
         → Meets Converted [] (stream_at m.store place call o)
     by_stream call keeps None at = ends (lost [] m)
     by_stream call keeps (Some r) at =
@@ -105,9 +105,9 @@ module _ (m : Machine) (own : OpId) (handle : ℕ) where
     noted_there store job true = refl
     noted_there store job false = refl
 
-    by_write : {T : Type 0} (call : Tcp2Socket → Asks (Result T StreamStop × Tcp2Socket))
-        → ((r : Tcp2Socket) → Meets (KeepsSide r) [] (call r))
-        → (o : Option Tcp2Socket) → tcp2_at m.store.records place ≡ o
+    by_write : {T : Type 0} (call : TcpRecord → Asks (Result T StreamStop × TcpRecord))
+        → ((r : TcpRecord) → Meets (KeepsSide r) [] (call r))
+        → (o : Option TcpRecord) → tcp2_at m.store.records place ≡ o
         → Meets Converted [] (write_at m.store place call o)
     by_write call keeps None at =
         onto _ (ends (lost [] (record m { store = with_job m.store (WriteJob place) (begins_job None (tcp2_at m.store.records place)) })))
@@ -117,14 +117,14 @@ module _ (m : Machine) (own : OpId) (handle : ℕ) where
         let b = begins_job (Some r) (tcp2_at put.records place) in
         converts r done.1 at es (with_job put (WriteJob place) b) (noted_there put (WriteJob place) b ∙ put_finds tcp_sort m.store.records place r done.1 at) k done.0) (keeps r)))
 
-  on_stream : {T : Type 0} (call : Tcp2Socket → Asks (Result T StreamStop × Tcp2Socket))
-      → ((r : Tcp2Socket) → Meets (KeepsSide r) [] (call r))
+  on_stream : {T : Type 0} (call : TcpRecord → Asks (Result T StreamStop × TcpRecord))
+      → ((r : TcpRecord) → Meets (KeepsSide r) [] (call r))
       → (number : Option ℕ) → Meets (MarkRow number) [] (stream_on m own handle call number)
   on_stream call keeps None = ends tt
   on_stream call keeps (Some place) = chain {Mid = Converted place} (by_stream place call keeps (tcp2_at m.store.records place) refl) (λ es done k. k)
 
-  on_write : {T : Type 0} (call : Tcp2Socket → Asks (Result T StreamStop × Tcp2Socket))
-      → ((r : Tcp2Socket) → Meets (KeepsSide r) [] (call r))
+  on_write : {T : Type 0} (call : TcpRecord → Asks (Result T StreamStop × TcpRecord))
+      → ((r : TcpRecord) → Meets (KeepsSide r) [] (call r))
       → (number : Option ℕ) → Meets (MarkRow number) [] (write_on m own handle call number)
   on_write call keeps None = ends tt
   on_write call keeps (Some place) = chain {Mid = Converted place} (by_write place call keeps (tcp2_at m.store.records place) refl) (λ es done k. k)

@@ -16,7 +16,7 @@ use Rattle.wasi_host.specs.declared.store.StandingCall.TheVariants.{DropOutput}
 use Rattle.wasi_causes.proofs.Words.{Again, AlreadyClosed, Answer, Asks, Bool, CheckFails, CodeTold, Done, End, Ends, Entry, Err, ErrorCode}
 use Rattle.wasi_causes.proofs.Words.{ErrorKept, Front, Give, IsDone, IsRead, IsSomeAnd, IsUnpermitted, Item, LengthZero, List, Machine, None}
 use Rattle.wasi_causes.proofs.Words.{NotPermitted, NotReady, Ok, OpId, Option, OutputWaits, Pending, Permits, ReadFails, ReadState, ReadsEnd}
-use Rattle.wasi_causes.proofs.Words.{ReadsNone, ReadsTold, Ready, Receive, Records, Refused, Result, Send, Some, StreamStop, Streams, Tcp2Socket}
+use Rattle.wasi_causes.proofs.Words.{ReadsNone, ReadsTold, Ready, Receive, Records, Refused, Result, Send, Some, StreamStop, Streams, TcpRecord}
 use Rattle.wasi_causes.proofs.Words.{TcpReceiveStream, TcpSendStream, Told, ToldNone, ToldToWait, Waits, WasiSocketsCtx, Write, WriteFails}
 use Rattle.wasi_causes.proofs.Words.{WriteState, WriterWaits, WritesOn, [], after, after_read, ap, append_assoc, arith, ask_read, begins_job, begun}
 use Rattle.wasi_causes.proofs.Words.{bind, bytes_reply, check_asks, check_write_asks, closing_writer, collected, drop_output_at, drop_waits, entry}
@@ -83,7 +83,7 @@ module _ (store : Records) (ids : Ids) (place : ℕ) where
   WaitRow es (Pending, now) = WaitsThere es × (now.standing ≡ store.standing)
   WaitRow es (Ready done, now) = LooksOnce (own_of ids.line) es × (now.standing ≡ store.standing)
 
-  module _ (r : Tcp2Socket) (at : tcp2_at store.records place ≡ Some r) where
+  module _ (r : TcpRecord) (at : tcp2_at store.records place ≡ Some r) where
     of_look : (s : Streams) → r.streams ≡ Some s → (es : List Entry) (looked : Result (Answer (Unit {0})) StreamStop × WriteState) → LookRow (own_of ids.line) s.writer es looked → WaitRow es (wait_put store place (wait_answer looked.0, with_writer r s looked.1))
     of_look s has es (Ok Pending, now) k = (λ m same. record { place = place; found = r; streams = s; names = refl; at = ap (λ (rs : List Record). tcp2_at rs place) same ∙ at; has = has; holds = k }, refl)
     of_look s has es (Ok (Ready done), now) k = (k, refl)
@@ -93,7 +93,7 @@ module _ (store : Records) (ids : Ids) (place : ℕ) where
     by_streams None has = ends (NoLook, refl)
     by_streams (Some s) has = onto _ (widen (of_look s has) (looks (own_of ids.line) s.writer))
 
-  waits_at : (o : Option Tcp2Socket) → tcp2_at store.records place ≡ o → Meets WaitRow [] (wait_at store (own_of ids.line) place o)
+  waits_at : (o : Option TcpRecord) → tcp2_at store.records place ≡ o → Meets WaitRow [] (wait_at store (own_of ids.line) place o)
   waits_at None at = ends (NoLook, refl)
   waits_at (Some r) at = onto _ (by_streams r at r.streams refl)
 
@@ -101,7 +101,7 @@ module _ (store : Records) (ids : Ids) (place : ℕ) where
   waits es (Ready done, now) k = k
   waits es (Pending, now) k = (k.0, refl)
 
-  pub outputs : (o : Option Tcp2Socket) → tcp2_at store.records place ≡ o → Meets OutputRow [] (drop_output_at store ids place o)
+  pub outputs : (o : Option TcpRecord) → tcp2_at store.records place ≡ o → Meets OutputRow [] (drop_output_at store ids place o)
   outputs o at = onto _ (widen waits (waits_at o at))
 
 -- == what a reader gives
@@ -146,7 +146,7 @@ module _ (contexts : List WasiSocketsCtx) (m : Machine) (line c input len : ℕ)
     not_plain : (es : List Entry) (said : Reply) → PlainRead m input es said
     not_plain es said = rw connected tt
 
-  module _ (connected : plain_input_at m input ≡ None) (place : ℕ) (r : Tcp2Socket) (s : Streams) (n : HasStreams m (input_at m input) place r s) where
+  module _ (connected : plain_input_at m input ≡ None) (place : ℕ) (r : TcpRecord) (s : Streams) (n : HasStreams m (input_at m input) place r s) where
     abbrev left_reading : ReadState → Machine
     left_reading reader = putting m place (with_reader r s reader)
 
@@ -313,7 +313,7 @@ module _ (contexts : List WasiSocketsCtx) (m : Machine) (line c output : ℕ) wh
   abbrev own : OpId
   own = own_of line
 
-  module _ (place : ℕ) (r : Tcp2Socket) (s : Streams) (n : HasStreams m (output_at m output) place r s) where
+  module _ (place : ℕ) (r : TcpRecord) (s : Streams) (n : HasStreams m (output_at m output) place r s) where
     abbrev left : WriteState → Machine
     left writer = putting m place (with_writer r s writer)
 
@@ -335,7 +335,7 @@ module _ (contexts : List WasiSocketsCtx) (m : Machine) (line c output : ℕ) wh
     no_capacity n said other = apart other (λ k. rw connected at k)
 
   -- == a look at what may be written
-  check_so : (connected : plain_output_at m output ≡ None) (place : ℕ) (r : Tcp2Socket) (s : Streams) → HasStreams m (output_at m output) place r s → (es : List Entry) (done : Result ℕ StreamStop × WriteState) → CheckRow own s.writer es done
+  check_so : (connected : plain_output_at m output ≡ None) (place : ℕ) (r : TcpRecord) (s : Streams) → HasStreams m (output_at m output) place r s → (es : List Entry) (done : Result ℕ StreamStop × WriteState) → CheckRow own s.writer es done
       → TellsStream m own output (Replied contexts m line (step.CheckWrite c output) permit_reply) es done.0 (with_socket m.store place (with_writer r s done.1))
   check_so connected place r s n es (Ok k, now) h = (no_plain_check connected es _ _, ((tt, tt), inl (of_streams n h)))
   check_so connected place r s n es (Err stop.Closed, now) h = (no_plain_check connected es _ _, (tt, inl (of_streams n (h.0, ap (left place r s n) h.1))))
@@ -359,7 +359,7 @@ module _ (contexts : List WasiSocketsCtx) (m : Machine) (line c output : ℕ) wh
 
   -- == a write
   module _ (bytes : List ℕ) where
-    module _ (connected : plain_output_at m output ≡ None) (place : ℕ) (r : Tcp2Socket) (s : Streams) (n : HasStreams m (output_at m output) place r s) where
+    module _ (connected : plain_output_at m output ≡ None) (place : ℕ) (r : TcpRecord) (s : Streams) (n : HasStreams m (output_at m output) place r s) where
       abbrev written : WriteState → Machine
       written now = record m { store = job_noted place (Some r) (with_socket m.store place (with_writer r s now)) }
 
@@ -374,12 +374,12 @@ module _ (contexts : List WasiSocketsCtx) (m : Machine) (line c output : ℕ) wh
 
       written_closed : (now : WriteState) (e : WriteError) → now ≡ writing.Closed e → written now ≡ closing_writer m place r s e
       written_closed now e p =
-          let closed : Tcp2Socket = with_writer r s (writing.Closed e) in
+          let closed : TcpRecord = with_writer r s (writing.Closed e) in
           let store : Records = with_socket m.store place closed in
           let there : tcp2_at store.records place ≡ Some closed = put_finds tcp_sort m.store.records place r closed n.at in
           ap written p
           ∙ ap (λ (kept : Records). let after : Machine = record m { store = kept } in after)
-          (ap (λ (o : Option Tcp2Socket). with_job store (HostJob.Write place) (begins_job (Some r) o)) there ∙ ap (with_job store (HostJob.Write place)) (and_not (not (has_job (Some r)))))
+          (ap (λ (o : Option TcpRecord). with_job store (HostJob.Write place) (begins_job (Some r) o)) there ∙ ap (with_job store (HostJob.Write place)) (and_not (not (has_job (Some r)))))
 
       was_permitted : (IsUnpermitted s.writer (length bytes) → ⊥) → IsSomeAnd (output_streams m output) (λ s. IsUnpermitted s.writer (length bytes)) → ⊥
       was_permitted may u = let k : IsUnpermitted s.writer (length bytes) = rw (the_streams n) at u in may k
@@ -414,7 +414,7 @@ module _ (contexts : List WasiSocketsCtx) (m : Machine) (line c output : ℕ) wh
     write = onto _ write_rows
 
   -- == a flush
-  flush_so : (connected : plain_output_at m output ≡ None) (place : ℕ) (r : Tcp2Socket) (s : Streams) → HasStreams m (output_at m output) place r s → (es : List Entry) (done : Result (Unit {0}) StreamStop × WriteState) → FlushRow s.writer es done
+  flush_so : (connected : plain_output_at m output ≡ None) (place : ℕ) (r : TcpRecord) (s : Streams) → HasStreams m (output_at m output) place r s → (es : List Entry) (done : Result (Unit {0}) StreamStop × WriteState) → FlushRow s.writer es done
       → TellsStream m own output (Replied contexts m line (step.Flush c output) taken_reply) es done.0 (with_socket m.store place (with_writer r s done.1))
   flush_so connected place r s n es (Ok done, now) h = (no_plain_flush connected es _ _, (tt, (h.0, same place r s n now h.1)))
   flush_so connected place r s n es (Err stop.Closed, now) h = (no_plain_flush connected es _ _, (tt, inl (of_streams n h.2, (h.0, same place r s n now h.1))))

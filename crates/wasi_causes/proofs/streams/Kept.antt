@@ -1,5 +1,5 @@
 -- What each call of a stream keeps: what is pending, the streams and the pipes that are there, and the handles, where it gives something.
-use Rattle.wasi_causes.proofs.Words.{◌≡◌, ◌∙◌, ℕ, ⊤, Bool, true, false, if◌then◌else◌, nat_lt, List, [], ◌∷◌, ◌++◌, Option, Some, None, Result, Ok, Err, IsSome, is_some, inl, inr, refl, sym, subst, ap, CallStop, Entry, Machine, OpId, Permits, ReadState, Records, StreamStop, Tcp2Socket, WriteState, check_asks, check_write_asks, flush_asks, flushed_asks, input_at, length, marks_in, output_at, read_asks, read_state_asks, reader_of, streams_in, with_job, with_reader, with_writer, write_asks, write_state_asks, writer_of}
+use Rattle.wasi_causes.proofs.Words.{◌≡◌, ◌∙◌, ℕ, ⊤, Bool, true, false, if◌then◌else◌, nat_lt, List, [], ◌∷◌, ◌++◌, Option, Some, None, Result, Ok, Err, IsSome, is_some, inl, inr, refl, sym, subst, ap, CallStop, Entry, Machine, OpId, Permits, ReadState, Records, StreamStop, TcpRecord, WriteState, check_asks, check_write_asks, flush_asks, flushed_asks, input_at, length, marks_in, output_at, read_asks, read_state_asks, reader_of, streams_in, with_job, with_reader, with_writer, write_asks, write_state_asks, writer_of}
 use Rattle.memory_streams.specs.Plain.{Contents, left_in}
 use Rattle.wasi_streams.specs.StreamStop as stop
 use Rattle.wasi_jobs.specs.declared.job.HostJob.{HostJob}
@@ -32,18 +32,18 @@ pub record PartsThere (old now : List Record) : Type 0 where
 pub there_same : (xs : List Record) → PartsThere xs xs
 there_same xs = record { streams = λ k h. h; inputs = λ k h. h; outputs = λ k h. h }
 
-streams_by : (o : Option Tcp2Socket) → IsSome (streams_in o) → (r : Tcp2Socket) × (o ≡ Some r)
+streams_by : (o : Option TcpRecord) → IsSome (streams_in o) → (r : TcpRecord) × (o ≡ Some r)
 streams_by None h = absurd (cc)
 streams_by (Some r) h = (r, refl)
 
 -- a record that has streams is replaced by one that has
-pub there_put : (xs : List Record) (i : ℕ) (r now : Tcp2Socket) → tcp2_at xs i ≡ Some r → IsSome now.streams → PartsThere xs (tcp2_put xs i now)
+pub there_put : (xs : List Record) (i : ℕ) (r now : TcpRecord) → tcp2_at xs i ≡ Some r → IsSome now.streams → PartsThere xs (tcp2_put xs i now)
 there_put xs i r now at has = record {
   streams = λ k h.
       let found = streams_by (tcp2_at xs k) h in
       elim (put_stays tcp_sort xs i now k found.0 found.1) [
-        | inl e ↦ subst (λ (o : Option Tcp2Socket). IsSome (streams_in o)) (found.1 ∙ sym e) h
-        | inr e ↦ subst (λ (o : Option Tcp2Socket). IsSome (streams_in o)) (sym e.1) has
+        | inl e ↦ subst (λ (o : Option TcpRecord). IsSome (streams_in o)) (found.1 ∙ sym e) h
+        | inr e ↦ subst (λ (o : Option TcpRecord). IsSome (streams_in o)) (sym e.1) has
       ];
   inputs = λ k h. ap (λ o. is_some o) (other_put tcp_sort input_sort (λ t. refl) xs i r now k at) ∙ h;
   outputs = λ k h. ap (λ o. is_some o) (other_put tcp_sort output_sort (λ t. refl) xs i r now k at) ∙ h;
@@ -52,14 +52,14 @@ there_put xs i r now at has = record {
 -- a pipe is replaced by a pipe
 pub there_input : (xs : List Record) (i : ℕ) (was now : List ℕ) → input_pipe_at xs i ≡ Some was → PartsThere xs (input_pipe_put xs i now)
 there_input xs i was now at = record {
-  streams = λ k h. subst (λ (o : Option Tcp2Socket). IsSome (streams_in o)) (sym (other_put input_sort tcp_sort (λ t. refl) xs i was now k at)) h;
+  streams = λ k h. subst (λ (o : Option TcpRecord). IsSome (streams_in o)) (sym (other_put input_sort tcp_sort (λ t. refl) xs i was now k at)) h;
   inputs = λ k h. put_some input_sort xs i now k h;
   outputs = λ k h. ap (λ o. is_some o) (other_put input_sort output_sort (λ t. refl) xs i was now k at) ∙ h;
 }
 
 pub there_output : (xs : List Record) (i : ℕ) (was now : Contents) → output_pipe_at xs i ≡ Some was → PartsThere xs (output_pipe_put xs i now)
 there_output xs i was now at = record {
-  streams = λ k h. subst (λ (o : Option Tcp2Socket). IsSome (streams_in o)) (sym (other_put output_sort tcp_sort (λ t. refl) xs i was now k at)) h;
+  streams = λ k h. subst (λ (o : Option TcpRecord). IsSome (streams_in o)) (sym (other_put output_sort tcp_sort (λ t. refl) xs i was now k at)) h;
   inputs = λ k h. ap (λ o. is_some o) (other_put output_sort input_sort (λ t. refl) xs i was now k at) ∙ h;
   outputs = λ k h. put_some output_sort xs i now k h;
 }
@@ -184,7 +184,7 @@ module _ (m : Machine) (own : OpId) (handle : ℕ) where
     write_left place (Some pipe) at = write_fits place pipe at (nat_lt (left_in pipe) (length bytes))
 
     -- a job that begins changes no record
-    noted_keeps : (place : ℕ) (r now : Tcp2Socket) → tcp2_at m.store.records place ≡ Some r → IsSome now.streams → KeepsStore m.store (job_noted place (Some r) (with_socket m.store place now))
+    noted_keeps : (place : ℕ) (r now : TcpRecord) → tcp2_at m.store.records place ≡ Some r → IsSome now.streams → KeepsStore m.store (job_noted place (Some r) (with_socket m.store place now))
     noted_keeps place r now at has =
         let k = job_keeps (with_socket m.store place now) (HostJob.Write place) (begins_job (Some r) (tcp2_at (with_socket m.store place now).records place)) in
         (k.0, subst (PartsThere m.store.records) (sym k.1) (there_put m.store.records place r now at has))

@@ -1,5 +1,5 @@
 -- What calls of streams leave pending: nothing, or a call that is on streams which are there.
-use Rattle.wasi_causes.proofs.Words.{◌≡◌, ◌∙◌, ℕ, ⊤, arith, List, [], ◌∷◌, Option, Some, None, Result, Ok, Err, false, sym, subst, ap, inl, inr, Answered, CallStop, Entry, Give, IfSome, Left, Machine, OfStreams, OpId, Reply, Standing, Step, Streams, Tcp2Socket, WasiSocketsCtx, asks_while, bytes_fields, input_at, length, no_fields, number_fields, own_of, record_in, step_asks, streams_in}
+use Rattle.wasi_causes.proofs.Words.{◌≡◌, ◌∙◌, ℕ, ⊤, arith, List, [], ◌∷◌, Option, Some, None, Result, Ok, Err, false, sym, subst, ap, inl, inr, Answered, CallStop, Entry, Give, IfSome, Left, Machine, OfStreams, OpId, Reply, Standing, Step, Streams, TcpRecord, WasiSocketsCtx, asks_while, bytes_fields, input_at, length, no_fields, number_fields, own_of, record_in, step_asks, streams_in}
 use Rattle.std.specs.Prelude.{◌≤◌, drop, suc, take, zero}
 use Rattle.wasi_world.specs.declared.ids.Ids.{Ids}
 use Rattle.wasi_host.specs.declared.blocking.BlockingCall.{BlockingCall}
@@ -113,7 +113,7 @@ module _ (contexts : List WasiSocketsCtx) where
 
   -- == an input is there
   module _ (m : Machine) (h : ℕ) where
-    streams_there : {P : ℕ → Tcp2Socket → Streams → Type 0} → OfStreams m (input_at m h) P → MissesInput m h → ⊥
+    streams_there : {P : ℕ → TcpRecord → Streams → Type 0} → OfStreams m (input_at m h) P → MissesInput m h → ⊥
     streams_there k missing = let has : streams_in (record_in m (input_at m h)) ≡ Some k.streams = ap streams_in (ap (record_in m) k.names ∙ k.at) ∙ k.has in let none = missing.0 in cc
 
     pipe_there : {P : ℕ → List ℕ → Type 0} → OfInputPipe m h P → MissesInput m h → ⊥

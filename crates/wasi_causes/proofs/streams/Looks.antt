@@ -1,5 +1,5 @@
 -- A look at an input, before a call that blocks reads it.
-use Rattle.wasi_causes.proofs.Words.{◌≡◌, ◌∙◌, ℕ, Bool, true, List, [], ◌∷◌, Option, Some, None, Result, Ok, Err, refl, sym, subst, ap, CallStop, Entry, Machine, NoSuchHandle, OpId, ReadState, Records, Streams, Tcp2Socket, TcpReceiveStream, Told, bind, entry, input_at, marks_in, reader_ready_asks, record_in, streams_in, told_ready, with_reader}
+use Rattle.wasi_causes.proofs.Words.{◌≡◌, ◌∙◌, ℕ, Bool, true, List, [], ◌∷◌, Option, Some, None, Result, Ok, Err, refl, sym, subst, ap, CallStop, Entry, Machine, NoSuchHandle, OpId, ReadState, Records, Streams, TcpRecord, TcpReceiveStream, Told, bind, entry, input_at, marks_in, reader_ready_asks, record_in, streams_in, told_ready, with_reader}
 use Rattle.wasi_tcp.specs.declared.reader.ReadState.TheVariants as reading
 use Rattle.wasi_host.specs.Blocking.{look_asks, look_at, look_by, look_on, looked}
 use Rattle.wasi_host.specs.declared.kind.PlainInput.{PlainInput}
@@ -28,7 +28,7 @@ module _ (m : Machine) (own : OpId) (h : ℕ) where
     missing : streams_in (record_in m (input_at m h)) ≡ None → LookFacts [] (Err (Traps NoSuchHandle), m)
     missing none = ((none, rw connected tt), refl, refl)
 
-    module _ (place : ℕ) (r : Tcp2Socket) (s : Streams) (n : HasStreams m (input_at m h) place r s) where
+    module _ (place : ℕ) (r : TcpRecord) (s : Streams) (n : HasStreams m (input_at m h) place r s) where
       left : ReadState → Machine
       left reader = record m { store = (ready_put m.store place (Ok true, with_reader r s reader)).1 }
 
@@ -46,12 +46,12 @@ module _ (m : Machine) (own : OpId) (h : ℕ) where
       by_reader (reading.Open half) e = asks (λ t fits. ends (told_look half e t fits))
       by_reader reading.Closed e = ends (OfClosed (of_streams n e), left_same reading.Closed e, refl)
 
-    by_streams : (place : ℕ) (r : Tcp2Socket) → input_at m h ≡ Some place → tcp2_at m.store.records place ≡ Some r → (o : Option Streams) → r.streams ≡ o → Meets (λ es done. LookFacts es (looked m (ready_put m.store place done))) [] (ready_reader own r o)
+    by_streams : (place : ℕ) (r : TcpRecord) → input_at m h ≡ Some place → tcp2_at m.store.records place ≡ Some r → (o : Option Streams) → r.streams ≡ o → Meets (λ es done. LookFacts es (looked m (ready_put m.store place done))) [] (ready_reader own r o)
     unfolding left
     by_streams place r names at None has = ends (subst (λ (store : Records). LookFacts [] (Err (Traps NoSuchHandle), record m { store = store })) (sym (put_store_same m.store place r at)) (missing (ap streams_in (ap (record_in m) names ∙ at) ∙ has)))
     by_streams place r names at (Some s) has = onto _ (by_reader place r s (record { names = names; at = at; has = has }) s.reader refl)
 
-    by_record : (place : ℕ) → input_at m h ≡ Some place → (o : Option Tcp2Socket) → tcp2_at m.store.records place ≡ o → Meets (λ es done. LookFacts es (looked m done)) [] (look_at m.store own place o)
+    by_record : (place : ℕ) → input_at m h ≡ Some place → (o : Option TcpRecord) → tcp2_at m.store.records place ≡ o → Meets (λ es done. LookFacts es (looked m done)) [] (look_at m.store own place o)
     by_record place names None at = ends (missing (ap streams_in (ap (record_in m) names ∙ at)))
     by_record place names (Some r) at = onto _ (by_streams place r names at r.streams refl)
 

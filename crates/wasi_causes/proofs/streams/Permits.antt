@@ -1,5 +1,5 @@
 -- What a look at what may be written permits stays permitted, also after a read; and a read gives no more than was wanted.
-use Rattle.wasi_causes.proofs.Words.{◌≡◌, ◌∙◌, ◌<◌, ℕ, ⊤, Bool, true, false, zero, suc, arith, if◌then◌else◌, min, List, [], ◌∷◌, Option, Some, None, Result, Ok, Err, IsRead, IsSomeAnd, IsUnpermitted, refl, sym, subst, ap, CallStop, Entry, Give, Machine, OpId, ReadState, Ready, StreamStop, Streams, Tcp2Socket, TcpReceiveStream, Told, WriteState, after_read, ask_read, bind, check_asks, check_write_asks, collected, input_at, length, look_in, output_at, output_streams, permitted, polled_answer, read_asks, read_state_asks, reader_of, record_in, slice_get, streams_in, told_bytes, told_ready, with_reader, with_writer, writer_of, ◌==◌}
+use Rattle.wasi_causes.proofs.Words.{◌≡◌, ◌∙◌, ◌<◌, ℕ, ⊤, Bool, true, false, zero, suc, arith, if◌then◌else◌, min, List, [], ◌∷◌, Option, Some, None, Result, Ok, Err, IsRead, IsSomeAnd, IsUnpermitted, refl, sym, subst, ap, CallStop, Entry, Give, Machine, OpId, ReadState, Ready, StreamStop, Streams, TcpRecord, TcpReceiveStream, Told, WriteState, after_read, ask_read, bind, check_asks, check_write_asks, collected, input_at, length, look_in, output_at, output_streams, permitted, polled_answer, read_asks, read_state_asks, reader_of, record_in, slice_get, streams_in, told_bytes, told_ready, with_reader, with_writer, writer_of, ◌==◌}
 use Rattle.std.specs.Prelude.{◌≤◌, take, drop}
 use Rattle.std.proofs.Math.Nat.{min-le_left}
 use Rattle.std.proofs.lemmas.List.{length-take}
@@ -13,7 +13,7 @@ use Rattle.wasi_host.specs.declared.kind.PlainInput.TheVariants as input
 use Rattle.wasi_host.specs.declared.kind.PlainOutput.{PlainOutput}
 use Rattle.wasi_host.specs.declared.kind.PlainOutput.TheVariants as output
 use Rattle.wasi_records.specs.declared.records.Record.{Record}
-use Rattle.wasi_records.specs.declared.records.Record.TheVariants.{Tcp2, Udp2, Lookup, InputPipe, OutputPipe, Gone}
+use Rattle.wasi_records.specs.declared.records.Record.TheVariants.{Tcp, Udp, Lookup, InputPipe, OutputPipe, Gone}
 use Rattle.wasi_host.specs.PlainStreams.{check_pipe_at, read_pipe_at}
 use Rattle.wasi_records.specs.Records.{input_pipe_at, output_pipe_at, tcp2_at, tcp2_put}
 use Rattle.wasi_host.specs.StreamCalls.{check_by, plain_answer, plain_done, plain_input_at, plain_output_at, read_by}
@@ -84,7 +84,7 @@ Permitting m h es (Ok n, after) = 0 < n → MayWrite after h n
 Permitting m h es (Err why, after) = ⊤
 
 module _ (m : Machine) (own : OpId) (h : ℕ) where
-  told_permit : (is : plain_output_at m h ≡ None) (place : ℕ) (r : Tcp2Socket) (s : Streams) → HasStreams m (output_at m h) place r s → (es : List Entry) (done : Result ℕ StreamStop × WriteState) → PermitRow es done
+  told_permit : (is : plain_output_at m h ≡ None) (place : ℕ) (r : TcpRecord) (s : Streams) → HasStreams m (output_at m h) place r s → (es : List Entry) (done : Result ℕ StreamStop × WriteState) → PermitRow es done
       → TellsStream m own h (Permitting m h) es done.0 (record m.store { records = tcp2_put m.store.records place (with_writer r s done.1) })
   told_permit is place r s n es (Ok k, now) row = λ some. (
     λ u. row some (its u),
@@ -132,10 +132,10 @@ abbrev writer_in : Option Streams → Option WriteState
 writer_in None = None
 writer_in (Some s) = Some s.writer
 
-writer_kept : (xs : List Record) (i : ℕ) (r : Tcp2Socket) (s : Streams) (reader : ReadState) (k : ℕ) → tcp2_at xs i ≡ Some r → r.streams ≡ Some s → writer_in (streams_in (tcp2_at (tcp2_put xs i (with_reader r s reader)) k)) ≡ writer_in (streams_in (tcp2_at xs k))
+writer_kept : (xs : List Record) (i : ℕ) (r : TcpRecord) (s : Streams) (reader : ReadState) (k : ℕ) → tcp2_at xs i ≡ Some r → r.streams ≡ Some s → writer_in (streams_in (tcp2_at (tcp2_put xs i (with_reader r s reader)) k)) ≡ writer_in (streams_in (tcp2_at xs k))
 writer_kept [] i r s reader k at has = refl
-writer_kept (Tcp2 x ∷ xs) zero r s reader zero at has = let same : x ≡ r = cc in sym (ap (λ (y : Tcp2Socket). writer_in y.streams) same ∙ ap writer_in has)
-writer_kept (Udp2 x ∷ xs) zero r s reader zero at has = absurd (cc)
+writer_kept (Tcp x ∷ xs) zero r s reader zero at has = let same : x ≡ r = cc in sym (ap (λ (y : TcpRecord). writer_in y.streams) same ∙ ap writer_in has)
+writer_kept (Udp x ∷ xs) zero r s reader zero at has = absurd (cc)
 writer_kept (Lookup x ∷ xs) zero r s reader zero at has = absurd (cc)
 writer_kept (InputPipe x ∷ xs) zero r s reader zero at has = absurd (cc)
 writer_kept (OutputPipe x ∷ xs) zero r s reader zero at has = absurd (cc)
@@ -176,12 +176,12 @@ Writable m es (Ok bytes, after) = SameWriters m after
 Writable m es (Err why, after) = ⊤
 
 module _ (m : Machine) (own : OpId) (h len : ℕ) where
-  told_same : (place : ℕ) (r : Tcp2Socket) (s : Streams) → HasStreams m (input_at m h) place r s → (es : List Entry) (res : Result (List ℕ) StreamStop) (now : ReadState)
+  told_same : (place : ℕ) (r : TcpRecord) (s : Streams) → HasStreams m (input_at m h) place r s → (es : List Entry) (res : Result (List ℕ) StreamStop) (now : ReadState)
       → TellsStream m own h (Writable m) es res (record m.store { records = tcp2_put m.store.records place (with_reader r s now) })
   told_same place r s n es (Ok bytes) now = record {
     table = refl;
     writers = λ k. writer_kept m.store.records place r s now k n.at n.has;
-    pipes = λ k. output_set m.store.records place (Record.Tcp2 (with_reader r s now)) k (tcp_no_pipe (slice_get m.store.records place) r n.at).1 refl;
+    pipes = λ k. output_set m.store.records place (Record.Tcp (with_reader r s now)) k (tcp_no_pipe (slice_get m.store.records place) r n.at).1 refl;
   }
   told_same place r s n es (Err stop.Closed) now = tt
   told_same place r s n es (Err (stop.Failed c)) now = (λ full. tt, λ side. tt)
@@ -192,7 +192,7 @@ module _ (m : Machine) (own : OpId) (h len : ℕ) where
   pipe_same place (Some []) at = tt
   pipe_same place (Some (b ∷ bytes)) at = record {
     table = refl;
-    writers = λ k. ap (λ (o : Option Tcp2Socket). writer_in (streams_in o)) (tcp_set m.store.records place (Record.InputPipe (drop len (b ∷ bytes))) k (input_no_tcp (slice_get m.store.records place) (b ∷ bytes) at).0 refl);
+    writers = λ k. ap (λ (o : Option TcpRecord). writer_in (streams_in o)) (tcp_set m.store.records place (Record.InputPipe (drop len (b ∷ bytes))) k (input_no_tcp (slice_get m.store.records place) (b ∷ bytes) at).0 refl);
     pipes = λ k. output_set m.store.records place (Record.InputPipe (drop len (b ∷ bytes))) k (input_no_tcp (slice_get m.store.records place) (b ∷ bytes) at).1 refl;
   }
 

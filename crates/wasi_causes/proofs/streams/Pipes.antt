@@ -6,19 +6,19 @@ use Rattle.wasi_host.specs.declared.kind.Kind.TheVariants as kind
 use Rattle.wasi_host.specs.declared.kind.PlainInput.{PlainInput}
 use Rattle.wasi_host.specs.declared.kind.PlainOutput.{PlainOutput}
 use Rattle.wasi_records.specs.declared.records.Record.{Record}
-use Rattle.wasi_records.specs.declared.records.Record.TheVariants.{Tcp2, Udp2, Lookup, InputPipe, OutputPipe, Gone}
+use Rattle.wasi_records.specs.declared.records.Record.TheVariants.{Tcp, Udp, Lookup, InputPipe, OutputPipe, Gone}
 use Rattle.wasi_host.specs.Kinds.{input_of, is_readable, is_writable, output_of, plain_input_of, plain_output_of}
 use Rattle.wasi_records.specs.declared.name_lookup.Lookup.{Lookup as NameLookup}
-use Rattle.wasi_records.specs.declared.socket.Tcp2Socket.{Tcp2Socket}
-use Rattle.wasi_records.specs.declared.udp.Udp2Socket.{Udp2Socket}
+use Rattle.wasi_records.specs.declared.socket.TcpRecord.{TcpRecord}
+use Rattle.wasi_records.specs.declared.udp.UdpRecord.{UdpRecord}
 use Rattle.wasi_records.specs.Records.{tcp2_of, udp2_of, lookup_of, input_pipe_of, output_pipe_of, tcp2_at, input_pipe_at, input_pipe_put, output_pipe_at, output_pipe_put}
 
 -- == a pipe that is put back is as it was
 pub input_same : (xs : List Record) (i : ℕ) (bytes : List ℕ) → input_pipe_at xs i ≡ Some bytes → input_pipe_put xs i bytes ≡ xs
 input_same [] i bytes at = absurd (cc)
 input_same (InputPipe x ∷ xs) zero bytes at = cc
-input_same (Tcp2 x ∷ xs) zero bytes at = absurd (cc)
-input_same (Udp2 x ∷ xs) zero bytes at = absurd (cc)
+input_same (Tcp x ∷ xs) zero bytes at = absurd (cc)
+input_same (Udp x ∷ xs) zero bytes at = absurd (cc)
 input_same (Lookup x ∷ xs) zero bytes at = absurd (cc)
 input_same (OutputPipe x ∷ xs) zero bytes at = absurd (cc)
 input_same (Gone ∷ xs) zero bytes at = absurd (cc)
@@ -28,8 +28,8 @@ pub output_same : (xs : List Record) (i : ℕ) (pipe : Contents) → output_pipe
 output_same [] i pipe at = absurd (cc)
 output_same (OutputPipe x ∷ xs) zero pipe at = cc
 output_same (Gone ∷ xs) zero pipe at = absurd (cc)
-output_same (Tcp2 x ∷ xs) zero pipe at = absurd (cc)
-output_same (Udp2 x ∷ xs) zero pipe at = absurd (cc)
+output_same (Tcp x ∷ xs) zero pipe at = absurd (cc)
+output_same (Udp x ∷ xs) zero pipe at = absurd (cc)
 output_same (Lookup x ∷ xs) zero pipe at = absurd (cc)
 output_same (InputPipe x ∷ xs) zero pipe at = absurd (cc)
 output_same (x ∷ xs) (suc i) pipe at = ap (λ (rest : List Record). x ∷ rest) (output_same xs i pipe at)
@@ -50,12 +50,12 @@ output_set (z ∷ xs) (suc i) now zero was is = refl
 output_set (z ∷ xs) (suc i) now (suc k) was is = output_set xs i now k was is
 
 -- what is a socket or a lookup is no pipe
-pub tcp_no_pipe : (o : Option Record) (r : Tcp2Socket) → tcp2_of o ≡ Some r → (input_pipe_of o ≡ None) × (output_pipe_of o ≡ None)
-tcp_no_pipe (Some (Tcp2 x)) r at = (refl, refl)
+pub tcp_no_pipe : (o : Option Record) (r : TcpRecord) → tcp2_of o ≡ Some r → (input_pipe_of o ≡ None) × (output_pipe_of o ≡ None)
+tcp_no_pipe (Some (Tcp x)) r at = (refl, refl)
 tcp_no_pipe _ r at = absurd (cc)
 
-pub udp_no_pipe : (o : Option Record) (u : Udp2Socket) → udp2_of o ≡ Some u → (input_pipe_of o ≡ None) × (output_pipe_of o ≡ None)
-udp_no_pipe (Some (Udp2 x)) u at = (refl, refl)
+pub udp_no_pipe : (o : Option Record) (u : UdpRecord) → udp2_of o ≡ Some u → (input_pipe_of o ≡ None) × (output_pipe_of o ≡ None)
+udp_no_pipe (Some (Udp x)) u at = (refl, refl)
 udp_no_pipe _ u at = absurd (cc)
 
 pub lookup_no_pipe : (o : Option Record) (l : NameLookup) → lookup_of o ≡ Some l → (input_pipe_of o ≡ None) × (output_pipe_of o ≡ None)

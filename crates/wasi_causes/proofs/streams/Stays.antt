@@ -1,5 +1,5 @@
 -- What a turn leaves of sockets, of the streams of connections, and of pipes.
-use Rattle.wasi_causes.proofs.Words.{◌≡◌, ◌∙◌, ℕ, List, [], ◌∷◌, Option, Some, None, IsSome, inl, inr, refl, sym, subst, ap, Machine, Streams, Tcp2Socket, slice_get, streams_in, turn_asks, turn_at, turn_job, turn_jobs, turn_machine_asks, turned}
+use Rattle.wasi_causes.proofs.Words.{◌≡◌, ◌∙◌, ℕ, List, [], ◌∷◌, Option, Some, None, IsSome, inl, inr, refl, sym, subst, ap, Machine, Streams, TcpRecord, slice_get, streams_in, turn_asks, turn_at, turn_job, turn_jobs, turn_machine_asks, turned}
 use Rattle.wasi_records.specs.Datagrams.{turn_outgoing}
 use Rattle.wasi_host.specs.Jobs.{turn_datagram_at, turn_receive_at}
 use Rattle.wasi_records.specs.NameLookup.{turn_lookup, turn_lookup_at}
@@ -10,8 +10,8 @@ use Rattle.wasi_jobs.specs.declared.job.HostJob.TheVariants as job
 use Rattle.wasi_records.specs.declared.name_lookup.Lookup.{Lookup}
 use Rattle.wasi_records.specs.declared.records.Record.{Record}
 use Rattle.wasi_records.specs.declared.udp.OpenUdp.{OpenUdp}
-use Rattle.wasi_records.specs.declared.udp.Udp2Socket.{Udp2Socket}
-use Rattle.wasi_records.specs.declared.udp.Udp2Socket.TheVariants.{Open}
+use Rattle.wasi_records.specs.declared.udp.UdpRecord.{UdpRecord}
+use Rattle.wasi_records.specs.declared.udp.UdpRecord.TheVariants.{Open}
 use Rattle.wasi_walks.proofs.walks.Udp.{open_is}
 use Rattle.wasi_causes.proofs.streams.Pipes.{input_set, lookup_no_pipe, output_set, tcp_no_pipe, udp_no_pipe}
 use Rattle.wasi_causes.proofs.tables.Meets.{Meets, chain, ends, onto, shifted, whatever, widen}
@@ -32,74 +32,74 @@ stay_then : (one two three : List Record) → StreamsStay one two → StreamsSta
 stay_then one two three s t = record { sockets = λ k h. t.sockets k (s.sockets k h); opens = λ k h. t.opens k (s.opens k h); streams = λ k h. t.streams k (s.streams k h); inputs = λ k. t.inputs k ∙ s.inputs k; outputs = λ k. t.outputs k ∙ s.outputs k }
 
 -- == one record changes
-abbrev KeepsStreams : Tcp2Socket → Tcp2Socket → Type 0
+abbrev KeepsStreams : TcpRecord → TcpRecord → Type 0
 KeepsStreams r now = IsSome r.streams → IsSome now.streams
 
 -- the streams of the record at a place, by what that is
-streams_by : (o : Option Tcp2Socket) → IsSome (streams_in o) → (r : Tcp2Socket) × (o ≡ Some r) × IsSome r.streams
+streams_by : (o : Option TcpRecord) → IsSome (streams_in o) → (r : TcpRecord) × (o ≡ Some r) × IsSome r.streams
 streams_by None h = absurd (cc)
 streams_by (Some r) h = (r, refl, h)
 
 -- the record at a place, by what it was
-module _ (xs : List Record) (i : ℕ) (r now : Tcp2Socket) (at : tcp2_at xs i ≡ Some r) where
-  socket_by : (k : ℕ) (o : Option Tcp2Socket) → tcp2_at xs k ≡ o → IsSome o → IsSome (tcp2_at (tcp2_put xs i now) k)
+module _ (xs : List Record) (i : ℕ) (r now : TcpRecord) (at : tcp2_at xs i ≡ Some r) where
+  socket_by : (k : ℕ) (o : Option TcpRecord) → tcp2_at xs k ≡ o → IsSome o → IsSome (tcp2_at (tcp2_put xs i now) k)
   socket_by k None e h = absurd (cc)
   socket_by k (Some x) e h = elim (put_stays tcp_sort xs i now k x e) [ inl same ↦ subst IsSome (sym same) refl | inr changed ↦ subst IsSome (sym changed.1) refl ]
 
-  open_by : (k : ℕ) (o : Option Udp2Socket) → udp2_at xs k ≡ o → IsSome (open_of o) → IsSome (open_at (tcp2_put xs i now) k)
+  open_by : (k : ℕ) (o : Option UdpRecord) → udp2_at xs k ≡ o → IsSome (open_of o) → IsSome (open_at (tcp2_put xs i now) k)
   open_by k None e h = absurd (cc)
   open_by k (Some u) e h = subst IsSome (sym (ap open_of (put_still tcp_sort udp_sort (λ t. refl) xs i r now k u at e))) h
 
 module _ (xs : List Record) (i : ℕ) (was now : OpenUdp) (at : udp2_at xs i ≡ Some (Open was)) where
-  socket_too : (k : ℕ) (o : Option Tcp2Socket) → tcp2_at xs k ≡ o → IsSome o → IsSome (tcp2_at (open_put xs i now) k)
+  socket_too : (k : ℕ) (o : Option TcpRecord) → tcp2_at xs k ≡ o → IsSome o → IsSome (tcp2_at (open_put xs i now) k)
   socket_too k None e h = absurd (cc)
   socket_too k (Some x) e h = subst IsSome (sym (put_still udp_sort tcp_sort (λ t. refl) xs i (Open was) (Open now) k x at e)) refl
 
-  open_too : (k : ℕ) (o : Option Udp2Socket) → udp2_at xs k ≡ o → IsSome (open_of o) → IsSome (open_at (open_put xs i now) k)
+  open_too : (k : ℕ) (o : Option UdpRecord) → udp2_at xs k ≡ o → IsSome (open_of o) → IsSome (open_at (open_put xs i now) k)
   open_too k None e h = absurd (cc)
   open_too k (Some u) e h = elim (put_stays udp_sort xs i (Open now) k u e) [ inl same ↦ subst IsSome (sym (ap open_of same)) h | inr changed ↦ subst IsSome (sym (ap open_of changed.1)) refl ]
 
-tcp_put : (xs : List Record) (i : ℕ) (r now : Tcp2Socket) → tcp2_at xs i ≡ Some r → KeepsStreams r now → StreamsStay xs (tcp2_put xs i now)
+tcp_put : (xs : List Record) (i : ℕ) (r now : TcpRecord) → tcp2_at xs i ≡ Some r → KeepsStreams r now → StreamsStay xs (tcp2_put xs i now)
 tcp_put xs i r now at keeps = record {
   sockets = λ k. socket_by xs i r now at k (tcp2_at xs k) refl;
   opens = λ k. open_by xs i r now at k (udp2_at xs k) refl;
   streams = λ k h.
       let found = streams_by (tcp2_at xs k) h in
       elim (put_stays tcp_sort xs i now k found.0 found.1) [
-        | inl e ↦ subst (λ (o : Option Tcp2Socket). IsSome (streams_in o)) (sym e) found.2
-        | inr e ↦ let same : r ≡ found.0 = its (sym at ∙ (ap (tcp2_at xs) (sym e.0) ∙ found.1)) in subst (λ (o : Option Tcp2Socket). IsSome (streams_in o)) (sym e.1) (keeps (subst (λ (x : Tcp2Socket). IsSome x.streams) (sym same) found.2))
+        | inl e ↦ subst (λ (o : Option TcpRecord). IsSome (streams_in o)) (sym e) found.2
+        | inr e ↦ let same : r ≡ found.0 = its (sym at ∙ (ap (tcp2_at xs) (sym e.0) ∙ found.1)) in subst (λ (o : Option TcpRecord). IsSome (streams_in o)) (sym e.1) (keeps (subst (λ (x : TcpRecord). IsSome x.streams) (sym same) found.2))
       ];
-  inputs = λ k. input_set xs i (Record.Tcp2 now) k (tcp_no_pipe (slice_get xs i) r at).0 refl;
-  outputs = λ k. output_set xs i (Record.Tcp2 now) k (tcp_no_pipe (slice_get xs i) r at).1 refl;
+  inputs = λ k. input_set xs i (Record.Tcp now) k (tcp_no_pipe (slice_get xs i) r at).0 refl;
+  outputs = λ k. output_set xs i (Record.Tcp now) k (tcp_no_pipe (slice_get xs i) r at).1 refl;
 }
   where
-    its : {x y : Tcp2Socket} → Some x ≡ Some y → x ≡ y
+    its : {x y : TcpRecord} → Some x ≡ Some y → x ≡ y
     its e = cc
 
 udp_put : (xs : List Record) (i : ℕ) (o now : OpenUdp) → open_at xs i ≡ Some o → StreamsStay xs (open_put xs i now)
 udp_put xs i o now at = record {
   sockets = λ k. socket_too xs i o now (open_is (udp2_at xs i) o at) k (tcp2_at xs k) refl;
   opens = λ k. open_too xs i o now (open_is (udp2_at xs i) o at) k (udp2_at xs k) refl;
-  streams = λ k h. let found = streams_by (tcp2_at xs k) h in subst (λ (x : Option Tcp2Socket). IsSome (streams_in x)) (sym (put_still udp_sort tcp_sort (λ t. refl) xs i (Open o) (Open now) k found.0 (open_is (udp2_at xs i) o at) found.1)) found.2;
-  inputs = λ k. input_set xs i (Record.Udp2 (Open now)) k (udp_no_pipe (slice_get xs i) (Open o) (open_is (udp2_at xs i) o at)).0 refl;
-  outputs = λ k. output_set xs i (Record.Udp2 (Open now)) k (udp_no_pipe (slice_get xs i) (Open o) (open_is (udp2_at xs i) o at)).1 refl;
+  streams = λ k h. let found = streams_by (tcp2_at xs k) h in subst (λ (x : Option TcpRecord). IsSome (streams_in x)) (sym (put_still udp_sort tcp_sort (λ t. refl) xs i (Open o) (Open now) k found.0 (open_is (udp2_at xs i) o at) found.1)) found.2;
+  inputs = λ k. input_set xs i (Record.Udp (Open now)) k (udp_no_pipe (slice_get xs i) (Open o) (open_is (udp2_at xs i) o at)).0 refl;
+  outputs = λ k. output_set xs i (Record.Udp (Open now)) k (udp_no_pipe (slice_get xs i) (Open o) (open_is (udp2_at xs i) o at)).1 refl;
 }
 
 put_lookup : (xs : List Record) (i : ℕ) (l now : Lookup) → lookup_at xs i ≡ Some l → StreamsStay xs (lookup_put xs i now)
 put_lookup xs i l now at = record {
   sockets = λ k h. subst IsSome (sym (other_put lookup_sort tcp_sort (λ t. refl) xs i l now k at)) h;
   opens = λ k h. subst IsSome (sym (ap open_of (other_put lookup_sort udp_sort (λ t. refl) xs i l now k at))) h;
-  streams = λ k h. subst (λ (o : Option Tcp2Socket). IsSome (streams_in o)) (sym (other_put lookup_sort tcp_sort (λ t. refl) xs i l now k at)) h;
+  streams = λ k h. subst (λ (o : Option TcpRecord). IsSome (streams_in o)) (sym (other_put lookup_sort tcp_sort (λ t. refl) xs i l now k at)) h;
   inputs = λ k. input_set xs i (Record.Lookup now) k (lookup_no_pipe (slice_get xs i) l at).0 refl;
   outputs = λ k. output_set xs i (Record.Lookup now) k (lookup_no_pipe (slice_get xs i) l at).1 refl;
 }
 
 -- == a job
-record_stays : (r : Tcp2Socket) (o : Option Streams) → r.streams ≡ o → Meets (λ es now. KeepsStreams r now) [] (turned r o)
+record_stays : (r : TcpRecord) (o : Option Streams) → r.streams ≡ o → Meets (λ es now. KeepsStreams r now) [] (turned r o)
 record_stays r None has = ends (λ h. h)
 record_stays r (Some s) has = onto _ (widen (λ es done k. λ h. refl) (whatever (turn_asks s.writer)))
 
-write_stays : (xs : List Record) (place : ℕ) (o : Option Tcp2Socket) → tcp2_at xs place ≡ o → Meets (λ es now. StreamsStay xs now) [] (turn_at xs place o)
+write_stays : (xs : List Record) (place : ℕ) (o : Option TcpRecord) → tcp2_at xs place ≡ o → Meets (λ es now. StreamsStay xs now) [] (turn_at xs place o)
 write_stays xs place None at = ends (stay_same xs)
 write_stays xs place (Some r) at = onto _ (widen (λ es now k. tcp_put xs place r now at k) (record_stays r r.streams refl))
 

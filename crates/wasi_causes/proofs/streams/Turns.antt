@@ -1,6 +1,6 @@
 -- Who asks in a turn: the writes, the datagrams, the receives and the lookups of the jobs.
 use Rattle.wasi_causes.proofs.streams.Stays.{streams_turned}
-use Rattle.wasi_causes.proofs.Words.{⊤, ◌≡◌, ℕ, zero, suc, inl, inr, List, [], ◌∷◌, ◌++◌, Option, Some, None, refl, sym, ap, subst, ◌∙◌, OpId, Call, Entry, Told, WasiSocketsCtx, Fits, Give, bind, End, Waits, poll_asks, allows_keep, Allows, allows_then, WriteState, Job, job_in, job_asks, turn_asks, Machine, Streams, Tcp2Socket, turned, turn_record, turn_at, turn_job, turn_jobs, turn_store_asks, turn_machine_asks, Has, no_fields, has_split, allows_ask}
+use Rattle.wasi_causes.proofs.Words.{⊤, ◌≡◌, ℕ, zero, suc, inl, inr, List, [], ◌∷◌, ◌++◌, Option, Some, None, refl, sym, ap, subst, ◌∙◌, OpId, Call, Entry, Told, WasiSocketsCtx, Fits, Give, bind, End, Waits, poll_asks, allows_keep, Allows, allows_then, WriteState, Job, job_in, job_asks, turn_asks, Machine, Streams, TcpRecord, turned, turn_record, turn_at, turn_job, turn_jobs, turn_store_asks, turn_machine_asks, Has, no_fields, has_split, allows_ask}
 use Rattle.wasi_causes.proofs.Words.{◌⊎◌, Done, Item, Operation, Records, Refused}
 use Rattle.wasi_world.specs.Operation.{Datagram as Received}
 use Rattle.wasi_udp.specs.Receive.{wanting}
@@ -31,8 +31,8 @@ use Rattle.wasi_addr.specs.declared.address.IpAddress.{IpAddress}
 use Rattle.wasi_world.specs.Typed.{told_names}
 use Rattle.wasi_world.specs.declared.asks.Polled.{Polled}
 use Rattle.wasi_world.specs.declared.asks.Polled.TheVariants as polled
-use Rattle.wasi_records.specs.declared.udp.Udp2Socket.{Udp2Socket}
-use Rattle.wasi_records.specs.declared.udp.Udp2Socket.TheVariants.{Open}
+use Rattle.wasi_records.specs.declared.udp.UdpRecord.{UdpRecord}
+use Rattle.wasi_records.specs.declared.udp.UdpRecord.TheVariants.{Open}
 use Rattle.wasi_walks.proofs.walks.Udp.{open_is}
 use Rattle.wasi_causes.proofs.resolving.Turns.{lookups_turned}
 use Rattle.wasi_walks.proofs.Places.{lookup_sort, other_put, put_either, tcp_sort, udp_sort}
@@ -68,13 +68,13 @@ writer_by (writing.Closing job) es = of_job job writing.Closing (λ j. refl) es
 writer_by _ es = refl
 
 -- == one record
-abbrev RecordAsks : Tcp2Socket → List Entry → OpId → Call → Type 0
+abbrev RecordAsks : TcpRecord → List Entry → OpId → Call → Type 0
 RecordAsks r es op call = job_of (Some r) ≡ Some op
 
-abbrev SameRecord : Tcp2Socket → List Entry → Tcp2Socket → Type 0
+abbrev SameRecord : TcpRecord → List Entry → TcpRecord → Type 0
 SameRecord r es now = job_of (Some now) ≡ job_of (Some r)
 
-record_by : (r : Tcp2Socket) (o : Option Streams) → r.streams ≡ o → (es : List Entry) → Allows (RecordAsks r) (SameRecord r) es (turned r o)
+record_by : (r : TcpRecord) (o : Option Streams) → r.streams ≡ o → (es : List Entry) → Allows (RecordAsks r) (SameRecord r) es (turned r o)
 record_by r None has es = refl
 record_by r (Some s) has es =
     allows_then (RecordAsks r) (SameWriter s.writer) (SameRecord r) es (turn_asks s.writer) _
@@ -159,7 +159,7 @@ lookup_by (Lookup.InProgress op) es = (refl, λ told fits. told_by op (told_name
 lookup_by _ es = inl refl
 
 -- == one record changes
-set_job : (xs : List Record) (i : ℕ) (y : Tcp2Socket) (k : ℕ) → job_of (Some y) ≡ job_of (tcp2_at xs i) → job_of (tcp2_at (tcp2_put xs i y) k) ≡ job_of (tcp2_at xs k)
+set_job : (xs : List Record) (i : ℕ) (y : TcpRecord) (k : ℕ) → job_of (Some y) ≡ job_of (tcp2_at xs i) → job_of (tcp2_at (tcp2_put xs i y) k) ≡ job_of (tcp2_at xs k)
 set_job [] i y k h = refl
 set_job (z ∷ xs) zero y zero h = h
 set_job (z ∷ xs) zero y (suc k) h = refl
@@ -167,10 +167,10 @@ set_job (z ∷ xs) (suc i) y zero h = refl
 set_job (z ∷ xs) (suc i) y (suc k) h = set_job xs i y k h
 
 -- a TCP socket: each UDP socket stays
-set_open : (xs : List Record) (i : ℕ) (r y : Tcp2Socket) (k : ℕ) → tcp2_at xs i ≡ Some r → open_at (tcp2_put xs i y) k ≡ open_at xs k
+set_open : (xs : List Record) (i : ℕ) (r y : TcpRecord) (k : ℕ) → tcp2_at xs i ≡ Some r → open_at (tcp2_put xs i y) k ≡ open_at xs k
 set_open [] i r y k h = refl
-set_open (Record.Tcp2 x ∷ xs) zero r y zero h = refl
-set_open (Record.Udp2 x ∷ xs) zero r y zero h = absurd (cc)
+set_open (Record.Tcp x ∷ xs) zero r y zero h = refl
+set_open (Record.Udp x ∷ xs) zero r y zero h = absurd (cc)
 set_open (Record.Lookup x ∷ xs) zero r y zero h = absurd (cc)
 set_open (Record.InputPipe x ∷ xs) zero r y zero h = absurd (cc)
 set_open (Record.OutputPipe x ∷ xs) zero r y zero h = absurd (cc)
@@ -182,8 +182,8 @@ set_open (z ∷ xs) (suc i) r y (suc k) h = set_open xs i r y k h
 -- a UDP socket: each TCP socket stays, and each other UDP socket
 set_tcp : (xs : List Record) (i : ℕ) (o now : OpenUdp) (k : ℕ) → open_at xs i ≡ Some o → tcp2_at (open_put xs i now) k ≡ tcp2_at xs k
 set_tcp [] i o now k h = refl
-set_tcp (Record.Tcp2 x ∷ xs) zero o now zero h = absurd (cc)
-set_tcp (Record.Udp2 x ∷ xs) zero o now zero h = refl
+set_tcp (Record.Tcp x ∷ xs) zero o now zero h = absurd (cc)
+set_tcp (Record.Udp x ∷ xs) zero o now zero h = refl
 set_tcp (Record.Lookup x ∷ xs) zero o now zero h = absurd (cc)
 set_tcp (Record.InputPipe x ∷ xs) zero o now zero h = absurd (cc)
 set_tcp (Record.OutputPipe x ∷ xs) zero o now zero h = absurd (cc)
@@ -199,7 +199,7 @@ set_udp (z ∷ xs) zero o now (suc k) h = inl refl
 set_udp (z ∷ xs) (suc i) o now zero h = inl refl
 set_udp (z ∷ xs) (suc i) o now (suc k) h = set_udp xs i o now k h
 
-tcp_keeps : (xs : List Record) (i : ℕ) (r y : Tcp2Socket) → tcp2_at xs i ≡ Some r → job_of (Some y) ≡ job_of (Some r) → (job : HostJob) → asks_by (tcp2_put xs i y) job ≡ asks_by xs job
+tcp_keeps : (xs : List Record) (i : ℕ) (r y : TcpRecord) → tcp2_at xs i ≡ Some r → job_of (Some y) ≡ job_of (Some r) → (job : HostJob) → asks_by (tcp2_put xs i y) job ≡ asks_by xs job
 tcp_keeps xs i r y at same (Write k) = set_job xs i y k (same ∙ sym (ap job_of at))
 tcp_keeps xs i r y at same (Datagram k) = ap datagram_of (set_open xs i r y k at)
 tcp_keeps xs i r y at same (Receive k) = ap receive_of (set_open xs i r y k at)
@@ -217,8 +217,8 @@ udp_keeps xs i o now at kept (LookupJob k) = inl (ap lookup_of (other_put udp_so
 
 look_keeps : (xs : List Record) (i : ℕ) (l now : Lookup) → lookup_at xs i ≡ Some l → Keeps (looks_by now) (looks_by l) → (job : HostJob) → Keeps (asks_by (lookup_put xs i now) job) (asks_by xs job)
 look_keeps xs i l now at kept (Write k) = inl (ap job_of (other_put lookup_sort tcp_sort (λ t. refl) xs i l now k at))
-look_keeps xs i l now at kept (Datagram k) = inl (ap (λ (u : Option Udp2Socket). datagram_of (open_of u)) (other_put lookup_sort udp_sort (λ t. refl) xs i l now k at))
-look_keeps xs i l now at kept (Receive k) = inl (ap (λ (u : Option Udp2Socket). receive_of (open_of u)) (other_put lookup_sort udp_sort (λ t. refl) xs i l now k at))
+look_keeps xs i l now at kept (Datagram k) = inl (ap (λ (u : Option UdpRecord). datagram_of (open_of u)) (other_put lookup_sort udp_sort (λ t. refl) xs i l now k at))
+look_keeps xs i l now at kept (Receive k) = inl (ap (λ (u : Option UdpRecord). receive_of (open_of u)) (other_put lookup_sort udp_sort (λ t. refl) xs i l now k at))
 look_keeps xs i l now at kept (LookupJob k) = elim (put_either lookup_sort xs i l now k at) [ inl e ↦ inl (ap lookup_of e) | inr e ↦ rw (e.0, e.1) kept ]
 
 -- == all of them
@@ -242,7 +242,7 @@ module _ (m : Machine) where
   of_job_too : (records : List Record) (job : HostJob) (es : List Entry) → Has m.store.jobs job → SameJobs es records → (op : OpId) → asks_by records job ≡ Some op → IsOfJob m op
   of_job_too records job es listed same op e = record { job = job; listed = listed; is = still (asks_by records job) (asks_by m.store.records job) op (same job) e }
 
-  write_by : (records : List Record) (place : ℕ) (o : Option Tcp2Socket) → tcp2_at records place ≡ o → Has m.store.jobs (Write place) → (es : List Entry) → SameJobs es records → Allows TurnAsks SameJobs es (turn_at records place o)
+  write_by : (records : List Record) (place : ℕ) (o : Option TcpRecord) → tcp2_at records place ≡ o → Has m.store.jobs (Write place) → (es : List Entry) → SameJobs es records → Allows TurnAsks SameJobs es (turn_at records place o)
   write_by records place None at listed es same = same
   write_by records place (Some r) at listed es same =
       allows_then TurnAsks (SameRecord r) SameJobs es (turn_record r) _

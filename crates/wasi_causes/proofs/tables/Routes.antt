@@ -1,7 +1,7 @@
 -- How a call finds its record, and how a handle is made: what every step shares that does so.
 use Rattle.wasi_causes.proofs.Words.{AccessDenied, Asks, Bool, Code, CodeWord, Entry, Err, ErrorCode, Full, Give, HandleTable, Input, IsDone, IsSomeAnd}
 use Rattle.wasi_causes.proofs.Words.{Kind, List, Machine, NoSuchHandle, None, OfRecord, Ok, OpId, Option, Output, Records, Reply, Result, Some, Step}
-use Rattle.wasi_causes.proofs.Words.{Stop, Tcp2Socket, Told, Trap, WasiSocketsCtx, [], ap, arith, bind, entry, false, is_full, is_nothing, make_asks}
+use Rattle.wasi_causes.proofs.Words.{Stop, TcpRecord, Told, Trap, WasiSocketsCtx, [], ap, arith, bind, entry, false, is_full, is_nothing, make_asks}
 use Rattle.wasi_causes.proofs.Words.{marks_in, marks_in-push, name_of, no_such_handle, putting, record_at, record_in, refl}
 use Rattle.wasi_causes.proofs.Words.{socket_at, subst, sym, true, with_handle, with_socket, with_store, word_of_code}
 use Rattle.wasi_causes.proofs.Words.{ℕ, ◌++◌, ◌+◌, ◌↔◌, ◌∙◌, ◌∷◌, ◌≡◌, ◌≢◌}
@@ -29,33 +29,33 @@ abbrev pub Says : List WasiSocketsCtx → Machine → ℕ → Step → Rows (Rep
 Says contexts m line s es done = Outcome contexts m line s es done.0 done.1
 
 -- == a record that is put back
-pub put_store_same : (store : Records) (place : ℕ) (r : Tcp2Socket) → tcp2_at store.records place ≡ Some r → with_socket store place r ≡ store
+pub put_store_same : (store : Records) (place : ℕ) (r : TcpRecord) → tcp2_at store.records place ≡ Some r → with_socket store place r ≡ store
 put_store_same store place r at = ap (λ (rs : List Record). let left : Records = record store { records = rs } in left) (put_again tcp_sort store.records place r at)
 
-pub put_same : (m : Machine) (place : ℕ) (r : Tcp2Socket) → tcp2_at m.store.records place ≡ Some r → putting m place r ≡ m
+pub put_same : (m : Machine) (place : ℕ) (r : TcpRecord) → tcp2_at m.store.records place ≡ Some r → putting m place r ≡ m
 put_same m place r at = ap (λ (store : Records). let left : Machine = record m { store = store } in left) (put_store_same m.store place r at)
 
-pub put_back : (P : Machine → Type 0) (m : Machine) (place : ℕ) (r : Tcp2Socket) → tcp2_at m.store.records place ≡ Some r → P m → P (putting m place r)
+pub put_back : (P : Machine → Type 0) (m : Machine) (place : ℕ) (r : TcpRecord) → tcp2_at m.store.records place ≡ Some r → P m → P (putting m place r)
 put_back P m place r at h = subst P (sym (put_same m place r at)) h
 
 -- == the record that a handle names
 -- The handle names this record, at this place.
-pub record Names (m : Machine) (handle place : ℕ) (r : Tcp2Socket) : Type 0 where
+pub record Names (m : Machine) (handle place : ℕ) (r : TcpRecord) : Type 0 where
   pub names : socket_at m handle ≡ Some place
   pub at : tcp2_at m.store.records place ≡ Some r
 
-pub its : {m : Machine} {handle place : ℕ} {r : Tcp2Socket} → Names m handle place r → record_at m handle ≡ Some r
+pub its : {m : Machine} {handle place : ℕ} {r : TcpRecord} → Names m handle place r → record_at m handle ≡ Some r
 its {m} n = ap (record_in m) n.names ∙ n.at
 
-pub here : {m : Machine} {handle place : ℕ} {r : Tcp2Socket} {P : ℕ → Tcp2Socket → Type 0} → Names m handle place r → P place r → OfRecord m handle P
+pub here : {m : Machine} {handle place : ℕ} {r : TcpRecord} {P : ℕ → TcpRecord → Type 0} → Names m handle place r → P place r → OfRecord m handle P
 here {place} {r} n h = record { place = place; found = r; names = n.names; at = n.at; holds = h }
 
-pub on_number : {B : Type 0} {Row : Rows B} (m : Machine) (handle : ℕ) (on : Option ℕ → Asks B) (call : ℕ → Option Tcp2Socket → Asks B) → ((place : ℕ) → on (Some place) ≡ call place (tcp2_at m.store.records place))
-    → (record_at m handle ≡ None → Meets Row [] (on None)) → (record_at m handle ≡ None → (place : ℕ) → Meets Row [] (call place None)) → ((place : ℕ) (r : Tcp2Socket) → Names m handle place r → Meets Row [] (call place (Some r)))
+pub on_number : {B : Type 0} {Row : Rows B} (m : Machine) (handle : ℕ) (on : Option ℕ → Asks B) (call : ℕ → Option TcpRecord → Asks B) → ((place : ℕ) → on (Some place) ≡ call place (tcp2_at m.store.records place))
+    → (record_at m handle ≡ None → Meets Row [] (on None)) → (record_at m handle ≡ None → (place : ℕ) → Meets Row [] (call place None)) → ((place : ℕ) (r : TcpRecord) → Names m handle place r → Meets Row [] (call place (Some r)))
     → Meets Row [] (on (socket_at m handle))
 on_number {B} {Row} m handle on call calls none lost rows = by_number (socket_at m handle) refl
   where
-    by_place : (place : ℕ) (o : Option Tcp2Socket) → socket_at m handle ≡ Some place → tcp2_at m.store.records place ≡ o → Meets Row [] (call place o)
+    by_place : (place : ℕ) (o : Option TcpRecord) → socket_at m handle ≡ Some place → tcp2_at m.store.records place ≡ o → Meets Row [] (call place o)
     by_place place None names at = lost (ap (record_in m) names ∙ at) place
     by_place place (Some r) names at = rows place r (record { names = names; at = at })
 
@@ -64,10 +64,10 @@ on_number {B} {Row} m handle on call calls none lost rows = by_number (socket_at
     by_number (Some place) names = subst (Meets Row []) (sym (calls place)) (by_place place (tcp2_at m.store.records place) names refl)
 
 -- a call on it, and what follows it
-pub through_record : {A B : Type 0} {Row : Rows B} (m : Machine) (handle : ℕ) (on : Option ℕ → Asks B) (call : ℕ → Option Tcp2Socket → Asks (Result A Stop × Records)) (next : ℕ → Result A Stop × Machine → Asks B)
+pub through_record : {A B : Type 0} {Row : Rows B} (m : Machine) (handle : ℕ) (on : Option ℕ → Asks B) (call : ℕ → Option TcpRecord → Asks (Result A Stop × Records)) (next : ℕ → Result A Stop × Machine → Asks B)
     → ((place : ℕ) → on (Some place) ≡ bind (call place (tcp2_at m.store.records place)) (λ done. next place (with_store m done))) → ((place : ℕ) → call place None ≡ Give (Err (Trap NoSuchHandle), m.store))
     → (record_at m handle ≡ None → Meets Row [] (on None)) → (record_at m handle ≡ None → (place : ℕ) → Meets Row [] (next place (Err (Trap NoSuchHandle), m)))
-    → ((place : ℕ) (r : Tcp2Socket) → Names m handle place r → Meets (λ es done. Meets Row es (next place (with_store m done))) [] (call place (Some r))) → Meets Row [] (on (socket_at m handle))
+    → ((place : ℕ) (r : TcpRecord) → Names m handle place r → Meets (λ es done. Meets Row es (next place (with_store m done))) [] (call place (Some r))) → Meets Row [] (on (socket_at m handle))
 through_record {A} {B} {Row} m handle on call next calls lost none missing rows =
     on_number m handle on (λ place o. bind (call place o) (λ done. next place (with_store m done))) calls none
     (λ gone place. then place (subst (Meets (λ es done. Meets Row es (next place (with_store m done))) []) (sym (lost place)) (ends (missing gone place)))) (λ place r n. then place (rows place r n))
@@ -76,21 +76,21 @@ through_record {A} {B} {Row} m handle on call next calls lost none missing rows 
     then place first = chain {Mid = λ es done. Meets Row es (next place (with_store m done))} first (λ es done k. k)
 
 -- a call on it alone, which traps where the handle or its record isn't there
-pub on_record : {A : Type 0} {Row : Rows (Result A Stop × Machine)} (m : Machine) (handle : ℕ) (on : Option ℕ → Asks (Result A Stop × Machine)) (call : ℕ → Option Tcp2Socket → Asks (Result A Stop × Records))
+pub on_record : {A : Type 0} {Row : Rows (Result A Stop × Machine)} (m : Machine) (handle : ℕ) (on : Option ℕ → Asks (Result A Stop × Machine)) (call : ℕ → Option TcpRecord → Asks (Result A Stop × Records))
     → on None ≡ no_such_handle m → ((place : ℕ) → on (Some place) ≡ bind (call place (tcp2_at m.store.records place)) (λ done. Give (with_store m done))) → ((place : ℕ) → call place None ≡ Give (Err (Trap NoSuchHandle), m.store))
-    → (record_at m handle ≡ None → Row [] (Err (Trap NoSuchHandle), m)) → ((place : ℕ) (r : Tcp2Socket) → Names m handle place r → Meets (λ es done. Row es (with_store m done)) [] (call place (Some r))) → Meets Row [] (on (socket_at m handle))
+    → (record_at m handle ≡ None → Row [] (Err (Trap NoSuchHandle), m)) → ((place : ℕ) (r : TcpRecord) → Names m handle place r → Meets (λ es done. Row es (with_store m done)) [] (call place (Some r))) → Meets Row [] (on (socket_at m handle))
 on_record {A} {Row} m handle on call gone calls lost missing rows =
     through_record m handle on call (λ place done. Give done) calls lost (λ none. subst (Meets Row []) (sym gone) (ends (missing none))) (λ none place. ends (missing none)) (λ place r n. widen (λ es done row. ends row) (rows place r n))
 
 -- one that begins an operation, which is refused while another is in progress
-pub on_idle : {A : Type 0} {Row : Rows (Result A Stop × Machine)} (m : Machine) (handle : ℕ) (on : Option ℕ → Asks (Result A Stop × Machine)) (call : ℕ → Option Tcp2Socket → Asks (Result A Stop × Records)) (by : ℕ → Tcp2Socket → Bool → Asks (Result A Stop × Records))
+pub on_idle : {A : Type 0} {Row : Rows (Result A Stop × Machine)} (m : Machine) (handle : ℕ) (on : Option ℕ → Asks (Result A Stop × Machine)) (call : ℕ → Option TcpRecord → Asks (Result A Stop × Records)) (by : ℕ → TcpRecord → Bool → Asks (Result A Stop × Records))
     → on None ≡ no_such_handle m → ((place : ℕ) → on (Some place) ≡ bind (call place (tcp2_at m.store.records place)) (λ done. Give (with_store m done))) → ((place : ℕ) → call place None ≡ Give (Err (Trap NoSuchHandle), m.store))
-    → ((place : ℕ) (r : Tcp2Socket) → call place (Some r) ≡ by place r (is_nothing r.in_progress)) → ((place : ℕ) (r : Tcp2Socket) → by place r false ≡ Give (Err (Code p2.ConcurrencyConflict), m.store))
-    → (record_at m handle ≡ None → Row [] (Err (Trap NoSuchHandle), m)) → ((place : ℕ) (r : Tcp2Socket) → Names m handle place r → is_nothing r.in_progress ≡ false → Row [] (Err (Code p2.ConcurrencyConflict), m))
-    → ((place : ℕ) (r : Tcp2Socket) → Names m handle place r → is_nothing r.in_progress ≡ true → Meets (λ es done. Row es (with_store m done)) [] (by place r true)) → Meets Row [] (on (socket_at m handle))
+    → ((place : ℕ) (r : TcpRecord) → call place (Some r) ≡ by place r (is_nothing r.in_progress)) → ((place : ℕ) (r : TcpRecord) → by place r false ≡ Give (Err (Code p2.ConcurrencyConflict), m.store))
+    → (record_at m handle ≡ None → Row [] (Err (Trap NoSuchHandle), m)) → ((place : ℕ) (r : TcpRecord) → Names m handle place r → is_nothing r.in_progress ≡ false → Row [] (Err (Code p2.ConcurrencyConflict), m))
+    → ((place : ℕ) (r : TcpRecord) → Names m handle place r → is_nothing r.in_progress ≡ true → Meets (λ es done. Row es (with_store m done)) [] (by place r true)) → Meets Row [] (on (socket_at m handle))
 on_idle {A} {Row} m handle on call by gone calls lost goes conflicts missing busy begun = on_record m handle on call gone calls lost missing (λ place r n. subst (Meets (λ es done. Row es (with_store m done)) []) (sym (goes place r)) (by_progress place r n (is_nothing r.in_progress) refl))
   where
-    by_progress : (place : ℕ) (r : Tcp2Socket) → Names m handle place r → (b : Bool) → is_nothing r.in_progress ≡ b → Meets (λ es done. Row es (with_store m done)) [] (by place r b)
+    by_progress : (place : ℕ) (r : TcpRecord) → Names m handle place r → (b : Bool) → is_nothing r.in_progress ≡ b → Meets (λ es done. Row es (with_store m done)) [] (by place r b)
     by_progress place r n false e = subst (Meets (λ es done. Row es (with_store m done)) []) (sym (conflicts place r)) (ends (busy place r n e))
     by_progress place r n true e = begun place r n e
 
@@ -122,9 +122,9 @@ calls {A} {E} {T} {C} {Row} {es} {Mid} {asks} f w stops goes = chain w by_answer
     by_answer fs (Err e, t) m = stops fs e t m
 
 -- a call on the record of a handle: what it answers, with the record as the call leaves it
-pub on_handle : {A : Type 0} {Row : Rows (Result A Stop × Machine)} (m : Machine) (handle : ℕ) (asked : Tcp2Socket → Asks (Result A ErrorCode × Tcp2Socket))
+pub on_handle : {A : Type 0} {Row : Rows (Result A Stop × Machine)} (m : Machine) (handle : ℕ) (asked : TcpRecord → Asks (Result A ErrorCode × TcpRecord))
     → (record_at m handle ≡ None → Row [] (Err (Trap NoSuchHandle), m))
-    → ((place : ℕ) (r : Tcp2Socket) → Names m handle place r → Meets (λ es done. Row es (code_told done.0, putting m place done.1)) [] (asked r))
+    → ((place : ℕ) (r : TcpRecord) → Names m handle place r → Meets (λ es done. Row es (code_told done.0, putting m place done.1)) [] (asked r))
     → Meets Row [] (goes_on (tcp_named handle) (λ place. last (in_store (on_tcp place asked))) m)
 on_handle {A} {Row} m handle asked missing rows =
     finds (λ place. last (in_store (on_tcp place asked))) (socket_at m handle) (λ none. missing (ap (record_in m) none))
@@ -188,7 +188,7 @@ pub not_of_code : (c : ErrorCode) (w : CodeWord) → (MayBeOfCode w → ⊥) →
 not_of_code c w none e = let same : word_of_code c ≡ w = cc in none (subst MayBeOfCode same (of_code c))
 
 -- == starts
-module _ {m : Machine} {handle place : ℕ} {r : Tcp2Socket} (n : Names m handle place r) where
+module _ {m : Machine} {handle place : ℕ} {r : TcpRecord} (n : Names m handle place r) where
   pub in_conflict : is_nothing r.in_progress ≡ false → Conflicts m handle (reply.Err word.ConcurrencyConflict)
   in_conflict e = (λ same. rw (its n) e, λ k. refl)
 

@@ -19,7 +19,7 @@ use Rattle.wasi_records.specs.Records.{open_at, udp2_at}
 use Rattle.wasi_records.specs.declared.datagrams.Incoming.{Incoming}
 use Rattle.wasi_records.specs.declared.datagrams.Receiving.{Receiving}
 use Rattle.wasi_records.specs.declared.udp.OpenUdp.{OpenUdp}
-use Rattle.wasi_records.specs.declared.udp.Udp2Socket.{Udp2Socket}
+use Rattle.wasi_records.specs.declared.udp.UdpRecord.{UdpRecord}
 use Rattle.wasi_p2.specs.Udp.{receive_datagrams_on}
 use Rattle.wasi_machine.specs.Machine.{asks_while, reply_of}
 use Rattle.wasi_steps.specs.Reply.{datagram_values}
@@ -120,7 +120,7 @@ module _ (m : Machine) (wants : AllWanted m.store.records) (line ctx handle most
     by_stream : (es : List Entry) (inc : Option Incoming) → o.incoming ≡ inc → Allows Anything (λ fs done. Told done.0) es (receive_datagrams_asks (first_ids line) most o inc)
     by_stream es None has = tt
     by_stream es (Some inc) has =
-        let k : ReceivingWanted inc.remote inc.receiving = subst IncomingWanted has (wants place (Udp2Socket.Open o) (open_is (udp2_at m.store.records place) o at)) in
+        let k : ReceivingWanted inc.remote inc.receiving = subst IncomingWanted has (wants place (UdpRecord.Open o) (open_is (udp2_at m.store.records place) o at)) in
         allows_then Anything (λ fs done. Gives inc.remote done.0) (λ fs done. Told done.0) es (receive_all (min most 16) 65536 (first_ids line) [] (o.inner, inc)) _ (all_from inc.remote (min most 16) 65536 (first_ids line) [] (o.inner, inc) es tt (refl, k)) (λ fs done g. told_so inc has done g)
 
   by_socket : (es : List Entry) (place : ℕ) (names : incoming_at m handle ≡ Some place) (o : Option OpenUdp) → open_at m.store.records place ≡ o → Allows Anything (λ fs done. Told done.0) es (receive_datagrams_at m.store (first_ids line) place most o)

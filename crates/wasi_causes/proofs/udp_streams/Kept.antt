@@ -10,7 +10,7 @@ use Rattle.wasi_records.specs.Records.{open_at, open_of}
 use Rattle.wasi_records.specs.declared.datagrams.Receiving.TheVariants as receiving
 use Rattle.wasi_records.specs.declared.datagrams.Sending.TheVariants as sending
 use Rattle.wasi_records.specs.declared.udp.OpenUdp.{OpenUdp}
-use Rattle.wasi_records.specs.declared.udp.Udp2Socket.TheVariants as udp
+use Rattle.wasi_records.specs.declared.udp.UdpRecord.TheVariants as udp
 use Rattle.wasi_host.specs.UdpCalls.{with_open_udp}
 use Rattle.wasi_steps.specs.declared.reply.Field.{Field}
 use Rattle.wasi_steps.specs.declared.reply.Reply.TheVariants as reply

@@ -6,7 +6,7 @@ use Rattle.wasi_host.specs.UdpCalls.{with_open_udp}
 use Rattle.wasi_jobs.specs.declared.job.HostJob.{HostJob}
 use Rattle.wasi_records.specs.declared.records.Record.{Record}
 use Rattle.wasi_records.specs.declared.udp.OpenUdp.{OpenUdp}
-use Rattle.wasi_records.specs.declared.udp.Udp2Socket.TheVariants as udp
+use Rattle.wasi_records.specs.declared.udp.UdpRecord.TheVariants as udp
 use Rattle.wasi_walks.proofs.walks.Udp.{open_is}
 use Rattle.wasi_walks.specs.Answered.{open_in}
 use Rattle.wasi_causes.proofs.tables.Meets.{Meets, Rows, ends, onto}

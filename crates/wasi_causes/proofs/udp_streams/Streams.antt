@@ -10,7 +10,7 @@ use Rattle.wasi_host.specs.DatagramCalls.{start_streams_at, start_streams_by, st
 use Rattle.wasi_records.specs.Datagrams.{begin_streams_asks, disconnect_streams, disconnected, has_streams, streams_to, streams_where, udp_connect_begun, udp_connect_ended, with_streams}
 use Rattle.wasi_records.specs.Udp.{with_udp_inner}
 use Rattle.wasi_records.specs.Records.{open_at, open_of, udp2_at}
-use Rattle.wasi_records.specs.declared.udp.Udp2Socket.TheVariants as udp
+use Rattle.wasi_records.specs.declared.udp.UdpRecord.TheVariants as udp
 use Rattle.wasi_walks.proofs.walks.Udp.{open_is}
 use Rattle.wasi_host.specs.UdpCreates.{udp_side_at}
 use Rattle.wasi_host.specs.UdpCalls.{udp_call_answered, with_open_udp}

@@ -7,7 +7,7 @@ use Rattle.wasi_tcp.specs.declared.socket.TcpState.TheVariants as state
 use Rattle.socket_common.specs.Rounds.{is_going, some_left}
 use Rattle.wasi_walks.proofs.claims.Law.{begins_on_names}
 use Rattle.wasi_walks.proofs.walks.Runs.{each_entry}
-use Rattle.wasi_laws.proofs.Words.{false, ErrorValue, BeginsWrites, Accepts, Allows, Asks, Base, BaseBetween, Begins, Call, End, Entry, Err, ErrorCode, FitListening, Found, HandleTable, Held, Here, HoldsAccept, IpSocketAddress, IsAcceptOn, IsDoneOrCode, Item, Job, Kind, Law, Left, List, Listener, Machine, Made, Move, None, Not, Ok, OpId, Operation, Option, Over, Own, Reply, Result, Socket, SocketAddressFamily, Some, Spends, Starts, Step, Streams, Tcp2, Tcp2Socket, Told, Unused, Used, Walks, WasiSocketsCtx, WriteState, [], after_create, allows_if, allows_then, allows_weaker, ap, base_over, base_starts, bind, closed_record, created_asks, entry, first_base, first_state, job_after, length, machine_asks, machine_walks, made_so, make_asks, may_while, new_asks, new_socket, on_along, on_names, own_of, poll_asks, put, refl, run, side_at, side_in, side_of, socket_of, subst, sym, told_addr, told_done, told_same, true, with_listening, with_writer, ℕ, ◌++◌, ◌+◌, ◌∙◌, ◌∷◌, ◌≡◌}
+use Rattle.wasi_laws.proofs.Words.{false, ErrorValue, BeginsWrites, Accepts, Allows, Asks, Base, BaseBetween, Begins, Call, End, Entry, Err, ErrorCode, FitListening, Found, HandleTable, Held, Here, HoldsAccept, IpSocketAddress, IsAcceptOn, IsDoneOrCode, Item, Job, Kind, Law, Left, List, Listener, Machine, Made, Move, None, Not, Ok, OpId, Operation, Option, Over, Own, Reply, Result, Socket, SocketAddressFamily, Some, Spends, Starts, Step, Streams, Tcp2, TcpRecord, Told, Unused, Used, Walks, WasiSocketsCtx, WriteState, [], after_create, allows_if, allows_then, allows_weaker, ap, base_over, base_starts, bind, closed_record, created_asks, entry, first_base, first_state, job_after, length, machine_asks, machine_walks, made_so, make_asks, may_while, new_asks, new_socket, on_along, on_names, own_of, poll_asks, put, refl, run, side_at, side_in, side_of, socket_of, subst, sym, told_addr, told_done, told_same, true, with_listening, with_writer, ℕ, ◌++◌, ◌+◌, ◌∙◌, ◌∷◌, ◌≡◌}
 use Rattle.wasi_walks.proofs.walks.Asked.{Asked, Questions, SetsBacklog, Learns, Closes, UdpQuestions, UdpLearns, UdpPeers, UdpCloses, UdpBegins, Resolves, Looks, MarksOne, MarksAccepted, MarksUdp, MarksStream, MarksError, AsksCreate, Polls, Turns, GivesUp, UdpGivesUp}
 use Rattle.wasi_walks.proofs.walks.Layers.{begins_layer, layer}
 use Rattle.wasi_walks.proofs.walks.OfState.{begins_state, creating, of_state}
@@ -22,7 +22,7 @@ use Rattle.wasi_records.specs.Records.{tcp2_at, udp2_at}
 use Rattle.wasi_host.specs.declared.kind.Kind.TheVariants.{Udp2}
 use Rattle.wasi_records.specs.declared.records.Record.{Record}
 use Rattle.wasi_records.specs.declared.udp.OpenUdp.{OpenUdp}
-use Rattle.wasi_records.specs.declared.udp.Udp2Socket.{Udp2Socket}
+use Rattle.wasi_records.specs.declared.udp.UdpRecord.{UdpRecord}
 use Rattle.wasi_records.specs.Udp.{udp_side, with_udp_inner}
 use Rattle.wasi_host.specs.UdpCreates.{udp_side_at}
 use Rattle.wasi_udp.specs.Create.{Create, create_cancel_asks, new_create, after_create as udp_after_create}
@@ -32,7 +32,7 @@ use Rattle.wasi_walks.proofs.fits.UdpFits.{learnt_side}
 use Rattle.wasi_walks.proofs.walks.Moves.{Past, ToSend, put_udp, FoundUdp, part_of, udp_begun, with_records}
 
 -- a close of this network socket leaves the record so
-pub data Closing (r : Tcp2Socket) : Tcp2Socket → OpId → Type 0 where
+pub data Closing (r : TcpRecord) : TcpRecord → OpId → Type 0 where
   ClosesSocket : (side : OpId) → side_of r.inner ≡ Some side → Closing r (closed_record r) side
   ClosesListen : (op : Operation) → r.listening ≡ Begins op → Closing r (with_listening r Not) op.who.side
   ClosesArrived : (l : Listener) (new : OpId) (peer : IpSocketAddress) → r.listening ≡ Accepts l → l.accept ≡ accepting.Arrived new peer → Closing r (with_listening r Not) new
@@ -44,29 +44,29 @@ module _ (contexts : List WasiSocketsCtx) (line : ℕ) (origin : Step) where
   -- the socket that a calm call is on, where it is on one
   pub data IsAskedOn (h : Here) (c : Call) : Type 0 where
     OnNone : socket_of c ≡ None → IsAskedOn h c
-    OnSide : (place : ℕ) (r : Tcp2Socket) (side : OpId) → Found h place r → side_of r.inner ≡ Some side → socket_of c ≡ Some side → Grounds h → IsAskedOn h c
-    OnUdp : (place : ℕ) (o : OpenUdp) → FoundUdp h place (Udp2Socket.Open o) → socket_of c ≡ Some o.inner.side → Grounds h → IsAskedOn h c
+    OnSide : (place : ℕ) (r : TcpRecord) (side : OpId) → Found h place r → side_of r.inner ≡ Some side → socket_of c ≡ Some side → Grounds h → IsAskedOn h c
+    OnUdp : (place : ℕ) (o : OpenUdp) → FoundUdp h place (UdpRecord.Open o) → socket_of c ≡ Some o.inner.side → Grounds h → IsAskedOn h c
 
   -- P is what each ask must be, and Inv what holds between the asks.
   pub record Single (P : List Entry → OpId → Call → Type 0) (Inv : List Entry → Here → Type 0) : Type 0 where
     -- what asks nothing: the moves; a record that is as it was; another table; a listening that is over
     pub moves : (es : List Entry) (h now : Here) → Move line origin h now → Grounds h → Inv es h → Inv es now
-    pub same : (es : List Entry) (h : Here) (place : ℕ) (r now : Tcp2Socket) → Found h place r → Same r now → Inv es h → Inv es (put h place now)
+    pub same : (es : List Entry) (h : Here) (place : ℕ) (r now : TcpRecord) → Found h place r → Same r now → Inv es h → Inv es (put h place now)
     pub tables : (es : List Entry) (h : Here) (t : HandleTable) (m : Made) → Inv es h → Inv es (record h { machine = record h.machine { table = t }; made = m })
-    pub stops : (es : List Entry) (h : Here) (place : ℕ) (r : Tcp2Socket) → Found h place r → Inv es h → Inv es (put h place (with_listening r Not))
+    pub stops : (es : List Entry) (h : Here) (place : ℕ) (r : TcpRecord) → Found h place r → Inv es h → Inv es (put h place (with_listening r Not))
     -- what is asked: a calm call; a create that is answered done; a close
     pub asks : (es : List Entry) (h : Here) (op : OpId) (c : Call) → is_calm c ≡ true → IsAskedOn h c → Inv es h → Then P (λ fs. Inv fs h) es op c
     pub creates : (es : List Entry) (h : Here) (ctx : WasiSocketsCtx) (family : SocketAddressFamily) → h.own ≡ Unused → Grounds h → Inv es h → Inv (es ++ entry (own_of line) (call.TcpCreate ctx.name family) told.Done ∷ []) (creating h (own_of line) ctx family)
-    pub closes : (es : List Entry) (h : Here) (place : ℕ) (r now : Tcp2Socket) (op side : OpId) → Found h place r → Closing r now side → Grounds h → Inv es h → Then P (λ fs. Inv fs (put h place now)) es op (call.Close side)
+    pub closes : (es : List Entry) (h : Here) (place : ℕ) (r now : TcpRecord) (op side : OpId) → Found h place r → Closing r now side → Grounds h → Inv es h → Then P (λ fs. Inv fs (put h place now)) es op (call.Close side)
     -- a UDP socket: one that is in the middle of what it was, with the same network socket; a create that is answered done; a close
-    pub udp_same : (es : List Entry) (h : Here) (place : ℕ) (o now : OpenUdp) → FoundUdp h place (Udp2Socket.Open o) → now.inner.side ≡ o.inner.side → now ≡ with_udp_inner o now.inner → Inv es h → Inv es (put_udp h place (Udp2Socket.Open now))
+    pub udp_same : (es : List Entry) (h : Here) (place : ℕ) (o now : OpenUdp) → FoundUdp h place (UdpRecord.Open o) → now.inner.side ≡ o.inner.side → now ≡ with_udp_inner o now.inner → Inv es h → Inv es (put_udp h place (UdpRecord.Open now))
     pub udp_creates : (es : List Entry) (h : Here) (ctx : WasiSocketsCtx) (family : SocketAddressFamily) → h.own ≡ Unused → Grounds h → Inv es h → Inv (es ++ entry (own_of line) (call.UdpCreate ctx.name family) told.Done ∷ []) (udp_begun h (Ok (new_create (own_of line) ctx.name family)))
-    pub udp_closes : (es : List Entry) (h : Here) (place : ℕ) (u : Udp2Socket) (op : OpId) → FoundUdp h place u → UdpLives u → Grounds h → Inv es h → Then P (λ fs. Inv fs (put_udp h place (Udp2Socket.Closed (udp_side u)))) es op (call.Close (udp_side u))
+    pub udp_closes : (es : List Entry) (h : Here) (place : ℕ) (u : UdpRecord) (op : OpId) → FoundUdp h place u → UdpLives u → Grounds h → Inv es h → Then P (λ fs. Inv fs (put_udp h place (UdpRecord.Closed (udp_side u)))) es op (call.Close (udp_side u))
     -- a lookup changes: other records, with the same sockets among them
     pub lookups : (es : List Entry) (h : Here) (records : List Record) → SocketsStay h.machine.store.records records → Inv es h → Inv es (with_records h records)
     -- what is in progress: an operation, and a write
     pub polls : (es : List Entry) (h : Here) (op : Operation) (after : End × List Item → Here) → Held h op after → Grounds h → Inv es h → Allows P (λ fs ended. Inv fs (after ended)) es (poll_asks op)
-    pub turns : (es : List Entry) (h : Here) (place : ℕ) (r : Tcp2Socket) (s : Streams) (job : Job) (now : Job → WriteState) → Found h place r → r.streams ≡ Some s → GoesOn s.writer job now → Grounds h → Inv es h
+    pub turns : (es : List Entry) (h : Here) (place : ℕ) (r : TcpRecord) (s : Streams) (job : Job) (now : Job → WriteState) → Found h place r → r.streams ≡ Some s → GoesOn s.writer job now → Grounds h → Inv es h
         → Allows P (λ fs ended. Inv fs (put h place (with_writer r s (now (job_after job.write.who ended))))) es (poll_asks job.write)
 
   -- it is kept where a write begins in a call of streams, of whatever line
@@ -75,7 +75,7 @@ module _ (contexts : List WasiSocketsCtx) (line : ℕ) (origin : Step) where
 
   module _ {P : List Entry → OpId → Call → Type 0} {Inv : List Entry → Here → Type 0} (a : Single P Inv) where
     -- a calm call on a record
-    on_record : (es : List Entry) (h : Here) (place : ℕ) (r : Tcp2Socket) (op side : OpId) (c : Call) → Found h place r → side_of r.inner ≡ Some side → CalmOn side c → Grounds h → Inv es h → Then P (λ fs. Inv fs h) es op c
+    on_record : (es : List Entry) (h : Here) (place : ℕ) (r : TcpRecord) (op side : OpId) (c : Call) → Found h place r → side_of r.inner ≡ Some side → CalmOn side c → Grounds h → Inv es h → Then P (λ fs. Inv fs h) es op c
     on_record es h place r op side c g s k b i = a.asks es h op c k.calm (OnSide place r side g s k.on b) i
 
     -- a create of a UDP socket that was answered
@@ -85,8 +85,8 @@ module _ (contexts : List WasiSocketsCtx) (line : ℕ) (origin : Step) where
     udp_created es h ctx family u b i _ f = absurd f
 
     -- whatever is learnt of a UDP socket
-    udp_told : (es : List Entry) (h : Here) (place : ℕ) (o : OpenUdp) (op : OpId) (c : Call) (socket : Told → UdpShape) → is_calm c ≡ true → socket_of c ≡ Some o.inner.side → ((told : Told) → (socket told).side ≡ o.inner.side) → FoundUdp h place (Udp2Socket.Open o) → Grounds h → Inv es h
-        → P es op c × ((told : Told) → Inv (es ++ entry op c told ∷ []) (put_udp h place (Udp2Socket.Open (with_udp_inner o (socket told)))))
+    udp_told : (es : List Entry) (h : Here) (place : ℕ) (o : OpenUdp) (op : OpId) (c : Call) (socket : Told → UdpShape) → is_calm c ≡ true → socket_of c ≡ Some o.inner.side → ((told : Told) → (socket told).side ≡ o.inner.side) → FoundUdp h place (UdpRecord.Open o) → Grounds h → Inv es h
+        → P es op c × ((told : Told) → Inv (es ++ entry op c told ∷ []) (put_udp h place (UdpRecord.Open (with_udp_inner o (socket told)))))
     udp_told es h place o op c socket calm on same g b i = let x = a.asks es h op c calm (OnUdp place o g on b) i in (x.0, λ told. a.udp_same _ h place o (with_udp_inner o (socket told)) g (same told) refl (x.1 told))
 
     marked : (es : List Entry) (h : Here) (kind : Kind) (parent : Option ℕ) (sock : Option OpId) → Inv es h → Allows P (λ fs made. Inv fs h) es (make_asks h.machine.table (own_of line) kind parent sock)
@@ -117,7 +117,7 @@ module _ (contexts : List WasiSocketsCtx) (line : ℕ) (origin : Step) where
         (marked fs now (Tcp2 (length h.machine.store.records)) None (Some (own_of line)) k.1) (λ gs made i. a.tables gs now made.1 h.made i))
 
     -- a listening that is released
-    undoes : (es : List Entry) (h : Here) (place : ℕ) (r : Tcp2Socket) (op : OpId) (c : Call) → Found h place r → Undoes r.listening op c → Grounds h → Inv es h → Then P (λ fs. Inv fs (put h place (with_listening r Not))) es op c
+    undoes : (es : List Entry) (h : Here) (place : ℕ) (r : TcpRecord) (op : OpId) (c : Call) → Found h place r → Undoes r.listening op c → Grounds h → Inv es h → Then P (λ fs. Inv fs (put h place (with_listening r Not))) es op c
     undoes es h place r _ _ g (tree.ClosesBegun op e) b i = a.closes es h place r _ op.who.id op.who.side g (ClosesListen op e) b i
     undoes es h place r _ _ g (tree.RefusesArrival l op peer e d) b i =
         let its : IsAcceptOn l.side l.maker op = subst (HoldsAccept l.side l.maker) d (subst FitListening e (b.0.0.records place r g).1) in
@@ -127,12 +127,12 @@ module _ (contexts : List WasiSocketsCtx) (line : ℕ) (origin : Step) where
     undoes es h place r _ _ g (tree.ClosesArrived l new peer e d) b i = a.closes es h place r _ new new g (ClosesArrived l new peer e d) b i
 
     -- a create that is given up waits for its network socket, and closes it
-    udp_gone : (es : List Entry) (h : Here) (place : ℕ) (create : Create) → FoundUdp h place (Udp2Socket.Creating create) → Grounds h → Inv es h → Allows P (λ fs done. Inv fs (put_udp h place (Udp2Socket.Closed create.operation.who.side))) es (create_cancel_asks create)
+    udp_gone : (es : List Entry) (h : Here) (place : ℕ) (create : Create) → FoundUdp h place (UdpRecord.Creating create) → Grounds h → Inv es h → Allows P (λ fs done. Inv fs (put_udp h place (UdpRecord.Closed create.operation.who.side))) es (create_cancel_asks create)
     unfolding bind
     udp_gone es h place create g b i =
-        let x = a.udp_closes es h place (Udp2Socket.Creating create) create.operation.who.id g tt b i in
-        let goes : is_going create.operation ≡ true = ap some_left (b.0.0.udps place (Udp2Socket.Creating create) g).1 in
-        allows_if P (λ fs done. Inv fs (put_udp h place (Udp2Socket.Closed create.operation.who.side))) es (is_going create.operation) _ _ (λ going. (x.0, λ told fits. x.1 told)) (λ over. absurd (let z : true ≡ false = sym goes ∙ over in cc))
+        let x = a.udp_closes es h place (UdpRecord.Creating create) create.operation.who.id g tt b i in
+        let goes : is_going create.operation ≡ true = ap some_left (b.0.0.udps place (UdpRecord.Creating create) g).1 in
+        allows_if P (λ fs done. Inv fs (put_udp h place (UdpRecord.Closed create.operation.who.side))) es (is_going create.operation) _ _ (λ going. (x.0, λ told fits. x.1 told)) (λ over. absurd (let z : true ≡ false = sym goes ∙ over in cc))
 
     -- a handle is made, or there is no room for it
     made_by : (es : List Entry) (h : Here) (op : OpId) (kind : Kind) (parent : Option ℕ) (sock : Option OpId) (so : Result ℕ Stop × HandleTable → Made) → Inv es h → Allows P (λ fs made. Inv fs (record h { machine = record h.machine { table = made.1 }; made = so made })) es (make_asks h.machine.table op kind parent sock)
@@ -151,7 +151,7 @@ module _ (contexts : List WasiSocketsCtx) (line : ℕ) (origin : Step) where
     single_asks es h _ _ _ (UdpQuestions place n o c at g q) b i = let k = udp_question_calm line origin n o.inner.side c q in let x = a.asks es h (own_of n) c k.calm (OnUdp place o g k.on b) i in (x.0, λ told f. x.1 told)
     single_asks es h _ _ _ (UdpLearns place part o at g) b i = let x = udp_told es h place o (part_of line part) (call.Local o.inner.side) (λ told. (udp_after_local o.inner (told_addr told)).1) refl refl (λ told. learnt_side o.inner (told_addr told)) g b i in (x.0, λ told f. x.1 told)
     single_asks es h _ _ _ (UdpPeers place o at g) b i = let x = udp_told es h place o (own_of line) (call.Peer o.inner.side) (λ told. after_peer o.inner (told_addr told)) refl refl (λ told. refl) g b i in (x.0, λ told f. x.1 told)
-    single_asks es h _ _ _ (UdpCloses place o q g) b i = let x = a.udp_closes es h place (Udp2Socket.Open o) (own_of line) g tt b i in (x.0, λ told f. x.1 told)
+    single_asks es h _ _ _ (UdpCloses place o q g) b i = let x = a.udp_closes es h place (UdpRecord.Open o) (own_of line) g tt b i in (x.0, λ told f. x.1 told)
     single_asks es h _ _ _ (UdpBegins ctx family c may at u m) b i = ((a.asks es h (own_of line) (call.UdpCreate ctx.name family) refl (OnNone refl) i).0, λ told f. udp_created es h ctx family u b i told f)
     single_asks es h _ _ _ (Resolves host records l s) b i = let x = a.asks es h (own_of line) (call.Lookup host) refl (OnNone refl) i in (x.0, λ told f. a.lookups _ h (records told) (sockets_stay (s told)) (x.1 told))
     single_asks es h _ _ _ (Looks place op g) b i = let x = a.asks es h op.id (call.Lookup op.host) refl (OnNone refl) i in (x.0, λ told f. x.1 told)

@@ -2,7 +2,7 @@
 use Rattle.wasi_tcp.specs.declared.socket.TcpState.TheVariants as state
 use Rattle.wasi_tcp.specs.declared.listener.Accepting.TheVariants as accepting
 use Rattle.wasi_world.specs.Operation.{UdpBind, UdpConnect, Send}
-use Rattle.wasi_records.specs.declared.udp.Udp2Socket.{Udp2Socket}
+use Rattle.wasi_records.specs.declared.udp.UdpRecord.{UdpRecord}
 use Rattle.wasi_records.specs.declared.udp.UdpInProgress.{UdpInProgress}
 use Rattle.wasi_records.specs.declared.udp.UdpInProgress.TheVariants as udp
 use Rattle.wasi_records.specs.Numbered.{record_gone}
@@ -19,7 +19,7 @@ use Rattle.wasi_udp.specs.Receive.{receive_first, wanted_in}
 use Rattle.wasi_udp.specs.Send.{send_first, send_left}
 use Rattle.wasi_udp.specs.declared.send.Destination.{Destination}
 use Rattle.wasi_walks.proofs.walks.Moves.{receiving_in, sending_in}
-use Rattle.wasi_laws.proofs.Words.{Accept, Accepting, Bind, Bool, Check, CheckArrival, CheckLocal, CheckPeer, Connect, Err, Here, IpSocketAddress, Item, List, Listen, Listening, None, Ok, OpId, Operation, Option, Receive, Refuse, Result, Some, Tcp2Socket, TcpState, [], ap, arith, false, refl, suc, sym, true, zero, ℕ, ◌+◌, ◌∙◌, ◌∷◌, ◌≡◌, ◌≤◌}
+use Rattle.wasi_laws.proofs.Words.{Accept, Accepting, Bind, Bool, Check, CheckArrival, CheckLocal, CheckPeer, Connect, Err, Here, IpSocketAddress, Item, List, Listen, Listening, None, Ok, OpId, Operation, Option, Receive, Refuse, Result, Some, TcpRecord, TcpState, [], ap, arith, false, refl, suc, sym, true, zero, ℕ, ◌+◌, ◌∙◌, ◌∷◌, ◌≡◌, ◌≤◌}
 
 -- == the checks that are left
 -- what an item is to the checks of an operation: one, what they come before, or nothing
@@ -141,23 +141,23 @@ module _ (ours : OpId → Bool) where
   half (op ∷ ops) = let a = half_if (ours op.who.id) op.left in let b = half ops in omega (arith, a, b)
 
   -- what it writes asks for nothing that is checked, and so weighs nothing
-  abbrev pub record_weight : Tcp2Socket → Bool → ℕ
+  abbrev pub record_weight : TcpRecord → Bool → ℕ
   record_weight r i = total (state_ops r.inner.state) i + (total (listening_ops r.listening) i + total (progress_ops r.in_progress) i)
 
   -- of one that is open: what is in progress, the connect, the datagram that is sent, and the receive
-  abbrev pub udp_weight : Udp2Socket → Bool → ℕ
-  udp_weight (Udp2Socket.Creating create) i = total (create.operation ∷ []) i
-  udp_weight (Udp2Socket.Open o) i = total (udp_progress_ops o.in_progress) i + (total (op_in o.connecting) i + (total (op_in (sending_in o.outgoing)) i + total (op_in (receiving_in o.incoming)) i))
-  udp_weight (Udp2Socket.Closed side) i = 0
+  abbrev pub udp_weight : UdpRecord → Bool → ℕ
+  udp_weight (UdpRecord.Creating create) i = total (create.operation ∷ []) i
+  udp_weight (UdpRecord.Open o) i = total (udp_progress_ops o.in_progress) i + (total (op_in o.connecting) i + (total (op_in (sending_in o.outgoing)) i + total (op_in (receiving_in o.incoming)) i))
+  udp_weight (UdpRecord.Closed side) i = 0
 
   -- and so in a UDP socket
-  half_udp : (u : Udp2Socket) → udp_weight u true ≤ udp_weight u false + udp_weight u false
-  half_udp (Udp2Socket.Creating create) = half (create.operation ∷ [])
-  half_udp (Udp2Socket.Open o) = let a = half (udp_progress_ops o.in_progress) in let b = half (op_in o.connecting) in let c = half (op_in (sending_in o.outgoing)) in let d = half (op_in (receiving_in o.incoming)) in omega (arith, a, b, c, d)
-  half_udp (Udp2Socket.Closed side) = omega arith
+  half_udp : (u : UdpRecord) → udp_weight u true ≤ udp_weight u false + udp_weight u false
+  half_udp (UdpRecord.Creating create) = half (create.operation ∷ [])
+  half_udp (UdpRecord.Open o) = let a = half (udp_progress_ops o.in_progress) in let b = half (op_in o.connecting) in let c = half (op_in (sending_in o.outgoing)) in let d = half (op_in (receiving_in o.incoming)) in omega (arith, a, b, c, d)
+  half_udp (UdpRecord.Closed side) = omega arith
 
   -- by the socket that a record is; a lookup weighs nothing, nor does a pipe
-  abbrev weight_in : Option Tcp2Socket → Option Udp2Socket → Bool → ℕ
+  abbrev weight_in : Option TcpRecord → Option UdpRecord → Bool → ℕ
   weight_in (Some r) u i = record_weight r i
   weight_in None (Some u) i = udp_weight u i
   weight_in None None i = 0
@@ -170,8 +170,8 @@ module _ (ours : OpId → Bool) where
   sockets_weight (x ∷ rs) i = weight_of x i + sockets_weight rs i
 
   -- the sockets alone weigh something
-  same_weight_in : (a b : Option Tcp2Socket) (c d : Option Udp2Socket) → a ≡ b → c ≡ d → (i : Bool) → weight_in a c i ≡ weight_in b d i
-  same_weight_in a b c d e f i = ap (λ (o : Option Tcp2Socket). weight_in o c i) e ∙ ap (λ (o : Option Udp2Socket). weight_in b o i) f
+  same_weight_in : (a b : Option TcpRecord) (c d : Option UdpRecord) → a ≡ b → c ≡ d → (i : Bool) → weight_in a c i ≡ weight_in b d i
+  same_weight_in a b c d e f i = ap (λ (o : Option TcpRecord). weight_in o c i) e ∙ ap (λ (o : Option UdpRecord). weight_in b o i) f
 
   none_weigh : (rs : List Record) → ((k : ℕ) → tcp2_at rs k ≡ None) → ((k : ℕ) → udp2_at rs k ≡ None) → (i : Bool) → sockets_weight rs i ≡ 0
   none_weigh [] t u i = refl
@@ -184,8 +184,8 @@ module _ (ours : OpId → Bool) where
 
   pub half_sockets : (rs : List Record) → sockets_weight rs true ≤ sockets_weight rs false + sockets_weight rs false
   half_sockets [] = omega arith
-  half_sockets (rec.Tcp2 r ∷ rs) = let a = half (state_ops r.inner.state) in let b = half (listening_ops r.listening) in let p = half (progress_ops r.in_progress) in let d = half_sockets rs in omega (arith, a, b, p, d)
-  half_sockets (rec.Udp2 u ∷ rs) = let a = half_udp u in let d = half_sockets rs in omega (arith, a, d)
+  half_sockets (rec.Tcp r ∷ rs) = let a = half (state_ops r.inner.state) in let b = half (listening_ops r.listening) in let p = half (progress_ops r.in_progress) in let d = half_sockets rs in omega (arith, a, b, p, d)
+  half_sockets (rec.Udp u ∷ rs) = let a = half_udp u in let d = half_sockets rs in omega (arith, a, d)
   half_sockets (rec.Lookup l ∷ rs) = let d = half_sockets rs in omega (arith, d)
   half_sockets (rec.InputPipe bytes ∷ rs) = let d = half_sockets rs in omega (arith, d)
   half_sockets (rec.OutputPipe pipe ∷ rs) = let d = half_sockets rs in omega (arith, d)
@@ -197,24 +197,24 @@ module _ (ours : OpId → Bool) where
   sockets_fewer (x ∷ rs) zero i = omega arith
   sockets_fewer (x ∷ rs) (suc place) i = let k = sockets_fewer rs place i in omega (arith, k)
 
-  pub sockets_push : (rs : List Record) (r : Tcp2Socket) (i : Bool) → sockets_weight (tcp2_pushed rs r) i ≡ sockets_weight rs i + record_weight r i
+  pub sockets_push : (rs : List Record) (r : TcpRecord) (i : Bool) → sockets_weight (tcp2_pushed rs r) i ≡ sockets_weight rs i + record_weight r i
   sockets_push [] r i = omega arith
   sockets_push (x ∷ rs) r i = let k = sockets_push rs r i in omega (arith, k)
 
-  pub udps_push : (rs : List Record) (u : Udp2Socket) (i : Bool) → sockets_weight (udp2_pushed rs u) i ≡ sockets_weight rs i + udp_weight u i
+  pub udps_push : (rs : List Record) (u : UdpRecord) (i : Bool) → sockets_weight (udp2_pushed rs u) i ≡ sockets_weight rs i + udp_weight u i
   udps_push [] u i = omega arith
   udps_push (x ∷ rs) u i = let k = udps_push rs u i in omega (arith, k)
 
   -- The records but one, which weighs so much wherever it changes.
-  pub record Beside (rs : List Record) (place : ℕ) (r : Tcp2Socket) : Type 0 where
+  pub record Beside (rs : List Record) (place : ℕ) (r : TcpRecord) : Type 0 where
     pub others : Bool → ℕ
     pub halved : others true ≤ others false + others false
     pub was : (i : Bool) → sockets_weight rs i ≡ others i + record_weight r i
-    pub now : (q : Tcp2Socket) (i : Bool) → sockets_weight (tcp2_put rs place q) i ≡ others i + record_weight q i
+    pub now : (q : TcpRecord) (i : Bool) → sockets_weight (tcp2_put rs place q) i ≡ others i + record_weight q i
 
-  pub beside : (rs : List Record) (place : ℕ) (r : Tcp2Socket) → tcp2_at rs place ≡ Some r → Beside rs place r
+  pub beside : (rs : List Record) (place : ℕ) (r : TcpRecord) → tcp2_at rs place ≡ Some r → Beside rs place r
   beside [] place r g = absurd (cc)
-  beside (rec.Tcp2 x ∷ rs) zero r g = record { others = sockets_weight rs; halved = half_sockets rs; was = λ i. (let e : x ≡ r = cc in let s : record_weight x i ≡ record_weight r i = ap (λ (y : Tcp2Socket). record_weight y i) e in omega (arith, s)); now = λ q i. omega arith }
+  beside (rec.Tcp x ∷ rs) zero r g = record { others = sockets_weight rs; halved = half_sockets rs; was = λ i. (let e : x ≡ r = cc in let s : record_weight x i ≡ record_weight r i = ap (λ (y : TcpRecord). record_weight y i) e in omega (arith, s)); now = λ q i. omega arith }
   beside (_ ∷ rs) zero r g = absurd (cc)
   beside (x ∷ rs) (suc place) r g =
       let k = beside rs place r g in
@@ -226,16 +226,16 @@ module _ (ours : OpId → Bool) where
       }
 
   -- the same of a UDP socket
-  pub record BesideUdp (rs : List Record) (place : ℕ) (u : Udp2Socket) : Type 0 where
+  pub record BesideUdp (rs : List Record) (place : ℕ) (u : UdpRecord) : Type 0 where
     pub others : Bool → ℕ
     pub halved : others true ≤ others false + others false
     pub was : (i : Bool) → sockets_weight rs i ≡ others i + udp_weight u i
-    pub now : (q : Udp2Socket) (i : Bool) → sockets_weight (udp2_put rs place q) i ≡ others i + udp_weight q i
+    pub now : (q : UdpRecord) (i : Bool) → sockets_weight (udp2_put rs place q) i ≡ others i + udp_weight q i
 
-  pub beside_udp : (rs : List Record) (place : ℕ) (u : Udp2Socket) → udp2_at rs place ≡ Some u → BesideUdp rs place u
+  pub beside_udp : (rs : List Record) (place : ℕ) (u : UdpRecord) → udp2_at rs place ≡ Some u → BesideUdp rs place u
   beside_udp [] place u g = absurd (cc)
-  beside_udp (rec.Tcp2 x ∷ rs) zero u g = absurd (cc)
-  beside_udp (rec.Udp2 x ∷ rs) zero u g = record { others = sockets_weight rs; halved = half_sockets rs; was = λ i. (let e : x ≡ u = cc in let s : udp_weight x i ≡ udp_weight u i = ap (λ (y : Udp2Socket). udp_weight y i) e in omega (arith, s)); now = λ q i. omega arith }
+  beside_udp (rec.Tcp x ∷ rs) zero u g = absurd (cc)
+  beside_udp (rec.Udp x ∷ rs) zero u g = record { others = sockets_weight rs; halved = half_sockets rs; was = λ i. (let e : x ≡ u = cc in let s : udp_weight x i ≡ udp_weight u i = ap (λ (y : UdpRecord). udp_weight y i) e in omega (arith, s)); now = λ q i. omega arith }
   beside_udp (rec.Lookup l ∷ rs) zero u g = absurd (cc)
   beside_udp (rec.InputPipe bytes ∷ rs) zero u g = absurd (cc)
   beside_udp (rec.OutputPipe pipe ∷ rs) zero u g = absurd (cc)

@@ -2,7 +2,7 @@
 use Rattle.wasi_tcp.specs.declared.writer.WriteState.TheVariants as writing
 use Rattle.wasi_world.specs.declared.outcome.Answer.{Answer}
 use Rattle.wasi_world.specs.declared.outcome.Answer.TheVariants.{Ready, Pending}
-use Rattle.wasi_laws.proofs.Words.{◌≡◌, ◌⊎◌, inl, inr, ℕ, List, [], ◌∷◌, ◌++◌, Option, Some, None, sym, ap, subst, ◌∙◌, ◌<◌, Ok, Err, Result, refl, arith, ⊤, OpId, Item, End, Waits, Done, Refused, WriteState, IsFrontOf, bytes_left, Streams, Tcp2Socket, Entry, bind, told_ready, Write, StreamStop, Job, then_closed, written_by, closed_by, collected, look_in, look_asks, permitted, check_write_asks, Quiet, quiet_then, WriterMoves, Collects, Permits, Lasts, LastsAfter}
+use Rattle.wasi_laws.proofs.Words.{◌≡◌, ◌⊎◌, inl, inr, ℕ, List, [], ◌∷◌, ◌++◌, Option, Some, None, sym, ap, subst, ◌∙◌, ◌<◌, Ok, Err, Result, refl, arith, ⊤, OpId, Item, End, Waits, Done, Refused, WriteState, IsFrontOf, bytes_left, Streams, TcpRecord, Entry, bind, told_ready, Write, StreamStop, Job, then_closed, written_by, closed_by, collected, look_in, look_asks, permitted, check_write_asks, Quiet, quiet_then, WriterMoves, Collects, Permits, Lasts, LastsAfter}
 use Rattle.wasi_laws.proofs.shapes.Shape.{some_same, Lives}
 use Rattle.wasi_records.specs.Numbered.{record_gone}
 use Rattle.wasi_records.specs.Records.{tcp2_at, tcp2_of, tcp2_put, tcp2_pushed}
@@ -37,7 +37,7 @@ Agree taken permitted (Some s) = Agrees taken permitted s.writer
 module _ (side : OpId) where
   pub record MadeWith (records : List Record) : Type 0 where
     pub place : ℕ
-    pub was : Tcp2Socket
+    pub was : TcpRecord
     pub at : tcp2_at records place ≡ Some was
     pub of : was.side ≡ Some side
 
@@ -46,45 +46,45 @@ module _ (side : OpId) where
   pub record Agreeing (over : Type 0) (taken permitted : List ℕ) (records : List Record) : Type 0 where
     pub front : IsFrontOf taken permitted
     pub made : Untouched taken permitted ⊎ (MadeWith records ⊎ over)
-    pub lives : (i : ℕ) (r : Tcp2Socket) → tcp2_at records i ≡ Some r → Lives side r → Agree taken permitted r.streams
+    pub lives : (i : ℕ) (r : TcpRecord) → tcp2_at records i ≡ Some r → Lives side r → Agree taken permitted r.streams
 
   -- where it is over says another fact
   pub agrees_over : {over now : Type 0} (taken permitted : List ℕ) (records : List Record) → (over → now) → Agreeing over taken permitted records → Agreeing now taken permitted records
   agrees_over taken permitted records f h = record { front = h.front; made = elim h.made [ inl u ↦ inl u | inr m ↦ inr (elim m [ inl w ↦ inl w | inr o ↦ inr (f o) ]) ]; lives = h.lives }
 
-  module _ (records : List Record) (place : ℕ) (old now : Tcp2Socket) (g : tcp2_at records place ≡ Some old) (s : now.side ≡ old.side) where
+  module _ (records : List Record) (place : ℕ) (old now : TcpRecord) (g : tcp2_at records place ≡ Some old) (s : now.side ≡ old.side) where
     made_put : MadeWith records → MadeWith (tcp2_put records place now)
     made_put m = elim (put_stays tcp_sort records place now m.place m.was m.at) [
       | inl e ↦ record { place = m.place; was = m.was; at = e; of = m.of }
-      | inr e ↦ record { place = m.place; was = now; at = e.1; of = s ∙ (ap (λ (r : Tcp2Socket). r.side) (some_same old m.was (sym g ∙ (ap (tcp2_at records) (sym e.0) ∙ m.at))) ∙ m.of) }
+      | inr e ↦ record { place = m.place; was = now; at = e.1; of = s ∙ (ap (λ (r : TcpRecord). r.side) (some_same old m.was (sym g ∙ (ap (tcp2_at records) (sym e.0) ∙ m.at))) ∙ m.of) }
     ]
 
-  module _ {over : Type 0} (records : List Record) (place : ℕ) (old now : Tcp2Socket) (g : tcp2_at records place ≡ Some old) (s : now.side ≡ old.side) where
+  module _ {over : Type 0} (records : List Record) (place : ℕ) (old now : TcpRecord) (g : tcp2_at records place ≡ Some old) (s : now.side ≡ old.side) where
     pub agrees_put : (taken permitted : List ℕ) → (Lives side now → Agree taken permitted now.streams) → Agreeing over taken permitted records → Agreeing over taken permitted (tcp2_put records place now)
     agrees_put taken permitted f h = record {
       front = h.front;
       made = elim h.made [ inl u ↦ inl u | inr m ↦ inr (elim m [ inl w ↦ inl (made_put records place old now g s w) | inr o ↦ inr o ]) ];
-      lives = λ i r e. elim (put_found tcp_sort records place now i r e) [ inl p ↦ subst (λ (x : Tcp2Socket). Lives side x → Agree taken permitted x.streams) p.1 f | inr p ↦ h.lives i r p ];
+      lives = λ i r e. elim (put_found tcp_sort records place now i r e) [ inl p ↦ subst (λ (x : TcpRecord). Lives side x → Agree taken permitted x.streams) p.1 f | inr p ↦ h.lives i r p ];
     }
 
     -- the record of the network socket changes, and with it what was taken and permitted
-    pub agrees_moved : (taken permitted more bytes : List ℕ) → now.side ≡ Some side → ((i : ℕ) (r : Tcp2Socket) → tcp2_at records i ≡ Some r → r.side ≡ Some side → i ≡ place) → IsFrontOf more bytes → Agree more bytes now.streams → Agreeing over taken permitted records → Agreeing over more bytes (tcp2_put records place now)
+    pub agrees_moved : (taken permitted more bytes : List ℕ) → now.side ≡ Some side → ((i : ℕ) (r : TcpRecord) → tcp2_at records i ≡ Some r → r.side ≡ Some side → i ≡ place) → IsFrontOf more bytes → Agree more bytes now.streams → Agreeing over taken permitted records → Agreeing over more bytes (tcp2_put records place now)
     agrees_moved taken permitted more bytes its one front f h = record {
       front = front;
       made = inr (inl (made_put records place old now g s (record { place = place; was = old; at = g; of = sym s ∙ its })));
       lives = λ i r e l. elim (put_found tcp_sort records place now i r e) [
-        | inl p ↦ subst (λ (x : Tcp2Socket). Agree more bytes x.streams) p.1 f
-        | inr p ↦ (let at = ap (tcp2_at (tcp2_put records place now)) (one i r p l.0) ∙ put_finds tcp_sort records place old now g in subst (λ (x : Tcp2Socket). Agree more bytes x.streams) (some_same now r (sym at ∙ e)) f)
+        | inl p ↦ subst (λ (x : TcpRecord). Agree more bytes x.streams) p.1 f
+        | inr p ↦ (let at = ap (tcp2_at (tcp2_put records place now)) (one i r p l.0) ∙ put_finds tcp_sort records place old now g in subst (λ (x : TcpRecord). Agree more bytes x.streams) (some_same now r (sym at ∙ e)) f)
       ];
     }
 
   -- a record more: where it is of the network socket, no other is
-  pub agrees_push : {over : Type 0} (taken permitted : List ℕ) (records : List Record) (now : Tcp2Socket) → (now.side ≡ Some side → (i : ℕ) (r : Tcp2Socket) → tcp2_at records i ≡ Some r → r.side ≡ Some side → ⊥) → (now.side ≡ Some side → over → ⊥)
+  pub agrees_push : {over : Type 0} (taken permitted : List ℕ) (records : List Record) (now : TcpRecord) → (now.side ≡ Some side → (i : ℕ) (r : TcpRecord) → tcp2_at records i ≡ Some r → r.side ≡ Some side → ⊥) → (now.side ≡ Some side → over → ⊥)
       → (Untouched taken permitted → Agree taken permitted now.streams) → Agreeing over taken permitted records → Agreeing over taken permitted (tcp2_pushed records now)
   agrees_push {over} taken permitted records now fresh ended f h = record {
     front = h.front;
     made = elim h.made [ inl u ↦ inl u | inr m ↦ inr (elim m [ inl w ↦ inl (record { place = w.place; was = w.was; at = push_still tcp_sort tcp_sort records now w.place w.was w.at; of = w.of }) | inr o ↦ inr o ]) ];
-    lives = λ i r e l. elim (push_new tcp_sort records now i r e) [ inl p ↦ h.lives i r p l | inr p ↦ subst (λ (x : Tcp2Socket). Agree taken permitted x.streams) p (f (untouched (ap (λ (x : Tcp2Socket). x.side) p ∙ l.0) h.made)) ];
+    lives = λ i r e l. elim (push_new tcp_sort records now i r e) [ inl p ↦ h.lives i r p l | inr p ↦ subst (λ (x : TcpRecord). Agree taken permitted x.streams) p (f (untouched (ap (λ (x : TcpRecord). x.side) p ∙ l.0) h.made)) ];
   }
     where
       untouched : now.side ≡ Some side → Untouched taken permitted ⊎ (MadeWith records ⊎ over) → Untouched taken permitted
@@ -93,7 +93,7 @@ module _ (side : OpId) where
       untouched its (inr (inr o)) = absurd (ended its o)
 
   -- the sockets of other records are the same ones
-  pub agrees_beside : {over : Type 0} (taken permitted : List ℕ) (records now : List Record) → ((i : ℕ) (r : Tcp2Socket) → tcp2_at now i ≡ Some r → tcp2_at records i ≡ Some r) → ((i : ℕ) (r : Tcp2Socket) → tcp2_at records i ≡ Some r → tcp2_at now i ≡ Some r) → Agreeing over taken permitted records → Agreeing over taken permitted now
+  pub agrees_beside : {over : Type 0} (taken permitted : List ℕ) (records now : List Record) → ((i : ℕ) (r : TcpRecord) → tcp2_at now i ≡ Some r → tcp2_at records i ≡ Some r) → ((i : ℕ) (r : TcpRecord) → tcp2_at records i ≡ Some r → tcp2_at now i ≡ Some r) → Agreeing over taken permitted records → Agreeing over taken permitted now
   agrees_beside taken permitted records now back there h = record {
     front = h.front;
     made = elim h.made [ inl u ↦ inl u | inr m ↦ inr (elim m [ inl w ↦ inl (record { place = w.place; was = w.was; at = there w.place w.was w.at; of = w.of }) | inr o ↦ inr o ]) ];
@@ -101,7 +101,7 @@ module _ (side : OpId) where
   }
 
   -- a record is given back: where it was that of the network socket, it is over
-  pub agrees_fewer : {over : Type 0} (taken permitted : List ℕ) (records : List Record) (place : ℕ) → ((r : Tcp2Socket) → tcp2_at records place ≡ Some r → r.side ≡ Some side → over) → Agreeing over taken permitted records → Agreeing over taken permitted (record_gone records place)
+  pub agrees_fewer : {over : Type 0} (taken permitted : List ℕ) (records : List Record) (place : ℕ) → ((r : TcpRecord) → tcp2_at records place ≡ Some r → r.side ≡ Some side → over) → Agreeing over taken permitted records → Agreeing over taken permitted (record_gone records place)
   agrees_fewer {over} taken permitted records place ends h = record {
     front = h.front;
     made = elim h.made [ inl u ↦ inl u | inr m ↦ inr (elim m [ inl w ↦ by_place w (w.place == place) refl | inr o ↦ inr o ]) ];

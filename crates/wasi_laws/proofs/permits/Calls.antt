@@ -1,6 +1,6 @@
 -- What calls of streams are let write, along their trees: each call in them is walked with the law of what was let write before it,
 -- and a write with that of its own bytes too.
-use Rattle.wasi_laws.proofs.Words.{◌≡◌, ⊤, ℕ, Bool, true, false, List, [], ◌∷◌, ◌++◌, Option, Some, None, Result, refl, sym, ap, subst, append-nil, if◌then◌else◌, is_same, length, OpId, Entry, WasiSocketsCtx, Asks, Give, bind, Allows, allows_then, Has, Base, Machine, Streams, Tcp2Socket, WriteState, nat_lt, taken_in, Own, Used, Unused, ToConnect, ToWrite, Here, Over, Step, Walks, own_of, output_at, record_in, let_begin, writer_in, writer_of_record}
+use Rattle.wasi_laws.proofs.Words.{◌≡◌, ⊤, ℕ, Bool, true, false, List, [], ◌∷◌, ◌++◌, Option, Some, None, Result, refl, sym, ap, subst, append-nil, if◌then◌else◌, is_same, length, OpId, Entry, WasiSocketsCtx, Asks, Give, bind, Allows, allows_then, Has, Base, Machine, Streams, TcpRecord, WriteState, nat_lt, taken_in, Own, Used, Unused, ToConnect, ToWrite, Here, Over, Step, Walks, own_of, output_at, record_in, let_begin, writer_in, writer_of_record}
 use Rattle.wasi_tcp.specs.declared.writer.WriteState.TheVariants as writing
 use Rattle.wasi_host.specs.CallStops.{CallStop}
 use Rattle.wasi_records.specs.Records.{tcp2_at}
@@ -42,7 +42,7 @@ module _ (side : OpId) where
   streams_is None bytes = refl
   streams_is (Some s) bytes = writer_is s.writer bytes
 
-  record_is : (o : Option Tcp2Socket) (bytes : List ℕ) → let_own side (may_in o bytes) ≡ let_begin side bytes (writer_of_record o)
+  record_is : (o : Option TcpRecord) (bytes : List ℕ) → let_own side (may_in o bytes) ≡ let_begin side bytes (writer_of_record o)
   record_is None bytes = refl
   record_is (Some r) bytes = streams_is r.streams bytes
 
@@ -78,7 +78,7 @@ write_of : (o : Option Streams) (bytes : List ℕ) → IsWrite (may_of o bytes)
 write_of None bytes = tt
 write_of (Some s) bytes = write_begin s.writer bytes
 
-write_in : (o : Option Tcp2Socket) (bytes : List ℕ) → IsWrite (may_in o bytes)
+write_in : (o : Option TcpRecord) (bytes : List ℕ) → IsWrite (may_in o bytes)
 write_in None bytes = tt
 write_in (Some r) bytes = write_of r.streams bytes
 

@@ -12,7 +12,7 @@ use Rattle.wasi_tcp.specs.Listen as listen
 use Rattle.wasi_udp.specs.Bind as udp
 use Rattle.wasi_udp.specs.Create.{new_create}
 use Rattle.wasi_udp.specs.Receive.{wanted_in}
-use Rattle.wasi_records.specs.declared.udp.Udp2Socket.{Udp2Socket}
+use Rattle.wasi_records.specs.declared.udp.UdpRecord.{UdpRecord}
 use Rattle.wasi_records.specs.Udp.{udp_create_left, udp_side}
 use Rattle.wasi_walks.proofs.claims.Polls.{send_plain, receive_plain, udp_connect_plain}
 use Rattle.wasi_walks.proofs.fits.DatagramPolls.{wanted_left}
@@ -21,7 +21,7 @@ use Rattle.wasi_walks.proofs.fits.UdpFits.{receives_on, sends_on}
 use Rattle.wasi_walks.proofs.walks.Moves.{CancelsBind, EndsConnect, RecallsStreams, CancelsUdpBind, CancelsUdpConnect, Names, put_udp, with_records, Finds, FoundUdp, UdpChanges, BeginsUdpBind, BeginsUdpConnect, Counts, SpendsNames, BeginsSend, BeginsReceive, UdpCreates, UdpBindsOn, UdpConnectsOn, SendsOn, ReceivesOn}
 use Rattle.wasi_walks.specs.Waiting.{IsLeftOfBind}
 use Rattle.wasi_walks.specs.Waiting as binding
-use Rattle.wasi_laws.proofs.Words.{Allows, ArePlain, Asks, Awaits, Begins, BeginsAccept, BeginsBind, BeginsConnect, BeginsListen, BeginsWrite, BindsOn, Bool, Call, Changes, ClosesReader, Connects, Done, End, Entry, Fit, FitListening, FitProgress, Forgets, Found, Held, Here, HoldsAccept, HoldsConnect, IsAcceptOn, IsConnect, IsFrontOf, IsGone, IsLeftOfConnect, IsLeftOfListen, IsListen, Item, Job, Joins, List, Listens, Move, Named, NoWrite, None, Not, OpId, Opens, Operation, Option, Own, Quiet, Reconnects, Refused, SocketAddressFamily, Some, Spends, Step, Streams, Tcp2Socket, TcpState, ToConnect, ToWrite, Told, Unlistens, Unused, Used, Waits, WasiSocketsCtx, WriteState, Writes, [], accept_ended, accept_name, accept_plain, accepting_now, allows_keep, allows_weaker, ap, append-nil, append_assoc, bytes_left, closed_record, connect_ended, entry, false, fresh, if◌then◌else◌, inl, inr, is_same, job_after, joined, name_in, new_accept, new_job, new_record, new_socket, none_taken, opened_by, own_of, part_of, poll_asks, put, refl, rules, side_in, side_of, subst, sym, taken_fresh, taken_in, true, with_inner, with_listening, with_reader, with_state, with_writer, ℕ, ⊤, ◌+◌, ◌++◌, ◌∙◌, ◌∷◌, ◌≡◌, Ok, length}
+use Rattle.wasi_laws.proofs.Words.{Allows, ArePlain, Asks, Awaits, Begins, BeginsAccept, BeginsBind, BeginsConnect, BeginsListen, BeginsWrite, BindsOn, Bool, Call, Changes, ClosesReader, Connects, Done, End, Entry, Fit, FitListening, FitProgress, Forgets, Found, Held, Here, HoldsAccept, HoldsConnect, IsAcceptOn, IsConnect, IsFrontOf, IsGone, IsLeftOfConnect, IsLeftOfListen, IsListen, Item, Job, Joins, List, Listens, Move, Named, NoWrite, None, Not, OpId, Opens, Operation, Option, Own, Quiet, Reconnects, Refused, SocketAddressFamily, Some, Spends, Step, Streams, TcpRecord, TcpState, ToConnect, ToWrite, Told, Unlistens, Unused, Used, Waits, WasiSocketsCtx, WriteState, Writes, [], accept_ended, accept_name, accept_plain, accepting_now, allows_keep, allows_weaker, ap, append-nil, append_assoc, bytes_left, closed_record, connect_ended, entry, false, fresh, if◌then◌else◌, inl, inr, is_same, job_after, joined, name_in, new_accept, new_job, new_record, new_socket, none_taken, opened_by, own_of, part_of, poll_asks, put, refl, rules, side_in, side_of, subst, sym, taken_fresh, taken_in, true, with_inner, with_listening, with_reader, with_state, with_writer, ℕ, ⊤, ◌+◌, ◌++◌, ◌∙◌, ◌∷◌, ◌≡◌, Ok, length}
 use Rattle.wasi_laws.proofs.asks.Fronts.{unwritten, polls_by}
 use Rattle.wasi_laws.proofs.asks.Single.{Single, Grounds, Closing, ClosesSocket, ClosesListen, ClosesArrived}
 use Rattle.wasi_walks.proofs.walks.OfState.{creating}
@@ -60,15 +60,15 @@ held_plain h _ _ (BindsOn place r op q g e) f = let its = subst (FitProgress r.i
 held_plain h _ _ (Connects place r op g e) f = let its : IsConnect op = subst HoldsConnect e (f.records place r g).0 in connect_plain op.left its.left
 held_plain h _ _ (Listens place r op q g e c) f = let its : IsListen op = subst FitListening e (f.records place r g).1 in listen_plain op.left its.left
 held_plain h _ _ (Awaits place r l op g e a) f = let its : IsAcceptOn l.side l.maker op = subst (HoldsAccept l.side l.maker) a (subst FitListening e (f.records place r g).1) in accept_plain ⊤ op.left its.accept.left
-held_plain h _ _ (UdpCreates place create q g) f = subst ArePlain (sym (f.udps place (Udp2Socket.Creating create) g).1) (tt, tt)
-held_plain h _ _ (UdpBindsOn place o op q g e) f = let its : UdpBindOn o.inner.side op = subst (FitUdpProgress o.inner.side) e (f.udps place (Udp2Socket.Open o) g).0 in udp_plain op.left its.bind.left
-held_plain h _ _ (UdpConnectsOn place o op q g e) f = let its : UdpConnectOn o.inner.side op = subst (FitConnecting o.inner.side) e (f.udps place (Udp2Socket.Open o) g).1 in udp_connect_plain ⊤ op.left its.connect.left
-held_plain h _ _ (SendsOn place o out op left g e s settles) f = let its : SendOn o.inner.side op = sends_on o out op e s (f.udps place (Udp2Socket.Open o) g) in send_plain ⊤ op.left its.send.left
+held_plain h _ _ (UdpCreates place create q g) f = subst ArePlain (sym (f.udps place (UdpRecord.Creating create) g).1) (tt, tt)
+held_plain h _ _ (UdpBindsOn place o op q g e) f = let its : UdpBindOn o.inner.side op = subst (FitUdpProgress o.inner.side) e (f.udps place (UdpRecord.Open o) g).0 in udp_plain op.left its.bind.left
+held_plain h _ _ (UdpConnectsOn place o op q g e) f = let its : UdpConnectOn o.inner.side op = subst (FitConnecting o.inner.side) e (f.udps place (UdpRecord.Open o) g).1 in udp_connect_plain ⊤ op.left its.connect.left
+held_plain h _ _ (SendsOn place o out op left g e s settles) f = let its : SendOn o.inner.side op = sends_on o out op e s (f.udps place (UdpRecord.Open o) g) in send_plain ⊤ op.left its.send.left
 held_plain h _ _ (ReceivesOn place o inc op g e r) f =
-    let its : ReceiveOn o.inner.side op = receives_on o inc op e r (f.udps place (Udp2Socket.Open o) g) in receive_plain ⊤ (wanted_in inc.remote op.left) (wanted_left inc.remote op.left its.receive.left)
+    let its : ReceiveOn o.inner.side op = receives_on o inc op e r (f.udps place (UdpRecord.Open o) g) in receive_plain ⊤ (wanted_in inc.remote op.left) (wanted_left inc.remote op.left its.receive.left)
 
 -- what becomes of a listen in progress
-listen_follows : (r now : Tcp2Socket) (op : Operation) → r.listening ≡ Begins op → now.side ≡ r.side → Follows r now
+listen_follows : (r now : TcpRecord) (op : Operation) → r.listening ≡ Begins op → now.side ≡ r.side → Follows r now
 listen_follows r now op e s = record { side = s; lives = λ x v. (sym s ∙ v.0, inr (subst IsBegun (sym e) tt)) }
 
 -- a connect keeps its network socket, or ends it
@@ -127,26 +127,26 @@ module _ (side : OpId) (given : List ℕ) where
     asked es h op c told n k = took es (es ++ entry op c told ∷ []) h (taken_push side es (entry op c told) (none_taken side c told n)) k
 
     -- a record changes, and agrees where its network socket is alive
-    put_kept : (es : List Entry) (h : Here) (place : ℕ) (r now : Tcp2Socket) → Found h place r → Follows r now → ((held : List ℕ) → Lives side now → Agree (taken_in side es) held r.streams → Agree (taken_in side es) held now.streams) → KeptBy over es h → KeptBy over es (put h place now)
+    put_kept : (es : List Entry) (h : Here) (place : ℕ) (r now : TcpRecord) → Found h place r → Follows r now → ((held : List ℕ) → Lives side now → Agree (taken_in side es) held r.streams → Agree (taken_in side es) held now.streams) → KeptBy over es h → KeptBy over es (put h place now)
     put_kept es h place r now g f a k = record { held = k.held; stands = agrees_put side h.machine.store.records place r now g f.side (taken_in side es) k.held (λ v. a k.held v (k.stands.lives place r g (f.lives side v))) k.stands; owes = k.owes }
 
     -- and its streams are as they were
-    put_same : (es : List Entry) (h : Here) (place : ℕ) (r now : Tcp2Socket) → Found h place r → Follows r now → now.streams ≡ r.streams → KeptBy over es h → KeptBy over es (put h place now)
+    put_same : (es : List Entry) (h : Here) (place : ℕ) (r now : TcpRecord) → Found h place r → Follows r now → now.streams ≡ r.streams → KeptBy over es h → KeptBy over es (put h place now)
     put_same es h place r now g f s k = put_kept es h place r now g f (λ held v a. subst (Agree (taken_in side es) held) (sym s) a) k
 
     -- it has no network socket any more
-    put_gone : (es : List Entry) (h : Here) (place : ℕ) (r now : Tcp2Socket) → Found h place r → now.side ≡ r.side → side_of now.inner ≡ None → (IsBegun now.listening → ⊥) → KeptBy over es h → KeptBy over es (put h place now)
+    put_gone : (es : List Entry) (h : Here) (place : ℕ) (r now : TcpRecord) → Found h place r → now.side ≡ r.side → side_of now.inner ≡ None → (IsBegun now.listening → ⊥) → KeptBy over es h → KeptBy over es (put h place now)
     put_gone es h place r now g s d n k = put_kept es h place r now g (follows_gone r now s d n) (λ held v a. absurd (gone_lacks now d n side v)) k
 
     -- a UDP socket changes, or there is one more
-    put_udp_kept : (es : List Entry) (h : Here) (place : ℕ) (u now : Udp2Socket) → FoundUdp h place u → KeptBy over es h → KeptBy over es (put_udp h place now)
+    put_udp_kept : (es : List Entry) (h : Here) (place : ℕ) (u now : UdpRecord) → FoundUdp h place u → KeptBy over es h → KeptBy over es (put_udp h place now)
     put_udp_kept es h place u now g k = record {
       held = k.held;
       stands = agrees_beside side (taken_in side es) k.held h.machine.store.records (udp2_put h.machine.store.records place now) (put_was udp_sort tcp_sort (λ t. refl) h.machine.store.records place now) (λ i r e. put_still udp_sort tcp_sort (λ t. refl) h.machine.store.records place u now i r g e) k.stands;
       owes = k.owes;
     }
 
-    push_udp_kept : (es : List Entry) (records : List Record) (now : Udp2Socket) (own : Own) → Permitted over es records own → Permitted over es (udp2_pushed records now) own
+    push_udp_kept : (es : List Entry) (records : List Record) (now : UdpRecord) (own : Own) → Permitted over es records own → Permitted over es (udp2_pushed records now) own
     push_udp_kept es records now own k = record { held = k.held; stands = agrees_beside side (taken_in side es) k.held records (udp2_pushed records now) (push_was udp_sort tcp_sort (λ t. refl) records now) (push_still udp_sort tcp_sort records now) k.stands; owes = k.owes }
 
     -- a lookup was let write nothing
@@ -162,8 +162,8 @@ module _ (side : OpId) (given : List ℕ) where
 
     module _ (line : ℕ) where
       -- a write begins: its network socket is the connection's
-      module _ (es : List Entry) (h : Here) (place number : ℕ) (r : Tcp2Socket) (s : Streams) (half : TcpSendStream) (permit : ℕ) (bytes : List ℕ) (g : Found h place r) (e : r.streams ≡ Some s) (w : s.writer ≡ writing.Ready half permit) (o : HasStreams r.inner.state s) (n : Named line h) (k : KeptBy over es h) where
-        abbrev begun : Tcp2Socket
+      module _ (es : List Entry) (h : Here) (place number : ℕ) (r : TcpRecord) (s : Streams) (half : TcpSendStream) (permit : ℕ) (bytes : List ℕ) (g : Found h place r) (e : r.streams ≡ Some s) (w : s.writer ≡ writing.Ready half permit) (o : HasStreams r.inner.state s) (n : Named line h) (k : KeptBy over es h) where
+        abbrev begun : TcpRecord
         begun = with_writer r s (writing.Writing (new_job (own_of number) half.side bytes))
 
         its_side : side_of r.inner ≡ Some half.side
@@ -215,14 +215,14 @@ module _ (side : OpId) (given : List ℕ) where
               stands = agrees_push side (taken_in side es) i.held (tcp2_put h.machine.store.records place idle) (joined l new peer) (λ q j x d v. taken_fresh contexts line origin h place r idle new g (ap accept_name e ∙ ap name_in a) refl refl b.0.1 j x d (inl (v ∙ sym q))) (λ q o. (says o).none (length (tcp2_put h.machine.store.records place idle)) (joined l new peer) (push_finds tcp_sort (tcp2_put h.machine.store.records place idle) (joined l new peer)) (inl q)) (λ t. t.0 ∙ sym t.1) i.stands;
               owes = i.owes;
             }
-        moves es _ _ (UdpChanges h place o now g p keeps) says makes b k = put_udp_kept es h place (Udp2Socket.Open o) (Udp2Socket.Open now) g k
-        moves es _ _ (BeginsUdpBind h place o a at g to idle own) says makes b k = spends es _ h.own own (put_udp_kept es h place (Udp2Socket.Open o) (Udp2Socket.Open _) g k)
-        moves es _ _ (BeginsUdpConnect h place o a at g to bound none own) says makes b k = owns es _ h.own Unused (ToConnect place) own (λ held p. p) (put_udp_kept es h place (Udp2Socket.Open o) (Udp2Socket.Open _) g k)
-        moves es _ _ (BeginsSend h place part o out d bound at g e is known own) says makes b k = owns es _ h.own (Names part) (Names (part + 1)) own (λ held p. p) (put_udp_kept es h place (Udp2Socket.Open o) (Udp2Socket.Open _) g k)
-        moves es _ _ (BeginsReceive h place part o inc bound at g e is own) says makes b k = owns es _ h.own (Names part) (Names (part + 1)) own (λ held p. p) (put_udp_kept es h place (Udp2Socket.Open o) (Udp2Socket.Open _) g k)
+        moves es _ _ (UdpChanges h place o now g p keeps) says makes b k = put_udp_kept es h place (UdpRecord.Open o) (UdpRecord.Open now) g k
+        moves es _ _ (BeginsUdpBind h place o a at g to idle own) says makes b k = spends es _ h.own own (put_udp_kept es h place (UdpRecord.Open o) (UdpRecord.Open _) g k)
+        moves es _ _ (BeginsUdpConnect h place o a at g to bound none own) says makes b k = owns es _ h.own Unused (ToConnect place) own (λ held p. p) (put_udp_kept es h place (UdpRecord.Open o) (UdpRecord.Open _) g k)
+        moves es _ _ (BeginsSend h place part o out d bound at g e is known own) says makes b k = owns es _ h.own (Names part) (Names (part + 1)) own (λ held p. p) (put_udp_kept es h place (UdpRecord.Open o) (UdpRecord.Open _) g k)
+        moves es _ _ (BeginsReceive h place part o inc bound at g e is own) says makes b k = owns es _ h.own (Names part) (Names (part + 1)) own (λ held p. p) (put_udp_kept es h place (UdpRecord.Open o) (UdpRecord.Open _) g k)
         moves es _ _ (CancelsBind h place r op q g e) says makes b k = put_same es h place r _ g (record { side = refl; lives = λ x v. v }) refl k
-        moves es _ _ (CancelsUdpBind h place o op q g e) says makes b k = put_udp_kept es h place (Udp2Socket.Open o) (Udp2Socket.Open _) g k
-        moves es _ _ (CancelsUdpConnect h place o q g) says makes b k = put_udp_kept es h place (Udp2Socket.Open o) (Udp2Socket.Open _) g k
+        moves es _ _ (CancelsUdpBind h place o op q g e) says makes b k = put_udp_kept es h place (UdpRecord.Open o) (UdpRecord.Open _) g k
+        moves es _ _ (CancelsUdpConnect h place o q g) says makes b k = put_udp_kept es h place (UdpRecord.Open o) (UdpRecord.Open _) g k
         moves es _ _ (Finds h records s) says makes b k = looked es h records (sockets_stay s) k
         moves es _ _ (GivesBack h place idle left) says makes b k =
             record { held = k.held; stands = agrees_fewer side (taken_in side es) k.held h.machine.store.records place (λ r g its. makes (spent_fewer side line h place r b.0.1 g its)) k.stands; owes = k.owes }
@@ -241,14 +241,14 @@ module _ (side : OpId) (given : List ℕ) where
         ended_kept es h _ _ (Done given, items) (Listens place r op q g e c) n k = put_same es h place r _ g (listen_follows r _ op e refl) refl k
         ended_kept es h _ _ (Refused c given, items) (Listens place r op q g e _) n k = put_same es h place r _ g (listen_follows r _ op e refl) refl k
         ended_kept es h _ _ ended (Awaits place r l op g e a) n k = put_same es h place r _ g (follows_quiet r (accepting_now r l (accept_ended op.who ended)) refl refl (λ b. b)) refl k
-        ended_kept es h _ _ ended (UdpCreates place create q g) n k = put_udp_kept es h place (Udp2Socket.Creating create) (udp_create_left create ended) g k
-        ended_kept es h _ _ ended (UdpBindsOn place o op q g e) n k = put_udp_kept es h place (Udp2Socket.Open o) (Udp2Socket.Open _) g k
-        ended_kept es h _ _ ended (UdpConnectsOn place o op q g e) n k = put_udp_kept es h place (Udp2Socket.Open o) (Udp2Socket.Open _) g k
-        ended_kept es h _ _ ended (SendsOn place o out op left g e s settles) n k = put_udp_kept es h place (Udp2Socket.Open o) (Udp2Socket.Open _) g k
-        ended_kept es h _ _ ended (ReceivesOn place o inc op g e r) n k = put_udp_kept es h place (Udp2Socket.Open o) (Udp2Socket.Open _) g k
+        ended_kept es h _ _ ended (UdpCreates place create q g) n k = put_udp_kept es h place (UdpRecord.Creating create) (udp_create_left create ended) g k
+        ended_kept es h _ _ ended (UdpBindsOn place o op q g e) n k = put_udp_kept es h place (UdpRecord.Open o) (UdpRecord.Open _) g k
+        ended_kept es h _ _ ended (UdpConnectsOn place o op q g e) n k = put_udp_kept es h place (UdpRecord.Open o) (UdpRecord.Open _) g k
+        ended_kept es h _ _ ended (SendsOn place o out op left g e s settles) n k = put_udp_kept es h place (UdpRecord.Open o) (UdpRecord.Open _) g k
+        ended_kept es h _ _ ended (ReceivesOn place o inc op g e r) n k = put_udp_kept es h place (UdpRecord.Open o) (UdpRecord.Open _) g k
 
         -- a write is in progress
-        turns : (es : List Entry) (h : Here) (place : ℕ) (r : Tcp2Socket) (s : Streams) (w : WriteState) (job : Job) (now : Job → WriteState) → Found h place r → r.streams ≡ Some s → HasStreams r.inner.state s → s.writer ≡ w → GoesOn w job now → Named line h → KeptBy over es h
+        turns : (es : List Entry) (h : Here) (place : ℕ) (r : TcpRecord) (s : Streams) (w : WriteState) (job : Job) (now : Job → WriteState) → Found h place r → r.streams ≡ Some s → HasStreams r.inner.state s → s.writer ≡ w → GoesOn w job now → Named line h → KeptBy over es h
             → Allows (Fronts side given) (λ fs ended. KeptBy over fs (put h place (with_writer r s (now (job_after job.write.who ended))))) es (poll_asks job.write)
         turns es h place r s w job now g e o d on n k =
             let j = (job_of w job now on (subst (WriterIs o.connection.side) d o.writer)).0 in
@@ -282,7 +282,7 @@ module _ (side : OpId) (given : List ℕ) where
               owes = k.owes;
             })
 
-        closed_kept : (es : List Entry) (h : Here) (place : ℕ) (r now : Tcp2Socket) (x : OpId) → Found h place r → Closing r now x → KeptBy over es h → KeptBy over es (put h place now)
+        closed_kept : (es : List Entry) (h : Here) (place : ℕ) (r now : TcpRecord) (x : OpId) → Found h place r → Closing r now x → KeptBy over es h → KeptBy over es (put h place now)
         closed_kept es h place r _ x g (ClosesSocket _ e) k = put_gone es h place r (closed_record r) g refl refl (λ b. b) k
         closed_kept es h place r _ x g (ClosesListen op e) k = put_same es h place r (with_listening r Not) g (follows_quiet r (with_listening r Not) refl refl (λ b. b)) refl k
         closed_kept es h place r _ x g (ClosesArrived l _ peer e a) k = put_same es h place r (with_listening r Not) g (follows_quiet r (with_listening r Not) refl refl (λ b. b)) refl k
@@ -300,13 +300,13 @@ module _ (side : OpId) (given : List ℕ) where
       on : (es : List Entry) (h now : Here) → (IsSpent side line h → IsSpent side line now) → Kept es h → KeptBy (IsSpent side line now) es h
       on es h now f k = over_so (IsSpent side line h) (IsSpent side line now) es h.machine.store.records h.own f k
 
-      same_spent : (h : Here) (place : ℕ) (r now : Tcp2Socket) → Found h place r → now.side ≡ r.side → now.listening ≡ r.listening → IsSpent side line h → IsSpent side line (put h place now)
+      same_spent : (h : Here) (place : ℕ) (r now : TcpRecord) → Found h place r → now.side ≡ r.side → now.listening ≡ r.listening → IsSpent side line h → IsSpent side line (put h place now)
       same_spent h place r now g s l i = spent_put side line h.own h.machine.store.records place r now g s (λ e. ap accept_name (sym l) ∙ e) i
 
-      bare_spent : (h : Here) (place : ℕ) (r now : Tcp2Socket) → Found h place r → now.side ≡ r.side → accept_name now.listening ≡ None → IsSpent side line h → IsSpent side line (put h place now)
+      bare_spent : (h : Here) (place : ℕ) (r now : TcpRecord) → Found h place r → now.side ≡ r.side → accept_name now.listening ≡ None → IsSpent side line h → IsSpent side line (put h place now)
       bare_spent h place r now g s none i = spent_put side line h.own h.machine.store.records place r now g s (λ e. absurd (let never : None ≡ Some side = sym none ∙ e in cc)) i
 
-      udp_spent : (h : Here) (place : ℕ) (now : Udp2Socket) → IsSpent side line h → IsSpent side line (put_udp h place now)
+      udp_spent : (h : Here) (place : ℕ) (now : UdpRecord) → IsSpent side line h → IsSpent side line (put_udp h place now)
       udp_spent h place now i = spent_by side line h.own _ _ (put_was udp_sort tcp_sort (λ t. refl) h.machine.store.records place now) i
 
       -- a new socket has the line's own name, which wasn't given
@@ -315,7 +315,7 @@ module _ (side : OpId) (given : List ℕ) where
           spent_own side line h.own Used _ (older_used line h.own)
           (spent_push side line h.own h.machine.store.records (new_record (new_socket (own_of line) ctx.name family)) (λ c. elim c [ inl q ↦ own_not_given line h.own side u (ap (λ (x : OpId). x.step) (sym (some_same (own_of line) side q))) i.older | inr q ↦ absurd (cc) ]) i)
 
-      closing_spent : (h : Here) (place : ℕ) (r now : Tcp2Socket) (x : OpId) → Found h place r → Closing r now x → IsSpent side line h → IsSpent side line (put h place now)
+      closing_spent : (h : Here) (place : ℕ) (r now : TcpRecord) (x : OpId) → Found h place r → Closing r now x → IsSpent side line h → IsSpent side line (put h place now)
       closing_spent h place r _ x g (ClosesSocket _ e) i = bare_spent h place r _ g refl refl i
       closing_spent h place r _ x g (ClosesListen op e) i = bare_spent h place r _ g refl refl i
       closing_spent h place r _ x g (ClosesArrived l _ peer e a) i = bare_spent h place r _ g refl refl i
@@ -329,16 +329,16 @@ module _ (side : OpId) (given : List ℕ) where
         asks = λ es h op c calm at k. (front (IsSpent side line h) es h k, λ told. asked (IsSpent side line h) es h op c told (unwritten c calm) k);
         creates = λ es h ctx family u b k. (let now = creating h (own_of line) ctx family in created (IsSpent side line now) line contexts origin es h ctx family (λ o. o) u b.0.1 (on es h now (made_spent h ctx family u) k));
         closes = λ es h place r now op x g c b k. (front (IsSpent side line h) es h k, λ told. asked (IsSpent side line (put h place now)) es (put h place now) op (call.Close x) told tt (closed_kept (IsSpent side line (put h place now)) line contexts origin es h place r now x g c (on es h (put h place now) (closing_spent h place r now x g c) k)));
-        udp_same = λ es h place o now g s e k. put_udp_kept (IsSpent side line (put_udp h place (Udp2Socket.Open now))) es h place (Udp2Socket.Open o) (Udp2Socket.Open now) g (on es h (put_udp h place (Udp2Socket.Open now)) (udp_spent h place (Udp2Socket.Open now)) k);
+        udp_same = λ es h place o now g s e k. put_udp_kept (IsSpent side line (put_udp h place (UdpRecord.Open now))) es h place (UdpRecord.Open o) (UdpRecord.Open now) g (on es h (put_udp h place (UdpRecord.Open now)) (udp_spent h place (UdpRecord.Open now)) k);
         udp_creates = λ es h ctx family u b k.
-            let new = Udp2Socket.Creating (new_create (own_of line) ctx.name family) in
+            let new = UdpRecord.Creating (new_create (own_of line) ctx.name family) in
             let now = udp_begun h (Ok (new_create (own_of line) ctx.name family)) in
             let over = IsSpent side line now in
             let m = asked over es h (own_of line) (call.UdpCreate ctx.name family) told.Done tt (on es h now (λ i. spent_own side line h.own Used _ (older_used line h.own) (spent_by side line h.own _ _ (push_was udp_sort tcp_sort (λ t. refl) h.machine.store.records new) i)) k) in
             spends over _ _ h.own u (push_udp_kept over _ h.machine.store.records new h.own m);
         udp_closes = λ es h place u op g l b k.
-            let now = put_udp h place (Udp2Socket.Closed (udp_side u)) in
-            (front (IsSpent side line h) es h k, λ told. asked (IsSpent side line now) es now op (call.Close (udp_side u)) told tt (put_udp_kept (IsSpent side line now) es h place u (Udp2Socket.Closed (udp_side u)) g (on es h now (udp_spent h place (Udp2Socket.Closed (udp_side u))) k)));
+            let now = put_udp h place (UdpRecord.Closed (udp_side u)) in
+            (front (IsSpent side line h) es h k, λ told. asked (IsSpent side line now) es now op (call.Close (udp_side u)) told tt (put_udp_kept (IsSpent side line now) es h place u (UdpRecord.Closed (udp_side u)) g (on es h now (udp_spent h place (UdpRecord.Closed (udp_side u))) k)));
         lookups = λ es h records s k. looked (IsSpent side line (with_records h records)) es h records s (on es h (with_records h records) (λ i. spent_by side line h.own _ _ (λ n r e. sym (s.tcp n) ∙ e) i) k);
         polls = λ es h op after x b k. allows_weaker (Fronts side given) (λ fs ended. Kept fs h × (ArePlain ended.1 × GivesOwn op.who.id ended.0)) (λ fs ended. Kept fs (after ended))
             (λ fs ended y. ended_kept (IsSpent side line (after ended)) line contexts origin fs h op after ended x b.0.1 (on fs h (after ended) (polls_spent side line contexts origin h op after x ended y.1.1) y.0)) es (poll_asks op)

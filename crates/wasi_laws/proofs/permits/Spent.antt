@@ -1,5 +1,5 @@
 -- A network socket whose record was given back: its name was given, and no record claims it any more, nor will one.
-use Rattle.wasi_laws.proofs.Words.{Claims, End, Here, Item, List, None, OpId, Operation, Some, Step, Tcp2Socket, WasiSocketsCtx, accept_name, ap, inl, inr, name_in, no_some, refl, subst, sym, ℕ, ◌+◌, ◌∙◌, ◌≡◌}
+use Rattle.wasi_laws.proofs.Words.{Claims, End, Here, Item, List, None, OpId, Operation, Some, Step, TcpRecord, WasiSocketsCtx, accept_name, ap, inl, inr, name_in, no_some, refl, subst, sym, ℕ, ◌+◌, ◌∙◌, ◌≡◌}
 use Rattle.wasi_tcp.specs.declared.listener.Accepting.TheVariants as accepting
 use Rattle.wasi_records.specs.Records.{tcp2_at, tcp2_of, tcp2_put, tcp2_pushed}
 use Rattle.wasi_records.specs.Numbered.{record_gone}
@@ -16,30 +16,30 @@ use Rattle.wasi_walks.proofs.Places.{push_new, put_found, put_was, tcp_sort, udp
 module _ (side : OpId) (line : ℕ) where
   pub record Spent (own : Own) (records : List Record) : Type 0 where
     pub older : IsOlder line own side
-    pub none : (i : ℕ) (r : Tcp2Socket) → tcp2_at records i ≡ Some r → Claims side r → ⊥
+    pub none : (i : ℕ) (r : TcpRecord) → tcp2_at records i ≡ Some r → Claims side r → ⊥
 
   abbrev pub IsSpent : Here → Type 0
   IsSpent h = Spent h.own h.machine.store.records
 
   -- == records change
-  pub spent_by : (own : Own) (records now : List Record) → ((i : ℕ) (r : Tcp2Socket) → tcp2_at now i ≡ Some r → tcp2_at records i ≡ Some r) → Spent own records → Spent own now
+  pub spent_by : (own : Own) (records now : List Record) → ((i : ℕ) (r : TcpRecord) → tcp2_at now i ≡ Some r → tcp2_at records i ≡ Some r) → Spent own records → Spent own now
   spent_by own records now was s = record { older = s.older; none = λ i r e c. s.none i r (was i r e) c }
 
-  pub spent_put : (own : Own) (records : List Record) (place : ℕ) (r now : Tcp2Socket) → tcp2_at records place ≡ Some r → now.side ≡ r.side → (accept_name now.listening ≡ Some side → accept_name r.listening ≡ Some side) → Spent own records → Spent own (tcp2_put records place now)
+  pub spent_put : (own : Own) (records : List Record) (place : ℕ) (r now : TcpRecord) → tcp2_at records place ≡ Some r → now.side ≡ r.side → (accept_name now.listening ≡ Some side → accept_name r.listening ≡ Some side) → Spent own records → Spent own (tcp2_put records place now)
   spent_put own records place r now g sides names s = record { older = s.older; none = λ i q e c. elim (put_found tcp_sort records place now i q e) [ inl p ↦ s.none place r g (back (subst (Claims side) (sym p.1) c)) | inr p ↦ s.none i q p c ] }
     where
       back : Claims side now → Claims side r
       back (inl e) = inl (sym sides ∙ e)
       back (inr e) = inr (names e)
 
-  pub spent_push : (own : Own) (records : List Record) (now : Tcp2Socket) → (Claims side now → ⊥) → Spent own records → Spent own (tcp2_pushed records now)
+  pub spent_push : (own : Own) (records : List Record) (now : TcpRecord) → (Claims side now → ⊥) → Spent own records → Spent own (tcp2_pushed records now)
   spent_push own records now other s = record { older = s.older; none = λ i q e c. elim (push_new tcp_sort records now i q e) [ inl p ↦ s.none i q p c | inr p ↦ other (subst (Claims side) (sym p) c) ] }
 
   pub spent_own : (own now : Own) (records : List Record) → Grows line own now → Spent own records → Spent now records
   spent_own own now records g s = record { older = g side s.older; none = s.none }
 
   -- a record that claims it is given back
-  pub spent_fewer : (h : Here) (place : ℕ) (r : Tcp2Socket) → Named line h → walk.Found h place r → r.side ≡ Some side → Spent h.own (record_gone h.machine.store.records place)
+  pub spent_fewer : (h : Here) (place : ℕ) (r : TcpRecord) → Named line h → walk.Found h place r → r.side ≡ Some side → Spent h.own (record_gone h.machine.store.records place)
   spent_fewer h place r n g its = record {
     older = n.older side place r g (inl its);
     none = λ i q e c.
@@ -49,13 +49,13 @@ module _ (side : OpId) (line : ℕ) where
 
   -- == of the moves
   module _ (contexts : List WasiSocketsCtx) (origin : Step) where
-    put_same : (h : Here) (place : ℕ) (r now : Tcp2Socket) → walk.Found h place r → now.side ≡ r.side → now.listening ≡ r.listening → IsSpent h → IsSpent (walk.put h place now)
+    put_same : (h : Here) (place : ℕ) (r now : TcpRecord) → walk.Found h place r → now.side ≡ r.side → now.listening ≡ r.listening → IsSpent h → IsSpent (walk.put h place now)
     put_same h place r now g s l i = spent_put h.own h.machine.store.records place r now g s (λ e. ap accept_name (sym l) ∙ e) i
 
-    put_used : (h : Here) (place : ℕ) (r now : Tcp2Socket) → walk.Found h place r → now.side ≡ r.side → now.listening ≡ r.listening → IsSpent h → IsSpent (record (walk.put h place now) { own = Own.Used })
+    put_used : (h : Here) (place : ℕ) (r now : TcpRecord) → walk.Found h place r → now.side ≡ r.side → now.listening ≡ r.listening → IsSpent h → IsSpent (record (walk.put h place now) { own = Own.Used })
     put_used h place r now g s l i = spent_own h.own Own.Used _ (older_used line h.own) (put_same h place r now g s l i)
 
-    put_bare : (h : Here) (place : ℕ) (r now : Tcp2Socket) → walk.Found h place r → now.side ≡ r.side → accept_name now.listening ≡ None → IsSpent h → IsSpent (walk.put h place now)
+    put_bare : (h : Here) (place : ℕ) (r now : TcpRecord) → walk.Found h place r → now.side ≡ r.side → accept_name now.listening ≡ None → IsSpent h → IsSpent (walk.put h place now)
     put_bare h place r now g s none i = spent_put h.own h.machine.store.records place r now g s (λ e. absurd (no_some side (sym none ∙ e))) i
 
     pub moves_spent : (h now : Here) → Move line origin h now → IsSpent h → IsSpent now
@@ -95,7 +95,7 @@ module _ (side : OpId) (line : ℕ) where
     moves_spent _ _ _ i = i
 
     -- and of what is polled
-    listened : (h : Here) (place : ℕ) (r : Tcp2Socket) (op : Operation) (end : End × List Item) → walk.Found h place r → IsSpent h → IsSpent (walk.put h place (listen_after op r end))
+    listened : (h : Here) (place : ℕ) (r : TcpRecord) (op : Operation) (end : End × List Item) → walk.Found h place r → IsSpent h → IsSpent (walk.put h place (listen_after op r end))
     listened h place r op (Waits, items) g i = put_bare h place r _ g refl refl i
     listened h place r op (Done given, items) g i = put_bare h place r _ g refl refl i
     listened h place r op (Refused c given, items) g i = put_bare h place r _ g refl refl i

@@ -7,13 +7,13 @@ use Rattle.wasi_tcp.specs.declared.writer.WriteState.TheVariants as writing
 use Rattle.wasi_walks.proofs.fits.Polls.{Anything}
 use Rattle.wasi_walks.proofs.walks.OfState.{Becomes as Leaves, Learnt, IsClosed, GivenUp, UdpLearnt, UdpIsClosed, UdpGivenUp, UdpBegun, Resolved, Created, CreatedWith, Writing, OfState}
 use Rattle.wasi_laws.proofs.Words.{Base, InCall, closed_record, told_addr, told_same, with_listening, Not}
-use Rattle.wasi_laws.proofs.Words.{Accepts, Allows, Awaits, BeginsAccept, BeginsBind, BeginsConnect, BeginsListen, BeginsWrite, BindsOn, Changes, CloseLast, ClosesReader, Connects, Done, End, Entry, Err, ErrorCode, Forgets, Found, Given, Held, Here, IsGone, Item, Job, Joins, LastAsk, List, Listener, Listening, Listens, Move, None, NothingLast, Ok, OpId, Opens, Operation, Option, Reconnects, Result, ShutdownLast, Some, Step, Streams, Tcp2Socket, TcpState, Unclosed, Unlistens, WasiSocketsCtx, Who, WriteState, Writes, accepting_now, allows_weaker, ap, bind, bind_progress, connect_ended, inl, inr, job_after, joined, last_ask, listen_after, new_job, opened_by, own_of, poll_asks, put, refl, side_of, subst, sym, true, turn_asks, whatever, with_inner, with_progress, with_reader, with_state, with_writer, ℕ, ◌∙◌, ◌≡◌}
+use Rattle.wasi_laws.proofs.Words.{Accepts, Allows, Awaits, BeginsAccept, BeginsBind, BeginsConnect, BeginsListen, BeginsWrite, BindsOn, Changes, CloseLast, ClosesReader, Connects, Done, End, Entry, Err, ErrorCode, Forgets, Found, Given, Held, Here, IsGone, Item, Job, Joins, LastAsk, List, Listener, Listening, Listens, Move, None, NothingLast, Ok, OpId, Opens, Operation, Option, Reconnects, Result, ShutdownLast, Some, Step, Streams, TcpRecord, TcpState, Unclosed, Unlistens, WasiSocketsCtx, Who, WriteState, Writes, accepting_now, allows_weaker, ap, bind, bind_progress, connect_ended, inl, inr, job_after, joined, last_ask, listen_after, new_job, opened_by, own_of, poll_asks, put, refl, side_of, subst, sym, true, turn_asks, whatever, with_inner, with_progress, with_reader, with_state, with_writer, ℕ, ◌∙◌, ◌≡◌}
 use Rattle.wasi_laws.proofs.asks.Fronts.{Becomes, ToldAddress, PollLaw, polls_by}
 use Rattle.wasi_laws.proofs.asks.Trees.{GoesOn, InWriting, InClosing, turns_by}
 use Rattle.wasi_laws.proofs.shapes.Shape.{IsOfWrite, AreOfWrite, end_write, JobIs, WriterIs, writer_moves, HasStreams, StreamsShape, ListenerShape, RecordShape, Unconnected, bare, sideless, restated, SocketsStay, sockets_stay}
 use Rattle.wasi_records.specs.Records.{tcp2_at, tcp2_of, tcp2_put, tcp2_pushed}
 use Rattle.wasi_walks.proofs.GoneLists.{was_there}
-use Rattle.wasi_records.specs.declared.udp.Udp2Socket.{Udp2Socket}
+use Rattle.wasi_records.specs.declared.udp.UdpRecord.{UdpRecord}
 use Rattle.wasi_records.specs.Udp.{udp_create_left}
 use Rattle.wasi_udp.specs.Create.{Create}
 use Rattle.wasi_walks.proofs.walks.Moves.{GivesBack, CancelsBind, CancelsUdpBind, CancelsUdpConnect, put_udp, udp_begun, with_records, Finds, UdpChanges, BeginsUdpBind, BeginsUdpConnect, BeginsSend, BeginsReceive, UdpCreates, UdpBindsOn, UdpConnectsOn, SendsOn, ReceivesOn}
@@ -57,10 +57,10 @@ turned at es w job now on k =
     allows_weaker Anything (λ fs ended. AreOfWrite ended.1) (λ fs ended. WriterIs at (now (job_after job.write.who ended))) (λ fs ended l. j.1 _ (job_now at job ended j.0 l)) es _ (polls_by (left_law job.write.who) job.write.left es j.0.left)
 
 -- == records
-has_streams : (r : Tcp2Socket) (s : Streams) → r.streams ≡ Some s → RecordShape r → HasStreams r.inner.state s
+has_streams : (r : TcpRecord) (s : Streams) → r.streams ≡ Some s → RecordShape r → HasStreams r.inner.state s
 has_streams r s e k = subst (StreamsShape r.inner.state) e k.0
 
-writes_on : (r : Tcp2Socket) (s : Streams) (w : WriteState) (e : r.streams ≡ Some s) (k : RecordShape r) → WriterIs (has_streams r s e k).connection.side w → RecordShape (with_writer r s w)
+writes_on : (r : TcpRecord) (s : Streams) (w : WriteState) (e : r.streams ≡ Some s) (k : RecordShape r) → WriterIs (has_streams r s e k).connection.side w → RecordShape (with_writer r s w)
 writes_on r s w e k is = let o = has_streams r s e k in (record { connection = o.connection; is = o.is; taken = o.taken; reader = o.reader; writer = is }, k.1)
 
 -- a connection changes, on its network socket
@@ -80,47 +80,47 @@ reconnected c now o l s t k = (by_streams o k.0, by_listening l k.1)
     by_listening _ h = tt
 
 -- another socket, or another listening, of a record that has none of these
-pub restates : (r : Tcp2Socket) (t : TcpState) → Unconnected r.inner.state → ((x : OpId) → r.inner.state ≡ state.Listening x → ⊥) → RecordShape r → RecordShape (with_inner r (with_state r.inner t))
+pub restates : (r : TcpRecord) (t : TcpState) → Unconnected r.inner.state → ((x : OpId) → r.inner.state ≡ state.Listening x → ⊥) → RecordShape r → RecordShape (with_inner r (with_state r.inner t))
 restates r t n m k = restated r.inner.state t r.streams r.listening n m k
 
-ended_shape : (r : Tcp2Socket) (op : Operation) (end : End × List Item) → r.inner.state ≡ state.Connecting op → RecordShape r → RecordShape (with_inner r (with_state r.inner (connect_ended op.who end).1))
+ended_shape : (r : TcpRecord) (op : Operation) (end : End × List Item) → r.inner.state ≡ state.Connecting op → RecordShape r → RecordShape (with_inner r (with_state r.inner (connect_ended op.who end).1))
 ended_shape r op end e k = restates r (connect_ended op.who end).1 (λ c d. let p : state.Connecting op ≡ state.Connected c = sym e ∙ d in absurd (cc)) (λ x d. let p : state.Connecting op ≡ state.Listening x = sym e ∙ d in absurd (cc)) k
 
-listened_shape : (r : Tcp2Socket) (op : Operation) (end : End × List Item) → side_of r.inner ≡ None → RecordShape r → RecordShape (listen_after op r end)
+listened_shape : (r : TcpRecord) (op : Operation) (end : End × List Item) → side_of r.inner ≡ None → RecordShape r → RecordShape (listen_after op r end)
 listened_shape r op (Done given, items) c k = (subst (StreamsShape (state.Listening op.who.side)) (sym (bare r.inner.state r.streams (sideless r.inner.state c) k.0)) tt, refl)
 listened_shape r op (_, items) c k = (k.0, tt)
 
-accepts_shape : (r : Tcp2Socket) (l : Listener) → r.listening ≡ Accepts l → RecordShape r → ListenerShape r.inner.state (Accepts l)
+accepts_shape : (r : TcpRecord) (l : Listener) → r.listening ≡ Accepts l → RecordShape r → ListenerShape r.inner.state (Accepts l)
 accepts_shape r l e k = subst (ListenerShape r.inner.state) e k.1
 
 -- each record has its shape
 abbrev pub Shaped : Here → Type 0
-Shaped h = (place : ℕ) (r : Tcp2Socket) → Found h place r → RecordShape r
+Shaped h = (place : ℕ) (r : TcpRecord) → Found h place r → RecordShape r
 
-pub put_shape : (h : Here) (place : ℕ) (now : Tcp2Socket) → RecordShape now → Shaped h → Shaped (put h place now)
+pub put_shape : (h : Here) (place : ℕ) (now : TcpRecord) → RecordShape now → Shaped h → Shaped (put h place now)
 put_shape h place now k i = λ n r e. elim (put_found tcp_sort h.machine.store.records place now n r e) [ inl p ↦ subst RecordShape p.1 k | inr p ↦ i n r p ]
 
-pub udp_shape : (h : Here) (place : ℕ) (now : Udp2Socket) → Shaped h → Shaped (put_udp h place now)
+pub udp_shape : (h : Here) (place : ℕ) (now : UdpRecord) → Shaped h → Shaped (put_udp h place now)
 udp_shape h place now i = λ n r e. i n r (put_was udp_sort tcp_sort (λ t. refl) h.machine.store.records place now n r e)
 
 -- a UDP socket is polled: the records keep their shape, whatever is left of it
-udp_polled : (es : List Entry) (h : Here) (place : ℕ) (op : Operation) (now : End × List Item → Udp2Socket) → Shaped h → Allows Anything (λ fs ended. Shaped (put_udp h place (now ended))) es (poll_asks op)
+udp_polled : (es : List Entry) (h : Here) (place : ℕ) (op : Operation) (now : End × List Item → UdpRecord) → Shaped h → Allows Anything (λ fs ended. Shaped (put_udp h place (now ended))) es (poll_asks op)
 udp_polled es h place op now i = whatever (λ ended. Shaped (put_udp h place (now ended))) (λ ended. udp_shape h place (now ended) i) es (poll_asks op)
 
 pub begun_shape : (h : Here) (made : Result Create ErrorCode) → Shaped h → Shaped (udp_begun h made)
-begun_shape h (Ok create) i = λ n r e. i n r (push_was udp_sort tcp_sort (λ t. refl) h.machine.store.records (Udp2Socket.Creating create) n r e)
+begun_shape h (Ok create) i = λ n r e. i n r (push_was udp_sort tcp_sort (λ t. refl) h.machine.store.records (UdpRecord.Creating create) n r e)
 begun_shape h (Err c) i = i
 
 -- a lookup has no shape
 pub lookup_shape : (h : Here) (records : List Record) → SocketsStay h.machine.store.records records → Shaped h → Shaped (with_records h records)
 lookup_shape h records s i = λ place r e. i place r (sym (s.tcp place) ∙ e)
 
-push_shape : (records : List Record) (now : Tcp2Socket) → RecordShape now → ((place : ℕ) (r : Tcp2Socket) → tcp2_at records place ≡ Some r → RecordShape r) → (place : ℕ) (r : Tcp2Socket) → tcp2_at (tcp2_pushed records now) place ≡ Some r → RecordShape r
+push_shape : (records : List Record) (now : TcpRecord) → RecordShape now → ((place : ℕ) (r : TcpRecord) → tcp2_at records place ≡ Some r → RecordShape r) → (place : ℕ) (r : TcpRecord) → tcp2_at (tcp2_pushed records now) place ≡ Some r → RecordShape r
 push_shape records now k i place r e = elim (push_new tcp_sort records now place r e) [ inl p ↦ i place r p | inr p ↦ subst RecordShape p k ]
 
 module _ (contexts : List WasiSocketsCtx) (line : ℕ) (origin : Step) where
   -- a write begins, of whatever line
-  pub write_shape : (h : Here) (place n : ℕ) (r : Tcp2Socket) (s : Streams) (half : TcpSendStream) (permit : ℕ) (bytes : List ℕ) → Found h place r → r.streams ≡ Some s → s.writer ≡ writing.Ready half permit → Shaped h → Shaped (put h place (with_writer r s (writing.Writing (new_job (own_of n) half.side bytes))))
+  pub write_shape : (h : Here) (place n : ℕ) (r : TcpRecord) (s : Streams) (half : TcpSendStream) (permit : ℕ) (bytes : List ℕ) → Found h place r → r.streams ≡ Some s → s.writer ≡ writing.Ready half permit → Shaped h → Shaped (put h place (with_writer r s (writing.Writing (new_job (own_of n) half.side bytes))))
   write_shape h place n r s half permit bytes g e w i =
       let k = i place r g in put_shape h place _ (writes_on r s _ e k (record { side = subst (WriterIs _) w (has_streams r s e k).writer; last = refl; left = (tt, tt) })) i
 
@@ -146,7 +146,7 @@ module _ (contexts : List WasiSocketsCtx) (line : ℕ) (origin : Step) where
   moves_shape _ _ (Forgets h place r l c g e a) i = let k = i place r g in put_shape h place _ (k.0, accepts_shape r l e k) i
   moves_shape _ _ (Joins h c handle place r l new peer is of u g e a) i =
       let k = i place r g in
-      let idle : Tcp2Socket = accepting_now r l _ in
+      let idle : TcpRecord = accepting_now r l _ in
       push_shape (tcp2_put h.machine.store.records place idle) (joined l new peer) (record { connection = _; is = refl; taken = refl; reader = λ half d. (let q : record { side = new } ≡ half = cc in ap (λ y. y.side) (sym q)); writer = refl }, tt) (put_shape h place idle (k.0, accepts_shape r l e k) i)
   moves_shape _ _ (UdpChanges h place o now g p keeps) i = udp_shape h place _ i
   moves_shape _ _ (BeginsUdpBind h place o a at g to idle own) i = udp_shape h place _ i
@@ -172,7 +172,7 @@ module _ (contexts : List WasiSocketsCtx) (line : ℕ) (origin : Step) where
   polls_shape es h op _ (SendsOn place o out _ left g e s settles) i = udp_polled es h place op _ i
   polls_shape es h op _ (ReceivesOn place o inc _ g e r) i = udp_polled es h place op _ i
 
-  pub turns_shape : (es : List Entry) (h : Here) (place : ℕ) (r : Tcp2Socket) (s : Streams) → Found h place r → r.streams ≡ Some s → Shaped h → Allows Anything (λ fs done. Shaped (put h place (with_writer r s done.1))) es (turn_asks s.writer)
+  pub turns_shape : (es : List Entry) (h : Here) (place : ℕ) (r : TcpRecord) (s : Streams) → Found h place r → r.streams ≡ Some s → Shaped h → Allows Anything (λ fs done. Shaped (put h place (with_writer r s done.1))) es (turn_asks s.writer)
   turns_shape es h place r s g e i =
       let k = i place r g in let o = has_streams r s e k in
       turns_by Anything (λ fs w. Shaped (put h place (with_writer r s w))) es s.writer (put_shape h place _ (writes_on r s s.writer e k o.writer) i)

@@ -4,14 +4,14 @@ use Rattle.std.proofs.lemmas.Bool.{eqb-true}
 use Rattle.wasi_records.specs.Records.{tcp2_at, udp2_at}
 use Rattle.wasi_records.specs.declared.name_lookup.LookupOp.{LookupOp}
 use Rattle.wasi_records.specs.declared.records.Record.{Record}
-use Rattle.wasi_records.specs.declared.udp.Udp2Socket.{Udp2Socket}
+use Rattle.wasi_records.specs.declared.udp.UdpRecord.{UdpRecord}
 use Rattle.wasi_tcp.specs.declared.halves.TcpReceiveStream.{TcpReceiveStream}
 use Rattle.wasi_tcp.specs.declared.reader.ReadState.TheVariants as reading
 use Rattle.wasi_tcp.specs.declared.socket.Connection.{Connection}
 use Rattle.wasi_tcp.specs.declared.socket.TcpState.TheVariants as state
 use Rattle.wasi_tcp.specs.declared.writer.WriteState.TheVariants as writing
 use Rattle.wasi_walks.proofs.walks.Moves.{SameSockets}
-use Rattle.wasi_laws.proofs.Words.{Accepts, Begins, Bool, Collects, Done, End, Found, Here, IsOn, Item, Job, Last, Lasts, LastsAfter, List, Listening, Named, None, OfReader, OfSocket, OfWriter, OpId, Option, Permits, Plain, Refused, ShutdownLast, ShutdownSend, Some, Streams, Tcp2Socket, TcpState, Unclosed, Waits, Write, WriteState, WriterMoves, [], ap, arith, beginning_listen, closed_by, closing_side, false, inl, inr, is_same, no_some, own_of, refl, side_in, side_of, subst, sym, then_closed, true, writer_side, writing_side, written_by, ℕ, ⊤, ◌&&◌, ◌==◌, ◌∙◌, ◌∷◌, ◌≡◌, ◌⊎◌}
+use Rattle.wasi_laws.proofs.Words.{Accepts, Begins, Bool, Collects, Done, End, Found, Here, IsOn, Item, Job, Last, Lasts, LastsAfter, List, Listening, Named, None, OfReader, OfSocket, OfWriter, OpId, Option, Permits, Plain, Refused, ShutdownLast, ShutdownSend, Some, Streams, TcpRecord, TcpState, Unclosed, Waits, Write, WriteState, WriterMoves, [], ap, arith, beginning_listen, closed_by, closing_side, false, inl, inr, is_same, no_some, own_of, refl, side_in, side_of, subst, sym, then_closed, true, writer_side, writing_side, written_by, ℕ, ⊤, ◌&&◌, ◌==◌, ◌∙◌, ◌∷◌, ◌≡◌, ◌⊎◌}
 
 pub some_same : {A : Type 0} (a b : A) → Some a ≡ Some b → a ≡ b
 some_same a b e = cc
@@ -132,7 +132,7 @@ ListenerShape t (Accepts l) = t ≡ state.Listening l.side
 ListenerShape t (Unclosed x) = ⊥
 ListenerShape t _ = ⊤
 
-abbrev pub RecordShape : Tcp2Socket → Type 0
+abbrev pub RecordShape : TcpRecord → Type 0
 RecordShape r = StreamsShape r.inner.state r.streams × ListenerShape r.inner.state r.listening
 
 -- a record that isn't connected has no streams
@@ -156,13 +156,13 @@ restated t now o l n m k = (subst (StreamsShape now) (sym (bare t o n k.0)) tt, 
     by_listening _ h = tt
 
 -- whatever is on a network socket of the record is on the network socket of its socket
-pub on_socket : (r : Tcp2Socket) (x : OpId) → RecordShape r → IsOn r x → side_of r.inner ≡ Some x
+pub on_socket : (r : TcpRecord) (x : OpId) → RecordShape r → IsOn r x → side_of r.inner ≡ Some x
 on_socket r x k (OfSocket e) = e
 on_socket r x k (OfReader s half e d z) = let o = subst (StreamsShape r.inner.state) e k.0 in ap side_in o.is ∙ ap (λ (y : OpId). Some y) (sym (o.reader half d) ∙ z)
 on_socket r x k (OfWriter s e d) = let o = subst (StreamsShape r.inner.state) e k.0 in ap side_in o.is ∙ ap (λ (y : OpId). Some y) (of_writer o.connection.side x s.writer o.writer d)
 
 -- The record is as it was, as far as a law looks.
-pub record Same (r now : Tcp2Socket) : Type 0 where
+pub record Same (r now : TcpRecord) : Type 0 where
   pub side : now.side ≡ r.side
   pub streams : now.streams ≡ r.streams
   pub listening : now.listening ≡ r.listening
@@ -173,37 +173,37 @@ abbrev pub IsBegun : Listening → Type 0
 IsBegun (Begins op) = ⊤
 IsBegun _ = ⊥
 
-abbrev pub Lives : OpId → Tcp2Socket → Type 0
+abbrev pub Lives : OpId → TcpRecord → Type 0
 Lives x r = (r.side ≡ Some x) × ((side_of r.inner ≡ Some x) ⊎ IsBegun r.listening)
 
 -- A record changes, and no network socket comes alive.
-pub record Follows (r now : Tcp2Socket) : Type 0 where
+pub record Follows (r now : TcpRecord) : Type 0 where
   pub side : now.side ≡ r.side
   pub lives : (x : OpId) → Lives x now → Lives x r
 
 -- another state of the same network socket, or of none
-pub follows_state : (r now : Tcp2Socket) → now.side ≡ r.side → now.listening ≡ r.listening → ((x : OpId) → side_of now.inner ≡ Some x → side_of r.inner ≡ Some x) → Follows r now
+pub follows_state : (r now : TcpRecord) → now.side ≡ r.side → now.listening ≡ r.listening → ((x : OpId) → side_of now.inner ≡ Some x → side_of r.inner ≡ Some x) → Follows r now
 follows_state r now s l f = record { side = s; lives = λ x v. (sym s ∙ v.0, elim v.1 [ inl p ↦ inl (f x p) | inr p ↦ inr (subst IsBegun l p) ]) }
 
-pub follows_plain : (r now : Tcp2Socket) → Plain r now → Follows r now
+pub follows_plain : (r now : TcpRecord) → Plain r now → Follows r now
 follows_plain r now p = follows_state r now p.side p.listening (λ x e. sym (ap side_in p.does) ∙ e)
 
-pub follows_same : (r now : Tcp2Socket) → Same r now → Follows r now
+pub follows_same : (r now : TcpRecord) → Same r now → Follows r now
 follows_same r now s = follows_state r now s.side s.listening (λ x e. sym (ap side_in s.does) ∙ e)
 
 -- a listen that isn't in progress
-pub follows_quiet : (r now : Tcp2Socket) → now.side ≡ r.side → side_of now.inner ≡ side_of r.inner → (IsBegun now.listening → ⊥) → Follows r now
+pub follows_quiet : (r now : TcpRecord) → now.side ≡ r.side → side_of now.inner ≡ side_of r.inner → (IsBegun now.listening → ⊥) → Follows r now
 follows_quiet r now s d n = record { side = s; lives = λ x v. (sym s ∙ v.0, elim v.1 [ inl p ↦ inl (sym d ∙ p) | inr p ↦ absurd (n p) ]) }
 
 -- what has no network socket any more
-pub gone_lacks : (now : Tcp2Socket) → side_of now.inner ≡ None → (IsBegun now.listening → ⊥) → (x : OpId) → Lives x now → ⊥
+pub gone_lacks : (now : TcpRecord) → side_of now.inner ≡ None → (IsBegun now.listening → ⊥) → (x : OpId) → Lives x now → ⊥
 gone_lacks now d n x v = elim v.1 [ inl p ↦ no_some x (sym d ∙ p) | inr p ↦ n p ]
 
-pub follows_gone : (r now : Tcp2Socket) → now.side ≡ r.side → side_of now.inner ≡ None → (IsBegun now.listening → ⊥) → Follows r now
+pub follows_gone : (r now : TcpRecord) → now.side ≡ r.side → side_of now.inner ≡ None → (IsBegun now.listening → ⊥) → Follows r now
 follows_gone r now s d n = record { side = s; lives = λ x v. absurd (gone_lacks now d n x v) }
 
 -- the listen that begins has the network socket that its socket had
-pub follows_begun : (line : ℕ) (h : Here) (place : ℕ) (r : Tcp2Socket) (side : OpId) → Found h place r → r.inner.state ≡ state.Default side → Named line h → Follows r (beginning_listen (own_of line) side r)
+pub follows_begun : (line : ℕ) (h : Here) (place : ℕ) (r : TcpRecord) (side : OpId) → Found h place r → r.inner.state ≡ state.Default side → Named line h → Follows r (beginning_listen (own_of line) side r)
 follows_begun line h place r side g d n = record { side = refl; lives = λ x v. (v.0, inl (ap side_in d ∙ (sym (n.named side place r g (ap side_in d)) ∙ v.0))) }
 
 -- == where a lookup changes
@@ -217,6 +217,6 @@ sockets_stay s = record { tcp = s.tcp; udp = s.udp }
 
 -- == where a UDP socket is closed
 -- it wasn't closed yet
-abbrev pub UdpLives : Udp2Socket → Type 0
-UdpLives (Udp2Socket.Closed side) = ⊥
+abbrev pub UdpLives : UdpRecord → Type 0
+UdpLives (UdpRecord.Closed side) = ⊥
 UdpLives u = ⊤

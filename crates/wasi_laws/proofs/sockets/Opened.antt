@@ -3,12 +3,12 @@
 use Rattle.wasi_world.specs.declared.call.Call.TheVariants as call
 use Rattle.wasi_tcp.specs.declared.listener.Accepting.TheVariants as accepting
 use Rattle.wasi_walks.proofs.walks.Here.{IsOlder}
-use Rattle.wasi_laws.proofs.Words.{Accepts, Call, Claims, Created, Entry, Found, HandedOver, Here, IpSocketAddress, IsClosed, IsMade, IsOpen, List, Listener, Named, None, OpId, Some, Tcp2Socket, Told, [], accept_name, ap, entry, has_front, has_split, inl, inr, name_in, no_some, put, refl, subst, sym, ℕ, ◌++◌, ◌∙◌, ◌∷◌, ◌≡◌, ◌⊎◌, ⊤}
+use Rattle.wasi_laws.proofs.Words.{Accepts, Call, Claims, Created, Entry, Found, HandedOver, Here, IpSocketAddress, IsClosed, IsMade, IsOpen, List, Listener, Named, None, OpId, Some, TcpRecord, Told, [], accept_name, ap, entry, has_front, has_split, inl, inr, name_in, no_some, put, refl, subst, sym, ℕ, ◌++◌, ◌∙◌, ◌∷◌, ◌≡◌, ◌⊎◌, ⊤}
 use Rattle.wasi_laws.proofs.shapes.Shape.{some_same, Lives, Follows, SocketsStay, UdpLives}
 use Rattle.wasi_records.specs.Numbered.{record_gone}
 use Rattle.wasi_records.specs.Records.{tcp2_at, tcp2_of, tcp2_put, tcp2_pushed, udp2_at, udp2_of, udp2_put, udp2_pushed}
 use Rattle.wasi_walks.proofs.GoneLists.{was_there}
-use Rattle.wasi_records.specs.declared.udp.Udp2Socket.{Udp2Socket}
+use Rattle.wasi_records.specs.declared.udp.UdpRecord.{UdpRecord}
 use Rattle.wasi_records.specs.Udp.{udp_side}
 use Rattle.wasi_laws.specs.Opened.{UdpCreated}
 use Rattle.wasi_walks.proofs.walks.Moves.{put_udp, FoundUdp}
@@ -62,25 +62,25 @@ pub unclosed_more : (C : OpId → Type 0) (es fs : List Entry) (x : OpId) → Gr
 unclosed_more C es fs x g n u c = elim (g.closed x c) [ inl a ↦ u a | inr p ↦ n p ]
 
 -- Each network socket that is alive in it is open; the name of its accept isn't closed, and what arrived was made.
-pub record RecordOpen (es : List Entry) (r : Tcp2Socket) : Type 0 where
+pub record RecordOpen (es : List Entry) (r : TcpRecord) : Type 0 where
   pub lives : (x : OpId) → Lives x r → IsOpen es x
   pub named : (x : OpId) → accept_name r.listening ≡ Some x → IsClosed es x → ⊥
   pub arrived : (l : Listener) (new : OpId) (peer : IpSocketAddress) → r.listening ≡ Accepts l → l.accept ≡ accepting.Arrived new peer → IsMade es new
 
-pub name_of : (r : Tcp2Socket) (l : Listener) (new : OpId) (peer : IpSocketAddress) → r.listening ≡ Accepts l → l.accept ≡ accepting.Arrived new peer → accept_name r.listening ≡ Some new
+pub name_of : (r : TcpRecord) (l : Listener) (new : OpId) (peer : IpSocketAddress) → r.listening ≡ Accepts l → l.accept ≡ accepting.Arrived new peer → accept_name r.listening ≡ Some new
 name_of r l new peer e a = ap accept_name e ∙ ap name_in a
 
 -- it changes: it listens as it did, or accepts nothing
-pub changed : (es : List Entry) (r now : Tcp2Socket) → Follows r now → (now.listening ≡ r.listening) ⊎ (accept_name now.listening ≡ None) → RecordOpen es r → RecordOpen es now
+pub changed : (es : List Entry) (r now : TcpRecord) → Follows r now → (now.listening ≡ r.listening) ⊎ (accept_name now.listening ≡ None) → RecordOpen es r → RecordOpen es now
 changed es r now f (inl l) i = record { lives = λ x v. i.lives x (f.lives x v); named = λ x e. i.named x (ap accept_name (sym l) ∙ e); arrived = λ k new peer e a. i.arrived k new peer (sym l ∙ e) a }
 changed es r now f (inr n) i = record { lives = λ x v. i.lives x (f.lives x v); named = λ x e. absurd (no_some x (sym n ∙ e)); arrived = λ k new peer e a. absurd (no_some new (sym n ∙ name_of now k new peer e a)) }
 
 -- it has the network socket, or its accept has the name
-abbrev pub HasIt : Tcp2Socket → OpId → Type 0
+abbrev pub HasIt : TcpRecord → OpId → Type 0
 HasIt r x = Lives x r ⊎ (accept_name r.listening ≡ Some x)
 
 -- the log grows, and closes nothing that the record has
-record_more : (C : OpId → Type 0) (es fs : List Entry) (r : Tcp2Socket) → Grows C es fs → ((x : OpId) → HasIt r x → C x → ⊥) → RecordOpen es r → RecordOpen fs r
+record_more : (C : OpId → Type 0) (es fs : List Entry) (r : TcpRecord) → Grows C es fs → ((x : OpId) → HasIt r x → C x → ⊥) → RecordOpen es r → RecordOpen fs r
 record_more C es fs r g n i = record {
   lives = λ x v. open_more C es fs x g (n x (inl v)) (i.lives x v);
   named = λ x e. unclosed_more C es fs x g (n x (inr e)) (i.named x e);
@@ -88,26 +88,26 @@ record_more C es fs r g n i = record {
 }
 
 -- the network socket of a UDP socket is open, until it is closed
-abbrev pub UdpOpen : List Entry → Udp2Socket → Type 0
-UdpOpen es (Udp2Socket.Creating create) = IsOpen es create.operation.who.side
-UdpOpen es (Udp2Socket.Open o) = IsOpen es o.inner.side
-UdpOpen es (Udp2Socket.Closed side) = ⊤
+abbrev pub UdpOpen : List Entry → UdpRecord → Type 0
+UdpOpen es (UdpRecord.Creating create) = IsOpen es create.operation.who.side
+UdpOpen es (UdpRecord.Open o) = IsOpen es o.inner.side
+UdpOpen es (UdpRecord.Closed side) = ⊤
 
 -- so one that wasn't closed yet has it open
-pub lives_open : (es : List Entry) (u : Udp2Socket) → UdpLives u → UdpOpen es u → IsOpen es (udp_side u)
-lives_open es (Udp2Socket.Creating create) l o = o
-lives_open es (Udp2Socket.Open s) l o = o
-lives_open es (Udp2Socket.Closed side) l o = absurd l
+pub lives_open : (es : List Entry) (u : UdpRecord) → UdpLives u → UdpOpen es u → IsOpen es (udp_side u)
+lives_open es (UdpRecord.Creating create) l o = o
+lives_open es (UdpRecord.Open s) l o = o
+lives_open es (UdpRecord.Closed side) l o = absurd l
 
-udp_more : (C : OpId → Type 0) (es fs : List Entry) (u : Udp2Socket) → Grows C es fs → (UdpLives u → C (udp_side u) → ⊥) → UdpOpen es u → UdpOpen fs u
-udp_more C es fs (Udp2Socket.Creating create) g n o = open_more C es fs _ g (n tt) o
-udp_more C es fs (Udp2Socket.Open s) g n o = open_more C es fs _ g (n tt) o
-udp_more C es fs (Udp2Socket.Closed side) g n o = tt
+udp_more : (C : OpId → Type 0) (es fs : List Entry) (u : UdpRecord) → Grows C es fs → (UdpLives u → C (udp_side u) → ⊥) → UdpOpen es u → UdpOpen fs u
+udp_more C es fs (UdpRecord.Creating create) g n o = open_more C es fs _ g (n tt) o
+udp_more C es fs (UdpRecord.Open s) g n o = open_more C es fs _ g (n tt) o
+udp_more C es fs (UdpRecord.Closed side) g n o = tt
 
 -- What is open, and only a name that was given is closed.
 pub record Opened (given : OpId → Type 0) (es : List Entry) (rs : List Record) : Type 0 where
-  pub records : (place : ℕ) (r : Tcp2Socket) → tcp2_at rs place ≡ Some r → RecordOpen es r
-  pub udps : (place : ℕ) (u : Udp2Socket) → udp2_at rs place ≡ Some u → UdpOpen es u
+  pub records : (place : ℕ) (r : TcpRecord) → tcp2_at rs place ≡ Some r → RecordOpen es r
+  pub udps : (place : ℕ) (u : UdpRecord) → udp2_at rs place ≡ Some u → UdpOpen es u
   pub older : (x : OpId) → IsClosed es x → given x
 
 pub one_more : (es : List Entry) (op : OpId) (c : Call) (t : Told) → ((x : OpId) → Closes c x → ⊥) → Grows NoneCloses es (es ++ entry op c t ∷ [])
@@ -123,17 +123,17 @@ module _ {given : OpId → Type 0} {records : List Record} where
   }
 
   -- a record changes, or there is one more
-  pub put_open : (es : List Entry) (place : ℕ) (now : Tcp2Socket) → RecordOpen es now → Opened given es records → Opened given es (tcp2_put records place now)
+  pub put_open : (es : List Entry) (place : ℕ) (now : TcpRecord) → RecordOpen es now → Opened given es records → Opened given es (tcp2_put records place now)
   put_open es place now k i = record { records = λ n r e. elim (put_found tcp_sort records place now n r e) [ inl p ↦ subst (RecordOpen es) p.1 k | inr p ↦ i.records n r p ]; udps = λ n u e. i.udps n u (put_was tcp_sort udp_sort (λ t. refl) records place now n u e); older = i.older }
 
-  pub push_open : (es : List Entry) (now : Tcp2Socket) → RecordOpen es now → Opened given es records → Opened given es (tcp2_pushed records now)
+  pub push_open : (es : List Entry) (now : TcpRecord) → RecordOpen es now → Opened given es records → Opened given es (tcp2_pushed records now)
   push_open es now k i = record { records = λ n r e. elim (push_new tcp_sort records now n r e) [ inl p ↦ i.records n r p | inr p ↦ subst (RecordOpen es) p k ]; udps = λ n u e. i.udps n u (push_was tcp_sort udp_sort (λ t. refl) records now n u e); older = i.older }
 
   -- the same of a UDP socket
-  pub put_udp_open : (es : List Entry) (place : ℕ) (now : Udp2Socket) → UdpOpen es now → Opened given es records → Opened given es (udp2_put records place now)
+  pub put_udp_open : (es : List Entry) (place : ℕ) (now : UdpRecord) → UdpOpen es now → Opened given es records → Opened given es (udp2_put records place now)
   put_udp_open es place now k i = record { records = λ n r e. i.records n r (put_was udp_sort tcp_sort (λ t. refl) records place now n r e); udps = λ n u e. elim (put_found udp_sort records place now n u e) [ inl p ↦ subst (UdpOpen es) p.1 k | inr p ↦ i.udps n u p ]; older = i.older }
 
-  pub push_udp_open : (es : List Entry) (now : Udp2Socket) → UdpOpen es now → Opened given es records → Opened given es (udp2_pushed records now)
+  pub push_udp_open : (es : List Entry) (now : UdpRecord) → UdpOpen es now → Opened given es records → Opened given es (udp2_pushed records now)
   push_udp_open es now k i = record { records = λ n r e. i.records n r (push_was udp_sort tcp_sort (λ t. refl) records now n r e); udps = λ n u e. elim (push_found udp_sort records now n u e) [ inl p ↦ i.udps n u p | inr p ↦ subst (UdpOpen es) p.0 k ]; older = i.older }
 
   -- a lookup has no network socket
@@ -152,46 +152,46 @@ abbrev pub Kept : ℕ → List Entry → Here → Type 0
 Kept line es h = Opened (IsOlder line h.own) es h.machine.store.records
 
 -- a network socket is closed: the record that claims it has it no more
-pub closed_put : (line : ℕ) (C : OpId → Type 0) (es fs : List Entry) (h : Here) (place : ℕ) (r now : Tcp2Socket) (side : OpId) → Found h place r → Claims side r → ((x : OpId) → C x → side ≡ x) → (HasIt now side → ⊥) → Grows C es fs → Named line h → RecordOpen es now → Kept line es h → Kept line fs (put h place now)
+pub closed_put : (line : ℕ) (C : OpId → Type 0) (es fs : List Entry) (h : Here) (place : ℕ) (r now : TcpRecord) (side : OpId) → Found h place r → Claims side r → ((x : OpId) → C x → side ≡ x) → (HasIt now side → ⊥) → Grows C es fs → Named line h → RecordOpen es now → Kept line es h → Kept line fs (put h place now)
 closed_put line C es fs h place r now side g claims of none grows named k i = record {
   records = λ n q e. record_more C es fs q grows (λ x u d. lacks n q e (subst (HasIt q) (sym (of x d)) u)) ((put_open es place now k i).records n q e);
   udps = λ n u e. (let f = put_was tcp_sort udp_sort (λ t. refl) h.machine.store.records place now n u e in udp_more C es fs u grows (λ l d. named.udps.apart side place n r u g f claims (sym (of (udp_side u) d))) (i.udps n u f));
   older = λ x c. elim (grows.closed x c) [ inl a ↦ i.older x a | inr d ↦ subst (IsOlder line h.own) (of x d) (named.older side place r g claims) ];
 }
   where
-    its : (q : Tcp2Socket) → HasIt q side → Claims side q
+    its : (q : TcpRecord) → HasIt q side → Claims side q
     its q (inl v) = inl v.0
     its q (inr a) = inr a
 
-    other : (n : ℕ) (q : Tcp2Socket) → Found (put h place now) n q → Found h n q → HasIt q side → ⊥
+    other : (n : ℕ) (q : TcpRecord) → Found (put h place now) n q → Found h n q → HasIt q side → ⊥
     other n q e p u =
         let at : n ≡ place = named.one side n place q r p g (its q u) claims in
         let is : now ≡ q = some_same now q (sym (ap (tcp2_at (tcp2_put h.machine.store.records place now)) at ∙ put_finds tcp_sort h.machine.store.records place r now g) ∙ e) in
-        none (subst (λ (y : Tcp2Socket). HasIt y side) (sym is) u)
+        none (subst (λ (y : TcpRecord). HasIt y side) (sym is) u)
 
-    lacks : (n : ℕ) (q : Tcp2Socket) → Found (put h place now) n q → HasIt q side → ⊥
-    lacks n q e u = elim (put_found tcp_sort h.machine.store.records place now n q e) [ inl p ↦ none (subst (λ (y : Tcp2Socket). HasIt y side) (sym p.1) u) | inr p ↦ other n q e p u ]
+    lacks : (n : ℕ) (q : TcpRecord) → Found (put h place now) n q → HasIt q side → ⊥
+    lacks n q e u = elim (put_found tcp_sort h.machine.store.records place now n q e) [ inl p ↦ none (subst (λ (y : TcpRecord). HasIt y side) (sym p.1) u) | inr p ↦ other n q e p u ]
 
-some_udp : (a b : Udp2Socket) → Some a ≡ Some b → a ≡ b
+some_udp : (a b : UdpRecord) → Some a ≡ Some b → a ≡ b
 some_udp a b e = cc
 
 -- the network socket of a UDP socket is closed, and its record says so
-pub udp_closed_put : (line : ℕ) (C : OpId → Type 0) (es fs : List Entry) (h : Here) (place : ℕ) (u : Udp2Socket) → FoundUdp h place u → ((x : OpId) → C x → udp_side u ≡ x) → Grows C es fs → Named line h → Kept line es h → Kept line fs (put_udp h place (Udp2Socket.Closed (udp_side u)))
+pub udp_closed_put : (line : ℕ) (C : OpId → Type 0) (es fs : List Entry) (h : Here) (place : ℕ) (u : UdpRecord) → FoundUdp h place u → ((x : OpId) → C x → udp_side u ≡ x) → Grows C es fs → Named line h → Kept line es h → Kept line fs (put_udp h place (UdpRecord.Closed (udp_side u)))
 udp_closed_put line C es fs h place u g of grows named i = record {
-  records = λ n r e. (let f = put_was udp_sort tcp_sort (λ t. refl) h.machine.store.records place (Udp2Socket.Closed (udp_side u)) n r e in record_more C es fs r grows (λ x l d. named.udps.apart x n place r u f g (its r x l) (of x d)) (i.records n r f));
-  udps = λ n v e. elim (put_found udp_sort h.machine.store.records place (Udp2Socket.Closed (udp_side u)) n v e) [
+  records = λ n r e. (let f = put_was udp_sort tcp_sort (λ t. refl) h.machine.store.records place (UdpRecord.Closed (udp_side u)) n r e in record_more C es fs r grows (λ x l d. named.udps.apart x n place r u f g (its r x l) (of x d)) (i.records n r f));
+  udps = λ n v e. elim (put_found udp_sort h.machine.store.records place (UdpRecord.Closed (udp_side u)) n v e) [
     | inl p ↦ subst (UdpOpen fs) p.1 tt
     | inr p ↦ udp_more C es fs v grows (λ l d. other n v e p l (of (udp_side v) d)) (i.udps n v p)
   ];
   older = λ x c. elim (grows.closed x c) [ inl a ↦ i.older x a | inr d ↦ subst (IsOlder line h.own) (of x d) (named.udps.older place u g) ];
 }
   where
-    its : (r : Tcp2Socket) (x : OpId) → HasIt r x → Claims x r
+    its : (r : TcpRecord) (x : OpId) → HasIt r x → Claims x r
     its r x (inl v) = inl v.0
     its r x (inr a) = inr a
 
-    other : (n : ℕ) (v : Udp2Socket) → FoundUdp (put_udp h place (Udp2Socket.Closed (udp_side u))) n v → FoundUdp h n v → UdpLives v → udp_side u ≡ udp_side v → ⊥
+    other : (n : ℕ) (v : UdpRecord) → FoundUdp (put_udp h place (UdpRecord.Closed (udp_side u))) n v → FoundUdp h n v → UdpLives v → udp_side u ≡ udp_side v → ⊥
     other n v e p l s =
         let at : n ≡ place = named.udps.one (udp_side v) n place v u p g refl s in
-        let is : Some (Udp2Socket.Closed (udp_side u)) ≡ Some v = sym (ap (udp2_at (udp2_put h.machine.store.records place (Udp2Socket.Closed (udp_side u)))) at ∙ put_finds udp_sort h.machine.store.records place u (Udp2Socket.Closed (udp_side u)) g) ∙ e in
-        subst UdpLives (sym (some_udp (Udp2Socket.Closed (udp_side u)) v is)) l
+        let is : Some (UdpRecord.Closed (udp_side u)) ≡ Some v = sym (ap (udp2_at (udp2_put h.machine.store.records place (UdpRecord.Closed (udp_side u)))) at ∙ put_finds udp_sort h.machine.store.records place u (UdpRecord.Closed (udp_side u)) g) ∙ e in
+        subst UdpLives (sym (some_udp (UdpRecord.Closed (udp_side u)) v is)) l

@@ -2,7 +2,7 @@
 -- that was made with it, and the name of an accept by the record of its listener.
 use Rattle.wasi_walks.proofs.Words.{Machine, Accepting, Accepts, Allows, Asks, Begins, Done, End, Entry, Err, ErrorCode}
 use Rattle.wasi_walks.proofs.Words.{HoldsAccept, IsAcceptOn, IsLeftOfAccept, Item, List, Listener, Listening, None, Not, Ok, OpId, Operation}
-use Rattle.wasi_walks.proofs.Words.{Refused, Result, SocketAddressFamily, Some, Step, Tcp2Socket, Waits, WasiSocketsCtx}
+use Rattle.wasi_walks.proofs.Words.{Refused, Result, SocketAddressFamily, Some, Step, TcpRecord, Waits, WasiSocketsCtx}
 use Rattle.wasi_walks.proofs.Words.{accept_ended, allows_weaker, ap, arith, bind_progress}
 use Rattle.wasi_walks.proofs.Words.{connect_ended, gone, inl, inr, new_record}
 use Rattle.wasi_walks.proofs.Words.{own_of, poll_asks, refl, side_in, side_of, subst, sym, told_addr}
@@ -28,34 +28,34 @@ use Rattle.wasi_records.specs.Receiving.{receive_left, with_receiving}
 use Rattle.wasi_records.specs.Records.{tcp2_at, tcp2_of, tcp2_put, tcp2_pushed, udp2_at, udp2_of, udp2_pushed}
 use Rattle.wasi_records.specs.declared.name_lookup.LookupOp.{LookupOp}
 use Rattle.wasi_records.specs.declared.records.Record.{Record}
-use Rattle.wasi_records.specs.declared.udp.Udp2Socket.{Udp2Socket}
+use Rattle.wasi_records.specs.declared.udp.UdpRecord.{UdpRecord}
 use Rattle.wasi_records.specs.Udp.{udp_bind_progress, udp_create_left, udp_side, with_udp_progress}
 use Rattle.wasi_udp.specs.Create.{new_create, after_create as udp_after_create}
 use Rattle.wasi_walks.proofs.walks.Moves.{EndsConnect, RecallsStreams, ToConnect, with_records, SameSockets, Finds, put_udp, FoundUdp, udp_begun, Names, UdpChanges, BeginsUdpBind, BeginsUdpConnect, BeginsSend, BeginsReceive, Counts, SpendsNames, UdpCreates, UdpBindsOn, UdpConnectsOn, SendsOn, ReceivesOn, GivesBack, without_record}
 use Rattle.wasi_walks.proofs.Places.{push_found, push_new, push_was, put_finds, put_found, put_was, tcp_sort, udp_sort}
 
 -- it was made with this network socket, or its accept has this name, by which a network socket will be made
-abbrev pub Claims : OpId → Tcp2Socket → Type 0
+abbrev pub Claims : OpId → TcpRecord → Type 0
 Claims x r = (r.side ≡ Some x) ⊎ (accept_name r.listening ≡ Some x)
 
 -- A UDP socket claims the network socket that it was made with.
 pub record UdpNamed (line : ℕ) (h : Here) : Type 0 where
-  pub one : (x : OpId) (i k : ℕ) (u v : Udp2Socket) → FoundUdp h i u → FoundUdp h k v → udp_side u ≡ x → udp_side v ≡ x → i ≡ k
-  pub apart : (x : OpId) (i k : ℕ) (r : Tcp2Socket) (u : Udp2Socket) → Found h i r → FoundUdp h k u → Claims x r → udp_side u ≡ x → ⊥
-  pub older : (i : ℕ) (u : Udp2Socket) → FoundUdp h i u → IsOlder line h.own (udp_side u)
+  pub one : (x : OpId) (i k : ℕ) (u v : UdpRecord) → FoundUdp h i u → FoundUdp h k v → udp_side u ≡ x → udp_side v ≡ x → i ≡ k
+  pub apart : (x : OpId) (i k : ℕ) (r : TcpRecord) (u : UdpRecord) → Found h i r → FoundUdp h k u → Claims x r → udp_side u ≡ x → ⊥
+  pub older : (i : ℕ) (u : UdpRecord) → FoundUdp h i u → IsOlder line h.own (udp_side u)
 
 pub record Named (line : ℕ) (h : Here) : Type 0 where
-  pub one : (x : OpId) (i k : ℕ) (r q : Tcp2Socket) → Found h i r → Found h k q → Claims x r → Claims x q → i ≡ k
-  pub apart : (x : OpId) (i : ℕ) (r : Tcp2Socket) → Found h i r → r.side ≡ Some x → accept_name r.listening ≡ Some x → ⊥
-  pub older : (x : OpId) (i : ℕ) (r : Tcp2Socket) → Found h i r → Claims x r → IsOlder line h.own x
-  pub named : (x : OpId) (i : ℕ) (r : Tcp2Socket) → Found h i r → side_of r.inner ≡ Some x → r.side ≡ Some x
-  pub held : (op : Operation) (i : ℕ) (r : Tcp2Socket) → Found h i r → r.listening ≡ Begins op → (r.side ≡ Some op.who.side) × (side_of r.inner ≡ None)
+  pub one : (x : OpId) (i k : ℕ) (r q : TcpRecord) → Found h i r → Found h k q → Claims x r → Claims x q → i ≡ k
+  pub apart : (x : OpId) (i : ℕ) (r : TcpRecord) → Found h i r → r.side ≡ Some x → accept_name r.listening ≡ Some x → ⊥
+  pub older : (x : OpId) (i : ℕ) (r : TcpRecord) → Found h i r → Claims x r → IsOlder line h.own x
+  pub named : (x : OpId) (i : ℕ) (r : TcpRecord) → Found h i r → side_of r.inner ≡ Some x → r.side ≡ Some x
+  pub held : (op : Operation) (i : ℕ) (r : TcpRecord) → Found h i r → r.listening ≡ Begins op → (r.side ≡ Some op.who.side) × (side_of r.inner ≡ None)
   pub udps : UdpNamed line h
 
 pub no_some : {A : Type 0} (x : A) → None ≡ Some x → ⊥
 no_some x e = absurd (cc)
 
-same_record : (a b : Tcp2Socket) → Some a ≡ Some b → a ≡ b
+same_record : (a b : TcpRecord) → Some a ≡ Some b → a ≡ b
 same_record a b e = cc
 
 pub same_begun : (a b : Operation) → Begins a ≡ Begins b → a ≡ b
@@ -63,13 +63,13 @@ same_begun a b e = cc
 
 -- no record of a TCP socket claims it, and none of a UDP socket
 abbrev pub Fresh : Here → OpId → Type 0
-Fresh h x = (i : ℕ) (r : Tcp2Socket) → Found h i r → Claims x r → ⊥
+Fresh h x = (i : ℕ) (r : TcpRecord) → Found h i r → Claims x r → ⊥
 
 abbrev pub FreshUdp : Here → OpId → Type 0
-FreshUdp h x = (i : ℕ) (u : Udp2Socket) → FoundUdp h i u → udp_side u ≡ x → ⊥
+FreshUdp h x = (i : ℕ) (u : UdpRecord) → FoundUdp h i u → udp_side u ≡ x → ⊥
 
 -- How a record may change: what it claims it claimed, or it is fresh, and may be given.
-pub record KeepsNames (h : Here) (given : OpId → Type 0) (r now : Tcp2Socket) : Type 0 where
+pub record KeepsNames (h : Here) (given : OpId → Type 0) (r now : TcpRecord) : Type 0 where
   pub side : now.side ≡ r.side
   pub accepts : (x : OpId) → accept_name now.listening ≡ Some x → (accept_name r.listening ≡ Some x) ⊎ (given x × Fresh h x × FreshUdp h x)
   pub named : (x : OpId) → side_of now.inner ≡ Some x → now.side ≡ Some x
@@ -77,16 +77,16 @@ pub record KeepsNames (h : Here) (given : OpId → Type 0) (r now : Tcp2Socket) 
 
 module _ (line : ℕ) where
   -- a record changes
-  module _ (h : Here) (place : ℕ) (r now : Tcp2Socket) (g : Found h place r) (given : OpId → Type 0) (k : KeepsNames h given r now) (n : Named line h) where
+  module _ (h : Here) (place : ℕ) (r now : TcpRecord) (g : Found h place r) (given : OpId → Type 0) (k : KeepsNames h given r now) (n : Named line h) where
     claimed : (x : OpId) → Claims x now → Claims x r ⊎ (given x × Fresh h x × FreshUdp h x)
     claimed x (inl e) = inl (inl (sym k.side ∙ e))
     claimed x (inr e) = elim (k.accepts x e) [ inl p ↦ inl (inr p) | inr p ↦ inr p ]
 
     -- a record that claims it, among those with this one
-    at_most : (x : OpId) (i : ℕ) (q : Tcp2Socket) → Found h i q → Claims x q → Claims x now → i ≡ place
+    at_most : (x : OpId) (i : ℕ) (q : TcpRecord) → Found h i q → Claims x q → Claims x now → i ≡ place
     at_most x i q e c d = elim (claimed x d) [ inl p ↦ n.one x i place q r e g c p | inr p ↦ absurd (p.1 i q e c) ]
 
-    one_put : (x : OpId) (i j : ℕ) (a b : Tcp2Socket) → Found (put h place now) i a → Found (put h place now) j b → Claims x a → Claims x b → i ≡ j
+    one_put : (x : OpId) (i j : ℕ) (a b : TcpRecord) → Found (put h place now) i a → Found (put h place now) j b → Claims x a → Claims x b → i ≡ j
     one_put x i j a b e f c d = elim (put_found tcp_sort h.machine.store.records place now i a e) [
       | inl p ↦ elim (put_found tcp_sort h.machine.store.records place now j b f) [ inl q ↦ p.0 ∙ sym q.0 | inr q ↦ p.0 ∙ sym (at_most x j b q d (subst (Claims x) (sym p.1) c)) ]
       | inr p ↦ elim (put_found tcp_sort h.machine.store.records place now j b f) [ inl q ↦ at_most x i a p c (subst (Claims x) (sym q.1) d) ∙ sym q.0 | inr q ↦ n.one x i j a b p q c d ]
@@ -97,7 +97,7 @@ module _ (line : ℕ) where
 
     udps_put : (own : Own) → Grows line h.own own → UdpNamed line (record (put h place now) { own = own })
     udps_put own l =
-        let same : (i : ℕ) (u : Udp2Socket) → FoundUdp (put h place now) i u → FoundUdp h i u = put_was tcp_sort udp_sort (λ t. refl) h.machine.store.records place now in
+        let same : (i : ℕ) (u : UdpRecord) → FoundUdp (put h place now) i u → FoundUdp h i u = put_was tcp_sort udp_sort (λ t. refl) h.machine.store.records place now in
         record {
           one = λ x i j u v e f c d. n.udps.one x i j u v (same i u e) (same j v f) c d;
           apart = λ x i j q u e f c d. elim (put_found tcp_sort h.machine.store.records place now i q e) [
@@ -110,31 +110,31 @@ module _ (line : ℕ) where
     pub put_by : (own : Own) → Grows line h.own own → ((x : OpId) → given x → IsOlder line own x) → Named line (record (put h place now) { own = own })
     put_by own l b = record {
       one = one_put;
-      apart = λ x i q e s a. elim (put_found tcp_sort h.machine.store.records place now i q e) [ inl p ↦ apart_now x (ap (λ (y : Tcp2Socket). y.side) p.1 ∙ s) (ap (λ (y : Tcp2Socket). accept_name y.listening) p.1 ∙ a) | inr p ↦ n.apart x i q p s a ];
+      apart = λ x i q e s a. elim (put_found tcp_sort h.machine.store.records place now i q e) [ inl p ↦ apart_now x (ap (λ (y : TcpRecord). y.side) p.1 ∙ s) (ap (λ (y : TcpRecord). accept_name y.listening) p.1 ∙ a) | inr p ↦ n.apart x i q p s a ];
       older = λ x i q e c. elim (put_found tcp_sort h.machine.store.records place now i q e) [
         | inl p ↦ elim (claimed x (subst (Claims x) (sym p.1) c)) [ inl d ↦ l x (n.older x place r g d) | inr d ↦ b x d.0 ]
         | inr p ↦ l x (n.older x i q p c)
       ];
-      named = λ x i q e s. elim (put_found tcp_sort h.machine.store.records place now i q e) [ inl p ↦ subst (λ (y : Tcp2Socket). y.side ≡ Some x) p.1 (k.named x (ap (λ (y : Tcp2Socket). side_of y.inner) p.1 ∙ s)) | inr p ↦ n.named x i q p s ];
+      named = λ x i q e s. elim (put_found tcp_sort h.machine.store.records place now i q e) [ inl p ↦ subst (λ (y : TcpRecord). y.side ≡ Some x) p.1 (k.named x (ap (λ (y : TcpRecord). side_of y.inner) p.1 ∙ s)) | inr p ↦ n.named x i q p s ];
       held = λ op i q e s. elim (put_found tcp_sort h.machine.store.records place now i q e) [
-        | inl p ↦ subst (λ (y : Tcp2Socket). (y.side ≡ Some op.who.side) × (side_of y.inner ≡ None)) p.1 (k.held op (ap (λ (y : Tcp2Socket). y.listening) p.1 ∙ s))
+        | inl p ↦ subst (λ (y : TcpRecord). (y.side ≡ Some op.who.side) × (side_of y.inner ≡ None)) p.1 (k.held op (ap (λ (y : TcpRecord). y.listening) p.1 ∙ s))
         | inr p ↦ n.held op i q p s
       ];
       udps = udps_put own l;
     }
 
-  pub put_named : (h : Here) (place : ℕ) (r now : Tcp2Socket) → Found h place r → KeepsNames h (λ x. ⊥) r now → Named line h → Named line (put h place now)
+  pub put_named : (h : Here) (place : ℕ) (r now : TcpRecord) → Found h place r → KeepsNames h (λ x. ⊥) r now → Named line h → Named line (put h place now)
   put_named h place r now g k n = put_by h place r now g (λ x. ⊥) k n h.own (λ x o. o) (λ x o. absurd o)
 
   -- a record more, whose network socket is fresh
-  pub push_named : (h : Here) (now : Tcp2Socket) (own : Own) → accept_name now.listening ≡ None → ((x : OpId) → now.side ≡ Some x → IsOlder line own x × Fresh h x × FreshUdp h x) → ((x : OpId) → side_of now.inner ≡ Some x → now.side ≡ Some x) → ((op : Operation) → now.listening ≡ Begins op → ⊥) → Grows line h.own own
+  pub push_named : (h : Here) (now : TcpRecord) (own : Own) → accept_name now.listening ≡ None → ((x : OpId) → now.side ≡ Some x → IsOlder line own x × Fresh h x × FreshUdp h x) → ((x : OpId) → side_of now.inner ≡ Some x → now.side ≡ Some x) → ((op : Operation) → now.listening ≡ Begins op → ⊥) → Grows line h.own own
       → Named line h → Named line (record h { machine = record h.machine { store = record h.machine.store { records = tcp2_pushed h.machine.store.records now } }; own = own })
   push_named h now own none fresh named held l n = record {
     one = one;
-    apart = λ x i q e s a. elim (push_new tcp_sort h.machine.store.records now i q e) [ inl p ↦ n.apart x i q p s a | inr p ↦ no_some x (sym none ∙ (ap (λ (y : Tcp2Socket). accept_name y.listening) p ∙ a)) ];
+    apart = λ x i q e s a. elim (push_new tcp_sort h.machine.store.records now i q e) [ inl p ↦ n.apart x i q p s a | inr p ↦ no_some x (sym none ∙ (ap (λ (y : TcpRecord). accept_name y.listening) p ∙ a)) ];
     older = λ x i q e c. elim (push_new tcp_sort h.machine.store.records now i q e) [ inl p ↦ l x (n.older x i q p c) | inr p ↦ (fresh x (its x q p c)).0 ];
-    named = λ x i q e s. elim (push_new tcp_sort h.machine.store.records now i q e) [ inl p ↦ n.named x i q p s | inr p ↦ subst (λ (y : Tcp2Socket). y.side ≡ Some x) p (named x (ap (λ (y : Tcp2Socket). side_of y.inner) p ∙ s)) ];
-    held = λ op i q e s. elim (push_new tcp_sort h.machine.store.records now i q e) [ inl p ↦ n.held op i q p s | inr p ↦ absurd (held op (ap (λ (y : Tcp2Socket). y.listening) p ∙ s)) ];
+    named = λ x i q e s. elim (push_new tcp_sort h.machine.store.records now i q e) [ inl p ↦ n.named x i q p s | inr p ↦ subst (λ (y : TcpRecord). y.side ≡ Some x) p (named x (ap (λ (y : TcpRecord). side_of y.inner) p ∙ s)) ];
+    held = λ op i q e s. elim (push_new tcp_sort h.machine.store.records now i q e) [ inl p ↦ n.held op i q p s | inr p ↦ absurd (held op (ap (λ (y : TcpRecord). y.listening) p ∙ s)) ];
     udps = record {
       one = λ x i k u v e f c d. n.udps.one x i k u v (same i u e) (same k v f) c d;
       apart = λ x i k q u e f c d. elim (push_new tcp_sort h.machine.store.records now i q e) [ inl p ↦ n.udps.apart x i k q u p (same k u f) c d | inr p ↦ (fresh x (its x q p c)).2 k u (same k u f) d ];
@@ -142,23 +142,23 @@ module _ (line : ℕ) where
     };
   }
     where
-      same : (i : ℕ) (u : Udp2Socket) → udp2_at (tcp2_pushed h.machine.store.records now) i ≡ Some u → FoundUdp h i u
+      same : (i : ℕ) (u : UdpRecord) → udp2_at (tcp2_pushed h.machine.store.records now) i ≡ Some u → FoundUdp h i u
       same = push_was tcp_sort udp_sort (λ t. refl) h.machine.store.records now
 
-      its : (x : OpId) (q : Tcp2Socket) → now ≡ q → Claims x q → now.side ≡ Some x
-      its x q p (inl e) = ap (λ (y : Tcp2Socket). y.side) p ∙ e
-      its x q p (inr e) = absurd (no_some x (sym none ∙ (ap (λ (y : Tcp2Socket). accept_name y.listening) p ∙ e)))
+      its : (x : OpId) (q : TcpRecord) → now ≡ q → Claims x q → now.side ≡ Some x
+      its x q p (inl e) = ap (λ (y : TcpRecord). y.side) p ∙ e
+      its x q p (inr e) = absurd (no_some x (sym none ∙ (ap (λ (y : TcpRecord). accept_name y.listening) p ∙ e)))
 
-      one : (x : OpId) (i k : ℕ) (a b : Tcp2Socket) → tcp2_at (tcp2_pushed h.machine.store.records now) i ≡ Some a → tcp2_at (tcp2_pushed h.machine.store.records now) k ≡ Some b → Claims x a → Claims x b → i ≡ k
+      one : (x : OpId) (i k : ℕ) (a b : TcpRecord) → tcp2_at (tcp2_pushed h.machine.store.records now) i ≡ Some a → tcp2_at (tcp2_pushed h.machine.store.records now) k ≡ Some b → Claims x a → Claims x b → i ≡ k
       one x i k a b e f c d = elim (push_found tcp_sort h.machine.store.records now i a e) [
         | inl p ↦ elim (push_found tcp_sort h.machine.store.records now k b f) [ inl q ↦ n.one x i k a b p q c d | inr q ↦ absurd ((fresh x (its x b q.0 d)).1 i a p c) ]
         | inr p ↦ elim (push_found tcp_sort h.machine.store.records now k b f) [ inl q ↦ absurd ((fresh x (its x a p.0 c)).1 k b q d) | inr q ↦ p.1 ∙ sym q.1 ]
       ]
 
   -- a UDP socket changes, and keeps its network socket
-  module _ (h : Here) (place : ℕ) (u now : Udp2Socket) (g : FoundUdp h place u) (s : udp_side now ≡ udp_side u) (n : Named line h) where
+  module _ (h : Here) (place : ℕ) (u now : UdpRecord) (g : FoundUdp h place u) (s : udp_side now ≡ udp_side u) (n : Named line h) where
     -- what there is at a place was there, with the same network socket
-    before : (i : ℕ) (v : Udp2Socket) → FoundUdp (put_udp h place now) i v → (w : Udp2Socket) × (FoundUdp h i w × (udp_side w ≡ udp_side v))
+    before : (i : ℕ) (v : UdpRecord) → FoundUdp (put_udp h place now) i v → (w : UdpRecord) × (FoundUdp h i w × (udp_side w ≡ udp_side v))
     before i v e = elim (put_found udp_sort h.machine.store.records place now i v e) [
       | inl p ↦ (u, (ap (udp2_at h.machine.store.records) p.0 ∙ g, sym s ∙ ap udp_side p.1))
       | inr p ↦ (v, (p, refl))
@@ -166,7 +166,7 @@ module _ (line : ℕ) where
 
     pub put_udp_by : (own : Own) → Grows line h.own own → Named line (record (put_udp h place now) { own = own })
     put_udp_by own l =
-        let tcp : (i : ℕ) (r : Tcp2Socket) → Found (put_udp h place now) i r → Found h i r = put_was udp_sort tcp_sort (λ t. refl) h.machine.store.records place now in
+        let tcp : (i : ℕ) (r : TcpRecord) → Found (put_udp h place now) i r → Found h i r = put_was udp_sort tcp_sort (λ t. refl) h.machine.store.records place now in
         record {
           one = λ x i k r q e f c d. n.one x i k r q (tcp i r e) (tcp k q f) c d;
           apart = λ x i r e a b. n.apart x i r (tcp i r e) a b;
@@ -184,7 +184,7 @@ module _ (line : ℕ) where
     put_udp_named = put_udp_by h.own (λ x o. o)
 
   -- a UDP socket more, whose network socket is fresh
-  pub push_udp_named : (h : Here) (now : Udp2Socket) (own : Own) → IsOlder line own (udp_side now) → Fresh h (udp_side now) → FreshUdp h (udp_side now) → Grows line h.own own
+  pub push_udp_named : (h : Here) (now : UdpRecord) (own : Own) → IsOlder line own (udp_side now) → Fresh h (udp_side now) → FreshUdp h (udp_side now) → Grows line h.own own
       → Named line h → Named line (record h { machine = record h.machine { store = record h.machine.store { records = udp2_pushed h.machine.store.records now } }; own = own })
   push_udp_named h now own small fresh free l n = record {
     one = λ x i k r q e f c d. n.one x i k r q (tcp i r e) (tcp k q f) c d;
@@ -198,15 +198,15 @@ module _ (line : ℕ) where
         | inr p ↦ elim (push_found udp_sort h.machine.store.records now k v f) [ inl q ↦ absurd (free k v q (d ∙ (sym c ∙ sym (ap udp_side p.0)))) | inr q ↦ p.1 ∙ sym q.1 ]
       ];
       apart = λ x i k r u e f c d. elim (push_found udp_sort h.machine.store.records now k u f) [ inl p ↦ n.udps.apart x i k r u (tcp i r e) p c d | inr p ↦ fresh i r (tcp i r e) (subst (λ (y : OpId). Claims y r) (sym d ∙ sym (ap udp_side p.0)) c) ];
-      older = λ i u e. elim (push_found udp_sort h.machine.store.records now i u e) [ inl p ↦ l (udp_side u) (n.udps.older i u p) | inr p ↦ subst (λ (y : Udp2Socket). IsOlder line own (udp_side y)) p.0 small ];
+      older = λ i u e. elim (push_found udp_sort h.machine.store.records now i u e) [ inl p ↦ l (udp_side u) (n.udps.older i u p) | inr p ↦ subst (λ (y : UdpRecord). IsOlder line own (udp_side y)) p.0 small ];
     };
   }
     where
-      tcp : (i : ℕ) (r : Tcp2Socket) → tcp2_at (udp2_pushed h.machine.store.records now) i ≡ Some r → Found h i r
+      tcp : (i : ℕ) (r : TcpRecord) → tcp2_at (udp2_pushed h.machine.store.records now) i ≡ Some r → Found h i r
       tcp = push_was udp_sort tcp_sort (λ t. refl) h.machine.store.records now
 
   -- each socket among the records was there
-  part_named : (h : Here) (machine : Machine) → ((i : ℕ) (r : Tcp2Socket) → tcp2_at machine.store.records i ≡ Some r → Found h i r) → ((i : ℕ) (u : Udp2Socket) → udp2_at machine.store.records i ≡ Some u → FoundUdp h i u) → Named line h → Named line (record h { machine = machine })
+  part_named : (h : Here) (machine : Machine) → ((i : ℕ) (r : TcpRecord) → tcp2_at machine.store.records i ≡ Some r → Found h i r) → ((i : ℕ) (u : UdpRecord) → udp2_at machine.store.records i ≡ Some u → FoundUdp h i u) → Named line h → Named line (record h { machine = machine })
   part_named h machine tcp udp n = record {
     one = λ x i k r q e f c d. n.one x i k r q (tcp i r e) (tcp k q f) c d;
     apart = λ x i r e a b. n.apart x i r (tcp i r e) a b;
@@ -236,7 +236,7 @@ accept_plain L _ accept.Ended = tt
 
 module _ (contexts : List WasiSocketsCtx) (line : ℕ) (origin : Step) where
   -- the socket changes
-  inner_names : (h : Here) (place : ℕ) (r now : Tcp2Socket) → Found h place r → now.side ≡ r.side → now.listening ≡ r.listening → ((x : OpId) → side_of now.inner ≡ Some x → side_of r.inner ≡ Some x) → Named line h → KeepsNames h (λ x. ⊥) r now
+  inner_names : (h : Here) (place : ℕ) (r now : TcpRecord) → Found h place r → now.side ≡ r.side → now.listening ≡ r.listening → ((x : OpId) → side_of now.inner ≡ Some x → side_of r.inner ≡ Some x) → Named line h → KeepsNames h (λ x. ⊥) r now
   inner_names h place r now g s l k n = record {
     side = s;
     accepts = λ x e. inl (ap accept_name (sym l) ∙ e);
@@ -244,11 +244,11 @@ module _ (contexts : List WasiSocketsCtx) (line : ℕ) (origin : Step) where
     held = λ op e. let d = n.held op place r g (sym l ∙ e) in (s ∙ d.0, none_of (side_of now.inner) (λ x e. no_some x (sym d.1 ∙ k x e)));
   }
 
-  pub put_inner : (h : Here) (place : ℕ) (r now : Tcp2Socket) → Found h place r → now.side ≡ r.side → now.listening ≡ r.listening → ((x : OpId) → side_of now.inner ≡ Some x → side_of r.inner ≡ Some x) → Named line h → Named line (put h place now)
+  pub put_inner : (h : Here) (place : ℕ) (r now : TcpRecord) → Found h place r → now.side ≡ r.side → now.listening ≡ r.listening → ((x : OpId) → side_of now.inner ≡ Some x → side_of r.inner ≡ Some x) → Named line h → Named line (put h place now)
   put_inner h place r now g s l k n = put_named line h place r now g (inner_names h place r now g s l k n) n
 
   -- the listening changes, and none begins
-  listening_names : (h : Here) (place : ℕ) (r : Tcp2Socket) (l : Listening) → Found h place r → ((x : OpId) → accept_name l ≡ Some x → accept_name r.listening ≡ Some x) → ((op : Operation) → l ≡ Begins op → ⊥) → Named line h → KeepsNames h (λ x. ⊥) r (record r { listening = l })
+  listening_names : (h : Here) (place : ℕ) (r : TcpRecord) (l : Listening) → Found h place r → ((x : OpId) → accept_name l ≡ Some x → accept_name r.listening ≡ Some x) → ((op : Operation) → l ≡ Begins op → ⊥) → Named line h → KeepsNames h (λ x. ⊥) r (record r { listening = l })
   listening_names h place r l g k none n = record { side = refl; accepts = λ x e. inl (k x e); named = λ x e. n.named x place r g e; held = λ op e. absurd (none op e) }
 
   -- what the line has begun changes, and as many names are taken, or more
@@ -258,7 +258,7 @@ module _ (contexts : List WasiSocketsCtx) (line : ℕ) (origin : Step) where
   spends_named : (h : Here) → Named line h → Named line (record h { own = Used })
   spends_named h n = owns_named h Used n (older_used line h.own)
 
-  put_spent : (h : Here) (place : ℕ) (r now : Tcp2Socket) → Found h place r → now.side ≡ r.side → now.listening ≡ r.listening → ((x : OpId) → side_of now.inner ≡ Some x → side_of r.inner ≡ Some x) → Named line h → Named line (record (put h place now) { own = Used })
+  put_spent : (h : Here) (place : ℕ) (r now : TcpRecord) → Found h place r → now.side ≡ r.side → now.listening ≡ r.listening → ((x : OpId) → side_of now.inner ≡ Some x → side_of r.inner ≡ Some x) → Named line h → Named line (record (put h place now) { own = Used })
   put_spent h place r now g s l k n = spends_named (put h place now) (put_inner h place r now g s l k n)
 
   -- a name that isn't given yet is fresh
@@ -280,7 +280,7 @@ module _ (contexts : List WasiSocketsCtx) (line : ℕ) (origin : Step) where
   fresh_to_come h n x t = fresh_by h n x (λ o. not_given line h.own x o t)
 
   -- the name of an accept is claimed by no record, once its record has it no more
-  pub taken_fresh : (h : Here) (place : ℕ) (r now : Tcp2Socket) (new : OpId) → Found h place r → accept_name r.listening ≡ Some new → now.side ≡ r.side → accept_name now.listening ≡ None → Named line h → Fresh (put h place now) new
+  pub taken_fresh : (h : Here) (place : ℕ) (r now : TcpRecord) (new : OpId) → Found h place r → accept_name r.listening ≡ Some new → now.side ≡ r.side → accept_name now.listening ≡ None → Named line h → Fresh (put h place now) new
   taken_fresh h place r now new g a s none n i q e c = elim (put_found tcp_sort h.machine.store.records place now i q e) [
     | inl p ↦ idle (subst (Claims new) (sym p.1) c)
     | inr p ↦ (
@@ -312,7 +312,7 @@ module _ (contexts : List WasiSocketsCtx) (line : ℕ) (origin : Step) where
       let now = beginning_listen (own_of line) side r in
       spends_named (put h place now) (put_named line h place r now g (record { side = refl; accepts = λ x e. absurd (cc); named = λ x e. absurd (cc); held = λ op e. (let s = n.named side place r g (ap side_in d) in let p : Begins _ ≡ Begins op = e in (its side op r e s, refl)) }) n)
     where
-      its : (side : OpId) (op : Operation) (r : Tcp2Socket) → (beginning_listen (own_of line) side r).listening ≡ Begins op → r.side ≡ Some side → r.side ≡ Some op.who.side
+      its : (side : OpId) (op : Operation) (r : TcpRecord) → (beginning_listen (own_of line) side r).listening ≡ Begins op → r.side ≡ Some side → r.side ≡ Some op.who.side
       its side op r e s = s ∙ ap (λ (o : Operation). Some o.who.side) (same_begun _ op e)
   moves_named _ _ (BeginsAccept h place part r l at g e a own) n =
       let name : OpId = part_of line part in
@@ -331,25 +331,25 @@ module _ (contexts : List WasiSocketsCtx) (line : ℕ) (origin : Step) where
       let name : accept_name r.listening ≡ Some new = ap accept_name e ∙ ap name_in a in
       let j = push_named line mid (joined l new peer) h.own refl (λ x p. (let s : new ≡ x = cc in subst (λ (y : OpId). IsOlder line h.own y × Fresh mid y × FreshUdp mid y) s (n.older new place r g (inr name), taken_fresh h place r (accepting_now r l Accepting.Idle) new g name refl refl n, λ i v f q. n.udps.apart new place i r v g (put_was tcp_sort udp_sort (λ t. refl) h.machine.store.records place (accepting_now r l Accepting.Idle) i v f) (inr name) q))) (λ x p. p) (λ op p. absurd (cc)) (λ x o. o) k in
       record { one = j.one; apart = j.apart; older = j.older; named = j.named; held = j.held; udps = record { one = j.udps.one; apart = j.udps.apart; older = j.udps.older } }
-  moves_named _ _ (UdpChanges h place o now g p keeps) n = put_udp_named line h place (Udp2Socket.Open o) (Udp2Socket.Open now) g p.side n
-  moves_named _ _ (BeginsUdpBind h place o a at g to idle own) n = put_udp_by line h place (Udp2Socket.Open o) (Udp2Socket.Open _) g refl n Used (older_used line h.own)
-  moves_named _ _ (BeginsUdpConnect h place o a at g to bound none own) n = put_udp_by line h place (Udp2Socket.Open o) (Udp2Socket.Open _) g refl n (ToConnect place) (older_used line h.own)
-  moves_named _ _ (BeginsSend h place part o out d bound at g e is known own) n = put_udp_by line h place (Udp2Socket.Open o) (Udp2Socket.Open _) g refl n (Names (part + 1)) (next_grows line part h.own own)
-  moves_named _ _ (BeginsReceive h place part o inc bound at g e is own) n = put_udp_by line h place (Udp2Socket.Open o) (Udp2Socket.Open _) g refl n (Names (part + 1)) (next_grows line part h.own own)
+  moves_named _ _ (UdpChanges h place o now g p keeps) n = put_udp_named line h place (UdpRecord.Open o) (UdpRecord.Open now) g p.side n
+  moves_named _ _ (BeginsUdpBind h place o a at g to idle own) n = put_udp_by line h place (UdpRecord.Open o) (UdpRecord.Open _) g refl n Used (older_used line h.own)
+  moves_named _ _ (BeginsUdpConnect h place o a at g to bound none own) n = put_udp_by line h place (UdpRecord.Open o) (UdpRecord.Open _) g refl n (ToConnect place) (older_used line h.own)
+  moves_named _ _ (BeginsSend h place part o out d bound at g e is known own) n = put_udp_by line h place (UdpRecord.Open o) (UdpRecord.Open _) g refl n (Names (part + 1)) (next_grows line part h.own own)
+  moves_named _ _ (BeginsReceive h place part o inc bound at g e is own) n = put_udp_by line h place (UdpRecord.Open o) (UdpRecord.Open _) g refl n (Names (part + 1)) (next_grows line part h.own own)
   moves_named _ _ (CancelsBind h place r op q g e) n = put_inner h place r _ g refl refl (λ x p. p) n
-  moves_named _ _ (CancelsUdpBind h place o op q g e) n = put_udp_named line h place (Udp2Socket.Open o) (Udp2Socket.Open _) g refl n
-  moves_named _ _ (CancelsUdpConnect h place o q g) n = put_udp_named line h place (Udp2Socket.Open o) (Udp2Socket.Open _) g refl n
+  moves_named _ _ (CancelsUdpBind h place o op q g e) n = put_udp_named line h place (UdpRecord.Open o) (UdpRecord.Open _) g refl n
+  moves_named _ _ (CancelsUdpConnect h place o q g) n = put_udp_named line h place (UdpRecord.Open o) (UdpRecord.Open _) g refl n
   moves_named _ _ (Finds h records s) n = records_named line h records s n
   moves_named _ _ (GivesBack h place idle left) n = fewer_named line h place n
   moves_named _ _ _ n = record { one = n.one; apart = n.apart; older = n.older; named = n.named; held = n.held; udps = record { one = n.udps.one; apart = n.udps.apart; older = n.udps.older } }
 
   -- the record that a listen leaves
-  listened_names : (h : Here) (place : ℕ) (r : Tcp2Socket) (op : Operation) (end : End × List Item) → Found h place r → r.listening ≡ Begins op → Named line h → KeepsNames h (λ x. ⊥) r (listen_after op r end)
+  listened_names : (h : Here) (place : ℕ) (r : TcpRecord) (op : Operation) (end : End × List Item) → Found h place r → r.listening ≡ Begins op → Named line h → KeepsNames h (λ x. ⊥) r (listen_after op r end)
   listened_names h place r op (Waits, items) g e n = record { side = refl; accepts = λ x p. absurd (cc); named = λ x p. n.named x place r g p; held = λ o p. (let d = n.held op place r g e in (let q : op.who.side ≡ o.who.side = cc in d.0 ∙ ap (λ (y : OpId). Some y) q, d.1)) }
   listened_names h place r op (Done given, items) g e n = record { side = refl; accepts = λ x p. absurd (cc); named = λ x p. (n.held op place r g e).0 ∙ p; held = λ o p. absurd (cc) }
   listened_names h place r op (Refused c given, items) g e n = record { side = refl; accepts = λ x p. absurd (cc); named = λ x p. n.named x place r g p; held = λ o p. absurd (cc) }
 
-  awaited_names : (h : Here) (place : ℕ) (r : Tcp2Socket) (l : Listener) (op : Operation) (end : End × List Item) → Found h place r → r.listening ≡ Accepts l → l.accept ≡ Accepting.Asking op → GivesOwn op.who.id end.0 → Named line h → Named line (put h place (accepting_now r l (accept_ended op.who end)))
+  awaited_names : (h : Here) (place : ℕ) (r : TcpRecord) (l : Listener) (op : Operation) (end : End × List Item) → Found h place r → r.listening ≡ Accepts l → l.accept ≡ Accepting.Asking op → GivesOwn op.who.id end.0 → Named line h → Named line (put h place (accepting_now r l (accept_ended op.who end)))
   awaited_names h place r l op end g e a k n = put_named line h place r _ g (listening_names h place r _ g (λ x p. ap accept_name e ∙ (ap name_in a ∙ ended_name op end k x p)) (λ o p. absurd (cc)) n) n
 
   -- == the law
@@ -370,19 +370,19 @@ module _ (contexts : List WasiSocketsCtx) (line : ℕ) (origin : Step) where
       allows_weaker Anything (λ fs ended. ArePlain ended.1 × GivesOwn op.who.id ended.0) (λ fs ended. Named line (put h place (accepting_now r l (accept_ended op.who ended)))) (λ fs ended k. awaited_names h place r l op ended g e a k.1 n.1) es (poll_asks op)
       (any_quiet (λ ended. ArePlain ended.1 × GivesOwn op.who.id ended.0) es (poll_asks op) (own_poll op es (accept_plain ⊤ op.left its.accept.left)))
   names_polled es h _ _ (UdpCreates place create q g) n =
-      whatever (λ ended. Named line (put_udp h place (udp_create_left create ended))) (λ ended. put_udp_named line h place (Udp2Socket.Creating create) _ g (create_side create ended) n.1) es _
+      whatever (λ ended. Named line (put_udp h place (udp_create_left create ended))) (λ ended. put_udp_named line h place (UdpRecord.Creating create) _ g (create_side create ended) n.1) es _
   names_polled es h _ _ (UdpBindsOn place o op q g e) n =
-      whatever (λ ended. Named line (put_udp h place (Udp2Socket.Open (with_udp_progress o (udp_bind_progress op ended))))) (λ ended. put_udp_named line h place (Udp2Socket.Open o) (Udp2Socket.Open _) g refl n.1) es _
+      whatever (λ ended. Named line (put_udp h place (UdpRecord.Open (with_udp_progress o (udp_bind_progress op ended))))) (λ ended. put_udp_named line h place (UdpRecord.Open o) (UdpRecord.Open _) g refl n.1) es _
   names_polled es h _ _ (UdpConnectsOn place o op q g e) n =
-      whatever (λ ended. Named line (put_udp h place (Udp2Socket.Open (udp_connect_left op o ended)))) (λ ended. put_udp_named line h place (Udp2Socket.Open o) (Udp2Socket.Open _) g (connected_side o op ended) n.1) es _
+      whatever (λ ended. Named line (put_udp h place (UdpRecord.Open (udp_connect_left op o ended)))) (λ ended. put_udp_named line h place (UdpRecord.Open o) (UdpRecord.Open _) g (connected_side o op ended) n.1) es _
   names_polled es h _ _ (SendsOn place o out op left g e s settles) n =
-      whatever (λ ended. Named line (put_udp h place (Udp2Socket.Open (record o { outgoing = Some (with_sending out (left ended)) })))) (λ ended. put_udp_named line h place (Udp2Socket.Open o) (Udp2Socket.Open _) g refl n.1) es _
+      whatever (λ ended. Named line (put_udp h place (UdpRecord.Open (record o { outgoing = Some (with_sending out (left ended)) })))) (λ ended. put_udp_named line h place (UdpRecord.Open o) (UdpRecord.Open _) g refl n.1) es _
   names_polled es h _ _ (ReceivesOn place o inc op g e r) n =
-      whatever (λ ended. Named line (put_udp h place (Udp2Socket.Open (record o { incoming = Some (with_receiving inc (receive_left op ended)) })))) (λ ended. put_udp_named line h place (Udp2Socket.Open o) (Udp2Socket.Open _) g refl n.1) es _
+      whatever (λ ended. Named line (put_udp h place (UdpRecord.Open (record o { incoming = Some (with_receiving inc (receive_left op ended)) })))) (λ ended. put_udp_named line h place (UdpRecord.Open o) (UdpRecord.Open _) g refl n.1) es _
 
   -- a UDP socket whose create begins has the line's own name
   begun_named : (h : Here) (maker : ℕ) (family : SocketAddressFamily) (r : Result (Unit {0}) ErrorCode) → h.own ≡ Unused → Named line h → Named line (udp_begun h (udp_after_create (own_of line) maker family r))
-  begun_named h maker family (Ok done) u n = push_udp_named line h (Udp2Socket.Creating (new_create (own_of line) maker family)) Used (omega arith) (fresh h u n (own_of line) refl) (fresh_udp h u n (own_of line) refl) (older_used line h.own) n
+  begun_named h maker family (Ok done) u n = push_udp_named line h (UdpRecord.Creating (new_create (own_of line) maker family)) Used (omega arith) (fresh h u n (own_of line) refl) (fresh_udp h u n (own_of line) refl) (older_used line h.own) n
   begun_named h maker family (Err c) u n = spends_named h n
 
   -- a socket that is created has the line's own name
@@ -408,11 +408,11 @@ module _ (contexts : List WasiSocketsCtx) (line : ℕ) (origin : Step) where
       put_named line h place r (with_listening r Not) g
       (listening_names h place r Not g (λ x p. absurd (cc)) (λ op p. absurd (cc)) n) n
   becomes_named h _ (UdpLearnt place o socket g e) n =
-      put_udp_named line h place (Udp2Socket.Open o) (Udp2Socket.Open _) g e n
+      put_udp_named line h place (UdpRecord.Open o) (UdpRecord.Open _) g e n
   becomes_named h _ (UdpIsClosed place o q g) n =
-      put_udp_named line h place (Udp2Socket.Open o) (Udp2Socket.Closed o.inner.side) g refl n
+      put_udp_named line h place (UdpRecord.Open o) (UdpRecord.Closed o.inner.side) g refl n
   becomes_named h _ (UdpGivenUp place create q g) n =
-      put_udp_named line h place (Udp2Socket.Creating create) (Udp2Socket.Closed create.operation.who.side) g refl n
+      put_udp_named line h place (UdpRecord.Creating create) (UdpRecord.Closed create.operation.who.side) g refl n
   becomes_named h _ (UdpBegun ctx family r c u m) n = begun_named h ctx.name family r u n
   becomes_named h _ (Resolved host records l s) n = records_named line h records s n
   becomes_named h _ (Created ctx family c u m) n = created_named h ctx family u n

@@ -3,7 +3,7 @@
 use Rattle.wasi_walks.proofs.Words.{Accepting, Allows, Ask, AskWrite, Asks, Bool, End, Entry, Err, ErrorCode, Give, HoldsAccept}
 use Rattle.wasi_walks.proofs.Words.{HoldsConnect, InProgress, IpSocketAddress, IsAcceptOn, IsConnect, IsLeftOfBind, IsLeftOfConnect, IsLeftOfListen}
 use Rattle.wasi_walks.proofs.Words.{Item, List, None, Ok, OpId, Operation, Result, Socket, SocketAddressFamily, Some}
-use Rattle.wasi_walks.proofs.Words.{Standing, StandingCall, Step, Streams, Tcp2Socket, TcpState, WasiSocketsCtx, WriteState, accept_ended}
+use Rattle.wasi_walks.proofs.Words.{Standing, StandingCall, Step, Streams, TcpRecord, TcpState, WasiSocketsCtx, WriteState, accept_ended}
 use Rattle.wasi_walks.proofs.Words.{after_local, allows_weaker, ap, bind_progress, call_place, connect_ended}
 use Rattle.wasi_walks.proofs.Words.{false, if◌then◌else◌, inl, inr}
 use Rattle.wasi_walks.proofs.Words.{is_nothing, is_wildcard, new_job, new_record, own_of, poll_asks, refl}
@@ -24,7 +24,7 @@ use Rattle.wasi_records.specs.Records.{tcp2_at, tcp2_of, tcp2_put, tcp2_pushed, 
 use Rattle.wasi_walks.proofs.GoneLists.{was_there}
 use Rattle.wasi_records.specs.declared.name_lookup.LookupOp.{LookupOp}
 use Rattle.wasi_records.specs.declared.udp.OpenUdp.{OpenUdp}
-use Rattle.wasi_records.specs.declared.udp.Udp2Socket.{Udp2Socket}
+use Rattle.wasi_records.specs.declared.udp.UdpRecord.{UdpRecord}
 use Rattle.wasi_records.specs.declared.udp.UdpInProgress.{UdpInProgress}
 use Rattle.wasi_records.specs.Datagrams.{udp_connect_left, with_sending}
 use Rattle.wasi_records.specs.Receiving.{receive_left, with_receiving}
@@ -44,16 +44,16 @@ use Rattle.wasi_walks.proofs.Places.{push_found, push_new, push_still, push_was,
 
 -- Each record fits, and so does the pending call.
 pub record Fit (h : Here) : Type 0 where
-  pub records : (place : ℕ) (r : Tcp2Socket) → Found h place r → FitRecord r
-  pub udps : (place : ℕ) (u : Udp2Socket) → FoundUdp h place u → FitUdp u
+  pub records : (place : ℕ) (r : TcpRecord) → Found h place r → FitRecord r
+  pub udps : (place : ℕ) (u : UdpRecord) → FoundUdp h place u → FitUdp u
   pub stands : (c : Standing) → h.machine.store.standing ≡ Some c → FitCall h.machine.store.records c.call
 
 -- neither is pending, or the record continues with its bind and with its listen
-abbrev pub KeepsBind : Here → Tcp2Socket → Tcp2Socket → Type 0
+abbrev pub KeepsBind : Here → TcpRecord → TcpRecord → Type 0
 KeepsBind h r now = NoStart h ⊎ ((HasBinding r.in_progress → HasBinding now.in_progress) × (HasListen r.listening → HasListen now.listening))
 
 -- one record changes
-module _ (h : Here) (place : ℕ) (r now : Tcp2Socket) (g : Found h place r) (k : KeepsBind h r now) where
+module _ (h : Here) (place : ℕ) (r now : TcpRecord) (g : Found h place r) (k : KeepsBind h r now) where
   call_put : (c : Standing) → h.machine.store.standing ≡ Some c → (call : StandingCall) → c.call ≡ call → FitCall h.machine.store.records call → FitCall (tcp2_put h.machine.store.records place now) call
   call_put c e (StandingCall.Bind n) q b = elim (put_stays tcp_sort h.machine.store.records place now n b.was b.at) [
     | inl p ↦ record { was = b.was; at = p; goes = b.goes }
@@ -64,7 +64,7 @@ module _ (h : Here) (place : ℕ) (r now : Tcp2Socket) (g : Found h place r) (k 
       none quiet = subst NoStartIn q (subst NoStartStands e quiet)
 
       goes : tcp2_at h.machine.store.records place ≡ Some b.was → HasBinding now.in_progress
-      goes at = let same : b.was ≡ r = cc in elim k [ inl quiet ↦ absurd (none quiet) | inr f ↦ f.0 (subst (λ (x : Tcp2Socket). HasBinding x.in_progress) same b.goes) ]
+      goes at = let same : b.was ≡ r = cc in elim k [ inl quiet ↦ absurd (none quiet) | inr f ↦ f.0 (subst (λ (x : TcpRecord). HasBinding x.in_progress) same b.goes) ]
   call_put c e (StandingCall.Listen n) q b = elim (put_stays tcp_sort h.machine.store.records place now n b.was b.at) [
     | inl p ↦ record { was = b.was; at = p; goes = b.goes }
     | inr p ↦ record { was = now; at = p.1; goes = goes (ap (tcp2_at h.machine.store.records) (sym p.0) ∙ b.at) }
@@ -74,11 +74,11 @@ module _ (h : Here) (place : ℕ) (r now : Tcp2Socket) (g : Found h place r) (k 
       none quiet = subst NoStartIn q (subst NoStartStands e quiet)
 
       goes : tcp2_at h.machine.store.records place ≡ Some b.was → HasListen now.listening
-      goes at = let same : b.was ≡ r = cc in elim k [ inl quiet ↦ absurd (none quiet) | inr f ↦ f.1 (subst (λ (x : Tcp2Socket). HasListen x.listening) same b.goes) ]
+      goes at = let same : b.was ≡ r = cc in elim k [ inl quiet ↦ absurd (none quiet) | inr f ↦ f.1 (subst (λ (x : TcpRecord). HasListen x.listening) same b.goes) ]
   call_put c e (StandingCall.DropOutput n) q b = tt
-  call_put c e (StandingCall.UdpCreate n) q b = record { was = b.was; at = put_still tcp_sort udp_sort (λ t. refl) h.machine.store.records place r now n (Udp2Socket.Creating b.was) g b.at }
-  call_put c e (StandingCall.UdpBind n) q b = record { was = b.was; at = put_still tcp_sort udp_sort (λ t. refl) h.machine.store.records place r now n (Udp2Socket.Open b.was) g b.at; op = b.op; goes = b.goes }
-  call_put c e (StandingCall.UdpConnect n handle) q b = record { was = b.was; at = put_still tcp_sort udp_sort (λ t. refl) h.machine.store.records place r now n (Udp2Socket.Open b.was) g b.at; op = b.op; goes = b.goes }
+  call_put c e (StandingCall.UdpCreate n) q b = record { was = b.was; at = put_still tcp_sort udp_sort (λ t. refl) h.machine.store.records place r now n (UdpRecord.Creating b.was) g b.at }
+  call_put c e (StandingCall.UdpBind n) q b = record { was = b.was; at = put_still tcp_sort udp_sort (λ t. refl) h.machine.store.records place r now n (UdpRecord.Open b.was) g b.at; op = b.op; goes = b.goes }
+  call_put c e (StandingCall.UdpConnect n handle) q b = record { was = b.was; at = put_still tcp_sort udp_sort (λ t. refl) h.machine.store.records place r now n (UdpRecord.Open b.was) g b.at; op = b.op; goes = b.goes }
   call_put c e (StandingCall.DropOutgoing n) q b = tt
   call_put c e (StandingCall.Blocking call) q b = tt
 
@@ -90,18 +90,18 @@ module _ (h : Here) (place : ℕ) (r now : Tcp2Socket) (g : Found h place r) (k 
   }
 
 -- the sockets that were there are there
-call_kept : (records now : List Record) → ((k : ℕ) (r : Tcp2Socket) → tcp2_at records k ≡ Some r → tcp2_at now k ≡ Some r) → ((k : ℕ) (u : Udp2Socket) → udp2_at records k ≡ Some u → udp2_at now k ≡ Some u) → (call : StandingCall) → FitCall records call → FitCall now call
+call_kept : (records now : List Record) → ((k : ℕ) (r : TcpRecord) → tcp2_at records k ≡ Some r → tcp2_at now k ≡ Some r) → ((k : ℕ) (u : UdpRecord) → udp2_at records k ≡ Some u → udp2_at now k ≡ Some u) → (call : StandingCall) → FitCall records call → FitCall now call
 call_kept records now t u (StandingCall.Bind n) b = record { was = b.was; at = t n b.was b.at; goes = b.goes }
 call_kept records now t u (StandingCall.Listen n) b = record { was = b.was; at = t n b.was b.at; goes = b.goes }
 call_kept records now t u (StandingCall.DropOutput n) b = tt
-call_kept records now t u (StandingCall.UdpCreate n) b = record { was = b.was; at = u n (Udp2Socket.Creating b.was) b.at }
-call_kept records now t u (StandingCall.UdpBind n) b = record { was = b.was; at = u n (Udp2Socket.Open b.was) b.at; op = b.op; goes = b.goes }
-call_kept records now t u (StandingCall.UdpConnect n handle) b = record { was = b.was; at = u n (Udp2Socket.Open b.was) b.at; op = b.op; goes = b.goes }
+call_kept records now t u (StandingCall.UdpCreate n) b = record { was = b.was; at = u n (UdpRecord.Creating b.was) b.at }
+call_kept records now t u (StandingCall.UdpBind n) b = record { was = b.was; at = u n (UdpRecord.Open b.was) b.at; op = b.op; goes = b.goes }
+call_kept records now t u (StandingCall.UdpConnect n handle) b = record { was = b.was; at = u n (UdpRecord.Open b.was) b.at; op = b.op; goes = b.goes }
 call_kept records now t u (StandingCall.DropOutgoing n) b = tt
 call_kept records now t u (StandingCall.Blocking call) b = tt
 
 -- one joins them
-call_push : (records : List Record) (now : Tcp2Socket) (call : StandingCall) → FitCall records call → FitCall (tcp2_pushed records now) call
+call_push : (records : List Record) (now : TcpRecord) (call : StandingCall) → FitCall records call → FitCall (tcp2_pushed records now) call
 call_push records now = call_kept records (tcp2_pushed records now) (push_still tcp_sort tcp_sort records now) (push_still tcp_sort udp_sort records now)
 
 -- the records are others with the same sockets
@@ -120,7 +120,7 @@ fewer_fit h place idle i = record {
   stands = λ c e. absurd (let none : None ≡ Some c = sym idle ∙ e in cc);
 }
 
-call_stands : (records : List Record) (call : StandingCall) (r : Tcp2Socket) → tcp2_at records (call_place call) ≡ Some r → GoesOn call r → FitCall records call
+call_stands : (records : List Record) (call : StandingCall) (r : TcpRecord) → tcp2_at records (call_place call) ≡ Some r → GoesOn call r → FitCall records call
 call_stands records (StandingCall.Bind n) r g k = record { was = r; at = g; goes = k }
 call_stands records (StandingCall.Listen n) r g k = record { was = r; at = g; goes = k }
 call_stands records (StandingCall.DropOutput n) r g k = tt
@@ -131,37 +131,37 @@ call_stands records (StandingCall.DropOutgoing n) r g k = absurd k
 call_stands records (StandingCall.Blocking call) r g k = absurd k
 
 -- == a UDP socket changes
-module _ (h : Here) (place : ℕ) (u now : Udp2Socket) (g : FoundUdp h place u) (k : NoStart h ⊎ KeepsOpen u now) where
+module _ (h : Here) (place : ℕ) (u now : UdpRecord) (g : FoundUdp h place u) (k : NoStart h ⊎ KeepsOpen u now) where
   none : (c : Standing) → h.machine.store.standing ≡ Some c → (call : StandingCall) → c.call ≡ call → NoStart h → NoStartIn call
   none c e call q quiet = subst NoStartIn q (subst NoStartStands e quiet)
 
   -- the one that is there is the one that changes
-  same_was : (n : ℕ) (was : OpenUdp) → udp2_at h.machine.store.records n ≡ Some (Udp2Socket.Open was) → n ≡ place → (o : KeepsOpen u now) → was ≡ o.was
-  same_was n was at p o = let there : Some (Udp2Socket.Open was) ≡ Some u = sym at ∙ (ap (udp2_at h.machine.store.records) p ∙ g) in same_open was o.was (same_udp (Udp2Socket.Open was) u there ∙ o.from)
+  same_was : (n : ℕ) (was : OpenUdp) → udp2_at h.machine.store.records n ≡ Some (UdpRecord.Open was) → n ≡ place → (o : KeepsOpen u now) → was ≡ o.was
+  same_was n was at p o = let there : Some (UdpRecord.Open was) ≡ Some u = sym at ∙ (ap (udp2_at h.machine.store.records) p ∙ g) in same_open was o.was (same_udp (UdpRecord.Open was) u there ∙ o.from)
 
   udp_call_put : (c : Standing) → h.machine.store.standing ≡ Some c → (call : StandingCall) → c.call ≡ call → FitCall h.machine.store.records call → FitCall (udp2_put h.machine.store.records place now) call
   udp_call_put c e (StandingCall.Bind n) q b = record { was = b.was; at = put_still udp_sort tcp_sort (λ t. refl) h.machine.store.records place u now n b.was g b.at; goes = b.goes }
   udp_call_put c e (StandingCall.Listen n) q b = record { was = b.was; at = put_still udp_sort tcp_sort (λ t. refl) h.machine.store.records place u now n b.was g b.at; goes = b.goes }
   udp_call_put c e (StandingCall.DropOutput n) q b = tt
-  udp_call_put c e (StandingCall.UdpCreate n) q b = elim (put_stays udp_sort h.machine.store.records place now n (Udp2Socket.Creating b.was) b.at) [
+  udp_call_put c e (StandingCall.UdpCreate n) q b = elim (put_stays udp_sort h.machine.store.records place now n (UdpRecord.Creating b.was) b.at) [
     | inl p ↦ record { was = b.was; at = p }
     | inr p ↦ elim k [
       | inl quiet ↦ absurd (none c e (StandingCall.UdpCreate n) q quiet)
-      | inr o ↦ (let at : Some (Udp2Socket.Creating b.was) ≡ Some u = sym b.at ∙ (ap (udp2_at h.machine.store.records) p.0 ∙ g) in absurd (no_open b.was o.was (same_udp (Udp2Socket.Creating b.was) u at ∙ o.from)))
+      | inr o ↦ (let at : Some (UdpRecord.Creating b.was) ≡ Some u = sym b.at ∙ (ap (udp2_at h.machine.store.records) p.0 ∙ g) in absurd (no_open b.was o.was (same_udp (UdpRecord.Creating b.was) u at ∙ o.from)))
     ]
   ]
-  udp_call_put c e (StandingCall.UdpBind n) q b = elim (put_stays udp_sort h.machine.store.records place now n (Udp2Socket.Open b.was) b.at) [
+  udp_call_put c e (StandingCall.UdpBind n) q b = elim (put_stays udp_sort h.machine.store.records place now n (UdpRecord.Open b.was) b.at) [
     | inl p ↦ record { was = b.was; at = p; op = b.op; goes = b.goes }
     | inr p ↦ elim k [
       | inl quiet ↦ absurd (none c e (StandingCall.UdpBind n) q quiet)
-      | inr o ↦ record { was = o.is; at = p.1 ∙ ap (λ (x : Udp2Socket). Some x) o.to; op = b.op; goes = o.binds b.op (subst (λ (x : OpenUdp). x.in_progress ≡ UdpInProgress.Binding b.op) (same_was n b.was b.at p.0 o) b.goes) }
+      | inr o ↦ record { was = o.is; at = p.1 ∙ ap (λ (x : UdpRecord). Some x) o.to; op = b.op; goes = o.binds b.op (subst (λ (x : OpenUdp). x.in_progress ≡ UdpInProgress.Binding b.op) (same_was n b.was b.at p.0 o) b.goes) }
     ]
   ]
-  udp_call_put c e (StandingCall.UdpConnect n handle) q b = elim (put_stays udp_sort h.machine.store.records place now n (Udp2Socket.Open b.was) b.at) [
+  udp_call_put c e (StandingCall.UdpConnect n handle) q b = elim (put_stays udp_sort h.machine.store.records place now n (UdpRecord.Open b.was) b.at) [
     | inl p ↦ record { was = b.was; at = p; op = b.op; goes = b.goes }
     | inr p ↦ elim k [
       | inl quiet ↦ absurd (none c e (StandingCall.UdpConnect n handle) q quiet)
-      | inr o ↦ (let next = o.connects b.op (subst (λ (x : OpenUdp). x.connecting ≡ Some b.op) (same_was n b.was b.at p.0 o) b.goes) in record { was = o.is; at = p.1 ∙ ap (λ (x : Udp2Socket). Some x) o.to; op = next.0; goes = next.1 })
+      | inr o ↦ (let next = o.connects b.op (subst (λ (x : OpenUdp). x.connecting ≡ Some b.op) (same_was n b.was b.at p.0 o) b.goes) in record { was = o.is; at = p.1 ∙ ap (λ (x : UdpRecord). Some x) o.to; op = next.0; goes = next.1 })
     ]
   ]
   udp_call_put c e (StandingCall.DropOutgoing n) q b = tt
@@ -175,12 +175,12 @@ module _ (h : Here) (place : ℕ) (u now : Udp2Socket) (g : FoundUdp h place u) 
   }
 
 -- one joins the records
-udp_call_push : (records : List Record) (now : Udp2Socket) (call : StandingCall) → FitCall records call → FitCall (udp2_pushed records now) call
+udp_call_push : (records : List Record) (now : UdpRecord) (call : StandingCall) → FitCall records call → FitCall (udp2_pushed records now) call
 udp_call_push records now = call_kept records (udp2_pushed records now) (push_still udp_sort tcp_sort records now) (push_still udp_sort udp_sort records now)
 
 pub begun_fits : (h : Here) (op : OpId) (maker : ℕ) (family : SocketAddressFamily) (r : Result (Unit {0}) ErrorCode) → Fit h → Fit (udp_begun h (udp_after_create op maker family r))
 begun_fits h op maker family (Ok done) i =
-    let now : Udp2Socket = Udp2Socket.Creating (new_create op maker family) in
+    let now : UdpRecord = UdpRecord.Creating (new_create op maker family) in
     let records = h.machine.store.records in
     record {
       records = λ n r e. i.records n r (push_was udp_sort tcp_sort (λ t. refl) records now n r e);
@@ -246,12 +246,12 @@ owned_fit : (h : Here) (own : Own) → Fit h → Fit (record h { own = own })
 owned_fit h own i = record { records = i.records; udps = i.udps; stands = i.stands }
 
 -- a UDP socket changes, and the line has begun something
-begun_udp_fit : (h : Here) (place : ℕ) (o now : OpenUdp) (own : Own) → FoundUdp h place (Udp2Socket.Open o) → KeepsOpen (Udp2Socket.Open o) (Udp2Socket.Open now) → FitUdp (Udp2Socket.Open now) → Fit h → Fit (record (put_udp h place (Udp2Socket.Open now)) { own = own })
-begun_udp_fit h place o now own g k f i = owned_fit (put_udp h place (Udp2Socket.Open now)) own (put_udp_fit h place (Udp2Socket.Open o) (Udp2Socket.Open now) g (inr k) f i)
+begun_udp_fit : (h : Here) (place : ℕ) (o now : OpenUdp) (own : Own) → FoundUdp h place (UdpRecord.Open o) → KeepsOpen (UdpRecord.Open o) (UdpRecord.Open now) → FitUdp (UdpRecord.Open now) → Fit h → Fit (record (put_udp h place (UdpRecord.Open now)) { own = own })
+begun_udp_fit h place o now own g k f i = owned_fit (put_udp h place (UdpRecord.Open now)) own (put_udp_fit h place (UdpRecord.Open o) (UdpRecord.Open now) g (inr k) f i)
 
 module _ (contexts : List WasiSocketsCtx) (line : ℕ) (origin : Step) where
   -- a write begins
-  pub write_fit : (h : Here) (place : ℕ) (r : Tcp2Socket) (s : Streams) (w : WriteState) (own : Own) → Found h place r → Fit h → Fit (record (put h place (with_writer r s w)) { own = own })
+  pub write_fit : (h : Here) (place : ℕ) (r : TcpRecord) (s : Streams) (w : WriteState) (own : Own) → Found h place r → Fit h → Fit (record (put h place (with_writer r s w)) { own = own })
   write_fit h place r s w own g i = owned_fit (put h place (with_writer r s w)) own (put_fit h place r (with_writer r s w) g (inr (λ b. b, λ l. l)) (i.records place r g) i)
 
   pub moves_fit : (h now : Here) → Move line origin h now → Fit h → Fit now
@@ -279,7 +279,7 @@ module _ (contexts : List WasiSocketsCtx) (line : ℕ) (origin : Step) where
   moves_fit _ _ (Forgets h place r l c g e a) i = let f = i.records place r g in put_fit h place r _ g (inr (λ b. b, λ k. absurd (subst HasListen e k))) (f.0, tt, f.2) i
   moves_fit _ _ (Joins h c handle place r l new peer is of u g e a) i =
       let f = i.records place r g in
-      let idle : Tcp2Socket = accepting_now r l Accepting.Idle in
+      let idle : TcpRecord = accepting_now r l Accepting.Idle in
       let k = put_fit h place r idle g (inr (λ b. b, λ k. absurd (subst HasListen e k))) (f.0, tt, f.2) i in
       record {
         records = λ p q d. elim (push_new tcp_sort (tcp2_put h.machine.store.records place idle) (joined l new peer) p q d) [ inl x ↦ k.records p q x | inr x ↦ subst FitRecord x (joined_fits l new peer) ];
@@ -288,32 +288,32 @@ module _ (contexts : List WasiSocketsCtx) (line : ℕ) (origin : Step) where
       }
   moves_fit _ _ (Stands h ids call r quiet at g b) i = stood_fit h ids call (call_stands h.machine.store.records call r g b) i
   moves_fit _ _ (Unstands h over) i = record { records = i.records; udps = i.udps; stands = λ c p. absurd (cc) }
-  moves_fit _ _ (UdpChanges h place o now g p keeps) i = put_udp_fit h place (Udp2Socket.Open o) (Udp2Socket.Open now) g (inr (plain_open o now p)) (plain_fits o now p (i.udps place (Udp2Socket.Open o) g)) i
+  moves_fit _ _ (UdpChanges h place o now g p keeps) i = put_udp_fit h place (UdpRecord.Open o) (UdpRecord.Open now) g (inr (plain_open o now p)) (plain_fits o now p (i.udps place (UdpRecord.Open o) g)) i
   moves_fit _ _ (BeginsUdpBind h place o a at g to idle own) i =
-      let f = i.udps place (Udp2Socket.Open o) g in
+      let f = i.udps place (UdpRecord.Open o) g in
       let now : OpenUdp = with_udp_progress o (UdpInProgress.Binding (begun_udp_bind (own_of line) o a)) in
       begun_udp_fit h place o now Used g (record { was = o; is = now; from = refl; to = refl; binds = λ op e. absurd (idle_keeps o.in_progress idle op e); connects = λ op e. (op, e) }) (record { bind = record { last = refl; left = udp.Unchecked a }; of_side = refl }, f.1, f.2, f.3) i
   moves_fit _ _ (StandsUdpBind h ids place o op quiet at g e) i = stood_fit h ids (StandingCall.UdpBind place) (record { was = o; at = g; op = op; goes = e }) i
   moves_fit _ _ (StandsUdpCreate h ids place create quiet g) i = stood_fit h ids (StandingCall.UdpCreate place) (record { was = create; at = g }) i
   moves_fit _ _ (BeginsUdpConnect h place o a at g to bound none own) i =
-      let f = i.udps place (Udp2Socket.Open o) g in
+      let f = i.udps place (UdpRecord.Open o) g in
       let op = begun_udp_connect (own_of line) o a in
       let now : OpenUdp = record o { connecting = Some op } in
       begun_udp_fit h place o now (ToConnect place) g (record { was = o; is = now; from = refl; to = refl; binds = λ x e. e; connects = λ x e. (op, refl) }) (f.0, record { connect = record { last = refl; left = binding.ConnectUnchecked o.inner.family a }; of_side = refl }, f.2, f.3) i
   moves_fit _ _ (StandsUdpConnect h ids place handle o op quiet at under g e) i = stood_fit h ids (StandingCall.UdpConnect place handle) (record { was = o; at = g; op = op; goes = e }) i
   moves_fit _ _ (StandsDropOutgoing h ids place o quiet at g s) i = stood_fit h ids (StandingCall.DropOutgoing place) tt i
   moves_fit _ _ (BeginsSend h place n o out d bound at g e is known own) i =
-      let f = i.udps place (Udp2Socket.Open o) g in
+      let f = i.udps place (UdpRecord.Open o) g in
       let now = sending_now o out (send_start (part_of line n) o.inner d.bytes d.remote_address bound) in
       begun_udp_fit h place o now (Names (n + 1)) g (stays_open o now refl refl) (f.0, f.1, begun_send (part_of line n) o.inner d.bytes d.remote_address bound, f.3) i
   moves_fit _ _ (BeginsReceive h place n o inc bound at g e is own) i =
-      let f = i.udps place (Udp2Socket.Open o) g in
+      let f = i.udps place (UdpRecord.Open o) g in
       let now = receiving_now o inc (receive_start (part_of line n) o.inner bound) in
       begun_udp_fit h place o now (Names (n + 1)) g (stays_open o now refl refl) (f.0, f.1, f.2, begun_receive (part_of line n) o.inner bound) i
   moves_fit _ _ (StandsBlocking h ids call handles m its) i = stood_fit h ids (StandingCall.Blocking call) tt i
   moves_fit _ _ (CancelsBind h place r op q g e) i = let f = i.records place r g in put_fit h place r _ g (inl q) (f.0, f.1, tt) i
-  moves_fit _ _ (CancelsUdpBind h place o op q g e) i = let f = i.udps place (Udp2Socket.Open o) g in put_udp_fit h place (Udp2Socket.Open o) _ g (inl q) (tt, f.1, f.2, f.3) i
-  moves_fit _ _ (CancelsUdpConnect h place o q g) i = let f = i.udps place (Udp2Socket.Open o) g in put_udp_fit h place (Udp2Socket.Open o) _ g (inl q) (f.0, tt, f.2, f.3) i
+  moves_fit _ _ (CancelsUdpBind h place o op q g e) i = let f = i.udps place (UdpRecord.Open o) g in put_udp_fit h place (UdpRecord.Open o) _ g (inl q) (tt, f.1, f.2, f.3) i
+  moves_fit _ _ (CancelsUdpConnect h place o q g) i = let f = i.udps place (UdpRecord.Open o) g in put_udp_fit h place (UdpRecord.Open o) _ g (inl q) (f.0, tt, f.2, f.3) i
   moves_fit _ _ (Finds h records s) i = records_fit h records s i
   moves_fit _ _ (GivesBack h place idle left) i = fewer_fit h place idle i
   moves_fit _ _ _ i = record { records = i.records; udps = i.udps; stands = i.stands }
@@ -347,32 +347,32 @@ module _ (contexts : List WasiSocketsCtx) (line : ℕ) (origin : Step) where
       allows_weaker Anything (λ fs end. AcceptLeaves end) (λ fs end. Fit (put h place (accepting_now r l (accept_ended op.who end))))
       (λ fs end k. put_fit h place r _ g (inr (λ b. b, λ l. absurd (subst HasListen e l))) (f.0, accepted_fits l.side l.maker op end its k, f.2) i) es (poll_asks op) (accept_left op its.accept its.going es)
   polls_fit es h _ _ (UdpCreates place create q g) i =
-      let f = i.udps place (Udp2Socket.Creating create) g in
-      allows_weaker Anything (λ fs end. LeavesCreate end) (λ fs end. Fit (put_udp h place (udp_create_left create end))) (λ fs end k. put_udp_fit h place (Udp2Socket.Creating create) _ g (inl q) (create_fits create f.0 end k) i) es (poll_asks create.operation) (create_left create.operation f.0 f.1 es)
+      let f = i.udps place (UdpRecord.Creating create) g in
+      allows_weaker Anything (λ fs end. LeavesCreate end) (λ fs end. Fit (put_udp h place (udp_create_left create end))) (λ fs end k. put_udp_fit h place (UdpRecord.Creating create) _ g (inl q) (create_fits create f.0 end k) i) es (poll_asks create.operation) (create_left create.operation f.0 f.1 es)
   polls_fit es h _ _ (UdpBindsOn place o op q g e) i =
-      let f = i.udps place (Udp2Socket.Open o) g in
+      let f = i.udps place (UdpRecord.Open o) g in
       let its : UdpBindOn o.inner.side op = subst (FitUdpProgress o.inner.side) e f.0 in
-      allows_weaker Anything (λ fs end. udp.IsLeftOfBind end.1) (λ fs end. Fit (put_udp h place (Udp2Socket.Open (with_udp_progress o (udp_bind_progress op end))))) (λ fs end k. put_udp_fit h place (Udp2Socket.Open o) _ g (inl q) (bound_udp o op end its k f) i) es (poll_asks op) (udp_bind_left op its.bind es)
+      allows_weaker Anything (λ fs end. udp.IsLeftOfBind end.1) (λ fs end. Fit (put_udp h place (UdpRecord.Open (with_udp_progress o (udp_bind_progress op end))))) (λ fs end k. put_udp_fit h place (UdpRecord.Open o) _ g (inl q) (bound_udp o op end its k f) i) es (poll_asks op) (udp_bind_left op its.bind es)
   polls_fit es h _ _ (UdpConnectsOn place o op q g e) i =
-      let f = i.udps place (Udp2Socket.Open o) g in
+      let f = i.udps place (UdpRecord.Open o) g in
       let its : UdpConnectOn o.inner.side op = subst (FitConnecting o.inner.side) e f.1 in
-      allows_weaker Anything (λ fs end. LeavesConnect end) (λ fs end. Fit (put_udp h place (Udp2Socket.Open (udp_connect_left op o end)))) (λ fs end k. put_udp_fit h place (Udp2Socket.Open o) _ g (inl q) (connected_udp o op end its k f) i) es (poll_asks op) (udp_connect_leaves op its.connect.left es)
+      allows_weaker Anything (λ fs end. LeavesConnect end) (λ fs end. Fit (put_udp h place (UdpRecord.Open (udp_connect_left op o end)))) (λ fs end k. put_udp_fit h place (UdpRecord.Open o) _ g (inl q) (connected_udp o op end its k f) i) es (poll_asks op) (udp_connect_leaves op its.connect.left es)
   polls_fit es h _ _ (SendsOn place o out op left g e s settles) i =
-      let f = i.udps place (Udp2Socket.Open o) g in
+      let f = i.udps place (UdpRecord.Open o) g in
       let its : SendOn o.inner.side op = sends_on o out op e s f in
       let now : End × List Item → OpenUdp = λ end. record o { outgoing = Some (with_sending out (left end)) } in
-      allows_weaker Anything (λ fs end. IsLeftOfSend end.1) (λ fs end. Fit (put_udp h place (Udp2Socket.Open (now end)))) (λ fs end k. put_udp_fit h place (Udp2Socket.Open o) _ g (inr (stays_open o (now end) refl refl)) (sent_udp o out op left end settles its k f) i) es (poll_asks (at_remote o.inner.remote op))
+      allows_weaker Anything (λ fs end. IsLeftOfSend end.1) (λ fs end. Fit (put_udp h place (UdpRecord.Open (now end)))) (λ fs end k. put_udp_fit h place (UdpRecord.Open o) _ g (inr (stays_open o (now end) refl refl)) (sent_udp o out op left end settles its k f) i) es (poll_asks (at_remote o.inner.remote op))
       (datagram_left (at_remote o.inner.remote op) its.send.left es)
   polls_fit es h _ _ (ReceivesOn place o inc op g e r) i =
-      let f = i.udps place (Udp2Socket.Open o) g in
+      let f = i.udps place (UdpRecord.Open o) g in
       let its : ReceiveOn o.inner.side op = receives_on o inc op e r f in
       let now : End × List Item → OpenUdp = λ end. record o { incoming = Some (with_receiving inc (receive_left op end)) } in
-      allows_weaker Anything (λ fs end. IsLeftOfReceive end.1) (λ fs end. Fit (put_udp h place (Udp2Socket.Open (now end)))) (λ fs end k. put_udp_fit h place (Udp2Socket.Open o) _ g (inr (stays_open o (now end) refl refl)) (received_udp o inc op end its k f) i) es (poll_asks (wanting inc.remote op))
+      allows_weaker Anything (λ fs end. IsLeftOfReceive end.1) (λ fs end. Fit (put_udp h place (UdpRecord.Open (now end)))) (λ fs end k. put_udp_fit h place (UdpRecord.Open o) _ g (inr (stays_open o (now end) refl refl)) (received_udp o inc op end its k f) i) es (poll_asks (wanting inc.remote op))
       (received_left (wanting inc.remote op) (wanted_left inc.remote op.left its.receive.left) es)
 
   -- the socket changes, and neither its network socket nor what it is in the middle of does
-  pub udp_inner_fit : (h : Here) (place : ℕ) (o : OpenUdp) (socket : UdpSocket) → FoundUdp h place (Udp2Socket.Open o) → socket.side ≡ o.inner.side → Fit h → Fit (put_udp h place (Udp2Socket.Open (with_udp_inner o socket)))
-  udp_inner_fit h place o socket g e i = put_udp_fit h place (Udp2Socket.Open o) _ g (inr (stays_open o (with_udp_inner o socket) refl refl)) (inner_fits o socket e (i.udps place (Udp2Socket.Open o) g)) i
+  pub udp_inner_fit : (h : Here) (place : ℕ) (o : OpenUdp) (socket : UdpSocket) → FoundUdp h place (UdpRecord.Open o) → socket.side ≡ o.inner.side → Fit h → Fit (put_udp h place (UdpRecord.Open (with_udp_inner o socket)))
+  udp_inner_fit h place o socket g e i = put_udp_fit h place (UdpRecord.Open o) _ g (inr (stays_open o (with_udp_inner o socket) refl refl)) (inner_fits o socket e (i.udps place (UdpRecord.Open o) g)) i
 
   pub becomes_fit : (h now : Here) → Becomes contexts line origin h now → Fit h → Fit now
   becomes_fit h _ (Learnt place r side told at g e) i =
@@ -382,9 +382,9 @@ module _ (contexts : List WasiSocketsCtx) (line : ℕ) (origin : Step) where
   becomes_fit h _ (GivenUp place r q g) i =
       let f = i.records place r g in put_fit h place r _ g (inl q) (f.0, tt, f.2) i
   becomes_fit h _ (UdpLearnt place o socket g e) i = udp_inner_fit h place o socket g e i
-  becomes_fit h _ (UdpIsClosed place o q g) i = put_udp_fit h place (Udp2Socket.Open o) (Udp2Socket.Closed o.inner.side) g (inl q.0) tt i
+  becomes_fit h _ (UdpIsClosed place o q g) i = put_udp_fit h place (UdpRecord.Open o) (UdpRecord.Closed o.inner.side) g (inl q.0) tt i
   becomes_fit h _ (UdpGivenUp place create q g) i =
-      put_udp_fit h place (Udp2Socket.Creating create) (Udp2Socket.Closed create.operation.who.side) g (inl q) tt i
+      put_udp_fit h place (UdpRecord.Creating create) (UdpRecord.Closed create.operation.who.side) g (inl q) tt i
   becomes_fit h _ (UdpBegun ctx family r c u m) i = begun_fits h (own_of line) ctx.name family r i
   becomes_fit h _ (Resolved host records l s) i = records_fit h records s i
   becomes_fit h _ (Created ctx family c u m) i = created_fit h (own_of line) ctx family i

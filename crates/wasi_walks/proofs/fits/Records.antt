@@ -5,7 +5,7 @@ use Rattle.wasi_world.specs.Operation.{Operation, UdpWritable, CloseLast}
 use Rattle.wasi_udp.specs.Bind.{IsBind as IsUdpBind}
 use Rattle.wasi_udp.specs.Create.{Create}
 use Rattle.wasi_records.specs.declared.udp.OpenUdp.{OpenUdp}
-use Rattle.wasi_records.specs.declared.udp.Udp2Socket.{Udp2Socket}
+use Rattle.wasi_records.specs.declared.udp.UdpRecord.{UdpRecord}
 use Rattle.wasi_records.specs.declared.udp.UdpInProgress.{UdpInProgress}
 use Rattle.wasi_tcp.specs.Connecting.{HoldsConnect}
 use Rattle.wasi_tcp.specs.Listen.{IsListen}
@@ -15,7 +15,7 @@ use Rattle.wasi_records.specs.Records.{tcp2_at, udp2_at}
 use Rattle.wasi_records.specs.declared.records.Record.{Record}
 use Rattle.wasi_records.specs.declared.binding.InProgress.{InProgress}
 use Rattle.wasi_records.specs.declared.listening.Listening.{Listening}
-use Rattle.wasi_records.specs.declared.socket.Tcp2Socket.{Tcp2Socket}
+use Rattle.wasi_records.specs.declared.socket.TcpRecord.{TcpRecord}
 use Rattle.wasi_host.specs.declared.store.StandingCall.{StandingCall}
 use Rattle.wasi_udp.specs.Receive.{IsReceive}
 use Rattle.wasi_udp.specs.Send.{IsSend}
@@ -34,37 +34,37 @@ FitProgress s (InProgress.Binding op) = (s ≡ TcpState.Default op.who.side) × 
 FitProgress s _ = ⊤
 
 -- and what it connects by is a connect
-abbrev pub FitRecord : Tcp2Socket → Type 0
+abbrev pub FitRecord : TcpRecord → Type 0
 FitRecord r = HoldsConnect r.inner.state × FitListening r.listening × FitProgress r.inner.state r.in_progress
 
 -- A bind is in progress in the record at this place.
 pub record BindGoesOn (records : List Record) (place : ℕ) : Type 0 where
-  pub was : Tcp2Socket
+  pub was : TcpRecord
   pub at : tcp2_at records place ≡ Some was
   pub goes : HasBinding was.in_progress
 
 -- A listen is in progress in the record at this place.
 pub record ListenGoesOn (records : List Record) (place : ℕ) : Type 0 where
-  pub was : Tcp2Socket
+  pub was : TcpRecord
   pub at : tcp2_at records place ≡ Some was
   pub goes : HasListen was.listening
 
 -- A create is in progress in the record at this place.
 pub record UdpCreateGoesOn (records : List Record) (place : ℕ) : Type 0 where
   pub was : Create
-  pub at : udp2_at records place ≡ Some (Udp2Socket.Creating was)
+  pub at : udp2_at records place ≡ Some (UdpRecord.Creating was)
 
 -- A bind is in progress in the UDP socket at this place.
 pub record UdpBindGoesOn (records : List Record) (place : ℕ) : Type 0 where
   pub was : OpenUdp
-  pub at : udp2_at records place ≡ Some (Udp2Socket.Open was)
+  pub at : udp2_at records place ≡ Some (UdpRecord.Open was)
   pub op : Operation
   pub goes : was.in_progress ≡ UdpInProgress.Binding op
 
 -- A connect is in progress in the UDP socket at this place.
 pub record UdpConnectGoesOn (records : List Record) (place : ℕ) : Type 0 where
   pub was : OpenUdp
-  pub at : udp2_at records place ≡ Some (Udp2Socket.Open was)
+  pub at : udp2_at records place ≡ Some (UdpRecord.Open was)
   pub op : Operation
   pub goes : was.connecting ≡ Some op
 
@@ -105,9 +105,9 @@ abbrev pub FitUdpProgress : OpId → UdpInProgress → Type 0
 FitUdpProgress side (UdpInProgress.Binding op) = UdpBindOn side op
 FitUdpProgress side _ = ⊤
 
-abbrev pub FitUdp : Udp2Socket → Type 0
-FitUdp (Udp2Socket.Creating create) = (create.operation.who.last ≡ CloseLast) × (create.operation.left ≡ UdpWritable ∷ [])
-FitUdp (Udp2Socket.Open o) = FitUdpProgress o.inner.side o.in_progress × FitConnecting o.inner.side o.connecting × FitSending o.inner.side (sending_in o.outgoing) × FitReceiving o.inner.side (receiving_in o.incoming)
+abbrev pub FitUdp : UdpRecord → Type 0
+FitUdp (UdpRecord.Creating create) = (create.operation.who.last ≡ CloseLast) × (create.operation.left ≡ UdpWritable ∷ [])
+FitUdp (UdpRecord.Open o) = FitUdpProgress o.inner.side o.in_progress × FitConnecting o.inner.side o.connecting × FitSending o.inner.side (sending_in o.outgoing) × FitReceiving o.inner.side (receiving_in o.incoming)
 FitUdp _ = ⊤
 
 -- where a bind, a listen, a create or a connect is pending, it is in progress

@@ -1,6 +1,6 @@
 -- What a poll leaves of a TCP socket's operations, and that its record fits then.
 use Rattle.wasi_walks.proofs.Words.{Bool, Done, End, Given, HoldsAccept, InProgress, IpSocketAddress, IsAcceptOn, IsConnect, IsLeftOfBind, IsLeftOfConnect}
-use Rattle.wasi_walks.proofs.Words.{IsLeftOfListen, Item, List, Listener, OpId, Operation, Refused, Tcp2Socket, Waits, accept_ended, arrived, bind_progress}
+use Rattle.wasi_walks.proofs.Words.{IsLeftOfListen, Item, List, Listener, OpId, Operation, Refused, TcpRecord, Waits, accept_ended, arrived, bind_progress}
 use Rattle.wasi_walks.proofs.Words.{connect_ended, connect_first, connect_operation, false, refl, subst, true, with_progress, ℕ, ◌≡◌, HoldsConnect}
 use Rattle.wasi_world.specs.Operation.{Connection}
 use Rattle.wasi_tcp.specs.Listen.{IsListen}
@@ -20,13 +20,13 @@ ended_fits op (Waits, items) its k = record { last = its.last; left = k }
 ended_fits op _ its k = tt
 
 -- what is left of a listen
-pub listened_fits : (op : Operation) (r : Tcp2Socket) (end : End × List Item) → IsListen op → IsLeftOfListen end.1 → FitRecord r → FitRecord (listen_after op r end)
+pub listened_fits : (op : Operation) (r : TcpRecord) (end : End × List Item) → IsListen op → IsLeftOfListen end.1 → FitRecord r → FitRecord (listen_after op r end)
 listened_fits op r (Waits, items) its k f = (f.0, record { last = its.last; left = k }, f.2)
 listened_fits op r (Done given, items) its k f = (tt, tt, tt)
 listened_fits op r (Refused why given, items) its k f = (f.0, tt, f.2)
 
 -- what is left of a bind, of the same socket
-pub bound_fits : (op : Operation) (r : Tcp2Socket) (end : End × List Item) → r.in_progress ≡ InProgress.Binding op → IsLeftOfBind end.1 → FitRecord r → FitRecord (with_progress r (bind_progress op end))
+pub bound_fits : (op : Operation) (r : TcpRecord) (end : End × List Item) → r.in_progress ≡ InProgress.Binding op → IsLeftOfBind end.1 → FitRecord r → FitRecord (with_progress r (bind_progress op end))
 bound_fits op r (Waits, items) e k f = let its = subst (FitProgress r.inner.state) e f.2 in (f.0, f.1, (its.0, record { last = its.1.last; left = k }))
 bound_fits op r (Done given, items) e k f = (f.0, f.1, tt)
 bound_fits op r (Refused why given, items) e k f = (f.0, f.1, tt)

@@ -13,7 +13,7 @@ use Rattle.wasi_records.specs.declared.datagrams.Outgoing.{Outgoing}
 use Rattle.wasi_records.specs.declared.datagrams.Receiving.{Receiving}
 use Rattle.wasi_records.specs.declared.datagrams.Sending.{Sending}
 use Rattle.wasi_records.specs.declared.udp.OpenUdp.{OpenUdp}
-use Rattle.wasi_records.specs.declared.udp.Udp2Socket.{Udp2Socket}
+use Rattle.wasi_records.specs.declared.udp.UdpRecord.{UdpRecord}
 use Rattle.wasi_records.specs.declared.udp.UdpInProgress.{UdpInProgress}
 use Rattle.wasi_udp.specs.Bind as udp
 use Rattle.wasi_udp.specs.Connect.{with_given}
@@ -30,28 +30,28 @@ use Rattle.wasi_walks.proofs.fits.DatagramPolls.{LeavesConnect}
 use Rattle.wasi_walks.proofs.fits.Records.{FitConnecting, FitReceiving, FitSending, FitUdp, FitUdpProgress, ReceiveOn, SendOn, UdpBindOn, UdpConnectOn}
 
 -- it stays open, with the bind that was in progress, and with a connect where one was
-pub record KeepsOpen (u now : Udp2Socket) : Type 0 where
+pub record KeepsOpen (u now : UdpRecord) : Type 0 where
   pub was : OpenUdp
   pub is : OpenUdp
-  pub from : u ≡ Udp2Socket.Open was
-  pub to : now ≡ Udp2Socket.Open is
+  pub from : u ≡ UdpRecord.Open was
+  pub to : now ≡ UdpRecord.Open is
   pub binds : (op : Operation) → was.in_progress ≡ UdpInProgress.Binding op → is.in_progress ≡ UdpInProgress.Binding op
   pub connects : (op : Operation) → was.connecting ≡ Some op → (next : Operation) × (is.connecting ≡ Some next)
 
 -- the same record is the same socket
-pub same_udp : (a b : Udp2Socket) → Some a ≡ Some b → a ≡ b
+pub same_udp : (a b : UdpRecord) → Some a ≡ Some b → a ≡ b
 same_udp a b e = cc
 
 -- and the same open one
-pub same_open : (a b : OpenUdp) → Udp2Socket.Open a ≡ Udp2Socket.Open b → a ≡ b
+pub same_open : (a b : OpenUdp) → UdpRecord.Open a ≡ UdpRecord.Open b → a ≡ b
 same_open a b e = cc
 
 -- one that is made isn't open
-pub no_open : (c : Create) (o : OpenUdp) → Udp2Socket.Creating c ≡ Udp2Socket.Open o → ⊥
+pub no_open : (c : Create) (o : OpenUdp) → UdpRecord.Creating c ≡ UdpRecord.Open o → ⊥
 no_open c o e = absurd (cc)
 
 -- what it is in the middle of is the same
-pub stays_open : (o now : OpenUdp) → now.in_progress ≡ o.in_progress → now.connecting ≡ o.connecting → KeepsOpen (Udp2Socket.Open o) (Udp2Socket.Open now)
+pub stays_open : (o now : OpenUdp) → now.in_progress ≡ o.in_progress → now.connecting ≡ o.connecting → KeepsOpen (UdpRecord.Open o) (UdpRecord.Open now)
 stays_open o now d c = record { was = o; is = now; from = refl; to = refl; binds = λ op e. d ∙ e; connects = λ op e. (op, c ∙ e) }
 
 -- a socket in the middle of nothing isn't bound
@@ -67,7 +67,7 @@ plain_binds old now (inl same) op e = same ∙ e
 plain_binds old now (inr s) op e = absurd (subst IsUdpSettled e s.0)
 
 -- so it stays open
-pub plain_open : (o now : OpenUdp) → UdpPlain o now → KeepsOpen (Udp2Socket.Open o) (Udp2Socket.Open now)
+pub plain_open : (o now : OpenUdp) → UdpPlain o now → KeepsOpen (UdpRecord.Open o) (UdpRecord.Open now)
 plain_open o now p = record { was = o; is = now; from = refl; to = refl; binds = plain_binds o.in_progress now.in_progress p.binds; connects = λ op e. (op, p.connects ∙ e) }
 
 -- and what it is bound by fits
@@ -87,7 +87,7 @@ abbrev FitsOn : OpenUdp → OpId → Type 0
 FitsOn o side = FitUdpProgress side o.in_progress × FitConnecting side o.connecting × FitSending side (sending_in o.outgoing) × FitReceiving side (receiving_in o.incoming)
 
 -- and so does all of it
-pub plain_fits : (o now : OpenUdp) → UdpPlain o now → FitUdp (Udp2Socket.Open o) → FitUdp (Udp2Socket.Open now)
+pub plain_fits : (o now : OpenUdp) → UdpPlain o now → FitUdp (UdpRecord.Open o) → FitUdp (UdpRecord.Open now)
 plain_fits o now p f =
     let side : OpId = o.inner.side in
     subst (FitsOn now) (sym p.side) (
@@ -98,7 +98,7 @@ plain_fits o now p f =
     )
 
 -- the socket changes, and keeps its network socket
-pub inner_fits : (o : OpenUdp) (socket : Socket) → socket.side ≡ o.inner.side → FitUdp (Udp2Socket.Open o) → FitUdp (Udp2Socket.Open (with_udp_inner o socket))
+pub inner_fits : (o : OpenUdp) (socket : Socket) → socket.side ≡ o.inner.side → FitUdp (UdpRecord.Open o) → FitUdp (UdpRecord.Open (with_udp_inner o socket))
 inner_fits o socket e f = subst (FitsOn o) (sym e) f
 
 -- what is learnt of whether it is bound leaves its network socket
@@ -112,7 +112,7 @@ learnt_side socket (Err c) = refl
 
 -- == a bind and a connect, polled
 -- what a poll leaves of a bind fits
-pub bound_udp : (o : OpenUdp) (op : Operation) (end : End × List Item) → UdpBindOn o.inner.side op → udp.IsLeftOfBind end.1 → FitUdp (Udp2Socket.Open o) → FitUdp (Udp2Socket.Open (with_udp_progress o (udp_bind_progress op end)))
+pub bound_udp : (o : OpenUdp) (op : Operation) (end : End × List Item) → UdpBindOn o.inner.side op → udp.IsLeftOfBind end.1 → FitUdp (UdpRecord.Open o) → FitUdp (UdpRecord.Open (with_udp_progress o (udp_bind_progress op end)))
 bound_udp o op (Waits, items) its k f = (record { bind = record { last = its.bind.last; left = k }; of_side = its.of_side }, f.1, f.2, f.3)
 bound_udp o op (Done given, items) its k f = (tt, f.1, f.2, f.3)
 bound_udp o op (Refused c given, items) its k f = (tt, f.1, f.2, f.3)
@@ -129,7 +129,7 @@ connected_side o op (Done given, items) = given_side o.inner given
 connected_side o op (Refused c given, items) = given_side o.inner given
 
 -- done, its streams do nothing yet
-pub connected_udp : (o : OpenUdp) (op : Operation) (end : End × List Item) → UdpConnectOn o.inner.side op → LeavesConnect end → FitUdp (Udp2Socket.Open o) → FitUdp (Udp2Socket.Open (udp_connect_left op o end))
+pub connected_udp : (o : OpenUdp) (op : Operation) (end : End × List Item) → UdpConnectOn o.inner.side op → LeavesConnect end → FitUdp (UdpRecord.Open o) → FitUdp (UdpRecord.Open (udp_connect_left op o end))
 connected_udp o op (Waits, items) its k f = (f.0, record { connect = record { last = its.connect.last; left = k }; of_side = its.of_side }, f.2, f.3)
 connected_udp o op (Done given, items) its k f = subst (FitsOn (udp_connect_left op o (Done given, items))) (sym (given_side o.inner given)) (f.0, tt, tt, tt)
 connected_udp o op (Refused c given, items) its k f = subst (FitsOn (udp_connect_left op o (Refused c given, items))) (sym (given_side o.inner given)) (f.0, tt, f.2, f.3)
@@ -146,7 +146,7 @@ pub begun_send : (own : OpId) (socket : Socket) (bytes : List ℕ) (given : Opti
 begun_send own socket bytes given bound = record { send = record { last = refl; left = first_send socket.family bytes (send_to socket bytes given) bound }; of_side = refl }
 
 -- what its outgoing stream sends
-pub sends_on : (o : OpenUdp) (out : Outgoing) (op : Operation) → o.outgoing ≡ Some out → out.sending ≡ Sending.InProgress op → FitUdp (Udp2Socket.Open o) → SendOn o.inner.side op
+pub sends_on : (o : OpenUdp) (out : Outgoing) (op : Operation) → o.outgoing ≡ Some out → out.sending ≡ Sending.InProgress op → FitUdp (UdpRecord.Open o) → SendOn o.inner.side op
 sends_on o out op e s f = subst (λ (x : Sending). FitSending o.inner.side (send_op x)) s (subst (λ (x : Option Outgoing). FitSending o.inner.side (sending_in x)) e f.2)
 
 -- what a poll leaves of it fits
@@ -156,7 +156,7 @@ settled side op left (Done given, items) s its k = subst (FitSending side) (sym 
 settled side op left (Refused c given, items) s its k = subst (FitSending side) (sym (s.refused c given items)) tt
 
 -- and so does its socket
-pub sent_udp : (o : OpenUdp) (out : Outgoing) (op : Operation) (left : End × List Item → Sending) (end : End × List Item) → SettlesSend op left → SendOn o.inner.side op → IsLeftOfSend end.1 → FitUdp (Udp2Socket.Open o) → FitUdp (Udp2Socket.Open (record o { outgoing = Some (with_sending out (left end)) }))
+pub sent_udp : (o : OpenUdp) (out : Outgoing) (op : Operation) (left : End × List Item → Sending) (end : End × List Item) → SettlesSend op left → SendOn o.inner.side op → IsLeftOfSend end.1 → FitUdp (UdpRecord.Open o) → FitUdp (UdpRecord.Open (record o { outgoing = Some (with_sending out (left end)) }))
 sent_udp o out op left end s its k f = (f.0, f.1, settled o.inner.side op left end s its k, f.3)
 
 -- the first stage of a receive
@@ -169,7 +169,7 @@ pub begun_receive : (own : OpId) (socket : Socket) (bound : Bool) → ReceiveOn 
 begun_receive own socket bound = record { receive = record { last = refl; left = first_receive bound }; of_side = refl }
 
 -- what its incoming stream receives by
-pub receives_on : (o : OpenUdp) (inc : Incoming) (op : Operation) → o.incoming ≡ Some inc → inc.receiving ≡ Receiving.InProgress op → FitUdp (Udp2Socket.Open o) → ReceiveOn o.inner.side op
+pub receives_on : (o : OpenUdp) (inc : Incoming) (op : Operation) → o.incoming ≡ Some inc → inc.receiving ≡ Receiving.InProgress op → FitUdp (UdpRecord.Open o) → ReceiveOn o.inner.side op
 receives_on o inc op e r f = subst (λ (x : Receiving). FitReceiving o.inner.side (receive_op x)) r (subst (λ (x : Option Incoming). FitReceiving o.inner.side (receiving_in x)) e f.3)
 
 -- what a poll leaves of it fits
@@ -180,5 +180,5 @@ came side op (Done _, items) its k = tt
 came side op (Refused c given, items) its k = tt
 
 -- and so does its socket
-pub received_udp : (o : OpenUdp) (inc : Incoming) (op : Operation) (end : End × List Item) → ReceiveOn o.inner.side op → IsLeftOfReceive end.1 → FitUdp (Udp2Socket.Open o) → FitUdp (Udp2Socket.Open (record o { incoming = Some (with_receiving inc (receive_left op end)) }))
+pub received_udp : (o : OpenUdp) (inc : Incoming) (op : Operation) (end : End × List Item) → ReceiveOn o.inner.side op → IsLeftOfReceive end.1 → FitUdp (UdpRecord.Open o) → FitUdp (UdpRecord.Open (record o { incoming = Some (with_receiving inc (receive_left op end)) }))
 received_udp o inc op end its k f = (f.0, f.1, f.2, came o.inner.side op end its k)

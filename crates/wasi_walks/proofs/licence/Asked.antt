@@ -1,6 +1,6 @@
 -- What a line asks by its own operation is licensed, and what it is answered fits.
 use Rattle.wasi_walks.proofs.Words.{Allows, Asks, Begins, Call, Done, End, Entry, IsAddr, List, MarksNoSocket, MayAsk, OpId, Operation, Refused, Some, Step}
-use Rattle.wasi_walks.proofs.Words.{Tcp2Socket, TcpState, Told, Waits, WasiSocketsCtx, WriteState, [], after_local, ap, closing_side, entry, inl}
+use Rattle.wasi_walks.proofs.Words.{TcpRecord, TcpState, Told, Waits, WasiSocketsCtx, WriteState, [], after_local, ap, closing_side, entry, inl}
 use Rattle.wasi_walks.proofs.Words.{marked_by, own_of, refl, side_in, side_of, step_at, subst, sym, told_addr, with_inner, writer_side}
 use Rattle.wasi_walks.proofs.Words.{allows_keep, writing_side, ℕ, ◌++◌, ◌∙◌, ◌∷◌, ◌≡◌}
 use Rattle.wasi_walks.specs.Licence.{BeganBy, IsGetOf, IsSetTo}
@@ -23,12 +23,12 @@ module _ (contexts : List WasiSocketsCtx) (steps : List Step) (line : ℕ) (orig
   -- == asks
   -- no listen in progress is on a network socket whose local address is asked for
   abbrev pub Spares : Here → Call → Type 0
-  Spares h c = (k : ℕ) (q : Tcp2Socket) (op : Operation) → Found h k q → q.listening ≡ Begins op → c ≡ Call.Local op.who.side → ⊥
+  Spares h c = (k : ℕ) (q : TcpRecord) (op : Operation) → Found h k q → q.listening ≡ Begins op → c ≡ Call.Local op.who.side → ⊥
 
   pub spares : (h : Here) (c : Call) → NoLocal c → Spares h c
   spares h c n k q op g e p = subst NoLocal p n
 
-  pub listens_on : (es : List Entry) (h : Here) (op : OpId) (c : Call) (told : Told) → Spares h c → Licensed contexts steps line origin es h → (k : ℕ) (q : Tcp2Socket) (o : Operation) → Found h k q → q.listening ≡ Begins o → ListenGoesOn steps (es ++ entry op c told ∷ []) q o
+  pub listens_on : (es : List Entry) (h : Here) (op : OpId) (c : Call) (told : Told) → Spares h c → Licensed contexts steps line origin es h → (k : ℕ) (q : TcpRecord) (o : Operation) → Found h k q → q.listening ≡ Begins o → ListenGoesOn steps (es ++ entry op c told ∷ []) q o
   listens_on es h op c told n i k q o g e = let l = i.listens k q o g e in record { fine = listen_unless steps es op c told o (n k q o g e) l.fine; asks = l.asks; made = maker_more es _ q.inner.maker q.inner.family o.who.side l.made; tcp = l.tcp }
 
   pub joined_on : (es : List Entry) (h : Here) (e : Entry) (p : ℕ) (j : JoinedIsFine origin es h p) → MarksNoSocket (es ++ e ∷ []) j.new → JoinedIsFine origin (es ++ e ∷ []) h p
@@ -71,22 +71,22 @@ module _ (contexts : List WasiSocketsCtx) (steps : List Step) (line : ℕ) (orig
       by_end (Refused c given) p = absurd (cc)
   writer_is es side at (WriteState.Closed e) on p = absurd (cc)
 
-  pub on_side : (es : List Entry) (r : Tcp2Socket) (side : OpId) → IsOn r side → RecordIsFine steps es r → side_of r.inner ≡ Some side
+  pub on_side : (es : List Entry) (r : TcpRecord) (side : OpId) → IsOn r side → RecordIsFine steps es r → side_of r.inner ≡ Some side
   on_side es r side (OfSocket e) f = e
   on_side es r side (OfReader s half e w p) f = let t = f.streams s e in held_side contexts steps line origin is_line es r s t ∙ ap (λ (x : OpId). Some x) (sym (sym p ∙ subst (ReadsOn t.side) w t.reads))
   on_side es r side (OfWriter s e w) f = let t = f.streams s e in held_side contexts steps line origin is_line es r s t ∙ ap (λ (x : OpId). Some x) (sym (writer_is es t.side side s.writer t.writes w))
 
   -- a line names the network socket that it asks of
-  pub names_on_side : (es : List Entry) (h : Here) (place n : ℕ) (r : Tcp2Socket) (side : OpId) → h.at ≡ Some (place, n) → Found h place r → IsOn r side → Licensed contexts steps line origin es h → Names steps es (own_of n) side
+  pub names_on_side : (es : List Entry) (h : Here) (place n : ℕ) (r : TcpRecord) (side : OpId) → h.at ≡ Some (place, n) → Found h place r → IsOn r side → Licensed contexts steps line origin es h → Names steps es (own_of n) side
   names_on_side es h place n r side at g o i = let f = i.fine.records place r g in i.names place n r at g side (f.named side (on_side es r side o f))
 
   -- a network socket that a record has is not that of a listen in progress
-  pub not_held : (h : Here) (place : ℕ) (r : Tcp2Socket) (side : OpId) → Found h place r → side_of r.inner ≡ Some side → Named line h → (k : ℕ) (q : Tcp2Socket) (op : Operation) → Found h k q → q.listening ≡ Begins op → side ≡ op.who.side → ⊥
+  pub not_held : (h : Here) (place : ℕ) (r : TcpRecord) (side : OpId) → Found h place r → side_of r.inner ≡ Some side → Named line h → (k : ℕ) (q : TcpRecord) (op : Operation) → Found h k q → q.listening ≡ Begins op → side ≡ op.who.side → ⊥
   not_held h place r side g p n k q op gq e eq =
       let d = n.held op k q gq e in
       let at : place ≡ k = n.one side place k r q g gq (inl (n.named side place r g p)) (inl (d.0 ∙ ap (λ (x : OpId). Some x) (sym eq))) in
       let same : r ≡ q = same_record r q (sym g ∙ (ap (tcp2_at h.machine.store.records) at ∙ gq)) in
-      no_some side (sym d.1 ∙ (ap (λ (x : Tcp2Socket). side_of x.inner) (sym same) ∙ p))
+      no_some side (sym d.1 ∙ (ap (λ (x : TcpRecord). side_of x.inner) (sym same) ∙ p))
 
   pub question_local : (n : ℕ) (side x : OpId) (c : Call) → IsQuestionOf line origin n side c → c ≡ Call.Local x → side ≡ x
   question_local n side x (Call.Local s) q e = let p : s ≡ x = cc in sym q ∙ p
@@ -107,14 +107,14 @@ module _ (contexts : List WasiSocketsCtx) (steps : List Step) (line : ℕ) (orig
   question_may n es side (Call.Shutdown s how) q k = (inl (subst (Names steps es (own_of n)) (sym q) k), tt)
   question_may n es side _ q k = absurd q
 
-  pub learned_fine : (es : List Entry) (h : Here) (place : ℕ) (r : Tcp2Socket) (side : OpId) (told : Told) → Found h place r → r.inner.state ≡ TcpState.Default side → IsAddr told → Named line h → Licensed contexts steps line origin es h
+  pub learned_fine : (es : List Entry) (h : Here) (place : ℕ) (r : TcpRecord) (side : OpId) (told : Told) → Found h place r → r.inner.state ≡ TcpState.Default side → IsAddr told → Named line h → Licensed contexts steps line origin es h
       → (let fs = es ++ entry (own_of line) (Call.Local side) told ∷ [] in Licensed contexts steps line origin fs (put h place (with_inner r (after_local r.inner (told_addr told)).1)))
   learned_fine es h place r side told g e f b i =
       let fs : List Entry = es ++ entry (own_of line) (Call.Local side) told ∷ [] in
       let j = asked_fine es h (own_of line) (Call.Local side) told tt (λ k q op d l p. not_held h place r side g (ap side_in e) b k q op d l (local_side side op.who.side p)) i in
       let x = j.fine.records place r g in
       let l = learned_told contexts steps fs (own_of line) side r.inner told e f (has_last es _) x.socket in
-      let now : Tcp2Socket = with_inner r (after_local r.inner (told_addr told)).1 in
+      let now : TcpRecord = with_inner r (after_local r.inner (told_addr told)).1 in
       put_fine fs h place r now g refl (same_listening r.listening) (same_listen contexts steps line origin is_line r now refl l.keeps.maker l.keeps.family) (record_kept steps fs r now (record { keeps = l.keeps; side = refl; streams = refl; listening = refl; binds = inl refl }) l.fine x) j
 
   -- what asks quietly

@@ -2,7 +2,7 @@
 use Rattle.wasi_walks.proofs.Words.{Accepting, Accepts, Arrived, BeganBy, Call, Connection, Created, Entry, Hand, Handed, HandedNone}
 use Rattle.wasi_walks.proofs.Words.{HandleKind, HasWildcardYes, InProgress, IpSocketAddress, IsBoundSide, IsMaker, IsMarkedWith, IsSide, Item, Job, List}
 use Rattle.wasi_walks.proofs.Words.{Listening, Listens, Made, MarksNoSocket, MayGoOut, NamesSide, None, Not, OpId, Operation, Option, Socket}
-use Rattle.wasi_walks.proofs.Words.{SocketAddrUse, SocketAddressFamily, Some, Step, Streams, Tcp2Socket, Told, WriteState, [], ap}
+use Rattle.wasi_walks.proofs.Words.{SocketAddrUse, SocketAddressFamily, Some, Step, Streams, TcpRecord, Told, WriteState, [], ap}
 use Rattle.wasi_walks.proofs.Words.{append_assoc, arith, entry, inl, inr, marked_by, refl, side_of}
 use Rattle.wasi_walks.proofs.Words.{step_at, subst, sym, ℕ, ⊤, ◌++◌}
 use Rattle.wasi_walks.proofs.Words.{◌∙◌, ◌∷◌, ◌≡◌, ◌⊎◌}
@@ -30,7 +30,7 @@ Touches op _ x = ⊥
 
 -- the call touches no accept of these records
 abbrev pub Spared : List Record → OpId → Call → Type 0
-Spared records op c = (place : ℕ) (r : Tcp2Socket) (x : OpId) → tcp2_at records place ≡ Some r → accept_name r.listening ≡ Some x → Touches op c x → ⊥
+Spared records op c = (place : ℕ) (r : TcpRecord) (x : OpId) → tcp2_at records place ≡ Some r → accept_name r.listening ≡ Some x → Touches op c x → ⊥
 
 op_of : (a b : Entry) → a ≡ b → a.op ≡ b.op
 op_of a b e = ap (λ (x : Entry). x.op) e
@@ -110,49 +110,49 @@ listening_gone old = record { stands = λ es h. tt; names = λ x e. absurd (cc) 
 
 -- only the record of this place may have an accept of this name
 abbrev pub Only : List Record → ℕ → OpId → Type 0
-Only records place x = (k : ℕ) (s : Tcp2Socket) → tcp2_at records k ≡ Some s → accept_name s.listening ≡ Some x → k ≡ place
+Only records place x = (k : ℕ) (s : TcpRecord) → tcp2_at records k ≡ Some s → accept_name s.listening ≡ Some x → k ≡ place
 
-pub stands_put : (es : List Entry) (records : List Record) (i : ℕ) (now : Tcp2Socket) → ListeningStands es now.listening → ((k : ℕ) (s : Tcp2Socket) → tcp2_at records k ≡ Some s → ListeningStands es s.listening)
-    → (k : ℕ) (s : Tcp2Socket) → tcp2_at (tcp2_put records i now) k ≡ Some s → ListeningStands es s.listening
+pub stands_put : (es : List Entry) (records : List Record) (i : ℕ) (now : TcpRecord) → ListeningStands es now.listening → ((k : ℕ) (s : TcpRecord) → tcp2_at records k ≡ Some s → ListeningStands es s.listening)
+    → (k : ℕ) (s : TcpRecord) → tcp2_at (tcp2_put records i now) k ≡ Some s → ListeningStands es s.listening
 stands_put es records i now f h k s e = elim (put_found tcp_sort records i now k s e) [
-  | inl q ↦ subst (λ (r : Tcp2Socket). ListeningStands es r.listening) q.1 f
+  | inl q ↦ subst (λ (r : TcpRecord). ListeningStands es r.listening) q.1 f
   | inr q ↦ h k s q
 ]
 
 -- where the record is that which was put, or another
-one_of : (records : List Record) (i : ℕ) (now : Tcp2Socket) → ((x : OpId) → accept_name now.listening ≡ Some x → Only records i x) → OneHolds records → (k j : ℕ) (r s : Tcp2Socket) (x : OpId)
+one_of : (records : List Record) (i : ℕ) (now : TcpRecord) → ((x : OpId) → accept_name now.listening ≡ Some x → Only records i x) → OneHolds records → (k j : ℕ) (r s : TcpRecord) (x : OpId)
     → ((k ≡ i) × (now ≡ r)) ⊎ (tcp2_at records k ≡ Some r) → ((j ≡ i) × (now ≡ s)) ⊎ (tcp2_at records j ≡ Some s) → accept_name r.listening ≡ Some x → accept_name s.listening ≡ Some x → k ≡ j
 one_of records i now o h k j r s x (inl a) (inl b) n m = a.0 ∙ sym b.0
-one_of records i now o h k j r s x (inl a) (inr b) n m = a.0 ∙ sym (o x (subst (λ (t : Tcp2Socket). accept_name t.listening ≡ Some x) (sym a.1) n) j s b m)
-one_of records i now o h k j r s x (inr a) (inl b) n m = o x (subst (λ (t : Tcp2Socket). accept_name t.listening ≡ Some x) (sym b.1) m) k r a n ∙ sym b.0
+one_of records i now o h k j r s x (inl a) (inr b) n m = a.0 ∙ sym (o x (subst (λ (t : TcpRecord). accept_name t.listening ≡ Some x) (sym a.1) n) j s b m)
+one_of records i now o h k j r s x (inr a) (inl b) n m = o x (subst (λ (t : TcpRecord). accept_name t.listening ≡ Some x) (sym b.1) m) k r a n ∙ sym b.0
 one_of records i now o h k j r s x (inr a) (inr b) n m = h k j r s x a b n m
 
-pub one_put : (records : List Record) (i : ℕ) (now : Tcp2Socket) → ((x : OpId) → accept_name now.listening ≡ Some x → Only records i x) → OneHolds records → OneHolds (tcp2_put records i now)
+pub one_put : (records : List Record) (i : ℕ) (now : TcpRecord) → ((x : OpId) → accept_name now.listening ≡ Some x → Only records i x) → OneHolds records → OneHolds (tcp2_put records i now)
 one_put records i now o h k j r s x a b n m = one_of records i now o h k j r s x (put_found tcp_sort records i now k r a) (put_found tcp_sort records i now j s b) n m
 
 -- a record more, which has no accept
-pub stands_push : (es : List Entry) (records : List Record) (now : Tcp2Socket) → ListeningStands es now.listening → ((k : ℕ) (s : Tcp2Socket) → tcp2_at records k ≡ Some s → ListeningStands es s.listening)
-    → (k : ℕ) (s : Tcp2Socket) → tcp2_at (tcp2_pushed records now) k ≡ Some s → ListeningStands es s.listening
+pub stands_push : (es : List Entry) (records : List Record) (now : TcpRecord) → ListeningStands es now.listening → ((k : ℕ) (s : TcpRecord) → tcp2_at records k ≡ Some s → ListeningStands es s.listening)
+    → (k : ℕ) (s : TcpRecord) → tcp2_at (tcp2_pushed records now) k ≡ Some s → ListeningStands es s.listening
 stands_push es records now f h k s e = elim (push_new tcp_sort records now k s e) [
   | inl q ↦ h k s q
-  | inr q ↦ subst (λ (r : Tcp2Socket). ListeningStands es r.listening) q f
+  | inr q ↦ subst (λ (r : TcpRecord). ListeningStands es r.listening) q f
 ]
 
-pub unnamed : (now r : Tcp2Socket) (x : OpId) → accept_name now.listening ≡ None → now ≡ r → accept_name r.listening ≡ Some x → ⊥
-unnamed now r x none e n = let p : accept_name now.listening ≡ Some x = subst (λ (t : Tcp2Socket). accept_name t.listening ≡ Some x) (sym e) n in let q : None ≡ Some x = sym none ∙ p in absurd (cc)
+pub unnamed : (now r : TcpRecord) (x : OpId) → accept_name now.listening ≡ None → now ≡ r → accept_name r.listening ≡ Some x → ⊥
+unnamed now r x none e n = let p : accept_name now.listening ≡ Some x = subst (λ (t : TcpRecord). accept_name t.listening ≡ Some x) (sym e) n in let q : None ≡ Some x = sym none ∙ p in absurd (cc)
 
-one_among : (records : List Record) (now : Tcp2Socket) → accept_name now.listening ≡ None → OneHolds records → (k j : ℕ) (r s : Tcp2Socket) (x : OpId)
+one_among : (records : List Record) (now : TcpRecord) → accept_name now.listening ≡ None → OneHolds records → (k j : ℕ) (r s : TcpRecord) (x : OpId)
     → (tcp2_at records k ≡ Some r) ⊎ (now ≡ r) → (tcp2_at records j ≡ Some s) ⊎ (now ≡ s) → accept_name r.listening ≡ Some x → accept_name s.listening ≡ Some x → k ≡ j
 one_among records now none h k j r s x (inr a) b n m = absurd (unnamed now r x none a n)
 one_among records now none h k j r s x (inl a) (inr b) n m = absurd (unnamed now s x none b m)
 one_among records now none h k j r s x (inl a) (inl b) n m = h k j r s x a b n m
 
-pub one_push : (records : List Record) (now : Tcp2Socket) → accept_name now.listening ≡ None → OneHolds records → OneHolds (tcp2_pushed records now)
+pub one_push : (records : List Record) (now : TcpRecord) → accept_name now.listening ≡ None → OneHolds records → OneHolds (tcp2_pushed records now)
 one_push records now none h k j r s x a b n m = one_among records now none h k j r s x (push_new tcp_sort records now k r a) (push_new tcp_sort records now j s b) n m
 
 -- no record has an accept of this name
 abbrev pub Free : List Record → OpId → Type 0
-Free records x = (k : ℕ) (s : Tcp2Socket) → tcp2_at records k ≡ Some s → accept_name s.listening ≡ Some x → ⊥
+Free records x = (k : ℕ) (s : TcpRecord) → tcp2_at records k ≡ Some s → accept_name s.listening ≡ Some x → ⊥
 
 -- == what more entries keep
 pub side_more : (es fs : List Entry) (handle : ℕ) (side : OpId) → IsSide es handle side → IsSide (es ++ fs) handle side
@@ -241,7 +241,7 @@ keeps_side socket = record { maker = refl; family = refl; side = λ s e. e; conn
 
 -- The record keeps its socket's network socket, the network socket that it was made with, its streams, and how far it
 -- is with listening.
-pub record KeepsRecord (old now : Tcp2Socket) : Type 0 where
+pub record KeepsRecord (old now : TcpRecord) : Type 0 where
   pub keeps : KeepsSide old.inner now.inner
   pub side : now.side ≡ old.side
   pub streams : now.streams ≡ old.streams
@@ -251,18 +251,18 @@ pub record KeepsRecord (old now : Tcp2Socket) : Type 0 where
 -- == the records by place
 -- The record of this place was made with this network socket.
 pub record IsMadeWith (records : List Record) (place : ℕ) (side : Option OpId) : Type 0 where
-  pub found : Tcp2Socket
+  pub found : TcpRecord
   pub at : tcp2_at records place ≡ Some found
   pub same : found.side ≡ side
 
-pub same_record : (a b : Tcp2Socket) → Some a ≡ Some b → a ≡ b
+pub same_record : (a b : TcpRecord) → Some a ≡ Some b → a ≡ b
 same_record a b p = cc
 
 -- among those of which one was replaced by one that was made with the same network socket
-pub made_put : (records : List Record) (i : ℕ) (old now : Tcp2Socket) (place : ℕ) (found : Tcp2Socket) → tcp2_at records i ≡ Some old → now.side ≡ old.side → tcp2_at records place ≡ Some found → IsMadeWith (tcp2_put records i now) place found.side
+pub made_put : (records : List Record) (i : ℕ) (old now : TcpRecord) (place : ℕ) (found : TcpRecord) → tcp2_at records i ≡ Some old → now.side ≡ old.side → tcp2_at records place ≡ Some found → IsMadeWith (tcp2_put records i now) place found.side
 made_put records i old now place found g k h = elim (put_stays tcp_sort records i now place found h) [
   | inl e ↦ record { found = found; at = e; same = refl }
-  | inr e ↦ (let p : found ≡ old = same_record found old (sym h ∙ (ap (tcp2_at records) e.0 ∙ g)) in record { found = now; at = e.1; same = k ∙ ap (λ (r : Tcp2Socket). r.side) (sym p) })
+  | inr e ↦ (let p : found ≡ old = same_record found old (sym h ∙ (ap (tcp2_at records) e.0 ∙ g)) in record { found = now; at = e.1; same = k ∙ ap (λ (r : TcpRecord). r.side) (sym p) })
 ]
 
 -- A script that has the steps of this one.
@@ -334,7 +334,7 @@ module _ {steps now : List Step} (goes : Goes steps now) where
   pub streams_more : (es fs : List Entry) (socket : Socket) (streams : Streams) → StreamsAreFine steps es socket streams → StreamsAreFine now (es ++ fs) socket streams
   streams_more es fs socket streams h = record { side = h.side; connected = h.connected; reads = h.reads; writes = writes_more es fs h.side streams.writer h.writes }
 
-  pub record_more : (es fs : List Entry) (r : Tcp2Socket) → RecordIsFine steps es r → RecordIsFine now (es ++ fs) r
+  pub record_more : (es fs : List Entry) (r : TcpRecord) → RecordIsFine steps es r → RecordIsFine now (es ++ fs) r
   record_more es fs r h = record {
     socket = socket_more es fs r.inner h.socket;
     named = h.named;
@@ -357,7 +357,7 @@ module _ (steps : List Step) where
   progress_kept es old InProgress.Nothing (inr k) f = tt
   progress_kept es old (InProgress.Started o) (inr k) f = tt
 
-  pub record_kept : (es : List Entry) (old now : Tcp2Socket) → KeepsRecord old now → SocketIsFine steps es now.inner → RecordIsFine steps es old → RecordIsFine steps es now
+  pub record_kept : (es : List Entry) (old now : TcpRecord) → KeepsRecord old now → SocketIsFine steps es now.inner → RecordIsFine steps es old → RecordIsFine steps es now
   record_kept es old now k f h = record {
     socket = f;
     named = λ side e. k.side ∙ h.named side (k.keeps.side side e);
@@ -367,7 +367,7 @@ module _ (steps : List Step) where
   }
 
   -- A call on a record leaves one that was made with the same network socket, has no other accept, and fits the log.
-  pub record LeavesRecord {A : Type 0} (old : Tcp2Socket) (es : List Entry) (done : A × Tcp2Socket) : Type 0 where
+  pub record LeavesRecord {A : Type 0} (old : TcpRecord) (es : List Entry) (done : A × TcpRecord) : Type 0 where
     pub side : done.1.side ≡ old.side
     pub listening : KeepsListening old.listening done.1.listening
     pub fine : RecordIsFine steps es done.1

@@ -1,7 +1,7 @@
 -- What is in progress is licensed: a bind, a connect, a listen, an accept, a write; and what is released.
 use Rattle.wasi_walks.proofs.Words.{Accepting, Accepts, Allows, BeganBy, Begins, Bool, Call, Done, End, Entry, Give, HoldsAccept, HoldsConnect}
 use Rattle.wasi_walks.proofs.Words.{InProgress, IpSocketAddress, IsAcceptOn, IsConnect, IsLeftOfBind, IsLeftOfConnect, IsLeftOfListen, IsMaker, Item}
-use Rattle.wasi_walks.proofs.Words.{List, Listener, Listening, MayAsk, None, Not, OpId, Operation, Option, Refused, Some, Step, Streams, Tcp2Socket}
+use Rattle.wasi_walks.proofs.Words.{List, Listener, Listening, MayAsk, None, Not, OpId, Operation, Option, Refused, Some, Step, Streams, TcpRecord}
 use Rattle.wasi_walks.proofs.Words.{TcpState, Unclosed, Waits, WasiSocketsCtx, Who, WriteState, accept_ended, allows_keep, allows_then, allows_weaker}
 use Rattle.wasi_walks.proofs.Words.{ap, arith, ask_close, bind_progress, connect_ended, false, give_up_asks, give_up_in, if◌then◌else◌, in_hand, inl}
 use Rattle.wasi_walks.proofs.Words.{inr, is_over, job_asks, left_of, marked_by, poll_asks, refl, refuse_in, side_of, step_at}
@@ -77,7 +77,7 @@ module _ (contexts : List WasiSocketsCtx) (steps : List Step) (line : ℕ) (orig
   bound_after fs op (Done given, items) k = tt
   bound_after fs op (Refused c given, items) k = tt
 
-  bound_on : (es : List Entry) (h : Here) (place : ℕ) (r : Tcp2Socket) (op : Operation) → Found h place r → r.in_progress ≡ InProgress.Binding op → Fit h → Licensed contexts steps line origin es h
+  bound_on : (es : List Entry) (h : Here) (place : ℕ) (r : TcpRecord) (op : Operation) → Found h place r → r.in_progress ≡ InProgress.Binding op → Fit h → Licensed contexts steps line origin es h
       → Allows (MayAsk contexts steps) (λ fs ended. Licensed contexts steps line origin fs (put h place (with_progress r (bind_progress op ended)))) es (poll_asks op)
   bound_on es h place r op g e b i =
       let its = subst (FitProgress r.inner.state) e (b.records place r g).2 in
@@ -87,7 +87,7 @@ module _ (contexts : List WasiSocketsCtx) (steps : List Step) (line : ℕ) (orig
       put_fine fs h place r now g refl (same_listening r.listening) (same_listen contexts steps line origin is_line r now refl refl refl) (record { socket = x.socket; named = x.named; streams = x.streams; listening = x.listening; progress = bound_after fs op ended k.1 }) k.0) es (poll_asks op)
       (kept contexts steps line origin is_line h (λ fs ended. BindIsFine steps fs (left_of op ended.1)) es (poll_asks op) i (quietly (λ fs ended. BindIsFine steps fs (left_of op ended.1)) es op (bind_quiet op.left its.1.left) (fine_poll contexts steps op es f)))
 
-  connected_on : (es : List Entry) (h : Here) (place : ℕ) (r : Tcp2Socket) (op : Operation) → Found h place r → r.inner.state ≡ TcpState.Connecting op → Fit h → Licensed contexts steps line origin es h
+  connected_on : (es : List Entry) (h : Here) (place : ℕ) (r : TcpRecord) (op : Operation) → Found h place r → r.inner.state ≡ TcpState.Connecting op → Fit h → Licensed contexts steps line origin es h
       → Allows (MayAsk contexts steps) (λ fs ended. Licensed contexts steps line origin fs (put h place (with_inner r (with_state r.inner (connect_ended op.who ended).1)))) es (poll_asks op)
   connected_on es h place r op g e b i =
       let its : IsConnect op = subst HoldsConnect e (b.records place r g).0 in
@@ -97,18 +97,18 @@ module _ (contexts : List WasiSocketsCtx) (steps : List Step) (line : ℕ) (orig
       (kept contexts steps line origin is_line h (λ fs ended. ConnectIsFine steps fs (left_of op ended.1)) es (poll_asks op) i (quietly (λ fs ended. ConnectIsFine steps fs (left_of op ended.1)) es op (connect_quiet op.left its.left) (fine_poll_connect contexts steps op es ((i.fine.records place r g).socket.connect op e))))
 
   -- == a listen and an accept are taken out of their record, polled, and put back
-  pub taken_out : (es : List Entry) (h : Here) (place : ℕ) (r : Tcp2Socket) → Found h place r → Licensed contexts steps line origin es h → Licensed contexts steps line origin es (put h place (with_listening r Not))
+  pub taken_out : (es : List Entry) (h : Here) (place : ℕ) (r : TcpRecord) → Found h place r → Licensed contexts steps line origin es h → Licensed contexts steps line origin es (put h place (with_listening r Not))
   taken_out es h place r g i = let f = i.fine.records place r g in put_fine es h place r (with_listening r Not) g refl (listening_gone r.listening) (λ op p. absurd (cc)) (record { socket = f.socket; named = f.named; streams = f.streams; listening = tt; progress = f.progress }) i
 
-  there : (h : Here) (place : ℕ) (r now : Tcp2Socket) → Found h place r → Found (put h place now) place now
+  there : (h : Here) (place : ℕ) (r now : TcpRecord) → Found h place r → Found (put h place now) place now
   there h place r now g = put_finds tcp_sort h.machine.store.records place r now g
 
   -- the record that a listen leaves has one that is in progress only where it waits
-  still_goes : (fs : List Entry) (r : Tcp2Socket) (op : Operation) (end : End × List Item) → op.who.context ≡ r.inner.maker → IsMaker fs r.inner.maker r.inner.family op.who.side → BeganBy steps op.who.side MakesTcp → ListenEnds steps fs op.who end.0 end.1 → (o : Operation) → (listen_after op r end).listening ≡ Begins o → ListenGoesOn steps fs (listen_after op r end) o
+  still_goes : (fs : List Entry) (r : TcpRecord) (op : Operation) (end : End × List Item) → op.who.context ≡ r.inner.maker → IsMaker fs r.inner.maker r.inner.family op.who.side → BeganBy steps op.who.side MakesTcp → ListenEnds steps fs op.who end.0 end.1 → (o : Operation) → (listen_after op r end).listening ≡ Begins o → ListenGoesOn steps fs (listen_after op r end) o
   still_goes fs r op (Waits, items) a m t k o e = subst (ListenGoesOn steps fs (listen_after op r (Waits, items))) (same_begun (record { who = op.who; left = items }) o e) (record { fine = k; asks = a; made = m; tcp = t })
   still_goes fs r op _ a m t k o e = absurd (cc)
 
-  listened_on : (es : List Entry) (h : Here) (place : ℕ) (r : Tcp2Socket) (op : Operation) → Found h place r → r.listening ≡ Begins op → side_of r.inner ≡ None → Fit h → Named line h → Licensed contexts steps line origin es h
+  listened_on : (es : List Entry) (h : Here) (place : ℕ) (r : TcpRecord) (op : Operation) → Found h place r → r.listening ≡ Begins op → side_of r.inner ≡ None → Fit h → Named line h → Licensed contexts steps line origin es h
       → Allows (MayAsk contexts steps) (λ fs ended. Licensed contexts steps line origin fs (put h place (listen_after op r ended))) es (poll_asks op)
   listened_on es h place r op g e closed b n i =
       let l = i.listens place r op g e in
@@ -127,12 +127,12 @@ module _ (contexts : List WasiSocketsCtx) (steps : List Step) (line : ℕ) (orig
       -- the other listens are on other network sockets
       others : (c : Call) → Its op.who.side c → r.side ≡ Some op.who.side → Spares contexts steps line origin is_line (put h place (with_listening r Not)) c
       others c m d k q o f x p = elim (put_found tcp_sort h.machine.store.records place (with_listening r Not) k q f) [
-        | inl v ↦ no_listen o (ap (λ (y : Tcp2Socket). y.listening) v.1 ∙ x)
+        | inl v ↦ no_listen o (ap (λ (y : TcpRecord). y.listening) v.1 ∙ x)
         | inr v ↦ (
             let side : op.who.side ≡ o.who.side = m o.who.side p in
             let at : place ≡ k = n.one op.who.side place k r q g v (inl d) (inl ((n.held o k q v x).0 ∙ ap (λ (y : OpId). Some y) (sym side))) in
             let same : with_listening r Not ≡ q = same_record (with_listening r Not) q (sym (there h place r (with_listening r Not) g) ∙ (ap (tcp2_at (tcp2_put h.machine.store.records place (with_listening r Not))) at ∙ f)) in
-            no_listen o (ap (λ (y : Tcp2Socket). y.listening) same ∙ x))
+            no_listen o (ap (λ (y : TcpRecord). y.listening) same ∙ x))
       ]
 
       put_after : (fs : List Entry) (end : End × List Item) → Licensed contexts steps line origin fs (put h place (with_listening r Not)) → IsMaker fs r.inner.maker r.inner.family op.who.side → ListenEnds steps fs op.who end.0 end.1 → op.who.context ≡ r.inner.maker → r.side ≡ Some op.who.side → BeganBy steps op.who.side MakesTcp → Licensed contexts steps line origin fs (put h place (listen_after op r end))
@@ -152,7 +152,7 @@ module _ (contexts : List WasiSocketsCtx) (steps : List Step) (line : ℕ) (orig
   touch_as op x (Call.Hand s p) z t = t
   touch_as op x _ z t = absurd t
 
-  awaited_on : (es : List Entry) (h : Here) (place : ℕ) (r : Tcp2Socket) (l : Listener) (op : Operation) → Found h place r → r.listening ≡ Accepts l → l.accept ≡ Accepting.Asking op → Fit h → Named line h → Licensed contexts steps line origin es h
+  awaited_on : (es : List Entry) (h : Here) (place : ℕ) (r : TcpRecord) (l : Listener) (op : Operation) → Found h place r → r.listening ≡ Accepts l → l.accept ≡ Accepting.Asking op → Fit h → Named line h → Licensed contexts steps line origin es h
       → Allows (MayAsk contexts steps) (λ fs ended. Licensed contexts steps line origin fs (put h place (accepting_now r l (accept_ended op.who ended)))) es (poll_asks op)
   awaited_on es h place r l op g e a b n i =
       let x = i.fine.records place r g in let lf = listener_fine contexts steps line origin is_line es r l e x in
@@ -192,10 +192,10 @@ module _ (contexts : List WasiSocketsCtx) (steps : List Step) (line : ℕ) (orig
   turn_on es side _ on = on
 
   -- the connection has one network socket
-  one_side : (fs es : List Entry) (r : Tcp2Socket) (s : Streams) (f : StreamsAreFine steps es r.inner s) (x : StreamsAreFine steps fs r.inner s) → f.side ≡ x.side
+  one_side : (fs es : List Entry) (r : TcpRecord) (s : Streams) (f : StreamsAreFine steps es r.inner s) (x : StreamsAreFine steps fs r.inner s) → f.side ≡ x.side
   one_side fs es r s f x = some_same f.side x.side (sym (held_side contexts steps line origin is_line fs r s x) ∙ held_side contexts steps line origin is_line es r s f)
 
-  pub turned_fine : (es : List Entry) (h : Here) (place : ℕ) (r : Tcp2Socket) (s : Streams) → Found h place r → r.streams ≡ Some s → Licensed contexts steps line origin es h → Allows (MayAsk contexts steps) (λ fs done. Licensed contexts steps line origin fs (put h place (with_writer r s done.1))) es (turn_asks s.writer)
+  pub turned_fine : (es : List Entry) (h : Here) (place : ℕ) (r : TcpRecord) (s : Streams) → Found h place r → r.streams ≡ Some s → Licensed contexts steps line origin es h → Allows (MayAsk contexts steps) (λ fs done. Licensed contexts steps line origin fs (put h place (with_writer r s done.1))) es (turn_asks s.writer)
   turned_fine es h place r s g e i =
       let f = (i.fine.records place r g).streams s e in
       let Q : List Entry → Unit {0} × WriteState → Type 0 = λ fs done. WritesOn steps fs f.side done.1 in

@@ -1,7 +1,7 @@
 -- What holds of a line: the state fits the log, and so does what the line works on.
 use Rattle.wasi_walks.proofs.walks.Moves.{Awaited, Emptied, Numbered}
 use Rattle.wasi_walks.proofs.Words.{BeganBy, Begins, Call, Entry, HandedNone, Has, IpSocketAddress, IsMaker, IsSide, Kind, List, MarksNoSocket, None, Not}
-use Rattle.wasi_walks.proofs.Words.{OpId, Operation, Option, SocketAddressFamily, Some, Step, Tcp2Socket, Told, WasiSocketsCtx, ap, entry, inl, inr, length}
+use Rattle.wasi_walks.proofs.Words.{OpId, Operation, Option, SocketAddressFamily, Some, Step, TcpRecord, Told, WasiSocketsCtx, ap, entry, inl, inr, length}
 use Rattle.wasi_walks.proofs.Words.{own_of, refl, side_in, subst, sym, with_socket, ℕ, ⊤, ◌∙◌, ◌≡◌, ◌⊎◌}
 use Rattle.wasi_walks.proofs.licence.ListenAsks.{ListenIsFine}
 use Rattle.wasi_walks.proofs.licence.Fresh.{NoMadeBy}
@@ -15,7 +15,7 @@ use Rattle.wasi_world.specs.declared.call.HandleKind.TheVariants as name
 use Rattle.wasi_records.specs.Records.{tcp2_at, tcp2_pushed, udp2_at}
 use Rattle.wasi_records.specs.Udp.{udp_side}
 use Rattle.wasi_records.specs.declared.records.Record.{Record}
-use Rattle.wasi_records.specs.declared.udp.Udp2Socket.{Udp2Socket}
+use Rattle.wasi_records.specs.declared.udp.UdpRecord.{UdpRecord}
 use Rattle.wasi_walks.proofs.Places.{push_finds, put_found, put_was, tcp_sort, udp_sort}
 
 pub names_record : (es : List Entry) (records : List Record) (handle place : ℕ) (k : Option Kind) → record_of k ≡ Some place → ((kind : Kind) → k ≡ Some kind → HandleIsFine es records handle kind) → NamesRecord es records handle place
@@ -29,7 +29,7 @@ names_udp es records handle place (Some kind) e h = subst (NamesUdpIf es records
 pub some_same : (a b : OpId) → Some b ≡ Some a → a ≡ b
 some_same a b e = cc
 
-pub keeps_plain : (r now : Tcp2Socket) → Plain r now → KeepsRecord r now
+pub keeps_plain : (r now : TcpRecord) → Plain r now → KeepsRecord r now
 keeps_plain r now p = record {
   keeps = record { maker = p.maker; family = p.family; side = λ side e. sym (ap side_in p.does) ∙ e; connected = λ c e. record { connection = c; state = p.does ∙ e; same = refl } };
   side = p.side;
@@ -38,7 +38,7 @@ keeps_plain r now p = record {
   binds = p.binds;
 }
 
-pub seam : (xs : List Record) (now : Tcp2Socket) (p : ℕ) (q : Tcp2Socket) → Joined (length xs) ≡ Joined p → tcp2_at (tcp2_pushed xs now) p ≡ Some q → now ≡ q
+pub seam : (xs : List Record) (now : TcpRecord) (p : ℕ) (q : TcpRecord) → Joined (length xs) ≡ Joined p → tcp2_at (tcp2_pushed xs now) p ≡ Some q → now ≡ q
 seam xs now p q e d = let at : length xs ≡ p = cc in same_record now q (sym (push_finds tcp_sort xs now) ∙ (ap (tcp2_at (tcp2_pushed xs now)) at ∙ d))
 
 abbrev SamePair : ℕ → ℕ → ℕ → ℕ → Type 0
@@ -63,7 +63,7 @@ pub part_names : {steps : List Step} (es : List Entry) (line part : ℕ) (side :
 part_names es line part side n = record { origin = n.origin; at = n.at; holds = n.holds }
 
 -- A listen in progress, of this record: its network socket is one of a `tcp-create`.
-pub record ListenGoesOn (steps : List Step) (es : List Entry) (r : Tcp2Socket) (op : Operation) : Type 0 where
+pub record ListenGoesOn (steps : List Step) (es : List Entry) (r : TcpRecord) (op : Operation) : Type 0 where
   pub fine : ListenIsFine steps es op
   pub asks : op.who.context ≡ r.inner.maker
   pub made : IsMaker es r.inner.maker r.inner.family op.who.side
@@ -99,15 +99,15 @@ MakingStands steps (Calls kind line handles) = MakesCalls steps kind line handle
 MakingStands steps _ = ⊤
 
 -- a line's operation names a handle of the network socket that the record was made with
-abbrev pub NamesMade : List Step → ℕ → List Entry → Tcp2Socket → Type 0
+abbrev pub NamesMade : List Step → ℕ → List Entry → TcpRecord → Type 0
 NamesMade steps n es r = (side : OpId) → r.side ≡ Some side → Names steps es (own_of n) side
 
 -- the line's operation names a handle of the network socket of the record that it works on
 abbrev pub NamesTcpHere : List Step → List Entry → Here → Type 0
-NamesTcpHere steps es h = (place n : ℕ) (r : Tcp2Socket) → h.at ≡ Some (place, n) → Found h place r → NamesMade steps n es r
+NamesTcpHere steps es h = (place n : ℕ) (r : TcpRecord) → h.at ≡ Some (place, n) → Found h place r → NamesMade steps n es r
 
 abbrev pub NamesUdpHere : List Step → List Entry → Here → Type 0
-NamesUdpHere steps es h = (place n : ℕ) (u : Udp2Socket) → h.at ≡ Some (place, n) → FoundUdp h place u → Names steps es (own_of n) (udp_side u)
+NamesUdpHere steps es h = (place n : ℕ) (u : UdpRecord) → h.at ≡ Some (place, n) → FoundUdp h place u → Names steps es (own_of n) (udp_side u)
 
 -- A record was taken from the listener that the line names, and has no mark yet.
 pub record JoinedIsFine (origin : Step) (es : List Entry) (h : Here) (place : ℕ) : Type 0 where
@@ -117,7 +117,7 @@ pub record JoinedIsFine (origin : Step) (es : List Entry) (h : Here) (place : �
   pub context : ℕ
   pub listener : ℕ
   pub by : origin ≡ Step.TcpAccept context listener
-  pub side : (r : Tcp2Socket) → Found h place r → r.side ≡ Some new
+  pub side : (r : TcpRecord) → Found h place r → r.side ≡ Some new
   pub of_listener : IsSide es listener on
   pub handed : IsHanded es new on peer
   pub fresh : MarksNoSocket es new
@@ -133,33 +133,33 @@ pub record Licensed (contexts : List WasiSocketsCtx) (steps : List Step) (line :
   pub fine : StateIsFine contexts steps es h.machine
   pub names : NamesTcpHere steps es h
   pub udp_names : NamesUdpHere steps es h
-  pub listens : (place : ℕ) (r : Tcp2Socket) (op : Operation) → Found h place r → r.listening ≡ Begins op → ListenGoesOn steps es r op
+  pub listens : (place : ℕ) (r : TcpRecord) (op : Operation) → Found h place r → r.listening ≡ Begins op → ListenGoesOn steps es r op
   pub new : (x : OpId) → IsToCome line h.own x → HandedNone es x × MarksNoSocket es x
   pub unmade : (h.own ≡ Unused) ⊎ NotMarked h.made → (c s : ℕ) → origin ≡ Step.TcpAccept c s → NoMadeBy es (own_of line)
   pub joined : (place : ℕ) → h.made ≡ Joined place → JoinedIsFine origin es h place
-  pub marked : (handle place : ℕ) → h.made ≡ Marked handle place → (r : Tcp2Socket) → Found h place r → MadeSocket line es handle r.side
+  pub marked : (handle place : ℕ) → h.made ≡ Marked handle place → (r : TcpRecord) → Found h place r → MadeSocket line es handle r.side
   pub making : MakingStands steps h.made
 
 -- == a record changes
 -- == moves
 -- of a record at a place, by its network socket alone
-by_side : (P : Option OpId → Type 0) (h : Here) (place : ℕ) (r now : Tcp2Socket) → Found h place r → now.side ≡ r.side → (k : ℕ) → ((q : Tcp2Socket) → Found h k q → P q.side) → (q : Tcp2Socket) → Found (put h place now) k q → P q.side
+by_side : (P : Option OpId → Type 0) (h : Here) (place : ℕ) (r now : TcpRecord) → Found h place r → now.side ≡ r.side → (k : ℕ) → ((q : TcpRecord) → Found h k q → P q.side) → (q : TcpRecord) → Found (put h place now) k q → P q.side
 by_side P h place r now g s k f q e = elim (put_found tcp_sort h.machine.store.records place now k q e) [
-  | inl p ↦ subst P (sym s ∙ ap (λ (x : Tcp2Socket). x.side) p.1) (f r (ap (tcp2_at h.machine.store.records) p.0 ∙ g))
+  | inl p ↦ subst P (sym s ∙ ap (λ (x : TcpRecord). x.side) p.1) (f r (ap (tcp2_at h.machine.store.records) p.0 ∙ g))
   | inr p ↦ f q p
 ]
 
 -- a listen of it is the one that it was
-abbrev pub KeepsListen : Tcp2Socket → Tcp2Socket → Type 0
+abbrev pub KeepsListen : TcpRecord → TcpRecord → Type 0
 KeepsListen r now = (op : Operation) → now.listening ≡ Begins op → (r.listening ≡ Begins op) × ((now.inner.maker ≡ r.inner.maker) × (now.inner.family ≡ r.inner.family))
 
 module _ {steps : List Step} where
-  goes_kept : (es : List Entry) (r now : Tcp2Socket) (op : Operation) → now.inner.maker ≡ r.inner.maker → now.inner.family ≡ r.inner.family → ListenGoesOn steps es r op → ListenGoesOn steps es now op
+  goes_kept : (es : List Entry) (r now : TcpRecord) (op : Operation) → now.inner.maker ≡ r.inner.maker → now.inner.family ≡ r.inner.family → ListenGoesOn steps es r op → ListenGoesOn steps es now op
   goes_kept es r now op m f g = record { fine = g.fine; asks = g.asks ∙ sym m; made = subst (λ (n : ℕ). IsMaker es n now.inner.family op.who.side) (sym m) (subst (λ (x : SocketAddressFamily). IsMaker es r.inner.maker x op.who.side) (sym f) g.made); tcp = g.tcp }
 
 module _ {contexts : List WasiSocketsCtx} {steps : List Step} {line : ℕ} {origin : Step} where
   -- a record changes
-  module _ (es : List Entry) (h : Here) (place : ℕ) (r now : Tcp2Socket) (g : Found h place r) (s : now.side ≡ r.side) (i : Licensed contexts steps line origin es h) where
+  module _ (es : List Entry) (h : Here) (place : ℕ) (r now : TcpRecord) (g : Found h place r) (s : now.side ≡ r.side) (i : Licensed contexts steps line origin es h) where
     joined_put : (p : ℕ) → JoinedIsFine origin es h p → JoinedIsFine origin es (put h place now) p
     joined_put p j = record { new = j.new; on = j.on; peer = j.peer; context = j.context; listener = j.listener; by = j.by; side = by_side (λ (o : Option OpId). o ≡ Some j.new) h place r now g s p j.side; of_listener = j.of_listener; handed = j.handed; fresh = j.fresh }
 
@@ -168,7 +168,7 @@ module _ {contexts : List WasiSocketsCtx} {steps : List Step} {line : ℕ} {orig
       fine = f;
       names = λ k n q a e. by_side (λ (o : Option OpId). (side : OpId) → o ≡ Some side → Names steps es (own_of n) side) h place r now g s k (λ x d. i.names k n x a d) q e;
       udp_names = λ k n u a e. i.udp_names k n u a (put_was tcp_sort udp_sort (λ t. refl) h.machine.store.records place now k u e);
-      listens = λ k q op e b. elim (put_found tcp_sort h.machine.store.records place now k q e) [ inl p ↦ subst (λ (x : Tcp2Socket). ListenGoesOn steps es x op) p.1 (l op (ap (λ (x : Tcp2Socket). x.listening) p.1 ∙ b)) | inr p ↦ i.listens k q op p b ];
+      listens = λ k q op e b. elim (put_found tcp_sort h.machine.store.records place now k q e) [ inl p ↦ subst (λ (x : TcpRecord). ListenGoesOn steps es x op) p.1 (l op (ap (λ (x : TcpRecord). x.listening) p.1 ∙ b)) | inr p ↦ i.listens k q op p b ];
       new = i.new;
       unmade = i.unmade;
       joined = λ p e. joined_put p (i.joined p e);
@@ -176,13 +176,13 @@ module _ {contexts : List WasiSocketsCtx} {steps : List Step} {line : ℕ} {orig
       making = i.making;
     }
 
-  pub put_fine : (es : List Entry) (h : Here) (place : ℕ) (r now : Tcp2Socket) → Found h place r → now.side ≡ r.side → KeepsListening r.listening now.listening → KeepsListen r now → RecordIsFine steps es now → Licensed contexts steps line origin es h → Licensed contexts steps line origin es (put h place now)
+  pub put_fine : (es : List Entry) (h : Here) (place : ℕ) (r now : TcpRecord) → Found h place r → now.side ≡ r.side → KeepsListening r.listening now.listening → KeepsListen r now → RecordIsFine steps es now → Licensed contexts steps line origin es h → Licensed contexts steps line origin es (put h place now)
   put_fine es h place r now g s l k f i = put_with es h place r now g s i (state_put contexts steps es h.machine place r now g s l f i.fine) (λ op e. let q = k op e in goes_kept es r now op q.1.0 q.1.1 (i.listens place r op g q.0))
 
   -- a UDP socket changes
-  pub put_udp_fine : (es : List Entry) (h : Here) (place : ℕ) (u now : Udp2Socket) → FoundUdp h place u → udp_side now ≡ udp_side u → UdpIsFine steps es now → Licensed contexts steps line origin es h → Licensed contexts steps line origin es (put_udp h place now)
+  pub put_udp_fine : (es : List Entry) (h : Here) (place : ℕ) (u now : UdpRecord) → FoundUdp h place u → udp_side now ≡ udp_side u → UdpIsFine steps es now → Licensed contexts steps line origin es h → Licensed contexts steps line origin es (put_udp h place now)
   put_udp_fine es h place u now g s f i =
-      let old : (k : ℕ) (r : Tcp2Socket) → Found (put_udp h place now) k r → Found h k r = λ k r e. put_was udp_sort tcp_sort (λ t. refl) h.machine.store.records place now k r e in
+      let old : (k : ℕ) (r : TcpRecord) → Found (put_udp h place now) k r → Found h k r = λ k r e. put_was udp_sort tcp_sort (λ t. refl) h.machine.store.records place now k r e in
       record {
         fine = state_put_udp contexts steps es h.machine place u now g s f i.fine;
         names = λ k n r a e. i.names k n r a (old k r e);
@@ -243,5 +243,5 @@ module _ {contexts : List WasiSocketsCtx} {steps : List Step} {line : ℕ} {orig
     making = subst (MakingStands steps) (sym m) i.making;
   }
     where
-      there : (h now : Here) → now.machine.store.records ≡ h.machine.store.records → (k : ℕ) (r : Tcp2Socket) → Found now k r → Found h k r
+      there : (h now : Here) → now.machine.store.records ≡ h.machine.store.records → (k : ℕ) (r : TcpRecord) → Found now k r → Found h k r
       there h now s k r g = subst (λ (xs : List Record). tcp2_at xs k ≡ Some r) s g

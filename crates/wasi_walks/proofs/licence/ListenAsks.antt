@@ -3,7 +3,7 @@
 use Rattle.wasi_walks.proofs.Words.{Accepts, AccessDenied, Allows, Answer, Ask, AskWrite, Asks, AsyncOperation, BeganBy, Begins, Call, Check}
 use Rattle.wasi_walks.proofs.Words.{CheckLocal, CloseLast, Done, End, Entry, ErrorCode, FrontKeeps, Give, Given, Has, InProgress, IpSocketAddress}
 use Rattle.wasi_walks.proofs.Words.{IsAddr, IsBoundSide, IsDoneOrCode, IsLastLocal, IsListenStep, IsMaker, Item, LastAsk, List, Listen, Listening}
-use Rattle.wasi_walks.proofs.Words.{Listens, None, Not, Nothing, Ok, OpId, Operation, Pending, Refused, Result, Some, Step, Streams, Tcp2Socket}
+use Rattle.wasi_walks.proofs.Words.{Listens, None, Not, Nothing, Ok, OpId, Operation, Pending, Refused, Result, Some, Step, Streams, TcpRecord}
 use Rattle.wasi_walks.proofs.Words.{TcpListen, TcpState, Told, Waits, WasiSocketsCtx, Who, [], allows_polls, ap, append_assoc, bind, check_front}
 use Rattle.wasi_walks.proofs.Words.{done_front, entry, front, inl, inr, last_ask, left_of, listen_ended, listen_polled, local_front, new_listener}
 use Rattle.wasi_walks.proofs.Words.{poll_asks, refl, side_in, side_of, subst, sym, told_addr, told_done, told_verdict, verdict_front, with_state, ℕ}
@@ -151,7 +151,7 @@ listen_unless steps es o c t op n h = record {
 
 module _ (contexts : List WasiSocketsCtx) (steps : List Step) where
   -- The record's listen is in progress: it holds the network socket that the record was made with, and the socket has none.
-  pub record ListenRecord (es : List Entry) (r : Tcp2Socket) : Type 0 where
+  pub record ListenRecord (es : List Entry) (r : TcpRecord) : Type 0 where
     pub op : Operation
     pub begins : r.listening ≡ Begins op
     pub fine : ListenIsFine steps es op
@@ -165,7 +165,7 @@ module _ (contexts : List WasiSocketsCtx) (steps : List Step) where
   IfWaits _ P = ⊤
 
   -- What a poll of a listen leaves, in place of this record.
-  pub record ListenLeaves (old : Tcp2Socket) (es : List Entry) (done : Result (Answer (Unit {0})) ErrorCode × Tcp2Socket) : Type 0 where
+  pub record ListenLeaves (old : TcpRecord) (es : List Entry) (done : Result (Answer (Unit {0})) ErrorCode × TcpRecord) : Type 0 where
     pub leaves : LeavesRecord steps old es done
     pub waits : IfWaits done.0 (ListenRecord es done.1)
 
@@ -174,11 +174,11 @@ module _ (contexts : List WasiSocketsCtx) (steps : List Step) where
   quiet old now h n = record { stands = λ es k. h es; names = λ x e. let p : None ≡ Some x = sym n ∙ e in absurd (cc) }
 
   -- a socket without a network socket has no streams
-  no_streams : (es : List Entry) (r : Tcp2Socket) (s : Streams) → side_of r.inner ≡ None → RecordIsFine steps es r → r.streams ≡ Some s → ⊥
+  no_streams : (es : List Entry) (r : TcpRecord) (s : Streams) → side_of r.inner ≡ None → RecordIsFine steps es r → r.streams ≡ Some s → ⊥
   no_streams es r s c h e = let p : side_of r.inner ≡ Some (h.streams s e).connected.connection.side = ap side_in (h.streams s e).connected.state in absurd (cc)
 
   -- one that is done listens
-  listens_now : (es : List Entry) (r : Tcp2Socket) (op : Operation) → r.side ≡ Some op.who.side → side_of r.inner ≡ None → op.who.context ≡ r.inner.maker → IsMaker es r.inner.maker r.inner.family op.who.side → Listens es op.who.side → RecordIsFine steps es r
+  listens_now : (es : List Entry) (r : TcpRecord) (op : Operation) → r.side ≡ Some op.who.side → side_of r.inner ≡ None → op.who.context ≡ r.inner.maker → IsMaker es r.inner.maker r.inner.family op.who.side → Listens es op.who.side → RecordIsFine steps es r
       → RecordIsFine steps es (record r { inner = with_state r.inner (TcpState.Listening op.who.side); in_progress = InProgress.Started AsyncOperation.Listen; listening = Accepts (new_listener op.who.side op.who.context r.inner.family) })
   listens_now es r op s c a m l h = record {
     socket = record {
@@ -194,7 +194,7 @@ module _ (contexts : List WasiSocketsCtx) (steps : List Step) where
     progress = tt;
   }
 
-  pub ended : (es : List Entry) (old r : Tcp2Socket) (op : Operation) (end : End × List Item) → r.side ≡ old.side → r.side ≡ Some op.who.side → side_of r.inner ≡ None → op.who.context ≡ r.inner.maker → IsMaker es r.inner.maker r.inner.family op.who.side
+  pub ended : (es : List Entry) (old r : TcpRecord) (op : Operation) (end : End × List Item) → r.side ≡ old.side → r.side ≡ Some op.who.side → side_of r.inner ≡ None → op.who.context ≡ r.inner.maker → IsMaker es r.inner.maker r.inner.family op.who.side
       → RecordIsFine steps es r → ListenEnds steps es op.who end.0 end.1 → ListenLeaves old es (listen_polled r (listen_ended op.who r.inner end))
   ended es old r op (Waits, items) k s c a m h f = record {
     leaves = record { side = k; listening = quiet old.listening (Begins (left_of op items)) (λ fs. tt) refl; fine = record { socket = h.socket; named = h.named; streams = h.streams; listening = tt; progress = h.progress } };

@@ -1,7 +1,7 @@
 -- The definitions on logs of a listener: that of a run, which is licensed, and others, which are not.
 use Rattle.wasi_walks.proofs.Words.{Accepting, Accepts, Call, Created, Entry, Give, Has, AsyncOperation, InProgress, IpSocketAddress, IsBoundSide, IsLicensed}
 use Rattle.wasi_walks.proofs.Words.{IsMarkOf, Left, List, Machine, MayListen, None, OpId, Reply, SocketAddrUse, SocketAddressFamily, Some, Step}
-use Rattle.wasi_walks.proofs.Words.{Tcp2Socket, TcpState, Told, [], accepted_record, accepted_socket, accepted_state, ap, arith, bind, entry}
+use Rattle.wasi_walks.proofs.Words.{TcpRecord, TcpState, Told, [], accepted_record, accepted_socket, accepted_state, ap, arith, bind, entry}
 use Rattle.wasi_walks.proofs.Words.{first_state, inl, inr, no_fields, number_fields, own_of, polls, port_of, refl, run, subst, sym, triple_fields}
 use Rattle.wasi_walks.proofs.Words.{true, ℕ, ⊤, ◌++◌, ◌∷◌, ◌≡◌, ◌⊎◌}
 use Rattle.wasi_walks.proofs.Lists.{has_back, has_last}
@@ -48,7 +48,7 @@ accepts = listens
     ∷ entry (own_of 6) (Call.Made 5 kind.Output (Some 3) (Some sixth)) Told.Done
     ∷ [])
 
-abbrev pub listening_record : ℕ → InProgress → Tcp2Socket
+abbrev pub listening_record : ℕ → InProgress → TcpRecord
 listening_record backlog doing = record {
   inner = record { state = TcpState.Listening (own_of 2); family = SocketAddressFamily.Ipv4; backlog = backlog; bound = true; maker = 0 };
   side = Some (own_of 2);
@@ -70,8 +70,8 @@ accepted = record {
         ∷ [];
   };
   store = record {
-    records = rec.Tcp2 (listening_record 128 (InProgress.Started AsyncOperation.Listen))
-        ∷ rec.Tcp2 (accepted_record (accepted_socket SocketAddressFamily.Ipv4 0 (accepted_state sixth (peer 8)))).1
+    records = rec.Tcp (listening_record 128 (InProgress.Started AsyncOperation.Listen))
+        ∷ rec.Tcp (accepted_record (accepted_socket SocketAddressFamily.Ipv4 0 (accepted_state sixth (peer 8)))).1
         ∷ [];
     jobs = [];
     standing = None;

@@ -1,5 +1,5 @@
 -- Where lookups change, the sockets among the records are the same, and the state still fits the log.
-use Rattle.wasi_walks.proofs.Words.{Entry, HandleTable, Kind, List, Machine, None, Option, Some, Step, Tcp2Socket, WasiSocketsCtx, ap, kind_at, refl, sym, ℕ, ◌∙◌, ◌≡◌}
+use Rattle.wasi_walks.proofs.Words.{Entry, HandleTable, Kind, List, Machine, None, Option, Some, Step, TcpRecord, WasiSocketsCtx, ap, kind_at, refl, sym, ℕ, ◌∙◌, ◌≡◌}
 use Rattle.wasi_walks.proofs.GoneLists.{stays_there, was_there}
 use Rattle.wasi_walks.proofs.owners.Owned.{NoneOf, Owned, named_by, none_named, tcp_names, udp_names}
 use Rattle.wasi_host.specs.GivingBack.{given_back}
@@ -40,7 +40,7 @@ module _ {contexts : List WasiSocketsCtx} {steps : List Step} (new : LookupOp �
   -- and what holds of the line
   pub records_fine : {line : ℕ} {origin : Step} (es : List Entry) (h : Here) (records : List Record) → SameSockets new h.machine.store.records records → Licensed contexts steps line origin es h → Licensed contexts steps line origin es (with_records h records)
   records_fine es h records s i =
-      let tcp : (k : ℕ) (r : Tcp2Socket) → Found (with_records h records) k r → Found h k r = λ k r e. sym (s.tcp k) ∙ e in
+      let tcp : (k : ℕ) (r : TcpRecord) → Found (with_records h records) k r → Found h k r = λ k r e. sym (s.tcp k) ∙ e in
       record {
         fine = state_same es h.machine records s i.fine;
         names = λ k n r a e. i.names k n r a (tcp k r e);
@@ -74,7 +74,7 @@ module _ {contexts : List WasiSocketsCtx} {steps : List Step} where
   -- nothing is pending
   state_fewer : (es : List Entry) (m : Machine) (place : ℕ) → m.store.standing ≡ None → NoneOf m.table place → Owned m.table m.store.records → StateIsFine contexts steps es m → StateIsFine contexts steps es (record m { store = given_back place m.store })
   state_fewer es m place idle none live h =
-      let tcp : (k : ℕ) (r : Tcp2Socket) → tcp2_at (record_gone m.store.records place) k ≡ Some r → tcp2_at m.store.records k ≡ Some r = was_there tcp2_of refl m.store.records place in
+      let tcp : (k : ℕ) (r : TcpRecord) → tcp2_at (record_gone m.store.records place) k ≡ Some r → tcp2_at m.store.records k ≡ Some r = was_there tcp2_of refl m.store.records place in
       record {
         count = h.count;
         handles = λ handle kind e. handle_left es m.table m.store.records place none live handle kind e (h.handles handle kind e);
@@ -88,7 +88,7 @@ module _ {contexts : List WasiSocketsCtx} {steps : List Step} where
 
   pub fewer_fine : {line : ℕ} {origin : Step} (es : List Entry) (h : Here) (place : ℕ) → h.machine.store.standing ≡ None → NoneOf h.machine.table place → Owned h.machine.table h.machine.store.records → Licensed contexts steps line origin es h → Licensed contexts steps line origin es (without_record h place)
   fewer_fine es h place idle none live i =
-      let tcp : (k : ℕ) (r : Tcp2Socket) → Found (without_record h place) k r → Found h k r = was_there tcp2_of refl h.machine.store.records place in
+      let tcp : (k : ℕ) (r : TcpRecord) → Found (without_record h place) k r → Found h k r = was_there tcp2_of refl h.machine.store.records place in
       record {
         fine = state_fewer es h.machine place idle none live i.fine;
         names = λ k n r a e. i.names k n r a (tcp k r e);

@@ -2,7 +2,7 @@
 use Rattle.wasi_walks.proofs.walks.Moves.{record_of}
 use Rattle.wasi_walks.proofs.Words.{Allows, BeganBy, Call, Created, Entry, Err, ErrorCode, HandleKind, Has, Input, IsDoneOrCode, IsMaker}
 use Rattle.wasi_walks.proofs.Words.{IsMarkOf, IsMarkedWith, IsSide, IsTcpCreate, Kind, List, MarksNoSocket, MayAsk, MayUseTcp, Network, None, Ok}
-use Rattle.wasi_walks.proofs.Words.{OpId, Option, Output, Pollable, Result, Socket, SocketAddressFamily, Some, Step, Tcp2, Tcp2Socket, TcpState, Told}
+use Rattle.wasi_walks.proofs.Words.{OpId, Option, Output, Pollable, Result, Socket, SocketAddressFamily, Some, Step, Tcp2, TcpRecord, TcpState, Told}
 use Rattle.wasi_walks.proofs.Words.{WasiSocketsCtx, [], after_create, allows_if, allows_then, ap, bind, context_in, create_handle, created_asks}
 use Rattle.wasi_walks.proofs.Words.{entry, inl, inr, is_full, kind_at, length, make_asks, name_of, new_asks, new_record, new_socket, own_of, place_in}
 use Rattle.wasi_walks.proofs.Words.{refl, side_at, side_in, slice_get, step_at, subst, sym, told_done, true, with_record, ℕ, ⊤, ◌++◌, ◌∙◌, ◌∷◌, ◌≡◌, ◌⊎◌}
@@ -25,7 +25,7 @@ use Rattle.wasi_host.specs.declared.kind.PlainInput.TheVariants as plain_input
 use Rattle.wasi_host.specs.declared.kind.PlainOutput.TheVariants as plain_output
 use Rattle.wasi_host.specs.Kinds.{watched_by}
 use Rattle.wasi_host.specs.declared.kind.Watched.{Watched}
-use Rattle.wasi_records.specs.declared.udp.Udp2Socket.{Udp2Socket}
+use Rattle.wasi_records.specs.declared.udp.UdpRecord.{UdpRecord}
 use Rattle.wasi_records.specs.declared.records.Record.{Record}
 use Rattle.wasi_walks.proofs.Places.{push_finds, push_new, tcp_sort}
 
@@ -96,14 +96,14 @@ module _ (contexts : List WasiSocketsCtx) (steps : List Step) (line : ℕ) (orig
   stream_handle fs records handle place kind (inr e) n = subst (NamesItsOwn fs records handle) (sym e) (n, tt, tt)
 
   -- the new handle names the record
-  new_names : (es : List Entry) (h : Here) (n place : ℕ) (kind : HandleKind) (parent : Option ℕ) (r : Tcp2Socket) (t : Told) → Found h place r → (let sock = side_at (tcp2_at h.machine.store.records place) in NamesRecord (es ++ entry (own_of line) (Call.Made n kind parent sock) t ∷ []) h.machine.store.records n place)
+  new_names : (es : List Entry) (h : Here) (n place : ℕ) (kind : HandleKind) (parent : Option ℕ) (r : TcpRecord) (t : Told) → Found h place r → (let sock = side_at (tcp2_at h.machine.store.records place) in NamesRecord (es ++ entry (own_of line) (Call.Made n kind parent sock) t ∷ []) h.machine.store.records n place)
   new_names es h n place kind parent r t g =
       let sock = side_at (tcp2_at h.machine.store.records place) in
       let e = entry (own_of line) (Call.Made n kind parent sock) t in
       record { found = r; at = g; marked = record { op = own_of line; kind = kind; parent = parent; told = t; mark = subst (λ (o : Option OpId). Has (es ++ e ∷ []) (entry (own_of line) (Call.Made n kind parent o) t)) (ap side_at g) (has_last es e) } }
 
   -- the same of a UDP socket
-  new_udp_names : (es : List Entry) (h : Here) (n place : ℕ) (kind : HandleKind) (parent : Option ℕ) (u : Udp2Socket) (t : Told) → FoundUdp h place u
+  new_udp_names : (es : List Entry) (h : Here) (n place : ℕ) (kind : HandleKind) (parent : Option ℕ) (u : UdpRecord) (t : Told) → FoundUdp h place u
       → (let sock = udp_side_at (udp2_at h.machine.store.records place) in NamesUdp (es ++ entry (own_of line) (Call.Made n kind parent sock) t ∷ []) h.machine.store.records n place)
   new_udp_names es h n place kind parent u t g =
       let sock = udp_side_at (udp2_at h.machine.store.records place) in
@@ -228,7 +228,7 @@ module _ (contexts : List WasiSocketsCtx) (steps : List Step) (line : ℕ) (orig
       (λ t. (tt, tt, marks_none es h.machine.table.next name.Pollable (Some handle) t)) i
 
   -- the mark of what was accepted
-  pub accepted_fine : (es : List Entry) (h : Here) (c s place : ℕ) (r : Tcp2Socket) → origin ≡ Step.TcpAccept c s → h.made ≡ Joined place → h.own ≡ Used → Found h place r → Named line h → Licensed contexts steps line origin es h
+  pub accepted_fine : (es : List Entry) (h : Here) (c s place : ℕ) (r : TcpRecord) → origin ≡ Step.TcpAccept c s → h.made ≡ Joined place → h.own ≡ Used → Found h place r → Named line h → Licensed contexts steps line origin es h
       → Allows (MayAsk contexts steps) (λ fs made. Licensed contexts steps line origin fs (record h { machine = record h.machine { table = made.1 }; made = made_so place made.0 })) es (make_asks h.machine.table (own_of line) (Tcp2 place) (Some s) (side_at (tcp2_at h.machine.store.records place)))
   unfolding bind
   accepted_fine es h c s place r is e o g b i =
@@ -261,19 +261,19 @@ module _ (contexts : List WasiSocketsCtx) (steps : List Step) (line : ℕ) (orig
       same_listener : (a b c d : ℕ) → Step.TcpAccept a b ≡ Step.TcpAccept c d → b ≡ d
       same_listener a b c d p = cc
 
-      apart_there : (new : OpId) (p : ℕ) (q : Tcp2Socket) (x : OpId) → Found h p q → accept_name q.listening ≡ Some x → new ≡ x → r.side ≡ Some new → ⊥
+      apart_there : (new : OpId) (p : ℕ) (q : TcpRecord) (x : OpId) → Found h p q → accept_name q.listening ≡ Some x → new ≡ x → r.side ≡ Some new → ⊥
       apart_there new p q x d m t v =
           let w : accept_name q.listening ≡ Some new = m ∙ ap (λ (y : OpId). Some y) (sym t) in
           let at : place ≡ p = b.one new place p r q g d (inl v) (inr w) in
           let same : r ≡ q = same_record r q (sym g ∙ (ap (tcp2_at h.machine.store.records) at ∙ d)) in
-          b.apart new place r g v (ap (λ (y : Tcp2Socket). accept_name y.listening) same ∙ w)
+          b.apart new place r g v (ap (λ (y : TcpRecord). accept_name y.listening) same ∙ w)
 
-      made_there : (told : Told) (a p : ℕ) (q : Tcp2Socket) → Marked h.machine.table.next place ≡ Marked a p → Found h p q → MadeSocket line (es ++ entry (own_of line) (Call.Made h.machine.table.next name.Tcp2 (Some s) (side_at (tcp2_at h.machine.store.records place))) told ∷ []) a q.side
+      made_there : (told : Told) (a p : ℕ) (q : TcpRecord) → Marked h.machine.table.next place ≡ Marked a p → Found h p q → MadeSocket line (es ++ entry (own_of line) (Call.Made h.machine.table.next name.Tcp2 (Some s) (side_at (tcp2_at h.machine.store.records place))) told ∷ []) a q.side
       made_there told a p q d m =
           let n : h.machine.table.next ≡ a = cc in let at : place ≡ p = cc in
           let same : r ≡ q = same_record r q (sym g ∙ (ap (tcp2_at h.machine.store.records) at ∙ m)) in
           let e = entry (own_of line) (Call.Made h.machine.table.next name.Tcp2 (Some s) (side_at (tcp2_at h.machine.store.records place))) told in
-          let sides : side_at (tcp2_at h.machine.store.records place) ≡ q.side = ap side_at g ∙ ap (λ (y : Tcp2Socket). y.side) same in
+          let sides : side_at (tcp2_at h.machine.store.records place) ≡ q.side = ap side_at g ∙ ap (λ (y : TcpRecord). y.side) same in
           record { above = Some s; told = told; mark = subst (λ (x : ℕ). Has (es ++ e ∷ []) (entry (own_of line) (Call.Made x name.Tcp2 (Some s) q.side) told)) n (subst (λ (x : Option OpId). Has (es ++ e ∷ []) (entry (own_of line) (Call.Made h.machine.table.next name.Tcp2 (Some s) x) told)) sides (has_last es e)) }
 
 module _ (contexts : List WasiSocketsCtx) (steps : List Step) (line : ℕ) (origin : Step) (is_line : step_at steps line ≡ Some origin) where
@@ -334,7 +334,7 @@ module _ (contexts : List WasiSocketsCtx) (steps : List Step) (line : ℕ) (orig
         fine = state_push contexts steps es h.machine now made_it i.fine;
         names = λ p n r a e. absurd (no_place p n (sym nowhere ∙ a));
         udp_names = λ p n u a e. absurd (no_place p n (sym nowhere ∙ a));
-        listens = λ p q op d m. elim (push_new tcp_sort h.machine.store.records (new_record now) p q d) [ inl v ↦ i.listens p q op v m | inr v ↦ absurd (no_listen op (ap (λ (y : Tcp2Socket). y.listening) v ∙ m)) ];
+        listens = λ p q op d m. elim (push_new tcp_sort h.machine.store.records (new_record now) p q d) [ inl v ↦ i.listens p q op v m | inr v ↦ absurd (no_listen op (ap (λ (y : TcpRecord). y.listening) v ∙ m)) ];
         new = λ x t. absurd t;
         unmade = λ e d s is. absurd (creates_only ctx family c d s is);
         joined = λ p e. absurd (not_joined p (sym past ∙ e));
@@ -345,7 +345,7 @@ module _ (contexts : List WasiSocketsCtx) (steps : List Step) (line : ℕ) (orig
       (allows_then (MayAsk contexts steps) (λ fs made. Licensed contexts steps line origin fs (record next { machine = record next.machine { table = made.1 } })) (λ fs done. Licensed contexts steps line origin fs (record h { machine = done.1; own = Used })) es
       (make_asks h.machine.table own (Tcp2 (length h.machine.store.records)) None (Some own)) _
       (made_fine contexts steps line origin is_line es next (Tcp2 (length h.machine.store.records)) None (Some own) (record { origin = origin; at = is_line; holds = created_mark es ctx.name family ctx family origin c k.0 })
-      (λ p r x e n t. elim (push_new tcp_sort h.machine.store.records (new_record now) p r e) [ inl v ↦ fresh contexts line origin h u b x (of_line x t) p r v (inr n) | inr v ↦ no_name x (ap (λ (y : Tcp2Socket). accept_name y.listening) v ∙ n) ])
+      (λ p r x e n t. elim (push_new tcp_sort h.machine.store.records (new_record now) p r e) [ inl v ↦ fresh contexts line origin h u b x (of_line x t) p r v (inr n) | inr v ↦ no_name x (ap (λ (y : TcpRecord). accept_name y.listening) v ∙ n) ])
       (λ a s is w. creates_only ctx family c a s is) (λ x w p q. elim w [ inl d ↦ absurd d | inr d ↦ not_joined d.0 (sym past ∙ d.1) ])
       (λ t. (record { found = new_record now; at = push_finds tcp_sort h.machine.store.records (new_record now); marked = record { op = own; kind = name.Tcp2; parent = None; told = t; mark = has_last es _ } }, tt, tt)) j) (λ fs made l. l))
     where

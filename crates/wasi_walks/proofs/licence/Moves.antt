@@ -3,7 +3,7 @@ use Rattle.wasi_walks.proofs.walks.Moves.{Awaited, AwaitsCreate, Emptied, Emptie
 use Rattle.wasi_walks.proofs.owners.Law.{left_none}
 use Rattle.wasi_walks.proofs.Words.{Accepting, Accepts, Bool, Connection, Done, End, Entry, Handed, InProgress, IpSocketAddress, IsMaker}
 use Rattle.wasi_walks.proofs.Words.{Job, List, Listener, MarksNoSocket, MayGoOut, None, Not, OpId, ReadState, Refused, Socket}
-use Rattle.wasi_walks.proofs.Words.{SocketAddressFamily, Some, StandingCall, Step, Streams, TcpSendStream, Tcp2Socket, TcpState, Waits, WasiSocketsCtx, WriteState}
+use Rattle.wasi_walks.proofs.Words.{SocketAddressFamily, Some, StandingCall, Step, Streams, TcpSendStream, TcpRecord, TcpState, Waits, WasiSocketsCtx, WriteState}
 use Rattle.wasi_walks.proofs.Words.{accepted_socket, ap, call_place, closed_by, connect_first, connect_operation, false, gone, inl, inr}
 use Rattle.wasi_walks.proofs.Words.{new_job, new_streams, own_of, refl, side_in, side_of, standing_as, step_at, subst}
 use Rattle.wasi_walks.proofs.Words.{sym, true, wildcard, with_inner, with_listening, with_progress, with_state, with_writer, written_by, ℕ, ◌∙◌, ◌≡◌}
@@ -21,14 +21,14 @@ use Rattle.wasi_walks.proofs.licence.LookupMoves.{fewer_fine, records_fine}
 use Rattle.wasi_walks.proofs.licence.UdpMoves.{begins_receive, begins_send, begins_udp_connect, recalls_streams, remembers_streams, reaches_udp, resumes, udp_changes, begins_udp_bind, cancels_udp_bind, cancels_udp_connect}
 use Rattle.wasi_walks.proofs.licence.StreamMoves.{calls_handles, is_side, reaches, reaches_handle, recalls_call, stands_blocking}
 use Rattle.wasi_records.specs.Records.{tcp2_put}
-use Rattle.wasi_records.specs.declared.udp.Udp2Socket.{Udp2Socket}
+use Rattle.wasi_records.specs.declared.udp.UdpRecord.{UdpRecord}
 use Rattle.wasi_addr.specs.declared.code.ErrorCode.{ErrorCode}
 use Rattle.wasi_tcp.specs.Writer.{error_of_code}
 use Rattle.wasi_walks.specs.Licence.{WriteFailed}
 use Rattle.wasi_walks.proofs.Places.{push_new, tcp_sort}
 
 module _ (contexts : List WasiSocketsCtx) (steps : List Step) (line : ℕ) (origin : Step) (is_line : step_at steps line ≡ Some origin) where
-  plain_socket : (es : List Entry) (r now : Tcp2Socket) → Plain r now → SocketIsFine steps es r.inner → SocketIsFine steps es now.inner
+  plain_socket : (es : List Entry) (r now : TcpRecord) → Plain r now → SocketIsFine steps es r.inner → SocketIsFine steps es now.inner
   plain_socket es r now p f = record {
     knows = record { maker = λ side e. rw (p.maker, p.family) (f.knows.maker side (sym (ap side_in p.does) ∙ e)) };
     tcp = λ side e. f.tcp side (sym p.does ∙ e);
@@ -37,13 +37,13 @@ module _ (contexts : List WasiSocketsCtx) (steps : List Step) (line : ℕ) (orig
     connect = λ op e. f.connect op (sym p.does ∙ e);
   }
 
-  plain_fine : (es : List Entry) (h : Here) (place : ℕ) (r now : Tcp2Socket) → Found h place r → Plain r now → Licensed contexts steps line origin es h → Licensed contexts steps line origin es (put h place now)
+  plain_fine : (es : List Entry) (h : Here) (place : ℕ) (r now : TcpRecord) → Found h place r → Plain r now → Licensed contexts steps line origin es h → Licensed contexts steps line origin es (put h place now)
   plain_fine es h place r now g p i =
       let f = i.fine.records place r g in
       put_fine es h place r now g p.side (listening_kept r.listening now.listening p.listening) (λ op e. (sym p.listening ∙ e, (p.maker, p.family))) (record_kept steps es r now (keeps_plain r now p) (plain_socket es r now p f.socket) f) i
 
   -- other streams, of the same network socket
-  pub streams_fine : (es : List Entry) (h : Here) (place : ℕ) (r : Tcp2Socket) (s now : Streams) → Found h place r → r.streams ≡ Some s
+  pub streams_fine : (es : List Entry) (h : Here) (place : ℕ) (r : TcpRecord) (s now : Streams) → Found h place r → r.streams ≡ Some s
       → ((f : StreamsAreFine steps es r.inner s) → ReadsOn f.side now.reader × WritesOn steps es f.side now.writer) → Licensed contexts steps line origin es h → Licensed contexts steps line origin es (put h place (record r { streams = Some now }))
   streams_fine es h place r s now g e k i =
       let x = i.fine.records place r g in
@@ -74,7 +74,7 @@ module _ (contexts : List WasiSocketsCtx) (steps : List Step) (line : ℕ) (orig
   writes_on es side _ _ (Closes w) on = tt
   writes_on es side _ _ _ on = on
 
-  pub closed_fine : (es : List Entry) (r : Tcp2Socket) → RecordIsFine steps es (closed_record r)
+  pub closed_fine : (es : List Entry) (r : TcpRecord) → RecordIsFine steps es (closed_record r)
   closed_fine es r = record {
     socket = record { knows = record { maker = λ side e. absurd (cc) }; tcp = λ side e. absurd (cc); bound = λ side e b. absurd (cc); listens = λ side e. absurd (cc); connect = λ op e. absurd (cc) };
     named = λ side e. absurd (cc);
@@ -83,21 +83,21 @@ module _ (contexts : List WasiSocketsCtx) (steps : List Step) (line : ℕ) (orig
     progress = tt;
   }
 
-  pub held_side : (es : List Entry) (r : Tcp2Socket) (s : Streams) (f : StreamsAreFine steps es r.inner s) → side_of r.inner ≡ Some f.side
+  pub held_side : (es : List Entry) (r : TcpRecord) (s : Streams) (f : StreamsAreFine steps es r.inner s) → side_of r.inner ≡ Some f.side
   held_side es r s f = ap side_in f.connected.state ∙ ap (λ (x : OpId). Some x) f.connected.same
 
-  names_streams : (es : List Entry) (n : ℕ) (r : Tcp2Socket) (s : Streams) → NamesMade steps n es r → RecordIsFine steps es r → (f : StreamsAreFine steps es r.inner s) → Names steps es (own_of n) f.side
+  names_streams : (es : List Entry) (n : ℕ) (r : TcpRecord) (s : Streams) → NamesMade steps n es r → RecordIsFine steps es r → (f : StreamsAreFine steps es r.inner s) → Names steps es (own_of n) f.side
   names_streams es n r s names h f = names f.side (h.named f.side (held_side es r s f))
 
   -- a write begins, by the operation of a line that names the stream
-  pub begins_write : (es : List Entry) (h : Here) (place n : ℕ) (r : Tcp2Socket) (s : Streams) (half : TcpSendStream) (permit : ℕ) (bytes : List ℕ) → h.at ≡ Some (place, n) → Found h place r → r.streams ≡ Some s → s.writer ≡ WriteState.Ready half permit → Licensed contexts steps line origin es h
+  pub begins_write : (es : List Entry) (h : Here) (place n : ℕ) (r : TcpRecord) (s : Streams) (half : TcpSendStream) (permit : ℕ) (bytes : List ℕ) → h.at ≡ Some (place, n) → Found h place r → r.streams ≡ Some s → s.writer ≡ WriteState.Ready half permit → Licensed contexts steps line origin es h
       → Licensed contexts steps line origin es (record (put h place (with_writer r s (WriteState.Writing (new_job (own_of n) half.side bytes)))) { own = Used })
   begins_write es h place n r s half permit bytes at g e w i =
       spent es _ (streams_fine es h place r s (record s { writer = WriteState.Writing (new_job (own_of n) half.side bytes) }) g e
       (λ f. (f.reads, record { named = names_streams es n r s (i.names place n r at g) (i.fine.records place r g) f; on = subst (WritesOn steps es f.side) w f.writes; last = refl; left = ToWrite bytes; ended = tt })) i)
 
   -- another connection of the same network socket
-  still_connected : (r : Tcp2Socket) (c now : Connection) → r.inner.state ≡ TcpState.Connected c → now.side ≡ c.side → KeepsSide r.inner (with_state r.inner (TcpState.Connected now))
+  still_connected : (r : TcpRecord) (c now : Connection) → r.inner.state ≡ TcpState.Connected c → now.side ≡ c.side → KeepsSide r.inner (with_state r.inner (TcpState.Connected now))
   still_connected r c now e s = record {
     maker = refl;
     family = refl;
@@ -122,20 +122,20 @@ module _ (contexts : List WasiSocketsCtx) (steps : List Step) (line : ℕ) (orig
   first_left es side maker family a true m o = Unchecked (o refl)
   first_left es side maker family a false m o = Unbound family m
 
-  pub same_listen : (r now : Tcp2Socket) → now.listening ≡ r.listening → now.inner.maker ≡ r.inner.maker → now.inner.family ≡ r.inner.family → KeepsListen r now
+  pub same_listen : (r now : TcpRecord) → now.listening ≡ r.listening → now.inner.maker ≡ r.inner.maker → now.inner.family ≡ r.inner.family → KeepsListen r now
   same_listen r now l m f op e = (sym l ∙ e, (m, f))
 
-  pub gone_maker : (r : Tcp2Socket) (socket : Socket) → KeepsListen r (gone r socket)
+  pub gone_maker : (r : TcpRecord) (socket : Socket) → KeepsListen r (gone r socket)
   gone_maker r socket op e = absurd (cc)
 
-  no_streams : (es : List Entry) (r : Tcp2Socket) (side : OpId) (s : Streams) → r.inner.state ≡ TcpState.Default side → RecordIsFine steps es r → r.streams ≡ Some s → ⊥
+  no_streams : (es : List Entry) (r : TcpRecord) (side : OpId) (s : Streams) → r.inner.state ≡ TcpState.Default side → RecordIsFine steps es r → r.streams ≡ Some s → ⊥
   no_streams es r side s d f e = not_default side (f.streams s e).connected.connection (sym d ∙ (f.streams s e).connected.state)
 
-  pub listener_fine : (es : List Entry) (r : Tcp2Socket) (l : Listener) → r.listening ≡ Accepts l → RecordIsFine steps es r → ListenerIsFine steps es r.side l
+  pub listener_fine : (es : List Entry) (r : TcpRecord) (l : Listener) → r.listening ≡ Accepts l → RecordIsFine steps es r → ListenerIsFine steps es r.side l
   listener_fine es r l e f = subst (ListeningIsFine steps es r.side) e f.listening
 
   -- the accept of a listener is another, of a name that no other record has
-  renewed_fine : (es : List Entry) (h : Here) (place : ℕ) (r : Tcp2Socket) (l : Listener) (a : Accepting) → Found h place r → r.listening ≡ Accepts l → AcceptingIsFine steps es l.side l.maker a → AcceptingStands es l.side a → ((x : OpId) → name_in a ≡ Some x → Only h.machine.store.records place x) → Licensed contexts steps line origin es h → Licensed contexts steps line origin es (put h place (accepting_now r l a))
+  renewed_fine : (es : List Entry) (h : Here) (place : ℕ) (r : TcpRecord) (l : Listener) (a : Accepting) → Found h place r → r.listening ≡ Accepts l → AcceptingIsFine steps es l.side l.maker a → AcceptingStands es l.side a → ((x : OpId) → name_in a ≡ Some x → Only h.machine.store.records place x) → Licensed contexts steps line origin es h → Licensed contexts steps line origin es (put h place (accepting_now r l a))
   renewed_fine es h place r l a g e f s o i =
       let x = i.fine.records place r g in let lf = listener_fine es r l e x in
       put_with es h place r (accepting_now r l a) g refl i
@@ -157,7 +157,7 @@ module _ (contexts : List WasiSocketsCtx) (steps : List Step) (line : ℕ) (orig
       }
 
   -- a call of a TCP socket makes no datagram streams
-  no_streams_stand : (r : Tcp2Socket) (n : ℕ) (call : StandingCall) → GoesOn call r → StreamsStand steps n call
+  no_streams_stand : (r : TcpRecord) (n : ℕ) (call : StandingCall) → GoesOn call r → StreamsStand steps n call
   no_streams_stand r n (StandingCall.UdpConnect place handle) k = absurd k
   no_streams_stand r n (StandingCall.Blocking call) k = absurd k
   no_streams_stand r n _ k = tt
@@ -262,7 +262,7 @@ module _ (contexts : List WasiSocketsCtx) (steps : List Step) (line : ℕ) (orig
         fine = state_joined contexts steps es (put h place idle).machine (joined l new peer) (joined_record es l new peer lf.maker handed) tt refl k.fine;
         names = λ p n q at d. absurd (cc);
         udp_names = λ p n q at d. absurd (cc);
-        listens = λ p q op d m. elim (push_new tcp_sort records (joined l new peer) p q d) [ inl v ↦ k.listens p q op v m | inr v ↦ absurd (no_listen op (ap (λ (y : Tcp2Socket). y.listening) v ∙ m)) ];
+        listens = λ p q op d m. elim (push_new tcp_sort records (joined l new peer) p q d) [ inl v ↦ k.listens p q op v m | inr v ↦ absurd (no_listen op (ap (λ (y : TcpRecord). y.listening) v ∙ m)) ];
         new = i.new;
         unmade = λ t c s is. i.unmade (inr (subst NotMarked (sym u) tt)) c s is;
         joined = λ p m. record {
@@ -272,7 +272,7 @@ module _ (contexts : List WasiSocketsCtx) (steps : List Step) (line : ℕ) (orig
           context = c;
           listener = handle;
           by = is;
-          side = λ q d. ap (λ (y : Tcp2Socket). y.side) (sym (seam records (joined l new peer) p q m d));
+          side = λ q d. ap (λ (y : TcpRecord). y.side) (sym (seam records (joined l new peer) p q m d));
           of_listener = is_side contexts steps line origin is_line es h handle place of i r g l.side lf.side;
           handed = handed;
           fresh = free;
@@ -286,15 +286,15 @@ module _ (contexts : List WasiSocketsCtx) (steps : List Step) (line : ℕ) (orig
   moves_fine es _ _ (UdpChanges h place o now g p keeps) b i = udp_changes contexts steps line origin is_line es h place o now g p i
   moves_fine es _ _ (BeginsUdpBind h place o a at g to idle u) b i = begins_udp_bind contexts steps line origin is_line es h place o a at g to i
   moves_fine es _ _ (StandsUdpBind h ids place o op quiet at g e) b i =
-      elsewhere es h _ refl refl refl i (state_stands contexts steps es h.machine (standing_as ids (StandingCall.UdpBind place)) (λ c. OfUdp (Udp2Socket.Open o) g (i.udp_names place ids.line (Udp2Socket.Open o) at g), tt) i.fine) i.names i.udp_names
+      elsewhere es h _ refl refl refl i (state_stands contexts steps es h.machine (standing_as ids (StandingCall.UdpBind place)) (λ c. OfUdp (UdpRecord.Open o) g (i.udp_names place ids.line (UdpRecord.Open o) at g), tt) i.fine) i.names i.udp_names
   moves_fine es _ _ (StandsUdpCreate h ids place create quiet g) b i = elsewhere es h _ refl refl refl i (state_stands contexts steps es h.machine (standing_as ids (StandingCall.UdpCreate place)) (λ c. absurd c, tt) i.fine) i.names i.udp_names
   moves_fine es _ _ (RemembersStreams h c handle place remote is of o g none) b i = remembers_streams contexts steps line origin is_line es h c handle place remote is i
   moves_fine es _ _ (RecallsStreams h ids place handle e own) b i = recalls_streams contexts steps line origin is_line es h ids place handle e i
   moves_fine es _ _ (BeginsUdpConnect h place o a at g to bound none u) b i = begins_udp_connect contexts steps line origin is_line es h place o a at g to bound i
   moves_fine es _ _ (StandsUdpConnect h ids place handle o op quiet at m g e) b i =
-      elsewhere es h _ refl refl refl i (state_stands contexts steps es h.machine (standing_as ids (StandingCall.UdpConnect place handle)) (λ c. OfUdp (Udp2Socket.Open o) g (i.udp_names place ids.line (Udp2Socket.Open o) at g), streams_of es h ids.line handle place m i) i.fine) i.names i.udp_names
+      elsewhere es h _ refl refl refl i (state_stands contexts steps es h.machine (standing_as ids (StandingCall.UdpConnect place handle)) (λ c. OfUdp (UdpRecord.Open o) g (i.udp_names place ids.line (UdpRecord.Open o) at g), streams_of es h ids.line handle place m i) i.fine) i.names i.udp_names
   moves_fine es _ _ (StandsDropOutgoing h ids place o quiet at g e) b i =
-      elsewhere es h _ refl refl refl i (state_stands contexts steps es h.machine (standing_as ids (StandingCall.DropOutgoing place)) (λ c. OfUdp (Udp2Socket.Open o) g (i.udp_names place ids.line (Udp2Socket.Open o) at g), tt) i.fine) i.names i.udp_names
+      elsewhere es h _ refl refl refl i (state_stands contexts steps es h.machine (standing_as ids (StandingCall.DropOutgoing place)) (λ c. OfUdp (UdpRecord.Open o) g (i.udp_names place ids.line (UdpRecord.Open o) at g), tt) i.fine) i.names i.udp_names
   moves_fine es _ _ (Counts h u) b i = owned es h (Own.Names 1) (λ e. absurd (cc)) (shrinks_to line h.own Own.Unused (Own.Names 1) u (λ x t. t)) i
   moves_fine es _ _ (SpendsNames h n u) b i = spent es h i
   moves_fine es _ _ (BeginsSend h place n o out d bound at g e is known u) b i = begins_send contexts steps line origin is_line es h place n o out d bound at g is known u i

@@ -37,7 +37,7 @@ two_handles = record { next = 3; live = record { handle = 1; value = slot.Networ
 abbrev with_socket : ℕ → SocketAddressFamily → InProgress → Option Standing → Machine
 with_socket ctx f doing standing = record {
   table = two_handles;
-  store = record { records = rec.Tcp2 (with_progress (new_record (new_socket (own_of 2) ctx f)) doing) ∷ []; jobs = []; standing = standing };
+  store = record { records = rec.Tcp (with_progress (new_record (new_socket (own_of 2) ctx f)) doing) ∷ []; jobs = []; standing = standing };
 }
 
 -- == a bind

@@ -2,7 +2,7 @@
 -- judged by the steps up to it.
 use Rattle.wasi_walks.proofs.walks.Asked.{Asked, Questions, SetsBacklog, Learns, Closes, MarksOne, AsksCreate, MarksAccepted, Polls, Turns, GivesUp, UdpQuestions, UdpLearns, UdpPeers, UdpCloses, UdpBegins, MarksUdp, MarksStream, MarksError, UdpGivesUp, Resolves, Looks}
 use Rattle.wasi_walks.proofs.Words.{Allows, Asks, Begins, Call, Entry, Give, HasRun, IsLicensed, Left, List, Machine, MayAsk, Not, OpId, Operation, Reply}
-use Rattle.wasi_walks.proofs.Words.{Some, Step, Tcp2Socket, WasiSocketsCtx, [], add-one, allows_at, allows_if, allows_keep, allows_then}
+use Rattle.wasi_walks.proofs.Words.{Some, Step, TcpRecord, WasiSocketsCtx, [], add-one, allows_at, allows_if, allows_keep, allows_then}
 use Rattle.wasi_walks.proofs.Words.{allows_weaker, ap, append-nil, append_assoc, arith, created_asks, entry, first_state, give_up_asks, inl, is_trap}
 use Rattle.wasi_walks.proofs.Words.{length, length-append, machine_asks, new_asks, own_of, refl, run, side_in, step_at, subst, sym}
 use Rattle.wasi_walks.proofs.Words.{with_listening, ℕ, ⊤, ◌++◌, ◌+◌, ◌∙◌, ◌∷◌, ◌≡◌}
@@ -108,7 +108,7 @@ pub record Fine (contexts : List WasiSocketsCtx) (steps : List Step) (line : ℕ
   pub keeps : Keeps es m.store.records
   pub late : Lates es m
   pub fine : StateIsFine contexts steps es m
-  pub listens : (place : ℕ) (r : Tcp2Socket) (op : Operation) → tcp2_at m.store.records place ≡ Some r → r.listening ≡ Begins op → ListenGoesOn steps es r op
+  pub listens : (place : ℕ) (r : TcpRecord) (op : Operation) → tcp2_at m.store.records place ≡ Some r → r.listening ≡ Begins op → ListenGoesOn steps es r op
 
 pub fine_more : (contexts : List WasiSocketsCtx) (steps more : List Step) (line : ℕ) (es : List Entry) (m : Machine) → Fine contexts steps line es m → Fine contexts (steps ++ more) line es m
 fine_more contexts steps more line es m i = record {

@@ -3,7 +3,7 @@ use Rattle.wasi_walks.proofs.Words.{Accept, Accepting, Accepts, Arrived, BeganBy
 use Rattle.wasi_walks.proofs.Words.{Entry, ErrorCode, HandedNone, Has, InProgress, IpSocketAddress, IsBindTo, IsBoundSide, IsConnectTo, IsMaker}
 use Rattle.wasi_walks.proofs.Words.{IsMarkedWith, Item, Job, Kind, Last, List, Listener, Listening, Listens, Machine, MarksNoSocket, MayGoOut}
 use Rattle.wasi_walks.proofs.Words.{NamesSide, None, Nothing, NothingLast, OpId, Operation, Option, ReadState, ShutdownLast, ShutdownSend, Socket}
-use Rattle.wasi_walks.proofs.Words.{SocketAddressFamily, Some, Standing, Step, Streams, Tcp2Socket, TcpBind, TcpConnect, TcpState, Told, WasiSocketsCtx, Write}
+use Rattle.wasi_walks.proofs.Words.{SocketAddressFamily, Some, Standing, Step, Streams, TcpRecord, TcpBind, TcpConnect, TcpState, Told, WasiSocketsCtx, Write}
 use Rattle.wasi_walks.proofs.Words.{WriteState, Yes, [], call_place, entry, kind_at, marks_in, own_of, side_of, true, wildcard, ℕ, ⊤, ◌++◌}
 use Rattle.wasi_walks.proofs.Words.{◌+◌, ◌∷◌, ◌≡◌}
 use Rattle.wasi_walks.proofs.walks.Moves.{record_of, udp_record_of, sending_in, receiving_in, IsOfHandle, CallKind, IsCall, kind_of}
@@ -23,13 +23,13 @@ use Rattle.wasi_records.specs.Records.{tcp2_at, udp2_at}
 use Rattle.wasi_records.specs.Udp.{udp_side}
 use Rattle.wasi_records.specs.declared.records.Record.{Record}
 use Rattle.wasi_records.specs.declared.udp.OpenUdp.{OpenUdp}
-use Rattle.wasi_records.specs.declared.udp.Udp2Socket.{Udp2Socket}
+use Rattle.wasi_records.specs.declared.udp.UdpRecord.{UdpRecord}
 use Rattle.wasi_records.specs.declared.udp.UdpInProgress.{UdpInProgress}
 use Rattle.wasi_udp.specs.Create.{Create}
 
 -- The handle stands for the record at this place, and its mark says the network socket that the record was made with.
 pub record NamesRecord (es : List Entry) (records : List Record) (handle place : ℕ) : Type 0 where
-  pub found : Tcp2Socket
+  pub found : TcpRecord
   pub at : tcp2_at records place ≡ Some found
   pub marked : IsMarkedWith es handle found.side
 
@@ -39,7 +39,7 @@ NamesIf es records handle None = ⊤
 
 -- The same of a UDP socket, whose mark always says its network socket.
 pub record NamesUdp (es : List Entry) (records : List Record) (handle place : ℕ) : Type 0 where
-  pub found : Udp2Socket
+  pub found : UdpRecord
   pub at : udp2_at records place ≡ Some found
   pub marked : IsMarkedWith es handle (Some (udp_side found))
 
@@ -180,7 +180,7 @@ accept_name _ = None
 
 -- no two records have an accept of one name
 abbrev pub OneHolds : List Record → Type 0
-OneHolds records = (i j : ℕ) (r s : Tcp2Socket) (x : OpId) → tcp2_at records i ≡ Some r → tcp2_at records j ≡ Some s → accept_name r.listening ≡ Some x → accept_name s.listening ≡ Some x → i ≡ j
+OneHolds records = (i j : ℕ) (r s : TcpRecord) (x : OpId) → tcp2_at records i ≡ Some r → tcp2_at records j ≡ Some s → accept_name r.listening ≡ Some x → accept_name s.listening ≡ Some x → i ≡ j
 
 -- it holds of the operation, where there is one
 abbrev pub IfOp : (Operation → Type 0) → Option Operation → Type 0
@@ -277,7 +277,7 @@ module _ (steps : List Step) where
   ProgressIsFine es _ = ⊤
 
   -- A socket that still has a network socket has the one that its record was made with.
-  pub record RecordIsFine (es : List Entry) (r : Tcp2Socket) : Type 0 where
+  pub record RecordIsFine (es : List Entry) (r : TcpRecord) : Type 0 where
     pub socket : SocketIsFine es r.inner
     pub named : (side : OpId) → side_of r.inner ≡ Some side → r.side ≡ Some side
     pub streams : (streams : Streams) → r.streams ≡ Some streams → StreamsAreFine es r.inner streams
@@ -360,16 +360,16 @@ module _ (steps : List Step) where
     pub family : SocketAddressFamily
     pub made : UdpMade es side maker family
 
-  abbrev pub UdpIsFine : List Entry → Udp2Socket → Type 0
-  UdpIsFine es (Udp2Socket.Creating create) = CreateIsFine es create
-  UdpIsFine es (Udp2Socket.Open o) = OpenIsFine es o
-  UdpIsFine es (Udp2Socket.Closed side) = ClosedIsFine es side
+  abbrev pub UdpIsFine : List Entry → UdpRecord → Type 0
+  UdpIsFine es (UdpRecord.Creating create) = CreateIsFine es create
+  UdpIsFine es (UdpRecord.Open o) = OpenIsFine es o
+  UdpIsFine es (UdpRecord.Closed side) = ClosedIsFine es side
 
   -- == the pending call, and the state
   -- where a call on the record at this place is pending, its line names a handle of the network socket that the record was made with
   pub data LineNames (es : List Entry) (records : List Record) (line place : ℕ) : Type 0 where
-    OfTcp : (found : Tcp2Socket) → tcp2_at records place ≡ Some found → ((side : OpId) → found.side ≡ Some side → Names es (own_of line) side) → LineNames es records line place
-    OfUdp : (found : Udp2Socket) → udp2_at records place ≡ Some found → Names es (own_of line) (udp_side found) → LineNames es records line place
+    OfTcp : (found : TcpRecord) → tcp2_at records place ≡ Some found → ((side : OpId) → found.side ≡ Some side → Names es (own_of line) side) → LineNames es records line place
+    OfUdp : (found : UdpRecord) → udp2_at records place ≡ Some found → Names es (own_of line) (udp_side found) → LineNames es records line place
 
   -- where streams are to be made by this line under this handle, its step says so
   abbrev pub MakesStreams : ℕ → ℕ → Type 0
@@ -391,9 +391,9 @@ module _ (steps : List Step) where
 pub record StateIsFine (contexts : List WasiSocketsCtx) (steps : List Step) (es : List Entry) (m : Machine) : Type 0 where
   pub count : m.table.next ≡ marks_in es + 1
   pub handles : (handle : ℕ) (kind : Kind) → kind_at m.table handle ≡ Some kind → HandleIsFine es m.store.records handle kind
-  pub records : (place : ℕ) (r : Tcp2Socket) → tcp2_at m.store.records place ≡ Some r → RecordIsFine steps es r
-  pub udp : (place : ℕ) (u : Udp2Socket) → udp2_at m.store.records place ≡ Some u → UdpIsFine steps es u
+  pub records : (place : ℕ) (r : TcpRecord) → tcp2_at m.store.records place ≡ Some r → RecordIsFine steps es r
+  pub udp : (place : ℕ) (u : UdpRecord) → udp2_at m.store.records place ≡ Some u → UdpIsFine steps es u
   pub lookups : LookupsAreFine contexts steps m.store.records
   pub standing : (c : Standing) → m.store.standing ≡ Some c → StandingIsFine steps es m.store.records c
-  pub accepts : (place : ℕ) (r : Tcp2Socket) → tcp2_at m.store.records place ≡ Some r → ListeningStands es r.listening
+  pub accepts : (place : ℕ) (r : TcpRecord) → tcp2_at m.store.records place ≡ Some r → ListeningStands es r.listening
   pub one : OneHolds m.store.records

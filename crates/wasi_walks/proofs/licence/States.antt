@@ -1,5 +1,5 @@
 -- That the state fits the log, under one more entry, and where the state changes.
-use Rattle.wasi_walks.proofs.Words.{Call, Entry, Kind, List, Machine, Made, None, OpId, Option, Socket, Some, Standing, Step, Tcp2Socket}
+use Rattle.wasi_walks.proofs.Words.{Call, Entry, Kind, List, Machine, Made, None, OpId, Option, Socket, Some, Standing, Step, TcpRecord}
 use Rattle.wasi_walks.proofs.Words.{Told, WasiSocketsCtx, [], arith, entry, inl, inr, marked_by, new_record, refl, subst, table_parent, with_handle}
 use Rattle.wasi_walks.proofs.Words.{with_record, with_socket, without_handle, ℕ, ◌++◌, ◌∷◌, ◌≡◌}
 use Rattle.wasi_table.proofs.Tables.{value_without}
@@ -9,8 +9,8 @@ use Rattle.wasi_records.specs.Udp.{udp_side}
 use Rattle.wasi_walks.specs.Licence.{IsMarkedAs}
 use Rattle.wasi_host.specs.UdpCalls.{with_udp}
 use Rattle.wasi_jobs.specs.declared.job.HostJob.{HostJob}
-use Rattle.wasi_records.specs.declared.records.Record.TheVariants.{Tcp2, Udp2}
-use Rattle.wasi_records.specs.declared.udp.Udp2Socket.{Udp2Socket}
+use Rattle.wasi_records.specs.declared.records.Record.TheVariants.{Tcp, Udp}
+use Rattle.wasi_records.specs.declared.udp.UdpRecord.{UdpRecord}
 use Rattle.wasi_walks.proofs.Lists.{has_last, marks_in-push, value_split}
 use Rattle.wasi_walks.proofs.licence.Lookups.{lookups_put, lookups_push}
 use Rattle.wasi_walks.proofs.licence.State.{HandleIsFine, NamesItsOwn, ListeningStands, accept_name, SocketIsFine, RecordIsFine, UdpIsFine, StandingIsFine, StateIsFine}
@@ -69,7 +69,7 @@ module _ (contexts : List WasiSocketsCtx) (steps : List Step) where
   }
 
   -- one record changes, and its accept may be another
-  pub state_renewed : (es : List Entry) (m : Machine) (place : ℕ) (old now : Tcp2Socket) → tcp2_at m.store.records place ≡ Some old → now.side ≡ old.side → RecordIsFine steps es now
+  pub state_renewed : (es : List Entry) (m : Machine) (place : ℕ) (old now : TcpRecord) → tcp2_at m.store.records place ≡ Some old → now.side ≡ old.side → RecordIsFine steps es now
       → ListeningStands es now.listening → ((x : OpId) → accept_name now.listening ≡ Some x → Only m.store.records place x)
       → StateIsFine contexts steps es m → StateIsFine contexts steps es (record m { store = with_socket m.store place now })
   state_renewed es m place old now g k f a o h = record {
@@ -80,19 +80,19 @@ module _ (contexts : List WasiSocketsCtx) (steps : List Step) where
       | inr q ↦ h.records i r q
     ];
     udp = λ i u e. h.udp i u (put_was tcp_sort udp_sort (λ t. refl) m.store.records place now i u e);
-    lookups = lookups_put contexts steps m.store.records place (Tcp2 now) refl h.lookups;
+    lookups = lookups_put contexts steps m.store.records place (Tcp now) refl h.lookups;
     standing = λ s e. standing_kept es m.store.records _ (sides_put m.store.records place old now g k) s (h.standing s e);
     accepts = stands_put es m.store.records place now a h.accepts;
     one = one_put m.store.records place now o h.one;
   }
 
   -- one record changes
-  pub state_put : (es : List Entry) (m : Machine) (place : ℕ) (old now : Tcp2Socket) → tcp2_at m.store.records place ≡ Some old → now.side ≡ old.side → KeepsListening old.listening now.listening → RecordIsFine steps es now → StateIsFine contexts steps es m
+  pub state_put : (es : List Entry) (m : Machine) (place : ℕ) (old now : TcpRecord) → tcp2_at m.store.records place ≡ Some old → now.side ≡ old.side → KeepsListening old.listening now.listening → RecordIsFine steps es now → StateIsFine contexts steps es m
       → StateIsFine contexts steps es (record m { store = with_socket m.store place now })
   state_put es m place old now g k l f h = state_renewed es m place old now g k f (l.stands es (h.accepts place old g)) (λ x n i s e o. h.one i place s old x e g o (l.names x n)) h
 
   -- a record more, which has no accept
-  pub state_joined : (es : List Entry) (m : Machine) (now : Tcp2Socket) → RecordIsFine steps es now → ListeningStands es now.listening → accept_name now.listening ≡ None → StateIsFine contexts steps es m
+  pub state_joined : (es : List Entry) (m : Machine) (now : TcpRecord) → RecordIsFine steps es now → ListeningStands es now.listening → accept_name now.listening ≡ None → StateIsFine contexts steps es m
       → StateIsFine contexts steps es (record m { store = record m.store { records = tcp2_pushed m.store.records now } })
   state_joined es m now f a n h = record {
     count = h.count;
@@ -102,7 +102,7 @@ module _ (contexts : List WasiSocketsCtx) (steps : List Step) where
       | inr q ↦ subst (RecordIsFine steps es) q f
     ];
     udp = λ i u e. h.udp i u (push_was tcp_sort udp_sort (λ t. refl) m.store.records now i u e);
-    lookups = lookups_push contexts steps m.store.records (Tcp2 now) refl h.lookups;
+    lookups = lookups_push contexts steps m.store.records (Tcp now) refl h.lookups;
     standing = λ s e. standing_kept es m.store.records _ (sides_push m.store.records now) s (h.standing s e);
     accepts = stands_push es m.store.records now a h.accepts;
     one = one_push m.store.records now n h.one;
@@ -112,7 +112,7 @@ module _ (contexts : List WasiSocketsCtx) (steps : List Step) where
   state_push es m socket f h = state_joined es m (new_record socket) (record { socket = f; named = λ side p. p; streams = λ streams p. absurd (cc); listening = tt; progress = tt }) tt refl h
 
   -- a UDP socket changes
-  pub state_put_udp : (es : List Entry) (m : Machine) (place : ℕ) (old now : Udp2Socket) → udp2_at m.store.records place ≡ Some old → udp_side now ≡ udp_side old → UdpIsFine steps es now → StateIsFine contexts steps es m → StateIsFine contexts steps es (record m { store = with_udp m.store place now })
+  pub state_put_udp : (es : List Entry) (m : Machine) (place : ℕ) (old now : UdpRecord) → udp2_at m.store.records place ≡ Some old → udp_side now ≡ udp_side old → UdpIsFine steps es now → StateIsFine contexts steps es m → StateIsFine contexts steps es (record m { store = with_udp m.store place now })
   state_put_udp es m place old now g k f h = record {
     count = h.count;
     handles = λ handle x e. handle_kept es m.store.records _ (sides_put_udp m.store.records place old now g k) handle x (h.handles handle x e);
@@ -121,14 +121,14 @@ module _ (contexts : List WasiSocketsCtx) (steps : List Step) where
       | inl q ↦ subst (UdpIsFine steps es) q.1 f
       | inr q ↦ h.udp i u q
     ];
-    lookups = lookups_put contexts steps m.store.records place (Udp2 now) refl h.lookups;
+    lookups = lookups_put contexts steps m.store.records place (Udp now) refl h.lookups;
     standing = λ s e. standing_kept es m.store.records _ (sides_put_udp m.store.records place old now g k) s (h.standing s e);
     accepts = λ i r e. h.accepts i r (put_was udp_sort tcp_sort (λ t. refl) m.store.records place now i r e);
     one = λ i j r s x a b. h.one i j r s x (put_was udp_sort tcp_sort (λ t. refl) m.store.records place now i r a) (put_was udp_sort tcp_sort (λ t. refl) m.store.records place now j s b);
   }
 
   -- there is one more
-  pub state_joined_udp : (es : List Entry) (m : Machine) (now : Udp2Socket) → UdpIsFine steps es now → StateIsFine contexts steps es m → StateIsFine contexts steps es (record m { store = record m.store { records = udp2_pushed m.store.records now } })
+  pub state_joined_udp : (es : List Entry) (m : Machine) (now : UdpRecord) → UdpIsFine steps es now → StateIsFine contexts steps es m → StateIsFine contexts steps es (record m { store = record m.store { records = udp2_pushed m.store.records now } })
   state_joined_udp es m now f h = record {
     count = h.count;
     handles = λ handle x e. handle_kept es m.store.records _ (sides_push_udp m.store.records now) handle x (h.handles handle x e);
@@ -137,7 +137,7 @@ module _ (contexts : List WasiSocketsCtx) (steps : List Step) where
       | inl q ↦ h.udp i u q
       | inr q ↦ subst (UdpIsFine steps es) q.0 f
     ];
-    lookups = lookups_push contexts steps m.store.records (Udp2 now) refl h.lookups;
+    lookups = lookups_push contexts steps m.store.records (Udp now) refl h.lookups;
     standing = λ s e. standing_kept es m.store.records _ (sides_push_udp m.store.records now) s (h.standing s e);
     accepts = λ i r e. h.accepts i r (push_was udp_sort tcp_sort (λ t. refl) m.store.records now i r e);
     one = λ i j r s x a b. h.one i j r s x (push_was udp_sort tcp_sort (λ t. refl) m.store.records now i r a) (push_was udp_sort tcp_sort (λ t. refl) m.store.records now j s b);

@@ -1,6 +1,6 @@
 -- The moves of calls on handles keep that the state fits the log: a call on streams or on pollables reaches the record of one of the
 -- handles that its line named, and it may be pending.
-use Rattle.wasi_walks.proofs.Words.{BeganBy, Entry, Has, IsMarkedWith, IsSide, List, Some, StandingCall, Step, Tcp2Socket}
+use Rattle.wasi_walks.proofs.Words.{BeganBy, Entry, Has, IsMarkedWith, IsSide, List, Some, StandingCall, Step, TcpRecord}
 use Rattle.wasi_walks.proofs.Words.{WasiSocketsCtx, ap, handles_of, kind_at, own_of, refl, standing_as, step_at}
 use Rattle.wasi_walks.proofs.Words.{subst, sym, ℕ, ◌∙◌, ◌≡◌}
 use Rattle.wasi_world.specs.declared.ids.Ids.{Ids}
@@ -17,17 +17,17 @@ use Rattle.wasi_walks.proofs.licence.UdpMoves.{tcp_alone}
 
 module _ (contexts : List WasiSocketsCtx) (steps : List Step) (line : ℕ) (origin : Step) (is_line : step_at steps line ≡ Some origin) where
   -- the mark of a handle says the network socket of the record that it stands for
-  pub is_side : (es : List Entry) (h : Here) (handle place : ℕ) → record_of (kind_at h.machine.table handle) ≡ Some place → Licensed contexts steps line origin es h → (r : Tcp2Socket) → Found h place r → (side : OpId) → r.side ≡ Some side → IsSide es handle side
+  pub is_side : (es : List Entry) (h : Here) (handle place : ℕ) → record_of (kind_at h.machine.table handle) ≡ Some place → Licensed contexts steps line origin es h → (r : TcpRecord) → Found h place r → (side : OpId) → r.side ≡ Some side → IsSide es handle side
   is_side es h handle place e i r g side m =
       let n = names_record es h.machine.store.records handle place (kind_at h.machine.table handle) e (i.fine.handles handle) in
-      let same : n.found.side ≡ r.side = ap (λ (x : Tcp2Socket). x.side) (same_record n.found r (sym n.at ∙ g)) in
+      let same : n.found.side ≡ r.side = ap (λ (x : TcpRecord). x.side) (same_record n.found r (sym n.at ∙ g)) in
       let w = subst (IsMarkedWith es handle) (same ∙ m) n.marked in record { op = w.op; kind = w.kind; parent = w.parent; told = w.told; mark = w.mark }
 
   -- a handle that the line of this number names is looked up
   pub reaches : (es : List Entry) (h : Here) (by handle place : ℕ) → BeganBy steps (own_of by) (λ s. Has (handles_of s) handle) → record_of (kind_at h.machine.table handle) ≡ Some place → Licensed contexts steps line origin es h → Licensed contexts steps line origin es (record h { at = Some (place, by) })
   reaches es h by handle place named e i = elsewhere es h _ refl refl refl i i.fine tcp (tcp_alone contexts steps line origin is_line es h by handle place e i)
     where
-      names : (r : Tcp2Socket) → Found h place r → NamesMade steps by es r
+      names : (r : TcpRecord) → Found h place r → NamesMade steps by es r
       names r g side m = record { origin = named.origin; at = named.at; holds = record { handle = handle; named = named.holds; is = is_side es h handle place e i r g side m } }
 
       tcp : NamesTcpHere steps es (record h { at = Some (place, by) })

@@ -132,7 +132,7 @@ closed permit = record {
         ∷ [];
   };
   store = record {
-    records = rec.Tcp2 (record (new_record (new_socket its 0 SocketAddressFamily.Ipv4)) { inner = connection; streams = Some (record { reader = ReadState.Closed; writer = WriteState.Ready (record { side = its }) permit }) }) ∷ [];
+    records = rec.Tcp (record (new_record (new_socket its 0 SocketAddressFamily.Ipv4)) { inner = connection; streams = Some (record { reader = ReadState.Closed; writer = WriteState.Ready (record { side = its }) permit }) }) ∷ [];
     jobs = [];
     standing = None;
   };

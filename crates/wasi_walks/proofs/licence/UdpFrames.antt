@@ -1,6 +1,6 @@
 -- What is known of the UDP sockets under more entries; and what handles and the pending call name, where the records change.
 use Rattle.wasi_walks.proofs.Words.{Entry, IpSocketAddress, IsMarkedWith, Item, Kind, List, None, OpId, Operation, Option, Pollable, Some}
-use Rattle.wasi_walks.proofs.Words.{SocketAddressFamily, Standing, Step, Tcp2Socket, Watched, ap, call_place, inl, inr, own_of, refl, subst, sym, ℕ, ◌++◌}
+use Rattle.wasi_walks.proofs.Words.{SocketAddressFamily, Standing, Step, TcpRecord, Watched, ap, call_place, inl, inr, own_of, refl, subst, sym, ℕ, ◌++◌}
 use Rattle.wasi_walks.proofs.Words.{◌∙◌, ◌≡◌}
 use Rattle.wasi_walks.proofs.Lists.{has_front}
 use Rattle.wasi_walks.proofs.walks.Moves.{record_of, udp_record_of, sending_in, receiving_in}
@@ -13,7 +13,7 @@ use Rattle.wasi_records.specs.Records.{tcp2_at, tcp2_put, tcp2_pushed, udp2_at, 
 use Rattle.wasi_host.specs.Kinds.{name_of}
 use Rattle.wasi_records.specs.Udp.{udp_side}
 use Rattle.wasi_records.specs.declared.records.Record.{Record}
-use Rattle.wasi_records.specs.declared.udp.Udp2Socket.{Udp2Socket}
+use Rattle.wasi_records.specs.declared.udp.UdpRecord.{UdpRecord}
 use Rattle.wasi_records.specs.declared.udp.UdpInProgress.{UdpInProgress}
 use Rattle.wasi_walks.proofs.Places.{push_still, put_stays, put_still, tcp_sort, udp_sort}
 
@@ -22,29 +22,29 @@ pub if_op : {P Q : Operation → Type 0} → ((op : Operation) → P op → Q op
 if_op f (Some op) h = f op h
 if_op f None h = tt
 
-pub same_udp : (a b : Udp2Socket) → Some a ≡ Some b → a ≡ b
+pub same_udp : (a b : UdpRecord) → Some a ≡ Some b → a ≡ b
 same_udp a b e = cc
 
 -- == the records by place
 -- The UDP socket of this place has this network socket.
 pub record IsUdpOf (records : List Record) (place : ℕ) (side : OpId) : Type 0 where
-  pub found : Udp2Socket
+  pub found : UdpRecord
   pub at : udp2_at records place ≡ Some found
   pub same : udp_side found ≡ side
 
 -- Each record is still there, of the network socket that it was made with.
 pub record KeepsSides (old now : List Record) : Type 0 where
-  pub tcp : (place : ℕ) (r : Tcp2Socket) → tcp2_at old place ≡ Some r → IsMadeWith now place r.side
-  pub udp : (place : ℕ) (u : Udp2Socket) → udp2_at old place ≡ Some u → IsUdpOf now place (udp_side u)
+  pub tcp : (place : ℕ) (r : TcpRecord) → tcp2_at old place ≡ Some r → IsMadeWith now place r.side
+  pub udp : (place : ℕ) (u : UdpRecord) → udp2_at old place ≡ Some u → IsUdpOf now place (udp_side u)
 
 -- one is replaced by one of the same network socket
-pub sides_put : (records : List Record) (i : ℕ) (old now : Tcp2Socket) → tcp2_at records i ≡ Some old → now.side ≡ old.side → KeepsSides records (tcp2_put records i now)
+pub sides_put : (records : List Record) (i : ℕ) (old now : TcpRecord) → tcp2_at records i ≡ Some old → now.side ≡ old.side → KeepsSides records (tcp2_put records i now)
 sides_put records i old now g k = record {
   tcp = λ place r e. made_put records i old now place r g k e;
   udp = λ place u e. record { found = u; at = put_still tcp_sort udp_sort (λ t. refl) records i old now place u g e; same = refl };
 }
 
-pub sides_put_udp : (records : List Record) (i : ℕ) (old now : Udp2Socket) → udp2_at records i ≡ Some old → udp_side now ≡ udp_side old → KeepsSides records (udp2_put records i now)
+pub sides_put_udp : (records : List Record) (i : ℕ) (old now : UdpRecord) → udp2_at records i ≡ Some old → udp_side now ≡ udp_side old → KeepsSides records (udp2_put records i now)
 sides_put_udp records i old now g k = record {
   tcp = λ place r e. record { found = r; at = put_still udp_sort tcp_sort (λ t. refl) records i old now place r g e; same = refl };
   udp = λ place u e. elim (put_stays udp_sort records i now place u e) [
@@ -54,13 +54,13 @@ sides_put_udp records i old now g k = record {
 }
 
 -- there is one more
-pub sides_push : (records : List Record) (now : Tcp2Socket) → KeepsSides records (tcp2_pushed records now)
+pub sides_push : (records : List Record) (now : TcpRecord) → KeepsSides records (tcp2_pushed records now)
 sides_push records now = record {
   tcp = λ place r e. record { found = r; at = push_still tcp_sort tcp_sort records now place r e; same = refl };
   udp = λ place u e. record { found = u; at = push_still tcp_sort udp_sort records now place u e; same = refl };
 }
 
-pub sides_push_udp : (records : List Record) (now : Udp2Socket) → KeepsSides records (udp2_pushed records now)
+pub sides_push_udp : (records : List Record) (now : UdpRecord) → KeepsSides records (udp2_pushed records now)
 sides_push_udp records now = record {
   tcp = λ place r e. record { found = r; at = push_still udp_sort tcp_sort records now place r e; same = refl };
   udp = λ place u e. record { found = u; at = push_still udp_sort udp_sort records now place u e; same = refl };
@@ -146,9 +146,9 @@ module _ {steps now : List Step} (goes : Goes steps now) where
   udp_progress_more es fs (UdpInProgress.Binding op) h = udp_bind_more es fs op h
   udp_progress_more es fs _ h = tt
 
-  pub udp_more : (es fs : List Entry) (u : Udp2Socket) → UdpIsFine steps es u → UdpIsFine now (es ++ fs) u
-  udp_more es fs (Udp2Socket.Creating create) h = record { made = udp_made_more es fs create.operation.who.side create.operation.who.context create.family h.made; own = h.own; last = h.last; left = h.left }
-  udp_more es fs (Udp2Socket.Open o) h = record {
+  pub udp_more : (es fs : List Entry) (u : UdpRecord) → UdpIsFine steps es u → UdpIsFine now (es ++ fs) u
+  udp_more es fs (UdpRecord.Creating create) h = record { made = udp_made_more es fs create.operation.who.side create.operation.who.context create.family h.made; own = h.own; last = h.last; left = h.left }
+  udp_more es fs (UdpRecord.Open o) h = record {
     made = udp_made_more es fs o.inner.side o.inner.maker o.inner.family h.made;
     bound = λ b. free_more es fs o.inner.side (h.bound b);
     progress = udp_progress_more es fs o.in_progress h.progress;
@@ -156,4 +156,4 @@ module _ {steps now : List Step} (goes : Goes steps now) where
     sending = if_op (λ op. send_more goes es fs op) (sending_in o.outgoing) h.sending;
     receiving = if_op (λ op. receive_more goes es fs op) (receiving_in o.incoming) h.receiving;
   }
-  udp_more es fs (Udp2Socket.Closed side) h = record { maker = h.maker; family = h.family; made = udp_made_more es fs side h.maker h.family h.made }
+  udp_more es fs (UdpRecord.Closed side) h = record { maker = h.maker; family = h.family; made = udp_made_more es fs side h.maker h.family h.made }

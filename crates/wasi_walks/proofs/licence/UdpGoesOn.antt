@@ -27,7 +27,7 @@ use Rattle.wasi_walks.proofs.licence.UdpAsks.{AsksAgain, fine_poll_create, fine_
 use Rattle.wasi_walks.proofs.licence.UdpMoves.{open_at_place}
 use Rattle.wasi_records.specs.Udp.{udp_bind_progress, udp_create_left, udp_side, with_udp_progress}
 use Rattle.wasi_records.specs.declared.udp.OpenUdp.{OpenUdp}
-use Rattle.wasi_records.specs.declared.udp.Udp2Socket.{Udp2Socket}
+use Rattle.wasi_records.specs.declared.udp.UdpRecord.{UdpRecord}
 use Rattle.wasi_records.specs.declared.udp.UdpInProgress.{UdpInProgress}
 use Rattle.socket_common.specs.Rounds.{is_going}
 use Rattle.wasi_udp.specs.Create.{Create, create_cancel_asks}
@@ -44,12 +44,12 @@ module _ (contexts : List WasiSocketsCtx) (steps : List Step) (line : ℕ) (orig
   created_after fs create (Done given, items) f k = record { made = f.made; bound = λ e. absurd (cc); progress = tt; connecting = tt; sending = tt; receiving = tt }
   created_after fs create (Refused c given, items) f k = record { maker = create.operation.who.context; family = create.family; made = f.made }
 
-  pub udp_created_on : (es : List Entry) (h : Here) (place : ℕ) (create : Create) → FoundUdp h place (Udp2Socket.Creating create) → Licensed contexts steps line origin es h
+  pub udp_created_on : (es : List Entry) (h : Here) (place : ℕ) (create : Create) → FoundUdp h place (UdpRecord.Creating create) → Licensed contexts steps line origin es h
       → Allows (MayAsk contexts steps) (λ fs ended. Licensed contexts steps line origin fs (put_udp h place (udp_create_left create ended))) es (poll_asks create.operation)
   udp_created_on es h place create g i =
-      let f : CreateIsFine steps es create = i.fine.udp place (Udp2Socket.Creating create) g in
+      let f : CreateIsFine steps es create = i.fine.udp place (UdpRecord.Creating create) g in
       allows_weaker (MayAsk contexts steps) (λ fs ended. Licensed contexts steps line origin fs h × AsksAgain ended) (λ fs ended. Licensed contexts steps line origin fs (put_udp h place (udp_create_left create ended)))
-      (λ fs ended k. put_udp_fine fs h place (Udp2Socket.Creating create) (udp_create_left create ended) g (left_side create ended) (created_after fs create ended (k.0.fine.udp place (Udp2Socket.Creating create) g) k.1) k.0) es (poll_asks create.operation)
+      (λ fs ended k. put_udp_fine fs h place (UdpRecord.Creating create) (udp_create_left create ended) g (left_side create ended) (created_after fs create ended (k.0.fine.udp place (UdpRecord.Creating create) g) k.1) k.0) es (poll_asks create.operation)
       (kept contexts steps line origin is_line h (λ fs ended. AsksAgain ended) es (poll_asks create.operation) i (fine_poll_create contexts steps create.operation es f.own f.last f.left))
 
   -- one that is given up
@@ -58,12 +58,12 @@ module _ (contexts : List WasiSocketsCtx) (steps : List Step) (line : ℕ) (orig
   gives_up es create true = (((tt, tt), tt), λ t fits. tt)
   gives_up es create false = tt
 
-  pub udp_given_up : (es : List Entry) (h : Here) (place : ℕ) (create : Create) → FoundUdp h place (Udp2Socket.Creating create) → Licensed contexts steps line origin es h
-      → Allows (MayAsk contexts steps) (λ fs done. Licensed contexts steps line origin fs (put_udp h place (Udp2Socket.Closed create.operation.who.side))) es (create_cancel_asks create)
+  pub udp_given_up : (es : List Entry) (h : Here) (place : ℕ) (create : Create) → FoundUdp h place (UdpRecord.Creating create) → Licensed contexts steps line origin es h
+      → Allows (MayAsk contexts steps) (λ fs done. Licensed contexts steps line origin fs (put_udp h place (UdpRecord.Closed create.operation.who.side))) es (create_cancel_asks create)
   udp_given_up es h place create g i =
-      allows_weaker (MayAsk contexts steps) (λ fs done. Licensed contexts steps line origin fs h × ⊤) (λ fs done. Licensed contexts steps line origin fs (put_udp h place (Udp2Socket.Closed create.operation.who.side)))
-      (λ fs done k. let f : CreateIsFine steps fs create = k.0.fine.udp place (Udp2Socket.Creating create) g in
-      put_udp_fine fs h place (Udp2Socket.Creating create) (Udp2Socket.Closed create.operation.who.side) g refl (record { maker = create.operation.who.context; family = create.family; made = f.made }) k.0) es (create_cancel_asks create)
+      allows_weaker (MayAsk contexts steps) (λ fs done. Licensed contexts steps line origin fs h × ⊤) (λ fs done. Licensed contexts steps line origin fs (put_udp h place (UdpRecord.Closed create.operation.who.side)))
+      (λ fs done k. let f : CreateIsFine steps fs create = k.0.fine.udp place (UdpRecord.Creating create) g in
+      put_udp_fine fs h place (UdpRecord.Creating create) (UdpRecord.Closed create.operation.who.side) g refl (record { maker = create.operation.who.context; family = create.family; made = f.made }) k.0) es (create_cancel_asks create)
       (kept contexts steps line origin is_line h (λ fs done. ⊤) es (create_cancel_asks create) i (gives_up es create (is_going create.operation)))
 
   -- == a bind
@@ -72,13 +72,13 @@ module _ (contexts : List WasiSocketsCtx) (steps : List Step) (line : ℕ) (orig
   bound_after fs op (Done given, items) k = tt
   bound_after fs op (Refused c given, items) k = tt
 
-  pub udp_bound_on : (es : List Entry) (h : Here) (place : ℕ) (o : OpenUdp) (op : Operation) → FoundUdp h place (Udp2Socket.Open o) → o.in_progress ≡ UdpInProgress.Binding op → Licensed contexts steps line origin es h
-      → Allows (MayAsk contexts steps) (λ fs ended. Licensed contexts steps line origin fs (put_udp h place (Udp2Socket.Open (with_udp_progress o (udp_bind_progress op ended))))) es (poll_asks op)
+  pub udp_bound_on : (es : List Entry) (h : Here) (place : ℕ) (o : OpenUdp) (op : Operation) → FoundUdp h place (UdpRecord.Open o) → o.in_progress ≡ UdpInProgress.Binding op → Licensed contexts steps line origin es h
+      → Allows (MayAsk contexts steps) (λ fs ended. Licensed contexts steps line origin fs (put_udp h place (UdpRecord.Open (with_udp_progress o (udp_bind_progress op ended))))) es (poll_asks op)
   udp_bound_on es h place o op g e i =
       let f : UdpBindIsFine steps es op = subst (UdpProgressIsFine steps es) e (open_at_place contexts steps line origin is_line es h place o g i).progress in
-      allows_weaker (MayAsk contexts steps) (λ fs ended. Licensed contexts steps line origin fs h × UdpBindIsFine steps fs (left_of op ended.1)) (λ fs ended. Licensed contexts steps line origin fs (put_udp h place (Udp2Socket.Open (with_udp_progress o (udp_bind_progress op ended)))))
+      allows_weaker (MayAsk contexts steps) (λ fs ended. Licensed contexts steps line origin fs h × UdpBindIsFine steps fs (left_of op ended.1)) (λ fs ended. Licensed contexts steps line origin fs (put_udp h place (UdpRecord.Open (with_udp_progress o (udp_bind_progress op ended)))))
       (λ fs ended k. let x = open_at_place contexts steps line origin is_line fs h place o g k.0 in
-      put_udp_fine fs h place (Udp2Socket.Open o) (Udp2Socket.Open (with_udp_progress o (udp_bind_progress op ended))) g refl (record { made = x.made; bound = x.bound; progress = bound_after fs op ended k.1; connecting = x.connecting; sending = x.sending; receiving = x.receiving }) k.0) es (poll_asks op)
+      put_udp_fine fs h place (UdpRecord.Open o) (UdpRecord.Open (with_udp_progress o (udp_bind_progress op ended))) g refl (record { made = x.made; bound = x.bound; progress = bound_after fs op ended k.1; connecting = x.connecting; sending = x.sending; receiving = x.receiving }) k.0) es (poll_asks op)
       (kept contexts steps line origin is_line h (λ fs ended. UdpBindIsFine steps fs (left_of op ended.1)) es (poll_asks op) i (fine_poll_udp_bind contexts steps op es f))
 
   -- what asks quietly, and somehow else
@@ -112,12 +112,12 @@ module _ (contexts : List WasiSocketsCtx) (steps : List Step) (line : ℕ) (orig
   connected_after es fs op o (Done given, items) x k = let y = given_is fs o.inner given (x.made, x.bound) in record { made = y.0; bound = y.1; progress = x.progress; connecting = tt; sending = tt; receiving = tt }
   connected_after es fs op o (Refused c given, items) x k = let y = given_is fs o.inner given (x.made, x.bound) in record { made = y.0; bound = y.1; progress = x.progress; connecting = tt; sending = x.sending; receiving = x.receiving }
 
-  pub udp_connected_on : (es : List Entry) (h : Here) (place : ℕ) (o : OpenUdp) (op : Operation) → FoundUdp h place (Udp2Socket.Open o) → o.connecting ≡ Some op → Licensed contexts steps line origin es h
-      → Allows (MayAsk contexts steps) (λ fs ended. Licensed contexts steps line origin fs (put_udp h place (Udp2Socket.Open (udp_connect_left op o ended)))) es (poll_asks op)
+  pub udp_connected_on : (es : List Entry) (h : Here) (place : ℕ) (o : OpenUdp) (op : Operation) → FoundUdp h place (UdpRecord.Open o) → o.connecting ≡ Some op → Licensed contexts steps line origin es h
+      → Allows (MayAsk contexts steps) (λ fs ended. Licensed contexts steps line origin fs (put_udp h place (UdpRecord.Open (udp_connect_left op o ended)))) es (poll_asks op)
   udp_connected_on es h place o op g e i =
       let f : UdpConnectIsFine steps es op = subst (IfOp (UdpConnectIsFine steps es)) e (open_at_place contexts steps line origin is_line es h place o g i).connecting in
-      allows_weaker (MayAsk contexts steps) (λ fs ended. Licensed contexts steps line origin fs h × ConnectLeaves steps es fs op ended) (λ fs ended. Licensed contexts steps line origin fs (put_udp h place (Udp2Socket.Open (udp_connect_left op o ended))))
-      (λ fs ended k. put_udp_fine fs h place (Udp2Socket.Open o) (Udp2Socket.Open (udp_connect_left op o ended)) g (connected_side op o ended) (connected_after es fs op o ended (open_at_place contexts steps line origin is_line fs h place o g k.0) k.1) k.0) es (poll_asks op)
+      allows_weaker (MayAsk contexts steps) (λ fs ended. Licensed contexts steps line origin fs h × ConnectLeaves steps es fs op ended) (λ fs ended. Licensed contexts steps line origin fs (put_udp h place (UdpRecord.Open (udp_connect_left op o ended))))
+      (λ fs ended k. put_udp_fine fs h place (UdpRecord.Open o) (UdpRecord.Open (udp_connect_left op o ended)) g (connected_side op o ended) (connected_after es fs op o ended (open_at_place contexts steps line origin is_line fs h place o g k.0) k.1) k.0) es (poll_asks op)
       (quietly (PeerOn op.who.side) h (λ fs ended. ConnectLeaves steps es fs op ended) es (poll_asks op) i (fine_poll_udp_connect contexts steps op es f))
 
   -- == a datagram
@@ -127,19 +127,19 @@ module _ (contexts : List WasiSocketsCtx) (steps : List Step) (line : ℕ) (orig
   sent_after fs op left (Refused c given, items) s k = rw (s.refused c given items) tt
 
   -- it is on the socket's network socket
-  send_side : (h : Here) (place : ℕ) (o : OpenUdp) (op : Operation) → FoundUdp h place (Udp2Socket.Open o) → sending_in o.outgoing ≡ Some op → Fit h → op.who.side ≡ o.inner.side
-  send_side h place o op g e b = let k : SendOn o.inner.side op = subst (FitSending o.inner.side) e (b.udps place (Udp2Socket.Open o) g).2 in k.of_side
+  send_side : (h : Here) (place : ℕ) (o : OpenUdp) (op : Operation) → FoundUdp h place (UdpRecord.Open o) → sending_in o.outgoing ≡ Some op → Fit h → op.who.side ≡ o.inner.side
+  send_side h place o op g e b = let k : SendOn o.inner.side op = subst (FitSending o.inner.side) e (b.udps place (UdpRecord.Open o) g).2 in k.of_side
 
-  pub udp_sent_on : (es : List Entry) (h : Here) (place : ℕ) (o : OpenUdp) (out : OutgoingStream) (op : Operation) (left : End × List Item → Sending) → FoundUdp h place (Udp2Socket.Open o) → o.outgoing ≡ Some out → out.sending ≡ Sending.InProgress op → SettlesSend op left → RemoteIs es o.inner.side o.inner.remote → Fit h → Licensed contexts steps line origin es h
-      → Allows (MayAsk contexts steps) (λ fs ended. Licensed contexts steps line origin fs (put_udp h place (Udp2Socket.Open (record o { outgoing = Some (with_sending out (left ended)) })))) es (poll_asks (at_remote o.inner.remote op))
+  pub udp_sent_on : (es : List Entry) (h : Here) (place : ℕ) (o : OpenUdp) (out : OutgoingStream) (op : Operation) (left : End × List Item → Sending) → FoundUdp h place (UdpRecord.Open o) → o.outgoing ≡ Some out → out.sending ≡ Sending.InProgress op → SettlesSend op left → RemoteIs es o.inner.side o.inner.remote → Fit h → Licensed contexts steps line origin es h
+      → Allows (MayAsk contexts steps) (λ fs ended. Licensed contexts steps line origin fs (put_udp h place (UdpRecord.Open (record o { outgoing = Some (with_sending out (left ended)) })))) es (poll_asks (at_remote o.inner.remote op))
   udp_sent_on es h place o out op left g e s settles r b i =
       let now : End × List Item → OpenUdp = λ ended. record o { outgoing = Some (with_sending out (left ended)) } in
       let is : sending_in o.outgoing ≡ Some op = ap sending_in e ∙ ap send_op s in
       let f : SendIsFine steps es op = subst (IfOp (SendIsFine steps es)) is (open_at_place contexts steps line origin is_line es h place o g i).sending in
       let its : op.who.side ≡ o.inner.side = send_side h place o op g is b in
-      allows_weaker (MayAsk contexts steps) (λ fs ended. Licensed contexts steps line origin fs h × SendIsFine steps fs (left_of op ended.1)) (λ fs ended. Licensed contexts steps line origin fs (put_udp h place (Udp2Socket.Open (now ended))))
+      allows_weaker (MayAsk contexts steps) (λ fs ended. Licensed contexts steps line origin fs h × SendIsFine steps fs (left_of op ended.1)) (λ fs ended. Licensed contexts steps line origin fs (put_udp h place (UdpRecord.Open (now ended))))
       (λ fs ended k. let x = open_at_place contexts steps line origin is_line fs h place o g k.0 in
-      put_udp_fine fs h place (Udp2Socket.Open o) (Udp2Socket.Open (now ended)) g refl (record { made = x.made; bound = x.bound; progress = x.progress; connecting = x.connecting; sending = sent_after fs op left ended settles k.1; receiving = x.receiving }) k.0) es (poll_asks (at_remote o.inner.remote op))
+      put_udp_fine fs h place (UdpRecord.Open o) (UdpRecord.Open (now ended)) g refl (record { made = x.made; bound = x.bound; progress = x.progress; connecting = x.connecting; sending = sent_after fs op left ended settles k.1; receiving = x.receiving }) k.0) es (poll_asks (at_remote o.inner.remote op))
       (quietly NoPeer h (λ fs ended. SendIsFine steps fs (left_of op ended.1)) es (poll_asks (at_remote o.inner.remote op)) i (fine_poll_send contexts steps op o.inner.remote es f (subst (λ (x : OpId). RemoteIs es x o.inner.remote) (sym its) r)))
 
   -- == a receive
@@ -149,12 +149,12 @@ module _ (contexts : List WasiSocketsCtx) (steps : List Step) (line : ℕ) (orig
   received_after fs op (Done _, items) k = tt
   received_after fs op (Refused c given, items) k = tt
 
-  pub udp_received_on : (es : List Entry) (h : Here) (place : ℕ) (o : OpenUdp) (inc : IncomingStream) (op : Operation) → FoundUdp h place (Udp2Socket.Open o) → o.incoming ≡ Some inc → inc.receiving ≡ Receiving.InProgress op → Licensed contexts steps line origin es h
-      → Allows (MayAsk contexts steps) (λ fs ended. Licensed contexts steps line origin fs (put_udp h place (Udp2Socket.Open (record o { incoming = Some (with_receiving inc (receive_left op ended)) })))) es (poll_asks (wanting inc.remote op))
+  pub udp_received_on : (es : List Entry) (h : Here) (place : ℕ) (o : OpenUdp) (inc : IncomingStream) (op : Operation) → FoundUdp h place (UdpRecord.Open o) → o.incoming ≡ Some inc → inc.receiving ≡ Receiving.InProgress op → Licensed contexts steps line origin es h
+      → Allows (MayAsk contexts steps) (λ fs ended. Licensed contexts steps line origin fs (put_udp h place (UdpRecord.Open (record o { incoming = Some (with_receiving inc (receive_left op ended)) })))) es (poll_asks (wanting inc.remote op))
   udp_received_on es h place o inc op g e s i =
       let now : End × List Item → OpenUdp = λ ended. record o { incoming = Some (with_receiving inc (receive_left op ended)) } in
       let f : ReceiveIsFine steps es op = subst (IfOp (ReceiveIsFine steps es)) (ap receiving_in e ∙ ap receive_op s) (open_at_place contexts steps line origin is_line es h place o g i).receiving in
-      allows_weaker (MayAsk contexts steps) (λ fs ended. Licensed contexts steps line origin fs h × ReceiveIsFine steps fs (left_of op ended.1)) (λ fs ended. Licensed contexts steps line origin fs (put_udp h place (Udp2Socket.Open (now ended))))
+      allows_weaker (MayAsk contexts steps) (λ fs ended. Licensed contexts steps line origin fs h × ReceiveIsFine steps fs (left_of op ended.1)) (λ fs ended. Licensed contexts steps line origin fs (put_udp h place (UdpRecord.Open (now ended))))
       (λ fs ended k. let x = open_at_place contexts steps line origin is_line fs h place o g k.0 in
-      put_udp_fine fs h place (Udp2Socket.Open o) (Udp2Socket.Open (now ended)) g refl (record { made = x.made; bound = x.bound; progress = x.progress; connecting = x.connecting; sending = x.sending; receiving = received_after fs op ended k.1 }) k.0) es (poll_asks (wanting inc.remote op))
+      put_udp_fine fs h place (UdpRecord.Open o) (UdpRecord.Open (now ended)) g refl (record { made = x.made; bound = x.bound; progress = x.progress; connecting = x.connecting; sending = x.sending; receiving = received_after fs op ended k.1 }) k.0) es (poll_asks (wanting inc.remote op))
       (quietly NoPeer h (λ fs ended. ReceiveIsFine steps fs (left_of op ended.1)) es (poll_asks (wanting inc.remote op)) i (fine_poll_receive contexts steps op inc.remote es f))

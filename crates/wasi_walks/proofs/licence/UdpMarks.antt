@@ -26,7 +26,7 @@ use Rattle.wasi_records.specs.declared.records.Record.{Record}
 use Rattle.wasi_world.specs.declared.call.HandleKind.{HandleKind}
 use Rattle.std.specs.Prelude.{◌⊎◌}
 use Rattle.wasi_records.specs.declared.udp.OpenUdp.{OpenUdp}
-use Rattle.wasi_records.specs.declared.udp.Udp2Socket.{Udp2Socket}
+use Rattle.wasi_records.specs.declared.udp.UdpRecord.{UdpRecord}
 use Rattle.wasi_udp.specs.Create.{after_create, new_create}
 use Rattle.wasi_udp.specs.Shape.{Socket}
 use Rattle.wasi_udp.specs.Socket.{after_local, after_peer}
@@ -58,25 +58,25 @@ module _ (contexts : List WasiSocketsCtx) (steps : List Step) (line : ℕ) (orig
   udp_local n side x _ q e = absurd (cc)
 
   -- what is asked of an open socket, by an operation that names it
-  asked_open : (es : List Entry) (h : Here) (place : ℕ) (o : OpenUdp) (op : OpId) (c : Call) → FoundUdp h place (Udp2Socket.Open o) → NoMark c → ((x : OpId) → c ≡ Call.Local x → o.inner.side ≡ x) → Licensed contexts steps line origin es h → (told : Told) → Licensed contexts steps line origin (es ++ entry op c told ∷ []) h
+  asked_open : (es : List Entry) (h : Here) (place : ℕ) (o : OpenUdp) (op : OpId) (c : Call) → FoundUdp h place (UdpRecord.Open o) → NoMark c → ((x : OpId) → c ≡ Call.Local x → o.inner.side ≡ x) → Licensed contexts steps line origin es h → (told : Told) → Licensed contexts steps line origin (es ++ entry op c told ∷ []) h
   asked_open es h place o op c g m its i told = asked_fine contexts steps line origin is_line es h op c told m (udp_spares es h o.inner.side c (open_at_place contexts steps line origin is_line es h place o g i).made.by its i) i
 
-  pub udp_asked : (es : List Entry) (h : Here) (place n : ℕ) (o : OpenUdp) (c : Call) → h.at ≡ Some (place, n) → FoundUdp h place (Udp2Socket.Open o) → IsUdpQuestionOf line origin n o.inner.side c → Licensed contexts steps line origin es h
+  pub udp_asked : (es : List Entry) (h : Here) (place n : ℕ) (o : OpenUdp) (c : Call) → h.at ≡ Some (place, n) → FoundUdp h place (UdpRecord.Open o) → IsUdpQuestionOf line origin n o.inner.side c → Licensed contexts steps line origin es h
       → MayAsk contexts steps es (own_of n) c × ((told : Told) → Licensed contexts steps line origin (es ++ entry (own_of n) c told ∷ []) h)
   udp_asked es h place n o c at g q i =
-      let k = udp_may n es o.inner.side c q (i.udp_names place n (Udp2Socket.Open o) at g) in
+      let k = udp_may n es o.inner.side c q (i.udp_names place n (UdpRecord.Open o) at g) in
       (k.0, asked_open es h place o (own_of n) c g k.1 (λ x e. udp_local n o.inner.side x c q e) i)
 
   -- the remote address
-  pub udp_peered : (es : List Entry) (h : Here) (place : ℕ) (o : OpenUdp) → h.at ≡ Some (place, line) → FoundUdp h place (Udp2Socket.Open o) → Licensed contexts steps line origin es h
-      → MayAsk contexts steps es (own_of line) (Call.Peer o.inner.side) × ((told : Told) → Licensed contexts steps line origin (es ++ entry (own_of line) (Call.Peer o.inner.side) told ∷ []) (put_udp h place (Udp2Socket.Open (with_udp_inner o (after_peer o.inner (told_addr told))))))
+  pub udp_peered : (es : List Entry) (h : Here) (place : ℕ) (o : OpenUdp) → h.at ≡ Some (place, line) → FoundUdp h place (UdpRecord.Open o) → Licensed contexts steps line origin es h
+      → MayAsk contexts steps es (own_of line) (Call.Peer o.inner.side) × ((told : Told) → Licensed contexts steps line origin (es ++ entry (own_of line) (Call.Peer o.inner.side) told ∷ []) (put_udp h place (UdpRecord.Open (with_udp_inner o (after_peer o.inner (told_addr told))))))
   udp_peered es h place o at g i = (
-    inl (i.udp_names place line (Udp2Socket.Open o) at g),
+    inl (i.udp_names place line (UdpRecord.Open o) at g),
     λ told.
         let fs : List Entry = es ++ entry (own_of line) (Call.Peer o.inner.side) told ∷ [] in
         let j = asked_open es h place o (own_of line) (Call.Peer o.inner.side) g tt (λ x e. absurd (cc)) i told in
         let f = open_at_place contexts steps line origin is_line fs h place o g j in
-        put_udp_fine fs h place (Udp2Socket.Open o) (Udp2Socket.Open (with_udp_inner o (after_peer o.inner (told_addr told)))) g refl (record { made = f.made; bound = f.bound; progress = f.progress; connecting = f.connecting; sending = f.sending; receiving = f.receiving }) j,
+        put_udp_fine fs h place (UdpRecord.Open o) (UdpRecord.Open (with_udp_inner o (after_peer o.inner (told_addr told)))) g refl (record { made = f.made; bound = f.bound; progress = f.progress; connecting = f.connecting; sending = f.sending; receiving = f.receiving }) j,
   )
 
   -- == whether it is bound
@@ -104,22 +104,22 @@ module _ (contexts : List WasiSocketsCtx) (steps : List Step) (line : ℕ) (orig
       by_test false = refl
   learned_side o _ = refl
 
-  pub udp_learned : (es : List Entry) (h : Here) (place part : ℕ) (o : OpenUdp) → h.at ≡ Some (place, line) → FoundUdp h place (Udp2Socket.Open o) → Licensed contexts steps line origin es h
-      → MayAsk contexts steps es (part_of line part) (Call.Local o.inner.side) × ((told : Told) → IsAddr told → Licensed contexts steps line origin (es ++ entry (part_of line part) (Call.Local o.inner.side) told ∷ []) (put_udp h place (Udp2Socket.Open (with_udp_inner o (after_local o.inner (told_addr told)).1))))
+  pub udp_learned : (es : List Entry) (h : Here) (place part : ℕ) (o : OpenUdp) → h.at ≡ Some (place, line) → FoundUdp h place (UdpRecord.Open o) → Licensed contexts steps line origin es h
+      → MayAsk contexts steps es (part_of line part) (Call.Local o.inner.side) × ((told : Told) → IsAddr told → Licensed contexts steps line origin (es ++ entry (part_of line part) (Call.Local o.inner.side) told ∷ []) (put_udp h place (UdpRecord.Open (with_udp_inner o (after_local o.inner (told_addr told)).1))))
   udp_learned es h place part o at g i = (
-    inl (names_part contexts steps line origin is_line es part o.inner.side (i.udp_names place line (Udp2Socket.Open o) at g)),
+    inl (names_part contexts steps line origin is_line es part o.inner.side (i.udp_names place line (UdpRecord.Open o) at g)),
     λ told fits.
         let fs : List Entry = es ++ entry (part_of line part) (Call.Local o.inner.side) told ∷ [] in
         let j = asked_open es h place o (part_of line part) (Call.Local o.inner.side) g tt (λ x e. cc) i told in
-        put_udp_fine fs h place (Udp2Socket.Open o) (Udp2Socket.Open (with_udp_inner o (after_local o.inner (told_addr told)).1)) g (learned_side o told) (learned_open fs part o told fits (has_last es _) (open_at_place contexts steps line origin is_line fs h place o g j)) j,
+        put_udp_fine fs h place (UdpRecord.Open o) (UdpRecord.Open (with_udp_inner o (after_local o.inner (told_addr told)).1)) g (learned_side o told) (learned_open fs part o told fits (has_last es _) (open_at_place contexts steps line origin is_line fs h place o g j)) j,
   )
 
   -- == the end
-  pub udp_closed : (es : List Entry) (h : Here) (place : ℕ) (o : OpenUdp) (told : Told) → FoundUdp h place (Udp2Socket.Open o) → Licensed contexts steps line origin es h → Licensed contexts steps line origin (es ++ entry (own_of line) (Call.Close o.inner.side) told ∷ []) (put_udp h place (Udp2Socket.Closed o.inner.side))
+  pub udp_closed : (es : List Entry) (h : Here) (place : ℕ) (o : OpenUdp) (told : Told) → FoundUdp h place (UdpRecord.Open o) → Licensed contexts steps line origin es h → Licensed contexts steps line origin (es ++ entry (own_of line) (Call.Close o.inner.side) told ∷ []) (put_udp h place (UdpRecord.Closed o.inner.side))
   udp_closed es h place o told g i =
       let fs : List Entry = es ++ entry (own_of line) (Call.Close o.inner.side) told ∷ [] in
       let j = asked_fine contexts steps line origin is_line es h (own_of line) (Call.Close o.inner.side) told tt (spares contexts steps line origin is_line h (Call.Close o.inner.side) tt) i in
-      put_udp_fine fs h place (Udp2Socket.Open o) (Udp2Socket.Closed o.inner.side) g refl (record { maker = o.inner.maker; family = o.inner.family; made = (open_at_place contexts steps line origin is_line fs h place o g j).made }) j
+      put_udp_fine fs h place (UdpRecord.Open o) (UdpRecord.Closed o.inner.side) g refl (record { maker = o.inner.maker; family = o.inner.family; made = (open_at_place contexts steps line origin is_line fs h place o g j).made }) j
 
   -- == a create
   may_use : (n : ℕ) (o : Option WasiSocketsCtx) → slice_get contexts n ≡ o → (context_in o).udp ≡ true → MayUseUdp contexts n (context_in o).name
@@ -143,7 +143,7 @@ module _ (contexts : List WasiSocketsCtx) (steps : List Step) (line : ℕ) (orig
   created_so : (fs : List Entry) (h : Here) (ctx : WasiSocketsCtx) (family : SocketAddressFamily) → CreatesUdp contexts ctx family origin → h.at ≡ None → h.made ≡ Past → Has fs (entry (own_of line) (Call.UdpCreate ctx.name family) Told.Done) → Licensed contexts steps line origin fs h
       → Licensed contexts steps line origin fs (udp_begun h (Ok (new_create (own_of line) ctx.name family)))
   created_so fs h ctx family c nowhere past has j =
-      let now = Udp2Socket.Creating (new_create (own_of line) ctx.name family) in
+      let now = UdpRecord.Creating (new_create (own_of line) ctx.name family) in
       record {
         fine = state_joined_udp contexts steps fs h.machine now (record { made = record { by = record { origin = origin; at = is_line; holds = makes_udp ctx family origin c }; created = has }; own = refl; last = refl; left = refl }) j.fine;
         names = λ p n r a e. absurd (no_place p n (sym nowhere ∙ a));
@@ -205,10 +205,10 @@ module _ (contexts : List WasiSocketsCtx) (steps : List Step) (line : ℕ) (orig
     pub family : SocketAddressFamily
     pub made : UdpMade steps es side maker family
 
-  is_made : (es : List Entry) (u : Udp2Socket) → UdpIsFine steps es u → IsMade es (udp_side u)
-  is_made es (Udp2Socket.Creating create) f = record { maker = create.operation.who.context; family = create.family; made = f.made }
-  is_made es (Udp2Socket.Open o) f = record { maker = o.inner.maker; family = o.inner.family; made = f.made }
-  is_made es (Udp2Socket.Closed side) f = record { maker = f.maker; family = f.family; made = f.made }
+  is_made : (es : List Entry) (u : UdpRecord) → UdpIsFine steps es u → IsMade es (udp_side u)
+  is_made es (UdpRecord.Creating create) f = record { maker = create.operation.who.context; family = create.family; made = f.made }
+  is_made es (UdpRecord.Open o) f = record { maker = o.inner.maker; family = o.inner.family; made = f.made }
+  is_made es (UdpRecord.Closed side) f = record { maker = f.maker; family = f.family; made = f.made }
 
   -- a mark by an operation that isn't the own one of an accept, of no TCP socket's handle
   pub mark_fine : (es : List Entry) (h : Here) (op : OpId) (kind : Kind) (parent : Option ℕ) (sock : Option OpId) → BeganBy steps op (IsMarkOf es op (name_of kind) parent sock) → ((c s : ℕ) → origin ≡ Step.TcpAccept c s → op ≡ own_of line → ⊥) → (name_of kind ≡ name.Tcp2 → ⊥)
@@ -235,7 +235,7 @@ module _ (contexts : List WasiSocketsCtx) (steps : List Step) (line : ℕ) (orig
       ))
 
   -- a new handle of a UDP socket
-  pub udp_marked : (es : List Entry) (h : Here) (place : ℕ) (u : Udp2Socket) → FoundUdp h place u → Licensed contexts steps line origin es h
+  pub udp_marked : (es : List Entry) (h : Here) (place : ℕ) (u : UdpRecord) → FoundUdp h place u → Licensed contexts steps line origin es h
       → Allows (MayAsk contexts steps) (λ fs made. Licensed contexts steps line origin fs (record h { machine = record h.machine { table = made.1 }; made = Past })) es (make_asks h.machine.table (udp_side u) (Udp2 place) None (Some (udp_side u)))
   udp_marked es h place u g i =
       let m = is_made es u (i.fine.udp place u g) in
@@ -291,7 +291,7 @@ module _ (contexts : List WasiSocketsCtx) (steps : List Step) (line : ℕ) (orig
       of_udp (Some (Udp2 q)) p d = d
       of_udp _ p d = absurd (cc)
 
-      marked_of : (t : Told) (u : Udp2Socket) → udp2_at h.machine.store.records place ≡ Some u
+      marked_of : (t : Told) (u : UdpRecord) → udp2_at h.machine.store.records place ≡ Some u
           → (let sock = udp_side_at (udp2_at h.machine.store.records place) in let e = entry (own_of n) (Call.Made h.machine.table.next (name_of kind) (Some handle) sock) t in Has (es ++ e ∷ []) (entry (own_of n) (Call.Made h.machine.table.next (name_of kind) (Some handle) (Some (udp_side u))) t))
       marked_of t u d =
           let sock = udp_side_at (udp2_at h.machine.store.records place) in

@@ -1,5 +1,5 @@
 -- The moves of a line that are on UDP sockets keep that the state fits the log.
-use Rattle.wasi_walks.proofs.Words.{Entry, Has, IpSocketAddress, IsMarkedWith, List, Option, Some, Standing, Step, Tcp2Socket, Told, WasiSocketsCtx, ap}
+use Rattle.wasi_walks.proofs.Words.{Entry, Has, IpSocketAddress, IsMarkedWith, List, Option, Some, Standing, Step, TcpRecord, Told, WasiSocketsCtx, ap}
 use Rattle.wasi_walks.proofs.Words.{call_place, handles_of, inl, inr, kind_at, own_of, refl, slice_get, step_at, subst, sym, ℕ, ◌∙◌, ◌≡◌, ◌⊎◌}
 use Rattle.wasi_walks.specs.Licence.{IsBoundSide, IsSendOf, IsStreamOf, IsUdpBindTo, IsUdpConnectTo, Receives, UdpCreated, WasDisconnected}
 use Rattle.wasi_walks.proofs.walks.Moves.{Own, ToConnect, ToStream, part_of, begun_udp_connect, sending_now, receiving_now, sending_in, receiving_in, Here, put_udp, FoundUdp, record_of, udp_record_of, UdpPlain, IsUdpSettled, begun_udp_bind, Used, IsOfHandle}
@@ -29,16 +29,16 @@ use Rattle.wasi_records.specs.Records.{tcp2_at, tcp2_of, udp2_at, udp2_of}
 use Rattle.wasi_records.specs.Udp.{udp_side, with_udp_progress}
 use Rattle.wasi_records.specs.declared.records.Record.{Record}
 use Rattle.wasi_records.specs.declared.udp.OpenUdp.{OpenUdp}
-use Rattle.wasi_records.specs.declared.udp.Udp2Socket.{Udp2Socket}
+use Rattle.wasi_records.specs.declared.udp.UdpRecord.{UdpRecord}
 use Rattle.wasi_records.specs.declared.udp.UdpInProgress.{UdpInProgress}
 
 -- a record is of one kind
-one_kind : (o : Option Record) (r : Tcp2Socket) (u : Udp2Socket) → tcp2_of o ≡ Some r → udp2_of o ≡ Some u → ⊥
-one_kind (Some (Record.Tcp2 x)) r u e f = absurd (cc)
-one_kind (Some (Record.Udp2 x)) r u e f = absurd (cc)
+one_kind : (o : Option Record) (r : TcpRecord) (u : UdpRecord) → tcp2_of o ≡ Some r → udp2_of o ≡ Some u → ⊥
+one_kind (Some (Record.Tcp x)) r u e f = absurd (cc)
+one_kind (Some (Record.Udp x)) r u e f = absurd (cc)
 one_kind _ r u e f = absurd (cc)
 
-pub not_both : (records : List Record) (place : ℕ) (r : Tcp2Socket) (u : Udp2Socket) → tcp2_at records place ≡ Some r → udp2_at records place ≡ Some u → ⊥
+pub not_both : (records : List Record) (place : ℕ) (r : TcpRecord) (u : UdpRecord) → tcp2_at records place ≡ Some r → udp2_at records place ≡ Some u → ⊥
 not_both records place r u e f = one_kind (slice_get records place) r u e f
 
 -- a datagram that may go goes to where it is for
@@ -65,11 +65,11 @@ goes_for d socket = by_size (nat_lt 65535 (length d.bytes))
 
 module _ (contexts : List WasiSocketsCtx) (steps : List Step) (line : ℕ) (origin : Step) (is_line : step_at steps line ≡ Some origin) where
   -- == the record that the line works on
-  names_at : (es : List Entry) (h : Here) (handle place : ℕ) → Has (handles_of origin) handle → udp_record_of (kind_at h.machine.table handle) ≡ Some place → Licensed contexts steps line origin es h → (u : Udp2Socket) → FoundUdp h place u → Names steps es (own_of line) (udp_side u)
+  names_at : (es : List Entry) (h : Here) (handle place : ℕ) → Has (handles_of origin) handle → udp_record_of (kind_at h.machine.table handle) ≡ Some place → Licensed contexts steps line origin es h → (u : UdpRecord) → FoundUdp h place u → Names steps es (own_of line) (udp_side u)
   names_at es h handle place named e i u g =
       let n = names_udp es h.machine.store.records handle place (kind_at h.machine.table handle) e (i.fine.handles handle) in
       let same : n.found ≡ u = same_udp n.found u (sym n.at ∙ g) in
-      let w = subst (λ (x : Udp2Socket). IsMarkedWith es handle (Some (udp_side x))) same n.marked in
+      let w = subst (λ (x : UdpRecord). IsMarkedWith es handle (Some (udp_side x))) same n.marked in
       record { origin = origin; at = is_line; holds = record { handle = handle; named = named; is = record { op = w.op; kind = w.kind; parent = w.parent; told = w.told; mark = w.mark } } }
 
   -- a handle of a TCP socket is of no UDP socket, and the other way round
@@ -101,11 +101,11 @@ module _ (contexts : List WasiSocketsCtx) (steps : List Step) (line : ℕ) (orig
       by_record (OfUdp found at names) = elsewhere es h _ refl refl refl i i.fine
           (λ k n r a g. absurd (not_both h.machine.store.records (call_place s.call) r found (ap (tcp2_at h.machine.store.records) (pair_first (call_place s.call) s.ids.line k n a) ∙ g) at))
           (λ k n u a g. (let same : found ≡ u = same_udp found u (sym at ∙ (ap (udp2_at h.machine.store.records) (pair_first (call_place s.call) s.ids.line k n a) ∙ g)) in
-          subst (λ (x : ℕ). Names steps es (own_of x) (udp_side u)) (pair_second (call_place s.call) s.ids.line k n a) (subst (λ (x : Udp2Socket). Names steps es (own_of s.ids.line) (udp_side x)) same names)))
+          subst (λ (x : ℕ). Names steps es (own_of x) (udp_side u)) (pair_second (call_place s.call) s.ids.line k n a) (subst (λ (x : UdpRecord). Names steps es (own_of s.ids.line) (udp_side x)) same names)))
 
   -- == the UDP socket
-  pub open_at_place : (es : List Entry) (h : Here) (place : ℕ) (o : OpenUdp) → FoundUdp h place (Udp2Socket.Open o) → Licensed contexts steps line origin es h → OpenIsFine steps es o
-  open_at_place es h place o g i = i.fine.udp place (Udp2Socket.Open o) g
+  pub open_at_place : (es : List Entry) (h : Here) (place : ℕ) (o : OpenUdp) → FoundUdp h place (UdpRecord.Open o) → Licensed contexts steps line origin es h → OpenIsFine steps es o
+  open_at_place es h place o g i = i.fine.udp place (UdpRecord.Open o) g
 
   progress_kept : (es : List Entry) (old now : UdpInProgress) → (now ≡ old) ⊎ (IsUdpSettled old × IsUdpSettled now) → UdpProgressIsFine steps es old → UdpProgressIsFine steps es now
   progress_kept es old now (inl e) f = subst (UdpProgressIsFine steps es) (sym e) f
@@ -123,23 +123,23 @@ module _ (contexts : List WasiSocketsCtx) (steps : List Step) (line : ℕ) (orig
     receiving = kept_op (IfOp (ReceiveIsFine steps es)) tt (receiving_in o.incoming) (receiving_in now.incoming) p.receives f.receiving;
   }
 
-  pub udp_changes : (es : List Entry) (h : Here) (place : ℕ) (o now : OpenUdp) → FoundUdp h place (Udp2Socket.Open o) → UdpPlain o now → Licensed contexts steps line origin es h → Licensed contexts steps line origin es (put_udp h place (Udp2Socket.Open now))
-  udp_changes es h place o now g p i = put_udp_fine es h place (Udp2Socket.Open o) (Udp2Socket.Open now) g p.side (plain_open es o now p (open_at_place es h place o g i)) i
+  pub udp_changes : (es : List Entry) (h : Here) (place : ℕ) (o now : OpenUdp) → FoundUdp h place (UdpRecord.Open o) → UdpPlain o now → Licensed contexts steps line origin es h → Licensed contexts steps line origin es (put_udp h place (UdpRecord.Open now))
+  udp_changes es h place o now g p i = put_udp_fine es h place (UdpRecord.Open o) (UdpRecord.Open now) g p.side (plain_open es o now p (open_at_place es h place o g i)) i
 
-  pub begins_udp_bind : (es : List Entry) (h : Here) (place : ℕ) (o : OpenUdp) (a : IpSocketAddress) → h.at ≡ Some (place, line) → FoundUdp h place (Udp2Socket.Open o) → IsUdpBindTo a origin → Licensed contexts steps line origin es h
-      → Licensed contexts steps line origin es (record (put_udp h place (Udp2Socket.Open (with_udp_progress o (UdpInProgress.Binding (begun_udp_bind (own_of line) o a))))) { own = Used })
+  pub begins_udp_bind : (es : List Entry) (h : Here) (place : ℕ) (o : OpenUdp) (a : IpSocketAddress) → h.at ≡ Some (place, line) → FoundUdp h place (UdpRecord.Open o) → IsUdpBindTo a origin → Licensed contexts steps line origin es h
+      → Licensed contexts steps line origin es (record (put_udp h place (UdpRecord.Open (with_udp_progress o (UdpInProgress.Binding (begun_udp_bind (own_of line) o a))))) { own = Used })
   begins_udp_bind es h place o a at g to i =
       let f = open_at_place es h place o g i in
       let begun : UdpBindIsFine steps es (begun_udp_bind (own_of line) o a) = record {
         addr = a;
         to = record { origin = origin; at = is_line; holds = to };
         udp = f.made.by;
-        works = record { family = o.inner.family; made = UdpCreated o.inner.side Told.Done f.made.created; named = i.udp_names place line (Udp2Socket.Open o) at g };
+        works = record { family = o.inner.family; made = UdpCreated o.inner.side Told.Done f.made.created; named = i.udp_names place line (UdpRecord.Open o) at g };
         last = refl;
         left = UdpUnchecked;
       } in
       let now = with_udp_progress o (UdpInProgress.Binding (begun_udp_bind (own_of line) o a)) in
-      spent es _ (put_udp_fine es h place (Udp2Socket.Open o) (Udp2Socket.Open now) g refl (record { made = f.made; bound = f.bound; progress = begun; connecting = f.connecting; sending = f.sending; receiving = f.receiving }) i)
+      spent es _ (put_udp_fine es h place (UdpRecord.Open o) (UdpRecord.Open now) g refl (record { made = f.made; bound = f.bound; progress = begun; connecting = f.connecting; sending = f.sending; receiving = f.receiving }) i)
 
   -- == datagram streams
   pub remembers_streams : (es : List Entry) (h : Here) (c handle place : ℕ) (remote : Option IpSocketAddress) → origin ≡ Step.UdpStream c handle remote → Licensed contexts steps line origin es h → Licensed contexts steps line origin es (record h { made = ToStream line handle place })
@@ -152,8 +152,8 @@ module _ (contexts : List WasiSocketsCtx) (steps : List Step) (line : ℕ) (orig
   pub names_part : (es : List Entry) (n : ℕ) (side : OpId) → Names steps es (own_of line) side → Names steps es (part_of line n) side
   names_part es n side k = record { origin = k.origin; at = k.at; holds = k.holds }
 
-  pub begins_udp_connect : (es : List Entry) (h : Here) (place : ℕ) (o : OpenUdp) (a : IpSocketAddress) → h.at ≡ Some (place, line) → FoundUdp h place (Udp2Socket.Open o) → IsUdpConnectTo a origin → o.inner.bound ≡ true → Licensed contexts steps line origin es h
-      → Licensed contexts steps line origin es (record (put_udp h place (Udp2Socket.Open (record o { connecting = Some (begun_udp_connect (own_of line) o a) }))) { own = ToConnect place })
+  pub begins_udp_connect : (es : List Entry) (h : Here) (place : ℕ) (o : OpenUdp) (a : IpSocketAddress) → h.at ≡ Some (place, line) → FoundUdp h place (UdpRecord.Open o) → IsUdpConnectTo a origin → o.inner.bound ≡ true → Licensed contexts steps line origin es h
+      → Licensed contexts steps line origin es (record (put_udp h place (UdpRecord.Open (record o { connecting = Some (begun_udp_connect (own_of line) o a) }))) { own = ToConnect place })
   begins_udp_connect es h place o a at g to b i =
       let f = open_at_place es h place o g i in
       let begun : UdpConnectIsFine steps es (begun_udp_connect (own_of line) o a) = record {
@@ -162,13 +162,13 @@ module _ (contexts : List WasiSocketsCtx) (steps : List Step) (line : ℕ) (orig
         udp = f.made.by;
         family = o.inner.family;
         made = UdpCreated o.inner.side Told.Done f.made.created;
-        named = i.udp_names place line (Udp2Socket.Open o) at g;
+        named = i.udp_names place line (UdpRecord.Open o) at g;
         out = inl (f.bound b);
         last = refl;
         left = ConnectWhole;
       } in
-      let now = Udp2Socket.Open (record o { connecting = Some (begun_udp_connect (own_of line) o a) }) in
-      owned es _ (ToConnect place) (λ u. absurd (cc)) (λ x t. absurd t) (put_udp_fine es h place (Udp2Socket.Open o) now g refl (record { made = f.made; bound = f.bound; progress = f.progress; connecting = begun; sending = f.sending; receiving = f.receiving }) i)
+      let now = UdpRecord.Open (record o { connecting = Some (begun_udp_connect (own_of line) o a) }) in
+      owned es _ (ToConnect place) (λ u. absurd (cc)) (λ x t. absurd t) (put_udp_fine es h place (UdpRecord.Open o) now g refl (record { made = f.made; bound = f.bound; progress = f.progress; connecting = begun; sending = f.sending; receiving = f.receiving }) i)
 
   -- where a datagram goes
   first_left : (es : List Entry) (op side : OpId) (maker : ℕ) (family : SocketAddressFamily) (d : OutgoingDatagram) (to : Result Destination ErrorCode) (b : Bool) → GoesFor d to → (b ≡ true → IsBoundSide es side ⊎ WasDisconnected es side)
@@ -177,8 +177,8 @@ module _ (contexts : List WasiSocketsCtx) (steps : List Step) (line : ℕ) (orig
   first_left es op side maker family d (Ok to) true k out = SendUnchecked to.kept to.addr k (inl (out refl))
   first_left es op side maker family d (Ok to) false k out = SendUnbound to.kept to.addr k
 
-  pub begins_send : (es : List Entry) (h : Here) (place n : ℕ) (o : OpenUdp) (out : OutgoingStream) (d : OutgoingDatagram) (bound : Bool) → h.at ≡ Some (place, line) → FoundUdp h place (Udp2Socket.Open o) → IsSendOf n d origin → (bound ≡ true → o.inner.bound ≡ true) → h.own ≡ Own.Names n → Licensed contexts steps line origin es h
-      → Licensed contexts steps line origin es (record (put_udp h place (Udp2Socket.Open (sending_now o out (send_start (part_of line n) o.inner d.bytes d.remote_address bound)))) { own = Own.Names (n + 1) })
+  pub begins_send : (es : List Entry) (h : Here) (place n : ℕ) (o : OpenUdp) (out : OutgoingStream) (d : OutgoingDatagram) (bound : Bool) → h.at ≡ Some (place, line) → FoundUdp h place (UdpRecord.Open o) → IsSendOf n d origin → (bound ≡ true → o.inner.bound ≡ true) → h.own ≡ Own.Names n → Licensed contexts steps line origin es h
+      → Licensed contexts steps line origin es (record (put_udp h place (UdpRecord.Open (sending_now o out (send_start (part_of line n) o.inner d.bytes d.remote_address bound)))) { own = Own.Names (n + 1) })
   begins_send es h place n o out d bound at g is known u i =
       let f = open_at_place es h place o g i in
       let op = send_start (part_of line n) o.inner d.bytes d.remote_address bound in
@@ -188,18 +188,18 @@ module _ (contexts : List WasiSocketsCtx) (steps : List Step) (line : ℕ) (orig
         udp = f.made.by;
         family = o.inner.family;
         made = UdpCreated o.inner.side Told.Done f.made.created;
-        named = names_part es n o.inner.side (i.udp_names place line (Udp2Socket.Open o) at g);
+        named = names_part es n o.inner.side (i.udp_names place line (UdpRecord.Open o) at g);
         last = refl;
         left = first_left es (part_of line n) o.inner.side o.inner.maker o.inner.family d (send_to o.inner d.bytes d.remote_address) bound (goes_for d o.inner) (λ b. f.bound (known b));
       } in
-      owned es _ (Own.Names (n + 1)) (λ e. absurd (cc)) (next_shrinks line n h.own u) (put_udp_fine es h place (Udp2Socket.Open o) (Udp2Socket.Open (sending_now o out op)) g refl (record { made = f.made; bound = f.bound; progress = f.progress; connecting = f.connecting; sending = begun; receiving = f.receiving }) i)
+      owned es _ (Own.Names (n + 1)) (λ e. absurd (cc)) (next_shrinks line n h.own u) (put_udp_fine es h place (UdpRecord.Open o) (UdpRecord.Open (sending_now o out op)) g refl (record { made = f.made; bound = f.bound; progress = f.progress; connecting = f.connecting; sending = begun; receiving = f.receiving }) i)
 
   received_first : (b : Bool) → IsLeftOfReceive (receive_left None (receive_first b))
   received_first true = IsLeftOfReceive.Unreceived None
   received_first false = IsLeftOfReceive.ToRefuse InvalidState
 
-  pub begins_receive : (es : List Entry) (h : Here) (place n : ℕ) (o : OpenUdp) (inc : IncomingStream) (bound : Bool) → h.at ≡ Some (place, line) → FoundUdp h place (Udp2Socket.Open o) → Receives origin → h.own ≡ Own.Names n → Licensed contexts steps line origin es h
-      → Licensed contexts steps line origin es (record (put_udp h place (Udp2Socket.Open (receiving_now o inc (receive_start (part_of line n) o.inner bound)))) { own = Own.Names (n + 1) })
+  pub begins_receive : (es : List Entry) (h : Here) (place n : ℕ) (o : OpenUdp) (inc : IncomingStream) (bound : Bool) → h.at ≡ Some (place, line) → FoundUdp h place (UdpRecord.Open o) → Receives origin → h.own ≡ Own.Names n → Licensed contexts steps line origin es h
+      → Licensed contexts steps line origin es (record (put_udp h place (UdpRecord.Open (receiving_now o inc (receive_start (part_of line n) o.inner bound)))) { own = Own.Names (n + 1) })
   begins_receive es h place n o inc bound at g is u i =
       let f = open_at_place es h place o g i in
       let op = receive_start (part_of line n) o.inner bound in
@@ -207,19 +207,19 @@ module _ (contexts : List WasiSocketsCtx) (steps : List Step) (line : ℕ) (orig
         began = record { origin = origin; at = is_line; holds = is };
         family = o.inner.family;
         made = UdpCreated o.inner.side Told.Done f.made.created;
-        named = names_part es n o.inner.side (i.udp_names place line (Udp2Socket.Open o) at g);
+        named = names_part es n o.inner.side (i.udp_names place line (UdpRecord.Open o) at g);
         last = refl;
         left = received_first bound;
       } in
-      owned es _ (Own.Names (n + 1)) (λ e. absurd (cc)) (next_shrinks line n h.own u) (put_udp_fine es h place (Udp2Socket.Open o) (Udp2Socket.Open (receiving_now o inc op)) g refl (record { made = f.made; bound = f.bound; progress = f.progress; connecting = f.connecting; sending = f.sending; receiving = begun }) i)
+      owned es _ (Own.Names (n + 1)) (λ e. absurd (cc)) (next_shrinks line n h.own u) (put_udp_fine es h place (UdpRecord.Open o) (UdpRecord.Open (receiving_now o inc op)) g refl (record { made = f.made; bound = f.bound; progress = f.progress; connecting = f.connecting; sending = f.sending; receiving = begun }) i)
 
   -- == a pending call is given up
-  pub cancels_udp_bind : (es : List Entry) (h : Here) (place : ℕ) (o : OpenUdp) → FoundUdp h place (Udp2Socket.Open o) → Licensed contexts steps line origin es h → Licensed contexts steps line origin es (put_udp h place (Udp2Socket.Open (with_udp_progress o UdpInProgress.Nothing)))
+  pub cancels_udp_bind : (es : List Entry) (h : Here) (place : ℕ) (o : OpenUdp) → FoundUdp h place (UdpRecord.Open o) → Licensed contexts steps line origin es h → Licensed contexts steps line origin es (put_udp h place (UdpRecord.Open (with_udp_progress o UdpInProgress.Nothing)))
   cancels_udp_bind es h place o g i =
       let f = open_at_place es h place o g i in
-      put_udp_fine es h place (Udp2Socket.Open o) (Udp2Socket.Open (with_udp_progress o UdpInProgress.Nothing)) g refl (record { made = f.made; bound = f.bound; progress = tt; connecting = f.connecting; sending = f.sending; receiving = f.receiving }) i
+      put_udp_fine es h place (UdpRecord.Open o) (UdpRecord.Open (with_udp_progress o UdpInProgress.Nothing)) g refl (record { made = f.made; bound = f.bound; progress = tt; connecting = f.connecting; sending = f.sending; receiving = f.receiving }) i
 
-  pub cancels_udp_connect : (es : List Entry) (h : Here) (place : ℕ) (o : OpenUdp) → FoundUdp h place (Udp2Socket.Open o) → Licensed contexts steps line origin es h → Licensed contexts steps line origin es (put_udp h place (Udp2Socket.Open (record o { connecting = None })))
+  pub cancels_udp_connect : (es : List Entry) (h : Here) (place : ℕ) (o : OpenUdp) → FoundUdp h place (UdpRecord.Open o) → Licensed contexts steps line origin es h → Licensed contexts steps line origin es (put_udp h place (UdpRecord.Open (record o { connecting = None })))
   cancels_udp_connect es h place o g i =
       let f = open_at_place es h place o g i in
-      put_udp_fine es h place (Udp2Socket.Open o) (Udp2Socket.Open (record o { connecting = None })) g refl (record { made = f.made; bound = f.bound; progress = f.progress; connecting = tt; sending = f.sending; receiving = f.receiving }) i
+      put_udp_fine es h place (UdpRecord.Open o) (UdpRecord.Open (record o { connecting = None })) g refl (record { made = f.made; bound = f.bound; progress = f.progress; connecting = tt; sending = f.sending; receiving = f.receiving }) i

@@ -41,7 +41,7 @@ udp_log = begins ++ (entry (own_of 3) (Call.Check 0 local_80 SocketAddrUse.UdpBi
 abbrev udp_end : Machine
 udp_end = record {
   table = record { next = 3; live = record { handle = 1; value = slot.Network; parent = None } ∷ record { handle = 2; value = slot.Udp2 0; parent = None } ∷ [] };
-  store = record { records = rec.Udp2 (opened_udp (new_socket (own_of 2) 0 SocketAddressFamily.Ipv4)) ∷ []; jobs = []; standing = None };
+  store = record { records = rec.Udp (opened_udp (new_socket (own_of 2) 0 SocketAddressFamily.Ipv4)) ∷ []; jobs = []; standing = None };
 }
 
 -- the machine makes these calls, and ends so

@@ -1,5 +1,5 @@
 -- The law of it: each move and each ask keeps what is live of the records.
-use Rattle.wasi_walks.proofs.Words.{End, Err, ErrorCode, ErrorValue, HandleTable, Input, Item, Kind, List, Network, None, Ok, OpId, Operation, Option, Output, Pollable, Result, Some, Step, Tcp2, Tcp2Socket, WasiSocketsCtx, Watched}
+use Rattle.wasi_walks.proofs.Words.{End, Err, ErrorCode, ErrorValue, HandleTable, Input, Item, Kind, List, Network, None, Ok, OpId, Operation, Option, Output, Pollable, Result, Some, Step, Tcp2, TcpRecord, WasiSocketsCtx, Watched}
 use Rattle.wasi_walks.proofs.Words.{[], ap, arith, inl, inr, kind_at, length, new_record, own_of, poll_asks, refl, slice_get, slice_set, subst, sym, table_parent, watched_by, with_handle, with_writer, ℕ, ⊤, ◌++◌, ◌∷◌, ◌∙◌, ◌≡◌, ◌⊎◌}
 use Rattle.wasi_table.specs.Table.{Live}
 use Rattle.wasi_udp.specs.Create.{Create, after_create as udp_after_create}
@@ -11,7 +11,7 @@ use Rattle.wasi_host.specs.declared.kind.PlainOutput.TheVariants as plain_output
 use Rattle.wasi_records.specs.declared.name_lookup.LookupOp.{LookupOp}
 use Rattle.wasi_records.specs.declared.records.Record.{Record}
 use Rattle.wasi_records.specs.declared.udp.OpenUdp.{OpenUdp}
-use Rattle.wasi_records.specs.declared.udp.Udp2Socket.{Udp2Socket}
+use Rattle.wasi_records.specs.declared.udp.UdpRecord.{UdpRecord}
 use Rattle.wasi_tcp.specs.declared.listener.Accepting.TheVariants as accepting
 use Rattle.wasi_walks.proofs.Lists.{get_seam}
 use Rattle.wasi_walks.proofs.Slots.{one_of, slot_of}
@@ -40,13 +40,13 @@ stay h now s i = (
   made_stays h.machine.table h.machine.store.records now (λ k n. s k (Input k) (inr refl) n) h.made i.1,
 )
 
-pub put_owns : (h : Here) (place : ℕ) (r : Tcp2Socket) → Found h place r → (now : Tcp2Socket)
+pub put_owns : (h : Here) (place : ℕ) (r : TcpRecord) → Found h place r → (now : TcpRecord)
     → (IsSome r.streams → IsSome now.streams) → Owns h → Owns (put h place now)
 put_owns h place r g now keeps i =
     stay h _ (λ k kind e n. names_tcp h.machine.store.records place r now g keeps k kind n) i
 
-pub put_open : (h : Here) (place : ℕ) (o : OpenUdp) → FoundUdp h place (Udp2Socket.Open o) → (now : OpenUdp) → Owns h
-    → Owns (put_udp h place (Udp2Socket.Open now))
+pub put_open : (h : Here) (place : ℕ) (o : OpenUdp) → FoundUdp h place (UdpRecord.Open o) → (now : OpenUdp) → Owns h
+    → Owns (put_udp h place (UdpRecord.Open now))
 put_open h place o g now i = stay h _ (λ k kind e n. names_open h.machine.store.records place o now g k kind n) i
 
 -- one of which nothing is live is replaced
@@ -55,16 +55,16 @@ none_set : (h : Here) (place : ℕ) (now : Record) → NoneOf h.machine.table pl
     → Owned h.machine.table (slice_set h.machine.store.records place now)
 none_set h place now none i = owned_still h.machine.table h.machine.store.records _ (λ a k l e n. names_set h.machine.store.records place now k a.value (λ same was. absurd (none a l (subst (IsOf a.value) same e))) n) i
 
-no_udp_streams : (h : Here) (place : ℕ) (u : Udp2Socket) → FoundUdp h place u → HasStreams h.machine.store.records place → ⊥
+no_udp_streams : (h : Here) (place : ℕ) (u : UdpRecord) → FoundUdp h place u → HasStreams h.machine.store.records place → ⊥
 no_udp_streams h place u g n =
-    absurd (let s : Names (Input place) (Some (Record.Udp2 u)) = subst (Names (Input place)) (udp_sort.it _ u g) n in
+    absurd (let s : Names (Input place) (Some (Record.Udp u)) = subst (Names (Input place)) (udp_sort.it _ u g) n in
     cc)
 
-pub put_none : (h : Here) (place : ℕ) (u : Udp2Socket) → FoundUdp h place u → (now : Udp2Socket) → NoneOf h.machine.table place → Owns h → Owns (put_udp h place now)
+pub put_none : (h : Here) (place : ℕ) (u : UdpRecord) → FoundUdp h place u → (now : UdpRecord) → NoneOf h.machine.table place → Owns h → Owns (put_udp h place now)
 put_none h place u g now none i = (
-  none_set h place (Record.Udp2 now) none i.0,
+  none_set h place (Record.Udp now) none i.0,
   made_stays h.machine.table h.machine.store.records _
-      (λ k n. names_set h.machine.store.records place (Record.Udp2 now) k (Input k)
+      (λ k n. names_set h.machine.store.records place (Record.Udp now) k (Input k)
       (λ same was. absurd (no_udp_streams h place u g was)) n) h.made i.1,
 )
 
@@ -80,7 +80,7 @@ put_gone h place now emptied i =
     )
 
 -- nothing is of a UDP socket that isn't there yet, or is closed
-pub none_open : (h : Here) (place : ℕ) (u : Udp2Socket) → FoundUdp h place u → open_of (Some u) ≡ None → Owns h → NoneOf h.machine.table place
+pub none_open : (h : Here) (place : ℕ) (u : UdpRecord) → FoundUdp h place u → open_of (Some u) ≡ None → Owns h → NoneOf h.machine.table place
 none_open h place u g n i a l e =
     names_none a.value place e (as_none a.value u n
     (subst (Names a.value) (udp_sort.it _ u g) (i.0.there a place l e)))
@@ -88,7 +88,7 @@ none_open h place u g n i a l e =
 -- nor of what was just dropped, or has no handle yet
 pub left_none : (h : Here) (place : ℕ) → IsLeft h place → Owns h → NoneOf h.machine.table place
 left_none h place (walk.OfTcp r made g) i = (subst (MadeSo h.machine.table h.machine.store.records) made i.1) place refl
-left_none h place (walk.OfUdp side g) i = none_open h place (Udp2Socket.Closed side) g refl i
+left_none h place (walk.OfUdp side g) i = none_open h place (UdpRecord.Closed side) g refl i
 left_none h place (walk.OfLookup l made g) i =
     (subst (MadeSo h.machine.table h.machine.store.records) made i.1) place refl
 left_none h place (walk.OfUnnamed l made g) i = (subst (MadeSo h.machine.table h.machine.store.records) made i.1).1 refl
@@ -106,7 +106,7 @@ left_made h place (walk.OfUdp side g) now e k =
     subst (λ (xs : List Record). MadeSo h.machine.table xs h.made) (sym e)
     (made_stays h.machine.table h.machine.store.records _
     (λ j n. names_set h.machine.store.records place Record.Gone j (Input j)
-    (λ same was. absurd (no_udp_streams h place (Udp2Socket.Closed side) g was)) n) h.made k)
+    (λ same was. absurd (no_udp_streams h place (UdpRecord.Closed side) g was)) n) h.made k)
 left_made h place (walk.OfLookup l made g) now e k =
     subst (MadeSo h.machine.table now) (sym made) (subst (MadeSo h.machine.table h.machine.store.records) made k)
 left_made h place (walk.OfUnnamed l made g) now e k =
@@ -140,7 +140,7 @@ pub same_owns : {new : LookupOp → Type 0} (h : Here) (records : List Record) �
 same_owns h records same i = stay h records (λ k kind e n. names_same h.machine.store.records records k kind same n) i
 
 pub begun_owns : (h : Here) (made : Result Create ErrorCode) → Owns h → Owns (udp_begun h made)
-begun_owns h (Ok create) i = (push_owned h.machine.table h.machine.store.records (Record.Udp2 (Udp2Socket.Creating create)) i.0, push_made h.machine.table h.machine.store.records (Record.Udp2 (Udp2Socket.Creating create)) h.made i.1)
+begun_owns h (Ok create) i = (push_owned h.machine.table h.machine.store.records (Record.Udp (UdpRecord.Creating create)) i.0, push_made h.machine.table h.machine.store.records (Record.Udp (UdpRecord.Creating create)) h.made i.1)
 begun_owns h (Err c) i = i
 
 -- == a handle is made
@@ -249,12 +249,12 @@ is_udp : (k : Option Kind) (place : ℕ) → udp_of k ≡ Some place → k ≡ S
 is_udp (Some (Udp2 n)) place e = let p : n ≡ place = cc in ap (λ (x : ℕ). Some (Udp2 x)) p
 is_udp _ place e = absurd (cc)
 
-created_stays : (o : Option Record) (u : Udp2Socket) → udp2_of o ≡ Some u → IsOpenUdp u → IsSome (open_of (udp2_of o))
-created_stays o (Udp2Socket.Open x) g opens = ap (λ (y : Option Udp2Socket). is_some (open_of y)) g
-created_stays o (Udp2Socket.Creating x) g opens = absurd opens
-created_stays o (Udp2Socket.Closed x) g opens = absurd opens
+created_stays : (o : Option Record) (u : UdpRecord) → udp2_of o ≡ Some u → IsOpenUdp u → IsSome (open_of (udp2_of o))
+created_stays o (UdpRecord.Open x) g opens = ap (λ (y : Option UdpRecord). is_some (open_of y)) g
+created_stays o (UdpRecord.Creating x) g opens = absurd opens
+created_stays o (UdpRecord.Closed x) g opens = absurd opens
 
-listened_streams : (op : Operation) (r : Tcp2Socket) (end : End × List Item) → IsSome r.streams
+listened_streams : (op : Operation) (r : TcpRecord) (end : End × List Item) → IsSome r.streams
     → IsSome (walk.listen_after op r end).streams
 listened_streams op r (Waits, left) s = s
 listened_streams op r (Done given, left) s = s
@@ -280,11 +280,11 @@ module _ (contexts : List WasiSocketsCtx) (line : ℕ) (origin : Step) where
       let idle = accepting_now r l accepting.Idle in
       let records = tcp2_put h.machine.store.records place idle in
       let k = (put_owns h place r g idle (λ s. s) i).0 in (
-        push_owned h.machine.table records (Record.Tcp2 (joined l new peer)) k,
+        push_owned h.machine.table records (Record.Tcp (joined l new peer)) k,
         (
           none_at_end h.machine.table records k,
           subst (Names (Input place))
-              (sym (get_seam records (Record.Tcp2 (joined l new peer)))) refl,
+              (sym (get_seam records (Record.Tcp (joined l new peer)))) refl,
         ),
       )
   moves_owns _ _ (walk.Leaves h) i = (i.0, tt)
@@ -302,7 +302,7 @@ module _ (contexts : List WasiSocketsCtx) (line : ℕ) (origin : Step) where
   moves_owns _ _ (walk.CancelsUdpConnect h place o q g) i = put_open h place o g _ i
   moves_owns _ _ (walk.Finds h records same) i = same_owns h records same i
   moves_owns _ _ (walk.Numbers h) i = (i.0, (omega arith, λ same. none_at_end h.machine.table h.machine.store.records i.0))
-  moves_owns _ _ (walk.AwaitsCreate h place create g) i = (i.0, none_open h place (Udp2Socket.Creating create) g refl i)
+  moves_owns _ _ (walk.AwaitsCreate h place create g) i = (i.0, none_open h place (UdpRecord.Creating create) g refl i)
   moves_owns _ _ (walk.Empties h handle kind e none) i = (taken_owned h.machine.table h.machine.store.records handle none i.0, emptied_made h.machine.table h.machine.store.records handle none kind e i.0)
   moves_owns _ _ (walk.Takes h handle none) i = (taken_owned h.machine.table h.machine.store.records handle none i.0, taken_made h.machine.table h.machine.store.records handle none h.made i.1)
   moves_owns _ _ (walk.GivesBack h place idle left) i = given_back_owns h place left i
@@ -395,11 +395,11 @@ module _ (contexts : List WasiSocketsCtx) (line : ℕ) (origin : Step) where
   becomes_owns h _ (GivenUp place r q g) i = put_owns h place r g _ (λ s. s) i
   becomes_owns h _ (UdpLearnt place o socket g e) i = put_open h place o g _ i
   becomes_owns h _ (UdpIsClosed place o q g) i =
-      put_none h place (Udp2Socket.Open o) g (Udp2Socket.Closed o.inner.side)
+      put_none h place (UdpRecord.Open o) g (UdpRecord.Closed o.inner.side)
       ((subst (MadeSo h.machine.table h.machine.store.records) q.1 i.1) place refl) i
   becomes_owns h _ (UdpGivenUp place create q g) i =
-      put_none h place (Udp2Socket.Creating create) g (Udp2Socket.Closed create.operation.who.side)
-      (none_open h place (Udp2Socket.Creating create) g refl i) i
+      put_none h place (UdpRecord.Creating create) g (UdpRecord.Closed create.operation.who.side)
+      (none_open h place (UdpRecord.Creating create) g refl i) i
   becomes_owns h _ (UdpBegun ctx family r c u m) i = begun_owns h (udp_after_create (own_of line) ctx.name family r) i
   becomes_owns h _ (Resolved host records l same) i = same_owns h records same i
   becomes_owns h _ (HasHandle kind parent made k) i =
@@ -412,7 +412,7 @@ module _ (contexts : List WasiSocketsCtx) (line : ℕ) (origin : Step) where
   )
   becomes_owns h _ (CreatedWith ctx family c u past) i =
       let records = h.machine.store.records in
-      let new = Record.Tcp2 (new_record (new_socket (own_of line) ctx.name family)) in (
+      let new = Record.Tcp (new_record (new_socket (own_of line) ctx.name family)) in (
         made_owned h.machine.table (records ++ new ∷ []) (Tcp2 (length records)) None
             (first_fits h.machine.table (records ++ new ∷ []) (length records) (none_at_end h.machine.table records i.0)
             (ap (λ (o : Option Record). is_some (tcp2_of o)) (get_seam records new)))
@@ -426,7 +426,7 @@ module _ (contexts : List WasiSocketsCtx) (line : ℕ) (origin : Step) where
   polls_owns h _ _ (walk.Connects place r op g e) end i = put_owns h place r g _ (λ s. s) i
   polls_owns h _ _ (walk.Listens place r op q g e c) end i = put_owns h place r g _ (listened_streams op r end) i
   polls_owns h _ _ (walk.Awaits place r l op g e a) end i = put_owns h place r g _ (λ s. s) i
-  polls_owns h _ _ (walk.UdpCreates place create q g) end i = put_none h place (Udp2Socket.Creating create) g _ (none_open h place (Udp2Socket.Creating create) g refl i) i
+  polls_owns h _ _ (walk.UdpCreates place create q g) end i = put_none h place (UdpRecord.Creating create) g _ (none_open h place (UdpRecord.Creating create) g refl i) i
   polls_owns h _ _ (walk.UdpBindsOn place o op q g e) end i = put_open h place o g _ i
   polls_owns h _ _ (walk.UdpConnectsOn place o op q g e) end i = put_open h place o g _ i
   polls_owns h _ _ (walk.SendsOn place o out op left g e s settles) end i = put_open h place o g _ i

@@ -8,9 +8,9 @@ use Rattle.wasi_host.specs.declared.kind.PlainOutput.TheVariants as plain_output
 use Rattle.wasi_records.specs.Records.{tcp2_of, udp2_of, open_of, lookup_of, input_pipe_of, output_pipe_of}
 use Rattle.wasi_records.specs.declared.name_lookup.LookupOp.{LookupOp}
 use Rattle.wasi_records.specs.declared.records.Record.{Record}
-use Rattle.wasi_records.specs.declared.socket.Tcp2Socket.{Tcp2Socket}
+use Rattle.wasi_records.specs.declared.socket.TcpRecord.{TcpRecord}
 use Rattle.wasi_records.specs.declared.udp.OpenUdp.{OpenUdp}
-use Rattle.wasi_records.specs.declared.udp.Udp2Socket.{Udp2Socket}
+use Rattle.wasi_records.specs.declared.udp.UdpRecord.{UdpRecord}
 use Rattle.wasi_walks.specs.Answered.{streams_in}
 use Rattle.wasi_walks.proofs.walks.Moves.{IsRecord, SameSockets}
 use Rattle.wasi_walks.proofs.owners.Kinds.{IsOf}
@@ -30,8 +30,8 @@ Names (PlainOutput (plain_output.Pipe place)) o = IsSome (output_pipe_of o)
 Names _ o = ⊤
 
 -- == one is replaced
-tcp_names : (kind : Kind) (r now : Tcp2Socket) → (IsSome r.streams → IsSome now.streams)
-    → Names kind (Some (Record.Tcp2 r)) → Names kind (Some (Record.Tcp2 now))
+tcp_names : (kind : Kind) (r now : TcpRecord) → (IsSome r.streams → IsSome now.streams)
+    → Names kind (Some (Record.Tcp r)) → Names kind (Some (Record.Tcp now))
 tcp_names (Tcp2 place) r now keeps s = refl
 tcp_names (Input place) r now keeps s = keeps s
 tcp_names (Output place) r now keeps s = keeps s
@@ -42,8 +42,8 @@ tcp_names (PlainOutput plain_output.Sink) r now keeps s = s
 tcp_names (PlainOutput plain_output.Closed) r now keeps s = s
 tcp_names _ r now keeps s = s
 
-open_names : (kind : Kind) (o now : OpenUdp) → Names kind (Some (Record.Udp2 (Udp2Socket.Open o)))
-    → Names kind (Some (Record.Udp2 (Udp2Socket.Open now)))
+open_names : (kind : Kind) (o now : OpenUdp) → Names kind (Some (Record.Udp (UdpRecord.Open o)))
+    → Names kind (Some (Record.Udp (UdpRecord.Open now)))
 open_names (Udp2 place) o now s = refl
 open_names (Incoming place) o now s = refl
 open_names (Outgoing place) o now s = refl
@@ -63,19 +63,19 @@ names_set xs i now k kind keeps s = elim (set_at xs i now k) [
   | inr its ↦ subst (Names kind) (sym its.1) (keeps its.0 (subst (λ (j : ℕ). Names kind (slice_get xs j)) its.0 s))
 ]
 
-pub names_tcp : (xs : List Record) (i : ℕ) (r now : Tcp2Socket) → tcp2_of (slice_get xs i) ≡ Some r
+pub names_tcp : (xs : List Record) (i : ℕ) (r now : TcpRecord) → tcp2_of (slice_get xs i) ≡ Some r
     → (IsSome r.streams → IsSome now.streams) → (k : ℕ) (kind : Kind) → Names kind (slice_get xs k)
-    → Names kind (slice_get (slice_set xs i (Record.Tcp2 now)) k)
+    → Names kind (slice_get (slice_set xs i (Record.Tcp now)) k)
 names_tcp xs i r now g keeps k kind s =
-    names_set xs i (Record.Tcp2 now) k kind (λ same was. tcp_names kind r now keeps
+    names_set xs i (Record.Tcp now) k kind (λ same was. tcp_names kind r now keeps
     (subst (Names kind) (tcp_sort.it _ r g) was)) s
 
-pub names_open : (xs : List Record) (i : ℕ) (o now : OpenUdp) → udp2_of (slice_get xs i) ≡ Some (Udp2Socket.Open o)
+pub names_open : (xs : List Record) (i : ℕ) (o now : OpenUdp) → udp2_of (slice_get xs i) ≡ Some (UdpRecord.Open o)
     → (k : ℕ) (kind : Kind) → Names kind (slice_get xs k)
-    → Names kind (slice_get (slice_set xs i (Record.Udp2 (Udp2Socket.Open now))) k)
+    → Names kind (slice_get (slice_set xs i (Record.Udp (UdpRecord.Open now))) k)
 names_open xs i o now g k kind s =
-    names_set xs i (Record.Udp2 (Udp2Socket.Open now)) k kind
-    (λ same was. open_names kind o now (subst (Names kind) (udp_sort.it _ (Udp2Socket.Open o) g) was)) s
+    names_set xs i (Record.Udp (UdpRecord.Open now)) k kind
+    (λ same was. open_names kind o now (subst (Names kind) (udp_sort.it _ (UdpRecord.Open o) g) was)) s
 
 -- == nothing is of a record that isn't there
 pub names_none : (kind : Kind) (place : ℕ) → IsOf kind place → Names kind None → ⊥
@@ -105,11 +105,11 @@ names_push xs now k kind e s =
 pub names_same : {new : LookupOp → Type 0} (old now : List Record) (k : ℕ) (kind : Kind) → SameSockets new old now
     → Names kind (slice_get old k) → Names kind (slice_get now k)
 names_same old now k (Tcp2 p) same s = subst IsSome (sym (same.tcp k)) s
-names_same old now k (Input p) same s = subst (λ (o : Option Tcp2Socket). IsSome (streams_in o)) (sym (same.tcp k)) s
-names_same old now k (Output p) same s = subst (λ (o : Option Tcp2Socket). IsSome (streams_in o)) (sym (same.tcp k)) s
-names_same old now k (Udp2 p) same s = subst (λ (o : Option Udp2Socket). IsSome (open_of o)) (sym (same.udp k)) s
-names_same old now k (Incoming p) same s = subst (λ (o : Option Udp2Socket). IsSome (open_of o)) (sym (same.udp k)) s
-names_same old now k (Outgoing p) same s = subst (λ (o : Option Udp2Socket). IsSome (open_of o)) (sym (same.udp k)) s
+names_same old now k (Input p) same s = subst (λ (o : Option TcpRecord). IsSome (streams_in o)) (sym (same.tcp k)) s
+names_same old now k (Output p) same s = subst (λ (o : Option TcpRecord). IsSome (streams_in o)) (sym (same.tcp k)) s
+names_same old now k (Udp2 p) same s = subst (λ (o : Option UdpRecord). IsSome (open_of o)) (sym (same.udp k)) s
+names_same old now k (Incoming p) same s = subst (λ (o : Option UdpRecord). IsSome (open_of o)) (sym (same.udp k)) s
+names_same old now k (Outgoing p) same s = subst (λ (o : Option UdpRecord). IsSome (open_of o)) (sym (same.udp k)) s
 names_same old now k (Lookup p) same s = same.stays k s
 names_same old now k (PlainInput (plain_input.Pipe p)) same s = same.inputs k s
 names_same old now k (PlainOutput (plain_output.Pipe p)) same s = same.outputs k s
@@ -119,7 +119,7 @@ names_same old now k (PlainOutput plain_output.Closed) same s = tt
 names_same old now k _ same s = tt
 
 -- a UDP socket that isn't open is as nothing, and so is what is given back
-pub as_none : (kind : Kind) (u : Udp2Socket) → open_of (Some u) ≡ None → Names kind (Some (Record.Udp2 u))
+pub as_none : (kind : Kind) (u : UdpRecord) → open_of (Some u) ≡ None → Names kind (Some (Record.Udp u))
     → Names kind None
 as_none (Udp2 p) u e n = subst IsSome e n
 as_none (Incoming p) u e n = subst IsSome e n

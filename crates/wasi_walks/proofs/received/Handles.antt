@@ -1,6 +1,6 @@
 -- Handles in the table: each is older than the next one; and the handle under which datagram streams are made, or are to be made by a
 -- pending call, is of no other UDP socket than theirs.
-use Rattle.wasi_walks.proofs.Words.{End, Err, ErrorCode, HandleTable, Item, Kind, List, None, Ok, Operation, Option, Result, Some, Standing, StandingCall, Step, Tcp2Socket}
+use Rattle.wasi_walks.proofs.Words.{End, Err, ErrorCode, HandleTable, Item, Kind, List, None, Ok, Operation, Option, Result, Some, Standing, StandingCall, Step, TcpRecord}
 use Rattle.wasi_walks.proofs.Words.{ap, arith, inl, inr, kind_at, refl, standing_as, subst, sym, table_parent, with_handle, without_handle, ℕ, ⊤, ◌<◌, ◌≤◌, ◌≡◌, ◌∙◌, ◌⊎◌}
 use Rattle.wasi_table.proofs.Tables.{value_without}
 use Rattle.wasi_udp.specs.Create.{Create}
@@ -104,7 +104,7 @@ nothing_made t made standing i = record { older = i.older; makes = tt; stands = 
 stands_so : (t : HandleTable) (made : Made) (was now : Option Standing) → StandsUnder t now → AreUnder t made was → AreUnder t made now
 stands_so t made was now s i = record { older = i.older; makes = i.makes; stands = s }
 
-goes_under : (t : HandleTable) (call : StandingCall) (r : Tcp2Socket) → GoesOn call r → CallUnder t call
+goes_under : (t : HandleTable) (call : StandingCall) (r : TcpRecord) → GoesOn call r → CallUnder t call
 goes_under t (StandingCall.UdpConnect place handle) r k = absurd k
 goes_under t _ r k = tt
 

@@ -1,7 +1,7 @@
 -- The law that an incoming stream holds only what came from the remote address that it keeps.
 use Rattle.wasi_walks.proofs.walks.Asked.{Asked, Questions, SetsBacklog, Learns, Closes, MarksOne, AsksCreate, MarksAccepted, Polls, Turns, GivesUp, UdpQuestions, UdpLearns, UdpPeers, UdpCloses, UdpBegins, MarksUdp, MarksStream, MarksError, UdpGivesUp, Resolves, Looks}
 use Rattle.wasi_walks.proofs.Words.{Asks}
-use Rattle.wasi_walks.proofs.Words.{Allows, Done, End, Entry, Err, ErrorCode, ErrorValue, Item, List, Machine, None, Not, Ok, OpId, Operation, Option, Refused, Result, Socket, Some, Step, Tcp2, Tcp2Socket, Waits, WasiSocketsCtx}
+use Rattle.wasi_walks.proofs.Words.{Allows, Done, End, Entry, Err, ErrorCode, ErrorValue, Item, List, Machine, None, Not, Ok, OpId, Operation, Option, Refused, Result, Socket, Some, Step, Tcp2, TcpRecord, Waits, WasiSocketsCtx}
 use Rattle.wasi_walks.proofs.Words.{allows_then, allows_weaker, ap, created_asks, first_state, give_up_asks, inl, inr, length, machine_asks, make_asks, new_asks, new_record, own_of, poll_asks, refl, side_at, side_of, subst, sym, told_done, true, turn_asks}
 use Rattle.wasi_walks.proofs.Words.{with_listening, with_writer, ℕ, ⊤, ◌+◌, ◌∙◌, ◌≡◌}
 use Rattle.wasi_udp.specs.Create.{Create, create_cancel_asks, after_create as udp_after_create}
@@ -17,7 +17,7 @@ use Rattle.wasi_records.specs.declared.datagrams.Receiving.{Receiving}
 use Rattle.wasi_records.specs.declared.name_lookup.LookupOp.{LookupOp}
 use Rattle.wasi_records.specs.declared.records.Record.{Record}
 use Rattle.wasi_records.specs.declared.udp.OpenUdp.{OpenUdp}
-use Rattle.wasi_records.specs.declared.udp.Udp2Socket.{Udp2Socket}
+use Rattle.wasi_records.specs.declared.udp.UdpRecord.{UdpRecord}
 use Rattle.wasi_world.specs.Operation.{is_wanted}
 use Rattle.wasi_walks.proofs.claims.Law.{Base, begins_on_names, on_along, on_names}
 use Rattle.wasi_walks.proofs.claims.Lines.{BaseBetween, base_over, base_starts, first_base}
@@ -32,29 +32,29 @@ use Rattle.wasi_walks.proofs.walks.Moves.{Held, Here, Kept, Move, SameSockets, U
 use Rattle.wasi_walks.proofs.walks.Steps.{machine_walks, may_while}
 use Rattle.wasi_walks.proofs.Places.{push_found, push_was, put_found, put_was, tcp_sort, udp_sort}
 
-abbrev pub UdpWanted : Udp2Socket → Type 0
-UdpWanted (Udp2Socket.Open o) = IncomingWanted o.incoming
+abbrev pub UdpWanted : UdpRecord → Type 0
+UdpWanted (UdpRecord.Open o) = IncomingWanted o.incoming
 UdpWanted u = ⊤
 
 -- of all records
 abbrev pub AllWanted : List Record → Type 0
-AllWanted records = (place : ℕ) (u : Udp2Socket) → udp2_at records place ≡ Some u → UdpWanted u
+AllWanted records = (place : ℕ) (u : UdpRecord) → udp2_at records place ≡ Some u → UdpWanted u
 
 -- == a record changes, or joins them
-put_tcp : (records : List Record) (place : ℕ) (now : Tcp2Socket) → AllWanted records → AllWanted (tcp2_put records place now)
+put_tcp : (records : List Record) (place : ℕ) (now : TcpRecord) → AllWanted records → AllWanted (tcp2_put records place now)
 put_tcp records place now k i u e = k i u (put_was tcp_sort udp_sort (λ t. refl) records place now i u e)
 
-push_tcp : (records : List Record) (now : Tcp2Socket) → AllWanted records → AllWanted (tcp2_pushed records now)
+push_tcp : (records : List Record) (now : TcpRecord) → AllWanted records → AllWanted (tcp2_pushed records now)
 push_tcp records now k i u e = k i u (push_was tcp_sort udp_sort (λ t. refl) records now i u e)
 
-put_udps : (records : List Record) (place : ℕ) (now : Udp2Socket) → UdpWanted now → AllWanted records → AllWanted (udp2_put records place now)
+put_udps : (records : List Record) (place : ℕ) (now : UdpRecord) → UdpWanted now → AllWanted records → AllWanted (udp2_put records place now)
 put_udps records place now f k i u e = elim (put_found udp_sort records place now i u e) [ inl p ↦ subst UdpWanted p.1 f | inr p ↦ k i u p ]
 
 same_wanted : {new : LookupOp → Type 0} (old now : List Record) → SameSockets new old now → AllWanted old → AllWanted now
 same_wanted old now s k i u e = k i u (sym (s.udp i) ∙ e)
 
 begun_wanted : (h : Here) (made : Result Create ErrorCode) → AllWanted h.machine.store.records → AllWanted (udp_begun h made).machine.store.records
-begun_wanted h (Ok create) k = λ i u e. elim (push_found udp_sort h.machine.store.records (Udp2Socket.Creating create) i u e) [ inl p ↦ k i u p | inr p ↦ subst UdpWanted p.0 tt ]
+begun_wanted h (Ok create) k = λ i u e. elim (push_found udp_sort h.machine.store.records (UdpRecord.Creating create) i u e) [ inl p ↦ k i u p | inr p ↦ subst UdpWanted p.0 tt ]
 begun_wanted h (Err c) k = k
 
 -- a plain change
@@ -111,14 +111,14 @@ module _ (contexts : List WasiSocketsCtx) (line : ℕ) (origin : Step) where
   moves_wanted _ _ (walk.Unlistens h place r op q g e c o) i = put_tcp _ place _ i
   moves_wanted _ _ (walk.Forgets h place r l c g e a) i = put_tcp _ place _ i
   moves_wanted _ _ (walk.Joins h c handle place r l new peer is of u g e a) i = push_tcp _ (joined l new peer) (put_tcp _ place _ i)
-  moves_wanted _ _ (walk.UdpChanges h place o now g p keeps) i = put_udps _ place (Udp2Socket.Open now) (plain_wanted o now p (i place (Udp2Socket.Open o) g)) i
-  moves_wanted _ _ (walk.BeginsUdpBind h place o a at g to idle own) i = put_udps _ place (Udp2Socket.Open _) (i place (Udp2Socket.Open o) g) i
-  moves_wanted _ _ (walk.BeginsUdpConnect h place o a at g to bound none own) i = put_udps _ place (Udp2Socket.Open _) (i place (Udp2Socket.Open o) g) i
-  moves_wanted _ _ (walk.BeginsSend h place n o out d bound at g e is known own) i = put_udps _ place (Udp2Socket.Open _) (i place (Udp2Socket.Open o) g) i
-  moves_wanted _ _ (walk.BeginsReceive h place n o inc bound at g e is own) i = put_udps _ place (Udp2Socket.Open _) tt i
+  moves_wanted _ _ (walk.UdpChanges h place o now g p keeps) i = put_udps _ place (UdpRecord.Open now) (plain_wanted o now p (i place (UdpRecord.Open o) g)) i
+  moves_wanted _ _ (walk.BeginsUdpBind h place o a at g to idle own) i = put_udps _ place (UdpRecord.Open _) (i place (UdpRecord.Open o) g) i
+  moves_wanted _ _ (walk.BeginsUdpConnect h place o a at g to bound none own) i = put_udps _ place (UdpRecord.Open _) (i place (UdpRecord.Open o) g) i
+  moves_wanted _ _ (walk.BeginsSend h place n o out d bound at g e is known own) i = put_udps _ place (UdpRecord.Open _) (i place (UdpRecord.Open o) g) i
+  moves_wanted _ _ (walk.BeginsReceive h place n o inc bound at g e is own) i = put_udps _ place (UdpRecord.Open _) tt i
   moves_wanted _ _ (walk.CancelsBind h place r op q g e) i = put_tcp _ place _ i
-  moves_wanted _ _ (walk.CancelsUdpBind h place o op q g e) i = put_udps _ place (Udp2Socket.Open _) (i place (Udp2Socket.Open o) g) i
-  moves_wanted _ _ (walk.CancelsUdpConnect h place o q g) i = put_udps _ place (Udp2Socket.Open _) (i place (Udp2Socket.Open o) g) i
+  moves_wanted _ _ (walk.CancelsUdpBind h place o op q g e) i = put_udps _ place (UdpRecord.Open _) (i place (UdpRecord.Open o) g) i
+  moves_wanted _ _ (walk.CancelsUdpConnect h place o q g) i = put_udps _ place (UdpRecord.Open _) (i place (UdpRecord.Open o) g) i
   moves_wanted _ _ (walk.Finds h records s) i = same_wanted h.machine.store.records records s i
   moves_wanted _ _ (walk.GivesBack h place idle left) i = λ k u e. i k u (was_there udp2_of refl h.machine.store.records place k u e)
   moves_wanted _ _ _ i = i
@@ -130,12 +130,12 @@ module _ (contexts : List WasiSocketsCtx) (line : ℕ) (origin : Step) where
   polls_wanted es h op after (walk.Listens place r _ q g e c) b i = whatever (λ end. Wants (after end)) (λ end. put_tcp _ place _ i) es (poll_asks op)
   polls_wanted es h op after (walk.Awaits place r l _ g e a) b i = whatever (λ end. Wants (after end)) (λ end. put_tcp _ place _ i) es (poll_asks op)
   polls_wanted es h op after (walk.UdpCreates place create q g) b i = whatever (λ end. Wants (after end)) (λ end. put_udps _ place _ (created_wanted create end) i) es (poll_asks op)
-  polls_wanted es h op after (walk.UdpBindsOn place o _ q g e) b i = whatever (λ end. Wants (after end)) (λ end. put_udps _ place (Udp2Socket.Open _) (i place (Udp2Socket.Open o) g) i) es (poll_asks op)
-  polls_wanted es h op after (walk.UdpConnectsOn place o _ q g e) b i = whatever (λ end. Wants (after end)) (λ end. put_udps _ place (Udp2Socket.Open (udp_connect_left op o end)) (connected_wanted o op end (i place (Udp2Socket.Open o) g)) i) es (poll_asks op)
-  polls_wanted es h op after (walk.SendsOn place o out _ left g e f s) b i = whatever (λ end. Wants (after end)) (λ end. put_udps _ place (Udp2Socket.Open _) (i place (Udp2Socket.Open o) g) i) es (poll_asks op)
+  polls_wanted es h op after (walk.UdpBindsOn place o _ q g e) b i = whatever (λ end. Wants (after end)) (λ end. put_udps _ place (UdpRecord.Open _) (i place (UdpRecord.Open o) g) i) es (poll_asks op)
+  polls_wanted es h op after (walk.UdpConnectsOn place o _ q g e) b i = whatever (λ end. Wants (after end)) (λ end. put_udps _ place (UdpRecord.Open (udp_connect_left op o end)) (connected_wanted o op end (i place (UdpRecord.Open o) g)) i) es (poll_asks op)
+  polls_wanted es h op after (walk.SendsOn place o out _ left g e f s) b i = whatever (λ end. Wants (after end)) (λ end. put_udps _ place (UdpRecord.Open _) (i place (UdpRecord.Open o) g) i) es (poll_asks op)
   polls_wanted es h _ _ (walk.ReceivesOn place o inc op g e f) b i =
-      let its : ReceiveOn o.inner.side op = subst (FitReceiving o.inner.side) (ap receiving_in e ∙ ap receive_op f) (b.0.udps place (Udp2Socket.Open o) g).3 in
-      let now : End × List Item → Udp2Socket = λ ended. Udp2Socket.Open (record o { incoming = Some (with_receiving inc (receive_left op ended)) }) in
+      let its : ReceiveOn o.inner.side op = subst (FitReceiving o.inner.side) (ap receiving_in e ∙ ap receive_op f) (b.0.udps place (UdpRecord.Open o) g).3 in
+      let now : End × List Item → UdpRecord = λ ended. UdpRecord.Open (record o { incoming = Some (with_receiving inc (receive_left op ended)) }) in
       allows_weaker Anything (λ fs ended. ReceivingWanted inc.remote (receive_left op ended)) (λ fs ended. Wants (put_udp h place (now ended))) (λ fs ended k. put_udps h.machine.store.records place (now ended) k i) es (poll_asks (wanting inc.remote op)) (poll_wanted op inc.remote es its.receive)
 
   -- a socket that is created joins the records
@@ -160,14 +160,14 @@ module _ (contexts : List WasiSocketsCtx) (line : ℕ) (origin : Step) where
   wanteds_asks es h _ _ _ (Turns place r s g e) b i = whatever (λ done. AllWanted (tcp2_put h.machine.store.records place (with_writer r s done.1))) (λ done. put_tcp _ place _ i) es (turn_asks s.writer)
   wanteds_asks es h _ _ _ (GivesUp place r q g) b i = whatever (λ done. AllWanted (tcp2_put h.machine.store.records place (with_listening r Not))) (λ done. put_tcp _ place _ i) es (give_up_asks r.listening)
   wanteds_asks es h _ _ _ (UdpQuestions place n o c at g q) b i = (tt, λ told f. i)
-  wanteds_asks es h _ _ _ (UdpLearns place part o at g) b i = (tt, λ told f. put_udps _ place (Udp2Socket.Open _) (i place (Udp2Socket.Open o) g) i)
-  wanteds_asks es h _ _ _ (UdpPeers place o at g) b i = (tt, λ told f. put_udps _ place (Udp2Socket.Open _) (i place (Udp2Socket.Open o) g) i)
-  wanteds_asks es h _ _ _ (UdpCloses place o q g) b i = (tt, λ told f. put_udps _ place (Udp2Socket.Closed o.inner.side) tt i)
+  wanteds_asks es h _ _ _ (UdpLearns place part o at g) b i = (tt, λ told f. put_udps _ place (UdpRecord.Open _) (i place (UdpRecord.Open o) g) i)
+  wanteds_asks es h _ _ _ (UdpPeers place o at g) b i = (tt, λ told f. put_udps _ place (UdpRecord.Open _) (i place (UdpRecord.Open o) g) i)
+  wanteds_asks es h _ _ _ (UdpCloses place o q g) b i = (tt, λ told f. put_udps _ place (UdpRecord.Closed o.inner.side) tt i)
   wanteds_asks es h _ _ _ (UdpBegins ctx family c may a o m) b i = (tt, λ told f. begun_wanted h (udp_after_create (own_of line) ctx.name family (told_done told)) i)
   wanteds_asks es h _ _ _ (MarksUdp place u g) b i = whatever (λ made. Wants h) (λ made. i) es (make_asks h.machine.table (udp_side u) (Udp2 place) None (Some (udp_side u)))
   wanteds_asks es h _ _ _ (MarksStream place n handle reached kind m new e) b i = whatever (λ made. Wants h) (λ made. i) es (make_asks h.machine.table (own_of n) kind (Some handle) _)
   wanteds_asks es h _ _ _ (MarksError n handle place handles m k e f) b i = whatever (λ made. Wants h) (λ made. i) es (make_asks h.machine.table (own_of n) ErrorValue (Some handle) (side_at (tcp2_at h.machine.store.records place)))
-  wanteds_asks es h _ _ _ (UdpGivesUp place create q g) b i = whatever (λ done. AllWanted (udp2_put h.machine.store.records place (Udp2Socket.Closed create.operation.who.side))) (λ done. put_udps _ place _ tt i) es (create_cancel_asks create)
+  wanteds_asks es h _ _ _ (UdpGivesUp place create q g) b i = whatever (λ done. AllWanted (udp2_put h.machine.store.records place (UdpRecord.Closed create.operation.who.side))) (λ done. put_udps _ place _ tt i) es (create_cancel_asks create)
   wanteds_asks es h _ _ _ (Resolves host records l same) b i = (tt, λ told f. same_wanted h.machine.store.records (records told) (same told) i)
   wanteds_asks es h _ _ _ (Looks place op g) b i = (tt, λ told f. i)
 

@@ -1,7 +1,7 @@
 -- The law that what the incoming stream of a network socket holds was received from a place of the log on.
 use Rattle.wasi_walks.proofs.walks.Asked.{Asked, Questions, SetsBacklog, Learns, Closes, MarksOne, AsksCreate, MarksAccepted, Polls, Turns, GivesUp, UdpQuestions, UdpLearns, UdpPeers, UdpCloses, UdpBegins, MarksUdp, MarksStream, MarksError, UdpGivesUp, Resolves, Looks}
 use Rattle.wasi_walks.proofs.Words.{refl, Option, HoldsAccept, HoldsConnect, IsAcceptOn, Job, HandleTable, Kind, Streams, WriteState, allows_keep, arith, inl, inr, ⊤, ◌⊎◌, ◌≤◌, Allows, Asks, Call, Done, End, Entry, Err, ErrorCode, ErrorValue, IsDoneOrCode, Item, List, Machine}
-use Rattle.wasi_walks.proofs.Words.{None, Not, Ok, OpId, Operation, Refused, Result, Socket, SocketAddressFamily, Some, Step, Tcp2, Tcp2Socket, Told, Waits}
+use Rattle.wasi_walks.proofs.Words.{None, Not, Ok, OpId, Operation, Refused, Result, Socket, SocketAddressFamily, Some, Step, Tcp2, TcpRecord, Told, Waits}
 use Rattle.wasi_walks.proofs.Words.{WasiSocketsCtx, [], allows_then, allows_weaker, ap, bind_progress, connect_ended, accept_ended, create_asks, created_asks, entry, give_up_asks, length, make_asks}
 use Rattle.wasi_walks.proofs.Words.{new_asks, new_record, own_of, poll_asks, side_of, subst, sym, told_addr, told_done, turn_asks}
 use Rattle.wasi_walks.proofs.Words.{with_inner, with_listening, with_progress, with_state, with_writer, Bool, true, false, ℕ, ◌++◌, ◌∙◌, ◌∷◌, ◌≡◌}
@@ -18,7 +18,7 @@ use Rattle.wasi_records.specs.declared.datagrams.Incoming.{Incoming}
 use Rattle.wasi_records.specs.declared.datagrams.Receiving.{Receiving}
 use Rattle.wasi_records.specs.declared.records.Record.{Record}
 use Rattle.wasi_records.specs.declared.udp.OpenUdp.{OpenUdp}
-use Rattle.wasi_records.specs.declared.udp.Udp2Socket.{Udp2Socket}
+use Rattle.wasi_records.specs.declared.udp.UdpRecord.{UdpRecord}
 use Rattle.wasi_world.specs.Operation.{Given, Remote}
 use Rattle.wasi_walks.proofs.claims.Law.{begins_on_two, Named, Base, on_two, on_two_along}
 use Rattle.wasi_walks.proofs.fits.Polls.{Anything}
@@ -67,16 +67,16 @@ module _ (side : OpId) (from : ℕ) where
   -- a create of a UDP socket was answered
   pub begun_late : (es : List Entry) (h : Here) (own : OpId) (maker : ℕ) (family : SocketAddressFamily) (told : Told) → IsDoneOrCode told → It es h.machine.store.records
       → It (es ++ entry own (Call.UdpCreate maker family) told ∷ []) (udp_begun h (udp_after_create own maker family (told_done told))).machine.store.records
-  begun_late es h own maker family Told.Done f i = push_udps side from _ h.machine.store.records (Udp2Socket.Creating (new_create own maker family)) tt (one_late side from es own (Call.UdpCreate maker family) Told.Done h.machine.store.records (λ x. tt) i)
+  begun_late es h own maker family Told.Done f i = push_udps side from _ h.machine.store.records (UdpRecord.Creating (new_create own maker family)) tt (one_late side from es own (Call.UdpCreate maker family) Told.Done h.machine.store.records (λ x. tt) i)
   begun_late es h own maker family (Told.Code c) f i = one_late side from es own (Call.UdpCreate maker family) (Told.Code c) h.machine.store.records (λ x. tt) i
   begun_late es h own maker family _ f i = absurd f
 
   -- == polls
-  polled_tcp : (es : List Entry) (h : Here) (place : ℕ) (op : Operation) (now : End × List Item → Tcp2Socket) → AreSilent side (IsHeld side h.machine.store.records) NoName op.who op.left → It es h.machine.store.records → Allows Anything (λ fs ended. It fs (tcp2_put h.machine.store.records place (now ended))) es (poll_asks op)
+  polled_tcp : (es : List Entry) (h : Here) (place : ℕ) (op : Operation) (now : End × List Item → TcpRecord) → AreSilent side (IsHeld side h.machine.store.records) NoName op.who op.left → It es h.machine.store.records → Allows Anything (λ fs ended. It fs (tcp2_put h.machine.store.records place (now ended))) es (poll_asks op)
   polled_tcp es h place op now n i =
       allows_weaker Anything (λ fs ended. It fs h.machine.store.records) (λ fs ended. It fs (tcp2_put h.machine.store.records place (now ended))) (λ fs ended k. put_tcp side from fs h.machine.store.records place (now ended) k) es _ (along h.machine.store.records es (poll_asks op) i (silent_poll side (IsHeld side h.machine.store.records) NoName op es n))
 
-  polled_udp : (es : List Entry) (h : Here) (place : ℕ) (u : Udp2Socket) (op : Operation) (now : End × List Item → Udp2Socket) → FoundUdp h place u → ((fs : List Entry) (ended : End × List Item) → UdpLate side from fs u → UdpLate side from fs (now ended)) → AreSilent side (IsHeld side h.machine.store.records) NoName op.who op.left → It es h.machine.store.records
+  polled_udp : (es : List Entry) (h : Here) (place : ℕ) (u : UdpRecord) (op : Operation) (now : End × List Item → UdpRecord) → FoundUdp h place u → ((fs : List Entry) (ended : End × List Item) → UdpLate side from fs u → UdpLate side from fs (now ended)) → AreSilent side (IsHeld side h.machine.store.records) NoName op.who op.left → It es h.machine.store.records
       → Allows Anything (λ fs ended. It fs (udp2_put h.machine.store.records place (now ended))) es (poll_asks op)
   polled_udp es h place u op now g f n i =
       allows_weaker Anything (λ fs ended. It fs h.machine.store.records) (λ fs ended. It fs (udp2_put h.machine.store.records place (now ended))) (λ fs ended k. put_udps side from fs h.machine.store.records place (now ended) (f fs ended (k.udps place u g)) k) es _ (along h.machine.store.records es (poll_asks op) i (silent_poll side (IsHeld side h.machine.store.records) NoName op es n))
@@ -88,37 +88,37 @@ module _ (side : OpId) (from : ℕ) where
   created_late create fs (Refused c given, items) = tt
 
   -- a connect leaves it, or makes new streams
-  given_late : (fs : List Entry) (o : OpenUdp) (given : Given) → UdpLate side from fs (Udp2Socket.Open o) → UdpLate side from fs (Udp2Socket.Open (record o { inner = with_given o.inner given; connecting = None }))
+  given_late : (fs : List Entry) (o : OpenUdp) (given : Given) → UdpLate side from fs (UdpRecord.Open o) → UdpLate side from fs (UdpRecord.Open (record o { inner = with_given o.inner given; connecting = None }))
   given_late fs o (Remote remote) k = k
   given_late fs o _ k = k
 
-  connected_late : (fs : List Entry) (o : OpenUdp) (op : Operation) (ended : End × List Item) → UdpLate side from fs (Udp2Socket.Open o) → UdpLate side from fs (Udp2Socket.Open (udp_connect_left op o ended))
+  connected_late : (fs : List Entry) (o : OpenUdp) (op : Operation) (ended : End × List Item) → UdpLate side from fs (UdpRecord.Open o) → UdpLate side from fs (UdpRecord.Open (udp_connect_left op o ended))
   connected_late fs o op (Waits, items) k = k
   connected_late fs o op (Done given, items) k = λ e. tt
   connected_late fs o op (Refused c given, items) k = given_late fs o given k
 
   -- a receive is polled
-  polled_receive : (Exact : Type 0) (at : ℕ) (es : List Entry) (h : Here) (place : ℕ) (o : OpenUdp) (inc : Incoming) (op : Operation) → FoundUdp h place (Udp2Socket.Open o) → o.incoming ≡ Some inc → inc.receiving ≡ Receiving.InProgress op → ReceiveOn o.inner.side op → Keeps es h.machine.store.records → at ≤ length es
+  polled_receive : (Exact : Type 0) (at : ℕ) (es : List Entry) (h : Here) (place : ℕ) (o : OpenUdp) (inc : Incoming) (op : Operation) → FoundUdp h place (UdpRecord.Open o) → o.incoming ≡ Some inc → inc.receiving ≡ Receiving.InProgress op → ReceiveOn o.inner.side op → Keeps es h.machine.store.records → at ≤ length es
       → (Exact → IncomingLate at es o.inner.side o.incoming) → Allows (OnlyOf o.inner.side) (λ fs ended. Exact → ReceivingLate at fs o.inner.side (receive_left op ended)) es (poll_asks (wanting inc.remote op))
   polled_receive Exact at es h place o inc op g e f its keeps long late =
-      let k : OpenKeeps es o = keeps.udps place (Udp2Socket.Open o) g in
+      let k : OpenKeeps es o = keeps.udps place (UdpRecord.Open o) g in
       let for : ReceivesFor o.inner.maker (Some op) = subst (ReceivesFor o.inner.maker) (ap receiving_in e ∙ ap receive_op f) k.receiver in
       let hand : Exact → InHandLate at es op.who.id o.inner.side op.left = λ x. subst (ReceivingLate at es o.inner.side) f (subst (IncomingLate at es o.inner.side) e (late x)) in
       subst (λ (x : OpId). Allows (OnlyOf x) (λ fs ended. Exact → ReceivingLate at fs x (receive_left op ended)) es (poll_asks (wanting inc.remote op))) its.of_side
       (poll_late Exact at op inc.remote o.inner.family es its.receive (rw (its.of_side, for) (maker_of es o k)) long (λ x. subst (λ (y : OpId). InHandLate at es op.who.id y op.left) (sym its.of_side) (hand x)))
 
   -- of this network socket, which no other record is on; or of another one, where nothing is to be shown
-  receives_late : (es : List Entry) (h : Here) (place : ℕ) (o : OpenUdp) (inc : Incoming) (op : Operation) → FoundUdp h place (Udp2Socket.Open o) → o.incoming ≡ Some inc → inc.receiving ≡ Receiving.InProgress op → ReceiveOn o.inner.side op → Keeps es h.machine.store.records → OneEach h.machine.store.records → It es h.machine.store.records
+  receives_late : (es : List Entry) (h : Here) (place : ℕ) (o : OpenUdp) (inc : Incoming) (op : Operation) → FoundUdp h place (UdpRecord.Open o) → o.incoming ≡ Some inc → inc.receiving ≡ Receiving.InProgress op → ReceiveOn o.inner.side op → Keeps es h.machine.store.records → OneEach h.machine.store.records → It es h.machine.store.records
       → (o.inner.side ≡ side) ⊎ (o.inner.side ≡ side → ⊥)
-      → Allows Anything (λ fs ended. It fs (udp2_put h.machine.store.records place (Udp2Socket.Open (record o { incoming = Some (with_receiving inc (receive_left op ended)) })))) es (poll_asks (wanting inc.remote op))
+      → Allows Anything (λ fs ended. It fs (udp2_put h.machine.store.records place (UdpRecord.Open (record o { incoming = Some (with_receiving inc (receive_left op ended)) })))) es (poll_asks (wanting inc.remote op))
   receives_late es h place o inc op g e f its keeps one i (inl is) =
       let now : End × List Item → OpenUdp = λ ended. record o { incoming = Some (with_receiving inc (receive_left op ended)) } in
-      allows_weaker Anything (λ fs ended. (from ≤ length fs) × (⊤ → ReceivingLate from fs o.inner.side (receive_left op ended))) (λ fs ended. It fs (udp2_put h.machine.store.records place (Udp2Socket.Open (now ended))))
+      allows_weaker Anything (λ fs ended. (from ≤ length fs) × (⊤ → ReceivingLate from fs o.inner.side (receive_left op ended))) (λ fs ended. It fs (udp2_put h.machine.store.records place (UdpRecord.Open (now ended))))
       (λ fs ended k. put_later side from fs h.machine.store.records place o (now ended) one g is k.0 (λ q. subst (λ (x : OpId). ReceivingLate from fs x (receive_left op ended)) is (k.1 tt))) es _
       (allows_keep (OnlyOf o.inner.side) Anything (λ fs. from ≤ length fs) (λ fs ended. ⊤ → ReceivingLate from fs o.inner.side (receive_left op ended)) (λ fs own c t fits m n. long_more from fs _ m) (λ fs own c n. tt) es _ i.long
-      (polled_receive ⊤ from es h place o inc op g e f its keeps i.long (λ x. subst (λ (y : OpId). IncomingLate from es y o.incoming) (sym is) (i.udps place (Udp2Socket.Open o) g is))))
+      (polled_receive ⊤ from es h place o inc op g e f its keeps i.long (λ x. subst (λ (y : OpId). IncomingLate from es y o.incoming) (sym is) (i.udps place (UdpRecord.Open o) g is))))
   receives_late es h place o inc op g e f its keeps one i (inr not) =
-      let now : End × List Item → Udp2Socket = λ ended. Udp2Socket.Open (record o { incoming = Some (with_receiving inc (receive_left op ended)) }) in
+      let now : End × List Item → UdpRecord = λ ended. UdpRecord.Open (record o { incoming = Some (with_receiving inc (receive_left op ended)) }) in
       allows_weaker Anything (λ fs ended. It fs h.machine.store.records × (⊥ → ReceivingLate 0 fs o.inner.side (receive_left op ended))) (λ fs ended. It fs (udp2_put h.machine.store.records place (now ended)))
       (λ fs ended k. put_udps side from fs h.machine.store.records place (now ended) (λ q. absurd (not q)) k.0) es _
       (allows_keep (OnlyOf o.inner.side) Anything (λ fs. It fs h.machine.store.records) (λ fs ended. ⊥ → ReceivingLate 0 fs o.inner.side (receive_left op ended)) (λ fs own c t fits m n. one_late side from fs own c t h.machine.store.records (λ x. only_other o.inner.side side fs own c not n) m) (λ fs own c n. tt) es _ i
@@ -134,11 +134,11 @@ module _ (side : OpId) (from : ℕ) where
   udp_question_quiet line origin n x _ q = tt
 
   -- a writer is on a network socket of TCP
-  pub writer_apart : (line : ℕ) (es : List Entry) (h : Here) (place : ℕ) (r : Tcp2Socket) (s : Streams) → Found h place r → r.streams ≡ Some s → Named line h → Keeps es h.machine.store.records → WritesApart side (IsHeld side h.machine.store.records) NoName s.writer
+  pub writer_apart : (line : ℕ) (es : List Entry) (h : Here) (place : ℕ) (r : TcpRecord) (s : Streams) → Found h place r → r.streams ≡ Some s → Named line h → Keeps es h.machine.store.records → WritesApart side (IsHeld side h.machine.store.records) NoName s.writer
   writer_apart line es h place r s g e names keeps = by_writer s.writer (keeps.tcps place r g s e).1
     where
       not_here : (job : Job) → r.side ≡ Some job.write.who.side → IsHeld side h.machine.store.records → job.write.who.side ≡ side → ⊥
-      not_here job made x is = names.udps.apart side place x.place r (Udp2Socket.Open x.socket) g x.found (inl (made ∙ ap (λ (y : OpId). Some y) is)) x.is
+      not_here job made x is = names.udps.apart side place x.place r (UdpRecord.Open x.socket) g x.found (inl (made ∙ ap (λ (y : OpId). Some y) is)) x.is
 
       by_writer : (w : WriteState) → WritesBy r.side w → WritesApart side (IsHeld side h.machine.store.records) NoName w
       by_writer (WriteState.Writing job) k = λ x. (not_here job k.0 x, λ n. n)
@@ -162,14 +162,14 @@ module _ (side : OpId) (from : ℕ) where
     moves_late es _ _ (walk.Unlistens h place r op q g e c o) i = put_tcp side from es _ place _ i
     moves_late es _ _ (walk.Forgets h place r l c g e a) i = put_tcp side from es _ place _ i
     moves_late es _ _ (walk.Joins h c handle place r l new peer is of u g e a) i = push_tcp side from es _ (joined l new peer) (put_tcp side from es _ place _ i)
-    moves_late es _ _ (walk.UdpChanges h place o now g p keeps) i = put_udps side from es _ place (Udp2Socket.Open now) (plain_late side from es o now p (i.udps place (Udp2Socket.Open o) g)) i
-    moves_late es _ _ (walk.BeginsUdpBind h place o a at g to idle own) i = put_udps side from es _ place (Udp2Socket.Open _) (i.udps place (Udp2Socket.Open o) g) i
-    moves_late es _ _ (walk.BeginsUdpConnect h place o a at g to bound none own) i = put_udps side from es _ place (Udp2Socket.Open _) (i.udps place (Udp2Socket.Open o) g) i
-    moves_late es _ _ (walk.BeginsSend h place n o out d bound at g e is known own) i = put_udps side from es _ place (Udp2Socket.Open _) (i.udps place (Udp2Socket.Open o) g) i
-    moves_late es _ _ (walk.BeginsReceive h place n o inc bound at g e is own) i = put_udps side from es _ place (Udp2Socket.Open _) (λ q. begun_empty from es (part_of line n) side bound) i
+    moves_late es _ _ (walk.UdpChanges h place o now g p keeps) i = put_udps side from es _ place (UdpRecord.Open now) (plain_late side from es o now p (i.udps place (UdpRecord.Open o) g)) i
+    moves_late es _ _ (walk.BeginsUdpBind h place o a at g to idle own) i = put_udps side from es _ place (UdpRecord.Open _) (i.udps place (UdpRecord.Open o) g) i
+    moves_late es _ _ (walk.BeginsUdpConnect h place o a at g to bound none own) i = put_udps side from es _ place (UdpRecord.Open _) (i.udps place (UdpRecord.Open o) g) i
+    moves_late es _ _ (walk.BeginsSend h place n o out d bound at g e is known own) i = put_udps side from es _ place (UdpRecord.Open _) (i.udps place (UdpRecord.Open o) g) i
+    moves_late es _ _ (walk.BeginsReceive h place n o inc bound at g e is own) i = put_udps side from es _ place (UdpRecord.Open _) (λ q. begun_empty from es (part_of line n) side bound) i
     moves_late es _ _ (walk.CancelsBind h place r op q g e) i = put_tcp side from es _ place _ i
-    moves_late es _ _ (walk.CancelsUdpBind h place o op q g e) i = put_udps side from es _ place (Udp2Socket.Open _) (i.udps place (Udp2Socket.Open o) g) i
-    moves_late es _ _ (walk.CancelsUdpConnect h place o q g) i = put_udps side from es _ place (Udp2Socket.Open _) (i.udps place (Udp2Socket.Open o) g) i
+    moves_late es _ _ (walk.CancelsUdpBind h place o op q g e) i = put_udps side from es _ place (UdpRecord.Open _) (i.udps place (UdpRecord.Open o) g) i
+    moves_late es _ _ (walk.CancelsUdpConnect h place o q g) i = put_udps side from es _ place (UdpRecord.Open _) (i.udps place (UdpRecord.Open o) g) i
     moves_late es _ _ (walk.Finds h records s) i = same_late side from es h.machine.store.records records s i
     moves_late es _ _ (walk.GivesBack h place idle left) i = fewer_late side from es h.machine.store.records place i
     moves_late es _ _ _ i = i
@@ -185,17 +185,17 @@ module _ (side : OpId) (from : ℕ) where
         polled_tcp es h place op (listen_after op r) (listen_silent side (IsHeld side h.machine.store.records) NoName op.who op.left its.left) i
     polls_late es h _ _ (walk.Awaits place r l op g e a) b keeps i = let its : IsAcceptOn l.side l.maker op = subst (HoldsAccept l.side l.maker) a (subst FitListening e (b.0.records place r g).1) in
         polled_tcp es h place op (λ ended. accepting_now r l (accept_ended op.who ended)) (accept_silent side (IsHeld side h.machine.store.records) NoName op.who op.left its.accept.left) i
-    polls_late es h _ _ (walk.UdpCreates place create q g) b keeps i = polled_udp es h place (Udp2Socket.Creating create) create.operation (udp_create_left create) g (λ fs ended k. created_late create fs ended) (subst (AreSilent side (IsHeld side h.machine.store.records) NoName create.operation.who) (sym (b.0.udps place (Udp2Socket.Creating create) g).1) (tt, tt)) i
-    polls_late es h _ _ (walk.UdpBindsOn place o op q g e) b keeps i = let its : UdpBindOn o.inner.side op = subst (FitUdpProgress o.inner.side) e (b.0.udps place (Udp2Socket.Open o) g).0 in
-        polled_udp es h place (Udp2Socket.Open o) op (λ ended. Udp2Socket.Open (with_udp_progress o (udp_bind_progress op ended))) g (λ fs ended k. k) (udp_bind_silent side (IsHeld side h.machine.store.records) NoName op.who op.left its.bind.left) i
-    polls_late es h _ _ (walk.UdpConnectsOn place o op q g e) b keeps i = let its : UdpConnectOn o.inner.side op = subst (FitConnecting o.inner.side) e (b.0.udps place (Udp2Socket.Open o) g).1 in
-        polled_udp es h place (Udp2Socket.Open o) op (λ ended. Udp2Socket.Open (udp_connect_left op o ended)) g (λ fs ended k. connected_late fs o op ended k) (udp_connect_silent side (IsHeld side h.machine.store.records) NoName op.who (λ x n. n) op.left its.connect.left) i
+    polls_late es h _ _ (walk.UdpCreates place create q g) b keeps i = polled_udp es h place (UdpRecord.Creating create) create.operation (udp_create_left create) g (λ fs ended k. created_late create fs ended) (subst (AreSilent side (IsHeld side h.machine.store.records) NoName create.operation.who) (sym (b.0.udps place (UdpRecord.Creating create) g).1) (tt, tt)) i
+    polls_late es h _ _ (walk.UdpBindsOn place o op q g e) b keeps i = let its : UdpBindOn o.inner.side op = subst (FitUdpProgress o.inner.side) e (b.0.udps place (UdpRecord.Open o) g).0 in
+        polled_udp es h place (UdpRecord.Open o) op (λ ended. UdpRecord.Open (with_udp_progress o (udp_bind_progress op ended))) g (λ fs ended k. k) (udp_bind_silent side (IsHeld side h.machine.store.records) NoName op.who op.left its.bind.left) i
+    polls_late es h _ _ (walk.UdpConnectsOn place o op q g e) b keeps i = let its : UdpConnectOn o.inner.side op = subst (FitConnecting o.inner.side) e (b.0.udps place (UdpRecord.Open o) g).1 in
+        polled_udp es h place (UdpRecord.Open o) op (λ ended. UdpRecord.Open (udp_connect_left op o ended)) g (λ fs ended k. connected_late fs o op ended k) (udp_connect_silent side (IsHeld side h.machine.store.records) NoName op.who (λ x n. n) op.left its.connect.left) i
     polls_late es h _ _ (walk.SendsOn place o out op left g e f s) b keeps i =
-        let its : SendOn o.inner.side op = subst (FitSending o.inner.side) (ap sending_in e ∙ ap send_op f) (b.0.udps place (Udp2Socket.Open o) g).2 in
-        polled_udp es h place (Udp2Socket.Open o) (at_remote o.inner.remote op) (λ ended. Udp2Socket.Open (record o { outgoing = Some (with_sending out (left ended)) })) g (λ fs ended k. k) (send_silent side (IsHeld side h.machine.store.records) NoName op.who op.left its.send.left) i
+        let its : SendOn o.inner.side op = subst (FitSending o.inner.side) (ap sending_in e ∙ ap send_op f) (b.0.udps place (UdpRecord.Open o) g).2 in
+        polled_udp es h place (UdpRecord.Open o) (at_remote o.inner.remote op) (λ ended. UdpRecord.Open (record o { outgoing = Some (with_sending out (left ended)) })) g (λ fs ended k. k) (send_silent side (IsHeld side h.machine.store.records) NoName op.who op.left its.send.left) i
     polls_late es h _ _ (walk.ReceivesOn place o inc op g e f) b keeps i =
-        let its : ReceiveOn o.inner.side op = subst (FitReceiving o.inner.side) (ap receiving_in e ∙ ap receive_op f) (b.0.udps place (Udp2Socket.Open o) g).3 in
-        receives_late es h place o inc op g e f its keeps (λ x k p q a c z. b.1.udps.one q.inner.side x k (Udp2Socket.Open p) (Udp2Socket.Open q) a c z refl) i (same_or_not o.inner.side side)
+        let its : ReceiveOn o.inner.side op = subst (FitReceiving o.inner.side) (ap receiving_in e ∙ ap receive_op f) (b.0.udps place (UdpRecord.Open o) g).3 in
+        receives_late es h place o inc op g e f its keeps (λ x k p q a c z. b.1.udps.one q.inner.side x k (UdpRecord.Open p) (UdpRecord.Open q) a c z refl) i (same_or_not o.inner.side side)
 
     -- the law: the calls may be any
     pub lates_asks : (es : List Entry) (h : Here) (A : Type 0) (tree : Asks A) (end : A → Here)
@@ -213,14 +213,14 @@ module _ (side : OpId) (from : ℕ) where
     lates_asks es h _ _ _ (Turns place r s g e) b i = allows_weaker Anything (λ fs done. It fs h.machine.store.records) (λ fs done. It fs (tcp2_put h.machine.store.records place (with_writer r s done.1))) (λ fs done k. put_tcp side from fs _ place _ k) es (turn_asks s.writer) (along _ es (turn_asks s.writer) i (turn_silent side (IsHeld side h.machine.store.records) NoName es s.writer (writer_apart line es h place r s g e b.0.1 b.1)))
     lates_asks es h _ _ _ (GivesUp place r q g) b i = allows_weaker Anything (λ fs done. It fs h.machine.store.records) (λ fs done. It fs (tcp2_put h.machine.store.records place (with_listening r Not))) (λ fs done k. put_tcp side from fs _ place _ k) es (give_up_asks r.listening) (along _ es (give_up_asks r.listening) i (given_up_silent side (IsHeld side h.machine.store.records) NoName es r.listening))
     lates_asks es h _ _ _ (UdpQuestions place n o c at g q) b i = (tt, λ told f. one_late side from es (own_of n) c told _ (λ y. udp_question_quiet line origin n o.inner.side c q) i)
-    lates_asks es h _ _ _ (UdpLearns place part o at g) b i = (tt, λ told f. (let k = one_late side from es (part_of line part) (Call.Local o.inner.side) told _ (λ y. tt) i in put_udps side from _ _ place (Udp2Socket.Open _) (λ q. k.udps place (Udp2Socket.Open o) g (sym (learnt_side o.inner (told_addr told)) ∙ q)) k))
-    lates_asks es h _ _ _ (UdpPeers place o at g) b i = (tt, λ told f. (let k = one_late side from es (own_of line) (Call.Peer o.inner.side) told _ (λ y. tt) i in put_udps side from _ _ place (Udp2Socket.Open _) (k.udps place (Udp2Socket.Open o) g) k))
-    lates_asks es h _ _ _ (UdpCloses place o q g) b i = (tt, λ told f. put_udps side from _ _ place (Udp2Socket.Closed o.inner.side) tt (one_late side from es (own_of line) (Call.Close o.inner.side) told _ (λ y. tt) i))
+    lates_asks es h _ _ _ (UdpLearns place part o at g) b i = (tt, λ told f. (let k = one_late side from es (part_of line part) (Call.Local o.inner.side) told _ (λ y. tt) i in put_udps side from _ _ place (UdpRecord.Open _) (λ q. k.udps place (UdpRecord.Open o) g (sym (learnt_side o.inner (told_addr told)) ∙ q)) k))
+    lates_asks es h _ _ _ (UdpPeers place o at g) b i = (tt, λ told f. (let k = one_late side from es (own_of line) (Call.Peer o.inner.side) told _ (λ y. tt) i in put_udps side from _ _ place (UdpRecord.Open _) (k.udps place (UdpRecord.Open o) g) k))
+    lates_asks es h _ _ _ (UdpCloses place o q g) b i = (tt, λ told f. put_udps side from _ _ place (UdpRecord.Closed o.inner.side) tt (one_late side from es (own_of line) (Call.Close o.inner.side) told _ (λ y. tt) i))
     lates_asks es h _ _ _ (UdpBegins ctx family c may a o m) b i = (tt, λ told f. begun_late es h (own_of line) ctx.name family told f i)
     lates_asks es h _ _ _ (MarksUdp place u g) b i = marks_late _ es h.machine.table (udp_side u) (Udp2 place) None (Some (udp_side u)) i
     lates_asks es h _ _ _ (MarksStream place n handle reached kind m new e) b i = marks_late _ es h.machine.table (own_of n) kind (Some handle) _ i
     lates_asks es h _ _ _ (MarksError n handle place handles m k e f) b i = marks_late _ es h.machine.table (own_of n) ErrorValue (Some handle) _ i
-    lates_asks es h _ _ _ (UdpGivesUp place create q g) b i = allows_weaker Anything (λ fs done. It fs h.machine.store.records) (λ fs done. It fs (udp2_put h.machine.store.records place (Udp2Socket.Closed create.operation.who.side))) (λ fs done k. put_udps side from fs _ place (Udp2Socket.Closed create.operation.who.side) tt k) es (create_cancel_asks create) (along _ es (create_cancel_asks create) i (cancelled_silent side (IsHeld side h.machine.store.records) NoName es create))
+    lates_asks es h _ _ _ (UdpGivesUp place create q g) b i = allows_weaker Anything (λ fs done. It fs h.machine.store.records) (λ fs done. It fs (udp2_put h.machine.store.records place (UdpRecord.Closed create.operation.who.side))) (λ fs done k. put_udps side from fs _ place (UdpRecord.Closed create.operation.who.side) tt k) es (create_cancel_asks create) (along _ es (create_cancel_asks create) i (cancelled_silent side (IsHeld side h.machine.store.records) NoName es create))
     lates_asks es h _ _ _ (Resolves host records l same) b i = (tt, λ told f. same_late side from _ _ (records told) (same told) (one_late side from es (own_of line) (Call.Lookup host) told _ (λ y. tt) i))
     lates_asks es h _ _ _ (Looks place op g) b i = (tt, λ told f. one_late side from es op.id (Call.Lookup op.host) told _ (λ y. tt) i)
 

@@ -15,7 +15,7 @@ use Rattle.wasi_host.specs.Store.{Records}
 use Rattle.wasi_records.specs.Udp.{udp_side}
 use Rattle.wasi_records.specs.declared.records.Record.{Record}
 use Rattle.wasi_records.specs.declared.udp.OpenUdp.{OpenUdp}
-use Rattle.wasi_records.specs.declared.udp.Udp2Socket.{Udp2Socket}
+use Rattle.wasi_records.specs.declared.udp.UdpRecord.{UdpRecord}
 use Rattle.wasi_p2.specs.Udp.{receive_datagrams_on}
 use Rattle.wasi_machine.specs.Machine.{reply_of}
 use Rattle.wasi_steps.specs.Reply.{datagram_values}
@@ -40,14 +40,14 @@ use Rattle.wasi_walks.proofs.walks.Moves.{Past}
 use Rattle.wasi_host.specs.declared.kind.Kind.TheVariants.{Incoming}
 
 one_each : (line : ℕ) (m : Machine) → BaseBetween line m → OneEach m.store.records
-one_each line m b i k o p e f s = b.named.udps.one p.inner.side i k (Udp2Socket.Open o) (Udp2Socket.Open p) e f s refl
+one_each line m b i k o p e f s = b.named.udps.one p.inner.side i k (UdpRecord.Open o) (UdpRecord.Open p) e f s refl
 
 -- the handle's network socket is that of its UDP socket
-pub side_is : (es : List Entry) (records : List Record) (handle place : ℕ) (o : OpenUdp) → NamesUdp es records handle place → udp2_at records place ≡ Some (Udp2Socket.Open o) → IsSide es handle o.inner.side
+pub side_is : (es : List Entry) (records : List Record) (handle place : ℕ) (o : OpenUdp) → NamesUdp es records handle place → udp2_at records place ≡ Some (UdpRecord.Open o) → IsSide es handle o.inner.side
 side_is es records handle place o n e =
-    let p : Some n.found ≡ Some (Udp2Socket.Open o) = sym n.at ∙ e in
-    let q : n.found ≡ Udp2Socket.Open o = cc in
-    let k : IsMarkedWith es handle (Some o.inner.side) = subst (λ (u : Udp2Socket). IsMarkedWith es handle (Some (udp_side u))) q n.marked in
+    let p : Some n.found ≡ Some (UdpRecord.Open o) = sym n.at ∙ e in
+    let q : n.found ≡ UdpRecord.Open o = cc in
+    let k : IsMarkedWith es handle (Some o.inner.side) = subst (λ (u : UdpRecord). IsMarkedWith es handle (Some (udp_side u))) q n.marked in
     record { op = k.op; kind = k.kind; parent = k.parent; told = k.told; mark = k.mark }
 
 -- what a receive of the socket leaves, where it is known what its stream holds
@@ -77,7 +77,7 @@ module _ (side : OpId) (from : ℕ) where
   Takes es s done = (upto : ℕ) × (ReplyTakes es side from upto s done.0 × Between side upto es done.1)
 
   -- a job more leaves the records and the pending call
-  jobbed : (P : List Record → Option Standing → Type 0) (store : Records) (place : ℕ) (o now : OpenUdp) → P (udp2_put store.records place (Udp2Socket.Open now)) store.standing → P (with_receive store place o now).records (with_receive store place o now).standing
+  jobbed : (P : List Record → Option Standing → Type 0) (store : Records) (place : ℕ) (o now : OpenUdp) → P (udp2_put store.records place (UdpRecord.Open now)) store.standing → P (with_receive store place o now).records (with_receive store place o now).standing
   jobbed P store place o now k = by_test (begins_receive o now)
     where
       by_test : (b : Bool) → P (with_job (with_open_udp store place now) (Receive place) b).records (with_job (with_open_udp store place now) (Receive place) b).standing
@@ -125,17 +125,17 @@ module _ (side : OpId) (from : ℕ) where
       its_early : (place : ℕ) (o : OpenUdp) → kind_at m.table handle ≡ Some (Incoming place) → IsSide es handle o.inner.side → o.inner.side ≡ side → Early start es side handle
       its_early place o kind i is = let k = was.0.early handle place kind in k.early (marks k.its o.inner.side k.marked i ∙ is)
 
-      open_takes : (place : ℕ) (o : OpenUdp) → kind_at m.table handle ≡ Some (Incoming place) → udp2_at m.store.records place ≡ Some (Udp2Socket.Open o) → IsSide es handle o.inner.side → (o.inner.side ≡ side) ⊎ (o.inner.side ≡ side → ⊥) → Allows Anything (λ fs done. Says fs done) es (receive_datagrams_at m.store (first_ids line) place most (Some o))
+      open_takes : (place : ℕ) (o : OpenUdp) → kind_at m.table handle ≡ Some (Incoming place) → udp2_at m.store.records place ≡ Some (UdpRecord.Open o) → IsSide es handle o.inner.side → (o.inner.side ≡ side) ⊎ (o.inner.side ≡ side → ⊥) → Allows Anything (λ fs done. Says fs done) es (receive_datagrams_at m.store (first_ids line) place most (Some o))
       open_takes place o kind at i (inl is) =
-          let k : OpenKeeps es o = keeps.udps place (Udp2Socket.Open o) at in
-          let l : IncomingLate start es o.inner.side o.incoming = subst (λ (x : OpId). IncomingLate start es x o.incoming) (sym is) (was.0.late.udps place (Udp2Socket.Open o) at is) in
+          let k : OpenKeeps es o = keeps.udps place (UdpRecord.Open o) at in
+          let l : IncomingLate start es o.inner.side o.incoming = subst (λ (x : OpId). IncomingLate start es x o.incoming) (sym is) (was.0.late.udps place (UdpRecord.Open o) at is) in
           let M : List Entry → Type 0 = λ fs. Early start fs side handle × AreEarly side start fs m.table in
           allows_then Anything (λ fs done. M fs × (IsSide fs handle o.inner.side × Leaves ⊤ start fs o done.0 done.1)) (λ fs done. Says fs done) es (receive_datagrams_asks (first_ids line) most o o.incoming) _
           (allows_keep Anything Anything M (λ fs done. IsSide fs handle o.inner.side × Leaves ⊤ start fs o done.0 done.1) (λ fs op c t fits x n. (early_more side start start fs _ handle (omega arith) x.0, are_early_more side start start fs _ m.table (omega arith) x.1)) (λ fs op c n. tt) es _ (its_early place o kind i is, was.0.early) (open_leaves start handle most line es o k was.0.late.long l i))
           (λ fs done x.
           let left : Leaves ⊤ start fs o done.0 done.1 = x.1.1 in
           let said = says_ours fs o start left.upto done.0 was.0.on x.1.0 is x.0.0 left.gives in
-          let late : Late side left.upto fs (udp2_put m.store.records place (Udp2Socket.Open done.1)) = put_later side left.upto fs m.store.records place o done.1 one at is left.long (λ q. subst (λ (y : OpId). IncomingLate left.upto fs y done.1.incoming) is (left.later tt)) in (
+          let late : Late side left.upto fs (udp2_put m.store.records place (UdpRecord.Open done.1)) = put_later side left.upto fs m.store.records place o done.1 one at is left.long (λ q. subst (λ (y : OpId). IncomingLate left.upto fs y done.1.incoming) is (left.later tt)) in (
             said.0,
             (
               said.1.1,
@@ -144,7 +144,7 @@ module _ (side : OpId) (from : ℕ) where
             ),
           ))
       open_takes place o kind at i (inr not) =
-          let k : OpenKeeps es o = keeps.udps place (Udp2Socket.Open o) at in
+          let k : OpenKeeps es o = keeps.udps place (UdpRecord.Open o) at in
           let M : List Entry → Type 0 = λ fs. IsSide fs handle o.inner.side × (Late side start fs m.store.records × AreEarly side start fs m.table) in
           allows_then Anything (λ fs done. M fs × Leaves ⊥ 0 fs o done.0 done.1) (λ fs done. Says fs done) es (receive_datagrams_asks (first_ids line) most o o.incoming) _
           (allows_keep (OnlyOf o.inner.side) Anything M (λ fs done. Leaves ⊥ 0 fs o done.0 done.1)
@@ -155,14 +155,14 @@ module _ (side : OpId) (from : ℕ) where
             (
               says_other fs o done.0 x.0.0 not,
               jobbed (After from fs) m.store place o done.1
-                  (record { start = start; on = was.0.on; late = put_udps side start fs m.store.records place (Udp2Socket.Open done.1) (λ q. absurd (not (sym x.1.on ∙ q))) x.0.1.0; early = x.0.1.1 }, was.1),
+                  (record { start = start; on = was.0.on; late = put_udps side start fs m.store.records place (UdpRecord.Open done.1) (λ q. absurd (not (sym x.1.on ∙ q))) x.0.1.0; early = x.0.1.1 }, was.1),
             ),
           ))
 
       socket_takes : (place : ℕ) (found : Option OpenUdp) → kind_at m.table handle ≡ Some (Incoming place) → open_at m.store.records place ≡ found → NamesUdp es m.store.records handle place → Allows Anything (λ fs done. Says fs done) es (receive_datagrams_at m.store (first_ids line) place most found)
       socket_takes place None kind e n = (from, (refl, was))
       socket_takes place (Some o) kind e n =
-          let at : udp2_at m.store.records place ≡ Some (Udp2Socket.Open o) = open_is (udp2_at m.store.records place) o e in
+          let at : udp2_at m.store.records place ≡ Some (UdpRecord.Open o) = open_is (udp2_at m.store.records place) o e in
           open_takes place o kind at (side_is es m.store.records handle place o n at) (same_or_not o.inner.side side)
 
       handle_takes : (found : Option ℕ) → ((place : ℕ) → found ≡ Some place → (kind_at m.table handle ≡ Some (Incoming place)) × NamesUdp es m.store.records handle place) → Allows Anything (λ fs done. Takes fs (Step.UdpReceive ctx handle most) (reply_of datagram_values done.0, done.1)) es (receive_datagrams_on m (first_ids line) most found)

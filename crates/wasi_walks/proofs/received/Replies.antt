@@ -8,7 +8,7 @@ use Rattle.wasi_host.specs.Machine.{incoming_at}
 use Rattle.wasi_records.specs.Receiving.{receive_datagrams_asks}
 use Rattle.wasi_records.specs.Records.{open_at, udp2_at}
 use Rattle.wasi_records.specs.declared.udp.OpenUdp.{OpenUdp}
-use Rattle.wasi_records.specs.declared.udp.Udp2Socket.{Udp2Socket}
+use Rattle.wasi_records.specs.declared.udp.UdpRecord.{UdpRecord}
 use Rattle.wasi_p2.specs.Udp.{receive_datagrams_on}
 use Rattle.wasi_machine.specs.Machine.{reply_of}
 use Rattle.wasi_steps.specs.Reply.{datagram_values}
@@ -49,10 +49,10 @@ module _ (ctx handle most : ℕ) where
     socket_says : (place : ℕ) (found : Option OpenUdp) → open_at m.store.records place ≡ found → NamesUdp es m.store.records handle place → Allows Anything (λ fs done. Says fs done.0) es (receive_datagrams_at m.store (first_ids line) place most found)
     socket_says place None e n = tt
     socket_says place (Some o) e n =
-        let at : udp2_at m.store.records place ≡ Some (Udp2Socket.Open o) = open_is (udp2_at m.store.records place) o e in
+        let at : udp2_at m.store.records place ≡ Some (UdpRecord.Open o) = open_is (udp2_at m.store.records place) o e in
         let l : Late o.inner.side 0 es m.store.records = late o.inner.side in
         allows_then Anything (λ fs done. IsSide fs handle o.inner.side × Leaves ⊤ 0 fs o done.0 done.1) (λ fs done. Says fs done.0) es (receive_datagrams_asks (first_ids line) most o o.incoming) _
-        (open_leaves 0 handle most line es o (keeps.udps place (Udp2Socket.Open o) at) l.long (l.udps place (Udp2Socket.Open o) at refl) (side_is es m.store.records handle place o n at))
+        (open_leaves 0 handle most line es o (keeps.udps place (UdpRecord.Open o) at) l.long (l.udps place (UdpRecord.Open o) at refl) (side_is es m.store.records handle place o n at))
         (λ fs done x. says fs o.inner.side x.1.upto done.0 x.0 x.1.gives)
 
     -- where the handle is of one

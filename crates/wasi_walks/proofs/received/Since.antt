@@ -11,7 +11,7 @@ use Rattle.wasi_host.specs.UdpCreates.{udp_side_at}
 use Rattle.wasi_host.specs.declared.kind.Kind.TheVariants.{Incoming, Udp2}
 use Rattle.wasi_records.specs.declared.records.Record.{Record}
 use Rattle.wasi_records.specs.declared.udp.OpenUdp.{OpenUdp}
-use Rattle.wasi_records.specs.declared.udp.Udp2Socket.{Udp2Socket}
+use Rattle.wasi_records.specs.declared.udp.UdpRecord.{UdpRecord}
 use Rattle.wasi_walks.proofs.claims.Law.{begins_on_two, Base, on_two, on_two_along}
 use Rattle.wasi_walks.proofs.fits.Polls.{Anything}
 use Rattle.wasi_walks.proofs.remotes.Law.{begins_kept, remotes}
@@ -72,7 +72,7 @@ module _ (side : OpId) (from : ℕ) where
   marks_other es h op kind parent sock not i = marks_so es h op kind parent sock (λ made. h.made) not i.1.makes (makes_more h.machine.table kind parent h.made i.1.makes) i
 
   -- that of a new stream
-  module _ (es : List Entry) (h : Here) (place n handle : ℕ) (one : OneEach h.machine.store.records) (o : OpenUdp) (at : udp2_at h.machine.store.records place ≡ Some (Udp2Socket.Open o)) (i : Inv es h) where
+  module _ (es : List Entry) (h : Here) (place n handle : ℕ) (one : OneEach h.machine.store.records) (o : OpenUdp) (at : udp2_at h.machine.store.records place ≡ Some (UdpRecord.Open o)) (i : Inv es h) where
     abbrev marked : Option OpId → Told → Entry
     marked sock told = entry (own_of n) (Call.Made h.machine.table.next (name_of (Incoming place)) (Some handle) sock) told
 
@@ -81,7 +81,7 @@ module _ (side : OpId) (from : ℕ) where
 
     -- nothing is held, so any later place will do
     emptied : (fs : List Entry) → o.inner.side ≡ side → IncomingLate (length fs) fs side o.incoming → Late side (length fs) fs h.machine.store.records
-    emptied fs is holds = subst (Late side (length fs) fs) (put_again udp_sort h.machine.store.records place (Udp2Socket.Open o) at) (put_later side (length fs) fs h.machine.store.records place o o one at is (omega arith) (λ q. holds))
+    emptied fs is holds = subst (Late side (length fs) fs) (put_again udp_sort h.machine.store.records place (UdpRecord.Open o) at) (put_later side (length fs) fs h.machine.store.records place o o one at is (omega arith) (λ q. holds))
 
     since : (told : Told) → ((fs : List Entry) → IncomingLate (length fs) fs side o.incoming) → (o.inner.side ≡ side) ⊎ (o.inner.side ≡ side → ⊥) → (let e : Entry = marked (Some o.inner.side) told in Since side from (es ++ e ∷ []) h.machine.store.records table)
     since told none (inl is) =
@@ -116,7 +116,7 @@ module _ (side : OpId) (from : ℕ) where
   streams_so es h place n handle reached kind (inr m) new of one i = marks_so es h (own_of n) kind (Some handle) _ (λ made. ToSend n handle reached) (subst (NotIncoming side) (sym m.0) tt) tt tt i
   streams_so es h place n handle reached kind (inl (e, made)) new of one i =
       let same : place ≡ reached = (subst (MakesUnder h.machine.table) made i.1.makes).of place of in
-      let at : udp2_at h.machine.store.records place ≡ Some (Udp2Socket.Open new.socket) = subst (λ (x : ℕ). udp2_at h.machine.store.records x ≡ Some (Udp2Socket.Open new.socket)) (sym same) new.at in
+      let at : udp2_at h.machine.store.records place ≡ Some (UdpRecord.Open new.socket) = subst (λ (x : ℕ). udp2_at h.machine.store.records x ≡ Some (UdpRecord.Open new.socket)) (sym same) new.at in
       let A : Kind → Option OpId → Type 0 = λ k sock. Allows Anything (λ fs made. Inv fs (record h { machine = record h.machine { table = made.1 }; made = ToSend n handle reached })) es (make_asks h.machine.table (own_of n) k (Some handle) sock) in
       subst (λ (k : Kind). A k (udp_side_at (udp2_at h.machine.store.records place))) (sym e)
       (subst (A (Incoming place)) (sym (ap udp_side_at at)) (marks_new es h place n handle one new.socket at i reached (λ fs. subst (IncomingLate (length fs) fs side) (sym new.new) tt)))
@@ -160,9 +160,9 @@ module _ (side : OpId) (from : ℕ) where
           (begun_same (λ t made standing. Since side from (es ++ entry (own_of line) (Call.UdpCreate ctx.name family) told ∷ []) (udp_begun h begun).machine.store.records t) h begun s, begun_same (λ t made standing. AreUnder t made standing) h begun i.1),
     )
     sinces_asks es h _ _ _ (MarksUdp place u g) b i = marks_so es h (udp_side u) (Udp2 place) None (Some (udp_side u)) (λ made. Past) tt tt tt i
-    sinces_asks es h _ _ _ (MarksStream place n handle reached kind m new e) b i = streams_so es h place n handle reached kind m new e (λ x y p q a c z. b.0.1.udps.one q.inner.side x y (Udp2Socket.Open p) (Udp2Socket.Open q) a c z refl) i
+    sinces_asks es h _ _ _ (MarksStream place n handle reached kind m new e) b i = streams_so es h place n handle reached kind m new e (λ x y p q a c z. b.0.1.udps.one q.inner.side x y (UdpRecord.Open p) (UdpRecord.Open q) a c z refl) i
     sinces_asks es h _ _ _ (MarksError n handle place handles m k e f) b i = marks_other es h (own_of n) ErrorValue (Some handle) _ tt i
-    sinces_asks es h _ _ _ (UdpGivesUp place create q g) b i = kept h (λ done. put_udp h place (Udp2Socket.Closed create.operation.who.side)) es (create_cancel_asks create) i (λ done. i.1) (λ fs done k. k) ((lates side i.0.start contexts line origin).asks es h _ _ _ (UdpGivesUp place create q g) b i.0.late)
+    sinces_asks es h _ _ _ (UdpGivesUp place create q g) b i = kept h (λ done. put_udp h place (UdpRecord.Closed create.operation.who.side)) es (create_cancel_asks create) i (λ done. i.1) (λ fs done k. k) ((lates side i.0.start contexts line origin).asks es h _ _ _ (UdpGivesUp place create q g) b i.0.late)
     sinces_asks es h _ _ _ (Resolves host records l same) b i = (tt, λ told f. (longer es _ _ _ _ i.0 (((lates side i.0.start contexts line origin).asks es h _ _ _ (Resolves host records l same) b i.0.late).1 told f), i.1))
     sinces_asks es h _ _ _ (Looks place op g) b i = (tt, λ told f. (longer es _ _ _ _ i.0 (((lates side i.0.start contexts line origin).asks es h _ _ _ (Looks place op g) b i.0.late).1 told f), i.1))
 

@@ -1,5 +1,5 @@
 -- What is known of the records: what the incoming stream of this network socket holds was received from this place of the log on.
-use Rattle.wasi_walks.proofs.Words.{◌∷◌, [], entry, Told, Allows, Asks, Bool, Call, Entry, List, None, OpId, Operation, Option, Some, Tcp2Socket, []}
+use Rattle.wasi_walks.proofs.Words.{◌∷◌, [], entry, Told, Allows, Asks, Bool, Call, Entry, List, None, OpId, Operation, Option, Some, TcpRecord, []}
 use Rattle.wasi_walks.proofs.Words.{allows_keep, ap, arith, first_state, inl, inr, length, refl, subst, sym, true, false, ℕ, ⊤, ◌==◌, ◌⊎◌, ◌++◌, ◌∙◌, ◌≡◌, ◌≤◌}
 use Rattle.std.proofs.lemmas.Bool.{eqb-true, eqb-false}
 use Rattle.wasi_records.specs.Numbered.{record_gone}
@@ -10,7 +10,7 @@ use Rattle.wasi_records.specs.declared.datagrams.Receiving.{Receiving}
 use Rattle.wasi_records.specs.declared.name_lookup.LookupOp.{LookupOp}
 use Rattle.wasi_records.specs.declared.records.Record.{Record}
 use Rattle.wasi_records.specs.declared.udp.OpenUdp.{OpenUdp}
-use Rattle.wasi_records.specs.declared.udp.Udp2Socket.{Udp2Socket}
+use Rattle.wasi_records.specs.declared.udp.UdpRecord.{UdpRecord}
 use Rattle.wasi_walks.proofs.fits.Polls.{Anything}
 use Rattle.wasi_walks.proofs.fits.UdpFits.{kept_op}
 use Rattle.wasi_walks.proofs.walks.Moves.{Kept, SameSockets, UdpPlain, came_from, came_in, came_of, receive_op, receiving_in}
@@ -68,35 +68,35 @@ both_late from es side (Some inc) k l = of inc.receiving k l
 
 -- no two open UDP sockets are on one network socket
 abbrev pub OneEach : List Record → Type 0
-OneEach records = (i k : ℕ) (o p : OpenUdp) → udp2_at records i ≡ Some (Udp2Socket.Open o) → udp2_at records k ≡ Some (Udp2Socket.Open p) → o.inner.side ≡ p.inner.side → i ≡ k
+OneEach records = (i k : ℕ) (o p : OpenUdp) → udp2_at records i ≡ Some (UdpRecord.Open o) → udp2_at records k ≡ Some (UdpRecord.Open p) → o.inner.side ≡ p.inner.side → i ≡ k
 
 module _ (side : OpId) where
   -- of one UDP socket, where it is on the network socket
-  abbrev pub UdpLate : ℕ → List Entry → Udp2Socket → Type 0
-  UdpLate from es (Udp2Socket.Open o) = o.inner.side ≡ side → IncomingLate from es side o.incoming
+  abbrev pub UdpLate : ℕ → List Entry → UdpRecord → Type 0
+  UdpLate from es (UdpRecord.Open o) = o.inner.side ≡ side → IncomingLate from es side o.incoming
   UdpLate from es u = ⊤
 
   -- A UDP socket on the network socket is there.
   pub record IsHeld (records : List Record) : Type 0 where
     pub place : ℕ
     pub socket : OpenUdp
-    pub found : udp2_at records place ≡ Some (Udp2Socket.Open socket)
+    pub found : udp2_at records place ≡ Some (UdpRecord.Open socket)
     pub is : socket.inner.side ≡ side
 
   -- Of all of them; and the log reaches the place.
   pub record Late (from : ℕ) (es : List Entry) (records : List Record) : Type 0 where
     pub long : from ≤ length es
-    pub udps : (place : ℕ) (u : Udp2Socket) → udp2_at records place ≡ Some u → UdpLate from es u
+    pub udps : (place : ℕ) (u : UdpRecord) → udp2_at records place ≡ Some u → UdpLate from es u
 
   -- there are no records at first
   pub first_late : Late 0 [] first_state.store.records
   first_late = record { long = omega arith; udps = λ place u e. absurd (cc) }
 
   -- under more entries, where none of them asks for a datagram of the network socket, if it is held
-  udp_late_more : (from : ℕ) (es fs : List Entry) (records : List Record) (place : ℕ) (u : Udp2Socket) → udp2_at records place ≡ Some u → (IsHeld records → ReceivesNone side fs) → UdpLate from es u → UdpLate from (es ++ fs) u
-  udp_late_more from es fs records place (Udp2Socket.Open o) g n k = λ e. incoming_late_more from es fs side o.incoming (n (record { place = place; socket = o; found = g; is = e })) (k e)
-  udp_late_more from es fs records place (Udp2Socket.Creating create) g n k = tt
-  udp_late_more from es fs records place (Udp2Socket.Closed x) g n k = tt
+  udp_late_more : (from : ℕ) (es fs : List Entry) (records : List Record) (place : ℕ) (u : UdpRecord) → udp2_at records place ≡ Some u → (IsHeld records → ReceivesNone side fs) → UdpLate from es u → UdpLate from (es ++ fs) u
+  udp_late_more from es fs records place (UdpRecord.Open o) g n k = λ e. incoming_late_more from es fs side o.incoming (n (record { place = place; socket = o; found = g; is = e })) (k e)
+  udp_late_more from es fs records place (UdpRecord.Creating create) g n k = tt
+  udp_late_more from es fs records place (UdpRecord.Closed x) g n k = tt
 
   late_more : (from : ℕ) (es fs : List Entry) (records : List Record) → (IsHeld records → ReceivesNone side fs) → Late from es records → Late from (es ++ fs) records
   late_more from es fs records n k = record { long = long_more from es fs k.long; udps = λ place u e. udp_late_more from es fs records place u e n (k.udps place u e) }
@@ -109,19 +109,19 @@ module _ (side : OpId) where
   late_along from records Q es asks k a = allows_keep (Elsewhere side (IsHeld records) NoName) Anything (λ fs. Late from fs records) Q (λ fs op c t fits m n. one_late from fs op c t records (λ x. spares_recv side NoName op c (n x)) m) (λ fs op c n. tt) es asks k a
 
   -- == a record changes, or joins them
-  pub put_tcp : (from : ℕ) (es : List Entry) (records : List Record) (place : ℕ) (now : Tcp2Socket) → Late from es records → Late from es (tcp2_put records place now)
+  pub put_tcp : (from : ℕ) (es : List Entry) (records : List Record) (place : ℕ) (now : TcpRecord) → Late from es records → Late from es (tcp2_put records place now)
   put_tcp from es records place now k = record { long = k.long; udps = λ i u e. k.udps i u (put_was tcp_sort udp_sort (λ t. refl) records place now i u e) }
 
-  pub push_tcp : (from : ℕ) (es : List Entry) (records : List Record) (now : Tcp2Socket) → Late from es records → Late from es (tcp2_pushed records now)
+  pub push_tcp : (from : ℕ) (es : List Entry) (records : List Record) (now : TcpRecord) → Late from es records → Late from es (tcp2_pushed records now)
   push_tcp from es records now k = record { long = k.long; udps = λ i u e. k.udps i u (push_was tcp_sort udp_sort (λ t. refl) records now i u e) }
 
-  pub put_udps : (from : ℕ) (es : List Entry) (records : List Record) (place : ℕ) (now : Udp2Socket) → UdpLate from es now → Late from es records → Late from es (udp2_put records place now)
+  pub put_udps : (from : ℕ) (es : List Entry) (records : List Record) (place : ℕ) (now : UdpRecord) → UdpLate from es now → Late from es records → Late from es (udp2_put records place now)
   put_udps from es records place now f k = record {
     long = k.long;
     udps = λ i u e. elim (put_found udp_sort records place now i u e) [ inl p ↦ subst (UdpLate from es) p.1 f | inr p ↦ k.udps i u p ];
   }
 
-  pub push_udps : (from : ℕ) (es : List Entry) (records : List Record) (now : Udp2Socket) → UdpLate from es now → Late from es records → Late from es (udp2_pushed records now)
+  pub push_udps : (from : ℕ) (es : List Entry) (records : List Record) (now : UdpRecord) → UdpLate from es now → Late from es records → Late from es (udp2_pushed records now)
   push_udps from es records now f k = record {
     long = k.long;
     udps = λ i u e. elim (push_found udp_sort records now i u e) [ inl p ↦ k.udps i u p | inr p ↦ subst (UdpLate from es) p.0 f ];
@@ -134,7 +134,7 @@ module _ (side : OpId) where
   fewer_late from es old place k = record { long = k.long; udps = λ i u e. k.udps i u (was_there udp2_of refl old place i u e) }
 
   -- a plain change
-  pub plain_late : (from : ℕ) (es : List Entry) (o now : OpenUdp) → UdpPlain o now → UdpLate from es (Udp2Socket.Open o) → UdpLate from es (Udp2Socket.Open now)
+  pub plain_late : (from : ℕ) (es : List Entry) (o now : OpenUdp) → UdpPlain o now → UdpLate from es (UdpRecord.Open o) → UdpLate from es (UdpRecord.Open now)
   plain_late from es o now p k e =
       let was : IncomingLate from es side o.incoming = k (sym p.side ∙ e) in
       both_late from es side now.incoming
@@ -142,23 +142,23 @@ module _ (side : OpId) where
       (kept_op (CameIsLate from es side) tt (came_in o.incoming) (came_in now.incoming) p.came (came_of_it from es side o.incoming was))
 
   -- the record of the network socket is this one, and what it holds is from another place on
-  pub put_later : (upto : ℕ) (es : List Entry) (records : List Record) (place : ℕ) (o now : OpenUdp) → OneEach records → udp2_at records place ≡ Some (Udp2Socket.Open o) → o.inner.side ≡ side → upto ≤ length es → UdpLate upto es (Udp2Socket.Open now) → Late upto es (udp2_put records place (Udp2Socket.Open now))
+  pub put_later : (upto : ℕ) (es : List Entry) (records : List Record) (place : ℕ) (o now : OpenUdp) → OneEach records → udp2_at records place ≡ Some (UdpRecord.Open o) → o.inner.side ≡ side → upto ≤ length es → UdpLate upto es (UdpRecord.Open now) → Late upto es (udp2_put records place (UdpRecord.Open now))
   put_later upto es records place o now one g is long k = record {
     long = long;
     udps = λ i u e. by_kind i u e;
   }
     where
-      same_udp : (u v : Udp2Socket) → Some u ≡ Some v → u ≡ v
+      same_udp : (u v : UdpRecord) → Some u ≡ Some v → u ≡ v
       same_udp u v e = cc
 
-      by_kind : (i : ℕ) (u : Udp2Socket) → udp2_at (udp2_put records place (Udp2Socket.Open now)) i ≡ Some u → UdpLate upto es u
-      by_kind i (Udp2Socket.Open p) e = λ q. elim (put_found udp_sort records place (Udp2Socket.Open now) i (Udp2Socket.Open p) e) [
-        | inl a ↦ (let t : UdpLate upto es (Udp2Socket.Open p) = subst (UdpLate upto es) a.1 k in t q)
+      by_kind : (i : ℕ) (u : UdpRecord) → udp2_at (udp2_put records place (UdpRecord.Open now)) i ≡ Some u → UdpLate upto es u
+      by_kind i (UdpRecord.Open p) e = λ q. elim (put_found udp_sort records place (UdpRecord.Open now) i (UdpRecord.Open p) e) [
+        | inl a ↦ (let t : UdpLate upto es (UdpRecord.Open p) = subst (UdpLate upto es) a.1 k in t q)
         | inr a ↦ (
             let at : place ≡ i = one place i o p g a (is ∙ sym q) in
-            let there : udp2_at (udp2_put records place (Udp2Socket.Open now)) i ≡ Some (Udp2Socket.Open now) = subst (λ (x : ℕ). udp2_at (udp2_put records place (Udp2Socket.Open now)) x ≡ Some (Udp2Socket.Open now)) at (put_finds udp_sort records place (Udp2Socket.Open o) (Udp2Socket.Open now) g) in
-            let t : UdpLate upto es (Udp2Socket.Open p) = subst (UdpLate upto es) (same_udp (Udp2Socket.Open now) (Udp2Socket.Open p) (sym there ∙ e)) k in
+            let there : udp2_at (udp2_put records place (UdpRecord.Open now)) i ≡ Some (UdpRecord.Open now) = subst (λ (x : ℕ). udp2_at (udp2_put records place (UdpRecord.Open now)) x ≡ Some (UdpRecord.Open now)) at (put_finds udp_sort records place (UdpRecord.Open o) (UdpRecord.Open now) g) in
+            let t : UdpLate upto es (UdpRecord.Open p) = subst (UdpLate upto es) (same_udp (UdpRecord.Open now) (UdpRecord.Open p) (sym there ∙ e)) k in
             t q)
       ]
-      by_kind i (Udp2Socket.Creating create) e = tt
-      by_kind i (Udp2Socket.Closed x) e = tt
+      by_kind i (UdpRecord.Creating create) e = tt
+      by_kind i (UdpRecord.Closed x) e = tt

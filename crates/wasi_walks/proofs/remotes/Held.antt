@@ -1,7 +1,7 @@
 -- What is in progress keeps what is known: a poll asks for no remote address, but for a connect of a UDP socket, which is told its own.
 use Rattle.wasi_walks.proofs.Words.{Allows, Call, Done, End, Entry, HoldsAccept, HoldsConnect, IpSocketAddress, IsAcceptOn, IsLeftOfAccept}
 use Rattle.wasi_walks.proofs.Words.{IsLeftOfBind, IsLeftOfConnect, IsLeftOfListen, IsMaker, Item, List, None, OpId, Operation, Option, Refused}
-use Rattle.wasi_walks.proofs.Words.{Some, Step, Tcp2Socket, Told, Waits, WasiSocketsCtx, [], accept_ended, allows_keep, allows_weaker, ap}
+use Rattle.wasi_walks.proofs.Words.{Some, Step, TcpRecord, Told, Waits, WasiSocketsCtx, [], accept_ended, allows_keep, allows_weaker, ap}
 use Rattle.wasi_walks.proofs.Words.{bind_progress, connect_ended, entry, inl, inr, poll_asks, refl, subst, sym, told_addr, with_inner}
 use Rattle.wasi_walks.proofs.Words.{with_progress, with_state, ℕ, ◌++◌, ◌∙◌, ◌∷◌, ◌≡◌}
 use Rattle.wasi_tcp.specs.Accept as accept
@@ -25,7 +25,7 @@ use Rattle.wasi_records.specs.declared.datagrams.Incoming.{Incoming}
 use Rattle.wasi_records.specs.declared.datagrams.Receiving.{Receiving}
 use Rattle.wasi_records.specs.declared.records.Record.{Record}
 use Rattle.wasi_records.specs.declared.udp.OpenUdp.{OpenUdp}
-use Rattle.wasi_records.specs.declared.udp.Udp2Socket.{Udp2Socket}
+use Rattle.wasi_records.specs.declared.udp.UdpRecord.{UdpRecord}
 use Rattle.wasi_world.specs.Operation.{Datagram, Given, Remote}
 use Rattle.wasi_walks.proofs.Lists.{has_front}
 use Rattle.wasi_walks.proofs.claims.Law.{Named, Base}
@@ -97,38 +97,38 @@ send_silent _ send.Ended = tt
 
 -- == polls
 -- of an operation of a TCP socket
-polled_tcp : (es : List Entry) (h : Here) (place : ℕ) (op : Operation) (now : End × List Item → Tcp2Socket) → ((ended : End × List Item) → TcpKeeps (now ended)) → AreSilent op.left → Keeps es h.machine.store.records
+polled_tcp : (es : List Entry) (h : Here) (place : ℕ) (op : Operation) (now : End × List Item → TcpRecord) → ((ended : End × List Item) → TcpKeeps (now ended)) → AreSilent op.left → Keeps es h.machine.store.records
     → Allows Anything (λ fs ended. Keeps fs (tcp2_put h.machine.store.records place (now ended))) es (poll_asks op)
 polled_tcp es h place op now f s i =
     allows_weaker Anything (λ fs ended. Keeps fs h.machine.store.records × AreSilent ended.1) (λ fs ended. Keeps fs (tcp2_put h.machine.store.records place (now ended)))
     (λ fs ended k. put_tcp fs h.machine.store.records place (now ended) (f ended) k.0) es (poll_asks op) (kept h.machine.store.records (λ fs ended. AreSilent ended.1) es (poll_asks op) i (silent_poll op es s))
 
 -- of a UDP socket, where this is known of how it ends
-polled_so : (Q : List Entry → End × List Item → Type 0) (es : List Entry) (h : Here) (place : ℕ) (u : Udp2Socket) (op : Operation) (now : End × List Item → Udp2Socket) → FoundUdp h place u → ((fs : List Entry) (ended : End × List Item) → UdpKeeps fs u → Q fs ended → UdpKeeps fs (now ended)) → Allows Unpeered Q es (poll_asks op) → Keeps es h.machine.store.records
+polled_so : (Q : List Entry → End × List Item → Type 0) (es : List Entry) (h : Here) (place : ℕ) (u : UdpRecord) (op : Operation) (now : End × List Item → UdpRecord) → FoundUdp h place u → ((fs : List Entry) (ended : End × List Item) → UdpKeeps fs u → Q fs ended → UdpKeeps fs (now ended)) → Allows Unpeered Q es (poll_asks op) → Keeps es h.machine.store.records
     → Allows Anything (λ fs ended. Keeps fs (udp2_put h.machine.store.records place (now ended))) es (poll_asks op)
 polled_so Q es h place u op now g f a i =
     allows_weaker Anything (λ fs ended. Keeps fs h.machine.store.records × Q fs ended) (λ fs ended. Keeps fs (udp2_put h.machine.store.records place (now ended)))
     (λ fs ended k. put_udps fs h.machine.store.records place (now ended) (f fs ended (k.0.udps place u g) k.1) k.0) es (poll_asks op) (kept h.machine.store.records Q es (poll_asks op) i a)
 
 -- and whatever it ends with
-polled_udp : (es : List Entry) (h : Here) (place : ℕ) (u : Udp2Socket) (op : Operation) (now : End × List Item → Udp2Socket) → FoundUdp h place u → ((fs : List Entry) (ended : End × List Item) → UdpKeeps fs u → UdpKeeps fs (now ended)) → AreSilent op.left → Keeps es h.machine.store.records
+polled_udp : (es : List Entry) (h : Here) (place : ℕ) (u : UdpRecord) (op : Operation) (now : End × List Item → UdpRecord) → FoundUdp h place u → ((fs : List Entry) (ended : End × List Item) → UdpKeeps fs u → UdpKeeps fs (now ended)) → AreSilent op.left → Keeps es h.machine.store.records
     → Allows Anything (λ fs ended. Keeps fs (udp2_put h.machine.store.records place (now ended))) es (poll_asks op)
 polled_udp es h place u op now g f s i = polled_so (λ fs ended. AreSilent ended.1) es h place u op now g (λ fs ended k q. f fs ended k) (silent_poll op es s) i
 
 -- the record that a listen leaves
-listened_keeps : (r : Tcp2Socket) (op : Operation) (ended : End × List Item) → TcpKeeps r → TcpKeeps (listen_after op r ended)
+listened_keeps : (r : TcpRecord) (op : Operation) (ended : End × List Item) → TcpKeeps r → TcpKeeps (listen_after op r ended)
 listened_keeps r op (Waits, items) k = k
 listened_keeps r op (Done given, items) k = k
 listened_keeps r op (Refused c given, items) k = k
 
 -- the record that a create leaves
-created_keeps : (create : Create) (fs : List Entry) (ended : End × List Item) → UdpKeeps fs (Udp2Socket.Creating create) → UdpKeeps fs (udp_create_left create ended)
+created_keeps : (create : Create) (fs : List Entry) (ended : End × List Item) → UdpKeeps fs (UdpRecord.Creating create) → UdpKeeps fs (udp_create_left create ended)
 created_keeps create fs (Waits, items) k = k
 created_keeps create fs (Done given, items) k = record { created = k; remote = none_kept fs _ None refl; connects = tt; receiver = tt }
 created_keeps create fs (Refused c given, items) k = tt
 
 -- a change that leaves the socket, its connect and its incoming stream
-same_open : (fs : List Entry) (o now : OpenUdp) → now.inner ≡ o.inner → now.connecting ≡ o.connecting → now.incoming ≡ o.incoming → UdpKeeps fs (Udp2Socket.Open o) → UdpKeeps fs (Udp2Socket.Open now)
+same_open : (fs : List Entry) (o now : OpenUdp) → now.inner ≡ o.inner → now.connecting ≡ o.connecting → now.incoming ≡ o.incoming → UdpKeeps fs (UdpRecord.Open o) → UdpKeeps fs (UdpRecord.Open now)
 same_open fs o now p q r k = record {
   created = rw p k.created;
   remote = rw p k.remote;
@@ -144,12 +144,12 @@ receives_for maker op (Done given, items) k = tt
 receives_for maker op (Refused c given, items) k = tt
 
 -- a receive is polled
-polled_receive : (es : List Entry) (h : Here) (place : ℕ) (o : OpenUdp) (inc : Incoming) (op : Operation) → FoundUdp h place (Udp2Socket.Open o) → o.incoming ≡ Some inc → inc.receiving ≡ Receiving.InProgress op → ReceiveOn o.inner.side op → Keeps es h.machine.store.records
-    → Allows Anything (λ fs ended. Keeps fs (udp2_put h.machine.store.records place (Udp2Socket.Open (record o { incoming = Some (with_receiving inc (receive_left op ended)) })))) es (poll_asks (wanting inc.remote op))
+polled_receive : (es : List Entry) (h : Here) (place : ℕ) (o : OpenUdp) (inc : Incoming) (op : Operation) → FoundUdp h place (UdpRecord.Open o) → o.incoming ≡ Some inc → inc.receiving ≡ Receiving.InProgress op → ReceiveOn o.inner.side op → Keeps es h.machine.store.records
+    → Allows Anything (λ fs ended. Keeps fs (udp2_put h.machine.store.records place (UdpRecord.Open (record o { incoming = Some (with_receiving inc (receive_left op ended)) })))) es (poll_asks (wanting inc.remote op))
 polled_receive es h place o inc op g e f its i =
-    let k : OpenKeeps es o = i.udps place (Udp2Socket.Open o) g in
+    let k : OpenKeeps es o = i.udps place (UdpRecord.Open o) g in
     let for : ReceivesFor o.inner.maker (Some op) = subst (ReceivesFor o.inner.maker) (ap receiving_in e ∙ ap receive_op f) k.receiver in
-    polled_udp es h place (Udp2Socket.Open o) (wanting inc.remote op) (λ ended. Udp2Socket.Open (record o { incoming = Some (with_receiving inc (receive_left op ended)) })) g
+    polled_udp es h place (UdpRecord.Open o) (wanting inc.remote op) (λ ended. UdpRecord.Open (record o { incoming = Some (with_receiving inc (receive_left op ended)) })) g
     (λ fs ended m. record { created = m.created; remote = m.remote; connects = m.connects; receiver = receives_for o.inner.maker op ended for })
     (receive_silent (wanting inc.remote op).left (wanted_left inc.remote op.left its.receive.left)) i
 
@@ -163,19 +163,19 @@ forget : (es : List Entry) (o : OpenUdp) → OpenKeeps es o → OpenKeeps es (fo
 forget es o k = record { created = k.created; remote = none_kept es _ None refl; connects = k.connects; receiver = k.receiver }
 
 -- the remote address that is kept
-abbrev remote_of : Udp2Socket → Option IpSocketAddress
-remote_of (Udp2Socket.Open o) = o.inner.remote
+abbrev remote_of : UdpRecord → Option IpSocketAddress
+remote_of (UdpRecord.Open o) = o.inner.remote
 remote_of _ = None
 
 -- its own remote address is that of no other socket
-spares_but : (line : ℕ) (h : Here) (place : ℕ) (o : OpenUdp) (c : Call) → FoundUdp h place (Udp2Socket.Open o) → Named line h → ((x : OpId) → c ≡ Call.Peer x → o.inner.side ≡ x) → Spares (udp2_put h.machine.store.records place (Udp2Socket.Open (forgotten o))) c
-spares_but line h place o c g n own k p e q = elim (put_found udp_sort h.machine.store.records place (Udp2Socket.Open (forgotten o)) k (Udp2Socket.Open p) e) [
+spares_but : (line : ℕ) (h : Here) (place : ℕ) (o : OpenUdp) (c : Call) → FoundUdp h place (UdpRecord.Open o) → Named line h → ((x : OpId) → c ≡ Call.Peer x → o.inner.side ≡ x) → Spares (udp2_put h.machine.store.records place (UdpRecord.Open (forgotten o))) c
+spares_but line h place o c g n own k p e q = elim (put_found udp_sort h.machine.store.records place (UdpRecord.Open (forgotten o)) k (UdpRecord.Open p) e) [
   | inl a ↦ sym (ap remote_of a.1)
   | inr a ↦ (
-      let at : place ≡ k = n.udps.one p.inner.side place k (Udp2Socket.Open o) (Udp2Socket.Open p) g a (own p.inner.side q) refl in
-      let there : udp2_at (udp2_put h.machine.store.records place (Udp2Socket.Open (forgotten o))) k ≡ Some (Udp2Socket.Open (forgotten o)) = subst (λ (x : ℕ). udp2_at (udp2_put h.machine.store.records place (Udp2Socket.Open (forgotten o))) x ≡ Some (Udp2Socket.Open (forgotten o))) at (put_finds udp_sort h.machine.store.records place (Udp2Socket.Open o) (Udp2Socket.Open (forgotten o)) g) in
-      let same : Some (Udp2Socket.Open (forgotten o)) ≡ Some (Udp2Socket.Open p) = sym there ∙ e in
-      let is : Udp2Socket.Open (forgotten o) ≡ Udp2Socket.Open p = cc in
+      let at : place ≡ k = n.udps.one p.inner.side place k (UdpRecord.Open o) (UdpRecord.Open p) g a (own p.inner.side q) refl in
+      let there : udp2_at (udp2_put h.machine.store.records place (UdpRecord.Open (forgotten o))) k ≡ Some (UdpRecord.Open (forgotten o)) = subst (λ (x : ℕ). udp2_at (udp2_put h.machine.store.records place (UdpRecord.Open (forgotten o))) x ≡ Some (UdpRecord.Open (forgotten o))) at (put_finds udp_sort h.machine.store.records place (UdpRecord.Open o) (UdpRecord.Open (forgotten o)) g) in
+      let same : Some (UdpRecord.Open (forgotten o)) ≡ Some (UdpRecord.Open p) = sym there ∙ e in
+      let is : UdpRecord.Open (forgotten o) ≡ UdpRecord.Open p = cc in
       sym (ap remote_of is))
 ]
 
@@ -189,37 +189,37 @@ streams_keep : (fs : List Entry) (o : OpenUdp) → OpenKeeps fs o → OpenKeeps 
 streams_keep fs o k = record { created = k.created; remote = k.remote; connects = k.connects; receiver = tt }
 
 -- what is known after a poll of the connect
-connected_keeps : (fs : List Entry) (o : OpenUdp) (op : Operation) (ended : End × List Item) → op.who.side ≡ o.inner.side → OpenKeeps fs (forgotten o) → After op.who o.inner.maker o.inner.family o.inner fs ended → UdpKeeps fs (Udp2Socket.Open (udp_connect_left op o ended))
+connected_keeps : (fs : List Entry) (o : OpenUdp) (op : Operation) (ended : End × List Item) → op.who.side ≡ o.inner.side → OpenKeeps fs (forgotten o) → After op.who o.inner.maker o.inner.family o.inner fs ended → UdpKeeps fs (UdpRecord.Open (udp_connect_left op o ended))
 connected_keeps fs o op (Waits, items) s k a = record { created = k.created; remote = subst (λ (x : OpId). RemoteIs fs x o.inner.remote) s a.0.1; connects = a.1; receiver = k.receiver }
 connected_keeps fs o op (Done given, items) s k a = streams_keep fs _ (given_keeps fs o given k (subst (λ (x : OpId). RemoteIs fs x (with_given o.inner given).remote) s a.1))
 connected_keeps fs o op (Refused c given, items) s k a = given_keeps fs o given k (subst (λ (x : OpId). RemoteIs fs x (with_given o.inner given).remote) s a.1)
 
 -- a socket is put back
-put_back : (fs : List Entry) (records : List Record) (place : ℕ) (out now : Udp2Socket) → UdpKeeps fs now → Keeps fs (udp2_put records place out) → Keeps fs (udp2_put records place now)
+put_back : (fs : List Entry) (records : List Record) (place : ℕ) (out now : UdpRecord) → UdpKeeps fs now → Keeps fs (udp2_put records place out) → Keeps fs (udp2_put records place now)
 put_back fs records place out now k m = subst (Keeps fs) (put_twice udp_sort records place out now) (put_udps fs (udp2_put records place out) place now k m)
 
 -- a connect is polled
-polled_connect : (line : ℕ) (es : List Entry) (h : Here) (place : ℕ) (o : OpenUdp) (op : Operation) → FoundUdp h place (Udp2Socket.Open o) → o.connecting ≡ Some op → UdpConnectOn o.inner.side op → Named line h → Keeps es h.machine.store.records
-    → Allows Anything (λ fs ended. Keeps fs (udp2_put h.machine.store.records place (Udp2Socket.Open (udp_connect_left op o ended)))) es (poll_asks op)
+polled_connect : (line : ℕ) (es : List Entry) (h : Here) (place : ℕ) (o : OpenUdp) (op : Operation) → FoundUdp h place (UdpRecord.Open o) → o.connecting ≡ Some op → UdpConnectOn o.inner.side op → Named line h → Keeps es h.machine.store.records
+    → Allows Anything (λ fs ended. Keeps fs (udp2_put h.machine.store.records place (UdpRecord.Open (udp_connect_left op o ended)))) es (poll_asks op)
 polled_connect line es h place o op g e its n i =
-    let k : OpenKeeps es o = i.udps place (Udp2Socket.Open o) g in
-    let out : List Record = udp2_put h.machine.store.records place (Udp2Socket.Open (forgotten o)) in
-    allows_weaker Anything (λ fs ended. Keeps fs out × After op.who o.inner.maker o.inner.family o.inner fs ended) (λ fs ended. Keeps fs (udp2_put h.machine.store.records place (Udp2Socket.Open (udp_connect_left op o ended))))
-    (λ fs ended m. put_back fs h.machine.store.records place (Udp2Socket.Open (forgotten o)) (Udp2Socket.Open (udp_connect_left op o ended)) (connected_keeps fs o op ended its.of_side (m.0.udps place (Udp2Socket.Open (forgotten o)) (put_finds udp_sort h.machine.store.records place (Udp2Socket.Open o) (Udp2Socket.Open (forgotten o)) g)) m.1) m.0) es (poll_asks op)
+    let k : OpenKeeps es o = i.udps place (UdpRecord.Open o) g in
+    let out : List Record = udp2_put h.machine.store.records place (UdpRecord.Open (forgotten o)) in
+    allows_weaker Anything (λ fs ended. Keeps fs out × After op.who o.inner.maker o.inner.family o.inner fs ended) (λ fs ended. Keeps fs (udp2_put h.machine.store.records place (UdpRecord.Open (udp_connect_left op o ended))))
+    (λ fs ended m. put_back fs h.machine.store.records place (UdpRecord.Open (forgotten o)) (UdpRecord.Open (udp_connect_left op o ended)) (connected_keeps fs o op ended its.of_side (m.0.udps place (UdpRecord.Open (forgotten o)) (put_finds udp_sort h.machine.store.records place (UdpRecord.Open o) (UdpRecord.Open (forgotten o)) g)) m.1) m.0) es (poll_asks op)
     (allows_keep (AsksOwn op.who o.inner.maker o.inner.family o.inner) Anything (λ fs. Keeps fs out) (λ fs ended. After op.who o.inner.maker o.inner.family o.inner fs ended)
     (λ fs own c t fits m a. asked fs out own c t (spares_but line h place o c g n (λ x p. sym its.of_side ∙ a x p)) m) (λ fs own c a. tt) es (poll_asks op)
-    (put_udps es h.machine.store.records place (Udp2Socket.Open (forgotten o)) (forget es o k) i)
+    (put_udps es h.machine.store.records place (UdpRecord.Open (forgotten o)) (forget es o k) i)
     (connect_poll op.who o.inner.maker o.inner.family o.inner op.left es (subst (IsMaker es o.inner.maker o.inner.family) (sym its.of_side) (maker_of es o k)) (subst (λ (x : OpId). RemoteIs es x o.inner.remote) (sym its.of_side) k.remote) (subst (ConnectsBy o.inner.family) e k.connects)))
 
 -- it asks what the remote address is, and keeps it
-pub peer_keeps : (line : ℕ) (es : List Entry) (h : Here) (place : ℕ) (o : OpenUdp) (op : OpId) (told : Told) → FoundUdp h place (Udp2Socket.Open o) → Named line h → Keeps es h.machine.store.records
-    → Keeps (es ++ entry op (Call.Peer o.inner.side) told ∷ []) (udp2_put h.machine.store.records place (Udp2Socket.Open (with_udp_inner o (after_peer o.inner (told_addr told)))))
+pub peer_keeps : (line : ℕ) (es : List Entry) (h : Here) (place : ℕ) (o : OpenUdp) (op : OpId) (told : Told) → FoundUdp h place (UdpRecord.Open o) → Named line h → Keeps es h.machine.store.records
+    → Keeps (es ++ entry op (Call.Peer o.inner.side) told ∷ []) (udp2_put h.machine.store.records place (UdpRecord.Open (with_udp_inner o (after_peer o.inner (told_addr told)))))
 peer_keeps line es h place o op told g n i =
-    let k : OpenKeeps es o = i.udps place (Udp2Socket.Open o) g in
+    let k : OpenKeeps es o = i.udps place (UdpRecord.Open o) g in
     let fs : List Entry = es ++ entry op (Call.Peer o.inner.side) told ∷ [] in
-    put_back fs h.machine.store.records place (Udp2Socket.Open (forgotten o)) (Udp2Socket.Open (with_udp_inner o (after_peer o.inner (told_addr told))))
+    put_back fs h.machine.store.records place (UdpRecord.Open (forgotten o)) (UdpRecord.Open (with_udp_inner o (after_peer o.inner (told_addr told))))
     (record { created = has_front es _ _ k.created; remote = told_kept es op o.inner.maker o.inner.family o.inner.side told (maker_of es o k); connects = k.connects; receiver = k.receiver })
-    (asked es _ op (Call.Peer o.inner.side) told (spares_but line h place o (Call.Peer o.inner.side) g n (λ x p. cc)) (put_udps es h.machine.store.records place (Udp2Socket.Open (forgotten o)) (forget es o k) i))
+    (asked es _ op (Call.Peer o.inner.side) told (spares_but line h place o (Call.Peer o.inner.side) g n (λ x p. cc)) (put_udps es h.machine.store.records place (UdpRecord.Open (forgotten o)) (forget es o k) i))
 
 -- == what is in progress
 -- each poll keeps what is known of the records
@@ -238,15 +238,15 @@ polls_keep contexts line origin es h _ _ (walk.Awaits place r l op g e a) b i =
     let its : IsAcceptOn l.side l.maker op = subst (HoldsAccept l.side l.maker) a (subst FitListening e (b.0.records place r g).1) in
     polled_tcp es h place op (λ ended. accepting_now r l (accept_ended op.who ended)) (λ ended. i.tcps place r g) (accept_silent op.left its.accept.left) i
 polls_keep contexts line origin es h _ _ (walk.UdpCreates place create q g) b i =
-    polled_udp es h place (Udp2Socket.Creating create) create.operation (udp_create_left create) g (created_keeps create) (subst AreSilent (sym (b.0.udps place (Udp2Socket.Creating create) g).1) (tt, tt)) i
+    polled_udp es h place (UdpRecord.Creating create) create.operation (udp_create_left create) g (created_keeps create) (subst AreSilent (sym (b.0.udps place (UdpRecord.Creating create) g).1) (tt, tt)) i
 polls_keep contexts line origin es h _ _ (walk.UdpBindsOn place o op q g e) b i =
-    let its : UdpBindOn o.inner.side op = subst (FitUdpProgress o.inner.side) e (b.0.udps place (Udp2Socket.Open o) g).0 in
-    polled_udp es h place (Udp2Socket.Open o) op (λ ended. Udp2Socket.Open (with_udp_progress o (udp_bind_progress op ended))) g (λ fs ended k. same_open fs o _ refl refl refl k) (udp_bind_silent op.left its.bind.left) i
+    let its : UdpBindOn o.inner.side op = subst (FitUdpProgress o.inner.side) e (b.0.udps place (UdpRecord.Open o) g).0 in
+    polled_udp es h place (UdpRecord.Open o) op (λ ended. UdpRecord.Open (with_udp_progress o (udp_bind_progress op ended))) g (λ fs ended k. same_open fs o _ refl refl refl k) (udp_bind_silent op.left its.bind.left) i
 polls_keep contexts line origin es h _ _ (walk.UdpConnectsOn place o op q g e) b i =
-    polled_connect line es h place o op g e (subst (FitConnecting o.inner.side) e (b.0.udps place (Udp2Socket.Open o) g).1) b.1 i
+    polled_connect line es h place o op g e (subst (FitConnecting o.inner.side) e (b.0.udps place (UdpRecord.Open o) g).1) b.1 i
 polls_keep contexts line origin es h _ _ (walk.SendsOn place o out op left g e f s) b i =
-    let its : SendOn o.inner.side op = subst (FitSending o.inner.side) (ap sending_in e ∙ ap send_op f) (b.0.udps place (Udp2Socket.Open o) g).2 in
-    polled_udp es h place (Udp2Socket.Open o) (at_remote o.inner.remote op) (λ ended. Udp2Socket.Open (record o { outgoing = Some (with_sending out (left ended)) })) g (λ fs ended k. same_open fs o _ refl refl refl k) (send_silent op.left its.send.left) i
+    let its : SendOn o.inner.side op = subst (FitSending o.inner.side) (ap sending_in e ∙ ap send_op f) (b.0.udps place (UdpRecord.Open o) g).2 in
+    polled_udp es h place (UdpRecord.Open o) (at_remote o.inner.remote op) (λ ended. UdpRecord.Open (record o { outgoing = Some (with_sending out (left ended)) })) g (λ fs ended k. same_open fs o _ refl refl refl k) (send_silent op.left its.send.left) i
 polls_keep contexts line origin es h _ _ (walk.ReceivesOn place o inc op g e f) b i =
-    let its : ReceiveOn o.inner.side op = subst (FitReceiving o.inner.side) (ap receiving_in e ∙ ap receive_op f) (b.0.udps place (Udp2Socket.Open o) g).3 in
+    let its : ReceiveOn o.inner.side op = subst (FitReceiving o.inner.side) (ap receiving_in e ∙ ap receive_op f) (b.0.udps place (UdpRecord.Open o) g).3 in
     polled_receive es h place o inc op g e f its i

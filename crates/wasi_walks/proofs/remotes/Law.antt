@@ -4,7 +4,7 @@ use Rattle.wasi_walks.proofs.walks.Asked.{Asked, Questions, SetsBacklog, Learns,
 use Rattle.wasi_walks.proofs.Words.{Asks}
 use Rattle.wasi_walks.proofs.Words.{Accepting, Accepts, Allows, Begins, Bool, Call, Done, End, Entry, Err, ErrorCode, Give, HandleTable}
 use Rattle.wasi_walks.proofs.Words.{ErrorValue, IpSocketAddress, IsDoneOrCode, Job, Kind, List, Listening, Machine, None, Not, Ok, OpId, Option}
-use Rattle.wasi_walks.proofs.Words.{ReadState, Refused, Result, Socket, SocketAddressFamily, Some, Step, Streams, Tcp2, Tcp2Socket, TcpSendStream, Told, Unclosed}
+use Rattle.wasi_walks.proofs.Words.{ReadState, Refused, Result, Socket, SocketAddressFamily, Some, Step, Streams, Tcp2, TcpRecord, TcpSendStream, Told, Unclosed}
 use Rattle.wasi_walks.proofs.Words.{Waits, WasiSocketsCtx, Who, WriteState, [], allows_if, allows_then, allows_weaker, ap, ask_close, bind}
 use Rattle.wasi_walks.proofs.Words.{closing_side, create_asks, created_asks, entry, false, give_up_asks, give_up_in, gone, if◌then◌else◌, in_hand}
 use Rattle.wasi_walks.proofs.Words.{inl, is_full, is_over, is_wildcard, job_asks, job_in, length, make_asks, new_asks, new_job, new_record}
@@ -19,7 +19,7 @@ use Rattle.wasi_host.specs.declared.kind.Kind.TheVariants.{Udp2}
 use Rattle.wasi_records.specs.Udp.{udp_side, with_udp_inner}
 use Rattle.wasi_records.specs.declared.records.Record.{Record}
 use Rattle.wasi_records.specs.declared.udp.OpenUdp.{OpenUdp}
-use Rattle.wasi_records.specs.declared.udp.Udp2Socket.{Udp2Socket}
+use Rattle.wasi_records.specs.declared.udp.UdpRecord.{UdpRecord}
 use Rattle.wasi_walks.proofs.Lists.{has_last}
 use Rattle.wasi_walks.proofs.claims.Law.{Named, Base}
 use Rattle.wasi_walks.proofs.fits.Polls.{Anything}
@@ -55,16 +55,16 @@ udp_question_quiet line origin n side (Call.Peer s) q = q
 udp_question_quiet line origin n side _ q = tt
 
 -- what a record asks of is the network socket that it was made with
-made_with : (line : ℕ) (h : Here) (place : ℕ) (r : Tcp2Socket) (side : OpId) → Found h place r → IsOn r side → Named line h → TcpKeeps r → r.side ≡ Some side
+made_with : (line : ℕ) (h : Here) (place : ℕ) (r : TcpRecord) (side : OpId) → Found h place r → IsOn r side → Named line h → TcpKeeps r → r.side ≡ Some side
 made_with line h place r side g (OfSocket e) n k = n.named side place r g e
 made_with line h place r side g (OfReader s half e w p) n k = subst (ReadsBy r.side) w (k s e).0 ∙ ap (λ (x : OpId). Some x) p
 made_with line h place r side g (OfWriter s e w) n k = writes_on r.side side s.writer (k s e).1 w
 
 -- a question of a TCP socket is of no UDP socket
-pub tcp_spares : (line : ℕ) (origin : Step) (n : ℕ) (es : List Entry) (h : Here) (place : ℕ) (r : Tcp2Socket) (side : OpId) (c : Call) → Found h place r → IsOn r side → IsQuestionOf line origin n side c → Named line h → Keeps es h.machine.store.records → Spares h.machine.store.records c
+pub tcp_spares : (line : ℕ) (origin : Step) (n : ℕ) (es : List Entry) (h : Here) (place : ℕ) (r : TcpRecord) (side : OpId) (c : Call) → Found h place r → IsOn r side → IsQuestionOf line origin n side c → Named line h → Keeps es h.machine.store.records → Spares h.machine.store.records c
 tcp_spares line origin n es h place r side c g on q names i k o f e =
     let is : o.inner.side ≡ side = subst (IsQuestionOf line origin n side) e q in
-    absurd (names.udps.apart side place k r (Udp2Socket.Open o) g f (inl (made_with line h place r side g on names (i.tcps place r g))) is)
+    absurd (names.udps.apart side place k r (UdpRecord.Open o) g f (inl (made_with line h place r side g on names (i.tcps place r g))) is)
 
 -- == marks and creates
 -- a mark asks for no remote address
@@ -102,7 +102,7 @@ creates_keep es m own ctx family i =
 -- a create of a UDP socket was answered
 pub begun_keeps : (es : List Entry) (h : Here) (own : OpId) (maker : ℕ) (family : SocketAddressFamily) (told : Told) → IsDoneOrCode told → Keeps es h.machine.store.records
     → Keeps (es ++ entry own (Call.UdpCreate maker family) told ∷ []) (udp_begun h (udp_after_create own maker family (told_done told))).machine.store.records
-begun_keeps es h own maker family Told.Done f i = push_udps _ h.machine.store.records (Udp2Socket.Creating (new_create own maker family)) (has_last es _) (asked es h.machine.store.records own (Call.UdpCreate maker family) Told.Done (quiet _ _ tt) i)
+begun_keeps es h own maker family Told.Done f i = push_udps _ h.machine.store.records (UdpRecord.Creating (new_create own maker family)) (has_last es _) (asked es h.machine.store.records own (Call.UdpCreate maker family) Told.Done (quiet _ _ tt) i)
 begun_keeps es h own maker family (Told.Code c) f i = asked es h.machine.store.records own (Call.UdpCreate maker family) (Told.Code c) (quiet _ _ tt) i
 begun_keeps es h own maker family _ f i = absurd f
 
@@ -128,7 +128,7 @@ turn_keeps es made (WriteState.Closing job) k = allows_then Unpeered (λ fs j. J
 turn_keeps es made _ k = k
 
 -- a turn keeps what is known
-pub turned_keeps : (es : List Entry) (h : Here) (place : ℕ) (r : Tcp2Socket) (s : Streams) → Found h place r → r.streams ≡ Some s → Keeps es h.machine.store.records → Allows Anything (λ fs done. Keeps fs (tcp2_put h.machine.store.records place (with_writer r s done.1))) es (turn_asks s.writer)
+pub turned_keeps : (es : List Entry) (h : Here) (place : ℕ) (r : TcpRecord) (s : Streams) → Found h place r → r.streams ≡ Some s → Keeps es h.machine.store.records → Allows Anything (λ fs done. Keeps fs (tcp2_put h.machine.store.records place (with_writer r s done.1))) es (turn_asks s.writer)
 turned_keeps es h place r s g e i =
     let k = i.tcps place r g s e in
     allows_weaker Anything (λ fs done. Keeps fs h.machine.store.records × WritesBy r.side done.1) (λ fs done. Keeps fs (tcp2_put h.machine.store.records place (with_writer r s done.1)))
@@ -167,7 +167,7 @@ plain_keeps es o now p k = record {
 }
 
 -- a write that begins is on the network socket, and asks for no remote address
-pub write_keeps : (es : List Entry) (h : Here) (place n : ℕ) (r : Tcp2Socket) (s : Streams) (half : TcpSendStream) (permit : ℕ) (bytes : List ℕ) → Found h place r → r.streams ≡ Some s → s.writer ≡ WriteState.Ready half permit → Keeps es h.machine.store.records
+pub write_keeps : (es : List Entry) (h : Here) (place n : ℕ) (r : TcpRecord) (s : Streams) (half : TcpSendStream) (permit : ℕ) (bytes : List ℕ) → Found h place r → r.streams ≡ Some s → s.writer ≡ WriteState.Ready half permit → Keeps es h.machine.store.records
     → Keeps es (tcp2_put h.machine.store.records place (with_writer r s (WriteState.Writing (new_job (own_of n) half.side bytes))))
 write_keeps es h place n r s half permit bytes g e w i =
     let k = i.tcps place r g s e in
@@ -196,16 +196,16 @@ module _ (contexts : List WasiSocketsCtx) (line : ℕ) (origin : Step) where
   moves_keep es _ _ (walk.Unlistens h place r op q g e c o) b i = put_tcp es _ place _ (i.tcps place r g) i
   moves_keep es _ _ (walk.Forgets h place r l c g e a) b i = put_tcp es _ place _ (i.tcps place r g) i
   moves_keep es _ _ (walk.Joins h c handle place r l new peer is of u g e a) b i = push_tcp es _ (joined l new peer) (with_these (joined l new peer) _ refl (refl, refl)) (put_tcp es _ place _ (i.tcps place r g) i)
-  moves_keep es _ _ (walk.UdpChanges h place o now g p keeps) b i = put_udps es _ place (Udp2Socket.Open now) (plain_keeps es o now p (i.udps place (Udp2Socket.Open o) g)) i
-  moves_keep es _ _ (walk.BeginsUdpBind h place o a at g to idle own) b i = let k = i.udps place (Udp2Socket.Open o) g in put_udps es _ place (Udp2Socket.Open _) (record { created = k.created; remote = k.remote; connects = k.connects; receiver = k.receiver }) i
-  moves_keep es _ _ (walk.BeginsUdpConnect h place o a at g to bound none own) b i = let k = i.udps place (Udp2Socket.Open o) g in put_udps es _ place (Udp2Socket.Open _) (record { created = k.created; remote = k.remote; connects = Whole a; receiver = k.receiver }) i
-  moves_keep es _ _ (walk.BeginsSend h place n o out d bound at g e is known own) b i = let k = i.udps place (Udp2Socket.Open o) g in put_udps es _ place (Udp2Socket.Open _) (record { created = k.created; remote = k.remote; connects = k.connects; receiver = k.receiver }) i
+  moves_keep es _ _ (walk.UdpChanges h place o now g p keeps) b i = put_udps es _ place (UdpRecord.Open now) (plain_keeps es o now p (i.udps place (UdpRecord.Open o) g)) i
+  moves_keep es _ _ (walk.BeginsUdpBind h place o a at g to idle own) b i = let k = i.udps place (UdpRecord.Open o) g in put_udps es _ place (UdpRecord.Open _) (record { created = k.created; remote = k.remote; connects = k.connects; receiver = k.receiver }) i
+  moves_keep es _ _ (walk.BeginsUdpConnect h place o a at g to bound none own) b i = let k = i.udps place (UdpRecord.Open o) g in put_udps es _ place (UdpRecord.Open _) (record { created = k.created; remote = k.remote; connects = Whole a; receiver = k.receiver }) i
+  moves_keep es _ _ (walk.BeginsSend h place n o out d bound at g e is known own) b i = let k = i.udps place (UdpRecord.Open o) g in put_udps es _ place (UdpRecord.Open _) (record { created = k.created; remote = k.remote; connects = k.connects; receiver = k.receiver }) i
   moves_keep es _ _ (walk.BeginsReceive h place n o inc bound at g e is own) b i =
-      let k = i.udps place (Udp2Socket.Open o) g in
-      put_udps es _ place (Udp2Socket.Open _) (record { created = k.created; remote = k.remote; connects = k.connects; receiver = refl }) i
+      let k = i.udps place (UdpRecord.Open o) g in
+      put_udps es _ place (UdpRecord.Open _) (record { created = k.created; remote = k.remote; connects = k.connects; receiver = refl }) i
   moves_keep es _ _ (walk.CancelsBind h place r op q g e) b i = put_tcp es _ place _ (i.tcps place r g) i
-  moves_keep es _ _ (walk.CancelsUdpBind h place o op q g e) b i = let k = i.udps place (Udp2Socket.Open o) g in put_udps es _ place (Udp2Socket.Open _) (record { created = k.created; remote = k.remote; connects = k.connects; receiver = k.receiver }) i
-  moves_keep es _ _ (walk.CancelsUdpConnect h place o q g) b i = let k = i.udps place (Udp2Socket.Open o) g in put_udps es _ place (Udp2Socket.Open _) (record { created = k.created; remote = k.remote; connects = tt; receiver = k.receiver }) i
+  moves_keep es _ _ (walk.CancelsUdpBind h place o op q g e) b i = let k = i.udps place (UdpRecord.Open o) g in put_udps es _ place (UdpRecord.Open _) (record { created = k.created; remote = k.remote; connects = k.connects; receiver = k.receiver }) i
+  moves_keep es _ _ (walk.CancelsUdpConnect h place o q g) b i = let k = i.udps place (UdpRecord.Open o) g in put_udps es _ place (UdpRecord.Open _) (record { created = k.created; remote = k.remote; connects = tt; receiver = k.receiver }) i
   moves_keep es _ _ (walk.Finds h records s) b i = records_keep es h.machine.store.records records s i
   moves_keep es _ _ (walk.GivesBack h place idle left) b i = fewer_keep es h.machine.store.records place i
   moves_keep es _ _ _ b i = i
@@ -228,16 +228,16 @@ module _ (contexts : List WasiSocketsCtx) (line : ℕ) (origin : Step) where
       allows_weaker Anything (λ fs done. Keeps fs h.machine.store.records × ⊤) (λ fs done. Keeps fs (tcp2_put h.machine.store.records place (with_listening r Not)))
       (λ fs done k. put_tcp fs _ place (with_listening r Not) (i.tcps place r g) k.0) es _ (kept h.machine.store.records (λ fs done. ⊤) es (give_up_asks r.listening) i (given_up es r.listening))
   remotes_asks es h _ _ _ (UdpQuestions place n o c at g q) b i = (tt, λ told f. asked es _ (own_of n) c told (quiet _ c (udp_question_quiet line origin n o.inner.side c q)) i)
-  remotes_asks es h _ _ _ (UdpLearns place part o at g) b i = (tt, λ told f. (let k = asked es h.machine.store.records (part_of line part) (Call.Local o.inner.side) told (quiet _ _ tt) i in put_udps _ _ place (Udp2Socket.Open _) (learnt_keeps _ o (told_addr told) (k.udps place (Udp2Socket.Open o) g)) k))
+  remotes_asks es h _ _ _ (UdpLearns place part o at g) b i = (tt, λ told f. (let k = asked es h.machine.store.records (part_of line part) (Call.Local o.inner.side) told (quiet _ _ tt) i in put_udps _ _ place (UdpRecord.Open _) (learnt_keeps _ o (told_addr told) (k.udps place (UdpRecord.Open o) g)) k))
   remotes_asks es h _ _ _ (UdpPeers place o at g) b i = (tt, λ told f. peer_keeps line es h place o (own_of line) told g b.1 i)
-  remotes_asks es h _ _ _ (UdpCloses place o q g) b i = (tt, λ told f. put_udps _ _ place (Udp2Socket.Closed o.inner.side) tt (asked es _ (own_of line) _ told (quiet _ _ tt) i))
+  remotes_asks es h _ _ _ (UdpCloses place o q g) b i = (tt, λ told f. put_udps _ _ place (UdpRecord.Closed o.inner.side) tt (asked es _ (own_of line) _ told (quiet _ _ tt) i))
   remotes_asks es h _ _ _ (UdpBegins ctx family c may a o m) b i = (tt, λ told f. begun_keeps es h (own_of line) ctx.name family told f i)
   remotes_asks es h _ _ _ (MarksUdp place u g) b i = marks_keep es _ h.machine.table (udp_side u) (Udp2 place) None (Some (udp_side u)) i
   remotes_asks es h _ _ _ (MarksStream place n handle reached kind m new e) b i = marks_keep es _ h.machine.table (own_of n) kind (Some handle) _ i
   remotes_asks es h _ _ _ (MarksError n handle place handles m k e f) b i = marks_keep es _ h.machine.table (own_of n) ErrorValue (Some handle) _ i
   remotes_asks es h _ _ _ (UdpGivesUp place create q g) b i =
-      allows_weaker Anything (λ fs done. Keeps fs h.machine.store.records × ⊤) (λ fs done. Keeps fs (udp2_put h.machine.store.records place (Udp2Socket.Closed create.operation.who.side)))
-      (λ fs done k. put_udps fs _ place (Udp2Socket.Closed create.operation.who.side) tt k.0) es _ (kept h.machine.store.records (λ fs done. ⊤) es (create_cancel_asks create) i (cancelled_quiet es create))
+      allows_weaker Anything (λ fs done. Keeps fs h.machine.store.records × ⊤) (λ fs done. Keeps fs (udp2_put h.machine.store.records place (UdpRecord.Closed create.operation.who.side)))
+      (λ fs done k. put_udps fs _ place (UdpRecord.Closed create.operation.who.side) tt k.0) es _ (kept h.machine.store.records (λ fs done. ⊤) es (create_cancel_asks create) i (cancelled_quiet es create))
   remotes_asks es h _ _ _ (Resolves host records l same) b i = (tt, λ told f. records_keep _ _ (records told) (same told) (asked es _ (own_of line) _ told (quiet _ _ tt) i))
   remotes_asks es h _ _ _ (Looks place op g) b i = (tt, λ told f. asked es _ op.id _ told (quiet _ _ tt) i)
 

@@ -2,7 +2,7 @@
 -- last, that its connect is of its family, and that it receives for its creator; of a TCP socket that its streams are of its network
 -- socket, and write.
 use Rattle.wasi_walks.proofs.Words.{Allows, Asks, Call, Done, End, Entry, Has, IpSocketAddress, IsMaker, Item, Job, List, None, OpId, Operation}
-use Rattle.wasi_walks.proofs.Words.{Option, ReadState, Refused, SocketAddressFamily, Some, Streams, Tcp2Socket, Told, Waits, Write, WriteState, []}
+use Rattle.wasi_walks.proofs.Words.{Option, ReadState, Refused, SocketAddressFamily, Some, Streams, TcpRecord, Told, Waits, Write, WriteState, []}
 use Rattle.wasi_walks.proofs.Words.{allows_keep, ap, closed_by, collected, entry, first_state, inl, inr, refl, subst, sym, then_closed, written_by, ℕ, ⊤, ◌++◌}
 use Rattle.wasi_walks.proofs.Words.{◌∙◌, ◌∷◌, ◌≡◌}
 use Rattle.wasi_world.specs.Operation.{Nothing}
@@ -12,7 +12,7 @@ use Rattle.wasi_walks.proofs.GoneLists.{was_there}
 use Rattle.wasi_records.specs.declared.name_lookup.LookupOp.{LookupOp}
 use Rattle.wasi_records.specs.declared.records.Record.{Record}
 use Rattle.wasi_records.specs.declared.udp.OpenUdp.{OpenUdp}
-use Rattle.wasi_records.specs.declared.udp.Udp2Socket.{Udp2Socket}
+use Rattle.wasi_records.specs.declared.udp.UdpRecord.{UdpRecord}
 use Rattle.wasi_walks.specs.Licence.{UdpCreated}
 use Rattle.wasi_walks.proofs.Lists.{has_front}
 use Rattle.wasi_walks.proofs.walks.Moves.{Here, FoundUdp, SameSockets, WriterMoves, Collects, Permits, Lasts, LastsAfter, Closes, receiving_in}
@@ -25,21 +25,21 @@ use Rattle.wasi_walks.proofs.Places.{push_found, push_new, push_was, put_found, 
 -- == what is to be shown
 -- the remote address that an open UDP socket keeps is what the network reported last
 abbrev pub Remotes : List Entry → Here → Type 0
-Remotes es h = (place : ℕ) (o : OpenUdp) → FoundUdp h place (Udp2Socket.Open o) → RemoteIs es o.inner.side o.inner.remote
+Remotes es h = (place : ℕ) (o : OpenUdp) → FoundUdp h place (UdpRecord.Open o) → RemoteIs es o.inner.side o.inner.remote
 
 -- the create of the network socket was answered done
 abbrev pub IsCreated : List Entry → OpId → ℕ → SocketAddressFamily → Type 0
 IsCreated es side maker family = Has es (entry side (Call.UdpCreate maker family) Told.Done)
 
 -- the create of each UDP socket that is there, or is being made
-abbrev pub CreatedBy : List Entry → Udp2Socket → Type 0
-CreatedBy es (Udp2Socket.Creating create) = IsCreated es create.operation.who.side create.operation.who.context create.family
-CreatedBy es (Udp2Socket.Open o) = IsCreated es o.inner.side o.inner.maker o.inner.family
-CreatedBy es (Udp2Socket.Closed side) = ⊤
+abbrev pub CreatedBy : List Entry → UdpRecord → Type 0
+CreatedBy es (UdpRecord.Creating create) = IsCreated es create.operation.who.side create.operation.who.context create.family
+CreatedBy es (UdpRecord.Open o) = IsCreated es o.inner.side o.inner.maker o.inner.family
+CreatedBy es (UdpRecord.Closed side) = ⊤
 
 -- the create of each UDP socket was answered done
 abbrev pub Creates : List Entry → Here → Type 0
-Creates es h = (place : ℕ) (u : Udp2Socket) → FoundUdp h place u → CreatedBy es u
+Creates es h = (place : ℕ) (u : UdpRecord) → FoundUdp h place u → CreatedBy es u
 
 -- == receives
 -- a receive in progress asks for this creator of the network socket
@@ -61,8 +61,8 @@ pub record OpenKeeps (es : List Entry) (o : OpenUdp) : Type 0 where
   pub receiver : ReceivesFor o.inner.maker (receiving_in o.incoming)
 
 -- what is known of a UDP socket
-abbrev pub UdpKeeps : List Entry → Udp2Socket → Type 0
-UdpKeeps es (Udp2Socket.Open o) = OpenKeeps es o
+abbrev pub UdpKeeps : List Entry → UdpRecord → Type 0
+UdpKeeps es (UdpRecord.Open o) = OpenKeeps es o
 UdpKeeps es u = CreatedBy es u
 
 -- == TCP sockets
@@ -87,13 +87,13 @@ abbrev pub StreamsBy : Option OpId → Streams → Type 0
 StreamsBy made s = ReadsBy made s.reader × WritesBy made s.writer
 
 -- the streams are of the network socket that the record was made with
-abbrev pub TcpKeeps : Tcp2Socket → Type 0
+abbrev pub TcpKeeps : TcpRecord → Type 0
 TcpKeeps r = (s : Streams) → r.streams ≡ Some s → StreamsBy r.side s
 
 -- Each record is as it should be.
 pub record Keeps (es : List Entry) (records : List Record) : Type 0 where
-  pub udps : (place : ℕ) (u : Udp2Socket) → udp2_at records place ≡ Some u → UdpKeeps es u
-  pub tcps : (place : ℕ) (r : Tcp2Socket) → tcp2_at records place ≡ Some r → TcpKeeps r
+  pub udps : (place : ℕ) (u : UdpRecord) → udp2_at records place ≡ Some u → UdpKeeps es u
+  pub tcps : (place : ℕ) (r : TcpRecord) → tcp2_at records place ≡ Some r → TcpKeeps r
 
 -- == what it says
 -- there are no records at first
@@ -102,13 +102,13 @@ first_keeps es = record { udps = λ place u e. absurd (cc); tcps = λ place r e.
 
 -- of remote addresses
 pub remotes_in : (es : List Entry) (h : Here) → Keeps es h.machine.store.records → Remotes es h
-remotes_in es h k place o g = (k.udps place (Udp2Socket.Open o) g).remote
+remotes_in es h k place o g = (k.udps place (UdpRecord.Open o) g).remote
 
 -- of one create
-created_by : (es : List Entry) (u : Udp2Socket) → UdpKeeps es u → CreatedBy es u
-created_by es (Udp2Socket.Creating create) k = k
-created_by es (Udp2Socket.Open o) k = k.created
-created_by es (Udp2Socket.Closed side) k = tt
+created_by : (es : List Entry) (u : UdpRecord) → UdpKeeps es u → CreatedBy es u
+created_by es (UdpRecord.Creating create) k = k
+created_by es (UdpRecord.Open o) k = k.created
+created_by es (UdpRecord.Closed side) k = tt
 
 -- of the creates
 pub creates_in : (es : List Entry) (h : Here) → Keeps es h.machine.store.records → Creates es h
@@ -120,28 +120,28 @@ maker_of es o k = UdpCreated o.inner.side Told.Done k.created
 
 -- == a record changes, or joins them
 -- a TCP socket changes
-pub put_tcp : (es : List Entry) (records : List Record) (place : ℕ) (now : Tcp2Socket) → TcpKeeps now → Keeps es records → Keeps es (tcp2_put records place now)
+pub put_tcp : (es : List Entry) (records : List Record) (place : ℕ) (now : TcpRecord) → TcpKeeps now → Keeps es records → Keeps es (tcp2_put records place now)
 put_tcp es records place now f k = record {
   udps = λ i u e. k.udps i u (put_was tcp_sort udp_sort (λ t. refl) records place now i u e);
   tcps = λ i r e. elim (put_found tcp_sort records place now i r e) [ inl p ↦ subst TcpKeeps p.1 f | inr p ↦ k.tcps i r p ];
 }
 
 -- a TCP socket joins them
-pub push_tcp : (es : List Entry) (records : List Record) (now : Tcp2Socket) → TcpKeeps now → Keeps es records → Keeps es (tcp2_pushed records now)
+pub push_tcp : (es : List Entry) (records : List Record) (now : TcpRecord) → TcpKeeps now → Keeps es records → Keeps es (tcp2_pushed records now)
 push_tcp es records now f k = record {
   udps = λ i u e. k.udps i u (push_was tcp_sort udp_sort (λ t. refl) records now i u e);
   tcps = λ i r e. elim (push_new tcp_sort records now i r e) [ inl p ↦ k.tcps i r p | inr p ↦ subst TcpKeeps p f ];
 }
 
 -- a UDP socket changes
-pub put_udps : (es : List Entry) (records : List Record) (place : ℕ) (now : Udp2Socket) → UdpKeeps es now → Keeps es records → Keeps es (udp2_put records place now)
+pub put_udps : (es : List Entry) (records : List Record) (place : ℕ) (now : UdpRecord) → UdpKeeps es now → Keeps es records → Keeps es (udp2_put records place now)
 put_udps es records place now f k = record {
   udps = λ i u e. elim (put_found udp_sort records place now i u e) [ inl p ↦ subst (UdpKeeps es) p.1 f | inr p ↦ k.udps i u p ];
   tcps = λ i r e. k.tcps i r (put_was udp_sort tcp_sort (λ t. refl) records place now i r e);
 }
 
 -- a UDP socket joins them
-pub push_udps : (es : List Entry) (records : List Record) (now : Udp2Socket) → UdpKeeps es now → Keeps es records → Keeps es (udp2_pushed records now)
+pub push_udps : (es : List Entry) (records : List Record) (now : UdpRecord) → UdpKeeps es now → Keeps es records → Keeps es (udp2_pushed records now)
 push_udps es records now f k = record {
   udps = λ i u e. elim (push_found udp_sort records now i u e) [ inl p ↦ k.udps i u p | inr p ↦ subst (UdpKeeps es) p.0 f ];
   tcps = λ i r e. k.tcps i r (push_was udp_sort tcp_sort (λ t. refl) records now i r e);
@@ -158,7 +158,7 @@ fewer_keep es old place k = record { udps = λ i u e. k.udps i u (was_there udp2
 -- == one more entry
 -- the call asks no network socket for its remote address, of which one is kept
 abbrev pub Spares : List Record → Call → Type 0
-Spares records c = (place : ℕ) (o : OpenUdp) → udp2_at records place ≡ Some (Udp2Socket.Open o) → c ≡ Call.Peer o.inner.side → o.inner.remote ≡ None
+Spares records c = (place : ℕ) (o : OpenUdp) → udp2_at records place ≡ Some (UdpRecord.Open o) → c ≡ Call.Peer o.inner.side → o.inner.remote ≡ None
 
 peer_side : (a b : OpId) → Call.Peer a ≡ Call.Peer b → a ≡ b
 peer_side a b e = cc
@@ -169,19 +169,19 @@ remote_unless es op c told side None n k = none_kept _ side None refl
 remote_unless es op c told side (Some a) n k = remote_more es op c told side (Some a) (λ e. let p : Some a ≡ None = n e in absurd (cc)) k
 
 -- what is known of a UDP socket, under one more entry
-udp_more : (es : List Entry) (op : OpId) (c : Call) (told : Told) (u : Udp2Socket) → ((o : OpenUdp) → u ≡ Udp2Socket.Open o → c ≡ Call.Peer o.inner.side → o.inner.remote ≡ None) → UdpKeeps es u → UdpKeeps (es ++ entry op c told ∷ []) u
-udp_more es op c told (Udp2Socket.Creating create) n k = has_front es _ _ k
-udp_more es op c told (Udp2Socket.Open o) n k = record {
+udp_more : (es : List Entry) (op : OpId) (c : Call) (told : Told) (u : UdpRecord) → ((o : OpenUdp) → u ≡ UdpRecord.Open o → c ≡ Call.Peer o.inner.side → o.inner.remote ≡ None) → UdpKeeps es u → UdpKeeps (es ++ entry op c told ∷ []) u
+udp_more es op c told (UdpRecord.Creating create) n k = has_front es _ _ k
+udp_more es op c told (UdpRecord.Open o) n k = record {
   created = has_front es _ _ k.created;
   remote = remote_unless es op c told o.inner.side o.inner.remote (n o refl) k.remote;
   connects = k.connects;
   receiver = k.receiver;
 }
-udp_more es op c told (Udp2Socket.Closed side) n k = tt
+udp_more es op c told (UdpRecord.Closed side) n k = tt
 
 -- a call that spares them keeps what is known
 pub asked : (es : List Entry) (records : List Record) (op : OpId) (c : Call) (told : Told) → Spares records c → Keeps es records → Keeps (es ++ entry op c told ∷ []) records
-asked es records op c told n k = record { udps = λ i u e. udp_more es op c told u (λ o p. n i o (e ∙ ap (λ (x : Udp2Socket). Some x) p)) (k.udps i u e); tcps = k.tcps }
+asked es records op c told n k = record { udps = λ i u e. udp_more es op c told u (λ o p. n i o (e ∙ ap (λ (x : UdpRecord). Some x) p)) (k.udps i u e); tcps = k.tcps }
 
 -- a call that asks for no remote address spares them
 pub quiet : (records : List Record) (c : Call) → NoPeer c → Spares records c
@@ -197,15 +197,15 @@ some_streams : (a b : Streams) → Some a ≡ Some b → a ≡ b
 some_streams a b e = cc
 
 -- a record with these streams
-pub with_these : (now : Tcp2Socket) (s : Streams) → now.streams ≡ Some s → StreamsBy now.side s → TcpKeeps now
+pub with_these : (now : TcpRecord) (s : Streams) → now.streams ≡ Some s → StreamsBy now.side s → TcpKeeps now
 with_these now s e k t f = subst (StreamsBy now.side) (some_streams s t (sym e ∙ f)) k
 
 -- a record with none
-pub with_none : (now : Tcp2Socket) → now.streams ≡ None → TcpKeeps now
+pub with_none : (now : TcpRecord) → now.streams ≡ None → TcpKeeps now
 with_none now e s f = let p : None ≡ Some s = sym e ∙ f in absurd (cc)
 
 -- a record with the same ones
-pub same_streams : (r now : Tcp2Socket) → now.side ≡ r.side → now.streams ≡ r.streams → TcpKeeps r → TcpKeeps now
+pub same_streams : (r now : TcpRecord) → now.side ≡ r.side → now.streams ≡ r.streams → TcpKeeps r → TcpKeeps now
 same_streams r now p q k s e = subst (λ (x : Option OpId). StreamsBy x s) (sym p) (k s (sym q ∙ e))
 
 -- a write that ended is collected

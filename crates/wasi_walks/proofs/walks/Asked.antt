@@ -1,6 +1,6 @@
 -- What a line asks, as cases: a part of its tree, why the line may ask it, and where the line is by what the part gives.
 use Rattle.wasi_walks.proofs.Words.{Asks, Call, End, ErrorValue, Has, IsBacklogSet, Item, Kind, List, None, Not, OpId, Operation, Option}
-use Rattle.wasi_walks.proofs.Words.{HandleTable, Result, SocketAddressFamily, Some, Step, Stop, Streams, Tcp2, Tcp2Socket, TcpState, Told, WasiSocketsCtx, WriteState}
+use Rattle.wasi_walks.proofs.Words.{HandleTable, Result, SocketAddressFamily, Some, Step, Stop, Streams, Tcp2, TcpRecord, TcpState, Told, WasiSocketsCtx, WriteState}
 use Rattle.wasi_walks.proofs.Words.{Entry, Machine, after_local, create_asks, give_up_asks, make_asks, own_of, poll_asks, side_at, side_of}
 use Rattle.wasi_walks.proofs.Words.{told_addr, told_done, true, turn_asks, with_inner, with_listening, with_writer, ℕ, ◌≡◌}
 use Rattle.wasi_world.specs.Asks.{one}
@@ -17,37 +17,37 @@ use Rattle.wasi_records.specs.declared.name_lookup.Lookup.TheVariants as lookup
 use Rattle.wasi_records.specs.declared.name_lookup.LookupOp.{LookupOp}
 use Rattle.wasi_records.specs.declared.records.Record.{Record}
 use Rattle.wasi_records.specs.declared.udp.OpenUdp.{OpenUdp}
-use Rattle.wasi_records.specs.declared.udp.Udp2Socket.{Udp2Socket}
+use Rattle.wasi_records.specs.declared.udp.UdpRecord.{UdpRecord}
 use Rattle.wasi_udp.specs.Create.{Create, create_cancel_asks, after_create as udp_after_create}
 use Rattle.wasi_udp.specs.Socket.{after_local as udp_after_local, after_peer}
 
 pub data Asked (contexts : List WasiSocketsCtx) (line : ℕ) (origin : Step) (es : List Entry) (h : Here) : (A : Type 0) → Asks A → (A → Here) → Type 1 where
   -- one call on the record that the line works on
-  Questions : (place n : ℕ) (r : Tcp2Socket) (side : OpId) (c : Call) → h.at ≡ Some (place, n) → Found h place r
+  Questions : (place n : ℕ) (r : TcpRecord) (side : OpId) (c : Call) → h.at ≡ Some (place, n) → Found h place r
       → IsOn r side → IsQuestionOf line origin n side c
       → Asked contexts line origin es h Told (one (own_of n) c) (λ told. h)
-  SetsBacklog : (place : ℕ) (r : Tcp2Socket) (side : OpId) (backlog : ℕ) → h.at ≡ Some (place, line) → Found h place r
+  SetsBacklog : (place : ℕ) (r : TcpRecord) (side : OpId) (backlog : ℕ) → h.at ≡ Some (place, line) → Found h place r
       → r.inner.state ≡ TcpState.Listening side → IsBacklogSet backlog origin
       → Asked contexts line origin es h Told (one (own_of line) (Call.SetBacklog side backlog)) (λ told. h)
-  Learns : (place : ℕ) (r : Tcp2Socket) (side : OpId) → h.at ≡ Some (place, line) → Found h place r
+  Learns : (place : ℕ) (r : TcpRecord) (side : OpId) → h.at ≡ Some (place, line) → Found h place r
       → r.inner.state ≡ TcpState.Default side
       → Asked contexts line origin es h Told (one (own_of line) (Call.Local side))
       (λ told. put h place (with_inner r (after_local r.inner (told_addr told)).1))
-  Closes : (place : ℕ) (r : Tcp2Socket) (side : OpId) → Releases h place → Found h place r
+  Closes : (place : ℕ) (r : TcpRecord) (side : OpId) → Releases h place → Found h place r
       → side_of r.inner ≡ Some side → Asked contexts line origin es h Told (one (own_of line) (Call.Close side))
       (λ told. put h place (closed_record r))
   UdpQuestions : (place n : ℕ) (o : OpenUdp) (c : Call) → h.at ≡ Some (place, n)
-      → FoundUdp h place (Udp2Socket.Open o) → IsUdpQuestionOf line origin n o.inner.side c
+      → FoundUdp h place (UdpRecord.Open o) → IsUdpQuestionOf line origin n o.inner.side c
       → Asked contexts line origin es h Told (one (own_of n) c) (λ told. h)
-  UdpLearns : (place part : ℕ) (o : OpenUdp) → h.at ≡ Some (place, line) → FoundUdp h place (Udp2Socket.Open o)
+  UdpLearns : (place part : ℕ) (o : OpenUdp) → h.at ≡ Some (place, line) → FoundUdp h place (UdpRecord.Open o)
       → Asked contexts line origin es h Told (one (part_of line part) (Call.Local o.inner.side))
-      (λ told. put_udp h place (Udp2Socket.Open (with_udp_inner o (udp_after_local o.inner (told_addr told)).1)))
-  UdpPeers : (place : ℕ) (o : OpenUdp) → h.at ≡ Some (place, line) → FoundUdp h place (Udp2Socket.Open o)
+      (λ told. put_udp h place (UdpRecord.Open (with_udp_inner o (udp_after_local o.inner (told_addr told)).1)))
+  UdpPeers : (place : ℕ) (o : OpenUdp) → h.at ≡ Some (place, line) → FoundUdp h place (UdpRecord.Open o)
       → Asked contexts line origin es h Told (one (own_of line) (Call.Peer o.inner.side))
-      (λ told. put_udp h place (Udp2Socket.Open (with_udp_inner o (after_peer o.inner (told_addr told)))))
-  UdpCloses : (place : ℕ) (o : OpenUdp) → ReleasesUdp h place → FoundUdp h place (Udp2Socket.Open o)
+      (λ told. put_udp h place (UdpRecord.Open (with_udp_inner o (after_peer o.inner (told_addr told)))))
+  UdpCloses : (place : ℕ) (o : OpenUdp) → ReleasesUdp h place → FoundUdp h place (UdpRecord.Open o)
       → Asked contexts line origin es h Told (one (own_of line) (Call.Close o.inner.side))
-      (λ told. put_udp h place (Udp2Socket.Closed o.inner.side))
+      (λ told. put_udp h place (UdpRecord.Closed o.inner.side))
   UdpBegins : (ctx : WasiSocketsCtx) (family : SocketAddressFamily) → CreatesUdp contexts ctx family origin
       → ctx.udp ≡ true → h.at ≡ None → h.own ≡ Unused → h.made ≡ Past
       → Asked contexts line origin es h Told (one (own_of line) (Call.UdpCreate ctx.name family))
@@ -64,13 +64,13 @@ pub data Asked (contexts : List WasiSocketsCtx) (line : ℕ) (origin : Step) (es
       → Asked contexts line origin es h (Result ℕ Stop × HandleTable)
       (make_asks h.machine.table (own_of line) kind parent sock)
       (λ made. record h { machine = record h.machine { table = made.1 } })
-  MarksAccepted : (c listener place : ℕ) (r : Tcp2Socket) → origin ≡ Step.TcpAccept c listener → h.made ≡ Joined place
+  MarksAccepted : (c listener place : ℕ) (r : TcpRecord) → origin ≡ Step.TcpAccept c listener → h.made ≡ Joined place
       → h.own ≡ Used → Found h place r
       → Asked contexts line origin es h (Result ℕ Stop × HandleTable)
       (make_asks h.machine.table (own_of line) (Tcp2 place) (Some listener)
       (side_at (tcp2_at h.machine.store.records place)))
       (λ made. record h { machine = record h.machine { table = made.1 }; made = made_so place made.0 })
-  MarksUdp : (place : ℕ) (u : Udp2Socket) → IsCreated h place u
+  MarksUdp : (place : ℕ) (u : UdpRecord) → IsCreated h place u
       → Asked contexts line origin es h (Result ℕ Stop × HandleTable)
       (make_asks h.machine.table (udp_side u) (Udp2 place) None (Some (udp_side u)))
       (λ made. record h { machine = record h.machine { table = made.1 }; made = Past })
@@ -92,12 +92,12 @@ pub data Asked (contexts : List WasiSocketsCtx) (line : ℕ) (origin : Step) (es
       (λ done. record h { machine = done.1; own = Used })
   Polls : (op : Operation) (after : End × List Item → Here) → Held h op after
       → Asked contexts line origin es h (End × List Item) (poll_asks op) after
-  Turns : (place : ℕ) (r : Tcp2Socket) (s : Streams) → Found h place r → r.streams ≡ Some s
+  Turns : (place : ℕ) (r : TcpRecord) (s : Streams) → Found h place r → r.streams ≡ Some s
       → Asked contexts line origin es h (Unit {0} × WriteState) (turn_asks s.writer)
       (λ done. put h place (with_writer r s done.1))
-  GivesUp : (place : ℕ) (r : Tcp2Socket) → NoStart h → Found h place r
+  GivesUp : (place : ℕ) (r : TcpRecord) → NoStart h → Found h place r
       → Asked contexts line origin es h (Unit {0}) (give_up_asks r.listening)
       (λ done. put h place (with_listening r Not))
-  UdpGivesUp : (place : ℕ) (create : Create) → NoStart h → FoundUdp h place (Udp2Socket.Creating create)
+  UdpGivesUp : (place : ℕ) (create : Create) → NoStart h → FoundUdp h place (UdpRecord.Creating create)
       → Asked contexts line origin es h (Unit {0}) (create_cancel_asks create)
-      (λ done. put_udp h place (Udp2Socket.Closed create.operation.who.side))
+      (λ done. put_udp h place (UdpRecord.Closed create.operation.who.side))

@@ -15,7 +15,7 @@ use Rattle.wasi_records.specs.declared.datagrams.Incoming.{Incoming}
 use Rattle.wasi_records.specs.declared.datagrams.Receiving.{Receiving}
 use Rattle.wasi_host.specs.declared.kind.Kind.TheVariants as kinds
 use Rattle.wasi_records.specs.declared.udp.OpenUdp.{OpenUdp}
-use Rattle.wasi_records.specs.declared.udp.Udp2Socket.{Udp2Socket}
+use Rattle.wasi_records.specs.declared.udp.UdpRecord.{UdpRecord}
 use Rattle.wasi_host.specs.Machine.{udp_socket_at}
 use Rattle.wasi_records.specs.Udp.{with_udp_inner}
 use Rattle.wasi_host.specs.UdpCalls.{udp_call_answered}
@@ -117,8 +117,8 @@ udp_kind _ place e = absurd (cc)
 
 -- the socket is so, and the line has begun its operation; while the connect goes on, it is that
 abbrev Ends : Here → ℕ → Result (Answer (Unit {0})) ErrorCode × OpenUdp → Here
-Ends h place (Ok Pending, o) = record (put_udp h place (Udp2Socket.Open o)) { own = ToConnect place }
-Ends h place (_, o) = record (put_udp h place (Udp2Socket.Open o)) { own = Used }
+Ends h place (Ok Pending, o) = record (put_udp h place (UdpRecord.Open o)) { own = ToConnect place }
+Ends h place (_, o) = record (put_udp h place (UdpRecord.Open o)) { own = Used }
 
 -- its connect goes on by the line
 abbrev Going : Here → ℕ → Here
@@ -161,13 +161,13 @@ abbrev pub AreMade : ℕ → Result (Answer (Unit {0})) Stop × Records → Type
 AreMade place (Ok (Ready d), store) = HasNewStream store place
 AreMade place _ = ⊤
 
-answered_made : (store : Records) (ids : Ids) (place handle : ℕ) → NoStartStands store.standing → (was : OpenUdp) → udp2_at store.records place ≡ Some (Udp2Socket.Open was) → (done : Result (Answer (Unit {0})) ErrorCode × OpenUdp) → WaitsUdpConnect done
+answered_made : (store : Records) (ids : Ids) (place handle : ℕ) → NoStartStands store.standing → (was : OpenUdp) → udp2_at store.records place ≡ Some (UdpRecord.Open was) → (done : Result (Answer (Unit {0})) ErrorCode × OpenUdp) → WaitsUdpConnect done
     → AreMade place (udp_call_answered store ids (StandingCall.UdpConnect place handle) done)
 answered_made store ids place handle q was g (Ok Pending, o) w = tt
-answered_made store ids place handle q was g (Ok (Ready d), o) w = record { quiet = q; socket = o; at = put_finds udp_sort store.records place (Udp2Socket.Open was) (Udp2Socket.Open o) g; new = w }
+answered_made store ids place handle q was g (Ok (Ready d), o) w = record { quiet = q; socket = o; at = put_finds udp_sort store.records place (UdpRecord.Open was) (UdpRecord.Open o) g; new = w }
 answered_made store ids place handle q was g (Err c, o) w = tt
 
-start_made : (store : Records) (ids : Ids) (place handle : ℕ) → NoStartStands store.standing → (remote : Option IpSocketAddress) (o : OpenUdp) → udp2_at store.records place ≡ Some (Udp2Socket.Open o) → (live : Bool) → Given (AreMade place) (start_streams_by store ids place handle remote o live)
+start_made : (store : Records) (ids : Ids) (place handle : ℕ) → NoStartStands store.standing → (remote : Option IpSocketAddress) (o : OpenUdp) → udp2_at store.records place ≡ Some (UdpRecord.Open o) → (live : Bool) → Given (AreMade place) (start_streams_by store ids place handle remote o live)
 start_made store ids place handle q remote o g true = tt
 start_made store ids place handle q remote o g false = given_along WaitsUdpConnect (AreMade place) (begin_streams_asks (own_of ids.line) o remote) _ (begin_given (own_of ids.line) o remote) (λ begun w. answered_made store ids place handle q o g begun w)
 
@@ -182,77 +182,77 @@ again_made store ids place handle q (Some o) e = given_along WaitsUdpConnect (Ar
 module _ {contexts : List WasiSocketsCtx} {line : ℕ} {origin : Step} {law : Law contexts line origin} where
   -- == a connect that was begun is polled, by the line that it goes on by
   module _ {h : Here} {place : ℕ} (here : HasUdp h place) (quiet : NoStart h) where
-    ended_walks : (op : Operation) (o : OpenUdp) (ended : End × List Item) → Walks law (put_udp (Going h place) place (Udp2Socket.Open (udp_connect_left op o ended))) (Ends h place) (Give (udp_connect_ended op o ended))
+    ended_walks : (op : Operation) (o : OpenUdp) (ended : End × List Item) → Walks law (put_udp (Going h place) place (UdpRecord.Open (udp_connect_left op o ended))) (Ends h place) (Give (udp_connect_ended op o ended))
     ended_walks op o (Waits, items) = give _
     ended_walks op o (Done given, items) = gives _ (EndsConnect _ place refl (inl (over_at (goes here) (udp_connect_left op o (Done given, items)) refl)))
     ended_walks op o (Refused c given, items) = gives _ (EndsConnect _ place refl (inl (over_at (goes here) (udp_connect_left op o (Refused c given, items)) refl)))
 
-    polled_by : (o : OpenUdp) (connecting : Option Operation) → o.connecting ≡ connecting → Walks law (put_udp (Going h place) place (Udp2Socket.Open o)) (Ends h place) (poll_udp_connecting o connecting)
+    polled_by : (o : OpenUdp) (connecting : Option Operation) → o.connecting ≡ connecting → Walks law (put_udp (Going h place) place (UdpRecord.Open o)) (Ends h place) (poll_udp_connecting o connecting)
     polled_by o None e = gives _ (EndsConnect _ place refl (inl (over_at (goes here) o e)))
     polled_by o (Some op) e = and_then (poll_udp_connect_walks (goes here) o op quiet e) (ended_walks op o)
 
   -- == on the record of a place
   module _ {h : Here} {place : ℕ} (here : HasUdp h place) (at : h.at ≡ Some (place, line)) (free : h.own ≡ Unused) (quiet : NoStart h) where
-    opens : (o : OpenUdp) → o.incoming ≡ None → Walks law (put_udp h place (Udp2Socket.Open o)) (Ends h place) (Give (Ok (Ready tt), with_streams o))
+    opens : (o : OpenUdp) → o.incoming ≡ None → Walks law (put_udp h place (UdpRecord.Open o)) (Ends h place) (Give (Ok (Ready tt), with_streams o))
     opens o none =
-        move (UdpChanges _ place o (with_streams o) (udp_found here (Udp2Socket.Open o)) (record { side = refl; maker = refl; family = refl; remote = refl; bound = λ b. b; binds = inl refl; connects = refl; sends = inr refl; receives = inr refl; came = inr refl }) (record { incoming = subst (λ (inc : Option Incoming). StreamMoves origin (put_udp h place (Udp2Socket.Open o)) place inc (with_streams o).incoming) (sym none) (StreamIsMade _); makes = inr (free, quiet) }))
-        (from (sym (udp_put_put h place (Udp2Socket.Open o) (Udp2Socket.Open (with_streams o)))) (gives _ (Spends _ free)))
+        move (UdpChanges _ place o (with_streams o) (udp_found here (UdpRecord.Open o)) (record { side = refl; maker = refl; family = refl; remote = refl; bound = λ b. b; binds = inl refl; connects = refl; sends = inr refl; receives = inr refl; came = inr refl }) (record { incoming = subst (λ (inc : Option Incoming). StreamMoves origin (put_udp h place (UdpRecord.Open o)) place inc (with_streams o).incoming) (sym none) (StreamIsMade _); makes = inr (free, quiet) }))
+        (from (sym (udp_put_put h place (UdpRecord.Open o) (UdpRecord.Open (with_streams o)))) (gives _ (Spends _ free)))
 
     -- with a connect
-    connect_walks : (o : OpenUdp) (a : IpSocketAddress) → o.inner.bound ≡ true → has_streams o ≡ false → IsUdpConnectTo a origin → Walks law (put_udp h place (Udp2Socket.Open o)) (Ends h place) (bind (connect_asks (own_of line) o.inner a) (udp_connect_begun o))
+    connect_walks : (o : OpenUdp) (a : IpSocketAddress) → o.inner.bound ≡ true → has_streams o ≡ false → IsUdpConnectTo a origin → Walks law (put_udp h place (UdpRecord.Open o)) (Ends h place) (bind (connect_asks (own_of line) o.inner a) (udp_connect_begun o))
     unfolding bind
     connect_walks o a bound none to = rw (bound_connect (own_of line) o.inner a bound) (by_test (is_connectable o.inner a))
       where
-        by_test : (b : Bool) → Walks law (put_udp h place (Udp2Socket.Open o)) (Ends h place) (bind (if b then Give (Ok (connect_start (own_of line) o.inner a true), o.inner) else Give (Err InvalidArgument, o.inner)) (udp_connect_begun o))
+        by_test : (b : Bool) → Walks law (put_udp h place (UdpRecord.Open o)) (Ends h place) (bind (if b then Give (Ok (connect_start (own_of line) o.inner a true), o.inner) else Give (Err InvalidArgument, o.inner)) (udp_connect_begun o))
         by_test false = gives _ (Spends _ free)
         by_test true =
             let op : Operation = connect_start (own_of line) o.inner a true in
             let now : OpenUdp = record o { connecting = Some op } in
-            move (BeginsUdpConnect _ place o a at (udp_found here (Udp2Socket.Open o)) to bound none free)
-            (from (ap (λ (x : Here). record x { own = ToConnect place }) (sym (udp_put_put h place (Udp2Socket.Open o) (Udp2Socket.Open now)))) (polled_by here quiet now (Some op) refl))
+            move (BeginsUdpConnect _ place o a at (udp_found here (UdpRecord.Open o)) to bound none free)
+            (from (ap (λ (x : Here). record x { own = ToConnect place }) (sym (udp_put_put h place (UdpRecord.Open o) (UdpRecord.Open now)))) (polled_by here quiet now (Some op) refl))
 
     -- with a disconnect, where the socket is connected
-    told_walks : (o : OpenUdp) → o.incoming ≡ None → (done : Result (Unit {0}) ErrorCode × Socket) → Walks law (put_udp h place (Udp2Socket.Open (with_udp_inner o done.1))) (Ends h place) (Give (disconnected o done))
+    told_walks : (o : OpenUdp) → o.incoming ≡ None → (done : Result (Unit {0}) ErrorCode × Socket) → Walks law (put_udp h place (UdpRecord.Open (with_udp_inner o done.1))) (Ends h place) (Give (disconnected o done))
     told_walks o none (Ok d, socket) = opens (with_udp_inner o socket) none
     told_walks o none (Err c, socket) = gives _ (Spends _ free)
 
-    disconnect_walks : IsDisconnect origin → (o : OpenUdp) (remote : Option IpSocketAddress) → o.inner.bound ≡ true → Walks law (put_udp h place (Udp2Socket.Open o)) (λ done. put_udp h place (Udp2Socket.Open (with_udp_inner o done.1))) (disconnect_in (own_of line) o.inner remote)
+    disconnect_walks : IsDisconnect origin → (o : OpenUdp) (remote : Option IpSocketAddress) → o.inner.bound ≡ true → Walks law (put_udp h place (UdpRecord.Open o)) (λ done. put_udp h place (UdpRecord.Open (with_udp_inner o done.1))) (disconnect_in (own_of line) o.inner remote)
     unfolding bind
     disconnect_walks to o None bound = give _
     disconnect_walks to o (Some a) bound =
-        ask_udp here o at (refl, refl, to) (λ told. subst (λ (s : Socket). Walks law (put_udp h place (Udp2Socket.Open o)) (λ done. put_udp h place (Udp2Socket.Open (with_udp_inner o done.1))) (then_peer (own_of line) s (told_done told))) (bound_same o.inner bound)
+        ask_udp here o at (refl, refl, to) (λ told. subst (λ (s : Socket). Walks law (put_udp h place (UdpRecord.Open o)) (λ done. put_udp h place (UdpRecord.Open (with_udp_inner o done.1))) (then_peer (own_of line) s (told_done told))) (bound_same o.inner bound)
         (peer_udp here o at (λ t. give _)))
 
-    without_walks : IsDisconnect origin → (o : OpenUdp) → o.incoming ≡ None → (connected : Bool) → o.inner.bound ≡ true → Walks law (put_udp h place (Udp2Socket.Open o)) (Ends h place) (disconnect_streams (own_of line) o connected)
+    without_walks : IsDisconnect origin → (o : OpenUdp) → o.incoming ≡ None → (connected : Bool) → o.inner.bound ≡ true → Walks law (put_udp h place (UdpRecord.Open o)) (Ends h place) (disconnect_streams (own_of line) o connected)
     without_walks to o none true bound = and_then (disconnect_walks to o o.inner.remote bound) (told_walks o none)
     without_walks to o none false bound = opens o none
 
-    streams_to_walks : (c s : ℕ) (remote : Option IpSocketAddress) → origin ≡ Step.UdpStream c s remote → (o : OpenUdp) → o.inner.bound ≡ true → has_streams o ≡ false → Walks law (put_udp h place (Udp2Socket.Open o)) (Ends h place) (streams_to (own_of line) o remote)
+    streams_to_walks : (c s : ℕ) (remote : Option IpSocketAddress) → origin ≡ Step.UdpStream c s remote → (o : OpenUdp) → o.inner.bound ≡ true → has_streams o ≡ false → Walks law (put_udp h place (UdpRecord.Open o)) (Ends h place) (streams_to (own_of line) o remote)
     streams_to_walks c s (Some a) is o bound none = connect_walks o a bound none (subst (IsUdpConnectTo a) (sym is) refl)
     streams_to_walks c s None is o bound none = without_walks (subst IsDisconnect (sym is) tt) o (no_incoming o none) (is_connected o.inner.remote) bound
 
-    where_walks : (c s : ℕ) (remote : Option IpSocketAddress) → origin ≡ Step.UdpStream c s remote → (o : OpenUdp) (bound : Bool) → (bound ≡ true → o.inner.bound ≡ true) → has_streams o ≡ false → Walks law (put_udp h place (Udp2Socket.Open o)) (Ends h place) (streams_where (own_of line) remote o bound)
+    where_walks : (c s : ℕ) (remote : Option IpSocketAddress) → origin ≡ Step.UdpStream c s remote → (o : OpenUdp) (bound : Bool) → (bound ≡ true → o.inner.bound ≡ true) → has_streams o ≡ false → Walks law (put_udp h place (UdpRecord.Open o)) (Ends h place) (streams_where (own_of line) remote o bound)
     where_walks c s remote is o true k none = streams_to_walks c s remote is o (k refl) none
     where_walks c s remote is o false k none = gives _ (Spends _ free)
 
-    begin_walks : (c s : ℕ) (remote : Option IpSocketAddress) → origin ≡ Step.UdpStream c s remote → (o : OpenUdp) → has_streams o ≡ false → Walks law (put_udp h place (Udp2Socket.Open o)) (Ends h place) (begin_streams_asks (own_of line) o remote)
+    begin_walks : (c s : ℕ) (remote : Option IpSocketAddress) → origin ≡ Step.UdpStream c s remote → (o : OpenUdp) → has_streams o ≡ false → Walks law (put_udp h place (UdpRecord.Open o)) (Ends h place) (begin_streams_asks (own_of line) o remote)
     begin_walks c s remote is o none = and_given KeepsBound (bound_given (own_of line) o.inner) (bound_walks here at o) (λ b k. where_walks c s remote is (with_udp_inner o b.1) b.0 k none)
 
   -- == a call that may be pending was answered
   answered_walks : (m : Machine) (ids : Ids) (place handle : ℕ) → NoStartStands m.store.standing → (done : Result (Answer (Unit {0})) ErrorCode × OpenUdp) → HasUdp (Streaming ids.line m place handle Used) place → WaitsUdpConnect done
       → Walks law (Ends (Streaming ids.line m place handle Used) place done) (Streamed ids.line m place handle) (Give (udp_call_answered m.store ids (StandingCall.UdpConnect place handle) done))
-  answered_walks m ids place handle q (Ok Pending, o) here w = move (StandsUdpConnect _ ids place handle o w.op q refl refl (udp_found here (Udp2Socket.Open o)) w.is) (move (EndsConnect _ place refl (inr refl)) (gives _ (Leaves _)))
+  answered_walks m ids place handle q (Ok Pending, o) here w = move (StandsUdpConnect _ ids place handle o w.op q refl refl (udp_found here (UdpRecord.Open o)) w.is) (move (EndsConnect _ place refl (inr refl)) (gives _ (Leaves _)))
   answered_walks m ids place handle q (Ok (Ready d), o) here w = give _
   answered_walks m ids place handle q (Err c, o) here w = gives _ (Leaves _)
 
   module _ (m : Machine) (place handle : ℕ) (quiet : NoStartStands m.store.standing) where
-    start_by : (c : ℕ) (remote : Option IpSocketAddress) → origin ≡ Step.UdpStream c handle remote → udp_of (kind_at m.table handle) ≡ Some place → (o : OpenUdp) → FoundUdp (At line m place Unused) place (Udp2Socket.Open o) → (live : Bool) → has_streams o ≡ live
+    start_by : (c : ℕ) (remote : Option IpSocketAddress) → origin ≡ Step.UdpStream c handle remote → udp_of (kind_at m.table handle) ≡ Some place → (o : OpenUdp) → FoundUdp (At line m place Unused) place (UdpRecord.Open o) → (live : Bool) → has_streams o ≡ live
         → Walks law (At line m place Unused) (Streamed line m place handle) (start_streams_by m.store (first_ids line) place handle remote o live)
     start_by c remote is of o g true none = move (Spends _ refl) (gives _ (Leaves _))
     start_by c remote is of o g false none =
         move (RemembersStreams _ c handle place remote is of o g none)
-        (from (udp_put_same (Streaming line m place handle Unused) place (Udp2Socket.Open o) g)
-        (and_given WaitsUdpConnect (begin_given (own_of line) o remote) (begin_walks (udp_there {h = Streaming line m place handle Unused} g) refl refl quiet c handle remote is o none) (λ begun w. answered_walks m (first_ids line) place handle quiet begun (record { was = Udp2Socket.Open o; at = g }) w)))
+        (from (udp_put_same (Streaming line m place handle Unused) place (UdpRecord.Open o) g)
+        (and_given WaitsUdpConnect (begin_given (own_of line) o remote) (begin_walks (udp_there {h = Streaming line m place handle Unused} g) refl refl quiet c handle remote is o none) (λ begun w. answered_walks m (first_ids line) place handle quiet begun (record { was = UdpRecord.Open o; at = g }) w)))
 
     start_at : (c : ℕ) (remote : Option IpSocketAddress) → origin ≡ Step.UdpStream c handle remote → udp_of (kind_at m.table handle) ≡ Some place → (o : Option OpenUdp) → open_at m.store.records place ≡ o → Walks law (At line m place Unused) (Streamed line m place handle) (start_streams_at m.store (first_ids line) place handle remote o)
     start_at c remote is of None e = move (Spends _ refl) (gives _ (Leaves _))
@@ -262,9 +262,9 @@ module _ {contexts : List WasiSocketsCtx} {line : ℕ} {origin : Step} {law : La
     again_at : (ids : Ids) (o : Option OpenUdp) → open_at m.store.records place ≡ o → Walks law (Streaming ids.line m place handle (ToConnect place)) (Streamed ids.line m place handle) (reconnect_udp_at m.store ids place handle o)
     again_at ids None e = move (EndsConnect _ place refl (inl (no_open (Streaming ids.line m place handle Used) place e))) (gives _ (Leaves _))
     again_at ids (Some o) e =
-        let g : FoundUdp (Streaming ids.line m place handle Used) place (Udp2Socket.Open o) = open_is (udp2_at m.store.records place) o e in
-        let there : HasUdp (Streaming ids.line m place handle Used) place = record { was = Udp2Socket.Open o; at = g } in
-        from (udp_put_same (Streaming ids.line m place handle (ToConnect place)) place (Udp2Socket.Open o) g)
+        let g : FoundUdp (Streaming ids.line m place handle Used) place (UdpRecord.Open o) = open_is (udp2_at m.store.records place) o e in
+        let there : HasUdp (Streaming ids.line m place handle Used) place = record { was = UdpRecord.Open o; at = g } in
+        from (udp_put_same (Streaming ids.line m place handle (ToConnect place)) place (UdpRecord.Open o) g)
         (and_given WaitsUdpConnect (poll_given o o.connecting) (polled_by there quiet o o.connecting refl) (λ done w. answered_walks m ids place handle quiet done there w))
 
   -- == their handles

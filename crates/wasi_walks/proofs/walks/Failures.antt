@@ -1,5 +1,5 @@
 -- Why a call of a stream failed, as the log and the records say it: a read was answered with a code, or the writer is closed with one.
-use Rattle.wasi_walks.proofs.Words.{Answer, Asks, Entry, Err, ErrorCode, Input, List, Ok, OpId, Option, Output, Pending, ReadState, Ready, Records, Result, Some, None, StreamStop, Streams, Tcp2Socket, Told, WriteState, []}
+use Rattle.wasi_walks.proofs.Words.{Answer, Asks, Entry, Err, ErrorCode, Input, List, Ok, OpId, Option, Output, Pending, ReadState, Ready, Records, Result, Some, None, StreamStop, Streams, TcpRecord, Told, WriteState, []}
 use Rattle.wasi_walks.proofs.Words.{Bool, after_read, allows_if, begun, bind, check_write_asks, collected, entry, false, flush_asks, kind_at, length, look_asks, look_in, min, nat_lt, new_job, own_of, permitted, polled_answer, read_state_asks, reader_asks, refl, stream_at, true, turn_asks, write_on_asks, write_state_asks, writer_asks, writer_of, reader_of, ℕ, ⊤, ◌++◌, ◌==◌, ◌∷◌, ◌≡◌}
 use Rattle.wasi_world.specs.Typed.{told_bytes}
 use Rattle.wasi_world.specs.declared.call.Call.{Call}
@@ -25,7 +25,7 @@ IsFailed _ = ⊥
 
 -- That of the record at this place is.
 pub record WriterFailed (records : List Record) (place : ℕ) : Type 0 where
-  pub socket : Tcp2Socket
+  pub socket : TcpRecord
   pub at : tcp2_at records place ≡ Some socket
   pub streams : Streams
   pub there : socket.streams ≡ Some streams
@@ -76,7 +76,7 @@ module _ (op : OpId) where
   read_why es ReadState.Closed size = tt
 
   -- of the record of an input
-  read_fails : (es : List Entry) (store : Records) (place size : ℕ) (o : Option Tcp2Socket) → Gives (λ fs done. IfFailed done.0 (ReadFailed fs op)) es (stream_at store place (reader_asks (λ w. read_state_asks op w size)) o)
+  read_fails : (es : List Entry) (store : Records) (place size : ℕ) (o : Option TcpRecord) → Gives (λ fs done. IfFailed done.0 (ReadFailed fs op)) es (stream_at store place (reader_asks (λ w. read_state_asks op w size)) o)
   read_fails es store place size None = tt
   read_fails es store place size (Some r) = gives_then (λ fs done. IfFailed done.0 (ReadFailed fs op)) _ es (reader_asks (λ w. read_state_asks op w size) r) _ (by_streams r.streams) (λ fs done k. k)
     where
@@ -129,12 +129,12 @@ write_why op bytes es (WriteState.Closed (WriteError.LastOperationFailed c)) = t
 write_why op bytes es _ = tt
 
 -- of the record of an output: the one that is left has such a writer
-record LeftFailed (left : Tcp2Socket) : Type 0 where
+record LeftFailed (left : TcpRecord) : Type 0 where
   streams : Streams
   there : left.streams ≡ Some streams
   failed : IsFailed streams.writer
 
-abbrev Leaves : {T : Type 0} → List Entry → Result T StreamStop × Tcp2Socket → Type 0
+abbrev Leaves : {T : Type 0} → List Entry → Result T StreamStop × TcpRecord → Type 0
 Leaves fs done = IfFailed done.0 (LeftFailed done.1)
 
 if_failed : {T : Type 0} {K L : Type 0} (answer : Result T StreamStop) → (K → L) → IfFailed answer K → IfFailed answer L
@@ -142,7 +142,7 @@ if_failed (Err (stop.Failed c)) f k = f k
 if_failed (Err _) f k = tt
 if_failed (Ok value) f k = tt
 
-writer_fails : {T : Type 0} (es : List Entry) (store : Records) (place : ℕ) (call : WriteState → Asks (Result T StreamStop × WriteState)) (o : Option Tcp2Socket) → tcp2_at store.records place ≡ o → ((fs : List Entry) (w : WriteState) → Gives WriterSays fs (call w))
+writer_fails : {T : Type 0} (es : List Entry) (store : Records) (place : ℕ) (call : WriteState → Asks (Result T StreamStop × WriteState)) (o : Option TcpRecord) → tcp2_at store.records place ≡ o → ((fs : List Entry) (w : WriteState) → Gives WriterSays fs (call w))
     → Gives (λ fs done. IfFailed done.0 (WriterFailed done.1.records place)) es (stream_at store place (writer_asks call) o)
 writer_fails es store place call None g k = tt
 writer_fails {T} es store place call (Some r) g k = gives_then Leaves _ es (writer_asks call r) _ (by_streams r.streams) (λ fs done f. if_failed done.0 (put done.1) f)
@@ -151,7 +151,7 @@ writer_fails {T} es store place call (Some r) g k = gives_then Leaves _ es (writ
     by_streams None = tt
     by_streams (Some s) = gives_then WriterSays Leaves es (call s.writer) _ (k es s.writer) (λ fs done f. if_failed done.0 (λ x. record { streams = record s { writer = done.1 }; there = refl; failed = x }) f)
 
-    put : (left : Tcp2Socket) → LeftFailed left → WriterFailed (tcp2_put store.records place left) place
+    put : (left : TcpRecord) → LeftFailed left → WriterFailed (tcp2_put store.records place left) place
     put left f = record { socket = left; at = put_finds tcp_sort store.records place r left g; streams = f.streams; there = f.there; failed = f.failed }
 
 -- == a call of a line on the stream of a handle

@@ -1,6 +1,6 @@
 -- What a line works on: the state, the record that one of its handles stands for, what it has made so far, and which names its
 -- operations were given.
-use Rattle.wasi_walks.proofs.Words.{Bool, HandleTable, Kind, List, Machine, None, OpId, Operation, Option, Records, Some, Standing, StandingCall, Step, Tcp2, Tcp2Socket, ap, arith, inl, kind_at, inr, refl, standing_as, subst, sym, true, false, with_socket, ℕ, ⊤, ◌+◌, ◌<◌, ◌≡◌, ◌≤◌, ◌⊎◌}
+use Rattle.wasi_walks.proofs.Words.{Bool, HandleTable, Kind, List, Machine, None, OpId, Operation, Option, Records, Some, Standing, StandingCall, Step, Tcp2, TcpRecord, ap, arith, inl, kind_at, inr, refl, standing_as, subst, sym, true, false, with_socket, ℕ, ⊤, ◌+◌, ◌<◌, ◌≡◌, ◌≤◌, ◌⊎◌}
 use Rattle.std.specs.Prelude.{is_some, slice_get, ◌||◌}
 use Rattle.wasi_world.specs.declared.ids.Ids.{Ids}
 use Rattle.wasi_records.specs.Datagrams.{has_streams}
@@ -21,7 +21,7 @@ use Rattle.wasi_records.specs.declared.records.Record.{Record}
 use Rattle.wasi_records.specs.declared.records.Record.TheVariants.{Gone}
 use Rattle.wasi_walks.specs.Licence.{Has}
 use Rattle.wasi_records.specs.declared.udp.OpenUdp.{OpenUdp}
-use Rattle.wasi_records.specs.declared.udp.Udp2Socket.{Udp2Socket}
+use Rattle.wasi_records.specs.declared.udp.UdpRecord.{UdpRecord}
 
 -- what the line's operations have begun: something, or nothing yet; its own none, and of the others those of a part below this one;
 -- these bytes it is let write to this network socket; something, and the connect of this UDP socket's record goes on by it
@@ -61,17 +61,17 @@ pub record Here : Type 0 where
   pub made : Made
   pub own : Own
 
-abbrev pub put : Here → ℕ → Tcp2Socket → Here
+abbrev pub put : Here → ℕ → TcpRecord → Here
 put h place r = record h { machine = record h.machine { store = with_socket h.machine.store place r } }
 
-abbrev pub Found : Here → ℕ → Tcp2Socket → Type 0
+abbrev pub Found : Here → ℕ → TcpRecord → Type 0
 Found h place r = tcp2_at h.machine.store.records place ≡ Some r
 
 -- the same of a UDP socket
-abbrev pub put_udp : Here → ℕ → Udp2Socket → Here
+abbrev pub put_udp : Here → ℕ → UdpRecord → Here
 put_udp h place u = record h { machine = record h.machine { store = with_udp h.machine.store place u } }
 
-abbrev pub FoundUdp : Here → ℕ → Udp2Socket → Type 0
+abbrev pub FoundUdp : Here → ℕ → UdpRecord → Type 0
 FoundUdp h place u = udp2_at h.machine.store.records place ≡ Some u
 
 -- other records
@@ -93,10 +93,10 @@ TakesOver h = (place : ℕ) → ConnectStands h.machine.store.standing place →
 
 -- none goes on at the record, or it is pending
 abbrev pub ConnectIsOver : Here → ℕ → Type 0
-ConnectIsOver h place = ((o : OpenUdp) (op : Operation) → FoundUdp h place (Udp2Socket.Open o) → o.connecting ≡ Some op → ⊥) ⊎ ConnectStands h.machine.store.standing place
+ConnectIsOver h place = ((o : OpenUdp) (op : Operation) → FoundUdp h place (UdpRecord.Open o) → o.connecting ≡ Some op → ⊥) ⊎ ConnectStands h.machine.store.standing place
 
 -- none goes on where no open socket is
-pub no_open : (h : Here) (place : ℕ) → open_at h.machine.store.records place ≡ None → (o : OpenUdp) (op : Operation) → FoundUdp h place (Udp2Socket.Open o) → o.connecting ≡ Some op → ⊥
+pub no_open : (h : Here) (place : ℕ) → open_at h.machine.store.records place ≡ None → (o : OpenUdp) (op : Operation) → FoundUdp h place (UdpRecord.Open o) → o.connecting ≡ Some op → ⊥
 no_open h place e o op g c = absurd (let its : open_at h.machine.store.records place ≡ Some o = ap open_of g in cc)
 
 -- a call that is none takes over nothing
@@ -155,8 +155,8 @@ KeepsJobs records old now = (job : HostJob) → Has now job → Has old job ⊎ 
 -- a record to which no handle is any more: the one that it had was just dropped, or it is a UDP socket whose network socket is closed,
 -- or a lookup whose handle wasn't made
 pub data IsLeft (h : Here) (place : ℕ) : Type 0 where
-  OfTcp : (r : Tcp2Socket) → h.made ≡ Emptied (Tcp2 place) → Found h place r → IsLeft h place
-  OfUdp : (side : OpId) → FoundUdp h place (Udp2Socket.Closed side) → IsLeft h place
+  OfTcp : (r : TcpRecord) → h.made ≡ Emptied (Tcp2 place) → Found h place r → IsLeft h place
+  OfUdp : (side : OpId) → FoundUdp h place (UdpRecord.Closed side) → IsLeft h place
   OfLookup : (l : NameLookup) → h.made ≡ Emptied (Lookup place) → lookup_at h.machine.store.records place ≡ Some l → IsLeft h place
   OfUnnamed : (l : NameLookup) → h.made ≡ Numbered place h.machine.table.next → lookup_at h.machine.store.records place ≡ Some l → IsLeft h place
   OfInput : (bytes : List ℕ) → h.made ≡ Emptied (PlainInput (plain_input.Pipe place)) → input_pipe_at h.machine.store.records place ≡ Some bytes → IsLeft h place
@@ -168,12 +168,12 @@ without_record h place = record h { machine = record h.machine { store = given_b
 
 -- == a create
 -- a UDP socket that is there, and isn't closed
-abbrev pub IsOpenUdp : Udp2Socket → Type 0
-IsOpenUdp (Udp2Socket.Open o) = ⊤
+abbrev pub IsOpenUdp : UdpRecord → Type 0
+IsOpenUdp (UdpRecord.Open o) = ⊤
 IsOpenUdp _ = ⊥
 
 -- The record of a create that is done, which has no handle yet.
-pub record IsCreated (h : Here) (place : ℕ) (u : Udp2Socket) : Type 0 where
+pub record IsCreated (h : Here) (place : ℕ) (u : UdpRecord) : Type 0 where
   pub awaited : h.made ≡ Awaited place
   pub found : FoundUdp h place u
   pub opens : IsOpenUdp u
@@ -235,7 +235,7 @@ one_stream made n handle reached kind place (inr m) = inr m.0
 pub record HasNewStream (store : Records) (place : ℕ) : Type 0 where
   pub quiet : NoStartStands store.standing
   pub socket : OpenUdp
-  pub at : udp2_at store.records place ≡ Some (Udp2Socket.Open socket)
+  pub at : udp2_at store.records place ≡ Some (UdpRecord.Open socket)
   pub new : socket.incoming ≡ Some (record { remote = socket.inner.remote; receiving = Receiving.Nothing })
 
 -- == names

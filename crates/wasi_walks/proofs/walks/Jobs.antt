@@ -1,5 +1,5 @@
 -- The jobs of a store where some end, and where one begins on a record that is there.
-use Rattle.wasi_walks.proofs.Words.{Bool, List, Option, Some, Tcp2Socket, [], false, if◌then◌else◌, inl, inr, slice_get, subst, true, ℕ, ◌++◌, ◌∷◌, ◌≡◌, ◌⊎◌}
+use Rattle.wasi_walks.proofs.Words.{Bool, List, Option, Some, TcpRecord, [], false, if◌then◌else◌, inl, inr, slice_get, subst, true, ℕ, ◌++◌, ◌∷◌, ◌≡◌, ◌⊎◌}
 use Rattle.std.specs.Prelude.{is_some, not, ◌&&◌}
 use Rattle.wasi_host.specs.Cancel.{is_datagram_on, other_than_datagram}
 use Rattle.wasi_records.specs.Halves.{begins_job, has_job}
@@ -7,15 +7,15 @@ use Rattle.wasi_host.specs.Jobs.{is_receive_on, jobs_with, other_than_receive}
 use Rattle.wasi_records.specs.Records.{lookup_of, tcp2_at, tcp2_of, udp2_of}
 use Rattle.wasi_jobs.specs.declared.job.HostJob.{HostJob}
 use Rattle.wasi_records.specs.declared.records.Record.{Record}
-use Rattle.wasi_records.specs.declared.records.Record.TheVariants.{Lookup as LookupRecord, Tcp2, Udp2}
-use Rattle.wasi_records.specs.declared.udp.Udp2Socket.{Udp2Socket}
+use Rattle.wasi_records.specs.declared.records.Record.TheVariants.{Lookup as LookupRecord, Tcp, Udp}
+use Rattle.wasi_records.specs.declared.udp.UdpRecord.{UdpRecord}
 use Rattle.wasi_walks.specs.Licence.{Has}
 use Rattle.wasi_walks.proofs.Lists.{has_split}
 use Rattle.wasi_walks.proofs.walks.Moves.{IsRecord, KeepsJobs, job_place}
 
 -- == what is a record
-pub udp_is_record : (o : Option Record) (u : Udp2Socket) → udp2_of o ≡ Some u → IsRecord o
-udp_is_record (Some (Udp2 x)) u e = tt
+pub udp_is_record : (o : Option Record) (u : UdpRecord) → udp2_of o ≡ Some u → IsRecord o
+udp_is_record (Some (Udp x)) u e = tt
 udp_is_record _ u e = absurd (cc)
 
 pub lookup_is_record : (o : Option Record) → is_some (lookup_of o) ≡ true → IsRecord o
@@ -24,14 +24,14 @@ lookup_is_record _ e = absurd (cc)
 
 -- one that has a job is there
 with_job_is_record : (o : Option Record) → has_job (tcp2_of o) ≡ true → IsRecord o
-with_job_is_record (Some (Tcp2 x)) e = tt
+with_job_is_record (Some (Tcp x)) e = tt
 with_job_is_record _ e = absurd (cc)
 
 second : (a b : Bool) → not a && b ≡ true → b ≡ true
 second true b e = absurd (cc)
 second false b e = e
 
-pub begun_is_record : (records : List Record) (place : ℕ) (before : Option Tcp2Socket) → begins_job before (tcp2_at records place) ≡ true → IsRecord (slice_get records place)
+pub begun_is_record : (records : List Record) (place : ℕ) (before : Option TcpRecord) → begins_job before (tcp2_at records place) ≡ true → IsRecord (slice_get records place)
 begun_is_record records place before e = with_job_is_record (slice_get records place) (second (has_job before) (has_job (tcp2_at records place)) e)
 
 -- == one begins, or some end

@@ -2,7 +2,7 @@
 use Rattle.wasi_walks.proofs.walks.Moves.{Releases}
 use Rattle.wasi_walks.proofs.Words.{Accepting, Accepts, Allows, Ask, AskWrite, Asks, Begins, Bool, Call, End, Entry, Fits, Give, InProgress}
 use Rattle.wasi_walks.proofs.Words.{IsBacklogSet, Item, Kind, List, Listener, None, Not, OpId, Operation, Option, SocketAddressFamily, Some, Step}
-use Rattle.wasi_walks.proofs.Words.{Streams, Tcp2, Tcp2Socket, TcpState, Told, WasiSocketsCtx, [], accept_ended, after_local, allows_then}
+use Rattle.wasi_walks.proofs.Words.{Streams, Tcp2, TcpRecord, TcpState, Told, WasiSocketsCtx, [], accept_ended, after_local, allows_then}
 use Rattle.wasi_walks.proofs.Words.{allows_weaker, ap, bind, bind_progress, connect_ended, create_asks, entry, false, give_up_asks, if◌then◌else◌}
 use Rattle.wasi_walks.proofs.Words.{make_asks, own_of, poll_asks, refl, side_at, side_of, subst, sym, told_addr, true}
 use Rattle.wasi_walks.proofs.Words.{turn_asks, with_inner, with_listening, with_progress, with_state, with_writer, ℕ, ◌++◌, ◌∷◌, ◌≡◌}
@@ -27,7 +27,7 @@ Law contexts line origin = Rests contexts line origin (λ es h. ⊤)
 
 -- A write begins in a call of streams, of which a line may make more than one.
 pub data BeginsIn (h : Here) : Here → Type 0 where
-  InCall : (place n : ℕ) (r : Tcp2Socket) (s : Streams) (half : TcpSendStream) (permit : ℕ) (bytes : List ℕ) → h.at ≡ Some (place, n) → Found h place r → r.streams ≡ Some s → s.writer ≡ WriteState.Ready half permit → nat_lt permit (length bytes) ≡ false → h.own ≡ Used
+  InCall : (place n : ℕ) (r : TcpRecord) (s : Streams) (half : TcpSendStream) (permit : ℕ) (bytes : List ℕ) → h.at ≡ Some (place, n) → Found h place r → r.streams ≡ Some s → s.writer ≡ WriteState.Ready half permit → nat_lt permit (length bytes) ≡ false → h.own ≡ Used
       → BeginsIn h (record (put h place (with_writer r s (WriteState.Writing (new_job (own_of n) half.side bytes)))) { own = Used })
 
 -- What a law says of one. The law of what is permitted, which counts the bytes of a line's one write, says nothing of it.
@@ -37,7 +37,7 @@ pub record BeginsWrites {contexts : List WasiSocketsCtx} {line : ℕ} {origin : 
 -- the same by what is known of it
 pub begins_by : {contexts : List WasiSocketsCtx} {line : ℕ} {origin : Step} {B : List Entry → Here
     → Type 0} (law : Rests contexts line origin B)
-    → ((es : List Entry) (h : Here) (place n : ℕ) (r : Tcp2Socket) (s : Streams) (half : TcpSendStream) (permit : ℕ) (bytes : List ℕ) → h.at ≡ Some (place, n) → Found h place r → r.streams ≡ Some s → s.writer ≡ WriteState.Ready half permit → nat_lt permit (length bytes) ≡ false → h.own ≡ Used → B es h → law.Inv es h
+    → ((es : List Entry) (h : Here) (place n : ℕ) (r : TcpRecord) (s : Streams) (half : TcpSendStream) (permit : ℕ) (bytes : List ℕ) → h.at ≡ Some (place, n) → Found h place r → r.streams ≡ Some s → s.writer ≡ WriteState.Ready half permit → nat_lt permit (length bytes) ≡ false → h.own ≡ Used → B es h → law.Inv es h
     → law.Inv es (record (put h place (with_writer r s (WriteState.Writing (new_job (own_of n) half.side bytes)))) { own = Used }))
     → BeginsWrites law
 begins_by {B} law k = record { begins = by_case }
@@ -48,15 +48,15 @@ begins_by {B} law k = record { begins = by_case }
 
 -- A place that has a record.
 pub record HasRecord (h : Here) (place : ℕ) : Type 0 where
-  pub was : Tcp2Socket
+  pub was : TcpRecord
   pub found : Found h place was
 
-pub put_put : (h : Here) (place : ℕ) (r now : Tcp2Socket) → put (put h place r) place now ≡ put h place now
+pub put_put : (h : Here) (place : ℕ) (r now : TcpRecord) → put (put h place r) place now ≡ put h place now
 put_put h place r now =
     let f : List Record → Here = λ xs. record h { machine = record h.machine { store = record h.machine.store { records = xs } } } in
     ap f (put_twice tcp_sort h.machine.store.records place r now)
 
-pub put_same : (h : Here) (place : ℕ) (r : Tcp2Socket) → Found h place r → put h place r ≡ h
+pub put_same : (h : Here) (place : ℕ) (r : TcpRecord) → Found h place r → put h place r ≡ h
 put_same h place r e =
     let f : List Record → Here = λ xs. record h { machine = record h.machine { store = record h.machine.store { records = xs } } } in
     ap f (put_again tcp_sort h.machine.store.records place r e)
@@ -95,7 +95,7 @@ module _ {contexts : List WasiSocketsCtx} {line : ℕ} {origin : Step} where
   pub record Walks (law : Law contexts line origin) {A : Type 0} (h : Here) (end : A → Here) (asks : Asks A) : Type 0 where
     pub along : (es : List Entry) → law.Inv es h → Allows law.P (λ fs a. law.Inv fs (end a)) es asks
 
-pub found : {h : Here} {place : ℕ} → HasRecord h place → (r : Tcp2Socket) → Found (put h place r) place r
+pub found : {h : Here} {place : ℕ} → HasRecord h place → (r : TcpRecord) → Found (put h place r) place r
 found {h} {place} here r = put_finds tcp_sort h.machine.store.records place here.was r here.found
 
 pub spent : {h : Here} {place : ℕ} → HasRecord h place → HasRecord (record h { own = Used }) place
@@ -146,7 +146,7 @@ module _ {contexts : List WasiSocketsCtx} {line : ℕ} {origin : Step} {law : La
   pub mark : {h : Here} {kind : Kind} {parent : Option ℕ} {sock : Option OpId} → Marks origin h kind parent sock → Walks law h (λ made. record h { machine = record h.machine { table = made.1 } }) (make_asks h.machine.table (own_of line) kind parent sock)
   mark {h} {kind} {parent} {sock} m = record { along = λ es i. law.asks es h _ _ _ (MarksOne kind parent sock m) tt i }
 
-  pub accept : {h : Here} (c listener place : ℕ) (r : Tcp2Socket) → origin ≡ Step.TcpAccept c listener → h.made ≡ Joined place → h.own ≡ Used → Found h place r
+  pub accept : {h : Here} (c listener place : ℕ) (r : TcpRecord) → origin ≡ Step.TcpAccept c listener → h.made ≡ Joined place → h.own ≡ Used → Found h place r
       → Walks law h (λ made. record h { machine = record h.machine { table = made.1 }; made = made_so place made.0 }) (make_asks h.machine.table (own_of line) (Tcp2 place) (Some listener) (side_at (tcp2_at h.machine.store.records place)))
   accept {h} c listener place r is e o g = record { along = λ es i. law.asks es h _ _ _ (MarksAccepted c listener place r is e o g) tt i }
 
@@ -155,24 +155,24 @@ module _ {contexts : List WasiSocketsCtx} {line : ℕ} {origin : Step} {law : La
 
   -- == on the record of a place, whichever it is by now
   module _ {h : Here} {place : ℕ} (here : HasRecord h place) where
-    pub on : {A : Type 0} {end : A → Here} {asks : Asks A} (r now : Tcp2Socket) → Move line origin (put h place r) (put (put h place r) place now) → Walks law (put h place now) end asks → Walks law (put h place r) end asks
+    pub on : {A : Type 0} {end : A → Here} {asks : Asks A} (r now : TcpRecord) → Move line origin (put h place r) (put (put h place r) place now) → Walks law (put h place now) end asks → Walks law (put h place r) end asks
     on r now m w = move m (from (sym (put_put h place r now)) w)
 
-    pub ask : {A : Type 0} {n : ℕ} {end : A → Here} (r : Tcp2Socket) {side : OpId} {c : Call} {next : Told → Asks A} → h.at ≡ Some (place, n) → IsOn r side → IsQuestionOf line origin n side c → ((told : Told) → Fits c told → Walks law (put h place r) end (next told)) → Walks law (put h place r) end (Ask (own_of n) c next)
+    pub ask : {A : Type 0} {n : ℕ} {end : A → Here} (r : TcpRecord) {side : OpId} {c : Call} {next : Told → Asks A} → h.at ≡ Some (place, n) → IsOn r side → IsQuestionOf line origin n side c → ((told : Told) → Fits c told → Walks law (put h place r) end (next told)) → Walks law (put h place r) end (Ask (own_of n) c next)
     ask {n} r {side} {c} at o q k = record {
       along = λ es i.
           let a = law.asks es (put h place r) _ _ _ (Questions place n r side c at (found here r) o q) tt i in
           (a.0, λ told fits. (k told fits).along (es ++ entry (own_of n) c told ∷ []) (a.1 told fits));
     }
 
-    pub set : {A : Type 0} {end : A → Here} (r : Tcp2Socket) {side : OpId} {backlog : ℕ} {next : Told → Asks A} → h.at ≡ Some (place, line) → r.inner.state ≡ TcpState.Listening side → IsBacklogSet backlog origin → ((told : Told) → Walks law (put h place r) end (next told)) → Walks law (put h place r) end (Ask (own_of line) (Call.SetBacklog side backlog) next)
+    pub set : {A : Type 0} {end : A → Here} (r : TcpRecord) {side : OpId} {backlog : ℕ} {next : Told → Asks A} → h.at ≡ Some (place, line) → r.inner.state ≡ TcpState.Listening side → IsBacklogSet backlog origin → ((told : Told) → Walks law (put h place r) end (next told)) → Walks law (put h place r) end (Ask (own_of line) (Call.SetBacklog side backlog) next)
     set r {side} {backlog} at s b k = record {
       along = λ es i.
           let a = law.asks es (put h place r) _ _ _ (SetsBacklog place r side backlog at (found here r) s b) tt i in
           (a.0, λ told fits. (k told).along (es ++ entry (own_of line) (Call.SetBacklog side backlog) told ∷ []) (a.1 told fits));
     }
 
-    pub learn : {A : Type 0} {end : A → Here} (r : Tcp2Socket) {side : OpId} {next : Told → Asks A} → h.at ≡ Some (place, line) → r.inner.state ≡ TcpState.Default side → ((told : Told) → Walks law (put h place (with_inner r (after_local r.inner (told_addr told)).1)) end (next told)) → Walks law (put h place r) end (Ask (own_of line) (Call.Local side) next)
+    pub learn : {A : Type 0} {end : A → Here} (r : TcpRecord) {side : OpId} {next : Told → Asks A} → h.at ≡ Some (place, line) → r.inner.state ≡ TcpState.Default side → ((told : Told) → Walks law (put h place (with_inner r (after_local r.inner (told_addr told)).1)) end (next told)) → Walks law (put h place r) end (Ask (own_of line) (Call.Local side) next)
     learn r {side} at s k = record {
       along = λ es i.
           let a = law.asks es (put h place r) _ _ _ (Learns place r side at (found here r) s) tt i in (
@@ -184,22 +184,22 @@ module _ {contexts : List WasiSocketsCtx} {line : ℕ} {origin : Step} {law : La
     }
 
     -- a poll, and what becomes of the record
-    polled : (r : Tcp2Socket) {op : Operation} (now : End × List Item → Tcp2Socket) → Held (put h place r) op (λ ended. put (put h place r) place (now ended)) → Walks law (put h place r) (λ ended. put h place (now ended)) (poll_asks op)
+    polled : (r : TcpRecord) {op : Operation} (now : End × List Item → TcpRecord) → Held (put h place r) op (λ ended. put (put h place r) place (now ended)) → Walks law (put h place r) (λ ended. put h place (now ended)) (poll_asks op)
     polled r {op} now held = ends (λ ended. put_put h place r (now ended)) (record { along = λ es i. law.asks es (put h place r) _ _ _ (Polls op _ held) tt i })
 
-    pub poll_bind : (r : Tcp2Socket) (op : Operation) → NoStart h → r.in_progress ≡ InProgress.Binding op → Walks law (put h place r) (λ ended. put h place (with_progress r (bind_progress op ended))) (poll_asks op)
+    pub poll_bind : (r : TcpRecord) (op : Operation) → NoStart h → r.in_progress ≡ InProgress.Binding op → Walks law (put h place r) (λ ended. put h place (with_progress r (bind_progress op ended))) (poll_asks op)
     poll_bind r op q e = polled r _ (BindsOn place r op q (found here r) e)
 
-    pub connect : (r : Tcp2Socket) (op : Operation) → r.inner.state ≡ TcpState.Connecting op → Walks law (put h place r) (λ ended. put h place (with_inner r (with_state r.inner (connect_ended op.who ended).1))) (poll_asks op)
+    pub connect : (r : TcpRecord) (op : Operation) → r.inner.state ≡ TcpState.Connecting op → Walks law (put h place r) (λ ended. put h place (with_inner r (with_state r.inner (connect_ended op.who ended).1))) (poll_asks op)
     connect r op e = polled r _ (Connects place r op (found here r) e)
 
-    pub listen : (r : Tcp2Socket) (op : Operation) → NoStart h → r.listening ≡ Begins op → side_of r.inner ≡ None → Walks law (put h place r) (λ ended. put h place (listen_after op r ended)) (poll_asks op)
+    pub listen : (r : TcpRecord) (op : Operation) → NoStart h → r.listening ≡ Begins op → side_of r.inner ≡ None → Walks law (put h place r) (λ ended. put h place (listen_after op r ended)) (poll_asks op)
     listen r op q e c = polled r _ (Listens place r op q (found here r) e c)
 
-    pub await : (r : Tcp2Socket) (l : Listener) (op : Operation) → r.listening ≡ Accepts l → l.accept ≡ Accepting.Asking op → Walks law (put h place r) (λ ended. put h place (accepting_now r l (accept_ended op.who ended))) (poll_asks op)
+    pub await : (r : TcpRecord) (l : Listener) (op : Operation) → r.listening ≡ Accepts l → l.accept ≡ Accepting.Asking op → Walks law (put h place r) (λ ended. put h place (accepting_now r l (accept_ended op.who ended))) (poll_asks op)
     await r l op e a = polled r _ (Awaits place r l op (found here r) e a)
 
-    pub turn : (r : Tcp2Socket) (s : Streams) → r.streams ≡ Some s → Walks law (put h place r) (λ done. put h place (with_writer r s done.1)) (turn_asks s.writer)
+    pub turn : (r : TcpRecord) (s : Streams) → r.streams ≡ Some s → Walks law (put h place r) (λ done. put h place (with_writer r s done.1)) (turn_asks s.writer)
     turn r s e = record {
       along = λ es i.
           allows_weaker law.P (λ fs done. law.Inv fs (put (put h place r) place (with_writer r s done.1))) (λ fs done. law.Inv fs (put h place (with_writer r s done.1)))
@@ -207,10 +207,10 @@ module _ {contexts : List WasiSocketsCtx} {line : ℕ} {origin : Step} {law : La
     }
 
     -- the record goes: its listening is released, and its network socket is closed
-    pub give_up : (r : Tcp2Socket) → NoStart h → Walks law (put h place r) (λ done. put h place (with_listening r Not)) (give_up_asks r.listening)
+    pub give_up : (r : TcpRecord) → NoStart h → Walks law (put h place r) (λ done. put h place (with_listening r Not)) (give_up_asks r.listening)
     give_up r q = ends (λ done. put_put h place r (with_listening r Not)) (record { along = λ es i. law.asks es (put h place r) _ _ _ (GivesUp place r q (found here r)) tt i })
 
-    pub close : {A : Type 0} {end : A → Here} (r : Tcp2Socket) {side : OpId} {next : Told → Asks A} → Releases h place → side_of r.inner ≡ Some side → ((told : Told) → Walks law (put h place (closed_record r)) end (next told)) → Walks law (put h place r) end (Ask (own_of line) (Call.Close side) next)
+    pub close : {A : Type 0} {end : A → Here} (r : TcpRecord) {side : OpId} {next : Told → Asks A} → Releases h place → side_of r.inner ≡ Some side → ((told : Told) → Walks law (put h place (closed_record r)) end (next told)) → Walks law (put h place r) end (Ask (own_of line) (Call.Close side) next)
     close r {side} q e k = record {
       along = λ es i.
           let a = law.asks es (put h place r) _ _ _ (Closes place r side q (found here r) e) tt i in (

@@ -1,6 +1,6 @@
 -- The steps of listens and accepts, as moves.
 use Rattle.wasi_walks.proofs.Words.{Accepts, Answer, Bool, Err, ErrorCode, Give, HandleTable, Has, IsListenStep, List, Listening, Machine, None, Ok, Option}
-use Rattle.wasi_walks.proofs.Words.{Ready, Records, Result, Socket, Some, StandingCall, Step, Stop, Tcp2Socket, WasiSocketsCtx, accept_answered}
+use Rattle.wasi_walks.proofs.Words.{Ready, Records, Result, Socket, Some, StandingCall, Step, Stop, TcpRecord, WasiSocketsCtx, accept_answered}
 use Rattle.wasi_walks.proofs.Words.{accept_at, accept_end, accept_listening, accept_on, accepted_asks, accepted_record, accepted_streams, false}
 use Rattle.wasi_walks.proofs.Words.{first_ids, handles_of, is_nothing, kept_accepted, kind_at, make_asks, own_of, refl, side_at}
 use Rattle.wasi_walks.proofs.Words.{socket_at, start_listen_at, start_listen_by, true, with_records, with_store, socket_with_streams, with_table, ℕ, ⊤, ◌≡◌}
@@ -16,34 +16,34 @@ use Rattle.wasi_records.specs.Records.{tcp2_at, tcp2_put}
 
 module _ {contexts : List WasiSocketsCtx} {line : ℕ} {origin : Step} {law : Law contexts line origin} where
   -- == a listen
-  start_listen_by_walks : (m : Machine) (place : ℕ) (r : Tcp2Socket) (idle : Bool) → is_nothing r.in_progress ≡ idle → Found (At line m place Unused) place r → IsListenStep origin → NoStartStands m.store.standing → Walks law (At line m place Unused) (Put line m place) (start_listen_by m.store (first_ids line) place r idle)
+  start_listen_by_walks : (m : Machine) (place : ℕ) (r : TcpRecord) (idle : Bool) → is_nothing r.in_progress ≡ idle → Found (At line m place Unused) place r → IsListenStep origin → NoStartStands m.store.standing → Walks law (At line m place Unused) (Put line m place) (start_listen_by m.store (first_ids line) place r idle)
   start_listen_by_walks m place r true e g is q =
       from (put_same (At line m place Unused) place r g) (and_given (WaitsSo (StandingCall.Listen place)) (begun_listen_given place (own_of line) r) (begin_listen_walks (there g) refl is refl q r e) (λ begun w. answered_walks m (first_ids line) (StandingCall.Listen place) q begun (record { was = r; found = g }) w))
   start_listen_by_walks m place r false e g is q = gives _ (Spends _ refl)
 
-  pub start_listen_at_walks : (m : Machine) (place : ℕ) (o : Option Tcp2Socket) → tcp2_at m.store.records place ≡ o → IsListenStep origin → NoStartStands m.store.standing → Walks law (At line m place Unused) (Put line m place) (start_listen_at m.store (first_ids line) place o)
+  pub start_listen_at_walks : (m : Machine) (place : ℕ) (o : Option TcpRecord) → tcp2_at m.store.records place ≡ o → IsListenStep origin → NoStartStands m.store.standing → Walks law (At line m place Unused) (Put line m place) (start_listen_at m.store (first_ids line) place o)
   start_listen_at_walks m place None g is q = gives _ (Spends _ refl)
   start_listen_at_walks m place (Some r) g is q = start_listen_by_walks m place r (is_nothing r.in_progress) refl g is q
 
   -- == an accept
 
   module _ (c s : ℕ) (is : origin ≡ Step.TcpAccept c s) (m : Machine) (place : ℕ) (k : record_of (kind_at m.table s) ≡ Some place) where
-    answered_so : (r : Tcp2Socket) (joined : Result (Unit {0}) Stop × Tcp2Socket) → Walks law (joined_if (Watching line m place Used) place r joined) (AcceptedSo line m place) (Give (with_records m.store (kept_accepted (tcp2_put m.store.records place r) joined)))
+    answered_so : (r : TcpRecord) (joined : Result (Unit {0}) Stop × TcpRecord) → Walks law (joined_if (Watching line m place Used) place r joined) (AcceptedSo line m place) (Give (with_records m.store (kept_accepted (tcp2_put m.store.records place r) joined)))
     answered_so r (Ok done, now) = give _
     answered_so r (Err why, now) = give _
 
-    accept_answered_walks : (done : Result (Answer Socket) ErrorCode × Tcp2Socket) → Walks law (Took (Watching line m place Used) place done) (AcceptedSo line m place) (Give (accept_answered m.store place done))
+    accept_answered_walks : (done : Result (Answer Socket) ErrorCode × TcpRecord) → Walks law (Took (Watching line m place Used) place done) (AcceptedSo line m place) (Give (accept_answered m.store place done))
     accept_answered_walks (Ok (Ready socket), r) = answered_so r (accepted_record socket)
     accept_answered_walks _ = give _
 
-    accept_listening_walks : (r : Tcp2Socket) (l : Listening) → r.listening ≡ l → tcp2_at m.store.records place ≡ Some r → Walks law (put (Watching line m place (Names 1)) place r) (Took (Watching line m place Used) place) (accept_listening (first_ids line) r l)
+    accept_listening_walks : (r : TcpRecord) (l : Listening) → r.listening ≡ l → tcp2_at m.store.records place ≡ Some r → Walks law (put (Watching line m place (Names 1)) place r) (Took (Watching line m place Used) place) (accept_listening (first_ids line) r l)
     accept_listening_walks r (Accepts l) e g =
         let begins = not (has_accept l.accept) in
         and_then (listener_walks (there g) refl r l (accept_end l) 1 l.accept e refl (λ b. (refl, refl))
         (λ now. move (SpendsNames _ (part_after 1 begins) (after_names 1 begins)) (takes_walks {h = Watching line m place Used} (there {h = Watching line m place Used} {place = place} g) c s is k refl r l now))) (λ done. give _)
     accept_listening_walks r _ e g = gives _ (SpendsNames _ 1 refl)
 
-    accept_at_walks : (o : Option Tcp2Socket) → tcp2_at m.store.records place ≡ o → Walks law (Watching line m place (Names 1)) (AcceptedSo line m place) (accept_at m.store (first_ids line) place o)
+    accept_at_walks : (o : Option TcpRecord) → tcp2_at m.store.records place ≡ o → Walks law (Watching line m place (Names 1)) (AcceptedSo line m place) (accept_at m.store (first_ids line) place o)
     accept_at_walks None g = gives _ (SpendsNames _ 1 refl)
     accept_at_walks (Some r) g = from (put_same (Watching line m place (Names 1)) place r g) (and_then (accept_listening_walks r r.listening refl g) accept_answered_walks)
 

@@ -3,7 +3,7 @@
 use Rattle.wasi_walks.proofs.walks.Jobs.{one_begins, udp_is_record}
 use Rattle.std.specs.Prelude.{slice_get}
 use Rattle.std.specs.Prelude.{◌≡◌, ℕ, ◌+◌, not, Bool, true, false, List, Option, Some, None, Result, Ok}
-use Rattle.wasi_walks.proofs.Words.{Accepts, Asks, Give, Has, InProgress, Listening, Machine, Records, Step, Stop, Tcp2Socket, WasiSocketsCtx, Watched}
+use Rattle.wasi_walks.proofs.Words.{Accepts, Asks, Give, Has, InProgress, Listening, Machine, Records, Step, Stop, TcpRecord, WasiSocketsCtx, Watched}
 use Rattle.wasi_walks.proofs.Words.{ap, bind, handles_of, if◌then◌else◌, is_connect, is_nothing, kind_at, own_of, place_in, ready_on, refl, subst, sym, watch_of, with_listening, with_store, ready_end, ◌∙◌}
 use Rattle.wasi_world.specs.declared.ids.Ids.{Ids}
 use Rattle.wasi_host.specs.DatagramCalls.{begins_receive, ready_incoming_at}
@@ -20,7 +20,7 @@ use Rattle.wasi_records.specs.declared.datagrams.Incoming.{Incoming}
 use Rattle.wasi_records.specs.declared.datagrams.Receiving.{Receiving}
 use Rattle.wasi_jobs.specs.declared.job.HostJob.TheVariants.{Receive}
 use Rattle.wasi_records.specs.declared.udp.OpenUdp.{OpenUdp}
-use Rattle.wasi_records.specs.declared.udp.Udp2Socket.{Udp2Socket}
+use Rattle.wasi_records.specs.declared.udp.UdpRecord.{UdpRecord}
 use Rattle.wasi_tcp.specs.Listener.{has_accept}
 use Rattle.wasi_walks.specs.Licence.{Receives}
 use Rattle.wasi_walks.proofs.walks.Here.{MayBegin, after}
@@ -43,7 +43,7 @@ abbrev pub names_from : ℕ → ℕ → Ids
 names_from n part = record { line = n; next_part = part }
 
 -- a socket that connects isn't idle
-pub connecting_begins : (r : Tcp2Socket) → is_connect r.in_progress ≡ true → socket_begins r ≡ false
+pub connecting_begins : (r : TcpRecord) → is_connect r.in_progress ≡ true → socket_begins r ≡ false
 connecting_begins r e = by_progress r.in_progress e
   where
     by_progress : (doing : InProgress) → is_connect doing ≡ true → (if is_nothing doing then begins_accept r.listening else false) ≡ false
@@ -54,20 +54,20 @@ module _ {contexts : List WasiSocketsCtx} {line : ℕ} {origin : Step} (law : La
   -- == at a TCP socket
   module _ {h : Here} {place n : ℕ} (here : HasRecord h place) (at : h.at ≡ Some (place, n)) (part : ℕ) where
     -- what it leaves of the record, and what began
-    abbrev After : {A : Type 0} → Bool → A × Tcp2Socket → Here
+    abbrev After : {A : Type 0} → Bool → A × TcpRecord → Here
     After begins done = record (put h place done.1) { own = after h.own part begins }
 
-    listening_walks : (r : Tcp2Socket) (l : Listening) → r.listening ≡ l → MayBegin line n part h.own (begins_accept l) → Walks law (put h place r) (After (begins_accept l)) (ready_listening (names_from n part) r l)
+    listening_walks : (r : TcpRecord) (l : Listening) → r.listening ≡ l → MayBegin line n part h.own (begins_accept l) → Walks law (put h place r) (After (begins_accept l)) (ready_listening (names_from n part) r l)
     listening_walks r (Accepts l) e may =
         let begins = not (has_accept l.accept) in
         and_then {mid = λ done. record (put h place (with_listening r (Accepts done.1))) { own = after h.own part begins }} (listener_walks here at r l (ready_end l) part l.accept e refl may (λ now. give _)) (λ done. give _)
     listening_walks r _ e may = give _
 
-    idle_walks : (r : Tcp2Socket) (idle : Bool) → (let begins = if idle then begins_accept r.listening else false in MayBegin line n part h.own begins → Walks law (put h place r) (After begins) (ready_idle (names_from n part) r idle))
+    idle_walks : (r : TcpRecord) (idle : Bool) → (let begins = if idle then begins_accept r.listening else false in MayBegin line n part h.own begins → Walks law (put h place r) (After begins) (ready_idle (names_from n part) r idle))
     idle_walks r true may = listening_walks r r.listening refl may
     idle_walks r false may = give _
 
-    socket_walks : (r : Tcp2Socket) (connects : Bool) → is_connect r.in_progress ≡ connects → MayBegin line n part h.own (socket_begins r) → Walks law (put h place r) (After (socket_begins r)) (ready_socket_by (names_from n part) r connects)
+    socket_walks : (r : TcpRecord) (connects : Bool) → is_connect r.in_progress ≡ connects → MayBegin line n part h.own (socket_begins r) → Walks law (put h place r) (After (socket_begins r)) (ready_socket_by (names_from n part) r connects)
     socket_walks r true e may = ends (λ done. ap (λ (b : Bool). After b done) (sym (connecting_begins r e))) (and_then (finish_walks here r) (λ done. give _))
     socket_walks r false e may = idle_walks r (is_nothing r.in_progress) may
 
@@ -75,18 +75,18 @@ module _ {contexts : List WasiSocketsCtx} {line : ℕ} {origin : Step} (law : La
   module _ {h : Here} {place : ℕ} (here : HasUdp h place) (n part : ℕ) where
     -- a receive begins, unless the stream has one, or its result
     fetch_walks : (o : OpenUdp) (inc : Incoming) (receiving : Receiving) → inc.receiving ≡ receiving → (has_none receiving ≡ true → (h.at ≡ Some (place, line)) × Receives origin) → MayBegin line n part h.own (has_none receiving)
-        → Walks law (put_udp h place (Udp2Socket.Open (with_incoming o (o.inner, inc)))) (λ now. record (put_udp h place (Udp2Socket.Open now)) { own = after h.own part (has_none receiving) }) (bind (fetch_asks (part_of n part) receiving (o.inner, inc)) (λ s. Give (with_incoming o s)))
+        → Walks law (put_udp h place (UdpRecord.Open (with_incoming o (o.inner, inc)))) (λ now. record (put_udp h place (UdpRecord.Open now)) { own = after h.own part (has_none receiving) }) (bind (fetch_asks (part_of n part) receiving (o.inner, inc)) (λ s. Give (with_incoming o s)))
     unfolding bind
     fetch_walks o inc Receiving.Nothing e at may =
         let its = may refl in
-        let old = Udp2Socket.Open (with_incoming o (o.inner, inc)) in
+        let old = UdpRecord.Open (with_incoming o (o.inner, inc)) in
         from (ap (λ (own : Own). record (put_udp h place old) { own = own }) (sym its.1))
-        (subst (λ (x : ℕ). Walks law (record (put_udp h place old) { own = Names part }) (λ now. record (put_udp h place (Udp2Socket.Open now)) { own = Names (part + 1) }) (bind (fetch_asks (part_of x part) Receiving.Nothing (o.inner, inc)) (λ s. Give (with_incoming o s)))) (sym its.0)
+        (subst (λ (x : ℕ). Walks law (record (put_udp h place old) { own = Names part }) (λ now. record (put_udp h place (UdpRecord.Open now)) { own = Names (part + 1) }) (bind (fetch_asks (part_of x part) Receiving.Nothing (o.inner, inc)) (λ s. Give (with_incoming o s)))) (sym its.0)
         (and_then (begun_walks here (at refl).0 (at refl).1 part o o.inner inc e) (λ s. give _)))
     fetch_walks o inc _ e at may = give _
 
     incoming_walks : (o : OpenUdp) (inc : Option Incoming) → o.incoming ≡ inc → (would_receive inc ≡ true → (h.at ≡ Some (place, line)) × Receives origin) → MayBegin line n part h.own (would_receive inc)
-        → Walks law (put_udp h place (Udp2Socket.Open o)) (λ now. record (put_udp h place (Udp2Socket.Open now)) { own = after h.own part (would_receive inc) }) (look_incoming (names_from n part) o inc)
+        → Walks law (put_udp h place (UdpRecord.Open o)) (λ now. record (put_udp h place (UdpRecord.Open now)) { own = after h.own part (would_receive inc) }) (look_incoming (names_from n part) o inc)
     incoming_walks o None e at may = give _
     incoming_walks o (Some inc) e at may = from (incoming_is h place o inc e) (fetch_walks o inc inc.receiving refl at may)
 
@@ -95,21 +95,21 @@ module _ {contexts : List WasiSocketsCtx} {line : ℕ} {origin : Step} (law : La
     abbrev On : ℕ → Here
     On place = Looking n handles (Some (place, n)) own m
 
-    socket_at : (place : ℕ) (o : Option Tcp2Socket) → tcp2_at m.store.records place ≡ o → MayBegin line n part own (tcp_begins o)
+    socket_at : (place : ℕ) (o : Option TcpRecord) → tcp2_at m.store.records place ≡ o → MayBegin line n part own (tcp_begins o)
         → Walks law (On place) (λ done. Looking n handles (Some (place, n)) (after own part (tcp_begins o)) (record m { store = done.1 })) (ready_at m.store (own_of n) (names_from n part) (Watched.Socket place) place o)
     socket_at place None g may = give _
     socket_at place (Some r) g may = from (put_same (On place) place r g) (and_then (socket_walks (there {h = On place} g) refl part r (is_connect r.in_progress) refl may) (λ done. give _))
 
-    input_at : (place : ℕ) (o : Option Tcp2Socket) → tcp2_at m.store.records place ≡ o → Walks law (On place) (λ done. Looking n handles (Some (place, n)) own (record m { store = done.1 })) (ready_at m.store (own_of n) (names_from n part) (Watched.Input place) place o)
+    input_at : (place : ℕ) (o : Option TcpRecord) → tcp2_at m.store.records place ≡ o → Walks law (On place) (λ done. Looking n handles (Some (place, n)) own (record m { store = done.1 })) (ready_at m.store (own_of n) (names_from n part) (Watched.Input place) place o)
     input_at place None g = give _
     input_at place (Some r) g = from (put_same (On place) place r g) (and_then (ready_reader_walks (there {h = On place} g) refl r r.streams refl) (λ done. give _))
 
-    output_at : (place : ℕ) (o : Option Tcp2Socket) → tcp2_at m.store.records place ≡ o → Walks law (On place) (λ done. Looking n handles (Some (place, n)) own (record m { store = done.1 })) (ready_at m.store (own_of n) (names_from n part) (Watched.Output place) place o)
+    output_at : (place : ℕ) (o : Option TcpRecord) → tcp2_at m.store.records place ≡ o → Walks law (On place) (λ done. Looking n handles (Some (place, n)) own (record m { store = done.1 })) (ready_at m.store (own_of n) (names_from n part) (Watched.Output place) place o)
     output_at place None g = give _
     output_at place (Some r) g = from (put_same (On place) place r g) (and_then (ready_writer_walks (there {h = On place} g) refl r r.streams refl) (λ done. give _))
 
     -- a receive that begins is a job
-    listed_at : (at : Option (ℕ × ℕ)) (now : Own) (place : ℕ) (ready : Bool) (store : Records) (begins : Bool) (u : Udp2Socket) → udp2_at store.records place ≡ Some u → (let done : Result Bool Stop × Records = (Ok ready, with_job store (Receive place) begins) in Walks law (Looking n handles at now (record m { store = store })) (λ done. Looking n handles at now (record m { store = done.1 })) (Give done))
+    listed_at : (at : Option (ℕ × ℕ)) (now : Own) (place : ℕ) (ready : Bool) (store : Records) (begins : Bool) (u : UdpRecord) → udp2_at store.records place ≡ Some u → (let done : Result Bool Stop × Records = (Ok ready, with_job store (Receive place) begins) in Walks law (Looking n handles at now (record m { store = store })) (λ done. Looking n handles at now (record m { store = done.1 })) (Give done))
     listed_at at now place ready store true u e = gives _ (Lists _ _ (one_begins store.records store.jobs (Receive place) (udp_is_record (slice_get store.records place) u e)))
     listed_at at now place ready store false u e = give _
 
@@ -118,9 +118,9 @@ module _ {contexts : List WasiSocketsCtx} {line : ℕ} {origin : Step} (law : La
     incoming_at at place None g named may = give _
     incoming_at at place (Some o) g named may =
         let h = Looking n handles at own m in
-        let found : FoundUdp h place (Udp2Socket.Open o) = open_is (udp2_at m.store.records place) o g in
-        from (udp_put_same h place (Udp2Socket.Open o) found)
-        (and_then (incoming_walks (udp_there {h = h} found) n part o o.incoming refl named may) (λ now. listed_at at (after own part (would_receive o.incoming)) place (not (receives now.incoming)) (with_open_udp m.store place now) (begins_receive o now) (Udp2Socket.Open now) (put_finds udp_sort m.store.records place (Udp2Socket.Open o) (Udp2Socket.Open now) found)))
+        let found : FoundUdp h place (UdpRecord.Open o) = open_is (udp2_at m.store.records place) o g in
+        from (udp_put_same h place (UdpRecord.Open o) found)
+        (and_then (incoming_walks (udp_there {h = h} found) n part o o.incoming refl named may) (λ now. listed_at at (after own part (would_receive o.incoming)) place (not (receives now.incoming)) (with_open_udp m.store place now) (begins_receive o now) (UdpRecord.Open now) (put_finds udp_sort m.store.records place (UdpRecord.Open o) (UdpRecord.Open now) found)))
 
     -- A look leaves the line at the record of one of its handles, or where it was.
     pub record Looked (at : Option (ℕ × ℕ)) (now : Own) (asks : Asks (Result Bool Stop × Machine)) : Type 0 where

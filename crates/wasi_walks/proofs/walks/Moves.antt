@@ -3,7 +3,7 @@
 use Rattle.wasi_walks.proofs.Words.{Accepting, Accepts, Begins, Bool, Call, Connection, End, Err, ErrorCode, Has, InProgress, Input}
 use Rattle.wasi_walks.proofs.Words.{IpSocketAddress, IsBindTo, IsConnectTo, IsListenStep, Item, Job, Kind, List, Listener, Listening, Network, None, Not}
 use Rattle.wasi_walks.proofs.Words.{Ok, OpId, Operation, Option, Other, Output, Pollable, ReadState, Result, SocketAddressFamily, Some, Standing}
-use Rattle.wasi_walks.proofs.Words.{StandingCall, Step, Stop, Streams, Tcp2, Tcp2Socket, TcpReceiveStream, TcpSendStream, TcpState, WasiSocketsCtx}
+use Rattle.wasi_walks.proofs.Words.{StandingCall, Step, Stop, Streams, Tcp2, TcpRecord, TcpReceiveStream, TcpSendStream, TcpState, WasiSocketsCtx}
 use Rattle.wasi_walks.proofs.Words.{Watched, WriteState, accept_ended, accept_operation, accepted_record, accepted_socket, accepted_state}
 use Rattle.wasi_walks.proofs.Words.{bind_operation, bind_progress, call_place, closing_job, collected, connect_ended, connect_first}
 use Rattle.wasi_walks.proofs.Words.{connect_operation, context_at, false, gone, handles_of, is_connect, is_nothing, is_over, kind_at, length}
@@ -40,7 +40,7 @@ use Rattle.wasi_udp.specs.Connect.{connect_start}
 use Rattle.wasi_udp.specs.Receive.{receive_start, wanting}
 use Rattle.wasi_udp.specs.Send.{at_remote, send_start}
 use Rattle.wasi_records.specs.declared.udp.OpenUdp.{OpenUdp}
-use Rattle.wasi_records.specs.declared.udp.Udp2Socket.{Udp2Socket}
+use Rattle.wasi_records.specs.declared.udp.UdpRecord.{UdpRecord}
 use Rattle.wasi_records.specs.declared.udp.UdpInProgress.{UdpInProgress}
 use Rattle.wasi_records.specs.Udp.{is_udp_idle, udp_bind_progress, udp_create_left, with_udp_progress}
 use Rattle.wasi_host.specs.UdpCreates.{udp_side_at, with_create}
@@ -86,7 +86,7 @@ HasListen (Begins op) = StartsTold op.left
 HasListen _ = ⊥
 
 -- where a bind or a listen is to be pending, it is in progress
-abbrev pub GoesOn : StandingCall → Tcp2Socket → Type 0
+abbrev pub GoesOn : StandingCall → TcpRecord → Type 0
 GoesOn (StandingCall.Bind place) r = HasBinding r.in_progress
 GoesOn (StandingCall.Listen place) r = HasListen r.listening
 GoesOn (StandingCall.DropOutput place) r = ⊤
@@ -121,7 +121,7 @@ IsUdpQuestionOf line origin n side (Call.UdpDisconnect s) = (s ≡ side) × (n �
 IsUdpQuestionOf line origin n side _ = ⊥
 
 -- the network socket is the socket's, or that of one of its halves
-pub data IsOn (r : Tcp2Socket) (side : OpId) : Type 0 where
+pub data IsOn (r : TcpRecord) (side : OpId) : Type 0 where
   OfSocket : side_of r.inner ≡ Some side → IsOn r side
   OfReader : (s : Streams) (half : TcpReceiveStream) → r.streams ≡ Some s → s.reader ≡ ReadState.Open half → half.side ≡ side → IsOn r side
   OfWriter : (s : Streams) → r.streams ≡ Some s → writer_side s.writer ≡ Some side → IsOn r side
@@ -137,7 +137,7 @@ TakesNone c now = (now.receive_taken ≡ c.receive_taken) × (now.send_taken ≡
 
 -- The network socket, the streams and the listening are as they were, and so is what the socket does, and a bind in progress. A
 -- connect is in progress only where one was, or where the socket connects.
-pub record Plain (old now : Tcp2Socket) : Type 0 where
+pub record Plain (old now : TcpRecord) : Type 0 where
   pub side : now.side ≡ old.side
   pub streams : now.streams ≡ old.streams
   pub listening : now.listening ≡ old.listening
@@ -261,7 +261,7 @@ pub record IsOpened (h : Here) (handle place : ℕ) : Type 0 where
 pub data Marks (origin : Step) (h : Here) : Kind → Option ℕ → Option OpId → Type 0 where
   ANetwork : (c : ℕ) → origin ≡ Step.Network c → Marks origin h Network None None
   AStream : (c handle place : ℕ) (kind : Kind) → origin ≡ Step.TcpFinishConnect c handle → (kind ≡ Input place) ⊎ (kind ≡ Output place) → IsOpened h handle place → Marks origin h kind (Some handle) (side_at (tcp2_at h.machine.store.records place))
-  AnAcceptedStream : (c listener handle place : ℕ) (kind : Kind) (r : Tcp2Socket) → origin ≡ Step.TcpAccept c listener → (kind ≡ Input place) ⊎ (kind ≡ Output place) → h.made ≡ Marked handle place → h.own ≡ Used → Found h place r → Marks origin h kind (Some handle) (side_at (tcp2_at h.machine.store.records place))
+  AnAcceptedStream : (c listener handle place : ℕ) (kind : Kind) (r : TcpRecord) → origin ≡ Step.TcpAccept c listener → (kind ≡ Input place) ⊎ (kind ≡ Output place) → h.made ≡ Marked handle place → h.own ≡ Used → Found h place r → Marks origin h kind (Some handle) (side_at (tcp2_at h.machine.store.records place))
   APollable : (c handle : ℕ) (w : Watched) → origin ≡ Step.Subscribe c handle → tcp_place w ≡ Some (place_in w) → record_of (kind_at h.machine.table handle) ≡ Some (place_in w) → watched_by (kind_at h.machine.table handle) ≡ Some w → Marks origin h (Pollable w) (Some handle) (side_at (tcp2_at h.machine.store.records (place_in w)))
   AUdpPollable : (c handle : ℕ) (w : Watched) → origin ≡ Step.Subscribe c handle → udp_place w ≡ Some (place_in w) → udp_record_of (kind_at h.machine.table handle) ≡ Some (place_in w) → watched_by (kind_at h.machine.table handle) ≡ Some w → Marks origin h (Pollable w) (Some handle) (udp_side_at (udp2_at h.machine.store.records (place_in w)))
   ALookup : (c network place : ℕ) (name : List ℕ) → origin ≡ Step.Resolve c network name → is_some (lookup_at h.machine.store.records place) ≡ true → h.made ≡ Numbered place h.machine.table.next → Marks origin h (Lookup place) (Some network) None
@@ -270,23 +270,23 @@ pub data Marks (origin : Step) (h : Here) : Kind → Option ℕ → Option OpId 
   APlainPollable : (c handle : ℕ) → origin ≡ Step.Subscribe c handle → watched_by (kind_at h.machine.table handle) ≡ Some Watched.Plain → Marks origin h (Pollable Watched.Plain) (Some handle) None
 
 -- == records of a bind
-abbrev pub begun_bind : OpId → OpId → Tcp2Socket → IpSocketAddress → Operation
+abbrev pub begun_bind : OpId → OpId → TcpRecord → IpSocketAddress → Operation
 begun_bind own side r a = bind_operation (record { op = own; side = side; maker = r.inner.maker }) a Check
 
 -- == records of a listen and of a listener
 -- a listen begins, and takes the network socket
-abbrev pub begun_listen : OpId → OpId → Tcp2Socket → Operation
+abbrev pub begun_listen : OpId → OpId → TcpRecord → Operation
 begun_listen own side r = listen_operation (record { op = own; side = side; maker = r.inner.maker }) (wildcard r.inner.family) r.inner.backlog (listen_first true)
 
-abbrev pub beginning_listen : OpId → OpId → Tcp2Socket → Tcp2Socket
+abbrev pub beginning_listen : OpId → OpId → TcpRecord → TcpRecord
 beginning_listen own side r = record r { inner = with_state r.inner (TcpState.Closed Other); listening = Begins (begun_listen own side r) }
 
 -- it was polled
-abbrev pub listen_after : Operation → Tcp2Socket → End × List Item → Tcp2Socket
+abbrev pub listen_after : Operation → TcpRecord → End × List Item → TcpRecord
 listen_after op r ended = (listen_polled r (listen_ended op.who r.inner ended)).1
 
 -- the listener's accept is this
-abbrev pub accepting_now : Tcp2Socket → Listener → Accepting → Tcp2Socket
+abbrev pub accepting_now : TcpRecord → Listener → Accepting → TcpRecord
 accepting_now r l a = with_listening r (Accepts (with_accept l a))
 
 -- a new accept has this name
@@ -294,11 +294,11 @@ abbrev pub new_accept : OpId → Listener → Accepting
 new_accept name l = Accepting.Asking (accept_operation (record { op = name; side = l.side; maker = l.maker }) accept.Accept)
 
 -- what was accepted
-abbrev pub joined : Listener → OpId → IpSocketAddress → Tcp2Socket
+abbrev pub joined : Listener → OpId → IpSocketAddress → TcpRecord
 joined l new peer = (accepted_record (accepted_socket l.family l.maker (accepted_state new peer))).1
 
 -- it joins these records
-abbrev pub joining : Here → List Record → Tcp2Socket → Here
+abbrev pub joining : Here → List Record → TcpRecord → Here
 joining h records now = record h { machine = record h.machine { store = record h.machine.store { records = tcp2_pushed records now } }; at = None; made = Joined (length records) }
 
 -- its handle was made, or not
@@ -307,11 +307,11 @@ made_so place (Ok handle) = Marked handle place
 made_so place (Err why) = Past
 
 -- the record that is left where its network socket was closed
-abbrev pub closed_record : Tcp2Socket → Tcp2Socket
+abbrev pub closed_record : TcpRecord → TcpRecord
 closed_record r = gone r (with_state r.inner (TcpState.Closed Other))
 
 -- the record of a connection whose streams are made
-abbrev pub opened_by : Tcp2Socket → Connection → Tcp2Socket
+abbrev pub opened_by : TcpRecord → Connection → TcpRecord
 opened_by r c = record r { inner = with_state r.inner (TcpState.Connected (record c { send_taken = true })); in_progress = InProgress.Nothing; streams = Some (new_streams (record { side = c.side }) (record { side = c.side })) }
 
 -- == records of UDP sockets
@@ -409,71 +409,71 @@ pub data Move (line : ℕ) (origin : Step) : Here → Here → Type 0 where
   Leaves : (h : Here) → Move line origin h (record h { at = None; made = Past })
   Spends : (h : Here) → h.own ≡ Unused → Move line origin h (record h { own = Used })
   -- the record
-  Changes : (h : Here) (place : ℕ) (r now : Tcp2Socket) → Found h place r → Plain r now → Move line origin h (put h place now)
-  ClosesReader : (h : Here) (place : ℕ) (r : Tcp2Socket) (s : Streams) → Found h place r → r.streams ≡ Some s → Move line origin h (put h place (with_reader r s ReadState.Closed))
-  Writes : (h : Here) (place : ℕ) (r : Tcp2Socket) (s : Streams) (w : WriteState) → Found h place r → r.streams ≡ Some s → WriterMoves s.writer w → Move line origin h (put h place (with_writer r s w))
-  IsGone : (h : Here) (place : ℕ) (r : Tcp2Socket) → Releases h place → Found h place r → side_of r.inner ≡ None → Move line origin h (put h place (gone r r.inner))
+  Changes : (h : Here) (place : ℕ) (r now : TcpRecord) → Found h place r → Plain r now → Move line origin h (put h place now)
+  ClosesReader : (h : Here) (place : ℕ) (r : TcpRecord) (s : Streams) → Found h place r → r.streams ≡ Some s → Move line origin h (put h place (with_reader r s ReadState.Closed))
+  Writes : (h : Here) (place : ℕ) (r : TcpRecord) (s : Streams) (w : WriteState) → Found h place r → r.streams ≡ Some s → WriterMoves s.writer w → Move line origin h (put h place (with_writer r s w))
+  IsGone : (h : Here) (place : ℕ) (r : TcpRecord) → Releases h place → Found h place r → side_of r.inner ≡ None → Move line origin h (put h place (gone r r.inner))
   -- a connection, whose halves are taken where no connect is in progress
-  Reconnects : (h : Here) (place : ℕ) (r : Tcp2Socket) (c now : Connection) → Found h place r → r.inner.state ≡ TcpState.Connected c → now.side ≡ c.side → (c.send_taken ≡ true → now.send_taken ≡ true) → (is_connect r.in_progress ≡ true → TakesNone c now) → Move line origin h (put h place (with_inner r (with_state r.inner (TcpState.Connected now))))
-  Opens : (h : Here) (place : ℕ) (r : Tcp2Socket) (c : Connection) → IsSettled r.in_progress → Found h place r → r.inner.state ≡ TcpState.Connected c → c.send_taken ≡ false → Move line origin h (put h place (opened_by r c))
+  Reconnects : (h : Here) (place : ℕ) (r : TcpRecord) (c now : Connection) → Found h place r → r.inner.state ≡ TcpState.Connected c → now.side ≡ c.side → (c.send_taken ≡ true → now.send_taken ≡ true) → (is_connect r.in_progress ≡ true → TakesNone c now) → Move line origin h (put h place (with_inner r (with_state r.inner (TcpState.Connected now))))
+  Opens : (h : Here) (place : ℕ) (r : TcpRecord) (c : Connection) → IsSettled r.in_progress → Found h place r → r.inner.state ≡ TcpState.Connected c → c.send_taken ≡ false → Move line origin h (put h place (opened_by r c))
   -- the line's own operation begins
-  BeginsConnect : (h : Here) (place : ℕ) (r : Tcp2Socket) (side : OpId) (a : IpSocketAddress) (bound : Bool) → h.at ≡ Some (place, line) → Found h place r → r.inner.state ≡ TcpState.Default side → IsConnectTo a origin → (bound ≡ true → r.inner.bound ≡ true) → is_nothing r.in_progress ≡ true → h.own ≡ Unused
+  BeginsConnect : (h : Here) (place : ℕ) (r : TcpRecord) (side : OpId) (a : IpSocketAddress) (bound : Bool) → h.at ≡ Some (place, line) → Found h place r → r.inner.state ≡ TcpState.Default side → IsConnectTo a origin → (bound ≡ true → r.inner.bound ≡ true) → is_nothing r.in_progress ≡ true → h.own ≡ Unused
       → Move line origin h (record (put h place (with_inner r (with_state r.inner (TcpState.Connecting (connect_operation (record { op = own_of line; side = side; maker = r.inner.maker }) (wildcard r.inner.family) a (connect_first bound)))))) { own = Used })
-  BeginsBind : (h : Here) (place : ℕ) (r : Tcp2Socket) (side : OpId) (a : IpSocketAddress) → h.at ≡ Some (place, line) → Found h place r → r.inner.state ≡ TcpState.Default side → IsBindTo a origin → is_nothing r.in_progress ≡ true → h.own ≡ Unused
+  BeginsBind : (h : Here) (place : ℕ) (r : TcpRecord) (side : OpId) (a : IpSocketAddress) → h.at ≡ Some (place, line) → Found h place r → r.inner.state ≡ TcpState.Default side → IsBindTo a origin → is_nothing r.in_progress ≡ true → h.own ≡ Unused
       → Move line origin h (record (put h place (with_progress r (InProgress.Binding (begun_bind (own_of line) side r a)))) { own = Used })
-  BeginsWrite : (h : Here) (place n : ℕ) (r : Tcp2Socket) (s : Streams) (half : TcpSendStream) (permit : ℕ) (bytes : List ℕ) → h.at ≡ Some (place, n) → Found h place r → r.streams ≡ Some s → s.writer ≡ WriteState.Ready half permit → nat_lt permit (length bytes) ≡ false → h.own ≡ ToWrite half.side bytes
+  BeginsWrite : (h : Here) (place n : ℕ) (r : TcpRecord) (s : Streams) (half : TcpSendStream) (permit : ℕ) (bytes : List ℕ) → h.at ≡ Some (place, n) → Found h place r → r.streams ≡ Some s → s.writer ≡ WriteState.Ready half permit → nat_lt permit (length bytes) ≡ false → h.own ≡ ToWrite half.side bytes
       → Move line origin h (record (put h place (with_writer r s (WriteState.Writing (new_job (own_of n) half.side bytes)))) { own = Used })
-  BeginsListen : (h : Here) (place : ℕ) (r : Tcp2Socket) (side : OpId) → h.at ≡ Some (place, line) → Found h place r → r.inner.state ≡ TcpState.Default side → r.inner.bound ≡ true → r.listening ≡ Not → IsListenStep origin → is_nothing r.in_progress ≡ true → h.own ≡ Unused
+  BeginsListen : (h : Here) (place : ℕ) (r : TcpRecord) (side : OpId) → h.at ≡ Some (place, line) → Found h place r → r.inner.state ≡ TcpState.Default side → r.inner.bound ≡ true → r.listening ≡ Not → IsListenStep origin → is_nothing r.in_progress ≡ true → h.own ≡ Unused
       → Move line origin h (record (put h place (beginning_listen (own_of line) side r)) { own = Used })
   -- a listen is over; a listener's fault is taken
-  Unlistens : (h : Here) (place : ℕ) (r : Tcp2Socket) (op : Operation) → NoStart h → Found h place r → r.listening ≡ Begins op → side_of r.inner ≡ None → is_over op ≡ true → Move line origin h (put h place (with_listening r Not))
-  Forgets : (h : Here) (place : ℕ) (r : Tcp2Socket) (l : Listener) (c : ErrorCode) → Found h place r → r.listening ≡ Accepts l → l.accept ≡ Accepting.Failed c → Move line origin h (put h place (accepting_now r l Accepting.Idle))
+  Unlistens : (h : Here) (place : ℕ) (r : TcpRecord) (op : Operation) → NoStart h → Found h place r → r.listening ≡ Begins op → side_of r.inner ≡ None → is_over op ≡ true → Move line origin h (put h place (with_listening r Not))
+  Forgets : (h : Here) (place : ℕ) (r : TcpRecord) (l : Listener) (c : ErrorCode) → Found h place r → r.listening ≡ Accepts l → l.accept ≡ Accepting.Failed c → Move line origin h (put h place (accepting_now r l Accepting.Idle))
   -- an accept: nothing was made yet; and what was handed over is taken from its listener, and joins the records
   Watches : (h : Here) → h.own ≡ Unused → Move line origin h (record h { made = Unmade })
-  Joins : (h : Here) (c handle place : ℕ) (r : Tcp2Socket) (l : Listener) (new : OpId) (peer : IpSocketAddress) → origin ≡ Step.TcpAccept c handle → record_of (kind_at h.machine.table handle) ≡ Some place → h.made ≡ Unmade → Found h place r → r.listening ≡ Accepts l → l.accept ≡ Accepting.Arrived new peer
+  Joins : (h : Here) (c handle place : ℕ) (r : TcpRecord) (l : Listener) (new : OpId) (peer : IpSocketAddress) → origin ≡ Step.TcpAccept c handle → record_of (kind_at h.machine.table handle) ≡ Some place → h.made ≡ Unmade → Found h place r → r.listening ≡ Accepts l → l.accept ≡ Accepting.Arrived new peer
       → Move line origin h (joining h (tcp2_put h.machine.store.records place (accepting_now r l Accepting.Idle)) (joined l new peer))
   -- a call is pending, by the line that asks; it is in progress; nothing is pending
-  Stands : (h : Here) (ids : Ids) (call : StandingCall) (r : Tcp2Socket) → NoStart h → h.at ≡ Some (call_place call, ids.line) → Found h (call_place call) r → GoesOn call r → Move line origin h (record h { machine = record h.machine { store = record h.machine.store { standing = Some (standing_as ids call) } } })
+  Stands : (h : Here) (ids : Ids) (call : StandingCall) (r : TcpRecord) → NoStart h → h.at ≡ Some (call_place call, ids.line) → Found h (call_place call) r → GoesOn call r → Move line origin h (record h { machine = record h.machine { store = record h.machine.store { standing = Some (standing_as ids call) } } })
   Resumes : (h : Here) (s : Standing) → h.machine.store.standing ≡ Some s → IsOfHandle s.call → Move line origin h (record h { at = Some (call_place s.call, s.ids.line) })
   Unstands : (h : Here) → TakesOver h → Move line origin h (record h { machine = record h.machine { store = record h.machine.store { standing = None } } })
   -- a UDP socket
-  UdpChanges : (h : Here) (place : ℕ) (o now : OpenUdp) → FoundUdp h place (Udp2Socket.Open o) → UdpPlain o now → KeepsStreams origin h place o now → Move line origin h (put_udp h place (Udp2Socket.Open now))
-  BeginsUdpBind : (h : Here) (place : ℕ) (o : OpenUdp) (a : IpSocketAddress) → h.at ≡ Some (place, line) → FoundUdp h place (Udp2Socket.Open o) → IsUdpBindTo a origin → is_udp_idle o.in_progress ≡ true → h.own ≡ Unused
-      → Move line origin h (record (put_udp h place (Udp2Socket.Open (with_udp_progress o (UdpInProgress.Binding (begun_udp_bind (own_of line) o a))))) { own = Used })
-  StandsUdpBind : (h : Here) (ids : Ids) (place : ℕ) (o : OpenUdp) (op : Operation) → NoStart h → h.at ≡ Some (place, ids.line) → FoundUdp h place (Udp2Socket.Open o) → o.in_progress ≡ UdpInProgress.Binding op → Move line origin h (record h { machine = record h.machine { store = record h.machine.store { standing = Some (standing_as ids (StandingCall.UdpBind place)) } } })
-  StandsUdpCreate : (h : Here) (ids : Ids) (place : ℕ) (create : Create) → NoStart h → FoundUdp h place (Udp2Socket.Creating create) → Move line origin h (record h { machine = record h.machine { store = record h.machine.store { standing = Some (standing_as ids (StandingCall.UdpCreate place)) } } })
+  UdpChanges : (h : Here) (place : ℕ) (o now : OpenUdp) → FoundUdp h place (UdpRecord.Open o) → UdpPlain o now → KeepsStreams origin h place o now → Move line origin h (put_udp h place (UdpRecord.Open now))
+  BeginsUdpBind : (h : Here) (place : ℕ) (o : OpenUdp) (a : IpSocketAddress) → h.at ≡ Some (place, line) → FoundUdp h place (UdpRecord.Open o) → IsUdpBindTo a origin → is_udp_idle o.in_progress ≡ true → h.own ≡ Unused
+      → Move line origin h (record (put_udp h place (UdpRecord.Open (with_udp_progress o (UdpInProgress.Binding (begun_udp_bind (own_of line) o a))))) { own = Used })
+  StandsUdpBind : (h : Here) (ids : Ids) (place : ℕ) (o : OpenUdp) (op : Operation) → NoStart h → h.at ≡ Some (place, ids.line) → FoundUdp h place (UdpRecord.Open o) → o.in_progress ≡ UdpInProgress.Binding op → Move line origin h (record h { machine = record h.machine { store = record h.machine.store { standing = Some (standing_as ids (StandingCall.UdpBind place)) } } })
+  StandsUdpCreate : (h : Here) (ids : Ids) (place : ℕ) (create : Create) → NoStart h → FoundUdp h place (UdpRecord.Creating create) → Move line origin h (record h { machine = record h.machine { store = record h.machine.store { standing = Some (standing_as ids (StandingCall.UdpCreate place)) } } })
   -- the datagram streams of a UDP socket: what they are made under, and the connect that comes before, until it is over or pending
-  RemembersStreams : (h : Here) (c handle place : ℕ) (remote : Option IpSocketAddress) → origin ≡ Step.UdpStream c handle remote → udp_of (kind_at h.machine.table handle) ≡ Some place → (o : OpenUdp) → FoundUdp h place (Udp2Socket.Open o) → has_streams o ≡ false
+  RemembersStreams : (h : Here) (c handle place : ℕ) (remote : Option IpSocketAddress) → origin ≡ Step.UdpStream c handle remote → udp_of (kind_at h.machine.table handle) ≡ Some place → (o : OpenUdp) → FoundUdp h place (UdpRecord.Open o) → has_streams o ≡ false
       → Move line origin h (record h { made = ToStream line handle place })
   RecallsStreams : (h : Here) (ids : Ids) (place handle : ℕ) → h.machine.store.standing ≡ Some (standing_as ids (StandingCall.UdpConnect place handle)) → h.own ≡ Unused → Move line origin h (record h { made = ToStream ids.line handle place; own = ToConnect place })
-  BeginsUdpConnect : (h : Here) (place : ℕ) (o : OpenUdp) (a : IpSocketAddress) → h.at ≡ Some (place, line) → FoundUdp h place (Udp2Socket.Open o) → IsUdpConnectTo a origin → o.inner.bound ≡ true → has_streams o ≡ false → h.own ≡ Unused
-      → Move line origin h (record (put_udp h place (Udp2Socket.Open (record o { connecting = Some (begun_udp_connect (own_of line) o a) }))) { own = ToConnect place })
+  BeginsUdpConnect : (h : Here) (place : ℕ) (o : OpenUdp) (a : IpSocketAddress) → h.at ≡ Some (place, line) → FoundUdp h place (UdpRecord.Open o) → IsUdpConnectTo a origin → o.inner.bound ≡ true → has_streams o ≡ false → h.own ≡ Unused
+      → Move line origin h (record (put_udp h place (UdpRecord.Open (record o { connecting = Some (begun_udp_connect (own_of line) o a) }))) { own = ToConnect place })
   EndsConnect : (h : Here) (place : ℕ) → h.own ≡ ToConnect place → ConnectIsOver h place → Move line origin h (record h { own = Used })
-  StandsUdpConnect : (h : Here) (ids : Ids) (place handle : ℕ) (o : OpenUdp) (op : Operation) → NoStart h → h.at ≡ Some (place, ids.line) → h.made ≡ ToStream ids.line handle place → FoundUdp h place (Udp2Socket.Open o) → o.connecting ≡ Some op → Move line origin h (record h { machine = record h.machine { store = record h.machine.store { standing = Some (standing_as ids (StandingCall.UdpConnect place handle)) } } })
-  StandsDropOutgoing : (h : Here) (ids : Ids) (place : ℕ) (o : OpenUdp) → NoStart h → h.at ≡ Some (place, ids.line) → FoundUdp h place (Udp2Socket.Open o) → sends o.outgoing ≡ true → Move line origin h (record h { machine = record h.machine { store = record h.machine.store { standing = Some (standing_as ids (StandingCall.DropOutgoing place)) } } })
+  StandsUdpConnect : (h : Here) (ids : Ids) (place handle : ℕ) (o : OpenUdp) (op : Operation) → NoStart h → h.at ≡ Some (place, ids.line) → h.made ≡ ToStream ids.line handle place → FoundUdp h place (UdpRecord.Open o) → o.connecting ≡ Some op → Move line origin h (record h { machine = record h.machine { store = record h.machine.store { standing = Some (standing_as ids (StandingCall.UdpConnect place handle)) } } })
+  StandsDropOutgoing : (h : Here) (ids : Ids) (place : ℕ) (o : OpenUdp) → NoStart h → h.at ≡ Some (place, ids.line) → FoundUdp h place (UdpRecord.Open o) → sends o.outgoing ≡ true → Move line origin h (record h { machine = record h.machine { store = record h.machine.store { standing = Some (standing_as ids (StandingCall.DropOutgoing place)) } } })
   -- accepts and datagrams: each has the next name of the line
   Counts : (h : Here) → h.own ≡ Unused → Move line origin h (record h { own = Names 1 })
   SpendsNames : (h : Here) (n : ℕ) → h.own ≡ Names n → Move line origin h (record h { own = Used })
-  BeginsAccept : (h : Here) (place n : ℕ) (r : Tcp2Socket) (l : Listener) → h.at ≡ Some (place, line) → Found h place r → r.listening ≡ Accepts l → l.accept ≡ Accepting.Idle → h.own ≡ Names n
+  BeginsAccept : (h : Here) (place n : ℕ) (r : TcpRecord) (l : Listener) → h.at ≡ Some (place, line) → Found h place r → r.listening ≡ Accepts l → l.accept ≡ Accepting.Idle → h.own ≡ Names n
       → Move line origin h (record (put h place (accepting_now r l (new_accept (part_of line n) l))) { own = Names (n + 1) })
-  BeginsSend : (h : Here) (place n : ℕ) (o : OpenUdp) (out : OutgoingStream) (d : OutgoingDatagram) (bound : Bool) → h.at ≡ Some (place, line) → FoundUdp h place (Udp2Socket.Open o) → o.outgoing ≡ Some out → IsSendOf n d origin → (bound ≡ true → o.inner.bound ≡ true) → h.own ≡ Names n
-      → Move line origin h (record (put_udp h place (Udp2Socket.Open (sending_now o out (send_start (part_of line n) o.inner d.bytes d.remote_address bound)))) { own = Names (n + 1) })
-  BeginsReceive : (h : Here) (place n : ℕ) (o : OpenUdp) (inc : IncomingStream) (bound : Bool) → h.at ≡ Some (place, line) → FoundUdp h place (Udp2Socket.Open o) → o.incoming ≡ Some inc → Receives origin × (inc.receiving ≡ Receiving.Nothing) → h.own ≡ Names n
-      → Move line origin h (record (put_udp h place (Udp2Socket.Open (receiving_now o inc (receive_start (part_of line n) o.inner bound)))) { own = Names (n + 1) })
+  BeginsSend : (h : Here) (place n : ℕ) (o : OpenUdp) (out : OutgoingStream) (d : OutgoingDatagram) (bound : Bool) → h.at ≡ Some (place, line) → FoundUdp h place (UdpRecord.Open o) → o.outgoing ≡ Some out → IsSendOf n d origin → (bound ≡ true → o.inner.bound ≡ true) → h.own ≡ Names n
+      → Move line origin h (record (put_udp h place (UdpRecord.Open (sending_now o out (send_start (part_of line n) o.inner d.bytes d.remote_address bound)))) { own = Names (n + 1) })
+  BeginsReceive : (h : Here) (place n : ℕ) (o : OpenUdp) (inc : IncomingStream) (bound : Bool) → h.at ≡ Some (place, line) → FoundUdp h place (UdpRecord.Open o) → o.incoming ≡ Some inc → Receives origin × (inc.receiving ≡ Receiving.Nothing) → h.own ≡ Names n
+      → Move line origin h (record (put_udp h place (UdpRecord.Open (receiving_now o inc (receive_start (part_of line n) o.inner bound)))) { own = Names (n + 1) })
   -- calls on handles: that of the line, or the one that is pending, and the record of one of its handles; it is pending then
   CallsHandles : (h : Here) (kind : CallKind) → IsCall kind origin → NoStart h → Move line origin h (record h { made = Calls kind line (handles_of origin) })
   RecallsCall : (h : Here) (ids : Ids) (call : BlockingCall) → h.machine.store.standing ≡ Some (standing_as ids (StandingCall.Blocking call)) → Move line origin h (record h { made = Calls (kind_of call) ids.line (blocking_handles call) })
   ReachesHandle : (h : Here) (kind : CallKind) (n handle place : ℕ) (handles : List ℕ) → h.made ≡ Calls kind n handles → Has handles handle → record_of (kind_at h.machine.table handle) ≡ Some place → Move line origin h (record h { at = Some (place, n) })
   StandsBlocking : (h : Here) (ids : Ids) (call : BlockingCall) (handles : List ℕ) → h.made ≡ Calls (kind_of call) ids.line handles → blocking_handles call ≡ handles → Move line origin h (record h { machine = record h.machine { store = record h.machine.store { standing = Some (standing_as ids (StandingCall.Blocking call)) } } })
   -- a pending call is given up
-  CancelsBind : (h : Here) (place : ℕ) (r : Tcp2Socket) (op : Operation) → NoStart h → Found h place r → r.in_progress ≡ InProgress.Binding op → Move line origin h (put h place (with_progress r InProgress.Nothing))
-  CancelsUdpBind : (h : Here) (place : ℕ) (o : OpenUdp) (op : Operation) → NoStart h → FoundUdp h place (Udp2Socket.Open o) → o.in_progress ≡ UdpInProgress.Binding op → Move line origin h (put_udp h place (Udp2Socket.Open (with_udp_progress o UdpInProgress.Nothing)))
-  CancelsUdpConnect : (h : Here) (place : ℕ) (o : OpenUdp) → NoStart h → FoundUdp h place (Udp2Socket.Open o) → Move line origin h (put_udp h place (Udp2Socket.Open (record o { connecting = None })))
+  CancelsBind : (h : Here) (place : ℕ) (r : TcpRecord) (op : Operation) → NoStart h → Found h place r → r.in_progress ≡ InProgress.Binding op → Move line origin h (put h place (with_progress r InProgress.Nothing))
+  CancelsUdpBind : (h : Here) (place : ℕ) (o : OpenUdp) (op : Operation) → NoStart h → FoundUdp h place (UdpRecord.Open o) → o.in_progress ≡ UdpInProgress.Binding op → Move line origin h (put_udp h place (UdpRecord.Open (with_udp_progress o UdpInProgress.Nothing)))
+  CancelsUdpConnect : (h : Here) (place : ℕ) (o : OpenUdp) → NoStart h → FoundUdp h place (UdpRecord.Open o) → Move line origin h (put_udp h place (UdpRecord.Open (record o { connecting = None })))
   -- lookups and pipes: what was found, and what is handed out
   Finds : (h : Here) (records : List Record) → SameSockets (λ op. ⊥) h.machine.store.records records → Move line origin h (with_records h records)
   Numbers : (h : Here) → Move line origin h (record h { made = Numbered (length h.machine.store.records) h.machine.table.next })
   -- a create that is to be polled: no handle is of its record
-  AwaitsCreate : (h : Here) (place : ℕ) (create : Create) → FoundUdp h place (Udp2Socket.Creating create) → Move line origin h (record h { made = Awaited place })
+  AwaitsCreate : (h : Here) (place : ℕ) (create : Create) → FoundUdp h place (UdpRecord.Creating create) → Move line origin h (record h { made = Awaited place })
   -- a handle is taken out of the table, under which nothing is live; of a socket that is dropped it is noted which
   Empties : (h : Here) (handle : ℕ) (kind : Kind) → kind_at h.machine.table handle ≡ Some kind → has_no_child h.machine.table handle ≡ true → Move line origin h (record h { machine = record h.machine { table = without_handle h.machine.table handle }; made = Emptied kind })
   Takes : (h : Here) (handle : ℕ) → has_no_child h.machine.table handle ≡ true → Move line origin h (record h { machine = record h.machine { table = without_handle h.machine.table handle } })
@@ -484,12 +484,12 @@ pub data Move (line : ℕ) (origin : Step) : Here → Here → Type 0 where
 
 -- an operation that the line polls: where it is kept, and what becomes of it
 pub data Held (h : Here) : Operation → (End × List Item → Here) → Type 0 where
-  BindsOn : (place : ℕ) (r : Tcp2Socket) (op : Operation) → NoStart h → Found h place r → r.in_progress ≡ InProgress.Binding op → Held h op (λ ended. put h place (with_progress r (bind_progress op ended)))
-  Connects : (place : ℕ) (r : Tcp2Socket) (op : Operation) → Found h place r → r.inner.state ≡ TcpState.Connecting op → Held h op (λ ended. put h place (with_inner r (with_state r.inner (connect_ended op.who ended).1)))
-  Listens : (place : ℕ) (r : Tcp2Socket) (op : Operation) → NoStart h → Found h place r → r.listening ≡ Begins op → side_of r.inner ≡ None → Held h op (λ ended. put h place (listen_after op r ended))
-  Awaits : (place : ℕ) (r : Tcp2Socket) (l : Listener) (op : Operation) → Found h place r → r.listening ≡ Accepts l → l.accept ≡ Accepting.Asking op → Held h op (λ ended. put h place (accepting_now r l (accept_ended op.who ended)))
-  UdpCreates : (place : ℕ) (create : Create) → NoStart h → FoundUdp h place (Udp2Socket.Creating create) → Held h create.operation (λ ended. put_udp h place (udp_create_left create ended))
-  UdpBindsOn : (place : ℕ) (o : OpenUdp) (op : Operation) → NoStart h → FoundUdp h place (Udp2Socket.Open o) → o.in_progress ≡ UdpInProgress.Binding op → Held h op (λ ended. put_udp h place (Udp2Socket.Open (with_udp_progress o (udp_bind_progress op ended))))
-  UdpConnectsOn : (place : ℕ) (o : OpenUdp) (op : Operation) → NoStart h → FoundUdp h place (Udp2Socket.Open o) → o.connecting ≡ Some op → Held h op (λ ended. put_udp h place (Udp2Socket.Open (udp_connect_left op o ended)))
-  SendsOn : (place : ℕ) (o : OpenUdp) (out : OutgoingStream) (op : Operation) (left : End × List Item → Sending) → FoundUdp h place (Udp2Socket.Open o) → o.outgoing ≡ Some out → out.sending ≡ Sending.InProgress op → SettlesSend op left → Held h (at_remote o.inner.remote op) (λ ended. put_udp h place (Udp2Socket.Open (record o { outgoing = Some (with_sending out (left ended)) })))
-  ReceivesOn : (place : ℕ) (o : OpenUdp) (inc : IncomingStream) (op : Operation) → FoundUdp h place (Udp2Socket.Open o) → o.incoming ≡ Some inc → inc.receiving ≡ Receiving.InProgress op → Held h (wanting inc.remote op) (λ ended. put_udp h place (Udp2Socket.Open (record o { incoming = Some (with_receiving inc (receive_left op ended)) })))
+  BindsOn : (place : ℕ) (r : TcpRecord) (op : Operation) → NoStart h → Found h place r → r.in_progress ≡ InProgress.Binding op → Held h op (λ ended. put h place (with_progress r (bind_progress op ended)))
+  Connects : (place : ℕ) (r : TcpRecord) (op : Operation) → Found h place r → r.inner.state ≡ TcpState.Connecting op → Held h op (λ ended. put h place (with_inner r (with_state r.inner (connect_ended op.who ended).1)))
+  Listens : (place : ℕ) (r : TcpRecord) (op : Operation) → NoStart h → Found h place r → r.listening ≡ Begins op → side_of r.inner ≡ None → Held h op (λ ended. put h place (listen_after op r ended))
+  Awaits : (place : ℕ) (r : TcpRecord) (l : Listener) (op : Operation) → Found h place r → r.listening ≡ Accepts l → l.accept ≡ Accepting.Asking op → Held h op (λ ended. put h place (accepting_now r l (accept_ended op.who ended)))
+  UdpCreates : (place : ℕ) (create : Create) → NoStart h → FoundUdp h place (UdpRecord.Creating create) → Held h create.operation (λ ended. put_udp h place (udp_create_left create ended))
+  UdpBindsOn : (place : ℕ) (o : OpenUdp) (op : Operation) → NoStart h → FoundUdp h place (UdpRecord.Open o) → o.in_progress ≡ UdpInProgress.Binding op → Held h op (λ ended. put_udp h place (UdpRecord.Open (with_udp_progress o (udp_bind_progress op ended))))
+  UdpConnectsOn : (place : ℕ) (o : OpenUdp) (op : Operation) → NoStart h → FoundUdp h place (UdpRecord.Open o) → o.connecting ≡ Some op → Held h op (λ ended. put_udp h place (UdpRecord.Open (udp_connect_left op o ended)))
+  SendsOn : (place : ℕ) (o : OpenUdp) (out : OutgoingStream) (op : Operation) (left : End × List Item → Sending) → FoundUdp h place (UdpRecord.Open o) → o.outgoing ≡ Some out → out.sending ≡ Sending.InProgress op → SettlesSend op left → Held h (at_remote o.inner.remote op) (λ ended. put_udp h place (UdpRecord.Open (record o { outgoing = Some (with_sending out (left ended)) })))
+  ReceivesOn : (place : ℕ) (o : OpenUdp) (inc : IncomingStream) (op : Operation) → FoundUdp h place (UdpRecord.Open o) → o.incoming ≡ Some inc → inc.receiving ≡ Receiving.InProgress op → Held h (wanting inc.remote op) (λ ended. put_udp h place (UdpRecord.Open (record o { incoming = Some (with_receiving inc (receive_left op ended)) })))

@@ -1,7 +1,7 @@
 -- A law of the state alone, which says nothing of the log: what each move keeps, what each thing that is asked leaves, and what a poll
 -- does.
 use Rattle.wasi_walks.proofs.Words.{Allows, Asks, End, Entry, Err, ErrorValue, Has, HandleTable, Item, Kind, List, None, Not, Ok, OpId, Operation, Option}
-use Rattle.wasi_walks.proofs.Words.{ErrorCode, Result, SocketAddressFamily, Some, Step, Streams, Tcp2, Tcp2Socket, TcpState, Told, WasiSocketsCtx, Socket}
+use Rattle.wasi_walks.proofs.Words.{ErrorCode, Result, SocketAddressFamily, Some, Step, Streams, Tcp2, TcpRecord, TcpState, Told, WasiSocketsCtx, Socket}
 use Rattle.wasi_walks.proofs.Words.{after_create, after_local, allows_if, allows_then, bind, created_asks, create_asks, is_full, length, make_asks, new_asks, new_socket, own_of, poll_asks, side_of, told_addr, told_done, turn_asks, with_handle, with_inner, with_listening, with_record, with_writer, ℕ, ◌≡◌, refl, subst, sym}
 use Rattle.wasi_walks.proofs.Words.{Full, Stop, Trap}
 use Rattle.std.specs.Prelude.{⊤}
@@ -17,7 +17,7 @@ use Rattle.wasi_host.specs.declared.kind.Kind.TheVariants.{Udp2}
 use Rattle.wasi_records.specs.Udp.{with_udp_inner}
 use Rattle.wasi_records.specs.declared.records.Record.{Record}
 use Rattle.wasi_records.specs.declared.udp.OpenUdp.{OpenUdp}
-use Rattle.wasi_records.specs.declared.udp.Udp2Socket.{Udp2Socket}
+use Rattle.wasi_records.specs.declared.udp.UdpRecord.{UdpRecord}
 use Rattle.wasi_udp.specs.Create.{Create, after_create as udp_after_create}
 use Rattle.wasi_udp.specs.Shape.{Socket as UdpSocket}
 use Rattle.wasi_udp.specs.Socket.{after_local as udp_after_local, after_peer}
@@ -26,10 +26,10 @@ use Rattle.wasi_udp.specs.Socket.{after_local as udp_after_local, after_peer}
 pub data Handles (origin : Step) (h : Here) : Kind → Option ℕ → Made → Type 0 where
   OfLine : (kind : Kind) (parent : Option ℕ) (sock : Option OpId) → Marks origin h kind parent sock
       → Handles origin h kind parent h.made
-  OfAccepted : (c listener place : ℕ) (r : Tcp2Socket) → origin ≡ Step.TcpAccept c listener → h.made ≡ Joined place
+  OfAccepted : (c listener place : ℕ) (r : TcpRecord) → origin ≡ Step.TcpAccept c listener → h.made ≡ Joined place
       → h.own ≡ Used → Found h place r → Handles origin h (Tcp2 place) (Some listener)
       (Marked h.machine.table.next place)
-  OfCreated : (place : ℕ) (u : Udp2Socket) → IsCreated h place u → Handles origin h (Udp2 place) None Past
+  OfCreated : (place : ℕ) (u : UdpRecord) → IsCreated h place u → Handles origin h (Udp2 place) None Past
   OfStream : (place n handle reached : ℕ) (kind : Kind) → MarksNext h.made n handle reached kind place
       → HasNewStream h.machine.store reached → udp_of (kind_at h.machine.table handle) ≡ Some place
       → Handles origin h kind (Some handle) (ToSend n handle reached)
@@ -48,20 +48,20 @@ creating h own ctx family = record h { machine = record h.machine { store = with
 
 -- what something that is asked leaves
 pub data Becomes (contexts : List WasiSocketsCtx) (line : ℕ) (origin : Step) (h : Here) : Here → Type 0 where
-  Learnt : (place : ℕ) (r : Tcp2Socket) (side : OpId) (told : Told) → h.at ≡ Some (place, line) → Found h place r
+  Learnt : (place : ℕ) (r : TcpRecord) (side : OpId) (told : Told) → h.at ≡ Some (place, line) → Found h place r
       → r.inner.state ≡ TcpState.Default side
       → Becomes contexts line origin h (put h place (with_inner r (after_local r.inner (told_addr told)).1))
-  IsClosed : (place : ℕ) (r : Tcp2Socket) (side : OpId) → Releases h place → Found h place r
+  IsClosed : (place : ℕ) (r : TcpRecord) (side : OpId) → Releases h place → Found h place r
       → side_of r.inner ≡ Some side → Becomes contexts line origin h (put h place (closed_record r))
-  GivenUp : (place : ℕ) (r : Tcp2Socket) → NoStart h → Found h place r
+  GivenUp : (place : ℕ) (r : TcpRecord) → NoStart h → Found h place r
       → Becomes contexts line origin h (put h place (with_listening r Not))
-  UdpLearnt : (place : ℕ) (o : OpenUdp) (socket : UdpSocket) → FoundUdp h place (Udp2Socket.Open o)
+  UdpLearnt : (place : ℕ) (o : OpenUdp) (socket : UdpSocket) → FoundUdp h place (UdpRecord.Open o)
       → socket.side ≡ o.inner.side → Becomes contexts line origin h
-      (put_udp h place (Udp2Socket.Open (with_udp_inner o socket)))
-  UdpIsClosed : (place : ℕ) (o : OpenUdp) → ReleasesUdp h place → FoundUdp h place (Udp2Socket.Open o)
-      → Becomes contexts line origin h (put_udp h place (Udp2Socket.Closed o.inner.side))
-  UdpGivenUp : (place : ℕ) (create : Create) → NoStart h → FoundUdp h place (Udp2Socket.Creating create)
-      → Becomes contexts line origin h (put_udp h place (Udp2Socket.Closed create.operation.who.side))
+      (put_udp h place (UdpRecord.Open (with_udp_inner o socket)))
+  UdpIsClosed : (place : ℕ) (o : OpenUdp) → ReleasesUdp h place → FoundUdp h place (UdpRecord.Open o)
+      → Becomes contexts line origin h (put_udp h place (UdpRecord.Closed o.inner.side))
+  UdpGivenUp : (place : ℕ) (create : Create) → NoStart h → FoundUdp h place (UdpRecord.Creating create)
+      → Becomes contexts line origin h (put_udp h place (UdpRecord.Closed create.operation.who.side))
   UdpBegun : (ctx : WasiSocketsCtx) (family : SocketAddressFamily) (r : Result (Unit {0}) ErrorCode)
       → CreatesUdp contexts ctx family origin → h.own ≡ Unused → h.made ≡ Past
       → Becomes contexts line origin h (udp_begun h (udp_after_create (own_of line) ctx.name family r))
@@ -88,7 +88,7 @@ pub record OfState (contexts : List WasiSocketsCtx) (line : ℕ) (origin : Step)
   pub becomes : (es : List Entry) (h now : Here) → Becomes contexts line origin h now → B es h → Holds h → Holds now
   pub polls : (es : List Entry) (h : Here) (op : Operation) (after : End × List Item → Here) → Held h op after
       → B es h → Holds h → Allows Anything (λ fs ended. Holds (after ended)) es (poll_asks op)
-  pub turns : (es : List Entry) (h : Here) (place : ℕ) (r : Tcp2Socket) (s : Streams) → Found h place r
+  pub turns : (es : List Entry) (h : Here) (place : ℕ) (r : TcpRecord) (s : Streams) → Found h place r
       → r.streams ≡ Some s → B es h → Holds h
       → Allows Anything (λ fs done. Holds (put h place (with_writer r s done.1))) es (turn_asks s.writer)
 
@@ -193,7 +193,7 @@ module _ {contexts : List WasiSocketsCtx} {line : ℕ} {origin : Step} {B : List
       gives_any (λ fs done. a.Holds (put h place (with_listening r Not)))
       (λ fs done. a.becomes es h _ (GivenUp place r q g) b i) es tree
   asks es h _ tree _ (UdpGivesUp place create q g) b i =
-      gives_any (λ fs done. a.Holds (put_udp h place (Udp2Socket.Closed create.operation.who.side)))
+      gives_any (λ fs done. a.Holds (put_udp h place (UdpRecord.Closed create.operation.who.side)))
       (λ fs done. a.becomes es h _ (UdpGivenUp place create q g) b i) es tree
 
   -- as a law

@@ -1,7 +1,7 @@
 -- Calls that wait for pollables, as moves: one look at each, by the line that makes the call or by one that polls it, and pending
 -- where none is ready.
 use Rattle.std.specs.Prelude.{◌≡◌, ⊤, ℕ, not, Bool, true, false, if◌then◌else◌, List, [], ◌∷◌, ◌++◌, Option, Some, None, Result, Ok, Err}
-use Rattle.wasi_walks.proofs.Words.{Accepts, Allows, Asks, Entry, Give, Has, Listening, Machine, Step, Stop, Tcp2Socket, WasiSocketsCtx, Watched, allows_then, ap, bind, handles_of, inl, inr, is_connect, is_nothing, kind_at, refl, subst, sym, watch_of}
+use Rattle.wasi_walks.proofs.Words.{Accepts, Allows, Asks, Entry, Give, Has, Listening, Machine, Step, Stop, TcpRecord, WasiSocketsCtx, Watched, allows_then, ap, bind, handles_of, inl, inr, is_connect, is_nothing, kind_at, refl, subst, sym, watch_of}
 use Rattle.wasi_world.specs.declared.ids.Ids.{Ids}
 use Rattle.wasi_tcp.specs.declared.listener.Accepting.{Accepting}
 use Rattle.wasi_tcp.specs.Listener.{has_accept, ids_after}
@@ -43,11 +43,11 @@ idle_names : (n part : ℕ) (l : Listening) (idle : Bool) → idle_ids l (names_
 idle_names n part l true = listening_names n part l
 idle_names n part l false = refl
 
-socket_names : (n part : ℕ) (r : Tcp2Socket) (connects : Bool) → is_connect r.in_progress ≡ connects → socket_ids r (names_from n part) connects ≡ names_from n (part_after part (socket_begins r))
+socket_names : (n part : ℕ) (r : TcpRecord) (connects : Bool) → is_connect r.in_progress ≡ connects → socket_ids r (names_from n part) connects ≡ names_from n (part_after part (socket_begins r))
 socket_names n part r true e = ap (λ (b : Bool). names_from n (part_after part b)) (sym (connecting_begins r e))
 socket_names n part r false e = idle_names n part r.listening (is_nothing r.in_progress)
 
-tcp_names : (n part place : ℕ) (o : Option Tcp2Socket) → ready_ids_at (names_from n part) (Watched.Socket place) o ≡ names_from n (part_after part (tcp_begins o))
+tcp_names : (n part place : ℕ) (o : Option TcpRecord) → ready_ids_at (names_from n part) (Watched.Socket place) o ≡ names_from n (part_after part (tcp_begins o))
 tcp_names n part place None = refl
 tcp_names n part place (Some r) = socket_names n part r (is_connect r.in_progress) refl
 
@@ -66,7 +66,7 @@ udp_names n part (Some o) = by_stream o.incoming
     by_stream (Some inc) = receiving_names n part inc.receiving
 
 -- an input or an output takes none
-no_names : (ids : Ids) (w : Watched) (o : Option Tcp2Socket) → ready_ids_at ids w None ≡ ids → ((r : Tcp2Socket) → ready_ids_at ids w (Some r) ≡ ids) → ready_ids_at ids w o ≡ ids
+no_names : (ids : Ids) (w : Watched) (o : Option TcpRecord) → ready_ids_at ids w None ≡ ids → ((r : TcpRecord) → ready_ids_at ids w (Some r) ≡ ids) → ready_ids_at ids w o ≡ ids
 no_names ids w None e k = e
 no_names ids w (Some r) e k = k r
 

@@ -18,7 +18,7 @@ use Rattle.wasi_jobs.specs.declared.job.HostJob.TheVariants.{Receive}
 use Rattle.wasi_host.specs.declared.kind.Kind.TheVariants as kinds
 use Rattle.wasi_records.specs.declared.records.Record.{Record}
 use Rattle.wasi_records.specs.declared.udp.OpenUdp.{OpenUdp}
-use Rattle.wasi_records.specs.declared.udp.Udp2Socket.{Udp2Socket}
+use Rattle.wasi_records.specs.declared.udp.UdpRecord.{UdpRecord}
 use Rattle.wasi_p2.specs.Udp.{receive_datagrams_on}
 use Rattle.wasi_udp.specs.Receive.{receive_asks, receive_start}
 use Rattle.wasi_udp.specs.Shape.{Socket}
@@ -44,11 +44,11 @@ idle_in o now e f = record { side = refl; maker = refl; family = refl; remote = 
 
 -- the socket and its stream are these, and so many names of the line are taken
 abbrev pub With : Here → ℕ → OpenUdp → ℕ → Socket × Incoming → Here
-With h place o n s = record (put_udp h place (Udp2Socket.Open (with_incoming o s))) { own = Names n }
+With h place o n s = record (put_udp h place (UdpRecord.Open (with_incoming o s))) { own = Names n }
 
 -- and the line begins no more
 abbrev Taken : {A : Type 0} → Here → ℕ → OpenUdp → A × (Socket × Incoming) → Here
-Taken h place o done = record (put_udp h place (Udp2Socket.Open (with_incoming o done.1))) { own = Used }
+Taken h place o done = record (put_udp h place (UdpRecord.Open (with_incoming o done.1))) { own = Used }
 
 -- A receive begins, of a socket that is bound or not.
 record Begun (op : OpId) (begun : Operation × Socket) : Type 0 where
@@ -73,8 +73,8 @@ names_same line (Receiving.Came d) n = refl
 names_same line (Receiving.Failed c) n = refl
 
 -- an incoming stream that is there, put back
-pub incoming_is : (h : Here) (place : ℕ) (o : OpenUdp) (inc : Incoming) → o.incoming ≡ Some inc → put_udp h place (Udp2Socket.Open (with_incoming o (o.inner, inc))) ≡ put_udp h place (Udp2Socket.Open o)
-incoming_is h place o inc e = ap (λ (x : Option Incoming). put_udp h place (Udp2Socket.Open (record o { incoming = x }))) (sym e)
+pub incoming_is : (h : Here) (place : ℕ) (o : OpenUdp) (inc : Incoming) → o.incoming ≡ Some inc → put_udp h place (UdpRecord.Open (with_incoming o (o.inner, inc))) ≡ put_udp h place (UdpRecord.Open o)
+incoming_is h place o inc e = ap (λ (x : Option Incoming). put_udp h place (UdpRecord.Open (record o { incoming = x }))) (sym e)
 
 module _ {contexts : List WasiSocketsCtx} {line : ℕ} {origin : Step} {law : Law contexts line origin} where
   -- == on the record of a place, by a line that receives
@@ -84,8 +84,8 @@ module _ {contexts : List WasiSocketsCtx} {line : ℕ} {origin : Step} {law : La
     takes_walks takes o n s receiving e w =
         let was : OpenUdp = with_incoming o s in
         let inc : Incoming = with_receiving s.1 (taken receiving).1 in
-        move (UdpChanges _ place was (record was { incoming = Some inc }) (udp_found here (Udp2Socket.Open was)) (plain receiving e) (record { incoming = subst (λ (r : Receiving). StreamMoves origin (With h place o n s) place (Some s.1) (Some (with_receiving s.1 (taken r).1))) e (StreamIsTaken s.1 takes); makes = inl (λ some. refl) }))
-        (from (ap (λ (x : Here). record x { own = Names n }) (sym (udp_put_put h place (Udp2Socket.Open was) (Udp2Socket.Open (record was { incoming = Some inc }))))) w)
+        move (UdpChanges _ place was (record was { incoming = Some inc }) (udp_found here (UdpRecord.Open was)) (plain receiving e) (record { incoming = subst (λ (r : Receiving). StreamMoves origin (With h place o n s) place (Some s.1) (Some (with_receiving s.1 (taken r).1))) e (StreamIsTaken s.1 takes); makes = inl (λ some. refl) }))
+        (from (ap (λ (x : Here). record x { own = Names n }) (sym (udp_put_put h place (UdpRecord.Open was) (UdpRecord.Open (record was { incoming = Some inc }))))) w)
       where
         plain : (receiving : Receiving) → s.1.receiving ≡ receiving → UdpPlain (with_incoming o s) (record (with_incoming o s) { incoming = Some (with_receiving s.1 (taken receiving).1) })
         plain Receiving.Nothing e = idle_in (with_incoming o s) _ refl refl
@@ -102,8 +102,8 @@ module _ {contexts : List WasiSocketsCtx} {line : ℕ} {origin : Step} {law : La
         let now : OpenUdp = record was { incoming = Some busy } in
         let counted : Here = record h { own = Names (n + 1) } in
         let there : HasUdp counted place = record { was = here.was; at = here.at } in
-        move (BeginsReceive _ place n was inc bound at (udp_found here (Udp2Socket.Open was)) refl (is, idle) refl)
-        (from (ap (λ (x : Here). record x { own = Names (n + 1) }) (sym (udp_put_put h place (Udp2Socket.Open was) (Udp2Socket.Open now))))
+        move (BeginsReceive _ place n was inc bound at (udp_found here (UdpRecord.Open was)) refl (is, idle) refl)
+        (from (ap (λ (x : Here). record x { own = Names (n + 1) }) (sym (udp_put_put h place (UdpRecord.Open was) (UdpRecord.Open now))))
         (and_then (poll_receive_walks there now busy op refl refl) (λ ended. give _)))
 
     pub begun_walks : (n : ℕ) (o : OpenUdp) (socket : Socket) (inc : Incoming) → inc.receiving ≡ Receiving.Nothing → Walks law (With h place o n (socket, inc)) (With h place o (n + 1)) (bind (receive_asks (part_of line n) socket) (λ begun. poll_receive_asks begun.1 inc begun.0))
@@ -145,20 +145,20 @@ module _ {contexts : List WasiSocketsCtx} {line : ℕ} {origin : Step} {law : La
         after_walks again (Ok Pending, t) = taken_over o k _
         after_walks again (Err c, t) = taken_over o k _
 
-    datagrams_walks : TakesFrom origin h.machine.table place → (o : OpenUdp) (inc : Option Incoming) (most : ℕ) → o.incoming ≡ inc → h.own ≡ Unused → Walks law (put_udp h place (Udp2Socket.Open o)) (λ done. record (put_udp h place (Udp2Socket.Open done.1)) { own = Used }) (receive_datagrams_asks (record { line = line; next_part = 1 }) most o inc)
+    datagrams_walks : TakesFrom origin h.machine.table place → (o : OpenUdp) (inc : Option Incoming) (most : ℕ) → o.incoming ≡ inc → h.own ≡ Unused → Walks law (put_udp h place (UdpRecord.Open o)) (λ done. record (put_udp h place (UdpRecord.Open done.1)) { own = Used }) (receive_datagrams_asks (record { line = line; next_part = 1 }) most o inc)
     datagrams_walks takes o None most e free = gives _ (Spends _ free)
     datagrams_walks takes o (Some inc) most e free = from (incoming_is h place o inc e) (move (Counts _ free) (and_then (all_walks takes o (min most 16) 65536 1 [] (o.inner, inc)) told_walks))
       where
-        told_walks : (done : Result (List IncomingDatagram) ErrorCode × (Socket × Incoming)) → Walks law (Taken h place o done) (λ done. record (put_udp h place (Udp2Socket.Open done.1)) { own = Used }) (Give (all_received o done))
+        told_walks : (done : Result (List IncomingDatagram) ErrorCode × (Socket × Incoming)) → Walks law (Taken h place o done) (λ done. record (put_udp h place (UdpRecord.Open done.1)) { own = Used }) (Give (all_received o done))
         told_walks (Ok ds, s) = give _
         told_walks (Err c, s) = give _
 
   receives_at : Receives origin → (m : Machine) (place most : ℕ) → TakesFrom origin m.table place → (o : Option OpenUdp) → open_at m.store.records place ≡ o → Walks law (At line m place Unused) (Put line m place) (receive_datagrams_at m.store (first_ids line) place most o)
   receives_at is m place most takes None e = gives _ (Spends _ refl)
   receives_at is m place most takes (Some o) e =
-      let g : FoundUdp (At line m place Unused) place (Udp2Socket.Open o) = open_is (udp2_at m.store.records place) o e in
-      from (udp_put_same (At line m place Unused) place (Udp2Socket.Open o) g)
-      (and_then (datagrams_walks (udp_there {h = At line m place Unused} g) refl is takes o o.incoming most refl refl) (λ done. listed_walks m place (Receive place) (done.0, with_open_udp m.store place done.1) (begins_receive o done.1) (put_finds udp_sort m.store.records place (Udp2Socket.Open o) (Udp2Socket.Open done.1) g)))
+      let g : FoundUdp (At line m place Unused) place (UdpRecord.Open o) = open_is (udp2_at m.store.records place) o e in
+      from (udp_put_same (At line m place Unused) place (UdpRecord.Open o) g)
+      (and_then (datagrams_walks (udp_there {h = At line m place Unused} g) refl is takes o o.incoming most refl refl) (λ done. listed_walks m place (Receive place) (done.0, with_open_udp m.store place done.1) (begins_receive o done.1) (put_finds udp_sort m.store.records place (UdpRecord.Open o) (UdpRecord.Open done.1) g)))
 
   -- of the handle that the line names
   receives_on : Receives origin → (m : Machine) (c incoming most : ℕ) → origin ≡ Step.UdpReceive c incoming most → Has (handles_of origin) incoming → (o : Option ℕ) → incoming_at m incoming ≡ o → Walks law (Starts m Unused) OverWith (receive_datagrams_on m (first_ids line) most o)
@@ -172,19 +172,19 @@ module _ {contexts : List WasiSocketsCtx} {line : ℕ} {origin : Step} {law : La
 
   -- == a turn
   turned_walks : {h : Here} {place : ℕ} (here : HasUdp h place) (o : OpenUdp) (inc : Incoming) (receiving : Receiving) → o.incoming ≡ Some inc → inc.receiving ≡ receiving
-      → Walks law (put_udp h place (Udp2Socket.Open o)) (λ now. put_udp h place (Udp2Socket.Open (record o { incoming = Some now }))) (turn_receiving inc receiving)
+      → Walks law (put_udp h place (UdpRecord.Open o)) (λ now. put_udp h place (UdpRecord.Open (record o { incoming = Some now }))) (turn_receiving inc receiving)
   turned_walks here o inc (Receiving.InProgress op) e f = and_then (poll_receive_walks here o inc op e f) (λ ended. give _)
-  turned_walks {h} {place} here o inc _ e f = from (ap (λ (x : Option Incoming). put_udp h place (Udp2Socket.Open (record o { incoming = x }))) (sym e)) (give _)
+  turned_walks {h} {place} here o inc _ e f = from (ap (λ (x : Option Incoming). put_udp h place (UdpRecord.Open (record o { incoming = x }))) (sym e)) (give _)
 
-  turn_in : {h : Here} {place : ℕ} (here : HasUdp h place) (o : OpenUdp) (inc : Option Incoming) → o.incoming ≡ inc → Walks law (put_udp h place (Udp2Socket.Open o)) (λ now. put_udp h place (Udp2Socket.Open now)) (turn_incoming o inc)
+  turn_in : {h : Here} {place : ℕ} (here : HasUdp h place) (o : OpenUdp) (inc : Option Incoming) → o.incoming ≡ inc → Walks law (put_udp h place (UdpRecord.Open o)) (λ now. put_udp h place (UdpRecord.Open now)) (turn_incoming o inc)
   turn_in here o None e = give _
   turn_in here o (Some inc) e = and_then (turned_walks here o inc inc.receiving e refl) (λ now. give _)
 
   pub turn_receive_walks : (m : Machine) (records : List Record) (place : ℕ) (o : Option OpenUdp) → open_at records place ≡ o → Walks law (Sets m records) (Sets m) (turn_receive_at records place o)
   turn_receive_walks m records place None e = give _
   turn_receive_walks m records place (Some o) e =
-      let g : FoundUdp (Sets m records) place (Udp2Socket.Open o) = open_is (udp2_at records place) o e in
-      from (udp_put_same (Sets m records) place (Udp2Socket.Open o) g) (and_then (turn_in (udp_there {h = Sets m records} g) o o.incoming refl) (λ now. give _))
+      let g : FoundUdp (Sets m records) place (UdpRecord.Open o) = open_is (udp2_at records place) o e in
+      from (udp_put_same (Sets m records) place (UdpRecord.Open o) g) (and_then (turn_in (udp_there {h = Sets m records} g) o o.incoming refl) (λ now. give _))
 
   -- == a drop
   pub drop_incoming_walks : (m : Machine) (place : ℕ) (o : Option OpenUdp) → open_at m.store.records place ≡ o → Walks law (Emptying line m place (kinds.Incoming place) Unused) OverWith (Give (answered (with_store m (at_once (drop_incoming_at m.store place o)))))

@@ -21,7 +21,7 @@ use Rattle.wasi_jobs.specs.declared.job.HostJob.{HostJob}
 use Rattle.wasi_jobs.specs.declared.job.HostJob.TheVariants.{Datagram}
 use Rattle.wasi_records.specs.declared.records.Record.{Record}
 use Rattle.wasi_records.specs.declared.udp.OpenUdp.{OpenUdp}
-use Rattle.wasi_records.specs.declared.udp.Udp2Socket.{Udp2Socket}
+use Rattle.wasi_records.specs.declared.udp.UdpRecord.{UdpRecord}
 use Rattle.wasi_p2.specs.Udp.{check_send_on, send_datagrams_on}
 use Rattle.wasi_udp.specs.Send.{send_asks, send_start}
 use Rattle.wasi_udp.specs.Shape.{Socket}
@@ -77,11 +77,11 @@ all_sent_by c outgoing ds = sent_from (Step.UdpSend c outgoing ds) 0 ds ds (λ k
 
 -- the socket and its stream are these, and so many names of the line are taken
 abbrev With : Here → ℕ → OpenUdp → ℕ → Socket × Outgoing → Here
-With h place o n s = record (put_udp h place (Udp2Socket.Open (record o { inner = s.0; outgoing = Some s.1 }))) { own = Names n }
+With h place o n s = record (put_udp h place (UdpRecord.Open (record o { inner = s.0; outgoing = Some s.1 }))) { own = Names n }
 
 -- and the line begins no more
 abbrev Sent : {A : Type 0} → Here → ℕ → OpenUdp → A × (Socket × Outgoing) → Here
-Sent h place o done = record (put_udp h place (Udp2Socket.Open (record o { inner = done.1.0; outgoing = Some done.1.1 }))) { own = Used }
+Sent h place o done = record (put_udp h place (UdpRecord.Open (record o { inner = done.1.0; outgoing = Some done.1.1 }))) { own = Used }
 
 -- A datagram begins, of a socket that is bound or not.
 record Begun (op : OpId) (d : OutgoingDatagram) (begun : Operation × Socket) : Type 0 where
@@ -109,8 +109,8 @@ module _ {contexts : List WasiSocketsCtx} {line : ℕ} {origin : Step} {law : La
           let now : OpenUdp = record was { outgoing = Some busy } in
           let counted : Here = record h { own = Names (n + 1) } in
           let there : HasUdp counted place = record { was = here.was; at = here.at } in
-          move (BeginsSend _ place n was out d bound at (udp_found here (Udp2Socket.Open was)) refl is k refl)
-          (from (ap (λ (x : Here). record x { own = Names (n + 1) }) (sym (udp_put_put h place (Udp2Socket.Open was) (Udp2Socket.Open now))))
+          move (BeginsSend _ place n was out d bound at (udp_found here (UdpRecord.Open was)) refl is k refl)
+          (from (ap (λ (x : Here). record x { own = Names (n + 1) }) (sym (udp_put_put h place (UdpRecord.Open was) (UdpRecord.Open now))))
           (and_then (poll_send_walks there now busy op (send_left op) refl refl (first_settles op)) (λ ended. give _)))
 
       one_walks : (o : OpenUdp) (socket : Socket) (out : Outgoing) → Walks law (With h place o n (socket, out)) (λ done. With h place o (n + 1) done.1) (send_one_asks (part_of line n) socket out d)
@@ -143,46 +143,46 @@ module _ {contexts : List WasiSocketsCtx} {line : ℕ} {origin : Step} {law : La
         next_walks again (Sending.Failed c) =
             let was : OpenUdp = record o { inner = s.0; outgoing = Some s.1 } in
             let now : OpenUdp = record was { outgoing = Some idle } in
-            move (UdpChanges _ place was now (udp_found here (Udp2Socket.Open was)) (idle_out was (Some idle) refl) (record { incoming = StreamStays _; makes = inl (λ some. some) }))
-            (from (ap (λ (x : Here). record x { own = Names n }) (sym (udp_put_put h place (Udp2Socket.Open was) (Udp2Socket.Open now)))) (sent_over o n _))
+            move (UdpChanges _ place was now (udp_found here (UdpRecord.Open was)) (idle_out was (Some idle) refl) (record { incoming = StreamStays _; makes = inl (λ some. some) }))
+            (from (ap (λ (x : Here). record x { own = Names n }) (sym (udp_put_put h place (UdpRecord.Open was) (UdpRecord.Open now)))) (sent_over o n _))
 
-    permitted_walks : (o : OpenUdp) (out : Outgoing) (ds : List OutgoingDatagram) → AreSent 1 origin ds → o.outgoing ≡ Some out → h.own ≡ Unused → Walks law (put_udp h place (Udp2Socket.Open o)) (λ done. record (put_udp h place (Udp2Socket.Open done.1)) { own = Used }) (send_permitted (record { line = line; next_part = 1 }) o out ds)
+    permitted_walks : (o : OpenUdp) (out : Outgoing) (ds : List OutgoingDatagram) → AreSent 1 origin ds → o.outgoing ≡ Some out → h.own ≡ Unused → Walks law (put_udp h place (UdpRecord.Open o)) (λ done. record (put_udp h place (UdpRecord.Open done.1)) { own = Used }) (send_permitted (record { line = line; next_part = 1 }) o out ds)
     permitted_walks o out ds are e free =
         let none : Outgoing = record out { permit = 0 } in
         let now : OpenUdp = record o { outgoing = Some none } in
         by_if (nat_lt out.permit (length ds)) (λ more. gives _ (Spends _ free))
-        (λ within. move (UdpChanges _ place o now (udp_found here (Udp2Socket.Open o)) (plain_out o (Some none) (ap sending_in (sym e))) (record { incoming = StreamStays _; makes = inl (λ some. rw e (or_true (is_some o.incoming))) }))
-        (from (sym (udp_put_put h place (Udp2Socket.Open o) (Udp2Socket.Open now))) (move (Counts _ free) (and_then (all_walks o 0 1 ds are (o.inner, none)) told_walks))))
+        (λ within. move (UdpChanges _ place o now (udp_found here (UdpRecord.Open o)) (plain_out o (Some none) (ap sending_in (sym e))) (record { incoming = StreamStays _; makes = inl (λ some. rw e (or_true (is_some o.incoming))) }))
+        (from (sym (udp_put_put h place (UdpRecord.Open o) (UdpRecord.Open now))) (move (Counts _ free) (and_then (all_walks o 0 1 ds are (o.inner, none)) told_walks))))
       where
-        told_walks : (done : Result ℕ ErrorCode × (Socket × Outgoing)) → Walks law (Sent h place o done) (λ done. record (put_udp h place (Udp2Socket.Open done.1)) { own = Used }) (Give (all_sent o done))
+        told_walks : (done : Result ℕ ErrorCode × (Socket × Outgoing)) → Walks law (Sent h place o done) (λ done. record (put_udp h place (UdpRecord.Open done.1)) { own = Used }) (Give (all_sent o done))
         told_walks (Ok count, s) = give _
         told_walks (Err c, s) = give _
 
-    some_walks : (o : OpenUdp) (out : Outgoing) (ds : List OutgoingDatagram) → AreSent 1 origin ds → o.outgoing ≡ Some out → h.own ≡ Unused → Walks law (put_udp h place (Udp2Socket.Open o)) (λ done. record (put_udp h place (Udp2Socket.Open done.1)) { own = Used }) (send_some (record { line = line; next_part = 1 }) o out ds)
+    some_walks : (o : OpenUdp) (out : Outgoing) (ds : List OutgoingDatagram) → AreSent 1 origin ds → o.outgoing ≡ Some out → h.own ≡ Unused → Walks law (put_udp h place (UdpRecord.Open o)) (λ done. record (put_udp h place (UdpRecord.Open done.1)) { own = Used }) (send_some (record { line = line; next_part = 1 }) o out ds)
     some_walks o out [] are e free = gives _ (Spends _ free)
     some_walks o out (d ∷ more) are e free = permitted_walks o out (d ∷ more) are e free
 
-    datagrams_walks : (o : OpenUdp) (out : Option Outgoing) (ds : List OutgoingDatagram) → AreSent 1 origin ds → o.outgoing ≡ out → h.own ≡ Unused → Walks law (put_udp h place (Udp2Socket.Open o)) (λ done. record (put_udp h place (Udp2Socket.Open done.1)) { own = Used }) (send_datagrams_asks (record { line = line; next_part = 1 }) o out ds)
+    datagrams_walks : (o : OpenUdp) (out : Option Outgoing) (ds : List OutgoingDatagram) → AreSent 1 origin ds → o.outgoing ≡ out → h.own ≡ Unused → Walks law (put_udp h place (UdpRecord.Open o)) (λ done. record (put_udp h place (UdpRecord.Open done.1)) { own = Used }) (send_datagrams_asks (record { line = line; next_part = 1 }) o out ds)
     datagrams_walks o None ds are e free = gives _ (Spends _ free)
     datagrams_walks o (Some out) ds are e free = some_walks o out ds are e free
 
   -- a job that begins is listed
-  pub listed_walks : {T : Type 0} (m : Machine) (place : ℕ) (job : HostJob) (done : Result T Stop × Records) (begins : Bool) {now : Udp2Socket} → udp2_at done.1.records (job_place job) ≡ Some now → Walks law (Put line m place done) (Put line m place) (Give (done.0, with_job done.1 job begins))
+  pub listed_walks : {T : Type 0} (m : Machine) (place : ℕ) (job : HostJob) (done : Result T Stop × Records) (begins : Bool) {now : UdpRecord} → udp2_at done.1.records (job_place job) ≡ Some now → Walks law (Put line m place done) (Put line m place) (Give (done.0, with_job done.1 job begins))
   listed_walks m place job done true {now} e = gives _ (Lists _ _ (one_begins done.1.records done.1.jobs job (udp_is_record (slice_get done.1.records (job_place job)) now e)))
   listed_walks m place job done false e = give _
 
   sends_at : (m : Machine) (place : ℕ) (ds : List OutgoingDatagram) → AreSent 1 origin ds → (o : Option OpenUdp) → open_at m.store.records place ≡ o → Walks law (At line m place Unused) (Put line m place) (send_datagrams_at m.store (first_ids line) place ds o)
   sends_at m place ds are None e = gives _ (Spends _ refl)
   sends_at m place ds are (Some o) e =
-      let g : FoundUdp (At line m place Unused) place (Udp2Socket.Open o) = open_is (udp2_at m.store.records place) o e in
-      from (udp_put_same (At line m place Unused) place (Udp2Socket.Open o) g)
-      (and_then (datagrams_walks (udp_there {h = At line m place Unused} g) refl o o.outgoing ds are refl refl) (λ done. listed_walks m place (Datagram place) (done.0, with_open_udp m.store place done.1) (begins_send o done.1) (put_finds udp_sort m.store.records place (Udp2Socket.Open o) (Udp2Socket.Open done.1) g)))
+      let g : FoundUdp (At line m place Unused) place (UdpRecord.Open o) = open_is (udp2_at m.store.records place) o e in
+      from (udp_put_same (At line m place Unused) place (UdpRecord.Open o) g)
+      (and_then (datagrams_walks (udp_there {h = At line m place Unused} g) refl o o.outgoing ds are refl refl) (λ done. listed_walks m place (Datagram place) (done.0, with_open_udp m.store place done.1) (begins_send o done.1) (put_finds udp_sort m.store.records place (UdpRecord.Open o) (UdpRecord.Open done.1) g)))
 
   pub send_walks : (m : Machine) (c outgoing : ℕ) (ds : List OutgoingDatagram) → origin ≡ Step.UdpSend c outgoing ds → Has (handles_of origin) outgoing → Walks law (Starts m Unused) OverWith (send_datagrams_on m (first_ids line) ds (outgoing_at m outgoing))
   send_walks m c outgoing ds is named = on_udp m outgoing (outgoing_at m outgoing) named (outgoing_record (kind_at m.table outgoing)) (λ place. sends_at m place ds (subst (λ (s : Step). AreSent 1 s ds) (sym is) (all_sent_by c outgoing ds)) (open_at m.store.records place) refl)
 
   -- == a permit
-  permits_by : (m : Machine) (place : ℕ) (o : OpenUdp) → FoundUdp (Over m) place (Udp2Socket.Open o) → (out : Option Outgoing) → o.outgoing ≡ out → Walks law (Starts m Unused) (λ now. Over now) (Give (with_store m (check_send_by m.store place o out)).1)
+  permits_by : (m : Machine) (place : ℕ) (o : OpenUdp) → FoundUdp (Over m) place (UdpRecord.Open o) → (out : Option Outgoing) → o.outgoing ≡ out → Walks law (Starts m Unused) (λ now. Over now) (Give (with_store m (check_send_by m.store place o out)).1)
   permits_by m place o g None e = gives _ (Spends _ refl)
   permits_by m place o g (Some out) e = move (Spends _ refl) (gives _ (UdpChanges _ place o _ g (plain_out o (Some (permitted out)) (ap sending_in (sym e))) (record { incoming = StreamStays _; makes = inl (λ some. rw e (or_true (is_some o.incoming))) })))
 
@@ -196,23 +196,23 @@ module _ {contexts : List WasiSocketsCtx} {line : ℕ} {origin : Step} {law : La
 
   -- == a turn
   turned_walks : {h : Here} {place : ℕ} (here : HasUdp h place) (o : OpenUdp) (out : Outgoing) (sending : Sending) → o.outgoing ≡ Some out → out.sending ≡ sending
-      → Walks law (put_udp h place (Udp2Socket.Open o)) (λ now. put_udp h place (Udp2Socket.Open (record o { outgoing = Some now }))) (turn_sending o.inner out sending)
+      → Walks law (put_udp h place (UdpRecord.Open o)) (λ now. put_udp h place (UdpRecord.Open (record o { outgoing = Some now }))) (turn_sending o.inner out sending)
   turned_walks here o out (Sending.InProgress op) e f = and_then (poll_send_walks here o out op (turned_left op) e f (turn_settles op)) (λ ended. give _)
-  turned_walks {h} {place} here o out Sending.Nothing e f = from (ap (λ (x : Option Outgoing). put_udp h place (Udp2Socket.Open (record o { outgoing = x }))) (sym e)) (give _)
-  turned_walks {h} {place} here o out (Sending.Failed c) e f = from (ap (λ (x : Option Outgoing). put_udp h place (Udp2Socket.Open (record o { outgoing = x }))) (sym e)) (give _)
+  turned_walks {h} {place} here o out Sending.Nothing e f = from (ap (λ (x : Option Outgoing). put_udp h place (UdpRecord.Open (record o { outgoing = x }))) (sym e)) (give _)
+  turned_walks {h} {place} here o out (Sending.Failed c) e f = from (ap (λ (x : Option Outgoing). put_udp h place (UdpRecord.Open (record o { outgoing = x }))) (sym e)) (give _)
 
-  turn_out : {h : Here} {place : ℕ} (here : HasUdp h place) (o : OpenUdp) (out : Option Outgoing) → o.outgoing ≡ out → Walks law (put_udp h place (Udp2Socket.Open o)) (λ now. put_udp h place (Udp2Socket.Open now)) (turn_outgoing o out)
+  turn_out : {h : Here} {place : ℕ} (here : HasUdp h place) (o : OpenUdp) (out : Option Outgoing) → o.outgoing ≡ out → Walks law (put_udp h place (UdpRecord.Open o)) (λ now. put_udp h place (UdpRecord.Open now)) (turn_outgoing o out)
   turn_out here o None e = give _
   turn_out here o (Some out) e = and_then (turned_walks here o out out.sending e refl) (λ now. give _)
 
   pub turn_datagram_walks : (m : Machine) (records : List Record) (place : ℕ) (o : Option OpenUdp) → open_at records place ≡ o → Walks law (Sets m records) (Sets m) (turn_datagram_at records place o)
   turn_datagram_walks m records place None e = give _
   turn_datagram_walks m records place (Some o) e =
-      let g : FoundUdp (Sets m records) place (Udp2Socket.Open o) = open_is (udp2_at records place) o e in
-      from (udp_put_same (Sets m records) place (Udp2Socket.Open o) g) (and_then (turn_out (udp_there {h = Sets m records} g) o o.outgoing refl) (λ now. give _))
+      let g : FoundUdp (Sets m records) place (UdpRecord.Open o) = open_is (udp2_at records place) o e in
+      from (udp_put_same (Sets m records) place (UdpRecord.Open o) g) (and_then (turn_out (udp_there {h = Sets m records} g) o o.outgoing refl) (λ now. give _))
 
   -- == a drop
-  drops_by : (ids : Ids) (m : Machine) (place : ℕ) (o : OpenUdp) → FoundUdp (At ids.line m place Used) place (Udp2Socket.Open o) → (b : Bool) → sends o.outgoing ≡ b → NoStartStands m.store.standing → Walks law (At ids.line m place Used) (Put ids.line m place) (Give (drop_outgoing_by m.store ids place o b))
+  drops_by : (ids : Ids) (m : Machine) (place : ℕ) (o : OpenUdp) → FoundUdp (At ids.line m place Used) place (UdpRecord.Open o) → (b : Bool) → sends o.outgoing ≡ b → NoStartStands m.store.standing → Walks law (At ids.line m place Used) (Put ids.line m place) (Give (drop_outgoing_by m.store ids place o b))
   drops_by ids m place o g true e q = gives _ (StandsDropOutgoing _ ids place o q refl g e)
   drops_by ids m place o g false e q = gives _ (UdpChanges _ place o _ g (idle_out o None refl) (record { incoming = StreamStays _; makes = inl (λ some. out_gone o some) }))
 

@@ -1,7 +1,7 @@
 -- The steps on sockets, as moves: the handle is looked up, its record does the call, and is put back.
 use Rattle.wasi_walks.proofs.Words.{AnOption, Answer, Asks, Bool, Chosen, Err, ErrorCode, Give, HandleTable, Has, InProgress, Input, IpSocketAddress}
 use Rattle.wasi_walks.proofs.Words.{IsBacklogSet, IsBindTo, IsConnectTo, Kind, List, Machine, None, Ok, Option, Output, Pending, Records, Result}
-use Rattle.wasi_walks.proofs.Words.{ShutdownType, Socket, Some, StandingCall, Step, Stop, Streams, Tcp2Socket, TheBacklog, WasiSocketsCtx}
+use Rattle.wasi_walks.proofs.Words.{ShutdownType, Socket, Some, StandingCall, Step, Stop, Streams, TcpRecord, TheBacklog, WasiSocketsCtx}
 use Rattle.wasi_walks.proofs.Words.{call_answered, call_place, false, finish_at, finish_by}
 use Rattle.wasi_walks.proofs.Words.{finish_on, handles_of, inl, inner_answered, inr, is_connect, is_network, is_nothing, kind_at}
 use Rattle.wasi_walks.proofs.Words.{make_asks, own_of, put_back, refl, set_chosen, set_option_asks}
@@ -39,27 +39,27 @@ module _ {contexts : List WasiSocketsCtx} {line : ℕ} {origin : Step} {law : La
   on_socket m handle (Some place) named k c = move (Reaches _ handle place named (k place refl)) (and_then (c place) (λ done. gives _ (Leaves _)))
 
   -- a call that leaves its record as it was
-  pub looked_walks : {T : Type 0} (m : Machine) (place : ℕ) (call : Socket → Asks (Result T ErrorCode × Socket)) (o : Option Tcp2Socket) → tcp2_at m.store.records place ≡ o
-      → ((r : Tcp2Socket) → HasRecord (At line m place Unused) place → Walks law (put (At line m place Unused) place r) (λ done. put (At line m place Unused) place r) (call r.inner)) → Walks law (At line m place Unused) (Put line m place) (looked_at m.store call o)
+  pub looked_walks : {T : Type 0} (m : Machine) (place : ℕ) (call : Socket → Asks (Result T ErrorCode × Socket)) (o : Option TcpRecord) → tcp2_at m.store.records place ≡ o
+      → ((r : TcpRecord) → HasRecord (At line m place Unused) place → Walks law (put (At line m place Unused) place r) (λ done. put (At line m place Unused) place r) (call r.inner)) → Walks law (At line m place Unused) (Put line m place) (looked_at m.store call o)
   looked_walks m place call None g k = gives _ (Spends _ refl)
   looked_walks m place call (Some r) g k =
       let here = put_same (At line m place Unused) place r g in
       from here (and_then (k r (there g)) (λ done. from (sym here) (gives _ (Spends _ refl))))
 
   -- a call that may stand was answered
-  pub answered_walks : (m : Machine) (ids : Ids) (call : StandingCall) → NoStartStands m.store.standing → (begun : Result (Answer (Unit {0})) ErrorCode × Tcp2Socket) → HasRecord (At ids.line m (call_place call) Used) (call_place call) → WaitsSo call begun
+  pub answered_walks : (m : Machine) (ids : Ids) (call : StandingCall) → NoStartStands m.store.standing → (begun : Result (Answer (Unit {0})) ErrorCode × TcpRecord) → HasRecord (At ids.line m (call_place call) Used) (call_place call) → WaitsSo call begun
       → Walks law (put (At ids.line m (call_place call) Used) (call_place call) begun.1) (Put ids.line m (call_place call)) (Give (call_answered m.store ids call begun))
   answered_walks m ids call q (Ok Pending, r) here waits = gives _ (Stands _ ids call r q refl (found here r) waits)
   answered_walks m ids call q _ here waits = give _
 
   -- == a bind
-  start_by_walks : (m : Machine) (place : ℕ) (a : IpSocketAddress) (r : Tcp2Socket) (idle : Bool) → is_nothing r.in_progress ≡ idle → Found (At line m place Unused) place r → IsBindTo a origin → NoStartStands m.store.standing → Walks law (At line m place Unused) (Put line m place) (start_bind_by m.store (first_ids line) place a r idle)
+  start_by_walks : (m : Machine) (place : ℕ) (a : IpSocketAddress) (r : TcpRecord) (idle : Bool) → is_nothing r.in_progress ≡ idle → Found (At line m place Unused) place r → IsBindTo a origin → NoStartStands m.store.standing → Walks law (At line m place Unused) (Put line m place) (start_bind_by m.store (first_ids line) place a r idle)
   start_by_walks m place a r true e g to q =
       from (put_same (At line m place Unused) place r g)
       (and_given (WaitsSo (StandingCall.Bind place)) (begun_bind_given place (own_of line) r a) (begin_bind_walks (there g) refl a to refl q r e) (λ begun w. answered_walks m (first_ids line) (StandingCall.Bind place) q begun (record { was = r; found = g }) w))
   start_by_walks m place a r false e g to q = gives _ (Spends _ refl)
 
-  start_at_walks : (m : Machine) (place : ℕ) (a : IpSocketAddress) (o : Option Tcp2Socket) → tcp2_at m.store.records place ≡ o → IsBindTo a origin → NoStartStands m.store.standing → Walks law (At line m place Unused) (Put line m place) (start_bind_at m.store (first_ids line) place a o)
+  start_at_walks : (m : Machine) (place : ℕ) (a : IpSocketAddress) (o : Option TcpRecord) → tcp2_at m.store.records place ≡ o → IsBindTo a origin → NoStartStands m.store.standing → Walks law (At line m place Unused) (Put line m place) (start_bind_at m.store (first_ids line) place a o)
   start_at_walks m place a None g to q = gives _ (Spends _ refl)
   start_at_walks m place a (Some r) g to q = start_by_walks m place a r (is_nothing r.in_progress) refl g to q
 
@@ -72,15 +72,15 @@ module _ {contexts : List WasiSocketsCtx} {line : ℕ} {origin : Step} {law : La
   start_bind_walks m s n a named to q = by_if (is_network (kind_at m.table n)) (λ yes. start_on_walks m s a (socket_at m s) refl named to q) (λ other. gives _ (Spends _ refl))
 
   -- == a connect
-  put_back_walks : {T : Type 0} (m : Machine) (place : ℕ) (done : Result T ErrorCode × Tcp2Socket) → Walks law (record (put (At line m place Unused) place done.1) { own = Used }) (Put line m place) (Give (put_back m.store place done))
+  put_back_walks : {T : Type 0} (m : Machine) (place : ℕ) (done : Result T ErrorCode × TcpRecord) → Walks law (record (put (At line m place Unused) place done.1) { own = Used }) (Put line m place) (Give (put_back m.store place done))
   put_back_walks m place (Ok value, r) = give _
   put_back_walks m place (Err c, r) = give _
 
-  start_connect_by_walks : (m : Machine) (place : ℕ) (a : IpSocketAddress) (r : Tcp2Socket) (idle : Bool) → is_nothing r.in_progress ≡ idle → Found (At line m place Unused) place r → IsConnectTo a origin → Walks law (At line m place Unused) (Put line m place) (start_connect_by m.store (own_of line) place a r idle)
+  start_connect_by_walks : (m : Machine) (place : ℕ) (a : IpSocketAddress) (r : TcpRecord) (idle : Bool) → is_nothing r.in_progress ≡ idle → Found (At line m place Unused) place r → IsConnectTo a origin → Walks law (At line m place Unused) (Put line m place) (start_connect_by m.store (own_of line) place a r idle)
   start_connect_by_walks m place a r true e g to = from (put_same (At line m place Unused) place r g) (and_then (begin_connect_walks (there g) refl r a to e refl) (put_back_walks m place))
   start_connect_by_walks m place a r false e g to = gives _ (Spends _ refl)
 
-  start_connect_at_walks : (m : Machine) (place : ℕ) (a : IpSocketAddress) (o : Option Tcp2Socket) → tcp2_at m.store.records place ≡ o → IsConnectTo a origin → Walks law (At line m place Unused) (Put line m place) (start_connect_at m.store (own_of line) place a o)
+  start_connect_at_walks : (m : Machine) (place : ℕ) (a : IpSocketAddress) (o : Option TcpRecord) → tcp2_at m.store.records place ≡ o → IsConnectTo a origin → Walks law (At line m place Unused) (Put line m place) (start_connect_at m.store (own_of line) place a o)
   start_connect_at_walks m place a None g to = gives _ (Spends _ refl)
   start_connect_at_walks m place a (Some r) g to = start_connect_by_walks m place a r (is_nothing r.in_progress) refl g to
 
@@ -93,8 +93,8 @@ module _ {contexts : List WasiSocketsCtx} {line : ℕ} {origin : Step} {law : La
   start_connect_walks m s n a named to = by_if (is_network (kind_at m.table n)) (λ yes. start_connect_on_walks m s a (socket_at m s) refl named to) (λ other. gives _ (Spends _ refl))
 
   -- == blocks: a call on the record of a number, and of a handle
-  on_tcp_walks : {A : Type 0} (m : Machine) (place : ℕ) (asked : Tcp2Socket → Asks (Result A ErrorCode × Tcp2Socket))
-      → ((r : Tcp2Socket) → HasRecord (At line m place Unused) place → Walks law (put (At line m place Unused) place r) (λ done. put (At line m place Unused) place done.1) (asked r))
+  on_tcp_walks : {A : Type 0} (m : Machine) (place : ℕ) (asked : TcpRecord → Asks (Result A ErrorCode × TcpRecord))
+      → ((r : TcpRecord) → HasRecord (At line m place Unused) place → Walks law (put (At line m place Unused) place r) (λ done. put (At line m place Unused) place done.1) (asked r))
       → Walks law (At line m place Unused) (Put line m place) (on_tcp place asked m.store)
   on_tcp_walks m place asked w =
       look (λ r. last (asked_of place r asked)) (tcp2_at m.store.records place) (gives _ (Spends _ refl))
@@ -154,7 +154,7 @@ module _ {contexts : List WasiSocketsCtx} {line : ℕ} {origin : Step} {law : La
   pub as_left : {A : Type 0} {h : Here} {x : A} {now : Machine} → Walks law h (λ m. Over m) (Give now) → Walks law h OverWith (Give (x, now))
   as_left w = record { along = w.along }
 
-  finishes : (m : Machine) (place : ℕ) (is_it : InProgress → Bool) → ((doing : InProgress) → is_it doing ≡ true → IsSettled doing) → (o : Option Tcp2Socket) → tcp2_at m.store.records place ≡ o → Walks law (Starts m Unused) (λ now. Over now) (Give (with_store m (finish_at is_it m.store place o)).1)
+  finishes : (m : Machine) (place : ℕ) (is_it : InProgress → Bool) → ((doing : InProgress) → is_it doing ≡ true → IsSettled doing) → (o : Option TcpRecord) → tcp2_at m.store.records place ≡ o → Walks law (Starts m Unused) (λ now. Over now) (Give (with_store m (finish_at is_it m.store place o)).1)
   finishes m place is_it settles None g = gives _ (Spends _ refl)
   finishes m place is_it settles (Some r) g = by_test (is_it r.in_progress) refl
     where
@@ -167,11 +167,11 @@ module _ {contexts : List WasiSocketsCtx} {line : ℕ} {origin : Step} {law : La
   finish_started_walks m is_it settles (Some place) = finishes m place is_it settles (tcp2_at m.store.records place) refl
 
   -- == a shutdown
-  shut_record_walks : {h : Here} {place : ℕ} (here : HasRecord h place) (at : h.at ≡ Some (place, line)) (how : ShutdownType) (r : Tcp2Socket) (o : Option Streams) → r.streams ≡ o → Walks law (put h place r) (λ done. put h place done.1) (shut_record (own_of line) how r o)
+  shut_record_walks : {h : Here} {place : ℕ} (here : HasRecord h place) (at : h.at ≡ Some (place, line)) (how : ShutdownType) (r : TcpRecord) (o : Option Streams) → r.streams ≡ o → Walks law (put h place r) (λ done. put h place done.1) (shut_record (own_of line) how r o)
   shut_record_walks here at how r None e = give _
   shut_record_walks {h} {place} here at how r (Some s) e = from (streams_are h place r s e) (and_then (shut_walks here at r s how) (λ done. give _))
 
-  pub shutdown_at_walks : (m : Machine) (place : ℕ) (how : ShutdownType) (o : Option Tcp2Socket) → tcp2_at m.store.records place ≡ o → Walks law (At line m place Unused) (Put line m place) (shutdown_at m.store (own_of line) how place o)
+  pub shutdown_at_walks : (m : Machine) (place : ℕ) (how : ShutdownType) (o : Option TcpRecord) → tcp2_at m.store.records place ≡ o → Walks law (At line m place Unused) (Put line m place) (shutdown_at m.store (own_of line) how place o)
   shutdown_at_walks m place how None g = gives _ (Spends _ refl)
   shutdown_at_walks m place how (Some r) g = from (put_same (At line m place Unused) place r g) (and_then (shut_record_walks (there g) refl how r r.streams refl) (λ done. gives _ (Spends _ refl)))
 
@@ -182,7 +182,7 @@ module _ {contexts : List WasiSocketsCtx} {line : ℕ} {origin : Step} {law : La
       on_socket m s o named k (λ place. looked_walks m place (λ x. set_option_asks (own_of line) x option value) (tcp2_at m.store.records place) refl (λ r here. set_walks here refl r option value refl (q option value refl)))
   set_chosen_walks m s o (TheBacklog value) named k q b = on_socket m s o named k (λ place. backlog_at_walks m place (tcp2_at m.store.records place) refl)
     where
-      backlog_at_walks : (m : Machine) (place : ℕ) (o : Option Tcp2Socket) → tcp2_at m.store.records place ≡ o → Walks law (At line m place Unused) (Put line m place) (set_backlog_at m.store (own_of line) place value o)
+      backlog_at_walks : (m : Machine) (place : ℕ) (o : Option TcpRecord) → tcp2_at m.store.records place ≡ o → Walks law (At line m place Unused) (Put line m place) (set_backlog_at m.store (own_of line) place value o)
       backlog_at_walks m place None g = gives _ (Spends _ refl)
       backlog_at_walks m place (Some r) g =
           from (put_same (At line m place Unused) place r g) (and_then (backlog_walks (there g) refl r value (b value refl)) (λ done. move (Spends _ refl) (put_back_walks m place (inner_answered r done))))

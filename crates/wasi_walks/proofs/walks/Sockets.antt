@@ -12,7 +12,7 @@ use Rattle.wasi_walks.proofs.Words.{Records, TcpReceiveStream, TcpSendStream}
 use Rattle.wasi_walks.proofs.Words.{Accepting, Accepts, Answer, Begins, Bool, Connection, Done, End, Err, ErrorCode, Give, InProgress}
 use Rattle.wasi_walks.proofs.Words.{InvalidArgument, InvalidState, IpSocketAddress, IsBacklogSet, IsBindTo, IsConnectTo, IsListenStep, Item, List}
 use Rattle.wasi_walks.proofs.Words.{Listener, Listening, None, Not, Ok, OpId, Operation, Option, Pending, Ready, Refused, Result, Socket, Some}
-use Rattle.wasi_walks.proofs.Words.{StandingCall, Step, Stop, Tcp2Socket, TcpState, Waits, WasiSocketsCtx, accept_asks, accept_end, accept_ended}
+use Rattle.wasi_walks.proofs.Words.{StandingCall, Step, Stop, TcpRecord, TcpState, Waits, WasiSocketsCtx, accept_asks, accept_end, accept_ended}
 use Rattle.wasi_walks.proofs.Words.{accepted_record, after_backlog, after_local, ap, ask_bound, ask_set_option, begin_bind_asks, begin_connect_asks}
 use Rattle.wasi_walks.proofs.Words.{begin_listen_asks, bind, bind_allowed, bind_asks, bind_begun, bind_ended, bound_asks, closed_listening}
 use Rattle.wasi_walks.proofs.Words.{connect_begun, connect_first, connect_operation, connect_polled, connect_start, false, finish_connect_asks}
@@ -39,11 +39,11 @@ use Rattle.wasi_records.specs.declared.records.Record.{Record}
 use Rattle.wasi_walks.proofs.Places.{put_finds, put_twice, tcp_sort}
 
 -- what a call on the record's socket, its reader or its writer leaves
-abbrev pub Inner : {A : Type 0} → Here → ℕ → Tcp2Socket → A × Socket → Here
+abbrev pub Inner : {A : Type 0} → Here → ℕ → TcpRecord → A × Socket → Here
 Inner h place r done = put h place (with_inner r done.1)
 
 -- the bind that was begun is kept; or the line's own operation never begins
-abbrev pub Started : Here → ℕ → Tcp2Socket → Result Operation ErrorCode × Socket → Here
+abbrev pub Started : Here → ℕ → TcpRecord → Result Operation ErrorCode × Socket → Here
 Started h place r (Ok op, socket) = record (put h place (record r { inner = socket; in_progress = InProgress.Binding op })) { own = Used }
 Started h place r (Err c, socket) = record (put h place (with_inner r socket)) { own = Used }
 
@@ -57,7 +57,7 @@ usable_if s true side e = usable s side e
 usable_if s false side e = absurd (cc)
 
 -- nothing is in progress
-pub idled : (r : Tcp2Socket) → IsSettled r.in_progress → Plain r (with_progress r InProgress.Nothing)
+pub idled : (r : TcpRecord) → IsSettled r.in_progress → Plain r (with_progress r InProgress.Nothing)
 idled r settled = record { side = refl; streams = refl; listening = refl; does = refl; maker = refl; family = refl; bound = λ side d b. b; binds = inr (settled, tt); connects = λ e. absurd (cc) }
 
 pub connect_settles : (doing : InProgress) → is_connect doing ≡ true → IsSettled doing
@@ -69,7 +69,7 @@ idle_settles InProgress.Nothing e = tt
 idle_settles _ e = absurd (cc)
 
 -- the line's own operation began something, or never will
-abbrev pub Spent : {A : Type 0} → Here → ℕ → Tcp2Socket → A × Socket → Here
+abbrev pub Spent : {A : Type 0} → Here → ℕ → TcpRecord → A × Socket → Here
 Spent h place r done = record (put h place (with_inner r done.1)) { own = Used }
 
 -- what the answer to Bound? says of the socket that it leaves
@@ -114,42 +114,42 @@ begun_given op socket a (TcpState.Default side) = given_then BeginsSo (λ b. con
 begun_given op socket a _ = tt
 
 -- the record, with its socket in this state
-abbrev pub In : Here → ℕ → Tcp2Socket → Socket → TcpState → Here
+abbrev pub In : Here → ℕ → TcpRecord → Socket → TcpState → Here
 In h place r socket s = put h place (with_inner r (with_state socket s))
 
 -- a poll of a connect asks by the line that began it
 module _ {contexts : List WasiSocketsCtx} {line : ℕ} {origin : Step} {law : Law contexts line origin} {h : Here} {place : ℕ} (here : HasRecord h place) where
-  finish_in_walks : (r : Tcp2Socket) (s : TcpState) → Walks law (In h place r r.inner s) (λ done. In h place r r.inner done.1) (finish_in s)
+  finish_in_walks : (r : TcpRecord) (s : TcpState) → Walks law (In h place r r.inner s) (λ done. In h place r r.inner done.1) (finish_in s)
   finish_in_walks r (TcpState.Connecting op) = and_then (connect here (with_inner r (with_state r.inner (TcpState.Connecting op))) op refl) (λ ended. give _)
   finish_in_walks r _ = give _
 
-  pub finish_walks : (r : Tcp2Socket) → Walks law (put h place r) (λ done. put h place (with_inner r done.1)) (finish_connect_asks r.inner)
+  pub finish_walks : (r : TcpRecord) → Walks law (put h place r) (λ done. put h place (with_inner r done.1)) (finish_connect_asks r.inner)
   finish_walks r = and_then (finish_in_walks r r.inner.state) (λ done. give _)
 
   -- it is in progress no more
-  idles : {A : Type 0} (r : Tcp2Socket) (socket : Socket) (answer : A) → IsSettled r.in_progress → Walks law {A = A × Tcp2Socket} (put h place (with_inner r socket)) (λ done. put h place done.1) (Give (answer, idle r socket))
+  idles : {A : Type 0} (r : TcpRecord) (socket : Socket) (answer : A) → IsSettled r.in_progress → Walks law {A = A × TcpRecord} (put h place (with_inner r socket)) (λ done. put h place done.1) (Give (answer, idle r socket))
   idles r socket answer settled = on here (with_inner r socket) _ (Changes _ _ _ _ (found here (with_inner r socket)) (idled (with_inner r socket) settled)) (give _)
 
-  sends : (r : Tcp2Socket) (socket : Socket) (c : Connection) (taken : Bool) → IsSettled r.in_progress → c.send_taken ≡ taken
+  sends : (r : TcpRecord) (socket : Socket) (c : Connection) (taken : Bool) → IsSettled r.in_progress → c.send_taken ≡ taken
       → Walks law (In h place r socket (TcpState.Connected c)) (λ done. put h place done.1) (Give (opened_send r (record { side = c.side }) (in_socket socket (still_connected (taken_send c taken)))))
   sends r socket c true settled e = idles r (with_state socket (TcpState.Connected c)) _ settled
   sends r socket c false settled e = let now = with_inner r (with_state socket (TcpState.Connected c)) in on here now (opened_by now c) (Opens _ _ _ c settled (found here now) refl e) (give _)
 
-  receives : (r : Tcp2Socket) (socket : Socket) (c : Connection) (taken : Bool) → IsSettled r.in_progress → Walks law (In h place r socket (TcpState.Connected c)) (λ done. put h place done.1) (Give (opened_receive r (in_socket socket (still_connected (taken_receive c taken)))))
+  receives : (r : TcpRecord) (socket : Socket) (c : Connection) (taken : Bool) → IsSettled r.in_progress → Walks law (In h place r socket (TcpState.Connected c)) (λ done. put h place done.1) (Give (opened_receive r (in_socket socket (still_connected (taken_receive c taken)))))
   receives r socket c true settled = idles r (with_state socket (TcpState.Connected c)) _ settled
   receives r socket c false settled =
       let now = with_inner r (with_state socket (TcpState.Connected c)) in
       let next : Connection = record c { receive_taken = true } in
-      let none : Tcp2Socket = with_progress r InProgress.Nothing in
+      let none : TcpRecord = with_progress r InProgress.Nothing in
       let waits = with_inner none (with_state socket (TcpState.Connected c)) in
       on here now waits (Changes _ _ _ _ (found here now) (idled now settled))
       (on here waits (with_inner none (with_state socket (TcpState.Connected next))) (Reconnects _ _ _ c next (found here waits) refl refl (λ t. t) (λ e. absurd (cc))) (sends none (with_state socket (TcpState.Connected next)) next next.send_taken tt refl))
 
-  opens : (r : Tcp2Socket) (socket : Socket) (s : TcpState) → IsSettled r.in_progress → Walks law (In h place r socket s) (λ done. put h place done.1) (Give (opened_receive r (in_socket socket (take_receive s))))
+  opens : (r : TcpRecord) (socket : Socket) (s : TcpState) → IsSettled r.in_progress → Walks law (In h place r socket s) (λ done. put h place done.1) (Give (opened_receive r (in_socket socket (take_receive s))))
   opens r socket (TcpState.Connected c) settled = receives r socket c c.receive_taken settled
   opens r socket s settled = idles r (with_state socket s) _ settled
 
-  pub poll_connect_walks : (r : Tcp2Socket) → IsSettled r.in_progress → Walks law (put h place r) (λ done. put h place done.1) (poll_connect_asks r)
+  pub poll_connect_walks : (r : TcpRecord) → IsSettled r.in_progress → Walks law (put h place r) (λ done. put h place done.1) (poll_connect_asks r)
   poll_connect_walks r settled = and_then (finish_walks r) polled
     where
       polled : (done : Result (Answer (Unit {0})) ErrorCode × Socket) → Walks law (put h place (with_inner r done.1)) (λ d. put h place d.1) (Give (connect_polled r done))
@@ -158,11 +158,11 @@ module _ {contexts : List WasiSocketsCtx} {line : ℕ} {origin : Step} {law : La
       polled (Err c, socket) = idles r socket _ settled
 
 -- where a connect is finished, the streams are made
-abbrev OpenedSo : Result (Unit {0}) Stop × Tcp2Socket → Type 0
+abbrev OpenedSo : Result (Unit {0}) Stop × TcpRecord → Type 0
 OpenedSo (Ok done, r) = IsSome r.streams
 OpenedSo (Err why, r) = ⊤
 
-polled_so : (r : Tcp2Socket) (done : Result (Answer (Unit {0})) ErrorCode × Socket) → OpenedSo (connect_polled r done)
+polled_so : (r : TcpRecord) (done : Result (Answer (Unit {0})) ErrorCode × Socket) → OpenedSo (connect_polled r done)
 polled_so r (Ok Pending, socket) = tt
 polled_so r (Ok (Ready d), socket) = receive_so (in_socket socket (take_receive socket.state))
   where
@@ -183,38 +183,38 @@ FinishedSo place (Err why, store) = ⊤
 pub finished_of : (store : Records) (place : ℕ) → Given (FinishedSo place) (finish_connect_of place store)
 finished_of store place = by_record (tcp2_at store.records place) refl
   where
-    kept : (r : Tcp2Socket) → tcp2_at store.records place ≡ Some r → (done : Result (Unit {0}) Stop × Tcp2Socket) → OpenedSo done
+    kept : (r : TcpRecord) → tcp2_at store.records place ≡ Some r → (done : Result (Unit {0}) Stop × TcpRecord) → OpenedSo done
         → Given (FinishedSo place) (after_call same_stop (λ s now. with_socket s place now) gives_all store done)
-    kept r g (Ok d, now) has = subst (λ (o : Option Tcp2Socket). IsSome (streams_in o)) (sym (put_finds tcp_sort store.records place r now g)) has
+    kept r g (Ok d, now) has = subst (λ (o : Option TcpRecord). IsSome (streams_in o)) (sym (put_finds tcp_sort store.records place r now g)) has
     kept r g (Err why, now) has = tt
 
-    by_test : (r : Tcp2Socket) → tcp2_at store.records place ≡ Some r → (its : Bool)
+    by_test : (r : TcpRecord) → tcp2_at store.records place ≡ Some r → (its : Bool)
         → Given (FinishedSo place) (if its then last (done_by place r poll_connect_asks) store else Give (Err (Code NotInProgress), store))
     by_test r g true =
         given_along OpenedSo (FinishedSo place) (poll_connect_asks r) _
         (given_then OpenedSo (connect_polled r) (polled_so r) (finish_connect_asks r.inner)) (kept r g)
     by_test r g false = tt
 
-    by_record : (o : Option Tcp2Socket) → tcp2_at store.records place ≡ o
+    by_record : (o : Option TcpRecord) → tcp2_at store.records place ≡ o
         → Given (FinishedSo place) (or_trap (λ r. need (is_connect r.in_progress) (Code NotInProgress) >> last (done_by place r poll_connect_asks)) store o)
     by_record None g = tt
     by_record (Some r) g = by_test r g (is_connect r.in_progress)
 
 -- a bind that waits is in progress
-abbrev pub WaitsSo : StandingCall → Result (Answer (Unit {0})) ErrorCode × Tcp2Socket → Type 0
+abbrev pub WaitsSo : StandingCall → Result (Answer (Unit {0})) ErrorCode × TcpRecord → Type 0
 WaitsSo call (Ok Pending, r) = GoesOn call r
 WaitsSo call _ = ⊤
 
-ended_so : (place : ℕ) (op : Operation) (r : Tcp2Socket) (ended : End × List Item) → WaitsSo (StandingCall.Bind place) (bind_ended op r ended)
+ended_so : (place : ℕ) (op : Operation) (r : TcpRecord) (ended : End × List Item) → WaitsSo (StandingCall.Bind place) (bind_ended op r ended)
 ended_so place op r (Waits, items) = tt
 ended_so place op r (Done given, items) = tt
 ended_so place op r (Refused c given, items) = tt
 
-pub polled_given : (place : ℕ) (r : Tcp2Socket) (doing : InProgress) → Given (WaitsSo (StandingCall.Bind place)) (poll_binding r doing)
+pub polled_given : (place : ℕ) (r : TcpRecord) (doing : InProgress) → Given (WaitsSo (StandingCall.Bind place)) (poll_binding r doing)
 polled_given place r (InProgress.Binding op) = given_then (WaitsSo (StandingCall.Bind place)) (bind_ended op r) (ended_so place op r) (poll_asks op)
 polled_given place r _ = tt
 
-pub begun_bind_given : (place : ℕ) (op : OpId) (r : Tcp2Socket) (a : IpSocketAddress) → Given (WaitsSo (StandingCall.Bind place)) (begin_bind_asks op r a)
+pub begun_bind_given : (place : ℕ) (op : OpId) (r : TcpRecord) (a : IpSocketAddress) → Given (WaitsSo (StandingCall.Bind place)) (begin_bind_asks op r a)
 begun_bind_given place op r a = given_on (WaitsSo (StandingCall.Bind place)) (bind_begun r) begun (bind_asks op r.inner a)
   where
     begun : (start : Result Operation ErrorCode × Socket) → Given (WaitsSo (StandingCall.Bind place)) (bind_begun r start)
@@ -222,12 +222,12 @@ begun_bind_given place op r a = given_on (WaitsSo (StandingCall.Bind place)) (bi
     begun (Err c, socket) = tt
 
 -- and so is a listen, whose address was reported
-listened_so : (place : ℕ) (op : Operation) (r : Tcp2Socket) (socket : Socket) (ended : End × List Item) → IsTold ended → WaitsSo (StandingCall.Listen place) (listen_polled r (listen_ended op.who socket ended))
+listened_so : (place : ℕ) (op : Operation) (r : TcpRecord) (socket : Socket) (ended : End × List Item) → IsTold ended → WaitsSo (StandingCall.Listen place) (listen_polled r (listen_ended op.who socket ended))
 listened_so place op r socket (Waits, items) k = k
 listened_so place op r socket (Done given, items) k = tt
 listened_so place op r socket (Refused c given, items) k = tt
 
-begun_listening : (place : ℕ) (r : Tcp2Socket) (op : Operation) (over : Bool) → Given (WaitsSo (StandingCall.Listen place)) (bind (if over then Give (Err InvalidState, (op, r.inner)) else listen_goes_on op r.inner) (λ done. Give (listen_polled r done)))
+begun_listening : (place : ℕ) (r : TcpRecord) (op : Operation) (over : Bool) → Given (WaitsSo (StandingCall.Listen place)) (bind (if over then Give (Err InvalidState, (op, r.inner)) else listen_goes_on op r.inner) (λ done. Give (listen_polled r done)))
 unfolding bind
 begun_listening place r op true = tt
 begun_listening place r op false = from_goes (given_along IsTold (λ done. WaitsSo (StandingCall.Listen place) (listen_polled r done)) (poll_asks op) (λ ended. Give (listen_ended op.who r.inner ended)) (told_first 63 op.who op.left) (λ ended k. listened_so place op r r.inner ended k))
@@ -235,7 +235,7 @@ begun_listening place r op false = from_goes (given_along IsTold (λ done. Waits
     from_goes : Given (λ done. WaitsSo (StandingCall.Listen place) (listen_polled r done)) (listen_goes_on op r.inner) → Given (WaitsSo (StandingCall.Listen place)) (bind (listen_goes_on op r.inner) (λ done. Give (listen_polled r done)))
     from_goes k = given_along (λ done. WaitsSo (StandingCall.Listen place) (listen_polled r done)) (WaitsSo (StandingCall.Listen place)) (listen_goes_on op r.inner) (λ done. Give (listen_polled r done)) k (λ done w. w)
 
-pub listen_given : (place : ℕ) (r : Tcp2Socket) → Given (WaitsSo (StandingCall.Listen place)) (poll_listen_asks r)
+pub listen_given : (place : ℕ) (r : TcpRecord) → Given (WaitsSo (StandingCall.Listen place)) (poll_listen_asks r)
 listen_given place r = by_side (side_of r.inner)
   where
     by_listening : (l : Listening) → Given (WaitsSo (StandingCall.Listen place)) (poll_listening r l)
@@ -246,28 +246,28 @@ listen_given place r = by_side (side_of r.inner)
     by_side None = by_listening r.listening
     by_side (Some side) = tt
 
-pub begun_listen_given : (place : ℕ) (op : OpId) (r : Tcp2Socket) → Given (WaitsSo (StandingCall.Listen place)) (begin_listen_asks op r)
+pub begun_listen_given : (place : ℕ) (op : OpId) (r : TcpRecord) → Given (WaitsSo (StandingCall.Listen place)) (begin_listen_asks op r)
 begun_listen_given place op r = given_on (WaitsSo (StandingCall.Listen place)) (λ b. listen_bound op (with_inner r b.1) b.0) (λ b. by_bound (with_inner r b.1) b.0) (bound_asks op r.inner)
   where
-    begun : (now : Tcp2Socket) (start : Result Operation ErrorCode × Socket) → Given (WaitsSo (StandingCall.Listen place)) (listen_begun now start)
+    begun : (now : TcpRecord) (start : Result Operation ErrorCode × Socket) → Given (WaitsSo (StandingCall.Listen place)) (listen_begun now start)
     begun now (Ok o, socket) = listen_given place (record now { inner = socket; listening = Begins o })
     begun now (Err c, socket) = tt
 
-    by_listening : (now : Tcp2Socket) (l : Listening) → Given (WaitsSo (StandingCall.Listen place)) (listen_once op now l)
+    by_listening : (now : TcpRecord) (l : Listening) → Given (WaitsSo (StandingCall.Listen place)) (listen_once op now l)
     by_listening now Not = given_on (WaitsSo (StandingCall.Listen place)) (listen_begun now) (begun now) (listen_asks op now.inner)
     by_listening now _ = tt
 
-    by_bound : (now : Tcp2Socket) (b : Bool) → Given (WaitsSo (StandingCall.Listen place)) (listen_bound op now b)
+    by_bound : (now : TcpRecord) (b : Bool) → Given (WaitsSo (StandingCall.Listen place)) (listen_bound op now b)
     by_bound now true = by_listening now now.listening
     by_bound now false = tt
 
 -- the tests of a bind
-module _ {contexts : List WasiSocketsCtx} {line : ℕ} {origin : Step} {law : Law contexts line origin} {h : Here} {place : ℕ} (here : HasRecord h place) (at : h.at ≡ Some (place, line)) (a : IpSocketAddress) (to : IsBindTo a origin) (free : h.own ≡ Unused) (r : Tcp2Socket) (idle : is_nothing r.in_progress ≡ true) where
+module _ {contexts : List WasiSocketsCtx} {line : ℕ} {origin : Step} {law : Law contexts line origin} {h : Here} {place : ℕ} (here : HasRecord h place) (at : h.at ≡ Some (place, line)) (a : IpSocketAddress) (to : IsBindTo a origin) (free : h.own ≡ Unused) (r : TcpRecord) (idle : is_nothing r.in_progress ≡ true) where
   allowed_if : (socket : Socket) (side : OpId) (b : Bool) → socket.state ≡ TcpState.Default side
       → Walks law (put h place (with_inner r socket)) (Started h place r) (Give (if b then Ok (begun_bind (own_of line) side (with_inner r socket) a) else Err InvalidArgument, socket))
   allowed_if socket side true e =
-      let now : Tcp2Socket = with_inner r socket in
-      let begun : Tcp2Socket = with_progress now (InProgress.Binding (begun_bind (own_of line) side now a)) in
+      let now : TcpRecord = with_inner r socket in
+      let begun : TcpRecord = with_progress now (InProgress.Binding (begun_bind (own_of line) side now a)) in
       move (BeginsBind (put h place now) place now side a at (found here now) e to idle free) (from (ap (λ (x : Here). record x { own = Used }) (sym (put_put h place now begun))) (give _))
   allowed_if socket side false e = gives _ (Spends _ free)
 
@@ -281,42 +281,42 @@ module _ {contexts : List WasiSocketsCtx} {line : ℕ} {origin : Step} {law : La
 
 -- a poll of the bind that was begun
 module _ {contexts : List WasiSocketsCtx} {line : ℕ} {origin : Step} {law : Law contexts line origin} {h : Here} {place : ℕ} (here : HasRecord h place) (quiet : NoStart h) where
-  poll_binding_walks : (r : Tcp2Socket) (doing : InProgress) → r.in_progress ≡ doing → Walks law (put h place r) (λ done. put h place done.1) (poll_binding r doing)
+  poll_binding_walks : (r : TcpRecord) (doing : InProgress) → r.in_progress ≡ doing → Walks law (put h place r) (λ done. put h place done.1) (poll_binding r doing)
   poll_binding_walks r (InProgress.Binding op) e = and_then (poll_bind here r op quiet e) (λ ended. give _)
   poll_binding_walks r _ e = give _
 
-  pub poll_bind_walks : (r : Tcp2Socket) → Walks law (put h place r) (λ done. put h place done.1) (poll_bind_asks r)
+  pub poll_bind_walks : (r : TcpRecord) → Walks law (put h place r) (λ done. put h place done.1) (poll_bind_asks r)
   poll_bind_walks r = poll_binding_walks r r.in_progress refl
 
 module _ {contexts : List WasiSocketsCtx} {line : ℕ} {origin : Step} {law : Law contexts line origin} {h : Here} {place n : ℕ} (here : HasRecord h place) (at : h.at ≡ Some (place, n)) where
   -- == options
-  get_where_walks : (r : Tcp2Socket) (option : Opt) (u : Result OpId ErrorCode) → n ≡ line → IsGetOf option origin → ((side : OpId) → u ≡ Ok side → side_of r.inner ≡ Some side) → Walks law (put h place r) (λ done. put h place r) (get_where (own_of n) r.inner option u)
+  get_where_walks : (r : TcpRecord) (option : Opt) (u : Result OpId ErrorCode) → n ≡ line → IsGetOf option origin → ((side : OpId) → u ≡ Ok side → side_of r.inner ≡ Some side) → Walks law (put h place r) (λ done. put h place r) (get_where (own_of n) r.inner option u)
   unfolding bind
   get_where_walks r option (Ok side) own is k = ask here r at (OfSocket (k side refl)) (refl, own, is) (λ told fits. give _)
   get_where_walks r option (Err c) own is k = give _
 
-  pub get_walks : (r : Tcp2Socket) (option : Opt) → n ≡ line → IsGetOf option origin → Walks law (put h place r) (λ done. put h place r) (get_option_asks (own_of n) r.inner option)
+  pub get_walks : (r : TcpRecord) (option : Opt) → n ≡ line → IsGetOf option origin → Walks law (put h place r) (λ done. put h place r) (get_option_asks (own_of n) r.inner option)
   get_walks r option own is = get_where_walks r option (usable_side r.inner.state) own is (usable r.inner.state)
 
-  set_of_side_walks : (r : Tcp2Socket) (side : OpId) (option : Opt) (value : ℕ) (zero : Bool) → n ≡ line → IsSetTo option (value_set option value) origin → side_of r.inner ≡ Some side
+  set_of_side_walks : (r : TcpRecord) (side : OpId) (option : Opt) (value : ℕ) (zero : Bool) → n ≡ line → IsSetTo option (value_set option value) origin → side_of r.inner ≡ Some side
       → Walks law (put h place r) (λ done. put h place r) (if zero then Give (Err InvalidArgument) else ask_set_option (own_of n) side option (value_set option value))
   set_of_side_walks r side option value true own is e = give _
   set_of_side_walks r side option value false own is e = ask here r at (OfSocket e) (refl, own, is) (λ told fits. give _)
 
-  set_where_walks : (r : Tcp2Socket) (option : Opt) (value : ℕ) (u : Result OpId ErrorCode) → n ≡ line → IsSetTo option (value_set option value) origin → ((side : OpId) → u ≡ Ok side → side_of r.inner ≡ Some side) → Walks law (put h place r) (λ done. put h place r) (set_where (own_of n) r.inner option value u)
+  set_where_walks : (r : TcpRecord) (option : Opt) (value : ℕ) (u : Result OpId ErrorCode) → n ≡ line → IsSetTo option (value_set option value) origin → ((side : OpId) → u ≡ Ok side → side_of r.inner ≡ Some side) → Walks law (put h place r) (λ done. put h place r) (set_where (own_of n) r.inner option value u)
   set_where_walks r option value (Ok side) own is k = and_then (set_of_side_walks r side option value (refused_after (zero_test option) value) own is (k side refl)) (λ answer. give _)
   set_where_walks r option value (Err c) own is k = give _
 
-  pub set_walks : (r : Tcp2Socket) (option : Opt) (value : ℕ) → n ≡ line → IsSetTo option (value_set option value) origin → Walks law (put h place r) (λ done. put h place r) (set_option_asks (own_of n) r.inner option value)
+  pub set_walks : (r : TcpRecord) (option : Opt) (value : ℕ) → n ≡ line → IsSetTo option (value_set option value) origin → Walks law (put h place r) (λ done. put h place r) (set_option_asks (own_of n) r.inner option value)
   set_walks r option value own is = by_if (refused_before (zero_test option) value) (λ refused. give _) (λ allowed. set_where_walks r option value (usable_side r.inner.state) own is (usable r.inner.state))
 
   -- == what a socket says of itself
-  told_walks : (r : Tcp2Socket) (u : Result OpId ErrorCode) → ((side : OpId) → u ≡ Ok side → side_of r.inner ≡ Some side) → Walks law (put h place r) (Inner h place r) (local_from (own_of n) r.inner u)
+  told_walks : (r : TcpRecord) (u : Result OpId ErrorCode) → ((side : OpId) → u ≡ Ok side → side_of r.inner ≡ Some side) → Walks law (put h place r) (Inner h place r) (local_from (own_of n) r.inner u)
   unfolding bind
   told_walks r (Ok side) k = ask here r at (OfSocket (k side refl)) refl (λ told fits. give _)
   told_walks r (Err c) k = give _
 
-  peer_walks : (r : Tcp2Socket) (c : Connection) (o : Option IpSocketAddress) → Walks law (In h place r r.inner (TcpState.Connected c)) (λ done. In h place r r.inner (TcpState.Connected done.1)) (peer_known (own_of n) c o)
+  peer_walks : (r : TcpRecord) (c : Connection) (o : Option IpSocketAddress) → Walks law (In h place r r.inner (TcpState.Connected c)) (λ done. In h place r r.inner (TcpState.Connected done.1)) (peer_known (own_of n) c o)
   unfolding bind
   peer_walks r c (Some a) = give _
   peer_walks r c None = ask here (with_inner r (with_state r.inner (TcpState.Connected c))) at (OfSocket refl) refl (λ told fits. known (told_addr told))
@@ -325,92 +325,92 @@ module _ {contexts : List WasiSocketsCtx} {line : ℕ} {origin : Step} {law : La
       known (Ok a) = let old = with_inner r (with_state r.inner (TcpState.Connected c)) in on here old _ (Reconnects _ _ _ c (record c { peer = Some a }) (found here old) refl refl (λ t. t) (λ e. (refl, refl))) (give _)
       known (Err x) = give _
 
-  remote_in_walks : (r : Tcp2Socket) (s : TcpState) → Walks law (In h place r r.inner s) (λ done. In h place r r.inner done.1) (remote_in (own_of n) s)
+  remote_in_walks : (r : TcpRecord) (s : TcpState) → Walks law (In h place r r.inner s) (λ done. In h place r r.inner done.1) (remote_in (own_of n) s)
   remote_in_walks r (TcpState.Connected c) = and_then (peer_walks r c c.peer) (λ p. give _)
   remote_in_walks r _ = give _
 
-  pub remote_walks : (r : Tcp2Socket) → Walks law (put h place r) (λ done. put h place done.1) (tell_remote_asks (own_of n) r)
+  pub remote_walks : (r : TcpRecord) → Walks law (put h place r) (λ done. put h place done.1) (tell_remote_asks (own_of n) r)
   remote_walks r = and_then (and_then (remote_in_walks r r.inner.state) (λ done. give _)) (λ done. give _)
 
 module _ {contexts : List WasiSocketsCtx} {line : ℕ} {origin : Step} {law : Law contexts line origin} {h : Here} {place : ℕ} (here : HasRecord h place) (at : h.at ≡ Some (place, line)) where
   -- == a bind
-  is_bound : (r : Tcp2Socket) → ((side : OpId) → r.inner.state ≡ TcpState.Default side → ⊥) → Walks law (put h place r) (Inner h place r) (Give (true, record r.inner { bound = true }))
+  is_bound : (r : TcpRecord) → ((side : OpId) → r.inner.state ≡ TcpState.Default side → ⊥) → Walks law (put h place r) (Inner h place r) (Give (true, record r.inner { bound = true }))
   is_bound r other = on here r _ (Changes _ _ _ _ (found here r) (record { side = refl; streams = refl; listening = refl; does = refl; maker = refl; family = refl; bound = λ side d b. absurd (other side d); binds = inl refl; connects = λ e. inl e })) (give _)
 
-  bound_in : (r : Tcp2Socket) (s : TcpState) → r.inner.state ≡ s → Walks law (put h place r) (Inner h place r) (ask_bound (own_of line) r.inner s)
+  bound_in : (r : TcpRecord) (s : TcpState) → r.inner.state ≡ s → Walks law (put h place r) (Inner h place r) (ask_bound (own_of line) r.inner s)
   unfolding bind
   bound_in r (TcpState.Default side) e = learn here r at e (λ told. give _)
   bound_in r _ e = is_bound r (λ side d. absurd (cc))
 
-  pub bound_walks : (r : Tcp2Socket) → Walks law (put h place r) (Inner h place r) (bound_asks (own_of line) r.inner)
+  pub bound_walks : (r : TcpRecord) → Walks law (put h place r) (Inner h place r) (bound_asks (own_of line) r.inner)
   bound_walks r = by_if r.inner.bound (λ known. give _) (λ unknown. bound_in r r.inner.state refl)
 
   module _ (a : IpSocketAddress) (to : IsBindTo a origin) (free : h.own ≡ Unused) (quiet : NoStart h) where
-    bind_walks : (r : Tcp2Socket) → is_nothing r.in_progress ≡ true → Walks law (put h place r) (Started h place r) (bind_asks (own_of line) r.inner a)
+    bind_walks : (r : TcpRecord) → is_nothing r.in_progress ≡ true → Walks law (put h place r) (Started h place r) (bind_asks (own_of line) r.inner a)
     bind_walks r idle = and_then (bound_walks r) (λ b. started here at a to free r idle b.1 b.0)
 
-    begun_walks : (r : Tcp2Socket) (start : Result Operation ErrorCode × Socket) → Walks law (Started h place r start) (λ done. record (put h place done.1) { own = Used }) (bind_begun r start)
+    begun_walks : (r : TcpRecord) (start : Result Operation ErrorCode × Socket) → Walks law (Started h place r start) (λ done. record (put h place done.1) { own = Used }) (bind_begun r start)
     begun_walks r (Ok op, socket) = poll_bind_walks (spent here) quiet (record r { inner = socket; in_progress = InProgress.Binding op })
     begun_walks r (Err c, socket) = give _
 
-    pub begin_bind_walks : (r : Tcp2Socket) → is_nothing r.in_progress ≡ true → Walks law (put h place r) (λ done. record (put h place done.1) { own = Used }) (begin_bind_asks (own_of line) r a)
+    pub begin_bind_walks : (r : TcpRecord) → is_nothing r.in_progress ≡ true → Walks law (put h place r) (λ done. record (put h place done.1) { own = Used }) (begin_bind_asks (own_of line) r a)
     begin_bind_walks r idle = and_then (bind_walks r idle) (begun_walks r)
 
   -- == a connect
-  connect_if : (r : Tcp2Socket) (side : OpId) (a : IpSocketAddress) (bound able : Bool) (done : Unit {0}) → r.inner.state ≡ TcpState.Default side → IsConnectTo a origin → (bound ≡ true → r.inner.bound ≡ true) → is_nothing r.in_progress ≡ true → h.own ≡ Unused
+  connect_if : (r : TcpRecord) (side : OpId) (a : IpSocketAddress) (bound able : Bool) (done : Unit {0}) → r.inner.state ≡ TcpState.Default side → IsConnectTo a origin → (bound ≡ true → r.inner.bound ≡ true) → is_nothing r.in_progress ≡ true → h.own ≡ Unused
       → Walks law (put h place r) (Spent h place r) (Give (if able then (Ok done, with_state r.inner (TcpState.Connecting (connect_operation (record { op = own_of line; side = side; maker = r.inner.maker }) (wildcard r.inner.family) a (connect_first bound)))) else (Err InvalidArgument, r.inner)))
   connect_if r side a bound true done e to known idle free =
-      let now : Tcp2Socket = with_inner r (with_state r.inner (TcpState.Connecting (connect_operation (record { op = own_of line; side = side; maker = r.inner.maker }) (wildcard r.inner.family) a (connect_first bound)))) in
+      let now : TcpRecord = with_inner r (with_state r.inner (TcpState.Connecting (connect_operation (record { op = own_of line; side = side; maker = r.inner.maker }) (wildcard r.inner.family) a (connect_first bound)))) in
       move (BeginsConnect (put h place r) place r side a bound at (found here r) e to known idle free) (from (ap (λ (x : Here). record x { own = Used }) (sym (put_put h place r now))) (give _))
   connect_if r side a bound false done e to known idle free = gives _ (Spends _ free)
 
-  start_connect_walks : (r : Tcp2Socket) (a : IpSocketAddress) (s : TcpState) → r.inner.state ≡ s → IsConnectTo a origin → is_nothing r.in_progress ≡ true → h.own ≡ Unused → Walks law (put h place r) (Spent h place r) (start_connect_in (own_of line) r.inner a s)
+  start_connect_walks : (r : TcpRecord) (a : IpSocketAddress) (s : TcpState) → r.inner.state ≡ s → IsConnectTo a origin → is_nothing r.in_progress ≡ true → h.own ≡ Unused → Walks law (put h place r) (Spent h place r) (start_connect_in (own_of line) r.inner a s)
   start_connect_walks r a (TcpState.Default side) e to idle free =
       and_given (KnowsBound r.inner) (bound_given (own_of line) r.inner) (bound_walks r) (λ b k. connect_if (with_inner r b.1) side a b.0 (is_connectable b.1 a) tt (k.1 ∙ e) to k.0 idle free)
   start_connect_walks r a _ e to idle free = gives _ (Spends _ free)
 
-  pub begin_connect_walks : (r : Tcp2Socket) (a : IpSocketAddress) → IsConnectTo a origin → is_nothing r.in_progress ≡ true → h.own ≡ Unused → Walks law (put h place r) (λ done. record (put h place done.1) { own = Used }) (begin_connect_asks (own_of line) r a)
+  pub begin_connect_walks : (r : TcpRecord) (a : IpSocketAddress) → IsConnectTo a origin → is_nothing r.in_progress ≡ true → h.own ≡ Unused → Walks law (put h place r) (λ done. record (put h place done.1) { own = Used }) (begin_connect_asks (own_of line) r a)
   begin_connect_walks r a to idle free = and_given BeginsSo (begun_given (own_of line) r.inner a r.inner.state) (start_connect_walks r a r.inner.state refl to idle free) begun
     where
       begun : (done : Result (Unit {0}) ErrorCode × Socket) → BeginsSo done → Walks law (Spent h place r done) (λ d. record (put h place d.1) { own = Used }) (Give (connect_begun r done))
       begun (Ok d, socket) so = on (spent here) (with_inner r socket) _ (Changes _ _ _ _ (found (spent here) (with_inner r socket)) (record { side = refl; streams = refl; listening = refl; does = refl; maker = refl; family = refl; bound = λ side d b. b; binds = inr (idle_settles r.in_progress idle, tt); connects = λ e. inr so })) (give _)
       begun (Err c, socket) so = give _
 
-  pub local_walks : (r : Tcp2Socket) → Walks law (put h place r) (λ done. put h place done.1) (tell_local_asks (own_of line) r)
+  pub local_walks : (r : TcpRecord) → Walks law (put h place r) (λ done. put h place done.1) (tell_local_asks (own_of line) r)
   local_walks r = and_then (and_then (bound_walks r) (λ b. told_walks here at (with_inner r b.1) (local_side b.1 b.0) (usable_if b.1.state b.0))) (λ done. give _)
 
 -- == the backlog, and whether it is ready
-backlog_kept : (r : Tcp2Socket) (b : ℕ) → Plain r (with_inner r (with_backlog r.inner b))
+backlog_kept : (r : TcpRecord) (b : ℕ) → Plain r (with_inner r (with_backlog r.inner b))
 backlog_kept r b = record { side = refl; streams = refl; listening = refl; does = refl; maker = refl; family = refl; bound = λ side d e. e; binds = inl refl; connects = λ e. inl e }
 
 module _ {contexts : List WasiSocketsCtx} {line : ℕ} {origin : Step} {law : Law contexts line origin} {h : Here} {place : ℕ} (here : HasRecord h place) (at : h.at ≡ Some (place, line)) where
-  backlog_told : (r : Tcp2Socket) (b : ℕ) (told : Result (Unit {0}) ErrorCode) → Walks law (put h place r) (Inner h place r) (Give (after_backlog r.inner b told))
+  backlog_told : (r : TcpRecord) (b : ℕ) (told : Result (Unit {0}) ErrorCode) → Walks law (put h place r) (Inner h place r) (Give (after_backlog r.inner b told))
   backlog_told r b (Ok done) = on here r _ (Changes _ _ _ _ (found here r) (backlog_kept r b)) (give _)
   backlog_told r b (Err c) = give _
 
-  backlog_in_walks : (r : Tcp2Socket) (b : ℕ) (s : TcpState) → r.inner.state ≡ s → IsBacklogSet b origin → Walks law (put h place r) (Inner h place r) (set_backlog_in (own_of line) r.inner b s)
+  backlog_in_walks : (r : TcpRecord) (b : ℕ) (s : TcpState) → r.inner.state ≡ s → IsBacklogSet b origin → Walks law (put h place r) (Inner h place r) (set_backlog_in (own_of line) r.inner b s)
   unfolding bind
   backlog_in_walks r b (TcpState.Default side) e is = on here r _ (Changes _ _ _ _ (found here r) (backlog_kept r b)) (give _)
   backlog_in_walks r b (TcpState.Listening side) e is = set here r at e is (λ told. backlog_told r b (told_done told))
   backlog_in_walks r b _ e is = give _
 
-  pub backlog_walks : (r : Tcp2Socket) (value : ℕ) → IsBacklogSet (clamped_backlog value) origin → Walks law (put h place r) (Inner h place r) (set_backlog_asks (own_of line) r.inner value)
+  pub backlog_walks : (r : TcpRecord) (value : ℕ) → IsBacklogSet (clamped_backlog value) origin → Walks law (put h place r) (Inner h place r) (set_backlog_asks (own_of line) r.inner value)
   backlog_walks r value is = by_if (value == 0) (λ none. give _) (λ some. backlog_in_walks r (clamped_backlog value) r.inner.state refl is)
 
 -- == a listen
 module _ {contexts : List WasiSocketsCtx} {line : ℕ} {origin : Step} {law : Law contexts line origin} {h : Here} {place : ℕ} (here : HasRecord h place) (quiet : NoStart h) where
-  poll_begun_walks : (r : Tcp2Socket) (op : Operation) → r.listening ≡ Begins op → side_of r.inner ≡ None → Walks law (put h place r) (λ done. put h place done.1) (poll_begun r op)
+  poll_begun_walks : (r : TcpRecord) (op : Operation) → r.listening ≡ Begins op → side_of r.inner ≡ None → Walks law (put h place r) (λ done. put h place done.1) (poll_begun r op)
   poll_begun_walks r op e c = and_then {mid = λ done. put h place (listen_polled r done).1} (by_if (is_over op) (λ over. on here r _ (Unlistens _ _ _ op quiet (found here r) e c over) (give _)) (λ more. and_then (listen here r op quiet e c) (λ ended. give _))) (λ done. give _)
 
-  by_listening : (r : Tcp2Socket) (l : Listening) → r.listening ≡ l → side_of r.inner ≡ None → Walks law (put h place r) (λ done. put h place done.1) (poll_listening r l)
+  by_listening : (r : TcpRecord) (l : Listening) → r.listening ≡ l → side_of r.inner ≡ None → Walks law (put h place r) (λ done. put h place done.1) (poll_listening r l)
   by_listening r (Begins op) e c = poll_begun_walks r op e c
   by_listening r _ e c = give _
 
-  by_side : (r : Tcp2Socket) (o : Option OpId) → side_of r.inner ≡ o → Walks law (put h place r) (λ done. put h place done.1) (closed_listening r o)
+  by_side : (r : TcpRecord) (o : Option OpId) → side_of r.inner ≡ o → Walks law (put h place r) (λ done. put h place done.1) (closed_listening r o)
   by_side r None e = by_listening r r.listening refl e
   by_side r (Some side) e = give _
 
-  pub poll_listen_walks : (r : Tcp2Socket) → Walks law (put h place r) (λ done. put h place done.1) (poll_listen_asks r)
+  pub poll_listen_walks : (r : TcpRecord) → Walks law (put h place r) (λ done. put h place done.1) (poll_listen_asks r)
   poll_listen_walks r = by_side r (side_of r.inner) refl
 
 -- one that is known to be bound is asked nothing
@@ -422,47 +422,47 @@ known_given op socket e = by_test socket.bound e
     by_test false p = absurd (cc)
 
 -- the operation that was begun holds the network socket
-abbrev pub Listened : Here → ℕ → Tcp2Socket → Result Operation ErrorCode × Socket → Here
+abbrev pub Listened : Here → ℕ → TcpRecord → Result Operation ErrorCode × Socket → Here
 Listened h place r (Ok op, socket) = record (put h place (record r { inner = socket; listening = Begins op })) { own = Used }
 Listened h place r (Err c, socket) = record (put h place (with_inner r socket)) { own = Used }
 
 module _ {contexts : List WasiSocketsCtx} {line : ℕ} {origin : Step} {law : Law contexts line origin} {h : Here} {place : ℕ} (here : HasRecord h place) (at : h.at ≡ Some (place, line)) (is : IsListenStep origin) (free : h.own ≡ Unused) (quiet : NoStart h) where
-  starts_listen : (r : Tcp2Socket) (s : TcpState) → r.inner.state ≡ s → r.listening ≡ Not → r.inner.bound ≡ true → is_nothing r.in_progress ≡ true → Walks law (put h place r) (Listened h place r) (Give (listen_start (own_of line) r.inner true s))
+  starts_listen : (r : TcpRecord) (s : TcpState) → r.inner.state ≡ s → r.listening ≡ Not → r.inner.bound ≡ true → is_nothing r.in_progress ≡ true → Walks law (put h place r) (Listened h place r) (Give (listen_start (own_of line) r.inner true s))
   starts_listen r (TcpState.Default side) e none bound idle = move (BeginsListen (put h place r) place r side at (found here r) e bound none is idle free) (from (ap (λ (x : Here). record x { own = Used }) (sym (put_put h place r (beginning_listen (own_of line) side r)))) (give _))
   starts_listen r _ e none bound idle = gives _ (Spends _ free)
 
-  starts_known : (r : Tcp2Socket) (b : Bool × Socket) → (b.0 ≡ true) × (b.1 ≡ r.inner) → r.listening ≡ Not → r.inner.bound ≡ true → is_nothing r.in_progress ≡ true → Walks law (put h place (with_inner r b.1)) (Listened h place r) (Give (listen_start (own_of line) b.1 b.0 b.1.state))
+  starts_known : (r : TcpRecord) (b : Bool × Socket) → (b.0 ≡ true) × (b.1 ≡ r.inner) → r.listening ≡ Not → r.inner.bound ≡ true → is_nothing r.in_progress ≡ true → Walks law (put h place (with_inner r b.1)) (Listened h place r) (Give (listen_start (own_of line) b.1 b.0 b.1.state))
   starts_known r b k none bound idle =
       let T : Bool × Socket → Type 0 = λ x. Walks law (put h place (with_inner r x.1)) (Listened h place r) (Give (listen_start (own_of line) x.1 x.0 x.1.state)) in
       subst (λ (x : Bool). T (x, b.1)) (sym k.0) (subst (λ (y : Socket). T (true, y)) (sym k.1) (starts_listen r r.inner.state refl none bound idle))
 
-  listened_walks : (r : Tcp2Socket) (start : Result Operation ErrorCode × Socket) → Walks law (Listened h place r start) (λ done. record (put h place done.1) { own = Used }) (listen_begun r start)
+  listened_walks : (r : TcpRecord) (start : Result Operation ErrorCode × Socket) → Walks law (Listened h place r start) (λ done. record (put h place done.1) { own = Used }) (listen_begun r start)
   listened_walks r (Ok op, socket) = poll_listen_walks (spent here) quiet (record r { inner = socket; listening = Begins op })
   listened_walks r (Err c, socket) = give _
 
-  once_walks : (r : Tcp2Socket) (l : Listening) → r.listening ≡ l → r.inner.bound ≡ true → is_nothing r.in_progress ≡ true → Walks law (put h place r) (λ done. record (put h place done.1) { own = Used }) (listen_once (own_of line) r l)
+  once_walks : (r : TcpRecord) (l : Listening) → r.listening ≡ l → r.inner.bound ≡ true → is_nothing r.in_progress ≡ true → Walks law (put h place r) (λ done. record (put h place done.1) { own = Used }) (listen_once (own_of line) r l)
   once_walks r Not e bound idle = and_then (and_given (λ b. (b.0 ≡ true) × (b.1 ≡ r.inner)) (known_given (own_of line) r.inner bound) (bound_walks here at r) (λ b k. starts_known r b k e bound idle)) (listened_walks r)
   once_walks r _ e bound idle = gives _ (Spends _ free)
 
-  if_bound_walks : (r : Tcp2Socket) (b : Bool) → (b ≡ true → r.inner.bound ≡ true) → is_nothing r.in_progress ≡ true → Walks law (put h place r) (λ done. record (put h place done.1) { own = Used }) (listen_bound (own_of line) r b)
+  if_bound_walks : (r : TcpRecord) (b : Bool) → (b ≡ true → r.inner.bound ≡ true) → is_nothing r.in_progress ≡ true → Walks law (put h place r) (λ done. record (put h place done.1) { own = Used }) (listen_bound (own_of line) r b)
   if_bound_walks r true k idle = once_walks r r.listening refl (k refl) idle
   if_bound_walks r false k idle = gives _ (Spends _ free)
 
-  pub begin_listen_walks : (r : Tcp2Socket) → is_nothing r.in_progress ≡ true → Walks law (put h place r) (λ done. record (put h place done.1) { own = Used }) (begin_listen_asks (own_of line) r)
+  pub begin_listen_walks : (r : TcpRecord) → is_nothing r.in_progress ≡ true → Walks law (put h place r) (λ done. record (put h place done.1) { own = Used }) (begin_listen_asks (own_of line) r)
   begin_listen_walks r idle = and_given (KnowsBound r.inner) (bound_given (own_of line) r.inner) (bound_walks here at r) (λ b k. if_bound_walks (with_inner r b.1) b.0 k.0 idle)
 
 -- == an accept
-same_accept : (h : Here) (place : ℕ) (r : Tcp2Socket) (l : Listener) (a : Accepting) → r.listening ≡ Accepts l → l.accept ≡ a → put h place (accepting_now r l a) ≡ put h place r
+same_accept : (h : Here) (place : ℕ) (r : TcpRecord) (l : Listener) (a : Accepting) → r.listening ≡ Accepts l → l.accept ≡ a → put h place (accepting_now r l a) ≡ put h place r
 same_accept h place r l a e q = ap (λ (x : Accepting). put h place (accepting_now r l x)) (sym q) ∙ ap (λ (x : Listening). put h place (with_listening r x)) (sym e)
 
 module _ {contexts : List WasiSocketsCtx} {line : ℕ} {origin : Step} {law : Law contexts line origin} {h : Here} {place : ℕ} (here : HasRecord h place) where
-  accepting_walks : {A : Type 0} {end : A → Here} (r : Tcp2Socket) (l : Listener) (ends : Accepting → A) → ((now : Accepting) → Walks law (put h place (accepting_now r l now)) end (Give (ends now))) → (a : Accepting) → Walks law (put h place (accepting_now r l a)) end (accept_asks ends a)
+  accepting_walks : {A : Type 0} {end : A → Here} (r : TcpRecord) (l : Listener) (ends : Accepting → A) → ((now : Accepting) → Walks law (put h place (accepting_now r l now)) end (Give (ends now))) → (a : Accepting) → Walks law (put h place (accepting_now r l a)) end (accept_asks ends a)
   accepting_walks r l ends k (Accepting.Asking op) = and_then (await here (accepting_now r l (Accepting.Asking op)) (with_accept l (Accepting.Asking op)) op refl refl) (λ ended. k (accept_ended op.who ended))
   accepting_walks r l ends k s = k s
 
 module _ {contexts : List WasiSocketsCtx} {line : ℕ} {origin : Step} {law : Law contexts line origin} {h : Here} {place : ℕ} (here : HasRecord h place) (at : h.at ≡ Some (place, line)) where
   -- an accept begins, by the next name of the line
-  begins_accept_walks : {A : Type 0} {end : A → Here} (r : Tcp2Socket) (l : Listener) (ends : Accepting → A) (part : ℕ) → r.listening ≡ Accepts l → l.accept ≡ Accepting.Idle → h.own ≡ Names part
+  begins_accept_walks : {A : Type 0} {end : A → Here} (r : TcpRecord) (l : Listener) (ends : Accepting → A) (part : ℕ) → r.listening ≡ Accepts l → l.accept ≡ Accepting.Idle → h.own ≡ Names part
       → ((now : Accepting) → Walks law (record (put h place (accepting_now r l now)) { own = Names (part + 1) }) end (Give (ends now))) → Walks law (put h place r) end (accept_asks ends (new_accept (part_of line part) l))
   begins_accept_walks r l ends part e q free k =
       let new = new_accept (part_of line part) l in
@@ -471,7 +471,7 @@ module _ {contexts : List WasiSocketsCtx} {line : ℕ} {origin : Step} {law : La
 
 module _ {contexts : List WasiSocketsCtx} {line : ℕ} {origin : Step} {law : Law contexts line origin} {h : Here} {place n : ℕ} (here : HasRecord h place) (at : h.at ≡ Some (place, n)) where
   -- a call of a listener, which may begin its accept
-  pub listener_walks : {A : Type 0} {end : A → Here} (r : Tcp2Socket) (l : Listener) (ends : Accepting → A) (part : ℕ) (a : Accepting) → r.listening ≡ Accepts l → l.accept ≡ a → MayBegin line n part h.own (not (has_accept a))
+  pub listener_walks : {A : Type 0} {end : A → Here} (r : TcpRecord) (l : Listener) (ends : Accepting → A) (part : ℕ) (a : Accepting) → r.listening ≡ Accepts l → l.accept ≡ a → MayBegin line n part h.own (not (has_accept a))
       → ((now : Accepting) → Walks law (record (put h place (accepting_now r l now)) { own = after h.own part (not (has_accept a)) }) end (Give (ends now))) → Walks law (put h place r) end (accept_asks ends (accept_begun l.side l.maker (record { line = n; next_part = part }) a))
   listener_walks {end = end} r l ends part Accepting.Idle e q may k =
       let its = may refl in
@@ -479,21 +479,21 @@ module _ {contexts : List WasiSocketsCtx} {line : ℕ} {origin : Step} {law : La
   listener_walks r l ends part s e q may k = from (same_accept h place r l s e q) (accepting_walks here r l ends k s)
 
 -- what was taken joins the records, with its streams
-abbrev pub joined_if : Here → ℕ → Tcp2Socket → Result (Unit {0}) Stop × Tcp2Socket → Here
+abbrev pub joined_if : Here → ℕ → TcpRecord → Result (Unit {0}) Stop × TcpRecord → Here
 joined_if h place r (Ok done, now) = joining h (tcp2_put h.machine.store.records place r) now
 joined_if h place r (Err stop, now) = put h place r
 
-abbrev pub Took : Here → ℕ → Result (Answer Socket) ErrorCode × Tcp2Socket → Here
+abbrev pub Took : Here → ℕ → Result (Answer Socket) ErrorCode × TcpRecord → Here
 Took h place (Ok (Ready socket), r) = joined_if h place r (accepted_record socket)
 Took h place (Ok Pending, r) = put h place r
 Took h place (Err c, r) = put h place r
 
 module _ {contexts : List WasiSocketsCtx} {line : ℕ} {origin : Step} {law : Law contexts line origin} {h : Here} {place : ℕ} (here : HasRecord h place) (c handle : ℕ) (is : origin ≡ Step.TcpAccept c handle) (of : record_of (kind_at h.machine.table handle) ≡ Some place) (unmade : h.made ≡ Unmade) where
-  pub takes_walks : (r : Tcp2Socket) (l : Listener) (now : Accepting) → Walks law (put h place (accepting_now r l now)) (λ done. Took h place (Ok done.0, with_listening r (Accepts done.1))) (Give (accept_end l now))
+  pub takes_walks : (r : TcpRecord) (l : Listener) (now : Accepting) → Walks law (put h place (accepting_now r l now)) (λ done. Took h place (Ok done.0, with_listening r (Accepts done.1))) (Give (accept_end l now))
   takes_walks r l (Accepting.Arrived new peer) =
-      let old : Tcp2Socket = accepting_now r l (Accepting.Arrived new peer) in
-      let idle : Tcp2Socket = accepting_now r l Accepting.Idle in
+      let old : TcpRecord = accepting_now r l (Accepting.Arrived new peer) in
+      let idle : TcpRecord = accepting_now r l Accepting.Idle in
       move (Joins (put h place old) c handle place old (with_accept l (Accepting.Arrived new peer)) new peer is of unmade (found here old) refl refl)
       (from (ap (λ (xs : List Record). joining h xs (joined l new peer)) (sym (put_twice tcp_sort h.machine.store.records place old idle))) (give _))
-  takes_walks r l (Accepting.Failed why) = let old : Tcp2Socket = accepting_now r l (Accepting.Failed why) in on here old _ (Forgets _ _ _ (with_accept l (Accepting.Failed why)) why (found here old) refl refl) (give _)
+  takes_walks r l (Accepting.Failed why) = let old : TcpRecord = accepting_now r l (Accepting.Failed why) in on here old _ (Forgets _ _ _ (with_accept l (Accepting.Failed why)) why (found here old) refl refl) (give _)
   takes_walks r l _ = give _

@@ -1,7 +1,7 @@
 -- What a line works on where it begins, in its midst and at its end, and what is known of handles there.
 use Rattle.wasi_walks.proofs.Words.{Answer, Ask, AskWrite, Asks, Bool, Err, ErrorCode, Full, Give, HandleTable, Input, Kind, List, Machine, None, Ok}
 use Rattle.wasi_walks.proofs.Words.{OpId, Option, Output, Pending, Pollable, Ready, Records, Result, Socket, Some, Standing, Stop}
-use Rattle.wasi_walks.proofs.Words.{Streams, Tcp2, Tcp2Socket, Trap, Watched, accept_answered, accept_at, accept_record_asks, accepted_record, ap}
+use Rattle.wasi_walks.proofs.Words.{Streams, Tcp2, TcpRecord, Trap, Watched, accept_answered, accept_at, accept_record_asks, accepted_record, ap}
 use Rattle.wasi_walks.proofs.Words.{ask_made, bind, call_of, eqb-true, false, if◌then◌else◌, input_of, is_full, kept_accepted, kind_at, make_asks}
 use Rattle.wasi_walks.proofs.Words.{length, name_of, output_of, place_of, refl, subst, sym, table_parent, true}
 use Rattle.wasi_walks.proofs.Words.{watch_of, watched_by, with_handle, with_records, ℕ, ⊤, ◌==◌, ◌∙◌, ◌≡◌}
@@ -60,7 +60,7 @@ pub output_record : (k : Option Kind) (place : ℕ) → output_of k ≡ Some pla
 output_record (Some (Output n)) place e = e
 output_record _ place e = absurd (cc)
 
-pub there : {h : Here} {place : ℕ} {r : Tcp2Socket} → Found h place r → HasRecord h place
+pub there : {h : Here} {place : ℕ} {r : TcpRecord} → Found h place r → HasRecord h place
 there {r} g = record { was = r; found = g }
 
 -- the pending call under a number
@@ -76,7 +76,7 @@ stands_so (Some t) n s e = by_line (t.ids.line == n) refl e
 pub none_stands : {o : Option Standing} → o ≡ None → NoStartStands o
 none_stands e = subst NoStartStands (sym e) tt
 
-pub streams_are : (h : Here) (place : ℕ) (r : Tcp2Socket) (s : Streams) → r.streams ≡ Some s → put h place (record r { streams = Some s }) ≡ put h place r
+pub streams_are : (h : Here) (place : ℕ) (r : TcpRecord) (s : Streams) → r.streams ≡ Some s → put h place (record r { streams = Some s }) ≡ put h place r
 streams_are h place r s e = ap (λ (o : Option Streams). put h place (record r { streams = o })) (sym e)
 
 -- the streams of a connection are made
@@ -165,22 +165,22 @@ given_any R k (AskWrite op sock bytes next) = λ told. given_any R k (next told)
 
 -- what joined the records is there
 pub record HasAt (store : Records) (p : ℕ) : Type 0 where
-  pub was : Tcp2Socket
+  pub was : TcpRecord
   pub found : tcp2_at store.records p ≡ Some was
 
 abbrev pub JoinedSo : Result ℕ Stop × Records → Type 0
 JoinedSo (Ok p, store) = HasAt store p
 JoinedSo (Err why, store) = ⊤
 
-pub joined_given : (store : Records) (ids : Ids) (place : ℕ) (o : Option Tcp2Socket) → Given JoinedSo (accept_at store ids place o)
+pub joined_given : (store : Records) (ids : Ids) (place : ℕ) (o : Option TcpRecord) → Given JoinedSo (accept_at store ids place o)
 joined_given store ids place None = tt
 joined_given store ids place (Some r) = given_then JoinedSo (accept_answered store place) answered (accept_record_asks ids r)
   where
-    kept : (records : List Record) (x : Result (Unit {0}) Stop × Tcp2Socket) → JoinedSo (with_records store (kept_accepted records x))
+    kept : (records : List Record) (x : Result (Unit {0}) Stop × TcpRecord) → JoinedSo (with_records store (kept_accepted records x))
     kept records (Ok done, now) = record { was = now; found = push_finds tcp_sort records now }
     kept records (Err why, now) = tt
 
-    answered : (done : Result (Answer Socket) ErrorCode × Tcp2Socket) → JoinedSo (accept_answered store place done)
+    answered : (done : Result (Answer Socket) ErrorCode × TcpRecord) → JoinedSo (accept_answered store place done)
     answered (Ok (Ready socket), r) = kept (tcp2_put store.records place r) (accepted_record socket)
     answered (Ok Pending, r) = tt
     answered (Err why, r) = tt

@@ -1,6 +1,6 @@
 -- A pending call continues; each step is made of moves, and so is a line while a call is pending.
 use Rattle.wasi_walks.proofs.Words.{Answer, Err, Give, InProgress, IsBacklogSet, List, Machine, None, Ok, Option, Records, Result, Some, Standing}
-use Rattle.wasi_walks.proofs.Words.{StandingCall, Step, Stop, Tcp2Socket, TcpSetting, TheBacklog, WasiSocketsCtx, asks_while, call_of, call_place}
+use Rattle.wasi_walks.proofs.Words.{StandingCall, Step, Stop, TcpRecord, TcpSetting, TheBacklog, WasiSocketsCtx, asks_while, call_of, call_place}
 use Rattle.wasi_walks.proofs.Words.{chosen, context_at, false, get_option_asks, go_on, inl, is_bind}
 use Rattle.wasi_walks.proofs.Words.{is_guest_call, is_listen, kind_at, own_of, rebind_at, refl, relisten_at}
 use Rattle.wasi_walks.proofs.Words.{resume_call, resumed, socket_at, step_asks, subst, sym, true, unstood}
@@ -89,13 +89,13 @@ dropped_so m (answer, store) = refl
 module _ {contexts : List WasiSocketsCtx} {line : ℕ} {origin : Step} {law : Law contexts line origin} where
   -- == a pending call continues
   module _ (ids : Ids) (m : Machine) (quiet : NoStartStands m.store.standing) where
-    rebind_walks : (place : ℕ) (o : Option Tcp2Socket) → tcp2_at m.store.records place ≡ o → Walks law (At ids.line m place Used) (Put ids.line m place) (rebind_at m.store ids place o)
+    rebind_walks : (place : ℕ) (o : Option TcpRecord) → tcp2_at m.store.records place ≡ o → Walks law (At ids.line m place Used) (Put ids.line m place) (rebind_at m.store ids place o)
     rebind_walks place None g = give _
     rebind_walks place (Some r) g =
         from (put_same (At ids.line m place Used) place r g)
         (and_given (WaitsSo (StandingCall.Bind place)) (polled_given place r r.in_progress) (poll_bind_walks (there g) quiet r) (λ done w. answered_walks m ids (StandingCall.Bind place) quiet done (there g) w))
 
-    relisten_walks : (place : ℕ) (o : Option Tcp2Socket) → tcp2_at m.store.records place ≡ o → Walks law (At ids.line m place Used) (Put ids.line m place) (relisten_at m.store ids place o)
+    relisten_walks : (place : ℕ) (o : Option TcpRecord) → tcp2_at m.store.records place ≡ o → Walks law (At ids.line m place Used) (Put ids.line m place) (relisten_at m.store ids place o)
     relisten_walks place None g = give _
     relisten_walks place (Some r) g =
         from (put_same (At ids.line m place Used) place r g)

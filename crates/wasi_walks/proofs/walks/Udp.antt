@@ -11,7 +11,7 @@ use Rattle.socket_common.specs.Options.{value_set, zero_test, refused_before, re
 use Rattle.wasi_records.specs.Records.{open_at, open_of, udp2_at}
 use Rattle.wasi_host.specs.declared.kind.Kind.TheVariants.{Udp2}
 use Rattle.wasi_records.specs.declared.udp.OpenUdp.{OpenUdp}
-use Rattle.wasi_records.specs.declared.udp.Udp2Socket.{Udp2Socket}
+use Rattle.wasi_records.specs.declared.udp.UdpRecord.{UdpRecord}
 use Rattle.wasi_records.specs.declared.udp.UdpInProgress.{UdpInProgress}
 use Rattle.wasi_records.specs.Datagrams.{has_streams}
 use Rattle.wasi_host.specs.Machine.{udp_socket_at}
@@ -34,10 +34,10 @@ use Rattle.wasi_walks.proofs.walks.UdpLaw.{HasUdp, udp_put_put, udp_put_same, ud
 use Rattle.wasi_walks.proofs.Places.{put_finds, udp_sort}
 
 -- what is open at a place is the UDP socket there
-pub open_is : (u : Option Udp2Socket) (o : OpenUdp) → open_of u ≡ Some o → u ≡ Some (Udp2Socket.Open o)
-open_is (Some (Udp2Socket.Open o)) p e = let q : o ≡ p = cc in ap (λ (x : OpenUdp). Some (Udp2Socket.Open x)) q
-open_is (Some (Udp2Socket.Creating c)) p e = absurd (cc)
-open_is (Some (Udp2Socket.Closed s)) p e = absurd (cc)
+pub open_is : (u : Option UdpRecord) (o : OpenUdp) → open_of u ≡ Some o → u ≡ Some (UdpRecord.Open o)
+open_is (Some (UdpRecord.Open o)) p e = let q : o ≡ p = cc in ap (λ (x : OpenUdp). Some (UdpRecord.Open x)) q
+open_is (Some (UdpRecord.Creating c)) p e = absurd (cc)
+open_is (Some (UdpRecord.Closed s)) p e = absurd (cc)
 open_is None p e = absurd (cc)
 
 -- a call that is pending has its bind in progress
@@ -67,50 +67,50 @@ begin_given : (own : _) (o : OpenUdp) (a : IpSocketAddress) → Given WaitsUdp (
 begin_given own o a = given_on WaitsUdp (udp_bind_begun o) (begun_given o) (bind_asks own o.inner a)
 
 -- and a create that is pending has its create in progress
-pub record IsCreatingNow (u : Udp2Socket) : Type 0 where
+pub record IsCreatingNow (u : UdpRecord) : Type 0 where
   pub create : Create
-  pub is : u ≡ Udp2Socket.Creating create
+  pub is : u ≡ UdpRecord.Creating create
 
-abbrev pub WaitsCreate : Result (Answer (Unit {0})) ErrorCode × Udp2Socket → Type 0
+abbrev pub WaitsCreate : Result (Answer (Unit {0})) ErrorCode × UdpRecord → Type 0
 WaitsCreate (Ok Pending, u) = IsCreatingNow u
 WaitsCreate (Ok (Ready d), u) = IsOpenUdp u
 WaitsCreate _ = ⊤
 
-create_given : (u : Udp2Socket) → Given WaitsCreate (poll_create_asks u)
-create_given (Udp2Socket.Creating create) = given_then WaitsCreate (udp_create_ended create) ended (poll_asks create.operation)
+create_given : (u : UdpRecord) → Given WaitsCreate (poll_create_asks u)
+create_given (UdpRecord.Creating create) = given_then WaitsCreate (udp_create_ended create) ended (poll_asks create.operation)
   where
     ended : (e : End × List Item) → WaitsCreate (udp_create_ended create e)
     ended (Waits, items) = record { create = _; is = refl }
     ended (Done given, items) = tt
     ended (Refused c given, items) = tt
-create_given (Udp2Socket.Open o) = tt
-create_given (Udp2Socket.Closed s) = tt
+create_given (UdpRecord.Open o) = tt
+create_given (UdpRecord.Closed s) = tt
 
 -- only what was started is finished, and that is no bind in progress
 bound_settles : (doing : UdpInProgress) → is_udp_bound doing ≡ true → IsUdpSettled doing
 bound_settles (UdpInProgress.Binding op) e = absurd (cc)
 bound_settles _ e = tt
 
-pub udp_there : {h : Here} {place : ℕ} {u : Udp2Socket} → FoundUdp h place u → HasUdp h place
+pub udp_there : {h : Here} {place : ℕ} {u : UdpRecord} → FoundUdp h place u → HasUdp h place
 udp_there {u} g = record { was = u; at = g }
 
-pub opened : (line : ℕ) (m : Machine) (place : ℕ) (o : OpenUdp) → open_at m.store.records place ≡ Some o → FoundUdp (At line m place Unused) place (Udp2Socket.Open o)
+pub opened : (line : ℕ) (m : Machine) (place : ℕ) (o : OpenUdp) → open_at m.store.records place ≡ Some o → FoundUdp (At line m place Unused) place (UdpRecord.Open o)
 opened line m place o e = open_is (udp2_at m.store.records place) o e
 
 -- The socket of the record is there.
 record HasOpened (store : Records) (place : ℕ) : Type 0 where
-  was : Udp2Socket
+  was : UdpRecord
   at : udp2_at store.records place ≡ Some was
   opens : IsOpenUdp was
 
 -- the record is being created, where the create is pending, and is there where it is done
 abbrev CreatesOn : ℕ → Result (Answer (Unit {0})) Stop × Records → Type 0
-CreatesOn place (Ok Pending, store) = NoStartStands store.standing × ((create : Create) × (udp2_at store.records place ≡ Some (Udp2Socket.Creating create)))
+CreatesOn place (Ok Pending, store) = NoStartStands store.standing × ((create : Create) × (udp2_at store.records place ≡ Some (UdpRecord.Creating create)))
 CreatesOn place (Ok (Ready d), store) = HasOpened store place
 CreatesOn place _ = ⊤
 
 -- where a create is done, its record has no handle yet
-abbrev Polled : Machine → ℕ → Result (Answer (Unit {0})) ErrorCode × Udp2Socket → Here
+abbrev Polled : Machine → ℕ → Result (Answer (Unit {0})) ErrorCode × UdpRecord → Here
 Polled m place (Ok (Ready d), u) = put_udp (Awaiting m place) place u
 Polled m place (_, u) = put_udp (Over m) place u
 
@@ -119,12 +119,12 @@ CreatedSo m place (Ok (Ready d), store) = Awaiting (record m { store = store }) 
 CreatedSo m place (_, store) = Over (record m { store = store })
 
 module _ (m : Machine) (place : ℕ) where
-  answered_given : NoStartStands m.store.standing → (was : Udp2Socket) → udp2_at m.store.records place ≡ Some was → (done : Result (Answer (Unit {0})) ErrorCode × Udp2Socket) → WaitsCreate done → CreatesOn place (create_answered m.store place done)
-  answered_given q was g (Ok Pending, u) w = (q, (w.create, put_finds udp_sort m.store.records place was u g ∙ ap (λ (x : Udp2Socket). Some x) w.is))
+  answered_given : NoStartStands m.store.standing → (was : UdpRecord) → udp2_at m.store.records place ≡ Some was → (done : Result (Answer (Unit {0})) ErrorCode × UdpRecord) → WaitsCreate done → CreatesOn place (create_answered m.store place done)
+  answered_given q was g (Ok Pending, u) w = (q, (w.create, put_finds udp_sort m.store.records place was u g ∙ ap (λ (x : UdpRecord). Some x) w.is))
   answered_given q was g (Ok (Ready d), u) w = record { was = u; at = put_finds udp_sort m.store.records place was u g; opens = w }
   answered_given q was g (Err c, u) w = tt
 
-  poll_at_given : NoStartStands m.store.standing → (u : Option Udp2Socket) → udp2_at m.store.records place ≡ u → Given (CreatesOn place) (poll_create_at m.store place u)
+  poll_at_given : NoStartStands m.store.standing → (u : Option UdpRecord) → udp2_at m.store.records place ≡ u → Given (CreatesOn place) (poll_create_at m.store place u)
   poll_at_given q None g = tt
   poll_at_given q (Some u) g = given_along WaitsCreate (CreatesOn place) (poll_create_asks u) (λ done. Give (create_answered m.store place done)) (create_given u) (answered_given q u g)
 
@@ -135,41 +135,41 @@ with_store_of h store = record h { machine = record h.machine { store = store } 
 module _ {contexts : List WasiSocketsCtx} {line : ℕ} {origin : Step} {law : Law contexts line origin} where
   -- == on the record of a place
   module _ {h : Here} {place : ℕ} (here : HasUdp h place) (at : h.at ≡ Some (place, line)) where
-    ask_bound_walks : (part : ℕ) (o : OpenUdp) (bound : Bool) → Walks law (put_udp h place (Udp2Socket.Open o)) (λ b. put_udp h place (Udp2Socket.Open (with_udp_inner o b.1))) (ask_bound (part_of line part) o.inner bound)
+    ask_bound_walks : (part : ℕ) (o : OpenUdp) (bound : Bool) → Walks law (put_udp h place (UdpRecord.Open o)) (λ b. put_udp h place (UdpRecord.Open (with_udp_inner o b.1))) (ask_bound (part_of line part) o.inner bound)
     unfolding bind
     ask_bound_walks part o true = give _
     ask_bound_walks part o false = learn_udp here o at (λ told. give _)
 
     -- whether it is bound is asked by an operation of the line
-    pub part_bound_walks : (part : ℕ) (o : OpenUdp) → Walks law (put_udp h place (Udp2Socket.Open o)) (λ b. put_udp h place (Udp2Socket.Open (with_udp_inner o b.1))) (bound_asks (part_of line part) o.inner)
+    pub part_bound_walks : (part : ℕ) (o : OpenUdp) → Walks law (put_udp h place (UdpRecord.Open o)) (λ b. put_udp h place (UdpRecord.Open (with_udp_inner o b.1))) (bound_asks (part_of line part) o.inner)
     part_bound_walks part o = ask_bound_walks part o o.inner.bound
 
-    pub bound_walks : (o : OpenUdp) → Walks law (put_udp h place (Udp2Socket.Open o)) (λ b. put_udp h place (Udp2Socket.Open (with_udp_inner o b.1))) (bound_asks (own_of line) o.inner)
+    pub bound_walks : (o : OpenUdp) → Walks law (put_udp h place (UdpRecord.Open o)) (λ b. put_udp h place (UdpRecord.Open (with_udp_inner o b.1))) (bound_asks (own_of line) o.inner)
     bound_walks o = part_bound_walks 0 o
 
-    where_walks : (o : OpenUdp) (bound : Bool) → Walks law (put_udp h place (Udp2Socket.Open o)) (λ done. put_udp h place (Udp2Socket.Open (with_udp_inner o done.1))) (local_where (own_of line) o.inner bound)
+    where_walks : (o : OpenUdp) (bound : Bool) → Walks law (put_udp h place (UdpRecord.Open o)) (λ done. put_udp h place (UdpRecord.Open (with_udp_inner o done.1))) (local_where (own_of line) o.inner bound)
     unfolding bind
     where_walks o true = ask_udp here o at refl (λ told. give _)
     where_walks o false = give _
 
-    pub udp_local_walks : (o : OpenUdp) → Walks law (put_udp h place (Udp2Socket.Open o)) (λ done. put_udp h place (Udp2Socket.Open done.1)) (udp_local_asks (own_of line) o)
+    pub udp_local_walks : (o : OpenUdp) → Walks law (put_udp h place (UdpRecord.Open o)) (λ done. put_udp h place (UdpRecord.Open done.1)) (udp_local_asks (own_of line) o)
     udp_local_walks o = and_then (and_then (bound_walks o) (λ b. where_walks (with_udp_inner o b.1) b.0)) (λ done. give _)
 
     -- options
-    pub get_udp_walks : (o : OpenUdp) (option : Opt) → IsGetOf option origin → Walks law (put_udp h place (Udp2Socket.Open o)) (λ done. put_udp h place (Udp2Socket.Open o)) (get_option_asks (own_of line) o.inner option)
+    pub get_udp_walks : (o : OpenUdp) (option : Opt) → IsGetOf option origin → Walks law (put_udp h place (UdpRecord.Open o)) (λ done. put_udp h place (UdpRecord.Open o)) (get_option_asks (own_of line) o.inner option)
     unfolding bind
     get_udp_walks o option is = ask_udp here o at (refl, refl, is) (λ told. give _)
 
-    pub set_udp_walks : (o : OpenUdp) (option : Opt) (value : ℕ) → IsSetTo option (value_set option value) origin → Walks law (put_udp h place (Udp2Socket.Open o)) (λ done. put_udp h place (Udp2Socket.Open o)) (set_option_asks (own_of line) o.inner option value)
+    pub set_udp_walks : (o : OpenUdp) (option : Opt) (value : ℕ) → IsSetTo option (value_set option value) origin → Walks law (put_udp h place (UdpRecord.Open o)) (λ done. put_udp h place (UdpRecord.Open o)) (set_option_asks (own_of line) o.inner option value)
     set_udp_walks o option value is = by_if (refused_before (zero_test option) value) (λ refused. give _) (λ allowed. by_if (refused_after (zero_test option) value) (λ refused. give _) (λ sets. ask_udp here o at (refl, refl, is) (λ told. give _)))
 
     -- a bind begins
     module _ (free : h.own ≡ Unused) (quiet : NoStart h) (a : IpSocketAddress) (to : IsUdpBindTo a origin) where
-      begun_walks : (o : OpenUdp) (idle : is_udp_idle o.in_progress ≡ true) (socket : Socket) (bound : Bool) → Walks law (put_udp h place (Udp2Socket.Open (with_udp_inner o socket))) (λ done. record (put_udp h place (Udp2Socket.Open done.1)) { own = Used }) (udp_bind_begun o (bind_start (own_of line) socket a bound, socket))
+      begun_walks : (o : OpenUdp) (idle : is_udp_idle o.in_progress ≡ true) (socket : Socket) (bound : Bool) → Walks law (put_udp h place (UdpRecord.Open (with_udp_inner o socket))) (λ done. record (put_udp h place (UdpRecord.Open done.1)) { own = Used }) (udp_bind_begun o (bind_start (own_of line) socket a bound, socket))
       begun_walks o idle socket true = gives _ (Spends _ free)
       begun_walks o idle socket false = by_family (is_of_family (ip_of a) socket.family)
         where
-          by_family : (f : Bool) → Walks law (put_udp h place (Udp2Socket.Open (with_udp_inner o socket))) (λ done. record (put_udp h place (Udp2Socket.Open done.1)) { own = Used }) (udp_bind_begun o ((if f then Ok (bind_operation (asker_of (own_of line) socket) a UdpBindStage.Check) else Err InvalidArgument), socket))
+          by_family : (f : Bool) → Walks law (put_udp h place (UdpRecord.Open (with_udp_inner o socket))) (λ done. record (put_udp h place (UdpRecord.Open done.1)) { own = Used }) (udp_bind_begun o ((if f then Ok (bind_operation (asker_of (own_of line) socket) a UdpBindStage.Check) else Err InvalidArgument), socket))
           by_family false = gives _ (Spends _ free)
           by_family true =
               let was : OpenUdp = with_udp_inner o socket in
@@ -177,21 +177,21 @@ module _ {contexts : List WasiSocketsCtx} {line : ℕ} {origin : Step} {law : La
               let now : OpenUdp = with_udp_progress was (UdpInProgress.Binding op) in
               let busy : Here = record h { own = Used } in
               let there : HasUdp busy place = record { was = here.was; at = here.at } in
-              move (BeginsUdpBind _ place was a at (udp_found here (Udp2Socket.Open was)) to idle free)
-              (from (ap (λ (x : Here). record x { own = Used }) (sym (udp_put_put h place (Udp2Socket.Open was) (Udp2Socket.Open now))))
+              move (BeginsUdpBind _ place was a at (udp_found here (UdpRecord.Open was)) to idle free)
+              (from (ap (λ (x : Here). record x { own = Used }) (sym (udp_put_put h place (UdpRecord.Open was) (UdpRecord.Open now))))
               (and_then (poll_udp_bind_walks there now op quiet refl) (λ ended. give _)))
 
-      pub begin_udp_walks : (o : OpenUdp) → is_udp_idle o.in_progress ≡ true → Walks law (put_udp h place (Udp2Socket.Open o)) (λ done. record (put_udp h place (Udp2Socket.Open done.1)) { own = Used }) (begin_udp_bind_asks (own_of line) o a)
+      pub begin_udp_walks : (o : OpenUdp) → is_udp_idle o.in_progress ≡ true → Walks law (put_udp h place (UdpRecord.Open o)) (λ done. record (put_udp h place (UdpRecord.Open done.1)) { own = Used }) (begin_udp_bind_asks (own_of line) o a)
       begin_udp_walks o idle = and_so (λ b. (bind_start (own_of line) b.1 a b.0, b.1)) (udp_bind_begun o) (bound_walks o) (λ b. begun_walks o idle b.1 b.0)
 
   -- == a bind that was begun is polled
   module _ {h : Here} {place : ℕ} (here : HasUdp h place) (quiet : NoStart h) where
-    polled_by : (o : OpenUdp) (doing : UdpInProgress) → o.in_progress ≡ doing → Walks law (put_udp h place (Udp2Socket.Open o)) (λ done. put_udp h place (Udp2Socket.Open done.1)) (poll_udp_binding o doing)
+    polled_by : (o : OpenUdp) (doing : UdpInProgress) → o.in_progress ≡ doing → Walks law (put_udp h place (UdpRecord.Open o)) (λ done. put_udp h place (UdpRecord.Open done.1)) (poll_udp_binding o doing)
     polled_by o (UdpInProgress.Binding op) e = and_then (poll_udp_bind_walks here o op quiet e) (λ ended. give _)
     polled_by o UdpInProgress.Nothing e = give _
     polled_by o UdpInProgress.Bound e = give _
 
-    pub poll_bind_walks : (o : OpenUdp) → Walks law (put_udp h place (Udp2Socket.Open o)) (λ done. put_udp h place (Udp2Socket.Open done.1)) (poll_udp_bind_asks o)
+    pub poll_bind_walks : (o : OpenUdp) → Walks law (put_udp h place (UdpRecord.Open o)) (λ done. put_udp h place (UdpRecord.Open done.1)) (poll_udp_bind_asks o)
     poll_bind_walks o = polled_by o o.in_progress refl
 
   -- == a call on the record of a handle
@@ -201,43 +201,43 @@ module _ {contexts : List WasiSocketsCtx} {line : ℕ} {origin : Step} {law : La
   on_udp m handle (Some place) named k c = move (ReachesUdp _ handle place named (k place refl)) (and_then (c place) (λ done. gives _ (Leaves _)))
 
   module _ (m : Machine) (place : ℕ) where
-    put_back_walks : {T : Type 0} (done : Result T ErrorCode × OpenUdp) → Walks law (put_udp (At line m place Unused) place (Udp2Socket.Open done.1)) (Put line m place) (Give (udp_put_back m.store place done))
+    put_back_walks : {T : Type 0} (done : Result T ErrorCode × OpenUdp) → Walks law (put_udp (At line m place Unused) place (UdpRecord.Open done.1)) (Put line m place) (Give (udp_put_back m.store place done))
     put_back_walks (Ok value, o) = gives _ (Spends _ refl)
     put_back_walks (Err c, o) = gives _ (Spends _ refl)
 
     pub udp_local_at_walks : (o : Option OpenUdp) → open_at m.store.records place ≡ o → Walks law (At line m place Unused) (Put line m place) (udp_local_at m.store (own_of line) place o)
     udp_local_at_walks None e = gives _ (Spends _ refl)
-    udp_local_at_walks (Some o) e = from (udp_put_same (At line m place Unused) place (Udp2Socket.Open o) (opened line m place o e)) (and_then (udp_local_walks (udp_there (opened line m place o e)) refl o) put_back_walks)
+    udp_local_at_walks (Some o) e = from (udp_put_same (At line m place Unused) place (UdpRecord.Open o) (opened line m place o e)) (and_then (udp_local_walks (udp_there (opened line m place o e)) refl o) put_back_walks)
 
     pub udp_get_at_walks : (option : Opt) → IsGetOf option origin → (o : Option OpenUdp) → open_at m.store.records place ≡ o → Walks law (At line m place Unused) (Put line m place) (get_udp_option_at m.store (own_of line) option o)
     udp_get_at_walks option is None e = gives _ (Spends _ refl)
     udp_get_at_walks option is (Some o) e =
-        let same = udp_put_same (At line m place Unused) place (Udp2Socket.Open o) (opened line m place o e) in
+        let same = udp_put_same (At line m place Unused) place (UdpRecord.Open o) (opened line m place o e) in
         from same (and_then (get_udp_walks (udp_there (opened line m place o e)) refl o option is) (λ done. from (sym same) (gives _ (Spends _ refl))))
 
     pub udp_set_at_walks : (option : Opt) (value : ℕ) → IsSetTo option (value_set option value) origin → (o : Option OpenUdp) → open_at m.store.records place ≡ o → Walks law (At line m place Unused) (Put line m place) (set_udp_option_at m.store (own_of line) option value o)
     udp_set_at_walks option value is None e = gives _ (Spends _ refl)
     udp_set_at_walks option value is (Some o) e =
-        let same = udp_put_same (At line m place Unused) place (Udp2Socket.Open o) (opened line m place o e) in
+        let same = udp_put_same (At line m place Unused) place (UdpRecord.Open o) (opened line m place o e) in
         from same (and_then (set_udp_walks (udp_there (opened line m place o e)) refl o option value is) (λ done. from (sym same) (gives _ (Spends _ refl))))
 
   -- == a bind
   -- a call that may be pending was answered
   udp_answered_walks : (m : Machine) (ids : Ids) (place : ℕ) → NoStartStands m.store.standing → (done : Result (Answer (Unit {0})) ErrorCode × OpenUdp) → HasUdp (At ids.line m place Used) place → WaitsUdp done
-      → Walks law (put_udp (At ids.line m place Used) place (Udp2Socket.Open done.1)) (Put ids.line m place) (Give (udp_call_answered m.store ids (StandingCall.UdpBind place) done))
-  udp_answered_walks m ids place q (Ok Pending, o) here w = gives _ (StandsUdpBind _ ids place o w.op q refl (udp_found here (Udp2Socket.Open o)) w.is)
+      → Walks law (put_udp (At ids.line m place Used) place (UdpRecord.Open done.1)) (Put ids.line m place) (Give (udp_call_answered m.store ids (StandingCall.UdpBind place) done))
+  udp_answered_walks m ids place q (Ok Pending, o) here w = gives _ (StandsUdpBind _ ids place o w.op q refl (udp_found here (UdpRecord.Open o)) w.is)
   udp_answered_walks m ids place q (Ok (Ready d), o) here w = give _
   udp_answered_walks m ids place q (Err c, o) here w = give _
 
-  start_by : (m : Machine) (place : ℕ) (a : IpSocketAddress) → IsUdpBindTo a origin → NoStartStands m.store.standing → (o : OpenUdp) → FoundUdp (At line m place Unused) place (Udp2Socket.Open o) → (idle : Bool) → is_udp_idle o.in_progress ≡ idle
+  start_by : (m : Machine) (place : ℕ) (a : IpSocketAddress) → IsUdpBindTo a origin → NoStartStands m.store.standing → (o : OpenUdp) → FoundUdp (At line m place Unused) place (UdpRecord.Open o) → (idle : Bool) → is_udp_idle o.in_progress ≡ idle
       → Walks law (At line m place Unused) (Put line m place) (start_udp_bind_by m.store (first_ids line) place a o idle)
   start_by m place a to q o g true e = start_unless (has_streams o)
     where
       start_unless : (live : Bool) → Walks law (At line m place Unused) (Put line m place) (start_udp_bind_unless m.store (first_ids line) place a o live)
       start_unless true = gives _ (Spends _ refl)
       start_unless false =
-          from (udp_put_same (At line m place Unused) place (Udp2Socket.Open o) g)
-          (and_given WaitsUdp (begin_given (own_of line) o a) (begin_udp_walks (udp_there g) refl refl q a to o e) (λ begun w. udp_answered_walks m (first_ids line) place q begun (record { was = Udp2Socket.Open o; at = g }) w))
+          from (udp_put_same (At line m place Unused) place (UdpRecord.Open o) g)
+          (and_given WaitsUdp (begin_given (own_of line) o a) (begin_udp_walks (udp_there g) refl refl q a to o e) (λ begun w. udp_answered_walks m (first_ids line) place q begun (record { was = UdpRecord.Open o; at = g }) w))
   start_by m place a to q o g false e = gives _ (Spends _ refl)
 
   start_at : (m : Machine) (place : ℕ) (a : IpSocketAddress) → IsUdpBindTo a origin → NoStartStands m.store.standing → (o : Option OpenUdp) → open_at m.store.records place ≡ o → Walks law (At line m place Unused) (Put line m place) (start_udp_bind_at m.store (first_ids line) place a o)
@@ -248,7 +248,7 @@ module _ {contexts : List WasiSocketsCtx} {line : ℕ} {origin : Step} {law : La
   start_udp_bind_walks m s n a named to q =
       by_if (is_network (kind_at m.table n)) (λ yes. on_udp m s (udp_socket_at m s) named (udp_record (kind_at m.table s)) (λ place. start_at m place a to q (open_at m.store.records place) refl)) (λ other. gives _ (Spends _ refl))
 
-  finish_by : (m : Machine) (place : ℕ) (o : OpenUdp) → FoundUdp (Over m) place (Udp2Socket.Open o) → (b : Bool) → is_udp_bound o.in_progress ≡ b → Walks law (Starts m Unused) (λ now. Over now) (Give (with_store m (finish_udp_bind_by m.store place o b)).1)
+  finish_by : (m : Machine) (place : ℕ) (o : OpenUdp) → FoundUdp (Over m) place (UdpRecord.Open o) → (b : Bool) → is_udp_bound o.in_progress ≡ b → Walks law (Starts m Unused) (λ now. Over now) (Give (with_store m (finish_udp_bind_by m.store place o b)).1)
   finish_by m place o g true e = move (Spends _ refl) (gives _ (UdpChanges _ place o _ g (record { side = refl; maker = refl; family = refl; remote = refl; bound = λ b. b; binds = inr (bound_settles o.in_progress e, tt); connects = refl; sends = inl refl; receives = inl refl; came = inl refl }) (record { incoming = StreamStays _; makes = inl (λ some. some) })))
   finish_by m place o g false e = gives _ (Spends _ refl)
 
@@ -264,24 +264,24 @@ module _ {contexts : List WasiSocketsCtx} {line : ℕ} {origin : Step} {law : La
   pub rebind_udp_walks : (ids : Ids) (m : Machine) → NoStartStands m.store.standing → (place : ℕ) (o : Option OpenUdp) → open_at m.store.records place ≡ o → Walks law (At ids.line m place Used) (Put ids.line m place) (rebind_udp_at m.store ids place o)
   rebind_udp_walks ids m q place None e = give _
   rebind_udp_walks ids m q place (Some o) e =
-      let g : FoundUdp (At ids.line m place Used) place (Udp2Socket.Open o) = open_is (udp2_at m.store.records place) o e in
-      from (udp_put_same (At ids.line m place Used) place (Udp2Socket.Open o) g)
-      (and_given WaitsUdp (poll_given o o.in_progress) (poll_bind_walks (udp_there g) q o) (λ done w. udp_answered_walks m ids place q done (record { was = Udp2Socket.Open o; at = g }) w))
+      let g : FoundUdp (At ids.line m place Used) place (UdpRecord.Open o) = open_is (udp2_at m.store.records place) o e in
+      from (udp_put_same (At ids.line m place Used) place (UdpRecord.Open o) g)
+      (and_given WaitsUdp (poll_given o o.in_progress) (poll_bind_walks (udp_there g) q o) (λ done w. udp_answered_walks m ids place q done (record { was = UdpRecord.Open o; at = g }) w))
 
   -- == the end
-  close_by : {h : Here} {place : ℕ} (here : HasUdp h place) → ReleasesUdp h place → (u : Udp2Socket) → Walks law (put_udp h place u) (λ done. put_udp h place done.1) (close_udp_asks (own_of line) u)
+  close_by : {h : Here} {place : ℕ} (here : HasUdp h place) → ReleasesUdp h place → (u : UdpRecord) → Walks law (put_udp h place u) (λ done. put_udp h place done.1) (close_udp_asks (own_of line) u)
   unfolding bind
-  close_by here q (Udp2Socket.Open o) = close_udp here o q (λ told. give _)
-  close_by here q (Udp2Socket.Creating c) = give _
-  close_by here q (Udp2Socket.Closed s) = give _
+  close_by here q (UdpRecord.Open o) = close_udp here o q (λ told. give _)
+  close_by here q (UdpRecord.Creating c) = give _
+  close_by here q (UdpRecord.Closed s) = give _
 
   -- one that is closed is given back
-  left_walks : {A : Type 0} {h : Here} {place : ℕ} {end : A → Here} {asks : Asks A} → HasUdp h place → h.machine.store.standing ≡ None → (u : Udp2Socket) → Walks law (with_store_of h (udp_left h.machine.store place u)) end asks → Walks law (put_udp h place u) end asks
-  left_walks {place = place} here q (Udp2Socket.Closed side) w = move (GivesBack _ place q (OfUdp side (udp_found here (Udp2Socket.Closed side)))) w
-  left_walks here q (Udp2Socket.Creating create) w = w
-  left_walks here q (Udp2Socket.Open o) w = w
+  left_walks : {A : Type 0} {h : Here} {place : ℕ} {end : A → Here} {asks : Asks A} → HasUdp h place → h.machine.store.standing ≡ None → (u : UdpRecord) → Walks law (with_store_of h (udp_left h.machine.store place u)) end asks → Walks law (put_udp h place u) end asks
+  left_walks {place = place} here q (UdpRecord.Closed side) w = move (GivesBack _ place q (OfUdp side (udp_found here (UdpRecord.Closed side)))) w
+  left_walks here q (UdpRecord.Creating create) w = w
+  left_walks here q (UdpRecord.Open o) w = w
 
-  pub release_udp_walks : (m : Machine) (place : ℕ) (u : Option Udp2Socket) → udp2_at m.store.records place ≡ u → m.store.standing ≡ None → Walks law (Emptying line m place (Udp2 place) Unused) (λ done. Emptying line (record m { store = done.1 }) place (Udp2 place) Used) (release_udp_at m.store (own_of line) place u)
+  pub release_udp_walks : (m : Machine) (place : ℕ) (u : Option UdpRecord) → udp2_at m.store.records place ≡ u → m.store.standing ≡ None → Walks law (Emptying line m place (Udp2 place) Unused) (λ done. Emptying line (record m { store = done.1 }) place (Udp2 place) Used) (release_udp_at m.store (own_of line) place u)
   release_udp_walks m place None g q = gives _ (Spends _ refl)
   release_udp_walks m place (Some u) g q =
       from (udp_put_same (Emptying line m place (Udp2 place) Unused) place u g)
@@ -292,7 +292,7 @@ module _ {contexts : List WasiSocketsCtx} {line : ℕ} {origin : Step} {law : La
   created_by m (Ok handle, t) = give _
   created_by m (Err why, t) = give _
 
-  mark_walks : (m : Machine) (place : ℕ) (u : Option Udp2Socket) → udp2_at m.store.records place ≡ u → HasOpened m.store place → Walks law (Awaiting m place) OverWith (mark_udp m place u)
+  mark_walks : (m : Machine) (place : ℕ) (u : Option UdpRecord) → udp2_at m.store.records place ≡ u → HasOpened m.store place → Walks law (Awaiting m place) OverWith (mark_udp m place u)
   mark_walks m place None g o = absurd (let at = o.at in cc)
   mark_walks m place (Some u) g o =
       let same : o.was ≡ u = let at = o.at in cc in
@@ -309,19 +309,19 @@ module _ {contexts : List WasiSocketsCtx} {line : ℕ} {origin : Step} {law : La
     ended_walks create (Done given, items) = give _
     ended_walks create (Refused c given, items) = gives _ (Leaves _)
 
-    poll_so : (u : Udp2Socket) → FoundUdp (Over m) place u → m.store.standing ≡ None → Walks law (put_udp (Over m) place u) (Polled m place) (poll_create_asks u)
-    poll_so (Udp2Socket.Creating create) g q =
-        move (AwaitsCreate _ place create (udp_found (udp_there {h = Over m} g) (Udp2Socket.Creating create)))
+    poll_so : (u : UdpRecord) → FoundUdp (Over m) place u → m.store.standing ≡ None → Walks law (put_udp (Over m) place u) (Polled m place) (poll_create_asks u)
+    poll_so (UdpRecord.Creating create) g q =
+        move (AwaitsCreate _ place create (udp_found (udp_there {h = Over m} g) (UdpRecord.Creating create)))
         (and_then (poll_create_walks (udp_there {h = Awaiting m place} g) create (none_stands q)) (ended_walks create))
-    poll_so (Udp2Socket.Open o) g q = give _
-    poll_so (Udp2Socket.Closed s) g q = give _
+    poll_so (UdpRecord.Open o) g q = give _
+    poll_so (UdpRecord.Closed s) g q = give _
 
-    answered_so : HasUdp (Over m) place → m.store.standing ≡ None → (done : Result (Answer (Unit {0})) ErrorCode × Udp2Socket) → Walks law (Polled m place done) (CreatedSo m place) (Give (create_answered m.store place done))
+    answered_so : HasUdp (Over m) place → m.store.standing ≡ None → (done : Result (Answer (Unit {0})) ErrorCode × UdpRecord) → Walks law (Polled m place done) (CreatedSo m place) (Give (create_answered m.store place done))
     answered_so here q (Ok (Ready d), u) = give _
     answered_so here q (Ok Pending, u) = give _
     answered_so here q (Err c, u) = left_walks here q u (give _)
 
-    poll_at_walks : (u : Option Udp2Socket) → udp2_at m.store.records place ≡ u → m.store.standing ≡ None → Walks law (Over m) (CreatedSo m place) (poll_create_at m.store place u)
+    poll_at_walks : (u : Option UdpRecord) → udp2_at m.store.records place ≡ u → m.store.standing ≡ None → Walks law (Over m) (CreatedSo m place) (poll_create_at m.store place u)
     poll_at_walks None g q = give _
     poll_at_walks (Some u) g q = from (udp_put_same (Over m) place u g) (and_then (poll_so u g q) (answered_so (udp_there {h = Over m} g) q))
 

@@ -1,5 +1,5 @@
 -- What a step may begin to write, and how a call of streams may begin a write.
-use Rattle.wasi_walks.proofs.Words.{List, Machine, None, OpId, Option, Some, Step, Streams, Tcp2Socket, WriteState, [], if◌then◌else◌, length, nat_lt}
+use Rattle.wasi_walks.proofs.Words.{List, Machine, None, OpId, Option, Some, Step, Streams, TcpRecord, WriteState, [], if◌then◌else◌, length, nat_lt}
 use Rattle.wasi_walks.proofs.Words.{output_at, ℕ, ◌∷◌}
 use Rattle.wasi_world.specs.Sides.{is_same}
 use Rattle.wasi_walks.proofs.Words.{WasiSocketsCtx, ◌≡◌}
@@ -19,7 +19,7 @@ abbrev pub may_of : Option Streams → List ℕ → Own
 may_of None bytes = Unused
 may_of (Some s) bytes = may_begin s.writer bytes
 
-abbrev pub may_in : Option Tcp2Socket → List ℕ → Own
+abbrev pub may_in : Option TcpRecord → List ℕ → Own
 may_in None bytes = Unused
 may_in (Some r) bytes = may_of r.streams bytes
 

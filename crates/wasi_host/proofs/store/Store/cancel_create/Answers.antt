@@ -3,28 +3,28 @@ use Rattle.wasi_world.specs.Asks.{Give}
 use Rattle.wasi_world.proofs.Walks.{asks_end, asks_exit}
 use Rattle.wasi_host.specs.GivingBack.{given_back}
 use Rattle.wasi_host.specs.Store.{Records}
-use Rattle.wasi_records.specs.declared.records.Record.TheVariants.{Udp2}
-use Rattle.wasi_records.specs.declared.udp.Udp2Socket.{Udp2Socket}
-use Rattle.wasi_records.specs.declared.udp.Udp2Socket.TheVariants.{Closed}
+use Rattle.wasi_records.specs.declared.records.Record.TheVariants.{Udp}
+use Rattle.wasi_records.specs.declared.udp.UdpRecord.{UdpRecord}
+use Rattle.wasi_records.specs.declared.udp.UdpRecord.TheVariants.{Closed}
 use Rattle.wasi_host.proofs.GivenBack.{given_back_put, knows_cancelled}
 use Rattle.wasi_host.proofs.store.Store.cancel_create.Goals as goal
 
 pub returns-in_err-cancel-clause-asked : goal.returns-in_err-cancel-clause-asked
 returns-in_err-cancel-clause-asked g c =
-    let found = sym c.in-Some.ensures.item ∙ ap (λ (u : Udp2Socket). Some u) c.in-Creating.is in
+    let found = sym c.in-Some.ensures.item ∙ ap (λ (u : UdpRecord). Some u) c.in-Creating.is in
     rw (← c.self.view_is, found) (asks_exit _ _ c.from_residual.ensures.1 c.in_err-cancel.ensures.asked.err)
 
 pub returns-clause-asked : goal.returns-clause-asked
 returns-clause-asked g c =
     let store : Records = record { records = c.self.inside.records.items; jobs = c.self.inside.jobs.items; standing = c.self.inside.standing } in
-    let found = sym c.in-Some.ensures.item ∙ ap (λ (u : Udp2Socket). Some u) c.in-Creating.is in
+    let found = sym c.in-Some.ensures.item ∙ ap (λ (u : UdpRecord). Some u) c.in-Creating.is in
     let gone = c.give_back.ensures.state ∙ ap (given_back c.args.place) (sym c.self.view_is) in
     rw (← c.self.view_is, found, gone)
-    (asks_end _ c.in_ok-cancel.ensures.asked.ok (ap (λ (now : Records). Give now) (given_back_put store c.args.place (Udp2 (Closed c.in-Creating.create.operation.who.side)))))
+    (asks_end _ c.in_ok-cancel.ensures.asked.ok (ap (λ (now : Records). Give now) (given_back_put store c.args.place (Udp (Closed c.in-Creating.create.operation.who.side)))))
 
 pub returns-clause-sides : goal.returns-clause-sides
 returns-clause-sides g c = λ k.
     let store : Records = record { records = c.self.inside.records.items; jobs = c.self.inside.jobs.items; standing = c.self.inside.standing } in
-    let found = sym c.in-Some.ensures.item ∙ ap (λ (u : Udp2Socket). Some u) c.in-Creating.is in
+    let found = sym c.in-Some.ensures.item ∙ ap (λ (u : UdpRecord). Some u) c.in-Creating.is in
     let gone = c.give_back.ensures.state ∙ ap (given_back c.args.place) (sym c.self.view_is) in
     rw gone (knows_cancelled store c.args.place c.in-Creating.create found c.in_ok-cancel.ensures.closed (rw (← c.self.view_is) at k))

@@ -1,7 +1,7 @@
 use Rattle.std.proofs.Common.{Some, ap, sym, ◌∙◌}
 use Rattle.wasi_records.specs.Records.{udp2_at}
 use Rattle.wasi_host.specs.Store.{Records}
-use Rattle.wasi_records.specs.declared.udp.Udp2Socket.TheVariants.{Closed}
+use Rattle.wasi_records.specs.declared.udp.UdpRecord.TheVariants.{Closed}
 use Rattle.wasi_host.proofs.GivenBack.{left_same, left_closed, udp_held}
 use Rattle.wasi_host.proofs.store.Store.leave_udp.Goals as goal
 

@@ -1,6 +1,6 @@
 use Rattle.std.proofs.Common.{refl}
 use Rattle.wasi_world.proofs.Walks.{asks_exit, asks_end, asks_given}
-use Rattle.wasi_records.specs.declared.records.Record.TheVariants.{Tcp2}
+use Rattle.wasi_records.specs.declared.records.Record.TheVariants.{Tcp}
 use Rattle.wasi_host.specs.Store.{Records}
 use Rattle.wasi_host.proofs.KnownSides.{knows_polled}
 use Rattle.wasi_records.proofs.Lookups.{found_at, none_at}
@@ -28,5 +28,5 @@ returns-clause-asked g c =
 pub returns-clause-sides : goal.returns-clause-sides
 returns-clause-sides g c = λ k.
     let store : Records = record { records = c.self.inside.records.items; jobs = c.self.inside.jobs.items; standing = c.self.inside.standing } in
-    c.give_back.ensures.sides (g.W.World.seen c.release.new.world) (put_none c.self.inside.records.items c.args.place (Tcp2 c.release.new.self) c.in_ok-release.ensures.none)
+    c.give_back.ensures.sides (g.W.World.seen c.release.new.world) (put_none c.self.inside.records.items c.args.place (Tcp c.release.new.self) c.in_ok-release.ensures.none)
     (knows_polled store c.args.place c.in-Some.record.now c.release.new.self (found_at c.self.inside.records.items c.args.place c.in-Some.record c.in-Some.ensures.item) c.release.ensures.sides (rw (← c.self.view_is) at k))

@@ -1,0 +1,19 @@
+use Rattle.std.proofs.Common.{refl}
+use Rattle.wasi_world.proofs.Walks.{asks_at, asks_exit, asks_end}
+use Rattle.wasi_records.specs.Udp.{close_udp_asks}
+use Rattle.wasi_records.proofs.UdpPolls.{is_open, open_closes}
+use Rattle.wasi_records.proofs.udp.UdpRecord.close.Goals as goal
+
+pub returns-in_err-close-clause-asked : goal.returns-in_err-close-clause-asked
+returns-in_err-close-clause-asked g c =
+    asks_at (close_udp_asks c.args.op) (is_open c.args.self.now c.in-Some.open.now c.in-Some.ensures)
+    (asks_exit _ _ c.from_residual.ensures.1 (rw c.side-side.ensures at c.in_err-close.ensures.asked).err)
+
+pub returns-clause-asked : goal.returns-clause-asked
+returns-clause-asked g c =
+    rw c.side-side.ensures
+    (asks_at (close_udp_asks c.args.op) (is_open c.args.self.now c.in-Some.open.now c.in-Some.ensures)
+    (asks_end _ (rw c.side-side.ensures at c.in_ok-close.ensures.asked).ok refl))
+
+pub returns-clause-held : goal.returns-clause-held
+returns-clause-held g c = rw (is_open c.args.self.now c.in-Some.open.now c.in-Some.ensures) (open_closes c.args.op _ c.in_ok-close.ensures.asked.ok)
