@@ -25,7 +25,7 @@ use Rattle.wasi_causes.specs.Outcomes.{Outcome, AsksOnce, AreLike, Gone}
 use Rattle.wasi_host.specs.Kinds.{none_in, outgoing_of}
 use Rattle.wasi_records.specs.Shutdowns.{shut_receive, shut_send, with_streams}
 use Rattle.wasi_host.specs.TcpCalls.{shut_put}
-use Rattle.wasi_records.specs.declared.listening.Listening.TheVariants as listening
+use Rattle.wasi_records.specs.declared.tcp_listening.Listening.TheVariants as listening
 use Rattle.wasi_steps.specs.declared.reply.CodeWord.TheVariants as word
 use Rattle.wasi_steps.specs.declared.reply.Reply.TheVariants as reply
 use Rattle.wasi_steps.specs.declared.step.Step.TheVariants as step

@@ -39,7 +39,7 @@ use Rattle.wasi_host.specs.Machine.{watched_side}
 use Rattle.wasi_records.specs.Looks.{is_over, is_done, connect_looked, accept_looked, ready_listening, ready_idle, ready_socket_by, ready_reader, ready_writer}
 use Rattle.wasi_host.specs.Readiness.{ready_record, ready_put, ready_at}
 use Rattle.wasi_host.specs.declared.kind.Watched.TheVariants as watched
-use Rattle.wasi_records.specs.declared.listening.Listening.TheVariants as listening
+use Rattle.wasi_records.specs.declared.tcp_listening.Listening.TheVariants as listening
 use Rattle.wasi_steps.specs.declared.step.Step.TheVariants as step
 use Rattle.wasi_tcp.specs.declared.listener.Accepting.TheVariants as accepting
 use Rattle.wasi_tcp.specs.declared.reader.ReadState.TheVariants as reading

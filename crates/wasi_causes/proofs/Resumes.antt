@@ -4,7 +4,7 @@ use Rattle.wasi_causes.proofs.pollables.Polls.{blocked_goes_on}
 use Rattle.wasi_causes.specs.Blocking.{IsBlocking}
 use Rattle.wasi_causes.specs.Outcomes.{BlockedGoesOn}
 use Rattle.wasi_records.specs.Records.{tcp2_at, udp2_at, open_at, open_of}
-use Rattle.wasi_records.specs.declared.binding.InProgress.TheVariants.{Binding}
+use Rattle.wasi_records.specs.declared.tcp_binding.InProgress.TheVariants.{Binding}
 use Rattle.wasi_walks.proofs.walks.States.{stands_so as stands_under}
 use Rattle.wasi_causes.proofs.Words.{Answer, BindFailed, BindFails, BindWaits, Bool, CallFails, CallWaits, Done, End, EndsPending, Entry, Err, ErrorCode, Full, Give, IfSome, InProgress, InvalidState, IsBinding, IsListening, IsOnNothing, IsRestOfBind}
 use Rattle.wasi_causes.proofs.Words.{IsSome, IsSomeAnd, Item, List, ListenEnds, ListenFailed, ListenWaits, Listening, Machine, NoSuchHandle, None, Ok, OpId, Operation, Option, Pending, PendingCallsFit, Ready, Records, Refused, Reply, Result, Some}
@@ -47,7 +47,7 @@ use Rattle.wasi_records.specs.declared.udp.UdpInProgress.TheVariants as doing
 use Rattle.wasi_udp.specs.Bind.{IsBind as IsUdpBind}
 use Rattle.wasi_udp.specs.Create.{Create, made_by, with_left}
 use Rattle.wasi_walks.specs.Waiting.{CreateFailed, CreateWaits, IsCreating, IsRestOfUdpConnect, IsUdpBinding, IsUdpConnecting, UdpConnectFailed, UdpConnectWaits, UdpBindFailed, UdpBindFails, UdpBindWaits}
-use Rattle.wasi_records.specs.declared.listening.Listening.TheVariants as listening
+use Rattle.wasi_records.specs.declared.tcp_listening.Listening.TheVariants as listening
 use Rattle.wasi_host.specs.declared.pending.Outcome.{Outcome as Given}
 use Rattle.wasi_udp.specs.Connect.{with_given}
 use Rattle.wasi_world.specs.Operation.{Given as GivenByConnect}

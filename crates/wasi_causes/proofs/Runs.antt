@@ -12,7 +12,7 @@ use Rattle.wasi_records.specs.declared.udp.UdpRecord.{UdpRecord}
 use Rattle.wasi_records.specs.declared.udp.UdpInProgress.{UdpInProgress}
 use Rattle.wasi_causes.specs.Udp.{IsPendingCreate}
 use Rattle.wasi_walks.specs.Waiting.{IsCreating, IsUdpBinding}
-use Rattle.wasi_records.specs.declared.binding.InProgress.TheVariants.{Binding}
+use Rattle.wasi_records.specs.declared.tcp_binding.InProgress.TheVariants.{Binding}
 use Rattle.wasi_causes.proofs.Words.{AcceptsAt, AcceptsIn, Allows, Answered, Bool, CodeWord, ConnectsAt, Entry}
 use Rattle.wasi_causes.proofs.Words.{FinishRefusal, Full, Give, HasChildren, HoldsCall, IfSome, InProgress, Input, IsBinding, IsListening}
 use Rattle.wasi_causes.proofs.Words.{IsOnNothing, IsSome, IsSomeAnd, Item, Kind, Left, List, Listening, Machine}
@@ -29,7 +29,7 @@ use Rattle.wasi_causes.proofs.Words.{ℕ, ◌==◌, ◌≡◌, ◌⊎◌}
 use Rattle.wasi_causes.proofs.tables.Steps.{its_own}
 use Rattle.wasi_causes.specs.Outcomes.{InputIsThere, Traps}
 use Rattle.wasi_causes.specs.Reached.{Finishes, MayFinish, ListensLate, HasRecord, HasUdpRecord, OfItsRecord}
-use Rattle.wasi_records.specs.declared.listening.Listening.TheVariants as listening
+use Rattle.wasi_records.specs.declared.tcp_listening.Listening.TheVariants as listening
 use Rattle.wasi_host.specs.declared.store.StandingCall.TheVariants as standing
 use Rattle.wasi_walks.proofs.fits.Law.{Fit, begins_fit, fits_along}
 use Rattle.wasi_walks.proofs.fits.Lines.{first_fit, starts_fit}

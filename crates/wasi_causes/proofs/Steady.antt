@@ -22,7 +22,7 @@ use Rattle.wasi_causes.proofs.Words.{with_inner, with_progress}
 use Rattle.wasi_causes.proofs.Words.{with_state, with_writer, ℕ, ⊤, ◌∙◌, ◌≡◌}
 use Rattle.wasi_causes.proofs.sockets.Starts.{IsPastNot}
 use Rattle.wasi_causes.specs.Reached.{Finishes, MayFinish, ListensLate}
-use Rattle.wasi_records.specs.declared.listening.Listening.TheVariants as listening
+use Rattle.wasi_records.specs.declared.tcp_listening.Listening.TheVariants as listening
 use Rattle.wasi_walks.proofs.fits.Law.{told_same, whatever}
 use Rattle.wasi_walks.proofs.fits.Polls.{Anything}
 use Rattle.wasi_walks.proofs.walks.Moves.{Held, BindsOn, Connects, Here, put, Move, Changes, ClosesReader, Writes, IsGone, Reconnects, Opens, BeginsBind, BeginsConnect, BeginsWrite, CancelsBind, CancelsUdpBind, CancelsUdpConnect, BeginsListen, BeginsAccept, Unlistens, Forgets, Joins, Listens, Awaits, listen_after, accepting_now, joined, IsConnecting, MakesPlain}

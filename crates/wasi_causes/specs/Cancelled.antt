@@ -5,9 +5,9 @@ use Rattle.wasi_world.specs.declared.call.Entry.{Entry}
 use Rattle.wasi_world.specs.declared.call.Told.TheVariants as told
 use Rattle.wasi_tcp.specs.Socket.{side_of}
 use Rattle.wasi_udp.specs.Create.{Create}
-use Rattle.wasi_records.specs.declared.binding.InProgress.TheVariants as doing
+use Rattle.wasi_records.specs.declared.tcp_binding.InProgress.TheVariants as doing
 use Rattle.wasi_jobs.specs.declared.job.HostJob.TheVariants.{Datagram}
-use Rattle.wasi_records.specs.declared.listening.Listening.TheVariants.{Not}
+use Rattle.wasi_records.specs.declared.tcp_listening.Listening.TheVariants.{Not}
 use Rattle.wasi_host.specs.declared.machine.Machine.{Machine}
 use Rattle.wasi_records.specs.declared.socket.TcpRecord.{TcpRecord}
 use Rattle.wasi_host.specs.declared.store.StandingCall.{StandingCall}

@@ -81,13 +81,13 @@ pub use Rattle.wasi_host.specs.Standing.{call_answered, call_of, call_place, sta
 pub use Rattle.wasi_host.specs.Store.{Records, put_back, stream_at, with_record, with_socket}
 pub use Rattle.wasi_records.specs.Sockets.{begin_connect_asks, connect_begun, connect_polled, idle, inner_answered, new_record, new_streams, opened_receive, opened_send, poll_connect_asks, tell_local_asks, tell_remote_asks, with_inner, with_progress}
 pub use Rattle.wasi_records.specs.Halves.{flush_asks, reader_asks, reader_of, with_reader, with_writer, writer_asks, writer_of}
-pub use Rattle.wasi_records.specs.declared.binding.AsyncOperation.{AsyncOperation}
-pub use Rattle.wasi_records.specs.declared.binding.InProgress.{InProgress}
+pub use Rattle.wasi_records.specs.declared.tcp_binding.AsyncOperation.{AsyncOperation}
+pub use Rattle.wasi_records.specs.declared.tcp_binding.InProgress.{InProgress}
 pub use Rattle.wasi_host.specs.declared.kind.Kind.{Kind}
 pub use Rattle.wasi_host.specs.declared.kind.Kind.TheVariants.{ErrorValue, Input, Network, Output, Pollable, Tcp2}
 pub use Rattle.wasi_host.specs.declared.kind.Watched.{Watched}
-pub use Rattle.wasi_records.specs.declared.listening.Listening.{Listening}
-pub use Rattle.wasi_records.specs.declared.listening.Listening.TheVariants.{Accepts, Begins, Not, Unclosed}
+pub use Rattle.wasi_records.specs.declared.tcp_listening.Listening.{Listening}
+pub use Rattle.wasi_records.specs.declared.tcp_listening.Listening.TheVariants.{Accepts, Begins, Not, Unclosed}
 pub use Rattle.wasi_host.specs.declared.machine.Machine.{Machine}
 pub use Rattle.wasi_records.specs.declared.socket.Streams.{Streams}
 pub use Rattle.wasi_records.specs.declared.socket.TcpRecord.{TcpRecord}

@@ -18,8 +18,8 @@ use Rattle.wasi_tcp.specs.declared.socket.TcpState.TheVariants as state
 use Rattle.wasi_tcp.specs.Connecting.{with_state}
 use Rattle.wasi_tcp.specs.Listener.{Listener, with_accept, accepted_socket, accepted_state, HoldsAccept}
 use Rattle.wasi_records.specs.Records.{tcp2_pushed}
-use Rattle.wasi_records.specs.declared.listening.Listening.{Listening}
-use Rattle.wasi_records.specs.declared.listening.Listening.TheVariants as listening
+use Rattle.wasi_records.specs.declared.tcp_listening.Listening.{Listening}
+use Rattle.wasi_records.specs.declared.tcp_listening.Listening.TheVariants as listening
 use Rattle.wasi_host.specs.declared.machine.Machine.{Machine}
 use Rattle.wasi_records.specs.declared.socket.TcpRecord.{TcpRecord}
 use Rattle.wasi_records.specs.Listening.{with_listening, accepted_record}

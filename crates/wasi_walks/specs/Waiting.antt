@@ -27,12 +27,12 @@ use Rattle.wasi_tcp.specs.Listener.{Listener}
 use Rattle.wasi_tcp.specs.Socket.{side_in}
 use Rattle.wasi_tcp.specs.Writer.{collected}
 use Rattle.wasi_records.specs.Records.{tcp2_at, udp2_at, open_at}
-use Rattle.wasi_records.specs.declared.binding.InProgress.{InProgress}
-use Rattle.wasi_records.specs.declared.binding.InProgress.TheVariants.{Binding}
+use Rattle.wasi_records.specs.declared.tcp_binding.InProgress.{InProgress}
+use Rattle.wasi_records.specs.declared.tcp_binding.InProgress.TheVariants.{Binding}
 use Rattle.wasi_host.specs.declared.kind.Watched.{Watched}
 use Rattle.wasi_host.specs.declared.kind.Watched.TheVariants as watched
-use Rattle.wasi_records.specs.declared.listening.Listening.{Listening}
-use Rattle.wasi_records.specs.declared.listening.Listening.TheVariants as listening
+use Rattle.wasi_records.specs.declared.tcp_listening.Listening.{Listening}
+use Rattle.wasi_records.specs.declared.tcp_listening.Listening.TheVariants as listening
 use Rattle.wasi_host.specs.declared.machine.Machine.{Machine}
 use Rattle.wasi_records.specs.declared.socket.Streams.{Streams}
 use Rattle.wasi_records.specs.declared.socket.TcpRecord.{TcpRecord}

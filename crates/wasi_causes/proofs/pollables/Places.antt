@@ -5,14 +5,14 @@ use Rattle.wasi_world.specs.declared.ids.Ids.{Ids}
 use Rattle.wasi_tcp.specs.declared.listener.Accepting.{Accepting}
 use Rattle.wasi_tcp.specs.declared.listener.Accepting.TheVariants as accepting
 use Rattle.wasi_tcp.specs.Listener.{has_accept, ids_after}
-use Rattle.wasi_records.specs.declared.binding.AsyncOperation.TheVariants as operation
-use Rattle.wasi_records.specs.declared.binding.InProgress.TheVariants as doing
+use Rattle.wasi_records.specs.declared.tcp_binding.AsyncOperation.TheVariants as operation
+use Rattle.wasi_records.specs.declared.tcp_binding.InProgress.TheVariants as doing
 use Rattle.wasi_records.specs.declared.datagrams.Incoming.{Incoming}
 use Rattle.wasi_records.specs.declared.datagrams.Receiving.{Receiving}
 use Rattle.wasi_records.specs.declared.datagrams.Receiving.TheVariants as receiving
 use Rattle.wasi_host.specs.declared.kind.Watched.TheVariants as watched
-use Rattle.wasi_records.specs.declared.listening.Listening.{Listening}
-use Rattle.wasi_records.specs.declared.listening.Listening.TheVariants as listening
+use Rattle.wasi_records.specs.declared.tcp_listening.Listening.{Listening}
+use Rattle.wasi_records.specs.declared.tcp_listening.Listening.TheVariants as listening
 use Rattle.wasi_host.specs.declared.polling.Look.{Look}
 use Rattle.wasi_records.specs.declared.udp.OpenUdp.{OpenUdp}
 use Rattle.wasi_host.specs.DatagramCalls.{incoming_names}

@@ -8,7 +8,7 @@ use Rattle.wasi_records.specs.declared.datagrams.Incoming.{Incoming}
 use Rattle.wasi_records.specs.declared.datagrams.Receiving.{Receiving}
 use Rattle.wasi_records.specs.declared.datagrams.Receiving.TheVariants as receiving
 use Rattle.wasi_host.specs.declared.kind.Watched.TheVariants as watched
-use Rattle.wasi_records.specs.declared.listening.Listening.TheVariants as listening
+use Rattle.wasi_records.specs.declared.tcp_listening.Listening.TheVariants as listening
 use Rattle.wasi_records.specs.declared.udp.OpenUdp.{OpenUdp}
 use Rattle.wasi_udp.specs.Shape.{Socket}
 use Rattle.wasi_host.specs.DatagramCalls.{incoming_looked, ready_incoming_at}

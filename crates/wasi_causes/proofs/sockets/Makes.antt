@@ -24,7 +24,7 @@ use Rattle.wasi_causes.proofs.Words.{CodeWord}
 use Rattle.wasi_causes.specs.Outcomes.{OnlyWhere, Outcome}
 use Rattle.wasi_causes.specs.Reached.{Finishes, FinishesAt, MayFinish}
 use Rattle.wasi_records.specs.Records.{tcp2_at, tcp2_put, tcp2_pushed}
-use Rattle.wasi_records.specs.declared.listening.Listening.TheVariants as listening
+use Rattle.wasi_records.specs.declared.tcp_listening.Listening.TheVariants as listening
 use Rattle.wasi_addr.specs.declared.p2.ErrorCode.TheVariants as word_p2
 use Rattle.wasi_causes.proofs.Words.{Code, record_in, socket_at, if◌then◌else◌}
 use Rattle.wasi_records.specs.Sockets.{poll_connect_asks}

@@ -10,7 +10,7 @@ use Rattle.wasi_walks.specs.Waiting.{IsCreating}
 use Rattle.wasi_host.specs.Cancel.{cancel_asks, cancel_call, cancel_on, cancel_bind_at, cancel_create_at, cancel_drop_outgoing_at, cancel_listen_at, cancel_udp_bind_at, cancel_udp_connect_at, is_datagram_on, listen_gone, other_than_datagram}
 use Rattle.wasi_jobs.specs.declared.job.HostJob.{HostJob}
 use Rattle.wasi_jobs.specs.declared.job.HostJob.TheVariants.{Datagram}
-use Rattle.wasi_records.specs.declared.listening.Listening.TheVariants as listening
+use Rattle.wasi_records.specs.declared.tcp_listening.Listening.TheVariants as listening
 use Rattle.wasi_records.specs.declared.udp.OpenUdp.{OpenUdp}
 use Rattle.wasi_records.specs.declared.udp.UdpRecord.{UdpRecord}
 use Rattle.wasi_records.specs.declared.udp.UdpRecord.TheVariants as udp

@@ -9,9 +9,9 @@ use Rattle.wasi_records.specs.Numbered.{record_gone}
 use Rattle.wasi_records.specs.Records.{tcp2_put, tcp2_at, tcp2_of, tcp2_pushed, udp2_at, udp2_of, udp2_put, udp2_pushed}
 use Rattle.wasi_records.specs.declared.records.Record.{Record}
 use Rattle.wasi_records.specs.declared.records.Record.TheVariants as rec
-use Rattle.wasi_records.specs.declared.listening.Listening.TheVariants as listening
-use Rattle.wasi_records.specs.declared.binding.InProgress.{InProgress}
-use Rattle.wasi_records.specs.declared.binding.InProgress.TheVariants as progress
+use Rattle.wasi_records.specs.declared.tcp_listening.Listening.TheVariants as listening
+use Rattle.wasi_records.specs.declared.tcp_binding.InProgress.{InProgress}
+use Rattle.wasi_records.specs.declared.tcp_binding.InProgress.TheVariants as progress
 use Rattle.wasi_addr.specs.declared.address.SocketAddressFamily.{SocketAddressFamily}
 use Rattle.wasi_addr.specs.declared.code.ErrorCode.{ErrorCode}
 use Rattle.wasi_udp.specs.Receive as receive

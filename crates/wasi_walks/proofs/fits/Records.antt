@@ -13,8 +13,8 @@ use Rattle.wasi_tcp.specs.Listener.{HoldsAccept}
 use Rattle.wasi_tcp.specs.declared.socket.TcpState.{TcpState}
 use Rattle.wasi_records.specs.Records.{tcp2_at, udp2_at}
 use Rattle.wasi_records.specs.declared.records.Record.{Record}
-use Rattle.wasi_records.specs.declared.binding.InProgress.{InProgress}
-use Rattle.wasi_records.specs.declared.listening.Listening.{Listening}
+use Rattle.wasi_records.specs.declared.tcp_binding.InProgress.{InProgress}
+use Rattle.wasi_records.specs.declared.tcp_listening.Listening.{Listening}
 use Rattle.wasi_records.specs.declared.socket.TcpRecord.{TcpRecord}
 use Rattle.wasi_host.specs.declared.store.StandingCall.{StandingCall}
 use Rattle.wasi_udp.specs.Receive.{IsReceive}
