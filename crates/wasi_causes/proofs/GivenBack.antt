@@ -1,6 +1,7 @@
 -- What is left of a record that is given back, by what was known of it, and what of the others is as it was.
+use Rattle.wasi_walks.proofs.Places.{udp_sort}
 use Rattle.std.proofs.Common.{[], suc, zero, slice_set}
-use Rattle.wasi_causes.proofs.Words.{Bool, List, Machine, None, OpId, Option, Some, ap, false, if◌then◌else◌, inl, inr, refl, slice_get, sym, true, ℕ, ◌∙◌, ◌≡◌, ◌∷◌}
+use Rattle.wasi_causes.proofs.Words.{Bool, List, Machine, None, OpId, Some, ap, false, if◌then◌else◌, inl, inr, refl, slice_get, sym, true, ℕ, ◌∙◌, ◌≡◌, ◌∷◌}
 use Rattle.wasi_causes.specs.GivenUp.{giving_back}
 use Rattle.wasi_walks.specs.Licence.{Has}
 use Rattle.wasi_jobs.specs.declared.job.HostJob.{HostJob}
@@ -13,19 +14,14 @@ use Rattle.wasi_records.specs.declared.udp.UdpRecord.{UdpRecord}
 use Rattle.wasi_walks.proofs.GoneLists.{stays_there}
 use Rattle.wasi_walks.proofs.walks.Moves.{Here, IsLeft, OfInput, OfLookup, OfOutput, OfTcp, OfUdp, OfUnnamed}
 
--- == the record of a place is of one kind
-udp_is : (o : Option Record) (u : UdpRecord) → udp2_of o ≡ Some u → o ≡ Some (Record.Udp u)
-udp_is (Some (Record.Udp x)) u e = cc
-udp_is _ u e = absurd (cc)
-
--- and a UDP socket where it is closed
+-- a UDP socket is given back where it is closed
 pub left_udp : (h : Here) (place : ℕ) → IsLeft h place → (u : UdpRecord) → udp2_at h.machine.store.records place ≡ Some u → (side : OpId) × (u ≡ UdpRecord.Closed side)
 left_udp h place (OfUdp side g) u e = (side, cc)
-left_udp h place (OfTcp q made g) u e = let n : tcp2_at h.machine.store.records place ≡ None = ap tcp2_of (udp_is (slice_get h.machine.store.records place) u e) in absurd (cc)
-left_udp h place (OfLookup l made g) u e = let n : lookup_at h.machine.store.records place ≡ None = ap lookup_of (udp_is (slice_get h.machine.store.records place) u e) in absurd (cc)
-left_udp h place (OfUnnamed l made g) u e = let n : lookup_at h.machine.store.records place ≡ None = ap lookup_of (udp_is (slice_get h.machine.store.records place) u e) in absurd (cc)
-left_udp h place (OfInput bytes made g) u e = let n : input_pipe_at h.machine.store.records place ≡ None = ap input_pipe_of (udp_is (slice_get h.machine.store.records place) u e) in absurd (cc)
-left_udp h place (OfOutput pipe made g) u e = let n : output_pipe_at h.machine.store.records place ≡ None = ap output_pipe_of (udp_is (slice_get h.machine.store.records place) u e) in absurd (cc)
+left_udp h place (OfTcp q made g) u e = let n : tcp2_at h.machine.store.records place ≡ None = ap tcp2_of (udp_sort.it (slice_get h.machine.store.records place) u e) in absurd (cc)
+left_udp h place (OfLookup l made g) u e = let n : lookup_at h.machine.store.records place ≡ None = ap lookup_of (udp_sort.it (slice_get h.machine.store.records place) u e) in absurd (cc)
+left_udp h place (OfUnnamed l made g) u e = let n : lookup_at h.machine.store.records place ≡ None = ap lookup_of (udp_sort.it (slice_get h.machine.store.records place) u e) in absurd (cc)
+left_udp h place (OfInput bytes made g) u e = let n : input_pipe_at h.machine.store.records place ≡ None = ap input_pipe_of (udp_sort.it (slice_get h.machine.store.records place) u e) in absurd (cc)
+left_udp h place (OfOutput pipe made g) u e = let n : output_pipe_at h.machine.store.records place ≡ None = ap output_pipe_of (udp_sort.it (slice_get h.machine.store.records place) u e) in absurd (cc)
 
 -- so one that is open stays
 pub open_stays : (h : Here) (place : ℕ) → IsLeft h place → (k : ℕ) (o : OpenUdp) → udp2_at h.machine.store.records k ≡ Some (UdpRecord.Open o) → udp2_at (record_gone h.machine.store.records place) k ≡ Some (UdpRecord.Open o)

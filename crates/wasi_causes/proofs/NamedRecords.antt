@@ -1,5 +1,6 @@
 -- Of the machines that runs lead to: the record of a pending call is there, since none is given back while a call is pending, and so is
 -- that of each job, since a record takes its jobs with it; and that of each live handle, since nothing live is of one that is gone.
+use Rattle.wasi_walks.proofs.Places.{push_at, set_at}
 use Rattle.wasi_causes.proofs.Words.{Allows, End, Entry, Err, ErrorCode, ErrorValue, Give, Item, Kind, Left, List, Machine, None, Ok, Operation, Option, Reply, Result, Some, Standing, StandingCall, Step, Tcp2, TcpRecord, WasiSocketsCtx, Watched, []}
 use Rattle.wasi_causes.proofs.Words.{ap, call_place, first_state, is_some, kind_at, machine_asks, own_of, poll_asks, refl, run, slice_get, subst, sym, true, turn_asks, with_writer, ℕ, ⊤, ◌++◌, ◌∷◌, ◌∙◌, ◌≡◌}
 use Rattle.std.proofs.Common.{slice_set, suc, zero}
@@ -55,17 +56,16 @@ output_kept : (o : Option Record) → is_some (output_pipe_of o) ≡ true → Is
 output_kept (Some (Record.OutputPipe pipe)) e = tt
 output_kept _ e = absurd (cc)
 
-kept_set : (xs : List Record) (i : ℕ) (now : Record) (k : ℕ) → IsRecord (Some now) → IsRecord (slice_get xs k) → IsRecord (slice_get (slice_set xs i now) k)
-kept_set [] i now k new s = s
-kept_set (z ∷ xs) zero now zero new s = new
-kept_set (z ∷ xs) zero now (suc k) new s = s
-kept_set (z ∷ xs) (suc i) now zero new s = s
-kept_set (z ∷ xs) (suc i) now (suc k) new s = kept_set xs i now k new s
+kept_set : (xs : List Record) (i : ℕ) (now : Record) (k : ℕ) → IsRecord (Some now) → IsRecord (slice_get xs k)
+    → IsRecord (slice_get (slice_set xs i now) k)
+kept_set xs i now k new s = elim (set_at xs i now k) [
+  | inl same ↦ subst IsRecord (sym same) s
+  | inr its ↦ subst IsRecord (sym its.1) new
+]
 
 kept_push : (xs : List Record) (now : Record) (k : ℕ) → IsRecord (slice_get xs k) → IsRecord (slice_get (xs ++ now ∷ []) k)
-kept_push [] now k s = absurd s
-kept_push (z ∷ xs) now zero s = s
-kept_push (z ∷ xs) now (suc k) s = kept_push xs now k s
+kept_push xs now k s =
+    elim (push_at xs now k) [ inl same ↦ subst IsRecord (sym same) s | inr its ↦ absurd (subst IsRecord its.2 s) ]
 
 -- another is given back
 kept_gone : (xs : List Record) (i k : ℕ) → (k ≡ i → ⊥) → IsRecord (slice_get xs k) → IsRecord (slice_get (record_gone xs i) k)

@@ -1,7 +1,8 @@
 -- In a run what is pending is on handles that are live and on streams that are there: a step makes
 -- datagram streams or a call of a stream pending only where it asks for the one or is the other, and while such a call is pending,
 -- nothing takes its handle away.
-use Rattle.wasi_causes.proofs.Words.{Allows, Answered, End, Entry, Err, ErrorCode, Give, IfSome, IsSome, IsSomeAnd, Item, Left, List, Machine, None, Ok, Operation, Option, Reply, Result, Some}
+use Rattle.wasi_walks.proofs.received.Handles.{polled_same}
+use Rattle.wasi_causes.proofs.Words.{Allows, Answered, Entry, Err, ErrorCode, Give, IfSome, IsSome, IsSomeAnd, Left, List, Machine, None, Ok, Option, Reply, Result, Some}
 use Rattle.wasi_causes.proofs.Words.{Standing, StandingCall, Step, TcpRecord, WasiSocketsCtx, [], ap, arith, eqb-true, first_ids, first_state, gives_more, is_some, kind_at, length, machine_asks, nothing_stands}
 use Rattle.wasi_causes.proofs.Words.{own_of, poll_asks, refl, run, subst, sym, turn_asks, standing_as, stands_as, true, false, Bool, ℕ, ⊤, inl, inr, ◌≡◌, ◌⊎◌, ◌==◌, ◌∙◌}
 use Rattle.std.specs.Prelude.{◌≤◌, min}
@@ -16,8 +17,7 @@ use Rattle.wasi_host.specs.declared.kind.Kind.TheVariants.{PlainInput}
 use Rattle.wasi_udp.specs.Create.{Create, after_create as udp_after_create}
 use Rattle.wasi_walks.proofs.fits.Law.{whatever}
 use Rattle.wasi_walks.proofs.fits.Polls.{Anything}
-use Rattle.wasi_walks.proofs.walks.Moves.{Numbers, AwaitsCreate, CallKind, CallsHandles, Empties, GoesOn, Held, Here, IsCall, IsStreamCall, Joins, LooksAtPollables, OfPollables, OfStreams, Leaves, Made, Move, RecallsCall, RecallsStreams, RemembersStreams, Stands, StandsBlocking, StandsDropOutgoing, StandsUdpBind, StandsUdpConnect, StandsUdpCreate, Unstands, Watches, udp_begun}
-use Rattle.wasi_walks.proofs.walks.Moves.{Awaits, BindsOn, Connects, Listens, ReceivesOn, SendsOn, UdpBindsOn, UdpConnectsOn, UdpCreates}
+use Rattle.wasi_walks.proofs.walks.Moves.{Numbers, AwaitsCreate, CallKind, CallsHandles, Empties, GoesOn, Here, IsCall, IsStreamCall, Joins, LooksAtPollables, OfPollables, OfStreams, Leaves, Made, Move, RecallsCall, RecallsStreams, RemembersStreams, Stands, StandsBlocking, StandsDropOutgoing, StandsUdpBind, StandsUdpConnect, StandsUdpCreate, Unstands, Watches, udp_begun}
 use Rattle.wasi_walks.proofs.walks.Runs.{run_ends}
 use Rattle.wasi_walks.proofs.walks.Steps.{machine_walks}
 use Rattle.wasi_steps.specs.Steps.{context_of}
@@ -109,18 +109,6 @@ module _ (contexts : List WasiSocketsCtx) (line : ℕ) (origin : Step) (plain : 
   moves_none _ _ (StandsBlocking h ids call handles made its) i = absurd (subst MakesNone made i.1)
   moves_none _ _ _ i = i
 
-  -- and each poll
-  polled_none : (h : Here) (op : Operation) (after : End × List Item → Here) → Held h op after → (end : End × List Item) → NoStreams h → NoStreams (after end)
-  polled_none h _ _ (BindsOn place r op q g e) end i = i
-  polled_none h _ _ (Connects place r op g e) end i = i
-  polled_none h _ _ (Listens place r op q g e c) end i = i
-  polled_none h _ _ (Awaits place r l op g e a) end i = i
-  polled_none h _ _ (UdpCreates place create q g) end i = i
-  polled_none h _ _ (UdpBindsOn place o op q g e) end i = i
-  polled_none h _ _ (UdpConnectsOn place o op q g e) end i = i
-  polled_none h _ _ (SendsOn place o out op left g e s settles) end i = i
-  polled_none h _ _ (ReceivesOn place o inc op g e s) end i = i
-
   -- what is made is no call on handles
   handles_none : (h : Here) (kind : Kind) (parent : Option ℕ) (made : Made) → Handles origin h kind parent made
       → MakesNone h.made
@@ -148,7 +136,8 @@ module _ (contexts : List WasiSocketsCtx) (line : ℕ) (origin : Step) (plain : 
     moves = λ es h now m b i. moves_none h now m i;
     becomes = λ es h now k b i. becomes_none h now k i;
     polls = λ es h op after held b i.
-        whatever (λ end. NoStreams (after end)) (λ end. polled_none h op after held end i) es (poll_asks op);
+        whatever (λ end. NoStreams (after end)) (λ end. polled_same
+        (λ t made standing. NoStreamsStand standing × MakesNone made) h op after held end i) es (poll_asks op);
     turns = λ es h place r s g e b i. whatever (λ done. NoStreams h) (λ done. i) es (turn_asks s.writer);
   }
 

@@ -6,6 +6,7 @@ pub mod Slots
 pub mod Places
 pub mod owners
 pub mod Gives
+pub mod Fronts
 pub mod walks
 pub mod fits
 pub mod claims

@@ -1,17 +1,16 @@
 -- The law that an incoming stream holds only what came from the remote address that it keeps.
-use Rattle.wasi_walks.proofs.walks.Asked.{Asked, Questions, SetsBacklog, Learns, Closes, MarksOne, AsksCreate, MarksAccepted, Polls, Turns, GivesUp, UdpQuestions, UdpLearns, UdpPeers, UdpCloses, UdpBegins, MarksUdp, MarksStream, MarksError, UdpGivesUp, Resolves, Looks}
-use Rattle.wasi_walks.proofs.Words.{Asks}
-use Rattle.wasi_walks.proofs.Words.{Allows, Done, End, Entry, Err, ErrorCode, ErrorValue, Item, List, Machine, None, Not, Ok, OpId, Operation, Option, Refused, Result, Socket, Some, Step, Tcp2, TcpRecord, Waits, WasiSocketsCtx}
-use Rattle.wasi_walks.proofs.Words.{allows_then, allows_weaker, ap, created_asks, first_state, give_up_asks, inl, inr, length, machine_asks, make_asks, new_asks, new_record, own_of, poll_asks, refl, side_at, side_of, subst, sym, told_done, true, turn_asks}
-use Rattle.wasi_walks.proofs.Words.{with_listening, with_writer, ℕ, ⊤, ◌+◌, ◌∙◌, ◌≡◌}
-use Rattle.wasi_udp.specs.Create.{Create, create_cancel_asks, after_create as udp_after_create}
+use Rattle.wasi_walks.proofs.walks.OfState.{Becomes, Created, CreatedWith, GivenUp, IsClosed, Learnt, OfState, Resolved, UdpBegun}
+use Rattle.wasi_walks.proofs.walks.OfState.{UdpGivenUp, UdpIsClosed, UdpLearnt, Writing, begins_state, of_state}
+use Rattle.wasi_walks.proofs.Words.{Allows, Done, End, Entry, Err, ErrorCode, Item, List, Machine, None, Ok, Operation, Option, Refused, Result, Some, Step, TcpRecord, Waits, WasiSocketsCtx}
+use Rattle.wasi_walks.proofs.Words.{allows_weaker, ap, first_state, inl, inr, machine_asks, own_of, poll_asks, refl, subst, sym, true, turn_asks}
+use Rattle.wasi_walks.proofs.Words.{with_writer, ℕ, ⊤, ◌+◌, ◌∙◌, ◌≡◌}
+use Rattle.wasi_udp.specs.Create.{Create, after_create as udp_after_create}
 use Rattle.wasi_udp.specs.Receive.{wanting}
 use Rattle.wasi_records.specs.Datagrams.{udp_connect_left}
 use Rattle.wasi_records.specs.Receiving.{receive_left, with_receiving}
-use Rattle.wasi_records.specs.Records.{tcp2_at, tcp2_put, tcp2_pushed, udp2_at, udp2_of, udp2_put}
+use Rattle.wasi_records.specs.Records.{tcp2_put, tcp2_pushed, udp2_at, udp2_of, udp2_put}
 use Rattle.wasi_walks.proofs.GoneLists.{was_there}
-use Rattle.wasi_records.specs.Udp.{udp_create_left, udp_side}
-use Rattle.wasi_host.specs.declared.kind.Kind.TheVariants.{Udp2}
+use Rattle.wasi_records.specs.Udp.{udp_create_left}
 use Rattle.wasi_records.specs.declared.datagrams.Incoming.{Incoming}
 use Rattle.wasi_records.specs.declared.datagrams.Receiving.{Receiving}
 use Rattle.wasi_records.specs.declared.name_lookup.LookupOp.{LookupOp}
@@ -26,7 +25,7 @@ use Rattle.wasi_walks.proofs.fits.Polls.{Anything}
 use Rattle.wasi_walks.proofs.fits.Records.{FitReceiving, ReceiveOn}
 use Rattle.wasi_walks.proofs.fits.UdpFits.{kept_op}
 use Rattle.wasi_walks.proofs.received.Wanted.{IncomingWanted, ReceivingWanted, poll_wanted}
-use Rattle.wasi_walks.proofs.walks.Law.{BeginsWrites, Law, Rests, begins_by}
+use Rattle.wasi_walks.proofs.walks.Law.{BeginsWrites, InCall, Law, Rests}
 use Rattle.wasi_walks.proofs.walks.Moves as walk
 use Rattle.wasi_walks.proofs.walks.Moves.{Held, Here, Kept, Move, SameSockets, UdpPlain, came_from, came_in, came_of, joined, put_udp, receive_op, receiving_in, udp_begun}
 use Rattle.wasi_walks.proofs.walks.Steps.{machine_walks, may_while}
@@ -138,53 +137,43 @@ module _ (contexts : List WasiSocketsCtx) (line : ℕ) (origin : Step) where
       let now : End × List Item → UdpRecord = λ ended. UdpRecord.Open (record o { incoming = Some (with_receiving inc (receive_left op ended)) }) in
       allows_weaker Anything (λ fs ended. ReceivingWanted inc.remote (receive_left op ended)) (λ fs ended. Wants (put_udp h place (now ended))) (λ fs ended k. put_udps h.machine.store.records place (now ended) k i) es (poll_asks (wanting inc.remote op)) (poll_wanted op inc.remote es its.receive)
 
-  -- a socket that is created joins the records
-  joins : (es : List Entry) (m : Machine) (own : OpId) (made : Result Socket ErrorCode) → AllWanted m.store.records → Allows Anything (λ fs done. AllWanted done.1.store.records) es (created_asks m own made)
-  joins es m own (Err c) i = i
-  joins es m own (Ok socket) i =
-      allows_then Anything (λ fs made. ⊤) (λ fs done. AllWanted done.1.store.records) es (make_asks m.table own (Tcp2 (length m.store.records)) None (side_of socket)) _
-      (whatever (λ made. ⊤) (λ made. tt) es (make_asks m.table own (Tcp2 (length m.store.records)) None (side_of socket))) (λ fs made k. push_tcp m.store.records (new_record socket) i)
+  becomes_wanted : (h now : Here) → Becomes contexts line origin h now → Wants h → Wants now
+  becomes_wanted h _ (Learnt place r side told at g e) i = put_tcp _ place _ i
+  becomes_wanted h _ (IsClosed place r side q g e) i = put_tcp _ place _ i
+  becomes_wanted h _ (GivenUp place r q g) i = put_tcp _ place _ i
+  becomes_wanted h _ (UdpLearnt place o socket g e) i = put_udps _ place (UdpRecord.Open _) (i place (UdpRecord.Open o) g) i
+  becomes_wanted h _ (UdpIsClosed place o q g) i = put_udps _ place (UdpRecord.Closed o.inner.side) tt i
+  becomes_wanted h _ (UdpGivenUp place create q g) i =
+      put_udps _ place (UdpRecord.Closed create.operation.who.side) tt i
+  becomes_wanted h _ (UdpBegun ctx family r c u m) i =
+      begun_wanted h (udp_after_create (own_of line) ctx.name family r) i
+  becomes_wanted h _ (Resolved host records l same) i = same_wanted h.machine.store.records records same i
+  becomes_wanted h _ (Created ctx family c u m) i = push_tcp h.machine.store.records _ i
+  becomes_wanted h _ (CreatedWith ctx family c u m) i = push_tcp h.machine.store.records _ i
+  becomes_wanted h _ (Writing _ (InCall place n r s half permit bytes at g e w within used)) i = put_tcp _ place _ i
+  becomes_wanted h _ _ i = i
 
   -- the law: the calls may be any
-  wanteds_asks : (es : List Entry) (h : Here) (A : Type 0) (tree : Asks A) (end : A → Here)
-      → Asked contexts line origin es h A tree end → Base contexts line origin h → Wants h
-      → Allows (Anything) (λ fs x. (λ (es : List Entry) (h : Here). Wants h) fs (end x)) es tree
-  wanteds_asks es h _ _ _ (Questions place n r x c at g o q) b i = (tt, λ told f. i)
-  wanteds_asks es h _ _ _ (SetsBacklog place r x backlog at g s is) b i = (tt, λ told f. i)
-  wanteds_asks es h _ _ _ (Learns place r x at g e) b i = (tt, λ told f. put_tcp _ place _ i)
-  wanteds_asks es h _ _ _ (Closes place r x q g e) b i = (tt, λ told f. put_tcp _ place _ i)
-  wanteds_asks es h _ _ _ (MarksOne kind parent sock m) b i = whatever (λ made. Wants h) (λ made. i) es (make_asks h.machine.table (own_of line) kind parent sock)
-  wanteds_asks es h _ _ _ (AsksCreate ctx family c a o m) b i = allows_then Anything (λ fs made. ⊤) (λ fs done. AllWanted done.1.store.records) es (new_asks (own_of line) ctx family) (created_asks h.machine (own_of line)) (whatever (λ made. ⊤) (λ made. tt) es (new_asks (own_of line) ctx family)) (λ fs made k. joins fs h.machine (own_of line) made i)
-  wanteds_asks es h _ _ _ (MarksAccepted c s place r is e o g) b i = whatever (λ made. Wants h) (λ made. i) es (make_asks h.machine.table (own_of line) (Tcp2 place) (Some s) _)
-  wanteds_asks es h _ _ _ (Polls op after k) b i = polls_wanted es h op after k b i
-  wanteds_asks es h _ _ _ (Turns place r s g e) b i = whatever (λ done. AllWanted (tcp2_put h.machine.store.records place (with_writer r s done.1))) (λ done. put_tcp _ place _ i) es (turn_asks s.writer)
-  wanteds_asks es h _ _ _ (GivesUp place r q g) b i = whatever (λ done. AllWanted (tcp2_put h.machine.store.records place (with_listening r Not))) (λ done. put_tcp _ place _ i) es (give_up_asks r.listening)
-  wanteds_asks es h _ _ _ (UdpQuestions place n o c at g q) b i = (tt, λ told f. i)
-  wanteds_asks es h _ _ _ (UdpLearns place part o at g) b i = (tt, λ told f. put_udps _ place (UdpRecord.Open _) (i place (UdpRecord.Open o) g) i)
-  wanteds_asks es h _ _ _ (UdpPeers place o at g) b i = (tt, λ told f. put_udps _ place (UdpRecord.Open _) (i place (UdpRecord.Open o) g) i)
-  wanteds_asks es h _ _ _ (UdpCloses place o q g) b i = (tt, λ told f. put_udps _ place (UdpRecord.Closed o.inner.side) tt i)
-  wanteds_asks es h _ _ _ (UdpBegins ctx family c may a o m) b i = (tt, λ told f. begun_wanted h (udp_after_create (own_of line) ctx.name family (told_done told)) i)
-  wanteds_asks es h _ _ _ (MarksUdp place u g) b i = whatever (λ made. Wants h) (λ made. i) es (make_asks h.machine.table (udp_side u) (Udp2 place) None (Some (udp_side u)))
-  wanteds_asks es h _ _ _ (MarksStream place n handle reached kind m new e) b i = whatever (λ made. Wants h) (λ made. i) es (make_asks h.machine.table (own_of n) kind (Some handle) _)
-  wanteds_asks es h _ _ _ (MarksError n handle place handles m k e f) b i = whatever (λ made. Wants h) (λ made. i) es (make_asks h.machine.table (own_of n) ErrorValue (Some handle) (side_at (tcp2_at h.machine.store.records place)))
-  wanteds_asks es h _ _ _ (UdpGivesUp place create q g) b i = whatever (λ done. AllWanted (udp2_put h.machine.store.records place (UdpRecord.Closed create.operation.who.side))) (λ done. put_udps _ place _ tt i) es (create_cancel_asks create)
-  wanteds_asks es h _ _ _ (Resolves host records l same) b i = (tt, λ told f. same_wanted h.machine.store.records (records told) (same told) i)
-  wanteds_asks es h _ _ _ (Looks place op g) b i = (tt, λ told f. i)
+  abbrev wanted_state : OfState contexts line origin (λ es h. Base contexts line origin h)
+  wanted_state = record {
+    Holds = Wants;
+    moves = λ es h now m b i. moves_wanted h now m i;
+    becomes = λ es h now k b i. becomes_wanted h now k i;
+    polls = λ es h op after k b i. polls_wanted es h op after k b i;
+    turns = λ es h place r s g e b i.
+        whatever (λ done. AllWanted (tcp2_put h.machine.store.records place (with_writer r s done.1)))
+        (λ done. put_tcp _ place _ i) es (turn_asks s.writer);
+  }
 
   unfoldable wanteds : Rests contexts line origin (λ es h. Base contexts line origin h)
-  wanteds = record {
-    P = Anything;
-    Inv = λ es h. Wants h;
-    moves = λ es h now m b i. moves_wanted h now m i;
-    asks = wanteds_asks;
-  }
+  wanteds = of_state wanted_state
 
   wanted_law : Law contexts line origin
   wanted_law = on_names contexts line origin wanteds
 
   begins_wanted : BeginsWrites wanted_law
   unfolding wanted_law wanteds
-  begins_wanted = begins_on_names contexts line origin wanteds (begins_by wanteds (λ es h place n r s half permit bytes at g e w within used b i. put_tcp _ place _ i))
+  begins_wanted = begins_on_names contexts line origin wanteds (begins_state wanted_state)
 
   -- what a line leaves
   pub line_wanted : (m : Machine) (es : List Entry) → BaseBetween line m × AllWanted m.store.records → Allows Anything (λ fs done. BaseBetween (line + 1) done.1 × AllWanted done.1.store.records) es (machine_asks contexts m line origin)
