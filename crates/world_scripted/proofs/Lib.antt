@@ -1,6 +1,7 @@
 pub mod Queues
 pub mod Fitting
 pub mod Listing
+pub mod Known
 pub mod Logs
 pub mod ScriptChecks
 pub mod ContextLines

@@ -1,3 +1,4 @@
+pub mod Known
 pub mod Queued
 pub mod Scripted
 pub mod Scenario

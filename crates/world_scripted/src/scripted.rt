@@ -6,14 +6,14 @@ ghost use Rattle.wasi_world.specs.Asks.{IsFront};
 ghost use Rattle.wasi_world.specs.Fits.{Fits};
 ghost use Rattle.wasi_world.specs.Seen.{Counts, Passes};
 ghost use Rattle.wasi_world.specs.Kinds.{kind_of};
-ghost use Rattle.wasi_world.specs.Sides.{known};
 ghost use Rattle.wasi_world.specs.Script.{Offers, offered, default, as_planned, waiting};
 ghost use Rattle.wasi_world.specs.Script.{next_answer, progress, IsScripted};
+ghost use Rattle.world_scripted.specs.Known.{known};
 
 use crate::lists::Lists;
 use crate::sides::{Sides, default_local, keep, known, value_of};
 use std::alloc::{AllocError, Global};
-use std::collections::BTreeMap;
+use std::collections::HashMap;
 use wasi_addr::{ErrorCode, IpSocketAddress};
 use wasi_world::{Call, Entry, Octets, OpId, Sock, Told, World};
 
@@ -103,7 +103,7 @@ impl ScriptedWorld {
     {
         ScriptedWorld {
             lists,
-            sides: BTreeMap::new(alloc),
+            sides: HashMap::new(alloc),
             log: Vec::new(alloc),
             ended: false,
             closings: 0,

@@ -2,15 +2,15 @@
 //! `get-option` go by.
 
 ghost use Rattle.std.specs.Prelude.{◌≡◌, OnOk, OnErr, None};
-ghost use Rattle.std.specs.BTreeMap.{IsUnchanged};
+ghost use Rattle.std.specs.HashMap.{IsUnchanged};
 ghost use Rattle.wasi_addr.specs.Address.{wildcard};
 ghost use Rattle.wasi_world.specs.Sides.{unset, value_of, with_value, new_side, chosen_port};
 ghost use Rattle.wasi_world.specs.Sides.{with_port, bound, bound_anyway, default_local, connected};
 ghost use Rattle.wasi_world.specs.Sides.{disconnected, handed, with_option, change, sides_after};
-ghost use Rattle.wasi_world.specs.Sides.{known};
+ghost use Rattle.world_scripted.specs.Known.{known};
 
 use std::alloc::AllocError;
-use std::collections::BTreeMap;
+use std::collections::HashMap;
 use wasi_addr::{
     IpSocketAddress, Ipv4SocketAddress, Ipv6SocketAddress, SocketAddressFamily, unspecified_addr,
 };
@@ -161,15 +161,16 @@ fn with_option(side: Side, option: Opt, value: u64) -> Side
     Side { options, ..side }
 }
 
-/// What is known of each network socket that was made or changed.
-pub type Sides = BTreeMap<OpId, Side>;
+/// What is known of each network socket that was made or changed, by the step and the part of its
+/// name.
+pub type Sides = HashMap<(u32, u64), Side>;
 
 /// What is known of a network socket; of one that wasn't made, that of an IPv4 socket that was just
 /// made.
 pub fn known(sides: &Sides, sock: Sock) -> Side
     ensures { result ≡ known sides.now sock }
 {
-    match sides.get(&sock) {
+    match sides.get(&(sock.step, sock.part)) {
         Some(side) => *side,
         None => new_side(SocketAddressFamily::Ipv4),
     }
@@ -214,6 +215,6 @@ pub fn keep(sides: &mut Sides, op: OpId, call: &Call, told: &Told) -> Result<(),
     let Some((sock, side)) = change(sides, op, call) else {
         return Ok(());
     };
-    sides.insert(sock, side)?;
+    sides.insert((sock.step, sock.part), side)?;
     Ok(())
 }

@@ -1,5 +1,5 @@
 use Rattle.std.proofs.Common.{◌≡◌, ◌++◌, ◌∷◌, [], refl, ◌∙◌}
-use Rattle.wasi_world.specs.Sides.{known}
+use Rattle.world_scripted.specs.Known.{known}
 use Rattle.world_scripted.proofs.Logs.{left_push, sides_push, scripted_push}
 use Rattle.world_scripted.proofs.scripted.ScriptedWorld.answer.Goals as goal
 
