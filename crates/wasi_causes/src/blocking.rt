@@ -3,7 +3,8 @@
 //! contract is the law. A call that blocks is made of calls that don't, under the number of its own
 //! line, also where a poll continues it.
 
-ghost use Rattle.std.specs.Prelude.{◌≡◌, ◌↔◌, ◌⊎◌, ℕ, true, false, List, [], ◌∷◌, length, IsSomeAnd, Some, None};
+ghost use Rattle.std.specs.Prelude.{◌≡◌, ◌↔◌, ◌⊎◌, ℕ, true, false, List, [], ◌∷◌, length};
+ghost use Rattle.std.specs.Prelude.{IsSomeAnd, Some, None};
 ghost use Rattle.wasi_world.specs.declared.call.Entry.{Entry};
 ghost use Rattle.wasi_world.specs.declared.ids.Ids.{Ids};
 ghost use Rattle.wasi_world.specs.declared.outcome.WasiSocketsCtx.{WasiSocketsCtx};
@@ -22,7 +23,8 @@ ghost use Rattle.wasi_steps.specs.declared.step.Step.{Step};
 ghost use Rattle.wasi_steps.specs.Reply.{bytes_fields, no_fields};
 ghost use Rattle.wasi_walks.specs.Answered.{Answered};
 ghost use Rattle.wasi_walks.specs.Waiting.{nothing_stands};
-ghost use Rattle.wasi_causes.specs.Blocking.{BeginsToWrite, BlocksAs, EndsByRead, IsShort, StreamCallStands};
+ghost use Rattle.wasi_causes.specs.Blocking.{BeginsToWrite, BlocksAs, EndsByRead, IsShort};
+ghost use Rattle.wasi_causes.specs.Blocking.{StreamCallStands};
 ghost use Rattle.wasi_causes.specs.Cancelled.{CancelsBy};
 ghost use Rattle.wasi_causes.specs.Datagrams.{PendingHandleIsLive};
 
@@ -36,18 +38,42 @@ ghost use Rattle.wasi_causes.specs.Datagrams.{PendingHandleIsLive};
 /// - `flush`: a flush and a look.
 /// - `splice`: a look at both ends, and then a splice.
 pub fn calls_that_block_are_their_parts()
-    ensures read { (contexts : List WasiSocketsCtx) (m : Machine) (line ctx input len : ℕ) (entries : List Entry) (reply : Reply) (after : Machine)
-        → m.store.standing ≡ None → Answered contexts m line (Step.BlockingRead ctx input len) entries reply after → BlocksAs contexts m ctx (first_ids line) (BlockingCall.Read input len) entries reply after }
-    ensures skip { (contexts : List WasiSocketsCtx) (m : Machine) (line ctx input len : ℕ) (entries : List Entry) (reply : Reply) (after : Machine)
-        → m.store.standing ≡ None → Answered contexts m line (Step.BlockingSkip ctx input len) entries reply after → BlocksAs contexts m ctx (first_ids line) (BlockingCall.Skip input len) entries reply after }
-    ensures write { (contexts : List WasiSocketsCtx) (m : Machine) (line ctx output : ℕ) (bytes : List ℕ) (entries : List Entry) (reply : Reply) (after : Machine)
-        → m.store.standing ≡ None → Answered contexts m line (Step.BlockingWrite ctx output bytes) entries reply after → BeginsToWrite contexts m ctx (first_ids line) output (length bytes) bytes entries reply after }
-    ensures zeroes { (contexts : List WasiSocketsCtx) (m : Machine) (line ctx output len : ℕ) (entries : List Entry) (reply : Reply) (after : Machine)
-        → m.store.standing ≡ None → Answered contexts m line (Step.BlockingZeroes ctx output len) entries reply after → BeginsToWrite contexts m ctx (first_ids line) output len (zeros len) entries reply after }
-    ensures flush { (contexts : List WasiSocketsCtx) (m : Machine) (line ctx output : ℕ) (entries : List Entry) (reply : Reply) (after : Machine)
-        → m.store.standing ≡ None → Answered contexts m line (Step.BlockingFlush ctx output) entries reply after → BlocksAs contexts m ctx (first_ids line) (BlockingCall.Flush output) entries reply after }
-    ensures splice { (contexts : List WasiSocketsCtx) (m : Machine) (line ctx to from len : ℕ) (entries : List Entry) (reply : Reply) (after : Machine)
-        → m.store.standing ≡ None → Answered contexts m line (Step.BlockingSplice ctx to from len) entries reply after → BlocksAs contexts m ctx (first_ids line) (BlockingCall.Splice to from len) entries reply after }
+    ensures read { (contexts : List WasiSocketsCtx) (m : Machine) (line ctx input len : ℕ)
+        (entries : List Entry) (reply : Reply) (after : Machine)
+        → m.store.standing ≡ None
+        → Answered contexts m line (Step.BlockingRead ctx input len) entries reply after
+        → BlocksAs contexts m ctx (first_ids line) (BlockingCall.Read input len) entries reply
+        after }
+    ensures skip { (contexts : List WasiSocketsCtx) (m : Machine) (line ctx input len : ℕ)
+        (entries : List Entry) (reply : Reply) (after : Machine)
+        → m.store.standing ≡ None
+        → Answered contexts m line (Step.BlockingSkip ctx input len) entries reply after
+        → BlocksAs contexts m ctx (first_ids line) (BlockingCall.Skip input len) entries reply
+        after }
+    ensures write { (contexts : List WasiSocketsCtx) (m : Machine) (line ctx output : ℕ)
+        (bytes : List ℕ) (entries : List Entry) (reply : Reply) (after : Machine)
+        → m.store.standing ≡ None
+        → Answered contexts m line (Step.BlockingWrite ctx output bytes) entries reply after
+        → BeginsToWrite contexts m ctx (first_ids line) output (length bytes) bytes entries
+        reply after }
+    ensures zeroes { (contexts : List WasiSocketsCtx) (m : Machine) (line ctx output len : ℕ)
+        (entries : List Entry) (reply : Reply) (after : Machine)
+        → m.store.standing ≡ None
+        → Answered contexts m line (Step.BlockingZeroes ctx output len) entries reply after
+        → BeginsToWrite contexts m ctx (first_ids line) output len (zeros len) entries reply
+        after }
+    ensures flush { (contexts : List WasiSocketsCtx) (m : Machine) (line ctx output : ℕ)
+        (entries : List Entry) (reply : Reply) (after : Machine)
+        → m.store.standing ≡ None
+        → Answered contexts m line (Step.BlockingFlush ctx output) entries reply after
+        → BlocksAs contexts m ctx (first_ids line) (BlockingCall.Flush output) entries reply
+        after }
+    ensures splice { (contexts : List WasiSocketsCtx) (m : Machine) (line ctx to from len : ℕ)
+        (entries : List Entry) (reply : Reply) (after : Machine)
+        → m.store.standing ≡ None
+        → Answered contexts m line (Step.BlockingSplice ctx to from len) entries reply after
+        → BlocksAs contexts m ctx (first_ids line) (BlockingCall.Splice to from len) entries
+        reply after }
 {}
 
 /// What a poll of a pending call that blocks does.
@@ -61,13 +87,18 @@ pub fn calls_that_block_are_their_parts()
 /// `goes_on` assumes that a write has at most 4,096 bytes left. Every run keeps that
 /// (`pending_calls_have_their_streams`).
 pub fn polls_continue_calls_of_streams()
-    ensures goes_on { (contexts : List WasiSocketsCtx) (m : Machine) (line ctx : ℕ) (ids : Ids) (call : BlockingCall) (entries : List Entry) (reply : Reply) (after : Machine)
-        → m.store.standing ≡ Some (standing_as ids (StandingCall.Blocking call)) → IsShort call → Answered contexts m line (Step.Poll ids.line) entries reply after
+    ensures goes_on { (contexts : List WasiSocketsCtx) (m : Machine) (line ctx : ℕ) (ids : Ids)
+        (call : BlockingCall) (entries : List Entry) (reply : Reply) (after : Machine)
+        → m.store.standing ≡ Some (standing_as ids (StandingCall.Blocking call)) → IsShort call
+        → Answered contexts m line (Step.Poll ids.line) entries reply after
         → BlocksAs contexts (nothing_stands m) ctx ids call entries reply after }
-    ensures closed { (contexts : List WasiSocketsCtx) (m : Machine) (line n : ℕ) (entries : List Entry) (after : Machine)
+    ensures closed { (contexts : List WasiSocketsCtx) (m : Machine) (line n : ℕ)
+        (entries : List Entry) (after : Machine)
         → Answered contexts m line (Step.Poll n) entries Reply.Closed after → StreamCallStands m }
-    ensures failed { (contexts : List WasiSocketsCtx) (m : Machine) (line n : ℕ) (entries : List Entry) (word : CodeWord) (handle : ℕ) (after : Machine)
-        → Answered contexts m line (Step.Poll n) entries (Reply.Failed word handle) after → StreamCallStands m }
+    ensures failed { (contexts : List WasiSocketsCtx) (m : Machine) (line n : ℕ)
+        (entries : List Entry) (word : CodeWord) (handle : ℕ) (after : Machine)
+        → Answered contexts m line (Step.Poll n) entries (Reply.Failed word handle) after
+        → StreamCallStands m }
 {}
 
 /// The bytes that a blocking read hands out are the answer to the last call, a read of the
@@ -77,11 +108,17 @@ pub fn polls_continue_calls_of_streams()
 /// - `at_once`: in the line of the read.
 /// - `polled`: in a poll of it.
 pub fn blocking_reads_hand_out_what_was_told()
-    ensures at_once { (contexts : List WasiSocketsCtx) (m : Machine) (line ctx input len b : ℕ) (bytes : List ℕ) (entries : List Entry) (after : Machine)
-        → m.store.standing ≡ None → Answered contexts m line (Step.BlockingRead ctx input len) entries (Reply.Ok (bytes_fields (b ∷ bytes))) after
+    ensures at_once { (contexts : List WasiSocketsCtx) (m : Machine) (line ctx input len b : ℕ)
+        (bytes : List ℕ) (entries : List Entry) (after : Machine)
+        → m.store.standing ≡ None
+        → Answered contexts m line (Step.BlockingRead ctx input len) entries
+        (Reply.Ok (bytes_fields (b ∷ bytes))) after
         → EndsByRead m line input len (b ∷ bytes) entries after }
-    ensures polled { (contexts : List WasiSocketsCtx) (m : Machine) (line input len b : ℕ) (ids : Ids) (bytes : List ℕ) (entries : List Entry) (after : Machine)
-        → m.store.standing ≡ Some (standing_as ids (StandingCall.Blocking (BlockingCall.Read input len))) → Answered contexts m line (Step.Poll ids.line) entries (Reply.Ok (bytes_fields (b ∷ bytes))) after
+    ensures polled { (contexts : List WasiSocketsCtx) (m : Machine) (line input len b : ℕ)
+        (ids : Ids) (bytes : List ℕ) (entries : List Entry) (after : Machine)
+        → m.store.standing ≡ Some (standing_as ids (StandingCall.Blocking
+        (BlockingCall.Read input len))) → Answered contexts m line (Step.Poll ids.line) entries
+        (Reply.Ok (bytes_fields (b ∷ bytes))) after
         → EndsByRead (nothing_stands m) ids.line input len (b ∷ bytes) entries after }
 {}
 
@@ -89,8 +126,10 @@ pub fn blocking_reads_hand_out_what_was_told()
 /// left to write; what the pollables of a pending wait watch is there; and pending datagram streams
 /// have a live handle.
 pub fn pending_calls_have_their_streams()
-    ensures { (contexts : List WasiSocketsCtx) (steps : List Step) (log : List Entry) (replies : List Reply) (m : Machine)
-        → Left (run contexts [] first_state 1 steps) log (Give (replies, m)) → PendingHandleIsLive m }
+    ensures { (contexts : List WasiSocketsCtx) (steps : List Step) (log : List Entry)
+        (replies : List Reply) (m : Machine)
+        → Left (run contexts [] first_state 1 steps) log (Give (replies, m))
+        → PendingHandleIsLive m }
 {}
 
 /// What a cancel does.
@@ -104,14 +143,24 @@ pub fn pending_calls_have_their_streams()
 ///   a wait for pollables leave all as it was.
 /// - `none_stands`: no call is pending after an `ok`, and the handles are unchanged.
 pub fn cancels_give_up_their_call()
-    ensures none { (contexts : List WasiSocketsCtx) (m : Machine) (line n : ℕ) (entries : List Entry) (reply : Reply) (after : Machine)
-        → Answered contexts m line (Step.Cancel n) entries reply after → (reply ≡ Reply.NoSuchCall) ↔ (stands_as m.store.standing n ≡ false) }
-    ensures exactly { (contexts : List WasiSocketsCtx) (m : Machine) (line n : ℕ) (entries : List Entry) (reply : Reply) (after : Machine)
-        → Answered contexts m line (Step.Cancel n) entries reply after → (reply ≡ Reply.Ok no_fields) ↔ (stands_as m.store.standing n ≡ true) }
-    ensures stays { (contexts : List WasiSocketsCtx) (m : Machine) (line n : ℕ) (entries : List Entry) (after : Machine)
-        → Answered contexts m line (Step.Cancel n) entries Reply.NoSuchCall after → (entries ≡ []) × (after ≡ m) }
-    ensures given_up { (contexts : List WasiSocketsCtx) (m : Machine) (line n : ℕ) (fields : List Field) (entries : List Entry) (after : Machine)
-        → Answered contexts m line (Step.Cancel n) entries (Reply.Ok fields) after → IsSomeAnd m.store.standing (λ s. CancelsBy m entries after s.call) }
-    ensures none_stands { (contexts : List WasiSocketsCtx) (m : Machine) (line n : ℕ) (fields : List Field) (entries : List Entry) (after : Machine)
-        → Answered contexts m line (Step.Cancel n) entries (Reply.Ok fields) after → (after.store.standing ≡ None) × (after.table ≡ m.table) }
+    ensures none { (contexts : List WasiSocketsCtx) (m : Machine) (line n : ℕ)
+        (entries : List Entry) (reply : Reply) (after : Machine)
+        → Answered contexts m line (Step.Cancel n) entries reply after
+        → (reply ≡ Reply.NoSuchCall) ↔ (stands_as m.store.standing n ≡ false) }
+    ensures exactly { (contexts : List WasiSocketsCtx) (m : Machine) (line n : ℕ)
+        (entries : List Entry) (reply : Reply) (after : Machine)
+        → Answered contexts m line (Step.Cancel n) entries reply after
+        → (reply ≡ Reply.Ok no_fields) ↔ (stands_as m.store.standing n ≡ true) }
+    ensures stays { (contexts : List WasiSocketsCtx) (m : Machine) (line n : ℕ)
+        (entries : List Entry) (after : Machine)
+        → Answered contexts m line (Step.Cancel n) entries Reply.NoSuchCall after
+        → (entries ≡ []) × (after ≡ m) }
+    ensures given_up { (contexts : List WasiSocketsCtx) (m : Machine) (line n : ℕ)
+        (fields : List Field) (entries : List Entry) (after : Machine)
+        → Answered contexts m line (Step.Cancel n) entries (Reply.Ok fields) after
+        → IsSomeAnd m.store.standing (λ s. CancelsBy m entries after s.call) }
+    ensures none_stands { (contexts : List WasiSocketsCtx) (m : Machine) (line n : ℕ)
+        (fields : List Field) (entries : List Entry) (after : Machine)
+        → Answered contexts m line (Step.Cancel n) entries (Reply.Ok fields) after
+        → (after.store.standing ≡ None) × (after.table ≡ m.table) }
 {}

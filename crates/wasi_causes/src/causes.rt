@@ -6,7 +6,8 @@
 //! options (`options`), UDP sockets (`udp`), their datagram streams (`datagrams`), the calls of
 //! streams (`stream_calls`, `blocking`), waits for pollables (`waiting`), and lookups (`lookups`).
 
-ghost use Rattle.std.specs.Prelude.{◌≡◌, ◌↔◌, ◌⊎◌, ℕ, ◌+◌, true, false, List, [], ◌∷◌, IsSome, IsSomeAnd, Some, None};
+ghost use Rattle.std.specs.Prelude.{◌≡◌, ◌↔◌, ◌⊎◌, ℕ, ◌+◌, true, false, List, [], ◌∷◌, IsSome};
+ghost use Rattle.std.specs.Prelude.{IsSomeAnd, Some, None};
 ghost use Rattle.wasi_addr.specs.declared.address.IpSocketAddress.{IpSocketAddress};
 ghost use Rattle.wasi_world.specs.declared.call.Entry.{Entry};
 ghost use Rattle.wasi_world.specs.declared.outcome.TrapKind.{TrapKind};
@@ -27,25 +28,32 @@ ghost use Rattle.wasi_walks.specs.Missing.{IsWrite, MakesHandle, MissesHandle, S
 ghost use Rattle.wasi_causes.specs.Blocking.{StreamCallStands};
 ghost use Rattle.wasi_causes.specs.Cancelled.{IsCancel};
 ghost use Rattle.wasi_causes.specs.Failed.{FailureLeaves};
-ghost use Rattle.wasi_causes.specs.Outcomes.{may_answer, EachMayAnswer, InputIsThere, IsBlockingWrite, LaterPartIsThere, Outcome};
+ghost use Rattle.wasi_causes.specs.Outcomes.{may_answer, EachMayAnswer, InputIsThere};
+ghost use Rattle.wasi_causes.specs.Outcomes.{IsBlockingWrite, LaterPartIsThere, Outcome};
 ghost use Rattle.wasi_causes.specs.Plain.{WatchesPlain};
 ghost use Rattle.wasi_causes.specs.PollableCalls.{IsEmptyWait, WatchedIsThere};
 ghost use Rattle.wasi_causes.specs.Udp.{IsPendingCreate};
-ghost use Rattle.wasi_causes.specs.Datagrams.{IsUdpSend, IsUdpStream, LacksRoomForStreams, OutgoingWaits, PendingHandleIsLive, WatchesDatagrams};
+ghost use Rattle.wasi_causes.specs.Datagrams.{IsUdpSend, IsUdpStream, LacksRoomForStreams};
+ghost use Rattle.wasi_causes.specs.Datagrams.{OutgoingWaits, PendingHandleIsLive, WatchesDatagrams};
 ghost use Rattle.wasi_causes.specs.Reached.{ListensLate, MayFinish, OfItsRecord};
-ghost use Rattle.wasi_causes.specs.GivenUp.{giving_back, GoesAtOnce, HasLiveChildren, IsDrop, IsDropped, IsGone, LooksOnce, socket_given_up, without};
+ghost use Rattle.wasi_causes.specs.GivenUp.{giving_back, GoesAtOnce, HasLiveChildren, IsDrop};
+ghost use Rattle.wasi_causes.specs.GivenUp.{IsDropped, IsGone, LooksOnce, socket_given_up, without};
 ghost use Rattle.wasi_walks.specs.Licence.{Has, marks_in};
 ghost use Rattle.wasi_machine.specs.Machine.{run};
 ghost use Rattle.wasi_steps.specs.Steps.{context_of};
 ghost use Rattle.wasi_host.specs.Machine.{first_state, outgoing_at, output_at, own_of, socket_at};
 ghost use Rattle.wasi_records.specs.declared.name_lookup.Lookup.{Lookup};
-ghost use Rattle.wasi_records.specs.Records.{input_pipe_at, lookup_at, open_at, output_pipe_at, tcp2_at};
+ghost use Rattle.wasi_records.specs.Records.{input_pipe_at, lookup_at, open_at, output_pipe_at};
+ghost use Rattle.wasi_records.specs.Records.{tcp2_at};
 ghost use Rattle.wasi_host.specs.Kinds.{kind_at, watched_by, with_handle, without_handle};
 ghost use Rattle.wasi_host.specs.Standing.{stands_as};
 ghost use Rattle.wasi_steps.specs.Reply.{no_fields, number_fields, truth_fields};
 ghost use Rattle.wasi_causes.specs.Lookups.{LookedOn, LookupWaits};
 ghost use Rattle.wasi_causes.specs.Turns.{IsOfJob};
-ghost use Rattle.wasi_walks.specs.Waiting.{IsFailure, IsPoll, IsUnready, left_missing, MayStand, OfWatched, OutputWaits, pollable_mark, StandingWaits, PendingCallsFit, WatchesAccept, WatchesConnect, WatchesIdle};
+ghost use Rattle.wasi_walks.specs.Waiting.{IsFailure, IsPoll, IsUnready, left_missing, MayStand};
+ghost use Rattle.wasi_walks.specs.Waiting.{OfWatched, OutputWaits, pollable_mark, StandingWaits};
+ghost use Rattle.wasi_walks.specs.Waiting.{PendingCallsFit, WatchesAccept, WatchesConnect};
+ghost use Rattle.wasi_walks.specs.Waiting.{WatchesIdle};
 ghost use Rattle.wasi_records.specs.InProgress.{is_connect};
 ghost use Rattle.wasi_table.specs.Table.{children_of, is_full};
 
@@ -56,17 +64,22 @@ ghost use Rattle.wasi_table.specs.Table.{children_of, is_full};
 /// - `next`: the reply of one step.
 /// - `all`: every reply of a run.
 pub fn replies_are_of_the_step()
-    ensures next { (contexts : List WasiSocketsCtx) (m : Machine) (line : ℕ) (s : Step) (entries : List Entry) (reply : Reply) (after : Machine)
+    ensures next { (contexts : List WasiSocketsCtx) (m : Machine) (line : ℕ) (s : Step)
+        (entries : List Entry) (reply : Reply) (after : Machine)
         → Answered contexts m line s entries reply after → may_answer line s reply }
-    ensures all { (contexts : List WasiSocketsCtx) (steps : List Step) (log : List Entry) (replies : List Reply) (m : Machine)
-        → Left (run contexts [] first_state 1 steps) log (Give (replies, m)) → EachMayAnswer 1 steps replies }
+    ensures all { (contexts : List WasiSocketsCtx) (steps : List Step) (log : List Entry)
+        (replies : List Reply) (m : Machine)
+        → Left (run contexts [] first_state 1 steps) log (Give (replies, m))
+        → EachMayAnswer 1 steps replies }
 {}
 
 /// Every answer but `busy` is in the table of outcomes: what the step asked and was answered, its
 /// reply, and the machine afterwards are a row of that step.
 pub fn answers_are_in_the_table()
-    ensures { (contexts : List WasiSocketsCtx) (m : Machine) (line : ℕ) (s : Step) (entries : List Entry) (reply : Reply) (after : Machine)
-        → Answered contexts m line s entries reply after → (reply ≡ Reply.Busy → ⊥) → Outcome contexts m line s entries reply after }
+    ensures { (contexts : List WasiSocketsCtx) (m : Machine) (line : ℕ) (s : Step)
+        (entries : List Entry) (reply : Reply) (after : Machine)
+        → Answered contexts m line s entries reply after → (reply ≡ Reply.Busy → ⊥)
+        → Outcome contexts m line s entries reply after }
 {}
 
 /// While a call is pending every other call of a guest is `busy`.
@@ -74,9 +87,12 @@ pub fn answers_are_in_the_table()
 /// - `exactly`: a step is `busy` exactly where a call is pending and the step is a guest's call.
 /// - `stays`: nothing was asked then, and the machine is unchanged.
 pub fn busy_while_a_call_stands()
-    ensures exactly { (contexts : List WasiSocketsCtx) (m : Machine) (line : ℕ) (s : Step) (entries : List Entry) (reply : Reply) (after : Machine)
-        → Answered contexts m line s entries reply after → (reply ≡ Reply.Busy) ↔ (IsSome m.store.standing × IsSome (context_of s)) }
-    ensures stays { (contexts : List WasiSocketsCtx) (m : Machine) (line : ℕ) (s : Step) (entries : List Entry) (after : Machine)
+    ensures exactly { (contexts : List WasiSocketsCtx) (m : Machine) (line : ℕ) (s : Step)
+        (entries : List Entry) (reply : Reply) (after : Machine)
+        → Answered contexts m line s entries reply after
+        → (reply ≡ Reply.Busy) ↔ (IsSome m.store.standing × IsSome (context_of s)) }
+    ensures stays { (contexts : List WasiSocketsCtx) (m : Machine) (line : ℕ) (s : Step)
+        (entries : List Entry) (after : Machine)
         → Answered contexts m line s entries Reply.Busy after → (entries ≡ []) × (after ≡ m) }
 {}
 
@@ -103,32 +119,63 @@ pub fn busy_while_a_call_stands()
 /// splice's input is there if it is one, and that what each pollable of a wait watches is there.
 /// Every run keeps that (`runs_keep_their_records`, `pending_calls_have_their_streams`).
 pub fn traps_have_causes()
-    ensures kinds { (contexts : List WasiSocketsCtx) (m : Machine) (line : ℕ) (s : Step) (entries : List Entry) (kind : TrapKind) (after : Machine)
-        → Answered contexts m line s entries (Reply.Trap kind) after → (kind ≡ TrapKind.NoSuchHandle) ⊎ ((kind ≡ TrapKind.HasChildren) ⊎ ((kind ≡ TrapKind.Full) ⊎ ((kind ≡ TrapKind.NotPermitted) ⊎ ((kind ≡ TrapKind.StreamsAlive) ⊎ ((kind ≡ TrapKind.Capacity) ⊎ ((kind ≡ TrapKind.TooLong) ⊎ (kind ≡ TrapKind.EmptyList))))))) }
-    ensures no_such_handle { (contexts : List WasiSocketsCtx) (m : Machine) (line : ℕ) (s : Step) (entries : List Entry) (after : Machine)
-        → Answered contexts m line s entries (Reply.Trap TrapKind.NoSuchHandle) after → MissesHandle m s }
-    ensures no_such_handle_stays { (contexts : List WasiSocketsCtx) (m : Machine) (line : ℕ) (s : Step) (entries : List Entry) (after : Machine)
-        → (IsPoll s → PendingHandleIsLive m) → LaterPartIsThere m s → Answered contexts m line s entries (Reply.Trap TrapKind.NoSuchHandle) after → (entries ≡ []) × (after ≡ left_missing m s) }
-    ensures has_children { (contexts : List WasiSocketsCtx) (m : Machine) (line ctx handle : ℕ) (entries : List Entry) (reply : Reply) (after : Machine)
-        → m.store.standing ≡ None → Answered contexts m line (Step.Drop ctx handle) entries reply after → (reply ≡ Reply.Trap TrapKind.HasChildren) ↔ HasLiveChildren m handle }
-    ensures has_children_stays { (contexts : List WasiSocketsCtx) (m : Machine) (line : ℕ) (s : Step) (entries : List Entry) (after : Machine)
-        → Answered contexts m line s entries (Reply.Trap TrapKind.HasChildren) after → (entries ≡ []) × (after ≡ m) }
-    ensures only_drops { (contexts : List WasiSocketsCtx) (m : Machine) (line : ℕ) (s : Step) (entries : List Entry) (after : Machine)
+    ensures kinds { (contexts : List WasiSocketsCtx) (m : Machine) (line : ℕ) (s : Step)
+        (entries : List Entry) (kind : TrapKind) (after : Machine)
+        → Answered contexts m line s entries (Reply.Trap kind) after
+        → (kind ≡ TrapKind.NoSuchHandle)
+        ⊎ ((kind ≡ TrapKind.HasChildren) ⊎ ((kind ≡ TrapKind.Full)
+        ⊎ ((kind ≡ TrapKind.NotPermitted) ⊎ ((kind ≡ TrapKind.StreamsAlive)
+        ⊎ ((kind ≡ TrapKind.Capacity) ⊎ ((kind ≡ TrapKind.TooLong)
+        ⊎ (kind ≡ TrapKind.EmptyList))))))) }
+    ensures no_such_handle { (contexts : List WasiSocketsCtx) (m : Machine) (line : ℕ) (s : Step)
+        (entries : List Entry) (after : Machine)
+        → Answered contexts m line s entries (Reply.Trap TrapKind.NoSuchHandle) after
+        → MissesHandle m s }
+    ensures no_such_handle_stays { (contexts : List WasiSocketsCtx) (m : Machine) (line : ℕ)
+        (s : Step) (entries : List Entry) (after : Machine)
+        → (IsPoll s → PendingHandleIsLive m) → LaterPartIsThere m s
+        → Answered contexts m line s entries (Reply.Trap TrapKind.NoSuchHandle) after
+        → (entries ≡ []) × (after ≡ left_missing m s) }
+    ensures has_children { (contexts : List WasiSocketsCtx) (m : Machine) (line ctx handle : ℕ)
+        (entries : List Entry) (reply : Reply) (after : Machine)
+        → m.store.standing ≡ None
+        → Answered contexts m line (Step.Drop ctx handle) entries reply after
+        → (reply ≡ Reply.Trap TrapKind.HasChildren) ↔ HasLiveChildren m handle }
+    ensures has_children_stays { (contexts : List WasiSocketsCtx) (m : Machine) (line : ℕ)
+        (s : Step) (entries : List Entry) (after : Machine)
+        → Answered contexts m line s entries (Reply.Trap TrapKind.HasChildren) after
+        → (entries ≡ []) × (after ≡ m) }
+    ensures only_drops { (contexts : List WasiSocketsCtx) (m : Machine) (line : ℕ) (s : Step)
+        (entries : List Entry) (after : Machine)
         → Answered contexts m line s entries (Reply.Trap TrapKind.HasChildren) after → IsDrop s }
-    ensures full { (contexts : List WasiSocketsCtx) (m : Machine) (line : ℕ) (s : Step) (entries : List Entry) (after : Machine)
-        → Answered contexts m line s entries (Reply.Trap TrapKind.Full) after → MakesHandle s × (is_full after.table ≡ true) }
-    ensures full_marks { (contexts : List WasiSocketsCtx) (m : Machine) (line : ℕ) (s : Step) (entries : List Entry) (after : Machine)
-        → Answered contexts m line s entries (Reply.Trap TrapKind.Full) after → after.table.next ≡ m.table.next + marks_in entries }
-    ensures not_permitted { (contexts : List WasiSocketsCtx) (m : Machine) (line : ℕ) (s : Step) (entries : List Entry) (after : Machine)
-        → Answered contexts m line s entries (Reply.Trap TrapKind.NotPermitted) after → IsWrite s ⊎ IsUdpSend s }
-    ensures streams_alive { (contexts : List WasiSocketsCtx) (m : Machine) (line : ℕ) (s : Step) (entries : List Entry) (after : Machine)
-        → Answered contexts m line s entries (Reply.Trap TrapKind.StreamsAlive) after → IsUdpStream s × (entries ≡ []) × (after ≡ m) }
-    ensures capacity { (contexts : List WasiSocketsCtx) (m : Machine) (line : ℕ) (s : Step) (entries : List Entry) (after : Machine)
-        → Answered contexts m line s entries (Reply.Trap TrapKind.Capacity) after → IsWrite s × (entries ≡ []) × (after ≡ m) }
-    ensures too_long { (contexts : List WasiSocketsCtx) (m : Machine) (line : ℕ) (s : Step) (entries : List Entry) (after : Machine)
-        → Answered contexts m line s entries (Reply.Trap TrapKind.TooLong) after → IsBlockingWrite s × (entries ≡ []) × (after ≡ m) }
-    ensures empty_list { (contexts : List WasiSocketsCtx) (m : Machine) (line : ℕ) (s : Step) (entries : List Entry) (after : Machine)
-        → Answered contexts m line s entries (Reply.Trap TrapKind.EmptyList) after → IsEmptyWait s × (entries ≡ []) × (after ≡ m) }
+    ensures full { (contexts : List WasiSocketsCtx) (m : Machine) (line : ℕ) (s : Step)
+        (entries : List Entry) (after : Machine)
+        → Answered contexts m line s entries (Reply.Trap TrapKind.Full) after
+        → MakesHandle s × (is_full after.table ≡ true) }
+    ensures full_marks { (contexts : List WasiSocketsCtx) (m : Machine) (line : ℕ) (s : Step)
+        (entries : List Entry) (after : Machine)
+        → Answered contexts m line s entries (Reply.Trap TrapKind.Full) after
+        → after.table.next ≡ m.table.next + marks_in entries }
+    ensures not_permitted { (contexts : List WasiSocketsCtx) (m : Machine) (line : ℕ) (s : Step)
+        (entries : List Entry) (after : Machine)
+        → Answered contexts m line s entries (Reply.Trap TrapKind.NotPermitted) after
+        → IsWrite s ⊎ IsUdpSend s }
+    ensures streams_alive { (contexts : List WasiSocketsCtx) (m : Machine) (line : ℕ) (s : Step)
+        (entries : List Entry) (after : Machine)
+        → Answered contexts m line s entries (Reply.Trap TrapKind.StreamsAlive) after
+        → IsUdpStream s × (entries ≡ []) × (after ≡ m) }
+    ensures capacity { (contexts : List WasiSocketsCtx) (m : Machine) (line : ℕ) (s : Step)
+        (entries : List Entry) (after : Machine)
+        → Answered contexts m line s entries (Reply.Trap TrapKind.Capacity) after
+        → IsWrite s × (entries ≡ []) × (after ≡ m) }
+    ensures too_long { (contexts : List WasiSocketsCtx) (m : Machine) (line : ℕ) (s : Step)
+        (entries : List Entry) (after : Machine)
+        → Answered contexts m line s entries (Reply.Trap TrapKind.TooLong) after
+        → IsBlockingWrite s × (entries ≡ []) × (after ≡ m) }
+    ensures empty_list { (contexts : List WasiSocketsCtx) (m : Machine) (line : ℕ) (s : Step)
+        (entries : List Entry) (after : Machine)
+        → Answered contexts m line s entries (Reply.Trap TrapKind.EmptyList) after
+        → IsEmptyWait s × (entries ≡ []) × (after ≡ m) }
 {}
 
 /// What a poll of a pending call answers.
@@ -147,19 +194,34 @@ pub fn traps_have_causes()
 /// `refused` assumes `PendingCallsFit`: the pending call and the operation in its record are of one
 /// kind. Every run keeps that (`runs_keep_their_pending_calls`).
 pub fn polls_find_their_call()
-    ensures exactly { (contexts : List WasiSocketsCtx) (m : Machine) (line n : ℕ) (entries : List Entry) (reply : Reply) (after : Machine)
-        → Answered contexts m line (Step.Poll n) entries reply after → (reply ≡ Reply.NoSuchCall) ↔ (stands_as m.store.standing n ≡ false) }
-    ensures stays { (contexts : List WasiSocketsCtx) (m : Machine) (line n : ℕ) (entries : List Entry) (after : Machine)
-        → Answered contexts m line (Step.Poll n) entries Reply.NoSuchCall after → (entries ≡ []) × (after ≡ m) }
-    ensures only_polls { (contexts : List WasiSocketsCtx) (m : Machine) (line : ℕ) (s : Step) (entries : List Entry) (after : Machine)
+    ensures exactly { (contexts : List WasiSocketsCtx) (m : Machine) (line n : ℕ)
+        (entries : List Entry) (reply : Reply) (after : Machine)
+        → Answered contexts m line (Step.Poll n) entries reply after
+        → (reply ≡ Reply.NoSuchCall) ↔ (stands_as m.store.standing n ≡ false) }
+    ensures stays { (contexts : List WasiSocketsCtx) (m : Machine) (line n : ℕ)
+        (entries : List Entry) (after : Machine)
+        → Answered contexts m line (Step.Poll n) entries Reply.NoSuchCall after
+        → (entries ≡ []) × (after ≡ m) }
+    ensures only_polls { (contexts : List WasiSocketsCtx) (m : Machine) (line : ℕ) (s : Step)
+        (entries : List Entry) (after : Machine)
         → Answered contexts m line s entries Reply.NoSuchCall after → IsPoll s ⊎ IsCancel s }
-    ensures ends { (contexts : List WasiSocketsCtx) (m : Machine) (line n : ℕ) (entries : List Entry) (reply : Reply) (after : Machine)
-        → stands_as m.store.standing n ≡ true → Answered contexts m line (Step.Poll n) entries reply after → (reply ≡ Reply.Pending n) ⊎ (after.store.standing ≡ None) }
-    ensures refused { (contexts : List WasiSocketsCtx) (m : Machine) (line n : ℕ) (entries : List Entry) (word : CodeWord) (after : Machine)
-        → PendingCallsFit m → Answered contexts m line (Step.Poll n) entries (Reply.Err word) after → FailureLeaves m n entries word after }
-    ensures traps { (contexts : List WasiSocketsCtx) (steps : List Step) (log : List Entry) (replies : List Reply) (m : Machine) (line n : ℕ) (entries : List Entry) (kind : TrapKind) (after : Machine)
-        → Left (run contexts [] first_state 1 steps) log (Give (replies, m)) → Answered contexts m line (Step.Poll n) entries (Reply.Trap kind) after
-        → (kind ≡ TrapKind.Full) × (((is_full m.table ≡ true) × IsSomeAnd m.store.standing (λ s. IsPendingCreate s.call)) ⊎ (IsSomeAnd m.store.standing (λ s. LacksRoomForStreams m s.call) ⊎ StreamCallStands m)) }
+    ensures ends { (contexts : List WasiSocketsCtx) (m : Machine) (line n : ℕ)
+        (entries : List Entry) (reply : Reply) (after : Machine)
+        → stands_as m.store.standing n ≡ true
+        → Answered contexts m line (Step.Poll n) entries reply after
+        → (reply ≡ Reply.Pending n) ⊎ (after.store.standing ≡ None) }
+    ensures refused { (contexts : List WasiSocketsCtx) (m : Machine) (line n : ℕ)
+        (entries : List Entry) (word : CodeWord) (after : Machine)
+        → PendingCallsFit m → Answered contexts m line (Step.Poll n) entries (Reply.Err word) after
+        → FailureLeaves m n entries word after }
+    ensures traps { (contexts : List WasiSocketsCtx) (steps : List Step) (log : List Entry)
+        (replies : List Reply) (m : Machine) (line n : ℕ) (entries : List Entry) (kind : TrapKind)
+        (after : Machine)
+        → Left (run contexts [] first_state 1 steps) log (Give (replies, m))
+        → Answered contexts m line (Step.Poll n) entries (Reply.Trap kind) after
+        → (kind ≡ TrapKind.Full)
+        × (((is_full m.table ≡ true) × IsSomeAnd m.store.standing (λ s. IsPendingCreate s.call))
+        ⊎ (IsSomeAnd m.store.standing (λ s. LacksRoomForStreams m s.call) ⊎ StreamCallStands m)) }
 {}
 
 /// When a step may be pending.
@@ -177,18 +239,31 @@ pub fn polls_find_their_call()
 /// `polled` assumes `PendingCallsFit`: the pending call and the operation in its record are of one
 /// kind. Every run keeps that (`runs_keep_their_pending_calls`).
 pub fn pending_where_told()
-    ensures step { (contexts : List WasiSocketsCtx) (m : Machine) (line : ℕ) (s : Step) (entries : List Entry) (number : ℕ) (after : Machine)
-        → Answered contexts m line s entries (Reply.Pending number) after → MayStand m line s number }
-    ensures stands { (contexts : List WasiSocketsCtx) (m : Machine) (line : ℕ) (s : Step) (entries : List Entry) (number : ℕ) (after : Machine)
-        → Answered contexts m line s entries (Reply.Pending number) after → IsSomeAnd after.store.standing (λ call. call.ids.line ≡ number) }
-    ensures told { (contexts : List WasiSocketsCtx) (m : Machine) (line ctx handle network : ℕ) (a : IpSocketAddress) (entries : List Entry) (number : ℕ) (after : Machine)
-        → Answered contexts m line (Step.TcpStartBind ctx handle network a) entries (Reply.Pending number) after → EndsPending (own_of line) entries }
-    ensures listen { (contexts : List WasiSocketsCtx) (m : Machine) (line ctx handle : ℕ) (entries : List Entry) (number : ℕ) (after : Machine)
-        → Answered contexts m line (Step.TcpStartListen ctx handle) entries (Reply.Pending number) after → EndsPending (own_of line) entries }
-    ensures output { (contexts : List WasiSocketsCtx) (m : Machine) (line ctx handle : ℕ) (entries : List Entry) (number : ℕ) (after : Machine)
-        → Answered contexts m line (Step.Drop ctx handle) entries (Reply.Pending number) after → OutputWaits m (own_of line) (output_at m handle) entries ⊎ OutgoingWaits m (outgoing_at m handle) entries }
-    ensures polled { (contexts : List WasiSocketsCtx) (m : Machine) (line n : ℕ) (entries : List Entry) (number : ℕ) (after : Machine)
-        → PendingCallsFit m → Answered contexts m line (Step.Poll n) entries (Reply.Pending number) after → StandingWaits m (own_of n) entries }
+    ensures step { (contexts : List WasiSocketsCtx) (m : Machine) (line : ℕ) (s : Step)
+        (entries : List Entry) (number : ℕ) (after : Machine)
+        → Answered contexts m line s entries (Reply.Pending number) after
+        → MayStand m line s number }
+    ensures stands { (contexts : List WasiSocketsCtx) (m : Machine) (line : ℕ) (s : Step)
+        (entries : List Entry) (number : ℕ) (after : Machine)
+        → Answered contexts m line s entries (Reply.Pending number) after
+        → IsSomeAnd after.store.standing (λ call. call.ids.line ≡ number) }
+    ensures told { (contexts : List WasiSocketsCtx) (m : Machine) (line ctx handle network : ℕ)
+        (a : IpSocketAddress) (entries : List Entry) (number : ℕ) (after : Machine)
+        → Answered contexts m line (Step.TcpStartBind ctx handle network a) entries
+        (Reply.Pending number) after → EndsPending (own_of line) entries }
+    ensures listen { (contexts : List WasiSocketsCtx) (m : Machine) (line ctx handle : ℕ)
+        (entries : List Entry) (number : ℕ) (after : Machine)
+        → Answered contexts m line (Step.TcpStartListen ctx handle) entries (Reply.Pending number)
+        after → EndsPending (own_of line) entries }
+    ensures output { (contexts : List WasiSocketsCtx) (m : Machine) (line ctx handle : ℕ)
+        (entries : List Entry) (number : ℕ) (after : Machine)
+        → Answered contexts m line (Step.Drop ctx handle) entries (Reply.Pending number) after
+        → OutputWaits m (own_of line) (output_at m handle) entries
+        ⊎ OutgoingWaits m (outgoing_at m handle) entries }
+    ensures polled { (contexts : List WasiSocketsCtx) (m : Machine) (line n : ℕ)
+        (entries : List Entry) (number : ℕ) (after : Machine)
+        → PendingCallsFit m → Answered contexts m line (Step.Poll n) entries (Reply.Pending number)
+        after → StandingWaits m (own_of n) entries }
 {}
 
 /// What holds of the records after any script.
@@ -204,20 +279,35 @@ pub fn pending_where_told()
 ///   is connected with neither half taken.
 /// - `listens`: a socket in the state Default has no listener, and no listen in progress.
 pub fn runs_keep_their_records()
-    ensures handles { (contexts : List WasiSocketsCtx) (steps : List Step) (log : List Entry) (replies : List Reply) (m : Machine) (handle : ℕ) (kind : Kind)
-        → Left (run contexts [] first_state 1 steps) log (Give (replies, m)) → kind_at m.table handle ≡ Some kind → OfItsRecord m kind }
-    ensures missing { (contexts : List WasiSocketsCtx) (steps : List Step) (log : List Entry) (replies : List Reply) (m : Machine) (handle : ℕ)
-        → Left (run contexts [] first_state 1 steps) log (Give (replies, m)) → record_at m handle ≡ None → socket_at m handle ≡ None }
-    ensures inputs { (contexts : List WasiSocketsCtx) (steps : List Step) (log : List Entry) (replies : List Reply) (m : Machine) (handle : ℕ)
-        → Left (run contexts [] first_state 1 steps) log (Give (replies, m)) → InputIsThere m handle }
-    ensures pollables { (contexts : List WasiSocketsCtx) (steps : List Step) (log : List Entry) (replies : List Reply) (m : Machine) (pollable : ℕ)
-        → Left (run contexts [] first_state 1 steps) log (Give (replies, m)) → WatchedIsThere m pollable }
-    ensures stands { (contexts : List WasiSocketsCtx) (steps : List Step) (log : List Entry) (replies : List Reply) (m : Machine) (number : ℕ)
-        → Left (run contexts [] first_state 1 steps) log (Give (replies, m)) → StandsOnNothing m number → ⊥ }
-    ensures connects { (contexts : List WasiSocketsCtx) (steps : List Step) (log : List Entry) (replies : List Reply) (m : Machine) (place : ℕ) (r : TcpRecord)
-        → Left (run contexts [] first_state 1 steps) log (Give (replies, m)) → tcp2_at m.store.records place ≡ Some r → is_connect r.in_progress ≡ true → MayFinish r.inner.state }
-    ensures listens { (contexts : List WasiSocketsCtx) (steps : List Step) (log : List Entry) (replies : List Reply) (m : Machine) (place : ℕ) (r : TcpRecord)
-        → Left (run contexts [] first_state 1 steps) log (Give (replies, m)) → tcp2_at m.store.records place ≡ Some r → ListensLate r }
+    ensures handles { (contexts : List WasiSocketsCtx) (steps : List Step) (log : List Entry)
+        (replies : List Reply) (m : Machine) (handle : ℕ) (kind : Kind)
+        → Left (run contexts [] first_state 1 steps) log (Give (replies, m))
+        → kind_at m.table handle ≡ Some kind → OfItsRecord m kind }
+    ensures missing { (contexts : List WasiSocketsCtx) (steps : List Step) (log : List Entry)
+        (replies : List Reply) (m : Machine) (handle : ℕ)
+        → Left (run contexts [] first_state 1 steps) log (Give (replies, m))
+        → record_at m handle ≡ None → socket_at m handle ≡ None }
+    ensures inputs { (contexts : List WasiSocketsCtx) (steps : List Step) (log : List Entry)
+        (replies : List Reply) (m : Machine) (handle : ℕ)
+        → Left (run contexts [] first_state 1 steps) log (Give (replies, m))
+        → InputIsThere m handle }
+    ensures pollables { (contexts : List WasiSocketsCtx) (steps : List Step) (log : List Entry)
+        (replies : List Reply) (m : Machine) (pollable : ℕ)
+        → Left (run contexts [] first_state 1 steps) log (Give (replies, m))
+        → WatchedIsThere m pollable }
+    ensures stands { (contexts : List WasiSocketsCtx) (steps : List Step) (log : List Entry)
+        (replies : List Reply) (m : Machine) (number : ℕ)
+        → Left (run contexts [] first_state 1 steps) log (Give (replies, m))
+        → StandsOnNothing m number → ⊥ }
+    ensures connects { (contexts : List WasiSocketsCtx) (steps : List Step) (log : List Entry)
+        (replies : List Reply) (m : Machine) (place : ℕ) (r : TcpRecord)
+        → Left (run contexts [] first_state 1 steps) log (Give (replies, m))
+        → tcp2_at m.store.records place ≡ Some r → is_connect r.in_progress ≡ true
+        → MayFinish r.inner.state }
+    ensures listens { (contexts : List WasiSocketsCtx) (steps : List Step) (log : List Entry)
+        (replies : List Reply) (m : Machine) (place : ℕ) (r : TcpRecord)
+        → Left (run contexts [] first_state 1 steps) log (Give (replies, m))
+        → tcp2_at m.store.records place ≡ Some r → ListensLate r }
 {}
 
 /// After any script the pending call and the operation in its record fit.
@@ -229,8 +319,10 @@ pub fn runs_keep_their_records()
 /// - A create: its record has a create that waits for its network socket.
 /// - Datagram streams: the record has a connect of whose checks one at least isn't answered.
 pub fn runs_keep_their_pending_calls()
-    ensures { (contexts : List WasiSocketsCtx) (steps : List Step) (entries : List Entry) (replies : List Reply) (m : Machine)
-        → Left (run contexts [] first_state 1 steps) entries (Give (replies, m)) → PendingCallsFit m }
+    ensures { (contexts : List WasiSocketsCtx) (steps : List Step) (entries : List Entry)
+        (replies : List Reply) (m : Machine)
+        → Left (run contexts [] first_state 1 steps) entries (Give (replies, m))
+        → PendingCallsFit m }
 {}
 
 /// The network's code in the error of a stream:
@@ -239,12 +331,18 @@ pub fn runs_keep_their_pending_calls()
 /// - `never`: is never refused.
 /// - `quiet`: asks nothing, and leaves the machine unchanged.
 pub fn errors_have_no_network_code()
-    ensures none { (contexts : List WasiSocketsCtx) (m : Machine) (line ctx error : ℕ) (fields : List Field) (entries : List Entry) (after : Machine)
-        → Answered contexts m line (Step.NetworkErrorCode ctx error) entries (Reply.Ok fields) after → fields ≡ Field.Absent ∷ [] }
-    ensures never { (contexts : List WasiSocketsCtx) (m : Machine) (line ctx error : ℕ) (entries : List Entry) (word : CodeWord) (after : Machine)
-        → Answered contexts m line (Step.NetworkErrorCode ctx error) entries (Reply.Err word) after → ⊥ }
-    ensures quiet { (contexts : List WasiSocketsCtx) (m : Machine) (line ctx error : ℕ) (entries : List Entry) (reply : Reply) (after : Machine)
-        → Answered contexts m line (Step.NetworkErrorCode ctx error) entries reply after → (entries ≡ []) × (after ≡ m) }
+    ensures none { (contexts : List WasiSocketsCtx) (m : Machine) (line ctx error : ℕ)
+        (fields : List Field) (entries : List Entry) (after : Machine)
+        → Answered contexts m line (Step.NetworkErrorCode ctx error) entries (Reply.Ok fields) after
+        → fields ≡ Field.Absent ∷ [] }
+    ensures never { (contexts : List WasiSocketsCtx) (m : Machine) (line ctx error : ℕ)
+        (entries : List Entry) (word : CodeWord) (after : Machine)
+        → Answered contexts m line (Step.NetworkErrorCode ctx error) entries (Reply.Err word) after
+        → ⊥ }
+    ensures quiet { (contexts : List WasiSocketsCtx) (m : Machine) (line ctx error : ℕ)
+        (entries : List Entry) (reply : Reply) (after : Machine)
+        → Answered contexts m line (Step.NetworkErrorCode ctx error) entries reply after
+        → (entries ≡ []) × (after ≡ m) }
 {}
 
 /// What a drop releases.
@@ -263,32 +361,56 @@ pub fn errors_have_no_network_code()
 /// - `table`, `not_live`: whatever was dropped, its handle alone is taken out, and isn't live any
 ///   more.
 pub fn drops_give_up_what_is_open()
-    ensures socket { (contexts : List WasiSocketsCtx) (m : Machine) (line ctx handle place : ℕ) (entries : List Entry) (reply : Reply) (after : Machine)
-        → m.store.standing ≡ None → kind_at m.table handle ≡ Some (Kind.Tcp2 place) → children_of m.table.live handle ≡ []
-        → Answered contexts m line (Step.Drop ctx handle) entries reply after → reply ≡ Reply.Ok no_fields }
-    ensures given_up { (contexts : List WasiSocketsCtx) (m : Machine) (line ctx handle : ℕ) (r : TcpRecord) (fields : List Field) (entries : List Entry) (after : Machine)
-        → record_at m handle ≡ Some r → Answered contexts m line (Step.Drop ctx handle) entries (Reply.Ok fields) after
+    ensures socket { (contexts : List WasiSocketsCtx) (m : Machine) (line ctx handle place : ℕ)
+        (entries : List Entry) (reply : Reply) (after : Machine)
+        → m.store.standing ≡ None → kind_at m.table handle ≡ Some (Kind.Tcp2 place)
+        → children_of m.table.live handle ≡ []
+        → Answered contexts m line (Step.Drop ctx handle) entries reply after
+        → reply ≡ Reply.Ok no_fields }
+    ensures given_up { (contexts : List WasiSocketsCtx) (m : Machine) (line ctx handle : ℕ)
+        (r : TcpRecord) (fields : List Field) (entries : List Entry) (after : Machine)
+        → record_at m handle ≡ Some r
+        → Answered contexts m line (Step.Drop ctx handle) entries (Reply.Ok fields) after
         → entries ≡ socket_given_up (own_of line) r }
-    ensures gone { (contexts : List WasiSocketsCtx) (m : Machine) (line ctx handle : ℕ) (r : TcpRecord) (fields : List Field) (entries : List Entry) (after : Machine)
-        → record_at m handle ≡ Some r → Answered contexts m line (Step.Drop ctx handle) entries (Reply.Ok fields) after
+    ensures gone { (contexts : List WasiSocketsCtx) (m : Machine) (line ctx handle : ℕ)
+        (r : TcpRecord) (fields : List Field) (entries : List Entry) (after : Machine)
+        → record_at m handle ≡ Some r
+        → Answered contexts m line (Step.Drop ctx handle) entries (Reply.Ok fields) after
         → OfRecord m handle (λ place r. IsGone m handle place after) }
-    ensures plain { (contexts : List WasiSocketsCtx) (m : Machine) (line ctx handle : ℕ) (kind : Kind) (entries : List Entry) (reply : Reply) (after : Machine)
-        → kind_at m.table handle ≡ Some kind → GoesAtOnce kind → Answered contexts m line (Step.Drop ctx handle) entries reply after → entries ≡ [] }
-    ensures plain_leaves { (contexts : List WasiSocketsCtx) (m : Machine) (line ctx handle : ℕ) (kind : Kind) (entries : List Entry) (reply : Reply) (after : Machine)
-        → kind_at m.table handle ≡ Some kind → GoesAtOnce kind → IsDropped reply → Answered contexts m line (Step.Drop ctx handle) entries reply after
+    ensures plain { (contexts : List WasiSocketsCtx) (m : Machine) (line ctx handle : ℕ)
+        (kind : Kind) (entries : List Entry) (reply : Reply) (after : Machine)
+        → kind_at m.table handle ≡ Some kind → GoesAtOnce kind
+        → Answered contexts m line (Step.Drop ctx handle) entries reply after → entries ≡ [] }
+    ensures plain_leaves { (contexts : List WasiSocketsCtx) (m : Machine) (line ctx handle : ℕ)
+        (kind : Kind) (entries : List Entry) (reply : Reply) (after : Machine)
+        → kind_at m.table handle ≡ Some kind → GoesAtOnce kind → IsDropped reply
+        → Answered contexts m line (Step.Drop ctx handle) entries reply after
         → after ≡ without m handle }
-    ensures input_pipe { (contexts : List WasiSocketsCtx) (m : Machine) (line ctx handle place : ℕ) (bytes : List ℕ) (fields : List Field) (entries : List Entry) (after : Machine)
-        → kind_at m.table handle ≡ Some (Kind.PlainInput (PlainInput.Pipe place)) → input_pipe_at m.store.records place ≡ Some bytes → Answered contexts m line (Step.Drop ctx handle) entries (Reply.Ok fields) after
+    ensures input_pipe { (contexts : List WasiSocketsCtx) (m : Machine) (line ctx handle place : ℕ)
+        (bytes : List ℕ) (fields : List Field) (entries : List Entry) (after : Machine)
+        → kind_at m.table handle ≡ Some (Kind.PlainInput (PlainInput.Pipe place))
+        → input_pipe_at m.store.records place ≡ Some bytes
+        → Answered contexts m line (Step.Drop ctx handle) entries (Reply.Ok fields) after
         → (entries ≡ []) × (after ≡ giving_back (without m handle) place) }
-    ensures output_pipe { (contexts : List WasiSocketsCtx) (m : Machine) (line ctx handle place : ℕ) (pipe : Contents) (fields : List Field) (entries : List Entry) (after : Machine)
-        → kind_at m.table handle ≡ Some (Kind.PlainOutput (PlainOutput.Pipe place)) → output_pipe_at m.store.records place ≡ Some pipe → Answered contexts m line (Step.Drop ctx handle) entries (Reply.Ok fields) after
+    ensures output_pipe { (contexts : List WasiSocketsCtx) (m : Machine) (line ctx handle place : ℕ)
+        (pipe : Contents) (fields : List Field) (entries : List Entry) (after : Machine)
+        → kind_at m.table handle ≡ Some (Kind.PlainOutput (PlainOutput.Pipe place))
+        → output_pipe_at m.store.records place ≡ Some pipe
+        → Answered contexts m line (Step.Drop ctx handle) entries (Reply.Ok fields) after
         → (entries ≡ []) × (after ≡ giving_back (without m handle) place) }
-    ensures output { (contexts : List WasiSocketsCtx) (m : Machine) (line ctx handle place : ℕ) (entries : List Entry) (reply : Reply) (after : Machine)
-        → kind_at m.table handle ≡ Some (Kind.Output place) → Answered contexts m line (Step.Drop ctx handle) entries reply after → LooksOnce (own_of line) entries }
-    ensures table { (contexts : List WasiSocketsCtx) (m : Machine) (line ctx handle : ℕ) (entries : List Entry) (reply : Reply) (after : Machine)
-        → IsDropped reply → Answered contexts m line (Step.Drop ctx handle) entries reply after → after.table ≡ without_handle m.table handle }
-    ensures not_live { (contexts : List WasiSocketsCtx) (m : Machine) (line ctx handle : ℕ) (entries : List Entry) (reply : Reply) (after : Machine)
-        → IsDropped reply → Answered contexts m line (Step.Drop ctx handle) entries reply after → kind_at after.table handle ≡ None }
+    ensures output { (contexts : List WasiSocketsCtx) (m : Machine) (line ctx handle place : ℕ)
+        (entries : List Entry) (reply : Reply) (after : Machine)
+        → kind_at m.table handle ≡ Some (Kind.Output place)
+        → Answered contexts m line (Step.Drop ctx handle) entries reply after
+        → LooksOnce (own_of line) entries }
+    ensures table { (contexts : List WasiSocketsCtx) (m : Machine) (line ctx handle : ℕ)
+        (entries : List Entry) (reply : Reply) (after : Machine)
+        → IsDropped reply → Answered contexts m line (Step.Drop ctx handle) entries reply after
+        → after.table ≡ without_handle m.table handle }
+    ensures not_live { (contexts : List WasiSocketsCtx) (m : Machine) (line ctx handle : ℕ)
+        (entries : List Entry) (reply : Reply) (after : Machine)
+        → IsDropped reply → Answered contexts m line (Step.Drop ctx handle) entries reply after
+        → kind_at after.table handle ≡ None }
 {}
 
 /// Whether the pollable of a TCP socket, of a stream of a connection or in memory, or of a lookup
@@ -308,19 +430,31 @@ pub fn drops_give_up_what_is_open()
 /// by a connect and accepts by an accept. Every run keeps that (`runs_connect_by_connects`,
 /// `runs_accept_by_accepts`).
 pub fn readiness_has_causes()
-    ensures values { (contexts : List WasiSocketsCtx) (m : Machine) (line ctx pollable : ℕ) (fields : List Field) (entries : List Entry) (after : Machine)
-        → Answered contexts m line (Step.Ready ctx pollable) entries (Reply.Ok fields) after → (fields ≡ truth_fields true) ⊎ (fields ≡ truth_fields false) }
-    ensures not_ready { (contexts : List WasiSocketsCtx) (m : Machine) (line ctx pollable : ℕ) (entries : List Entry) (after : Machine)
-        → (WatchesDatagrams m pollable → ⊥) → WatchesConnect m pollable → WatchesAccept m pollable → Answered contexts m line (Step.Ready ctx pollable) entries (Reply.Ok (truth_fields false)) after
-        → OfWatched m pollable (λ w r. IsUnready (own_of line) r entries w) ⊎ LookupWaits m pollable entries }
-    ensures idle { (contexts : List WasiSocketsCtx) (m : Machine) (line ctx pollable : ℕ) (entries : List Entry) (reply : Reply) (after : Machine)
-        → m.store.standing ≡ None → WatchesIdle m pollable → Answered contexts m line (Step.Ready ctx pollable) entries reply after
+    ensures values { (contexts : List WasiSocketsCtx) (m : Machine) (line ctx pollable : ℕ)
+        (fields : List Field) (entries : List Entry) (after : Machine)
+        → Answered contexts m line (Step.Ready ctx pollable) entries (Reply.Ok fields) after
+        → (fields ≡ truth_fields true) ⊎ (fields ≡ truth_fields false) }
+    ensures not_ready { (contexts : List WasiSocketsCtx) (m : Machine) (line ctx pollable : ℕ)
+        (entries : List Entry) (after : Machine)
+        → (WatchesDatagrams m pollable → ⊥) → WatchesConnect m pollable → WatchesAccept m pollable
+        → Answered contexts m line (Step.Ready ctx pollable) entries
+        (Reply.Ok (truth_fields false)) after
+        → OfWatched m pollable (λ w r. IsUnready (own_of line) r entries w)
+        ⊎ LookupWaits m pollable entries }
+    ensures idle { (contexts : List WasiSocketsCtx) (m : Machine) (line ctx pollable : ℕ)
+        (entries : List Entry) (reply : Reply) (after : Machine)
+        → m.store.standing ≡ None → WatchesIdle m pollable
+        → Answered contexts m line (Step.Ready ctx pollable) entries reply after
         → (reply ≡ Reply.Ok (truth_fields true)) × (entries ≡ []) × (after ≡ m) }
-    ensures plain { (contexts : List WasiSocketsCtx) (m : Machine) (line ctx pollable : ℕ) (entries : List Entry) (reply : Reply) (after : Machine)
-        → m.store.standing ≡ None → WatchesPlain m pollable → Answered contexts m line (Step.Ready ctx pollable) entries reply after
+    ensures plain { (contexts : List WasiSocketsCtx) (m : Machine) (line ctx pollable : ℕ)
+        (entries : List Entry) (reply : Reply) (after : Machine)
+        → m.store.standing ≡ None → WatchesPlain m pollable
+        → Answered contexts m line (Step.Ready ctx pollable) entries reply after
         → (reply ≡ Reply.Ok (truth_fields true)) × (entries ≡ []) × (after ≡ m) }
-    ensures never_fails { (contexts : List WasiSocketsCtx) (m : Machine) (line ctx pollable : ℕ) (entries : List Entry) (reply : Reply) (after : Machine)
-        → Answered contexts m line (Step.Ready ctx pollable) entries reply after → IsFailure reply → ⊥ }
+    ensures never_fails { (contexts : List WasiSocketsCtx) (m : Machine) (line ctx pollable : ℕ)
+        (entries : List Entry) (reply : Reply) (after : Machine)
+        → Answered contexts m line (Step.Ready ctx pollable) entries reply after → IsFailure reply
+        → ⊥ }
 {}
 
 /// What a `subscribe` makes.
@@ -331,16 +465,24 @@ pub fn readiness_has_causes()
 /// - `made`: that pollable is made, and the rest of the machine is unchanged.
 /// - `never_fails`: it never fails.
 pub fn subscribe_makes_a_pollable()
-    ensures number { (contexts : List WasiSocketsCtx) (m : Machine) (line ctx handle : ℕ) (fields : List Field) (entries : List Entry) (after : Machine)
-        → Answered contexts m line (Step.Subscribe ctx handle) entries (Reply.Ok fields) after → fields ≡ number_fields m.table.next }
-    ensures marked { (contexts : List WasiSocketsCtx) (m : Machine) (line ctx handle : ℕ) (fields : List Field) (entries : List Entry) (after : Machine)
+    ensures number { (contexts : List WasiSocketsCtx) (m : Machine) (line ctx handle : ℕ)
+        (fields : List Field) (entries : List Entry) (after : Machine)
         → Answered contexts m line (Step.Subscribe ctx handle) entries (Reply.Ok fields) after
-        → IsSomeAnd (watched_by (kind_at m.table handle)) (λ w. entries ≡ pollable_mark m (own_of line) handle w ∷ []) }
-    ensures made { (contexts : List WasiSocketsCtx) (m : Machine) (line ctx handle : ℕ) (fields : List Field) (entries : List Entry) (after : Machine)
+        → fields ≡ number_fields m.table.next }
+    ensures marked { (contexts : List WasiSocketsCtx) (m : Machine) (line ctx handle : ℕ)
+        (fields : List Field) (entries : List Entry) (after : Machine)
         → Answered contexts m line (Step.Subscribe ctx handle) entries (Reply.Ok fields) after
-        → IsSomeAnd (watched_by (kind_at m.table handle)) (λ w. after ≡ record m { table = with_handle m.table (Kind.Pollable w) (Some handle) }) }
-    ensures never_fails { (contexts : List WasiSocketsCtx) (m : Machine) (line ctx handle : ℕ) (entries : List Entry) (reply : Reply) (after : Machine)
-        → Answered contexts m line (Step.Subscribe ctx handle) entries reply after → IsFailure reply → ⊥ }
+        → IsSomeAnd (watched_by (kind_at m.table handle))
+        (λ w. entries ≡ pollable_mark m (own_of line) handle w ∷ []) }
+    ensures made { (contexts : List WasiSocketsCtx) (m : Machine) (line ctx handle : ℕ)
+        (fields : List Field) (entries : List Entry) (after : Machine)
+        → Answered contexts m line (Step.Subscribe ctx handle) entries (Reply.Ok fields) after
+        → IsSomeAnd (watched_by (kind_at m.table handle))
+        (λ w. after ≡ record m { table = with_handle m.table (Kind.Pollable w) (Some handle) }) }
+    ensures never_fails { (contexts : List WasiSocketsCtx) (m : Machine) (line ctx handle : ℕ)
+        (entries : List Entry) (reply : Reply) (after : Machine)
+        → Answered contexts m line (Step.Subscribe ctx handle) entries reply after → IsFailure reply
+        → ⊥ }
 {}
 
 /// What a turn does.
@@ -355,20 +497,37 @@ pub fn subscribe_makes_a_pollable()
 /// - `sockets`, `streams`: each socket is still there, and those with streams still have them.
 /// - `pipes`: each pipe holds what it held.
 pub fn turns_are_ok()
-    ensures ok { (contexts : List WasiSocketsCtx) (m : Machine) (line : ℕ) (entries : List Entry) (reply : Reply) (after : Machine)
+    ensures ok { (contexts : List WasiSocketsCtx) (m : Machine) (line : ℕ) (entries : List Entry)
+        (reply : Reply) (after : Machine)
         → Answered contexts m line Step.Turn entries reply after → reply ≡ Reply.Ok no_fields }
-    ensures asked { (contexts : List WasiSocketsCtx) (m : Machine) (line : ℕ) (entries : List Entry) (reply : Reply) (after : Machine)
-        → Answered contexts m line Step.Turn entries reply after → (e : Entry) → Has entries e → IsOfJob m e.op }
-    ensures handles { (contexts : List WasiSocketsCtx) (m : Machine) (line : ℕ) (entries : List Entry) (reply : Reply) (after : Machine)
+    ensures asked { (contexts : List WasiSocketsCtx) (m : Machine) (line : ℕ) (entries : List Entry)
+        (reply : Reply) (after : Machine)
+        → Answered contexts m line Step.Turn entries reply after → (e : Entry) → Has entries e
+        → IsOfJob m e.op }
+    ensures handles { (contexts : List WasiSocketsCtx) (m : Machine) (line : ℕ)
+        (entries : List Entry) (reply : Reply) (after : Machine)
         → Answered contexts m line Step.Turn entries reply after → after.table ≡ m.table }
-    ensures lookups { (contexts : List WasiSocketsCtx) (m : Machine) (line place : ℕ) (l : Lookup) (entries : List Entry) (reply : Reply) (after : Machine)
-        → Answered contexts m line Step.Turn entries reply after → lookup_at after.store.records place ≡ Some l → LookedOn m place entries l }
-    ensures pending { (contexts : List WasiSocketsCtx) (m : Machine) (line : ℕ) (entries : List Entry) (reply : Reply) (after : Machine)
-        → Answered contexts m line Step.Turn entries reply after → after.store.standing ≡ m.store.standing }
-    ensures sockets { (contexts : List WasiSocketsCtx) (m : Machine) (line place : ℕ) (entries : List Entry) (reply : Reply) (after : Machine)
-        → Answered contexts m line Step.Turn entries reply after → (IsSome (tcp2_at m.store.records place) → IsSome (tcp2_at after.store.records place)) × (IsSome (open_at m.store.records place) → IsSome (open_at after.store.records place)) }
-    ensures streams { (contexts : List WasiSocketsCtx) (m : Machine) (line place : ℕ) (entries : List Entry) (reply : Reply) (after : Machine)
-        → Answered contexts m line Step.Turn entries reply after → IsSome (streams_in (tcp2_at m.store.records place)) → IsSome (streams_in (tcp2_at after.store.records place)) }
-    ensures pipes { (contexts : List WasiSocketsCtx) (m : Machine) (line place : ℕ) (entries : List Entry) (reply : Reply) (after : Machine)
-        → Answered contexts m line Step.Turn entries reply after → (input_pipe_at after.store.records place ≡ input_pipe_at m.store.records place) × (output_pipe_at after.store.records place ≡ output_pipe_at m.store.records place) }
+    ensures lookups { (contexts : List WasiSocketsCtx) (m : Machine) (line place : ℕ) (l : Lookup)
+        (entries : List Entry) (reply : Reply) (after : Machine)
+        → Answered contexts m line Step.Turn entries reply after
+        → lookup_at after.store.records place ≡ Some l → LookedOn m place entries l }
+    ensures pending { (contexts : List WasiSocketsCtx) (m : Machine) (line : ℕ)
+        (entries : List Entry) (reply : Reply) (after : Machine)
+        → Answered contexts m line Step.Turn entries reply after
+        → after.store.standing ≡ m.store.standing }
+    ensures sockets { (contexts : List WasiSocketsCtx) (m : Machine) (line place : ℕ)
+        (entries : List Entry) (reply : Reply) (after : Machine)
+        → Answered contexts m line Step.Turn entries reply after
+        → (IsSome (tcp2_at m.store.records place) → IsSome (tcp2_at after.store.records place))
+        × (IsSome (open_at m.store.records place) → IsSome (open_at after.store.records place)) }
+    ensures streams { (contexts : List WasiSocketsCtx) (m : Machine) (line place : ℕ)
+        (entries : List Entry) (reply : Reply) (after : Machine)
+        → Answered contexts m line Step.Turn entries reply after
+        → IsSome (streams_in (tcp2_at m.store.records place))
+        → IsSome (streams_in (tcp2_at after.store.records place)) }
+    ensures pipes { (contexts : List WasiSocketsCtx) (m : Machine) (line place : ℕ)
+        (entries : List Entry) (reply : Reply) (after : Machine)
+        → Answered contexts m line Step.Turn entries reply after
+        → (input_pipe_at after.store.records place ≡ input_pipe_at m.store.records place)
+        × (output_pipe_at after.store.records place ≡ output_pipe_at m.store.records place) }
 {}

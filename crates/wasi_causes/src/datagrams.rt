@@ -1,7 +1,8 @@
 //! Where the answers of the steps of datagram streams come from, and what is left afterwards: laws
 //! over the definitions of specs/. Each is a function that does nothing, whose contract is the law.
 
-ghost use Rattle.std.specs.Prelude.{◌≡◌, ◌⊎◌, ◌↔◌, ◌<◌, ◌≤◌, ℕ, ◌+◌, List, [], ◌∷◌, ◌++◌, true, false, Option, IfSome, IsSomeAnd, Some, None, length};
+ghost use Rattle.std.specs.Prelude.{◌≡◌, ◌⊎◌, ◌↔◌, ◌<◌, ◌≤◌, ℕ, ◌+◌, List, [], ◌∷◌, ◌++◌, true};
+ghost use Rattle.std.specs.Prelude.{false, Option, IfSome, IsSomeAnd, Some, None, length};
 ghost use Rattle.wasi_addr.specs.declared.address.IpSocketAddress.{IpSocketAddress};
 ghost use Rattle.wasi_addr.specs.declared.code.ErrorCode.{ErrorCode};
 ghost use Rattle.wasi_world.specs.declared.call.Entry.{Entry};
@@ -16,7 +17,8 @@ ghost use Rattle.wasi_records.specs.declared.datagrams.Sending.{Sending};
 ghost use Rattle.wasi_records.specs.declared.udp.OpenUdp.{OpenUdp};
 ghost use Rattle.wasi_host.specs.Kinds.{kind_at};
 ghost use Rattle.wasi_host.specs.DatagramCalls.{outgoing_ready};
-ghost use Rattle.wasi_host.specs.Machine.{first_state, incoming_at, outgoing_at, own_of, udp_socket_at};
+ghost use Rattle.wasi_host.specs.Machine.{first_state, incoming_at, outgoing_at, own_of};
+ghost use Rattle.wasi_host.specs.Machine.{udp_socket_at};
 ghost use Rattle.wasi_records.specs.Datagrams.{is_sending};
 ghost use Rattle.wasi_records.specs.Names.{next_name};
 ghost use Rattle.wasi_records.specs.Records.{open_at};
@@ -29,13 +31,19 @@ ghost use Rattle.wasi_steps.specs.declared.step.Step.{Step};
 ghost use Rattle.wasi_steps.specs.declared.step.Step.TheVariants as Step;
 ghost use Rattle.wasi_steps.specs.Reply.{datagram_values, number_fields, pair_fields, truth_fields};
 ghost use Rattle.wasi_walks.specs.Answered.{Answered, open_udp_at, outgoing_in, word_of_code};
-ghost use Rattle.wasi_causes.specs.DatagramAsks.{CountsSent, HandsOutWhatCame, IsOfReceive, IsOfSend};
-ghost use Rattle.wasi_causes.specs.Datagrams.{HasItsSocket, HasUdpStreams, IncomingGone, IsReceiving, IsSpent, LacksRoomForBoth, OfIncoming, OfOutgoing, OutgoingGone, PermitsSend, WatchesIncoming, WatchesOutgoing, with_both};
+ghost use Rattle.wasi_causes.specs.DatagramAsks.{CountsSent, HandsOutWhatCame, IsOfReceive};
+ghost use Rattle.wasi_causes.specs.DatagramAsks.{IsOfSend};
+ghost use Rattle.wasi_causes.specs.Datagrams.{HasItsSocket, HasUdpStreams, IncomingGone};
+ghost use Rattle.wasi_causes.specs.Datagrams.{IsReceiving, IsSpent, LacksRoomForBoth, OfIncoming};
+ghost use Rattle.wasi_causes.specs.Datagrams.{OfOutgoing, OutgoingGone, PermitsSend};
+ghost use Rattle.wasi_causes.specs.Datagrams.{WatchesIncoming, WatchesOutgoing, with_both};
 ghost use Rattle.wasi_causes.specs.KeptAddress.{NewStreamsKeep};
-ghost use Rattle.wasi_causes.specs.SendCauses.{ReceivedFrom, ReceivesSome, SendsSome, UdpReceiveRefusal, UdpSendRefusal};
+ghost use Rattle.wasi_causes.specs.SendCauses.{ReceivedFrom, ReceivesSome, SendsSome};
+ghost use Rattle.wasi_causes.specs.SendCauses.{UdpReceiveRefusal, UdpSendRefusal};
 ghost use Rattle.wasi_causes.specs.ShortLists.{CountsUpTo, GivesNone, HandsOutUpTo};
 ghost use Rattle.wasi_causes.specs.Turns.{datagram_of, receive_of};
-ghost use Rattle.wasi_causes.specs.StreamCauses.{HasNewStreams, MakesStreams, StreamsStand, UdpStreamRefusal};
+ghost use Rattle.wasi_causes.specs.StreamCauses.{HasNewStreams, MakesStreams, StreamsStand};
+ghost use Rattle.wasi_causes.specs.StreamCauses.{UdpStreamRefusal};
 ghost use Rattle.wasi_causes.specs.Udp.{OfUdp, RefusedOfUdp};
 ghost use Rattle.wasi_causes.specs.Unsendable.{IsUnsendable, RefusesSend};
 
@@ -52,26 +60,45 @@ ghost use Rattle.wasi_causes.specs.Unsendable.{IsUnsendable, RefusesSend};
 ///   is live (said where no call is pending); nothing is asked then, and the machine is unchanged.
 /// - `full`: it traps with `Full` only where there is no room for both handles.
 pub fn udp_streams_make_two_handles()
-    ensures numbers { (contexts : List WasiSocketsCtx) (m : Machine) (line ctx handle : ℕ) (remote : Option IpSocketAddress) (fields : List Field) (entries : List Entry) (after : Machine)
-        → Answered contexts m line (Step.UdpStream ctx handle remote) entries (Reply.Ok fields) after
+    ensures numbers { (contexts : List WasiSocketsCtx) (m : Machine) (line ctx handle : ℕ)
+        (remote : Option IpSocketAddress) (fields : List Field) (entries : List Entry)
+        (after : Machine)
+        → Answered contexts m line (Step.UdpStream ctx handle remote) entries (Reply.Ok fields)
+        after
         → fields ≡ pair_fields m.table.next (m.table.next + 1) }
-    ensures made { (contexts : List WasiSocketsCtx) (m : Machine) (line ctx handle : ℕ) (remote : Option IpSocketAddress) (fields : List Field) (entries : List Entry) (after : Machine)
-        → Answered contexts m line (Step.UdpStream ctx handle remote) entries (Reply.Ok fields) after
+    ensures made { (contexts : List WasiSocketsCtx) (m : Machine) (line ctx handle : ℕ)
+        (remote : Option IpSocketAddress) (fields : List Field) (entries : List Entry)
+        (after : Machine)
+        → Answered contexts m line (Step.UdpStream ctx handle remote) entries (Reply.Ok fields)
+        after
         → IsSomeAnd (udp_socket_at m handle) (λ place. after.table ≡ with_both m.table place handle) }
-    ensures new { (contexts : List WasiSocketsCtx) (m : Machine) (line ctx handle : ℕ) (remote : Option IpSocketAddress) (fields : List Field) (entries : List Entry) (after : Machine)
-        → Answered contexts m line (Step.UdpStream ctx handle remote) entries (Reply.Ok fields) after
+    ensures new { (contexts : List WasiSocketsCtx) (m : Machine) (line ctx handle : ℕ)
+        (remote : Option IpSocketAddress) (fields : List Field) (entries : List Entry)
+        (after : Machine)
+        → Answered contexts m line (Step.UdpStream ctx handle remote) entries (Reply.Ok fields)
+        after
         → OfUdp m handle (λ place o. HasNewStreams place after) }
-    ensures asked { (contexts : List WasiSocketsCtx) (m : Machine) (line ctx handle : ℕ) (remote : Option IpSocketAddress) (fields : List Field) (entries : List Entry) (after : Machine)
-        → Answered contexts m line (Step.UdpStream ctx handle remote) entries (Reply.Ok fields) after
-        → OfUdp m handle (λ place o. MakesStreams m (own_of line) handle place o remote entries after) }
-    ensures alive { (contexts : List WasiSocketsCtx) (m : Machine) (line ctx handle : ℕ) (remote : Option IpSocketAddress) (entries : List Entry) (reply : Reply) (after : Machine)
-        → m.store.standing ≡ None → Answered contexts m line (Step.UdpStream ctx handle remote) entries reply after
+    ensures asked { (contexts : List WasiSocketsCtx) (m : Machine) (line ctx handle : ℕ)
+        (remote : Option IpSocketAddress) (fields : List Field) (entries : List Entry)
+        (after : Machine)
+        → Answered contexts m line (Step.UdpStream ctx handle remote) entries (Reply.Ok fields)
+        after
+        → OfUdp m handle (λ place o. MakesStreams m (own_of line) handle place o remote entries
+        after) }
+    ensures alive { (contexts : List WasiSocketsCtx) (m : Machine) (line ctx handle : ℕ)
+        (remote : Option IpSocketAddress) (entries : List Entry) (reply : Reply) (after : Machine)
+        → m.store.standing ≡ None
+        → Answered contexts m line (Step.UdpStream ctx handle remote) entries reply after
         → (reply ≡ Reply.Trap TrapKind.StreamsAlive) ↔ HasUdpStreams (open_udp_at m handle) }
-    ensures alive_stays { (contexts : List WasiSocketsCtx) (m : Machine) (line ctx handle : ℕ) (remote : Option IpSocketAddress) (entries : List Entry) (after : Machine)
-        → Answered contexts m line (Step.UdpStream ctx handle remote) entries (Reply.Trap TrapKind.StreamsAlive) after
+    ensures alive_stays { (contexts : List WasiSocketsCtx) (m : Machine) (line ctx handle : ℕ)
+        (remote : Option IpSocketAddress) (entries : List Entry) (after : Machine)
+        → Answered contexts m line (Step.UdpStream ctx handle remote) entries
+        (Reply.Trap TrapKind.StreamsAlive) after
         → (entries ≡ []) × (after ≡ m) }
-    ensures full { (contexts : List WasiSocketsCtx) (m : Machine) (line ctx handle : ℕ) (remote : Option IpSocketAddress) (entries : List Entry) (after : Machine)
-        → Answered contexts m line (Step.UdpStream ctx handle remote) entries (Reply.Trap TrapKind.Full) after
+    ensures full { (contexts : List WasiSocketsCtx) (m : Machine) (line ctx handle : ℕ)
+        (remote : Option IpSocketAddress) (entries : List Entry) (after : Machine)
+        → Answered contexts m line (Step.UdpStream ctx handle remote) entries
+        (Reply.Trap TrapKind.Full) after
         → IsSomeAnd (udp_socket_at m handle) (λ place. LacksRoomForBoth m.table place handle) }
 {}
 
@@ -83,9 +110,13 @@ pub fn udp_streams_make_two_handles()
 ///   has none, it keeps none. What it keeps is the socket's remote address; nothing is received or
 ///   sent on either stream, and nothing may be sent yet.
 pub fn new_streams_keep_the_remote_address()
-    ensures kept { (contexts : List WasiSocketsCtx) (m : Machine) (line ctx handle : ℕ) (remote : Option IpSocketAddress) (fields : List Field) (entries : List Entry) (after : Machine)
-        → Answered contexts m line (Step.UdpStream ctx handle remote) entries (Reply.Ok fields) after
-        → OfUdp m handle (λ place o. NewStreamsKeep m (own_of line) handle place o remote entries after) }
+    ensures kept { (contexts : List WasiSocketsCtx) (m : Machine) (line ctx handle : ℕ)
+        (remote : Option IpSocketAddress) (fields : List Field) (entries : List Entry)
+        (after : Machine)
+        → Answered contexts m line (Step.UdpStream ctx handle remote) entries (Reply.Ok fields)
+        after
+        → OfUdp m handle (λ place o. NewStreamsKeep m (own_of line) handle place o remote entries
+        after) }
 {}
 
 /// Why a `udp-stream` is refused:
@@ -100,9 +131,11 @@ pub fn new_streams_keep_the_remote_address()
 /// network reported then, and none after a code or the wildcard. A socket that was found bound is
 /// known to be.
 pub fn udp_stream_refusals()
-    ensures cause { (contexts : List WasiSocketsCtx) (m : Machine) (line ctx handle : ℕ) (remote : Option IpSocketAddress) (entries : List Entry) (word : CodeWord) (after : Machine)
+    ensures cause { (contexts : List WasiSocketsCtx) (m : Machine) (line ctx handle : ℕ)
+        (remote : Option IpSocketAddress) (entries : List Entry) (word : CodeWord) (after : Machine)
         → Answered contexts m line (Step.UdpStream ctx handle remote) entries (Reply.Err word) after
-        → RefusedOfUdp m handle (λ place o. UdpStreamRefusal m (own_of line) place o remote) entries word after }
+        → RefusedOfUdp m handle (λ place o. UdpStreamRefusal m (own_of line) place o remote) entries
+        word after }
 {}
 
 /// When a `udp-stream` is pending.
@@ -113,14 +146,20 @@ pub fn udp_stream_refusals()
 /// - `handles`: the handles are unchanged.
 /// - `live`: after any script that handle is live while the call is pending.
 pub fn udp_streams_wait_for_their_connect()
-    ensures waits { (contexts : List WasiSocketsCtx) (m : Machine) (line ctx handle : ℕ) (remote : Option IpSocketAddress) (entries : List Entry) (number : ℕ) (after : Machine)
-        → Answered contexts m line (Step.UdpStream ctx handle remote) entries (Reply.Pending number) after
+    ensures waits { (contexts : List WasiSocketsCtx) (m : Machine) (line ctx handle : ℕ)
+        (remote : Option IpSocketAddress) (entries : List Entry) (number : ℕ) (after : Machine)
+        → Answered contexts m line (Step.UdpStream ctx handle remote) entries (Reply.Pending number)
+        after
         → OfUdp m handle (λ place o. StreamsStand m line handle place o remote entries after) }
-    ensures handles { (contexts : List WasiSocketsCtx) (m : Machine) (line ctx handle : ℕ) (remote : Option IpSocketAddress) (entries : List Entry) (number : ℕ) (after : Machine)
-        → Answered contexts m line (Step.UdpStream ctx handle remote) entries (Reply.Pending number) after
+    ensures handles { (contexts : List WasiSocketsCtx) (m : Machine) (line ctx handle : ℕ)
+        (remote : Option IpSocketAddress) (entries : List Entry) (number : ℕ) (after : Machine)
+        → Answered contexts m line (Step.UdpStream ctx handle remote) entries (Reply.Pending number)
+        after
         → after.table ≡ m.table }
-    ensures live { (contexts : List WasiSocketsCtx) (steps : List Step) (log : List Entry) (replies : List Reply) (m : Machine)
-        → Left (run contexts [] first_state 1 steps) log (Give (replies, m)) → IfSome m.store.standing (λ s. HasItsSocket m s.call) }
+    ensures live { (contexts : List WasiSocketsCtx) (steps : List Step) (log : List Entry)
+        (replies : List Reply) (m : Machine)
+        → Left (run contexts [] first_state 1 steps) log (Give (replies, m))
+        → IfSome m.store.standing (λ s. HasItsSocket m s.call) }
 {}
 
 /// How many datagrams may be sent.
@@ -130,13 +169,19 @@ pub fn udp_streams_wait_for_their_connect()
 ///   stream's permit from then on.
 /// - `never`: it is never refused.
 pub fn send_permits_have_causes()
-    ensures asks_nothing { (contexts : List WasiSocketsCtx) (m : Machine) (line ctx outgoing : ℕ) (entries : List Entry) (reply : Reply) (after : Machine)
-        → Answered contexts m line (Step.UdpCheckSend ctx outgoing) entries reply after → entries ≡ [] }
-    ensures permit { (contexts : List WasiSocketsCtx) (m : Machine) (line ctx outgoing : ℕ) (fields : List Field) (entries : List Entry) (after : Machine)
+    ensures asks_nothing { (contexts : List WasiSocketsCtx) (m : Machine) (line ctx outgoing : ℕ)
+        (entries : List Entry) (reply : Reply) (after : Machine)
+        → Answered contexts m line (Step.UdpCheckSend ctx outgoing) entries reply after
+        → entries ≡ [] }
+    ensures permit { (contexts : List WasiSocketsCtx) (m : Machine) (line ctx outgoing : ℕ)
+        (fields : List Field) (entries : List Entry) (after : Machine)
         → Answered contexts m line (Step.UdpCheckSend ctx outgoing) entries (Reply.Ok fields) after
-        → OfOutgoing m (outgoing_at m outgoing) (λ place o out. PermitsSend m place o out fields after) }
-    ensures never { (contexts : List WasiSocketsCtx) (m : Machine) (line ctx outgoing : ℕ) (entries : List Entry) (word : CodeWord) (after : Machine)
-        → Answered contexts m line (Step.UdpCheckSend ctx outgoing) entries (Reply.Err word) after → ⊥ }
+        → OfOutgoing m (outgoing_at m outgoing) (λ place o out. PermitsSend m place o out fields
+        after) }
+    ensures never { (contexts : List WasiSocketsCtx) (m : Machine) (line ctx outgoing : ℕ)
+        (entries : List Entry) (word : CodeWord) (after : Machine)
+        → Answered contexts m line (Step.UdpCheckSend ctx outgoing) entries (Reply.Err word) after
+        → ⊥ }
 {}
 
 /// A send of more datagrams than its permit traps.
@@ -145,11 +190,16 @@ pub fn send_permits_have_causes()
 ///   of the stream; that is said where no call is pending.
 /// - `stays`: nothing is asked then, and the machine is unchanged.
 pub fn sends_past_the_permit_trap()
-    ensures exactly { (contexts : List WasiSocketsCtx) (m : Machine) (line ctx outgoing : ℕ) (datagrams : List OutgoingDatagram) (entries : List Entry) (reply : Reply) (after : Machine)
-        → m.store.standing ≡ None → Answered contexts m line (Step.UdpSend ctx outgoing datagrams) entries reply after
-        → (reply ≡ Reply.Trap TrapKind.NotPermitted) ↔ IsSomeAnd (outgoing_in m outgoing) (λ out. out.permit < length datagrams) }
-    ensures stays { (contexts : List WasiSocketsCtx) (m : Machine) (line ctx outgoing : ℕ) (datagrams : List OutgoingDatagram) (entries : List Entry) (after : Machine)
-        → Answered contexts m line (Step.UdpSend ctx outgoing datagrams) entries (Reply.Trap TrapKind.NotPermitted) after
+    ensures exactly { (contexts : List WasiSocketsCtx) (m : Machine) (line ctx outgoing : ℕ)
+        (datagrams : List OutgoingDatagram) (entries : List Entry) (reply : Reply) (after : Machine)
+        → m.store.standing ≡ None
+        → Answered contexts m line (Step.UdpSend ctx outgoing datagrams) entries reply after
+        → (reply ≡ Reply.Trap TrapKind.NotPermitted)
+        ↔ IsSomeAnd (outgoing_in m outgoing) (λ out. out.permit < length datagrams) }
+    ensures stays { (contexts : List WasiSocketsCtx) (m : Machine) (line ctx outgoing : ℕ)
+        (datagrams : List OutgoingDatagram) (entries : List Entry) (after : Machine)
+        → Answered contexts m line (Step.UdpSend ctx outgoing datagrams) entries
+        (Reply.Trap TrapKind.NotPermitted) after
         → (entries ≡ []) × (after ≡ m) }
 {}
 
@@ -158,12 +208,18 @@ pub fn sends_past_the_permit_trap()
 /// - `incoming`: an incoming stream is taken off its socket, and its receive given up.
 /// - `outgoing`: an outgoing stream is taken off its socket; each of its datagrams was sent.
 pub fn stream_drops_ask_nothing()
-    ensures incoming { (contexts : List WasiSocketsCtx) (m : Machine) (line ctx handle place : ℕ) (o : OpenUdp) (fields : List Field) (entries : List Entry) (after : Machine)
-        → kind_at m.table handle ≡ Some (Kind.Incoming place) → open_at m.store.records place ≡ Some o
-        → Answered contexts m line (Step.Drop ctx handle) entries (Reply.Ok fields) after → IncomingGone m handle place o entries after }
-    ensures outgoing { (contexts : List WasiSocketsCtx) (m : Machine) (line ctx handle place : ℕ) (o : OpenUdp) (fields : List Field) (entries : List Entry) (after : Machine)
-        → kind_at m.table handle ≡ Some (Kind.Outgoing place) → open_at m.store.records place ≡ Some o
-        → Answered contexts m line (Step.Drop ctx handle) entries (Reply.Ok fields) after → OutgoingGone m handle place o entries after }
+    ensures incoming { (contexts : List WasiSocketsCtx) (m : Machine) (line ctx handle place : ℕ)
+        (o : OpenUdp) (fields : List Field) (entries : List Entry) (after : Machine)
+        → kind_at m.table handle ≡ Some (Kind.Incoming place)
+        → open_at m.store.records place ≡ Some o
+        → Answered contexts m line (Step.Drop ctx handle) entries (Reply.Ok fields) after
+        → IncomingGone m handle place o entries after }
+    ensures outgoing { (contexts : List WasiSocketsCtx) (m : Machine) (line ctx handle place : ℕ)
+        (o : OpenUdp) (fields : List Field) (entries : List Entry) (after : Machine)
+        → kind_at m.table handle ≡ Some (Kind.Outgoing place)
+        → open_at m.store.records place ≡ Some o
+        → Answered contexts m line (Step.Drop ctx handle) entries (Reply.Ok fields) after
+        → OutgoingGone m handle place o entries after }
 {}
 
 /// What a send of datagrams asks and answers.
@@ -187,30 +243,58 @@ pub fn stream_drops_ask_nothing()
 ///   or for an address that it can't go to, a check of it said no, or it was answered with a code.
 /// - `none`: none is counted only where the list was empty or one was in the background before.
 pub fn sends_have_causes()
-    ensures count { (contexts : List WasiSocketsCtx) (m : Machine) (line ctx outgoing : ℕ) (datagrams : List OutgoingDatagram) (fields : List Field) (entries : List Entry) (after : Machine)
-        → Answered contexts m line (Step.UdpSend ctx outgoing datagrams) entries (Reply.Ok fields) after
+    ensures count { (contexts : List WasiSocketsCtx) (m : Machine) (line ctx outgoing : ℕ)
+        (datagrams : List OutgoingDatagram) (fields : List Field) (entries : List Entry)
+        (after : Machine)
+        → Answered contexts m line (Step.UdpSend ctx outgoing datagrams) entries (Reply.Ok fields)
+        after
         → SendsSome datagrams fields }
-    ensures cause { (contexts : List WasiSocketsCtx) (m : Machine) (line ctx outgoing : ℕ) (datagrams : List OutgoingDatagram) (entries : List Entry) (word : CodeWord) (after : Machine)
-        → Answered contexts m line (Step.UdpSend ctx outgoing datagrams) entries (Reply.Err word) after
-        → OfOutgoing m (outgoing_at m outgoing) (λ place o out. UdpSendRefusal m (next_name (first_ids line)) place datagrams o out entries word after) }
-    ensures spends { (contexts : List WasiSocketsCtx) (m : Machine) (line ctx outgoing : ℕ) (datagrams : List OutgoingDatagram) (fields : List Field) (entries : List Entry) (after : Machine)
-        → 0 < length datagrams → Answered contexts m line (Step.UdpSend ctx outgoing datagrams) entries (Reply.Ok fields) after
+    ensures cause { (contexts : List WasiSocketsCtx) (m : Machine) (line ctx outgoing : ℕ)
+        (datagrams : List OutgoingDatagram) (entries : List Entry) (word : CodeWord)
+        (after : Machine)
+        → Answered contexts m line (Step.UdpSend ctx outgoing datagrams) entries (Reply.Err word)
+        after
+        → OfOutgoing m (outgoing_at m outgoing) (λ place o out. UdpSendRefusal m
+        (next_name (first_ids line)) place datagrams o out entries word after) }
+    ensures spends { (contexts : List WasiSocketsCtx) (m : Machine) (line ctx outgoing : ℕ)
+        (datagrams : List OutgoingDatagram) (fields : List Field) (entries : List Entry)
+        (after : Machine)
+        → 0 < length datagrams → Answered contexts m line (Step.UdpSend ctx outgoing datagrams)
+        entries (Reply.Ok fields) after
         → IsSpent after outgoing }
-    ensures spends_refused { (contexts : List WasiSocketsCtx) (m : Machine) (line ctx outgoing : ℕ) (datagrams : List OutgoingDatagram) (entries : List Entry) (word : CodeWord) (after : Machine)
-        → Answered contexts m line (Step.UdpSend ctx outgoing datagrams) entries (Reply.Err word) after
+    ensures spends_refused { (contexts : List WasiSocketsCtx) (m : Machine) (line ctx outgoing : ℕ)
+        (datagrams : List OutgoingDatagram) (entries : List Entry) (word : CodeWord)
+        (after : Machine)
+        → Answered contexts m line (Step.UdpSend ctx outgoing datagrams) entries (Reply.Err word)
+        after
         → IsSpent after outgoing }
-    ensures asked { (contexts : List WasiSocketsCtx) (m : Machine) (line ctx outgoing : ℕ) (datagrams : List OutgoingDatagram) (before rest : List Entry) (e : Entry) (reply : Reply) (after : Machine)
-        → Answered contexts m line (Step.UdpSend ctx outgoing datagrams) (before ++ e ∷ rest) reply after
-        → OfOutgoing m (outgoing_at m outgoing) (λ place o out. IsOfSend line o.inner datagrams before e.op e.call) }
-    ensures sent { (contexts : List WasiSocketsCtx) (m : Machine) (line ctx outgoing : ℕ) (datagrams : List OutgoingDatagram) (fields : List Field) (entries : List Entry) (after : Machine)
-        → Answered contexts m line (Step.UdpSend ctx outgoing datagrams) entries (Reply.Ok fields) after
-        → OfOutgoing m (outgoing_at m outgoing) (λ place o out. CountsSent line o.inner datagrams fields entries (datagram_of (open_at after.store.records place))) }
-    ensures fewer { (contexts : List WasiSocketsCtx) (m : Machine) (line ctx outgoing : ℕ) (datagrams : List OutgoingDatagram) (fields : List Field) (entries : List Entry) (after : Machine)
-        → Answered contexts m line (Step.UdpSend ctx outgoing datagrams) entries (Reply.Ok fields) after
-        → OfOutgoing m (outgoing_at m outgoing) (λ place o out. CountsUpTo line o.inner out.sending datagrams fields entries) }
-    ensures none { (contexts : List WasiSocketsCtx) (m : Machine) (line ctx outgoing : ℕ) (datagrams : List OutgoingDatagram) (entries : List Entry) (after : Machine)
-        → Answered contexts m line (Step.UdpSend ctx outgoing datagrams) entries (Reply.Ok (number_fields 0)) after
-        → (datagrams ≡ []) ⊎ OfOutgoing m (outgoing_at m outgoing) (λ place o out. (is_sending out.sending ≡ true) × (entries ≡ [])) }
+    ensures asked { (contexts : List WasiSocketsCtx) (m : Machine) (line ctx outgoing : ℕ)
+        (datagrams : List OutgoingDatagram) (before rest : List Entry) (e : Entry) (reply : Reply)
+        (after : Machine)
+        → Answered contexts m line (Step.UdpSend ctx outgoing datagrams) (before ++ e ∷ rest) reply
+        after
+        → OfOutgoing m (outgoing_at m outgoing) (λ place o out. IsOfSend line o.inner datagrams
+        before e.op e.call) }
+    ensures sent { (contexts : List WasiSocketsCtx) (m : Machine) (line ctx outgoing : ℕ)
+        (datagrams : List OutgoingDatagram) (fields : List Field) (entries : List Entry)
+        (after : Machine)
+        → Answered contexts m line (Step.UdpSend ctx outgoing datagrams) entries (Reply.Ok fields)
+        after
+        → OfOutgoing m (outgoing_at m outgoing) (λ place o out. CountsSent line o.inner datagrams
+        fields entries (datagram_of (open_at after.store.records place))) }
+    ensures fewer { (contexts : List WasiSocketsCtx) (m : Machine) (line ctx outgoing : ℕ)
+        (datagrams : List OutgoingDatagram) (fields : List Field) (entries : List Entry)
+        (after : Machine)
+        → Answered contexts m line (Step.UdpSend ctx outgoing datagrams) entries (Reply.Ok fields)
+        after
+        → OfOutgoing m (outgoing_at m outgoing) (λ place o out. CountsUpTo line o.inner out.sending
+        datagrams fields entries) }
+    ensures none { (contexts : List WasiSocketsCtx) (m : Machine) (line ctx outgoing : ℕ)
+        (datagrams : List OutgoingDatagram) (entries : List Entry) (after : Machine)
+        → Answered contexts m line (Step.UdpSend ctx outgoing datagrams) entries
+        (Reply.Ok (number_fields 0)) after
+        → (datagrams ≡ []) ⊎ OfOutgoing m (outgoing_at m outgoing)
+        (λ place o out. (is_sending out.sending ≡ true) × (entries ≡ [])) }
 {}
 
 /// Which sends are refused because of what their line says.
@@ -224,13 +308,22 @@ pub fn sends_have_causes()
 ///   before, with `access-denied` where its last call was a check and was answered no, or with the
 ///   code that its last call was answered.
 pub fn sends_are_refused_by_their_line()
-    ensures refused { (contexts : List WasiSocketsCtx) (m : Machine) (line ctx outgoing place : ℕ) (o : OpenUdp) (out : Outgoing) (d : OutgoingDatagram) (more : List OutgoingDatagram) (c : ErrorCode) (entries : List Entry) (reply : Reply) (after : Machine)
-        → m.store.standing ≡ None → outgoing_at m outgoing ≡ Some place → open_at m.store.records place ≡ Some o → o.outgoing ≡ Some out → out.sending ≡ Sending.Nothing → length (d ∷ more) ≤ out.permit
-        → IsUnsendable o.inner.family o.inner.remote d c → Answered contexts m line (Step.UdpSend ctx outgoing (d ∷ more)) entries reply after
+    ensures refused { (contexts : List WasiSocketsCtx) (m : Machine) (line ctx outgoing place : ℕ)
+        (o : OpenUdp) (out : Outgoing) (d : OutgoingDatagram) (more : List OutgoingDatagram)
+        (c : ErrorCode) (entries : List Entry) (reply : Reply) (after : Machine)
+        → m.store.standing ≡ None → outgoing_at m outgoing ≡ Some place
+        → open_at m.store.records place ≡ Some o → o.outgoing ≡ Some out
+        → out.sending ≡ Sending.Nothing → length (d ∷ more) ≤ out.permit
+        → IsUnsendable o.inner.family o.inner.remote d c
+        → Answered contexts m line (Step.UdpSend ctx outgoing (d ∷ more)) entries reply after
         → reply ≡ Reply.Err (word_of_code c) }
-    ensures only { (contexts : List WasiSocketsCtx) (m : Machine) (line ctx outgoing : ℕ) (datagrams : List OutgoingDatagram) (entries : List Entry) (word : CodeWord) (after : Machine)
-        → Answered contexts m line (Step.UdpSend ctx outgoing datagrams) entries (Reply.Err word) after
-        → OfOutgoing m (outgoing_at m outgoing) (λ place o out. RefusesSend o.inner.family o.inner.remote out.sending datagrams entries word) }
+    ensures only { (contexts : List WasiSocketsCtx) (m : Machine) (line ctx outgoing : ℕ)
+        (datagrams : List OutgoingDatagram) (entries : List Entry) (word : CodeWord)
+        (after : Machine)
+        → Answered contexts m line (Step.UdpSend ctx outgoing datagrams) entries (Reply.Err word)
+        after
+        → OfOutgoing m (outgoing_at m outgoing) (λ place o out. RefusesSend o.inner.family
+        o.inner.remote out.sending datagrams entries word) }
 {}
 
 /// What a receive of datagrams asks and answers.
@@ -254,27 +347,49 @@ pub fn sends_are_refused_by_their_line()
 /// - `none`: none is handed out only where none was wanted or a receive is in progress afterwards,
 ///   as just said.
 pub fn receives_have_causes()
-    ensures datagrams { (contexts : List WasiSocketsCtx) (m : Machine) (line ctx incoming most : ℕ) (fields : List Field) (entries : List Entry) (after : Machine)
-        → Answered contexts m line (Step.UdpReceive ctx incoming most) entries (Reply.Ok fields) after
+    ensures datagrams { (contexts : List WasiSocketsCtx) (m : Machine) (line ctx incoming most : ℕ)
+        (fields : List Field) (entries : List Entry) (after : Machine)
+        → Answered contexts m line (Step.UdpReceive ctx incoming most) entries (Reply.Ok fields)
+        after
         → ReceivesSome most fields }
-    ensures cause { (contexts : List WasiSocketsCtx) (m : Machine) (line ctx incoming most : ℕ) (entries : List Entry) (word : CodeWord) (after : Machine)
-        → Answered contexts m line (Step.UdpReceive ctx incoming most) entries (Reply.Err word) after
-        → OfIncoming m (incoming_at m incoming) (λ place o inc. UdpReceiveRefusal m (next_name (first_ids line)) place o inc entries word after) }
-    ensures asked { (contexts : List WasiSocketsCtx) (m : Machine) (line ctx incoming most : ℕ) (before rest : List Entry) (e : Entry) (reply : Reply) (after : Machine)
-        → Answered contexts m line (Step.UdpReceive ctx incoming most) (before ++ e ∷ rest) reply after
-        → OfIncoming m (incoming_at m incoming) (λ place o inc. IsOfReceive line o.inner most before e.op e.call) }
-    ensures came { (contexts : List WasiSocketsCtx) (m : Machine) (line ctx incoming most : ℕ) (fields : List Field) (entries : List Entry) (after : Machine)
-        → Answered contexts m line (Step.UdpReceive ctx incoming most) entries (Reply.Ok fields) after
-        → OfIncoming m (incoming_at m incoming) (λ place o inc. HandsOutWhatCame line o.inner inc fields entries) }
-    ensures from { (contexts : List WasiSocketsCtx) (steps : List Step) (log : List Entry) (replies : List Reply) (m : Machine) (line ctx incoming most : ℕ) (fields : List Field) (entries : List Entry) (after : Machine)
-        → Left (run contexts [] first_state 1 steps) log (Give (replies, m)) → Answered contexts m line (Step.UdpReceive ctx incoming most) entries (Reply.Ok fields) after
+    ensures cause { (contexts : List WasiSocketsCtx) (m : Machine) (line ctx incoming most : ℕ)
+        (entries : List Entry) (word : CodeWord) (after : Machine)
+        → Answered contexts m line (Step.UdpReceive ctx incoming most) entries (Reply.Err word)
+        after
+        → OfIncoming m (incoming_at m incoming) (λ place o inc. UdpReceiveRefusal m
+        (next_name (first_ids line)) place o inc entries word after) }
+    ensures asked { (contexts : List WasiSocketsCtx) (m : Machine) (line ctx incoming most : ℕ)
+        (before rest : List Entry) (e : Entry) (reply : Reply) (after : Machine)
+        → Answered contexts m line (Step.UdpReceive ctx incoming most) (before ++ e ∷ rest) reply
+        after
+        → OfIncoming m (incoming_at m incoming) (λ place o inc. IsOfReceive line o.inner most before
+        e.op e.call) }
+    ensures came { (contexts : List WasiSocketsCtx) (m : Machine) (line ctx incoming most : ℕ)
+        (fields : List Field) (entries : List Entry) (after : Machine)
+        → Answered contexts m line (Step.UdpReceive ctx incoming most) entries (Reply.Ok fields)
+        after
+        → OfIncoming m (incoming_at m incoming) (λ place o inc. HandsOutWhatCame line o.inner inc
+        fields entries) }
+    ensures from { (contexts : List WasiSocketsCtx) (steps : List Step) (log : List Entry)
+        (replies : List Reply) (m : Machine) (line ctx incoming most : ℕ) (fields : List Field)
+        (entries : List Entry) (after : Machine)
+        → Left (run contexts [] first_state 1 steps) log (Give (replies, m))
+        → Answered contexts m line (Step.UdpReceive ctx incoming most) entries (Reply.Ok fields)
+        after
         → OfIncoming m (incoming_at m incoming) (λ place o inc. ReceivedFrom inc.remote fields) }
-    ensures fewer { (contexts : List WasiSocketsCtx) (m : Machine) (line ctx incoming most : ℕ) (fields : List Field) (entries : List Entry) (after : Machine)
-        → Answered contexts m line (Step.UdpReceive ctx incoming most) entries (Reply.Ok fields) after
-        → OfIncoming m (incoming_at m incoming) (λ place o inc. HandsOutUpTo line o.inner most inc (receive_of (open_at after.store.records place)) fields entries) }
-    ensures none { (contexts : List WasiSocketsCtx) (m : Machine) (line ctx incoming most : ℕ) (entries : List Entry) (after : Machine)
-        → Answered contexts m line (Step.UdpReceive ctx incoming most) entries (Reply.Ok (datagram_values [])) after
-        → (most ≡ 0) ⊎ OfIncoming m (incoming_at m incoming) (λ place o inc. GivesNone line inc (receive_of (open_at after.store.records place)) entries) }
+    ensures fewer { (contexts : List WasiSocketsCtx) (m : Machine) (line ctx incoming most : ℕ)
+        (fields : List Field) (entries : List Entry) (after : Machine)
+        → Answered contexts m line (Step.UdpReceive ctx incoming most) entries (Reply.Ok fields)
+        after
+        → OfIncoming m (incoming_at m incoming) (λ place o inc. HandsOutUpTo line o.inner most inc
+        (receive_of (open_at after.store.records place)) fields entries) }
+    ensures none { (contexts : List WasiSocketsCtx) (m : Machine) (line ctx incoming most : ℕ)
+        (entries : List Entry) (after : Machine)
+        → Answered contexts m line (Step.UdpReceive ctx incoming most) entries
+        (Reply.Ok (datagram_values [])) after
+        → (most ≡ 0) ⊎ OfIncoming m (incoming_at m incoming)
+        (λ place o inc. GivesNone line inc (receive_of (open_at after.store.records place))
+        entries) }
 {}
 
 /// When a datagram stream is ready.
@@ -284,10 +399,16 @@ pub fn receives_have_causes()
 ///   where no call is pending.
 /// - `incoming`: where that of an incoming one isn't ready, a receive is in progress afterwards.
 pub fn stream_pollables_have_causes()
-    ensures outgoing { (contexts : List WasiSocketsCtx) (m : Machine) (line ctx pollable place : ℕ) (entries : List Entry) (reply : Reply) (after : Machine)
-        → m.store.standing ≡ None → WatchesOutgoing m pollable place → Answered contexts m line (Step.Ready ctx pollable) entries reply after
-        → (reply ≡ Reply.Ok (truth_fields (outgoing_ready (open_at m.store.records place)))) × (entries ≡ []) × (after ≡ m) }
-    ensures incoming { (contexts : List WasiSocketsCtx) (m : Machine) (line ctx pollable place : ℕ) (entries : List Entry) (after : Machine)
-        → WatchesIncoming m pollable place → Answered contexts m line (Step.Ready ctx pollable) entries (Reply.Ok (truth_fields false)) after
+    ensures outgoing { (contexts : List WasiSocketsCtx) (m : Machine) (line ctx pollable place : ℕ)
+        (entries : List Entry) (reply : Reply) (after : Machine)
+        → m.store.standing ≡ None → WatchesOutgoing m pollable place
+        → Answered contexts m line (Step.Ready ctx pollable) entries reply after
+        → (reply ≡ Reply.Ok (truth_fields (outgoing_ready (open_at m.store.records place))))
+        × (entries ≡ []) × (after ≡ m) }
+    ensures incoming { (contexts : List WasiSocketsCtx) (m : Machine) (line ctx pollable place : ℕ)
+        (entries : List Entry) (after : Machine)
+        → WatchesIncoming m pollable place
+        → Answered contexts m line (Step.Ready ctx pollable) entries
+        (Reply.Ok (truth_fields false)) after
         → IsReceiving (open_at after.store.records place) }
 {}

@@ -21,12 +21,15 @@ ghost use Rattle.wasi_steps.specs.declared.reply.Reply.{Reply};
 ghost use Rattle.wasi_steps.specs.declared.reply.Reply.TheVariants as Reply;
 ghost use Rattle.wasi_steps.specs.declared.step.Step.{Step};
 ghost use Rattle.wasi_steps.specs.declared.step.Step.TheVariants as Step;
-ghost use Rattle.wasi_walks.specs.Answered.{Answered, HasOperationInProgress, KnowsBound, OfRecord, record_at};
-ghost use Rattle.wasi_walks.specs.Listens.{HasNoListenInProgress, RefusedListen, closed_by_listen, RefusedAccept, AcceptTakes, AcceptsAt};
+ghost use Rattle.wasi_walks.specs.Answered.{Answered, HasOperationInProgress, KnowsBound, OfRecord};
+ghost use Rattle.wasi_walks.specs.Answered.{record_at};
+ghost use Rattle.wasi_walks.specs.Listens.{HasNoListenInProgress, RefusedListen, closed_by_listen};
+ghost use Rattle.wasi_walks.specs.Listens.{RefusedAccept, AcceptTakes, AcceptsAt};
 ghost use Rattle.wasi_machine.specs.Machine.{run};
 ghost use Rattle.wasi_steps.specs.Reply.{no_fields, triple_fields};
 ghost use Rattle.wasi_walks.specs.Waiting.{WatchesAccept};
-ghost use Rattle.wasi_causes.specs.Reached.{IsBeginning, IsClosedByListen, ListensLateAt, ListensNoMore};
+ghost use Rattle.wasi_causes.specs.Reached.{IsBeginning, IsClosedByListen, ListensLateAt};
+ghost use Rattle.wasi_causes.specs.Reached.{ListensNoMore};
 
 /// Why the finish of a listen is refused.
 ///
@@ -36,15 +39,23 @@ ghost use Rattle.wasi_causes.specs.Reached.{IsBeginning, IsClosedByListen, Liste
 /// - `no_other`: it is refused with no other code.
 /// - `stays`: after a refusal the machine is unchanged.
 pub fn finish_listen_refusals()
-    ensures asks_nothing { (contexts : List WasiSocketsCtx) (m : Machine) (line ctx handle : ℕ) (entries : List Entry) (reply : Reply) (after : Machine)
-        → Answered contexts m line (Step.TcpFinishListen ctx handle) entries reply after → entries ≡ [] }
-    ensures exactly { (contexts : List WasiSocketsCtx) (m : Machine) (line ctx handle : ℕ) (entries : List Entry) (reply : Reply) (after : Machine)
-        → m.store.standing ≡ None → Answered contexts m line (Step.TcpFinishListen ctx handle) entries reply after
+    ensures asks_nothing { (contexts : List WasiSocketsCtx) (m : Machine) (line ctx handle : ℕ)
+        (entries : List Entry) (reply : Reply) (after : Machine)
+        → Answered contexts m line (Step.TcpFinishListen ctx handle) entries reply after
+        → entries ≡ [] }
+    ensures exactly { (contexts : List WasiSocketsCtx) (m : Machine) (line ctx handle : ℕ)
+        (entries : List Entry) (reply : Reply) (after : Machine)
+        → m.store.standing ≡ None
+        → Answered contexts m line (Step.TcpFinishListen ctx handle) entries reply after
         → (reply ≡ Reply.Err CodeWord.NotInProgress) ↔ HasNoListenInProgress (record_at m handle) }
-    ensures no_other { (contexts : List WasiSocketsCtx) (m : Machine) (line ctx handle : ℕ) (entries : List Entry) (word : CodeWord) (after : Machine)
-        → Answered contexts m line (Step.TcpFinishListen ctx handle) entries (Reply.Err word) after → word ≡ CodeWord.NotInProgress }
-    ensures stays { (contexts : List WasiSocketsCtx) (m : Machine) (line ctx handle : ℕ) (entries : List Entry) (word : CodeWord) (after : Machine)
-        → Answered contexts m line (Step.TcpFinishListen ctx handle) entries (Reply.Err word) after → after ≡ m }
+    ensures no_other { (contexts : List WasiSocketsCtx) (m : Machine) (line ctx handle : ℕ)
+        (entries : List Entry) (word : CodeWord) (after : Machine)
+        → Answered contexts m line (Step.TcpFinishListen ctx handle) entries (Reply.Err word) after
+        → word ≡ CodeWord.NotInProgress }
+    ensures stays { (contexts : List WasiSocketsCtx) (m : Machine) (line ctx handle : ℕ)
+        (entries : List Entry) (word : CodeWord) (after : Machine)
+        → Answered contexts m line (Step.TcpFinishListen ctx handle) entries (Reply.Err word) after
+        → after ≡ m }
 {}
 
 /// Why the start of a listen is refused, and what it leaves then.
@@ -61,17 +72,29 @@ pub fn finish_listen_refusals()
 /// `cause` assumes that a socket in the state Default has no listener and no listen in progress.
 /// Every run keeps that (`runs_keep_their_records`).
 pub fn start_listen_refusals()
-    ensures exactly { (contexts : List WasiSocketsCtx) (m : Machine) (line ctx handle : ℕ) (entries : List Entry) (reply : Reply) (after : Machine)
-        → m.store.standing ≡ None → Answered contexts m line (Step.TcpStartListen ctx handle) entries reply after
-        → (reply ≡ Reply.Err CodeWord.ConcurrencyConflict) ↔ HasOperationInProgress (record_at m handle) }
-    ensures cause { (contexts : List WasiSocketsCtx) (m : Machine) (line ctx handle : ℕ) (entries : List Entry) (word : CodeWord) (after : Machine)
-        → ListensLateAt m handle → Answered contexts m line (Step.TcpStartListen ctx handle) entries (Reply.Err word) after
+    ensures exactly { (contexts : List WasiSocketsCtx) (m : Machine) (line ctx handle : ℕ)
+        (entries : List Entry) (reply : Reply) (after : Machine)
+        → m.store.standing ≡ None
+        → Answered contexts m line (Step.TcpStartListen ctx handle) entries reply after
+        → (reply ≡ Reply.Err CodeWord.ConcurrencyConflict)
+        ↔ HasOperationInProgress (record_at m handle) }
+    ensures cause { (contexts : List WasiSocketsCtx) (m : Machine) (line ctx handle : ℕ)
+        (entries : List Entry) (word : CodeWord) (after : Machine)
+        → ListensLateAt m handle
+        → Answered contexts m line (Step.TcpStartListen ctx handle) entries (Reply.Err word)
+        after
         → RefusedListen m (own_of line) handle entries word after }
-    ensures stays { (contexts : List WasiSocketsCtx) (m : Machine) (line ctx handle : ℕ) (entries : List Entry) (word : CodeWord) (after : Machine)
+    ensures stays { (contexts : List WasiSocketsCtx) (m : Machine) (line ctx handle : ℕ)
+        (entries : List Entry) (word : CodeWord) (after : Machine)
         → Answered contexts m line (Step.TcpStartListen ctx handle) entries (Reply.Err word) after
-        → (after ≡ m) ⊎ (KnowsBound m handle after ⊎ OfRecord m handle (λ place r. after ≡ closed_by_listen m place r)) }
-    ensures in_runs { (contexts : List WasiSocketsCtx) (steps : List Step) (log : List Entry) (replies : List Reply) (m : Machine) (line ctx handle : ℕ) (entries : List Entry) (word : CodeWord) (after : Machine)
-        → Left (run contexts [] first_state 1 steps) log (Give (replies, m)) → Answered contexts m line (Step.TcpStartListen ctx handle) entries (Reply.Err word) after
+        → (after ≡ m) ⊎ (KnowsBound m handle after ⊎ OfRecord m handle
+        (λ place r. after ≡ closed_by_listen m place r)) }
+    ensures in_runs { (contexts : List WasiSocketsCtx) (steps : List Step) (log : List Entry)
+        (replies : List Reply) (m : Machine) (line ctx handle : ℕ) (entries : List Entry)
+        (word : CodeWord) (after : Machine)
+        → Left (run contexts [] first_state 1 steps) log (Give (replies, m))
+        → Answered contexts m line (Step.TcpStartListen ctx handle) entries (Reply.Err word)
+        after
         → RefusedListen m (own_of line) handle entries word after }
 {}
 
@@ -83,14 +106,25 @@ pub fn start_listen_refusals()
 ///   code is by which the listen failed, and no listen is in progress.
 /// - `cancelled`: likewise after a cancel of it.
 pub fn listens_leave_a_closed_socket()
-    ensures begins { (contexts : List WasiSocketsCtx) (steps : List Step) (log : List Entry) (replies : List Reply) (m : Machine) (place : ℕ) (r : TcpRecord)
-        → Left (run contexts [] first_state 1 steps) log (Give (replies, m)) → tcp2_at m.store.records place ≡ Some r → IsBeginning r.listening → r.inner.state ≡ TcpState.Closed ErrorCode.Other }
-    ensures fails { (contexts : List WasiSocketsCtx) (steps : List Step) (log : List Entry) (replies : List Reply) (m : Machine) (line place : ℕ) (ids : Ids) (entries : List Entry) (word : CodeWord) (after : Machine)
-        → Left (run contexts [] first_state 1 steps) log (Give (replies, m)) → m.store.standing ≡ Some (standing_as ids (StandingCall.Listen place))
-        → Answered contexts m line (Step.Poll ids.line) entries (Reply.Err word) after → IsClosedByListen after place × ListensNoMore after place }
-    ensures cancelled { (contexts : List WasiSocketsCtx) (steps : List Step) (log : List Entry) (replies : List Reply) (m : Machine) (line place : ℕ) (ids : Ids) (fields : List Field) (entries : List Entry) (after : Machine)
-        → Left (run contexts [] first_state 1 steps) log (Give (replies, m)) → m.store.standing ≡ Some (standing_as ids (StandingCall.Listen place))
-        → Answered contexts m line (Step.Cancel ids.line) entries (Reply.Ok fields) after → IsClosedByListen after place × ListensNoMore after place }
+    ensures begins { (contexts : List WasiSocketsCtx) (steps : List Step) (log : List Entry)
+        (replies : List Reply) (m : Machine) (place : ℕ) (r : TcpRecord)
+        → Left (run contexts [] first_state 1 steps) log (Give (replies, m))
+        → tcp2_at m.store.records place ≡ Some r → IsBeginning r.listening
+        → r.inner.state ≡ TcpState.Closed ErrorCode.Other }
+    ensures fails { (contexts : List WasiSocketsCtx) (steps : List Step) (log : List Entry)
+        (replies : List Reply) (m : Machine) (line place : ℕ) (ids : Ids) (entries : List Entry)
+        (word : CodeWord) (after : Machine)
+        → Left (run contexts [] first_state 1 steps) log (Give (replies, m))
+        → m.store.standing ≡ Some (standing_as ids (StandingCall.Listen place))
+        → Answered contexts m line (Step.Poll ids.line) entries (Reply.Err word) after
+        → IsClosedByListen after place × ListensNoMore after place }
+    ensures cancelled { (contexts : List WasiSocketsCtx) (steps : List Step) (log : List Entry)
+        (replies : List Reply) (m : Machine) (line place : ℕ) (ids : Ids) (fields : List Field)
+        (entries : List Entry) (after : Machine)
+        → Left (run contexts [] first_state 1 steps) log (Give (replies, m))
+        → m.store.standing ≡ Some (standing_as ids (StandingCall.Listen place))
+        → Answered contexts m line (Step.Cancel ids.line) entries (Reply.Ok fields) after
+        → IsClosedByListen after place × ListensNoMore after place }
 {}
 
 /// Why an accept is refused:
@@ -102,8 +136,10 @@ pub fn listens_leave_a_closed_socket()
 ///
 /// Assumes that a listener accepts by an accept. Every run keeps that (`runs_accept_by_accepts`).
 pub fn accept_refusals()
-    ensures { (contexts : List WasiSocketsCtx) (m : Machine) (line ctx handle : ℕ) (entries : List Entry) (word : CodeWord) (after : Machine)
-        → AcceptsAt m handle → Answered contexts m line (Step.TcpAccept ctx handle) entries (Reply.Err word) after
+    ensures { (contexts : List WasiSocketsCtx) (m : Machine) (line ctx handle : ℕ)
+        (entries : List Entry) (word : CodeWord) (after : Machine)
+        → AcceptsAt m handle → Answered contexts m line (Step.TcpAccept ctx handle) entries
+        (Reply.Err word) after
         → RefusedAccept m line handle entries word after }
 {}
 
@@ -117,12 +153,16 @@ pub fn accept_refusals()
 /// `takes` assumes that a listener accepts by an accept. Every run keeps that
 /// (`runs_accept_by_accepts`).
 pub fn accepts_take_what_was_handed_over()
-    ensures numbers { (contexts : List WasiSocketsCtx) (m : Machine) (line ctx handle : ℕ) (fields : List Field) (entries : List Entry) (after : Machine)
+    ensures numbers { (contexts : List WasiSocketsCtx) (m : Machine) (line ctx handle : ℕ)
+        (fields : List Field) (entries : List Entry) (after : Machine)
         → Answered contexts m line (Step.TcpAccept ctx handle) entries (Reply.Ok fields) after
         → fields ≡ triple_fields m.table.next (m.table.next + 1) (m.table.next + 2) }
-    ensures takes { (contexts : List WasiSocketsCtx) (m : Machine) (line ctx handle : ℕ) (fields : List Field) (entries : List Entry) (after : Machine)
-        → AcceptsAt m handle → Answered contexts m line (Step.TcpAccept ctx handle) entries (Reply.Ok fields) after
-        → OfRecord m handle (λ place r. AcceptTakes m (own_of line) line handle place r entries after) }
+    ensures takes { (contexts : List WasiSocketsCtx) (m : Machine) (line ctx handle : ℕ)
+        (fields : List Field) (entries : List Entry) (after : Machine)
+        → AcceptsAt m handle → Answered contexts m line (Step.TcpAccept ctx handle) entries
+        (Reply.Ok fields) after
+        → OfRecord m handle (λ place r. AcceptTakes m (own_of line) line handle place r entries
+        after) }
 {}
 
 /// After any script, what a listener accepts by is an accept.
@@ -130,8 +170,12 @@ pub fn accepts_take_what_was_handed_over()
 /// - `handles`: for the socket of each handle.
 /// - `pollables`: for the socket that each pollable watches.
 pub fn runs_accept_by_accepts()
-    ensures handles { (contexts : List WasiSocketsCtx) (steps : List Step) (entries : List Entry) (replies : List Reply) (m : Machine)
-        → Left (run contexts [] first_state 1 steps) entries (Give (replies, m)) → (handle : ℕ) → AcceptsAt m handle }
-    ensures pollables { (contexts : List WasiSocketsCtx) (steps : List Step) (entries : List Entry) (replies : List Reply) (m : Machine)
-        → Left (run contexts [] first_state 1 steps) entries (Give (replies, m)) → (pollable : ℕ) → WatchesAccept m pollable }
+    ensures handles { (contexts : List WasiSocketsCtx) (steps : List Step) (entries : List Entry)
+        (replies : List Reply) (m : Machine)
+        → Left (run contexts [] first_state 1 steps) entries (Give (replies, m)) → (handle : ℕ)
+        → AcceptsAt m handle }
+    ensures pollables { (contexts : List WasiSocketsCtx) (steps : List Step) (entries : List Entry)
+        (replies : List Reply) (m : Machine)
+        → Left (run contexts [] first_state 1 steps) entries (Give (replies, m)) → (pollable : ℕ)
+        → WatchesAccept m pollable }
 {}

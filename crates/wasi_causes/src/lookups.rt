@@ -29,7 +29,8 @@ ghost use Rattle.wasi_steps.specs.declared.step.Step.{Step};
 ghost use Rattle.wasi_steps.specs.declared.step.Step.TheVariants as Step;
 ghost use Rattle.wasi_steps.specs.Reply.{found_values, truth_fields};
 ghost use Rattle.wasi_walks.specs.Answered.{Answered};
-ghost use Rattle.wasi_causes.specs.Lookups.{found_lookup, HandsOut, LookupGone, LosesLookup, OfLookup, ResolveRefusal, Resolves, WatchesLookup};
+ghost use Rattle.wasi_causes.specs.Lookups.{found_lookup, HandsOut, LookupGone, LosesLookup};
+ghost use Rattle.wasi_causes.specs.Lookups.{OfLookup, ResolveRefusal, Resolves, WatchesLookup};
 
 /// Why a lookup of a name is refused.
 ///
@@ -41,17 +42,26 @@ ghost use Rattle.wasi_causes.specs.Lookups.{found_lookup, HandsOut, LookupGone, 
 ///   a domain, and the network, which was asked for it once, answered with a code.
 /// - `stays`: after a refusal the machine is unchanged: there is no handle, no record and no job.
 pub fn resolve_refusals()
-    ensures forbidden { (contexts : List WasiSocketsCtx) (m : Machine) (line ctx network : ℕ) (name : List ℕ) (entries : List Entry) (reply : Reply) (after : Machine)
-        → m.store.standing ≡ None → is_network (kind_at m.table network) ≡ true → Answered contexts m line (Step.Resolve ctx network name) entries reply after
-        → (reply ≡ Reply.Err CodeWord.PermanentResolverFailure) ↔ ((context_at contexts ctx).ip_name_lookup ≡ false) }
-    ensures unnamed { (contexts : List WasiSocketsCtx) (m : Machine) (line ctx network : ℕ) (name : List ℕ) (entries : List Entry) (reply : Reply) (after : Machine)
-        → m.store.standing ≡ None → is_network (kind_at m.table network) ≡ true → Answered contexts m line (Step.Resolve ctx network name) entries reply after
-        → (reply ≡ Reply.Err CodeWord.InvalidArgument) ↔ (((context_at contexts ctx).ip_name_lookup ≡ true) × (name_is name ≡ None)) }
-    ensures cause { (contexts : List WasiSocketsCtx) (m : Machine) (line ctx network : ℕ) (name : List ℕ) (entries : List Entry) (word : CodeWord) (after : Machine)
+    ensures forbidden { (contexts : List WasiSocketsCtx) (m : Machine) (line ctx network : ℕ)
+        (name : List ℕ) (entries : List Entry) (reply : Reply) (after : Machine)
+        → m.store.standing ≡ None → is_network (kind_at m.table network) ≡ true
+        → Answered contexts m line (Step.Resolve ctx network name) entries reply after
+        → (reply ≡ Reply.Err CodeWord.PermanentResolverFailure)
+        ↔ ((context_at contexts ctx).ip_name_lookup ≡ false) }
+    ensures unnamed { (contexts : List WasiSocketsCtx) (m : Machine) (line ctx network : ℕ)
+        (name : List ℕ) (entries : List Entry) (reply : Reply) (after : Machine)
+        → m.store.standing ≡ None → is_network (kind_at m.table network) ≡ true
+        → Answered contexts m line (Step.Resolve ctx network name) entries reply after
+        → (reply ≡ Reply.Err CodeWord.InvalidArgument)
+        ↔ (((context_at contexts ctx).ip_name_lookup ≡ true) × (name_is name ≡ None)) }
+    ensures cause { (contexts : List WasiSocketsCtx) (m : Machine) (line ctx network : ℕ)
+        (name : List ℕ) (entries : List Entry) (word : CodeWord) (after : Machine)
         → Answered contexts m line (Step.Resolve ctx network name) entries (Reply.Err word) after
         → ResolveRefusal (own_of line) (context_at contexts ctx) name entries word }
-    ensures stays { (contexts : List WasiSocketsCtx) (m : Machine) (line ctx network : ℕ) (name : List ℕ) (entries : List Entry) (word : CodeWord) (after : Machine)
-        → Answered contexts m line (Step.Resolve ctx network name) entries (Reply.Err word) after → after ≡ m }
+    ensures stays { (contexts : List WasiSocketsCtx) (m : Machine) (line ctx network : ℕ)
+        (name : List ℕ) (entries : List Entry) (word : CodeWord) (after : Machine)
+        → Answered contexts m line (Step.Resolve ctx network name) entries (Reply.Err word) after
+        → after ≡ m }
 {}
 
 /// What a lookup of a name makes.
@@ -62,11 +72,14 @@ pub fn resolve_refusals()
 ///   addresses that were answered, in their order and each in its canonical form.
 /// - `full`: one that traps with `Full` has no handle; its record is given back, with its job.
 pub fn resolves_make_a_handle()
-    ensures done { (contexts : List WasiSocketsCtx) (m : Machine) (line ctx network : ℕ) (name : List ℕ) (fields : List Field) (entries : List Entry) (after : Machine)
+    ensures done { (contexts : List WasiSocketsCtx) (m : Machine) (line ctx network : ℕ)
+        (name : List ℕ) (fields : List Field) (entries : List Entry) (after : Machine)
         → Answered contexts m line (Step.Resolve ctx network name) entries (Reply.Ok fields) after
         → Resolves m (own_of line) (context_at contexts ctx) network name entries fields after }
-    ensures full { (contexts : List WasiSocketsCtx) (m : Machine) (line ctx network : ℕ) (name : List ℕ) (entries : List Entry) (after : Machine)
-        → Answered contexts m line (Step.Resolve ctx network name) entries (Reply.Trap TrapKind.Full) after
+    ensures full { (contexts : List WasiSocketsCtx) (m : Machine) (line ctx network : ℕ)
+        (name : List ℕ) (entries : List Entry) (after : Machine)
+        → Answered contexts m line (Step.Resolve ctx network name) entries
+        (Reply.Trap TrapKind.Full) after
         → LosesLookup m (own_of line) name entries after }
 {}
 
@@ -82,27 +95,46 @@ pub fn resolves_make_a_handle()
 ///   more.
 /// - `missing`: after any script each handle of a lookup has its lookup.
 pub fn addresses_are_handed_out_in_order()
-    ensures asks_nothing { (contexts : List WasiSocketsCtx) (m : Machine) (line ctx handle : ℕ) (entries : List Entry) (reply : Reply) (after : Machine)
-        → Answered contexts m line (Step.ResolveNext ctx handle) entries reply after → entries ≡ [] }
-    ensures in_progress { (contexts : List WasiSocketsCtx) (m : Machine) (line ctx handle : ℕ) (entries : List Entry) (reply : Reply) (after : Machine)
-        → m.store.standing ≡ None → Answered contexts m line (Step.ResolveNext ctx handle) entries reply after
+    ensures asks_nothing { (contexts : List WasiSocketsCtx) (m : Machine) (line ctx handle : ℕ)
+        (entries : List Entry) (reply : Reply) (after : Machine)
+        → Answered contexts m line (Step.ResolveNext ctx handle) entries reply after
+        → entries ≡ [] }
+    ensures in_progress { (contexts : List WasiSocketsCtx) (m : Machine) (line ctx handle : ℕ)
+        (entries : List Entry) (reply : Reply) (after : Machine)
+        → m.store.standing ≡ None
+        → Answered contexts m line (Step.ResolveNext ctx handle) entries reply after
         → (reply ≡ Reply.Err CodeWord.WouldBlock) ↔ (looks_on (found_lookup m handle) ≡ true) }
-    ensures failed { (contexts : List WasiSocketsCtx) (m : Machine) (line ctx handle : ℕ) (entries : List Entry) (reply : Reply) (after : Machine)
-        → m.store.standing ≡ None → Answered contexts m line (Step.ResolveNext ctx handle) entries reply after
-        → (reply ≡ Reply.Err CodeWord.NameUnresolvable) ↔ (found_lookup m handle ≡ Some Lookup.Failed) }
-    ensures stays { (contexts : List WasiSocketsCtx) (m : Machine) (line ctx handle : ℕ) (entries : List Entry) (word : CodeWord) (after : Machine)
-        → Answered contexts m line (Step.ResolveNext ctx handle) entries (Reply.Err word) after → after ≡ m }
-    ensures over { (contexts : List WasiSocketsCtx) (m : Machine) (line ctx handle : ℕ) (entries : List Entry) (reply : Reply) (after : Machine)
-        → m.store.standing ≡ None → Answered contexts m line (Step.ResolveNext ctx handle) entries reply after
-        → (reply ≡ Reply.Ok (found_values None)) ↔ (found_lookup m handle ≡ Some (Lookup.Found [])) }
-    ensures first { (contexts : List WasiSocketsCtx) (m : Machine) (line ctx handle : ℕ) (a : IpAddress) (left : List IpAddress) (entries : List Entry) (reply : Reply) (after : Machine)
-        → m.store.standing ≡ None → found_lookup m handle ≡ Some (Lookup.Found (a ∷ left)) → Answered contexts m line (Step.ResolveNext ctx handle) entries reply after
-        → (reply ≡ Reply.Ok (found_values (Some a))) × (found_lookup after handle ≡ Some (Lookup.Found left)) }
-    ensures handed { (contexts : List WasiSocketsCtx) (m : Machine) (line ctx handle : ℕ) (fields : List Field) (entries : List Entry) (after : Machine)
+    ensures failed { (contexts : List WasiSocketsCtx) (m : Machine) (line ctx handle : ℕ)
+        (entries : List Entry) (reply : Reply) (after : Machine)
+        → m.store.standing ≡ None
+        → Answered contexts m line (Step.ResolveNext ctx handle) entries reply after
+        → (reply ≡ Reply.Err CodeWord.NameUnresolvable)
+        ↔ (found_lookup m handle ≡ Some Lookup.Failed) }
+    ensures stays { (contexts : List WasiSocketsCtx) (m : Machine) (line ctx handle : ℕ)
+        (entries : List Entry) (word : CodeWord) (after : Machine)
+        → Answered contexts m line (Step.ResolveNext ctx handle) entries (Reply.Err word) after
+        → after ≡ m }
+    ensures over { (contexts : List WasiSocketsCtx) (m : Machine) (line ctx handle : ℕ)
+        (entries : List Entry) (reply : Reply) (after : Machine)
+        → m.store.standing ≡ None
+        → Answered contexts m line (Step.ResolveNext ctx handle) entries reply after
+        → (reply ≡ Reply.Ok (found_values None))
+        ↔ (found_lookup m handle ≡ Some (Lookup.Found [])) }
+    ensures first { (contexts : List WasiSocketsCtx) (m : Machine) (line ctx handle : ℕ)
+        (a : IpAddress) (left : List IpAddress) (entries : List Entry) (reply : Reply)
+        (after : Machine)
+        → m.store.standing ≡ None → found_lookup m handle ≡ Some (Lookup.Found (a ∷ left))
+        → Answered contexts m line (Step.ResolveNext ctx handle) entries reply after
+        → (reply ≡ Reply.Ok (found_values (Some a)))
+        × (found_lookup after handle ≡ Some (Lookup.Found left)) }
+    ensures handed { (contexts : List WasiSocketsCtx) (m : Machine) (line ctx handle : ℕ)
+        (fields : List Field) (entries : List Entry) (after : Machine)
         → Answered contexts m line (Step.ResolveNext ctx handle) entries (Reply.Ok fields) after
         → OfLookup m handle (λ place l. HandsOut m place l fields after) }
-    ensures missing { (contexts : List WasiSocketsCtx) (steps : List Step) (log : List Entry) (replies : List Reply) (m : Machine) (handle : ℕ)
-        → Left (run contexts [] first_state 1 steps) log (Give (replies, m)) → found_lookup m handle ≡ None → lookup_number m handle ≡ None }
+    ensures missing { (contexts : List WasiSocketsCtx) (steps : List Step) (log : List Entry)
+        (replies : List Reply) (m : Machine) (handle : ℕ)
+        → Left (run contexts [] first_state 1 steps) log (Give (replies, m))
+        → found_lookup m handle ≡ None → lookup_number m handle ≡ None }
 {}
 
 /// When a lookup is ready, and what its drop leaves.
@@ -112,12 +144,18 @@ pub fn addresses_are_handed_out_in_order()
 /// - `dropped`: a drop of a lookup asks nothing. Nothing is left of its record, and no job is its
 ///   own, so a turn doesn't ask about it.
 pub fn lookups_are_watched_and_dropped()
-    ensures watched { (contexts : List WasiSocketsCtx) (m : Machine) (line ctx pollable place : ℕ) (entries : List Entry) (reply : Reply) (after : Machine)
-        → m.store.standing ≡ None → WatchesLookup m pollable place → Answered contexts m line (Step.Ready ctx pollable) entries reply after
-        → (reply ≡ Reply.Ok (truth_fields (lookup_ready (lookup_at m.store.records place)))) × (entries ≡ []) × (after ≡ m) }
-    ensures dropped { (contexts : List WasiSocketsCtx) (m : Machine) (line ctx handle place : ℕ) (l : Lookup) (fields : List Field) (entries : List Entry) (after : Machine)
-        → kind_at m.table handle ≡ Some (Kind.Lookup place) → lookup_at m.store.records place ≡ Some l
-        → Answered contexts m line (Step.Drop ctx handle) entries (Reply.Ok fields) after → LookupGone m handle place entries after }
+    ensures watched { (contexts : List WasiSocketsCtx) (m : Machine) (line ctx pollable place : ℕ)
+        (entries : List Entry) (reply : Reply) (after : Machine)
+        → m.store.standing ≡ None → WatchesLookup m pollable place
+        → Answered contexts m line (Step.Ready ctx pollable) entries reply after
+        → (reply ≡ Reply.Ok (truth_fields (lookup_ready (lookup_at m.store.records place))))
+        × (entries ≡ []) × (after ≡ m) }
+    ensures dropped { (contexts : List WasiSocketsCtx) (m : Machine) (line ctx handle place : ℕ)
+        (l : Lookup) (fields : List Field) (entries : List Entry) (after : Machine)
+        → kind_at m.table handle ≡ Some (Kind.Lookup place)
+        → lookup_at m.store.records place ≡ Some l
+        → Answered contexts m line (Step.Drop ctx handle) entries (Reply.Ok fields) after
+        → LookupGone m handle place entries after }
 {}
 
 /// What a context may not use asks nothing, and leaves the machine unchanged:
@@ -126,10 +164,19 @@ pub fn lookups_are_watched_and_dropped()
 /// - `udp`: a `udp-create`.
 /// - `lookup`: a `resolve`.
 pub fn what_is_forbidden_asks_nothing()
-    ensures tcp { (contexts : List WasiSocketsCtx) (m : Machine) (line ctx : ℕ) (family : SocketAddressFamily) (entries : List Entry) (reply : Reply) (after : Machine)
-        → (context_at contexts ctx).tcp ≡ false → Answered contexts m line (Step.TcpCreate ctx family) entries reply after → (entries ≡ []) × (after ≡ m) }
-    ensures udp { (contexts : List WasiSocketsCtx) (m : Machine) (line ctx : ℕ) (family : SocketAddressFamily) (entries : List Entry) (reply : Reply) (after : Machine)
-        → (context_at contexts ctx).udp ≡ false → Answered contexts m line (Step.UdpCreate ctx family) entries reply after → (entries ≡ []) × (after ≡ m) }
-    ensures lookup { (contexts : List WasiSocketsCtx) (m : Machine) (line ctx network : ℕ) (name : List ℕ) (entries : List Entry) (reply : Reply) (after : Machine)
-        → (context_at contexts ctx).ip_name_lookup ≡ false → Answered contexts m line (Step.Resolve ctx network name) entries reply after → (entries ≡ []) × (after ≡ m) }
+    ensures tcp { (contexts : List WasiSocketsCtx) (m : Machine) (line ctx : ℕ)
+        (family : SocketAddressFamily) (entries : List Entry) (reply : Reply) (after : Machine)
+        → (context_at contexts ctx).tcp ≡ false
+        → Answered contexts m line (Step.TcpCreate ctx family) entries reply after
+        → (entries ≡ []) × (after ≡ m) }
+    ensures udp { (contexts : List WasiSocketsCtx) (m : Machine) (line ctx : ℕ)
+        (family : SocketAddressFamily) (entries : List Entry) (reply : Reply) (after : Machine)
+        → (context_at contexts ctx).udp ≡ false
+        → Answered contexts m line (Step.UdpCreate ctx family) entries reply after
+        → (entries ≡ []) × (after ≡ m) }
+    ensures lookup { (contexts : List WasiSocketsCtx) (m : Machine) (line ctx network : ℕ)
+        (name : List ℕ) (entries : List Entry) (reply : Reply) (after : Machine)
+        → (context_at contexts ctx).ip_name_lookup ≡ false
+        → Answered contexts m line (Step.Resolve ctx network name) entries reply after
+        → (entries ≡ []) × (after ≡ m) }
 {}

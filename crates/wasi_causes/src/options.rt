@@ -25,10 +25,12 @@ ghost use Rattle.wasi_steps.specs.Settings.{chosen};
 ///   was answered; or with `not-supported` where that gave a value too large for the option.
 /// - `stays`: whatever the answer is, the machine is unchanged.
 pub fn get_option_refusals()
-    ensures cause { (contexts : List WasiSocketsCtx) (m : Machine) (line ctx handle : ℕ) (option : Opt) (entries : List Entry) (word : CodeWord) (after : Machine)
+    ensures cause { (contexts : List WasiSocketsCtx) (m : Machine) (line ctx handle : ℕ)
+        (option : Opt) (entries : List Entry) (word : CodeWord) (after : Machine)
         → Answered contexts m line (Step.TcpGet ctx handle option) entries (Reply.Err word) after
         → RefusedGet m (own_of line) handle option entries word after }
-    ensures stays { (contexts : List WasiSocketsCtx) (m : Machine) (line ctx handle : ℕ) (option : Opt) (entries : List Entry) (reply : Reply) (after : Machine)
+    ensures stays { (contexts : List WasiSocketsCtx) (m : Machine) (line ctx handle : ℕ)
+        (option : Opt) (entries : List Entry) (reply : Reply) (after : Machine)
         → Answered contexts m line (Step.TcpGet ctx handle option) entries reply after → after ≡ m }
 {}
 
@@ -43,11 +45,14 @@ pub fn get_option_refusals()
 ///
 /// Only in the last case of each is anything asked.
 pub fn set_option_refusals()
-    ensures cause { (contexts : List WasiSocketsCtx) (m : Machine) (line ctx handle : ℕ) (setting : TcpSetting) (entries : List Entry) (word : CodeWord) (after : Machine)
+    ensures cause { (contexts : List WasiSocketsCtx) (m : Machine) (line ctx handle : ℕ)
+        (setting : TcpSetting) (entries : List Entry) (word : CodeWord) (after : Machine)
         → Answered contexts m line (Step.TcpSet ctx handle setting) entries (Reply.Err word) after
         → RefusedSet m (own_of line) handle setting entries word after }
-    ensures stays { (contexts : List WasiSocketsCtx) (m : Machine) (line ctx handle : ℕ) (setting : TcpSetting) (entries : List Entry) (word : CodeWord) (after : Machine)
-        → Answered contexts m line (Step.TcpSet ctx handle setting) entries (Reply.Err word) after → after ≡ m }
+    ensures stays { (contexts : List WasiSocketsCtx) (m : Machine) (line ctx handle : ℕ)
+        (setting : TcpSetting) (entries : List Entry) (word : CodeWord) (after : Machine)
+        → Answered contexts m line (Step.TcpSet ctx handle setting) entries (Reply.Err word) after
+        → after ≡ m }
 {}
 
 /// What gets and sets that are done asked and answered.
@@ -62,12 +67,17 @@ pub fn set_option_refusals()
 ///   the state Default nothing was asked; else the one call was on the listener, and was answered
 ///   done.
 pub fn options_are_read_and_set()
-    ensures read { (contexts : List WasiSocketsCtx) (m : Machine) (line ctx handle : ℕ) (option : Opt) (fields : List Field) (entries : List Entry) (after : Machine)
+    ensures read { (contexts : List WasiSocketsCtx) (m : Machine) (line ctx handle : ℕ)
+        (option : Opt) (fields : List Field) (entries : List Entry) (after : Machine)
         → Answered contexts m line (Step.TcpGet ctx handle option) entries (Reply.Ok fields) after
         → OfRecord m handle (λ place r. GetsOption (own_of line) option r fields entries) }
-    ensures nothing { (contexts : List WasiSocketsCtx) (m : Machine) (line ctx handle : ℕ) (setting : TcpSetting) (fields : List Field) (entries : List Entry) (after : Machine)
-        → Answered contexts m line (Step.TcpSet ctx handle setting) entries (Reply.Ok fields) after → fields ≡ no_fields }
-    ensures written { (contexts : List WasiSocketsCtx) (m : Machine) (line ctx handle : ℕ) (setting : TcpSetting) (fields : List Field) (entries : List Entry) (after : Machine)
+    ensures nothing { (contexts : List WasiSocketsCtx) (m : Machine) (line ctx handle : ℕ)
+        (setting : TcpSetting) (fields : List Field) (entries : List Entry) (after : Machine)
         → Answered contexts m line (Step.TcpSet ctx handle setting) entries (Reply.Ok fields) after
-        → OfRecord m handle (λ place r. SetsChosen m (own_of line) (chosen setting) place r entries after) }
+        → fields ≡ no_fields }
+    ensures written { (contexts : List WasiSocketsCtx) (m : Machine) (line ctx handle : ℕ)
+        (setting : TcpSetting) (fields : List Field) (entries : List Entry) (after : Machine)
+        → Answered contexts m line (Step.TcpSet ctx handle setting) entries (Reply.Ok fields) after
+        → OfRecord m handle (λ place r. SetsChosen m (own_of line) (chosen setting) place r entries
+        after) }
 {}

@@ -26,10 +26,14 @@ ghost use Rattle.wasi_causes.specs.ReceivedList.{HandsOutFront, HasAllReceived, 
 /// - `any`: what the replies handed out on any stream, also on one that was dropped, are the first
 ///   datagrams that it received.
 pub fn streams_hand_out_all_they_received()
-    ensures live { (contexts : List WasiSocketsCtx) (steps : List Step) (log : List Entry) (replies : List Reply) (m : Machine) (handle place : ℕ)
+    ensures live { (contexts : List WasiSocketsCtx) (steps : List Step) (log : List Entry)
+        (replies : List Reply) (m : Machine) (handle place : ℕ)
         → Left (run contexts [] first_state 1 steps) log (Give (replies, m))
-        → kind_at m.table handle ≡ Some (Kind.Incoming place) → OfIncoming m (Some place) (λ place o stream. HasAllReceived log steps replies handle o.inner.side stream) }
-    ensures any { (contexts : List WasiSocketsCtx) (steps : List Step) (log : List Entry) (replies : List Reply) (m : Machine) (handle : ℕ)
+        → kind_at m.table handle ≡ Some (Kind.Incoming place)
+        → OfIncoming m (Some place) (λ place o stream. HasAllReceived log steps replies handle
+        o.inner.side stream) }
+    ensures any { (contexts : List WasiSocketsCtx) (steps : List Step) (log : List Entry)
+        (replies : List Reply) (m : Machine) (handle : ℕ)
         → Left (run contexts [] first_state 1 steps) log (Give (replies, m))
         → (handed_out handle steps replies ≡ []) ⊎ HandsOutFront log steps replies handle }
 {}

@@ -24,10 +24,17 @@ ghost use Rattle.wasi_jobs.specs.Jobs.{job_place};
 /// - `calls`: no pending call.
 /// - `jobs`: no job.
 pub fn what_is_given_back_has_no_name()
-    ensures handles { (contexts : List WasiSocketsCtx) (steps : List Step) (log : List Entry) (replies : List Reply) (m : Machine) (handle place : ℕ) (kind : Kind)
-        → Left (run contexts [] first_state 1 steps) log (Give (replies, m)) → kind_at m.table handle ≡ Some kind → record_named kind ≡ Some place → IsGivenBack m place → ⊥ }
-    ensures calls { (contexts : List WasiSocketsCtx) (steps : List Step) (log : List Entry) (replies : List Reply) (m : Machine) (place : ℕ) (s : Standing)
-        → Left (run contexts [] first_state 1 steps) log (Give (replies, m)) → m.store.standing ≡ Some s → call_names s.call ≡ Some place → IsGivenBack m place → ⊥ }
-    ensures jobs { (contexts : List WasiSocketsCtx) (steps : List Step) (log : List Entry) (replies : List Reply) (m : Machine) (job : HostJob)
-        → Left (run contexts [] first_state 1 steps) log (Give (replies, m)) → Has m.store.jobs job → IsGivenBack m (job_place job) → ⊥ }
+    ensures handles { (contexts : List WasiSocketsCtx) (steps : List Step) (log : List Entry)
+        (replies : List Reply) (m : Machine) (handle place : ℕ) (kind : Kind)
+        → Left (run contexts [] first_state 1 steps) log (Give (replies, m))
+        → kind_at m.table handle ≡ Some kind → record_named kind ≡ Some place
+        → IsGivenBack m place → ⊥ }
+    ensures calls { (contexts : List WasiSocketsCtx) (steps : List Step) (log : List Entry)
+        (replies : List Reply) (m : Machine) (place : ℕ) (s : Standing)
+        → Left (run contexts [] first_state 1 steps) log (Give (replies, m))
+        → m.store.standing ≡ Some s → call_names s.call ≡ Some place → IsGivenBack m place → ⊥ }
+    ensures jobs { (contexts : List WasiSocketsCtx) (steps : List Step) (log : List Entry)
+        (replies : List Reply) (m : Machine) (job : HostJob)
+        → Left (run contexts [] first_state 1 steps) log (Give (replies, m)) → Has m.store.jobs job
+        → IsGivenBack m (job_place job) → ⊥ }
 {}

@@ -3,7 +3,8 @@
 //! law. A stream is that of a connection, or one in memory: a pipe's end, a sink, or a closed one.
 //! For a stream in memory nothing is asked but the entry of its handle.
 
-ghost use Rattle.std.specs.Prelude.{◌≡◌, ◌↔◌, ◌⊎◌, ℕ, true, List, [], ◌∷◌, length, IfSome, IsSomeAnd, Some, None};
+ghost use Rattle.std.specs.Prelude.{◌≡◌, ◌↔◌, ◌⊎◌, ℕ, true, List, [], ◌∷◌, length, IfSome};
+ghost use Rattle.std.specs.Prelude.{IsSomeAnd, Some, None};
 ghost use Rattle.wasi_world.specs.declared.call.Entry.{Entry};
 ghost use Rattle.wasi_world.specs.declared.outcome.TrapKind.{TrapKind};
 ghost use Rattle.wasi_world.specs.declared.outcome.WasiSocketsCtx.{WasiSocketsCtx};
@@ -24,11 +25,18 @@ ghost use Rattle.wasi_steps.specs.declared.reply.Field.{Field};
 ghost use Rattle.wasi_steps.specs.declared.reply.Reply.{Reply};
 ghost use Rattle.wasi_steps.specs.declared.step.Step.{Step};
 ghost use Rattle.wasi_steps.specs.Reply.{bytes_fields, number_fields};
-ghost use Rattle.wasi_walks.specs.Answered.{Answered, CheckFails, closing_reader, closing_writer, FailsWith, IsGivenUp, IsUnpermitted, OfStreams, output_streams, Permits, ReadFails, ReadsEnd, ReadsNone, ReadsTold, WasClosedWith, with_error, WriteFails};
+ghost use Rattle.wasi_walks.specs.Answered.{Answered, CheckFails, closing_reader, closing_writer};
+ghost use Rattle.wasi_walks.specs.Answered.{FailsWith, IsGivenUp, IsUnpermitted, OfStreams};
+ghost use Rattle.wasi_walks.specs.Answered.{output_streams, Permits, ReadFails, ReadsEnd};
+ghost use Rattle.wasi_walks.specs.Answered.{ReadsNone, ReadsTold, WasClosedWith, with_error};
+ghost use Rattle.wasi_walks.specs.Answered.{WriteFails};
 ghost use Rattle.wasi_walks.specs.Missing.{pipe_of};
 ghost use Rattle.wasi_causes.specs.ErrorMarks.{MarksItsSocket};
 ghost use Rattle.wasi_causes.specs.Parts.{Skips, Splices};
-ghost use Rattle.wasi_causes.specs.Plain.{EndsCheck, EndsOutput, EndsPlain, MakesPlain, MakesStream, OfOutputPipe, PastCapacity, PermitsPlain, PlainCheck, PlainFlush, PlainRead, PlainWrite, TakesFront, TakesNothing, WritesPlain};
+ghost use Rattle.wasi_causes.specs.Plain.{EndsCheck, EndsOutput, EndsPlain, MakesPlain};
+ghost use Rattle.wasi_causes.specs.Plain.{MakesStream, OfOutputPipe, PastCapacity, PermitsPlain};
+ghost use Rattle.wasi_causes.specs.Plain.{PlainCheck, PlainFlush, PlainRead, PlainWrite};
+ghost use Rattle.wasi_causes.specs.Plain.{TakesFront, TakesNothing, WritesPlain};
 
 /// Where the bytes of a read come from.
 ///
@@ -38,12 +46,18 @@ ghost use Rattle.wasi_causes.specs.Plain.{EndsCheck, EndsOutput, EndsPlain, Make
 /// - `none`: where a read hands out no bytes, it is a connection's with nothing yet, and the
 ///   machine is unchanged; or none were wanted of a pipe.
 pub fn reads_hand_out_what_was_told()
-    ensures told { (contexts : List WasiSocketsCtx) (m : Machine) (line ctx input len b : ℕ) (bytes : List ℕ) (entries : List Entry) (after : Machine)
-        → Answered contexts m line (Step.Read ctx input len) entries (Reply.Ok (bytes_fields (b ∷ bytes))) after
-        → (OfStreams m (input_at m input) (λ place r s. ReadsTold (own_of line) len s.reader (b ∷ bytes) entries) × (after ≡ m)) ⊎ TakesFront m input len (b ∷ bytes) entries after }
-    ensures none { (contexts : List WasiSocketsCtx) (m : Machine) (line ctx input len : ℕ) (entries : List Entry) (after : Machine)
-        → Answered contexts m line (Step.Read ctx input len) entries (Reply.Ok (bytes_fields [])) after
-        → (OfStreams m (input_at m input) (λ place r s. ReadsNone (own_of line) len s.reader entries) × (after ≡ m)) ⊎ TakesNothing m input len entries after }
+    ensures told { (contexts : List WasiSocketsCtx) (m : Machine) (line ctx input len b : ℕ)
+        (bytes : List ℕ) (entries : List Entry) (after : Machine)
+        → Answered contexts m line (Step.Read ctx input len) entries
+        (Reply.Ok (bytes_fields (b ∷ bytes))) after
+        → (OfStreams m (input_at m input) (λ place r s. ReadsTold (own_of line) len s.reader
+        (b ∷ bytes) entries) × (after ≡ m)) ⊎ TakesFront m input len (b ∷ bytes) entries after }
+    ensures none { (contexts : List WasiSocketsCtx) (m : Machine) (line ctx input len : ℕ)
+        (entries : List Entry) (after : Machine)
+        → Answered contexts m line (Step.Read ctx input len) entries (Reply.Ok (bytes_fields []))
+        after
+        → (OfStreams m (input_at m input) (λ place r s. ReadsNone (own_of line) len s.reader
+        entries) × (after ≡ m)) ⊎ TakesNothing m input len entries after }
 {}
 
 /// How a read ends or fails.
@@ -56,14 +70,23 @@ pub fn reads_hand_out_what_was_told()
 /// - `plain`: a stream in memory is `closed` exactly then; a read of it asks nothing and never
 ///   fails.
 pub fn reads_end()
-    ensures closed { (contexts : List WasiSocketsCtx) (m : Machine) (line ctx input len : ℕ) (entries : List Entry) (after : Machine)
+    ensures closed { (contexts : List WasiSocketsCtx) (m : Machine) (line ctx input len : ℕ)
+        (entries : List Entry) (after : Machine)
         → Answered contexts m line (Step.Read ctx input len) entries Reply.Closed after
-        → OfStreams m (input_at m input) (λ place r s. ReadsEnd (own_of line) len s.reader entries × (after ≡ closing_reader m place r s)) ⊎ EndsPlain m input entries after }
-    ensures failed { (contexts : List WasiSocketsCtx) (m : Machine) (line ctx input len : ℕ) (entries : List Entry) (word : CodeWord) (handle : ℕ) (after : Machine)
-        → Answered contexts m line (Step.Read ctx input len) entries (Reply.Failed word handle) after
-        → OfStreams m (input_at m input) (λ place r s. FailsWith m (own_of line) input (ReadFails (own_of line) len s.reader) entries word handle × (after ≡ with_error (closing_reader m place r s))) }
-    ensures plain { (contexts : List WasiSocketsCtx) (m : Machine) (line ctx input len : ℕ) (entries : List Entry) (reply : Reply) (after : Machine)
-        → m.store.standing ≡ None → Answered contexts m line (Step.Read ctx input len) entries reply after → PlainRead m input entries reply }
+        → OfStreams m (input_at m input) (λ place r s. ReadsEnd (own_of line) len s.reader entries
+        × (after ≡ closing_reader m place r s)) ⊎ EndsPlain m input entries after }
+    ensures failed { (contexts : List WasiSocketsCtx) (m : Machine) (line ctx input len : ℕ)
+        (entries : List Entry) (word : CodeWord) (handle : ℕ) (after : Machine)
+        → Answered contexts m line (Step.Read ctx input len) entries (Reply.Failed word handle)
+        after
+        → OfStreams m (input_at m input) (λ place r s. FailsWith m (own_of line) input
+        (ReadFails (own_of line) len s.reader) entries word handle
+        × (after ≡ with_error (closing_reader m place r s))) }
+    ensures plain { (contexts : List WasiSocketsCtx) (m : Machine) (line ctx input len : ℕ)
+        (entries : List Entry) (reply : Reply) (after : Machine)
+        → m.store.standing ≡ None
+        → Answered contexts m line (Step.Read ctx input len) entries reply after
+        → PlainRead m input entries reply }
 {}
 
 /// Which network socket the error of a failed call is marked with.
@@ -72,23 +95,34 @@ pub fn reads_end()
 ///   an error's, under the stream's handle, with the network socket that the stream's record was
 ///   made with.
 pub fn errors_are_marked_with_their_socket()
-    ensures read { (contexts : List WasiSocketsCtx) (m : Machine) (line ctx stream len : ℕ) (entries : List Entry) (word : CodeWord) (handle : ℕ) (after : Machine)
-        → Answered contexts m line (Step.Read ctx stream len) entries (Reply.Failed word handle) after → MarksItsSocket m (own_of line) stream (input_at m stream) entries }
-    ensures check { (contexts : List WasiSocketsCtx) (m : Machine) (line ctx stream : ℕ) (entries : List Entry) (word : CodeWord) (handle : ℕ) (after : Machine)
-        → Answered contexts m line (Step.CheckWrite ctx stream) entries (Reply.Failed word handle) after → MarksItsSocket m (own_of line) stream (output_at m stream) entries }
-    ensures write { (contexts : List WasiSocketsCtx) (m : Machine) (line ctx stream : ℕ) (bytes : List ℕ) (entries : List Entry) (word : CodeWord) (handle : ℕ) (after : Machine)
-        → Answered contexts m line (Step.Write ctx stream bytes) entries (Reply.Failed word handle) after → MarksItsSocket m (own_of line) stream (output_at m stream) entries }
-    ensures flush { (contexts : List WasiSocketsCtx) (m : Machine) (line ctx stream : ℕ) (entries : List Entry) (word : CodeWord) (handle : ℕ) (after : Machine)
-        → Answered contexts m line (Step.Flush ctx stream) entries (Reply.Failed word handle) after → MarksItsSocket m (own_of line) stream (output_at m stream) entries }
+    ensures read { (contexts : List WasiSocketsCtx) (m : Machine) (line ctx stream len : ℕ)
+        (entries : List Entry) (word : CodeWord) (handle : ℕ) (after : Machine)
+        → Answered contexts m line (Step.Read ctx stream len) entries (Reply.Failed word handle)
+        after → MarksItsSocket m (own_of line) stream (input_at m stream) entries }
+    ensures check { (contexts : List WasiSocketsCtx) (m : Machine) (line ctx stream : ℕ)
+        (entries : List Entry) (word : CodeWord) (handle : ℕ) (after : Machine)
+        → Answered contexts m line (Step.CheckWrite ctx stream) entries (Reply.Failed word handle)
+        after → MarksItsSocket m (own_of line) stream (output_at m stream) entries }
+    ensures write { (contexts : List WasiSocketsCtx) (m : Machine) (line ctx stream : ℕ)
+        (bytes : List ℕ) (entries : List Entry) (word : CodeWord) (handle : ℕ) (after : Machine)
+        → Answered contexts m line (Step.Write ctx stream bytes) entries (Reply.Failed word handle)
+        after → MarksItsSocket m (own_of line) stream (output_at m stream) entries }
+    ensures flush { (contexts : List WasiSocketsCtx) (m : Machine) (line ctx stream : ℕ)
+        (entries : List Entry) (word : CodeWord) (handle : ℕ) (after : Machine)
+        → Answered contexts m line (Step.Flush ctx stream) entries (Reply.Failed word handle) after
+        → MarksItsSocket m (own_of line) stream (output_at m stream) entries }
 {}
 
 /// A permit of a connection is 0 where its write isn't finished or its look was answered pending,
 /// and else 65,536. That of a sink is 65,536, and that of a pipe is the room that it has, at least
 /// 1.
 pub fn permits_have_causes()
-    ensures { (contexts : List WasiSocketsCtx) (m : Machine) (line ctx output n : ℕ) (entries : List Entry) (after : Machine)
-        → Answered contexts m line (Step.CheckWrite ctx output) entries (Reply.Ok (number_fields n)) after
-        → OfStreams m (output_at m output) (λ place r s. Permits (own_of line) s.writer n entries) ⊎ IsSomeAnd (plain_output_at m output) (λ o. PermitsPlain m o n) }
+    ensures { (contexts : List WasiSocketsCtx) (m : Machine) (line ctx output n : ℕ)
+        (entries : List Entry) (after : Machine)
+        → Answered contexts m line (Step.CheckWrite ctx output) entries (Reply.Ok (number_fields n))
+        after
+        → OfStreams m (output_at m output) (λ place r s. Permits (own_of line) s.writer n entries)
+        ⊎ IsSomeAnd (plain_output_at m output) (λ o. PermitsPlain m o n) }
 {}
 
 /// A write of more than its permit traps.
@@ -98,11 +132,16 @@ pub fn permits_have_causes()
 ///   pending.
 /// - `stays`: nothing is asked then, and the machine is unchanged.
 pub fn writes_past_the_permit_trap()
-    ensures exactly { (contexts : List WasiSocketsCtx) (m : Machine) (line ctx output : ℕ) (bytes : List ℕ) (entries : List Entry) (reply : Reply) (after : Machine)
-        → m.store.standing ≡ None → Answered contexts m line (Step.Write ctx output bytes) entries reply after
-        → (reply ≡ Reply.Trap TrapKind.NotPermitted) ↔ IsSomeAnd (output_streams m output) (λ s. IsUnpermitted s.writer (length bytes)) }
-    ensures stays { (contexts : List WasiSocketsCtx) (m : Machine) (line ctx output : ℕ) (bytes : List ℕ) (entries : List Entry) (after : Machine)
-        → Answered contexts m line (Step.Write ctx output bytes) entries (Reply.Trap TrapKind.NotPermitted) after → (entries ≡ []) × (after ≡ m) }
+    ensures exactly { (contexts : List WasiSocketsCtx) (m : Machine) (line ctx output : ℕ)
+        (bytes : List ℕ) (entries : List Entry) (reply : Reply) (after : Machine)
+        → m.store.standing ≡ None
+        → Answered contexts m line (Step.Write ctx output bytes) entries reply after
+        → (reply ≡ Reply.Trap TrapKind.NotPermitted)
+        ↔ IsSomeAnd (output_streams m output) (λ s. IsUnpermitted s.writer (length bytes)) }
+    ensures stays { (contexts : List WasiSocketsCtx) (m : Machine) (line ctx output : ℕ)
+        (bytes : List ℕ) (entries : List Entry) (after : Machine)
+        → Answered contexts m line (Step.Write ctx output bytes) entries
+        (Reply.Trap TrapKind.NotPermitted) after → (entries ≡ []) × (after ≡ m) }
 {}
 
 /// A write of more than its pipe has room for traps.
@@ -111,10 +150,15 @@ pub fn writes_past_the_permit_trap()
 ///   that is said where no call is pending.
 /// - `stays`: nothing is asked then, and the machine is unchanged.
 pub fn writes_past_the_capacity_trap()
-    ensures exactly { (contexts : List WasiSocketsCtx) (m : Machine) (line ctx output : ℕ) (bytes : List ℕ) (entries : List Entry) (reply : Reply) (after : Machine)
-        → m.store.standing ≡ None → Answered contexts m line (Step.Write ctx output bytes) entries reply after → PastCapacity m output (length bytes) reply }
-    ensures stays { (contexts : List WasiSocketsCtx) (m : Machine) (line ctx output : ℕ) (bytes : List ℕ) (entries : List Entry) (after : Machine)
-        → Answered contexts m line (Step.Write ctx output bytes) entries (Reply.Trap TrapKind.Capacity) after → (entries ≡ []) × (after ≡ m) }
+    ensures exactly { (contexts : List WasiSocketsCtx) (m : Machine) (line ctx output : ℕ)
+        (bytes : List ℕ) (entries : List Entry) (reply : Reply) (after : Machine)
+        → m.store.standing ≡ None
+        → Answered contexts m line (Step.Write ctx output bytes) entries reply after
+        → PastCapacity m output (length bytes) reply }
+    ensures stays { (contexts : List WasiSocketsCtx) (m : Machine) (line ctx output : ℕ)
+        (bytes : List ℕ) (entries : List Entry) (after : Machine)
+        → Answered contexts m line (Step.Write ctx output bytes) entries
+        (Reply.Trap TrapKind.Capacity) after → (entries ≡ []) × (after ≡ m) }
 {}
 
 /// A flush only reports an error that is kept.
@@ -126,16 +170,25 @@ pub fn writes_past_the_capacity_trap()
 ///   handle.
 /// - `plain`: an output in memory answers `closed` exactly where it is closed.
 pub fn flushes_tell_the_kept_error()
-    ensures done { (contexts : List WasiSocketsCtx) (m : Machine) (line ctx output : ℕ) (fields : List Field) (entries : List Entry) (after : Machine)
-        → Answered contexts m line (Step.Flush ctx output) entries (Reply.Ok fields) after → (entries ≡ []) × (after ≡ m) }
-    ensures closed { (contexts : List WasiSocketsCtx) (m : Machine) (line ctx output : ℕ) (entries : List Entry) (after : Machine)
+    ensures done { (contexts : List WasiSocketsCtx) (m : Machine) (line ctx output : ℕ)
+        (fields : List Field) (entries : List Entry) (after : Machine)
+        → Answered contexts m line (Step.Flush ctx output) entries (Reply.Ok fields) after
+        → (entries ≡ []) × (after ≡ m) }
+    ensures closed { (contexts : List WasiSocketsCtx) (m : Machine) (line ctx output : ℕ)
+        (entries : List Entry) (after : Machine)
         → Answered contexts m line (Step.Flush ctx output) entries Reply.Closed after
-        → (OfStreams m (output_at m output) (λ place r s. IsGivenUp s.writer) × (entries ≡ []) × (after ≡ m)) ⊎ EndsOutput m output entries after }
-    ensures failed { (contexts : List WasiSocketsCtx) (m : Machine) (line ctx output : ℕ) (entries : List Entry) (word : CodeWord) (handle : ℕ) (after : Machine)
+        → (OfStreams m (output_at m output) (λ place r s. IsGivenUp s.writer) × (entries ≡ [])
+        × (after ≡ m)) ⊎ EndsOutput m output entries after }
+    ensures failed { (contexts : List WasiSocketsCtx) (m : Machine) (line ctx output : ℕ)
+        (entries : List Entry) (word : CodeWord) (handle : ℕ) (after : Machine)
         → Answered contexts m line (Step.Flush ctx output) entries (Reply.Failed word handle) after
-        → OfStreams m (output_at m output) (λ place r s. FailsWith m (own_of line) output (WasClosedWith s.writer) entries word handle) × (after ≡ with_error m) }
-    ensures plain { (contexts : List WasiSocketsCtx) (m : Machine) (line ctx output : ℕ) (entries : List Entry) (reply : Reply) (after : Machine)
-        → m.store.standing ≡ None → Answered contexts m line (Step.Flush ctx output) entries reply after → PlainFlush m output entries reply after }
+        → OfStreams m (output_at m output) (λ place r s. FailsWith m (own_of line) output
+        (WasClosedWith s.writer) entries word handle) × (after ≡ with_error m) }
+    ensures plain { (contexts : List WasiSocketsCtx) (m : Machine) (line ctx output : ℕ)
+        (entries : List Entry) (reply : Reply) (after : Machine)
+        → m.store.standing ≡ None
+        → Answered contexts m line (Step.Flush ctx output) entries reply after
+        → PlainFlush m output entries reply after }
 {}
 
 /// How a look at the permit ends or fails.
@@ -145,14 +198,25 @@ pub fn flushes_tell_the_kept_error()
 /// - `closed`, `plain`: an output in memory is `closed` exactly where it is closed, or is a full
 ///   pipe, and nothing changes.
 pub fn checks_tell_the_kept_error()
-    ensures closed { (contexts : List WasiSocketsCtx) (m : Machine) (line ctx output : ℕ) (entries : List Entry) (after : Machine)
+    ensures closed { (contexts : List WasiSocketsCtx) (m : Machine) (line ctx output : ℕ)
+        (entries : List Entry) (after : Machine)
         → Answered contexts m line (Step.CheckWrite ctx output) entries Reply.Closed after
-        → OfStreams m (output_at m output) (λ place r s. CheckFails WriteError.Closed s.writer entries × (after ≡ closing_writer m place r s WriteError.Closed)) ⊎ EndsCheck m output entries after }
-    ensures failed { (contexts : List WasiSocketsCtx) (m : Machine) (line ctx output : ℕ) (entries : List Entry) (word : CodeWord) (handle : ℕ) (after : Machine)
-        → Answered contexts m line (Step.CheckWrite ctx output) entries (Reply.Failed word handle) after
-        → OfStreams m (output_at m output) (λ place r s. FailsWith m (own_of line) output (λ c before. CheckFails (WriteError.LastOperationFailed c) s.writer before × (after ≡ with_error (closing_writer m place r s (WriteError.LastOperationFailed c)))) entries word handle) }
-    ensures plain { (contexts : List WasiSocketsCtx) (m : Machine) (line ctx output : ℕ) (entries : List Entry) (reply : Reply) (after : Machine)
-        → m.store.standing ≡ None → Answered contexts m line (Step.CheckWrite ctx output) entries reply after → PlainCheck m output entries reply after }
+        → OfStreams m (output_at m output) (λ place r s. CheckFails WriteError.Closed s.writer
+        entries × (after ≡ closing_writer m place r s WriteError.Closed))
+        ⊎ EndsCheck m output entries after }
+    ensures failed { (contexts : List WasiSocketsCtx) (m : Machine) (line ctx output : ℕ)
+        (entries : List Entry) (word : CodeWord) (handle : ℕ) (after : Machine)
+        → Answered contexts m line (Step.CheckWrite ctx output) entries (Reply.Failed word handle)
+        after
+        → OfStreams m (output_at m output) (λ place r s. FailsWith m (own_of line) output
+        (λ c before. CheckFails (WriteError.LastOperationFailed c) s.writer before
+        × (after ≡ with_error (closing_writer m place r s (WriteError.LastOperationFailed c))))
+        entries word handle) }
+    ensures plain { (contexts : List WasiSocketsCtx) (m : Machine) (line ctx output : ℕ)
+        (entries : List Entry) (reply : Reply) (after : Machine)
+        → m.store.standing ≡ None
+        → Answered contexts m line (Step.CheckWrite ctx output) entries reply after
+        → PlainCheck m output entries reply after }
 {}
 
 /// How a write ends or fails, and what it leaves in a stream in memory.
@@ -165,16 +229,29 @@ pub fn checks_tell_the_kept_error()
 /// - `taken`: after a write that is done a pipe holds its bytes behind those that it held, and a
 ///   sink holds nothing.
 pub fn writes_tell_their_error()
-    ensures closed { (contexts : List WasiSocketsCtx) (m : Machine) (line ctx output : ℕ) (bytes : List ℕ) (entries : List Entry) (after : Machine)
+    ensures closed { (contexts : List WasiSocketsCtx) (m : Machine) (line ctx output : ℕ)
+        (bytes : List ℕ) (entries : List Entry) (after : Machine)
         → Answered contexts m line (Step.Write ctx output bytes) entries Reply.Closed after
-        → OfStreams m (output_at m output) (λ place r s. WriteFails (own_of line) WriteError.Closed s.writer entries × (after ≡ closing_writer m place r s WriteError.Closed)) ⊎ EndsOutput m output entries after }
-    ensures failed { (contexts : List WasiSocketsCtx) (m : Machine) (line ctx output : ℕ) (bytes : List ℕ) (entries : List Entry) (word : CodeWord) (handle : ℕ) (after : Machine)
-        → Answered contexts m line (Step.Write ctx output bytes) entries (Reply.Failed word handle) after
-        → OfStreams m (output_at m output) (λ place r s. FailsWith m (own_of line) output (λ c before. WriteFails (own_of line) (WriteError.LastOperationFailed c) s.writer before × (after ≡ with_error (closing_writer m place r s (WriteError.LastOperationFailed c)))) entries word handle) }
-    ensures plain { (contexts : List WasiSocketsCtx) (m : Machine) (line ctx output : ℕ) (bytes : List ℕ) (entries : List Entry) (reply : Reply) (after : Machine)
-        → m.store.standing ≡ None → Answered contexts m line (Step.Write ctx output bytes) entries reply after → PlainWrite m output entries reply }
-    ensures taken { (contexts : List WasiSocketsCtx) (m : Machine) (line ctx output : ℕ) (bytes : List ℕ) (fields : List Field) (entries : List Entry) (after : Machine)
-        → Answered contexts m line (Step.Write ctx output bytes) entries (Reply.Ok fields) after → IfSome (plain_output_at m output) (λ o. WritesPlain m o bytes after) }
+        → OfStreams m (output_at m output) (λ place r s. WriteFails (own_of line) WriteError.Closed
+        s.writer entries × (after ≡ closing_writer m place r s WriteError.Closed))
+        ⊎ EndsOutput m output entries after }
+    ensures failed { (contexts : List WasiSocketsCtx) (m : Machine) (line ctx output : ℕ)
+        (bytes : List ℕ) (entries : List Entry) (word : CodeWord) (handle : ℕ) (after : Machine)
+        → Answered contexts m line (Step.Write ctx output bytes) entries (Reply.Failed word handle)
+        after
+        → OfStreams m (output_at m output) (λ place r s. FailsWith m (own_of line) output
+        (λ c before. WriteFails (own_of line) (WriteError.LastOperationFailed c) s.writer before
+        × (after ≡ with_error (closing_writer m place r s (WriteError.LastOperationFailed c))))
+        entries word handle) }
+    ensures plain { (contexts : List WasiSocketsCtx) (m : Machine) (line ctx output : ℕ)
+        (bytes : List ℕ) (entries : List Entry) (reply : Reply) (after : Machine)
+        → m.store.standing ≡ None
+        → Answered contexts m line (Step.Write ctx output bytes) entries reply after
+        → PlainWrite m output entries reply }
+    ensures taken { (contexts : List WasiSocketsCtx) (m : Machine) (line ctx output : ℕ)
+        (bytes : List ℕ) (fields : List Field) (entries : List Entry) (after : Machine)
+        → Answered contexts m line (Step.Write ctx output bytes) entries (Reply.Ok fields) after
+        → IfSome (plain_output_at m output) (λ o. WritesPlain m o bytes after) }
 {}
 
 /// A pipe's end, a sink and a closed stream get the next handle, and their one entry logs it.
@@ -184,20 +261,33 @@ pub fn writes_tell_their_error()
 /// - `sink`, `closed_in`, `closed_out`: these have no record.
 /// - `full`: where the table is full nothing is asked or made.
 pub fn pipes_are_made()
-    ensures pipe_in { (contexts : List WasiSocketsCtx) (m : Machine) (line ctx : ℕ) (bytes : List ℕ) (fields : List Field) (entries : List Entry) (after : Machine)
+    ensures pipe_in { (contexts : List WasiSocketsCtx) (m : Machine) (line ctx : ℕ) (bytes : List ℕ)
+        (fields : List Field) (entries : List Entry) (after : Machine)
         → Answered contexts m line (Step.PipeIn ctx bytes) entries (Reply.Ok fields) after
-        → MakesPlain m line (Kind.PlainInput (PlainInput.Pipe (length m.store.records))) (with_record_more m.store (Record.InputPipe bytes)) entries fields after }
-    ensures pipe_out { (contexts : List WasiSocketsCtx) (m : Machine) (line ctx capacity : ℕ) (fields : List Field) (entries : List Entry) (after : Machine)
+        → MakesPlain m line (Kind.PlainInput (PlainInput.Pipe (length m.store.records)))
+        (with_record_more m.store (Record.InputPipe bytes)) entries fields after }
+    ensures pipe_out { (contexts : List WasiSocketsCtx) (m : Machine) (line ctx capacity : ℕ)
+        (fields : List Field) (entries : List Entry) (after : Machine)
         → Answered contexts m line (Step.PipeOut ctx capacity) entries (Reply.Ok fields) after
-        → MakesPlain m line (Kind.PlainOutput (PlainOutput.Pipe (length m.store.records))) (with_record_more m.store (Record.OutputPipe (no_contents capacity))) entries fields after }
-    ensures sink { (contexts : List WasiSocketsCtx) (m : Machine) (line ctx : ℕ) (fields : List Field) (entries : List Entry) (after : Machine)
-        → Answered contexts m line (Step.Sink ctx) entries (Reply.Ok fields) after → MakesPlain m line (Kind.PlainOutput PlainOutput.Sink) m.store entries fields after }
-    ensures closed_in { (contexts : List WasiSocketsCtx) (m : Machine) (line ctx : ℕ) (fields : List Field) (entries : List Entry) (after : Machine)
-        → Answered contexts m line (Step.ClosedIn ctx) entries (Reply.Ok fields) after → MakesPlain m line (Kind.PlainInput PlainInput.Closed) m.store entries fields after }
-    ensures closed_out { (contexts : List WasiSocketsCtx) (m : Machine) (line ctx : ℕ) (fields : List Field) (entries : List Entry) (after : Machine)
-        → Answered contexts m line (Step.ClosedOut ctx) entries (Reply.Ok fields) after → MakesPlain m line (Kind.PlainOutput PlainOutput.Closed) m.store entries fields after }
-    ensures full { (contexts : List WasiSocketsCtx) (m : Machine) (line : ℕ) (s : Step) (entries : List Entry) (after : Machine)
-        → MakesStream s → Answered contexts m line s entries (Reply.Trap TrapKind.Full) after → (is_full m.table ≡ true) × (entries ≡ []) × (after ≡ m) }
+        → MakesPlain m line (Kind.PlainOutput (PlainOutput.Pipe (length m.store.records)))
+        (with_record_more m.store (Record.OutputPipe (no_contents capacity))) entries fields
+        after }
+    ensures sink { (contexts : List WasiSocketsCtx) (m : Machine) (line ctx : ℕ)
+        (fields : List Field) (entries : List Entry) (after : Machine)
+        → Answered contexts m line (Step.Sink ctx) entries (Reply.Ok fields) after
+        → MakesPlain m line (Kind.PlainOutput PlainOutput.Sink) m.store entries fields after }
+    ensures closed_in { (contexts : List WasiSocketsCtx) (m : Machine) (line ctx : ℕ)
+        (fields : List Field) (entries : List Entry) (after : Machine)
+        → Answered contexts m line (Step.ClosedIn ctx) entries (Reply.Ok fields) after
+        → MakesPlain m line (Kind.PlainInput PlainInput.Closed) m.store entries fields after }
+    ensures closed_out { (contexts : List WasiSocketsCtx) (m : Machine) (line ctx : ℕ)
+        (fields : List Field) (entries : List Entry) (after : Machine)
+        → Answered contexts m line (Step.ClosedOut ctx) entries (Reply.Ok fields) after
+        → MakesPlain m line (Kind.PlainOutput PlainOutput.Closed) m.store entries fields after }
+    ensures full { (contexts : List WasiSocketsCtx) (m : Machine) (line : ℕ) (s : Step)
+        (entries : List Entry) (after : Machine)
+        → MakesStream s → Answered contexts m line s entries (Reply.Trap TrapKind.Full) after
+        → (is_full m.table ≡ true) × (entries ≡ []) × (after ≡ m) }
 {}
 
 /// What `pipe-contents` answers.
@@ -207,31 +297,48 @@ pub fn pipes_are_made()
 ///   that is said where no call is pending.
 /// - `quiet`: nothing is asked, and the machine is unchanged.
 pub fn contents_are_told()
-    ensures told { (contexts : List WasiSocketsCtx) (m : Machine) (line ctx output : ℕ) (fields : List Field) (entries : List Entry) (after : Machine)
-        → Answered contexts m line (Step.PipeContents ctx output) entries (Reply.Ok fields) after → OfOutputPipe m output (λ place pipe. fields ≡ bytes_fields pipe.held) }
-    ensures exactly { (contexts : List WasiSocketsCtx) (m : Machine) (line ctx output : ℕ) (entries : List Entry) (reply : Reply) (after : Machine)
-        → m.store.standing ≡ None → Answered contexts m line (Step.PipeContents ctx output) entries reply after → (reply ≡ Reply.Trap TrapKind.NoSuchHandle) ↔ (pipe_of m (plain_output_at m output) ≡ None) }
-    ensures quiet { (contexts : List WasiSocketsCtx) (m : Machine) (line ctx output : ℕ) (entries : List Entry) (reply : Reply) (after : Machine)
-        → Answered contexts m line (Step.PipeContents ctx output) entries reply after → (entries ≡ []) × (after ≡ m) }
+    ensures told { (contexts : List WasiSocketsCtx) (m : Machine) (line ctx output : ℕ)
+        (fields : List Field) (entries : List Entry) (after : Machine)
+        → Answered contexts m line (Step.PipeContents ctx output) entries (Reply.Ok fields) after
+        → OfOutputPipe m output (λ place pipe. fields ≡ bytes_fields pipe.held) }
+    ensures exactly { (contexts : List WasiSocketsCtx) (m : Machine) (line ctx output : ℕ)
+        (entries : List Entry) (reply : Reply) (after : Machine)
+        → m.store.standing ≡ None
+        → Answered contexts m line (Step.PipeContents ctx output) entries reply after
+        → (reply ≡ Reply.Trap TrapKind.NoSuchHandle)
+        ↔ (pipe_of m (plain_output_at m output) ≡ None) }
+    ensures quiet { (contexts : List WasiSocketsCtx) (m : Machine) (line ctx output : ℕ)
+        (entries : List Entry) (reply : Reply) (after : Machine)
+        → Answered contexts m line (Step.PipeContents ctx output) entries reply after
+        → (entries ≡ []) × (after ≡ m) }
 {}
 
 /// A skip of so many bytes is a read of so many that answers with the number of bytes in their
 /// place.
 pub fn skips_are_reads()
-    ensures { (contexts : List WasiSocketsCtx) (m : Machine) (line ctx input len : ℕ) (entries : List Entry) (reply : Reply) (after : Machine)
-        → m.store.standing ≡ None → Answered contexts m line (Step.Skip ctx input len) entries reply after → Skips contexts m line ctx input len entries reply after }
+    ensures { (contexts : List WasiSocketsCtx) (m : Machine) (line ctx input len : ℕ)
+        (entries : List Entry) (reply : Reply) (after : Machine)
+        → m.store.standing ≡ None
+        → Answered contexts m line (Step.Skip ctx input len) entries reply after
+        → Skips contexts m line ctx input len entries reply after }
 {}
 
 /// A write of so many zeros is a write of those bytes.
 pub fn zeros_are_written()
-    ensures { (contexts : List WasiSocketsCtx) (m : Machine) (line ctx output len : ℕ) (entries : List Entry) (reply : Reply) (after : Machine)
-        → m.store.standing ≡ None → Answered contexts m line (Step.WriteZeroes ctx output len) entries reply after → Answered contexts m line (Step.Write ctx output (zeros len)) entries reply after }
+    ensures { (contexts : List WasiSocketsCtx) (m : Machine) (line ctx output len : ℕ)
+        (entries : List Entry) (reply : Reply) (after : Machine)
+        → m.store.standing ≡ None
+        → Answered contexts m line (Step.WriteZeroes ctx output len) entries reply after
+        → Answered contexts m line (Step.Write ctx output (zeros len)) entries reply after }
 {}
 
 /// A splice traps, and asks nothing, where one of its handles isn't an output's or an input's. Else
 /// it looks at the permit, reads no more than that and than was wanted, and writes what it read. A
 /// part that gives nothing ends it. It answers with how many bytes it wrote.
 pub fn splices_are_their_parts()
-    ensures { (contexts : List WasiSocketsCtx) (m : Machine) (line ctx to from len : ℕ) (entries : List Entry) (reply : Reply) (after : Machine)
-        → m.store.standing ≡ None → Answered contexts m line (Step.Splice ctx to from len) entries reply after → Splices contexts m line ctx to from len entries reply after }
+    ensures { (contexts : List WasiSocketsCtx) (m : Machine) (line ctx to from len : ℕ)
+        (entries : List Entry) (reply : Reply) (after : Machine)
+        → m.store.standing ≡ None
+        → Answered contexts m line (Step.Splice ctx to from len) entries reply after
+        → Splices contexts m line ctx to from len entries reply after }
 {}

@@ -16,7 +16,11 @@ ghost use Rattle.wasi_steps.specs.declared.reply.CodeWord.{CodeWord};
 ghost use Rattle.wasi_steps.specs.declared.reply.Field.{Field};
 ghost use Rattle.wasi_steps.specs.declared.reply.Reply.{Reply};
 ghost use Rattle.wasi_steps.specs.declared.step.Step.{Step};
-ghost use Rattle.wasi_walks.specs.Answered.{Answered, ConnectsAt, CreateRefusal, FinishRefusal, HasNoBindInProgress, HasNoConnectInProgress, HasOperationInProgress, IsQuiet, KnowsBound, LocalRefusal, OfStreams, putting, record_at, RefusedBind, RefusedConnect, RefusedOf, RemoteRefusal};
+ghost use Rattle.wasi_walks.specs.Answered.{Answered, ConnectsAt, CreateRefusal, FinishRefusal};
+ghost use Rattle.wasi_walks.specs.Answered.{HasNoBindInProgress, HasNoConnectInProgress};
+ghost use Rattle.wasi_walks.specs.Answered.{HasOperationInProgress, IsQuiet, KnowsBound};
+ghost use Rattle.wasi_walks.specs.Answered.{LocalRefusal, OfStreams, putting, record_at};
+ghost use Rattle.wasi_walks.specs.Answered.{RefusedBind, RefusedConnect, RefusedOf, RemoteRefusal};
 ghost use Rattle.wasi_causes.specs.Reached.{FinishesAt};
 ghost use Rattle.wasi_causes.specs.GivenUp.{HasNoStreams, shut_down, shutdown_entries};
 ghost use Rattle.wasi_walks.specs.Licence.{entry};
@@ -36,15 +40,23 @@ ghost use Rattle.wasi_table.specs.Table.{is_full};
 /// - `no_other`: it is refused with no other code.
 /// - `stays`: after a refusal the machine is unchanged.
 pub fn finish_bind_refusals()
-    ensures asks_nothing { (contexts : List WasiSocketsCtx) (m : Machine) (line ctx handle : ℕ) (entries : List Entry) (reply : Reply) (after : Machine)
-        → Answered contexts m line (Step.TcpFinishBind ctx handle) entries reply after → entries ≡ [] }
-    ensures exactly { (contexts : List WasiSocketsCtx) (m : Machine) (line ctx handle : ℕ) (entries : List Entry) (reply : Reply) (after : Machine)
-        → m.store.standing ≡ None → Answered contexts m line (Step.TcpFinishBind ctx handle) entries reply after
+    ensures asks_nothing { (contexts : List WasiSocketsCtx) (m : Machine) (line ctx handle : ℕ)
+        (entries : List Entry) (reply : Reply) (after : Machine)
+        → Answered contexts m line (Step.TcpFinishBind ctx handle) entries reply after
+        → entries ≡ [] }
+    ensures exactly { (contexts : List WasiSocketsCtx) (m : Machine) (line ctx handle : ℕ)
+        (entries : List Entry) (reply : Reply) (after : Machine)
+        → m.store.standing ≡ None
+        → Answered contexts m line (Step.TcpFinishBind ctx handle) entries reply after
         → (reply ≡ Reply.Err CodeWord.NotInProgress) ↔ HasNoBindInProgress (record_at m handle) }
-    ensures no_other { (contexts : List WasiSocketsCtx) (m : Machine) (line ctx handle : ℕ) (entries : List Entry) (word : CodeWord) (after : Machine)
-        → Answered contexts m line (Step.TcpFinishBind ctx handle) entries (Reply.Err word) after → word ≡ CodeWord.NotInProgress }
-    ensures stays { (contexts : List WasiSocketsCtx) (m : Machine) (line ctx handle : ℕ) (entries : List Entry) (word : CodeWord) (after : Machine)
-        → Answered contexts m line (Step.TcpFinishBind ctx handle) entries (Reply.Err word) after → after ≡ m }
+    ensures no_other { (contexts : List WasiSocketsCtx) (m : Machine) (line ctx handle : ℕ)
+        (entries : List Entry) (word : CodeWord) (after : Machine)
+        → Answered contexts m line (Step.TcpFinishBind ctx handle) entries (Reply.Err word) after
+        → word ≡ CodeWord.NotInProgress }
+    ensures stays { (contexts : List WasiSocketsCtx) (m : Machine) (line ctx handle : ℕ)
+        (entries : List Entry) (word : CodeWord) (after : Machine)
+        → Answered contexts m line (Step.TcpFinishBind ctx handle) entries (Reply.Err word) after
+        → after ≡ m }
 {}
 
 /// Why a create of a TCP socket is refused.
@@ -53,11 +65,14 @@ pub fn finish_bind_refusals()
 ///   nothing is asked; or with the code that its one call was answered.
 /// - `stays`: after a refusal the machine is unchanged.
 pub fn create_refusals()
-    ensures cause { (contexts : List WasiSocketsCtx) (m : Machine) (line ctx : ℕ) (family : SocketAddressFamily) (entries : List Entry) (word : CodeWord) (after : Machine)
+    ensures cause { (contexts : List WasiSocketsCtx) (m : Machine) (line ctx : ℕ)
+        (family : SocketAddressFamily) (entries : List Entry) (word : CodeWord) (after : Machine)
         → Answered contexts m line (Step.TcpCreate ctx family) entries (Reply.Err word) after
         → CreateRefusal (own_of line) (context_at contexts ctx) family entries word }
-    ensures stays { (contexts : List WasiSocketsCtx) (m : Machine) (line ctx : ℕ) (family : SocketAddressFamily) (entries : List Entry) (word : CodeWord) (after : Machine)
-        → Answered contexts m line (Step.TcpCreate ctx family) entries (Reply.Err word) after → after ≡ m }
+    ensures stays { (contexts : List WasiSocketsCtx) (m : Machine) (line ctx : ℕ)
+        (family : SocketAddressFamily) (entries : List Entry) (word : CodeWord) (after : Machine)
+        → Answered contexts m line (Step.TcpCreate ctx family) entries (Reply.Err word) after
+        → after ≡ m }
 {}
 
 /// A create that traps with `Full` has made its network socket.
@@ -66,14 +81,24 @@ pub fn create_refusals()
 /// - `asked`: its one call created the socket, and was answered done.
 /// - `left`: the socket is in the last record; the rest of the machine is unchanged.
 pub fn create_full()
-    ensures full { (contexts : List WasiSocketsCtx) (m : Machine) (line ctx : ℕ) (family : SocketAddressFamily) (entries : List Entry) (after : Machine)
-        → Answered contexts m line (Step.TcpCreate ctx family) entries (Reply.Trap TrapKind.Full) after → is_full m.table ≡ true }
-    ensures asked { (contexts : List WasiSocketsCtx) (m : Machine) (line ctx : ℕ) (family : SocketAddressFamily) (entries : List Entry) (after : Machine)
-        → Answered contexts m line (Step.TcpCreate ctx family) entries (Reply.Trap TrapKind.Full) after
-        → entries ≡ entry (own_of line) (Call.TcpCreate (context_at contexts ctx).name family) Told.Done ∷ [] }
-    ensures left { (contexts : List WasiSocketsCtx) (m : Machine) (line ctx : ℕ) (family : SocketAddressFamily) (entries : List Entry) (after : Machine)
-        → Answered contexts m line (Step.TcpCreate ctx family) entries (Reply.Trap TrapKind.Full) after
-        → after ≡ record m { store = with_record m.store (new_socket (own_of line) (context_at contexts ctx).name family) } }
+    ensures full { (contexts : List WasiSocketsCtx) (m : Machine) (line ctx : ℕ)
+        (family : SocketAddressFamily) (entries : List Entry) (after : Machine)
+        → Answered contexts m line (Step.TcpCreate ctx family) entries (Reply.Trap TrapKind.Full)
+        after → is_full m.table ≡ true }
+    ensures asked { (contexts : List WasiSocketsCtx) (m : Machine) (line ctx : ℕ)
+        (family : SocketAddressFamily) (entries : List Entry) (after : Machine)
+        → Answered contexts m line (Step.TcpCreate ctx family) entries (Reply.Trap TrapKind.Full)
+        after
+        → entries ≡ entry (own_of line) (Call.TcpCreate (context_at contexts ctx).name family)
+        Told.Done ∷ [] }
+    ensures left { (contexts : List WasiSocketsCtx) (m : Machine) (line ctx : ℕ)
+        (family : SocketAddressFamily) (entries : List Entry) (after : Machine)
+        → Answered contexts m line (Step.TcpCreate ctx family) entries (Reply.Trap TrapKind.Full)
+        after
+        → after ≡ record m {
+          store = with_record m.store
+              (new_socket (own_of line) (context_at contexts ctx).name family);
+        } }
 {}
 
 /// Why the start of a bind is refused.
@@ -85,15 +110,21 @@ pub fn create_full()
 /// - `stays`: after a refusal the machine is unchanged, but that a socket that was found bound is
 ///   known to be.
 pub fn bind_refusals()
-    ensures exactly { (contexts : List WasiSocketsCtx) (m : Machine) (line ctx handle network : ℕ) (a : IpSocketAddress) (entries : List Entry) (reply : Reply) (after : Machine)
+    ensures exactly { (contexts : List WasiSocketsCtx) (m : Machine) (line ctx handle network : ℕ)
+        (a : IpSocketAddress) (entries : List Entry) (reply : Reply) (after : Machine)
         → m.store.standing ≡ None → is_network (kind_at m.table network) ≡ true
         → Answered contexts m line (Step.TcpStartBind ctx handle network a) entries reply after
-        → (reply ≡ Reply.Err CodeWord.ConcurrencyConflict) ↔ HasOperationInProgress (record_at m handle) }
-    ensures cause { (contexts : List WasiSocketsCtx) (m : Machine) (line ctx handle network : ℕ) (a : IpSocketAddress) (entries : List Entry) (word : CodeWord) (after : Machine)
-        → Answered contexts m line (Step.TcpStartBind ctx handle network a) entries (Reply.Err word) after
+        → (reply ≡ Reply.Err CodeWord.ConcurrencyConflict)
+        ↔ HasOperationInProgress (record_at m handle) }
+    ensures cause { (contexts : List WasiSocketsCtx) (m : Machine) (line ctx handle network : ℕ)
+        (a : IpSocketAddress) (entries : List Entry) (word : CodeWord) (after : Machine)
+        → Answered contexts m line (Step.TcpStartBind ctx handle network a) entries (Reply.Err word)
+        after
         → RefusedBind m (own_of line) handle a entries word after }
-    ensures stays { (contexts : List WasiSocketsCtx) (m : Machine) (line ctx handle network : ℕ) (a : IpSocketAddress) (entries : List Entry) (word : CodeWord) (after : Machine)
-        → Answered contexts m line (Step.TcpStartBind ctx handle network a) entries (Reply.Err word) after
+    ensures stays { (contexts : List WasiSocketsCtx) (m : Machine) (line ctx handle network : ℕ)
+        (a : IpSocketAddress) (entries : List Entry) (word : CodeWord) (after : Machine)
+        → Answered contexts m line (Step.TcpStartBind ctx handle network a) entries (Reply.Err word)
+        after
         → (after ≡ m) ⊎ ((word ≡ CodeWord.InvalidState) × KnowsBound m handle after) }
 {}
 
@@ -105,15 +136,21 @@ pub fn bind_refusals()
 /// - `stays`: after a refusal the machine is unchanged, but that a socket that was found bound is
 ///   known to be.
 pub fn start_connect_refusals()
-    ensures exactly { (contexts : List WasiSocketsCtx) (m : Machine) (line ctx handle network : ℕ) (a : IpSocketAddress) (entries : List Entry) (reply : Reply) (after : Machine)
+    ensures exactly { (contexts : List WasiSocketsCtx) (m : Machine) (line ctx handle network : ℕ)
+        (a : IpSocketAddress) (entries : List Entry) (reply : Reply) (after : Machine)
         → m.store.standing ≡ None → is_network (kind_at m.table network) ≡ true
         → Answered contexts m line (Step.TcpStartConnect ctx handle network a) entries reply after
-        → (reply ≡ Reply.Err CodeWord.ConcurrencyConflict) ↔ HasOperationInProgress (record_at m handle) }
-    ensures cause { (contexts : List WasiSocketsCtx) (m : Machine) (line ctx handle network : ℕ) (a : IpSocketAddress) (entries : List Entry) (word : CodeWord) (after : Machine)
-        → Answered contexts m line (Step.TcpStartConnect ctx handle network a) entries (Reply.Err word) after
+        → (reply ≡ Reply.Err CodeWord.ConcurrencyConflict)
+        ↔ HasOperationInProgress (record_at m handle) }
+    ensures cause { (contexts : List WasiSocketsCtx) (m : Machine) (line ctx handle network : ℕ)
+        (a : IpSocketAddress) (entries : List Entry) (word : CodeWord) (after : Machine)
+        → Answered contexts m line (Step.TcpStartConnect ctx handle network a) entries
+        (Reply.Err word) after
         → RefusedConnect m (own_of line) handle a entries word after }
-    ensures stays { (contexts : List WasiSocketsCtx) (m : Machine) (line ctx handle network : ℕ) (a : IpSocketAddress) (entries : List Entry) (word : CodeWord) (after : Machine)
-        → Answered contexts m line (Step.TcpStartConnect ctx handle network a) entries (Reply.Err word) after
+    ensures stays { (contexts : List WasiSocketsCtx) (m : Machine) (line ctx handle network : ℕ)
+        (a : IpSocketAddress) (entries : List Entry) (word : CodeWord) (after : Machine)
+        → Answered contexts m line (Step.TcpStartConnect ctx handle network a) entries
+        (Reply.Err word) after
         → (after ≡ m) ⊎ ((word ≡ CodeWord.InvalidArgument) × KnowsBound m handle after) }
 {}
 
@@ -130,16 +167,27 @@ pub fn start_connect_refusals()
 /// connecting, or was closed, or is connected with neither half taken. Every run keeps that
 /// (`runs_connect_by_connects`, `runs_keep_their_records`).
 pub fn finish_connect_refusals()
-    ensures exactly { (contexts : List WasiSocketsCtx) (m : Machine) (line ctx handle : ℕ) (entries : List Entry) (reply : Reply) (after : Machine)
-        → m.store.standing ≡ None → Answered contexts m line (Step.TcpFinishConnect ctx handle) entries reply after
+    ensures exactly { (contexts : List WasiSocketsCtx) (m : Machine) (line ctx handle : ℕ)
+        (entries : List Entry) (reply : Reply) (after : Machine)
+        → m.store.standing ≡ None
+        → Answered contexts m line (Step.TcpFinishConnect ctx handle) entries reply after
         → (reply ≡ Reply.Err CodeWord.NotInProgress) ↔ HasNoConnectInProgress (record_at m handle) }
-    ensures not_in_progress { (contexts : List WasiSocketsCtx) (m : Machine) (line ctx handle : ℕ) (entries : List Entry) (after : Machine)
-        → Answered contexts m line (Step.TcpFinishConnect ctx handle) entries (Reply.Err CodeWord.NotInProgress) after → (entries ≡ []) × (after ≡ m) }
-    ensures cause { (contexts : List WasiSocketsCtx) (m : Machine) (line ctx handle : ℕ) (entries : List Entry) (word : CodeWord) (after : Machine)
-        → ConnectsAt m handle → FinishesAt m handle → Answered contexts m line (Step.TcpFinishConnect ctx handle) entries (Reply.Err word) after
+    ensures not_in_progress { (contexts : List WasiSocketsCtx) (m : Machine) (line ctx handle : ℕ)
+        (entries : List Entry) (after : Machine)
+        → Answered contexts m line (Step.TcpFinishConnect ctx handle) entries
+        (Reply.Err CodeWord.NotInProgress) after → (entries ≡ []) × (after ≡ m) }
+    ensures cause { (contexts : List WasiSocketsCtx) (m : Machine) (line ctx handle : ℕ)
+        (entries : List Entry) (word : CodeWord) (after : Machine)
+        → ConnectsAt m handle → FinishesAt m handle
+        → Answered contexts m line (Step.TcpFinishConnect ctx handle) entries (Reply.Err word)
+        after
         → RefusedOf m handle (FinishRefusal m) entries word after }
-    ensures in_runs { (contexts : List WasiSocketsCtx) (steps : List Step) (log : List Entry) (replies : List Reply) (m : Machine) (line ctx handle : ℕ) (entries : List Entry) (word : CodeWord) (after : Machine)
-        → Left (run contexts [] first_state 1 steps) log (Give (replies, m)) → Answered contexts m line (Step.TcpFinishConnect ctx handle) entries (Reply.Err word) after
+    ensures in_runs { (contexts : List WasiSocketsCtx) (steps : List Step) (log : List Entry)
+        (replies : List Reply) (m : Machine) (line ctx handle : ℕ) (entries : List Entry)
+        (word : CodeWord) (after : Machine)
+        → Left (run contexts [] first_state 1 steps) log (Give (replies, m))
+        → Answered contexts m line (Step.TcpFinishConnect ctx handle) entries (Reply.Err word)
+        after
         → RefusedOf m handle (FinishRefusal m) entries word after }
 {}
 
@@ -149,10 +197,14 @@ pub fn finish_connect_refusals()
 /// - `handles`: for the socket of each handle.
 /// - `pollables`: for the socket that each pollable watches.
 pub fn runs_connect_by_connects()
-    ensures handles { (contexts : List WasiSocketsCtx) (steps : List Step) (entries : List Entry) (replies : List Reply) (m : Machine)
-        → Left (run contexts [] first_state 1 steps) entries (Give (replies, m)) → (handle : ℕ) → ConnectsAt m handle }
-    ensures pollables { (contexts : List WasiSocketsCtx) (steps : List Step) (entries : List Entry) (replies : List Reply) (m : Machine)
-        → Left (run contexts [] first_state 1 steps) entries (Give (replies, m)) → (pollable : ℕ) → WatchesConnect m pollable }
+    ensures handles { (contexts : List WasiSocketsCtx) (steps : List Step) (entries : List Entry)
+        (replies : List Reply) (m : Machine)
+        → Left (run contexts [] first_state 1 steps) entries (Give (replies, m)) → (handle : ℕ)
+        → ConnectsAt m handle }
+    ensures pollables { (contexts : List WasiSocketsCtx) (steps : List Step) (entries : List Entry)
+        (replies : List Reply) (m : Machine)
+        → Left (run contexts [] first_state 1 steps) entries (Give (replies, m)) → (pollable : ℕ)
+        → WatchesConnect m pollable }
 {}
 
 /// Why the local address is refused.
@@ -162,11 +214,14 @@ pub fn runs_connect_by_connects()
 /// - `stays`: after a refusal the machine is unchanged, but that a socket that was found bound is
 ///   known to be.
 pub fn local_address_refusals()
-    ensures cause { (contexts : List WasiSocketsCtx) (m : Machine) (line ctx handle : ℕ) (entries : List Entry) (word : CodeWord) (after : Machine)
+    ensures cause { (contexts : List WasiSocketsCtx) (m : Machine) (line ctx handle : ℕ)
+        (entries : List Entry) (word : CodeWord) (after : Machine)
         → Answered contexts m line (Step.TcpLocalAddress ctx handle) entries (Reply.Err word) after
         → RefusedOf m handle (LocalRefusal m (own_of line)) entries word after }
-    ensures stays { (contexts : List WasiSocketsCtx) (m : Machine) (line ctx handle : ℕ) (entries : List Entry) (word : CodeWord) (after : Machine)
-        → Answered contexts m line (Step.TcpLocalAddress ctx handle) entries (Reply.Err word) after → (after ≡ m) ⊎ KnowsBound m handle after }
+    ensures stays { (contexts : List WasiSocketsCtx) (m : Machine) (line ctx handle : ℕ)
+        (entries : List Entry) (word : CodeWord) (after : Machine)
+        → Answered contexts m line (Step.TcpLocalAddress ctx handle) entries (Reply.Err word) after
+        → (after ≡ m) ⊎ KnowsBound m handle after }
 {}
 
 /// Why the remote address is refused.
@@ -175,11 +230,14 @@ pub fn local_address_refusals()
 ///   which it is closed, or with the code that the network reported.
 /// - `stays`: after a refusal the machine is unchanged.
 pub fn remote_address_refusals()
-    ensures cause { (contexts : List WasiSocketsCtx) (m : Machine) (line ctx handle : ℕ) (entries : List Entry) (word : CodeWord) (after : Machine)
+    ensures cause { (contexts : List WasiSocketsCtx) (m : Machine) (line ctx handle : ℕ)
+        (entries : List Entry) (word : CodeWord) (after : Machine)
         → Answered contexts m line (Step.TcpRemoteAddress ctx handle) entries (Reply.Err word) after
         → RefusedOf m handle (RemoteRefusal m (own_of line)) entries word after }
-    ensures stays { (contexts : List WasiSocketsCtx) (m : Machine) (line ctx handle : ℕ) (entries : List Entry) (word : CodeWord) (after : Machine)
-        → Answered contexts m line (Step.TcpRemoteAddress ctx handle) entries (Reply.Err word) after → after ≡ m }
+    ensures stays { (contexts : List WasiSocketsCtx) (m : Machine) (line ctx handle : ℕ)
+        (entries : List Entry) (word : CodeWord) (after : Machine)
+        → Answered contexts m line (Step.TcpRemoteAddress ctx handle) entries (Reply.Err word) after
+        → after ≡ m }
 {}
 
 /// Whether a socket is listening, and the family of a TCP or a UDP socket:
@@ -187,10 +245,13 @@ pub fn remote_address_refusals()
 /// - `never`: is never refused.
 /// - `quiet`: asks nothing, and leaves the machine unchanged.
 pub fn listening_and_family_are_never_refused()
-    ensures never { (contexts : List WasiSocketsCtx) (m : Machine) (line : ℕ) (s : Step) (entries : List Entry) (word : CodeWord) (after : Machine)
+    ensures never { (contexts : List WasiSocketsCtx) (m : Machine) (line : ℕ) (s : Step)
+        (entries : List Entry) (word : CodeWord) (after : Machine)
         → IsQuiet s → Answered contexts m line s entries (Reply.Err word) after → ⊥ }
-    ensures quiet { (contexts : List WasiSocketsCtx) (m : Machine) (line : ℕ) (s : Step) (entries : List Entry) (reply : Reply) (after : Machine)
-        → IsQuiet s → Answered contexts m line s entries reply after → (entries ≡ []) × (after ≡ m) }
+    ensures quiet { (contexts : List WasiSocketsCtx) (m : Machine) (line : ℕ) (s : Step)
+        (entries : List Entry) (reply : Reply) (after : Machine)
+        → IsQuiet s → Answered contexts m line s entries reply after
+        → (entries ≡ []) × (after ≡ m) }
 {}
 
 /// Why a shutdown is refused, and what it does else.
@@ -202,17 +263,27 @@ pub fn listening_and_family_are_never_refused()
 /// - `asked`: else it shuts down the halves that are released at once, the receiving one first.
 /// - `left`: and leaves the streams shut down.
 pub fn shutdown_refusals()
-    ensures exactly { (contexts : List WasiSocketsCtx) (m : Machine) (line ctx handle : ℕ) (how : ShutdownType) (entries : List Entry) (reply : Reply) (after : Machine)
-        → m.store.standing ≡ None → Answered contexts m line (Step.TcpShutdown ctx handle how) entries reply after
+    ensures exactly { (contexts : List WasiSocketsCtx) (m : Machine) (line ctx handle : ℕ)
+        (how : ShutdownType) (entries : List Entry) (reply : Reply) (after : Machine)
+        → m.store.standing ≡ None
+        → Answered contexts m line (Step.TcpShutdown ctx handle how) entries reply after
         → (reply ≡ Reply.Err CodeWord.InvalidState) ↔ HasNoStreams (record_at m handle) }
-    ensures no_other { (contexts : List WasiSocketsCtx) (m : Machine) (line ctx handle : ℕ) (how : ShutdownType) (entries : List Entry) (word : CodeWord) (after : Machine)
-        → Answered contexts m line (Step.TcpShutdown ctx handle how) entries (Reply.Err word) after → word ≡ CodeWord.InvalidState }
-    ensures stays { (contexts : List WasiSocketsCtx) (m : Machine) (line ctx handle : ℕ) (how : ShutdownType) (entries : List Entry) (word : CodeWord) (after : Machine)
-        → Answered contexts m line (Step.TcpShutdown ctx handle how) entries (Reply.Err word) after → (entries ≡ []) × (after ≡ m) }
-    ensures asked { (contexts : List WasiSocketsCtx) (m : Machine) (line ctx handle : ℕ) (how : ShutdownType) (fields : List Field) (entries : List Entry) (after : Machine)
+    ensures no_other { (contexts : List WasiSocketsCtx) (m : Machine) (line ctx handle : ℕ)
+        (how : ShutdownType) (entries : List Entry) (word : CodeWord) (after : Machine)
+        → Answered contexts m line (Step.TcpShutdown ctx handle how) entries (Reply.Err word) after
+        → word ≡ CodeWord.InvalidState }
+    ensures stays { (contexts : List WasiSocketsCtx) (m : Machine) (line ctx handle : ℕ)
+        (how : ShutdownType) (entries : List Entry) (word : CodeWord) (after : Machine)
+        → Answered contexts m line (Step.TcpShutdown ctx handle how) entries (Reply.Err word) after
+        → (entries ≡ []) × (after ≡ m) }
+    ensures asked { (contexts : List WasiSocketsCtx) (m : Machine) (line ctx handle : ℕ)
+        (how : ShutdownType) (fields : List Field) (entries : List Entry) (after : Machine)
         → Answered contexts m line (Step.TcpShutdown ctx handle how) entries (Reply.Ok fields) after
-        → OfStreams m (socket_at m handle) (λ place r s. entries ≡ shutdown_entries (own_of line) how s) }
-    ensures left { (contexts : List WasiSocketsCtx) (m : Machine) (line ctx handle : ℕ) (how : ShutdownType) (fields : List Field) (entries : List Entry) (after : Machine)
+        → OfStreams m (socket_at m handle) (λ place r s. entries
+        ≡ shutdown_entries (own_of line) how s) }
+    ensures left { (contexts : List WasiSocketsCtx) (m : Machine) (line ctx handle : ℕ)
+        (how : ShutdownType) (fields : List Field) (entries : List Entry) (after : Machine)
         → Answered contexts m line (Step.TcpShutdown ctx handle how) entries (Reply.Ok fields) after
-        → OfStreams m (socket_at m handle) (λ place r s. after ≡ putting m place (with_streams r (shut_down how s))) }
+        → OfStreams m (socket_at m handle) (λ place r s. after
+        ≡ putting m place (with_streams r (shut_down how s))) }
 {}

@@ -29,7 +29,14 @@ ghost use Rattle.wasi_walks.specs.Answered.{Answered, open_udp_at};
 ghost use Rattle.wasi_causes.specs.Blocking.{StreamCallStands};
 ghost use Rattle.wasi_causes.specs.GivenUp.{without};
 ghost use Rattle.wasi_causes.specs.Datagrams.{LacksRoomForStreams};
-ghost use Rattle.wasi_causes.specs.Udp.{OfUdp, RefusedOfUdp, HasUdpInProgress, HasNoUdpBind, KeepsNoRemote, WatchesUdp, udp_create_entry, writable_entry, with_udp_record, new_udp, UdpCreateRefusal, CreatesUdp, CreateStands, KnowsUdpBound, UdpBindRefusal, BindsUdp, UdpBindStands, FinishesUdpBind, UdpLocalRefusal, TellsUdpLocal, TellsUdpRemote, UdpGetRefusal, GetsUdpOption, UdpSetRefusal, SetsUdpOption, udp_given_up, udp_left, GivesBy, IsPendingCreate};
+ghost use Rattle.wasi_causes.specs.Udp.{OfUdp, RefusedOfUdp, HasUdpInProgress, HasNoUdpBind};
+ghost use Rattle.wasi_causes.specs.Udp.{KeepsNoRemote, WatchesUdp, udp_create_entry};
+ghost use Rattle.wasi_causes.specs.Udp.{writable_entry, with_udp_record, new_udp, UdpCreateRefusal};
+ghost use Rattle.wasi_causes.specs.Udp.{CreatesUdp, CreateStands, KnowsUdpBound, UdpBindRefusal};
+ghost use Rattle.wasi_causes.specs.Udp.{BindsUdp, UdpBindStands, FinishesUdpBind, UdpLocalRefusal};
+ghost use Rattle.wasi_causes.specs.Udp.{TellsUdpLocal, TellsUdpRemote, UdpGetRefusal};
+ghost use Rattle.wasi_causes.specs.Udp.{GetsUdpOption, UdpSetRefusal, SetsUdpOption, udp_given_up};
+ghost use Rattle.wasi_causes.specs.Udp.{udp_left, GivesBy, IsPendingCreate};
 
 /// Why a create of a UDP socket is refused; there is no handle then.
 ///
@@ -38,7 +45,8 @@ ghost use Rattle.wasi_causes.specs.Udp.{OfUdp, RefusedOfUdp, HasUdpInProgress, H
 /// - The code that the network socket gave while it was waited for; it was closed then, and nothing
 ///   is left of its record.
 pub fn udp_create_refusals()
-    ensures cause { (contexts : List WasiSocketsCtx) (m : Machine) (line ctx : ℕ) (family : SocketAddressFamily) (entries : List Entry) (word : CodeWord) (after : Machine)
+    ensures cause { (contexts : List WasiSocketsCtx) (m : Machine) (line ctx : ℕ)
+        (family : SocketAddressFamily) (entries : List Entry) (word : CodeWord) (after : Machine)
         → Answered contexts m line (Step.UdpCreate ctx family) entries (Reply.Err word) after
         → UdpCreateRefusal m (own_of line) (context_at contexts ctx) family entries word after }
 {}
@@ -53,20 +61,30 @@ pub fn udp_create_refusals()
 /// - `full`, `asked`, `left`: one that traps with `Full` has made its network socket, which stays
 ///   open, in the last record; the table is full and unchanged.
 pub fn udp_creates_make_a_handle()
-    ensures done { (contexts : List WasiSocketsCtx) (m : Machine) (line ctx : ℕ) (family : SocketAddressFamily) (fields : List Field) (entries : List Entry) (after : Machine)
+    ensures done { (contexts : List WasiSocketsCtx) (m : Machine) (line ctx : ℕ)
+        (family : SocketAddressFamily) (fields : List Field) (entries : List Entry)
+        (after : Machine)
         → Answered contexts m line (Step.UdpCreate ctx family) entries (Reply.Ok fields) after
         → CreatesUdp m (own_of line) (context_at contexts ctx) family entries fields after }
-    ensures pending { (contexts : List WasiSocketsCtx) (m : Machine) (line ctx : ℕ) (family : SocketAddressFamily) (entries : List Entry) (number : ℕ) (after : Machine)
+    ensures pending { (contexts : List WasiSocketsCtx) (m : Machine) (line ctx : ℕ)
+        (family : SocketAddressFamily) (entries : List Entry) (number : ℕ) (after : Machine)
         → Answered contexts m line (Step.UdpCreate ctx family) entries (Reply.Pending number) after
         → CreateStands m line (own_of line) (context_at contexts ctx) family entries after }
-    ensures full { (contexts : List WasiSocketsCtx) (m : Machine) (line ctx : ℕ) (family : SocketAddressFamily) (entries : List Entry) (after : Machine)
-        → Answered contexts m line (Step.UdpCreate ctx family) entries (Reply.Trap TrapKind.Full) after
+    ensures full { (contexts : List WasiSocketsCtx) (m : Machine) (line ctx : ℕ)
+        (family : SocketAddressFamily) (entries : List Entry) (after : Machine)
+        → Answered contexts m line (Step.UdpCreate ctx family) entries (Reply.Trap TrapKind.Full)
+        after
         → is_full m.table ≡ true }
-    ensures asked { (contexts : List WasiSocketsCtx) (m : Machine) (line ctx : ℕ) (family : SocketAddressFamily) (entries : List Entry) (after : Machine)
-        → Answered contexts m line (Step.UdpCreate ctx family) entries (Reply.Trap TrapKind.Full) after
-        → entries ≡ udp_create_entry (own_of line) (context_at contexts ctx) family Told.Done ∷ writable_entry (own_of line) Told.Done ∷ [] }
-    ensures left { (contexts : List WasiSocketsCtx) (m : Machine) (line ctx : ℕ) (family : SocketAddressFamily) (entries : List Entry) (after : Machine)
-        → Answered contexts m line (Step.UdpCreate ctx family) entries (Reply.Trap TrapKind.Full) after
+    ensures asked { (contexts : List WasiSocketsCtx) (m : Machine) (line ctx : ℕ)
+        (family : SocketAddressFamily) (entries : List Entry) (after : Machine)
+        → Answered contexts m line (Step.UdpCreate ctx family) entries (Reply.Trap TrapKind.Full)
+        after
+        → entries ≡ udp_create_entry (own_of line) (context_at contexts ctx) family Told.Done
+        ∷ writable_entry (own_of line) Told.Done ∷ [] }
+    ensures left { (contexts : List WasiSocketsCtx) (m : Machine) (line ctx : ℕ)
+        (family : SocketAddressFamily) (entries : List Entry) (after : Machine)
+        → Answered contexts m line (Step.UdpCreate ctx family) entries (Reply.Trap TrapKind.Full)
+        after
         → after ≡ with_udp_record m (new_udp (own_of line) (context_at contexts ctx) family) }
 {}
 
@@ -80,15 +98,22 @@ pub fn udp_creates_make_a_handle()
 /// - `stays`: after a refusal the machine is unchanged, but that a socket that was found bound is
 ///   known to be.
 pub fn udp_bind_refusals()
-    ensures exactly { (contexts : List WasiSocketsCtx) (m : Machine) (line ctx handle network : ℕ) (a : IpSocketAddress) (entries : List Entry) (reply : Reply) (after : Machine)
+    ensures exactly { (contexts : List WasiSocketsCtx) (m : Machine) (line ctx handle network : ℕ)
+        (a : IpSocketAddress) (entries : List Entry) (reply : Reply) (after : Machine)
         → m.store.standing ≡ None → is_network (kind_at m.table network) ≡ true
         → Answered contexts m line (Step.UdpStartBind ctx handle network a) entries reply after
-        → (reply ≡ Reply.Err CodeWord.ConcurrencyConflict) ↔ HasUdpInProgress (open_udp_at m handle) }
-    ensures cause { (contexts : List WasiSocketsCtx) (m : Machine) (line ctx handle network : ℕ) (a : IpSocketAddress) (entries : List Entry) (word : CodeWord) (after : Machine)
-        → Answered contexts m line (Step.UdpStartBind ctx handle network a) entries (Reply.Err word) after
-        → RefusedOfUdp m handle (λ place o. UdpBindRefusal m (own_of line) place o a) entries word after }
-    ensures stays { (contexts : List WasiSocketsCtx) (m : Machine) (line ctx handle network : ℕ) (a : IpSocketAddress) (entries : List Entry) (word : CodeWord) (after : Machine)
-        → Answered contexts m line (Step.UdpStartBind ctx handle network a) entries (Reply.Err word) after
+        → (reply ≡ Reply.Err CodeWord.ConcurrencyConflict)
+        ↔ HasUdpInProgress (open_udp_at m handle) }
+    ensures cause { (contexts : List WasiSocketsCtx) (m : Machine) (line ctx handle network : ℕ)
+        (a : IpSocketAddress) (entries : List Entry) (word : CodeWord) (after : Machine)
+        → Answered contexts m line (Step.UdpStartBind ctx handle network a) entries (Reply.Err word)
+        after
+        → RefusedOfUdp m handle (λ place o. UdpBindRefusal m (own_of line) place o a) entries word
+        after }
+    ensures stays { (contexts : List WasiSocketsCtx) (m : Machine) (line ctx handle network : ℕ)
+        (a : IpSocketAddress) (entries : List Entry) (word : CodeWord) (after : Machine)
+        → Answered contexts m line (Step.UdpStartBind ctx handle network a) entries (Reply.Err word)
+        after
         → (after ≡ m) ⊎ ((word ≡ CodeWord.InvalidState) × KnowsUdpBound m handle after) }
 {}
 
@@ -98,11 +123,15 @@ pub fn udp_bind_refusals()
 ///   until it is finished.
 /// - `pending`: one that is pending waits for its check.
 pub fn udp_binds_are_checked()
-    ensures done { (contexts : List WasiSocketsCtx) (m : Machine) (line ctx handle network : ℕ) (a : IpSocketAddress) (fields : List Field) (entries : List Entry) (after : Machine)
-        → Answered contexts m line (Step.UdpStartBind ctx handle network a) entries (Reply.Ok fields) after
+    ensures done { (contexts : List WasiSocketsCtx) (m : Machine) (line ctx handle network : ℕ)
+        (a : IpSocketAddress) (fields : List Field) (entries : List Entry) (after : Machine)
+        → Answered contexts m line (Step.UdpStartBind ctx handle network a) entries
+        (Reply.Ok fields) after
         → OfUdp m handle (λ place o. BindsUdp m (own_of line) place o a entries after) }
-    ensures pending { (contexts : List WasiSocketsCtx) (m : Machine) (line ctx handle network : ℕ) (a : IpSocketAddress) (entries : List Entry) (number : ℕ) (after : Machine)
-        → Answered contexts m line (Step.UdpStartBind ctx handle network a) entries (Reply.Pending number) after
+    ensures pending { (contexts : List WasiSocketsCtx) (m : Machine) (line ctx handle network : ℕ)
+        (a : IpSocketAddress) (entries : List Entry) (number : ℕ) (after : Machine)
+        → Answered contexts m line (Step.UdpStartBind ctx handle network a) entries
+        (Reply.Pending number) after
         → OfUdp m handle (λ place o. UdpBindStands m line (own_of line) place o a entries after) }
 {}
 
@@ -115,18 +144,25 @@ pub fn udp_binds_are_checked()
 /// - `stays`: after a refusal the machine is unchanged.
 /// - `done`: else nothing is in progress afterwards.
 pub fn udp_finish_bind_refusals()
-    ensures asks_nothing { (contexts : List WasiSocketsCtx) (m : Machine) (line ctx handle : ℕ) (entries : List Entry) (reply : Reply) (after : Machine)
-        → Answered contexts m line (Step.UdpFinishBind ctx handle) entries reply after → entries ≡ [] }
-    ensures exactly { (contexts : List WasiSocketsCtx) (m : Machine) (line ctx handle : ℕ) (entries : List Entry) (reply : Reply) (after : Machine)
-        → m.store.standing ≡ None → Answered contexts m line (Step.UdpFinishBind ctx handle) entries reply after
+    ensures asks_nothing { (contexts : List WasiSocketsCtx) (m : Machine) (line ctx handle : ℕ)
+        (entries : List Entry) (reply : Reply) (after : Machine)
+        → Answered contexts m line (Step.UdpFinishBind ctx handle) entries reply after
+        → entries ≡ [] }
+    ensures exactly { (contexts : List WasiSocketsCtx) (m : Machine) (line ctx handle : ℕ)
+        (entries : List Entry) (reply : Reply) (after : Machine)
+        → m.store.standing ≡ None
+        → Answered contexts m line (Step.UdpFinishBind ctx handle) entries reply after
         → (reply ≡ Reply.Err CodeWord.NotInProgress) ↔ HasNoUdpBind (open_udp_at m handle) }
-    ensures no_other { (contexts : List WasiSocketsCtx) (m : Machine) (line ctx handle : ℕ) (entries : List Entry) (word : CodeWord) (after : Machine)
+    ensures no_other { (contexts : List WasiSocketsCtx) (m : Machine) (line ctx handle : ℕ)
+        (entries : List Entry) (word : CodeWord) (after : Machine)
         → Answered contexts m line (Step.UdpFinishBind ctx handle) entries (Reply.Err word) after
         → word ≡ CodeWord.NotInProgress }
-    ensures stays { (contexts : List WasiSocketsCtx) (m : Machine) (line ctx handle : ℕ) (entries : List Entry) (word : CodeWord) (after : Machine)
+    ensures stays { (contexts : List WasiSocketsCtx) (m : Machine) (line ctx handle : ℕ)
+        (entries : List Entry) (word : CodeWord) (after : Machine)
         → Answered contexts m line (Step.UdpFinishBind ctx handle) entries (Reply.Err word) after
         → after ≡ m }
-    ensures done { (contexts : List WasiSocketsCtx) (m : Machine) (line ctx handle : ℕ) (fields : List Field) (entries : List Entry) (after : Machine)
+    ensures done { (contexts : List WasiSocketsCtx) (m : Machine) (line ctx handle : ℕ)
+        (fields : List Field) (entries : List Entry) (after : Machine)
         → Answered contexts m line (Step.UdpFinishBind ctx handle) entries (Reply.Ok fields) after
         → OfUdp m handle (λ place o. FinishesUdpBind m place o after) }
 {}
@@ -140,13 +176,16 @@ pub fn udp_finish_bind_refusals()
 /// - `told`: else it is the address that the network socket reported last, and the socket is known
 ///   to be bound.
 pub fn udp_local_address_refusals()
-    ensures cause { (contexts : List WasiSocketsCtx) (m : Machine) (line ctx handle : ℕ) (entries : List Entry) (word : CodeWord) (after : Machine)
+    ensures cause { (contexts : List WasiSocketsCtx) (m : Machine) (line ctx handle : ℕ)
+        (entries : List Entry) (word : CodeWord) (after : Machine)
         → Answered contexts m line (Step.UdpLocalAddress ctx handle) entries (Reply.Err word) after
         → RefusedOfUdp m handle (UdpLocalRefusal m (own_of line)) entries word after }
-    ensures stays { (contexts : List WasiSocketsCtx) (m : Machine) (line ctx handle : ℕ) (entries : List Entry) (word : CodeWord) (after : Machine)
+    ensures stays { (contexts : List WasiSocketsCtx) (m : Machine) (line ctx handle : ℕ)
+        (entries : List Entry) (word : CodeWord) (after : Machine)
         → Answered contexts m line (Step.UdpLocalAddress ctx handle) entries (Reply.Err word) after
         → (after ≡ m) ⊎ KnowsUdpBound m handle after }
-    ensures told { (contexts : List WasiSocketsCtx) (m : Machine) (line ctx handle : ℕ) (fields : List Field) (entries : List Entry) (after : Machine)
+    ensures told { (contexts : List WasiSocketsCtx) (m : Machine) (line ctx handle : ℕ)
+        (fields : List Field) (entries : List Entry) (after : Machine)
         → Answered contexts m line (Step.UdpLocalAddress ctx handle) entries (Reply.Ok fields) after
         → OfUdp m handle (λ place o. TellsUdpLocal m (own_of line) place o entries fields after) }
 {}
@@ -159,16 +198,23 @@ pub fn udp_local_address_refusals()
 /// - `quiet`: nothing is asked, and the machine is unchanged.
 /// - `told`: else it is the one that the socket keeps.
 pub fn udp_remote_address_refusals()
-    ensures exactly { (contexts : List WasiSocketsCtx) (m : Machine) (line ctx handle : ℕ) (entries : List Entry) (reply : Reply) (after : Machine)
-        → m.store.standing ≡ None → Answered contexts m line (Step.UdpRemoteAddress ctx handle) entries reply after
+    ensures exactly { (contexts : List WasiSocketsCtx) (m : Machine) (line ctx handle : ℕ)
+        (entries : List Entry) (reply : Reply) (after : Machine)
+        → m.store.standing ≡ None
+        → Answered contexts m line (Step.UdpRemoteAddress ctx handle) entries reply after
         → (reply ≡ Reply.Err CodeWord.InvalidState) ↔ KeepsNoRemote (open_udp_at m handle) }
-    ensures no_other { (contexts : List WasiSocketsCtx) (m : Machine) (line ctx handle : ℕ) (entries : List Entry) (word : CodeWord) (after : Machine)
+    ensures no_other { (contexts : List WasiSocketsCtx) (m : Machine) (line ctx handle : ℕ)
+        (entries : List Entry) (word : CodeWord) (after : Machine)
         → Answered contexts m line (Step.UdpRemoteAddress ctx handle) entries (Reply.Err word) after
         → word ≡ CodeWord.InvalidState }
-    ensures quiet { (contexts : List WasiSocketsCtx) (m : Machine) (line ctx handle : ℕ) (entries : List Entry) (reply : Reply) (after : Machine)
-        → Answered contexts m line (Step.UdpRemoteAddress ctx handle) entries reply after → (entries ≡ []) × (after ≡ m) }
-    ensures told { (contexts : List WasiSocketsCtx) (m : Machine) (line ctx handle : ℕ) (fields : List Field) (entries : List Entry) (after : Machine)
-        → Answered contexts m line (Step.UdpRemoteAddress ctx handle) entries (Reply.Ok fields) after
+    ensures quiet { (contexts : List WasiSocketsCtx) (m : Machine) (line ctx handle : ℕ)
+        (entries : List Entry) (reply : Reply) (after : Machine)
+        → Answered contexts m line (Step.UdpRemoteAddress ctx handle) entries reply after
+        → (entries ≡ []) × (after ≡ m) }
+    ensures told { (contexts : List WasiSocketsCtx) (m : Machine) (line ctx handle : ℕ)
+        (fields : List Field) (entries : List Entry) (after : Machine)
+        → Answered contexts m line (Step.UdpRemoteAddress ctx handle) entries (Reply.Ok fields)
+        after
         → OfUdp m handle (λ place o. TellsUdpRemote o fields) }
 {}
 
@@ -177,10 +223,13 @@ pub fn udp_remote_address_refusals()
 /// - `told`: the family of a UDP socket is the one that it was created with.
 /// - `never`: it is never refused.
 pub fn udp_family_is_told()
-    ensures told { (contexts : List WasiSocketsCtx) (m : Machine) (line ctx handle : ℕ) (fields : List Field) (entries : List Entry) (after : Machine)
-        → Answered contexts m line (Step.UdpAddressFamily ctx handle) entries (Reply.Ok fields) after
+    ensures told { (contexts : List WasiSocketsCtx) (m : Machine) (line ctx handle : ℕ)
+        (fields : List Field) (entries : List Entry) (after : Machine)
+        → Answered contexts m line (Step.UdpAddressFamily ctx handle) entries (Reply.Ok fields)
+        after
         → OfUdp m handle (λ place o. fields ≡ family_fields o.inner.family) }
-    ensures never { (contexts : List WasiSocketsCtx) (m : Machine) (line ctx handle : ℕ) (entries : List Entry) (word : CodeWord) (after : Machine)
+    ensures never { (contexts : List WasiSocketsCtx) (m : Machine) (line ctx handle : ℕ)
+        (entries : List Entry) (word : CodeWord) (after : Machine)
         → Answered contexts m line (Step.UdpAddressFamily ctx handle) entries (Reply.Err word) after
         → ⊥ }
 {}
@@ -194,16 +243,21 @@ pub fn udp_family_is_told()
 ///   code that its one call was answered.
 /// - `get_stays`, `set_stays`: whatever the answer is, the machine is unchanged.
 pub fn udp_option_refusals()
-    ensures get { (contexts : List WasiSocketsCtx) (m : Machine) (line ctx handle : ℕ) (option : UdpOption) (entries : List Entry) (word : CodeWord) (after : Machine)
+    ensures get { (contexts : List WasiSocketsCtx) (m : Machine) (line ctx handle : ℕ)
+        (option : UdpOption) (entries : List Entry) (word : CodeWord) (after : Machine)
         → Answered contexts m line (Step.UdpGet ctx handle option) entries (Reply.Err word) after
         → OfUdp m handle (λ place o. UdpGetRefusal (own_of line) (udp_opt option) o entries word) }
-    ensures get_stays { (contexts : List WasiSocketsCtx) (m : Machine) (line ctx handle : ℕ) (option : UdpOption) (entries : List Entry) (reply : Reply) (after : Machine)
+    ensures get_stays { (contexts : List WasiSocketsCtx) (m : Machine) (line ctx handle : ℕ)
+        (option : UdpOption) (entries : List Entry) (reply : Reply) (after : Machine)
         → Answered contexts m line (Step.UdpGet ctx handle option) entries reply after → after ≡ m }
-    ensures set { (contexts : List WasiSocketsCtx) (m : Machine) (line ctx handle : ℕ) (setting : UdpSetting) (entries : List Entry) (word : CodeWord) (after : Machine)
+    ensures set { (contexts : List WasiSocketsCtx) (m : Machine) (line ctx handle : ℕ)
+        (setting : UdpSetting) (entries : List Entry) (word : CodeWord) (after : Machine)
         → Answered contexts m line (Step.UdpSet ctx handle setting) entries (Reply.Err word) after
         → OfUdp m handle (λ place o. UdpSetRefusal (own_of line) setting o entries word) }
-    ensures set_stays { (contexts : List WasiSocketsCtx) (m : Machine) (line ctx handle : ℕ) (setting : UdpSetting) (entries : List Entry) (reply : Reply) (after : Machine)
-        → Answered contexts m line (Step.UdpSet ctx handle setting) entries reply after → after ≡ m }
+    ensures set_stays { (contexts : List WasiSocketsCtx) (m : Machine) (line ctx handle : ℕ)
+        (setting : UdpSetting) (entries : List Entry) (reply : Reply) (after : Machine)
+        → Answered contexts m line (Step.UdpSet ctx handle setting) entries reply after
+        → after ≡ m }
 {}
 
 /// What gets and sets of a UDP socket that are done asked and answered.
@@ -213,10 +267,12 @@ pub fn udp_option_refusals()
 /// - `written`: a set that is done wasn't of 0. Its one call set the option to the value brought
 ///   into its range, and was answered done.
 pub fn udp_options_are_read_and_set()
-    ensures read { (contexts : List WasiSocketsCtx) (m : Machine) (line ctx handle : ℕ) (option : UdpOption) (fields : List Field) (entries : List Entry) (after : Machine)
+    ensures read { (contexts : List WasiSocketsCtx) (m : Machine) (line ctx handle : ℕ)
+        (option : UdpOption) (fields : List Field) (entries : List Entry) (after : Machine)
         → Answered contexts m line (Step.UdpGet ctx handle option) entries (Reply.Ok fields) after
         → OfUdp m handle (λ place o. GetsUdpOption (own_of line) (udp_opt option) o fields entries) }
-    ensures written { (contexts : List WasiSocketsCtx) (m : Machine) (line ctx handle : ℕ) (setting : UdpSetting) (fields : List Field) (entries : List Entry) (after : Machine)
+    ensures written { (contexts : List WasiSocketsCtx) (m : Machine) (line ctx handle : ℕ)
+        (setting : UdpSetting) (fields : List Field) (entries : List Entry) (after : Machine)
         → Answered contexts m line (Step.UdpSet ctx handle setting) entries (Reply.Ok fields) after
         → OfUdp m handle (λ place o. SetsUdpOption (own_of line) setting o entries) }
 {}
@@ -229,15 +285,22 @@ pub fn udp_options_are_read_and_set()
 ///   nothing else.
 /// - `left`: nothing is left of its record, and its handle isn't live any more.
 pub fn udp_drops_close()
-    ensures socket { (contexts : List WasiSocketsCtx) (m : Machine) (line ctx handle place : ℕ) (entries : List Entry) (reply : Reply) (after : Machine)
-        → m.store.standing ≡ None → kind_at m.table handle ≡ Some (Kind.Udp2 place) → children_of m.table.live handle ≡ []
-        → Answered contexts m line (Step.Drop ctx handle) entries reply after → reply ≡ Reply.Ok no_fields }
-    ensures closed { (contexts : List WasiSocketsCtx) (m : Machine) (line ctx handle place : ℕ) (u : UdpRecord) (fields : List Field) (entries : List Entry) (after : Machine)
+    ensures socket { (contexts : List WasiSocketsCtx) (m : Machine) (line ctx handle place : ℕ)
+        (entries : List Entry) (reply : Reply) (after : Machine)
+        → m.store.standing ≡ None → kind_at m.table handle ≡ Some (Kind.Udp2 place)
+        → children_of m.table.live handle ≡ []
+        → Answered contexts m line (Step.Drop ctx handle) entries reply after
+        → reply ≡ Reply.Ok no_fields }
+    ensures closed { (contexts : List WasiSocketsCtx) (m : Machine) (line ctx handle place : ℕ)
+        (u : UdpRecord) (fields : List Field) (entries : List Entry) (after : Machine)
         → kind_at m.table handle ≡ Some (Kind.Udp2 place) → udp2_at m.store.records place ≡ Some u
-        → Answered contexts m line (Step.Drop ctx handle) entries (Reply.Ok fields) after → entries ≡ udp_given_up (own_of line) u }
-    ensures left { (contexts : List WasiSocketsCtx) (m : Machine) (line ctx handle place : ℕ) (u : UdpRecord) (fields : List Field) (entries : List Entry) (after : Machine)
+        → Answered contexts m line (Step.Drop ctx handle) entries (Reply.Ok fields) after
+        → entries ≡ udp_given_up (own_of line) u }
+    ensures left { (contexts : List WasiSocketsCtx) (m : Machine) (line ctx handle place : ℕ)
+        (u : UdpRecord) (fields : List Field) (entries : List Entry) (after : Machine)
         → kind_at m.table handle ≡ Some (Kind.Udp2 place) → udp2_at m.store.records place ≡ Some u
-        → Answered contexts m line (Step.Drop ctx handle) entries (Reply.Ok fields) after → after ≡ udp_left (without m handle) place u }
+        → Answered contexts m line (Step.Drop ctx handle) entries (Reply.Ok fields) after
+        → after ≡ udp_left (without m handle) place u }
 {}
 
 /// What a poll gives.
@@ -249,18 +312,27 @@ pub fn udp_drops_close()
 /// - `full`: it traps with `Full` where there is no room for the handle of a create, for the two of
 ///   datagram streams, or for that of a stream's error.
 pub fn udp_polls_give_a_handle()
-    ensures done { (contexts : List WasiSocketsCtx) (m : Machine) (line n : ℕ) (fields : List Field) (entries : List Entry) (after : Machine)
-        → Answered contexts m line (Step.Poll n) entries (Reply.Ok fields) after → IsSomeAnd m.store.standing (λ s. GivesBy m fields after s.call) }
-    ensures none { (contexts : List WasiSocketsCtx) (m : Machine) (line n : ℕ) (entries : List Entry) (word : CodeWord) (after : Machine)
-        → Answered contexts m line (Step.Poll n) entries (Reply.Err word) after → after.table ≡ m.table }
-    ensures full { (contexts : List WasiSocketsCtx) (m : Machine) (line n : ℕ) (entries : List Entry) (after : Machine)
-        → Answered contexts m line (Step.Poll n) entries (Reply.Trap TrapKind.Full) after → ((is_full m.table ≡ true) × IsSomeAnd m.store.standing (λ s. IsPendingCreate s.call)) ⊎ (IsSomeAnd m.store.standing (λ s. LacksRoomForStreams m s.call) ⊎ StreamCallStands m) }
+    ensures done { (contexts : List WasiSocketsCtx) (m : Machine) (line n : ℕ) (fields : List Field)
+        (entries : List Entry) (after : Machine)
+        → Answered contexts m line (Step.Poll n) entries (Reply.Ok fields) after
+        → IsSomeAnd m.store.standing (λ s. GivesBy m fields after s.call) }
+    ensures none { (contexts : List WasiSocketsCtx) (m : Machine) (line n : ℕ)
+        (entries : List Entry) (word : CodeWord) (after : Machine)
+        → Answered contexts m line (Step.Poll n) entries (Reply.Err word) after
+        → after.table ≡ m.table }
+    ensures full { (contexts : List WasiSocketsCtx) (m : Machine) (line n : ℕ)
+        (entries : List Entry) (after : Machine)
+        → Answered contexts m line (Step.Poll n) entries (Reply.Trap TrapKind.Full) after
+        → ((is_full m.table ≡ true) × IsSomeAnd m.store.standing (λ s. IsPendingCreate s.call))
+        ⊎ (IsSomeAnd m.store.standing (λ s. LacksRoomForStreams m s.call) ⊎ StreamCallStands m) }
 {}
 
 /// The pollable of a UDP socket is ready. Nothing is asked, and the machine is unchanged. That is
 /// said where no call is pending.
 pub fn udp_pollables_are_ready()
-    ensures { (contexts : List WasiSocketsCtx) (m : Machine) (line ctx pollable : ℕ) (entries : List Entry) (reply : Reply) (after : Machine)
-        → m.store.standing ≡ None → WatchesUdp m pollable → Answered contexts m line (Step.Ready ctx pollable) entries reply after
+    ensures { (contexts : List WasiSocketsCtx) (m : Machine) (line ctx pollable : ℕ)
+        (entries : List Entry) (reply : Reply) (after : Machine)
+        → m.store.standing ≡ None → WatchesUdp m pollable
+        → Answered contexts m line (Step.Ready ctx pollable) entries reply after
         → (reply ≡ Reply.Ok (truth_fields true)) × (entries ≡ []) × (after ≡ m) }
 {}
