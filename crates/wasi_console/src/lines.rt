@@ -58,6 +58,16 @@ fn first_line(bytes: &[u8]) -> &[u8]
     }
 }
 
+/// How many newlines there are in a piece.
+fn newlines(piece: &[u8]) -> u32 {
+    let mut count: u32 = 0;
+    for byte in piece {
+        // A sum with no branch, so that many bytes are looked at in one instruction.
+        count = count.wrapping_add(u32::from(*byte == b'\n'));
+    }
+    count
+}
+
 /// The last piece of an input, and where it began.
 #[derive(Drop)]
 struct LastPiece {
@@ -85,26 +95,29 @@ impl LastPiece {
 
     /// Goes on to the line in which the piece ended.
     fn settle(&mut self) {
+        let bytes = self.bytes();
         let mut line = self.line;
         let mut front = self.front;
-        for byte in self.bytes() {
-            if *byte == b'\n' {
-                line = line.saturating_add(1);
-                front = Front::new();
-            } else {
-                front.extend(&[*byte]);
-            }
+        let mut begun = bytes;
+        if let Some(end) = bytes.iter().rposition(|b| *b == b'\n') {
+            line = line.saturating_add(u64::from(newlines(bytes)));
+            front = Front::new();
+            begun = &bytes[end + 1..];
         }
+        front.extend(begun);
         self.line = line;
         self.front = front;
         self.len = 0;
     }
 
-    /// Keeps the next piece. One that is larger than those of a script is not kept, and no line is
-    /// found from then on.
+    /// Keeps the next piece, and where it is empty, as at the end of the input, the last one still.
+    /// One that is larger than those of a script is not kept, and no line is found from then on.
     fn remember(&mut self, piece: &[u8]) {
-        self.settle();
         let len = piece.len();
+        if len == 0 {
+            return;
+        }
+        self.settle();
         if len > PIECE_SIZE {
             self.line = u64::MAX;
             return;
