@@ -1,7 +1,6 @@
 -- Of the machines that runs lead to: of a connect and of a listen in progress only asks are left, a connect in progress may be finished,
 -- and a socket that does nothing yet doesn't listen.
 use Rattle.wasi_records.specs.Records.{tcp2_at, tcp2_put, tcp2_pushed, udp2_put, tcp2_of}
-use Rattle.wasi_host.specs.declared.kind.Kind.TheVariants.{PlainInput, PlainOutput}
 use Rattle.wasi_records.specs.declared.udp.UdpRecord.{UdpRecord}
 use Rattle.wasi_records.specs.Udp.{udp_bind_progress, udp_create_left, with_udp_progress}
 use Rattle.wasi_udp.specs.Create.{Create, after_create as udp_after_create}
@@ -9,7 +8,7 @@ use Rattle.wasi_walks.proofs.walks.Moves.{put_udp, udp_begun, UdpChanges, Begins
 use Rattle.wasi_records.specs.declared.records.Record.{Record}
 use Rattle.wasi_causes.proofs.Words.{Accepting, Allows, Bool, Done, End, Entry, Err}
 use Rattle.wasi_causes.proofs.Words.{ErrorCode, Give}
-use Rattle.wasi_causes.proofs.Words.{Item, Kind, Left, List, Listener, Listening, Machine}
+use Rattle.wasi_causes.proofs.Words.{Item, Left, List, Listener, Listening, Machine}
 use Rattle.wasi_causes.proofs.Words.{None, Ok, OpId, Operation}
 use Rattle.wasi_causes.proofs.Words.{Refused, Reply, Result, Some}
 use Rattle.wasi_causes.proofs.Words.{Step, TcpRecord, TcpState, Waits, WasiSocketsCtx}
@@ -25,7 +24,7 @@ use Rattle.wasi_causes.specs.Reached.{Finishes, MayFinish, ListensLate}
 use Rattle.wasi_records.specs.declared.tcp_listening.Listening.TheVariants as listening
 use Rattle.wasi_walks.proofs.fits.Law.{told_same, whatever}
 use Rattle.wasi_walks.proofs.fits.Polls.{Anything}
-use Rattle.wasi_walks.proofs.walks.Moves.{Held, BindsOn, Connects, Here, put, Move, Changes, ClosesReader, Writes, IsGone, Reconnects, Opens, BeginsBind, BeginsConnect, BeginsWrite, CancelsBind, CancelsUdpBind, CancelsUdpConnect, BeginsListen, BeginsAccept, Unlistens, Forgets, Joins, Listens, Awaits, listen_after, accepting_now, joined, IsConnecting, MakesPlain}
+use Rattle.wasi_walks.proofs.walks.Moves.{Held, BindsOn, Connects, Here, put, Move, Changes, ClosesReader, Writes, IsGone, Reconnects, Opens, BeginsBind, BeginsConnect, BeginsWrite, CancelsBind, CancelsUdpBind, CancelsUdpConnect, BeginsListen, BeginsAccept, Unlistens, Forgets, Joins, Listens, Awaits, listen_after, accepting_now, joined, IsConnecting}
 use Rattle.wasi_walks.proofs.walks.Runs.{run_ends}
 use Rattle.wasi_walks.proofs.walks.Steps.{machine_walks}
 use Rattle.wasi_causes.proofs.operations.Polls.{Keeps, connect_leaves, listen_leaves}
@@ -136,22 +135,6 @@ asks_after who _ k = tt
 asks_first : (a wildcard : IpSocketAddress) (bound : Bool) → AllOf IsAskOfConnect (connect_left wildcard a (connect_first bound))
 asks_first a wildcard true = (tt, (tt, tt))
 asks_first a wildcard false = (tt, (tt, (tt, tt)))
-
--- of no connection: a pipe, a sink or a closed stream
-abbrev pub IsPlain : Kind → Type 0
-IsPlain (PlainInput i) = ⊤
-IsPlain (PlainOutput o) = ⊤
-IsPlain _ = ⊥
-
-pub makes_plain : (s : Step) (kind : Kind) → MakesPlain s kind → IsPlain kind
-makes_plain s (PlainInput i) h = tt
-makes_plain s (PlainOutput o) h = tt
-makes_plain (Step.PipeIn c bytes) _ h = absurd h
-makes_plain (Step.PipeOut c capacity) _ h = absurd h
-makes_plain (Step.Sink c) _ h = absurd h
-makes_plain (Step.ClosedIn c) _ h = absurd h
-makes_plain (Step.ClosedOut c) _ h = absurd h
-makes_plain _ _ h = absurd h
 
 module _ (contexts : List WasiSocketsCtx) (line : ℕ) (origin : Step) where
   moves_steady : (h now : Here) → Move line origin h now → Steady h.machine.store.records

@@ -22,7 +22,7 @@ use Rattle.wasi_walks.proofs.walks.Moves as walk
 use Rattle.wasi_walks.proofs.walks.Moves.{Found, FoundUdp, GoesOn, NoStartIn, NoStartStands, HasNewStream, Held, Here, KeepsStreams, Made, Marks, MarksNext, Move, Own, Past, SameSockets, ToSend, made_so, put, put_udp, udp_begun}
 use Rattle.wasi_walks.proofs.walks.States.{Over, Starts}
 use Rattle.wasi_causes.proofs.GivenBack.{open_stays}
-use Rattle.wasi_causes.proofs.Steady.{IsPlain, makes_plain}
+use Rattle.wasi_walks.proofs.walks.States.{IsPlain, makes_plain}
 use Rattle.wasi_causes.proofs.UdpConnects.{HasConnects, Quiet, connects, connects_begin, first_connects, starts_with}
 use Rattle.wasi_causes.proofs.StreamsLive.{Both, HasIncoming, IsOther, CallSo, MadeSo, Parts, StandsSo, Streams, begun, changed, connect_keeps, emptied, found, has_none, makes_left, has_next, has_other, has_handle, not_yet, push_tcp, put_none, put_open, put_tcp, remade, restood, stay, taken}
 use Rattle.wasi_walks.proofs.walks.OfState.{Becomes, Created, CreatedWith, GivenUp, Handles, HasHandle, HasNoRoom, IsClosed, Learnt, NoRoom}
@@ -115,7 +115,7 @@ module _ (contexts : List WasiSocketsCtx) (line : ℕ) (origin : Step) where
   plain_other (Incoming place) plain = plain
   plain_other _ plain = tt
 
-  is_other : (h : Here) (kind : Kind) (parent : Option ℕ) (sock : Option OpId) → Marks origin h kind parent sock → IsOther kind
+  pub is_other : (h : Here) (kind : Kind) (parent : Option ℕ) (sock : Option OpId) → Marks origin h kind parent sock → IsOther kind
   is_other h kind _ _ (walk.AStream c handle place _ is e opened) = of_tcp kind place e
   is_other h kind _ _ (walk.AnAcceptedStream c listener handle place _ r is e made own g) = of_tcp kind place e
   is_other h kind _ _ (walk.APlain _ makes numbered) = plain_other kind (makes_plain origin kind makes)

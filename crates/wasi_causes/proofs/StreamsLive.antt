@@ -143,6 +143,7 @@ connect_keeps op o (Done given, items) e = refl
 connect_keeps op o (Refused c given, items) e = e
 
 -- == a handle is made
+-- any kind but that of an incoming stream
 abbrev pub IsOther : Kind → Type 0
 IsOther (Incoming place) = ⊥
 IsOther _ = ⊤

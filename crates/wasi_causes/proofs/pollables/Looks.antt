@@ -66,11 +66,13 @@ module _ (xs : List Record) (i : ℕ) (r now : TcpRecord) (at : tcp2_at xs i ≡
 module _ (xs : List Record) (i : ℕ) (o now : OpenUdp) (at : udp2_at xs i ≡ Some (Open o)) where
   socket_too : (k : ℕ) (was : Option TcpRecord) → tcp2_at xs k ≡ was → tcp2_at (open_put xs i now) k ≡ None → was ≡ None
   socket_too k None e none = refl
-  socket_too k (Some x) e none = let same = put_still udp_sort tcp_sort (λ t. refl) xs i (Open o) (Open now) k x at e in absurd (cc)
+  socket_too k (Some x) e none =
+      let same = put_still udp_sort tcp_sort (λ t. refl) xs i (Open o) (Open now) k x at e in absurd (cc)
 
   streams_too : (k : ℕ) (was : Option TcpRecord) → tcp2_at xs k ≡ was → streams_in (tcp2_at (open_put xs i now) k) ≡ None → streams_in was ≡ None
   streams_too k None e none = refl
-  streams_too k (Some x) e none = sym (ap streams_in (put_still udp_sort tcp_sort (λ t. refl) xs i (Open o) (Open now) k x at e)) ∙ none
+  streams_too k (Some x) e none =
+      sym (ap streams_in (put_still udp_sort tcp_sort (λ t. refl) xs i (Open o) (Open now) k x at e)) ∙ none
 
   open_too : (k : ℕ) (was : Option UdpRecord) → udp2_at xs k ≡ was → open_at (open_put xs i now) k ≡ None → open_of was ≡ None
   open_too k None e none = refl

@@ -1,7 +1,7 @@
 -- The law that of what the stream of a handle received all was handed out but what waits: by each line but one that receives on it.
 use Rattle.wasi_walks.proofs.walks.Law.{BeginsWrites, Rests, begins_by}
 use Rattle.wasi_walks.proofs.walks.Asked.{Asked, Questions, SetsBacklog, Learns, Closes, MarksOne, AsksCreate, MarksAccepted, Polls, Turns, GivesUp, UdpQuestions, UdpLearns, UdpPeers, UdpCloses, UdpBegins, MarksUdp, MarksStream, MarksError, UdpGivesUp, Resolves, Looks}
-use Rattle.wasi_causes.proofs.Words.{Allows, Asks, Call, End, Entry, Err, ErrorCode, ErrorValue, HoldsAccept, HoldsConnect, Input, IsAcceptOn, Item, Job, Kind, List, None, Ok, OpId, Operation, Option, Output, Result, Socket, Some, Step, Streams, Tcp2, TcpRecord, Told, WasiSocketsCtx, WriteState, [], accept_ended, allows_if, allows_then, ap, arith, bind, bind_progress, connect_ended, created_asks, entry, give_up_asks, inl, inr, is_full, kind_at, length, make_asks, name_of, new_asks, new_record, own_of, poll_asks, refl, side_at, side_of, subst, sym, told_done, turn_asks, with_handle, with_inner, with_listening, with_progress, with_state, with_writer, Bool, ℕ, ⊤, ◌++◌, ◌∙◌, ◌∷◌, ◌≡◌, ◌⊎◌}
+use Rattle.wasi_causes.proofs.Words.{Allows, Asks, Call, End, Entry, Err, ErrorCode, ErrorValue, HoldsAccept, HoldsConnect, IsAcceptOn, Item, Job, Kind, List, None, Ok, OpId, Operation, Option, Result, Socket, Some, Step, Streams, Tcp2, TcpRecord, Told, WasiSocketsCtx, WriteState, [], accept_ended, allows_if, allows_then, ap, arith, bind, bind_progress, connect_ended, created_asks, entry, give_up_asks, inl, inr, is_full, kind_at, length, make_asks, name_of, new_asks, new_record, own_of, poll_asks, refl, side_at, side_of, subst, sym, told_done, turn_asks, with_handle, with_inner, with_listening, with_progress, with_state, with_writer, Bool, ℕ, ⊤, ◌++◌, ◌∙◌, ◌∷◌, ◌≡◌}
 use Rattle.wasi_tcp.specs.Connect as connect
 use Rattle.wasi_tcp.specs.Listen.{IsListen}
 use Rattle.wasi_tcp.specs.declared.listener.Accepting.TheVariants as accepting
@@ -32,14 +32,14 @@ use Rattle.wasi_walks.proofs.remotes.State.{OpenKeeps, WritesBy}
 use Rattle.wasi_walks.proofs.walks.Moves as walk
 use Rattle.wasi_walks.proofs.walks.Moves.{Found, FoundUdp, HasNewStream, Held, Here, Marks, MarksNext, Move, StreamMoves, ToSend, ToStream, UdpPlain, joined, listen_after, part_of, put, put_udp, receive_op, receiving_in, send_op, sending_in, udp_begun}
 use Rattle.wasi_causes.proofs.Slots.{SlotOf, slot_of}
-use Rattle.wasi_causes.proofs.Steady.{IsPlain, makes_plain}
-use Rattle.wasi_causes.proofs.StreamHandles.{apart_in, streams_law}
+use Rattle.wasi_causes.proofs.StreamsLive.{IsOther}
+use Rattle.wasi_causes.proofs.StreamHandles.{apart_in, is_other, streams_law}
 use Rattle.wasi_causes.proofs.receiving.Along.{Along, HandName}
 use Rattle.wasi_causes.proofs.receiving.Named.{IsFirst, job_name, name_of_op, streams_name}
 use Rattle.wasi_causes.proofs.receiving.Polled.{Exact, hand_of}
 use Rattle.wasi_causes.proofs.GivenBack.{open_stays}
 use Rattle.wasi_causes.proofs.receiving.Polls.{Mine, Rest, apart_of, begun_none, connecting_none, no_stream, not_first, polled_tcp, polled_udp, question_else, quietly, receives, same_open, udp_question_else}
-use Rattle.wasi_causes.proofs.receiving.Streams.{Becomes, IsElse, IsFresh, Knows, NotStream, StreamAt, StreamIs, fresh_with, put_at, stays_so, stream_more, stream_push, stream_push_tcp, stream_put, stream_put_tcp, stream_same, stream_stays, stream_with, stream_without, tcp_at}
+use Rattle.wasi_causes.proofs.receiving.Streams.{Becomes, IsElse, IsFresh, Knows, StreamAt, StreamIs, fresh_with, put_at, stays_so, stream_more, stream_push, stream_push_tcp, stream_put, stream_put_tcp, stream_same, stream_stays, stream_with, stream_without, tcp_at}
 use Rattle.wasi_walks.proofs.Places.{put_finds, udp_sort}
 
 module _ (handle : ℕ) (list : List IncomingDatagram) (contexts : List WasiSocketsCtx) (line : ℕ) (origin : Step) where
@@ -165,7 +165,7 @@ module _ (handle : ℕ) (list : List IncomingDatagram) (contexts : List WasiSock
 
     -- == marks
     -- of anything but an incoming stream
-    pub marks_other : (es : List Entry) (h : Here) (op : OpId) (kind : Kind) (parent : Option ℕ) (sock : Option OpId) → NotStream kind → Inv es h → Allows Anything (λ fs made. StreamIs handle list fs made.1 h.machine.store.records × IsFresh handle list made.1) es (make_asks h.machine.table op kind parent sock)
+    pub marks_other : (es : List Entry) (h : Here) (op : OpId) (kind : Kind) (parent : Option ℕ) (sock : Option OpId) → IsOther kind → Inv es h → Allows Anything (λ fs made. StreamIs handle list fs made.1 h.machine.store.records × IsFresh handle list made.1) es (make_asks h.machine.table op kind parent sock)
     unfolding bind
     marks_other es h op kind parent sock not i =
         allows_if Anything (λ fs made. StreamIs handle list fs made.1 h.machine.store.records × IsFresh handle list made.1) es (is_full h.machine.table) _ _ (λ no. i)
@@ -215,7 +215,7 @@ module _ (handle : ℕ) (list : List IncomingDatagram) (contexts : List WasiSock
 
     pub marks_next : (es : List Entry) (h : Here) (b : B es h) (place n socket reached : ℕ) (kind : Kind) → MarksNext h.made n socket reached kind place → HasNewStream h.machine.store reached → udp_of (kind_at h.machine.table socket) ≡ Some place → Inv es h
         → Allows Anything (λ fs made. StreamIs handle list fs made.1 h.machine.store.records × IsFresh handle list made.1) es (make_asks h.machine.table (own_of n) kind (Some socket) (udp_side_at (udp2_at h.machine.store.records place)))
-    marks_next es h b place n socket reached kind (inr m) new of i = marks_other es h (own_of n) kind (Some socket) (udp_side_at (udp2_at h.machine.store.records place)) (subst NotStream (sym m.0) tt) i
+    marks_next es h b place n socket reached kind (inr m) new of i = marks_other es h (own_of n) kind (Some socket) (udp_side_at (udp2_at h.machine.store.records place)) (subst IsOther (sym m.0) tt) i
     marks_next es h b place n socket reached kind (inl (e, made)) new of i =
         let under : Under h = (apart_in contexts line origin es h b.1.0).1.1 in
         let same : place ≡ reached = (subst (MakesUnder h.machine.table) made under.makes).of place of in
@@ -223,20 +223,6 @@ module _ (handle : ℕ) (list : List IncomingDatagram) (contexts : List WasiSock
         subst (λ (k : Kind). Allows Anything (λ fs made. StreamIs handle list fs made.1 h.machine.store.records × IsFresh handle list made.1) es (make_asks h.machine.table (own_of n) k (Some socket) (udp_side_at (udp2_at h.machine.store.records place)))) (sym e)
         (subst (λ (sock : Option OpId). Allows Anything (λ fs made. StreamIs handle list fs made.1 h.machine.store.records × IsFresh handle list made.1) es (make_asks h.machine.table (own_of n) (Incoming place) (Some socket) sock)) (sym (ap udp_side_at at))
         (marks_new es h b place n socket new.socket at new.new i))
-
-    of_tcp : (kind : Kind) (place : ℕ) → (kind ≡ Input place) ⊎ (kind ≡ Output place) → NotStream kind
-    of_tcp kind place (inl e) = subst NotStream (sym e) tt
-    of_tcp kind place (inr e) = subst NotStream (sym e) tt
-
-    plain_other : (kind : Kind) → IsPlain kind → NotStream kind
-    plain_other (Incoming place) plain = plain
-    plain_other _ plain = tt
-
-    pub not_stream : (h : Here) (kind : Kind) (parent : Option ℕ) (sock : Option OpId) → Marks origin h kind parent sock → NotStream kind
-    not_stream h kind _ _ (walk.AStream c its place _ is e opened) = of_tcp kind place e
-    not_stream h kind _ _ (walk.AnAcceptedStream c listener its place _ r is e made own g) = of_tcp kind place e
-    not_stream h kind _ _ (walk.APlain _ makes numbered) = plain_other kind (makes_plain origin kind makes)
-    not_stream h _ _ _ _ = tt
 
     -- == what is created
     pub joins : (es : List Entry) (h : Here) (own : OpId) (made : Result Socket ErrorCode) → Inv es h → Allows Anything (λ fs done. StreamIs handle list fs done.1.table done.1.store.records × IsFresh handle list done.1.table) es (created_asks h.machine own made)
@@ -287,7 +273,7 @@ module _ (handle : ℕ) (list : List IncomingDatagram) (contexts : List WasiSock
     exacts_asks es h _ _ _ (SetsBacklog place r x backlog at g s is) b i = (tt, λ told f. asked es h (own_of line) (Call.SetBacklog x backlog) told tt i)
     exacts_asks es h _ _ _ (Learns place r x at g e) b i = (tt, λ told f. tcp _ h place r _ g (asked es h (own_of line) (Call.Local x) told tt i))
     exacts_asks es h _ _ _ (Closes place r x q g e) b i = (tt, λ told f. tcp _ h place r _ g (asked es h (own_of line) (Call.Close x) told tt i))
-    exacts_asks es h _ _ _ (MarksOne kind parent sock m) b i = marks_other es h (own_of line) kind parent sock (not_stream h kind parent sock m) i
+    exacts_asks es h _ _ _ (MarksOne kind parent sock m) b i = marks_other es h (own_of line) kind parent sock (is_other contexts line origin h kind parent sock m) i
     exacts_asks es h _ _ _ (AsksCreate ctx family c a o m) b i = allows_then Anything (λ fs made. Inv fs h) (λ fs done. StreamIs handle list fs done.1.table done.1.store.records × IsFresh handle list done.1.table) es (new_asks (own_of line) ctx family) (created_asks h.machine (own_of line)) (silent es h (new_asks (own_of line) ctx family) (λ side Names. new_silent side ⊤ Names es (own_of line) ctx family) i) (λ fs made k. joins fs h (own_of line) made k)
     exacts_asks es h _ _ _ (MarksAccepted c s place r is e o g) b i = marks_other es h (own_of line) (Tcp2 place) (Some s) _ tt i
     exacts_asks es h _ _ _ (Polls op after k) b i = polls_exact es h op after k b i

@@ -1,4 +1,5 @@
 -- The incoming stream of one handle, while it is live: all that it received was taken or waits.
+use Rattle.wasi_causes.proofs.StreamsLive.{IsOther}
 use Rattle.wasi_causes.proofs.Words.{Allows, Asks, Call, Entry, HandleTable, Kind, List, None, OpId, Option, Some, TcpRecord, Told, ap, arith, entry, eqb-false, eqb-true, false, inl, inr, kind_at, refl, subst, sym, true, with_handle, without_handle, Bool, ℕ, ⊤, ◌++◌, ◌==◌, ◌∙◌, ◌∷◌, ◌≡◌, ◌⊎◌, []}
 use Rattle.wasi_table.proofs.Tables.{value_without}
 use Rattle.wasi_world.specs.declared.datagram.IncomingDatagram.{IncomingDatagram}
@@ -41,11 +42,6 @@ its_name (Receiving.InProgress op) x k = by_items op.left k
     by_items (CheckPeer only bytes a ∷ items) k = ap (λ (y : OpId). Some y) k
     by_items _ k = absurd k
 its_name _ x k = absurd k
-
--- any kind but that of an incoming stream
-abbrev pub NotStream : Kind → Type 0
-NotStream (Incoming place) = ⊥
-NotStream _ = ⊤
 
 -- calls that do nothing to any stream
 abbrev pub IsElse : Call → Type 0
@@ -170,8 +166,8 @@ module _ (handle : ℕ) (list : List IncomingDatagram) where
   pub stream_without : (es : List Entry) (t : HandleTable) (records : List Record) (gone : ℕ) → StreamIs es t records → StreamIs es (without_handle t gone) records
   stream_without es t records gone i place e = i place (value_without t.live gone handle (Incoming place) e)
 
-  pub stream_with : (es : List Entry) (t : HandleTable) (records : List Record) (kind : Kind) (parent : Option ℕ) → NotStream kind → StreamIs es t records → StreamIs es (with_handle t kind parent) records
-  stream_with es t records kind parent other i place e = elim (was_or_new t kind parent handle (Incoming place) e) [ inl was ↦ i place was | inr new ↦ absurd (subst (NotStream) new.1 other) ]
+  pub stream_with : (es : List Entry) (t : HandleTable) (records : List Record) (kind : Kind) (parent : Option ℕ) → IsOther kind → StreamIs es t records → StreamIs es (with_handle t kind parent) records
+  stream_with es t records kind parent other i place e = elim (was_or_new t kind parent handle (Incoming place) e) [ inl was ↦ i place was | inr new ↦ absurd (subst (IsOther) new.1 other) ]
 
   pub fresh_with : (t : HandleTable) (kind : Kind) (parent : Option ℕ) → IsFresh t → IsFresh (with_handle t kind parent)
   fresh_with t kind parent f l = f (omega arith)

@@ -52,14 +52,18 @@ there_put xs i r now at has = record {
 -- a pipe is replaced by a pipe
 pub there_input : (xs : List Record) (i : ℕ) (was now : List ℕ) → input_pipe_at xs i ≡ Some was → PartsThere xs (input_pipe_put xs i now)
 there_input xs i was now at = record {
-  streams = λ k h. subst (λ (o : Option TcpRecord). IsSome (streams_in o)) (sym (other_put input_sort tcp_sort (λ t. refl) xs i was now k at)) h;
+  streams =
+      λ k h. subst (λ (o : Option TcpRecord). IsSome (streams_in o))
+      (sym (other_put input_sort tcp_sort (λ t. refl) xs i was now k at)) h;
   inputs = λ k h. put_some input_sort xs i now k h;
   outputs = λ k h. ap (λ o. is_some o) (other_put input_sort output_sort (λ t. refl) xs i was now k at) ∙ h;
 }
 
 pub there_output : (xs : List Record) (i : ℕ) (was now : Contents) → output_pipe_at xs i ≡ Some was → PartsThere xs (output_pipe_put xs i now)
 there_output xs i was now at = record {
-  streams = λ k h. subst (λ (o : Option TcpRecord). IsSome (streams_in o)) (sym (other_put output_sort tcp_sort (λ t. refl) xs i was now k at)) h;
+  streams =
+      λ k h. subst (λ (o : Option TcpRecord). IsSome (streams_in o))
+      (sym (other_put output_sort tcp_sort (λ t. refl) xs i was now k at)) h;
   inputs = λ k h. ap (λ o. is_some o) (other_put output_sort input_sort (λ t. refl) xs i was now k at) ∙ h;
   outputs = λ k h. put_some output_sort xs i now k h;
 }

@@ -1,5 +1,5 @@
 -- What a look at what may be written permits stays permitted, also after a read; and a read gives no more than was wanted.
-use Rattle.wasi_causes.proofs.Words.{◌≡◌, ◌∙◌, ◌<◌, ℕ, ⊤, Bool, true, false, zero, suc, arith, if◌then◌else◌, min, List, [], ◌∷◌, Option, Some, None, Result, Ok, Err, IsRead, IsSomeAnd, IsUnpermitted, refl, sym, subst, ap, CallStop, Entry, Give, Machine, OpId, ReadState, Ready, StreamStop, Streams, TcpRecord, TcpReceiveStream, Told, WriteState, after_read, ask_read, bind, check_asks, check_write_asks, collected, input_at, length, look_in, output_at, output_streams, permitted, polled_answer, read_asks, read_state_asks, reader_of, record_in, slice_get, streams_in, told_bytes, told_ready, with_reader, with_writer, writer_of, ◌==◌}
+use Rattle.wasi_causes.proofs.Words.{◌≡◌, ◌∙◌, ◌<◌, ℕ, ⊤, Bool, true, false, zero, suc, arith, if◌then◌else◌, min, List, [], ◌∷◌, Option, Some, None, Result, Ok, Err, IsRead, IsSomeAnd, IsUnpermitted, refl, sym, subst, ap, CallStop, Entry, Give, Machine, OpId, ReadState, Ready, StreamStop, Streams, TcpRecord, TcpReceiveStream, Told, WriteState, after_read, ask_read, bind, check_asks, check_write_asks, collected, input_at, length, look_in, output_at, output_streams, permitted, polled_answer, read_asks, read_state_asks, reader_of, record_in, streams_in, told_bytes, told_ready, with_reader, with_writer, writer_of, ◌==◌}
 use Rattle.std.specs.Prelude.{◌≤◌, take, drop}
 use Rattle.std.proofs.Math.Nat.{min-le_left}
 use Rattle.std.proofs.lemmas.List.{length-take}
@@ -13,7 +13,6 @@ use Rattle.wasi_host.specs.declared.kind.PlainInput.TheVariants as input
 use Rattle.wasi_host.specs.declared.kind.PlainOutput.{PlainOutput}
 use Rattle.wasi_host.specs.declared.kind.PlainOutput.TheVariants as output
 use Rattle.wasi_records.specs.declared.records.Record.{Record}
-use Rattle.wasi_records.specs.declared.records.Record.TheVariants.{Tcp, Udp, Lookup, InputPipe, OutputPipe, Gone}
 use Rattle.wasi_host.specs.PlainStreams.{check_pipe_at, read_pipe_at}
 use Rattle.wasi_records.specs.Records.{input_pipe_at, output_pipe_at, tcp2_at, tcp2_put}
 use Rattle.wasi_host.specs.StreamCalls.{check_by, plain_answer, plain_done, plain_input_at, plain_output_at, read_by}
@@ -21,12 +20,13 @@ use Rattle.wasi_walks.specs.Missing.{pipe_of}
 use Rattle.wasi_host.specs.Kinds.{HandleTable, kind_at, output_of, plain_output_of}
 use Rattle.wasi_world.specs.Fits.{IsReady as FitsReady}
 use Rattle.wasi_world.specs.declared.call.Told.TheVariants as told
-use Rattle.wasi_causes.proofs.streams.Pipes.{input_no_tcp, output_set, tcp_no_pipe, tcp_set}
+use Rattle.wasi_walks.proofs.Places.{input_sort, other_put, output_sort, put_either, tcp_sort}
 use Rattle.wasi_causes.proofs.streams.Routes.{HasStreams, Told as TellsStream, on_stream}
 use Rattle.wasi_causes.proofs.streams.Plain.{no_output_streams}
 use Rattle.wasi_causes.proofs.tables.Routes.{none_has}
 use Rattle.wasi_causes.proofs.tables.Meets.{Meets, Rows, asks, ends, whatever, widen}
-use Rattle.wasi_walks.proofs.Places.{put_finds, tcp_sort}
+use Rattle.wasi_walks.proofs.Places.{put_finds}
+use Rattle.wasi_causes.proofs.Words.{inl, inr}
 
 -- == what may be written
 -- so many bytes may be written by the writer, if it is one, and into the pipe, if it is one
@@ -133,16 +133,12 @@ writer_in None = None
 writer_in (Some s) = Some s.writer
 
 writer_kept : (xs : List Record) (i : ℕ) (r : TcpRecord) (s : Streams) (reader : ReadState) (k : ℕ) → tcp2_at xs i ≡ Some r → r.streams ≡ Some s → writer_in (streams_in (tcp2_at (tcp2_put xs i (with_reader r s reader)) k)) ≡ writer_in (streams_in (tcp2_at xs k))
-writer_kept [] i r s reader k at has = refl
-writer_kept (Tcp x ∷ xs) zero r s reader zero at has = let same : x ≡ r = cc in sym (ap (λ (y : TcpRecord). writer_in y.streams) same ∙ ap writer_in has)
-writer_kept (Udp x ∷ xs) zero r s reader zero at has = absurd (cc)
-writer_kept (Lookup x ∷ xs) zero r s reader zero at has = absurd (cc)
-writer_kept (InputPipe x ∷ xs) zero r s reader zero at has = absurd (cc)
-writer_kept (OutputPipe x ∷ xs) zero r s reader zero at has = absurd (cc)
-writer_kept (Gone ∷ xs) zero r s reader zero at has = absurd (cc)
-writer_kept (x ∷ xs) zero r s reader (suc k) at has = refl
-writer_kept (x ∷ xs) (suc i) r s reader zero at has = refl
-writer_kept (x ∷ xs) (suc i) r s reader (suc k) at has = writer_kept xs i r s reader k at has
+writer_kept xs i r s reader k at has = elim (put_either tcp_sort xs i r (with_reader r s reader) k at) [
+  | inl e ↦ ap (λ (o : Option TcpRecord). writer_in (streams_in o)) e
+  | inr e ↦ (
+      let f : Option TcpRecord → Option WriteState = λ o. writer_in (streams_in o) in
+      ap f e.1 ∙ sym (ap f e.0 ∙ ap writer_in has))
+]
 
 -- of the writer alone
 by_writer : (n : ℕ) (old now : Option Streams) → writer_in now ≡ writer_in old → MayWriteBy old n → MayWriteBy now n
@@ -181,7 +177,7 @@ module _ (m : Machine) (own : OpId) (h len : ℕ) where
   told_same place r s n es (Ok bytes) now = record {
     table = refl;
     writers = λ k. writer_kept m.store.records place r s now k n.at n.has;
-    pipes = λ k. output_set m.store.records place (Record.Tcp (with_reader r s now)) k (tcp_no_pipe (slice_get m.store.records place) r n.at).1 refl;
+    pipes = λ k. other_put tcp_sort output_sort (λ t. refl) m.store.records place r (with_reader r s now) k n.at;
   }
   told_same place r s n es (Err stop.Closed) now = tt
   told_same place r s n es (Err (stop.Failed c)) now = (λ full. tt, λ side. tt)
@@ -192,8 +188,12 @@ module _ (m : Machine) (own : OpId) (h len : ℕ) where
   pipe_same place (Some []) at = tt
   pipe_same place (Some (b ∷ bytes)) at = record {
     table = refl;
-    writers = λ k. ap (λ (o : Option TcpRecord). writer_in (streams_in o)) (tcp_set m.store.records place (Record.InputPipe (drop len (b ∷ bytes))) k (input_no_tcp (slice_get m.store.records place) (b ∷ bytes) at).0 refl);
-    pipes = λ k. output_set m.store.records place (Record.InputPipe (drop len (b ∷ bytes))) k (input_no_tcp (slice_get m.store.records place) (b ∷ bytes) at).1 refl;
+    writers =
+        λ k. ap (λ (o : Option TcpRecord). writer_in (streams_in o))
+        (other_put input_sort tcp_sort (λ t. refl) m.store.records place (b ∷ bytes) (drop len (b ∷ bytes)) k at);
+    pipes =
+        λ k. other_put input_sort output_sort (λ t. refl) m.store.records place (b ∷ bytes) (drop len (b ∷ bytes)) k
+        at;
   }
 
   read_same : (o : Option PlainInput) → plain_input_at m h ≡ o → Meets (Writable m) [] (read_by m own h len o)

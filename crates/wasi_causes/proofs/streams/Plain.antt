@@ -1,4 +1,5 @@
 -- What inputs and outputs of no connection give: reads, looks at what may be written, writes and flushes.
+use Rattle.wasi_walks.proofs.Places.{input_sort, output_sort, put_again}
 use Rattle.wasi_causes.proofs.Words.{◌≡◌, ◌∙◌, ℕ, Bool, true, false, List, [], ◌∷◌, ◌++◌, Option, Some, None, Result, Ok, Err, refl, sym, ap, inr, length, nat_lt, IsSomeAnd, IsUnpermitted, Machine, CallStop, WasiSocketsCtx, bytes_reply, permit_reply, taken_reply, output_streams, record_in, streams_in, if◌then◌else◌, ltb-true, ltb-false, arith}
 use Rattle.std.specs.Prelude.{zero, suc, take, drop, ◌<◌}
 use Rattle.memory_streams.specs.Plain.{Contents, left_in, room_told}
@@ -16,16 +17,16 @@ use Rattle.wasi_walks.specs.Answered.{input_streams}
 use Rattle.wasi_records.specs.declared.records.Record.{Record}
 use Rattle.wasi_causes.proofs.tables.Meets.{Rows}
 use Rattle.wasi_causes.proofs.tables.Routes.{Replied, apart, none_has}
-use Rattle.wasi_causes.proofs.streams.Pipes.{input_same, output_same, plain_no_input, plain_no_output, take_none}
+use Rattle.wasi_causes.proofs.streams.Pipes.{plain_no_input, plain_no_output, take_none}
 use Rattle.wasi_causes.specs.Plain.{containing, leaving}
 use Rattle.wasi_world.specs.declared.outcome.TrapKind.TheVariants.{Capacity}
 
 -- == what is put back
 pub left_same : (m : Machine) (place : ℕ) (bytes : List ℕ) → input_pipe_at m.store.records place ≡ Some bytes → leaving m place bytes ≡ m
-left_same m place bytes at = ap (λ (rs : List Record). let now : Machine = record m { store = record m.store { records = rs } } in now) (input_same m.store.records place bytes at)
+left_same m place bytes at = ap (λ (rs : List Record). let now : Machine = record m { store = record m.store { records = rs } } in now) (put_again input_sort m.store.records place bytes at)
 
 pub held_same : (m : Machine) (place : ℕ) (pipe : Contents) → output_pipe_at m.store.records place ≡ Some pipe → containing m place pipe ≡ m
-held_same m place pipe at = ap (λ (rs : List Record). let now : Machine = record m { store = record m.store { records = rs } } in now) (output_same m.store.records place pipe at)
+held_same m place pipe at = ap (λ (rs : List Record). let now : Machine = record m { store = record m.store { records = rs } } in now) (put_again output_sort m.store.records place pipe at)
 
 -- == no connection has such a handle
 pub no_input_streams : (m : Machine) (h : ℕ) (i : PlainInput) → plain_input_at m h ≡ Some i → input_streams m h ≡ None

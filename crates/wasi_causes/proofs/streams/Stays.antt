@@ -1,5 +1,5 @@
 -- What a turn leaves of sockets, of the streams of connections, and of pipes.
-use Rattle.wasi_causes.proofs.Words.{◌≡◌, ◌∙◌, ℕ, List, [], ◌∷◌, Option, Some, None, IsSome, inl, inr, refl, sym, subst, ap, Machine, Streams, TcpRecord, slice_get, streams_in, turn_asks, turn_at, turn_job, turn_jobs, turn_machine_asks, turned}
+use Rattle.wasi_causes.proofs.Words.{◌≡◌, ◌∙◌, ℕ, List, [], ◌∷◌, Option, Some, None, IsSome, inl, inr, refl, sym, subst, ap, Machine, Streams, TcpRecord, streams_in, turn_asks, turn_at, turn_job, turn_jobs, turn_machine_asks, turned}
 use Rattle.wasi_records.specs.Datagrams.{turn_outgoing}
 use Rattle.wasi_host.specs.Jobs.{turn_datagram_at, turn_receive_at}
 use Rattle.wasi_records.specs.NameLookup.{turn_lookup, turn_lookup_at}
@@ -13,7 +13,7 @@ use Rattle.wasi_records.specs.declared.udp.OpenUdp.{OpenUdp}
 use Rattle.wasi_records.specs.declared.udp.UdpRecord.{UdpRecord}
 use Rattle.wasi_records.specs.declared.udp.UdpRecord.TheVariants.{Open}
 use Rattle.wasi_walks.proofs.walks.Udp.{open_is}
-use Rattle.wasi_causes.proofs.streams.Pipes.{input_set, lookup_no_pipe, output_set, tcp_no_pipe, udp_no_pipe}
+use Rattle.wasi_walks.proofs.Places.{input_sort, output_sort}
 use Rattle.wasi_causes.proofs.tables.Meets.{Meets, chain, ends, onto, shifted, whatever, widen}
 use Rattle.wasi_walks.proofs.Places.{lookup_sort, other_put, put_stays, put_still, tcp_sort, udp_sort}
 
@@ -48,12 +48,14 @@ module _ (xs : List Record) (i : ℕ) (r now : TcpRecord) (at : tcp2_at xs i ≡
 
   open_by : (k : ℕ) (o : Option UdpRecord) → udp2_at xs k ≡ o → IsSome (open_of o) → IsSome (open_at (tcp2_put xs i now) k)
   open_by k None e h = absurd (cc)
-  open_by k (Some u) e h = subst IsSome (sym (ap open_of (put_still tcp_sort udp_sort (λ t. refl) xs i r now k u at e))) h
+  open_by k (Some u) e h =
+      subst IsSome (sym (ap open_of (put_still tcp_sort udp_sort (λ t. refl) xs i r now k u at e))) h
 
 module _ (xs : List Record) (i : ℕ) (was now : OpenUdp) (at : udp2_at xs i ≡ Some (Open was)) where
   socket_too : (k : ℕ) (o : Option TcpRecord) → tcp2_at xs k ≡ o → IsSome o → IsSome (tcp2_at (open_put xs i now) k)
   socket_too k None e h = absurd (cc)
-  socket_too k (Some x) e h = subst IsSome (sym (put_still udp_sort tcp_sort (λ t. refl) xs i (Open was) (Open now) k x at e)) refl
+  socket_too k (Some x) e h =
+      subst IsSome (sym (put_still udp_sort tcp_sort (λ t. refl) xs i (Open was) (Open now) k x at e)) refl
 
   open_too : (k : ℕ) (o : Option UdpRecord) → udp2_at xs k ≡ o → IsSome (open_of o) → IsSome (open_at (open_put xs i now) k)
   open_too k None e h = absurd (cc)
@@ -69,8 +71,8 @@ tcp_put xs i r now at keeps = record {
         | inl e ↦ subst (λ (o : Option TcpRecord). IsSome (streams_in o)) (sym e) found.2
         | inr e ↦ let same : r ≡ found.0 = its (sym at ∙ (ap (tcp2_at xs) (sym e.0) ∙ found.1)) in subst (λ (o : Option TcpRecord). IsSome (streams_in o)) (sym e.1) (keeps (subst (λ (x : TcpRecord). IsSome x.streams) (sym same) found.2))
       ];
-  inputs = λ k. input_set xs i (Record.Tcp now) k (tcp_no_pipe (slice_get xs i) r at).0 refl;
-  outputs = λ k. output_set xs i (Record.Tcp now) k (tcp_no_pipe (slice_get xs i) r at).1 refl;
+  inputs = λ k. other_put tcp_sort input_sort (λ t. refl) xs i r now k at;
+  outputs = λ k. other_put tcp_sort output_sort (λ t. refl) xs i r now k at;
 }
   where
     its : {x y : TcpRecord} → Some x ≡ Some y → x ≡ y
@@ -81,8 +83,8 @@ udp_put xs i o now at = record {
   sockets = λ k. socket_too xs i o now (open_is (udp2_at xs i) o at) k (tcp2_at xs k) refl;
   opens = λ k. open_too xs i o now (open_is (udp2_at xs i) o at) k (udp2_at xs k) refl;
   streams = λ k h. let found = streams_by (tcp2_at xs k) h in subst (λ (x : Option TcpRecord). IsSome (streams_in x)) (sym (put_still udp_sort tcp_sort (λ t. refl) xs i (Open o) (Open now) k found.0 (open_is (udp2_at xs i) o at) found.1)) found.2;
-  inputs = λ k. input_set xs i (Record.Udp (Open now)) k (udp_no_pipe (slice_get xs i) (Open o) (open_is (udp2_at xs i) o at)).0 refl;
-  outputs = λ k. output_set xs i (Record.Udp (Open now)) k (udp_no_pipe (slice_get xs i) (Open o) (open_is (udp2_at xs i) o at)).1 refl;
+  inputs = λ k. other_put udp_sort input_sort (λ t. refl) xs i (Open o) (Open now) k (open_is (udp2_at xs i) o at);
+  outputs = λ k. other_put udp_sort output_sort (λ t. refl) xs i (Open o) (Open now) k (open_is (udp2_at xs i) o at);
 }
 
 put_lookup : (xs : List Record) (i : ℕ) (l now : Lookup) → lookup_at xs i ≡ Some l → StreamsStay xs (lookup_put xs i now)
@@ -90,8 +92,8 @@ put_lookup xs i l now at = record {
   sockets = λ k h. subst IsSome (sym (other_put lookup_sort tcp_sort (λ t. refl) xs i l now k at)) h;
   opens = λ k h. subst IsSome (sym (ap open_of (other_put lookup_sort udp_sort (λ t. refl) xs i l now k at))) h;
   streams = λ k h. subst (λ (o : Option TcpRecord). IsSome (streams_in o)) (sym (other_put lookup_sort tcp_sort (λ t. refl) xs i l now k at)) h;
-  inputs = λ k. input_set xs i (Record.Lookup now) k (lookup_no_pipe (slice_get xs i) l at).0 refl;
-  outputs = λ k. output_set xs i (Record.Lookup now) k (lookup_no_pipe (slice_get xs i) l at).1 refl;
+  inputs = λ k. other_put lookup_sort input_sort (λ t. refl) xs i l now k at;
+  outputs = λ k. other_put lookup_sort output_sort (λ t. refl) xs i l now k at;
 }
 
 -- == a job

@@ -1,6 +1,6 @@
 -- Who asks in a turn: the writes, the datagrams, the receives and the lookups of the jobs.
 use Rattle.wasi_causes.proofs.streams.Stays.{streams_turned}
-use Rattle.wasi_causes.proofs.Words.{⊤, ◌≡◌, ℕ, zero, suc, inl, inr, List, [], ◌∷◌, ◌++◌, Option, Some, None, refl, sym, ap, subst, ◌∙◌, OpId, Call, Entry, Told, WasiSocketsCtx, Fits, Give, bind, End, Waits, poll_asks, allows_keep, Allows, allows_then, WriteState, Job, job_in, job_asks, turn_asks, Machine, Streams, TcpRecord, turned, turn_record, turn_at, turn_job, turn_jobs, turn_store_asks, turn_machine_asks, Has, no_fields, has_split, allows_ask}
+use Rattle.wasi_causes.proofs.Words.{⊤, ◌≡◌, ℕ, inl, inr, List, [], ◌∷◌, ◌++◌, Option, Some, None, refl, sym, ap, subst, ◌∙◌, OpId, Call, Entry, Told, WasiSocketsCtx, Fits, Give, bind, End, Waits, poll_asks, allows_keep, Allows, allows_then, WriteState, Job, job_in, job_asks, turn_asks, Machine, Streams, TcpRecord, turned, turn_record, turn_at, turn_job, turn_jobs, turn_store_asks, turn_machine_asks, Has, no_fields, has_split, allows_ask}
 use Rattle.wasi_causes.proofs.Words.{◌⊎◌, Done, Item, Operation, Records, Refused}
 use Rattle.wasi_world.specs.Operation.{Datagram as Received}
 use Rattle.wasi_udp.specs.Receive.{wanting}
@@ -159,58 +159,25 @@ lookup_by (Lookup.InProgress op) es = (refl, λ told fits. told_by op (told_name
 lookup_by _ es = inl refl
 
 -- == one record changes
-set_job : (xs : List Record) (i : ℕ) (y : TcpRecord) (k : ℕ) → job_of (Some y) ≡ job_of (tcp2_at xs i) → job_of (tcp2_at (tcp2_put xs i y) k) ≡ job_of (tcp2_at xs k)
-set_job [] i y k h = refl
-set_job (z ∷ xs) zero y zero h = h
-set_job (z ∷ xs) zero y (suc k) h = refl
-set_job (z ∷ xs) (suc i) y zero h = refl
-set_job (z ∷ xs) (suc i) y (suc k) h = set_job xs i y k h
-
--- a TCP socket: each UDP socket stays
-set_open : (xs : List Record) (i : ℕ) (r y : TcpRecord) (k : ℕ) → tcp2_at xs i ≡ Some r → open_at (tcp2_put xs i y) k ≡ open_at xs k
-set_open [] i r y k h = refl
-set_open (Record.Tcp x ∷ xs) zero r y zero h = refl
-set_open (Record.Udp x ∷ xs) zero r y zero h = absurd (cc)
-set_open (Record.Lookup x ∷ xs) zero r y zero h = absurd (cc)
-set_open (Record.InputPipe x ∷ xs) zero r y zero h = absurd (cc)
-set_open (Record.OutputPipe x ∷ xs) zero r y zero h = absurd (cc)
-set_open (Record.Gone ∷ xs) zero r y zero h = absurd (cc)
-set_open (z ∷ xs) zero r y (suc k) h = refl
-set_open (z ∷ xs) (suc i) r y zero h = refl
-set_open (z ∷ xs) (suc i) r y (suc k) h = set_open xs i r y k h
-
--- a UDP socket: each TCP socket stays, and each other UDP socket
-set_tcp : (xs : List Record) (i : ℕ) (o now : OpenUdp) (k : ℕ) → open_at xs i ≡ Some o → tcp2_at (open_put xs i now) k ≡ tcp2_at xs k
-set_tcp [] i o now k h = refl
-set_tcp (Record.Tcp x ∷ xs) zero o now zero h = absurd (cc)
-set_tcp (Record.Udp x ∷ xs) zero o now zero h = refl
-set_tcp (Record.Lookup x ∷ xs) zero o now zero h = absurd (cc)
-set_tcp (Record.InputPipe x ∷ xs) zero o now zero h = absurd (cc)
-set_tcp (Record.OutputPipe x ∷ xs) zero o now zero h = absurd (cc)
-set_tcp (Record.Gone ∷ xs) zero o now zero h = absurd (cc)
-set_tcp (z ∷ xs) zero o now (suc k) h = refl
-set_tcp (z ∷ xs) (suc i) o now zero h = refl
-set_tcp (z ∷ xs) (suc i) o now (suc k) h = set_tcp xs i o now k h
-
-set_udp : (xs : List Record) (i : ℕ) (o now : OpenUdp) (k : ℕ) → open_at xs i ≡ Some o → (open_at (open_put xs i now) k ≡ open_at xs k) ⊎ ((open_at xs k ≡ Some o) × (open_at (open_put xs i now) k ≡ Some now))
-set_udp [] i o now k h = inl refl
-set_udp (z ∷ xs) zero o now zero h = inr (h, refl)
-set_udp (z ∷ xs) zero o now (suc k) h = inl refl
-set_udp (z ∷ xs) (suc i) o now zero h = inl refl
-set_udp (z ∷ xs) (suc i) o now (suc k) h = set_udp xs i o now k h
-
 tcp_keeps : (xs : List Record) (i : ℕ) (r y : TcpRecord) → tcp2_at xs i ≡ Some r → job_of (Some y) ≡ job_of (Some r) → (job : HostJob) → asks_by (tcp2_put xs i y) job ≡ asks_by xs job
-tcp_keeps xs i r y at same (Write k) = set_job xs i y k (same ∙ sym (ap job_of at))
-tcp_keeps xs i r y at same (Datagram k) = ap datagram_of (set_open xs i r y k at)
-tcp_keeps xs i r y at same (Receive k) = ap receive_of (set_open xs i r y k at)
+tcp_keeps xs i r y at same (Write k) = elim (put_either tcp_sort xs i r y k at) [
+  | inl e ↦ ap job_of e
+  | inr e ↦ ap job_of e.1 ∙ (same ∙ sym (ap job_of e.0))
+]
+tcp_keeps xs i r y at same (Datagram k) = ap (λ (u : Option UdpRecord). datagram_of (open_of u)) (other_put tcp_sort udp_sort (λ t. refl) xs i r y k at)
+tcp_keeps xs i r y at same (Receive k) = ap (λ (u : Option UdpRecord). receive_of (open_of u)) (other_put tcp_sort udp_sort (λ t. refl) xs i r y k at)
 tcp_keeps xs i r y at same (LookupJob k) = ap lookup_of (other_put tcp_sort lookup_sort (λ t. refl) xs i r y k at)
 
 -- what is read of a UDP socket
 by_change : (of : Option OpenUdp → Option OpId) (xs : List Record) (i : ℕ) (o now : OpenUdp) (k : ℕ) → open_at xs i ≡ Some o → Keeps (of (Some now)) (of (Some o)) → Keeps (of (open_at (open_put xs i now) k)) (of (open_at xs k))
-by_change of xs i o now k at kept = elim (set_udp xs i o now k at) [ inl e ↦ inl (ap of e) | inr e ↦ rw (e.0, e.1) kept ]
+by_change of xs i o now k at kept =
+    elim (put_either udp_sort xs i (Open o) (Open now) k (open_is (udp2_at xs i) o at)) [
+      | inl e ↦ inl (ap (λ (u : Option UdpRecord). of (open_of u)) e)
+      | inr e ↦ rw (e.0, e.1) kept
+    ]
 
 udp_keeps : (xs : List Record) (i : ℕ) (o now : OpenUdp) → open_at xs i ≡ Some o → KeepsBoth o [] now → (job : HostJob) → Keeps (asks_by (open_put xs i now) job) (asks_by xs job)
-udp_keeps xs i o now at kept (Write k) = inl (ap job_of (set_tcp xs i o now k at))
+udp_keeps xs i o now at kept (Write k) = inl (ap job_of (other_put udp_sort tcp_sort (λ t. refl) xs i (Open o) (Open now) k (open_is (udp2_at xs i) o at)))
 udp_keeps xs i o now at kept (Datagram k) = by_change datagram_of xs i o now k at kept.0
 udp_keeps xs i o now at kept (Receive k) = by_change receive_of xs i o now k at kept.1
 udp_keeps xs i o now at kept (LookupJob k) = inl (ap lookup_of (other_put udp_sort lookup_sort (λ t. refl) xs i (Open o) (Open now) k (open_is (udp2_at xs i) o at)))

@@ -1,7 +1,9 @@
 -- What is known of lookups: the line of one that is in progress named its host, and its context may look names up; and the mark of
 -- its handle says no network socket. So do those of the handles of pipes, sinks and closed streams.
+use Rattle.wasi_walks.proofs.Places.{push_at, set_at}
+use Rattle.wasi_walks.proofs.Words.{ap, sym, ◌∙◌}
 use Rattle.wasi_walks.proofs.Words.{BeganBy, Entry, IsMarkedWith, Kind, List, None, Pollable, Some, Step, Watched, WasiSocketsCtx, [], slice_set}
-use Rattle.wasi_walks.proofs.Words.{inl, inr, suc, zero, ℕ, ⊤, ◌++◌, ◌∷◌, ◌≡◌}
+use Rattle.wasi_walks.proofs.Words.{inl, inr, ℕ, ⊤, ◌++◌, ◌∷◌, ◌≡◌}
 use Rattle.wasi_records.specs.Records.{lookup_at, lookup_of}
 use Rattle.wasi_records.specs.declared.name_lookup.Lookup.{Lookup}
 use Rattle.wasi_records.specs.declared.name_lookup.LookupOp.{LookupOp}
@@ -30,18 +32,17 @@ LookupsAreFine contexts steps records = (place : ℕ) (op : LookupOp) → lookup
 -- == a record that is no lookup leaves those that are there
 -- in the place of another
 lookup_of_put : (xs : List Record) (i : ℕ) (x : Record) (k : ℕ) (l : Lookup) → lookup_of (Some x) ≡ None → lookup_at (slice_set xs i x) k ≡ Some l → lookup_at xs k ≡ Some l
-lookup_of_put [] i x k l n h = absurd (cc)
-lookup_of_put (z ∷ xs) zero x zero l n h = absurd (cc)
-lookup_of_put (z ∷ xs) zero x (suc k) l n h = h
-lookup_of_put (z ∷ xs) (suc i) x zero l n h = h
-lookup_of_put (z ∷ xs) (suc i) x (suc k) l n h = lookup_of_put xs i x k l n h
+lookup_of_put xs i x k l n h = elim (set_at xs i x k) [
+  | inl same ↦ sym (ap lookup_of same) ∙ h
+  | inr its ↦ absurd (let none : None ≡ Some l = sym n ∙ (sym (ap lookup_of its.1) ∙ h) in cc)
+]
 
 -- after them
 lookup_of_push : (xs : List Record) (x : Record) (k : ℕ) (l : Lookup) → lookup_of (Some x) ≡ None → lookup_at (xs ++ x ∷ []) k ≡ Some l → lookup_at xs k ≡ Some l
-lookup_of_push [] x zero l n h = absurd (cc)
-lookup_of_push [] x (suc k) l n h = absurd (cc)
-lookup_of_push (z ∷ xs) x zero l n h = h
-lookup_of_push (z ∷ xs) x (suc k) l n h = lookup_of_push xs x k l n h
+lookup_of_push xs x k l n h = elim (push_at xs x k) [
+  | inl same ↦ sym (ap lookup_of same) ∙ h
+  | inr its ↦ absurd (let none : None ≡ Some l = sym n ∙ (sym (ap lookup_of its.1) ∙ h) in cc)
+]
 
 module _ (contexts : List WasiSocketsCtx) (steps : List Step) where
   pub lookups_put : (records : List Record) (i : ℕ) (x : Record) → lookup_of (Some x) ≡ None → LookupsAreFine contexts steps records → LookupsAreFine contexts steps (slice_set records i x)

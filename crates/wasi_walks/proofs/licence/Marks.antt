@@ -1,4 +1,5 @@
 -- A create is licensed, and so are the marks of handles; and what they make fits.
+use Rattle.wasi_walks.proofs.walks.States.{IsPlain, makes_plain}
 use Rattle.wasi_walks.proofs.walks.Moves.{record_of}
 use Rattle.wasi_walks.proofs.Words.{Allows, BeganBy, Call, Created, Entry, Err, ErrorCode, HandleKind, Has, Input, IsDoneOrCode, IsMaker}
 use Rattle.wasi_walks.proofs.Words.{IsMarkOf, IsMarkedWith, IsSide, IsTcpCreate, Kind, List, MarksNoSocket, MayAsk, MayUseTcp, Network, None, Ok}
@@ -137,20 +138,6 @@ module _ (contexts : List WasiSocketsCtx) (steps : List Step) (line : ℕ) (orig
   not_accept : (s : Step) → ((c k : ℕ) → s ≡ Step.TcpAccept c k → ⊥) → origin ≡ s → (c k : ℕ) → origin ≡ Step.TcpAccept c k → (h : Here) → (h.own ≡ Unused) ⊎ NotMarked h.made → ⊥
   not_accept s n e c k is h u = n c k (sym e ∙ is)
 
-  -- an input or an output of no connection
-  abbrev IsPlain : Kind → Type 0
-  IsPlain (Kind.PlainInput plain) = ⊤
-  IsPlain (Kind.PlainOutput plain) = ⊤
-  IsPlain _ = ⊥
-
-  plain_made : (s : Step) (kind : Kind) → MakesPlain s kind → IsPlain kind
-  plain_made (Step.PipeIn c bytes) (Kind.PlainInput (plain_input.Pipe place)) m = tt
-  plain_made (Step.PipeOut c capacity) (Kind.PlainOutput (plain_output.Pipe place)) m = tt
-  plain_made (Step.Sink c) (Kind.PlainOutput plain_output.Sink) m = tt
-  plain_made (Step.ClosedIn c) (Kind.PlainInput plain_input.Closed) m = tt
-  plain_made (Step.ClosedOut c) (Kind.PlainOutput plain_output.Closed) m = tt
-  plain_made _ _ m = absurd m
-
   plain_mark : (es : List Entry) (op : OpId) (s : Step) (kind : Kind) → MakesPlain s kind → IsMarkOf es op (name_of kind) None None s
   plain_mark es op (Step.PipeIn c bytes) (Kind.PlainInput (plain_input.Pipe place)) m = (refl, refl, refl)
   plain_mark es op (Step.PipeOut c capacity) (Kind.PlainOutput (plain_output.Pipe place)) m = (refl, refl, refl)
@@ -219,7 +206,7 @@ module _ (contexts : List WasiSocketsCtx) (steps : List Step) (line : ℕ) (orig
       other_fine es h (Pollable (Watched.Lookup place)) (Some handle) None (record { origin = origin; at = is_line; holds = subst (IsMarkOf es (own_of line) name.Pollable (Some handle) None) (sym is) (refl, (refl, k)) }) (λ p. absurd (cc)) (λ a s p. not_accept (Step.Subscribe c handle) (λ a s p. absurd (cc)) is a s p h)
       (λ t. (tt, tt, marks_none es h.machine.table.next name.Pollable (Some handle) t)) i
   marked_fine es h kind _ _ (APlain _ m numbered) i =
-      let p = plain_made origin kind m in
+      let p = makes_plain origin kind m in
       other_fine es h kind None None (record { origin = origin; at = is_line; holds = plain_mark es (own_of line) origin kind m }) (plain_name kind p) (λ a s is u. subst (λ (x : Step). MakesPlain x kind) is m)
       (λ t. plain_handle _ h.machine.store.records h.machine.table.next kind p (marks_none es h.machine.table.next (name_of kind) None t)) i
   marked_fine es h _ _ _ (APlainPollable c handle is e) i =

@@ -53,8 +53,12 @@ same_by_put xs i old l at n = record {
   tcp = λ k. other_put lookup_sort tcp_sort (λ t. refl) xs i old l k at;
   udp = λ k. other_put lookup_sort udp_sort (λ t. refl) xs i old l k at;
   stays = put_some lookup_sort xs i l;
-  inputs = λ k e. ap (λ (o : Option (List ℕ)). is_some o) (other_put lookup_sort input_sort (λ t. refl) xs i old l k at) ∙ e;
-  outputs = λ k e. ap (λ (o : Option Contents). is_some o) (other_put lookup_sort output_sort (λ t. refl) xs i old l k at) ∙ e;
+  inputs =
+      λ k e. ap (λ (o : Option (List ℕ)). is_some o) (other_put lookup_sort input_sort (λ t. refl) xs i old l k at) ∙
+      e;
+  outputs =
+      λ k e. ap (λ (o : Option Contents). is_some o) (other_put lookup_sort output_sort (λ t. refl) xs i old l k at) ∙
+      e;
   looks = λ k op e. elim (put_found lookup_sort xs i l k (InProgress op) e) [ inl p ↦ inl (ap (lookup_at xs) p.0 ∙ (at ∙ ap (λ (x : Lookup). Some x) (n op p.1))) | inr p ↦ inl p ];
 }
 

@@ -1,4 +1,8 @@
 -- What a line works on where it begins, in its midst and at its end, and what is known of handles there.
+use Rattle.wasi_host.specs.declared.kind.PlainInput.TheVariants as plain_input
+use Rattle.wasi_host.specs.declared.kind.PlainOutput.TheVariants as plain_output
+use Rattle.wasi_walks.proofs.walks.Moves.{MakesPlain}
+use Rattle.wasi_walks.proofs.Words.{Step}
 use Rattle.wasi_walks.proofs.Words.{Answer, Ask, AskWrite, Asks, Bool, Err, ErrorCode, Full, Give, HandleTable, Input, Kind, List, Machine, None, Ok}
 use Rattle.wasi_walks.proofs.Words.{OpId, Option, Output, Pending, Pollable, Ready, Records, Result, Socket, Some, Standing, Stop}
 use Rattle.wasi_walks.proofs.Words.{Streams, Tcp2, TcpRecord, Trap, Watched, accept_answered, accept_at, accept_record_asks, accepted_record, ap}
@@ -184,3 +188,17 @@ joined_given store ids place (Some r) = given_then JoinedSo (accept_answered sto
     answered (Ok (Ready socket), r) = kept (tcp2_put store.records place r) (accepted_record socket)
     answered (Ok Pending, r) = tt
     answered (Err why, r) = tt
+
+-- an input or an output of no connection
+abbrev pub IsPlain : Kind → Type 0
+IsPlain (PlainInput plain) = ⊤
+IsPlain (PlainOutput plain) = ⊤
+IsPlain _ = ⊥
+
+pub makes_plain : (s : Step) (kind : Kind) → MakesPlain s kind → IsPlain kind
+makes_plain (Step.PipeIn ctx bytes) (PlainInput (plain_input.Pipe place)) m = tt
+makes_plain (Step.PipeOut ctx capacity) (PlainOutput (plain_output.Pipe place)) m = tt
+makes_plain (Step.Sink ctx) (PlainOutput plain_output.Sink) m = tt
+makes_plain (Step.ClosedIn ctx) (PlainInput plain_input.Closed) m = tt
+makes_plain (Step.ClosedOut ctx) (PlainOutput plain_output.Closed) m = tt
+makes_plain _ _ m = absurd m
