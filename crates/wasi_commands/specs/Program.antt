@@ -23,7 +23,7 @@ use Rattle.wasi_pump.specs.Pumped.{PumpEnds}
 use Rattle.wasi_records.specs.Closing.{HasClosedAll}
 use Rattle.wasi_run.specs.Headline.{RunsLicensed}
 use Rattle.wasi_run.specs.Counted.{CountsRun, summary}
-use Rattle.wasi_run.specs.Written.{TookAll, TookFront}
+use Rattle.world_io.specs.Written.{TookAll, TookPart}
 
 -- how a pump's end is reported
 abbrev pub pump_status : Result ℕ PumpError → Status
@@ -103,8 +103,8 @@ pub record Told (seed steps : ℕ) (P : List ℕ → Type 0) : Type 0 where
 
 -- the cause of each status: the sink took the line, or its front; or memory ran out, and nothing was written
 abbrev pub GeneratedEnds : ℕ → ℕ → Writing → Writing → Status → Type 0
-GeneratedEnds seed steps k_old k_new status.Ok = Told seed steps (TookAll k_old k_new)
-GeneratedEnds seed steps k_old k_new status.WriteFault = Told seed steps (TookFront k_old k_new)
+GeneratedEnds seed steps k_old k_new status.Ok = Told seed steps (λ line. TookAll k_old line k_new)
+GeneratedEnds seed steps k_old k_new status.WriteFault = Told seed steps (λ line. TookPart k_old line k_new)
 GeneratedEnds seed steps k_old k_new status.Memory = k_new ≡ k_old
 GeneratedEnds seed steps k_old k_new _ = ⊥
 

@@ -21,10 +21,10 @@ use wasi_program::scenario::{Scenario, Unread, parse_scenario, read_scenario};
 use wasi_program::status::bad_line;
 use wasi_pump::{PumpError, pump};
 use wasi_run::counts::run_generated;
-use wasi_run::{run_script, write_all};
+use wasi_run::run_script;
 use wasi_spawn::Spawner;
 use wasi_world::{Entry, WasiSocketsCtx};
-use world_io::{Sink, Source};
+use world_io::{Sink, Source, write_all};
 use world_scripted::ScriptedWorld;
 
 /// What the program gives back. `line` is the bad line of statuses 2 and 3, else 0; `log` is the

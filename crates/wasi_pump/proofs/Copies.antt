@@ -3,7 +3,7 @@ use Rattle.std.proofs.Common.{◌≡◌, ◌==◌, ◌-◌, ◌+◌, ℕ, Bool, 
 use Rattle.std.specs.List.{concat}
 use Rattle.std.proofs.lemmas.List.{nil_from_length}
 use Rattle.wasi_writer.specs.Stream.{WriteStream, with_bytes}
-use Rattle.wasi_writer.proofs.Works.{concat_end}
+use Rattle.worker_shared.proofs.Chunks.{concat_end}
 use Rattle.wasi_pump.specs.Copying.{Appended, counted}
 
 appended_if : (b : Bool) (w : WriteStream) (bytes : List ℕ) → (b ≡ true → bytes ≡ [])

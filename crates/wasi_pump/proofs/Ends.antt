@@ -1,15 +1,17 @@
 -- How a pump ends, by how its streams ended.
-use Rattle.std.proofs.Common.{◌≡◌, ℕ, List, [], ◌++◌, length, Option, None, Some, option_map, Result, Ok, Err, refl, ap, ◌∙◌, sym, subst, append_assoc, append-nil, length-append, arith}
+use Rattle.std.proofs.Common.{◌≡◌, ℕ, List, [], ◌++◌, length, Option, None, Some, Result, Ok, Err, refl, ap, ◌∙◌, sym, subst, append_assoc, append-nil, length-append, arith}
 use Rattle.std.proofs.lemmas.List.{nil_from_length}
 use Rattle.std.specs.List.{concat}
 use Rattle.world_io.specs.Io.{Reading, Writing, Gave, Took}
+use Rattle.world_io.specs.Written.{TookAll, TookFront}
+use Rattle.world_io.proofs.Gave.{gave_none}
+use Rattle.world_io.proofs.Took.{took_none}
 use Rattle.worker_shared.specs.declared.finished.Ended.{Ended}
 use Rattle.worker_shared.specs.declared.finished.Ended.TheVariants as ended
 use Rattle.wasi_reader.specs.Stream.{ReadStream}
 use Rattle.wasi_reader.specs.Stream as reading
 use Rattle.wasi_writer.specs.Stream.{WriteStream}
 use Rattle.wasi_writer.specs.Stream as writing
-use Rattle.wasi_writer.specs.Worked.{TookAll, TookFront}
 use Rattle.wasi_pump.specs.Copying.{IsAhead, Copied}
 use Rattle.wasi_pump.specs.declared.error.PumpError.{PumpError}
 use Rattle.wasi_pump.specs.declared.error.PumpError.TheVariants.{NoWorker, Memory}
@@ -67,20 +69,12 @@ module _ {r : ReadStream} {w : WriteStream} {s : Reading} {k : Writing} where
   ends moved (Err ended.Memory) (Err ended.Cancelled) copied rd wr = (front moved copied rd wr, rd.cause.1)
   ends moved (Err ended.Memory) (Err ended.Memory) copied rd wr = (front moved copied rd wr, rd.cause.1)
 
-given_none : (a : Option (List ℕ)) → a ≡ option_map (λ left. [] ++ left) a
-given_none None = refl
-given_none (Some left) = refl
-
-written_none : (a : Option (List ℕ)) → a ≡ option_map (λ written. written ++ []) a
-written_none None = refl
-written_none (Some written) = ap Some (sym (append-nil written))
-
 nil_front : (a b : List ℕ) → [] ≡ a ++ b → a ≡ []
 nil_front a b is = nil_from_length a (omega (arith, ap length is, length-append a b))
 
 -- a stream that nothing was written to gives its sink nothing
-pub took_none : {k k' : Writing} → TookFront k [] k' → Took k [] k'
-took_none {k} {k'} front = let F : List ℕ → Type 0 = λ l. Took k l k' in subst F (nil_front front.taken front.rest front.split) front.took
+taken_none : {k k' : Writing} → TookFront k [] k' → Took k [] k'
+taken_none {k} {k'} front = let F : List ℕ → Type 0 = λ l. Took k l k' in subst F (nil_front front.taken front.rest front.split) front.took
 
 module _ {s s' : Reading} {k k' : Writing} {outcome : Result ℕ PumpError} where
   -- a pump that ran out of memory before it did anything
@@ -89,8 +83,8 @@ module _ {s s' : Reading} {k k' : Writing} {outcome : Result ℕ PumpError} wher
       let F : Reading × Writing × Result ℕ PumpError → Type 0 = λ t. PumpEnds s t.0 k t.1 t.2 in
       let none : MovedFront s s k k = record {
         bytes = [];
-        gave = record { left = given_none s.left };
-        took = record { taken = []; rest = []; split = refl; took = record { written = written_none k.written } };
+        gave = gave_none {old = s} {new = s} refl;
+        took = record { taken = []; rest = []; split = refl; took = took_none k };
       } in subst F (λ i. (sym source i, sym sink i, sym is i)) (none, refl)
 
   -- a pump without a worker, whose write stream was finished as it began
@@ -98,7 +92,7 @@ module _ {s s' : Reading} {k k' : Writing} {outcome : Result ℕ PumpError} wher
   idle {w} {k''} source sink fresh finished is =
       let F : Reading × Writing × Result ℕ PumpError → Type 0 = λ t. PumpEnds s t.0 k t.1 t.2 in
       let G : WriteStream → Type 0 = λ v. TookFront v.began (concat v.chunks) k'' in
-      let none : MovedNone s s k k'' = record { source = refl; sink = took_none (subst G fresh finished.front) } in
+      let none : MovedNone s s k k'' = record { source = refl; sink = taken_none (subst G fresh finished.front) } in
       subst F (λ i. (sym source i, sym sink i, sym is i)) none
 
   -- a pump that copied, and whose streams were finished

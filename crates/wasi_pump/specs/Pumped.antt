@@ -1,10 +1,11 @@
 -- What a pump makes of its source and its sink.
 use Rattle.std.specs.Prelude.{◌≡◌, ℕ, List, [], length, Option, Some, Result, Ok, Err}
 use Rattle.world_io.specs.Io.{Reading, Writing, Gave, Took, HasEnded, CountRose}
+use Rattle.world_io.specs.Written.{TookAll, TookFront}
 use Rattle.wasi_world.specs.Seen.{Rose}
 use Rattle.worker_shared.specs.declared.finished.Ended.{Ended}
 use Rattle.worker_shared.specs.declared.finished.Ended.TheVariants as ended
-use Rattle.wasi_writer.specs.Worked.{TookAll, TookFront, IsFlushed}
+use Rattle.wasi_writer.specs.Worked.{IsFlushed}
 use Rattle.wasi_pump.specs.declared.error.PumpError.{PumpError}
 use Rattle.wasi_pump.specs.declared.error.PumpError.TheVariants.{NoBudget, NoWorker, SourceFault, SinkFault, Memory}
 use Rattle.wasi_pump.specs.Copying.{counted}

@@ -6,12 +6,11 @@ use Rattle.std.specs.List.{concat}
 use Rattle.std.specs.declared.alloc.Global.{Global}
 use Rattle.crossbeam_queue.specs.SegTies.{SegId}
 use Rattle.world_io.specs.Io.{Reading}
-use Rattle.worker_shared.specs.Ends.{End}
+use Rattle.worker_shared.specs.Ends.{End, with_chunk}
 use Rattle.wasi_reader.specs.Knows.{OwnerKnows, nothing_yet}
-use Rattle.wasi_reader.specs.Answers.{with_chunk}
 use Rattle.wasi_reader.specs.Stream.{ReadStream, given_of, Refilled, IsCut}
 use Rattle.wasi_reader.specs.Owned.{Owned}
-use Rattle.wasi_reader.proofs.Works.{concat_end}
+use Rattle.worker_shared.proofs.Chunks.{concat_end}
 
 -- what was given is what comes before what is kept
 pub given_is : (chunks : List (List ℕ)) (given kept : List ℕ) → concat chunks ≡ given ++ kept → given_of chunks kept ≡ given

@@ -1,39 +1,23 @@
 -- What a worker made of its source, read by read.
 use Rattle.std.proofs.Common.{◌≡◌, ℕ, List, [], ◌∷◌, ◌++◌, Option, None, Some, option_map, refl, ap, ◌∙◌, sym, subst, append_assoc, append-nil}
 use Rattle.std.specs.List.{concat}
+use Rattle.worker_shared.proofs.Chunks.{concat_end}
 use Rattle.world_io.specs.Io.{Reading, Gave}
+use Rattle.world_io.proofs.Gave.{gave_again, gave_none}
 use Rattle.wasi_world.specs.Seen.{Rose}
 use Rattle.wasi_reader.specs.declared.stage.Stage.{Stage}
 use Rattle.wasi_reader.specs.declared.stage.Stage.TheVariants.{Open, Ended, Failed, Starved}
 use Rattle.wasi_reader.specs.Worked.{SameReading, ReadUpTo, HandedOn, StoppedAt, Worked, GoesOn}
 
-left_more : (a b c : Option (List ℕ)) (xs ys : List ℕ) → a ≡ option_map (λ l. xs ++ l) b → b ≡ option_map (λ l. ys ++ l) c → a ≡ option_map (λ l. (xs ++ ys) ++ l) c
-left_more a b None xs ys first then = first ∙ ap (λ o. option_map (λ l. xs ++ l) o) then
-left_more a b (Some l) xs ys first then = first ∙ ap (λ o. option_map (λ l. xs ++ l) o) then ∙ ap Some (sym (append_assoc xs ys l))
-
-left_none : (a : Option (List ℕ)) → a ≡ option_map (λ l. [] ++ l) a
-left_none None = refl
-left_none (Some l) = refl
-
-pub gave_more : (a b c : Reading) (xs ys : List ℕ) → Gave a xs b → Gave b ys c → Gave a (xs ++ ys) c
-gave_more a b c xs ys first then = record { left = left_more a.left b.left c.left xs ys first.left then.left }
-
-pub gave_none : (a b : Reading) → b.left ≡ a.left → Gave a [] b
-gave_none a b same = record { left = left_none a.left ∙ ap (λ o. option_map (λ l. [] ++ l) o) (sym same) }
-
-pub concat_end : (chunks : List (List ℕ)) (chunk : List ℕ) → concat (chunks ++ chunk ∷ []) ≡ concat chunks ++ chunk
-concat_end [] chunk = append-nil chunk
-concat_end (c ∷ chunks) chunk = ap (λ r. c ++ r) (concat_end chunks chunk) ∙ sym (append_assoc c (concat chunks) chunk)
-
 pub begins : (a : Reading) (chunks : List (List ℕ)) → chunks ≡ [] → GoesOn a chunks a
 begins a chunks none = record {
-  gave = let F : List (List ℕ) → Type 0 = λ l. Gave a (concat l) a in subst F (sym none) (gave_none a a refl);
+  gave = let F : List (List ℕ) → Type 0 = λ l. Gave a (concat l) a in subst F (sym none) (gave_none {old = a} {new = a} refl);
   same = record { ended = refl; faults = refl };
 }
 
 pub goes : (a b c : Reading) (chunks chunks' : List (List ℕ)) → GoesOn a chunks b → HandedOn b c chunks chunks' → GoesOn a chunks' c
 goes a b c chunks chunks' so step = let F : List ℕ → Type 0 = λ l. Gave a l c in record {
-  gave = subst F (sym (ap concat step.pushed ∙ concat_end chunks step.chunk)) (gave_more a b c (concat chunks) step.chunk so.gave step.gave);
+  gave = subst F (sym (ap concat step.pushed ∙ concat_end chunks step.chunk)) (gave_again so.gave step.gave);
   same = record { ended = step.same.ended ∙ so.same.ended; faults = step.same.faults ∙ so.same.faults };
 }
 
@@ -46,7 +30,7 @@ upto Starved a b c same then = record { ended = then.ended ∙ same.ended; fault
 pub stops : (stage : Stage) (a b c : Reading) (chunks chunks' chunks'' : List (List ℕ)) → GoesOn a chunks b → StoppedAt stage b c chunks chunks' → chunks'' ≡ chunks' → Worked a chunks'' stage c
 stops stage a b c chunks chunks' chunks'' so step same = let F : List (List ℕ) → Type 0 = λ l. Gave a (concat l ++ step.lost) c in record {
   lost = step.lost;
-  gave = subst F (sym (same ∙ step.pushed)) (gave_more a b c (concat chunks) step.lost so.gave step.gave);
+  gave = subst F (sym (same ∙ step.pushed)) (gave_again so.gave step.gave);
   upto = upto stage a b c so.same step.upto;
   loses = step.loses;
 }

@@ -2,7 +2,7 @@
 use Rattle.std.specs.Prelude.{◌≡◌, ◌<◌, ◌+◌, ℕ, false, if◌then◌else◌, List, [], ◌∷◌, ◌++◌, length}
 use Rattle.wasi_streams.specs.declared.error.StreamError.{StreamError}
 use Rattle.wasi_streams.specs.declared.error.StreamError.TheVariants.{LastOperationFailed, Closed, Trap, Memory}
-use Rattle.worker_shared.specs.Ends.{End}
+use Rattle.worker_shared.specs.Ends.{End, with_chunk}
 use Rattle.wasi_reader.specs.declared.stage.Stage.{Stage}
 use Rattle.wasi_reader.specs.declared.stage.Stage.TheVariants.{Open, Ended, Failed, Starved}
 use Rattle.wasi_reader.specs.declared.taken.Taken.{Taken}
@@ -10,10 +10,6 @@ use Rattle.wasi_reader.specs.declared.taken.Taken.TheVariants as taken
 use Rattle.wasi_reader.specs.declared.taken.Offered.{Offered}
 use Rattle.wasi_reader.specs.declared.taken.Offered.TheVariants as offered
 use Rattle.wasi_reader.specs.Knows.{OwnerKnows, WorkerKnows}
-
--- the end of the line with one chunk more
-abbrev pub with_chunk : End → List ℕ → End
-with_chunk end chunk = record end { chunks = end.chunks ++ chunk ∷ [] }
 
 -- what is known once the owner was answered by this error: `Closed` reports the end, unless the stream was stopped
 abbrev pub after_told : OwnerKnows → StreamError → OwnerKnows

@@ -121,15 +121,17 @@ impl<S: Source + Drop + Send + 'static, N: Names + Send + Sync + 'static> AsyncR
             side,
             buffer,
         };
-        let handle = start_worker(rt, alloc, spawner, worker)?;
-        Ok(AsyncReadStream {
-            shared,
-            pop,
-            keys,
-            rest: Bytes::new(),
-            closed: false,
-            handle,
-        })
+        match spawner.start(rt, alloc, worker) {
+            Ok(handle) => Ok(AsyncReadStream {
+                shared,
+                pop,
+                keys,
+                rest: Bytes::new(),
+                closed: false,
+                handle,
+            }),
+            Err(e) => Err(e.map(|worker| worker.source)),
+        }
     }
 
     /// Reads at most `size` bytes; no bytes where there is nothing yet.
@@ -261,32 +263,6 @@ fn make_room<N: Names>(alloc: Global, shared: Shared<N>) -> Result<Room<N>, Allo
         theirs,
         buffer,
     })
-}
-
-/// Starts the worker. Where that fails, its source comes back.
-fn start_worker<
-    S: Source + Drop + Send + 'static,
-    N: Names + Send + Sync + 'static,
-    P: Spawner,
-    R: Threads + Wait + Copy + Send + 'static,
->(
-    rt: &R,
-    alloc: Global,
-    spawner: &mut P,
-    worker: ReadWorker<S, N>,
-) -> Result<Handle<ReadWorker<S, N>>, StartError<S>>
-    ensures handle { IfOk result (λ handle. started_with handle ≡ worker) }
-    ensures rose { OnOk result (Rose (P.starts spawner.old) (P.starts spawner.new)) }
-    ensures stayed { OnErr result (P.starts spawner.new ≡ P.starts spawner.old) }
-    ensures back { IfErr result (λ e. job_of e ≡ worker.source) }
-    ensures refused { IfErr result (λ e. RefusedAs e (P.refusals spawner.old)
-        (P.refusals spawner.new)) }
-{
-    match spawner.start(rt, alloc, worker) {
-        Ok(handle) => Ok(handle),
-        Err(StartError::NoWorker(worker)) => Err(StartError::NoWorker(worker.source)),
-        Err(StartError::Memory(worker)) => Err(StartError::Memory(worker.source)),
-    }
 }
 
 /// How a stream ends, whose worker is at this stage.

@@ -1,6 +1,5 @@
 pub mod LineWords
 pub mod CallSteps
-pub mod Takes
 pub mod Stretches
 pub mod OneLine
 pub mod ManyLines

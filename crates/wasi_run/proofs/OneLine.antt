@@ -6,9 +6,9 @@ use Rattle.wasi_run.specs.declared.lines.LinesEnd.TheVariants as lines
 use Rattle.wasi_run.specs.declared.error.RunError.{RunError}
 use Rattle.wasi_run.specs.declared.error.RunError.TheVariants.{Memory, BadStep, WriteFault}
 use Rattle.wasi_steps.specs.Steps.{step_of}
-use Rattle.wasi_run.specs.Written.{TookAll, TookFront}
+use Rattle.world_io.specs.Written.{TookAll, TookPart}
 use Rattle.wasi_run.specs.Ran.{Beyond, Wrote, Counted, Cause, LinesRan}
-use Rattle.wasi_run.proofs.Takes.{same_none}
+use Rattle.world_io.proofs.Took.{same_none}
 use Rattle.wasi_run.proofs.Stretches.{next_run, Stepped, stretch_one, before_any, none_began}
 
 either_way : (b : Bool) (a : List Reply × Machine) → (if b then Give a else Give a) ≡ Give a
@@ -65,11 +65,11 @@ module _ {contexts : List WasiSocketsCtx} {w_old w_new : Seen} {k_old k_new : Wr
   }
 
   -- its reply was cut
-  pub one_cut : TookFront k_old k_new (text_of reply) → LinesRan contexts w_old w_new k_old k_new first line (l ∷ []) (Err WriteFault) state
+  pub one_cut : TookPart k_old (text_of reply) k_new → LinesRan contexts w_old w_new k_old k_new first line (l ∷ []) (Err WriteFault) state
   one_cut t = after_one (take t.cut (text_of reply)) (refl, refl) t.took (record { front = []; last = reply; cut = t.cut; all = refl; others = tt; short = t.short; is = refl }) t.counts tt
 
-  pub one_trap : TookAll k_old k_new (text_of reply) → is_trap reply ≡ true → LinesRan contexts w_old w_new k_old k_new first line (l ∷ []) (Ok lines.Trapped) state
+  pub one_trap : TookAll k_old (text_of reply) k_new → is_trap reply ≡ true → LinesRan contexts w_old w_new k_old k_new first line (l ∷ []) (Ok lines.Trapped) state
   one_trap t b = after_one (text_of reply) (refl, refl) t.took (record { front = []; last = reply; all = refl; others = tt; trap = b }, sym (append-nil (text_of reply))) t.counts tt
 
-  pub one_done : TookAll k_old k_new (text_of reply) → is_trap reply ≡ false → LinesRan contexts w_old w_new k_old k_new first line (l ∷ []) (Ok lines.AllDone) state
+  pub one_done : TookAll k_old (text_of reply) k_new → is_trap reply ≡ false → LinesRan contexts w_old w_new k_old k_new first line (l ∷ []) (Ok lines.AllDone) state
   one_done t b = after_one (text_of reply) (refl, refl) t.took ((b, tt), sym (append-nil (text_of reply))) t.counts (record { count = refl; stands = refl; on = stretch_one h b })

@@ -6,7 +6,7 @@ use Rattle.wasi_run.specs.declared.lines.LinesEnd.TheVariants as lines
 use Rattle.wasi_run.specs.declared.run.RunEnd.{RunEnd}
 use Rattle.wasi_run.specs.declared.run.RunEnd.TheVariants as end
 use Rattle.wasi_run.specs.Script.{Answers, RanOver}
-use Rattle.wasi_run.proofs.Takes.{gave_again, gave_none, gave_end, gave_fault, fault_rose, has_room, more_fits}
+use Rattle.world_io.proofs.Gave.{gave_again, gave_none, gave_end, gave_fault, fault_rose}
 
 -- All whole lines of what was read were done, and the unfinished one is kept.
 pub record Streaming (contexts : List WasiSocketsCtx) (limit : ℕ) (before now : Reading) (k_old k_now : Writing) (w_old w_now : Seen) (machine : Machine) (number taken : ℕ) (kept : List ℕ) : Type 0 where
@@ -18,6 +18,13 @@ pub record Streaming (contexts : List WasiSocketsCtx) (limit : ℕ) (before now 
   pub count : number ≡ length (lines_of (take limit text))
   pub so_far : taken ≡ length text
   pub within : taken ≤ limit + 1
+
+-- what the code's piece has room for
+more_fits : (limit len room count : ℕ) (text buffer piece : List ℕ) → room ≡ min (limit + 1 - len) 4096 → len ≡ length text → len < limit + 1 → count ≤ length (take room piece) → length (text ++ take count buffer) ≤ limit + 1
+more_fits limit len room count text buffer piece e l h k = omega (arith, length-append text (take count buffer), length-take count buffer, length-take room piece, e, l, h, k)
+
+has_room : (limit len room : ℕ) (piece : List ℕ) → room ≡ min (limit + 1 - len) 4096 → len < limit + 1 → length piece ≡ 4096 → 0 < length (take room piece)
+has_room limit len room piece e h l = omega (arith, length-take room piece, e, h, l)
 
 take_nil : (n : ℕ) → take {A = ℕ} n [] ≡ []
 take_nil zero = refl

@@ -6,7 +6,7 @@ use Rattle.wasi_run.specs.declared.error.RunError.{RunError}
 use Rattle.wasi_run.specs.declared.error.RunError.TheVariants.{BadStep, WriteFault}
 use Rattle.wasi_run.specs.Lines.{StartWith, BadAfter}
 use Rattle.wasi_run.specs.Ran.{texts, NoTrap, OneTrap, CutLast, Stretch, Beyond, Wrote, Counted, Cause, LinesRan}
-use Rattle.wasi_run.proofs.Takes.{took_again, took_none, same_again, same_none, rose_again}
+use Rattle.world_io.proofs.Took.{took_again, took_none, same_again, same_none, rose_again}
 
 -- == stretches
 -- what follows a line in a run

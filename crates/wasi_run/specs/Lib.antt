@@ -1,5 +1,4 @@
 pub mod Lines
-pub mod Written
 pub mod Ran
 pub mod Script
 pub mod Causes

@@ -13,7 +13,6 @@ mod text_source;
 
 pub use counts::Counts;
 pub use error::RunError;
-pub use lines::write_all;
 pub use run::{RunEnd, run_script};
 pub use session::Session;
 pub use wasi_steps::{

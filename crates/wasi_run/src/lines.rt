@@ -1,10 +1,9 @@
 //! Does the lines of a script, and writes their replies.
 
-ghost use Rattle.std.specs.Prelude.{◌≡◌, ◌∷◌, ◌+◌, ◌<◌, ◌≤◌, ◌^◌, [], Ok, OnOk, OnErr, length};
+ghost use Rattle.std.specs.Prelude.{◌≡◌, ◌∷◌, ◌+◌, ◌<◌, ◌≤◌, ◌^◌, [], Ok, length};
 ghost use Rattle.std.specs.Prelude.{take, drop, false};
 ghost use Rattle.world_text.specs.Lines.{lines_of, lines_from};
 ghost use Rattle.wasi_run.specs.Lines.{LeftAt, KeptOf};
-ghost use Rattle.wasi_run.specs.Written.{TookAll, TookFront};
 ghost use Rattle.wasi_run.specs.Ran.{LinesRan};
 
 use crate::error::RunError;
@@ -13,7 +12,7 @@ use std::alloc::Global;
 use wasi_steps::parse::parse_step;
 use wasi_steps::reply::reply_text;
 use wasi_world::{WasiSocketsCtx, World};
-use world_io::{Failed, Sink};
+use world_io::{Sink, write_all};
 use world_text::lines::newline_at;
 
 /// How a piece of a script ended.
@@ -23,24 +22,6 @@ pub enum LinesEnd {
     AllDone,
     /// A line trapped; the lines after it weren't done.
     Trapped,
-}
-
-/// Writes all the bytes, in as many pieces as it takes. `Failed`: the writer counted a fault, or
-/// took nothing of a piece. Takes no memory.
-pub fn write_all<K: Sink>(writer: &mut K, bytes: &[u8]) -> Result<(), Failed>
-    ensures all { OnOk result (TookAll (K.writing writer.old) (K.writing writer.new) bytes.now) }
-    ensures front { OnErr result (TookFront (K.writing writer.old) (K.writing writer.new)
-        bytes.now) }
-{
-    let mut at = 0;
-    while at < bytes.len() {
-        let count = writer.write(&bytes[at..])?;
-        if count == 0 {
-            return Err(Failed);
-        }
-        at += count;
-    }
-    Ok(())
 }
 
 /// Does the next line, and writes its reply.

@@ -1,8 +1,9 @@
 //! A spawner that refuses some starts.
 
-ghost use Rattle.std.specs.Prelude.{◌≡◌, ◌≤◌, true, false};
+ghost use Rattle.std.specs.Prelude.{◌≡◌, ◌≤◌, ◌↔◌, IsFalse};
 ghost use Rattle.std.specs.Bool.{OnTrue, OnFalse};
-ghost use Rattle.wasi_world.specs.Seen.{Rose};
+ghost use Rattle.wasi_world.specs.Seen.{Rose, one_more};
+ghost use Rattle.wasi_spawn.specs.Start.{IsRefused};
 
 use crate::spawner::{Spawner, one_more};
 
@@ -19,7 +20,7 @@ pub struct FakeSpawner {
 impl FakeSpawner {
     /// A spawner that refuses the starts of these numbers, counted from 1.
     pub fn new(refuse: Vec<u32>) -> FakeSpawner
-        ensures { (result.starts ≡ 0) × (result.refusals ≡ 0) }
+        ensures { result ≡ record { refuse = refuse; tried = 0; starts = 0; refusals = 0 } }
     {
         FakeSpawner {
             refuse,
@@ -49,13 +50,23 @@ impl Spawner for FakeSpawner {
 
     ghost starts = { λ spawner. spawner.starts };
 
-    fn admits(&mut self) -> bool {
+    ghost refuses = { λ spawner. IsRefused spawner.refuse.items spawner.tried };
+
+    /// Counts the start, and returns whether its number isn't one of those that are refused.
+    fn admits(&mut self) -> bool
+        ensures answer { IsFalse result ↔ IsRefused self.old.refuse.items self.old.tried }
+        ensures yes { OnTrue result (self.new ≡ record self.old
+            { tried = one_more self.old.tried }) }
+        ensures no { OnFalse result (self.new ≡ record self.old
+            { tried = one_more self.old.tried; refusals = one_more self.old.refusals }) }
+        ensures never_falls { self.old.refusals ≤ self.new.refusals }
+    {
         self.tried = one_more(self.tried);
         let number = self.tried;
         if self
             .refuse
             .iter()
-            .any(|refused| u64::from(*refused) == number)
+            .any(|refused| number == u64::from(*refused))
         {
             self.refusals = one_more(self.refusals);
             return false;
@@ -63,11 +74,17 @@ impl Spawner for FakeSpawner {
         true
     }
 
-    fn refused(&mut self) {
+    fn refused(&mut self)
+        ensures counted { self.new ≡ record self.old { refusals = one_more self.old.refusals } }
+        ensures never_falls { self.old.refusals ≤ self.new.refusals }
+    {
         self.refusals = one_more(self.refusals);
     }
 
-    fn started(&mut self) {
+    fn started(&mut self)
+        ensures counted { self.new ≡ record self.old { starts = one_more self.old.starts } }
+        ensures never_falls { self.old.starts ≤ self.new.starts }
+    {
         self.starts = one_more(self.starts);
     }
 }

@@ -1,8 +1,9 @@
 //! What starts jobs.
 
-ghost use Rattle.std.specs.Prelude.{◌≡◌, ◌≤◌, ℕ, OnOk, OnErr, IfOk, IfErr};
+ghost use Rattle.std.specs.Prelude.{◌≡◌, ◌≤◌, ◌↔◌, ℕ, OnOk, OnErr, IfOk, IfErr, IsFalse, Err};
 ghost use Rattle.std.specs.Bool.{OnTrue, OnFalse};
 ghost use Rattle.wasi_world.specs.Seen.{Rose};
+ghost use Rattle.wasi_spawn.specs.declared.job.StartError.TheVariants.{NoWorker};
 ghost use Rattle.wasi_spawn.specs.Start.{job_of, RefusedAs};
 ghost use Rattle.wasi_spawn.specs.Handles.{started_with};
 
@@ -17,15 +18,18 @@ use std::thread::Threads;
 /// Starts jobs in threads of their own, and counts its starts and its refusals. Neither count ever
 /// falls; each is kept in 64 bits and stays at its top.
 ///
-/// An implementing type decides whether a start is tried, and counts. It doesn't change how a job
-/// is started and joined.
+/// An implementing type decides whether a start is tried, and counts. Its ghost `refuses` says when
+/// the next one isn't. It doesn't change how a job is started and joined.
 pub trait Spawner {
     ghost refusals: { Self → ℕ };
 
     ghost starts: { Self → ℕ };
 
+    ghost refuses: { Self → Type 0 };
+
     /// Whether the next start is tried. Where it isn't, a refusal is counted.
     fn admits(&mut self) -> bool
+        ensures answer { IsFalse result ↔ refuses self.old }
         ensures yes { OnTrue result (refusals self.new ≡ refusals self.old) }
         ensures no { OnFalse result (Rose (refusals self.old) (refusals self.new)) }
         ensures never_falls { refusals self.old ≤ refusals self.new }
@@ -58,6 +62,7 @@ pub trait Spawner {
         ensures stayed { OnErr result (starts self.new ≡ starts self.old) }
         ensures back { IfErr result (λ e. job_of e ≡ job) }
         ensures refused { IfErr result (λ e. RefusedAs e (refusals self.old) (refusals self.new)) }
+        ensures untried { refuses self.old → result ≡ Err (NoWorker job) }
         ensures never_falls { (refusals self.old ≤ refusals self.new)
             × (starts self.old ≤ starts self.new) }
     {

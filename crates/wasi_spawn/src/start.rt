@@ -1,7 +1,7 @@
-//! How a job is started in a thread.
+//! How a job is started in a thread, and what comes back where it isn't.
 
-ghost use Rattle.std.specs.Prelude.{◌≡◌, IfOk, IfErr};
-ghost use Rattle.wasi_spawn.specs.Start.{job_of};
+ghost use Rattle.std.specs.Prelude.{◌≡◌, ℕ, IfOk, IfErr};
+ghost use Rattle.wasi_spawn.specs.Start.{job_of, RefusedAs};
 ghost use Rattle.wasi_spawn.specs.Run.{IsRunOf};
 ghost use Rattle.wasi_spawn.specs.Handles.{started_with};
 
@@ -63,6 +63,20 @@ pub fn start_thread<J: Job, R: Threads + Wait + Copy + Send + 'static>(
                 Ran::Back(job) => Err(StartError::NoWorker(job)),
                 Ran::Done(out) => Ok(Handle::Here(keep(out, shown))),
             }
+        }
+    }
+}
+
+impl<T> StartError<T> {
+    /// The same error, with what the function makes of the job in its place.
+    pub fn map<U, F: FnOnce(T) -> U>(self, f: F) -> StartError<U>
+        requires { F.pre f (job_of self) }
+        ensures back { F.post f (job_of self) (job_of result) }
+        ensures refused { (old new : ℕ) → RefusedAs self old new → RefusedAs result old new }
+    {
+        match self {
+            StartError::NoWorker(job) => StartError::NoWorker(f(job)),
+            StartError::Memory(job) => StartError::Memory(f(job)),
         }
     }
 }

@@ -42,6 +42,8 @@ impl Spawner for ThreadSpawner {
 
     ghost starts = { λ spawner. spawner.starts };
 
+    ghost refuses = { λ spawner. ⊥ };
+
     fn admits(&mut self) -> bool {
         true
     }

@@ -13,8 +13,8 @@ use Rattle.wasi_run.specs.declared.run.RunEnd.{RunEnd}
 use Rattle.wasi_run.specs.declared.run.RunEnd.TheVariants as end
 use Rattle.wasi_run.specs.declared.error.RunError.{RunError}
 use Rattle.wasi_run.specs.declared.error.RunError.TheVariants.{Memory, BadStep, TooLong, ReadFault, WriteFault}
-use Rattle.wasi_run.specs.Written.{TookAll, TookFront}
-use Rattle.wasi_run.proofs.Takes.{took_again, same_again, rose_again}
+use Rattle.world_io.specs.Written.{TookAll, TookPart}
+use Rattle.world_io.proofs.Took.{took_again, same_again, rose_again}
 use Rattle.wasi_transcript.specs.declared.show.Stop.{Stop}
 use Rattle.wasi_transcript.specs.declared.show.Stop.TheVariants as stop
 use Rattle.wasi_transcript.specs.Shown.{Done, Stops, Wrote, IsShown, outcome_of, ending_text}
@@ -83,7 +83,7 @@ module _ {contexts : List WasiSocketsCtx} {limit : ℕ} {s_old s_new : Reading} 
       record { count = (closes (h.sides known)).count (h.closings ∙ fresh.closings) }
 
 module _ {contexts : List WasiSocketsCtx} {limit : ℕ} {s_old s_new : Reading} {k_old k_mid k_new : Writing} {w_old w_mid : Seen} {last : Machine} {line : List ℕ} where
-  wrote_ending : (closings : ℕ) (s : Stop) (h : LinesShown contexts limit s_old s_new k_old k_mid w_old w_mid last line (outcome_of s)) → TookAll k_mid k_new (ending_text s line closings) → Wrote h.done.exchanges line closings (h.written ++ ending_text s line closings) k_old k_new (outcome_of s)
+  wrote_ending : (closings : ℕ) (s : Stop) (h : LinesShown contexts limit s_old s_new k_old k_mid w_old w_mid last line (outcome_of s)) → TookAll k_mid (ending_text s line closings) k_new → Wrote h.done.exchanges line closings (h.written ++ ending_text s line closings) k_old k_new (outcome_of s)
   wrote_ending closings stop.AllRead h a = (ap (λ t. t ++ ending_text stop.AllRead line closings) h.wrote.0, same_again h.wrote.1 a.counts)
   wrote_ending closings stop.Trapped h a = (ap (λ t. t ++ ending_text stop.Trapped line closings) h.wrote.0, same_again h.wrote.1 a.counts)
   wrote_ending closings (stop.BadStep n) h a = (ap (λ t. t ++ ending_text (stop.BadStep n) line closings) h.wrote.0, same_again h.wrote.1 a.counts)
@@ -92,7 +92,7 @@ module _ {contexts : List WasiSocketsCtx} {limit : ℕ} {s_old s_new : Reading} 
 
 module _ {contexts : List WasiSocketsCtx} {limit : ℕ} {s_old s_new : Reading} {k_old k_mid k_new : Writing} {w_old w_mid w_new : Seen} {last : Machine} {line : List ℕ} where
   -- the last lines were cut
-  pub shown_cut : (s : Stop) → LinesShown contexts limit s_old s_new k_old k_mid w_old w_mid last line (outcome_of s) → AsksNothing w_mid w_new → TookFront k_mid k_new (ending_text s line w_new.closings) → IsShown contexts limit s_old s_new k_old k_new w_old w_new (Err WriteFault)
+  pub shown_cut : (s : Stop) → LinesShown contexts limit s_old s_new k_old k_mid w_old w_mid last line (outcome_of s) → AsksNothing w_mid w_new → TookPart k_mid (ending_text s line w_new.closings) k_new → IsShown contexts limit s_old s_new k_old k_new w_old w_new (Err WriteFault)
   shown_cut s h q f =
       let wrote = wrote_lines s h in record {
         done = done_ended h.done q;
@@ -104,7 +104,7 @@ module _ {contexts : List WasiSocketsCtx} {limit : ℕ} {s_old s_new : Reading} 
       }
 
   -- the whole transcript was written
-  pub shown_whole : (s : Stop) → LinesShown contexts limit s_old s_new k_old k_mid w_old w_mid last line (outcome_of s) → AsksNothing w_mid w_new → TookAll k_mid k_new (ending_text s line w_new.closings) → IsShown contexts limit s_old s_new k_old k_new w_old w_new (outcome_of s)
+  pub shown_whole : (s : Stop) → LinesShown contexts limit s_old s_new k_old k_mid w_old w_mid last line (outcome_of s) → AsksNothing w_mid w_new → TookAll k_mid (ending_text s line w_new.closings) k_new → IsShown contexts limit s_old s_new k_old k_new w_old w_new (outcome_of s)
   shown_whole s h q a = record {
     done = done_ended h.done q;
     line = line;

@@ -6,7 +6,7 @@ use Rattle.std.specs.declared.alloc.AllocError.{AllocError}
 use Rattle.world_io.specs.Io.{Reading, Gave}
 use Rattle.world_text.specs.Lines.{lines_of, rest_of, lines_from, rest_from}
 use Rattle.world_text.proofs.LinesOf.{lines-append, rest-append}
-use Rattle.wasi_run.proofs.Takes.{gave_again, gave_none}
+use Rattle.world_io.proofs.Gave.{gave_again, gave_none}
 use Rattle.wasi_transcript.specs.declared.lines.Piece.TheVariants as piece
 use Rattle.wasi_transcript.specs.Reading.{Held, with_more, Reads, TakesLine, ReadsPiece}
 

@@ -21,8 +21,9 @@ use Rattle.wasi_steps.specs.declared.reply.Reply.{Reply}
 use Rattle.wasi_steps.specs.declared.step.Step.{Step}
 use Rattle.wasi_machine.specs.Machine.{machine_asks}
 use Rattle.wasi_steps.specs.Steps.{step_of}
-use Rattle.wasi_run.specs.Written.{TookAll, TookFront}
-use Rattle.wasi_run.proofs.Takes.{gave_again, gave_none, took_again, took_none, same_again, same_none, rose_again}
+use Rattle.world_io.specs.Written.{TookAll, TookPart}
+use Rattle.world_io.proofs.Gave.{gave_again, gave_none}
+use Rattle.world_io.proofs.Took.{took_again, took_none, same_again, same_none, rose_again}
 use Rattle.wasi_transcript.specs.declared.lines.NextLine.TheVariants as next
 use Rattle.wasi_transcript.specs.Reading.{Held, with_more, Reads}
 use Rattle.wasi_transcript.specs.Transcript.{Exchange, exchanges_text, lines_in, replies_in, calls_in, IsDone, AreDone, Logged}
@@ -247,7 +248,7 @@ module _ {contexts : List WasiSocketsCtx} {limit : ℕ} {s_old s_now : Reading} 
 
 module _ {contexts : List WasiSocketsCtx} {limit : ℕ} {s_old s_now : Reading} {k_old k_now k_new : Writing} {w_old w_now w_new : Seen} {machine next : Machine} {number taken : ℕ} {line rest text : List ℕ} {more : List (List ℕ)} {trap : Bool} where
   -- its part of the transcript was cut
-  pub line_cut : Showing contexts limit s_old s_now k_old k_now w_old w_now machine number taken (line ∷ more) rest → Exchanged contexts machine next (number + 1) line w_now w_new text trap → taken ≤ limit + 1 → (KnowsSides w_now machine.store → KnowsSides w_new next.store) → TookFront k_now k_new text → LinesShown contexts limit s_old s_now k_old k_new w_old w_new next line (Err WriteFault)
+  pub line_cut : Showing contexts limit s_old s_now k_old k_now w_old w_now machine number taken (line ∷ more) rest → Exchanged contexts machine next (number + 1) line w_now w_new text trap → taken ≤ limit + 1 → (KnowsSides w_now machine.store → KnowsSides w_new next.store) → TookPart k_now text k_new → LinesShown contexts limit s_old s_now k_old k_new w_old w_new next line (Err WriteFault)
   unfolding done_line
   line_cut s k h sides f = record {
     done = done_line s k h;
@@ -261,7 +262,7 @@ module _ {contexts : List WasiSocketsCtx} {limit : ℕ} {s_old s_now : Reading} 
 
 module _ {contexts : List WasiSocketsCtx} {limit : ℕ} {s_old s_now : Reading} {k_old k_now k_new : Writing} {w_old w_now w_new : Seen} {machine next : Machine} {number taken : ℕ} {line rest text : List ℕ} {more : List (List ℕ)} where
   -- it was the last, whose reply is a trap
-  pub line_traps : Showing contexts limit s_old s_now k_old k_now w_old w_now machine number taken (line ∷ more) rest → Exchanged contexts machine next (number + 1) line w_now w_new text true → taken ≤ limit + 1 → (KnowsSides w_now machine.store → KnowsSides w_new next.store) → TookAll k_now k_new text → LinesShown contexts limit s_old s_now k_old k_new w_old w_new next line (Ok end.Trapped)
+  pub line_traps : Showing contexts limit s_old s_now k_old k_now w_old w_now machine number taken (line ∷ more) rest → Exchanged contexts machine next (number + 1) line w_now w_new text true → taken ≤ limit + 1 → (KnowsSides w_now machine.store → KnowsSides w_new next.store) → TookAll k_now text k_new → LinesShown contexts limit s_old s_now k_old k_new w_old w_new next line (Ok end.Trapped)
   unfolding done_line
   line_traps s k h sides a = record {
     done = done_line s k h;
@@ -274,7 +275,7 @@ module _ {contexts : List WasiSocketsCtx} {limit : ℕ} {s_old s_now : Reading} 
   }
 
   -- the next line
-  pub line_done : Showing contexts limit s_old s_now k_old k_now w_old w_now machine number taken (line ∷ more) rest → Exchanged contexts machine next (number + 1) line w_now w_new text false → (KnowsSides w_now machine.store → KnowsSides w_new next.store) → TookAll k_now k_new text → Showing contexts limit s_old s_now k_old k_new w_old w_new next (number + 1) taken more rest
+  pub line_done : Showing contexts limit s_old s_now k_old k_now w_old w_now machine number taken (line ∷ more) rest → Exchanged contexts machine next (number + 1) line w_now w_new text false → (KnowsSides w_now machine.store → KnowsSides w_new next.store) → TookAll k_now text k_new → Showing contexts limit s_old s_now k_old k_new w_old w_new next (number + 1) taken more rest
   line_done s k sides a = record {
     text = s.text;
     gave = s.gave;

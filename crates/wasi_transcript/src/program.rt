@@ -10,8 +10,7 @@ use std::alloc::{AllocError, Global};
 use wasi_program::Status;
 use wasi_program::scenario::{Scenario, Unread, parse_scenario, read_scenario};
 use wasi_program::status::bad_line;
-use wasi_run::write_all;
-use world_io::{Sink, Source};
+use world_io::{Sink, Source, write_all};
 use world_text::fields::number;
 
 /// How the program ended.

@@ -6,7 +6,7 @@ ghost use Rattle.wasi_world.specs.Script.{GoesByPlan};
 ghost use Rattle.world_scripted.specs.Scripted.{seen_by};
 ghost use Rattle.wasi_host.specs.Machine.{first_state};
 ghost use Rattle.wasi_records.specs.Closing.{IsFresh, HasClosedAll};
-ghost use Rattle.wasi_run.specs.Written.{TookAll, TookFront};
+ghost use Rattle.world_io.specs.Written.{TookAll, TookPart};
 ghost use Rattle.wasi_transcript.specs.Shown.{stop_text, ending_text, IsShown};
 ghost use Rattle.wasi_transcript.specs.Showing.{LinesShown, IsHalt, ended};
 
@@ -14,9 +14,9 @@ use crate::exchange::{LineEnd, do_line, no_step_text};
 use crate::lines::{LineReader, NextLine};
 use std::alloc::{AllocError, Global};
 use std::fmt::Write;
-use wasi_run::{RunEnd, RunError, Session, write_all};
+use wasi_run::{RunEnd, RunError, Session};
 use wasi_world::WasiSocketsCtx;
-use world_io::{Sink, Source};
+use world_io::{Sink, Source, write_all};
 use world_scripted::ScriptedWorld;
 
 /// Why the lines of a script end, where neither memory ran out nor a write failed.
@@ -53,9 +53,9 @@ impl Stop {
 
 /// Writes a text whole.
 fn put<K: Sink>(writer: &mut K, text: &[u8]) -> Result<(), RunError>
-    ensures all { OnOk result (TookAll (K.writing writer.old) (K.writing writer.new) text.now) }
-    ensures front { OnErr result (TookFront (K.writing writer.old) (K.writing writer.new)
-        text.now) }
+    ensures all { OnOk result (TookAll (K.writing writer.old) text.now (K.writing writer.new)) }
+    ensures front { OnErr result (TookPart (K.writing writer.old) text.now
+        (K.writing writer.new)) }
     ensures fault { OnErr result (result ≡ Err RunError.WriteFault) }
 {
     match write_all(writer, text) {

@@ -4,11 +4,12 @@ use Rattle.std.specs.List.{concat}
 use Rattle.std.proofs.lemmas.List.Folds.{concat-append}
 use Rattle.std.proofs.lemmas.List.{nil_from_length}
 use Rattle.world_io.specs.Io.{Writing}
+use Rattle.world_io.specs.Written.{TookAll, TookFront, TookFault}
 use Rattle.worker_shared.specs.Ends.{IsLeft}
 use Rattle.worker_shared.specs.declared.finished.Ended.{Ended}
 use Rattle.wasi_writer.specs.Knows.{OwnerKnows, WorkerKnows}
 use Rattle.wasi_writer.specs.Answers.{Settled, HasLeft}
-use Rattle.wasi_writer.specs.Worked.{TookAll, TookFront, TookFault, TookTo, Worked}
+use Rattle.wasi_writer.specs.Worked.{TookTo, Worked}
 use Rattle.wasi_writer.specs.Stream.{WriteStream, HasFinished, outcome_of}
 use Rattle.wasi_writer.proofs.Works.{all_of}
 

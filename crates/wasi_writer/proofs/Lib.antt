@@ -1,4 +1,3 @@
-pub mod Took
 pub mod Works
 pub mod Ends
 pub mod Writes

@@ -1,14 +1,12 @@
 -- What a worker made of its sink, task by task.
-use Rattle.std.proofs.Common.{◌≡◌, ℕ, Bool, true, false, List, [], ◌∷◌, ◌++◌, ap, ◌∙◌, sym, subst, append_assoc, append-nil, true≢false}
+use Rattle.std.proofs.Common.{◌≡◌, ℕ, Bool, true, false, List, [], ◌∷◌, ◌++◌, ap, ◌∙◌, sym, subst, true≢false}
 use Rattle.std.specs.List.{concat}
+use Rattle.worker_shared.proofs.Chunks.{concat_end}
 use Rattle.world_io.specs.Io.{Writing}
+use Rattle.world_io.specs.Written.{TookAll, TookPart, TookFault}
+use Rattle.world_io.proofs.Took.{all_none, all_again, fault_again, part_is_fault}
 use Rattle.wasi_writer.specs.Knows.{WorkerKnows}
-use Rattle.wasi_writer.specs.Worked.{TookAll, TookFault, TookTo, IsFlushed, Worked}
-use Rattle.wasi_writer.proofs.Took.{all_none, all_more, fault_more}
-
-pub concat_end : (chunks : List (List ℕ)) (chunk : List ℕ) → concat (chunks ++ chunk ∷ []) ≡ concat chunks ++ chunk
-concat_end [] chunk = append-nil chunk
-concat_end (c ∷ chunks) chunk = ap (λ r. c ++ r) (concat_end chunks chunk) ∙ sym (append_assoc c (concat chunks) chunk)
+use Rattle.wasi_writer.specs.Worked.{TookTo, IsFlushed, Worked}
 
 module _ {a b : Writing} {chunks : List (List ℕ)} {k : WorkerKnows} where
   -- with no fault, all of the chunks are written
@@ -30,10 +28,10 @@ module _ {a b c : Writing} {chunks : List (List ℕ)} {k : WorkerKnows} where
   pub wrote : (chunk : List ℕ) (chunks' : List (List ℕ)) (k' : WorkerKnows) → Worked a chunks k b → k.met ≡ false → TookAll b chunk c
       → chunks' ≡ chunks ++ chunk ∷ [] → k'.met ≡ false → k'.flushed ≡ false → Worked a chunks' k' c
   wrote chunk chunks' k' w met all more met' flushed' = let F : List ℕ → Type 0 = λ l. TookAll a l c in
-      goes met' (subst F (sym (ap concat more ∙ concat_end chunks chunk)) (all_more a b c (concat chunks) chunk (all_of w met) all)) (λ f. absurd (true≢false (sym f ∙ flushed')))
+      goes met' (subst F (sym (ap concat more ∙ concat_end chunks chunk)) (all_again (all_of w met) all)) (λ f. absurd (true≢false (sym f ∙ flushed')))
 
   -- a chunk wasn't wholly written
-  pub failed : (chunk : List ℕ) (chunks' : List (List ℕ)) (k' : WorkerKnows) → Worked a chunks k b → k.met ≡ false → TookFault b chunk c
+  pub failed : (chunk : List ℕ) (chunks' : List (List ℕ)) (k' : WorkerKnows) → Worked a chunks k b → k.met ≡ false → TookPart b chunk c
       → chunks' ≡ chunks ++ chunk ∷ [] → k'.met ≡ true → k'.flushed ≡ false → Worked a chunks' k' c
-  failed chunk chunks' k' w met fault more met' flushed' = let F : List ℕ → Type 0 = λ l. TookFault a l c in
-      stops met' (subst F (sym (ap concat more ∙ concat_end chunks chunk)) (fault_more a b c (concat chunks) chunk (all_of w met) fault)) (λ f. absurd (true≢false (sym f ∙ flushed')))
+  failed chunk chunks' k' w met part more met' flushed' = let F : List ℕ → Type 0 = λ l. TookFault a l c in
+      stops met' (subst F (sym (ap concat more ∙ concat_end chunks chunk)) (fault_again (all_of w met) (part_is_fault part))) (λ f. absurd (true≢false (sym f ∙ flushed')))

@@ -3,10 +3,10 @@ use Rattle.std.proofs.Common.{◌≡◌, ◌+◌, ◌-◌, ◌==◌, ℕ, Bool, 
 use Rattle.std.specs.List.{concat}
 use Rattle.wasi_streams.specs.declared.error.StreamError.{StreamError}
 use Rattle.wasi_streams.specs.declared.error.StreamError.TheVariants.{LastOperationFailed, Closed, Trap, Memory}
-use Rattle.worker_shared.specs.Ends.{End}
+use Rattle.worker_shared.specs.Ends.{End, with_chunk}
 use Rattle.wasi_writer.specs.Knows.{OwnerKnows}
-use Rattle.wasi_writer.specs.Answers.{after_write, after_push, after_error, with_chunk}
-use Rattle.wasi_writer.proofs.Works.{concat_end}
+use Rattle.wasi_writer.specs.Answers.{after_write, after_push, after_error}
+use Rattle.worker_shared.proofs.Chunks.{concat_end}
 
 record Tied (knows : OwnerKnows) (end : End) : Type 0 where
   accepted : knows.accepted ≡ length (concat end.chunks)

@@ -1,11 +1,11 @@
 -- What a write stream answers, by what its owner knows.
-use Rattle.std.specs.Prelude.{◌≡◌, ◌≤◌, ◌<◌, ◌+◌, ◌-◌, ◌⊎◌, ⊤, ℕ, true, false, ◌==◌, if◌then◌else◌, List, [], ◌∷◌, ◌++◌, length, Result, Ok, Err, IsErr}
+use Rattle.std.specs.Prelude.{◌≡◌, ◌≤◌, ◌<◌, ◌+◌, ◌-◌, ◌⊎◌, ⊤, ℕ, true, false, ◌==◌, if◌then◌else◌, List, [], ◌++◌, length, Result, Ok, Err, IsErr}
 use Rattle.wasi_world.specs.declared.outcome.TrapKind.{TrapKind}
 use Rattle.wasi_world.specs.declared.outcome.TrapKind.TheVariants as trap
 use Rattle.wasi_streams.specs.declared.error.StreamError.{StreamError}
 use Rattle.wasi_streams.specs.declared.error.StreamError.TheVariants.{LastOperationFailed, Closed, Trap, Memory}
 use Rattle.wasi_streams.specs.StreamError.{UnlessMemory}
-use Rattle.worker_shared.specs.Ends.{End}
+use Rattle.worker_shared.specs.Ends.{End, with_chunk}
 use Rattle.wasi_writer.specs.declared.task.Task.{Task}
 use Rattle.wasi_writer.specs.declared.task.Task.TheVariants as task
 use Rattle.wasi_writer.specs.Knows.{OwnerKnows, WorkerKnows}
@@ -58,10 +58,6 @@ module _ {A : Type 0} where
 -- why the budget may be used up: a flush was accepted, or so many bytes were
 abbrev pub IsFull : ℕ → OwnerKnows → Type 0
 IsFull initial knows = (knows.flush ≡ true) ⊎ (initial ≤ knows.accepted)
-
--- the end of the line with one chunk more
-abbrev pub with_chunk : End → List ℕ → End
-with_chunk end chunk = record end { chunks = end.chunks ++ chunk ∷ [] }
 
 -- the owner's end of the line, once a write of this chunk was answered
 abbrev pub after_push : End → List ℕ → Result (Unit {0}) StreamError → End

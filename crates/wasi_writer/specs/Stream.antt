@@ -2,12 +2,13 @@
 use Rattle.std.specs.Prelude.{◌≡◌, ◌-◌, ℕ, Bool, true, false, List, [], ◌∷◌, ◌++◌, ◌==◌, if◌then◌else◌, length, Result, Ok, Err, OnOk, IfErr}
 use Rattle.std.specs.List.{concat}
 use Rattle.world_io.specs.Io.{Writing, CountRose}
+use Rattle.world_io.specs.Written.{TookAll, TookFront}
 use Rattle.wasi_streams.specs.declared.error.StreamError.{StreamError}
 use Rattle.wasi_streams.specs.declared.error.StreamError.TheVariants.{LastOperationFailed, Closed, Trap, Memory}
 use Rattle.worker_shared.specs.declared.finished.Ended.{Ended}
 use Rattle.worker_shared.specs.declared.finished.Ended.TheVariants as ended
 use Rattle.wasi_writer.specs.Knows.{OwnerKnows}
-use Rattle.wasi_writer.specs.Worked.{TookAll, TookFront, IsFlushed}
+use Rattle.wasi_writer.specs.Worked.{IsFlushed}
 
 pub record WriteStream : Type 0 where
   pub began : Writing  -- what was known of the sink when the stream was made

@@ -6,9 +6,7 @@
 
 mod lock;
 pub mod names;
-mod number;
 mod owner_facts;
-pub mod put;
 mod shared;
 pub mod stream;
 mod task;

@@ -6,9 +6,8 @@ ghost use Rattle.wasi_writer.specs.Knows.{OwnerKnows, nothing_yet};
 use crate::names::{
     Accepted, Done, Flush, LedgerNames, OwnerBlanks, Permit, Pushed, Ready, Stopped, Told,
 };
-use crate::number::{Number, Setter};
 use std::marker::Model;
-use worker_shared::{Count, Counter, Fact, Keeper};
+use worker_shared::{Count, Counter, Fact, Keeper, Number};
 
 /// What the owner knows, as it is under the lock.
 #[derive(Drop)]
@@ -45,7 +44,7 @@ impl<N: LedgerNames> Model for OwnerFacts<N> {
 pub struct OwnerKeys<N: LedgerNames> {
     accepted: Counter<Accepted<N>>,
     pushed: Counter<Pushed<N>>,
-    permit: Setter<Permit<N>>,
+    permit: Counter<Permit<N>>,
     flush: Keeper<Flush<N>>,
     ready: Keeper<Ready<N>>,
     told: Keeper<Told<N>>,

@@ -107,14 +107,16 @@ impl<K: Sink + Drop + Send + 'static, N: Names + Send + Sync + 'static> AsyncWri
             return Err(StartError::Memory(writer));
         };
         let worker = WriteWorker { sink: writer, side };
-        let handle = start_worker(rt, alloc, spawner, worker)?;
-        Ok(AsyncWriteStream {
-            shared,
-            push,
-            keys,
-            alloc,
-            handle,
-        })
+        match spawner.start(rt, alloc, worker) {
+            Ok(handle) => Ok(AsyncWriteStream {
+                shared,
+                push,
+                keys,
+                alloc,
+                handle,
+            }),
+            Err(e) => Err(e.map(|worker| worker.sink)),
+        }
     }
 
     /// Writes the bytes in the background. No bytes are written at once.
@@ -272,32 +274,6 @@ fn share<N: Names>(
     let shared = Arc::new(alloc, shared)?;
     let theirs = Arc::try_clone(&shared)?;
     Ok((shared, theirs))
-}
-
-/// Starts the worker. Where that fails, its sink comes back.
-fn start_worker<
-    K: Sink + Drop + Send + 'static,
-    N: Names + Send + Sync + 'static,
-    P: Spawner,
-    R: Threads + Wait + Copy + Send + 'static,
->(
-    rt: &R,
-    alloc: Global,
-    spawner: &mut P,
-    worker: WriteWorker<K, N>,
-) -> Result<Handle<WriteWorker<K, N>>, StartError<K>>
-    ensures handle { IfOk result (λ handle. started_with handle ≡ worker) }
-    ensures rose { OnOk result (Rose (P.starts spawner.old) (P.starts spawner.new)) }
-    ensures stayed { OnErr result (P.starts spawner.new ≡ P.starts spawner.old) }
-    ensures back { IfErr result (λ e. job_of e ≡ worker.sink) }
-    ensures refused { IfErr result (λ e. RefusedAs e (P.refusals spawner.old)
-        (P.refusals spawner.new)) }
-{
-    match spawner.start(rt, alloc, worker) {
-        Ok(handle) => Ok(handle),
-        Err(StartError::NoWorker(worker)) => Err(StartError::NoWorker(worker.sink)),
-        Err(StartError::Memory(worker)) => Err(StartError::Memory(worker.sink)),
-    }
 }
 
 /// How a stream ends.

@@ -2,12 +2,12 @@
 
 ghost use Rattle.std.specs.Prelude.{◌≡◌, OnOk, OnErr, true, false, [], length, is_err};
 ghost use Rattle.world_io.specs.Io.{Writing, HasFlushed};
+ghost use Rattle.world_io.specs.Written.{TookAll, TookPart};
 ghost use Rattle.wasi_writer.specs.Knows.{idle};
 ghost use Rattle.wasi_writer.specs.Answers.{HasTask};
-ghost use Rattle.wasi_writer.specs.Worked.{Worked, TookAll, TookFault};
+ghost use Rattle.wasi_writer.specs.Worked.{Worked};
 
 use crate::names::Names;
-use crate::put::write_all;
 use crate::shared::Shared;
 use crate::task::Task;
 use crate::worker_facts::WorkerKeys;
@@ -18,7 +18,7 @@ use std::thread::Threads;
 use wasi_addr::ErrorCode;
 use wasi_spawn::Job;
 use worker_shared::PopEnd;
-use world_io::{Failed, Sink};
+use world_io::{Failed, Sink, write_all};
 
 /// The worker's side of a write stream.
 #[derive(Drop)]
@@ -139,7 +139,7 @@ fn write_chunk<K: Sink, N: Names, R: Wait>(
 ) -> Result<(), Failed>
     requires { (side.old.keys.hand ≡ true) × (side.old.keys.met ≡ false) }
     ensures ok { OnOk result (TookAll (K.writing sink.old) chunk.now (K.writing sink.new)) }
-    ensures err { OnErr result (TookFault (K.writing sink.old) chunk.now (K.writing sink.new)) }
+    ensures err { OnErr result (TookPart (K.writing sink.old) chunk.now (K.writing sink.new)) }
     ensures wrote { OnOk result (side.new.keys ≡ record side.old.keys { hand = false }) }
     ensures failed { OnErr result (side.new.keys ≡ record side.old.keys
         { met = true; drained = false }) }

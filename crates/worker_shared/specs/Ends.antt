@@ -1,5 +1,5 @@
 -- What contracts see of the ends of a line.
-use Rattle.std.specs.Prelude.{◌≡◌, ℕ, List, ◌++◌, length}
+use Rattle.std.specs.Prelude.{◌≡◌, ℕ, List, [], ◌∷◌, ◌++◌, length}
 use Rattle.std.specs.declared.alloc.Global.{Global}
 use Rattle.crossbeam_queue.specs.SegTies.{SegId}
 
@@ -7,6 +7,10 @@ use Rattle.crossbeam_queue.specs.SegTies.{SegId}
 pub record End : Type 0 where
   pub line : SegId Global
   pub chunks : List (List ℕ)
+
+-- the end with one chunk more
+abbrev pub with_chunk : End → List ℕ → End
+with_chunk end chunk = record end { chunks = end.chunks ++ chunk ∷ [] }
 
 -- the line at this place
 abbrev pub line_at : ℕ × ℕ → Global → SegId Global

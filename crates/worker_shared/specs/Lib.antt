@@ -1,3 +1,2 @@
-pub mod Facts
 pub mod Relay
 pub mod Ends

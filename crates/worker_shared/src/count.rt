@@ -1,11 +1,11 @@
-//! A count that is under a lock and that one side alone raises.
+//! A count that is under a lock and that one side alone changes.
 
 ghost use Rattle.std.specs.Prelude.{◌≡◌, ◌+◌, ◌≤◌};
 
 use std::marker::Model;
 use std::sync::ledger::{Blank, Book, Ledger, Share};
 
-/// A count under a lock, which exists in proofs alone. Only its [`Counter`] raises it.
+/// A count under a lock, which exists in proofs alone. Only its [`Counter`] changes it.
 #[derive(Drop)]
 pub struct Count<L: Ledger> {
     book: Book<L>,
@@ -19,7 +19,7 @@ impl<L: Ledger> Model for Count<L> {
     ghost view = { λ count. count.book.total };
 }
 
-/// The right to raise a [`Count`]. Its holder knows the count while others have the lock.
+/// The right to change a [`Count`]. Its holder knows the count while others have the lock.
 #[derive(Drop)]
 pub struct Counter<L: Ledger> {
     share: Share<L>,
@@ -65,5 +65,21 @@ impl<L: Ledger> Count<L> {
     {
         self.book.audit(&mut counter.share);
         self.book.add(&mut counter.share, more);
+    }
+
+    /// Changes it from one number to another.
+    pub fn change(&mut self, counter: &mut Counter<L>, from: u64, to: u64)
+        requires parts { L.parts ≡ 1 }
+        requires from { self.old ≡ from }
+        ensures agreed { self.old ≡ counter.old }
+        ensures count { self.new ≡ to }
+        ensures counter { counter.new ≡ to }
+    {
+        self.book.audit(&mut counter.share);
+        if to >= from {
+            self.book.add(&mut counter.share, to - from);
+        } else {
+            self.book.sub(&mut counter.share, from - to);
+        }
     }
 }

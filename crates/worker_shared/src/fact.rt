@@ -1,42 +1,38 @@
 //! A fact that is under a lock and that one side alone changes.
 
-ghost use Rattle.std.specs.Prelude.{◌≡◌, ◌≤◌, false};
+ghost use Rattle.std.specs.Prelude.{◌≡◌, false};
 
+use crate::count::Counter;
+use crate::number::Number;
 use std::marker::Model;
-use std::sync::ledger::{Blank, Book, Ledger, Share};
+use std::sync::ledger::{Blank, Ledger};
 
 /// A fact under a lock, true or false. Only its [`Keeper`] changes it.
 #[derive(Drop)]
 pub struct Fact<L: Ledger> {
-    holds: bool,
-    book: Book<L>,
+    number: Number<L>,
 }
 
 impl<L: Ledger> Model for Fact<L> {
-    ghost use Rattle.std.specs.Prelude.{◌≡◌, Bool};
-    ghost use Rattle.worker_shared.specs.Facts.{amount_of};
+    ghost use Rattle.std.specs.Prelude.{◌==◌, Bool};
 
     ghost Value = { Bool };
 
-    ghost view = { λ fact. fact.holds };
-
-    ghost invariant = { λ fact. fact.book.total ≡ amount_of fact.holds };
+    ghost view = { λ fact. fact.number == 1 };
 }
 
 /// The right to change a [`Fact`]. Its holder knows the fact while others have the lock.
 #[derive(Drop)]
 pub struct Keeper<L: Ledger> {
-    share: Share<L>,
+    counter: Counter<L>,
 }
 
 impl<L: Ledger> Model for Keeper<L> {
-    ghost use Rattle.std.specs.Prelude.{◌≡◌, ◌≤◌, ◌==◌, Bool};
+    ghost use Rattle.std.specs.Prelude.{◌==◌, Bool};
 
     ghost Value = { Bool };
 
-    ghost view = { λ keeper. keeper.share.amount == 1 };
-
-    ghost invariant = { λ keeper. (keeper.share.parts ≡ 1) × (keeper.share.amount ≤ 1) };
+    ghost view = { λ keeper. keeper.counter == 1 };
 }
 
 impl<L: Ledger> Fact<L> {
@@ -47,15 +43,15 @@ impl<L: Ledger> Fact<L> {
         ensures fact { result.0 ≡ false }
         ensures keeper { result.1 ≡ false }
     {
-        let (book, share) = blank.open::<L>();
-        (Fact { holds: false, book }, Keeper { share })
+        let (number, counter) = Number::open(blank);
+        (Fact { number }, Keeper { counter })
     }
 
     /// Whether it holds.
     pub fn holds(&self) -> bool
         ensures { result ≡ self.now }
     {
-        self.holds
+        self.number.value() == 1
     }
 
     /// What the keeper knows is so.
@@ -64,7 +60,7 @@ impl<L: Ledger> Fact<L> {
         ensures agrees { self.old ≡ keeper.old }
         ensures same { (self.new ≡ self.old) × (keeper.new ≡ keeper.old) }
     {
-        self.book.audit(&mut keeper.share);
+        self.number.agree(&mut keeper.counter);
     }
 
     /// The keeper changes it.
@@ -74,13 +70,7 @@ impl<L: Ledger> Fact<L> {
         ensures fact { self.new ≡ holds }
         ensures keeper { keeper.new ≡ holds }
     {
-        self.book.audit(&mut keeper.share);
-        if holds && !self.holds {
-            self.book.add(&mut keeper.share, 1);
-        }
-        if self.holds && !holds {
-            self.book.sub(&mut keeper.share, 1);
-        }
-        self.holds = holds;
+        let number = if holds { 1 } else { 0 };
+        self.number.set(&mut keeper.counter, number);
     }
 }

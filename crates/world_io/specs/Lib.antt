@@ -1,3 +1,4 @@
 pub mod Io
+pub mod Written
 pub mod Memory
 pub mod Standard

@@ -16,10 +16,9 @@ use std::thread::Threads;
 use wasi_spawn::{StartError, ThreadSpawner};
 use wasi_streams::StreamError;
 use wasi_world::TrapKind;
-use wasi_writer::put::write_all;
 use wasi_writer::{AsyncWriteStream, Names, WriteParts};
 use worker_shared::Finished;
-use world_io::{Failed, Sink, Source};
+use world_io::{Failed, Sink, Source, write_all};
 
 /// Writes all of the bytes, and lets the end go.
 fn send<R: Wait + Copy>(mut writer: SimplexWriter<R>, bytes: &[u8]) -> bool {
