@@ -1,5 +1,5 @@
 -- Cells have the least place of the rules of each port.
-use Rattle.std.specs.Prelude.{nat_le, min, if◌then◌else◌, ◌&&◌, IfOk, Result, Ok, Err}
+use Rattle.std.specs.Prelude.{nat_le, min, IfOk, Result, Ok, Err}
 use Rattle.std.proofs.Common.{◌≡◌, ℕ, ◌+◌, ◌≤◌, ◌<◌, Bool, true, false, List, [], ◌∷◌, ◌++◌, zero, suc, ◌-◌, ◌⊎◌, inl, inr, length, take, drop, get_or, arith, ap, sym, ◌∙◌, refl}
 use Rattle.std.specs.List.Sorted.{IsNonDecreasingBy}
 use Rattle.std.proofs.lemmas.List.{append-nil, append_assoc, drop_all, drop_more, take_rest}
@@ -8,7 +8,7 @@ use Rattle.std.proofs.lemmas.Bool.{and_parts, false≢true, cases_lt}
 use Rattle.std.proofs.lemmas.Bool.Decides.{nat_tests}
 use Rattle.wasi_policy.specs.declared.cells.Cell.{Cell}
 use Rattle.wasi_policy.specs.declared.reach.Reach.{Reach}
-use Rattle.wasi_policy.specs.Reach.{no_rule, has_port, first_by_port}
+use Rattle.wasi_policy.specs.Reach.{no_rule, first_by_port}
 use Rattle.wasi_policy.specs.Cells.{at_port, cells_of_one, cell_of, least_with, among, is_next, merged_cells, rises_from}
 
 -- == the lesser of two lists of cells

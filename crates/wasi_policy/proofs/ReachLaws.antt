@@ -1,6 +1,6 @@
 -- The first rule that matches is the least place of what the rules match.
 use Rattle.std.specs.Prelude.{nat_le, min, if◌then◌else◌, ◌&&◌, ◌==◌, ◌%◌, ◌/◌, ◌*◌, ◌^◌, ◌-◌}
-use Rattle.std.proofs.Common.{◌≡◌, ℕ, suc, ◌+◌, ◌≤◌, ◌<◌, Bool, true, false, List, [], ◌∷◌, Option, Some, None, length, get_or, arith, ap, sym, ◌∙◌, refl}
+use Rattle.std.proofs.Common.{◌≡◌, ℕ, suc, ◌+◌, ◌≤◌, ◌<◌, Bool, true, false, List, [], ◌∷◌, Option, Some, None, length, arith, ap, sym, ◌∙◌, refl}
 use Rattle.std.specs.List.{slice_get}
 use Rattle.std.proofs.lemmas.Bool.Decides.{nat_tests}
 use Rattle.std.proofs.lemmas.Nat.{pow_pos, mul-le, div-add-mod', mod_below}
@@ -12,9 +12,9 @@ use Rattle.wasi_addr.specs.Address.{canonical, ip_of, port_of}
 use Rattle.wasi_policy.specs.declared.rule.Net.{Net}
 use Rattle.wasi_policy.specs.declared.rule.Net.TheVariants as net
 use Rattle.wasi_policy.specs.declared.rule.Rule.{Rule}
-use Rattle.wasi_policy.specs.Decision.{ipv4_number, ipv6_number, agree, is_in, is_about, matches, allows, decided_from}
+use Rattle.wasi_policy.specs.Decision.{ipv4_number, ipv6_number, is_in, is_about, matches, decided_from}
 use Rattle.wasi_policy.specs.declared.reach.Reach.{Reach}
-use Rattle.wasi_policy.specs.Reach.{family_of, ip_number, block_low, block_high, range_of, reach_over, reach_of, with_reach, reaches_from, no_rule, has_port, has, first_of, by_rule, by_place}
+use Rattle.wasi_policy.specs.Reach.{family_of, ip_number, block_low, block_high, range_of, reach_over, reach_of, with_reach, reaches_from, no_rule, first_of, by_rule, by_place}
 
 -- == numbers that agree but for their last bits
 -- n lies in the block that begins at low: d is 2 ^ bits, and q and s count the blocks before them

@@ -1,6 +1,5 @@
-use Rattle.std.proofs.Common.{rules, ◌≡◌, ◌++◌, length, take, drop, arith, ap, sym, ◌∙◌}
+use Rattle.std.proofs.Common.{◌≡◌, ◌++◌}
 use Rattle.std.proofs.lemmas.List.{take-append-drop}
-use Rattle.wasi_policy.specs.declared.reach.Reach.{Reach}
 use Rattle.wasi_policy.specs.Reach.{no_rule}
 use Rattle.wasi_policy.proofs.FirstCells.{one_rises, one_first, both_first, merged_rises, then_ok}
 use Rattle.wasi_policy.proofs.cells.+cells_of.Goals as goal

@@ -1,6 +1,6 @@
 use Rattle.std.proofs.Common.{◌≡◌, ◌<◌, ◌-◌, suc, length, arith, sym, ap, ◌∙◌}
 use Rattle.wasi_policy.specs.Reach.{no_rule}
-use Rattle.wasi_policy.specs.Cells.{at_port, cell_of}
+use Rattle.wasi_policy.specs.Cells.{cell_of}
 use Rattle.wasi_policy.proofs.FirstCells.{at_count, last_before, last_is}
 use Rattle.wasi_policy.proofs.cells.first_at.Goals as goal
 

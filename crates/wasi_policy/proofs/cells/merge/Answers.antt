@@ -1,6 +1,5 @@
-use Rattle.std.proofs.Common.{rules, ◌≡◌, ◌<◌, ◌+◌, ◌++◌, ◌⊎◌, inl, inr, false, length, drop, arith, ap, sym, ◌∙◌}
-use Rattle.wasi_policy.specs.declared.cells.Cell.{Cell}
-use Rattle.wasi_policy.specs.Cells.{cell_of, is_next, merged_cells}
+use Rattle.std.proofs.Common.{◌≡◌, ◌<◌, ◌⊎◌, inl, inr, false, length, drop, arith, sym, ◌∙◌}
+use Rattle.wasi_policy.specs.Cells.{cell_of, is_next}
 use Rattle.wasi_policy.proofs.FirstCells.{next_is, has_that, step_that}
 use Rattle.wasi_policy.proofs.cells.merge.Goals as goal
 use Rattle.wasi_policy.proofs.cells.merge.Goals.{then-at-these, else-at-these+then-beside-those}

@@ -1,4 +1,3 @@
-use Rattle.std.proofs.Common.{◌≤◌}
 use Rattle.wasi_policy.proofs.NodeLaws.{LeftTo}
 use Rattle.wasi_policy.proofs.nodes.first_in.Given as goal
 

@@ -1,4 +1,4 @@
-use Rattle.std.proofs.Common.{◌≤◌, ◌-◌, length}
+use Rattle.std.proofs.Common.{◌-◌, length}
 use Rattle.wasi_policy.proofs.NodeLaws.{HasNodesTo}
 use Rattle.wasi_policy.proofs.nodes.nodes_by_low.Given as goal
 
