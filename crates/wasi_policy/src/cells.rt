@@ -55,7 +55,8 @@ fn is_next(these: &[Cell], those: &[Cell]) -> bool
 
 /// Cells that have the lesser of what two lists of cells have at each port.
 fn merge(alloc: Global, these: &[Cell], those: &[Cell]) -> Result<Vec<Cell>, AllocError>
-    ensures { IfOk result (λ cells. cells.items ≡ merged_cells no_rule no_rule these.now those.now) }
+    ensures { IfOk result (λ cells. cells.items
+        ≡ merged_cells no_rule no_rule these.now those.now) }
 {
     let mut cells = Vec::new(alloc);
     let mut at = 0;
