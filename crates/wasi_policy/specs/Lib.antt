@@ -3,3 +3,7 @@ pub mod Grammar
 pub mod Explained
 pub mod Parsed
 pub mod Policed
+pub mod Reach
+pub mod Cells
+pub mod Nodes
+pub mod Index

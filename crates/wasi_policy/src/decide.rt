@@ -2,7 +2,8 @@
 
 ghost use Rattle.std.specs.Prelude.{◌≡◌, ◌+◌, ◌*◌, ◌<◌, ◌^◌, length};
 ghost use Rattle.wasi_policy.specs.Decision.{ipv4_number, ipv6_number, agree, is_in, is_about};
-ghost use Rattle.wasi_policy.specs.Decision.{matches, allows, decision};
+ghost use Rattle.wasi_policy.specs.Decision.{matches, allows};
+ghost use Rattle.wasi_policy.specs.Reach.{by_place};
 
 use crate::rule::{Action, Decision, Net, Rule};
 use wasi_addr::{IpAddress, IpSocketAddress, SocketAddrUse};
@@ -67,7 +68,7 @@ fn is_in(net: Net, address: IpAddress) -> bool
 }
 
 /// Whether a rule's use is any, or this one.
-fn is_about(rule: Option<SocketAddrUse>, usage: SocketAddrUse) -> bool
+pub fn is_about(rule: Option<SocketAddrUse>, usage: SocketAddrUse) -> bool
     ensures { result ≡ is_about rule usage }
 {
     match rule {
@@ -94,21 +95,19 @@ fn allows(action: Action) -> bool
     matches!(action, Action::Allow)
 }
 
-/// What the rules decide, by a look at each in turn. Takes no memory.
-pub fn decide_by_scan(rules: &[Rule], address: IpSocketAddress, usage: SocketAddrUse) -> Decision
+/// What the rule of a place decides, counted from 0; where there is none, the use is denied.
+pub fn decision_of(rules: &[Rule], place: u32) -> Decision
     requires { length rules.now < 2 ^ 32 }
-    ensures { result ≡ decision rules.now address usage }
+    ensures { result ≡ by_place rules.now place }
 {
-    for (at, rule) in rules.iter().enumerate() {
-        if matches(rule, address, usage) {
-            return Decision {
-                allow: allows(rule.action),
-                rule: at as u32 + 1,
-            };
-        }
-    }
-    Decision {
-        allow: false,
-        rule: 0,
+    match rules.get(place as usize) {
+        Some(rule) => Decision {
+            allow: allows(rule.action),
+            rule: place + 1,
+        },
+        None => Decision {
+            allow: false,
+            rule: 0,
+        },
     }
 }

@@ -2,12 +2,17 @@
 //! that matches, and a world that answers address checks by them.
 #![tactic(auto)]
 
+pub mod cells;
 pub mod decide;
 pub mod denied;
 pub mod explain;
 pub mod grammar;
+pub mod index;
+pub mod node;
+pub mod nodes;
 pub mod parse;
 pub mod policy;
+pub mod reach;
 pub mod rule;
 pub mod world;
 

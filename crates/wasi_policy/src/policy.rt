@@ -6,8 +6,8 @@ ghost use Rattle.wasi_policy.specs.Explained.{explanation};
 ghost use Rattle.wasi_policy.specs.Grammar.{rules_of};
 ghost use Rattle.wasi_policy.specs.Parsed.{bad_line};
 
-use crate::decide::decide_by_scan;
 use crate::explain::explain_by_scan;
+use crate::index::Index;
 use crate::parse::{RulesError, rules_within};
 use crate::rule::{Decision, Explanation, Rule};
 use std::alloc::Global;
@@ -21,27 +21,32 @@ const MOST_BYTES: usize = 1_048_576;
 #[derive(Drop)]
 pub struct Policy {
     rules: Vec<Rule>,
+    index: Index,
 }
 
 impl Model for Policy {
     ghost use Rattle.std.specs.Prelude.{List, length, ◌<◌, ◌^◌};
     ghost use Rattle.wasi_policy.specs.declared.rule.Rule.{Rule};
+    ghost use Rattle.wasi_policy.specs.Index.{IsIndexOf};
 
     ghost Value = { List Rule };
 
     ghost view = { λ policy. policy.rules.items };
 
-    ghost invariant = { λ policy. length policy.rules.items < 2 ^ 32 };
+    ghost invariant = { λ policy. (length policy.rules.items < 2 ^ 32)
+        × IsIndexOf policy.rules.items policy.index };
 }
 
 impl Policy {
-    /// Reads rules: a line for each, in the order in which they are asked. Takes memory for them.
+    /// Reads rules: a line for each, in the order in which they are asked. Takes memory for
+    /// them and for an index of them.
     pub fn parse(alloc: Global, bytes: &[u8]) -> Result<Policy, RulesError>
         ensures rules { IfOk result (λ policy. rules_of bytes.now ≡ Ok policy) }
         ensures bad { IfErr result (λ e. IfSome (bad_line e) (λ n. rules_of bytes.now ≡ Err n)) }
     {
         let rules = rules_within(alloc, bytes, MOST_BYTES)?;
-        Ok(Policy { rules })
+        let index = Index::of(alloc, rules.as_slice())?;
+        Ok(Policy { rules, index })
     }
 
     /// The rules, in the order of their lines.
@@ -56,7 +61,7 @@ impl Policy {
     pub fn decide(&self, address: IpSocketAddress, usage: SocketAddrUse) -> Decision
         ensures { result ≡ decision self.now address usage }
     {
-        decide_by_scan(self.rules.as_slice(), address, usage)
+        self.index.decide(self.rules.as_slice(), address, usage)
     }
 
     /// The first rule that matches, with its line; where none does, line 0 and the rule that denies
