@@ -7,7 +7,7 @@ ghost use Rattle.wasi_world.specs.Asks.{AsksFor};
 ghost use Rattle.wasi_records.specs.Stops.{fault_outcome, host_outcome};
 ghost use Rattle.wasi_host.specs.Machine.{own_of, socket_at, udp_socket_at};
 ghost use Rattle.wasi_host.specs.KnownSides.{KnowsSides};
-ghost use Rattle.wasi_host.specs.Views.{SameView, state_of};
+ghost use Rattle.wasi_host.specs.Views.{HostKept, SameView, state_of};
 ghost use Rattle.wasi_machine.specs.Machine.{without_code, first_ids, machine_asks, set_chosen};
 ghost use Rattle.wasi_machine.specs.Machine.{is_guest_call, call_asks, context_at, context_for};
 ghost use Rattle.wasi_p2.specs.Udp.{set_udp_option_on};
