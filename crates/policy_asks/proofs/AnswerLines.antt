@@ -1,8 +1,10 @@
 -- Questions are answered line by line.
 use Rattle.std.proofs.Common.{◌≡◌, ℕ, ◌+◌, ◌-◌, ◌^◌, ◌<◌, ◌≤◌, ◌==◌, length, take, drop, length-drop, Ok, Err, ap, arith, List, [], ◌∷◌, ◌++◌, Some, None, refl, sym, ◌∙◌, append-nil, append_assoc, length-append, zero-add, suc}
 use Rattle.std.specs.List.{position}
-use Rattle.std.proofs.lemmas.List.{drop-drop, take_rest, take-append-le, take_all}
+use Rattle.std.proofs.lemmas.List.{drop-drop, take_rest, take-append-le}
 use Rattle.world_io.specs.Io.{Writing}
+use Rattle.world_io.specs.Written.{TookAll, TookPart}
+use Rattle.world_io.proofs.Took.{took_again, rose_again, all_none, all_again}
 use Rattle.world_text.specs.Lines.{lines_of, rest_of}
 use Rattle.world_text.proofs.LinesOf.{Cut, NoCut, cut_at, no_cut, cut_line, cut_after, cut_within}
 use Rattle.wasi_policy.specs.declared.rule.Rule.{Rule}
@@ -12,10 +14,8 @@ use Rattle.policy_asks.specs.declared.asking.AskError.TheVariants as error
 use Rattle.policy_asks.specs.declared.question.Question.{Question}
 use Rattle.policy_asks.specs.Answer.{answer_line}
 use Rattle.policy_asks.specs.Asked.{Answers, answers_then, answers_from, answers, LinesEnd}
-use Rattle.policy_asks.specs.Io.{TookAll, TookFront}
 use Rattle.policy_asks.specs.OneLine.{LineEnds}
 use Rattle.policy_asks.specs.Question.{question_in}
-use Rattle.policy_asks.proofs.Takes.{took_again, took_none, same_again, same_none, rose_again}
 
 -- The lines before a place of the text are answered: this is the number of the next line.
 pub record AnsweredTo (rules : List Rule) (form : Form) (text : List ℕ) (at number : ℕ) (k_old k_now : Writing) : Type 0 where
@@ -26,7 +26,7 @@ pub record AnsweredTo (rules : List Rule) (form : Form) (text : List ℕ) (at nu
   pub rest : rest_of text ≡ rest_of (drop at text)
   pub count : number + length (lines_of (drop at text)) ≡ length (lines_of text) + 1
   pub few : number ≤ at + 1
-  pub took : TookAll k_old k_now done
+  pub took : TookAll k_old done k_now
 
 pub answered_none : (rules : List Rule) (form : Form) (text : List ℕ) (k : Writing) → AnsweredTo rules form text 0 1 k k
 answered_none rules form text k = record {
@@ -37,15 +37,11 @@ answered_none rules form text k = record {
   rest = refl;
   count = omega arith;
   few = omega arith;
-  took = record { took = took_none k; counts = same_none k };
+  took = all_none k;
 }
 
 take_front : (n : ℕ) (xs ys : List ℕ) → n ≤ length xs → take n (xs ++ ys) ≡ take n xs
 take_front n xs ys h = take-append-le n xs ys h
-
--- the first bytes are all of what is done
-done_front : (xs ys : List ℕ) → take (length xs) (xs ++ ys) ≡ xs
-done_front xs ys = take-append-le (length xs) xs ys (omega arith) ∙ take_all (length xs) xs (omega arith)
 
 done_more : (xs : List ℕ) (n : ℕ) (ys : List ℕ) → take (length xs + n) (xs ++ ys) ≡ xs ++ take n ys
 done_more [] n ys = rw zero-add refl
@@ -80,7 +76,7 @@ module _ (rules : List Rule) (form : Form) (text : List ℕ) (at number end : �
     written_is : (answers rules form text).written ≡ now.done ++ (answer_line rules form q ++ (answers_from rules form (number + 1) (lines_of (drop (at + (end + 1)) text))).written)
     written_is = now.written ∙ ap (λ (a : Answers). now.done ++ a.written) answered_is
 
-    next_answered : (k_new : Writing) → TookAll k_now k_new (answer_line rules form q) → AnsweredTo rules form text (at + (end + 1)) (number + 1) k_old k_new
+    next_answered : (k_new : Writing) → TookAll k_now (answer_line rules form q) k_new → AnsweredTo rules form text (at + (end + 1)) (number + 1) k_old k_new
     next_answered k_new took = record {
       within = omega (arith, cut_within [] (drop at text) end cut, length-drop at text, now.within);
       done = now.done ++ answer_line rules form q;
@@ -89,15 +85,16 @@ module _ (rules : List Rule) (form : Form) (text : List ℕ) (at number end : �
       rest = now.rest ∙ (cut.rest ∙ ap rest_of (sym after_is));
       count = rw after_is (omega (arith, now.count, ap length cut.lines));
       few = omega (arith, now.few);
-      took = record { took = took_again now.took.took took.took; counts = same_again now.took.counts took.counts };
+      took = all_again now.took took;
     }
 
-    front_fault : (k_new : Writing) → TookFront k_now k_new (answer_line rules form q) → TookFront k_old k_new (answers rules form text).written
+    front_fault : (k_new : Writing) → TookPart k_now (answer_line rules form q) k_new → TookPart k_old (answers rules form text).written k_new
     front_fault k_new front = rw written_is (record {
       cut = length now.done + front.cut;
       short = omega (arith, front.short, length-append now.done (answer_line rules form q ++ (answers_from rules form (number + 1) (lines_of (drop (at + (end + 1)) text))).written), length-append (answer_line rules form q) (answers_from rules form (number + 1) (lines_of (drop (at + (end + 1)) text))).written);
       took = rw (done_more now.done front.cut (answer_line rules form q ++ (answers_from rules form (number + 1) (lines_of (drop (at + (end + 1)) text))).written), take_front front.cut (answer_line rules form q) (answers_from rules form (number + 1) (lines_of (drop (at + (end + 1)) text))).written (omega (arith, front.short))) (took_again now.took.took front.took);
       counts = rose_again now.took.counts front.counts;
+      tells = front.tells ∙ now.took.tells;
     })
 
   pub read_next : (k_new : Writing) → LineEnds rules form number (take ((at + end) - at) (drop at text)) k_now k_new (Ok tt) → AnsweredTo rules form text (at + (end + 1)) (number + 1) k_old k_new
@@ -109,7 +106,7 @@ module _ (rules : List Rule) (form : Form) (text : List ℕ) (at number end : �
       let all : (answers rules form text).written ≡ now.done = now.written ∙ (ap (λ (a : Answers). now.done ++ a.written) stops ∙ append-nil now.done) in
       rw (h.0, h.2, all) (now.bad ∙ ap (λ (a : Answers). a.bad) stops, now.took)
   line_exit k_new error.WriteFault h = front_fault h.question h.is k_new h.took
-  line_exit k_new error.Memory h = rw (h, now.written) (record { cut = length now.done; took = rw (done_front now.done (answers_from rules form number (lines_of (drop at text))).written) now.took.took })
+  line_exit k_new error.Memory h = rw h (record { taken = now.done; rest = (answers_from rules form number (lines_of (drop at text))).written; split = now.written; took = now.took.took })
   line_exit k_new error.TooLong h = absurd h
   line_exit k_new error.ReadFault h = absurd h
 
@@ -124,7 +121,7 @@ module _ (rules : List Rule) (form : Form) (text : List ℕ) (at number : ℕ) (
   nothing_more : answers_from rules form number (lines_of (drop at text)) ≡ record { written = []; bad = None }
   nothing_more = ap (answers_from rules form number) over.lines
 
-  all_done : ((answers rules form text).bad ≡ None) × TookAll k_old k_now (answers rules form text).written
+  all_done : ((answers rules form text).bad ≡ None) × TookAll k_old (answers rules form text).written k_now
   all_done =
       let all : (answers rules form text).written ≡ now.done = now.written ∙ (ap (λ (a : Answers). now.done ++ a.written) nothing_more ∙ append-nil now.done) in
       (now.bad ∙ ap (λ (a : Answers). a.bad) nothing_more, rw all now.took)

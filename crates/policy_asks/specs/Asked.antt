@@ -1,6 +1,7 @@
 -- What is written for a text of questions, and where it stops.
 use Rattle.std.specs.Prelude.{◌≡◌, ℕ, ◌+◌, ◌⊎◌, List, [], ◌∷◌, ◌++◌, take, length, Option, Some, None, Result, Ok, Err}
-use Rattle.world_io.specs.Io.{Reading, Writing, Took}
+use Rattle.world_io.specs.Io.{Reading, Writing}
+use Rattle.world_io.specs.Written.{TookAll, TookPart, TookFront}
 use Rattle.world_text.specs.Lines.{lines_of, rest_of}
 use Rattle.wasi_policy.specs.declared.rule.Rule.{Rule}
 use Rattle.policy_asks.specs.declared.answer.Form.{Form}
@@ -10,7 +11,7 @@ use Rattle.policy_asks.specs.declared.question.Question.{Question}
 use Rattle.policy_asks.specs.declared.read.ReadEnd.{ReadEnd}
 use Rattle.policy_asks.specs.declared.read.ReadEnd.TheVariants as read
 use Rattle.policy_asks.specs.Answer.{answer_line}
-use Rattle.policy_asks.specs.Io.{TookAll, TookFront, HasReadText}
+use Rattle.policy_asks.specs.Io.{HasReadText}
 use Rattle.policy_asks.specs.Question.{question_in}
 
 -- What is written for lines, and the number of the first that is no question, at which it stops.
@@ -32,11 +33,6 @@ answers_from rules form number (line ∷ lines) =
 abbrev pub answers : List Rule → Form → List ℕ → Answers
 answers rules form text = answers_from rules form 1 (lines_of text)
 
--- The sink took the first of the bytes.
-pub record TookPart (old new : Writing) (bytes : List ℕ) : Type 0 where
-  pub cut : ℕ
-  pub took : Took old (take cut bytes) new
-
 -- The number is that of a last line without its newline, where there is one.
 abbrev pub IsUnfinished : List ℕ → Option ℕ → Type 0
 IsUnfinished text None = rest_of text ≡ []
@@ -45,11 +41,11 @@ IsUnfinished text (Some number) = (rest_of text ≡ [] → ⊥) × (number ≡ l
 -- how the lines of a text end
 abbrev pub LinesEnd : List Rule → Form → List ℕ → Writing → Writing → Result (Option ℕ) AskError → Type 0
 LinesEnd rules form text k_old k_new (Ok unfinished) =
-    ((answers rules form text).bad ≡ None) × TookAll k_old k_new (answers rules form text).written × IsUnfinished text unfinished
+    ((answers rules form text).bad ≡ None) × TookAll k_old (answers rules form text).written k_new × IsUnfinished text unfinished
 LinesEnd rules form text k_old k_new (Err (error.BadLine number)) =
-    ((answers rules form text).bad ≡ Some number) × TookAll k_old k_new (answers rules form text).written
-LinesEnd rules form text k_old k_new (Err error.WriteFault) = TookFront k_old k_new (answers rules form text).written
-LinesEnd rules form text k_old k_new (Err error.Memory) = TookPart k_old k_new (answers rules form text).written
+    ((answers rules form text).bad ≡ Some number) × TookAll k_old (answers rules form text).written k_new
+LinesEnd rules form text k_old k_new (Err error.WriteFault) = TookPart k_old (answers rules form text).written k_new
+LinesEnd rules form text k_old k_new (Err error.Memory) = TookFront k_old (answers rules form text).written k_new
 LinesEnd rules form text k_old k_new (Err _) = ⊥
 
 -- The text was read so, and of it the bytes within the limit were answered.
@@ -61,11 +57,11 @@ pub record AskedText (limit : ℕ) (s_old s_new : Reading) (end : ReadEnd) (P : 
 -- every whole line of the text was answered
 abbrev pub AllAnswered : List Rule → Form → Writing → Writing → List ℕ → Type 0
 AllAnswered rules form k_old k_new text =
-    ((answers rules form text).bad ≡ None) × TookAll k_old k_new (answers rules form text).written
+    ((answers rules form text).bad ≡ None) × TookAll k_old (answers rules form text).written k_new
 
 -- The lines before the number were answered, and that line is no question, or is the last and has no newline.
 pub record StopsAt (rules : List Rule) (form : Form) (k_old k_new : Writing) (number : ℕ) (end : ReadEnd) (text : List ℕ) : Type 0 where
-  pub took : TookAll k_old k_new (answers rules form text).written
+  pub took : TookAll k_old (answers rules form text).written k_new
   pub because : ((answers rules form text).bad ≡ Some number)
       ⊎ (((answers rules form text).bad ≡ None) × (end ≡ read.Whole) × IsUnfinished text (Some number))
 
@@ -87,6 +83,6 @@ AskEnds rules form limit s_old s_new k_old k_new (Err error.TooLong) =
 AskEnds rules form limit s_old s_new k_old k_new (Err error.ReadFault) =
     AskedText limit s_old s_new read.Fault (AllAnswered rules form k_old k_new)
 AskEnds rules form limit s_old s_new k_old k_new (Err error.WriteFault) =
-    AskedSome limit s_old s_new (λ end text. TookFront k_old k_new (answers rules form text).written)
+    AskedSome limit s_old s_new (λ end text. TookPart k_old (answers rules form text).written k_new)
 AskEnds rules form limit s_old s_new k_old k_new (Err error.Memory) =
-    (k_new ≡ k_old) ⊎ AskedSome limit s_old s_new (λ end text. TookPart k_old k_new (answers rules form text).written)
+    (k_new ≡ k_old) ⊎ AskedSome limit s_old s_new (λ end text. TookFront k_old (answers rules form text).written k_new)

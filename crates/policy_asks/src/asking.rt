@@ -10,11 +10,10 @@ ghost use Rattle.policy_asks.specs.Question.{question_in};
 use crate::answer::{Form, answer_line};
 use crate::question::parse_question;
 use crate::read::{ReadEnd, read_text};
-use crate::write::write_all;
 use std::alloc::{AllocError, Global};
 use thiserror::Error;
 use wasi_policy::Policy;
-use world_io::{Sink, Source};
+use world_io::{Sink, Source, write_all};
 use world_text::lines::newline_at;
 
 /// Why questions weren't all answered. What was answered before is written.

@@ -5,7 +5,6 @@ pub mod answer;
 pub mod asking;
 pub mod question;
 pub mod read;
-pub mod write;
 
 pub use answer::Form;
 pub use asking::{AskError, ask};
