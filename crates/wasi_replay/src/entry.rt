@@ -1,0 +1,138 @@
+//! Which answers fit which call.
+
+ghost use Rattle.std.specs.Prelude.{IsTrue, ◌↔◌};
+ghost use Rattle.wasi_world.specs.Fits.{IsVerdict, IsNames, IsDone, IsDoneOrCode, IsPolled};
+ghost use Rattle.wasi_world.specs.Fits.{IsReady, IsAddr, IsArrival, IsRead, IsWritten, IsDatagram};
+ghost use Rattle.wasi_world.specs.Fits.{IsValue, Fits};
+ghost use Rattle.wasi_replay.specs.Recorded.{IsSingle, FitsEntry};
+
+use wasi_addr::ShutdownType;
+use wasi_world::{Call, Entry, Told};
+
+fn is_verdict(told: &Told) -> bool
+    ensures { IsTrue result ↔ IsVerdict told.now }
+{
+    matches!(told, Told::Pending | Told::Yes | Told::No)
+}
+
+fn is_names(told: &Told) -> bool
+    ensures { IsTrue result ↔ IsNames told.now }
+{
+    matches!(told, Told::Pending | Told::Names(_) | Told::Code(_))
+}
+
+fn is_done(told: &Told) -> bool
+    ensures { IsTrue result ↔ IsDone told.now }
+{
+    matches!(told, Told::Done)
+}
+
+fn is_done_or_code(told: &Told) -> bool
+    ensures { IsTrue result ↔ IsDoneOrCode told.now }
+{
+    matches!(told, Told::Done | Told::Code(_))
+}
+
+fn is_polled(told: &Told) -> bool
+    ensures { IsTrue result ↔ IsPolled told.now }
+{
+    matches!(told, Told::Pending | Told::Done | Told::Code(_))
+}
+
+fn is_ready(told: &Told) -> bool
+    ensures { IsTrue result ↔ IsReady told.now }
+{
+    matches!(told, Told::Pending | Told::Done)
+}
+
+fn is_addr(told: &Told) -> bool
+    ensures { IsTrue result ↔ IsAddr told.now }
+{
+    matches!(told, Told::Addr(_) | Told::Code(_))
+}
+
+fn is_arrival(told: &Told) -> bool
+    ensures { IsTrue result ↔ IsArrival told.now }
+{
+    matches!(told, Told::Pending | Told::Arrived(_) | Told::Code(_))
+}
+
+fn is_read(size: u32, told: &Told) -> bool
+    ensures { IsTrue result ↔ IsRead size told.now }
+{
+    match told {
+        Told::Bytes(bytes) => bytes.len() <= size as usize,
+        _ => matches!(told, Told::Pending | Told::Code(_)),
+    }
+}
+
+fn is_written(offered: u32, told: &Told) -> bool
+    ensures { IsTrue result ↔ IsWritten offered told.now }
+{
+    match told {
+        Told::Took(bytes) => 1 <= bytes.len() && bytes.len() <= offered as usize,
+        _ => matches!(told, Told::Pending | Told::Code(_)),
+    }
+}
+
+fn is_datagram(told: &Told) -> bool
+    ensures { IsTrue result ↔ IsDatagram told.now }
+{
+    matches!(told, Told::Pending | Told::Datagram(_, _) | Told::Code(_))
+}
+
+fn is_value(told: &Told) -> bool
+    ensures { IsTrue result ↔ IsValue told.now }
+{
+    matches!(told, Told::Value(_) | Told::Code(_))
+}
+
+/// Whether the answer is one that fits the call. Takes no memory.
+pub fn answer_fits(call: &Call, told: &Told) -> bool
+    ensures { IsTrue result ↔ Fits call.now told.now }
+{
+    match call {
+        Call::Check { .. } => is_verdict(told),
+        Call::Lookup { .. } => is_names(told),
+        Call::TcpCreate { .. }
+        | Call::UdpCreate { .. }
+        | Call::Bind { .. }
+        | Call::UdpBind { .. }
+        | Call::UdpConnect { .. }
+        | Call::Listen { .. }
+        | Call::SetBacklog { .. }
+        | Call::UdpDisconnect { .. }
+        | Call::SetOption { .. } => is_done_or_code(told),
+        Call::UdpWritable { .. } | Call::Connect { .. } | Call::Send { .. } => is_polled(told),
+        Call::Local { .. } | Call::Peer { .. } => is_addr(told),
+        Call::Accept { .. } => is_arrival(told),
+        Call::Hand { .. }
+        | Call::Refuse { .. }
+        | Call::Shutdown { .. }
+        | Call::Close { .. }
+        | Call::Made { .. } => is_done(told),
+        Call::Read { size, .. } => is_read(*size, told),
+        Call::ReadReady { .. } | Call::WriteReady { .. } => is_ready(told),
+        Call::Write { offered, .. } => is_written(*offered, told),
+        Call::Recv { .. } => is_datagram(told),
+        Call::GetOption { .. } => is_value(told),
+    }
+}
+
+/// Whether the call is none or one that shuts down a single half.
+fn is_single(call: &Call) -> bool
+    ensures { IsTrue result ↔ IsSingle call.now }
+{
+    match call {
+        Call::Shutdown { how, .. } => !matches!(how, ShutdownType::Both),
+        _ => true,
+    }
+}
+
+/// Whether an entry may stand in a log: its answer fits its call, and the call doesn't shut down
+/// both halves at once. Takes no memory.
+pub fn fits(entry: &Entry) -> bool
+    ensures { IsTrue result ↔ FitsEntry entry.now }
+{
+    answer_fits(&entry.call, &entry.answer) && is_single(&entry.call)
+}
