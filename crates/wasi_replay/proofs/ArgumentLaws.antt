@@ -1,6 +1,6 @@
 -- Each argument of a call or of an answer is read exactly as it is written.
 use Rattle.std.specs.Prelude.{codes}
-use Rattle.std.proofs.Common.{append-nil, ◌≡◌, ℕ, ◌^◌, ◌<◌, ◌≤◌, ◌&&◌, Bool, true, false, cond, List, [], ◌∷◌, ◌++◌, bytes_eq, flat_map, decimal, Option, Some, None, refl, arith, ap, sym, ◌∙◌, subst, IsTrue, IsUtf8}
+use Rattle.std.proofs.Common.{append-nil, ◌≡◌, ℕ, ◌≤◌, ◌&&◌, Bool, true, false, cond, List, [], ◌∷◌, ◌++◌, bytes_eq, flat_map, decimal, Option, Some, None, refl, arith, ap, sym, subst, IsTrue, IsUtf8}
 use Rattle.std.specs.List.{AllByRecursion, list_all}
 use Rattle.std.specs.Str.Parse.{AllDigits}
 use Rattle.std.proofs.lemmas.Bool.{and_parts, false_from_ne_true}
@@ -20,14 +20,14 @@ use Rattle.wasi_world.specs.declared.call.Opt.TheVariants as opt
 use Rattle.wasi_world.specs.declared.ids.OpId.{OpId}
 use Rattle.world_text.specs.EntryText.{use_text, half_text, option_text, handle_kind_text}
 use Rattle.world_text.specs.Fields.{read_then, give, give_some, number_in, number_at}
-use Rattle.world_text.specs.Written.{ReadsExactly, AreVisible, is_visible, ip_fields, ip_numbers, number_fields, FitsIp}
+use Rattle.world_text.specs.Written.{ReadsExactly, AreVisible, is_visible, ip_fields, number_fields, FitsIp}
 use Rattle.world_text.proofs.Exactly.{All, Only, exactly, all_give, only_give, all_some, only_some, all_then, only_then, all_last, only_last, field_exactly, number_exactly}
 use Rattle.world_text.proofs.Numbers.{number_in_is, number_in_decimal}
 use Rattle.world_text.proofs.ReadBack.{u32_exactly, family_exactly, address_exactly, code_exactly, bytes_exactly, word_exactly, named_is}
 use Rattle.world_text.proofs.Visible.{visible_utf8, number_visible, family_visible, address_visible, code_visible, bytes_visible}
 use Rattle.world_text.proofs.Words.{only_word}
 use Rattle.wasi_replay.specs.declared.fields.TheConstants.{USES, OPTIONS, HANDLE_KINDS}
-use Rattle.wasi_replay.specs.Arguments.{use_in, use_at, option_in, option_at, handle_kind_in, handle_kind_at, half_words, half_at, IsHalf, sock_at, sock_fields, FitsSock, handle_or_none, maybe_handle_at, maybe_handle_fields, FitsMaybeHandle, sock_from, sock_or_none, maybe_sock_at, maybe_sock_fields, FitsMaybeSock, Kind, ASock, ANumber, AValue, AFamily, AnAddress, AUse, AHalf, AnOption, SomeBytes, AHandleKind, AParent, AMaybeSock, ACode, SomeIps, Value, value_at, value_fields, FitsValue, Values, values_fields, FitsValues, Takes, made, values_at}
+use Rattle.wasi_replay.specs.Arguments.{use_in, use_at, option_in, option_at, handle_kind_in, handle_kind_at, half_words, half_at, IsHalf, sock_at, sock_fields, FitsSock, maybe_handle_at, maybe_handle_fields, FitsMaybeHandle, sock_from, sock_or_none, maybe_sock_at, maybe_sock_fields, FitsMaybeSock, Kind, ASock, ANumber, AValue, AFamily, AnAddress, AUse, AHalf, AnOption, SomeBytes, AHandleKind, AParent, AMaybeSock, ACode, SomeIps, Value, value_at, value_fields, FitsValue, Values, values_fields, FitsValues, Takes, made, values_at}
 use Rattle.wasi_replay.proofs.Ends.{ReadsLast, last_of, Last, last_give, last_then, last_alone, only_next, both_visible}
 use Rattle.wasi_replay.proofs.NameLists.{names_last}
 

@@ -1,17 +1,17 @@
 -- Each call and each answer of a log is read exactly as it is written.
-use Rattle.std.proofs.Common.{◌≡◌, ℕ, true, List, [], ◌∷◌, ◌++◌, refl, arith, sym, subst, IsTrue}
+use Rattle.std.proofs.Common.{◌≡◌, ℕ, true, List, [], ◌∷◌, ◌++◌, refl, sym, subst, IsTrue}
 use Rattle.std.specs.List.{AllByRecursion, list_all}
 use Rattle.wasi_world.specs.declared.call.Call.{Call}
 use Rattle.wasi_world.specs.declared.call.Call.TheVariants as call
 use Rattle.wasi_world.specs.declared.call.Told.{Told}
 use Rattle.wasi_world.specs.declared.call.Told.TheVariants as told
-use Rattle.world_text.specs.Fields.{Row, after_word}
+use Rattle.world_text.specs.Fields.{after_word}
 use Rattle.world_text.specs.Written.{ReadsExactly, AreVisible, is_visible}
 use Rattle.world_text.proofs.Exactly.{All, Only, exactly, only_then, all_then}
 use Rattle.world_text.proofs.ReadBack.{word_exactly}
 use Rattle.world_text.proofs.Visible.{visible_utf8}
 use Rattle.world_text.proofs.Words.{only_word}
-use Rattle.wasi_replay.specs.Arguments.{Values, FitsValues, values_fields, made, Written, fields_of_written, Signature, row_of}
+use Rattle.wasi_replay.specs.Arguments.{Values, FitsValues, values_fields, made, Written, fields_of_written, row_of}
 use Rattle.wasi_replay.specs.Calls.{call_signature, call_fields, FitsCall, calls, rows_of_calls, call_at, told_signature, told_fields, FitsTold, memory_answers, plain_answers, rows_of_answers, told_at}
 use Rattle.wasi_replay.proofs.Ends.{ReadsLast, lastly, Last, last_then}
 use Rattle.wasi_replay.proofs.ArgumentLaws.{all_go_on, ends_last, values_only, values_all, values_last, values_visible}

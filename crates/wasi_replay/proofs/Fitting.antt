@@ -1,6 +1,6 @@
 -- The tests of which answers fit decide it.
 use Rattle.std.specs.Prelude.{◌↔◌, IsTrue, ⊤}
-use Rattle.std.proofs.Common.{◌≡◌, ℕ, ◌≤◌, ◌&&◌, nat_le, Bool, true, false, length, refl, arith}
+use Rattle.std.proofs.Common.{ℕ, ◌≤◌, ◌&&◌, nat_le, Bool, true, false, length, refl, arith}
 use Rattle.std.proofs.lemmas.Bool.{and_parts, false≢true}
 use Rattle.std.proofs.lemmas.Bool.Decides.{nat_tests}
 use Rattle.wasi_addr.specs.declared.address.ShutdownType.TheVariants.{Both}

@@ -1,6 +1,6 @@
 -- Each line of a log is read exactly as it is written.
 use Rattle.std.specs.Prelude.{codes, ◌↔◌}
-use Rattle.std.proofs.Common.{◌≡◌, ℕ, ◌^◌, ◌<◌, ◌≤◌, Bool, true, false, cond, List, [], ◌∷◌, ◌++◌, bytes_eq, Option, Some, None, option_map, decimal, arith, ap, sym, ◌∙◌, refl, IsTrue, append-nil, subst}
+use Rattle.std.proofs.Common.{◌≡◌, ℕ, ◌<◌, ◌≤◌, Bool, true, false, cond, List, [], ◌∷◌, ◌++◌, bytes_eq, Option, Some, None, decimal, arith, ap, sym, ◌∙◌, refl, IsTrue, append-nil, subst}
 use Rattle.std.specs.List.{list_all}
 use Rattle.std.specs.Str.Parse.{AllDigits}
 use Rattle.std.proofs.lemmas.Fmt.{decimal_is_IsNumeral}
@@ -22,7 +22,7 @@ use Rattle.wasi_replay.specs.declared.line.Line.{Line}
 use Rattle.wasi_replay.specs.declared.line.Line.TheVariants as line
 use Rattle.wasi_replay.specs.Log.{equals_word, equals_at, if_fits, entry_at, entry_in, entry_fields, entry_line, IsEntry, allowed_text, context_fields, context_line, line_or, line_in, line_text}
 use Rattle.wasi_replay.proofs.Fitting.{entry_decides}
-use Rattle.wasi_replay.proofs.Ends.{ReadsLast, lastly, Last, last_some, last_then, last_alone, only_next, both_visible}
+use Rattle.wasi_replay.proofs.Ends.{ReadsLast, lastly, last_some, last_then, last_alone, only_next, both_visible}
 use Rattle.wasi_replay.proofs.ArgumentLaws.{sock_exactly, sock_visible}
 use Rattle.wasi_replay.proofs.CallLaws.{call_exactly, call_visible, told_last, told_visible}
 

@@ -1,6 +1,6 @@
 -- A log is read exactly as it is written.
 use Rattle.std.specs.Prelude.{IfSome, slice_get, codes, ◌↔◌}
-use Rattle.std.proofs.Common.{◌≡◌, ℕ, zero, suc, ◌+◌, ◌≤◌, ◌==◌, ◌&&◌, nat_le, Bool, true, false, cond, List, [], ◌∷◌, ◌++◌, length, take, map, Option, Some, None, Result, Ok, Err, append-nil, append_assoc, length-append, ap, sym, ◌∙◌, refl, arith, subst}
+use Rattle.std.proofs.Common.{◌≡◌, ℕ, suc, ◌+◌, ◌≤◌, ◌==◌, nat_le, Bool, true, false, cond, List, [], ◌∷◌, ◌++◌, length, take, map, Option, Some, None, Result, Ok, Err, append-nil, append_assoc, ap, sym, ◌∙◌, refl, arith, subst}
 use Rattle.std.specs.List.{AllByRecursion}
 use Rattle.std.proofs.lemmas.Bool.{and_parts, false≢true}
 use Rattle.std.proofs.lemmas.Bool.Decides.{nat_tests}
@@ -13,8 +13,8 @@ use Rattle.world_text.specs.Lines.{lines_of, rest_of}
 use Rattle.world_text.specs.Written.{IsVisible}
 use Rattle.wasi_replay.specs.declared.line.Line.{Line}
 use Rattle.wasi_replay.specs.declared.line.Line.TheVariants as line
-use Rattle.wasi_replay.specs.Log.{IsEntry, entry_line, context_line, line_in, line_text, SoFar, so_far, start, add_line, add_read, with_line, next_lines, with_lines, is_whole, if_whole, log_within, log_lines, text_of_lines, log_text, IsLog}
-use Rattle.wasi_replay.proofs.LineLaws.{IsLine, line_is, line_written, line_visible}
+use Rattle.wasi_replay.specs.Log.{IsEntry, entry_line, context_line, line_in, SoFar, so_far, start, add_read, with_line, next_lines, with_lines, is_whole, if_whole, log_within, log_lines, text_of_lines, log_text, IsLog}
+use Rattle.wasi_replay.proofs.LineLaws.{line_is, line_written, line_visible}
 use Rattle.wasi_replay.proofs.TextLines.{lines_are, text_is}
 
 -- == what was read is written so

@@ -1,6 +1,6 @@
 -- The lines of a log, a line at a time.
 use Rattle.std.specs.Prelude.{◌&&◌, nat_le, IfSome}
-use Rattle.std.proofs.Common.{◌≡◌, ℕ, zero, suc, min, ◌+◌, ◌-◌, ◌^◌, ◌<◌, ◌≤◌, ◌==◌, Bool, length, take, drop, length-drop, true, false, Ok, Err, ap, arith, List, [], Option, Some, None, refl, sym, ◌∙◌}
+use Rattle.std.proofs.Common.{◌≡◌, ℕ, zero, suc, min, ◌+◌, ◌-◌, ◌^◌, ◌<◌, ◌≤◌, ◌==◌, length, take, drop, length-drop, true, false, Ok, Err, ap, arith, List, [], Option, Some, None, refl, sym, ◌∙◌}
 use Rattle.std.specs.List.{position}
 use Rattle.std.proofs.lemmas.List.{drop-drop, take_rest, length-take}
 use Rattle.std.proofs.lemmas.Bool.Decides.{nat_tests}

@@ -1,6 +1,6 @@
 -- The pieces that are written are the text of a log.
 use Rattle.std.specs.Prelude.{codes}
-use Rattle.std.proofs.Common.{◌≡◌, ℕ, ◌&&◌, Bool, true, false, List, [], ◌∷◌, ◌++◌, map, flat_map, decimal, Option, Some, None, append-nil, append_assoc, ap, sym, ◌∙◌, refl}
+use Rattle.std.proofs.Common.{◌≡◌, ℕ, Bool, true, false, List, [], ◌∷◌, ◌++◌, map, flat_map, decimal, Option, Some, None, append-nil, append_assoc, ap, sym, ◌∙◌, refl}
 use Rattle.std.proofs.lemmas.Bool.{and_parts}
 use Rattle.std.proofs.lemmas.Grind.{flat_map-append}
 use Rattle.wasi_addr.specs.declared.address.IpAddress.{IpAddress}
@@ -18,8 +18,8 @@ use Rattle.world_text.specs.EntryText.{ip_text, ips_text, call_text, told_text}
 use Rattle.world_text.specs.Fields.{line_with}
 use Rattle.world_text.specs.Written.{ip_fields}
 use Rattle.wasi_replay.specs.Arguments.{Kind, ASock, ANumber, AValue, AFamily, AnAddress, AUse, AHalf, AnOption, SomeBytes, AHandleKind, AParent, AMaybeSock, ACode, SomeIps, Value, value_fields, Values, values_fields}
-use Rattle.wasi_replay.specs.Calls.{call_signature, call_fields, told_signature, told_fields}
-use Rattle.wasi_replay.specs.Log.{allowed_text, context_line, entry_fields, entry_line, log_lines, text_of_lines, log_text}
+use Rattle.wasi_replay.specs.Calls.{call_signature, call_fields, told_fields}
+use Rattle.wasi_replay.specs.Log.{context_line, entry_line, text_of_lines, log_text}
 use Rattle.wasi_replay.specs.Pieces.{context_text, contexts_text, entry_text, entries_text, pieces}
 use Rattle.wasi_replay.proofs.ArgumentLaws.{goes_on, all_go_on}
 

@@ -3,8 +3,8 @@ use Rattle.std.proofs.Common.{◌≡◌, ℕ, zero, suc, ◌≤◌, List, [], �
 use Rattle.std.specs.List.{AllByRecursion}
 use Rattle.wasi_addr.specs.declared.address.IpAddress.{IpAddress}
 use Rattle.wasi_addr.specs.declared.address.IpAddress.TheVariants as ip
-use Rattle.world_text.specs.Fields.{◌>>=◌, give, read_then, up_to, ip_at, names_at}
-use Rattle.world_text.specs.Written.{AreVisible, ip_fields, FitsIp}
+use Rattle.world_text.specs.Fields.{give, read_then, up_to, ip_at, names_at}
+use Rattle.world_text.specs.Written.{ip_fields, FitsIp}
 use Rattle.world_text.proofs.Exactly.{Only, only_then, same_found}
 use Rattle.world_text.proofs.ReadBack.{ip_exactly}
 use Rattle.wasi_replay.proofs.Ends.{ReadsLast, only_made}

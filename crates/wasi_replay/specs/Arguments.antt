@@ -1,5 +1,5 @@
 -- The arguments of calls and of answers, as a log has them: what each kind of them is, and how it is written and read.
-use Rattle.std.specs.Prelude.{◌≡◌, ℕ, ◌≤◌, if◌then◌else◌, List, [], ◌∷◌, ◌++◌, bytes_eq, flat_map, codes, decimal, Option, Some, None}
+use Rattle.std.specs.Prelude.{ℕ, ◌≤◌, if◌then◌else◌, List, [], ◌∷◌, ◌++◌, bytes_eq, flat_map, codes, decimal, Option, Some, None}
 use Rattle.std.specs.List.{AllByRecursion}
 use Rattle.wasi_addr.specs.declared.address.IpAddress.{IpAddress}
 use Rattle.wasi_addr.specs.declared.address.IpSocketAddress.{IpSocketAddress}

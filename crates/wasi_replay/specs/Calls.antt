@@ -14,7 +14,7 @@ use Rattle.wasi_world.specs.declared.call.Told.{Told}
 use Rattle.wasi_world.specs.declared.call.Told.TheVariants as told
 use Rattle.wasi_world.specs.declared.ids.OpId.{OpId}
 use Rattle.world_text.specs.Fields.{Reader, Row, after_word, ◌>>=◌, word_at}
-use Rattle.wasi_replay.specs.Arguments.{Kind, ASock, ANumber, AValue, AFamily, AnAddress, AUse, AHalf, AnOption, SomeBytes, AHandleKind, AParent, AMaybeSock, ACode, SomeIps, Signature, signed, row_of, FitsValues, fields_of_written}
+use Rattle.wasi_replay.specs.Arguments.{ASock, ANumber, AValue, AFamily, AnAddress, AUse, AHalf, AnOption, SomeBytes, AHandleKind, AParent, AMaybeSock, ACode, SomeIps, Signature, signed, row_of, FitsValues, fields_of_written}
 
 -- == calls
 abbrev pub call_signature : Call → Signature Call

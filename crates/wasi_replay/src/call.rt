@@ -3,7 +3,8 @@
 ghost use Rattle.std.specs.Prelude.{IfOk, ◌++◌};
 ghost use Rattle.world_text.specs.Fields.{Reads, after_word};
 ghost use Rattle.wasi_replay.specs.Calls.{other_calls, address_calls, number_calls, sock_calls};
-ghost use Rattle.wasi_replay.specs.Calls.{rows_of_calls, call_signature, some_sock, nowhere, call_at};
+ghost use Rattle.wasi_replay.specs.Calls.{rows_of_calls, call_signature, some_sock, nowhere};
+ghost use Rattle.wasi_replay.specs.Calls.{call_at};
 ghost use Rattle.wasi_replay.specs.Arguments.{row_of};
 ghost use Rattle.wasi_world.specs.declared.call.Call.TheVariants as call;
 ghost use Rattle.std.specs.Prelude.{[]};
