@@ -1,0 +1,11 @@
+pub mod Fitting
+pub mod Ends
+pub mod PastWords
+pub mod NameLists
+pub mod ArgumentLaws
+pub mod CallLaws
+pub mod LogLines
+pub mod LineLaws
+pub mod TextLines
+pub mod LogLaws
+pub mod LogTexts

@@ -1,0 +1,6 @@
+use Rattle.wasi_replay.specs.Calls.{rows_of_calls, sock_calls}
+use Rattle.world_text.proofs.Words.{no_word}
+use Rattle.wasi_replay.proofs.call.on_socket.Goals as goal
+
+pub returns-in_default : goal.returns-in_default
+returns-in_default c = no_word (rows_of_calls sock_calls) c.args.word.now c.args.fields.now (assumption c)

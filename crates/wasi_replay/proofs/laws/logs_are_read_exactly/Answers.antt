@@ -1,0 +1,6 @@
+use Rattle.wasi_replay.proofs.LineLaws.{entry_exactly}
+use Rattle.wasi_replay.proofs.LogLaws.{log_exactly}
+use Rattle.wasi_replay.proofs.laws.logs_are_read_exactly.Goals as goal
+
+pub returns : goal.returns
+returns c = record { logs = log_exactly 16777216; entries = entry_exactly }

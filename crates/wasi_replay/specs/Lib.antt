@@ -1,0 +1,6 @@
+pub mod Recorded
+pub mod Arguments
+pub mod Calls
+pub mod Log
+pub mod Parsed
+pub mod Pieces
