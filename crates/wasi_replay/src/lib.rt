@@ -1,5 +1,5 @@
-//! Recorded runs: the text of a log, and a world that answers from a log and notes where it is
-//! asked something else.
+//! Recorded runs: the text of a log, how it is written and how it is read, and which answers fit
+//! which call.
 #![tactic(auto)]
 
 pub mod call;
