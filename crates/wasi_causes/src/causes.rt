@@ -4,11 +4,11 @@
 //!
 //! Other modules have the calls of TCP sockets (`tcp`), their listens and accepts (`listens`),
 //! options (`options`), UDP sockets (`udp`), their datagram streams (`datagrams`), the calls of
-//! streams (`stream_calls`, `blocking`), waits for pollables (`waiting`), and lookups (`lookups`).
+//! streams (`stream_calls`, `blocking`), pending calls (`pending_calls`), pollables (`readiness`),
+//! waits for them (`waiting`), and lookups (`lookups`).
 
-ghost use Rattle.std.specs.Prelude.{◌≡◌, ◌↔◌, ◌⊎◌, ℕ, ◌+◌, true, false, List, [], ◌∷◌, IsSome};
-ghost use Rattle.std.specs.Prelude.{IsSomeAnd, Some, None};
-ghost use Rattle.wasi_addr.specs.declared.address.IpSocketAddress.{IpSocketAddress};
+ghost use Rattle.std.specs.Prelude.{◌≡◌, ◌↔◌, ◌⊎◌, ℕ, ◌+◌, true, List, [], ◌∷◌, IsSome};
+ghost use Rattle.std.specs.Prelude.{Some, None};
 ghost use Rattle.wasi_world.specs.declared.call.Entry.{Entry};
 ghost use Rattle.wasi_world.specs.declared.outcome.TrapKind.{TrapKind};
 ghost use Rattle.wasi_world.specs.declared.outcome.WasiSocketsCtx.{WasiSocketsCtx};
@@ -23,37 +23,28 @@ ghost use Rattle.wasi_steps.specs.declared.reply.CodeWord.{CodeWord};
 ghost use Rattle.wasi_steps.specs.declared.reply.Field.{Field};
 ghost use Rattle.wasi_steps.specs.declared.reply.Reply.{Reply};
 ghost use Rattle.wasi_steps.specs.declared.step.Step.{Step};
-ghost use Rattle.wasi_walks.specs.Answered.{Answered, EndsPending, OfRecord, record_at, streams_in};
+ghost use Rattle.wasi_walks.specs.Answered.{Answered, OfRecord, record_at, streams_in};
 ghost use Rattle.wasi_walks.specs.Missing.{IsWrite, MakesHandle, MissesHandle, StandsOnNothing};
-ghost use Rattle.wasi_causes.specs.Blocking.{StreamCallStands};
-ghost use Rattle.wasi_causes.specs.Cancelled.{IsCancel};
-ghost use Rattle.wasi_causes.specs.Failed.{FailureLeaves};
 ghost use Rattle.wasi_causes.specs.Outcomes.{may_answer, EachMayAnswer, InputIsThere};
 ghost use Rattle.wasi_causes.specs.Outcomes.{IsBlockingWrite, LaterPartIsThere, Outcome};
-ghost use Rattle.wasi_causes.specs.Plain.{WatchesPlain};
 ghost use Rattle.wasi_causes.specs.PollableCalls.{IsEmptyWait, WatchedIsThere};
-ghost use Rattle.wasi_causes.specs.Udp.{IsPendingCreate};
-ghost use Rattle.wasi_causes.specs.Datagrams.{IsUdpSend, IsUdpStream, LacksRoomForStreams};
-ghost use Rattle.wasi_causes.specs.Datagrams.{OutgoingWaits, PendingHandleIsLive, WatchesDatagrams};
+ghost use Rattle.wasi_causes.specs.Datagrams.{IsUdpSend, IsUdpStream};
+ghost use Rattle.wasi_causes.specs.Datagrams.{PendingHandleIsLive};
 ghost use Rattle.wasi_causes.specs.Reached.{ListensLate, MayFinish, OfItsRecord};
 ghost use Rattle.wasi_causes.specs.GivenUp.{giving_back, GoesAtOnce, HasLiveChildren, IsDrop};
 ghost use Rattle.wasi_causes.specs.GivenUp.{IsDropped, IsGone, LooksOnce, socket_given_up, without};
 ghost use Rattle.wasi_walks.specs.Licence.{Has, marks_in};
 ghost use Rattle.wasi_machine.specs.Machine.{run};
 ghost use Rattle.wasi_steps.specs.Steps.{context_of};
-ghost use Rattle.wasi_host.specs.Machine.{first_state, outgoing_at, output_at, own_of, socket_at};
+ghost use Rattle.wasi_host.specs.Machine.{first_state, own_of, socket_at};
 ghost use Rattle.wasi_records.specs.declared.name_lookup.Lookup.{Lookup};
 ghost use Rattle.wasi_records.specs.Records.{input_pipe_at, lookup_at, open_at, output_pipe_at};
 ghost use Rattle.wasi_records.specs.Records.{tcp2_at};
-ghost use Rattle.wasi_host.specs.Kinds.{kind_at, watched_by, with_handle, without_handle};
-ghost use Rattle.wasi_host.specs.Standing.{stands_as};
-ghost use Rattle.wasi_steps.specs.Reply.{no_fields, number_fields, truth_fields};
-ghost use Rattle.wasi_causes.specs.Lookups.{LookedOn, LookupWaits};
+ghost use Rattle.wasi_host.specs.Kinds.{kind_at, without_handle};
+ghost use Rattle.wasi_steps.specs.Reply.{no_fields};
+ghost use Rattle.wasi_causes.specs.Lookups.{LookedOn};
 ghost use Rattle.wasi_causes.specs.Turns.{IsOfJob};
-ghost use Rattle.wasi_walks.specs.Waiting.{IsFailure, IsPoll, IsUnready, left_missing, MayStand};
-ghost use Rattle.wasi_walks.specs.Waiting.{OfWatched, OutputWaits, pollable_mark, StandingWaits};
-ghost use Rattle.wasi_walks.specs.Waiting.{PendingCallsFit, WatchesAccept, WatchesConnect};
-ghost use Rattle.wasi_walks.specs.Waiting.{WatchesIdle};
+ghost use Rattle.wasi_walks.specs.Waiting.{IsPoll, left_missing};
 ghost use Rattle.wasi_records.specs.InProgress.{is_connect};
 ghost use Rattle.wasi_table.specs.Table.{children_of, is_full};
 
@@ -178,94 +169,6 @@ pub fn traps_have_causes()
         → IsEmptyWait s × (entries ≡ []) × (after ≡ m) }
 {}
 
-/// What a poll of a pending call answers.
-///
-/// - `exactly`, `stays`: `no-such-call` exactly where no call is pending under its number; nothing
-///   is asked then, and the machine is unchanged.
-/// - `only_polls`: no other step but a cancel answers that.
-/// - `ends`: a poll of a pending call leaves it pending, or leaves no call pending.
-/// - `refused`: a code is the one by which the bind, the listen, the create or the connect failed:
-///   a check said no, or the network answered with it. A listen and a create closed their network
-///   socket last; a connect that was answered asked for the remote address. The operation is in
-///   progress no more, a create's record is given back, and no call is pending.
-/// - `traps`: in a run a poll traps with `Full` alone: for the handle of a create, the two of
-///   datagram streams, or that of a stream's error.
-///
-/// `refused` assumes `PendingCallsFit`: the pending call and the operation in its record are of one
-/// kind. Every run keeps that (`runs_keep_their_pending_calls`).
-pub fn polls_find_their_call()
-    ensures exactly { (contexts : List WasiSocketsCtx) (m : Machine) (line n : ℕ)
-        (entries : List Entry) (reply : Reply) (after : Machine)
-        → Answered contexts m line (Step.Poll n) entries reply after
-        → (reply ≡ Reply.NoSuchCall) ↔ (stands_as m.store.standing n ≡ false) }
-    ensures stays { (contexts : List WasiSocketsCtx) (m : Machine) (line n : ℕ)
-        (entries : List Entry) (after : Machine)
-        → Answered contexts m line (Step.Poll n) entries Reply.NoSuchCall after
-        → (entries ≡ []) × (after ≡ m) }
-    ensures only_polls { (contexts : List WasiSocketsCtx) (m : Machine) (line : ℕ) (s : Step)
-        (entries : List Entry) (after : Machine)
-        → Answered contexts m line s entries Reply.NoSuchCall after → IsPoll s ⊎ IsCancel s }
-    ensures ends { (contexts : List WasiSocketsCtx) (m : Machine) (line n : ℕ)
-        (entries : List Entry) (reply : Reply) (after : Machine)
-        → stands_as m.store.standing n ≡ true
-        → Answered contexts m line (Step.Poll n) entries reply after
-        → (reply ≡ Reply.Pending n) ⊎ (after.store.standing ≡ None) }
-    ensures refused { (contexts : List WasiSocketsCtx) (m : Machine) (line n : ℕ)
-        (entries : List Entry) (word : CodeWord) (after : Machine)
-        → PendingCallsFit m → Answered contexts m line (Step.Poll n) entries (Reply.Err word) after
-        → FailureLeaves m n entries word after }
-    ensures traps { (contexts : List WasiSocketsCtx) (steps : List Step) (log : List Entry)
-        (replies : List Reply) (m : Machine) (line n : ℕ) (entries : List Entry) (kind : TrapKind)
-        (after : Machine)
-        → Left (run contexts [] first_state 1 steps) log (Give (replies, m))
-        → Answered contexts m line (Step.Poll n) entries (Reply.Trap kind) after
-        → (kind ≡ TrapKind.Full)
-        × (((is_full m.table ≡ true) × IsSomeAnd m.store.standing (λ s. IsPendingCreate s.call))
-        ⊎ (IsSomeAnd m.store.standing (λ s. LacksRoomForStreams m s.call) ⊎ StreamCallStands m)) }
-{}
-
-/// When a step may be pending.
-///
-/// - `step`: the start of a bind or of a listen, a create of a UDP socket or of its datagram
-///   streams, the drop of an output or of an outgoing datagram stream, and a call that blocks, all
-///   under their line's number; and a poll, under the number that it polls.
-/// - `stands`: a call is pending under that number then.
-/// - `told`, `listen`: the last call of a bind, or of a listen, was answered pending.
-/// - `output`: a drop waits for its output's write in progress, or its one look was answered
-///   pending; or it waits for a datagram that isn't sent yet, and asks nothing.
-/// - `polled`: a poll is pending for the reason of the call that it polls; `blocking` and `waiting`
-///   say that of calls that block.
-///
-/// `polled` assumes `PendingCallsFit`: the pending call and the operation in its record are of one
-/// kind. Every run keeps that (`runs_keep_their_pending_calls`).
-pub fn pending_where_told()
-    ensures step { (contexts : List WasiSocketsCtx) (m : Machine) (line : ℕ) (s : Step)
-        (entries : List Entry) (number : ℕ) (after : Machine)
-        → Answered contexts m line s entries (Reply.Pending number) after
-        → MayStand m line s number }
-    ensures stands { (contexts : List WasiSocketsCtx) (m : Machine) (line : ℕ) (s : Step)
-        (entries : List Entry) (number : ℕ) (after : Machine)
-        → Answered contexts m line s entries (Reply.Pending number) after
-        → IsSomeAnd after.store.standing (λ call. call.ids.line ≡ number) }
-    ensures told { (contexts : List WasiSocketsCtx) (m : Machine) (line ctx handle network : ℕ)
-        (a : IpSocketAddress) (entries : List Entry) (number : ℕ) (after : Machine)
-        → Answered contexts m line (Step.TcpStartBind ctx handle network a) entries
-        (Reply.Pending number) after → EndsPending (own_of line) entries }
-    ensures listen { (contexts : List WasiSocketsCtx) (m : Machine) (line ctx handle : ℕ)
-        (entries : List Entry) (number : ℕ) (after : Machine)
-        → Answered contexts m line (Step.TcpStartListen ctx handle) entries (Reply.Pending number)
-        after → EndsPending (own_of line) entries }
-    ensures output { (contexts : List WasiSocketsCtx) (m : Machine) (line ctx handle : ℕ)
-        (entries : List Entry) (number : ℕ) (after : Machine)
-        → Answered contexts m line (Step.Drop ctx handle) entries (Reply.Pending number) after
-        → OutputWaits m (own_of line) (output_at m handle) entries
-        ⊎ OutgoingWaits m (outgoing_at m handle) entries }
-    ensures polled { (contexts : List WasiSocketsCtx) (m : Machine) (line n : ℕ)
-        (entries : List Entry) (number : ℕ) (after : Machine)
-        → PendingCallsFit m → Answered contexts m line (Step.Poll n) entries (Reply.Pending number)
-        after → StandingWaits m (own_of n) entries }
-{}
-
 /// What holds of the records after any script.
 ///
 /// - `handles`: each live handle of a socket, a stream, a pipe, a lookup or a pollable has its
@@ -308,21 +211,6 @@ pub fn runs_keep_their_records()
         (replies : List Reply) (m : Machine) (place : ℕ) (r : TcpRecord)
         → Left (run contexts [] first_state 1 steps) log (Give (replies, m))
         → tcp2_at m.store.records place ≡ Some r → ListensLate r }
-{}
-
-/// After any script the pending call and the operation in its record fit.
-///
-/// - A bind, of a TCP or a UDP socket: its record has a bind in progress.
-/// - A listen: its record has begun a listen, of which at most the check of the address that was
-///   reported and the listen itself are left, and one of them at least. The socket has no network
-///   socket.
-/// - A create: its record has a create that waits for its network socket.
-/// - Datagram streams: the record has a connect of whose checks one at least isn't answered.
-pub fn runs_keep_their_pending_calls()
-    ensures { (contexts : List WasiSocketsCtx) (steps : List Step) (entries : List Entry)
-        (replies : List Reply) (m : Machine)
-        → Left (run contexts [] first_state 1 steps) entries (Give (replies, m))
-        → PendingCallsFit m }
 {}
 
 /// The network's code in the error of a stream:
@@ -411,78 +299,6 @@ pub fn drops_give_up_what_is_open()
         (entries : List Entry) (reply : Reply) (after : Machine)
         → IsDropped reply → Answered contexts m line (Step.Drop ctx handle) entries reply after
         → kind_at after.table handle ≡ None }
-{}
-
-/// Whether the pollable of a TCP socket, of a stream of a connection or in memory, or of a lookup
-/// is ready.
-///
-/// - `values`: the answer is `true` or `false`.
-/// - `not_ready`: `false` where the connect in progress was answered pending; where, with nothing
-///   in progress, the accept of a listener waits; where the look at the open input was answered
-///   pending; where the output's write is in progress, or its look was answered pending; or where
-///   the lookup is in progress.
-/// - `idle`: a socket without a connect in progress, and without a listener unless another
-///   operation is in progress, is ready; nothing is asked, and the machine is unchanged.
-/// - `plain`: a stream in memory is ready; nothing is asked, and the machine is unchanged.
-/// - `never_fails`: a look never fails.
-///
-/// `idle` and `plain` are said where no call is pending. `not_ready` assumes that a socket connects
-/// by a connect and accepts by an accept. Every run keeps that (`runs_connect_by_connects`,
-/// `runs_accept_by_accepts`).
-pub fn readiness_has_causes()
-    ensures values { (contexts : List WasiSocketsCtx) (m : Machine) (line ctx pollable : ℕ)
-        (fields : List Field) (entries : List Entry) (after : Machine)
-        → Answered contexts m line (Step.Ready ctx pollable) entries (Reply.Ok fields) after
-        → (fields ≡ truth_fields true) ⊎ (fields ≡ truth_fields false) }
-    ensures not_ready { (contexts : List WasiSocketsCtx) (m : Machine) (line ctx pollable : ℕ)
-        (entries : List Entry) (after : Machine)
-        → (WatchesDatagrams m pollable → ⊥) → WatchesConnect m pollable → WatchesAccept m pollable
-        → Answered contexts m line (Step.Ready ctx pollable) entries
-        (Reply.Ok (truth_fields false)) after
-        → OfWatched m pollable (λ w r. IsUnready (own_of line) r entries w)
-        ⊎ LookupWaits m pollable entries }
-    ensures idle { (contexts : List WasiSocketsCtx) (m : Machine) (line ctx pollable : ℕ)
-        (entries : List Entry) (reply : Reply) (after : Machine)
-        → m.store.standing ≡ None → WatchesIdle m pollable
-        → Answered contexts m line (Step.Ready ctx pollable) entries reply after
-        → (reply ≡ Reply.Ok (truth_fields true)) × (entries ≡ []) × (after ≡ m) }
-    ensures plain { (contexts : List WasiSocketsCtx) (m : Machine) (line ctx pollable : ℕ)
-        (entries : List Entry) (reply : Reply) (after : Machine)
-        → m.store.standing ≡ None → WatchesPlain m pollable
-        → Answered contexts m line (Step.Ready ctx pollable) entries reply after
-        → (reply ≡ Reply.Ok (truth_fields true)) × (entries ≡ []) × (after ≡ m) }
-    ensures never_fails { (contexts : List WasiSocketsCtx) (m : Machine) (line ctx pollable : ℕ)
-        (entries : List Entry) (reply : Reply) (after : Machine)
-        → Answered contexts m line (Step.Ready ctx pollable) entries reply after → IsFailure reply
-        → ⊥ }
-{}
-
-/// What a `subscribe` makes.
-///
-/// - `number`: a `subscribe` answers with the number of the next handle.
-/// - `marked`: its one entry logs a pollable, a child of the handle that it was called on, with the
-///   network socket of that one.
-/// - `made`: that pollable is made, and the rest of the machine is unchanged.
-/// - `never_fails`: it never fails.
-pub fn subscribe_makes_a_pollable()
-    ensures number { (contexts : List WasiSocketsCtx) (m : Machine) (line ctx handle : ℕ)
-        (fields : List Field) (entries : List Entry) (after : Machine)
-        → Answered contexts m line (Step.Subscribe ctx handle) entries (Reply.Ok fields) after
-        → fields ≡ number_fields m.table.next }
-    ensures marked { (contexts : List WasiSocketsCtx) (m : Machine) (line ctx handle : ℕ)
-        (fields : List Field) (entries : List Entry) (after : Machine)
-        → Answered contexts m line (Step.Subscribe ctx handle) entries (Reply.Ok fields) after
-        → IsSomeAnd (watched_by (kind_at m.table handle))
-        (λ w. entries ≡ pollable_mark m (own_of line) handle w ∷ []) }
-    ensures made { (contexts : List WasiSocketsCtx) (m : Machine) (line ctx handle : ℕ)
-        (fields : List Field) (entries : List Entry) (after : Machine)
-        → Answered contexts m line (Step.Subscribe ctx handle) entries (Reply.Ok fields) after
-        → IsSomeAnd (watched_by (kind_at m.table handle))
-        (λ w. after ≡ record m { table = with_handle m.table (Kind.Pollable w) (Some handle) }) }
-    ensures never_fails { (contexts : List WasiSocketsCtx) (m : Machine) (line ctx handle : ℕ)
-        (entries : List Entry) (reply : Reply) (after : Machine)
-        → Answered contexts m line (Step.Subscribe ctx handle) entries reply after → IsFailure reply
-        → ⊥ }
 {}
 
 /// What a turn does.

@@ -9,6 +9,8 @@ pub mod datagrams;
 pub mod listens;
 pub mod lookups;
 pub mod options;
+pub mod pending_calls;
+pub mod readiness;
 pub mod received;
 pub mod records;
 pub mod stream_calls;

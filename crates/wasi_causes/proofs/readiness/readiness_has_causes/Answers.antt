@@ -1,5 +1,5 @@
 use Rattle.wasi_causes.proofs.Words.{false, truth_fields}
-use Rattle.wasi_causes.proofs.causes.readiness_has_causes.Goals as goal
+use Rattle.wasi_causes.proofs.readiness.readiness_has_causes.Goals as goal
 use Rattle.wasi_causes.proofs.tables.Steps.{may_be, no_failure, two_values, its_own, while_free}
 use Rattle.wasi_steps.specs.declared.reply.Reply.TheVariants as reply
 use Rattle.wasi_steps.specs.declared.step.Step.TheVariants as step

@@ -1,5 +1,5 @@
 use Rattle.wasi_causes.proofs.Runs.{polls_trap}
-use Rattle.wasi_causes.proofs.causes.polls_find_their_call.Goals as goal
+use Rattle.wasi_causes.proofs.pending_calls.polls_find_their_call.Goals as goal
 use Rattle.wasi_causes.proofs.tables.Steps.{its_own, unheld}
 use Rattle.wasi_steps.specs.declared.reply.Reply.TheVariants as reply
 use Rattle.wasi_steps.specs.declared.step.Step.TheVariants as step

@@ -1,7 +1,7 @@
 use Rattle.wasi_steps.specs.declared.step.Step.TheVariants as step
 use Rattle.wasi_steps.specs.declared.reply.Reply.TheVariants as reply
 use Rattle.wasi_causes.proofs.tables.Steps.{its_own}
-use Rattle.wasi_causes.proofs.causes.pending_where_told.Goals as goal
+use Rattle.wasi_causes.proofs.pending_calls.pending_where_told.Goals as goal
 
 pub returns : goal.returns
 returns c = record {

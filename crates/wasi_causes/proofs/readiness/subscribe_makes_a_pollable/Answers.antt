@@ -1,4 +1,4 @@
-use Rattle.wasi_causes.proofs.causes.subscribe_makes_a_pollable.Goals as goal
+use Rattle.wasi_causes.proofs.readiness.subscribe_makes_a_pollable.Goals as goal
 use Rattle.wasi_causes.proofs.tables.Steps.{may_be, no_failure, its_own}
 use Rattle.wasi_steps.specs.declared.reply.Reply.TheVariants as reply
 use Rattle.wasi_steps.specs.declared.step.Step.TheVariants as step
