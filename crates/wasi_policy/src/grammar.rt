@@ -12,7 +12,7 @@ ghost use Rattle.wasi_policy.specs.Grammar.{rule_in, rule_line, IsRule};
 use crate::rule::{Action, Net, Rule};
 use wasi_addr::{IpAddress, SocketAddrUse};
 use world_text::Fields;
-use world_text::text::use_word;
+use world_text::spelling::use_word;
 
 const ACTIONS: [Action; 2] = [Action::Allow, Action::Deny];
 

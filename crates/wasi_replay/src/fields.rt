@@ -1,17 +1,16 @@
 //! Reads the fields of a log's entries.
 
-ghost use Rattle.std.specs.Prelude.{◌≡◌, IfOk};
-ghost use Rattle.world_text.specs.Fields.{Reads, number_in, names_at};
+ghost use Rattle.std.specs.Prelude.{◌≡◌};
+ghost use Rattle.world_text.specs.Fields.{Reads, number_in};
 ghost use Rattle.wasi_replay.specs.Arguments.{use_in, use_at, option_in, option_at, handle_kind_in};
 ghost use Rattle.wasi_replay.specs.Arguments.{handle_kind_at, half_at, sock_at, handle_or_none};
 ghost use Rattle.wasi_replay.specs.Arguments.{maybe_handle_at, sock_or_none, maybe_sock_at};
 
-use std::alloc::{AllocError, Global};
 use wasi_addr::{ShutdownType, SocketAddrUse};
-use wasi_world::{HandleKind, IpList, OpId, Opt, Sock};
+use wasi_world::{HandleKind, OpId, Opt, Sock};
 use world_text::Fields;
 use world_text::fields::number;
-use world_text::text::{handle_kind_word, option_word, use_word};
+use world_text::spelling::{handle_kind_word, option_word, use_word};
 
 const USES: [SocketAddrUse; 7] = [
     SocketAddrUse::TcpBind,
@@ -180,18 +179,4 @@ pub fn maybe_sock(fields: &mut Fields<'_>) -> Option<Option<Sock>>
 {
     let word = fields.word()?;
     sock_or_none(fields, word)
-}
-
-/// Takes addresses up to the end of the line.
-pub fn ips(alloc: Global, fields: &mut Fields<'_>) -> Result<Option<IpList>, AllocError>
-    ensures { IfOk result (λ ips. Reads names_at fields.old ips fields.new) }
-{
-    let mut ips = Vec::new(alloc);
-    while !fields.is_done() {
-        let Some(ip) = fields.ip_address() else {
-            return Ok(None);
-        };
-        ips.push(ip)?;
-    }
-    Ok(Some(IpList::from_vec(ips)))
 }

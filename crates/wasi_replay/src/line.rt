@@ -1,8 +1,7 @@
 //! Reads a line of a log: a context, an entry, or the end.
 
-ghost use Rattle.std.specs.Prelude.{◌≡◌, IfOk, IfSome};
+ghost use Rattle.std.specs.Prelude.{◌≡◌, IfOk};
 ghost use Rattle.world_text.specs.Fields.{Reads};
-ghost use Rattle.world_scripted.specs.Scenario.{yes_or_no_at, allowed_at, context_in};
 ghost use Rattle.wasi_replay.specs.Log.{equals_at, if_fits, entry_at, entry_in, line_in};
 
 use crate::call::call;
@@ -11,6 +10,7 @@ use crate::fields::sock;
 use crate::told::told;
 use std::alloc::{AllocError, Global};
 use wasi_world::{Entry, WasiSocketsCtx};
+use world_scripted::scenario::context;
 use world_text::Fields;
 
 /// What a line of a log is.
@@ -22,53 +22,6 @@ pub enum Line {
     Entry(Entry),
     /// `end`: the last line.
     End,
-}
-
-/// Takes `yes` or `no`.
-#[tactic(auto, unfolding(world_scripted::specs::Scenario::yes_or_no_at, world_text::specs::Fields::read_then, world_text::specs::Fields::give))]
-fn yes_or_no(fields: &mut Fields<'_>) -> Option<bool>
-    ensures { Reads yes_or_no_at fields.old result fields.new }
-{
-    match fields.word()? {
-        "yes" => Some(true),
-        "no" => Some(false),
-        _ => None,
-    }
-}
-
-/// Takes a context with this number: whether TCP, UDP and name lookup are allowed.
-#[tactic(auto, unfolding(world_scripted::specs::Scenario::allowed_at, world_text::specs::Fields::read_then, world_text::specs::Fields::give))]
-fn allowed(fields: &mut Fields<'_>, number: u32) -> Option<WasiSocketsCtx>
-    ensures { Reads (allowed_at number) fields.old result fields.new }
-{
-    let tcp = yes_or_no(fields)?;
-    let udp = yes_or_no(fields)?;
-    let ip_name_lookup = yes_or_no(fields)?;
-    Some(WasiSocketsCtx {
-        name: number,
-        ip_name_lookup,
-        udp,
-        tcp,
-    })
-}
-
-/// The context that a line is, with this number.
-#[tactic(auto, unfolding(world_scripted::specs::Scenario::context_in, world_scripted::specs::Scenario::context_at, world_text::specs::Fields::read_then))]
-fn context(line: &[u8], number: u32) -> Option<WasiSocketsCtx>
-    ensures { result ≡ context_in number line.now }
-{
-    let mut fields = Fields::of(line);
-    match fields.word()? {
-        "context" => {
-            let context = allowed(&mut fields, number)?;
-            if fields.is_done() {
-                Some(context)
-            } else {
-                None
-            }
-        }
-        _ => None,
-    }
 }
 
 /// Takes the sign between a call and its answer.

@@ -4,9 +4,9 @@ ghost use Rattle.std.specs.Prelude.{IfOk};
 ghost use Rattle.world_text.specs.Fields.{Reads, after_word};
 ghost use Rattle.wasi_replay.specs.Calls.{plain_answers, rows_of_answers, told_at};
 
-use crate::fields::ips;
 use std::alloc::{AllocError, Global};
 use wasi_world::Told;
+use world_scripted::scenario::names;
 use world_text::Fields;
 
 /// Takes what follows the word of an answer that holds neither bytes nor names.
@@ -59,7 +59,7 @@ pub fn told(alloc: Global, fields: &mut Fields<'_>) -> Result<Option<Told>, Allo
             Ok(Some(Told::Datagram(bytes, addr)))
         }
         "names" => {
-            let Some(ips) = ips(alloc, fields)? else {
+            let Some(ips) = names(alloc, fields)? else {
                 return Ok(None);
             };
             Ok(Some(Told::Names(ips)))

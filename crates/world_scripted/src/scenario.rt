@@ -141,7 +141,7 @@ fn short_answer(fields: &mut Fields<'_>, word: &str) -> Option<Planned>
 }
 
 /// Takes addresses up to the end of the line.
-fn names(alloc: Global, fields: &mut Fields<'_>) -> Result<Option<IpList>, AllocError>
+pub fn names(alloc: Global, fields: &mut Fields<'_>) -> Result<Option<IpList>, AllocError>
     ensures { IfOk result (λ names. Reads names_at fields.old names fields.new) }
 {
     let mut names = Vec::new(alloc);
@@ -239,7 +239,7 @@ fn allowed(fields: &mut Fields<'_>, number: u32) -> Option<WasiSocketsCtx>
 
 /// The context that a line gives, with this number; none exactly where it isn't a context's line.
 #[tactic(auto, unfolding(crate::specs::Scenario::context_in, crate::specs::Scenario::context_at, world_text::specs::Fields::read_then))]
-fn context(line: &[u8], number: u32) -> Option<WasiSocketsCtx>
+pub fn context(line: &[u8], number: u32) -> Option<WasiSocketsCtx>
     ensures context { result ≡ context_in number line.now }
     ensures named { IfSome result (λ context. context.name ≡ number) }
 {

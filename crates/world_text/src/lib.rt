@@ -4,6 +4,7 @@
 
 pub mod fields;
 pub mod lines;
+pub mod spelling;
 pub mod text;
 
 pub use fields::Fields;
