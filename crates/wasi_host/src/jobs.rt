@@ -22,7 +22,7 @@ use crate::store::Store;
 use crate::view::WasiSocketsCtxView;
 use std::alloc::AllocError;
 use wasi_jobs::{HostJob, JobList, Listed};
-use wasi_records::{Lookup, OpenUdp, RecordId, RecordList, Slot, TcpRecord, find_mut_in};
+use wasi_records::{Lookup, OpenUdp, RecordId, RecordList, SlotKey, TcpRecord, find_mut_in};
 use wasi_world::World;
 
 /// Polls the write of the TCP socket with this record number once, if one is in progress. Returns
@@ -30,7 +30,7 @@ use wasi_world::World;
 fn turn_socket<W: World>(
     records: &mut RecordList,
     world: &mut W,
-    slot: Slot,
+    slot: SlotKey,
     place: RecordId,
 ) -> Result<bool, AllocError>
     requires { (W.seen world.old).ended ≡ false }
@@ -52,7 +52,7 @@ fn turn_socket<W: World>(
 fn turn_datagram<W: World>(
     records: &mut RecordList,
     world: &mut W,
-    slot: Slot,
+    slot: SlotKey,
     place: RecordId,
 ) -> Result<bool, AllocError>
     requires { (W.seen world.old).ended ≡ false }
@@ -76,7 +76,7 @@ fn turn_datagram<W: World>(
 fn turn_receive<W: World>(
     records: &mut RecordList,
     world: &mut W,
-    slot: Slot,
+    slot: SlotKey,
     place: RecordId,
 ) -> Result<bool, AllocError>
     requires { (W.seen world.old).ended ≡ false }
@@ -100,7 +100,7 @@ fn turn_receive<W: World>(
 fn turn_lookup<W: World>(
     records: &mut RecordList,
     world: &mut W,
-    slot: Slot,
+    slot: SlotKey,
     place: RecordId,
 ) -> Result<bool, AllocError>
     requires { (W.seen world.old).ended ≡ false }

@@ -8,7 +8,7 @@ ghost use Rattle.wasi_records.specs.Sides.{held_by, held_in, one_if_some};
 ghost use Rattle.wasi_records.specs.Closing.{ClosesMore, ClosesSides};
 ghost use Rattle.wasi_records.specs.RecordMap.{record_under, records_of};
 
-use crate::record_list::{NumberedRecord, RecordId, RecordList, Slot, record_of};
+use crate::record_list::{NumberedRecord, RecordId, RecordList, SlotKey, record_of};
 use crate::records::Record;
 use slab::Slab;
 use slab_keys::SlabKeys;
@@ -60,7 +60,7 @@ fn close_live<W: World>(world: &mut W, slots: &Slab<NumberedRecord>, keys: &Slab
 }
 
 /// Closes the network sockets that the record of this number holds, where it is in this slot.
-fn close_in<W: World>(world: &mut W, slots: &Slab<NumberedRecord>, slot: Slot, number: RecordId)
+fn close_in<W: World>(world: &mut W, slots: &Slab<NumberedRecord>, slot: SlotKey, number: RecordId)
     requires { (W.seen world.old).ended ≡ true }
     ensures { ClosesMore (W.seen world.old) (W.seen world.new)
         (held_by (record_under slots.now slot number)) }

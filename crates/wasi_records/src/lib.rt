@@ -22,7 +22,7 @@ pub use closing::close_sides;
 pub use datagrams::{Incoming, Outgoing, Receiving, Sending};
 pub use error::SocketError;
 pub use name_lookup::{Addresses, Lookup, LookupOp, unresolvable};
-pub use record_list::{RecordId, RecordList, Slot};
+pub use record_list::{RecordId, RecordList, SlotKey};
 pub use records::{Record, Stored, find, find_mut, find_mut_in};
 pub use socket::{Streams, TcpRecord};
 pub use tcp_binding::{AsyncOperation, InProgress};

@@ -17,9 +17,10 @@ use std::marker::Model;
 /// making, and none is given again.
 pub type RecordId = usize;
 
-/// The slot in which a record stands. A caller that keeps it has a hint: the record may have been
-/// given back since, and another one have come in its place, so it is tested where it is used.
-pub type Slot = usize;
+/// The key of the slot in which a record stands. A caller that keeps it has a hint: the record may
+/// have been given back since, and another one have come in its place, so it is tested where it is
+/// used.
+pub type SlotKey = usize;
 
 /// A record in the slab, with its number.
 #[derive(Drop)]
@@ -114,13 +115,13 @@ impl RecordList {
 
     /// The slot of the record of this number, as a hint for `find_mut_in`; any slot where there is
     /// no such record. Takes no memory.
-    pub fn slot_of(&self, place: RecordId) -> Slot {
+    pub fn slot_of(&self, place: RecordId) -> SlotKey {
         key_of(&self.keys, place)
     }
 
     /// The record of this number, to be changed, with a slot hint that saves the search where the
     /// record is in that slot. One that was given back or wasn't made is `None`. Takes no memory.
-    pub(crate) fn get_mut_in(&mut self, slot: Slot, place: RecordId) -> Option<&mut Record>
+    pub(crate) fn get_mut_in(&mut self, slot: SlotKey, place: RecordId) -> Option<&mut Record>
         ensures* writes_back { sem 𝓛 (LendsIf records_row record_row self.entry result
             (with_item self.old place) self.old) }
         ensures item { or_gone (option_map (λ r. r.now) result) ≡ item_at self.old.items place }
@@ -142,7 +143,7 @@ impl RecordList {
 }
 
 /// The key to which a number leads, or 0 where it leads nowhere.
-fn key_of(keys: &SlabKeys, number: RecordId) -> Slot
+fn key_of(keys: &SlabKeys, number: RecordId) -> SlotKey
     ensures { result ≡ key_at keys.now number }
 {
     keys.get(number).unwrap_or(0)
@@ -151,7 +152,7 @@ fn key_of(keys: &SlabKeys, number: RecordId) -> Slot
 /// The record in a slot, if it has this number.
 pub(crate) fn record_of(
     slots: &Slab<NumberedRecord>,
-    slot: Slot,
+    slot: SlotKey,
     number: RecordId,
 ) -> Option<&Record>
     ensures { option_map (λ r. r.now) result ≡ of_number number (get slots.now slot) }
@@ -163,7 +164,7 @@ pub(crate) fn record_of(
 }
 
 /// Whether the record in a slot has this number.
-fn is_in(slots: &Slab<NumberedRecord>, slot: Slot, number: RecordId) -> bool
+fn is_in(slots: &Slab<NumberedRecord>, slot: SlotKey, number: RecordId) -> bool
     ensures { result ≡ is_some (of_number number (get slots.now slot)) }
 {
     record_of(slots, slot, number).is_some()
@@ -174,9 +175,9 @@ fn is_in(slots: &Slab<NumberedRecord>, slot: Slot, number: RecordId) -> bool
 fn find(
     slots: &Slab<NumberedRecord>,
     keys: &SlabKeys,
-    first: Slot,
+    first: SlotKey,
     number: RecordId,
-) -> Option<Slot>
+) -> Option<SlotKey>
     ensures found { IfSome result (λ slot. is_some (of_number number (get slots.now slot)) ≡ true) }
     ensures none { IfNone result (of_number number (get slots.now (key_at keys.now number))
         ≡ None) }

@@ -8,7 +8,7 @@ ghost use Rattle.wasi_records.specs.declared.records.Record.{Record};
 ghost use Rattle.wasi_records.specs.declared.records.Record.TheVariants.{Gone};
 
 use crate::name_lookup::Lookup;
-use crate::record_list::{RecordId, RecordList, Slot};
+use crate::record_list::{RecordId, RecordList, SlotKey};
 use crate::socket::TcpRecord;
 use crate::udp::{OpenUdp, UdpRecord};
 use memory_streams::{InputPipeCore, OutputPipe};
@@ -239,7 +239,7 @@ pub fn find_mut<T: Stored>(records: &mut RecordList, place: RecordId) -> Option<
 /// [`find_mut`], with a slot hint that saves the search.
 pub fn find_mut_in<T: Stored>(
     records: &mut RecordList,
-    slot: Slot,
+    slot: SlotKey,
     place: RecordId,
 ) -> Option<&mut T>
     ensures* writes_back { sem 𝓛 (LendsIf records_row T.row records.entry result
