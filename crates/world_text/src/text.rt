@@ -9,6 +9,7 @@ ghost use Rattle.world_text.specs.Fields.{line_with, bytes_text};
 ghost use Rattle.world_text.specs.EntryText.{sock_text, maybe_sock_text, maybe_handle_text};
 ghost use Rattle.world_text.specs.EntryText.{address_text, ip_text, on_text, to_text};
 ghost use Rattle.world_text.specs.EntryText.{with_number_text, create_text, op_text, call_text};
+ghost use Rattle.world_text.specs.EntryText.{use_text, option_text, handle_kind_text};
 ghost use Rattle.world_text.specs.EntryText.{told_text, entry_text};
 
 use crate::fields::code_text;
