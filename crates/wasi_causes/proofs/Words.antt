@@ -7,7 +7,7 @@ pub use Rattle.wasi_walks.proofs.Words.{IsConnect, IsDoneOrCode, IsLeftOfAccept,
 pub use Rattle.wasi_walks.proofs.Words.{IsVerdict, Item, Job, Kind, Last, LastAsk, Left, List, Listen, Listener, Listening, Machine, Network, None}
 pub use Rattle.wasi_walks.proofs.Words.{NotPermitted, Nothing, NothingLast, Ok, OpId, Operation, Option, Other, Output, Pending, Pollable, ReadState}
 pub use Rattle.wasi_walks.proofs.Words.{Ready, Records, Refuse, Refused, Reply, Result, ShutdownLast, ShutdownSend, ShutdownType, Socket}
-pub use Rattle.wasi_walks.proofs.Words.{SocketAddrUse, SocketAddressFamily, Some, Standing, StandingCall, Step, Stop, StreamStop, Streams, Tcp2}
+pub use Rattle.wasi_walks.proofs.Words.{SocketAddrUse, SocketAddressFamily, Some, Standing, StandingCall, GuestCall, Step, Stop, StreamStop, Streams, Tcp2}
 pub use Rattle.wasi_walks.proofs.Words.{TcpRecord, TcpAccept, TcpBind, TcpReceiveStream, TcpSendStream, TcpSetting, TcpState, TheBacklog, Told, Trap}
 pub use Rattle.wasi_walks.proofs.Words.{Verdict, Waits, WasiSocketsCtx, Watched, Who, Write, WriteState, [], accept_answered, accept_asks, accept_at}
 pub use Rattle.wasi_walks.proofs.Words.{accept_end, accept_ended, accept_front, accept_listening, accept_on, accept_operation, accepted_asks}

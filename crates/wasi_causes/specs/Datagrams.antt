@@ -22,6 +22,7 @@ use Rattle.wasi_host.specs.UdpCalls.{with_open_udp}
 use Rattle.wasi_machine.specs.Machine.{first_ids}
 use Rattle.wasi_steps.specs.declared.reply.Field.{Field}
 use Rattle.wasi_steps.specs.declared.step.Step.{Step}
+use Rattle.wasi_steps.specs.declared.guest_call.GuestCall.TheVariants as guest
 use Rattle.wasi_steps.specs.declared.step.Step.TheVariants as step
 use Rattle.wasi_steps.specs.Reply.{number_fields, pair_fields}
 use Rattle.wasi_table.specs.Table.{is_full}
@@ -29,11 +30,11 @@ use Rattle.wasi_walks.specs.Answered.{open_in, outgoing_in}
 
 -- == the steps
 abbrev pub IsUdpSend : Step → Type 0
-IsUdpSend (step.UdpSend ctx outgoing datagrams) = ⊤
+IsUdpSend (step.Call ctx (guest.UdpSend outgoing datagrams)) = ⊤
 IsUdpSend _ = ⊥
 
 abbrev pub IsUdpStream : Step → Type 0
-IsUdpStream (step.UdpStream ctx socket remote) = ⊤
+IsUdpStream (step.Call ctx (guest.UdpStream socket remote)) = ⊤
 IsUdpStream _ = ⊥
 
 -- == the streams that handles name

@@ -15,6 +15,7 @@ use Rattle.wasi_steps.specs.declared.reply.Field.TheVariants as field
 use Rattle.wasi_steps.specs.declared.reply.Reply.{Reply}
 use Rattle.wasi_steps.specs.declared.reply.Reply.TheVariants as reply
 use Rattle.wasi_steps.specs.declared.step.Step.{Step}
+use Rattle.wasi_steps.specs.declared.guest_call.GuestCall.TheVariants as guest
 use Rattle.wasi_steps.specs.declared.step.Step.TheVariants as step
 use Rattle.wasi_steps.specs.Replies.{FieldKind, ANumber, SomeBytes, Truth, Nothing, FieldKinds, Each, AnAddress, AnIpOrNone, ADatagramList, SomeNumbers, OfAPolledCall, polled_kinds, kinds_of}
 use Rattle.wasi_steps.specs.Reply.{address_values, datagram_values, found_values, numbers_fields}
@@ -66,71 +67,71 @@ pub record IsCodeWord (w : CodeWord) : Type 0 where
 
 -- by which word a step may be refused; beside codes the host has three words of its own, and lookups have theirs
 abbrev pub MayRefuse : Step → CodeWord → Type 0
-MayRefuse (step.TcpCreate ctx family) w = IsCodeWord w
-MayRefuse (step.TcpStartBind ctx socket network a) w = (w ≡ word.ConcurrencyConflict) ⊎ IsCodeWord w
-MayRefuse (step.TcpFinishBind ctx socket) w = w ≡ word.NotInProgress
-MayRefuse (step.TcpStartConnect ctx socket network a) w = (w ≡ word.ConcurrencyConflict) ⊎ IsCodeWord w
-MayRefuse (step.TcpFinishConnect ctx socket) w = (w ≡ word.NotInProgress) ⊎ ((w ≡ word.WouldBlock) ⊎ IsCodeWord w)
-MayRefuse (step.TcpStartListen ctx socket) w = (w ≡ word.ConcurrencyConflict) ⊎ IsCodeWord w
-MayRefuse (step.TcpFinishListen ctx socket) w = w ≡ word.NotInProgress
-MayRefuse (step.TcpAccept ctx socket) w = (w ≡ word.WouldBlock) ⊎ IsCodeWord w
-MayRefuse (step.TcpLocalAddress ctx socket) w = IsCodeWord w
-MayRefuse (step.TcpRemoteAddress ctx socket) w = IsCodeWord w
-MayRefuse (step.TcpGet ctx socket option) w = IsCodeWord w
-MayRefuse (step.TcpSet ctx socket setting) w = IsCodeWord w
-MayRefuse (step.TcpShutdown ctx socket how) w = w ≡ word.InvalidState
-MayRefuse (step.UdpCreate ctx family) w = IsCodeWord w
-MayRefuse (step.UdpStartBind ctx socket network a) w = (w ≡ word.ConcurrencyConflict) ⊎ IsCodeWord w
-MayRefuse (step.UdpFinishBind ctx socket) w = w ≡ word.NotInProgress
-MayRefuse (step.UdpLocalAddress ctx socket) w = IsCodeWord w
-MayRefuse (step.UdpRemoteAddress ctx socket) w = w ≡ word.InvalidState
-MayRefuse (step.UdpGet ctx socket option) w = IsCodeWord w
-MayRefuse (step.UdpSet ctx socket setting) w = IsCodeWord w
-MayRefuse (step.UdpStream ctx socket remote) w = IsCodeWord w
-MayRefuse (step.UdpReceive ctx incoming most) w = IsCodeWord w
-MayRefuse (step.UdpSend ctx outgoing datagrams) w = IsCodeWord w
-MayRefuse (step.Resolve ctx network name) w = (w ≡ word.PermanentResolverFailure) ⊎ ((w ≡ word.InvalidArgument) ⊎ (w ≡ word.NameUnresolvable))
-MayRefuse (step.ResolveNext ctx lookup) w = (w ≡ word.WouldBlock) ⊎ (w ≡ word.NameUnresolvable)
+MayRefuse (step.Call ctx (guest.TcpCreate family)) w = IsCodeWord w
+MayRefuse (step.Call ctx (guest.TcpStartBind socket network a)) w = (w ≡ word.ConcurrencyConflict) ⊎ IsCodeWord w
+MayRefuse (step.Call ctx (guest.TcpFinishBind socket)) w = w ≡ word.NotInProgress
+MayRefuse (step.Call ctx (guest.TcpStartConnect socket network a)) w = (w ≡ word.ConcurrencyConflict) ⊎ IsCodeWord w
+MayRefuse (step.Call ctx (guest.TcpFinishConnect socket)) w = (w ≡ word.NotInProgress) ⊎ ((w ≡ word.WouldBlock) ⊎ IsCodeWord w)
+MayRefuse (step.Call ctx (guest.TcpStartListen socket)) w = (w ≡ word.ConcurrencyConflict) ⊎ IsCodeWord w
+MayRefuse (step.Call ctx (guest.TcpFinishListen socket)) w = w ≡ word.NotInProgress
+MayRefuse (step.Call ctx (guest.TcpAccept socket)) w = (w ≡ word.WouldBlock) ⊎ IsCodeWord w
+MayRefuse (step.Call ctx (guest.TcpLocalAddress socket)) w = IsCodeWord w
+MayRefuse (step.Call ctx (guest.TcpRemoteAddress socket)) w = IsCodeWord w
+MayRefuse (step.Call ctx (guest.TcpGet socket option)) w = IsCodeWord w
+MayRefuse (step.Call ctx (guest.TcpSet socket setting)) w = IsCodeWord w
+MayRefuse (step.Call ctx (guest.TcpShutdown socket how)) w = w ≡ word.InvalidState
+MayRefuse (step.Call ctx (guest.UdpCreate family)) w = IsCodeWord w
+MayRefuse (step.Call ctx (guest.UdpStartBind socket network a)) w = (w ≡ word.ConcurrencyConflict) ⊎ IsCodeWord w
+MayRefuse (step.Call ctx (guest.UdpFinishBind socket)) w = w ≡ word.NotInProgress
+MayRefuse (step.Call ctx (guest.UdpLocalAddress socket)) w = IsCodeWord w
+MayRefuse (step.Call ctx (guest.UdpRemoteAddress socket)) w = w ≡ word.InvalidState
+MayRefuse (step.Call ctx (guest.UdpGet socket option)) w = IsCodeWord w
+MayRefuse (step.Call ctx (guest.UdpSet socket setting)) w = IsCodeWord w
+MayRefuse (step.Call ctx (guest.UdpStream socket remote)) w = IsCodeWord w
+MayRefuse (step.Call ctx (guest.UdpReceive incoming most)) w = IsCodeWord w
+MayRefuse (step.Call ctx (guest.UdpSend outgoing datagrams)) w = IsCodeWord w
+MayRefuse (step.Call ctx (guest.Resolve network name)) w = (w ≡ word.PermanentResolverFailure) ⊎ ((w ≡ word.InvalidArgument) ⊎ (w ≡ word.NameUnresolvable))
+MayRefuse (step.Call ctx (guest.ResolveNext lookup)) w = (w ≡ word.WouldBlock) ⊎ (w ≡ word.NameUnresolvable)
 MayRefuse (step.Poll n) w = IsCodeWord w
 MayRefuse _ w = ⊥
 
 -- == the other replies
 -- a call of a stream, which may end, or fail and hand an error out; and a poll, of one that blocks
 abbrev pub IsStreamCall : Step → Type 0
-IsStreamCall (step.Read ctx input len) = ⊤
-IsStreamCall (step.Skip ctx input len) = ⊤
-IsStreamCall (step.CheckWrite ctx output) = ⊤
-IsStreamCall (step.Write ctx output bytes) = ⊤
-IsStreamCall (step.WriteZeroes ctx output len) = ⊤
-IsStreamCall (step.Flush ctx output) = ⊤
-IsStreamCall (step.Splice ctx to from len) = ⊤
-IsStreamCall (step.BlockingRead ctx input len) = ⊤
-IsStreamCall (step.BlockingSkip ctx input len) = ⊤
-IsStreamCall (step.BlockingWrite ctx output bytes) = ⊤
-IsStreamCall (step.BlockingZeroes ctx output len) = ⊤
-IsStreamCall (step.BlockingFlush ctx output) = ⊤
-IsStreamCall (step.BlockingSplice ctx to from len) = ⊤
+IsStreamCall (step.Call ctx (guest.Read input len)) = ⊤
+IsStreamCall (step.Call ctx (guest.Skip input len)) = ⊤
+IsStreamCall (step.Call ctx (guest.CheckWrite output)) = ⊤
+IsStreamCall (step.Call ctx (guest.Write output bytes)) = ⊤
+IsStreamCall (step.Call ctx (guest.WriteZeroes output len)) = ⊤
+IsStreamCall (step.Call ctx (guest.Flush output)) = ⊤
+IsStreamCall (step.Call ctx (guest.Splice to from len)) = ⊤
+IsStreamCall (step.Call ctx (guest.BlockingRead input len)) = ⊤
+IsStreamCall (step.Call ctx (guest.BlockingSkip input len)) = ⊤
+IsStreamCall (step.Call ctx (guest.BlockingWrite output bytes)) = ⊤
+IsStreamCall (step.Call ctx (guest.BlockingZeroes output len)) = ⊤
+IsStreamCall (step.Call ctx (guest.BlockingFlush output)) = ⊤
+IsStreamCall (step.Call ctx (guest.BlockingSplice to from len)) = ⊤
 IsStreamCall (step.Poll n) = ⊤
 IsStreamCall _ = ⊥
 
 -- a step that names no handle misses none
 abbrev pub MayMiss : Step → Type 0
-MayMiss (step.Network ctx) = ⊥
-MayMiss (step.TcpCreate ctx family) = ⊥
-MayMiss (step.UdpCreate ctx family) = ⊥
-MayMiss (step.PipeIn ctx bytes) = ⊥
-MayMiss (step.PipeOut ctx capacity) = ⊥
-MayMiss (step.Sink ctx) = ⊥
-MayMiss (step.ClosedIn ctx) = ⊥
-MayMiss (step.ClosedOut ctx) = ⊥
+MayMiss (step.Call ctx guest.Network) = ⊥
+MayMiss (step.Call ctx (guest.TcpCreate family)) = ⊥
+MayMiss (step.Call ctx (guest.UdpCreate family)) = ⊥
+MayMiss (step.Call ctx (guest.PipeIn bytes)) = ⊥
+MayMiss (step.Call ctx (guest.PipeOut capacity)) = ⊥
+MayMiss (step.Call ctx guest.Sink) = ⊥
+MayMiss (step.Call ctx guest.ClosedIn) = ⊥
+MayMiss (step.Call ctx guest.ClosedOut) = ⊥
 MayMiss step.Turn = ⊥
 MayMiss (step.Cancel n) = ⊥
 MayMiss _ = ⊤
 
 -- it may be of more bytes than one call may write
 abbrev pub IsBlockingWrite : Step → Type 0
-IsBlockingWrite (step.BlockingWrite ctx output bytes) = ⊤
-IsBlockingWrite (step.BlockingZeroes ctx output len) = ⊤
+IsBlockingWrite (step.Call ctx (guest.BlockingWrite output bytes)) = ⊤
+IsBlockingWrite (step.Call ctx (guest.BlockingZeroes output len)) = ⊤
 IsBlockingWrite _ = ⊥
 
 abbrev pub MayTrap : Step → TrapKind → Type 0
@@ -146,20 +147,20 @@ MayTrap s _ = ⊥
 
 -- under which number it may be pending
 abbrev pub MayWait : ℕ → Step → ℕ → Type 0
-MayWait line (step.TcpStartBind ctx socket network a) n = n ≡ line
-MayWait line (step.TcpStartListen ctx socket) n = n ≡ line
-MayWait line (step.UdpCreate ctx family) n = n ≡ line
-MayWait line (step.UdpStartBind ctx socket network a) n = n ≡ line
-MayWait line (step.UdpStream ctx socket remote) n = n ≡ line
-MayWait line (step.Drop ctx handle) n = n ≡ line
-MayWait line (step.BlockingRead ctx input len) n = n ≡ line
-MayWait line (step.BlockingSkip ctx input len) n = n ≡ line
-MayWait line (step.BlockingWrite ctx output bytes) n = n ≡ line
-MayWait line (step.BlockingZeroes ctx output len) n = n ≡ line
-MayWait line (step.BlockingFlush ctx output) n = n ≡ line
-MayWait line (step.BlockingSplice ctx to from len) n = n ≡ line
-MayWait line (step.Block ctx pollable) n = n ≡ line
-MayWait line (step.PollList ctx pollables) n = n ≡ line
+MayWait line (step.Call ctx (guest.TcpStartBind socket network a)) n = n ≡ line
+MayWait line (step.Call ctx (guest.TcpStartListen socket)) n = n ≡ line
+MayWait line (step.Call ctx (guest.UdpCreate family)) n = n ≡ line
+MayWait line (step.Call ctx (guest.UdpStartBind socket network a)) n = n ≡ line
+MayWait line (step.Call ctx (guest.UdpStream socket remote)) n = n ≡ line
+MayWait line (step.Call ctx (guest.Drop handle)) n = n ≡ line
+MayWait line (step.Call ctx (guest.BlockingRead input len)) n = n ≡ line
+MayWait line (step.Call ctx (guest.BlockingSkip input len)) n = n ≡ line
+MayWait line (step.Call ctx (guest.BlockingWrite output bytes)) n = n ≡ line
+MayWait line (step.Call ctx (guest.BlockingZeroes output len)) n = n ≡ line
+MayWait line (step.Call ctx (guest.BlockingFlush output)) n = n ≡ line
+MayWait line (step.Call ctx (guest.BlockingSplice to from len)) n = n ≡ line
+MayWait line (step.Call ctx (guest.Block pollable)) n = n ≡ line
+MayWait line (step.Call ctx (guest.PollList pollables)) n = n ≡ line
 MayWait line (step.Poll call) n = n ≡ call
 MayWait line _ n = ⊥
 

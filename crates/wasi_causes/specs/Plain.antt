@@ -23,6 +23,7 @@ use Rattle.wasi_steps.specs.declared.reply.Field.{Field}
 use Rattle.wasi_steps.specs.declared.reply.Reply.{Reply}
 use Rattle.wasi_steps.specs.declared.reply.Reply.TheVariants as reply
 use Rattle.wasi_steps.specs.declared.step.Step.{Step}
+use Rattle.wasi_steps.specs.declared.guest_call.GuestCall.TheVariants as guest
 use Rattle.wasi_steps.specs.declared.step.Step.TheVariants as step
 use Rattle.wasi_steps.specs.Reply.{number_fields}
 use Rattle.wasi_walks.specs.Licence.{entry}
@@ -62,11 +63,11 @@ WatchesPlain m pollable = watch_of (kind_at m.table pollable) ≡ Some watched.P
 
 -- == how they are made
 abbrev pub MakesStream : Step → Type 0
-MakesStream (step.PipeIn ctx bytes) = Unit {0}
-MakesStream (step.PipeOut ctx capacity) = Unit {0}
-MakesStream (step.Sink ctx) = Unit {0}
-MakesStream (step.ClosedIn ctx) = Unit {0}
-MakesStream (step.ClosedOut ctx) = Unit {0}
+MakesStream (step.Call ctx (guest.PipeIn bytes)) = Unit {0}
+MakesStream (step.Call ctx (guest.PipeOut capacity)) = Unit {0}
+MakesStream (step.Call ctx guest.Sink) = Unit {0}
+MakesStream (step.Call ctx guest.ClosedIn) = Unit {0}
+MakesStream (step.Call ctx guest.ClosedOut) = Unit {0}
 MakesStream _ = ⊥
 
 -- The next handle was made and marked; it stands for this, and these are the records then.

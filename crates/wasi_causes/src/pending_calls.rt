@@ -10,6 +10,7 @@ ghost use Rattle.wasi_world.specs.Asks.{Give, Left};
 ghost use Rattle.wasi_host.specs.declared.machine.Machine.{Machine};
 ghost use Rattle.wasi_steps.specs.declared.reply.CodeWord.{CodeWord};
 ghost use Rattle.wasi_steps.specs.declared.reply.Reply.{Reply};
+ghost use Rattle.wasi_steps.specs.declared.guest_call.GuestCall.{GuestCall};
 ghost use Rattle.wasi_steps.specs.declared.step.Step.{Step};
 ghost use Rattle.wasi_walks.specs.Answered.{Answered, EndsPending};
 ghost use Rattle.wasi_causes.specs.Blocking.{StreamCallStands};
@@ -97,15 +98,15 @@ pub fn pending_where_told()
         → IsSomeAnd after.store.standing (λ call. call.ids.line ≡ number) }
     ensures told { (contexts : List WasiSocketsCtx) (m : Machine) (line ctx handle network : ℕ)
         (a : IpSocketAddress) (entries : List Entry) (number : ℕ) (after : Machine)
-        → Answered contexts m line (Step.TcpStartBind ctx handle network a) entries
+        → Answered contexts m line (Step.Call ctx (GuestCall.TcpStartBind handle network a)) entries
         (Reply.Pending number) after → EndsPending (own_of line) entries }
     ensures listen { (contexts : List WasiSocketsCtx) (m : Machine) (line ctx handle : ℕ)
         (entries : List Entry) (number : ℕ) (after : Machine)
-        → Answered contexts m line (Step.TcpStartListen ctx handle) entries (Reply.Pending number)
+        → Answered contexts m line (Step.Call ctx (GuestCall.TcpStartListen handle)) entries (Reply.Pending number)
         after → EndsPending (own_of line) entries }
     ensures output { (contexts : List WasiSocketsCtx) (m : Machine) (line ctx handle : ℕ)
         (entries : List Entry) (number : ℕ) (after : Machine)
-        → Answered contexts m line (Step.Drop ctx handle) entries (Reply.Pending number) after
+        → Answered contexts m line (Step.Call ctx (GuestCall.Drop handle)) entries (Reply.Pending number) after
         → OutputWaits m (own_of line) (output_at m handle) entries
         ⊎ OutgoingWaits m (outgoing_at m handle) entries }
     ensures polled { (contexts : List WasiSocketsCtx) (m : Machine) (line n : ℕ)

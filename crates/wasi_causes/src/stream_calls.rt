@@ -23,6 +23,7 @@ ghost use Rattle.wasi_host.specs.StreamCalls.{plain_output_at};
 ghost use Rattle.wasi_steps.specs.declared.reply.CodeWord.{CodeWord};
 ghost use Rattle.wasi_steps.specs.declared.reply.Field.{Field};
 ghost use Rattle.wasi_steps.specs.declared.reply.Reply.{Reply};
+ghost use Rattle.wasi_steps.specs.declared.guest_call.GuestCall.{GuestCall};
 ghost use Rattle.wasi_steps.specs.declared.step.Step.{Step};
 ghost use Rattle.wasi_steps.specs.Reply.{bytes_fields, number_fields};
 ghost use Rattle.wasi_walks.specs.Answered.{Answered, CheckFails, closing_reader, closing_writer};
@@ -48,13 +49,13 @@ ghost use Rattle.wasi_causes.specs.Plain.{TakesFront, TakesNothing, WritesPlain}
 pub fn reads_hand_out_what_was_told()
     ensures told { (contexts : List WasiSocketsCtx) (m : Machine) (line ctx input len b : ℕ)
         (bytes : List ℕ) (entries : List Entry) (after : Machine)
-        → Answered contexts m line (Step.Read ctx input len) entries
+        → Answered contexts m line (Step.Call ctx (GuestCall.Read input len)) entries
         (Reply.Ok (bytes_fields (b ∷ bytes))) after
         → (OfStreams m (input_at m input) (λ place r s. ReadsTold (own_of line) len s.reader
         (b ∷ bytes) entries) × (after ≡ m)) ⊎ TakesFront m input len (b ∷ bytes) entries after }
     ensures none { (contexts : List WasiSocketsCtx) (m : Machine) (line ctx input len : ℕ)
         (entries : List Entry) (after : Machine)
-        → Answered contexts m line (Step.Read ctx input len) entries (Reply.Ok (bytes_fields []))
+        → Answered contexts m line (Step.Call ctx (GuestCall.Read input len)) entries (Reply.Ok (bytes_fields []))
         after
         → (OfStreams m (input_at m input) (λ place r s. ReadsNone (own_of line) len s.reader
         entries) × (after ≡ m)) ⊎ TakesNothing m input len entries after }
@@ -72,12 +73,12 @@ pub fn reads_hand_out_what_was_told()
 pub fn reads_end()
     ensures closed { (contexts : List WasiSocketsCtx) (m : Machine) (line ctx input len : ℕ)
         (entries : List Entry) (after : Machine)
-        → Answered contexts m line (Step.Read ctx input len) entries Reply.Closed after
+        → Answered contexts m line (Step.Call ctx (GuestCall.Read input len)) entries Reply.Closed after
         → OfStreams m (input_at m input) (λ place r s. ReadsEnd (own_of line) len s.reader entries
         × (after ≡ closing_reader m place r s)) ⊎ EndsPlain m input entries after }
     ensures failed { (contexts : List WasiSocketsCtx) (m : Machine) (line ctx input len : ℕ)
         (entries : List Entry) (word : CodeWord) (handle : ℕ) (after : Machine)
-        → Answered contexts m line (Step.Read ctx input len) entries (Reply.Failed word handle)
+        → Answered contexts m line (Step.Call ctx (GuestCall.Read input len)) entries (Reply.Failed word handle)
         after
         → OfStreams m (input_at m input) (λ place r s. FailsWith m (own_of line) input
         (ReadFails (own_of line) len s.reader) entries word handle
@@ -85,7 +86,7 @@ pub fn reads_end()
     ensures plain { (contexts : List WasiSocketsCtx) (m : Machine) (line ctx input len : ℕ)
         (entries : List Entry) (reply : Reply) (after : Machine)
         → m.store.standing ≡ None
-        → Answered contexts m line (Step.Read ctx input len) entries reply after
+        → Answered contexts m line (Step.Call ctx (GuestCall.Read input len)) entries reply after
         → PlainRead m input entries reply }
 {}
 
@@ -97,19 +98,19 @@ pub fn reads_end()
 pub fn errors_are_marked_with_their_socket()
     ensures read { (contexts : List WasiSocketsCtx) (m : Machine) (line ctx stream len : ℕ)
         (entries : List Entry) (word : CodeWord) (handle : ℕ) (after : Machine)
-        → Answered contexts m line (Step.Read ctx stream len) entries (Reply.Failed word handle)
+        → Answered contexts m line (Step.Call ctx (GuestCall.Read stream len)) entries (Reply.Failed word handle)
         after → MarksItsSocket m (own_of line) stream (input_at m stream) entries }
     ensures check { (contexts : List WasiSocketsCtx) (m : Machine) (line ctx stream : ℕ)
         (entries : List Entry) (word : CodeWord) (handle : ℕ) (after : Machine)
-        → Answered contexts m line (Step.CheckWrite ctx stream) entries (Reply.Failed word handle)
+        → Answered contexts m line (Step.Call ctx (GuestCall.CheckWrite stream)) entries (Reply.Failed word handle)
         after → MarksItsSocket m (own_of line) stream (output_at m stream) entries }
     ensures write { (contexts : List WasiSocketsCtx) (m : Machine) (line ctx stream : ℕ)
         (bytes : List ℕ) (entries : List Entry) (word : CodeWord) (handle : ℕ) (after : Machine)
-        → Answered contexts m line (Step.Write ctx stream bytes) entries (Reply.Failed word handle)
+        → Answered contexts m line (Step.Call ctx (GuestCall.Write stream bytes)) entries (Reply.Failed word handle)
         after → MarksItsSocket m (own_of line) stream (output_at m stream) entries }
     ensures flush { (contexts : List WasiSocketsCtx) (m : Machine) (line ctx stream : ℕ)
         (entries : List Entry) (word : CodeWord) (handle : ℕ) (after : Machine)
-        → Answered contexts m line (Step.Flush ctx stream) entries (Reply.Failed word handle) after
+        → Answered contexts m line (Step.Call ctx (GuestCall.Flush stream)) entries (Reply.Failed word handle) after
         → MarksItsSocket m (own_of line) stream (output_at m stream) entries }
 {}
 
@@ -119,7 +120,7 @@ pub fn errors_are_marked_with_their_socket()
 pub fn permits_have_causes()
     ensures { (contexts : List WasiSocketsCtx) (m : Machine) (line ctx output n : ℕ)
         (entries : List Entry) (after : Machine)
-        → Answered contexts m line (Step.CheckWrite ctx output) entries (Reply.Ok (number_fields n))
+        → Answered contexts m line (Step.Call ctx (GuestCall.CheckWrite output)) entries (Reply.Ok (number_fields n))
         after
         → OfStreams m (output_at m output) (λ place r s. Permits (own_of line) s.writer n entries)
         ⊎ IsSomeAnd (plain_output_at m output) (λ o. PermitsPlain m o n) }
@@ -135,12 +136,12 @@ pub fn writes_past_the_permit_trap()
     ensures exactly { (contexts : List WasiSocketsCtx) (m : Machine) (line ctx output : ℕ)
         (bytes : List ℕ) (entries : List Entry) (reply : Reply) (after : Machine)
         → m.store.standing ≡ None
-        → Answered contexts m line (Step.Write ctx output bytes) entries reply after
+        → Answered contexts m line (Step.Call ctx (GuestCall.Write output bytes)) entries reply after
         → (reply ≡ Reply.Trap TrapKind.NotPermitted)
         ↔ IsSomeAnd (output_streams m output) (λ s. IsUnpermitted s.writer (length bytes)) }
     ensures stays { (contexts : List WasiSocketsCtx) (m : Machine) (line ctx output : ℕ)
         (bytes : List ℕ) (entries : List Entry) (after : Machine)
-        → Answered contexts m line (Step.Write ctx output bytes) entries
+        → Answered contexts m line (Step.Call ctx (GuestCall.Write output bytes)) entries
         (Reply.Trap TrapKind.NotPermitted) after → (entries ≡ []) × (after ≡ m) }
 {}
 
@@ -153,11 +154,11 @@ pub fn writes_past_the_capacity_trap()
     ensures exactly { (contexts : List WasiSocketsCtx) (m : Machine) (line ctx output : ℕ)
         (bytes : List ℕ) (entries : List Entry) (reply : Reply) (after : Machine)
         → m.store.standing ≡ None
-        → Answered contexts m line (Step.Write ctx output bytes) entries reply after
+        → Answered contexts m line (Step.Call ctx (GuestCall.Write output bytes)) entries reply after
         → PastCapacity m output (length bytes) reply }
     ensures stays { (contexts : List WasiSocketsCtx) (m : Machine) (line ctx output : ℕ)
         (bytes : List ℕ) (entries : List Entry) (after : Machine)
-        → Answered contexts m line (Step.Write ctx output bytes) entries
+        → Answered contexts m line (Step.Call ctx (GuestCall.Write output bytes)) entries
         (Reply.Trap TrapKind.Capacity) after → (entries ≡ []) × (after ≡ m) }
 {}
 
@@ -172,22 +173,22 @@ pub fn writes_past_the_capacity_trap()
 pub fn flushes_tell_the_kept_error()
     ensures done { (contexts : List WasiSocketsCtx) (m : Machine) (line ctx output : ℕ)
         (fields : List Field) (entries : List Entry) (after : Machine)
-        → Answered contexts m line (Step.Flush ctx output) entries (Reply.Ok fields) after
+        → Answered contexts m line (Step.Call ctx (GuestCall.Flush output)) entries (Reply.Ok fields) after
         → (entries ≡ []) × (after ≡ m) }
     ensures closed { (contexts : List WasiSocketsCtx) (m : Machine) (line ctx output : ℕ)
         (entries : List Entry) (after : Machine)
-        → Answered contexts m line (Step.Flush ctx output) entries Reply.Closed after
+        → Answered contexts m line (Step.Call ctx (GuestCall.Flush output)) entries Reply.Closed after
         → (OfStreams m (output_at m output) (λ place r s. IsGivenUp s.writer) × (entries ≡ [])
         × (after ≡ m)) ⊎ EndsOutput m output entries after }
     ensures failed { (contexts : List WasiSocketsCtx) (m : Machine) (line ctx output : ℕ)
         (entries : List Entry) (word : CodeWord) (handle : ℕ) (after : Machine)
-        → Answered contexts m line (Step.Flush ctx output) entries (Reply.Failed word handle) after
+        → Answered contexts m line (Step.Call ctx (GuestCall.Flush output)) entries (Reply.Failed word handle) after
         → OfStreams m (output_at m output) (λ place r s. FailsWith m (own_of line) output
         (WasClosedWith s.writer) entries word handle) × (after ≡ with_error m) }
     ensures plain { (contexts : List WasiSocketsCtx) (m : Machine) (line ctx output : ℕ)
         (entries : List Entry) (reply : Reply) (after : Machine)
         → m.store.standing ≡ None
-        → Answered contexts m line (Step.Flush ctx output) entries reply after
+        → Answered contexts m line (Step.Call ctx (GuestCall.Flush output)) entries reply after
         → PlainFlush m output entries reply after }
 {}
 
@@ -200,13 +201,13 @@ pub fn flushes_tell_the_kept_error()
 pub fn checks_tell_the_kept_error()
     ensures closed { (contexts : List WasiSocketsCtx) (m : Machine) (line ctx output : ℕ)
         (entries : List Entry) (after : Machine)
-        → Answered contexts m line (Step.CheckWrite ctx output) entries Reply.Closed after
+        → Answered contexts m line (Step.Call ctx (GuestCall.CheckWrite output)) entries Reply.Closed after
         → OfStreams m (output_at m output) (λ place r s. CheckFails WriteError.Closed s.writer
         entries × (after ≡ closing_writer m place r s WriteError.Closed))
         ⊎ EndsCheck m output entries after }
     ensures failed { (contexts : List WasiSocketsCtx) (m : Machine) (line ctx output : ℕ)
         (entries : List Entry) (word : CodeWord) (handle : ℕ) (after : Machine)
-        → Answered contexts m line (Step.CheckWrite ctx output) entries (Reply.Failed word handle)
+        → Answered contexts m line (Step.Call ctx (GuestCall.CheckWrite output)) entries (Reply.Failed word handle)
         after
         → OfStreams m (output_at m output) (λ place r s. FailsWith m (own_of line) output
         (λ c before. CheckFails (WriteError.LastOperationFailed c) s.writer before
@@ -215,7 +216,7 @@ pub fn checks_tell_the_kept_error()
     ensures plain { (contexts : List WasiSocketsCtx) (m : Machine) (line ctx output : ℕ)
         (entries : List Entry) (reply : Reply) (after : Machine)
         → m.store.standing ≡ None
-        → Answered contexts m line (Step.CheckWrite ctx output) entries reply after
+        → Answered contexts m line (Step.Call ctx (GuestCall.CheckWrite output)) entries reply after
         → PlainCheck m output entries reply after }
 {}
 
@@ -231,13 +232,13 @@ pub fn checks_tell_the_kept_error()
 pub fn writes_tell_their_error()
     ensures closed { (contexts : List WasiSocketsCtx) (m : Machine) (line ctx output : ℕ)
         (bytes : List ℕ) (entries : List Entry) (after : Machine)
-        → Answered contexts m line (Step.Write ctx output bytes) entries Reply.Closed after
+        → Answered contexts m line (Step.Call ctx (GuestCall.Write output bytes)) entries Reply.Closed after
         → OfStreams m (output_at m output) (λ place r s. WriteFails (own_of line) WriteError.Closed
         s.writer entries × (after ≡ closing_writer m place r s WriteError.Closed))
         ⊎ EndsOutput m output entries after }
     ensures failed { (contexts : List WasiSocketsCtx) (m : Machine) (line ctx output : ℕ)
         (bytes : List ℕ) (entries : List Entry) (word : CodeWord) (handle : ℕ) (after : Machine)
-        → Answered contexts m line (Step.Write ctx output bytes) entries (Reply.Failed word handle)
+        → Answered contexts m line (Step.Call ctx (GuestCall.Write output bytes)) entries (Reply.Failed word handle)
         after
         → OfStreams m (output_at m output) (λ place r s. FailsWith m (own_of line) output
         (λ c before. WriteFails (own_of line) (WriteError.LastOperationFailed c) s.writer before
@@ -246,11 +247,11 @@ pub fn writes_tell_their_error()
     ensures plain { (contexts : List WasiSocketsCtx) (m : Machine) (line ctx output : ℕ)
         (bytes : List ℕ) (entries : List Entry) (reply : Reply) (after : Machine)
         → m.store.standing ≡ None
-        → Answered contexts m line (Step.Write ctx output bytes) entries reply after
+        → Answered contexts m line (Step.Call ctx (GuestCall.Write output bytes)) entries reply after
         → PlainWrite m output entries reply }
     ensures taken { (contexts : List WasiSocketsCtx) (m : Machine) (line ctx output : ℕ)
         (bytes : List ℕ) (fields : List Field) (entries : List Entry) (after : Machine)
-        → Answered contexts m line (Step.Write ctx output bytes) entries (Reply.Ok fields) after
+        → Answered contexts m line (Step.Call ctx (GuestCall.Write output bytes)) entries (Reply.Ok fields) after
         → IfSome (plain_output_at m output) (λ o. WritesPlain m o bytes after) }
 {}
 
@@ -263,26 +264,26 @@ pub fn writes_tell_their_error()
 pub fn pipes_are_made()
     ensures pipe_in { (contexts : List WasiSocketsCtx) (m : Machine) (line ctx : ℕ) (bytes : List ℕ)
         (fields : List Field) (entries : List Entry) (after : Machine)
-        → Answered contexts m line (Step.PipeIn ctx bytes) entries (Reply.Ok fields) after
+        → Answered contexts m line (Step.Call ctx (GuestCall.PipeIn bytes)) entries (Reply.Ok fields) after
         → MakesPlain m line (Kind.PlainInput (PlainInput.Pipe (length m.store.records)))
         (with_record_more m.store (Record.InputPipe bytes)) entries fields after }
     ensures pipe_out { (contexts : List WasiSocketsCtx) (m : Machine) (line ctx capacity : ℕ)
         (fields : List Field) (entries : List Entry) (after : Machine)
-        → Answered contexts m line (Step.PipeOut ctx capacity) entries (Reply.Ok fields) after
+        → Answered contexts m line (Step.Call ctx (GuestCall.PipeOut capacity)) entries (Reply.Ok fields) after
         → MakesPlain m line (Kind.PlainOutput (PlainOutput.Pipe (length m.store.records)))
         (with_record_more m.store (Record.OutputPipe (no_contents capacity))) entries fields
         after }
     ensures sink { (contexts : List WasiSocketsCtx) (m : Machine) (line ctx : ℕ)
         (fields : List Field) (entries : List Entry) (after : Machine)
-        → Answered contexts m line (Step.Sink ctx) entries (Reply.Ok fields) after
+        → Answered contexts m line (Step.Call ctx GuestCall.Sink) entries (Reply.Ok fields) after
         → MakesPlain m line (Kind.PlainOutput PlainOutput.Sink) m.store entries fields after }
     ensures closed_in { (contexts : List WasiSocketsCtx) (m : Machine) (line ctx : ℕ)
         (fields : List Field) (entries : List Entry) (after : Machine)
-        → Answered contexts m line (Step.ClosedIn ctx) entries (Reply.Ok fields) after
+        → Answered contexts m line (Step.Call ctx GuestCall.ClosedIn) entries (Reply.Ok fields) after
         → MakesPlain m line (Kind.PlainInput PlainInput.Closed) m.store entries fields after }
     ensures closed_out { (contexts : List WasiSocketsCtx) (m : Machine) (line ctx : ℕ)
         (fields : List Field) (entries : List Entry) (after : Machine)
-        → Answered contexts m line (Step.ClosedOut ctx) entries (Reply.Ok fields) after
+        → Answered contexts m line (Step.Call ctx GuestCall.ClosedOut) entries (Reply.Ok fields) after
         → MakesPlain m line (Kind.PlainOutput PlainOutput.Closed) m.store entries fields after }
     ensures full { (contexts : List WasiSocketsCtx) (m : Machine) (line : ℕ) (s : Step)
         (entries : List Entry) (after : Machine)
@@ -299,17 +300,17 @@ pub fn pipes_are_made()
 pub fn contents_are_told()
     ensures told { (contexts : List WasiSocketsCtx) (m : Machine) (line ctx output : ℕ)
         (fields : List Field) (entries : List Entry) (after : Machine)
-        → Answered contexts m line (Step.PipeContents ctx output) entries (Reply.Ok fields) after
+        → Answered contexts m line (Step.Call ctx (GuestCall.PipeContents output)) entries (Reply.Ok fields) after
         → OfOutputPipe m output (λ place pipe. fields ≡ bytes_fields pipe.held) }
     ensures exactly { (contexts : List WasiSocketsCtx) (m : Machine) (line ctx output : ℕ)
         (entries : List Entry) (reply : Reply) (after : Machine)
         → m.store.standing ≡ None
-        → Answered contexts m line (Step.PipeContents ctx output) entries reply after
+        → Answered contexts m line (Step.Call ctx (GuestCall.PipeContents output)) entries reply after
         → (reply ≡ Reply.Trap TrapKind.NoSuchHandle)
         ↔ (pipe_of m (plain_output_at m output) ≡ None) }
     ensures quiet { (contexts : List WasiSocketsCtx) (m : Machine) (line ctx output : ℕ)
         (entries : List Entry) (reply : Reply) (after : Machine)
-        → Answered contexts m line (Step.PipeContents ctx output) entries reply after
+        → Answered contexts m line (Step.Call ctx (GuestCall.PipeContents output)) entries reply after
         → (entries ≡ []) × (after ≡ m) }
 {}
 
@@ -319,7 +320,7 @@ pub fn skips_are_reads()
     ensures { (contexts : List WasiSocketsCtx) (m : Machine) (line ctx input len : ℕ)
         (entries : List Entry) (reply : Reply) (after : Machine)
         → m.store.standing ≡ None
-        → Answered contexts m line (Step.Skip ctx input len) entries reply after
+        → Answered contexts m line (Step.Call ctx (GuestCall.Skip input len)) entries reply after
         → Skips contexts m line ctx input len entries reply after }
 {}
 
@@ -328,8 +329,8 @@ pub fn zeros_are_written()
     ensures { (contexts : List WasiSocketsCtx) (m : Machine) (line ctx output len : ℕ)
         (entries : List Entry) (reply : Reply) (after : Machine)
         → m.store.standing ≡ None
-        → Answered contexts m line (Step.WriteZeroes ctx output len) entries reply after
-        → Answered contexts m line (Step.Write ctx output (zeros len)) entries reply after }
+        → Answered contexts m line (Step.Call ctx (GuestCall.WriteZeroes output len)) entries reply after
+        → Answered contexts m line (Step.Call ctx (GuestCall.Write output (zeros len))) entries reply after }
 {}
 
 /// A splice traps, and asks nothing, where one of its handles isn't an output's or an input's. Else
@@ -339,6 +340,6 @@ pub fn splices_are_their_parts()
     ensures { (contexts : List WasiSocketsCtx) (m : Machine) (line ctx to from len : ℕ)
         (entries : List Entry) (reply : Reply) (after : Machine)
         → m.store.standing ≡ None
-        → Answered contexts m line (Step.Splice ctx to from len) entries reply after
+        → Answered contexts m line (Step.Call ctx (GuestCall.Splice to from len)) entries reply after
         → Splices contexts m line ctx to from len entries reply after }
 {}

@@ -4,7 +4,7 @@ pub use Rattle.wasi_walks.proofs.Words.{CheckLocal, CloseLast, Connect, Done, En
 pub use Rattle.wasi_walks.proofs.Words.{Given, HandleTable, Has, HoldsAccept, HoldsConnect, InProgress, IpSocketAddress, IsAcceptOn, IsConnect}
 pub use Rattle.wasi_walks.proofs.Words.{IsDoneOrCode, IsLeftOfConnect, IsLeftOfListen, Item, Job, Kind, Last, LastAsk, Left, List, Listen, Listener}
 pub use Rattle.wasi_walks.proofs.Words.{Listening, Machine, None, Not, Nothing, NothingLast, Ok, OpId, Operation, Option, Refuse, Refused, Reply}
-pub use Rattle.wasi_walks.proofs.Words.{Result, ShutdownLast, ShutdownSend, Socket, SocketAddressFamily, Some, Standing, Step, StreamStop, Streams}
+pub use Rattle.wasi_walks.proofs.Words.{Result, ShutdownLast, ShutdownSend, Socket, SocketAddressFamily, Some, Standing, GuestCall, Step, StreamStop, Streams}
 pub use Rattle.wasi_walks.proofs.Words.{Tcp2, TcpRecord, TcpState, Told, Unclosed, Waits, WasiSocketsCtx, Who, Write, WriteState, [], accept_ended}
 pub use Rattle.wasi_walks.proofs.Words.{accept_front, accept_operation, admitted_front, after_create, allows_at, allows_if, allows_keep, allows_polls}
 pub use Rattle.wasi_walks.proofs.Words.{allows_then, allows_weaker, ap, append-nil, append_assoc, arith, arrival_front, arrived, asks_while}

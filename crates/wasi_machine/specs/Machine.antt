@@ -39,7 +39,9 @@ use Rattle.wasi_steps.specs.declared.fields.NoCode.{NoCode}
 use Rattle.wasi_steps.specs.declared.reply.Field.{Field}
 use Rattle.wasi_steps.specs.declared.reply.Reply.{Reply}
 use Rattle.wasi_steps.specs.declared.reply.Reply.TheVariants as reply
+use Rattle.wasi_steps.specs.declared.guest_call.GuestCall.{GuestCall}
 use Rattle.wasi_steps.specs.declared.step.Step.{Step}
+use Rattle.wasi_steps.specs.declared.guest_call.GuestCall.TheVariants as guest
 use Rattle.wasi_steps.specs.declared.step.Step.TheVariants as step
 use Rattle.wasi_steps.specs.Reply.{word_of_p2, is_trap, no_fields, no_values, number_fields, numbers_fields, pair_fields, pair_values, datagram_values, triple_values, bytes_fields, truth_fields, family_fields, address_values, found_values, absent_values}
 use Rattle.wasi_steps.specs.Settings.{Chosen, AnOption, TheBacklog, chosen, udp_opt, udp_chosen}
@@ -155,76 +157,79 @@ context_in None = record { name = 0; ip_name_lookup = false; udp = false; tcp = 
 abbrev pub context_at : List WasiSocketsCtx → ℕ → WasiSocketsCtx
 context_at contexts n = context_in (slice_get contexts n)
 
--- the context of the one that makes the call; a step without one has a context that is allowed nothing
+abbrev pub call_asks : WasiSocketsCtx → Machine → ℕ → GuestCall → Asks (Reply × Machine)
+call_asks ctx m line guest.Network = bind (network_asks m (own_of line)) (λ done. Give (reply_of number_fields done.0, done.1))
+call_asks ctx m line (guest.TcpCreate family) = bind (create_asks m (own_of line) ctx family) (λ done. Give (reply_of number_fields done.0, done.1))
+call_asks ctx m line (guest.TcpStartBind s n a) = bind (start_bind_asks m (first_ids line) s n a) (λ done. Give (answer_reply_of no_values line done.0, done.1))
+call_asks ctx m line (guest.TcpFinishBind s) = let done = finish_on is_bind m (socket_at m s) in Give (reply_of no_values done.0, done.1)
+call_asks ctx m line (guest.TcpStartConnect s n a) = bind (start_connect_asks m (own_of line) s n a) (λ done. Give (reply_of no_values done.0, done.1))
+call_asks ctx m line (guest.TcpFinishConnect s) = bind (finish_connect (own_of line) s m) (λ done. Give (reply_of pair_values done.0, done.1))
+call_asks ctx m line (guest.TcpStartListen s) = bind (start_listen_on m (first_ids line) (socket_at m s)) (λ done. Give (answer_reply_of no_values line done.0, done.1))
+call_asks ctx m line (guest.TcpFinishListen s) = let done = finish_on is_listen m (socket_at m s) in Give (reply_of no_values done.0, done.1)
+call_asks ctx m line (guest.TcpAccept s) = bind (accept_asks m (first_ids line) s) (λ done. Give (reply_of triple_values done.0, done.1))
+call_asks ctx m line (guest.TcpLocalAddress s) = bind (local_address (own_of line) s m) (λ done. Give (reply_of address_values done.0, done.1))
+call_asks ctx m line (guest.TcpRemoteAddress s) = bind (remote_address (own_of line) s m) (λ done. Give (reply_of address_values done.0, done.1))
+call_asks ctx m line (guest.TcpIsListening s) = Give (reply_of truth_fields (is_listening m s), m)
+call_asks ctx m line (guest.TcpAddressFamily s) = Give (reply_of family_fields (address_family m s), m)
+call_asks ctx m line (guest.TcpGet s option) = bind (get_option_on m (own_of line) option (socket_at m s)) (λ done. Give (reply_of number_fields done.0, done.1))
+call_asks ctx m line (guest.TcpSet s setting) = bind (set_chosen m (own_of line) (socket_at m s) (chosen setting)) (λ done. Give (reply_of no_values done.0, done.1))
+call_asks ctx m line (guest.UdpCreate family) = bind (create_udp_asks m (first_ids line) ctx family) (λ done. Give (answer_reply_of number_fields line done.0, done.1))
+call_asks ctx m line (guest.UdpStartBind s n a) = bind (start_udp_bind_asks m (first_ids line) s n a) (λ done. Give (answer_reply_of no_values line done.0, done.1))
+call_asks ctx m line (guest.UdpFinishBind s) = let done = finish_udp_bind_on m (udp_socket_at m s) in Give (reply_of no_values done.0, done.1)
+call_asks ctx m line (guest.UdpLocalAddress s) = bind (udp_local_on m (own_of line) (udp_socket_at m s)) (λ done. Give (reply_of address_values done.0, done.1))
+call_asks ctx m line (guest.UdpRemoteAddress s) = Give (reply_of address_values (udp_remote_on m (udp_socket_at m s)), m)
+call_asks ctx m line (guest.UdpAddressFamily s) = Give (reply_of family_fields (udp_family_on m (udp_socket_at m s)), m)
+call_asks ctx m line (guest.UdpGet s option) = bind (get_udp_option_on m (own_of line) (udp_opt option) (udp_socket_at m s)) (λ done. Give (reply_of number_fields done.0, done.1))
+call_asks ctx m line (guest.UdpSet s setting) = bind (set_udp_option_on m (own_of line) (udp_chosen setting).0 (udp_chosen setting).1 (udp_socket_at m s)) (λ done. Give (reply_of no_values done.0, done.1))
+call_asks ctx m line (guest.UdpStream s remote) = bind (udp_stream_asks m (first_ids line) s remote) (λ done. Give (answer_reply_of pair_values line done.0, done.1))
+call_asks ctx m line (guest.UdpReceive incoming most) = bind (receive_datagrams_on m (first_ids line) most (incoming_at m incoming)) (λ done. Give (reply_of datagram_values done.0, done.1))
+call_asks ctx m line (guest.UdpCheckSend outgoing) = let done = check_send_on m (outgoing_at m outgoing) in Give (reply_of number_fields done.0, done.1)
+call_asks ctx m line (guest.UdpSend outgoing datagrams) = bind (send_datagrams_on m (first_ids line) datagrams (outgoing_at m outgoing)) (λ done. Give (reply_of number_fields done.0, done.1))
+call_asks ctx m line (guest.Resolve n name) = bind (resolve_asks m (own_of line) ctx n name) (λ done. Give (reply_of number_fields done.0, done.1))
+call_asks ctx m line (guest.ResolveNext lookup) = let done = next_address_on m (lookup_number m lookup) in Give (reply_of found_values done.0, done.1)
+call_asks ctx m line (guest.NetworkErrorCode e) = Give (reply_of absent_values (without_code (error_code_on m e)), m)
+call_asks ctx m line (guest.Read input len) = bind (read_asks m (own_of line) input len) (λ done. Give (stream_reply_of bytes_fields done.0, done.1))
+call_asks ctx m line (guest.CheckWrite output) = bind (check_asks m (own_of line) output) (λ done. Give (stream_reply_of number_fields done.0, done.1))
+call_asks ctx m line (guest.Write output bytes) = bind (write_asks m (own_of line) output bytes) (λ done. Give (stream_reply_of no_values done.0, done.1))
+call_asks ctx m line (guest.Flush output) = bind (flushed_asks m (own_of line) output) (λ done. Give (stream_reply_of no_values done.0, done.1))
+call_asks ctx m line (guest.Subscribe h) = bind (subscribe_asks m (own_of line) h) (λ done. Give (reply_of number_fields done.0, done.1))
+call_asks ctx m line (guest.Ready p) = bind (ready_asks m (first_ids line) p) (λ done. Give (reply_of truth_fields done.0, done.1))
+call_asks ctx m line (guest.Block p) = bind (block_by First m (first_ids line) p) (λ done. Give (answer_reply_of no_values line done.0, done.1))
+call_asks ctx m line (guest.PollList ps) = bind (poll_asks m (first_ids line) ps) (λ done. Give (answer_reply_of numbers_fields line done.0, done.1))
+call_asks ctx m line (guest.Drop h) = bind (drop_asks m (first_ids line) h) (λ done. Give (answer_reply_of no_values line done.0, done.1))
+call_asks ctx m line (guest.TcpShutdown s how) = bind (shutdown_on m (own_of line) how (socket_at m s)) (λ done. Give (reply_of no_values done.0, done.1))
+call_asks ctx m line (guest.PipeIn bytes) = bind (input_pipe_asks m (own_of line) bytes) (λ done. Give (reply_of number_fields done.0, done.1))
+call_asks ctx m line (guest.PipeOut capacity) = bind (output_pipe_asks m (own_of line) capacity) (λ done. Give (reply_of number_fields done.0, done.1))
+call_asks ctx m line (guest.PipeContents output) = Give (reply_of bytes_fields (contents_asks m output), m)
+call_asks ctx m line guest.Sink = bind (plain_asks m (own_of line) (PlainOutput plain_output.Sink)) (λ done. Give (reply_of number_fields done.0, done.1))
+call_asks ctx m line guest.ClosedIn = bind (plain_asks m (own_of line) (PlainInput plain_input.Closed)) (λ done. Give (reply_of number_fields done.0, done.1))
+call_asks ctx m line guest.ClosedOut = bind (plain_asks m (own_of line) (PlainOutput plain_output.Closed)) (λ done. Give (reply_of number_fields done.0, done.1))
+call_asks ctx m line (guest.Skip input len) = bind (skip_asks m (own_of line) input len) (λ done. Give (stream_reply_of number_fields done.0, done.1))
+call_asks ctx m line (guest.WriteZeroes output len) = bind (write_zeroes_asks m (own_of line) output len) (λ done. Give (stream_reply_of no_values done.0, done.1))
+call_asks ctx m line (guest.Splice output input len) = bind (splice_asks m (own_of line) output input len) (λ done. Give (stream_reply_of number_fields done.0, done.1))
+call_asks ctx m line (guest.BlockingRead input len) = bind (blocking_read_asks m (first_ids line) input len) (λ done. Give (blocked_reply_of bytes_fields line done.0, done.1))
+call_asks ctx m line (guest.BlockingSkip input len) = bind (blocking_skip_asks m (first_ids line) input len) (λ done. Give (blocked_reply_of number_fields line done.0, done.1))
+call_asks ctx m line (guest.BlockingWrite output bytes) = bind (blocking_write_asks m (first_ids line) output bytes) (λ done. Give (blocked_reply_of no_values line done.0, done.1))
+call_asks ctx m line (guest.BlockingZeroes output len) = bind (blocking_zeroes_asks m (first_ids line) output len) (λ done. Give (blocked_reply_of no_values line done.0, done.1))
+call_asks ctx m line (guest.BlockingFlush output) = bind (blocking_flush_asks m (first_ids line) output) (λ done. Give (blocked_reply_of no_values line done.0, done.1))
+call_asks ctx m line (guest.BlockingSplice output input len) = bind (blocking_splice_asks m (first_ids line) output input len) (λ done. Give (blocked_reply_of number_fields line done.0, done.1))
+
+-- what a step asks, its reply, and the machine afterwards, where this is the context of its guest
+abbrev pub asks_in : WasiSocketsCtx → Machine → ℕ → Step → Asks (Reply × Machine)
+asks_in ctx m line (step.Call c call) = call_asks ctx m line call
+asks_in ctx m line step.Turn = bind (turn_machine_asks m) (λ done. Give (reply.Ok no_fields, done.1))
+asks_in ctx m line (step.Poll n) = bind (resume_asks m n) (λ done. Give (resumed_reply n done.0, done.1))
+asks_in ctx m line (step.Cancel n) = bind (cancel_asks m n) (λ done. Give (cancelled_reply done.0, done.1))
+
+-- the context of the guest that makes the call; a step that no guest makes has one that is allowed nothing
 abbrev pub context_for : List WasiSocketsCtx → Option ℕ → WasiSocketsCtx
 context_for contexts (Some n) = context_at contexts n
 context_for contexts None = context_in None
 
-abbrev pub call_asks : WasiSocketsCtx → Machine → ℕ → Step → Asks (Reply × Machine)
-call_asks ctx m line (step.Network c) = bind (network_asks m (own_of line)) (λ done. Give (reply_of number_fields done.0, done.1))
-call_asks ctx m line (step.TcpCreate c family) = bind (create_asks m (own_of line) ctx family) (λ done. Give (reply_of number_fields done.0, done.1))
-call_asks ctx m line (step.TcpStartBind c s n a) = bind (start_bind_asks m (first_ids line) s n a) (λ done. Give (answer_reply_of no_values line done.0, done.1))
-call_asks ctx m line (step.TcpFinishBind c s) = let done = finish_on is_bind m (socket_at m s) in Give (reply_of no_values done.0, done.1)
-call_asks ctx m line (step.TcpStartConnect c s n a) = bind (start_connect_asks m (own_of line) s n a) (λ done. Give (reply_of no_values done.0, done.1))
-call_asks ctx m line (step.TcpFinishConnect c s) = bind (finish_connect (own_of line) s m) (λ done. Give (reply_of pair_values done.0, done.1))
-call_asks ctx m line (step.TcpStartListen c s) = bind (start_listen_on m (first_ids line) (socket_at m s)) (λ done. Give (answer_reply_of no_values line done.0, done.1))
-call_asks ctx m line (step.TcpFinishListen c s) = let done = finish_on is_listen m (socket_at m s) in Give (reply_of no_values done.0, done.1)
-call_asks ctx m line (step.TcpAccept c s) = bind (accept_asks m (first_ids line) s) (λ done. Give (reply_of triple_values done.0, done.1))
-call_asks ctx m line (step.TcpLocalAddress c s) = bind (local_address (own_of line) s m) (λ done. Give (reply_of address_values done.0, done.1))
-call_asks ctx m line (step.TcpRemoteAddress c s) = bind (remote_address (own_of line) s m) (λ done. Give (reply_of address_values done.0, done.1))
-call_asks ctx m line (step.TcpIsListening c s) = Give (reply_of truth_fields (is_listening m s), m)
-call_asks ctx m line (step.TcpAddressFamily c s) = Give (reply_of family_fields (address_family m s), m)
-call_asks ctx m line (step.TcpGet c s option) = bind (get_option_on m (own_of line) option (socket_at m s)) (λ done. Give (reply_of number_fields done.0, done.1))
-call_asks ctx m line (step.TcpSet c s setting) = bind (set_chosen m (own_of line) (socket_at m s) (chosen setting)) (λ done. Give (reply_of no_values done.0, done.1))
-call_asks ctx m line (step.UdpCreate c family) = bind (create_udp_asks m (first_ids line) ctx family) (λ done. Give (answer_reply_of number_fields line done.0, done.1))
-call_asks ctx m line (step.UdpStartBind c s n a) = bind (start_udp_bind_asks m (first_ids line) s n a) (λ done. Give (answer_reply_of no_values line done.0, done.1))
-call_asks ctx m line (step.UdpFinishBind c s) = let done = finish_udp_bind_on m (udp_socket_at m s) in Give (reply_of no_values done.0, done.1)
-call_asks ctx m line (step.UdpLocalAddress c s) = bind (udp_local_on m (own_of line) (udp_socket_at m s)) (λ done. Give (reply_of address_values done.0, done.1))
-call_asks ctx m line (step.UdpRemoteAddress c s) = Give (reply_of address_values (udp_remote_on m (udp_socket_at m s)), m)
-call_asks ctx m line (step.UdpAddressFamily c s) = Give (reply_of family_fields (udp_family_on m (udp_socket_at m s)), m)
-call_asks ctx m line (step.UdpGet c s option) = bind (get_udp_option_on m (own_of line) (udp_opt option) (udp_socket_at m s)) (λ done. Give (reply_of number_fields done.0, done.1))
-call_asks ctx m line (step.UdpSet c s setting) = bind (set_udp_option_on m (own_of line) (udp_chosen setting).0 (udp_chosen setting).1 (udp_socket_at m s)) (λ done. Give (reply_of no_values done.0, done.1))
-call_asks ctx m line (step.UdpStream c s remote) = bind (udp_stream_asks m (first_ids line) s remote) (λ done. Give (answer_reply_of pair_values line done.0, done.1))
-call_asks ctx m line (step.UdpReceive c incoming most) = bind (receive_datagrams_on m (first_ids line) most (incoming_at m incoming)) (λ done. Give (reply_of datagram_values done.0, done.1))
-call_asks ctx m line (step.UdpCheckSend c outgoing) = let done = check_send_on m (outgoing_at m outgoing) in Give (reply_of number_fields done.0, done.1)
-call_asks ctx m line (step.UdpSend c outgoing datagrams) = bind (send_datagrams_on m (first_ids line) datagrams (outgoing_at m outgoing)) (λ done. Give (reply_of number_fields done.0, done.1))
-call_asks ctx m line (step.Resolve c n name) = bind (resolve_asks m (own_of line) ctx n name) (λ done. Give (reply_of number_fields done.0, done.1))
-call_asks ctx m line (step.ResolveNext c lookup) = let done = next_address_on m (lookup_number m lookup) in Give (reply_of found_values done.0, done.1)
-call_asks ctx m line (step.NetworkErrorCode c e) = Give (reply_of absent_values (without_code (error_code_on m e)), m)
-call_asks ctx m line (step.Read c input len) = bind (read_asks m (own_of line) input len) (λ done. Give (stream_reply_of bytes_fields done.0, done.1))
-call_asks ctx m line (step.CheckWrite c output) = bind (check_asks m (own_of line) output) (λ done. Give (stream_reply_of number_fields done.0, done.1))
-call_asks ctx m line (step.Write c output bytes) = bind (write_asks m (own_of line) output bytes) (λ done. Give (stream_reply_of no_values done.0, done.1))
-call_asks ctx m line (step.Flush c output) = bind (flushed_asks m (own_of line) output) (λ done. Give (stream_reply_of no_values done.0, done.1))
-call_asks ctx m line (step.Subscribe c h) = bind (subscribe_asks m (own_of line) h) (λ done. Give (reply_of number_fields done.0, done.1))
-call_asks ctx m line (step.Ready c p) = bind (ready_asks m (first_ids line) p) (λ done. Give (reply_of truth_fields done.0, done.1))
-call_asks ctx m line (step.Block c p) = bind (block_by First m (first_ids line) p) (λ done. Give (answer_reply_of no_values line done.0, done.1))
-call_asks ctx m line (step.PollList c ps) = bind (poll_asks m (first_ids line) ps) (λ done. Give (answer_reply_of numbers_fields line done.0, done.1))
-call_asks ctx m line (step.Drop c h) = bind (drop_asks m (first_ids line) h) (λ done. Give (answer_reply_of no_values line done.0, done.1))
-call_asks ctx m line (step.TcpShutdown c s how) = bind (shutdown_on m (own_of line) how (socket_at m s)) (λ done. Give (reply_of no_values done.0, done.1))
-call_asks ctx m line (step.PipeIn c bytes) = bind (input_pipe_asks m (own_of line) bytes) (λ done. Give (reply_of number_fields done.0, done.1))
-call_asks ctx m line (step.PipeOut c capacity) = bind (output_pipe_asks m (own_of line) capacity) (λ done. Give (reply_of number_fields done.0, done.1))
-call_asks ctx m line (step.PipeContents c output) = Give (reply_of bytes_fields (contents_asks m output), m)
-call_asks ctx m line (step.Sink c) = bind (plain_asks m (own_of line) (PlainOutput plain_output.Sink)) (λ done. Give (reply_of number_fields done.0, done.1))
-call_asks ctx m line (step.ClosedIn c) = bind (plain_asks m (own_of line) (PlainInput plain_input.Closed)) (λ done. Give (reply_of number_fields done.0, done.1))
-call_asks ctx m line (step.ClosedOut c) = bind (plain_asks m (own_of line) (PlainOutput plain_output.Closed)) (λ done. Give (reply_of number_fields done.0, done.1))
-call_asks ctx m line (step.Skip c input len) = bind (skip_asks m (own_of line) input len) (λ done. Give (stream_reply_of number_fields done.0, done.1))
-call_asks ctx m line (step.WriteZeroes c output len) = bind (write_zeroes_asks m (own_of line) output len) (λ done. Give (stream_reply_of no_values done.0, done.1))
-call_asks ctx m line (step.Splice c output input len) = bind (splice_asks m (own_of line) output input len) (λ done. Give (stream_reply_of number_fields done.0, done.1))
-call_asks ctx m line (step.BlockingRead c input len) = bind (blocking_read_asks m (first_ids line) input len) (λ done. Give (blocked_reply_of bytes_fields line done.0, done.1))
-call_asks ctx m line (step.BlockingSkip c input len) = bind (blocking_skip_asks m (first_ids line) input len) (λ done. Give (blocked_reply_of number_fields line done.0, done.1))
-call_asks ctx m line (step.BlockingWrite c output bytes) = bind (blocking_write_asks m (first_ids line) output bytes) (λ done. Give (blocked_reply_of no_values line done.0, done.1))
-call_asks ctx m line (step.BlockingZeroes c output len) = bind (blocking_zeroes_asks m (first_ids line) output len) (λ done. Give (blocked_reply_of no_values line done.0, done.1))
-call_asks ctx m line (step.BlockingFlush c output) = bind (blocking_flush_asks m (first_ids line) output) (λ done. Give (blocked_reply_of no_values line done.0, done.1))
-call_asks ctx m line (step.BlockingSplice c output input len) = bind (blocking_splice_asks m (first_ids line) output input len) (λ done. Give (blocked_reply_of number_fields line done.0, done.1))
-call_asks ctx m line (step.Cancel n) = bind (cancel_asks m n) (λ done. Give (cancelled_reply done.0, done.1))
-call_asks ctx m line step.Turn = bind (turn_machine_asks m) (λ done. Give (reply.Ok no_fields, done.1))
-call_asks ctx m line (step.Poll n) = bind (resume_asks m n) (λ done. Give (resumed_reply n done.0, done.1))
-
--- what a step asks, its reply, and the machine afterwards
 abbrev pub step_asks : List WasiSocketsCtx → Machine → ℕ → Step → Asks (Reply × Machine)
-step_asks contexts m line s = call_asks (context_for contexts (context_of s)) m line s
+step_asks contexts m line s = asks_in (context_for contexts (context_of s)) m line s
 
--- a turn and a poll are no calls of a guest
+-- a turn, a poll and a cancel are no calls of a guest
 abbrev pub is_guest_call : Step → Bool
 is_guest_call s = is_some (context_of s)
 

@@ -8,6 +8,7 @@ use Rattle.wasi_steps.proofs.NameLaws.{text_unbroken}
 use Rattle.wasi_run.specs.Script.{IsValid}
 use Rattle.wasi_steps.proofs.SettingLaws.{◌and◌}
 use Rattle.wasi_steps.proofs.StepLaws.{step_of_line, step_line_text}
+use Rattle.wasi_steps.specs.declared.guest_call.GuestCall.{GuestCall}
 use Rattle.wasi_run.specs.Generate.{drawn, port_of, count_of, byte_of, block, step_in, generated_step, generated_steps, generated, script_text}
 
 -- == lines with no newline in them
@@ -56,22 +57,28 @@ are_bytes zero b h i = omega arith
 are_bytes (suc n) b h zero = h
 are_bytes (suc n) b h (suc i) = are_bytes n b h i
 
-fits_in : (steps : List Step) (i : ℕ) (d : Step) → AreSteps steps → IsStep 1 d → IsStep 1 (slice_index_or steps i d)
-fits_in [] i d h k = k
-fits_in (s ∷ steps) zero d h k = h.0
-fits_in (s ∷ steps) (suc i) d h k = fits_in steps i d h.1 k
+AreCalls : List GuestCall → Type 0
+AreCalls [] = Unit {0}
+AreCalls (call ∷ calls) = IsStep 1 (Step.Call 0 call) × AreCalls calls
 
-drop_fits : (h : ℕ) → h ≤ 4294967295 → IsStep 1 (Drop 0 h)
+fits_in : (calls : List GuestCall) (i : ℕ) (d : GuestCall) → AreCalls calls → IsStep 1 (Step.Call 0 d) → IsStep 1 (Step.Call 0 (slice_index_or calls i d))
+unfolding AreCalls
+fits_in [] i d h k = k
+fits_in (call ∷ calls) zero d h k = h.0
+fits_in (call ∷ calls) (suc i) d h k = fits_in calls i d h.1 k
+
+drop_fits : (h : ℕ) → h ≤ 4294967295 → IsStep 1 (Step.Call 0 (Drop h))
 drop_fits h e = record { context = omega arith; width = omega arith; arguments = (e, tt) }
 
 port_fits : (x : ℕ) → port_of x ≤ 65535
 port_fits x = omega arith
 
 block_fits : (s x place : ℕ) → s + 2 ≤ 4294967295 → x < 2 ^ 64 → IsStep 1 (step_in s x place)
-block_fits s x place room wide = fits_in (block s x) place (Drop 0 s) steps (drop_fits s (omega (arith, room)))
+unfolding AreCalls
+block_fits s x place room wide = fits_in (block s x) place (Drop s) calls (drop_fits s (omega (arith, room)))
   where
-    steps : AreSteps (block s x)
-    steps =
+    calls : AreCalls (block s x)
+    calls =
         record { context = omega arith; width = omega arith; arguments = (tt, tt) }
         and record { context = omega arith; width = omega arith; arguments = (omega (arith, room), (omega arith, (((omega arith, omega arith, omega arith, omega arith), port_fits x), tt))) }
         and record { context = omega arith; width = omega arith; arguments = (omega (arith, room), tt) }

@@ -4,8 +4,10 @@ use Rattle.wasi_addr.specs.declared.address.IpSocketAddress.{IpSocketAddress}
 use Rattle.wasi_addr.specs.declared.address.IpSocketAddress.TheVariants as socket
 use Rattle.wasi_addr.specs.declared.address.ShutdownType.TheVariants.{Both}
 use Rattle.wasi_addr.specs.declared.address.SocketAddressFamily.TheVariants.{Ipv4}
+use Rattle.wasi_steps.specs.declared.guest_call.GuestCall.{GuestCall}
+use Rattle.wasi_steps.specs.declared.guest_call.GuestCall.TheVariants.{Network, TcpCreate, TcpStartConnect, TcpFinishConnect, CheckWrite, Write, TcpShutdown, Drop}
 use Rattle.wasi_steps.specs.declared.step.Step.{Step}
-use Rattle.wasi_steps.specs.declared.step.Step.TheVariants.{Network, TcpCreate, TcpStartConnect, TcpFinishConnect, CheckWrite, Write, TcpShutdown, Drop}
+use Rattle.wasi_steps.specs.declared.step.Step.TheVariants as step
 use Rattle.wasi_steps.specs.Steps.{line_of}
 
 -- the number that is drawn after another
@@ -32,26 +34,26 @@ abbrev pub loopback : ℕ → IpSocketAddress
 loopback port = socket.Ipv4 (record { port = port; address = (127, 0, 0, 1) })
 
 -- a block makes a socket of this handle, connects it, writes and drops all that it made; its streams have the next two handles
-abbrev pub block : ℕ → ℕ → List Step
+abbrev pub block : ℕ → ℕ → List GuestCall
 block s x =
-    TcpCreate 0 Ipv4
-    ∷ TcpStartConnect 0 s 1 (loopback (port_of x))
-    ∷ TcpFinishConnect 0 s
-    ∷ CheckWrite 0 (s + 2)
-    ∷ Write 0 (s + 2) (replicate (count_of x) (byte_of x))
-    ∷ TcpShutdown 0 s Both
-    ∷ Drop 0 (s + 1)
-    ∷ Drop 0 (s + 2)
-    ∷ Drop 0 s
+    TcpCreate Ipv4
+    ∷ TcpStartConnect s 1 (loopback (port_of x))
+    ∷ TcpFinishConnect s
+    ∷ CheckWrite (s + 2)
+    ∷ Write (s + 2) (replicate (count_of x) (byte_of x))
+    ∷ TcpShutdown s Both
+    ∷ Drop (s + 1)
+    ∷ Drop (s + 2)
+    ∷ Drop s
     ∷ []
 
 -- the step of one of the nine places
 abbrev pub step_in : ℕ → ℕ → ℕ → Step
-step_in s x place = slice_index_or (block s x) place (Drop 0 s)
+step_in s x place = step.Call 0 (slice_index_or (block s x) place (Drop s))
 
 -- the steps: a network, and then blocks of nine
 abbrev pub generated_step : ℕ → ℕ → Step
-generated_step seed zero = Network 0
+generated_step seed zero = step.Call 0 Network
 generated_step seed (suc k) = step_in (2 + 3 * (k / 9)) (drawn seed (k / 9 + 1)) (k % 9)
 
 abbrev pub generated_steps : ℕ → ℕ → List Step

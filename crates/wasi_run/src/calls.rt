@@ -9,7 +9,7 @@ ghost use Rattle.wasi_host.specs.Machine.{own_of, socket_at, udp_socket_at};
 ghost use Rattle.wasi_host.specs.KnownSides.{KnowsSides};
 ghost use Rattle.wasi_host.specs.Views.{HostKept, SameView, state_of};
 ghost use Rattle.wasi_machine.specs.Machine.{without_code, first_ids, machine_asks, set_chosen};
-ghost use Rattle.wasi_machine.specs.Machine.{is_guest_call, call_asks, context_at, context_for};
+ghost use Rattle.wasi_machine.specs.Machine.{is_guest_call, asks_in, call_asks, context_at, context_for};
 ghost use Rattle.wasi_p2.specs.Udp.{set_udp_option_on};
 ghost use Rattle.wasi_steps.specs.Settings.{chosen, udp_chosen, udp_opt};
 
@@ -20,7 +20,7 @@ use wasi_machine::replies::{
     answer_reply, blocked_reply, cancelled_reply, reply_of, resumed_reply, stream_reply_of,
 };
 use wasi_p2::{ip_name_lookup, tcp, udp};
-use wasi_steps::{NoCode, Reply, Step, TcpSetting, UdpOption, UdpSetting};
+use wasi_steps::{GuestCall, NoCode, Reply, Step, TcpSetting, UdpOption, UdpSetting};
 use wasi_streams::Fault;
 use wasi_table::Table;
 use wasi_world::{Handle, Ids, Opt, WasiSocketsCtx, World};
@@ -58,7 +58,7 @@ pub fn do_step<W: World>(
     do_call(alloc, &mut ctx, table, store, world, &mut ids, step)
 }
 
-/// Makes the view of a context, a table and a store, and the call in it.
+/// Makes the view of a context, a table and a store, and does the step in it.
 fn do_call<W: World>(
     alloc: Global,
     ctx: &mut WasiSocketsCtx,
@@ -71,7 +71,7 @@ fn do_call<W: World>(
     requires open { (W.seen world.old).ended ≡ false }
     requires first { ids.old ≡ first_ids ids.old.line }
     requires free { (is_some store.old.standing && is_guest_call step) ≡ false }
-    ensures asked { AsksFor (call_asks ctx.old (record { table = table.old; store = store.old })
+    ensures asked { AsksFor (asks_in ctx.old (record { table = table.old; store = store.old })
         ids.old.line step) (W.seen world.old) (W.seen world.new)
         (λ reply. (reply, record { table = table.new; store = store.new })) result }
     ensures sides { KnowsSides (W.seen world.old) store.old
@@ -81,7 +81,7 @@ fn do_call<W: World>(
     call(alloc, &mut view, world, ids, step)
 }
 
-/// Makes the call of a step.
+/// Does a step in the view.
 fn call<W: World>(
     alloc: Global,
     view: &mut WasiSocketsCtxView<'_>,
@@ -92,289 +92,288 @@ fn call<W: World>(
     requires open { (W.seen world.old).ended ≡ false }
     requires first { ids.old ≡ first_ids ids.old.line }
     requires free { (is_some view.old.store.now.standing && is_guest_call step) ≡ false }
-    ensures asked { AsksFor (call_asks view.old.ctx.now (state_of view.old) ids.old.line step)
+    ensures asked { AsksFor (asks_in view.old.ctx.now (state_of view.old) ids.old.line step)
         (W.seen world.old) (W.seen world.new) (λ reply. (reply, state_of view.new)) result }
     ensures sides { KnowsSides (W.seen world.old) view.old.store.now
         → KnowsSides (W.seen world.new) view.new.store.now }
     ensures view { SameView view.old view.new }
 {
     match step {
-        Step::Network { .. } => {
+        Step::Call { call, .. } => guest_call(alloc, view, world, ids, call),
+        Step::Turn => {
+            wasi_host::turn(view, world)?;
+            Ok(Reply::done(alloc))
+        }
+        Step::Poll { line } => {
+            let resumed = wasi_host::resume(alloc, view, world, line);
+            resumed_reply(alloc, line, resumed)
+        }
+        Step::Cancel { line } => {
+            let cancelled = wasi_host::cancel(view, world, line)?;
+            Ok(cancelled_reply(alloc, cancelled))
+        }
+    }
+}
+
+/// Makes the call of a guest.
+fn guest_call<W: World>(
+    alloc: Global,
+    view: &mut WasiSocketsCtxView<'_>,
+    world: &mut W,
+    ids: &mut Ids,
+    call: GuestCall,
+) -> Result<Reply, AllocError>
+    requires open { (W.seen world.old).ended ≡ false }
+    requires first { ids.old ≡ first_ids ids.old.line }
+    requires free { is_some view.old.store.now.standing ≡ false }
+    ensures asked { AsksFor (call_asks view.old.ctx.now (state_of view.old) ids.old.line call)
+        (W.seen world.old) (W.seen world.new) (λ reply. (reply, state_of view.new)) result }
+    ensures sides { KnowsSides (W.seen world.old) view.old.store.now
+        → KnowsSides (W.seen world.new) view.new.store.now }
+    ensures view { SameView view.old view.new }
+{
+    match call {
+        GuestCall::Network => {
             let made = wasi_p2::instance_network(view, world, ids);
             reply_of(alloc, made)
         }
-        Step::TcpCreate { family, .. } => {
+        GuestCall::TcpCreate { family } => {
             let made = tcp::create_tcp_socket(view, world, ids, family);
             reply_of(alloc, made)
         }
-        Step::TcpStartBind {
+        GuestCall::TcpStartBind {
             socket,
             network,
             addr,
-            ..
         } => {
             let answer = tcp::start_bind(view, world, ids, socket, network, addr);
             answer_reply(alloc, ids.line, answer)
         }
-        Step::TcpFinishBind { socket, .. } => {
+        GuestCall::TcpFinishBind { socket } => {
             let done = tcp::finish_bind(view, socket);
             reply_of(alloc, done)
         }
-        Step::TcpStartConnect {
+        GuestCall::TcpStartConnect {
             socket,
             network,
             addr,
-            ..
         } => {
             let done = tcp::start_connect(view, world, ids, socket, network, addr);
             reply_of(alloc, done)
         }
-        Step::TcpFinishConnect { socket, .. } => {
+        GuestCall::TcpFinishConnect { socket } => {
             let made = tcp::finish_connect(view, world, ids, socket);
             reply_of(alloc, made)
         }
-        Step::TcpStartListen { socket, .. } => {
+        GuestCall::TcpStartListen { socket } => {
             let answer = tcp::start_listen(view, world, ids, socket);
             answer_reply(alloc, ids.line, answer)
         }
-        Step::TcpFinishListen { socket, .. } => {
+        GuestCall::TcpFinishListen { socket } => {
             let done = tcp::finish_listen(view, socket);
             reply_of(alloc, done)
         }
-        Step::TcpAccept { socket, .. } => {
+        GuestCall::TcpAccept { socket } => {
             let made = tcp::accept(view, world, ids, socket);
             reply_of(alloc, made)
         }
-        Step::TcpLocalAddress { socket, .. } => {
+        GuestCall::TcpLocalAddress { socket } => {
             let told = tcp::local_address(view, world, ids, socket);
             reply_of(alloc, told)
         }
-        Step::TcpRemoteAddress { socket, .. } => {
+        GuestCall::TcpRemoteAddress { socket } => {
             let told = tcp::remote_address(view, world, ids, socket);
             reply_of(alloc, told)
         }
-        Step::TcpIsListening { socket, .. } => {
+        GuestCall::TcpIsListening { socket } => {
             let told = tcp::is_listening(view, socket);
             reply_of(alloc, told)
         }
-        Step::TcpAddressFamily { socket, .. } => {
+        GuestCall::TcpAddressFamily { socket } => {
             let told = tcp::address_family(view, socket);
             reply_of(alloc, told)
         }
-        Step::TcpGet { socket, option, .. } => {
+        GuestCall::TcpGet { socket, option } => {
             let told = tcp::get_option(view, world, ids, socket, option);
             reply_of(alloc, told)
         }
-        Step::TcpSet {
-            socket,
-            setting,
-            ..
-        } => {
+        GuestCall::TcpSet { socket, setting } => {
             let done = set(view, world, ids, socket, setting);
             reply_of(alloc, done)
         }
-        Step::TcpShutdown { socket, how, .. } => {
+        GuestCall::TcpShutdown { socket, how } => {
             let done = tcp::shutdown(view, world, ids, socket, how);
             reply_of(alloc, done)
         }
-        Step::UdpCreate { family, .. } => {
+        GuestCall::UdpCreate { family } => {
             let answer = udp::create_udp_socket(view, world, ids, family);
             answer_reply(alloc, ids.line, answer)
         }
-        Step::UdpStartBind {
+        GuestCall::UdpStartBind {
             socket,
             network,
             addr,
-            ..
         } => {
             let answer = udp::start_bind(view, world, ids, socket, network, addr);
             answer_reply(alloc, ids.line, answer)
         }
-        Step::UdpFinishBind { socket, .. } => {
+        GuestCall::UdpFinishBind { socket } => {
             let done = udp::finish_bind(view, socket);
             reply_of(alloc, done)
         }
-        Step::UdpLocalAddress { socket, .. } => {
+        GuestCall::UdpLocalAddress { socket } => {
             let told = udp::local_address(view, world, ids, socket);
             reply_of(alloc, told)
         }
-        Step::UdpRemoteAddress { socket, .. } => {
+        GuestCall::UdpRemoteAddress { socket } => {
             let told = udp::remote_address(view, socket);
             reply_of(alloc, told)
         }
-        Step::UdpAddressFamily { socket, .. } => {
+        GuestCall::UdpAddressFamily { socket } => {
             let told = udp::address_family(view, socket);
             reply_of(alloc, told)
         }
-        Step::UdpGet { socket, option, .. } => {
+        GuestCall::UdpGet { socket, option } => {
             let told = udp::get_option(view, world, ids, socket, udp_opt(option));
             reply_of(alloc, told)
         }
-        Step::UdpSet {
-            socket,
-            setting,
-            ..
-        } => {
+        GuestCall::UdpSet { socket, setting } => {
             let done = set_udp(view, world, ids, socket, setting);
             reply_of(alloc, done)
         }
-        Step::UdpStream { socket, remote, .. } => {
+        GuestCall::UdpStream { socket, remote } => {
             let answer = udp::stream(view, world, ids, socket, remote);
             answer_reply(alloc, ids.line, answer)
         }
-        Step::UdpReceive {
+        GuestCall::UdpReceive {
             incoming,
             max_results,
-            ..
         } => {
             let received = udp::receive(alloc, view, world, ids, incoming, max_results);
             reply_of(alloc, received)
         }
-        Step::UdpCheckSend { outgoing, .. } => {
+        GuestCall::UdpCheckSend { outgoing } => {
             let permit = udp::check_send(view, outgoing);
             reply_of(alloc, permit)
         }
-        Step::UdpSend {
+        GuestCall::UdpSend {
             outgoing,
             datagrams,
-            ..
         } => {
             let sent = udp::send(view, world, ids, outgoing, datagrams.into_vec());
             reply_of(alloc, sent)
         }
-        Step::Resolve { network, name, .. } => {
+        GuestCall::Resolve { network, name } => {
             let made = ip_name_lookup::resolve_addresses(alloc, view, world, ids, network, name);
             reply_of(alloc, made)
         }
-        Step::ResolveNext { lookup, .. } => {
+        GuestCall::ResolveNext { lookup } => {
             let told = ip_name_lookup::resolve_next_address(view, lookup);
             reply_of(alloc, told)
         }
-        Step::NetworkErrorCode { error, .. } => {
+        GuestCall::NetworkErrorCode { error } => {
             let told = wasi_p2::network_error_code(view, error);
             reply_of(alloc, without_code(told))
         }
-        Step::Read { input, len, .. } => {
+        GuestCall::Read { input, len } => {
             let read = wasi_host::read(alloc, view, world, ids, input, len);
             stream_reply_of(alloc, read)
         }
-        Step::CheckWrite { output, .. } => {
+        GuestCall::CheckWrite { output } => {
             let permit = wasi_host::check_write(view, world, ids, output);
             stream_reply_of(alloc, permit)
         }
-        Step::Write { output, bytes, .. } => {
+        GuestCall::Write { output, bytes } => {
             let written = wasi_host::write(view, world, ids, output, bytes);
             stream_reply_of(alloc, written)
         }
-        Step::Flush { output, .. } => {
+        GuestCall::Flush { output } => {
             let flushed = wasi_host::flush(view, world, ids, output);
             stream_reply_of(alloc, flushed)
         }
-        Step::PipeIn { bytes, .. } => {
+        GuestCall::PipeIn { bytes } => {
             let made = wasi_host::make_input_pipe(view, world, ids, bytes);
             reply_of(alloc, socket_result(made))
         }
-        Step::PipeOut { capacity, .. } => {
+        GuestCall::PipeOut { capacity } => {
             let made = wasi_host::make_output_pipe(alloc, view, world, ids, capacity as usize);
             reply_of(alloc, socket_result(made))
         }
-        Step::PipeContents { output, .. } => {
+        GuestCall::PipeContents { output } => {
             let contents = wasi_host::pipe_contents(alloc, view, output);
             reply_of(alloc, socket_result(contents))
         }
-        Step::Sink { .. } => {
+        GuestCall::Sink => {
             let made = wasi_host::make_sink(view, world, ids);
             reply_of(alloc, socket_result(made))
         }
-        Step::ClosedIn { .. } => {
+        GuestCall::ClosedIn => {
             let made = wasi_host::make_closed_input(view, world, ids);
             reply_of(alloc, socket_result(made))
         }
-        Step::ClosedOut { .. } => {
+        GuestCall::ClosedOut => {
             let made = wasi_host::make_closed_output(view, world, ids);
             reply_of(alloc, socket_result(made))
         }
-        Step::Skip { input, len, .. } => {
+        GuestCall::Skip { input, len } => {
             let skipped = wasi_host::skip(alloc, view, world, ids, input, len);
             stream_reply_of(alloc, skipped)
         }
-        Step::WriteZeroes { output, len, .. } => {
+        GuestCall::WriteZeroes { output, len } => {
             let written = wasi_host::write_zeroes(alloc, view, world, ids, output, len);
             stream_reply_of(alloc, written)
         }
-        Step::Splice {
-            output,
-            input,
-            len,
-            ..
-        } => {
+        GuestCall::Splice { output, input, len } => {
             let spliced = wasi_host::splice(alloc, view, world, ids, output, input, len);
             stream_reply_of(alloc, spliced)
         }
-        Step::BlockingRead { input, len, .. } => {
+        GuestCall::BlockingRead { input, len } => {
             let read = wasi_host::blocking_read(alloc, view, world, ids, input, len);
             blocked_reply(alloc, ids.line, read)
         }
-        Step::BlockingSkip { input, len, .. } => {
+        GuestCall::BlockingSkip { input, len } => {
             let skipped = wasi_host::blocking_skip(alloc, view, world, ids, input, len);
             blocked_reply(alloc, ids.line, skipped)
         }
-        Step::BlockingWrite { output, bytes, .. } => {
+        GuestCall::BlockingWrite { output, bytes } => {
             let written = wasi_host::blocking_write_and_flush(
                 alloc, view, world, ids, output, bytes,
             );
             blocked_reply(alloc, ids.line, written)
         }
-        Step::BlockingZeroes { output, len, .. } => {
+        GuestCall::BlockingZeroes { output, len } => {
             let written = wasi_host::blocking_write_zeroes_and_flush(
                 alloc, view, world, ids, output, len,
             );
             blocked_reply(alloc, ids.line, written)
         }
-        Step::BlockingFlush { output, .. } => {
+        GuestCall::BlockingFlush { output } => {
             let flushed = wasi_host::blocking_flush(view, world, ids, output);
             blocked_reply(alloc, ids.line, flushed)
         }
-        Step::BlockingSplice {
-            output,
-            input,
-            len,
-            ..
-        } => {
+        GuestCall::BlockingSplice { output, input, len } => {
             let spliced = wasi_host::blocking_splice(alloc, view, world, ids, output, input, len);
             blocked_reply(alloc, ids.line, spliced)
         }
-        Step::Cancel { call } => {
-            let cancelled = wasi_host::cancel(view, world, call)?;
-            Ok(cancelled_reply(alloc, cancelled))
-        }
-        Step::Subscribe { handle, .. } => {
+        GuestCall::Subscribe { handle } => {
             let made = wasi_host::subscribe(view, world, ids, handle);
             reply_of(alloc, socket_result(made))
         }
-        Step::Ready { pollable, .. } => {
+        GuestCall::Ready { pollable } => {
             let ready = wasi_host::ready(view, world, ids, pollable);
             reply_of(alloc, socket_result(ready))
         }
-        Step::Block { pollable, .. } => {
+        GuestCall::Block { pollable } => {
             let answer = wasi_host::block(view, world, ids, pollable);
             answer_reply(alloc, ids.line, socket_result(answer))
         }
-        Step::PollList { pollables, .. } => {
-            let answer = wasi_host::poll(alloc, view, world, ids, pollables);
-            answer_reply(alloc, ids.line, socket_result(answer))
-        }
-        Step::Drop { handle, .. } => {
+        GuestCall::Drop { handle } => {
             let answer = wasi_host::drop_handle(view, world, ids, handle);
             answer_reply(alloc, ids.line, socket_result(answer))
         }
-        Step::Turn => {
-            wasi_host::turn(view, world)?;
-            Ok(Reply::done(alloc))
-        }
-        Step::Poll { call } => {
-            let resumed = wasi_host::resume(alloc, view, world, call);
-            resumed_reply(alloc, call, resumed)
+        GuestCall::PollList { pollables } => {
+            let answer = wasi_host::poll(alloc, view, world, ids, pollables);
+            answer_reply(alloc, ids.line, socket_result(answer))
         }
     }
 }

@@ -4,7 +4,6 @@ ghost use Rattle.std.specs.Prelude.{◌≡◌, ◌==◌, ◌+◌, ◌<◌, ◌�
 ghost use Rattle.std.specs.Prelude.{length, string_bytes};
 ghost use Rattle.world_text.specs.Lines.{lines_of};
 ghost use Rattle.wasi_run.specs.Script.{IsValid};
-ghost use Rattle.wasi_steps.specs.declared.step.Step.TheVariants as Step;
 ghost use Rattle.wasi_run.specs.Generate.{next_drawn, port_of, count_of, byte_of, step_in};
 ghost use Rattle.wasi_run.specs.Generate.{generated_steps, generated, script_line, script_text};
 

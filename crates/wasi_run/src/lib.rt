@@ -16,5 +16,6 @@ pub use error::RunError;
 pub use run::{RunEnd, run_script};
 pub use session::Session;
 pub use wasi_steps::{
-    CodeWord, Field, Reply, ReplyFields, Step, TcpSetting, parse, reply, setting, step,
+    CodeWord, Field, GuestCall, Reply, ReplyFields, Step, TcpSetting, guest_call, parse, reply,
+    setting, step,
 };

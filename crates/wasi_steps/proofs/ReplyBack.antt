@@ -18,10 +18,13 @@ use Rattle.wasi_steps.specs.declared.reply.Field.{Field}
 use Rattle.wasi_steps.specs.declared.reply.Field.TheVariants as field
 use Rattle.wasi_steps.specs.declared.reply.Reply.{Reply}
 use Rattle.wasi_steps.specs.declared.reply.Reply.TheVariants as reply
+use Rattle.wasi_steps.specs.declared.guest_call.GuestCall.{GuestCall}
+use Rattle.wasi_steps.specs.declared.guest_call.GuestCall.TheVariants as guest
 use Rattle.wasi_steps.specs.declared.step.Step.{Step}
 use Rattle.wasi_steps.specs.declared.step.Step.TheVariants as step
 use Rattle.wasi_steps.specs.Reply.{ip_values, address_values, received_values, datagram_values, numbers_fields}
 use Rattle.wasi_steps.specs.Replies.{code_text, trap_text, field_text, fields_of_reply, text_of, FieldKind, ANumber, SomeBytes, Truth, Nothing, FieldKinds, Each, AnAddress, AnIpOrNone, ADatagramList, SomeNumbers, OfAPolledCall, kinds_of, IsOfKind, EachOfKind, AreOfKinds, AreNumbers, FitsReceived, GivesAs, Gives, is_poll, polled_fields}
+use Rattle.wasi_steps.specs.Steps.{call_signature}
 use Rattle.wasi_steps.proofs.LineEnds.{both_visible}
 
 code_words : List CodeWord
@@ -182,8 +185,13 @@ abbrev AreKnown : FieldKinds → Type 0
 AreKnown OfAPolledCall = ⊥
 AreKnown _ = Unit {0}
 
+call_known : (call : GuestCall) → AreKnown (call_signature call).gives
+call_known guest.Network = tt
+call_known _ = tt
+
 are_known : (s : Step) → is_poll s ≡ false → AreKnown (kinds_of s)
-are_known (step.Poll call) other = absurd (cc)
+are_known (step.Call c call) other = call_known call
+are_known (step.Poll line) other = absurd (cc)
 are_known _ other = tt
 
 all_of_kinds : (kinds : FieldKinds) (fields : List Field) → AreKnown kinds → AreOfKinds kinds fields → All (of_kinds kinds (suc (length (map field_text fields)))) fields (map field_text fields)

@@ -1,7 +1,7 @@
 -- Each step is read from exactly its line.
 use Rattle.std.proofs.Common.{◌≡◌, ℕ, ◌<◌, ◌≤◌, List, [], ◌∷◌, ◌++◌, ◌&&◌, slice_index, decimal, Option, Some, None, refl, arith, inl, inr, Bool, true, false, ◌||◌, cond, nat_lt, IsTrue, append-nil, append_assoc, ap, sym, subst, ◌∙◌}
-use Rattle.world_text.specs.Fields.{read_then, give_some, after_word, whole, has_no_space, fields_of, line_with, field_at, number_in, word_at, BeginsPlain}
-use Rattle.std.specs.Prelude.{IfSome}
+use Rattle.world_text.specs.Fields.{Row, read_then, give, give_some, after_word, whole, has_no_space, fields_of, line_with, field_at, number_in, word_at, BeginsPlain}
+use Rattle.std.specs.Prelude.{IfSome, codes}
 use Rattle.std.specs.List.{AllByRecursion, list_all, list_any}
 use Rattle.std.proofs.lemmas.Bool.{ltb-true, lt-ltb, and_parts}
 use Rattle.std.proofs.lemmas.List.Folds.{list_all-append}
@@ -14,11 +14,13 @@ use Rattle.world_text.proofs.Exactly.{All, Only, exactly, number_exactly, all_gi
 use Rattle.world_text.proofs.Words.{only_word}
 use Rattle.wasi_addr.specs.declared.address.ShutdownType.{ShutdownType}
 use Rattle.wasi_addr.specs.declared.address.ShutdownType.TheVariants.{Receive, Send, Both}
+use Rattle.wasi_steps.specs.declared.guest_call.GuestCall.{GuestCall}
+use Rattle.wasi_steps.specs.declared.guest_call.GuestCall.TheVariants as guest
 use Rattle.wasi_steps.specs.declared.step.Step.{Step}
 use Rattle.wasi_steps.specs.declared.step.Step.TheVariants as step
-use Rattle.wasi_steps.specs.Arguments.{Kind, ACount, ACapacity, AFamily, ASocketAddress, AnOption, ASetting, AUdpOption, AUdpSetting, AHalf, AllBytes, ARemote, SomeDatagrams, SomePollables, AName, Value, value_at, value_fields, FitsValue, Values, values_fields, FitsValues, shutdown_fields, shutdown_words, shutdown_at}
+use Rattle.wasi_steps.specs.Arguments.{Kind, ALine, ACount, ACapacity, AFamily, ASocketAddress, AnOption, ASetting, AUdpOption, AUdpSetting, AHalf, AllBytes, ARemote, SomeDatagrams, SomePollables, AName, Value, value_at, value_fields, FitsValue, Values, values_fields, FitsValues, shutdown_fields, shutdown_words, shutdown_at}
 use Rattle.wasi_steps.specs.Names.{IsText}
-use Rattle.wasi_steps.specs.Steps.{Takes, made, values_at, Written, fields_of_written, signature, context_fields, context_of, is_of_a_name, takes_a_name, fields_of_step, line_of, IsStep, row_of, rows_of, rows_by, is_read, steps, bare_steps, guest_call_at, after_first, step_reader, step_of}
+use Rattle.wasi_steps.specs.Steps.{Takes, made, values_at, Written, fields_of_written, Signature, call_signature, turn_signature, poll_signature, cancel_signature, written_of, context_fields, context_of, is_of_a_name, takes_a_name, fields_of_step, line_of, IsStep, row_by, rows_of, IsRead, call_is_read, guest_calls, bare_signatures, bare_rows, call_at, guest_call_at, after_first, step_reader, step_of}
 use Rattle.wasi_steps.proofs.LineEnds.{ReadsLast, Last, last_of, lastly, last_give, last_then, last_alone, only_next, both_visible}
 use Rattle.wasi_steps.proofs.DatagramLaws.{remote_last, remote_visible, datagrams_last, datagrams_visible}
 use Rattle.wasi_steps.proofs.HandleLaws.{handles_last, handles_visible}
@@ -81,16 +83,16 @@ ends_last [] = true
 ends_last (kind ∷ []) = true
 ends_last (kind ∷ next ∷ kinds) = goes_on kind && ends_last (next ∷ kinds)
 
-all_end_last : (s : Step) → ends_last (signature s).written.kinds ≡ true
+all_end_last : (call : GuestCall) → ends_last (call_signature call).written.kinds ≡ true
 unfolding ends_last goes_on
-all_end_last step.Turn = refl
+all_end_last guest.Network = refl
 all_end_last _ = refl
 
-values_only : (kinds : List Kind) (makes : Takes kinds) {Q : List (List ℕ) → Step → Type 0} → ((values : Values kinds) → FitsValues kinds values → Q (values_fields kinds values) (made kinds makes values)) → Only (values_at kinds makes) Q
+values_only : {A : Type 0} (kinds : List Kind) (makes : Takes A kinds) {Q : List (List ℕ) → A → Type 0} → ((values : Values kinds) → FitsValues kinds values → Q (values_fields kinds values) (made kinds makes values)) → Only (values_at kinds makes) Q
 values_only [] s q = only_give s (q tt tt)
 values_only (kind ∷ kinds) makes q = only_next _ (kind_last kind) (λ value fits. values_only kinds (makes value) (λ values more. q (value, values) (fits, more)))
 
-values_last : (kinds : List Kind) (makes : Takes kinds) (values : Values kinds) → ends_last kinds ≡ true → FitsValues kinds values → Last (values_at kinds makes) (made kinds makes values) (values_fields kinds values)
+values_last : {A : Type 0} (kinds : List Kind) (makes : Takes A kinds) (values : Values kinds) → ends_last kinds ≡ true → FitsValues kinds values → Last (values_at kinds makes) (made kinds makes values) (values_fields kinds values)
 unfolding ends_last
 values_last [] s values ends fits = last_give
 values_last (kind ∷ []) makes values ends fits = last_alone _ (kind_last kind) fits.0 last_give
@@ -99,69 +101,84 @@ values_last (kind ∷ next ∷ kinds) makes values ends fits =
     last_then _ (kind_exactly kind both.0) fits.0 (values_last (next ∷ kinds) (makes values.0) values.1 both.1 fits.1)
 
 -- == rows
--- what a step's maker makes of any values is written with its word and these values, as the step is
-abbrev IsMade : Step → Type 0
-IsMade s = let is = signature s in (values : Values is.written.kinds) → (signature (made is.written.kinds is.makes values)).written ≡ record is.written { values = values }
+-- what a maker makes of any values is written with its word and these values
+abbrev IsMade : {A : Type 0} → (A → Written) → Signature A → Type 0
+IsMade written is = (values : Values is.written.kinds) → written (made is.written.kinds is.makes values) ≡ record is.written { values = values }
 
-all_made : (c : ℕ) → AllByRecursion IsMade (steps c)
-all_made c = search
+-- what a row reads is written so, with arguments that fit
+abbrev IsReadAs : {A : Type 0} → (A → Written) → List ℕ → List (List ℕ) → A → Type 0
+IsReadAs written word taken x = FitsValues (written x).kinds (written x).values × (word ∷ taken ≡ fields_of_written (written x))
 
-bare_made : AllByRecursion IsMade bare_steps
-bare_made = search
+as_written : Written → List ℕ → List (List ℕ) → Type 0
+as_written w word taken = FitsValues w.kinds w.values × (word ∷ taken ≡ fields_of_written w)
 
--- all of a list are made in this context, or in none
-abbrev AreOf : Option ℕ → List Step → Type 0
-AreOf context todo = AllByRecursion (λ s. context_of s ≡ context) todo
+row_only : {A : Type 0} (written : A → Written) (is : Signature A) → IsMade written is → Only (row_by is).reads (IsReadAs written is.written.word)
+unfolding as_written
+row_only written is same = values_only is.written.kinds is.makes (λ values fits.
+    subst (λ w. as_written w is.written.word (values_fields is.written.kinds values)) (sym (same values)) (fits, refl))
 
-all_of : (c : ℕ) → AreOf (Some c) (steps c)
-all_of c = search
+-- each of these reads exactly its line, where nothing follows it
+reads_last : {A : Type 0} (rows : List (Row A)) (is : Signature A) (x : A) → IsRead rows is x → ends_last is.written.kinds ≡ true
+    → FitsValues is.written.kinds is.written.values → Last (after_word rows is.written.word) x (values_fields is.written.kinds is.written.values)
+reads_last rows is x read ends fits =
+    rw read.1 (subst (λ t. Last (row_by is).reads t (values_fields is.written.kinds is.written.values)) read.0
+    (values_last is.written.kinds is.makes is.written.values ends fits))
 
-bare_of : AreOf None bare_steps
-bare_of = search
+-- == calls
+abbrev call_written : GuestCall → Written
+call_written call = (call_signature call).written
 
--- what a row reads is a step that is written so
-abbrev ReadsStep : ℕ → Option ℕ → List ℕ → List (List ℕ) → Step → Type 0
-ReadsStep contexts context word taken s = IsStep contexts s × (context_fields context (word ∷ taken) ≡ fields_of_step s)
+abbrev FitsCall : GuestCall → Type 0
+FitsCall call = FitsValues (call_written call).kinds (call_written call).values
 
-abbrev IsWritten : ℕ → Option ℕ → List ℕ → List (List ℕ) → Written → Type 0
-IsWritten contexts context word taken w = IfSome w.context (λ c. c < contexts) × IfSome w.context (λ c. c ≤ 4294967295) × FitsValues w.kinds w.values × (context_fields context (word ∷ taken) ≡ fields_of_written w)
+all_made : AllByRecursion (λ call. IsMade call_written (call_signature call)) guest_calls
+all_made = search
 
-step_is_written : (contexts : ℕ) (context : Option ℕ) (word : List ℕ) (taken : List (List ℕ)) (s : Step) → IsWritten contexts context word taken (signature s).written → ReadsStep contexts context word taken s
-step_is_written contexts context word taken s h = (record { context = h.0; width = h.1; arguments = h.2 }, h.3)
+calls_only : (calls : List GuestCall) → AllByRecursion (λ call. IsMade call_written (call_signature call)) calls
+    → AllByRecursion (λ r. Only r.reads (IsReadAs call_written r.word)) (rows_of calls)
+calls_only [] all = tt
+calls_only (call ∷ calls) all = row_only call_written (call_signature call) all.0 and calls_only calls all.1
 
+visible_call : (call : GuestCall) → IsTrue (list_all is_visible (call_written call).word)
+visible_call call = grind arith
+
+call_exactly : ReadsLast call_at (λ call. fields_of_written (call_written call)) FitsCall
+unfolding call_at
+call_exactly = lastly
+    (only_then _ word_exactly (λ word utf8. only_word (IsReadAs call_written) (rows_of guest_calls) word (calls_only guest_calls all_made)))
+    (λ call fits. last_then _ word_exactly (visible_utf8 _ (visible_call call))
+    (reads_last (rows_of guest_calls) (call_signature call) call (call_is_read call) (all_end_last call) fits))
+
+-- == steps
 -- a context is one of so many
 abbrev IsContext : ℕ → Option ℕ → Type 0
 IsContext contexts context = IfSome context (λ c. c < contexts) × IfSome context (λ c. c ≤ 4294967295)
 
-row_only : (contexts : ℕ) (s : Step) → IsMade s → IsContext contexts (context_of s) → Only (row_of s).reads (ReadsStep contexts (context_of s) (row_of s).word)
-row_only contexts s is context =
-    let it = signature s in
-    values_only it.written.kinds it.makes (λ values fits. step_is_written contexts it.written.context it.written.word (values_fields it.written.kinds values) (made it.written.kinds it.makes values)
-    (subst (IsWritten contexts it.written.context it.written.word (values_fields it.written.kinds values)) (sym (is values)) (context.0, context.1, fits, refl)))
+-- what is read behind a context, or behind none, is a step of it
+abbrev ReadsStep : ℕ → Option ℕ → List (List ℕ) → Step → Type 0
+ReadsStep contexts context taken s = IsStep contexts s × (context_fields context taken ≡ fields_of_step s)
 
-rows_only : (contexts : ℕ) (context : Option ℕ) → IsContext contexts context → (todo : List Step) → AllByRecursion IsMade todo → AreOf context todo → AllByRecursion (λ r. Only r.reads (ReadsStep contexts context r.word)) (rows_of todo)
-rows_only contexts context is [] made of = tt
-rows_only contexts context is (s ∷ todo) made of =
-    subst (λ o. Only (row_of s).reads (ReadsStep contexts o (row_of s).word)) of.0 (row_only contexts s made.0 (rw of.0 is))
-    and rows_only contexts context is todo made.1 of.1
+guest_only : (contexts c : ℕ) (below : Bool) → nat_lt c contexts ≡ below → c ≤ 4294967295
+    → Only (cond below (read_then call_at (λ call. give (step.Call c call))) (give_some None)) (ReadsStep contexts (Some c))
+guest_only contexts c true e width = only_next _ call_exactly (λ call fits.
+    only_give (step.Call c call) (record { context = ltb-true _ _ e; width = width; arguments = fits }, rw append-nil refl))
+guest_only contexts c false e width = only_some None (λ s h. cc)
 
--- what a guest call and a first word read is a step
-call_by : (contexts c : ℕ) (below : Bool) → nat_lt c contexts ≡ below → c ≤ 4294967295 → Only (cond below (read_then word_at (λ word. after_word (rows_of (steps c)) word)) (give_some None)) (λ taken s. IsStep contexts s × (decimal c ∷ taken ≡ fields_of_step s))
-call_by contexts c true e width = only_then _ word_exactly (λ word utf8. only_word (ReadsStep contexts (Some c)) (rows_of (steps c)) word (rows_only contexts (Some c) (ltb-true _ _ e, width) (steps c) (all_made c) (all_of c)))
-call_by contexts c false e width = only_some None (λ s h. cc)
+turn_only : (contexts : ℕ) → Only (row_by turn_signature).reads (λ taken s. ReadsStep contexts None (turn_signature.written.word ∷ taken) s)
+turn_only contexts = only_give step.Turn (record { context = tt; width = tt; arguments = tt }, refl)
 
-first_only : (contexts : ℕ) (first : List ℕ) (number : Option ℕ) → number_in first 4294967295 ≡ number → Only (after_first contexts first number) (ReadsStep contexts None first)
+poll_only : (contexts : ℕ) → Only (row_by (poll_signature 0)).reads (λ taken s. ReadsStep contexts None (codes "poll" ∷ taken) s)
+poll_only contexts = values_only (ALine ∷ []) step.Poll (λ values fits. (record { context = tt; width = tt; arguments = fits }, refl))
+
+cancel_only : (contexts : ℕ) → Only (row_by (cancel_signature 0)).reads (λ taken s. ReadsStep contexts None (codes "cancel" ∷ taken) s)
+cancel_only contexts = values_only (ALine ∷ []) step.Cancel (λ values fits. (record { context = tt; width = tt; arguments = fits }, refl))
+
+first_only : (contexts : ℕ) (first : List ℕ) (number : Option ℕ) → number_in first 4294967295 ≡ number
+    → Only (after_first contexts first number) (λ taken s. ReadsStep contexts None (first ∷ taken) s)
 unfolding guest_call_at
-first_only contexts first (Some c) e = let is = number_in_is first 4294967295 c e in rw is.0 (call_by contexts c (nat_lt c contexts) refl is.1)
-first_only contexts first None e = only_word (ReadsStep contexts None) (rows_of bare_steps) first (rows_only contexts None (tt, tt) bare_steps bare_made bare_of)
-
-row_reads : (s : Step) → FitsValues (signature s).written.kinds (signature s).written.values → Last (after_word (rows_by (context_of s)) (signature s).written.word) s (values_fields (signature s).written.kinds (signature s).written.values)
-row_reads s fits =
-    let it = signature s in
-    rw (is_read s).1 (subst (λ t. Last (row_of s).reads t (values_fields it.written.kinds it.written.values)) (is_read s).0 (values_last it.written.kinds it.makes it.written.values (all_end_last s) fits))
-
-visible_word : (s : Step) → IsTrue (list_all is_visible (signature s).written.word)
-visible_word s = grind arith
+first_only contexts first (Some c) e = let is = number_in_is first 4294967295 c e in rw is.0 (guest_only contexts c (nat_lt c contexts) refl is.1)
+first_only contexts first None e = only_word (λ word taken s. ReadsStep contexts None (word ∷ taken) s) bare_rows first
+    (turn_only contexts and poll_only contexts and cancel_only contexts and tt)
 
 -- a word that begins with a letter is no number
 letter_begins : (b : ℕ) (word : List ℕ) → 57 < b → BeginsPlain (b ∷ word) → ⊥
@@ -171,28 +188,35 @@ letter_begins b word letter (inr r) = omega arith
 no_number : (b : ℕ) (word : List ℕ) → 57 < b → number_in (b ∷ word) 4294967295 ≡ None
 no_number b word letter = begins_otherwise (b ∷ word) 4294967295 (omega arith) (letter_begins b word letter)
 
-bare_word : (s : Step) → context_of s ≡ None → number_in (signature s).written.word 4294967295 ≡ None
-bare_word step.Turn e = no_number _ _ (omega arith)
-bare_word (step.Poll call) e = no_number _ _ (omega arith)
-bare_word (step.Cancel call) e = no_number _ _ (omega arith)
-bare_word _ e = absurd (cc)
-
--- what follows a context and a word is read after them, and what follows the word of a step that no context makes
-call_all : {contexts c : ℕ} {s : Step} {word : List ℕ} {taken : List (List ℕ)} → c < contexts → IsTrue (list_all is_visible word) → Last (after_word (rows_of (steps c)) word) s taken → Last (guest_call_at contexts c) s (word ∷ taken)
-unfolding guest_call_at
-call_all {contexts} {c} {word = word} below visible arguments =
-    rw (lt-ltb c contexts below) (last_then _ word_exactly (visible_utf8 word visible) arguments)
-
-after : (contexts : ℕ) (context : Option ℕ) (word : List ℕ) (s : Step) {taken : List (List ℕ)} → IsContext contexts context → (context ≡ None → number_in word 4294967295 ≡ None) → IsTrue (list_all is_visible word) → Last (after_word (rows_by context) word) s taken
-    → Last (step_reader contexts) s (context_fields context (word ∷ taken))
-unfolding step_reader
-after contexts (Some c) word s is other visible arguments =
+-- what follows a context is read after it
+guest_all : (contexts c : ℕ) (call : GuestCall) → IsContext contexts (Some c) → FitsCall call
+    → Last (step_reader contexts) (step.Call c call) (decimal c ∷ fields_of_written (call_written call))
+unfolding step_reader guest_call_at
+guest_all contexts c call is fits =
     last_then _ word_exactly (visible_utf8 (decimal c) (number_visible c (let width = is.1 in omega arith)))
-    (rw (number_in_decimal (decimal c) 4294967295 c (omega arith) refl is.1) (call_all is.0 visible arguments))
-after contexts None word s is other visible arguments = last_then _ word_exactly (visible_utf8 word visible) (rw (other refl) arguments)
+    (rw (number_in_decimal (decimal c) 4294967295 c (omega arith) refl is.1) (rw (lt-ltb c contexts is.0)
+    (rw append-nil at (last_alone (λ call. give (step.Call c call)) call_exactly fits last_give))))
+
+-- and what follows the word of a step that no context makes
+bare_all : (contexts : ℕ) (is : Signature Step) (s : Step) → IsRead bare_rows is s → ends_last is.written.kinds ≡ true
+    → number_in is.written.word 4294967295 ≡ None → IsTrue (list_all is_visible is.written.word)
+    → FitsValues is.written.kinds is.written.values → Last (step_reader contexts) s (fields_of_written is.written)
+unfolding step_reader
+bare_all contexts is s read ends other visible fits =
+    last_then _ word_exactly (visible_utf8 is.written.word visible) (rw other (reads_last bare_rows is s read ends fits))
 
 step_all : (contexts : ℕ) (s : Step) → IsStep contexts s → Last (step_reader contexts) s (fields_of_step s)
-step_all contexts s is = after contexts (context_of s) (signature s).written.word s (is.context, is.width) (bare_word s) (visible_word s) (row_reads s is.arguments)
+unfolding ends_last goes_on
+step_all contexts (step.Call c call) is = guest_all contexts c call (is.context, is.width) is.arguments
+step_all contexts step.Turn is = bare_all contexts turn_signature step.Turn (refl, refl) refl (no_number _ _ (omega arith)) (grind arith) is.arguments
+step_all contexts (step.Poll line) is = bare_all contexts (poll_signature line) (step.Poll line) (refl, refl) refl (no_number _ _ (omega arith)) (grind arith) is.arguments
+step_all contexts (step.Cancel line) is = bare_all contexts (cancel_signature line) (step.Cancel line) (refl, refl) refl (no_number _ _ (omega arith)) (grind arith) is.arguments
+
+visible_word : (s : Step) → IsTrue (list_all is_visible (written_of s).word)
+visible_word (step.Call c call) = visible_call call
+visible_word step.Turn = grind arith
+visible_word (step.Poll line) = grind arith
+visible_word (step.Cancel line) = grind arith
 
 pub step_exactly : (contexts : ℕ) → ReadsLast (step_reader contexts) fields_of_step (IsStep contexts)
 unfolding step_reader
@@ -240,20 +264,20 @@ in_context None fields = refl
 in_context (Some c) fields = refl
 
 step_front : Step → List (List ℕ)
-step_front s = context_fields (context_of s) [] ++ (signature s).written.word ∷ []
+step_front s = context_fields (context_of s) [] ++ (written_of s).word ∷ []
 
-step_fields : (s : Step) → fields_of_step s ≡ step_front s ++ values_fields (signature s).written.kinds (signature s).written.values
+step_fields : (s : Step) → fields_of_step s ≡ step_front s ++ values_fields (written_of s).kinds (written_of s).values
 unfolding step_front
-step_fields s = in_context (context_of s) _ ∙ sym (append_assoc (context_fields (context_of s) []) ((signature s).written.word ∷ []) _)
+step_fields s = in_context (context_of s) _ ∙ sym (append_assoc (context_fields (context_of s) []) ((written_of s).word ∷ []) _)
 
 front_visible : {contexts : ℕ} (s : Step) → IsStep contexts s → AreVisible (step_front s)
 unfolding step_front
 front_visible {contexts} s is =
-    both_visible (context_fields (context_of s) []) ((signature s).written.word ∷ []) (context_visible contexts (context_of s) (is.context, is.width)) (visible_word s and tt)
+    both_visible (context_fields (context_of s) []) ((written_of s).word ∷ []) (context_visible contexts (context_of s) (is.context, is.width)) (visible_word s and tt)
 
 step_visible : {contexts : ℕ} (s : Step) → IsStep contexts s → takes_a_name s ≡ false → AreVisible (fields_of_step s)
 step_visible s is others =
-    rw (step_fields s) (both_visible (step_front s) _ (front_visible s is) (values_visible (signature s).written.kinds (signature s).written.values others is.arguments))
+    rw (step_fields s) (both_visible (step_front s) _ (front_visible s is) (values_visible (written_of s).kinds (written_of s).values others is.arguments))
 
 -- == spaces
 -- no argument has a space in a field
@@ -269,7 +293,7 @@ values_no_space (kind ∷ kinds) values fits =
 
 step_no_space : {contexts : ℕ} (s : Step) → IsStep contexts s → list_all has_no_space (fields_of_step s) ≡ true
 step_no_space s is =
-    let values = values_no_space (signature s).written.kinds (signature s).written.values is.arguments in
+    let values = values_no_space (written_of s).kinds (written_of s).values is.arguments in
     rw (step_fields s) (list_all-append has_no_space (step_front s) _ ∙ rw (visible_no_space (step_front s) (front_visible s is), values) refl)
 
 -- == text
@@ -284,7 +308,7 @@ values_text (kind ∷ kinds) values fits = text_both (value_fields kind values.0
 step_text : {contexts : ℕ} (s : Step) → IsStep contexts s → IsText (line_of s)
 step_text s is =
     rw (step_fields s)
-    (text_both (step_front s) _ (visible_text _ (visible_line (step_front s) (front_visible s is))) (values_text (signature s).written.kinds (signature s).written.values is.arguments))
+    (text_both (step_front s) _ (visible_text _ (visible_line (step_front s) (front_visible s is))) (values_text (written_of s).kinds (written_of s).values is.arguments))
 
 -- == lines
 no_step : (contexts : ℕ) → step_reader contexts [] ≡ None

@@ -3,7 +3,7 @@ use Rattle.std.specs.Prelude.{ℕ, Bool, true, false, ◌==◌, List, [], ◌∷
 use Rattle.world_text.specs.Fields.{line_with}
 use Rattle.wasi_steps.specs.declared.step.Step.{Step}
 use Rattle.wasi_steps.specs.Arguments.{Target, ANetwork, ASocket, ADatagramSocket, AnInput, AnOutput, AnIncoming, AnOutgoing, ALookup, AnError, Watchable, APollable, Anything, Kind, HandleOf, ALine, ACount, ACapacity, AFamily, ASocketAddress, AnOption, ASetting, AUdpOption, AUdpSetting, AHalf, AllBytes, ARemote, SomeDatagrams, SomePollables, AName}
-use Rattle.wasi_steps.specs.Steps.{signature}
+use Rattle.wasi_steps.specs.Steps.{context_of, written_of}
 
 -- the letters for a handle, and for an argument
 abbrev pub handle_letters : Target → List ℕ
@@ -45,7 +45,7 @@ some_context (Some c) fields = codes "0" ∷ fields
 
 -- the form of a step's line
 abbrev pub form_of : Step → List ℕ
-form_of s = let w = (signature s).written in line_with (some_context w.context (w.word ∷ map letters w.kinds))
+form_of s = let w = written_of s in line_with (some_context (context_of s) (w.word ∷ map letters w.kinds))
 
 -- the text begins so
 abbrev pub begins : List ℕ → List ℕ → Bool

@@ -1,96 +1,79 @@
-//! The steps that have no other argument than a handle, by their words.
+//! The calls that have no other argument than a handle, by their words.
 
 ghost use Rattle.std.specs.Prelude.{◌++◌};
 ghost use Rattle.wasi_steps.specs.Settings.{ReadsNumber};
-ghost use Rattle.wasi_steps.specs.Steps.{handle_steps, udp_handle_steps, output_handle_steps};
-ghost use Rattle.wasi_steps.specs.Steps.{other_handle_steps, rows_of};
+ghost use Rattle.wasi_steps.specs.Steps.{handle_calls, udp_handle_calls, output_handle_calls};
+ghost use Rattle.wasi_steps.specs.Steps.{other_handle_calls, rows_of};
 
-use crate::step::Step;
+use crate::guest_call::GuestCall;
 
-/// The step of this word, which takes a handle alone and is no socket's and no output's.
+/// The call of this word, which takes a handle alone and is no socket's and no output's.
 #[tactic(auto, unfolding(world_text::specs::Fields::read_then, world_text::specs::Fields::give, world_text::specs::Fields::give_some))]
-fn other_handle_step(context: u32, word: &str, handle: u32) -> Option<Step>
-    ensures { ReadsNumber 4294967295 (rows_of (other_handle_steps context)) word.now handle result }
+fn other_handle_call(word: &str, handle: u32) -> Option<GuestCall>
+    ensures { ReadsNumber 4294967295 (rows_of other_handle_calls) word.now handle result }
 {
-    use Step::*;
+    use GuestCall::*;
     match word {
-        "resolve-next" => Some(ResolveNext {
-            context,
-            lookup: handle,
-        }),
-        "network-error-code" => Some(NetworkErrorCode {
-            context,
-            error: handle,
-        }),
-        "subscribe" => Some(Subscribe { context, handle }),
-        "ready" => Some(Ready {
-            context,
-            pollable: handle,
-        }),
-        "block" => Some(Block {
-            context,
-            pollable: handle,
-        }),
-        "drop" => Some(Drop { context, handle }),
+        "resolve-next" => Some(ResolveNext { lookup: handle }),
+        "network-error-code" => Some(NetworkErrorCode { error: handle }),
+        "subscribe" => Some(Subscribe { handle }),
+        "ready" => Some(Ready { pollable: handle }),
+        "block" => Some(Block { pollable: handle }),
+        "drop" => Some(Drop { handle }),
         _ => None,
     }
 }
 
-/// The step of this word, which takes a handle alone and is no socket's.
+/// The call of this word, which takes a handle alone and is no socket's.
 #[tactic(auto, unfolding(world_text::specs::Fields::read_then, world_text::specs::Fields::give, world_text::specs::Fields::give_some))]
-fn output_handle_step(context: u32, word: &str, handle: u32) -> Option<Step>
-    ensures { ReadsNumber 4294967295 (rows_of (output_handle_steps context ++ other_handle_steps
-        context)) word.now handle result }
+fn output_handle_call(word: &str, handle: u32) -> Option<GuestCall>
+    ensures { ReadsNumber 4294967295 (rows_of (output_handle_calls ++ other_handle_calls)) word.now handle result }
 {
-    use Step::*;
+    use GuestCall::*;
     let output = handle;
     match word {
-        "pipe-contents" => Some(PipeContents { context, output }),
-        "check-write" => Some(CheckWrite { context, output }),
-        "flush" => Some(Flush { context, output }),
-        "blocking-flush" => Some(BlockingFlush { context, output }),
-        _ => other_handle_step(context, word, handle),
+        "pipe-contents" => Some(PipeContents { output }),
+        "check-write" => Some(CheckWrite { output }),
+        "flush" => Some(Flush { output }),
+        "blocking-flush" => Some(BlockingFlush { output }),
+        _ => other_handle_call(word, handle),
     }
 }
 
-/// The step of this word, which takes a handle alone and is no TCP socket's.
+/// The call of this word, which takes a handle alone and is no TCP socket's.
 #[tactic(auto, unfolding(world_text::specs::Fields::read_then, world_text::specs::Fields::give, world_text::specs::Fields::give_some))]
-fn udp_handle_step(context: u32, word: &str, handle: u32) -> Option<Step>
-    ensures { ReadsNumber 4294967295 (rows_of (udp_handle_steps context ++ output_handle_steps
-        context ++ other_handle_steps context)) word.now handle result }
+fn udp_handle_call(word: &str, handle: u32) -> Option<GuestCall>
+    ensures { ReadsNumber 4294967295 (rows_of (udp_handle_calls ++ output_handle_calls ++ other_handle_calls)) word.now handle result }
 {
-    use Step::*;
+    use GuestCall::*;
     let socket = handle;
     match word {
-        "udp-finish-bind" => Some(UdpFinishBind { context, socket }),
-        "udp-local-address" => Some(UdpLocalAddress { context, socket }),
-        "udp-remote-address" => Some(UdpRemoteAddress { context, socket }),
-        "udp-address-family" => Some(UdpAddressFamily { context, socket }),
-        "udp-check-send" => Some(UdpCheckSend {
-            context,
-            outgoing: handle,
-        }),
-        _ => output_handle_step(context, word, handle),
+        "udp-finish-bind" => Some(UdpFinishBind { socket }),
+        "udp-local-address" => Some(UdpLocalAddress { socket }),
+        "udp-remote-address" => Some(UdpRemoteAddress { socket }),
+        "udp-address-family" => Some(UdpAddressFamily { socket }),
+        "udp-check-send" => Some(UdpCheckSend { outgoing: handle }),
+        _ => output_handle_call(word, handle),
     }
 }
 
-/// The step of this word, which takes a handle alone; `None` where no step does.
+/// The call of this word, which takes a handle alone; `None` where no call does.
 #[tactic(auto, unfolding(world_text::specs::Fields::read_then, world_text::specs::Fields::give, world_text::specs::Fields::give_some))]
-pub(crate) fn handle_step(context: u32, word: &str, handle: u32) -> Option<Step>
-    ensures { ReadsNumber 4294967295 (rows_of (handle_steps context)) word.now handle result }
+pub(crate) fn handle_call(word: &str, handle: u32) -> Option<GuestCall>
+    ensures { ReadsNumber 4294967295 (rows_of handle_calls) word.now handle result }
 {
-    use Step::*;
+    use GuestCall::*;
     let socket = handle;
     match word {
-        "tcp-finish-bind" => Some(TcpFinishBind { context, socket }),
-        "tcp-finish-connect" => Some(TcpFinishConnect { context, socket }),
-        "tcp-start-listen" => Some(TcpStartListen { context, socket }),
-        "tcp-finish-listen" => Some(TcpFinishListen { context, socket }),
-        "tcp-accept" => Some(TcpAccept { context, socket }),
-        "tcp-local-address" => Some(TcpLocalAddress { context, socket }),
-        "tcp-remote-address" => Some(TcpRemoteAddress { context, socket }),
-        "tcp-is-listening" => Some(TcpIsListening { context, socket }),
-        "tcp-address-family" => Some(TcpAddressFamily { context, socket }),
-        _ => udp_handle_step(context, word, handle),
+        "tcp-finish-bind" => Some(TcpFinishBind { socket }),
+        "tcp-finish-connect" => Some(TcpFinishConnect { socket }),
+        "tcp-start-listen" => Some(TcpStartListen { socket }),
+        "tcp-finish-listen" => Some(TcpFinishListen { socket }),
+        "tcp-accept" => Some(TcpAccept { socket }),
+        "tcp-local-address" => Some(TcpLocalAddress { socket }),
+        "tcp-remote-address" => Some(TcpRemoteAddress { socket }),
+        "tcp-is-listening" => Some(TcpIsListening { socket }),
+        "tcp-address-family" => Some(TcpAddressFamily { socket }),
+        _ => udp_handle_call(word, handle),
     }
 }

@@ -4,6 +4,7 @@
 
 mod datagram;
 pub mod fields;
+pub mod guest_call;
 mod handle;
 mod handle_list;
 mod memory;
@@ -15,6 +16,7 @@ pub mod step;
 mod stream;
 
 pub use fields::{IntoFields, NoCode};
+pub use guest_call::GuestCall;
 pub use reply::{CodeWord, Field, Reply, ReplyFields};
 pub use setting::{TcpSetting, UdpOption, UdpSetting};
 pub use step::{STEP_FORMS, Step};

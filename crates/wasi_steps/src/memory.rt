@@ -2,13 +2,13 @@
 
 ghost use Rattle.std.specs.Prelude.{IfOk};
 ghost use Rattle.world_text.specs.Fields.{Reads};
-ghost use Rattle.wasi_steps.specs.Steps.{pipe_step, write_step, blocking_write_step, send_step};
-ghost use Rattle.wasi_steps.specs.Steps.{poll_list_step, resolve_step, row_of};
+ghost use Rattle.wasi_steps.specs.Steps.{pipe_call, write_call, blocking_write_call, send_call};
+ghost use Rattle.wasi_steps.specs.Steps.{poll_list_call, resolve_call, row_of};
 
 use crate::datagram::datagrams;
+use crate::guest_call::GuestCall;
 use crate::handle_list::pollables;
 use crate::name::name;
-use crate::step::Step;
 use std::alloc::{AllocError, Global};
 use world_text::Fields;
 
@@ -17,15 +17,14 @@ use world_text::Fields;
 pub(crate) fn pipe_arguments(
     alloc: Global,
     fields: &mut Fields<'_>,
-    context: u32,
-) -> Result<Option<Step>, AllocError>
-    ensures { IfOk result (λ step. Reads (row_of (pipe_step context)).reads fields.old step
+) -> Result<Option<GuestCall>, AllocError>
+    ensures { IfOk result (λ call. Reads (row_of pipe_call).reads fields.old call
         fields.new) }
 {
     let Some(bytes) = fields.octets(alloc)? else {
         return Ok(None);
     };
-    Ok(Some(Step::PipeIn { context, bytes }))
+    Ok(Some(GuestCall::PipeIn { bytes }))
 }
 
 /// Takes the arguments of a write.
@@ -33,9 +32,8 @@ pub(crate) fn pipe_arguments(
 pub(crate) fn write_arguments(
     alloc: Global,
     fields: &mut Fields<'_>,
-    context: u32,
-) -> Result<Option<Step>, AllocError>
-    ensures { IfOk result (λ step. Reads (row_of (write_step context)).reads fields.old step
+) -> Result<Option<GuestCall>, AllocError>
+    ensures { IfOk result (λ call. Reads (row_of write_call).reads fields.old call
         fields.new) }
 {
     let Some(output) = fields.u32() else {
@@ -44,11 +42,7 @@ pub(crate) fn write_arguments(
     let Some(bytes) = fields.octets(alloc)? else {
         return Ok(None);
     };
-    Ok(Some(Step::Write {
-        context,
-        output,
-        bytes,
-    }))
+    Ok(Some(GuestCall::Write { output, bytes }))
 }
 
 /// Takes the arguments of a blocking-write.
@@ -56,10 +50,9 @@ pub(crate) fn write_arguments(
 pub(crate) fn blocking_write_arguments(
     alloc: Global,
     fields: &mut Fields<'_>,
-    context: u32,
-) -> Result<Option<Step>, AllocError>
-    ensures { IfOk result (λ step. Reads (row_of (blocking_write_step context)).reads fields.old
-        step fields.new) }
+) -> Result<Option<GuestCall>, AllocError>
+    ensures { IfOk result (λ call. Reads (row_of blocking_write_call).reads fields.old
+        call fields.new) }
 {
     let Some(output) = fields.u32() else {
         return Ok(None);
@@ -67,11 +60,7 @@ pub(crate) fn blocking_write_arguments(
     let Some(bytes) = fields.octets(alloc)? else {
         return Ok(None);
     };
-    Ok(Some(Step::BlockingWrite {
-        context,
-        output,
-        bytes,
-    }))
+    Ok(Some(GuestCall::BlockingWrite { output, bytes }))
 }
 
 /// Takes the arguments of a send.
@@ -79,9 +68,8 @@ pub(crate) fn blocking_write_arguments(
 pub(crate) fn send_arguments(
     alloc: Global,
     fields: &mut Fields<'_>,
-    context: u32,
-) -> Result<Option<Step>, AllocError>
-    ensures { IfOk result (λ step. Reads (row_of (send_step context)).reads fields.old step
+) -> Result<Option<GuestCall>, AllocError>
+    ensures { IfOk result (λ call. Reads (row_of send_call).reads fields.old call
         fields.new) }
 {
     let Some(outgoing) = fields.u32() else {
@@ -90,8 +78,7 @@ pub(crate) fn send_arguments(
     let Some(datagrams) = datagrams(alloc, fields)? else {
         return Ok(None);
     };
-    Ok(Some(Step::UdpSend {
-        context,
+    Ok(Some(GuestCall::UdpSend {
         outgoing,
         datagrams,
     }))
@@ -102,15 +89,14 @@ pub(crate) fn send_arguments(
 pub(crate) fn poll_list_arguments(
     alloc: Global,
     fields: &mut Fields<'_>,
-    context: u32,
-) -> Result<Option<Step>, AllocError>
-    ensures { IfOk result (λ step. Reads (row_of (poll_list_step context)).reads fields.old step
+) -> Result<Option<GuestCall>, AllocError>
+    ensures { IfOk result (λ call. Reads (row_of poll_list_call).reads fields.old call
         fields.new) }
 {
     let Some(pollables) = pollables(alloc, fields)? else {
         return Ok(None);
     };
-    Ok(Some(Step::PollList { context, pollables }))
+    Ok(Some(GuestCall::PollList { pollables }))
 }
 
 /// Takes the arguments of a resolve.
@@ -118,9 +104,8 @@ pub(crate) fn poll_list_arguments(
 pub(crate) fn resolve_arguments(
     alloc: Global,
     fields: &mut Fields<'_>,
-    context: u32,
-) -> Result<Option<Step>, AllocError>
-    ensures { IfOk result (λ step. Reads (row_of (resolve_step context)).reads fields.old step
+) -> Result<Option<GuestCall>, AllocError>
+    ensures { IfOk result (λ call. Reads (row_of resolve_call).reads fields.old call
         fields.new) }
 {
     let Some(network) = fields.u32() else {
@@ -129,9 +114,5 @@ pub(crate) fn resolve_arguments(
     let Some(name) = name(alloc, fields)? else {
         return Ok(None);
     };
-    Ok(Some(Step::Resolve {
-        context,
-        network,
-        name,
-    }))
+    Ok(Some(GuestCall::Resolve { network, name }))
 }

@@ -9,12 +9,13 @@ ghost use Rattle.wasi_steps.specs.Names.{IsText};
 ghost use Rattle.wasi_steps.specs.Settings.{ReadsNumber, ReadsAfter, option_at, wide_words};
 ghost use Rattle.wasi_steps.specs.Settings.{setting_words, setting_at, udp_option_at};
 ghost use Rattle.wasi_steps.specs.Settings.{udp_setting_at};
-ghost use Rattle.wasi_steps.specs.Steps.{line_of, IsStep, steps, plain_steps, value_steps};
-ghost use Rattle.wasi_steps.specs.Steps.{tcp_value_steps, udp_value_steps, input_value_steps};
-ghost use Rattle.wasi_steps.specs.Steps.{output_value_steps, handle_steps, bare_steps, rows_of};
-ghost use Rattle.wasi_steps.specs.Steps.{guest_call_at, step_reader, step_of, takes_a_name};
+ghost use Rattle.wasi_steps.specs.Steps.{line_of, IsStep, guest_calls, plain_calls, value_calls};
+ghost use Rattle.wasi_steps.specs.Steps.{tcp_value_calls, udp_value_calls, input_value_calls};
+ghost use Rattle.wasi_steps.specs.Steps.{output_value_calls, handle_calls, bare_rows, rows_of};
+ghost use Rattle.wasi_steps.specs.Steps.{call_at, guest_call_at, step_reader, step_of, takes_a_name};
 
 use crate::datagram::remote;
+use crate::guest_call::GuestCall;
 use crate::memory::{
     blocking_write_arguments, pipe_arguments, poll_list_arguments, resolve_arguments,
     send_arguments, write_arguments,
@@ -124,145 +125,142 @@ fn udp_setting(fields: &mut Fields<'_>) -> Option<UdpSetting>
     }
 }
 
-/// Takes what follows the handle of a step word: more arguments where the word is a UDP socket's or
+/// Takes what follows the handle of a call: more arguments where the word is a UDP socket's or
 /// a stream's and takes them, else nothing.
 #[tactic(auto, unfolding(world_text::specs::Fields::read_then, world_text::specs::Fields::give, world_text::specs::Fields::give_some))]
-fn udp_arguments(fields: &mut Fields<'_>, context: u32, word: &str, handle: u32) -> Option<Step>
-    ensures { ReadsAfter 4294967295 (rows_of (udp_value_steps context ++ input_value_steps context
-        ++ output_value_steps context ++ handle_steps context)) word.now handle fields.old result
+fn udp_arguments(fields: &mut Fields<'_>, word: &str, handle: u32) -> Option<GuestCall>
+    ensures { ReadsAfter 4294967295 (rows_of (udp_value_calls ++ input_value_calls
+        ++ output_value_calls ++ handle_calls)) word.now handle fields.old result
         fields.new }
 {
     match word {
-        "udp-start-bind" => Some(Step::UdpStartBind {
-            context,
+        "udp-start-bind" => Some(GuestCall::UdpStartBind {
             socket: handle,
             network: fields.u32()?,
             addr: fields.socket_address()?,
         }),
-        "udp-get" => Some(Step::UdpGet {
-            context,
+        "udp-get" => Some(GuestCall::UdpGet {
             socket: handle,
             option: udp_option(fields)?,
         }),
-        "udp-set" => Some(Step::UdpSet {
-            context,
+        "udp-set" => Some(GuestCall::UdpSet {
             socket: handle,
             setting: udp_setting(fields)?,
         }),
-        "udp-stream" => Some(Step::UdpStream {
-            context,
+        "udp-stream" => Some(GuestCall::UdpStream {
             socket: handle,
             remote: remote(fields)?,
         }),
-        "udp-receive" => Some(Step::UdpReceive {
-            context,
+        "udp-receive" => Some(GuestCall::UdpReceive {
             incoming: handle,
             max_results: fields.number(u64::MAX)?,
         }),
-        _ => stream_arguments(fields, context, word, handle),
+        _ => stream_arguments(fields, word, handle),
     }
 }
 
-/// Takes what follows the handle of a step word: more arguments where the word is a socket's or a
+/// Takes what follows the handle of a call: more arguments where the word is a socket's or a
 /// stream's and takes them, else nothing.
 #[tactic(auto, unfolding(world_text::specs::Fields::read_then, world_text::specs::Fields::give, world_text::specs::Fields::give_some))]
-fn tcp_arguments(fields: &mut Fields<'_>, context: u32, word: &str, handle: u32) -> Option<Step>
-    ensures { ReadsAfter 4294967295 (rows_of (value_steps context ++ handle_steps context)) word.now
+fn tcp_arguments(fields: &mut Fields<'_>, word: &str, handle: u32) -> Option<GuestCall>
+    ensures { ReadsAfter 4294967295 (rows_of (value_calls ++ handle_calls)) word.now
         handle fields.old result fields.new }
 {
     match word {
-        "tcp-start-bind" => Some(Step::TcpStartBind {
-            context,
+        "tcp-start-bind" => Some(GuestCall::TcpStartBind {
             socket: handle,
             network: fields.u32()?,
             addr: fields.socket_address()?,
         }),
-        "tcp-start-connect" => Some(Step::TcpStartConnect {
-            context,
+        "tcp-start-connect" => Some(GuestCall::TcpStartConnect {
             socket: handle,
             network: fields.u32()?,
             addr: fields.socket_address()?,
         }),
-        "tcp-get" => Some(Step::TcpGet {
-            context,
+        "tcp-get" => Some(GuestCall::TcpGet {
             socket: handle,
             option: option(fields)?,
         }),
-        "tcp-set" => Some(Step::TcpSet {
-            context,
+        "tcp-set" => Some(GuestCall::TcpSet {
             socket: handle,
             setting: setting(fields)?,
         }),
-        "tcp-shutdown" => Some(Step::TcpShutdown {
-            context,
+        "tcp-shutdown" => Some(GuestCall::TcpShutdown {
             socket: handle,
             how: shutdown_type(fields)?,
         }),
-        _ => udp_arguments(fields, context, word, handle),
+        _ => udp_arguments(fields, word, handle),
     }
 }
 
-/// Takes the arguments of a step word whose first one is a handle: that alone, or more after it.
+/// Takes the arguments of a call whose first one is a handle: that alone, or more after it.
 #[tactic(auto, unfolding(world_text::specs::Fields::read_then, world_text::specs::Fields::give, world_text::specs::Fields::give_some))]
-fn handle_arguments(fields: &mut Fields<'_>, context: u32, word: &str) -> Option<Step>
-    ensures { Reads (after_word (rows_of (value_steps context ++ handle_steps context)) word.now)
+fn handle_arguments(fields: &mut Fields<'_>, word: &str) -> Option<GuestCall>
+    ensures { Reads (after_word (rows_of (value_calls ++ handle_calls)) word.now)
         fields.old result fields.new }
 {
     let handle = fields.u32()?;
-    tcp_arguments(fields, context, word, handle)
+    tcp_arguments(fields, word, handle)
 }
 
-/// Takes the arguments of a step word, where they take no memory.
+/// Takes the arguments of a call, where they take no memory.
 #[tactic(auto, unfolding(world_text::specs::Fields::read_then, world_text::specs::Fields::give, world_text::specs::Fields::give_some))]
-fn plain_arguments(fields: &mut Fields<'_>, context: u32, word: &str) -> Option<Step>
-    ensures { Reads (after_word (rows_of (plain_steps context)) word.now) fields.old result
+fn plain_arguments(fields: &mut Fields<'_>, word: &str) -> Option<GuestCall>
+    ensures { Reads (after_word (rows_of plain_calls) word.now) fields.old result
         fields.new }
 {
     match word {
-        "network" => Some(Step::Network { context }),
-        "tcp-create" => Some(Step::TcpCreate {
-            context,
+        "network" => Some(GuestCall::Network),
+        "tcp-create" => Some(GuestCall::TcpCreate {
             family: fields.family()?,
         }),
-        "udp-create" => Some(Step::UdpCreate {
-            context,
+        "udp-create" => Some(GuestCall::UdpCreate {
             family: fields.family()?,
         }),
-        "pipe-out" => Some(Step::PipeOut {
-            context,
+        "pipe-out" => Some(GuestCall::PipeOut {
             capacity: fields.number(65536)? as u32,
         }),
-        "sink" => Some(Step::Sink { context }),
-        "closed-in" => Some(Step::ClosedIn { context }),
-        "closed-out" => Some(Step::ClosedOut { context }),
-        _ => handle_arguments(fields, context, word),
+        "sink" => Some(GuestCall::Sink),
+        "closed-in" => Some(GuestCall::ClosedIn),
+        "closed-out" => Some(GuestCall::ClosedOut),
+        _ => handle_arguments(fields, word),
     }
 }
 
-/// Takes the arguments of a step word.
+/// Takes the arguments of a call.
 fn arguments(
     alloc: Global,
     fields: &mut Fields<'_>,
-    context: u32,
     word: &str,
-) -> Result<Option<Step>, AllocError>
-    ensures { IfOk result (λ step. Reads (after_word (rows_of (steps context)) word.now) fields.old
-        step fields.new) }
+) -> Result<Option<GuestCall>, AllocError>
+    ensures { IfOk result (λ call. Reads (after_word (rows_of guest_calls) word.now) fields.old
+        call fields.new) }
 {
     match word {
-        "pipe-in" => pipe_arguments(alloc, fields, context),
-        "write" => write_arguments(alloc, fields, context),
-        "blocking-write" => blocking_write_arguments(alloc, fields, context),
-        "udp-send" => send_arguments(alloc, fields, context),
-        "poll-list" => poll_list_arguments(alloc, fields, context),
-        "resolve" => resolve_arguments(alloc, fields, context),
-        _ => Ok(plain_arguments(fields, context, word)),
+        "pipe-in" => pipe_arguments(alloc, fields),
+        "write" => write_arguments(alloc, fields),
+        "blocking-write" => blocking_write_arguments(alloc, fields),
+        "udp-send" => send_arguments(alloc, fields),
+        "poll-list" => poll_list_arguments(alloc, fields),
+        "resolve" => resolve_arguments(alloc, fields),
+        _ => Ok(plain_arguments(fields, word)),
     }
 }
 
+/// Takes a guest call.
+#[tactic(auto, unfolding(crate::specs::Steps::call_at, world_text::specs::Fields::read_then))]
+fn guest_call(alloc: Global, fields: &mut Fields<'_>) -> Result<Option<GuestCall>, AllocError>
+    ensures { IfOk result (λ call. Reads call_at fields.old call fields.new) }
+{
+    let Some(word) = fields.word() else {
+        return Ok(None);
+    };
+    arguments(alloc, fields, word)
+}
+
 /// Takes the guest call of this context, if it is one of so many.
-#[tactic(auto, unfolding(crate::specs::Steps::guest_call_at, world_text::specs::Fields::read_then, world_text::specs::Fields::give_some))]
-fn guest_call(
+#[tactic(auto, unfolding(crate::specs::Steps::guest_call_at, world_text::specs::Fields::read_then, world_text::specs::Fields::give, world_text::specs::Fields::give_some))]
+fn call_of(
     alloc: Global,
     fields: &mut Fields<'_>,
     context: u32,
@@ -274,24 +272,24 @@ fn guest_call(
     if context >= contexts {
         return Ok(None);
     }
-    let Some(word) = fields.word() else {
+    let Some(call) = guest_call(alloc, fields)? else {
         return Ok(None);
     };
-    arguments(alloc, fields, context, word)
+    Ok(Some(Step::Call { context, call }))
 }
 
 /// Takes the arguments of a step word that no context's number comes before.
 #[tactic(auto, unfolding(world_text::specs::Fields::read_then, world_text::specs::Fields::give))]
 fn bare_arguments(fields: &mut Fields<'_>, word: &str) -> Option<Step>
-    ensures { Reads (after_word (rows_of bare_steps) word.now) fields.old result fields.new }
+    ensures { Reads (after_word bare_rows word.now) fields.old result fields.new }
 {
     match word {
         "turn" => Some(Step::Turn),
         "poll" => Some(Step::Poll {
-            call: fields.u32()?,
+            line: fields.u32()?,
         }),
         "cancel" => Some(Step::Cancel {
-            call: fields.u32()?,
+            line: fields.u32()?,
         }),
         _ => None,
     }
@@ -313,7 +311,7 @@ fn step(alloc: Global, fields: &mut Fields<'_>, contexts: u32) -> Result<Option<
         return Ok(None);
     };
     match context_number(first) {
-        Some(context) => guest_call(alloc, fields, context, contexts),
+        Some(context) => call_of(alloc, fields, context, contexts),
         None => Ok(bare_arguments(fields, first)),
     }
 }

@@ -1,342 +1,32 @@
 //! The steps of a script, and the forms of their lines.
 
-ghost use Rattle.std.specs.Prelude.{◌≡◌, true, ◌==◌, count_by, length, ◌++◌};
+ghost use Rattle.std.specs.Prelude.{◌≡◌, true, ◌==◌, count_by, length, ◌+◌};
 ghost use Rattle.wasi_steps.specs.declared.step.TheConstants.{STEP_FORMS};
 ghost use Rattle.wasi_steps.specs.declared.step.Step.{Step};
 ghost use Rattle.wasi_steps.specs.Forms.{has_form};
-ghost use Rattle.wasi_steps.specs.Steps.{steps, bare_steps, context_of};
+ghost use Rattle.wasi_steps.specs.Steps.{guest_calls, bare_signatures, context_of};
 
-use crate::setting::{TcpSetting, UdpOption, UdpSetting};
-use wasi_addr::{IpSocketAddress, ShutdownType, SocketAddressFamily};
-use wasi_world::{Handle, NameText, NumberList, Octets, Opt, OutgoingDatagrams};
+use crate::guest_call::GuestCall;
 
-/// One step of a script: a guest call with the number of the context that makes it, or a step that
-/// no context makes.
+/// One step of a script: a call of a guest, or a step that no guest makes.
 #[derive(Drop)]
 pub enum Step {
-    /// Makes a handle of the network (`instance-network`).
-    Network {
+    /// A call of a guest.
+    Call {
+        /// The number of the context that makes it.
         context: u32,
-    },
-    /// Makes a TCP socket of this family (`create-tcp-socket`).
-    TcpCreate {
-        context: u32,
-        family: SocketAddressFamily,
-    },
-    /// Begins to bind the socket to the address (`start-bind`).
-    TcpStartBind {
-        context: u32,
-        socket: Handle,
-        network: Handle,
-        addr: IpSocketAddress,
-    },
-    /// Ends a bind that was begun (`finish-bind`).
-    TcpFinishBind {
-        context: u32,
-        socket: Handle,
-    },
-    /// Begins to connect the socket to the address (`start-connect`).
-    TcpStartConnect {
-        context: u32,
-        socket: Handle,
-        network: Handle,
-        addr: IpSocketAddress,
-    },
-    /// Polls a connect that was begun, and makes the two streams of the connection
-    /// (`finish-connect`).
-    TcpFinishConnect {
-        context: u32,
-        socket: Handle,
-    },
-    /// Begins to make the socket listen (`start-listen`).
-    TcpStartListen {
-        context: u32,
-        socket: Handle,
-    },
-    /// Ends a listen that was begun (`finish-listen`).
-    TcpFinishListen {
-        context: u32,
-        socket: Handle,
-    },
-    /// Accepts a connection of the listener, and makes its socket and its two streams (`accept`).
-    TcpAccept {
-        context: u32,
-        socket: Handle,
-    },
-    /// The address that the socket is bound to (`local-address`).
-    TcpLocalAddress {
-        context: u32,
-        socket: Handle,
-    },
-    /// The address of the other end of the connection (`remote-address`).
-    TcpRemoteAddress {
-        context: u32,
-        socket: Handle,
-    },
-    /// Whether the socket is listening (`is-listening`).
-    TcpIsListening {
-        context: u32,
-        socket: Handle,
-    },
-    /// The socket's family (`address-family`).
-    TcpAddressFamily {
-        context: u32,
-        socket: Handle,
-    },
-    /// The value of an option of the socket (its getter: `keep-alive-enabled`, and so on).
-    TcpGet {
-        context: u32,
-        socket: Handle,
-        option: Opt,
-    },
-    /// Sets an option of the socket, or its backlog (its setter: `set-keep-alive-enabled`, and so
-    /// on).
-    TcpSet {
-        context: u32,
-        socket: Handle,
-        setting: TcpSetting,
-    },
-    /// Shuts down this half of the connection, or both (`shutdown`).
-    TcpShutdown {
-        context: u32,
-        socket: Handle,
-        how: ShutdownType,
-    },
-    /// Makes a UDP socket of this family (`create-udp-socket`).
-    UdpCreate {
-        context: u32,
-        family: SocketAddressFamily,
-    },
-    /// Begins to bind the UDP socket to the address (`start-bind`).
-    UdpStartBind {
-        context: u32,
-        socket: Handle,
-        network: Handle,
-        addr: IpSocketAddress,
-    },
-    /// Ends a bind of the UDP socket that was begun (`finish-bind`).
-    UdpFinishBind {
-        context: u32,
-        socket: Handle,
-    },
-    /// The address that the UDP socket is bound to (`local-address`).
-    UdpLocalAddress {
-        context: u32,
-        socket: Handle,
-    },
-    /// The one address that the UDP socket sends to and receives from, where there is one
-    /// (`remote-address`).
-    UdpRemoteAddress {
-        context: u32,
-        socket: Handle,
-    },
-    /// The UDP socket's family (`address-family`).
-    UdpAddressFamily {
-        context: u32,
-        socket: Handle,
-    },
-    /// The value of an option of the UDP socket (its getter: `unicast-hop-limit`, and so on).
-    UdpGet {
-        context: u32,
-        socket: Handle,
-        option: UdpOption,
-    },
-    /// Sets an option of the UDP socket (its setter: `set-unicast-hop-limit`, and so on).
-    UdpSet {
-        context: u32,
-        socket: Handle,
-        setting: UdpSetting,
-    },
-    /// Makes the two datagram streams of the UDP socket, which is connected to the address first,
-    /// or else disconnected from where it was connected (`udp-socket.stream`).
-    UdpStream {
-        context: u32,
-        socket: Handle,
-        remote: Option<IpSocketAddress>,
-    },
-    /// Receives at most so many datagrams (`incoming-datagram-stream.receive`).
-    UdpReceive {
-        context: u32,
-        incoming: Handle,
-        max_results: u64,
-    },
-    /// How many datagrams may be sent (`outgoing-datagram-stream.check-send`).
-    UdpCheckSend {
-        context: u32,
-        outgoing: Handle,
-    },
-    /// Sends the datagrams, of which there are no more than was permitted
-    /// (`outgoing-datagram-stream.send`).
-    UdpSend {
-        context: u32,
-        outgoing: Handle,
-        datagrams: OutgoingDatagrams,
-    },
-    /// Begins to look up the addresses of a host name (`resolve-addresses`).
-    Resolve {
-        context: u32,
-        network: Handle,
-        name: NameText,
-    },
-    /// Takes the next address that a lookup found (`resolve-next-address`).
-    ResolveNext {
-        context: u32,
-        lookup: Handle,
-    },
-    /// Makes an input over the bytes; the host's own, as an embedder's `MemoryInputPipe`.
-    PipeIn {
-        context: u32,
-        bytes: Octets,
-    },
-    /// Makes an output that keeps what is written to it; the host's own, as an embedder's
-    /// `MemoryOutputPipe`.
-    PipeOut {
-        context: u32,
-        /// How many bytes it holds, at most 65536.
-        capacity: u32,
-    },
-    /// What was written to an output that [`Step::PipeOut`] made (`MemoryOutputPipe::contents`).
-    PipeContents {
-        context: u32,
-        output: Handle,
-    },
-    /// Makes an output that takes all bytes and keeps none; the host's own, as an embedder's
-    /// `SinkOutputStream`.
-    Sink {
-        context: u32,
-    },
-    /// Makes an input that is closed; the host's own, as an embedder's `ClosedInputStream`.
-    ClosedIn {
-        context: u32,
-    },
-    /// Makes an output that is closed; the host's own, as an embedder's `ClosedOutputStream`.
-    ClosedOut {
-        context: u32,
-    },
-    /// Reads at most so many bytes (`input-stream.read`).
-    Read {
-        context: u32,
-        input: Handle,
-        len: u64,
-    },
-    /// Reads at most so many bytes and gives only how many they were (`input-stream.skip`).
-    Skip {
-        context: u32,
-        input: Handle,
-        len: u64,
-    },
-    /// How many bytes may be written (`output-stream.check-write`).
-    CheckWrite {
-        context: u32,
-        output: Handle,
-    },
-    /// Writes the bytes, of which there are no more than was permitted (`output-stream.write`).
-    Write {
-        context: u32,
-        output: Handle,
-        bytes: Octets,
-    },
-    /// Writes so many zeroes, of which there are no more than was permitted
-    /// (`output-stream.write-zeroes`).
-    WriteZeroes {
-        context: u32,
-        output: Handle,
-        len: u64,
-    },
-    /// Reports a kept error of an output; asks nothing (`output-stream.flush`).
-    Flush {
-        context: u32,
-        output: Handle,
-    },
-    /// Writes to the output at most so many bytes that are read from the input
-    /// (`output-stream.splice`).
-    Splice {
-        context: u32,
-        output: Handle,
-        input: Handle,
-        len: u64,
-    },
-    /// Reads at most this many bytes, once there are bytes to read (`input-stream.blocking-read`).
-    BlockingRead {
-        context: u32,
-        input: Handle,
-        len: u64,
-    },
-    /// Reads at most this many bytes, once there are bytes to read, and gives only how many they
-    /// were (`input-stream.blocking-skip`).
-    BlockingSkip {
-        context: u32,
-        input: Handle,
-        len: u64,
-    },
-    /// Writes all the bytes, of which there are at most 4096, as the output permits them, and
-    /// flushes it (`output-stream.blocking-write-and-flush`).
-    BlockingWrite {
-        context: u32,
-        output: Handle,
-        bytes: Octets,
-    },
-    /// Writes so many zeroes, at most 4096, as the output permits them, and flushes it
-    /// (`output-stream.blocking-write-zeroes-and-flush`).
-    BlockingZeroes {
-        context: u32,
-        output: Handle,
-        len: u64,
-    },
-    /// Flushes the output, until it permits writes again (`output-stream.blocking-flush`).
-    BlockingFlush {
-        context: u32,
-        output: Handle,
-    },
-    /// Writes to the output at most this many bytes that are read from the input, once the output
-    /// permits it and there are bytes to read (`output-stream.blocking-splice`).
-    BlockingSplice {
-        context: u32,
-        output: Handle,
-        input: Handle,
-        len: u64,
-    },
-    /// Waits until what the pollable watches is ready (`pollable.block`).
-    Block {
-        context: u32,
-        pollable: Handle,
-    },
-    /// Waits until what one of the pollables watches is ready (`poll`).
-    PollList {
-        context: u32,
-        pollables: NumberList,
-    },
-    /// The network's code in the error of a stream, which is always `none` in 0.2: the code was
-    /// returned when the stream failed (`network-error-code`).
-    NetworkErrorCode {
-        context: u32,
-        error: Handle,
-    },
-    /// Makes a pollable for what the handle stands for (`subscribe` of the resource).
-    Subscribe {
-        context: u32,
-        handle: Handle,
-    },
-    /// Whether what the pollable watches is ready (`pollable.ready`).
-    Ready {
-        context: u32,
-        pollable: Handle,
-    },
-    /// Drops the handle (`resource drop`).
-    Drop {
-        context: u32,
-        handle: Handle,
+        call: GuestCall,
     },
     /// The host's background work goes on: each write, datagram, receive and lookup in progress is
     /// polled once.
     Turn,
     /// Polls the pending call with this number, that of the line that began it.
     Poll {
-        call: u32,
+        line: u32,
     },
     /// Gives up the pending call with this number, that of the line that began it.
     Cancel {
-        call: u32,
+        line: u32,
     },
 }
 
@@ -347,61 +37,7 @@ impl Step {
         ensures { result ≡ context_of self.now }
     {
         match self {
-            Step::Network { context }
-            | Step::TcpCreate { context, .. }
-            | Step::TcpStartBind { context, .. }
-            | Step::TcpFinishBind { context, .. }
-            | Step::TcpStartConnect { context, .. }
-            | Step::TcpFinishConnect { context, .. }
-            | Step::TcpStartListen { context, .. }
-            | Step::TcpFinishListen { context, .. }
-            | Step::TcpAccept { context, .. }
-            | Step::TcpLocalAddress { context, .. }
-            | Step::TcpRemoteAddress { context, .. }
-            | Step::TcpIsListening { context, .. }
-            | Step::TcpAddressFamily { context, .. }
-            | Step::TcpGet { context, .. }
-            | Step::TcpSet { context, .. }
-            | Step::TcpShutdown { context, .. }
-            | Step::UdpCreate { context, .. }
-            | Step::UdpStartBind { context, .. }
-            | Step::UdpFinishBind { context, .. }
-            | Step::UdpLocalAddress { context, .. }
-            | Step::UdpRemoteAddress { context, .. }
-            | Step::UdpAddressFamily { context, .. }
-            | Step::UdpGet { context, .. }
-            | Step::UdpSet { context, .. }
-            | Step::UdpStream { context, .. }
-            | Step::UdpReceive { context, .. }
-            | Step::UdpCheckSend { context, .. }
-            | Step::UdpSend { context, .. }
-            | Step::Resolve { context, .. }
-            | Step::ResolveNext { context, .. }
-            | Step::PipeIn { context, .. }
-            | Step::PipeOut { context, .. }
-            | Step::PipeContents { context, .. }
-            | Step::Sink { context }
-            | Step::ClosedIn { context }
-            | Step::ClosedOut { context }
-            | Step::Read { context, .. }
-            | Step::Skip { context, .. }
-            | Step::CheckWrite { context, .. }
-            | Step::Write { context, .. }
-            | Step::WriteZeroes { context, .. }
-            | Step::Flush { context, .. }
-            | Step::Splice { context, .. }
-            | Step::BlockingRead { context, .. }
-            | Step::BlockingSkip { context, .. }
-            | Step::BlockingWrite { context, .. }
-            | Step::BlockingZeroes { context, .. }
-            | Step::BlockingFlush { context, .. }
-            | Step::BlockingSplice { context, .. }
-            | Step::Block { context, .. }
-            | Step::PollList { context, .. }
-            | Step::NetworkErrorCode { context, .. }
-            | Step::Subscribe { context, .. }
-            | Step::Ready { context, .. }
-            | Step::Drop { context, .. } => Some(*context),
+            Step::Call { context, .. } => Some(*context),
             Step::Turn | Step::Poll { .. } | Step::Cancel { .. } => None,
         }
     }
@@ -475,5 +111,6 @@ pub const STEP_FORMS: &str = "    0 network                               makes 
 /// - `no_other`: there are no more lines than steps.
 pub fn step_forms_are_of_signatures()
     ensures each { (s : Step) → has_form STEP_FORMS.now s ≡ true }
-    ensures no_other { count_by (λ b. b == 10) STEP_FORMS.now ≡ length (steps 0 ++ bare_steps) }
+    ensures no_other { count_by (λ b. b == 10) STEP_FORMS.now ≡ length guest_calls
+        + length bare_signatures }
 {}

@@ -99,6 +99,7 @@ pub use Rattle.wasi_steps.specs.Reply.{is_trap, no_fields, number_fields, triple
 pub use Rattle.wasi_steps.specs.Settings.{AnOption, Chosen, TheBacklog, chosen}
 pub use Rattle.wasi_steps.specs.declared.reply.Reply.{Reply}
 pub use Rattle.wasi_steps.specs.declared.setting.TcpSetting.{TcpSetting}
+pub use Rattle.wasi_steps.specs.declared.guest_call.GuestCall.{GuestCall}
 pub use Rattle.wasi_steps.specs.declared.step.Step.{Step}
 pub use Rattle.wasi_machine.specs.Machine.{HasRun, asks_while, context_at, context_in, first_ids, is_guest_call, machine_asks, resumed_reply, run}
 pub use Rattle.wasi_machine.specs.Machine.{set_chosen, step_asks}

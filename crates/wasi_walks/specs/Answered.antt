@@ -44,6 +44,7 @@ use Rattle.wasi_records.specs.declared.socket.Streams.{Streams}
 use Rattle.wasi_records.specs.declared.socket.TcpRecord.{TcpRecord}
 use Rattle.wasi_records.specs.declared.udp.OpenUdp.{OpenUdp}
 use Rattle.wasi_steps.specs.declared.step.Step.{Step}
+use Rattle.wasi_steps.specs.declared.guest_call.GuestCall.TheVariants as guest
 use Rattle.wasi_steps.specs.declared.step.Step.TheVariants as step
 use Rattle.wasi_host.specs.declared.kind.Kind.TheVariants as kind
 use Rattle.wasi_steps.specs.Reply.{word_of_p2}
@@ -305,9 +306,9 @@ pub data RemoteRefusal (m : Machine) (own : OpId) (place : ℕ) (r : TcpRecord) 
 
 -- the step asks a socket for what it says without asking the network
 abbrev pub IsQuiet : Step → Type 0
-IsQuiet (step.TcpIsListening ctx socket) = ⊤
-IsQuiet (step.TcpAddressFamily ctx socket) = ⊤
-IsQuiet (step.UdpAddressFamily ctx socket) = ⊤
+IsQuiet (step.Call ctx (guest.TcpIsListening socket)) = ⊤
+IsQuiet (step.Call ctx (guest.TcpAddressFamily socket)) = ⊤
+IsQuiet (step.Call ctx (guest.UdpAddressFamily socket)) = ⊤
 IsQuiet _ = ⊥
 
 -- == reads

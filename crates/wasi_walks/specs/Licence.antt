@@ -29,6 +29,7 @@ use Rattle.wasi_steps.specs.declared.reply.Field.{Field}
 use Rattle.wasi_steps.specs.declared.reply.Reply.{Reply}
 use Rattle.wasi_steps.specs.Reply.{datagram_values}
 use Rattle.wasi_steps.specs.declared.step.Step.{Step}
+use Rattle.wasi_steps.specs.declared.guest_call.GuestCall.TheVariants as guest
 use Rattle.wasi_steps.specs.declared.step.Step.TheVariants as step
 use Rattle.wasi_steps.specs.Settings.{Chosen, AnOption, TheBacklog, chosen, udp_opt, udp_chosen}
 pub use Rattle.wasi_steps.specs.Steps.{handles_of}
@@ -179,7 +180,7 @@ pub record MayUseTcp (contexts : List WasiSocketsCtx) (number name : ℕ) : Type
 
 -- a create of this family, by the context of this name
 abbrev pub IsTcpCreate : List WasiSocketsCtx → ℕ → SocketAddressFamily → Step → Type 0
-IsTcpCreate contexts name family (step.TcpCreate ctx f) = MayUseTcp contexts ctx name × (f ≡ family)
+IsTcpCreate contexts name family (step.Call ctx (guest.TcpCreate f)) = MayUseTcp contexts ctx name × (f ≡ family)
 IsTcpCreate contexts name family _ = ⊥
 
 -- The context of this number has this name, and may use UDP.
@@ -191,7 +192,7 @@ pub record MayUseUdp (contexts : List WasiSocketsCtx) (number name : ℕ) : Type
 
 -- a create of a UDP socket of this family, by the context of this name
 abbrev pub IsUdpCreate : List WasiSocketsCtx → ℕ → SocketAddressFamily → Step → Type 0
-IsUdpCreate contexts name family (step.UdpCreate ctx f) = MayUseUdp contexts ctx name × (f ≡ family)
+IsUdpCreate contexts name family (step.Call ctx (guest.UdpCreate f)) = MayUseUdp contexts ctx name × (f ≡ family)
 IsUdpCreate contexts name family _ = ⊥
 
 -- The context of this number may look names up.
@@ -202,45 +203,45 @@ pub record MayLookUp (contexts : List WasiSocketsCtx) (number : ℕ) : Type 0 wh
 
 -- a lookup of a name, which is this domain, by a context that may look names up
 abbrev pub IsLookupOf : List WasiSocketsCtx → List ℕ → Step → Type 0
-IsLookupOf contexts host (step.Resolve ctx network name) = MayLookUp contexts ctx × (name_is name ≡ Some (Domain host))
+IsLookupOf contexts host (step.Call ctx (guest.Resolve network name)) = MayLookUp contexts ctx × (name_is name ≡ Some (Domain host))
 IsLookupOf contexts host _ = ⊥
 
 -- a create of a TCP socket
 abbrev pub MakesTcp : Step → Type 0
-MakesTcp (step.TcpCreate ctx family) = ⊤
+MakesTcp (step.Call ctx (guest.TcpCreate family)) = ⊤
 MakesTcp _ = ⊥
 
 -- a create of a UDP socket
 abbrev pub MakesUdp : Step → Type 0
-MakesUdp (step.UdpCreate ctx family) = ⊤
+MakesUdp (step.Call ctx (guest.UdpCreate family)) = ⊤
 MakesUdp _ = ⊥
 
 -- a bind of a UDP socket to this address
 abbrev pub IsUdpBindTo : IpSocketAddress → Step → Type 0
-IsUdpBindTo addr (step.UdpStartBind ctx socket network a) = a ≡ addr
+IsUdpBindTo addr (step.Call ctx (guest.UdpStartBind socket network a)) = a ≡ addr
 IsUdpBindTo addr _ = ⊥
 
 -- datagram streams that are made with a connect to this address
 abbrev pub IsUdpConnectTo : IpSocketAddress → Step → Type 0
-IsUdpConnectTo addr (step.UdpStream ctx socket remote) = remote ≡ Some addr
+IsUdpConnectTo addr (step.Call ctx (guest.UdpStream socket remote)) = remote ≡ Some addr
 IsUdpConnectTo addr _ = ⊥
 
 -- datagram streams that are made without an address: a socket that is connected is disconnected
 abbrev pub IsDisconnect : Step → Type 0
-IsDisconnect (step.UdpStream ctx socket None) = ⊤
+IsDisconnect (step.Call ctx (guest.UdpStream socket None)) = ⊤
 IsDisconnect _ = ⊥
 
 -- datagrams are received, or pollables are looked at, by which a receive may begin too
 abbrev pub Receives : Step → Type 0
-Receives (step.UdpReceive ctx incoming most) = ⊤
-Receives (step.Ready ctx pollable) = ⊤
-Receives (step.Block ctx pollable) = ⊤
-Receives (step.PollList ctx pollables) = ⊤
+Receives (step.Call ctx (guest.UdpReceive incoming most)) = ⊤
+Receives (step.Call ctx (guest.Ready pollable)) = ⊤
+Receives (step.Call ctx (guest.Block pollable)) = ⊤
+Receives (step.Call ctx (guest.PollList pollables)) = ⊤
 Receives _ = ⊥
 
 -- the datagram streams of the UDP socket of this handle are made
 abbrev pub IsStreamOf : ℕ → Step → Type 0
-IsStreamOf handle (step.UdpStream ctx socket remote) = socket ≡ handle
+IsStreamOf handle (step.Call ctx (guest.UdpStream socket remote)) = socket ≡ handle
 IsStreamOf handle _ = ⊥
 
 -- the datagram of this part, counted from 1, is this one
@@ -252,7 +253,7 @@ IsItem (suc (suc n)) d (x ∷ ds) = IsItem (suc n) d ds
 
 -- a send of datagrams, of which this is the one of this part
 abbrev pub IsSendOf : ℕ → OutgoingDatagram → Step → Type 0
-IsSendOf part d (step.UdpSend ctx outgoing ds) = IsItem part d ds
+IsSendOf part d (step.Call ctx (guest.UdpSend outgoing ds)) = IsItem part d ds
 IsSendOf part d _ = ⊥
 
 -- It is the datagram of the operation's part in its step, with these bytes, and goes to this address.
@@ -264,23 +265,23 @@ pub record SendsItem (before : List Entry) (op side : OpId) (addr : IpSocketAddr
 
 -- a bind of a TCP socket to this address
 abbrev pub IsBindTo : IpSocketAddress → Step → Type 0
-IsBindTo addr (step.TcpStartBind ctx socket network a) = a ≡ addr
+IsBindTo addr (step.Call ctx (guest.TcpStartBind socket network a)) = a ≡ addr
 IsBindTo addr _ = ⊥
 
 -- a connect to this address
 abbrev pub IsConnectTo : IpSocketAddress → Step → Type 0
-IsConnectTo addr (step.TcpStartConnect ctx socket network a) = a ≡ addr
+IsConnectTo addr (step.Call ctx (guest.TcpStartConnect socket network a)) = a ≡ addr
 IsConnectTo addr _ = ⊥
 
 -- a listen
 abbrev pub IsListenStep : Step → Type 0
-IsListenStep (step.TcpStartListen ctx socket) = ⊤
+IsListenStep (step.Call ctx (guest.TcpStartListen socket)) = ⊤
 IsListenStep _ = ⊥
 
 -- a get of this option
 abbrev pub IsGetOf : Opt → Step → Type 0
-IsGetOf option (step.TcpGet ctx socket o) = o ≡ option
-IsGetOf option (step.UdpGet ctx socket o) = udp_opt o ≡ option
+IsGetOf option (step.Call ctx (guest.TcpGet socket o)) = o ≡ option
+IsGetOf option (step.Call ctx (guest.UdpGet socket o)) = udp_opt o ≡ option
 IsGetOf option _ = ⊥
 
 -- what is set is this option, and its value, brought into the option's range, is this
@@ -289,8 +290,8 @@ SetsOption option value (AnOption o n) = (o ≡ option) × (value ≡ value_set 
 SetsOption option value (TheBacklog n) = ⊥
 
 abbrev pub IsSetTo : Opt → ℕ → Step → Type 0
-IsSetTo option value (step.TcpSet ctx socket setting) = SetsOption option value (chosen setting)
-IsSetTo option value (step.UdpSet ctx socket setting) = SetsOption option value (AnOption (udp_chosen setting).0 (udp_chosen setting).1)
+IsSetTo option value (step.Call ctx (guest.TcpSet socket setting)) = SetsOption option value (chosen setting)
+IsSetTo option value (step.Call ctx (guest.UdpSet socket setting)) = SetsOption option value (AnOption (udp_chosen setting).0 (udp_chosen setting).1)
 IsSetTo option value _ = ⊥
 
 -- what is set is the backlog, which is this, brought into its range
@@ -299,7 +300,7 @@ SetsBacklog backlog (AnOption o n) = ⊥
 SetsBacklog backlog (TheBacklog n) = backlog ≡ clamped_backlog n
 
 abbrev pub IsBacklogSet : ℕ → Step → Type 0
-IsBacklogSet backlog (step.TcpSet ctx socket setting) = SetsBacklog backlog (chosen setting)
+IsBacklogSet backlog (step.Call ctx (guest.TcpSet socket setting)) = SetsBacklog backlog (chosen setting)
 IsBacklogSet backlog _ = ⊥
 
 -- its parent is this handle, of whose network socket it is
@@ -375,34 +376,34 @@ IsErrorMark before op kind stream parent sock = (kind ≡ ErrorValue) × IsOfPar
 -- socket that was created has its own, one that was accepted has what was handed over, a lookup has none, and the two streams of a
 -- connection or of a UDP socket, an error and a pollable are of their parent's; no other step makes a handle
 abbrev pub IsMarkOf : List Entry → OpId → HandleKind → Option ℕ → Option OpId → Step → Type 0
-IsMarkOf before op kind parent sock (step.Network ctx) = (kind ≡ Network) × (parent ≡ None) × (sock ≡ None)
-IsMarkOf before op kind parent sock (step.TcpCreate ctx family) =
+IsMarkOf before op kind parent sock (step.Call ctx guest.Network) = (kind ≡ Network) × (parent ≡ None) × (sock ≡ None)
+IsMarkOf before op kind parent sock (step.Call ctx (guest.TcpCreate family)) =
     (kind ≡ Tcp2) × (parent ≡ None) × (sock ≡ Some op) × ((name : ℕ) × (f : SocketAddressFamily) × Has before (entry op (TcpCreate name f) Done))
-IsMarkOf before op kind parent sock (step.UdpCreate ctx family) =
+IsMarkOf before op kind parent sock (step.Call ctx (guest.UdpCreate family)) =
     (kind ≡ Udp2) × (parent ≡ None) × (sock ≡ Some op) × ((name : ℕ) × (f : SocketAddressFamily) × Has before (entry op (UdpCreate name f) Done))
-IsMarkOf before op kind parent sock (step.TcpFinishConnect ctx socket) = ((kind ≡ Input) ⊎ (kind ≡ Output)) × IsOfParent before socket parent sock
-IsMarkOf before op kind parent sock (step.TcpAccept ctx socket) = IsAcceptedMark before op socket kind parent sock ⊎ IsStreamMark before op kind parent sock
-IsMarkOf before op kind parent sock (step.UdpStream ctx socket remote) = ((kind ≡ Incoming) ⊎ (kind ≡ Outgoing)) × IsOfParent before socket parent sock
-IsMarkOf before op kind parent sock (step.PipeIn ctx bytes) = IsPlainMark Input kind parent sock
-IsMarkOf before op kind parent sock (step.PipeOut ctx capacity) = IsPlainMark Output kind parent sock
-IsMarkOf before op kind parent sock (step.Sink ctx) = IsPlainMark Output kind parent sock
-IsMarkOf before op kind parent sock (step.ClosedIn ctx) = IsPlainMark Input kind parent sock
-IsMarkOf before op kind parent sock (step.ClosedOut ctx) = IsPlainMark Output kind parent sock
-IsMarkOf before op kind parent sock (step.Read ctx input len) = IsErrorMark before op kind input parent sock
-IsMarkOf before op kind parent sock (step.Skip ctx input len) = IsErrorMark before op kind input parent sock
-IsMarkOf before op kind parent sock (step.BlockingRead ctx input len) = IsErrorMark before op kind input parent sock
-IsMarkOf before op kind parent sock (step.BlockingSkip ctx input len) = IsErrorMark before op kind input parent sock
-IsMarkOf before op kind parent sock (step.CheckWrite ctx output) = IsErrorMark before op kind output parent sock
-IsMarkOf before op kind parent sock (step.Write ctx output bytes) = IsErrorMark before op kind output parent sock
-IsMarkOf before op kind parent sock (step.WriteZeroes ctx output len) = IsErrorMark before op kind output parent sock
-IsMarkOf before op kind parent sock (step.Flush ctx output) = IsErrorMark before op kind output parent sock
-IsMarkOf before op kind parent sock (step.BlockingWrite ctx output bytes) = IsErrorMark before op kind output parent sock
-IsMarkOf before op kind parent sock (step.BlockingZeroes ctx output len) = IsErrorMark before op kind output parent sock
-IsMarkOf before op kind parent sock (step.BlockingFlush ctx output) = IsErrorMark before op kind output parent sock
-IsMarkOf before op kind parent sock (step.Splice ctx output input len) = IsErrorMark before op kind output parent sock ⊎ IsErrorMark before op kind input parent sock
-IsMarkOf before op kind parent sock (step.BlockingSplice ctx output input len) = IsErrorMark before op kind output parent sock ⊎ IsErrorMark before op kind input parent sock
-IsMarkOf before op kind parent sock (step.Resolve ctx network name) = (kind ≡ handle_kind.Lookup) × (parent ≡ Some network) × (sock ≡ None)
-IsMarkOf before op kind parent sock (step.Subscribe ctx handle) = (kind ≡ Pollable) × IsOfParent before handle parent sock
+IsMarkOf before op kind parent sock (step.Call ctx (guest.TcpFinishConnect socket)) = ((kind ≡ Input) ⊎ (kind ≡ Output)) × IsOfParent before socket parent sock
+IsMarkOf before op kind parent sock (step.Call ctx (guest.TcpAccept socket)) = IsAcceptedMark before op socket kind parent sock ⊎ IsStreamMark before op kind parent sock
+IsMarkOf before op kind parent sock (step.Call ctx (guest.UdpStream socket remote)) = ((kind ≡ Incoming) ⊎ (kind ≡ Outgoing)) × IsOfParent before socket parent sock
+IsMarkOf before op kind parent sock (step.Call ctx (guest.PipeIn bytes)) = IsPlainMark Input kind parent sock
+IsMarkOf before op kind parent sock (step.Call ctx (guest.PipeOut capacity)) = IsPlainMark Output kind parent sock
+IsMarkOf before op kind parent sock (step.Call ctx guest.Sink) = IsPlainMark Output kind parent sock
+IsMarkOf before op kind parent sock (step.Call ctx guest.ClosedIn) = IsPlainMark Input kind parent sock
+IsMarkOf before op kind parent sock (step.Call ctx guest.ClosedOut) = IsPlainMark Output kind parent sock
+IsMarkOf before op kind parent sock (step.Call ctx (guest.Read input len)) = IsErrorMark before op kind input parent sock
+IsMarkOf before op kind parent sock (step.Call ctx (guest.Skip input len)) = IsErrorMark before op kind input parent sock
+IsMarkOf before op kind parent sock (step.Call ctx (guest.BlockingRead input len)) = IsErrorMark before op kind input parent sock
+IsMarkOf before op kind parent sock (step.Call ctx (guest.BlockingSkip input len)) = IsErrorMark before op kind input parent sock
+IsMarkOf before op kind parent sock (step.Call ctx (guest.CheckWrite output)) = IsErrorMark before op kind output parent sock
+IsMarkOf before op kind parent sock (step.Call ctx (guest.Write output bytes)) = IsErrorMark before op kind output parent sock
+IsMarkOf before op kind parent sock (step.Call ctx (guest.WriteZeroes output len)) = IsErrorMark before op kind output parent sock
+IsMarkOf before op kind parent sock (step.Call ctx (guest.Flush output)) = IsErrorMark before op kind output parent sock
+IsMarkOf before op kind parent sock (step.Call ctx (guest.BlockingWrite output bytes)) = IsErrorMark before op kind output parent sock
+IsMarkOf before op kind parent sock (step.Call ctx (guest.BlockingZeroes output len)) = IsErrorMark before op kind output parent sock
+IsMarkOf before op kind parent sock (step.Call ctx (guest.BlockingFlush output)) = IsErrorMark before op kind output parent sock
+IsMarkOf before op kind parent sock (step.Call ctx (guest.Splice output input len)) = IsErrorMark before op kind output parent sock ⊎ IsErrorMark before op kind input parent sock
+IsMarkOf before op kind parent sock (step.Call ctx (guest.BlockingSplice output input len)) = IsErrorMark before op kind output parent sock ⊎ IsErrorMark before op kind input parent sock
+IsMarkOf before op kind parent sock (step.Call ctx (guest.Resolve network name)) = (kind ≡ handle_kind.Lookup) × (parent ≡ Some network) × (sock ≡ None)
+IsMarkOf before op kind parent sock (step.Call ctx (guest.Subscribe handle)) = (kind ≡ Pollable) × IsOfParent before handle parent sock
 IsMarkOf before op kind parent sock _ = ⊥
 
 -- == the table
@@ -454,7 +455,7 @@ pub record HandsOut (log : List Entry) (handle : ℕ) (fields : List Field) : Ty
   pub order : InOrder log side 0 datagrams upto
 
 abbrev pub MayReply : List Entry → Step → Reply → Type 0
-MayReply log (step.UdpReceive ctx handle most) (Reply.Ok fields) = HandsOut log handle fields
+MayReply log (step.Call ctx (guest.UdpReceive handle most)) (Reply.Ok fields) = HandsOut log handle fields
 MayReply log _ reply = ⊤
 
 -- each reply is to the step of its line, and is one that it may have

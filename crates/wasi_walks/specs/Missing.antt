@@ -19,8 +19,9 @@ use Rattle.wasi_host.specs.Machine.{lookup_number}
 use Rattle.wasi_records.specs.Records.{tcp2_at, udp2_at, open_at, input_pipe_at, output_pipe_at}
 use Rattle.wasi_host.specs.Standing.{call_of}
 use Rattle.wasi_host.specs.StreamCalls.{plain_input_at, plain_output_at}
-use Rattle.wasi_steps.specs.Steps.{Kind, HandleOf, ALine, ANetwork, ASocket, ADatagramSocket, AnInput, AnOutput, AnIncoming, AnOutgoing, ALookup, AnError, Watchable, APollable, Anything, SomePollables, Value, Values, signature}
+use Rattle.wasi_steps.specs.Steps.{Kind, HandleOf, ALine, ANetwork, ASocket, ADatagramSocket, AnInput, AnOutput, AnIncoming, AnOutgoing, ALookup, AnError, Watchable, APollable, Anything, SomePollables, Value, Values, written_of}
 use Rattle.wasi_steps.specs.declared.step.Step.{Step}
+use Rattle.wasi_steps.specs.declared.guest_call.GuestCall.TheVariants as guest
 use Rattle.wasi_steps.specs.declared.step.Step.TheVariants as step
 use Rattle.wasi_walks.specs.Answered.{record_at, open_udp_at, incoming_in, outgoing_in, lookup_in, streams_in, input_streams, output_streams}
 
@@ -129,48 +130,48 @@ MissesFirst m (kind ∷ kinds) values = MissesValue m kind values.0
 -- a handle of the step isn't live, or is of another kind; it is the first argument, or one of several pollables, and that of a network
 -- or of an input beside it; a pipe's contents are told of a pipe alone; and a cancel asks for no handle
 abbrev pub MissesHandle : Machine → Step → Type 0
-MissesHandle m (step.TcpStartBind ctx socket network a) = (is_network (kind_at m.table network) ≡ false) ⊎ (record_at m socket ≡ None)
-MissesHandle m (step.TcpStartConnect ctx socket network a) = (is_network (kind_at m.table network) ≡ false) ⊎ (record_at m socket ≡ None)
-MissesHandle m (step.UdpStartBind ctx socket network a) = (is_network (kind_at m.table network) ≡ false) ⊎ (open_udp_at m socket ≡ None)
-MissesHandle m (step.Splice ctx to from len) = MissesEither m to from
-MissesHandle m (step.BlockingSplice ctx to from len) = MissesEither m to from
-MissesHandle m (step.PipeContents ctx output) = pipe_of m (plain_output_at m output) ≡ None
+MissesHandle m (step.Call ctx (guest.TcpStartBind socket network a)) = (is_network (kind_at m.table network) ≡ false) ⊎ (record_at m socket ≡ None)
+MissesHandle m (step.Call ctx (guest.TcpStartConnect socket network a)) = (is_network (kind_at m.table network) ≡ false) ⊎ (record_at m socket ≡ None)
+MissesHandle m (step.Call ctx (guest.UdpStartBind socket network a)) = (is_network (kind_at m.table network) ≡ false) ⊎ (open_udp_at m socket ≡ None)
+MissesHandle m (step.Call ctx (guest.Splice to from len)) = MissesEither m to from
+MissesHandle m (step.Call ctx (guest.BlockingSplice to from len)) = MissesEither m to from
+MissesHandle m (step.Call ctx (guest.PipeContents output)) = pipe_of m (plain_output_at m output) ≡ None
 MissesHandle m (step.Cancel n) = ⊥
-MissesHandle m s = MissesFirst m (signature s).written.kinds (signature s).written.values
+MissesHandle m s = MissesFirst m (written_of s).kinds (written_of s).values
 
 -- the step makes a handle, the two of a connection's streams or of a UDP socket's, those of an accepted connection, or the one of a
 -- stream's error or of a lookup; a poll makes that of a create or of a stream's error, or those of datagram streams
 abbrev pub MakesHandle : Step → Type 0
-MakesHandle (step.Network ctx) = ⊤
-MakesHandle (step.TcpCreate ctx family) = ⊤
-MakesHandle (step.UdpCreate ctx family) = ⊤
-MakesHandle (step.UdpStream ctx socket remote) = ⊤
-MakesHandle (step.TcpFinishConnect ctx socket) = ⊤
-MakesHandle (step.TcpAccept ctx socket) = ⊤
-MakesHandle (step.Resolve ctx network name) = ⊤
-MakesHandle (step.PipeIn ctx bytes) = ⊤
-MakesHandle (step.PipeOut ctx capacity) = ⊤
-MakesHandle (step.Sink ctx) = ⊤
-MakesHandle (step.ClosedIn ctx) = ⊤
-MakesHandle (step.ClosedOut ctx) = ⊤
-MakesHandle (step.Read ctx input len) = ⊤
-MakesHandle (step.Skip ctx input len) = ⊤
-MakesHandle (step.CheckWrite ctx output) = ⊤
-MakesHandle (step.Write ctx output bytes) = ⊤
-MakesHandle (step.WriteZeroes ctx output len) = ⊤
-MakesHandle (step.Flush ctx output) = ⊤
-MakesHandle (step.Splice ctx to from len) = ⊤
-MakesHandle (step.BlockingRead ctx input len) = ⊤
-MakesHandle (step.BlockingSkip ctx input len) = ⊤
-MakesHandle (step.BlockingWrite ctx output bytes) = ⊤
-MakesHandle (step.BlockingZeroes ctx output len) = ⊤
-MakesHandle (step.BlockingFlush ctx output) = ⊤
-MakesHandle (step.BlockingSplice ctx to from len) = ⊤
-MakesHandle (step.Subscribe ctx handle) = ⊤
+MakesHandle (step.Call ctx guest.Network) = ⊤
+MakesHandle (step.Call ctx (guest.TcpCreate family)) = ⊤
+MakesHandle (step.Call ctx (guest.UdpCreate family)) = ⊤
+MakesHandle (step.Call ctx (guest.UdpStream socket remote)) = ⊤
+MakesHandle (step.Call ctx (guest.TcpFinishConnect socket)) = ⊤
+MakesHandle (step.Call ctx (guest.TcpAccept socket)) = ⊤
+MakesHandle (step.Call ctx (guest.Resolve network name)) = ⊤
+MakesHandle (step.Call ctx (guest.PipeIn bytes)) = ⊤
+MakesHandle (step.Call ctx (guest.PipeOut capacity)) = ⊤
+MakesHandle (step.Call ctx guest.Sink) = ⊤
+MakesHandle (step.Call ctx guest.ClosedIn) = ⊤
+MakesHandle (step.Call ctx guest.ClosedOut) = ⊤
+MakesHandle (step.Call ctx (guest.Read input len)) = ⊤
+MakesHandle (step.Call ctx (guest.Skip input len)) = ⊤
+MakesHandle (step.Call ctx (guest.CheckWrite output)) = ⊤
+MakesHandle (step.Call ctx (guest.Write output bytes)) = ⊤
+MakesHandle (step.Call ctx (guest.WriteZeroes output len)) = ⊤
+MakesHandle (step.Call ctx (guest.Flush output)) = ⊤
+MakesHandle (step.Call ctx (guest.Splice to from len)) = ⊤
+MakesHandle (step.Call ctx (guest.BlockingRead input len)) = ⊤
+MakesHandle (step.Call ctx (guest.BlockingSkip input len)) = ⊤
+MakesHandle (step.Call ctx (guest.BlockingWrite output bytes)) = ⊤
+MakesHandle (step.Call ctx (guest.BlockingZeroes output len)) = ⊤
+MakesHandle (step.Call ctx (guest.BlockingFlush output)) = ⊤
+MakesHandle (step.Call ctx (guest.BlockingSplice to from len)) = ⊤
+MakesHandle (step.Call ctx (guest.Subscribe handle)) = ⊤
 MakesHandle (step.Poll n) = ⊤
 MakesHandle _ = ⊥
 
 abbrev pub IsWrite : Step → Type 0
-IsWrite (step.Write ctx output bytes) = ⊤
-IsWrite (step.WriteZeroes ctx output len) = ⊤
+IsWrite (step.Call ctx (guest.Write output bytes)) = ⊤
+IsWrite (step.Call ctx (guest.WriteZeroes output len)) = ⊤
 IsWrite _ = ⊥

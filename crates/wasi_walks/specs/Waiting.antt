@@ -54,6 +54,7 @@ use Rattle.wasi_steps.specs.declared.reply.CodeWord.{CodeWord}
 use Rattle.wasi_steps.specs.declared.reply.Reply.{Reply}
 use Rattle.wasi_steps.specs.declared.reply.Reply.TheVariants as reply
 use Rattle.wasi_steps.specs.declared.step.Step.{Step}
+use Rattle.wasi_steps.specs.declared.guest_call.GuestCall.TheVariants as guest
 use Rattle.wasi_steps.specs.declared.step.Step.TheVariants as step
 use Rattle.wasi_walks.specs.Answered.{AllOf, ConnectsOn, OfStreams, EndsPending, EndsClosing, IsUnfinished, word_of_code}
 use Rattle.wasi_walks.specs.Listens.{AcceptWaits, accept_name, AcceptsIn, HasNoListener}
@@ -129,20 +130,20 @@ IsPoll _ = ⊥
 -- the drop of an output or of an outgoing datagram stream, and a call that blocks, of a stream or for pollables, under their line's, and
 -- a poll under the one that it polls
 abbrev pub MayStand : Machine → ℕ → Step → ℕ → Type 0
-MayStand m line (step.TcpStartBind ctx socket network a) n = n ≡ line
-MayStand m line (step.TcpStartListen ctx socket) n = n ≡ line
-MayStand m line (step.UdpCreate ctx family) n = n ≡ line
-MayStand m line (step.UdpStartBind ctx socket network a) n = n ≡ line
-MayStand m line (step.UdpStream ctx socket remote) n = n ≡ line
-MayStand m line (step.Drop ctx handle) n = (IsSome (output_at m handle) ⊎ IsSome (outgoing_at m handle)) × (n ≡ line)
-MayStand m line (step.BlockingRead ctx input len) n = n ≡ line
-MayStand m line (step.BlockingSkip ctx input len) n = n ≡ line
-MayStand m line (step.BlockingWrite ctx output bytes) n = n ≡ line
-MayStand m line (step.BlockingZeroes ctx output len) n = n ≡ line
-MayStand m line (step.BlockingFlush ctx output) n = n ≡ line
-MayStand m line (step.BlockingSplice ctx to from len) n = n ≡ line
-MayStand m line (step.Block ctx pollable) n = n ≡ line
-MayStand m line (step.PollList ctx pollables) n = n ≡ line
+MayStand m line (step.Call ctx (guest.TcpStartBind socket network a)) n = n ≡ line
+MayStand m line (step.Call ctx (guest.TcpStartListen socket)) n = n ≡ line
+MayStand m line (step.Call ctx (guest.UdpCreate family)) n = n ≡ line
+MayStand m line (step.Call ctx (guest.UdpStartBind socket network a)) n = n ≡ line
+MayStand m line (step.Call ctx (guest.UdpStream socket remote)) n = n ≡ line
+MayStand m line (step.Call ctx (guest.Drop handle)) n = (IsSome (output_at m handle) ⊎ IsSome (outgoing_at m handle)) × (n ≡ line)
+MayStand m line (step.Call ctx (guest.BlockingRead input len)) n = n ≡ line
+MayStand m line (step.Call ctx (guest.BlockingSkip input len)) n = n ≡ line
+MayStand m line (step.Call ctx (guest.BlockingWrite output bytes)) n = n ≡ line
+MayStand m line (step.Call ctx (guest.BlockingZeroes output len)) n = n ≡ line
+MayStand m line (step.Call ctx (guest.BlockingFlush output)) n = n ≡ line
+MayStand m line (step.Call ctx (guest.BlockingSplice to from len)) n = n ≡ line
+MayStand m line (step.Call ctx (guest.Block pollable)) n = n ≡ line
+MayStand m line (step.Call ctx (guest.PollList pollables)) n = n ≡ line
 MayStand m line (step.Poll call) n = n ≡ call
 MayStand m line _ n = ⊥
 

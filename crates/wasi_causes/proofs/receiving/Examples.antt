@@ -7,6 +7,7 @@ use Rattle.wasi_addr.specs.declared.address.SocketAddrUse.TheVariants.{UdpReceiv
 use Rattle.wasi_world.specs.declared.datagram.IncomingDatagram.{IncomingDatagram}
 use Rattle.wasi_steps.specs.Reply.{datagram_values, received_values}
 use Rattle.wasi_steps.specs.declared.reply.Reply.{Reply}
+use Rattle.wasi_steps.specs.declared.guest_call.GuestCall.{GuestCall}
 use Rattle.wasi_steps.specs.declared.step.Step.{Step}
 use Rattle.std.specs.Prelude.{flat_map}
 use Rattle.wasi_causes.specs.ReceivedList.{HandedOut, NoneIsReplaced, handed_out, left_in_hand, received_since}
@@ -91,7 +92,7 @@ is_replaced k = let p : Some _ ≡ None = k.1.0 in absurd (cc)
 -- == replies
 -- on handle 3, among those of another stream: one, then none yet, then the other
 abbrev steps : List Step
-steps = Step.UdpReceive 0 3 8 ∷ Step.UdpReceive 0 5 8 ∷ Step.UdpReceive 0 3 8 ∷ Step.Turn ∷ Step.UdpReceive 0 3 8 ∷ []
+steps = Step.Call 0 (GuestCall.UdpReceive 3 8) ∷ Step.Call 0 (GuestCall.UdpReceive 5 8) ∷ Step.Call 0 (GuestCall.UdpReceive 3 8) ∷ Step.Turn ∷ Step.Call 0 (GuestCall.UdpReceive 3 8) ∷ []
 
 abbrev replies : List Reply
 replies = Reply.Ok (datagram_values (datagram 3 70 ∷ [])) ∷ Reply.Ok (datagram_values (datagram 9 70 ∷ [])) ∷ Reply.Ok (datagram_values []) ∷ Reply.Ok [] ∷ Reply.Ok (datagram_values (datagram 4 70 ∷ [])) ∷ []

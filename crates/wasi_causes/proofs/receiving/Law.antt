@@ -1,7 +1,7 @@
 -- The law that of what the stream of a handle received all was handed out but what waits: by each line but one that receives on it.
 use Rattle.wasi_walks.proofs.walks.Law.{BeginsWrites, Rests, begins_by}
 use Rattle.wasi_walks.proofs.walks.Asked.{Asked, Questions, SetsBacklog, Learns, Closes, MarksOne, AsksCreate, MarksAccepted, Polls, Turns, GivesUp, UdpQuestions, UdpLearns, UdpPeers, UdpCloses, UdpBegins, MarksUdp, MarksStream, MarksError, UdpGivesUp, Resolves, Looks}
-use Rattle.wasi_causes.proofs.Words.{Allows, Asks, Call, End, Entry, Err, ErrorCode, ErrorValue, HoldsAccept, HoldsConnect, IsAcceptOn, Item, Job, Kind, List, None, Ok, OpId, Operation, Option, Result, Socket, Some, Step, Streams, Tcp2, TcpRecord, Told, WasiSocketsCtx, WriteState, [], accept_ended, allows_if, allows_then, ap, arith, bind, bind_progress, connect_ended, created_asks, entry, give_up_asks, inl, inr, is_full, kind_at, length, make_asks, name_of, new_asks, new_record, own_of, poll_asks, refl, side_at, side_of, subst, sym, told_done, turn_asks, with_handle, with_inner, with_listening, with_progress, with_state, with_writer, Bool, ℕ, ⊤, ◌++◌, ◌∙◌, ◌∷◌, ◌≡◌}
+use Rattle.wasi_causes.proofs.Words.{Allows, Asks, Call, End, Entry, Err, ErrorCode, ErrorValue, HoldsAccept, HoldsConnect, IsAcceptOn, Item, Job, Kind, List, None, Ok, OpId, Operation, Option, Result, Socket, Some, GuestCall, Step, Streams, Tcp2, TcpRecord, Told, WasiSocketsCtx, WriteState, [], accept_ended, allows_if, allows_then, ap, arith, bind, bind_progress, connect_ended, created_asks, entry, give_up_asks, inl, inr, is_full, kind_at, length, make_asks, name_of, new_asks, new_record, own_of, poll_asks, refl, side_at, side_of, subst, sym, told_done, turn_asks, with_handle, with_inner, with_listening, with_progress, with_state, with_writer, Bool, ℕ, ⊤, ◌++◌, ◌∙◌, ◌∷◌, ◌≡◌}
 use Rattle.wasi_tcp.specs.Connect as connect
 use Rattle.wasi_tcp.specs.Listen.{IsListen}
 use Rattle.wasi_tcp.specs.declared.listener.Accepting.TheVariants as accepting
@@ -72,13 +72,13 @@ module _ (handle : ℕ) (list : List IncomingDatagram) (contexts : List WasiSock
       absurd (cc)
 
   -- the line receives on another handle
-  module _ (other : (ctx most : ℕ) → origin ≡ Step.UdpReceive ctx handle most → ⊥) where
+  module _ (other : (ctx most : ℕ) → origin ≡ Step.Call ctx (GuestCall.UdpReceive handle most) → ⊥) where
     taken_other : (es : List Entry) (h : Here) (b : B es h) (k : ℕ) → walk.TakesFrom origin h.machine.table k → kind_at h.machine.table handle ≡ Some (Incoming k) → ⊥
     taken_other es h b k takes live =
         let s : SlotOf h.machine.table.live handle (Incoming k) = slot_of h.machine.table.live handle (Incoming k) live in
         let t : SlotOf h.machine.table.live takes.handle (Incoming k) = slot_of h.machine.table.live takes.handle (Incoming k) takes.of in
         let same : takes.handle ≡ handle = sym t.its ∙ ((apart_of handle list contexts line origin es h b.1.0).single t.slot s.slot k t.live_one s.live_one t.value s.value ∙ s.its) in
-        other takes.ctx takes.most (takes.is ∙ ap (λ (n : ℕ). Step.UdpReceive takes.ctx n takes.most) same)
+        other takes.ctx takes.most (takes.is ∙ ap (λ (n : ℕ). Step.Call takes.ctx (GuestCall.UdpReceive n takes.most)) same)
 
     changes : (es : List Entry) (h : Here) (b : B es h) (k : ℕ) (o now : OpenUdp) → FoundUdp h k (UdpRecord.Open o) → UdpPlain o now → StreamMoves origin h k o.incoming now.incoming → Move line origin h (put_udp h k (UdpRecord.Open now)) → kind_at h.machine.table handle ≡ Some (Incoming k) → Becomes handle list es (UdpRecord.Open o) (UdpRecord.Open now)
     changes es h b k o now g p stream m live = by_move o.incoming now.incoming stream refl refl

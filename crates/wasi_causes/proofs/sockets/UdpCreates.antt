@@ -15,6 +15,7 @@ use Rattle.wasi_records.specs.declared.records.Record.{Record}
 use Rattle.wasi_records.specs.declared.udp.UdpRecord.{UdpRecord}
 use Rattle.wasi_records.specs.declared.udp.UdpRecord.TheVariants as udp
 use Rattle.wasi_machine.specs.Machine.{answer_reply_of}
+use Rattle.wasi_steps.specs.declared.guest_call.GuestCall.TheVariants as guest
 use Rattle.wasi_steps.specs.declared.step.Step.TheVariants as step
 use Rattle.wasi_udp.specs.Create.{Create, new_create, after_create, new_asks, with_left}
 use Rattle.wasi_world.specs.Operation.{UdpWritable}
@@ -48,7 +49,7 @@ module _ (contexts : List WasiSocketsCtx) (m : Machine) (line c : ℕ) (family :
   begun = udp_create_entry own ctx family told.Done
 
   abbrev CreateRow : Rows (Result (Answer ℕ) Stop × Machine)
-  CreateRow = Replied contexts m line (step.UdpCreate c family) (answer_reply_of number_fields line)
+  CreateRow = Replied contexts m line (step.Call c (guest.UdpCreate family)) (answer_reply_of number_fields line)
 
   -- it may use UDP
   only : ctx.udp ≡ true → {es : List Entry} {after : Machine} → OnlyWhere ctx.udp m es after
@@ -124,5 +125,5 @@ module _ (contexts : List WasiSocketsCtx) (m : Machine) (line c : ℕ) (family :
   begins : Meets CreateRow [] (create_udp_asks m (first_ids line) ctx family)
   begins = chain {Mid = λ es made. Meets CreateRow es (create_begun m (first_ids line) made)} started (λ es made k. k)
 
-  pub udp_create : Meets (Says contexts m line (step.UdpCreate c family)) [] (bind (create_udp_asks m (first_ids line) ctx family) (λ done. Give (answer_reply_of number_fields line done.0, done.1)))
+  pub udp_create : Meets (Says contexts m line (step.Call c (guest.UdpCreate family))) [] (bind (create_udp_asks m (first_ids line) ctx family) (λ done. Give (answer_reply_of number_fields line done.0, done.1)))
   udp_create = onto _ begins

@@ -5,6 +5,7 @@ use Rattle.wasi_world.specs.declared.datagram.OutgoingDatagram.{OutgoingDatagram
 use Rattle.wasi_world.specs.declared.outcome.TrapKind.TheVariants.{Capacity, EmptyList, StreamsAlive, TooLong}
 use Rattle.wasi_steps.specs.declared.reply.Field.TheVariants as field
 use Rattle.wasi_steps.specs.declared.reply.Reply.TheVariants as reply
+use Rattle.wasi_steps.specs.declared.guest_call.GuestCall.TheVariants as guest
 use Rattle.wasi_steps.specs.declared.step.Step.TheVariants as step
 use Rattle.wasi_causes.specs.Outcomes.{may_answer}
 
@@ -24,39 +25,39 @@ of_no_cancel n = (λ h. h, λ h. h, λ h. h, λ h. h)
 
 -- a read isn't pending, one that blocks is so under its own line, is never refused and never past a permit, and gives bytes; only a
 -- write has too many bytes for a pipe, and only one that blocks too many for a call
-of_no_call : (c h len n : ℕ) (bytes : List ℕ) → Never 7 (step.Read c h len) (reply.Pending n) × Never 7 (step.BlockingRead c h len) (reply.Pending 6) × Never 7 (step.BlockingRead c h len) (reply.Err word.WouldBlock) × Never 7 (step.BlockingRead c h len) (reply.Ok (field.Number n ∷ []))
-    × Never 7 (step.BlockingWrite c h bytes) (reply.Trap Capacity) × Never 7 (step.Write c h bytes) (reply.Trap TooLong) × Never 7 (step.PipeIn c bytes) (reply.Trap NoSuchHandle)
+of_no_call : (c h len n : ℕ) (bytes : List ℕ) → Never 7 (step.Call c (guest.Read h len)) (reply.Pending n) × Never 7 (step.Call c (guest.BlockingRead h len)) (reply.Pending 6) × Never 7 (step.Call c (guest.BlockingRead h len)) (reply.Err word.WouldBlock) × Never 7 (step.Call c (guest.BlockingRead h len)) (reply.Ok (field.Number n ∷ []))
+    × Never 7 (step.Call c (guest.BlockingWrite h bytes)) (reply.Trap Capacity) × Never 7 (step.Call c (guest.Write h bytes)) (reply.Trap TooLong) × Never 7 (step.Call c (guest.PipeIn bytes)) (reply.Trap NoSuchHandle)
 of_no_call c h len n bytes = (λ k. k, λ k. absurd (let e : 6 ≡ 7 = k in cc), λ k. k, λ k. k.0, λ k. k, λ k. k, λ k. k)
 
 -- a finish of a bind waits for nothing, a start of a connect isn't pending, and that of a bind is so under its own line
-of_no_start : (c s network n : ℕ) (a : IpSocketAddress) → Never 7 (step.TcpFinishBind c s) (reply.Err word.WouldBlock) × Never 7 (step.TcpStartConnect c s network a) (reply.Pending n) × Never 7 (step.TcpStartBind c s network a) (reply.Pending 6)
+of_no_start : (c s network n : ℕ) (a : IpSocketAddress) → Never 7 (step.Call c (guest.TcpFinishBind s)) (reply.Err word.WouldBlock) × Never 7 (step.Call c (guest.TcpStartConnect s network a)) (reply.Pending n) × Never 7 (step.Call c (guest.TcpStartBind s network a)) (reply.Pending 6)
 of_no_start c s network n a = (λ h. absurd (cc), λ h. h, λ h. absurd (let e : 6 ≡ 7 = h in cc))
 
-traps_of_others : Never 1 (step.Network 0) (reply.Trap NoSuchHandle) × Never 7 (step.Read 0 1 10) (reply.Trap HasChildren) × Never 7 (step.Drop 0 1) (reply.Trap Full) × Never 7 (step.Read 0 1 10) (reply.Trap NotPermitted)
+traps_of_others : Never 1 (step.Call 0 guest.Network) (reply.Trap NoSuchHandle) × Never 7 (step.Call 0 (guest.Read 1 10)) (reply.Trap HasChildren) × Never 7 (step.Call 0 (guest.Drop 1)) (reply.Trap Full) × Never 7 (step.Call 0 (guest.Read 1 10)) (reply.Trap NotPermitted)
 traps_of_others = (λ h. h, λ h. h, λ h. h, λ h. elim h [ inl w ↦ w | inr s ↦ s ])
 
 -- a look at a pollable answers with one truth value
-of_no_look : Never 7 (step.Ready 0 1) (reply.Ok (field.True ∷ field.True ∷ [])) × Never 7 (step.Ready 0 1) (reply.Ok (field.Number 1 ∷ []))
+of_no_look : Never 7 (step.Call 0 (guest.Ready 1)) (reply.Ok (field.True ∷ field.True ∷ [])) × Never 7 (step.Call 0 (guest.Ready 1)) (reply.Ok (field.Number 1 ∷ []))
 of_no_look = (λ h. h.1, λ h. h.0)
 
 -- a wait is pending under its own line, is never refused, and one for some gives places, one at least, and isn't for none
-of_no_wait : (c p n : ℕ) (ps : List ℕ) → Never 7 (step.Block c p) (reply.Pending 6) × Never 7 (step.Block c p) (reply.Ok (field.True ∷ [])) × Never 7 (step.Block c p) (reply.Trap EmptyList) × Never 7 (step.PollList c ps) (reply.Err word.WouldBlock) × Never 7 (step.PollList c ps) (reply.Ok [])
-    × Never 7 (step.PollList c ps) (reply.Trap Full) × Never 7 (step.PollList c (p ∷ ps)) (reply.Trap EmptyList)
+of_no_wait : (c p n : ℕ) (ps : List ℕ) → Never 7 (step.Call c (guest.Block p)) (reply.Pending 6) × Never 7 (step.Call c (guest.Block p)) (reply.Ok (field.True ∷ [])) × Never 7 (step.Call c (guest.Block p)) (reply.Trap EmptyList) × Never 7 (step.Call c (guest.PollList ps)) (reply.Err word.WouldBlock) × Never 7 (step.Call c (guest.PollList ps)) (reply.Ok [])
+    × Never 7 (step.Call c (guest.PollList ps)) (reply.Trap Full) × Never 7 (step.Call c (guest.PollList (p ∷ ps))) (reply.Trap EmptyList)
 of_no_wait c p n ps = (λ k. absurd (let e : 6 ≡ 7 = k in cc), λ k. k, λ k. k, λ k. k, λ k. absurd (let e = k.2 in cc), λ k. k, λ k. absurd (let e : p ∷ ps ≡ [] = k in cc))
 
 -- a finish of a bind of a UDP socket waits for nothing, its family is never refused, a create names no handle and is pending under
 -- its own line, and a look at its remote address is refused in one way
-of_no_udp : (c s n : ℕ) (f : SocketAddressFamily) → Never 7 (step.UdpFinishBind c s) (reply.Pending 7) × Never 7 (step.UdpAddressFamily c s) (reply.Err word.InvalidState) × Never 7 (step.UdpCreate c f) (reply.Trap NoSuchHandle) × Never 7 (step.UdpCreate c f) (reply.Pending 6) × Never 7 (step.UdpRemoteAddress c s) (reply.Err word.AccessDenied)
+of_no_udp : (c s n : ℕ) (f : SocketAddressFamily) → Never 7 (step.Call c (guest.UdpFinishBind s)) (reply.Pending 7) × Never 7 (step.Call c (guest.UdpAddressFamily s)) (reply.Err word.InvalidState) × Never 7 (step.Call c (guest.UdpCreate f)) (reply.Trap NoSuchHandle) × Never 7 (step.Call c (guest.UdpCreate f)) (reply.Pending 6) × Never 7 (step.Call c (guest.UdpRemoteAddress s)) (reply.Err word.AccessDenied)
 of_no_udp c s n f = (λ h. h, λ h. h, λ h. h, λ h. absurd (let e : 6 ≡ 7 = h in cc), λ h. absurd (let e : word.AccessDenied ≡ word.InvalidState = h in cc))
 
 -- a look at what may be sent is never refused and traps for no room, a send and a receive aren't pending, a receive is always
 -- permitted, streams are pending under their own line, and a live stream is no matter of a drop
-of_no_stream : (c h most n : ℕ) (ds : List OutgoingDatagram) → Never 7 (step.UdpCheckSend c h) (reply.Err word.InvalidState) × Never 7 (step.UdpCheckSend c h) (reply.Trap Full) × Never 7 (step.UdpSend c h ds) (reply.Pending n) × Never 7 (step.UdpReceive c h most) (reply.Pending n)
-    × Never 7 (step.UdpStream c h None) (reply.Pending 6) × Never 7 (step.Drop c h) (reply.Trap StreamsAlive)
+of_no_stream : (c h most n : ℕ) (ds : List OutgoingDatagram) → Never 7 (step.Call c (guest.UdpCheckSend h)) (reply.Err word.InvalidState) × Never 7 (step.Call c (guest.UdpCheckSend h)) (reply.Trap Full) × Never 7 (step.Call c (guest.UdpSend h ds)) (reply.Pending n) × Never 7 (step.Call c (guest.UdpReceive h most)) (reply.Pending n)
+    × Never 7 (step.Call c (guest.UdpStream h None)) (reply.Pending 6) × Never 7 (step.Call c (guest.Drop h)) (reply.Trap StreamsAlive)
 of_no_stream c h most n ds = (λ k. k, λ k. k, λ k. k, λ k. k, λ k. absurd (let e : 6 ≡ 7 = k in cc), λ k. k)
 
 -- a lookup isn't pending, and is refused by its own words; one that hands addresses out is refused by others, and makes no handle; and
 -- an error's code is never refused, and is no number
-of_no_lookup : (c h n : ℕ) (name : List ℕ) → Never 7 (step.Resolve c h name) (reply.Pending 7) × Never 7 (step.Resolve c h name) (reply.Err word.WouldBlock) × Never 7 (step.ResolveNext c h) (reply.Err word.InvalidArgument) × Never 7 (step.ResolveNext c h) (reply.Trap Full)
-    × Never 7 (step.NetworkErrorCode c h) (reply.Err word.NameUnresolvable) × Never 7 (step.NetworkErrorCode c h) (reply.Ok (field.Number n ∷ []))
+of_no_lookup : (c h n : ℕ) (name : List ℕ) → Never 7 (step.Call c (guest.Resolve h name)) (reply.Pending 7) × Never 7 (step.Call c (guest.Resolve h name)) (reply.Err word.WouldBlock) × Never 7 (step.Call c (guest.ResolveNext h)) (reply.Err word.InvalidArgument) × Never 7 (step.Call c (guest.ResolveNext h)) (reply.Trap Full)
+    × Never 7 (step.Call c (guest.NetworkErrorCode h)) (reply.Err word.NameUnresolvable) × Never 7 (step.Call c (guest.NetworkErrorCode h)) (reply.Ok (field.Number n ∷ []))
 of_no_lookup c h n name = (λ k. k, λ k. elim k [ inl e ↦ absurd (cc) | inr f ↦ elim f [ inl e ↦ absurd (cc) | inr e ↦ absurd (cc) ] ], λ k. elim k [ inl e ↦ absurd (cc) | inr e ↦ absurd (cc) ], λ k. k, λ k. k, λ k. k.0)

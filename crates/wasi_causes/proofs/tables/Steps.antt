@@ -29,67 +29,68 @@ use Rattle.wasi_walks.specs.Waiting.{IsPoll, left_missing}
 use Rattle.wasi_steps.specs.Steps.{context_of}
 use Rattle.wasi_steps.specs.declared.reply.Field.TheVariants as field
 use Rattle.wasi_steps.specs.declared.reply.Reply.TheVariants as reply
+use Rattle.wasi_steps.specs.declared.guest_call.GuestCall.TheVariants as guest
 use Rattle.wasi_steps.specs.declared.step.Step.TheVariants as step
 use Rattle.wasi_world.specs.declared.outcome.TrapKind.TheVariants as trap
 
 module _ (contexts : List WasiSocketsCtx) (m : Machine) (line : ℕ) where
   rows : (s : Step) → Meets (Says contexts m line s) [] (step_asks contexts m line s)
-  rows (step.Network c) = network contexts m line c
-  rows (step.TcpCreate c family) = create contexts m line c family
-  rows (step.TcpStartBind c s n a) = start_bind contexts m line c s n a
-  rows (step.TcpFinishBind c s) = finish_bind contexts m line c s
-  rows (step.TcpStartConnect c s n a) = start_connect contexts m line c s n a
-  rows (step.TcpFinishConnect c s) = finish_connect_row contexts m line c s
-  rows (step.TcpStartListen c s) = start_listen contexts m line c s
-  rows (step.TcpFinishListen c s) = finish_listen contexts m line c s
-  rows (step.TcpAccept c s) = accept contexts m line c s
-  rows (step.TcpLocalAddress c s) = local_address_row contexts m line c s
-  rows (step.TcpRemoteAddress c s) = remote_address_row contexts m line c s
-  rows (step.TcpIsListening c s) = is_listens contexts m line c s
-  rows (step.TcpAddressFamily c s) = family contexts m line c s
-  rows (step.TcpGet c s option) = get contexts m line c s option
-  rows (step.TcpSet c s setting) = set contexts m line c s setting
-  rows (step.TcpShutdown c s how) = shutdown contexts m line c s how
-  rows (step.UdpCreate c family) = udp_create contexts m line c family
-  rows (step.UdpStartBind c s n a) = udp_start_bind contexts m line c s n a
-  rows (step.UdpFinishBind c s) = udp_finish_bind contexts m line c s
-  rows (step.UdpLocalAddress c s) = udp_local_address contexts m line c s
-  rows (step.UdpRemoteAddress c s) = udp_remote_address contexts m line c s
-  rows (step.UdpAddressFamily c s) = udp_family contexts m line c s
-  rows (step.UdpStream c s remote) = udp_stream contexts m line c s remote
-  rows (step.UdpReceive c incoming most) = udp_receive contexts m line c incoming most
-  rows (step.UdpCheckSend c outgoing) = udp_check_send contexts m line c outgoing
-  rows (step.UdpSend c outgoing ds) = udp_send contexts m line c outgoing ds
-  rows (step.UdpGet c s option) = udp_get contexts m line c s option
-  rows (step.UdpSet c s setting) = udp_set contexts m line c s setting
-  rows (step.Resolve c network name) = resolve contexts m line c network name
-  rows (step.ResolveNext c lookup) = resolve_next contexts m line c lookup
-  rows (step.NetworkErrorCode c e) = network_error_code contexts m line c e
-  rows (step.Read c input len) = read contexts m line c input len
-  rows (step.CheckWrite c output) = check_write contexts m line c output
-  rows (step.Write c output bytes) = write contexts m line c output bytes
-  rows (step.Flush c output) = flush contexts m line c output
-  rows (step.PipeIn c bytes) = pipe_in contexts m line c bytes
-  rows (step.PipeOut c capacity) = pipe_out contexts m line c capacity
-  rows (step.PipeContents c output) = pipe_contents contexts m line c output
-  rows (step.Sink c) = sink contexts m line c
-  rows (step.ClosedIn c) = closed_in contexts m line c
-  rows (step.ClosedOut c) = closed_out contexts m line c
-  rows (step.Skip c input len) = skip contexts m line c input len
-  rows (step.WriteZeroes c output len) = write_zeroes contexts m line c output len
-  rows (step.Splice c to from len) = splice contexts m line c to from len
-  rows (step.BlockingRead c input len) = blocking_read contexts m line c input len
-  rows (step.BlockingSkip c input len) = blocking_skip contexts m line c input len
-  rows (step.BlockingWrite c output bytes) = blocking_write contexts m line c output bytes
-  rows (step.BlockingZeroes c output len) = blocking_zeroes contexts m line c output len
-  rows (step.BlockingFlush c output) = blocking_flush contexts m line c output
-  rows (step.BlockingSplice c to from len) = blocking_splice contexts m line c to from len
-  rows (step.Block c p) = block contexts m line c p
-  rows (step.PollList c ps) = poll_list contexts m line c ps
+  rows (step.Call c guest.Network) = network contexts m line c
+  rows (step.Call c (guest.TcpCreate family)) = create contexts m line c family
+  rows (step.Call c (guest.TcpStartBind s n a)) = start_bind contexts m line c s n a
+  rows (step.Call c (guest.TcpFinishBind s)) = finish_bind contexts m line c s
+  rows (step.Call c (guest.TcpStartConnect s n a)) = start_connect contexts m line c s n a
+  rows (step.Call c (guest.TcpFinishConnect s)) = finish_connect_row contexts m line c s
+  rows (step.Call c (guest.TcpStartListen s)) = start_listen contexts m line c s
+  rows (step.Call c (guest.TcpFinishListen s)) = finish_listen contexts m line c s
+  rows (step.Call c (guest.TcpAccept s)) = accept contexts m line c s
+  rows (step.Call c (guest.TcpLocalAddress s)) = local_address_row contexts m line c s
+  rows (step.Call c (guest.TcpRemoteAddress s)) = remote_address_row contexts m line c s
+  rows (step.Call c (guest.TcpIsListening s)) = is_listens contexts m line c s
+  rows (step.Call c (guest.TcpAddressFamily s)) = family contexts m line c s
+  rows (step.Call c (guest.TcpGet s option)) = get contexts m line c s option
+  rows (step.Call c (guest.TcpSet s setting)) = set contexts m line c s setting
+  rows (step.Call c (guest.TcpShutdown s how)) = shutdown contexts m line c s how
+  rows (step.Call c (guest.UdpCreate family)) = udp_create contexts m line c family
+  rows (step.Call c (guest.UdpStartBind s n a)) = udp_start_bind contexts m line c s n a
+  rows (step.Call c (guest.UdpFinishBind s)) = udp_finish_bind contexts m line c s
+  rows (step.Call c (guest.UdpLocalAddress s)) = udp_local_address contexts m line c s
+  rows (step.Call c (guest.UdpRemoteAddress s)) = udp_remote_address contexts m line c s
+  rows (step.Call c (guest.UdpAddressFamily s)) = udp_family contexts m line c s
+  rows (step.Call c (guest.UdpStream s remote)) = udp_stream contexts m line c s remote
+  rows (step.Call c (guest.UdpReceive incoming most)) = udp_receive contexts m line c incoming most
+  rows (step.Call c (guest.UdpCheckSend outgoing)) = udp_check_send contexts m line c outgoing
+  rows (step.Call c (guest.UdpSend outgoing ds)) = udp_send contexts m line c outgoing ds
+  rows (step.Call c (guest.UdpGet s option)) = udp_get contexts m line c s option
+  rows (step.Call c (guest.UdpSet s setting)) = udp_set contexts m line c s setting
+  rows (step.Call c (guest.Resolve network name)) = resolve contexts m line c network name
+  rows (step.Call c (guest.ResolveNext lookup)) = resolve_next contexts m line c lookup
+  rows (step.Call c (guest.NetworkErrorCode e)) = network_error_code contexts m line c e
+  rows (step.Call c (guest.Read input len)) = read contexts m line c input len
+  rows (step.Call c (guest.CheckWrite output)) = check_write contexts m line c output
+  rows (step.Call c (guest.Write output bytes)) = write contexts m line c output bytes
+  rows (step.Call c (guest.Flush output)) = flush contexts m line c output
+  rows (step.Call c (guest.PipeIn bytes)) = pipe_in contexts m line c bytes
+  rows (step.Call c (guest.PipeOut capacity)) = pipe_out contexts m line c capacity
+  rows (step.Call c (guest.PipeContents output)) = pipe_contents contexts m line c output
+  rows (step.Call c guest.Sink) = sink contexts m line c
+  rows (step.Call c guest.ClosedIn) = closed_in contexts m line c
+  rows (step.Call c guest.ClosedOut) = closed_out contexts m line c
+  rows (step.Call c (guest.Skip input len)) = skip contexts m line c input len
+  rows (step.Call c (guest.WriteZeroes output len)) = write_zeroes contexts m line c output len
+  rows (step.Call c (guest.Splice to from len)) = splice contexts m line c to from len
+  rows (step.Call c (guest.BlockingRead input len)) = blocking_read contexts m line c input len
+  rows (step.Call c (guest.BlockingSkip input len)) = blocking_skip contexts m line c input len
+  rows (step.Call c (guest.BlockingWrite output bytes)) = blocking_write contexts m line c output bytes
+  rows (step.Call c (guest.BlockingZeroes output len)) = blocking_zeroes contexts m line c output len
+  rows (step.Call c (guest.BlockingFlush output)) = blocking_flush contexts m line c output
+  rows (step.Call c (guest.BlockingSplice to from len)) = blocking_splice contexts m line c to from len
+  rows (step.Call c (guest.Block p)) = block contexts m line c p
+  rows (step.Call c (guest.PollList ps)) = poll_list contexts m line c ps
   rows (step.Cancel n) = cancel contexts m line n
-  rows (step.Subscribe c h) = subscribe contexts m line c h
-  rows (step.Ready c p) = ready contexts m line c p
-  rows (step.Drop c h) = drop contexts m line c h
+  rows (step.Call c (guest.Subscribe h)) = subscribe contexts m line c h
+  rows (step.Call c (guest.Ready p)) = ready contexts m line c p
+  rows (step.Call c (guest.Drop h)) = drop contexts m line c h
   rows step.Turn = turn m contexts line
   rows (step.Poll n) = poll contexts m line n
 
@@ -146,33 +147,33 @@ module _ (contexts : List WasiSocketsCtx) (m : Machine) (line : ℕ) where
   busy_is_quiet s es after w = of_answer s (λ es r after. r ≡ reply.Busy → Quiet m es after) (λ e. (refl, refl)) (λ es r after row e. absurd (no_row s es r after row e)) es reply.Busy after w refl
 
 misses : (m : Machine) (s : Step) → MissesHandle m s → MayMiss s
-misses m (step.Network ctx) h = h
-misses m (step.TcpCreate ctx _) h = h
-misses m (step.UdpCreate ctx _) h = h
-misses m (step.PipeIn ctx _) h = h
-misses m (step.PipeOut ctx _) h = h
-misses m (step.Sink ctx) h = h
-misses m (step.ClosedIn ctx) h = h
-misses m (step.ClosedOut ctx) h = h
+misses m (step.Call ctx guest.Network) h = h
+misses m (step.Call ctx (guest.TcpCreate _)) h = h
+misses m (step.Call ctx (guest.UdpCreate _)) h = h
+misses m (step.Call ctx (guest.PipeIn _)) h = h
+misses m (step.Call ctx (guest.PipeOut _)) h = h
+misses m (step.Call ctx guest.Sink) h = h
+misses m (step.Call ctx guest.ClosedIn) h = h
+misses m (step.Call ctx guest.ClosedOut) h = h
 misses m (step.Cancel n) h = h
 misses m step.Turn h = h
 misses m _ h = tt
 
 waits : (m : Machine) (line n : ℕ) (s : Step) → MayStand m line s n → MayWait line s n
-waits m line n (step.TcpStartBind ctx socket _ a) h = h
-waits m line n (step.TcpStartListen ctx socket) h = h
-waits m line n (step.UdpCreate ctx _) h = h
-waits m line n (step.UdpStartBind ctx socket _ a) h = h
-waits m line n (step.UdpStream ctx socket remote) h = h
-waits m line n (step.Drop ctx handle) h = h.1
-waits m line n (step.BlockingRead ctx input len) h = h
-waits m line n (step.BlockingSkip ctx input len) h = h
-waits m line n (step.BlockingWrite ctx output bytes) h = h
-waits m line n (step.BlockingZeroes ctx output len) h = h
-waits m line n (step.BlockingFlush ctx output) h = h
-waits m line n (step.BlockingSplice ctx to from len) h = h
-waits m line n (step.Block ctx pollable) h = h
-waits m line n (step.PollList ctx pollables) h = h
+waits m line n (step.Call ctx (guest.TcpStartBind socket _ a)) h = h
+waits m line n (step.Call ctx (guest.TcpStartListen socket)) h = h
+waits m line n (step.Call ctx (guest.UdpCreate _)) h = h
+waits m line n (step.Call ctx (guest.UdpStartBind socket _ a)) h = h
+waits m line n (step.Call ctx (guest.UdpStream socket remote)) h = h
+waits m line n (step.Call ctx (guest.Drop handle)) h = h.1
+waits m line n (step.Call ctx (guest.BlockingRead input len)) h = h
+waits m line n (step.Call ctx (guest.BlockingSkip input len)) h = h
+waits m line n (step.Call ctx (guest.BlockingWrite output bytes)) h = h
+waits m line n (step.Call ctx (guest.BlockingZeroes output len)) h = h
+waits m line n (step.Call ctx (guest.BlockingFlush output)) h = h
+waits m line n (step.Call ctx (guest.BlockingSplice to from len)) h = h
+waits m line n (step.Call ctx (guest.Block pollable)) h = h
+waits m line n (step.Call ctx (guest.PollList pollables)) h = h
 waits m line n (step.Poll call) h = h
 waits m line n _ h = absurd h
 
@@ -233,9 +234,9 @@ no_failure line s words stream _ h f = f
 -- a wait for several pollables, where what they watch is
 pub missing_left : (m : Machine) (s : Step) (es : List Entry) (after : Machine) → (IsPoll s → PendingHandleIsLive m) → LaterPartIsThere m s → LeavesMissing m s es after → (es ≡ []) × (after ≡ left_missing m s)
 missing_left m (step.Poll n) es after live there h = h (live tt)
-missing_left m (step.Splice c to from len) es after live there h = h there
-missing_left m (step.BlockingSplice c to from len) es after live there h = h there
-missing_left m (step.PollList c ps) es after live there h = h there
+missing_left m (step.Call c (guest.Splice to from len)) es after live there h = h there
+missing_left m (step.Call c (guest.BlockingSplice to from len)) es after live there h = h there
+missing_left m (step.Call c (guest.PollList ps)) es after live there h = h there
 missing_left m _ es after live there h = h
 
 pub trap_kinds : (contexts : List WasiSocketsCtx) (m : Machine) (line : ℕ) (s : Step) (es : List Entry) (kind : TrapKind) (after : Machine) → Traps contexts m line s es kind after → (kind ≡ trap.NoSuchHandle) ⊎ ((kind ≡ trap.HasChildren) ⊎ ((kind ≡ trap.Full) ⊎ ((kind ≡ trap.NotPermitted) ⊎ ((kind ≡ trap.StreamsAlive) ⊎ ((kind ≡ trap.Capacity) ⊎ ((kind ≡ trap.TooLong) ⊎ (kind ≡ trap.EmptyList)))))))
@@ -250,15 +251,15 @@ trap_kinds contexts m line s es trap.EmptyList after h = inr (inr (inr (inr (inr
 trap_kinds contexts m line s es _ after h = absurd h
 
 pub quiet_never : (contexts : List WasiSocketsCtx) (m : Machine) (line : ℕ) (s : Step) (es : List Entry) (w : CodeWord) (after : Machine) → IsQuiet s → Answered contexts m line s es (reply.Err w) after → ⊥
-quiet_never contexts m line (step.TcpIsListening c handle) es w after q h = may_be contexts m line (step.TcpIsListening c handle) es (reply.Err w) after h
-quiet_never contexts m line (step.TcpAddressFamily c handle) es w after q h = may_be contexts m line (step.TcpAddressFamily c handle) es (reply.Err w) after h
-quiet_never contexts m line (step.UdpAddressFamily c handle) es w after q h = may_be contexts m line (step.UdpAddressFamily c handle) es (reply.Err w) after h
+quiet_never contexts m line (step.Call c (guest.TcpIsListening handle)) es w after q h = may_be contexts m line (step.Call c (guest.TcpIsListening handle)) es (reply.Err w) after h
+quiet_never contexts m line (step.Call c (guest.TcpAddressFamily handle)) es w after q h = may_be contexts m line (step.Call c (guest.TcpAddressFamily handle)) es (reply.Err w) after h
+quiet_never contexts m line (step.Call c (guest.UdpAddressFamily handle)) es w after q h = may_be contexts m line (step.Call c (guest.UdpAddressFamily handle)) es (reply.Err w) after h
 quiet_never contexts m line _ es w after q h = absurd q
 
 pub quiet_stays : (contexts : List WasiSocketsCtx) (m : Machine) (line : ℕ) (s : Step) (es : List Entry) (r : Reply) (after : Machine) → IsQuiet s → Answered contexts m line s es r after → Quiet m es after
-quiet_stays contexts m line (step.TcpIsListening c handle) es r after q = of_answer contexts m line (step.TcpIsListening c handle) (λ es r after. Quiet m es after) (refl, refl) (λ es r after row. row.0) es r after
-quiet_stays contexts m line (step.TcpAddressFamily c handle) es r after q = of_answer contexts m line (step.TcpAddressFamily c handle) (λ es r after. Quiet m es after) (refl, refl) (λ es r after row. row.0) es r after
-quiet_stays contexts m line (step.UdpAddressFamily c handle) es r after q = of_answer contexts m line (step.UdpAddressFamily c handle) (λ es r after. Quiet m es after) (refl, refl) (λ es r after row. row.0) es r after
+quiet_stays contexts m line (step.Call c (guest.TcpIsListening handle)) es r after q = of_answer contexts m line (step.Call c (guest.TcpIsListening handle)) (λ es r after. Quiet m es after) (refl, refl) (λ es r after row. row.0) es r after
+quiet_stays contexts m line (step.Call c (guest.TcpAddressFamily handle)) es r after q = of_answer contexts m line (step.Call c (guest.TcpAddressFamily handle)) (λ es r after. Quiet m es after) (refl, refl) (λ es r after row. row.0) es r after
+quiet_stays contexts m line (step.Call c (guest.UdpAddressFamily handle)) es r after q = of_answer contexts m line (step.Call c (guest.UdpAddressFamily handle)) (λ es r after. Quiet m es after) (refl, refl) (λ es r after row. row.0) es r after
 quiet_stays contexts m line _ es r after q = absurd q
 
 pub two_values : (m : Machine) (line pollable : ℕ) (es : List Entry) (fields : List Field) → Looks m line pollable es fields → (fields ≡ truth_fields true) ⊎ (fields ≡ truth_fields false)

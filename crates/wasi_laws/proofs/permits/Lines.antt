@@ -14,6 +14,7 @@ use Rattle.wasi_host.specs.declared.store.StandingCall.{StandingCall}
 use Rattle.wasi_host.specs.declared.store.StandingCall.TheVariants.{Blocking}
 use Rattle.wasi_world.specs.declared.outcome.Answer.{Answer}
 use Rattle.wasi_world.specs.declared.outcome.Answer.TheVariants.{Pending, Ready}
+use Rattle.wasi_steps.specs.declared.guest_call.GuestCall.TheVariants as guest
 use Rattle.wasi_steps.specs.declared.step.Step.TheVariants as step
 use Rattle.wasi_steps.specs.Reply.{no_values}
 use Rattle.wasi_machine.specs.Machine.{blocked_reply_of, first_ids, resumed_reply, stream_reply_of}
@@ -145,19 +146,19 @@ module _ (contexts : List WasiSocketsCtx) (side : OpId) where
     busy_lets s c e = simple line s given es m i (Some c) e tt (λ gs. refl)
 
     step_lets : (s : Step) → m.store.standing ≡ None → Along line s given es m i (permitted_in m side line None s) (asks_while contexts m line s None)
-    step_lets (step.Write ctx output bytes) e = simple line (step.Write ctx output bytes) given es m i None e tt (λ gs. write_is side m output bytes)
-    step_lets (step.WriteZeroes ctx output len) e = simple line (step.WriteZeroes ctx output len) given es m i None e tt (λ gs. write_is side m output (zeros len))
-    step_lets (step.Splice ctx to from len) e =
-        let s = step.Splice ctx to from len in
+    step_lets (step.Call ctx (guest.Write output bytes)) e = simple line (step.Call ctx (guest.Write output bytes)) given es m i None e tt (λ gs. write_is side m output bytes)
+    step_lets (step.Call ctx (guest.WriteZeroes output len)) e = simple line (step.Call ctx (guest.WriteZeroes output len)) given es m i None e tt (λ gs. write_is side m output (zeros len))
+    step_lets (step.Call ctx (guest.Splice to from len)) e =
+        let s = step.Call ctx (guest.Splice to from len) in
         replied line s given es m i (stream_reply_of number_fields) (let_splice side m (own_of line) to from len) _ (splice_lets contexts side line s line (handles_of s) to from (inl refl) (inr (inl refl)) given es None m len (calls line s given es m i tt e))
-    step_lets (step.BlockingWrite ctx output bytes) e =
-        let s = step.BlockingWrite ctx output bytes in
+    step_lets (step.Call ctx (guest.BlockingWrite output bytes)) e =
+        let s = step.Call ctx (guest.BlockingWrite output bytes) in
         replied line s given es m i (blocked_reply_of no_values line) (let_blocking_write side m (own_of line) output bytes (nat_lt 4096 (length bytes))) _ (blocking_write_lets contexts side line s (first_ids line) output given es None m bytes (calls line s given es m i tt e))
-    step_lets (step.BlockingZeroes ctx output len) e =
-        let s = step.BlockingZeroes ctx output len in
+    step_lets (step.Call ctx (guest.BlockingZeroes output len)) e =
+        let s = step.Call ctx (guest.BlockingZeroes output len) in
         replied line s given es m i (blocked_reply_of no_values line) (let_blocking_write side m (own_of line) output (zeros len) (nat_lt 4096 len)) _ (blocking_zeroes_lets contexts side line s (first_ids line) output given es None m len (calls line s given es m i tt e))
-    step_lets (step.BlockingSplice ctx to from len) e =
-        let s = step.BlockingSplice ctx to from len in
+    step_lets (step.Call ctx (guest.BlockingSplice to from len)) e =
+        let s = step.Call ctx (guest.BlockingSplice to from len) in
         replied line s given es m i (blocked_reply_of number_fields line) (let_blocking_splice side m (own_of line) to from len) _ (blocking_splice_lets contexts side line s (first_ids line) to from len given es None m (calls line s given es m i tt e))
     step_lets (step.Poll n) e = simple line (step.Poll n) given es m i None e tt (λ gs. none_polled n None gs e refl)
     step_lets s e = simple line s given es m i None e tt (λ gs. refl)

@@ -1,5 +1,5 @@
 -- The definitions on logs of datagrams that are not licensed.
-use Rattle.wasi_walks.proofs.Words.{Call, Entry, Has, IsLicensed, List, OpId, Reply, SocketAddrUse, SocketAddressFamily, Some, None, Step, Told}
+use Rattle.wasi_walks.proofs.Words.{Call, Entry, Has, IsLicensed, List, OpId, Reply, SocketAddrUse, SocketAddressFamily, Some, None, GuestCall, Step, Told}
 use Rattle.wasi_walks.proofs.Words.{[], ap, entry, inl, length, length-append, no_fields, number_fields, own_of, refl, subst, sym, ⊤, ◌++◌, ◌∙◌, ◌∷◌, ◌≡◌, ◌≤◌, ℕ}
 use Rattle.std.proofs.Common.{arith}
 use Rattle.wasi_world.specs.declared.call.HandleKind.TheVariants as kind
@@ -19,7 +19,7 @@ sent = record { bytes = 1 ∷ []; remote_address = Some local_81 }
 
 -- a socket is made, bound, gets its streams, sends a datagram and receives
 abbrev datagram_script : List Step
-datagram_script = Step.Network 0 ∷ Step.UdpCreate 0 SocketAddressFamily.Ipv4 ∷ Step.UdpStartBind 0 2 1 local_80 ∷ Step.UdpFinishBind 0 2 ∷ Step.UdpStream 0 2 None ∷ Step.UdpSend 0 4 (sent ∷ []) ∷ Step.UdpReceive 0 3 1 ∷ []
+datagram_script = Step.Call 0 GuestCall.Network ∷ Step.Call 0 (GuestCall.UdpCreate SocketAddressFamily.Ipv4) ∷ Step.Call 0 (GuestCall.UdpStartBind 2 1 local_80) ∷ Step.Call 0 (GuestCall.UdpFinishBind 2) ∷ Step.Call 0 (GuestCall.UdpStream 2 None) ∷ Step.Call 0 (GuestCall.UdpSend 4 (sent ∷ [])) ∷ Step.Call 0 (GuestCall.UdpReceive 3 1) ∷ []
 
 -- the first datagram of the sixth line
 abbrev first : OpId
@@ -57,7 +57,7 @@ first_byte (x ∷ xs) = x
 other_bytes : IsLicensed allowed datagram_script (told_yes ++ sends (2 ∷ []) ∷ []) [] → ⊥
 other_bytes h =
     let may = h.each told_yes (sends (2 ∷ [])) [] refl in
-    let its = at_line (SendsItem told_yes first (own_of 2) local_81 (2 ∷ [])) (Step.UdpSend 0 4 (sent ∷ [])) may.1.origin may.1.at may.1.holds in
+    let its = at_line (SendsItem told_yes first (own_of 2) local_81 (2 ∷ [])) (Step.Call 0 (GuestCall.UdpSend 4 (sent ∷ []))) may.1.origin may.1.at may.1.holds in
     let one : List ℕ = 1 ∷ [] in
     let two : List ℕ = 2 ∷ [] in
     let bytes : one ≡ two = ap (λ (d : OutgoingDatagram). d.bytes) its.item ∙ its.bytes_are in

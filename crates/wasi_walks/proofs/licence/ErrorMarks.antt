@@ -1,6 +1,6 @@
 -- The mark of an error is licensed: it is made for the line whose call of a stream failed, and its parent is a stream that this line
 -- names.
-use Rattle.wasi_walks.proofs.Words.{Allows, Entry, ErrorValue, Has, IsMarkOf, IsMarkedWith, List, MayAsk, OpId, Option, Some, Step, WasiSocketsCtx}
+use Rattle.wasi_walks.proofs.Words.{Allows, Entry, ErrorValue, Has, IsMarkOf, IsMarkedWith, List, MayAsk, OpId, Option, Some, GuestCall, Step, WasiSocketsCtx}
 use Rattle.wasi_walks.proofs.Words.{[], ap, inl, inr, handles_of, kind_at, make_asks, own_of, refl, side_at, step_at, subst, sym, ℕ, ◌∙◌, ◌∷◌, ◌≡◌, ◌⊎◌}
 use Rattle.wasi_records.specs.Records.{tcp2_at}
 use Rattle.wasi_world.specs.declared.call.HandleKind.TheVariants as name
@@ -29,23 +29,23 @@ module _ (contexts : List WasiSocketsCtx) (steps : List Step) (line : ℕ) (orig
     of_two to from i = elim i [ inl e ↦ inl (of_stream to e) | inr k ↦ inr (of_one from k) ]
 
     error_mark : (s : Step) → IsStreamCall s → Has (handles_of s) handle → IsMarkOf es op name.ErrorValue (Some handle) sock s
-    error_mark (Step.Read c input len) m i = of_one input i
-    error_mark (Step.Skip c input len) m i = of_one input i
-    error_mark (Step.BlockingRead c input len) m i = of_one input i
-    error_mark (Step.BlockingSkip c input len) m i = of_one input i
-    error_mark (Step.CheckWrite c output) m i = of_one output i
-    error_mark (Step.Write c output bytes) m i = of_one output i
-    error_mark (Step.WriteZeroes c output len) m i = of_one output i
-    error_mark (Step.Flush c output) m i = of_one output i
-    error_mark (Step.BlockingWrite c output bytes) m i = of_one output i
-    error_mark (Step.BlockingZeroes c output len) m i = of_one output i
-    error_mark (Step.BlockingFlush c output) m i = of_one output i
-    error_mark (Step.Splice c output input len) m i = of_two output input i
-    error_mark (Step.BlockingSplice c output input len) m i = of_two output input i
+    error_mark (Step.Call c (GuestCall.Read input len)) m i = of_one input i
+    error_mark (Step.Call c (GuestCall.Skip input len)) m i = of_one input i
+    error_mark (Step.Call c (GuestCall.BlockingRead input len)) m i = of_one input i
+    error_mark (Step.Call c (GuestCall.BlockingSkip input len)) m i = of_one input i
+    error_mark (Step.Call c (GuestCall.CheckWrite output)) m i = of_one output i
+    error_mark (Step.Call c (GuestCall.Write output bytes)) m i = of_one output i
+    error_mark (Step.Call c (GuestCall.WriteZeroes output len)) m i = of_one output i
+    error_mark (Step.Call c (GuestCall.Flush output)) m i = of_one output i
+    error_mark (Step.Call c (GuestCall.BlockingWrite output bytes)) m i = of_one output i
+    error_mark (Step.Call c (GuestCall.BlockingZeroes output len)) m i = of_one output i
+    error_mark (Step.Call c (GuestCall.BlockingFlush output)) m i = of_one output i
+    error_mark (Step.Call c (GuestCall.Splice output input len)) m i = of_two output input i
+    error_mark (Step.Call c (GuestCall.BlockingSplice output input len)) m i = of_two output input i
     error_mark _ m i = absurd m
 
   -- an accept is no call of a stream
-  not_accept : (n : ℕ) (handles : List ℕ) → MakesCalls steps OfStreams n handles → (c s : ℕ) → origin ≡ Step.TcpAccept c s → own_of n ≡ own_of line → ⊥
+  not_accept : (n : ℕ) (handles : List ℕ) → MakesCalls steps OfStreams n handles → (c s : ℕ) → origin ≡ Step.Call c (GuestCall.TcpAccept s) → own_of n ≡ own_of line → ⊥
   not_accept n handles b c s is e =
       let p : step_at steps line ≡ Some b.origin = subst (λ (o : OpId). step_at steps o.step ≡ Some b.origin) e b.at in
       let q : origin ≡ b.origin = cc in

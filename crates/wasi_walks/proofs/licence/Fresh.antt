@@ -2,7 +2,7 @@
 -- that fits it.
 use Rattle.wasi_walks.proofs.Words.{Accepting, Accepts, BeganBy, Call, Created, Entry, Handed, HandedNone, HandleKind, Has, IpSocketAddress}
 use Rattle.wasi_walks.proofs.Words.{IsLicensed, IsMaker, IsMarkOf, List, Listening, Machine, MarksNoSocket, MayAsk, OpId, Option, Reply}
-use Rattle.wasi_walks.proofs.Words.{SocketAddressFamily, Some, Step, Told, WasiSocketsCtx, [], ap, arith, entry, inl, inr, length}
+use Rattle.wasi_walks.proofs.Words.{SocketAddressFamily, Some, GuestCall, Step, Told, WasiSocketsCtx, [], ap, arith, entry, inl, inr, length}
 use Rattle.wasi_walks.proofs.Words.{marked_by, slice_get, step_at, subst, suc, sym, zero, ℕ, ◌++◌, ◌+◌, ◌<◌, ◌∙◌, ◌∷◌, ◌≡◌, ◌≤◌}
 use Rattle.wasi_walks.proofs.Lists.{Cut, cut_of, has_front, has_split}
 use Rattle.wasi_walks.proofs.licence.State.{name_in, accept_name, AcceptingIsFine, ListeningIsFine, StateIsFine}
@@ -83,35 +83,35 @@ module _ (contexts : List WasiSocketsCtx) (steps : List Step) where
 
     -- the network socket in a socket's mark is of its own line, or was handed over
     marked_below : (op : OpId) (parent : Option ℕ) (x : OpId) (c : Entry) (k : Cut log c) (s : Step) → op.step ≤ length steps → IsMarkOf k.front op name.Tcp2 parent (Some x) s → x.step ≤ length steps
-    marked_below op parent x c k (Step.Network ctx) b m = absurd (let e = m.0 in cc)
-    marked_below op parent x c k (Step.TcpCreate ctx family) b m = let e : x ≡ op = (let q = m.2 in cc) in subst (λ (o : OpId). o.step ≤ length steps) (sym e) b
-    marked_below op parent x c k (Step.UdpCreate ctx family) b m = absurd (let e = m.0 in cc)
-    marked_below op parent x c k (Step.TcpAccept ctx socket) b (inl m) =
+    marked_below op parent x c k (Step.Call ctx GuestCall.Network) b m = absurd (let e = m.0 in cc)
+    marked_below op parent x c k (Step.Call ctx (GuestCall.TcpCreate family)) b m = let e : x ≡ op = (let q = m.2 in cc) in subst (λ (o : OpId). o.step ≤ length steps) (sym e) b
+    marked_below op parent x c k (Step.Call ctx (GuestCall.UdpCreate family)) b m = absurd (let e = m.0 in cc)
+    marked_below op parent x c k (Step.Call ctx (GuestCall.TcpAccept socket)) b (inl m) =
         let e : m.accept ≡ x = (let q = m.side in cc) in
         subst (λ (o : OpId). o.step ≤ length steps) e (handed_below m.accept m.on m.peer m.told (front_in c _ k m.handed))
-    marked_below op parent x c k (Step.TcpAccept ctx socket) b (inr m) = absurd (elim m.stream [ inl e ↦ cc | inr e ↦ cc ])
-    marked_below op parent x c k (Step.TcpFinishConnect ctx socket) b m = absurd (elim m.0 [ inl e ↦ cc | inr e ↦ cc ])
-    marked_below op parent x c k (Step.PipeIn ctx bytes) b m = absurd (let e = m.0 in cc)
-    marked_below op parent x c k (Step.PipeOut ctx capacity) b m = absurd (let e = m.0 in cc)
-    marked_below op parent x c k (Step.Sink ctx) b m = absurd (let e = m.0 in cc)
-    marked_below op parent x c k (Step.ClosedIn ctx) b m = absurd (let e = m.0 in cc)
-    marked_below op parent x c k (Step.ClosedOut ctx) b m = absurd (let e = m.0 in cc)
-    marked_below op parent x c k (Step.Read ctx input len) b m = absurd (let e = m.0 in cc)
-    marked_below op parent x c k (Step.Skip ctx input len) b m = absurd (let e = m.0 in cc)
-    marked_below op parent x c k (Step.CheckWrite ctx output) b m = absurd (let e = m.0 in cc)
-    marked_below op parent x c k (Step.Write ctx output bytes) b m = absurd (let e = m.0 in cc)
-    marked_below op parent x c k (Step.WriteZeroes ctx output len) b m = absurd (let e = m.0 in cc)
-    marked_below op parent x c k (Step.Flush ctx output) b m = absurd (let e = m.0 in cc)
-    marked_below op parent x c k (Step.BlockingRead ctx input len) b m = absurd (let e = m.0 in cc)
-    marked_below op parent x c k (Step.BlockingSkip ctx input len) b m = absurd (let e = m.0 in cc)
-    marked_below op parent x c k (Step.BlockingWrite ctx output bytes) b m = absurd (let e = m.0 in cc)
-    marked_below op parent x c k (Step.BlockingZeroes ctx output len) b m = absurd (let e = m.0 in cc)
-    marked_below op parent x c k (Step.BlockingFlush ctx output) b m = absurd (let e = m.0 in cc)
-    marked_below op parent x c k (Step.Splice ctx output input len) b m = absurd (elim m [ inl e ↦ (let k = e.0 in cc) | inr e ↦ (let k = e.0 in cc) ])
-    marked_below op parent x c k (Step.BlockingSplice ctx output input len) b m = absurd (elim m [ inl e ↦ (let k = e.0 in cc) | inr e ↦ (let k = e.0 in cc) ])
-    marked_below op parent x c k (Step.Resolve ctx network host) b m = absurd (let e = m.0 in cc)
-    marked_below op parent x c k (Step.Subscribe ctx handle) b m = absurd (let e = m.0 in cc)
-    marked_below op parent x c k (Step.UdpStream ctx socket remote) b m = absurd (elim m.0 [ inl e ↦ cc | inr e ↦ cc ])
+    marked_below op parent x c k (Step.Call ctx (GuestCall.TcpAccept socket)) b (inr m) = absurd (elim m.stream [ inl e ↦ cc | inr e ↦ cc ])
+    marked_below op parent x c k (Step.Call ctx (GuestCall.TcpFinishConnect socket)) b m = absurd (elim m.0 [ inl e ↦ cc | inr e ↦ cc ])
+    marked_below op parent x c k (Step.Call ctx (GuestCall.PipeIn bytes)) b m = absurd (let e = m.0 in cc)
+    marked_below op parent x c k (Step.Call ctx (GuestCall.PipeOut capacity)) b m = absurd (let e = m.0 in cc)
+    marked_below op parent x c k (Step.Call ctx GuestCall.Sink) b m = absurd (let e = m.0 in cc)
+    marked_below op parent x c k (Step.Call ctx GuestCall.ClosedIn) b m = absurd (let e = m.0 in cc)
+    marked_below op parent x c k (Step.Call ctx GuestCall.ClosedOut) b m = absurd (let e = m.0 in cc)
+    marked_below op parent x c k (Step.Call ctx (GuestCall.Read input len)) b m = absurd (let e = m.0 in cc)
+    marked_below op parent x c k (Step.Call ctx (GuestCall.Skip input len)) b m = absurd (let e = m.0 in cc)
+    marked_below op parent x c k (Step.Call ctx (GuestCall.CheckWrite output)) b m = absurd (let e = m.0 in cc)
+    marked_below op parent x c k (Step.Call ctx (GuestCall.Write output bytes)) b m = absurd (let e = m.0 in cc)
+    marked_below op parent x c k (Step.Call ctx (GuestCall.WriteZeroes output len)) b m = absurd (let e = m.0 in cc)
+    marked_below op parent x c k (Step.Call ctx (GuestCall.Flush output)) b m = absurd (let e = m.0 in cc)
+    marked_below op parent x c k (Step.Call ctx (GuestCall.BlockingRead input len)) b m = absurd (let e = m.0 in cc)
+    marked_below op parent x c k (Step.Call ctx (GuestCall.BlockingSkip input len)) b m = absurd (let e = m.0 in cc)
+    marked_below op parent x c k (Step.Call ctx (GuestCall.BlockingWrite output bytes)) b m = absurd (let e = m.0 in cc)
+    marked_below op parent x c k (Step.Call ctx (GuestCall.BlockingZeroes output len)) b m = absurd (let e = m.0 in cc)
+    marked_below op parent x c k (Step.Call ctx (GuestCall.BlockingFlush output)) b m = absurd (let e = m.0 in cc)
+    marked_below op parent x c k (Step.Call ctx (GuestCall.Splice output input len)) b m = absurd (elim m [ inl e ↦ (let k = e.0 in cc) | inr e ↦ (let k = e.0 in cc) ])
+    marked_below op parent x c k (Step.Call ctx (GuestCall.BlockingSplice output input len)) b m = absurd (elim m [ inl e ↦ (let k = e.0 in cc) | inr e ↦ (let k = e.0 in cc) ])
+    marked_below op parent x c k (Step.Call ctx (GuestCall.Resolve network host)) b m = absurd (let e = m.0 in cc)
+    marked_below op parent x c k (Step.Call ctx (GuestCall.Subscribe handle)) b m = absurd (let e = m.0 in cc)
+    marked_below op parent x c k (Step.Call ctx (GuestCall.UdpStream socket remote)) b m = absurd (elim m.0 [ inl e ↦ cc | inr e ↦ cc ])
     marked_below op parent x c k _ b m = absurd m
 
     socket_below : (op : OpId) (handle : ℕ) (parent : Option ℕ) (x : OpId) (t : Told) → Has log (entry op (Call.Made handle name.Tcp2 parent (Some x)) t) → x.step ≤ length steps

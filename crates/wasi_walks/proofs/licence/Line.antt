@@ -1,7 +1,7 @@
 -- What holds of a line: the state fits the log, and so does what the line works on.
 use Rattle.wasi_walks.proofs.walks.Moves.{Awaited, Emptied, Numbered}
 use Rattle.wasi_walks.proofs.Words.{BeganBy, Begins, Call, Entry, HandedNone, Has, IpSocketAddress, IsMaker, IsSide, Kind, List, MarksNoSocket, None, Not}
-use Rattle.wasi_walks.proofs.Words.{OpId, Operation, Option, SocketAddressFamily, Some, Step, TcpRecord, Told, WasiSocketsCtx, ap, entry, inl, inr, length}
+use Rattle.wasi_walks.proofs.Words.{OpId, Operation, Option, SocketAddressFamily, Some, GuestCall, Step, TcpRecord, Told, WasiSocketsCtx, ap, entry, inl, inr, length}
 use Rattle.wasi_walks.proofs.Words.{own_of, refl, side_in, subst, sym, with_socket, ℕ, ⊤, ◌∙◌, ◌≡◌, ◌⊎◌}
 use Rattle.wasi_walks.proofs.licence.ListenAsks.{ListenIsFine}
 use Rattle.wasi_walks.proofs.licence.Fresh.{NoMadeBy}
@@ -116,7 +116,7 @@ pub record JoinedIsFine (origin : Step) (es : List Entry) (h : Here) (place : �
   pub peer : IpSocketAddress
   pub context : ℕ
   pub listener : ℕ
-  pub by : origin ≡ Step.TcpAccept context listener
+  pub by : origin ≡ Step.Call context (GuestCall.TcpAccept listener)
   pub side : (r : TcpRecord) → Found h place r → r.side ≡ Some new
   pub of_listener : IsSide es listener on
   pub handed : IsHanded es new on peer
@@ -135,7 +135,7 @@ pub record Licensed (contexts : List WasiSocketsCtx) (steps : List Step) (line :
   pub udp_names : NamesUdpHere steps es h
   pub listens : (place : ℕ) (r : TcpRecord) (op : Operation) → Found h place r → r.listening ≡ Begins op → ListenGoesOn steps es r op
   pub new : (x : OpId) → IsToCome line h.own x → HandedNone es x × MarksNoSocket es x
-  pub unmade : (h.own ≡ Unused) ⊎ NotMarked h.made → (c s : ℕ) → origin ≡ Step.TcpAccept c s → NoMadeBy es (own_of line)
+  pub unmade : (h.own ≡ Unused) ⊎ NotMarked h.made → (c s : ℕ) → origin ≡ Step.Call c (GuestCall.TcpAccept s) → NoMadeBy es (own_of line)
   pub joined : (place : ℕ) → h.made ≡ Joined place → JoinedIsFine origin es h place
   pub marked : (handle place : ℕ) → h.made ≡ Marked handle place → (r : TcpRecord) → Found h place r → MadeSocket line es handle r.side
   pub making : MakingStands steps h.made

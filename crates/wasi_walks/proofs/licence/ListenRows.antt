@@ -1,6 +1,6 @@
 -- The definitions on logs of a listener: that of a run, which is licensed, and others, which are not.
 use Rattle.wasi_walks.proofs.Words.{Accepting, Accepts, Call, Created, Entry, Give, Has, AsyncOperation, InProgress, IpSocketAddress, IsBoundSide, IsLicensed}
-use Rattle.wasi_walks.proofs.Words.{IsMarkOf, Left, List, Machine, MayListen, None, OpId, Reply, SocketAddrUse, SocketAddressFamily, Some, Step}
+use Rattle.wasi_walks.proofs.Words.{IsMarkOf, Left, List, Machine, MayListen, None, OpId, Reply, SocketAddrUse, SocketAddressFamily, Some, GuestCall, Step}
 use Rattle.wasi_walks.proofs.Words.{TcpRecord, TcpState, Told, [], accepted_record, accepted_socket, accepted_state, ap, arith, bind, entry}
 use Rattle.wasi_walks.proofs.Words.{first_state, inl, inr, no_fields, number_fields, own_of, polls, port_of, refl, run, subst, sym, triple_fields}
 use Rattle.wasi_walks.proofs.Words.{true, ℕ, ⊤, ◌++◌, ◌∷◌, ◌≡◌, ◌⊎◌}
@@ -21,7 +21,7 @@ sixth = record { step = 6; part = 1 }
 
 -- == a socket is bound, listens and accepts
 abbrev script : List Step
-script = bind_script ++ (Step.TcpStartListen 0 2 ∷ Step.TcpAccept 0 2 ∷ [])
+script = bind_script ++ (Step.Call 0 (GuestCall.TcpStartListen 2) ∷ Step.Call 0 (GuestCall.TcpAccept 2) ∷ [])
 
 -- by this operation it listens
 abbrev pub listens_by : OpId → ℕ → Told → List Entry
@@ -198,11 +198,11 @@ moved_away h = by_cases (h.each moves listen [] refl).2
 abbrev unhanded : Entry
 unhanded = entry (own_of 6) (Call.Made 3 kind.Tcp2 (Some 2) (Some sixth)) Told.Done
 
-no_mark : IsMarkOf listens (own_of 6) kind.Tcp2 (Some 2) (Some sixth) (Step.TcpAccept 0 2) → ⊥
+no_mark : IsMarkOf listens (own_of 6) kind.Tcp2 (Some 2) (Some sixth) (Step.Call 0 (GuestCall.TcpAccept 2)) → ⊥
 no_mark (inl m) = of_each (λ e. NoHand e.call) listens _ (tt, (tt, (tt, (tt, (tt, (tt, (tt, (tt, (tt, (tt, tt)))))))))) m.handed
 no_mark (inr m) = elim m.stream [ inl e ↦ absurd (cc) | inr e ↦ absurd (cc) ]
 
 handed_to_nobody : IsLicensed allowed script (listens ++ unhanded ∷ []) [] → ⊥
 handed_to_nobody h =
     let may = h.each listens unhanded [] refl in
-    no_mark (at_line (IsMarkOf listens (own_of 6) kind.Tcp2 (Some 2) (Some sixth)) (Step.TcpAccept 0 2) may.1.origin may.1.at may.1.holds)
+    no_mark (at_line (IsMarkOf listens (own_of 6) kind.Tcp2 (Some 2) (Some sixth)) (Step.Call 0 (GuestCall.TcpAccept 2)) may.1.origin may.1.at may.1.holds)

@@ -1,5 +1,5 @@
 -- What a lookup asks is licensed, by its line where it begins and by its record later.
-use Rattle.wasi_walks.proofs.Words.{Call, Entry, List, MayAsk, Option, None, OpId, Some, Step, Told, WasiSocketsCtx, [], context_in, entry, own_of, refl}
+use Rattle.wasi_walks.proofs.Words.{Call, Entry, List, MayAsk, Option, None, OpId, Some, GuestCall, Step, Told, WasiSocketsCtx, [], context_in, entry, own_of, refl}
 use Rattle.wasi_walks.proofs.Words.{slice_get, step_at, subst, sym, true, ℕ, ◌++◌, ◌∷◌, ◌≡◌}
 use Rattle.wasi_walks.specs.Licence.{IsLookupOf, MayLookUp}
 use Rattle.wasi_walks.proofs.walks.Moves.{Here, LooksUp, SameSockets, with_records}
@@ -19,7 +19,7 @@ module _ (contexts : List WasiSocketsCtx) (steps : List Step) (line : ℕ) (orig
   may_look n (Some ctx) e l = record { ctx = ctx; at = e; lookup = l }
 
   is_lookup : (host : List ℕ) (s : Step) → LooksUp contexts host s → IsLookupOf contexts host s
-  is_lookup host (Step.Resolve n network name) l = (may_look n (slice_get contexts n) refl l.0, l.1)
+  is_lookup host (Step.Call n (GuestCall.Resolve network name)) l = (may_look n (slice_get contexts n) refl l.0, l.1)
   is_lookup host _ l = absurd l
 
   -- what it is answered is nothing to the sockets

@@ -3,7 +3,7 @@ use Rattle.wasi_walks.proofs.walks.States.{IsPlain, makes_plain}
 use Rattle.wasi_walks.proofs.walks.Moves.{record_of}
 use Rattle.wasi_walks.proofs.Words.{Allows, BeganBy, Call, Created, Entry, Err, ErrorCode, HandleKind, Has, Input, IsDoneOrCode, IsMaker}
 use Rattle.wasi_walks.proofs.Words.{IsMarkOf, IsMarkedWith, IsSide, IsTcpCreate, Kind, List, MarksNoSocket, MayAsk, MayUseTcp, Network, None, Ok}
-use Rattle.wasi_walks.proofs.Words.{OpId, Option, Output, Pollable, Result, Socket, SocketAddressFamily, Some, Step, Tcp2, TcpRecord, TcpState, Told}
+use Rattle.wasi_walks.proofs.Words.{OpId, Option, Output, Pollable, Result, Socket, SocketAddressFamily, Some, GuestCall, Step, Tcp2, TcpRecord, TcpState, Told}
 use Rattle.wasi_walks.proofs.Words.{WasiSocketsCtx, [], after_create, allows_if, allows_then, ap, bind, context_in, create_handle, created_asks}
 use Rattle.wasi_walks.proofs.Words.{entry, inl, inr, is_full, kind_at, length, make_asks, name_of, new_asks, new_record, new_socket, own_of, place_in}
 use Rattle.wasi_walks.proofs.Words.{refl, side_at, side_in, slice_get, step_at, subst, sym, told_done, true, with_record, ℕ, ⊤, ◌++◌, ◌∙◌, ◌∷◌, ◌≡◌, ◌⊎◌}
@@ -44,7 +44,7 @@ module _ (contexts : List WasiSocketsCtx) (steps : List Step) (line : ℕ) (orig
   -- a mark, and what its handle stands for
   pub made_fine : (es : List Entry) (h : Here) (kind : Kind) (parent : Option ℕ) (sock : Option OpId) → BeganBy steps (own_of line) (IsMarkOf es (own_of line) (name_of kind) parent sock)
       → Spared h.machine.store.records (own_of line) (Call.Made h.machine.table.next (name_of kind) parent sock)
-      → ((c s : ℕ) → origin ≡ Step.TcpAccept c s → (h.own ≡ Unused) ⊎ NotMarked h.made → ⊥)
+      → ((c s : ℕ) → origin ≡ Step.Call c (GuestCall.TcpAccept s) → (h.own ≡ Unused) ⊎ NotMarked h.made → ⊥)
       → ((x : OpId) → IsToCome line h.own x ⊎ ((p : ℕ) × (h.made ≡ Joined p)) → name_of kind ≡ name.Tcp2 → sock ≡ Some x → ⊥)
       → ((t : Told) → NamesItsOwn (es ++ entry (own_of line) (Call.Made h.machine.table.next (name_of kind) parent sock) t ∷ []) h.machine.store.records h.machine.table.next kind) → Licensed contexts steps line origin es h
       → Allows (MayAsk contexts steps) (λ fs made. Licensed contexts steps line origin fs (record h { machine = record h.machine { table = made.1 } })) es (make_asks h.machine.table (own_of line) kind parent sock)
@@ -76,7 +76,7 @@ module _ (contexts : List WasiSocketsCtx) (steps : List Step) (line : ℕ) (orig
 
   -- of a handle that is no socket's
   other_fine : (es : List Entry) (h : Here) (kind : Kind) (parent : Option ℕ) (sock : Option OpId) → BeganBy steps (own_of line) (IsMarkOf es (own_of line) (name_of kind) parent sock) → (name_of kind ≡ name.Tcp2 → ⊥)
-      → ((c s : ℕ) → origin ≡ Step.TcpAccept c s → (h.own ≡ Unused) ⊎ NotMarked h.made → ⊥)
+      → ((c s : ℕ) → origin ≡ Step.Call c (GuestCall.TcpAccept s) → (h.own ≡ Unused) ⊎ NotMarked h.made → ⊥)
       → ((t : Told) → NamesItsOwn (es ++ entry (own_of line) (Call.Made h.machine.table.next (name_of kind) parent sock) t ∷ []) h.machine.store.records h.machine.table.next kind) → Licensed contexts steps line origin es h
       → Allows (MayAsk contexts steps) (λ fs made. Licensed contexts steps line origin fs (record h { machine = record h.machine { table = made.1 } })) es (make_asks h.machine.table (own_of line) kind parent sock)
   other_fine es h kind parent sock o none un f i = made_fine es h kind parent sock o (λ k r x e n t. none (socket_touch (own_of line) x h.machine.table.next (name_of kind) parent sock t)) un (λ x p a. absurd (none a)) f i
@@ -135,15 +135,15 @@ module _ (contexts : List WasiSocketsCtx) (steps : List Step) (line : ℕ) (orig
   marks_none : (es : List Entry) (n : ℕ) (kind : HandleKind) (parent : Option ℕ) (t : Told) → IsMarkedWith (es ++ entry (own_of line) (Call.Made n kind parent None) t ∷ []) n None
   marks_none es n kind parent t = record { op = own_of line; kind = kind; parent = parent; told = t; mark = has_last es _ }
 
-  not_accept : (s : Step) → ((c k : ℕ) → s ≡ Step.TcpAccept c k → ⊥) → origin ≡ s → (c k : ℕ) → origin ≡ Step.TcpAccept c k → (h : Here) → (h.own ≡ Unused) ⊎ NotMarked h.made → ⊥
+  not_accept : (s : Step) → ((c k : ℕ) → s ≡ Step.Call c (GuestCall.TcpAccept k) → ⊥) → origin ≡ s → (c k : ℕ) → origin ≡ Step.Call c (GuestCall.TcpAccept k) → (h : Here) → (h.own ≡ Unused) ⊎ NotMarked h.made → ⊥
   not_accept s n e c k is h u = n c k (sym e ∙ is)
 
   plain_mark : (es : List Entry) (op : OpId) (s : Step) (kind : Kind) → MakesPlain s kind → IsMarkOf es op (name_of kind) None None s
-  plain_mark es op (Step.PipeIn c bytes) (Kind.PlainInput (plain_input.Pipe place)) m = (refl, refl, refl)
-  plain_mark es op (Step.PipeOut c capacity) (Kind.PlainOutput (plain_output.Pipe place)) m = (refl, refl, refl)
-  plain_mark es op (Step.Sink c) (Kind.PlainOutput plain_output.Sink) m = (refl, refl, refl)
-  plain_mark es op (Step.ClosedIn c) (Kind.PlainInput plain_input.Closed) m = (refl, refl, refl)
-  plain_mark es op (Step.ClosedOut c) (Kind.PlainOutput plain_output.Closed) m = (refl, refl, refl)
+  plain_mark es op (Step.Call c (GuestCall.PipeIn bytes)) (Kind.PlainInput (plain_input.Pipe place)) m = (refl, refl, refl)
+  plain_mark es op (Step.Call c (GuestCall.PipeOut capacity)) (Kind.PlainOutput (plain_output.Pipe place)) m = (refl, refl, refl)
+  plain_mark es op (Step.Call c GuestCall.Sink) (Kind.PlainOutput plain_output.Sink) m = (refl, refl, refl)
+  plain_mark es op (Step.Call c GuestCall.ClosedIn) (Kind.PlainInput plain_input.Closed) m = (refl, refl, refl)
+  plain_mark es op (Step.Call c GuestCall.ClosedOut) (Kind.PlainOutput plain_output.Closed) m = (refl, refl, refl)
   plain_mark es op _ _ m = absurd m
 
   plain_name : (kind : Kind) → IsPlain kind → name_of kind ≡ name.Tcp2 → ⊥
@@ -168,13 +168,13 @@ module _ (contexts : List WasiSocketsCtx) (steps : List Step) (line : ℕ) (orig
   pub marked_fine : (es : List Entry) (h : Here) (kind : Kind) (parent : Option ℕ) (sock : Option OpId) → Marks origin h kind parent sock → Licensed contexts steps line origin es h
       → Allows (MayAsk contexts steps) (λ fs made. Licensed contexts steps line origin fs (record h { machine = record h.machine { table = made.1 } })) es (make_asks h.machine.table (own_of line) kind parent sock)
   marked_fine es h _ _ _ (ANetwork c e) i =
-      other_fine es h Network None None (record { origin = origin; at = is_line; holds = subst (IsMarkOf es (own_of line) name.Network None None) (sym e) (refl, refl, refl) }) (λ p. absurd (cc)) (λ a k is. not_accept (Step.Network c) (λ a k p. absurd (cc)) e a k is h) (λ t. (tt, tt, tt)) i
+      other_fine es h Network None None (record { origin = origin; at = is_line; holds = subst (IsMarkOf es (own_of line) name.Network None None) (sym e) (refl, refl, refl) }) (λ p. absurd (cc)) (λ a k is. not_accept (Step.Call c GuestCall.Network) (λ a k p. absurd (cc)) e a k is h) (λ t. (tt, tt, tt)) i
   marked_fine es h kind _ _ (AStream c handle place _ is which e) i =
       let sock = side_at (tcp2_at h.machine.store.records place) in
       let n = names_record es h.machine.store.records handle place (kind_at h.machine.table handle) (ap record_of e.socket) (i.fine.handles handle) in
       let w : IsMarkedWith es handle sock = subst (IsMarkedWith es handle) (sym (ap side_at n.at)) n.marked in
       other_fine es h kind (Some handle) sock (record { origin = origin; at = is_line; holds = subst (IsMarkOf es (own_of line) (name_of kind) (Some handle) sock) (sym is) (stream_name kind place which, (refl, w)) })
-      (no_socket (name_of kind) (stream_name kind place which)) (λ a k p. not_accept (Step.TcpFinishConnect c handle) (λ a k p. absurd (cc)) is a k p h)
+      (no_socket (name_of kind) (stream_name kind place which)) (λ a k p. not_accept (Step.Call c (GuestCall.TcpFinishConnect handle)) (λ a k p. absurd (cc)) is a k p h)
       (λ t. stream_handle _ h.machine.store.records h.machine.table.next place kind which (new_names es h h.machine.table.next place (name_of kind) (Some handle) n.found t n.at)) i
   marked_fine es h kind _ _ (AnAcceptedStream c listener handle place _ r is which m o g) i =
       let sock = side_at (tcp2_at h.machine.store.records place) in
@@ -188,7 +188,7 @@ module _ (contexts : List WasiSocketsCtx) (steps : List Step) (line : ℕ) (orig
       let sock = side_at (tcp2_at h.machine.store.records place) in
       let n = names_record es h.machine.store.records handle place (kind_at h.machine.table handle) e (i.fine.handles handle) in
       let k : IsMarkedWith es handle sock = subst (IsMarkedWith es handle) (sym (ap side_at n.at)) n.marked in
-      other_fine es h (Pollable w) (Some handle) sock (record { origin = origin; at = is_line; holds = subst (IsMarkOf es (own_of line) name.Pollable (Some handle) sock) (sym is) (refl, (refl, k)) }) (λ p. absurd (cc)) (λ a s p. not_accept (Step.Subscribe c handle) (λ a s p. absurd (cc)) is a s p h)
+      other_fine es h (Pollable w) (Some handle) sock (record { origin = origin; at = is_line; holds = subst (IsMarkOf es (own_of line) name.Pollable (Some handle) sock) (sym is) (refl, (refl, k)) }) (λ p. absurd (cc)) (λ a s p. not_accept (Step.Call c (GuestCall.Subscribe handle)) (λ a s p. absurd (cc)) is a s p h)
       (λ t. pollable_handle _ h.machine.store.records h.machine.table.next w p (new_names es h h.machine.table.next place name.Pollable (Some handle) n.found t n.at)) i
   marked_fine es h _ _ _ (AUdpPollable c handle w is p e by) i =
       let place = place_in w in
@@ -196,14 +196,14 @@ module _ (contexts : List WasiSocketsCtx) (steps : List Step) (line : ℕ) (orig
       let n = names_udp es h.machine.store.records handle place (kind_at h.machine.table handle) e (i.fine.handles handle) in
       let k : IsMarkedWith es handle sock = subst (IsMarkedWith es handle) (sym (ap udp_side_at n.at)) n.marked in
       other_fine es h (Pollable w) (Some handle) sock (record { origin = origin; at = is_line; holds = subst (IsMarkOf es (own_of line) name.Pollable (Some handle) sock) (sym is) (refl, (refl, k)) }) (λ p. absurd (cc))
-      (λ a s p. not_accept (Step.Subscribe c handle) (λ a s p. absurd (cc)) is a s p h)
+      (λ a s p. not_accept (Step.Call c (GuestCall.Subscribe handle)) (λ a s p. absurd (cc)) is a s p h)
       (λ t. udp_pollable_handle _ h.machine.store.records h.machine.table.next w p (new_udp_names es h h.machine.table.next place name.Pollable (Some handle) n.found t n.at)) i
   marked_fine es h _ _ _ (ALookup c network place host e there made) i =
-      other_fine es h (Kind.Lookup place) (Some network) None (record { origin = origin; at = is_line; holds = subst (IsMarkOf es (own_of line) name.Lookup (Some network) None) (sym e) (refl, refl, refl) }) (λ p. absurd (cc)) (λ a k p. not_accept (Step.Resolve c network host) (λ a k p. absurd (cc)) e a k p h)
+      other_fine es h (Kind.Lookup place) (Some network) None (record { origin = origin; at = is_line; holds = subst (IsMarkOf es (own_of line) name.Lookup (Some network) None) (sym e) (refl, refl, refl) }) (λ p. absurd (cc)) (λ a k p. not_accept (Step.Call c (GuestCall.Resolve network host)) (λ a k p. absurd (cc)) e a k p h)
       (λ t. (tt, tt, marks_none es h.machine.table.next name.Lookup (Some network) t)) i
   marked_fine es h _ _ _ (ALookupPollable c handle place is e) i =
       let k : IsMarkedWith es handle None = (i.fine.handles handle (Kind.Lookup place) e).2 in
-      other_fine es h (Pollable (Watched.Lookup place)) (Some handle) None (record { origin = origin; at = is_line; holds = subst (IsMarkOf es (own_of line) name.Pollable (Some handle) None) (sym is) (refl, (refl, k)) }) (λ p. absurd (cc)) (λ a s p. not_accept (Step.Subscribe c handle) (λ a s p. absurd (cc)) is a s p h)
+      other_fine es h (Pollable (Watched.Lookup place)) (Some handle) None (record { origin = origin; at = is_line; holds = subst (IsMarkOf es (own_of line) name.Pollable (Some handle) None) (sym is) (refl, (refl, k)) }) (λ p. absurd (cc)) (λ a s p. not_accept (Step.Call c (GuestCall.Subscribe handle)) (λ a s p. absurd (cc)) is a s p h)
       (λ t. (tt, tt, marks_none es h.machine.table.next name.Pollable (Some handle) t)) i
   marked_fine es h kind _ _ (APlain _ m numbered) i =
       let p = makes_plain origin kind m in
@@ -211,11 +211,11 @@ module _ (contexts : List WasiSocketsCtx) (steps : List Step) (line : ℕ) (orig
       (λ t. plain_handle _ h.machine.store.records h.machine.table.next kind p (marks_none es h.machine.table.next (name_of kind) None t)) i
   marked_fine es h _ _ _ (APlainPollable c handle is e) i =
       let k : IsMarkedWith es handle None = plain_named es h.machine.store.records handle (kind_at h.machine.table handle) e (i.fine.handles handle) in
-      other_fine es h (Pollable Watched.Plain) (Some handle) None (record { origin = origin; at = is_line; holds = subst (IsMarkOf es (own_of line) name.Pollable (Some handle) None) (sym is) (refl, (refl, k)) }) (λ p. absurd (cc)) (λ a s p. not_accept (Step.Subscribe c handle) (λ a s p. absurd (cc)) is a s p h)
+      other_fine es h (Pollable Watched.Plain) (Some handle) None (record { origin = origin; at = is_line; holds = subst (IsMarkOf es (own_of line) name.Pollable (Some handle) None) (sym is) (refl, (refl, k)) }) (λ p. absurd (cc)) (λ a s p. not_accept (Step.Call c (GuestCall.Subscribe handle)) (λ a s p. absurd (cc)) is a s p h)
       (λ t. (tt, tt, marks_none es h.machine.table.next name.Pollable (Some handle) t)) i
 
   -- the mark of what was accepted
-  pub accepted_fine : (es : List Entry) (h : Here) (c s place : ℕ) (r : TcpRecord) → origin ≡ Step.TcpAccept c s → h.made ≡ Joined place → h.own ≡ Used → Found h place r → Named line h → Licensed contexts steps line origin es h
+  pub accepted_fine : (es : List Entry) (h : Here) (c s place : ℕ) (r : TcpRecord) → origin ≡ Step.Call c (GuestCall.TcpAccept s) → h.made ≡ Joined place → h.own ≡ Used → Found h place r → Named line h → Licensed contexts steps line origin es h
       → Allows (MayAsk contexts steps) (λ fs made. Licensed contexts steps line origin fs (record h { machine = record h.machine { table = made.1 }; made = made_so place made.0 })) es (make_asks h.machine.table (own_of line) (Tcp2 place) (Some s) (side_at (tcp2_at h.machine.store.records place)))
   unfolding bind
   accepted_fine es h c s place r is e o g b i =
@@ -245,7 +245,7 @@ module _ (contexts : List WasiSocketsCtx) (steps : List Step) (line : ℕ) (orig
             },
       ))
     where
-      same_listener : (a b c d : ℕ) → Step.TcpAccept a b ≡ Step.TcpAccept c d → b ≡ d
+      same_listener : (a b c d : ℕ) → Step.Call a (GuestCall.TcpAccept b) ≡ Step.Call c (GuestCall.TcpAccept d) → b ≡ d
       same_listener a b c d p = cc
 
       apart_there : (new : OpId) (p : ℕ) (q : TcpRecord) (x : OpId) → Found h p q → accept_name q.listening ≡ Some x → new ≡ x → r.side ≡ Some new → ⊥
@@ -270,7 +270,7 @@ module _ (contexts : List WasiSocketsCtx) (steps : List Step) (line : ℕ) (orig
   may_use n (Some ctx) e t = record { ctx = ctx; at = e; named = refl; tcp = t }
 
   may_create : (ctx : WasiSocketsCtx) (family : SocketAddressFamily) (s : Step) → Creates contexts ctx family s → ctx.tcp ≡ true → IsTcpCreate contexts ctx.name family s
-  may_create ctx family (Step.TcpCreate n f) c t =
+  may_create ctx family (Step.Call n (GuestCall.TcpCreate f)) c t =
       let T : WasiSocketsCtx → Type 0 = λ x. x.tcp ≡ true → MayUseTcp contexts n x.name in
       (subst T c.0 (may_use n (slice_get contexts n) refl) t, c.1)
   may_create ctx family _ c t = absurd c
@@ -290,17 +290,17 @@ module _ (contexts : List WasiSocketsCtx) (steps : List Step) (line : ℕ) (orig
       allows_if (MayQuietly contexts steps) (CreatedIsFine ctx.name family) es ctx.tcp _ _ (λ t. (((record { origin = origin; at = is_line; holds = may_create ctx family origin c t }, tt), tt), λ u fits. fine_told es ctx.name family u fits)) (λ t. tt)
 
   created_mark : (es : List Entry) (maker : ℕ) (family : SocketAddressFamily) (ctx : WasiSocketsCtx) (its : SocketAddressFamily) (s : Step) → Creates contexts ctx its s → Has es (entry (own_of line) (Call.TcpCreate maker family) Told.Done) → IsMarkOf es (own_of line) name.Tcp2 None (Some (own_of line)) s
-  created_mark es maker family ctx its (Step.TcpCreate n f) c k = (refl, refl, refl, (maker, family, k))
+  created_mark es maker family ctx its (Step.Call n (GuestCall.TcpCreate f)) c k = (refl, refl, refl, (maker, family, k))
   created_mark es maker family ctx its _ c k = absurd c
 
   maker_is : (es : List Entry) (maker : ℕ) (family : SocketAddressFamily) (side : OpId) → Some (own_of line) ≡ Some side → IsMaker es maker family (own_of line) → IsMaker es maker family side
   maker_is es maker family side e i = subst (IsMaker es maker family) (sym (some_same side (own_of line) e)) i
 
   makes_tcp : (ctx : WasiSocketsCtx) (family : SocketAddressFamily) (s : Step) → Creates contexts ctx family s → MakesTcp s
-  makes_tcp ctx family (Step.TcpCreate n f) c = tt
+  makes_tcp ctx family (Step.Call n (GuestCall.TcpCreate f)) c = tt
   makes_tcp ctx family _ c = c
 
-  creates_only : (ctx : WasiSocketsCtx) (family : SocketAddressFamily) → Creates contexts ctx family origin → (c s : ℕ) → origin ≡ Step.TcpAccept c s → ⊥
+  creates_only : (ctx : WasiSocketsCtx) (family : SocketAddressFamily) → Creates contexts ctx family origin → (c s : ℕ) → origin ≡ Step.Call c (GuestCall.TcpAccept s) → ⊥
   creates_only ctx family k c s e = subst (Creates contexts ctx family) e k
 
   pub joins : (es : List Entry) (h : Here) (ctx : WasiSocketsCtx) (family : SocketAddressFamily) (made : Result Socket ErrorCode) → Creates contexts ctx family origin → h.at ≡ None → h.own ≡ Unused → h.made ≡ Past → CreatedIsFine ctx.name family es made → Named line h → Licensed contexts steps line origin es h

@@ -1,6 +1,6 @@
 -- In a licensed log a handle has one network socket, and a network socket one creator and one family.
 use Rattle.wasi_walks.proofs.Words.{BeganBy, Call, Created, Entry, Hand, Handed, Has, IpSocketAddress, IsLicensed, IsMaker, IsSide, IsTcpCreate, List}
-use Rattle.wasi_walks.proofs.Words.{MayAsk, NamesSide, OpId, Reply, SocketAddressFamily, Step, TcpCreate, Told, WasiSocketsCtx, [], ap, arith, entry}
+use Rattle.wasi_walks.proofs.Words.{MayAsk, NamesSide, OpId, Reply, SocketAddressFamily, GuestCall, Step, TcpCreate, Told, WasiSocketsCtx, [], ap, arith, entry}
 use Rattle.wasi_walks.proofs.Words.{handles_of, inl, inr, marked_by, marks_in, refl, subst, sym, ℕ, ◌++◌, ◌∙◌, ◌∷◌, ◌≡◌, ◌⊎◌}
 use Rattle.wasi_walks.specs.Licence.{IsUdpCreate, UdpCreated}
 use Rattle.wasi_world.specs.declared.call.Call.TheVariants.{UdpCreate}
@@ -50,7 +50,7 @@ module _ (contexts : List WasiSocketsCtx) (steps : List Step) (log : List Entry)
   created_by side ctx family t i = may_at _ (cut_of log _ i)
 
   one_create : (s : Step) (c d : ℕ) (f g : SocketAddressFamily) → IsTcpCreate contexts c f s → IsTcpCreate contexts d g s → (c ≡ d) × (f ≡ g)
-  one_create (Step.TcpCreate ctx family) c d f g a b =
+  one_create (Step.Call ctx (GuestCall.TcpCreate family)) c d f g a b =
       let p = a.0.at in
       let q = b.0.at in
       let e : a.0.ctx ≡ b.0.ctx = cc in
@@ -60,7 +60,7 @@ module _ (contexts : List WasiSocketsCtx) (steps : List Step) (log : List Entry)
 
   -- a create names no listener
   names_none : (s : Step) (c : ℕ) (f : SocketAddressFamily) (handle : ℕ) → IsTcpCreate contexts c f s → Has (handles_of s) handle → ⊥
-  names_none (Step.TcpCreate ctx family) c f handle a i = i
+  names_none (Step.Call ctx (GuestCall.TcpCreate family)) c f handle a i = i
   names_none _ c f handle a i = absurd a
 
   -- the same of a UDP socket
@@ -68,7 +68,7 @@ module _ (contexts : List WasiSocketsCtx) (steps : List Step) (log : List Entry)
   udp_created_by side ctx family t i = may_at _ (cut_of log _ i)
 
   one_udp_create : (s : Step) (c d : ℕ) (f g : SocketAddressFamily) → IsUdpCreate contexts c f s → IsUdpCreate contexts d g s → (c ≡ d) × (f ≡ g)
-  one_udp_create (Step.UdpCreate ctx family) c d f g a b =
+  one_udp_create (Step.Call ctx (GuestCall.UdpCreate family)) c d f g a b =
       let p = a.0.at in
       let q = b.0.at in
       let e : a.0.ctx ≡ b.0.ctx = cc in
@@ -77,12 +77,12 @@ module _ (contexts : List WasiSocketsCtx) (steps : List Step) (log : List Entry)
   one_udp_create _ c d f g a b = absurd a
 
   udp_names_none : (s : Step) (c : ℕ) (f : SocketAddressFamily) (handle : ℕ) → IsUdpCreate contexts c f s → Has (handles_of s) handle → ⊥
-  udp_names_none (Step.UdpCreate ctx family) c f handle a i = i
+  udp_names_none (Step.Call ctx (GuestCall.UdpCreate family)) c f handle a i = i
   udp_names_none _ c f handle a i = absurd a
 
   -- a step makes a TCP socket or a UDP socket
   one_kind : (s : Step) (c d : ℕ) (f g : SocketAddressFamily) → IsTcpCreate contexts c f s → IsUdpCreate contexts d g s → ⊥
-  one_kind (Step.TcpCreate ctx family) c d f g a b = b
+  one_kind (Step.Call ctx (GuestCall.TcpCreate family)) c d f g a b = b
   one_kind _ c d f g a b = a
 
   kinds_apart : (c d : ℕ) (f g : SocketAddressFamily) (side : OpId) (t u : Told) → Has log (entry side (TcpCreate c f) t) → Has log (entry side (UdpCreate d g) u) → ⊥

@@ -1,5 +1,5 @@
 -- The definitions on a log of a call for several pollables: one line begins several accepts, and the log is licensed.
-use Rattle.wasi_walks.proofs.Words.{Call, Entry, Give, IpSocketAddress, IsLicensed, Left, List, Machine, None, Reply, SocketAddrUse, SocketAddressFamily, Some, Step, Told, []}
+use Rattle.wasi_walks.proofs.Words.{Call, Entry, Give, IpSocketAddress, IsLicensed, Left, List, Machine, None, Reply, SocketAddrUse, SocketAddressFamily, Some, GuestCall, Step, Told, []}
 use Rattle.wasi_walks.proofs.Words.{bind, entry, first_state, no_fields, number_fields, own_of, polls, refl, run, triple_fields, wildcard, ◌++◌, ◌∷◌}
 use Rattle.wasi_world.specs.Asks.{Asks, Ask}
 use Rattle.wasi_steps.specs.Reply.{numbers_fields}
@@ -13,18 +13,18 @@ use Rattle.wasi_world.specs.declared.call.HandleKind.TheVariants as kind
 -- two listeners, with a pollable each; the call names the first of these twice
 abbrev script : List Step
 script = bind_script
-    ++ (Step.TcpStartListen 0 2
-    ∷ Step.TcpFinishListen 0 2
-    ∷ Step.Subscribe 0 2
-    ∷ Step.TcpCreate 0 SocketAddressFamily.Ipv4
-    ∷ Step.TcpStartBind 0 4 1 local_81
-    ∷ Step.TcpFinishBind 0 4
-    ∷ Step.TcpStartListen 0 4
-    ∷ Step.TcpFinishListen 0 4
-    ∷ Step.Subscribe 0 4
-    ∷ Step.PollList 0 (3 ∷ 5 ∷ 3 ∷ [])
+    ++ (Step.Call 0 (GuestCall.TcpStartListen 2)
+    ∷ Step.Call 0 (GuestCall.TcpFinishListen 2)
+    ∷ Step.Call 0 (GuestCall.Subscribe 2)
+    ∷ Step.Call 0 (GuestCall.TcpCreate SocketAddressFamily.Ipv4)
+    ∷ Step.Call 0 (GuestCall.TcpStartBind 4 1 local_81)
+    ∷ Step.Call 0 (GuestCall.TcpFinishBind 4)
+    ∷ Step.Call 0 (GuestCall.TcpStartListen 4)
+    ∷ Step.Call 0 (GuestCall.TcpFinishListen 4)
+    ∷ Step.Call 0 (GuestCall.Subscribe 4)
+    ∷ Step.Call 0 (GuestCall.PollList (3 ∷ 5 ∷ 3 ∷ []))
     ∷ Step.Poll 14
-    ∷ Step.TcpAccept 0 4
+    ∷ Step.Call 0 (GuestCall.TcpAccept 4)
     ∷ [])
 
 abbrev peer : IpSocketAddress

@@ -1,5 +1,5 @@
 -- Of replies that a log may go with: it still may under more entries and by more steps, and so may fewer of them, and one more.
-use Rattle.wasi_walks.proofs.Words.{Allows, Ask, AskWrite, Asks, Call, Entry, Give, List, OpId, Reply, Step, [], length}
+use Rattle.wasi_walks.proofs.Words.{Allows, Ask, AskWrite, Asks, Call, Entry, Give, List, OpId, Reply, GuestCall, Step, [], length}
 use Rattle.wasi_walks.proofs.Words.{ℕ, ◌++◌, ◌∷◌, ◌≡◌}
 use Rattle.std.proofs.Common.{arith}
 use Rattle.wasi_steps.specs.declared.reply.Field.{Field}
@@ -21,8 +21,8 @@ hands_more es fs handle fields h = record {
 
 -- one reply
 reply_more : (es fs : List Entry) (s : Step) (r : Reply) → MayReply es s r → MayReply (es ++ fs) s r
-reply_more es fs (Step.UdpReceive ctx handle most) (Reply.Ok fields) h = hands_more es fs handle fields h
-reply_more es fs (Step.UdpReceive ctx handle most) _ h = h
+reply_more es fs (Step.Call ctx (GuestCall.UdpReceive handle most)) (Reply.Ok fields) h = hands_more es fs handle fields h
+reply_more es fs (Step.Call ctx (GuestCall.UdpReceive handle most)) _ h = h
 reply_more es fs _ r h = h
 
 -- all of them

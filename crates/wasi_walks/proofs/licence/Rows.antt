@@ -1,6 +1,6 @@
 -- The definitions on logs of the machine's own runs, which are licensed.
 use Rattle.wasi_walks.proofs.Words.{BeganBy, Call, Created, Entry, Give, HandleTable, Has, InProgress, IpSocketAddress, IsLicensed, Left, List, Machine}
-use Rattle.wasi_walks.proofs.Words.{NamesSide, None, Option, Reply, SocketAddrUse, SocketAddressFamily, Some, Standing, StandingCall, Step, Told}
+use Rattle.wasi_walks.proofs.Words.{NamesSide, None, Option, Reply, SocketAddrUse, SocketAddressFamily, Some, Standing, StandingCall, GuestCall, Step, Told}
 use Rattle.wasi_walks.proofs.Words.{WasiSocketsCtx, [], bind, bind_operation, entry, false, first_state, inl, inr, new_record, new_socket, no_fields}
 use Rattle.wasi_walks.proofs.Words.{number_fields, own_of, polls, refl, run, standing_as, true, wildcard, with_progress, ℕ, ◌++◌, ◌∷◌}
 use Rattle.wasi_machine.specs.Machine.{first_ids}
@@ -42,7 +42,7 @@ with_socket ctx f doing standing = record {
 
 -- == a bind
 abbrev pub bind_script : List Step
-bind_script = Step.Network 0 ∷ Step.TcpCreate 0 SocketAddressFamily.Ipv4 ∷ Step.TcpStartBind 0 2 1 local_80 ∷ Step.TcpFinishBind 0 2 ∷ []
+bind_script = Step.Call 0 GuestCall.Network ∷ Step.Call 0 (GuestCall.TcpCreate SocketAddressFamily.Ipv4) ∷ Step.Call 0 (GuestCall.TcpStartBind 2 1 local_80) ∷ Step.Call 0 (GuestCall.TcpFinishBind 2) ∷ []
 
 -- a network, and a socket that the second line makes by this context
 abbrev pub creates : ℕ → SocketAddressFamily → List Entry
@@ -66,7 +66,7 @@ bind_run = ((refl, refl, tt), ((refl, refl, tt), ((refl, refl, tt), ((refl, refl
 -- the third line names the socket, where the log has its mark
 names_socket : (before : List Entry) → Has before (entry (own_of 2) (Call.Made 2 kind.Tcp2 None (Some (own_of 2))) Told.Done) → BeganBy bind_script (own_of 3) (NamesSide before (own_of 2))
 names_socket before h = record {
-  origin = Step.TcpStartBind 0 2 1 local_80;
+  origin = Step.Call 0 (GuestCall.TcpStartBind 2 1 local_80);
   at = refl;
   holds = record { handle = 2; named = inl refl; is = record { op = own_of 2; kind = kind.Tcp2; parent = None; told = Told.Done; mark = h } };
 }
@@ -74,11 +74,11 @@ names_socket before h = record {
 -- by hand
 bind_licensed : IsLicensed allowed bind_script bind_log []
 bind_licensed = licensed allowed bind_script bind_log (
-  (refl, record { origin = Step.Network 0; at = refl; holds = (refl, refl, refl) }),
+  (refl, record { origin = Step.Call 0 GuestCall.Network; at = refl; holds = (refl, refl, refl) }),
   (
-    record { origin = Step.TcpCreate 0 SocketAddressFamily.Ipv4; at = refl; holds = (record { ctx = context 0; at = refl; named = refl; tcp = refl }, refl) },
+    record { origin = Step.Call 0 (GuestCall.TcpCreate SocketAddressFamily.Ipv4); at = refl; holds = (record { ctx = context 0; at = refl; named = refl; tcp = refl }, refl) },
     (
-      (refl, record { origin = Step.TcpCreate 0 SocketAddressFamily.Ipv4; at = refl; holds = (refl, refl, refl, (0, SocketAddressFamily.Ipv4, inr (inl refl))) }),
+      (refl, record { origin = Step.Call 0 (GuestCall.TcpCreate SocketAddressFamily.Ipv4); at = refl; holds = (refl, refl, refl, (0, SocketAddressFamily.Ipv4, inr (inl refl))) }),
       (
         inl (names_socket _ (inr (inr (inl refl)))),
         (
@@ -86,9 +86,9 @@ bind_licensed = licensed allowed bind_script bind_log (
           (
             (
               inl (names_socket _ (inr (inr (inl refl)))),
-              record { origin = Step.TcpStartBind 0 2 1 local_80; at = refl; holds = refl },
+              record { origin = Step.Call 0 (GuestCall.TcpStartBind 2 1 local_80); at = refl; holds = refl },
               record { ctx = 0; family = SocketAddressFamily.Ipv4; maker = Created (own_of 2) Told.Done (inr (inl refl)); checked = inr (inr (inr (inr (inl refl)))) },
-              record { origin = Step.TcpCreate 0 SocketAddressFamily.Ipv4; at = refl; holds = tt },
+              record { origin = Step.Call 0 (GuestCall.TcpCreate SocketAddressFamily.Ipv4); at = refl; holds = tt },
             ),
             tt,
           ),
@@ -103,7 +103,7 @@ abbrev local_six : IpSocketAddress
 local_six = IpSocketAddress.Ipv6 (record { port = 80; flow_info = 0; address = (8193, 3512, 0, 0, 0, 0, 0, 1); scope_id = 0 })
 
 abbrev stands_script : List Step
-stands_script = Step.Network 0 ∷ Step.TcpCreate 1 SocketAddressFamily.Ipv6 ∷ Step.TcpStartBind 0 2 1 local_six ∷ Step.Network 0 ∷ Step.TcpFinishBind 1 2 ∷ []
+stands_script = Step.Call 0 GuestCall.Network ∷ Step.Call 1 (GuestCall.TcpCreate SocketAddressFamily.Ipv6) ∷ Step.Call 0 (GuestCall.TcpStartBind 2 1 local_six) ∷ Step.Call 0 GuestCall.Network ∷ Step.Call 1 (GuestCall.TcpFinishBind 2) ∷ []
 
 abbrev stands_log : List Entry
 stands_log = creates 1 SocketAddressFamily.Ipv6
@@ -124,7 +124,7 @@ stands_licensed = whole_licensed two_contexts stands_script stands_log stands_re
 
 -- == a context that may not use TCP creates nothing
 abbrev forbidden_script : List Step
-forbidden_script = Step.Network 0 ∷ Step.TcpCreate 0 SocketAddressFamily.Ipv4 ∷ []
+forbidden_script = Step.Call 0 GuestCall.Network ∷ Step.Call 0 (GuestCall.TcpCreate SocketAddressFamily.Ipv4) ∷ []
 
 forbidden_run : Left (run forbidden [] first_state 1 forbidden_script) (entry (own_of 1) (Call.Made 1 kind.Network None None) Told.Done ∷ [])
     (Give (Reply.Ok (number_fields 1) ∷ Reply.Err word.AccessDenied ∷ [], record { table = record { next = 2; live = record { handle = 1; value = slot.Network; parent = None } ∷ [] }; store = record { records = []; jobs = []; standing = None } }))

@@ -1,6 +1,6 @@
 -- What a line asks of a UDP socket by its own operation is licensed, and so are a create and the mark of its handle.
 use Rattle.wasi_walks.proofs.Words.{Allows, BeganBy, Bool, Call, Entry, IsAddr, IsDoneOrCode, IsMarkOf, Has, List, MarksNoSocket, MayAsk, Ok, None, OpId, Option}
-use Rattle.wasi_walks.proofs.Words.{SocketAddressFamily, Some, Step, Told, WasiSocketsCtx, [], allows_if, allows_weaker, ap, bind, context_in, entry, false}
+use Rattle.wasi_walks.proofs.Words.{SocketAddressFamily, Some, GuestCall, Step, Told, WasiSocketsCtx, [], allows_if, allows_weaker, ap, bind, context_in, entry, false}
 use Rattle.wasi_walks.proofs.Words.{if◌then◌else◌, inl, inr, is_full, is_wildcard, make_asks, own_of, refl, slice_get, step_at, subst, sym, told_addr}
 use Rattle.wasi_walks.proofs.Words.{told_done, true, ℕ, ◌++◌, ◌∙◌, ◌∷◌, ◌≡◌}
 use Rattle.wasi_walks.specs.Licence.{IsDisconnect, IsGetOf, IsMarkedWith, IsSetTo, IsStreamOf, IsUdpCreate, MayUseUdp, UdpCreated}
@@ -35,7 +35,7 @@ use Rattle.wasi_walks.proofs.Places.{push_was, tcp_sort, udp_sort}
 module _ (contexts : List WasiSocketsCtx) (steps : List Step) (line : ℕ) (origin : Step) (is_line : step_at steps line ≡ Some origin) where
   -- == a UDP socket's network socket is none of a TCP socket's
   one_kind : (s : Step) → MakesTcp s → MakesUdp s → ⊥
-  one_kind (Step.TcpCreate ctx family) a b = b
+  one_kind (Step.Call ctx (GuestCall.TcpCreate family)) a b = b
   one_kind _ a b = a
 
   pub kinds_apart : (side : OpId) → BeganBy steps side MakesTcp → BeganBy steps side MakesUdp → ⊥
@@ -127,16 +127,16 @@ module _ (contexts : List WasiSocketsCtx) (steps : List Step) (line : ℕ) (orig
   may_use n (Some ctx) e t = record { ctx = ctx; at = e; named = refl; udp = t }
 
   may_create : (ctx : WasiSocketsCtx) (family : SocketAddressFamily) (s : Step) → CreatesUdp contexts ctx family s → ctx.udp ≡ true → IsUdpCreate contexts ctx.name family s
-  may_create ctx family (Step.UdpCreate n f) c t =
+  may_create ctx family (Step.Call n (GuestCall.UdpCreate f)) c t =
       let T : WasiSocketsCtx → Type 0 = λ x. x.udp ≡ true → MayUseUdp contexts n x.name in
       (subst T c.0 (may_use n (slice_get contexts n) refl) t, c.1)
   may_create ctx family _ c t = absurd c
 
   makes_udp : (ctx : WasiSocketsCtx) (family : SocketAddressFamily) (s : Step) → CreatesUdp contexts ctx family s → MakesUdp s
-  makes_udp ctx family (Step.UdpCreate n f) c = tt
+  makes_udp ctx family (Step.Call n (GuestCall.UdpCreate f)) c = tt
   makes_udp ctx family _ c = c
 
-  creates_only : (ctx : WasiSocketsCtx) (family : SocketAddressFamily) → CreatesUdp contexts ctx family origin → (c s : ℕ) → origin ≡ Step.TcpAccept c s → ⊥
+  creates_only : (ctx : WasiSocketsCtx) (family : SocketAddressFamily) → CreatesUdp contexts ctx family origin → (c s : ℕ) → origin ≡ Step.Call c (GuestCall.TcpAccept s) → ⊥
   creates_only ctx family k c s e = subst (CreatesUdp contexts ctx family) e k
 
   -- a network socket that was made has its record
@@ -180,14 +180,14 @@ module _ (contexts : List WasiSocketsCtx) (steps : List Step) (line : ℕ) (orig
 
   -- == the mark of its handle, which has the name of the create
   udp_mark : (es : List Entry) (side : OpId) (maker : ℕ) (family : SocketAddressFamily) (s : Step) → MakesUdp s → Has es (entry side (Call.UdpCreate maker family) Told.Done) → IsMarkOf es side name.Udp2 None (Some side) s
-  udp_mark es side maker family (Step.UdpCreate ctx f) m has = (refl, refl, refl, (maker, family, has))
+  udp_mark es side maker family (Step.Call ctx (GuestCall.UdpCreate f)) m has = (refl, refl, refl, (maker, family, has))
   udp_mark es side maker family _ m has = absurd m
 
   began_mark : (es : List Entry) (side : OpId) (maker : ℕ) (family : SocketAddressFamily) → UdpMade steps es side maker family → BeganBy steps side (IsMarkOf es side name.Udp2 None (Some side))
   began_mark es side maker family m = record { origin = m.by.origin; at = m.by.at; holds = udp_mark es side maker family m.by.origin m.by.holds m.created }
 
   -- an accept is no create
-  not_accept : (side : OpId) → BeganBy steps side MakesUdp → (c s : ℕ) → origin ≡ Step.TcpAccept c s → side ≡ own_of line → ⊥
+  not_accept : (side : OpId) → BeganBy steps side MakesUdp → (c s : ℕ) → origin ≡ Step.Call c (GuestCall.TcpAccept s) → side ≡ own_of line → ⊥
   not_accept side b c s is e =
       let p : step_at steps line ≡ Some b.origin = subst (λ (o : OpId). step_at steps o.step ≡ Some b.origin) e b.at in
       let q : origin ≡ b.origin = cc in
@@ -211,7 +211,7 @@ module _ (contexts : List WasiSocketsCtx) (steps : List Step) (line : ℕ) (orig
   is_made es (UdpRecord.Closed side) f = record { maker = f.maker; family = f.family; made = f.made }
 
   -- a mark by an operation that isn't the own one of an accept, of no TCP socket's handle
-  pub mark_fine : (es : List Entry) (h : Here) (op : OpId) (kind : Kind) (parent : Option ℕ) (sock : Option OpId) → BeganBy steps op (IsMarkOf es op (name_of kind) parent sock) → ((c s : ℕ) → origin ≡ Step.TcpAccept c s → op ≡ own_of line → ⊥) → (name_of kind ≡ name.Tcp2 → ⊥)
+  pub mark_fine : (es : List Entry) (h : Here) (op : OpId) (kind : Kind) (parent : Option ℕ) (sock : Option OpId) → BeganBy steps op (IsMarkOf es op (name_of kind) parent sock) → ((c s : ℕ) → origin ≡ Step.Call c (GuestCall.TcpAccept s) → op ≡ own_of line → ⊥) → (name_of kind ≡ name.Tcp2 → ⊥)
       → ((t : Told) → NamesItsOwn (es ++ entry op (Call.Made h.machine.table.next (name_of kind) parent sock) t ∷ []) h.machine.store.records h.machine.table.next kind) → Licensed contexts steps line origin es h
       → Allows (MayAsk contexts steps) (λ fs made. Licensed contexts steps line origin fs (record h { machine = record h.machine { table = made.1 } })) es (make_asks h.machine.table op kind parent sock)
   unfolding bind
@@ -261,10 +261,10 @@ module _ (contexts : List WasiSocketsCtx) (steps : List Step) (line : ℕ) (orig
   stream_handle fs records handle place kind (inr e) n = subst (NamesItsOwn fs records handle) (sym e) (tt, n, tt)
 
   stream_mark : (es : List Entry) (op : OpId) (handle : ℕ) (kind : HandleKind) (sock : Option OpId) → (kind ≡ name.Incoming) ⊎ (kind ≡ name.Outgoing) → IsMarkedWith es handle sock → (s : Step) → IsStreamOf handle s → IsMarkOf es op kind (Some handle) sock s
-  stream_mark es op handle kind sock which w (Step.UdpStream c socket remote) e = (which, (ap (λ (n : ℕ). Some n) (sym e), subst (λ (n : ℕ). IsMarkedWith es n sock) (sym e) w))
+  stream_mark es op handle kind sock which w (Step.Call c (GuestCall.UdpStream socket remote)) e = (which, (ap (λ (n : ℕ). Some n) (sym e), subst (λ (n : ℕ). IsMarkedWith es n sock) (sym e) w))
   stream_mark es op handle kind sock which w _ e = absurd e
 
-  no_stream : (n handle : ℕ) → MakesStreams steps n handle → (c s : ℕ) → origin ≡ Step.TcpAccept c s → own_of n ≡ own_of line → ⊥
+  no_stream : (n handle : ℕ) → MakesStreams steps n handle → (c s : ℕ) → origin ≡ Step.Call c (GuestCall.TcpAccept s) → own_of n ≡ own_of line → ⊥
   no_stream n handle b c s is e =
       let p : step_at steps line ≡ Some b.origin = subst (λ (o : OpId). step_at steps o.step ≡ Some b.origin) e b.at in
       let q : origin ≡ b.origin = cc in

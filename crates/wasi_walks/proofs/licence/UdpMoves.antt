@@ -1,5 +1,5 @@
 -- The moves of a line that are on UDP sockets keep that the state fits the log.
-use Rattle.wasi_walks.proofs.Words.{Entry, Has, IpSocketAddress, IsMarkedWith, List, Option, Some, Standing, Step, TcpRecord, Told, WasiSocketsCtx, ap}
+use Rattle.wasi_walks.proofs.Words.{Entry, Has, IpSocketAddress, IsMarkedWith, List, Option, Some, Standing, GuestCall, Step, TcpRecord, Told, WasiSocketsCtx, ap}
 use Rattle.wasi_walks.proofs.Words.{call_place, handles_of, inl, inr, kind_at, own_of, refl, slice_get, step_at, subst, sym, ℕ, ◌∙◌, ◌≡◌, ◌⊎◌}
 use Rattle.wasi_walks.specs.Licence.{IsBoundSide, IsSendOf, IsStreamOf, IsUdpBindTo, IsUdpConnectTo, Receives, UdpCreated, WasDisconnected}
 use Rattle.wasi_walks.proofs.walks.Moves.{Own, ToConnect, ToStream, part_of, begun_udp_connect, sending_now, receiving_now, sending_in, receiving_in, Here, put_udp, FoundUdp, record_of, udp_record_of, UdpPlain, IsUdpSettled, begun_udp_bind, Used, IsOfHandle}
@@ -142,7 +142,7 @@ module _ (contexts : List WasiSocketsCtx) (steps : List Step) (line : ℕ) (orig
       spent es _ (put_udp_fine es h place (UdpRecord.Open o) (UdpRecord.Open now) g refl (record { made = f.made; bound = f.bound; progress = begun; connecting = f.connecting; sending = f.sending; receiving = f.receiving }) i)
 
   -- == datagram streams
-  pub remembers_streams : (es : List Entry) (h : Here) (c handle place : ℕ) (remote : Option IpSocketAddress) → origin ≡ Step.UdpStream c handle remote → Licensed contexts steps line origin es h → Licensed contexts steps line origin es (record h { made = ToStream line handle place })
+  pub remembers_streams : (es : List Entry) (h : Here) (c handle place : ℕ) (remote : Option IpSocketAddress) → origin ≡ Step.Call c (GuestCall.UdpStream handle remote) → Licensed contexts steps line origin es h → Licensed contexts steps line origin es (record h { made = ToStream line handle place })
   remembers_streams es h c handle place remote is i = remade es h (ToStream line handle place) tt (record { origin = origin; at = is_line; holds = subst (IsStreamOf handle) (sym is) refl }) i
 
   pub recalls_streams : (es : List Entry) (h : Here) (ids : Ids) (place handle : ℕ) → h.machine.store.standing ≡ Some (standing_as ids (StandingCall.UdpConnect place handle)) → Licensed contexts steps line origin es h → Licensed contexts steps line origin es (record h { made = ToStream ids.line handle place; own = ToConnect place })

@@ -1,5 +1,5 @@
 -- The law of it: each move and each ask keeps what is live of the records.
-use Rattle.wasi_walks.proofs.Words.{End, Err, ErrorCode, ErrorValue, HandleTable, Input, Item, Kind, List, Network, None, Ok, OpId, Operation, Option, Output, Pollable, Result, Some, Step, Tcp2, TcpRecord, WasiSocketsCtx, Watched}
+use Rattle.wasi_walks.proofs.Words.{End, Err, ErrorCode, ErrorValue, HandleTable, Input, Item, Kind, List, Network, None, Ok, OpId, Operation, Option, Output, Pollable, Result, Some, GuestCall, Step, Tcp2, TcpRecord, WasiSocketsCtx, Watched}
 use Rattle.wasi_walks.proofs.Words.{[], ap, arith, inl, inr, kind_at, length, new_record, own_of, poll_asks, refl, slice_get, slice_set, subst, sym, table_parent, watched_by, with_handle, with_writer, ℕ, ⊤, ◌++◌, ◌∷◌, ◌∙◌, ◌≡◌, ◌⊎◌}
 use Rattle.wasi_table.specs.Table.{Live}
 use Rattle.wasi_udp.specs.Create.{Create, after_create as udp_after_create}
@@ -215,24 +215,24 @@ two_own_none kind a b place (inr e) x y f = absurd (let p : None ≡ Some place 
 
 -- an input or an output of no connection
 plain_fits : (h : Here) (s : Step) (kind : Kind) → MakesPlain s kind → IsNumbered h kind → Owns h → IsNew h.machine.table h.machine.store.records kind (table_parent kind None)
-plain_fits h (Step.PipeIn c bytes) (PlainInput (plain_input.Pipe place)) makes k i =
+plain_fits h (Step.Call c (GuestCall.PipeIn bytes)) (PlainInput (plain_input.Pipe place)) makes k i =
     owner_fits h.machine.table h.machine.store.records (PlainInput (plain_input.Pipe place)) place None refl (λ w e. absurd (cc)) ((subst (MadeSo h.machine.table h.machine.store.records) k.0 i.1).1 refl) k.1
-plain_fits h (Step.PipeOut c capacity) (PlainOutput (plain_output.Pipe place)) makes k i =
+plain_fits h (Step.Call c (GuestCall.PipeOut capacity)) (PlainOutput (plain_output.Pipe place)) makes k i =
     owner_fits h.machine.table h.machine.store.records (PlainOutput (plain_output.Pipe place)) place None refl (λ w e. absurd (cc)) ((subst (MadeSo h.machine.table h.machine.store.records) k.0 i.1).1 refl) k.1
-plain_fits h (Step.ClosedIn c) (PlainInput plain_input.Closed) makes k i = other_fits h.machine.table h.machine.store.records (PlainInput plain_input.Closed) None tt
-plain_fits h (Step.Sink c) (PlainOutput plain_output.Sink) makes k i = other_fits h.machine.table h.machine.store.records (PlainOutput plain_output.Sink) None tt
-plain_fits h (Step.ClosedOut c) (PlainOutput plain_output.Closed) makes k i = other_fits h.machine.table h.machine.store.records (PlainOutput plain_output.Closed) None tt
+plain_fits h (Step.Call c GuestCall.ClosedIn) (PlainInput plain_input.Closed) makes k i = other_fits h.machine.table h.machine.store.records (PlainInput plain_input.Closed) None tt
+plain_fits h (Step.Call c GuestCall.Sink) (PlainOutput plain_output.Sink) makes k i = other_fits h.machine.table h.machine.store.records (PlainOutput plain_output.Sink) None tt
+plain_fits h (Step.Call c GuestCall.ClosedOut) (PlainOutput plain_output.Closed) makes k i = other_fits h.machine.table h.machine.store.records (PlainOutput plain_output.Closed) None tt
 plain_fits h _ _ makes k i = absurd makes
 
 -- the line has made what it numbered
 plain_still : (h : Here) (s : Step) (kind : Kind) → MakesPlain s kind → IsNumbered h kind → MadeSo h.machine.table h.machine.store.records h.made → MadeSo (with_handle h.machine.table kind None) h.machine.store.records h.made
-plain_still h (Step.PipeIn c bytes) (PlainInput (plain_input.Pipe place)) makes k was =
+plain_still h (Step.Call c (GuestCall.PipeIn bytes)) (PlainInput (plain_input.Pipe place)) makes k was =
     subst (MadeSo (with_handle h.machine.table (PlainInput (plain_input.Pipe place)) None) h.machine.store.records) (sym k.0) (numbered_still h.machine.table h.machine.store.records (PlainInput (plain_input.Pipe place)) None place h.machine.table.next (subst (MadeSo h.machine.table h.machine.store.records) k.0 was))
-plain_still h (Step.PipeOut c capacity) (PlainOutput (plain_output.Pipe place)) makes k was =
+plain_still h (Step.Call c (GuestCall.PipeOut capacity)) (PlainOutput (plain_output.Pipe place)) makes k was =
     subst (MadeSo (with_handle h.machine.table (PlainOutput (plain_output.Pipe place)) None) h.machine.store.records) (sym k.0) (numbered_still h.machine.table h.machine.store.records (PlainOutput (plain_output.Pipe place)) None place h.machine.table.next (subst (MadeSo h.machine.table h.machine.store.records) k.0 was))
-plain_still h (Step.ClosedIn c) (PlainInput plain_input.Closed) makes k was = other_still h.machine.table h.machine.store.records (PlainInput plain_input.Closed) None h.made (λ place e. no_record (PlainInput plain_input.Closed) place tt e) was
-plain_still h (Step.Sink c) (PlainOutput plain_output.Sink) makes k was = other_still h.machine.table h.machine.store.records (PlainOutput plain_output.Sink) None h.made (λ place e. no_record (PlainOutput plain_output.Sink) place tt e) was
-plain_still h (Step.ClosedOut c) (PlainOutput plain_output.Closed) makes k was = other_still h.machine.table h.machine.store.records (PlainOutput plain_output.Closed) None h.made (λ place e. no_record (PlainOutput plain_output.Closed) place tt e) was
+plain_still h (Step.Call c GuestCall.ClosedIn) (PlainInput plain_input.Closed) makes k was = other_still h.machine.table h.machine.store.records (PlainInput plain_input.Closed) None h.made (λ place e. no_record (PlainInput plain_input.Closed) place tt e) was
+plain_still h (Step.Call c GuestCall.Sink) (PlainOutput plain_output.Sink) makes k was = other_still h.machine.table h.machine.store.records (PlainOutput plain_output.Sink) None h.made (λ place e. no_record (PlainOutput plain_output.Sink) place tt e) was
+plain_still h (Step.Call c GuestCall.ClosedOut) (PlainOutput plain_output.Closed) makes k was = other_still h.machine.table h.machine.store.records (PlainOutput plain_output.Closed) None h.made (λ place e. no_record (PlainOutput plain_output.Closed) place tt e) was
 plain_still h _ _ makes k was = absurd makes
 
 is_udp : (k : Option Kind) (place : ℕ) → udp_of k ≡ Some place → k ≡ Some (Udp2 place)

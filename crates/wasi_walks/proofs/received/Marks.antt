@@ -1,5 +1,5 @@
 -- The handle of an incoming stream was marked before the place from which on its network socket's datagrams are handed out.
-use Rattle.wasi_walks.proofs.Words.{Call, Entry, HandleTable, IsSide, Kind, List, OpId, Option, Some, Step, Told, [], append-nil, append_assoc, ap, arith}
+use Rattle.wasi_walks.proofs.Words.{Call, Entry, HandleTable, IsSide, Kind, List, OpId, Option, Some, GuestCall, Step, Told, [], append-nil, append_assoc, ap, arith}
 use Rattle.wasi_walks.proofs.Words.{entry, inl, inr, kind_at, length, length-append, name_of, subst, sym, with_handle, without_handle, ℕ, ⊤, ◌+◌, ◌++◌, ◌∙◌, ◌∷◌, ◌≡◌, ◌≤◌, ◌⊎◌}
 use Rattle.wasi_table.proofs.Tables.{value_without}
 use Rattle.wasi_host.specs.declared.kind.Kind.TheVariants.{Incoming, Input, Output}
@@ -79,11 +79,11 @@ module _ (side : OpId) where
 
   -- == of what a line marks
   plain_other : (s : Step) (kind : Kind) → MakesPlain s kind → NotIncoming kind
-  plain_other (Step.PipeIn ctx bytes) (Incoming place) m = m
-  plain_other (Step.PipeOut ctx capacity) (Incoming place) m = m
-  plain_other (Step.Sink ctx) (Incoming place) m = m
-  plain_other (Step.ClosedIn ctx) (Incoming place) m = m
-  plain_other (Step.ClosedOut ctx) (Incoming place) m = m
+  plain_other (Step.Call ctx (GuestCall.PipeIn bytes)) (Incoming place) m = m
+  plain_other (Step.Call ctx (GuestCall.PipeOut capacity)) (Incoming place) m = m
+  plain_other (Step.Call ctx GuestCall.Sink) (Incoming place) m = m
+  plain_other (Step.Call ctx GuestCall.ClosedIn) (Incoming place) m = m
+  plain_other (Step.Call ctx GuestCall.ClosedOut) (Incoming place) m = m
   plain_other _ (Incoming place) m = m
   plain_other s _ m = tt
 

@@ -1,5 +1,5 @@
 -- The reply to each step hands out only what was received on its network socket and allowed, in order.
-use Rattle.wasi_walks.proofs.Words.{⊤, Allows, Entry, Err, IsSide, List, Machine, None, Ok, OpId, Option, Result, Some, Standing, Step, Stop, Trap}
+use Rattle.wasi_walks.proofs.Words.{⊤, Allows, Entry, Err, IsSide, List, Machine, None, Ok, OpId, Option, Result, Some, Standing, GuestCall, Step, Stop, Trap}
 use Rattle.wasi_walks.proofs.Words.{WasiSocketsCtx, allows_then, asks_while, first_ids, kind_at, machine_asks, refl, ℕ, ◌≡◌}
 use Rattle.wasi_world.specs.declared.datagram.IncomingDatagram.{IncomingDatagram}
 use Rattle.wasi_host.specs.DatagramCalls.{receive_datagrams_at}
@@ -37,7 +37,7 @@ lines_later contexts line s m es b k late = gives_all (λ side fs done. Late sid
 module _ (ctx handle most : ℕ) where
   -- the reply that says this of a receive may be given
   abbrev Says : List Entry → Result (List IncomingDatagram) Stop → Type 0
-  Says es r = MayReply es (Step.UdpReceive ctx handle most) (reply_of datagram_values r)
+  Says es r = MayReply es (Step.Call ctx (GuestCall.UdpReceive handle most)) (reply_of datagram_values r)
 
   says : (es : List Entry) (side : OpId) (upto : ℕ) (r : Result (List IncomingDatagram) Stop) → IsSide es handle side → GivesUpto ⊤ side 0 es upto r → Says es r
   says es side upto (Ok ds) i g = record { side = side; of_handle = i; datagrams = ds; values = refl; upto = upto; order = g tt }
@@ -63,14 +63,14 @@ module _ (ctx handle most : ℕ) where
         (socket_says place (open_at m.store.records place) refl (n place refl)) (λ fs done k. k)
 
     -- a call that is made; while another is pending it is busy
-    receive_says : (contexts : List WasiSocketsCtx) (standing : Option Standing) → ((place : ℕ) → incoming_at m handle ≡ Some place → NamesUdp es m.store.records handle place) → Allows Anything (λ fs done. MayReply fs (Step.UdpReceive ctx handle most) done.0) es (asks_while contexts m line (Step.UdpReceive ctx handle most) standing)
+    receive_says : (contexts : List WasiSocketsCtx) (standing : Option Standing) → ((place : ℕ) → incoming_at m handle ≡ Some place → NamesUdp es m.store.records handle place) → Allows Anything (λ fs done. MayReply fs (Step.Call ctx (GuestCall.UdpReceive handle most)) done.0) es (asks_while contexts m line (Step.Call ctx (GuestCall.UdpReceive handle most)) standing)
     receive_says contexts (Some c) n = tt
     receive_says contexts None n =
-        allows_then Anything (λ fs done. Says fs done.0) (λ fs done. MayReply fs (Step.UdpReceive ctx handle most) done.0) es (receive_datagrams_on m (first_ids line) most (incoming_at m handle)) _
+        allows_then Anything (λ fs done. Says fs done.0) (λ fs done. MayReply fs (Step.Call ctx (GuestCall.UdpReceive handle most)) done.0) es (receive_datagrams_on m (first_ids line) most (incoming_at m handle)) _
         (handle_says (incoming_at m handle) n) (λ fs done k. k)
 
 -- the reply to a step may be given
 pub step_replies : (contexts : List WasiSocketsCtx) (steps : List Step) (line : ℕ) (s : Step) (m : Machine) (es : List Entry) → StateIsFine contexts steps es m → Keeps es m.store.records → Lates es m → Allows Anything (λ fs done. MayReply fs s done.0) es (machine_asks contexts m line s)
-step_replies contexts steps line (Step.UdpReceive ctx handle most) m es f k late =
+step_replies contexts steps line (Step.Call ctx (GuestCall.UdpReceive handle most)) m es f k late =
     receive_says ctx handle most line m es k late contexts m.store.standing (λ place e. names_udp es m.store.records handle place (kind_at m.table handle) (incoming_record (kind_at m.table handle) place e) (f.handles handle))
 step_replies contexts steps line s m es f k late = gives_any (λ fs done. MayReply fs s done.0) (λ fs done. tt) es (machine_asks contexts m line s)

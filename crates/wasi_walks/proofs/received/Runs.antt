@@ -1,5 +1,5 @@
 -- Along a run the replies hand out what a network socket received in order, and each datagram once.
-use Rattle.wasi_walks.proofs.Words.{Allows, Entry, Give, HasRun, List, Machine, MayAsk, OpId, Reply, Step, WasiSocketsCtx, []}
+use Rattle.wasi_walks.proofs.Words.{Allows, Entry, Give, HasRun, List, Machine, MayAsk, OpId, Reply, GuestCall, Step, WasiSocketsCtx, []}
 use Rattle.wasi_walks.proofs.Words.{allows_if, allows_keep, allows_then, ap, append_assoc, arith, first_state, is_trap, length, length-append, machine_asks, refl}
 use Rattle.wasi_walks.proofs.Words.{run, subst, sym, ℕ, ◌+◌, ◌++◌, ◌∙◌, ◌∷◌, ◌≡◌, inl, inr}
 use Rattle.wasi_steps.specs.declared.reply.Field.{Field}
@@ -32,8 +32,8 @@ module _ (side : OpId) where
   }
 
   reply_more : (es fs : List Entry) (from upto : ℕ) (s : Step) (r : Reply) → ReplyTakes es side from upto s r → ReplyTakes (es ++ fs) side from upto s r
-  reply_more es fs from upto (Step.UdpReceive ctx handle most) (Reply.Ok fields) h = hands_more es fs from upto handle fields h
-  reply_more es fs from upto (Step.UdpReceive ctx handle most) _ h = h
+  reply_more es fs from upto (Step.Call ctx (GuestCall.UdpReceive handle most)) (Reply.Ok fields) h = hands_more es fs from upto handle fields h
+  reply_more es fs from upto (Step.Call ctx (GuestCall.UdpReceive handle most)) _ h = h
   reply_more es fs from upto _ r h = h
 
   pub takes_more : (es fs : List Entry) (from upto : ℕ) (steps : List Step) (replies : List Reply) → RepliesTake es side from upto steps replies → RepliesTake (es ++ fs) side from upto steps replies

@@ -1,6 +1,6 @@
 -- What a line asks, as cases: a part of its tree, why the line may ask it, and where the line is by what the part gives.
 use Rattle.wasi_walks.proofs.Words.{Asks, Call, End, ErrorValue, Has, IsBacklogSet, Item, Kind, List, None, Not, OpId, Operation, Option}
-use Rattle.wasi_walks.proofs.Words.{HandleTable, Result, SocketAddressFamily, Some, Step, Stop, Streams, Tcp2, TcpRecord, TcpState, Told, WasiSocketsCtx, WriteState}
+use Rattle.wasi_walks.proofs.Words.{HandleTable, Result, SocketAddressFamily, Some, GuestCall, Step, Stop, Streams, Tcp2, TcpRecord, TcpState, Told, WasiSocketsCtx, WriteState}
 use Rattle.wasi_walks.proofs.Words.{Entry, Machine, after_local, create_asks, give_up_asks, make_asks, own_of, poll_asks, side_at, side_of}
 use Rattle.wasi_walks.proofs.Words.{told_addr, told_done, true, turn_asks, with_inner, with_listening, with_writer, ℕ, ◌≡◌}
 use Rattle.wasi_world.specs.Asks.{one}
@@ -64,7 +64,7 @@ pub data Asked (contexts : List WasiSocketsCtx) (line : ℕ) (origin : Step) (es
       → Asked contexts line origin es h (Result ℕ Stop × HandleTable)
       (make_asks h.machine.table (own_of line) kind parent sock)
       (λ made. record h { machine = record h.machine { table = made.1 } })
-  MarksAccepted : (c listener place : ℕ) (r : TcpRecord) → origin ≡ Step.TcpAccept c listener → h.made ≡ Joined place
+  MarksAccepted : (c listener place : ℕ) (r : TcpRecord) → origin ≡ Step.Call c (GuestCall.TcpAccept listener) → h.made ≡ Joined place
       → h.own ≡ Used → Found h place r
       → Asked contexts line origin es h (Result ℕ Stop × HandleTable)
       (make_asks h.machine.table (own_of line) (Tcp2 place) (Some listener)

@@ -1,6 +1,6 @@
 -- What a line works on: the state, the record that one of its handles stands for, what it has made so far, and which names its
 -- operations were given.
-use Rattle.wasi_walks.proofs.Words.{Bool, HandleTable, Kind, List, Machine, None, OpId, Operation, Option, Records, Some, Standing, StandingCall, Step, Tcp2, TcpRecord, ap, arith, inl, kind_at, inr, refl, standing_as, subst, sym, true, false, with_socket, ℕ, ⊤, ◌+◌, ◌<◌, ◌≡◌, ◌≤◌, ◌⊎◌}
+use Rattle.wasi_walks.proofs.Words.{Bool, HandleTable, Kind, List, Machine, None, OpId, Operation, Option, Records, Some, Standing, StandingCall, GuestCall, Step, Tcp2, TcpRecord, ap, arith, inl, kind_at, inr, refl, standing_as, subst, sym, true, false, with_socket, ℕ, ⊤, ◌+◌, ◌<◌, ◌≡◌, ◌≤◌, ◌⊎◌}
 use Rattle.std.specs.Prelude.{is_some, slice_get, ◌||◌}
 use Rattle.wasi_world.specs.declared.ids.Ids.{Ids}
 use Rattle.wasi_records.specs.Datagrams.{has_streams}
@@ -184,7 +184,7 @@ pub record TakesFrom (origin : Step) (t : HandleTable) (place : ℕ) : Type 0 wh
   pub ctx : ℕ
   pub handle : ℕ
   pub most : ℕ
-  pub is : origin ≡ Step.UdpReceive ctx handle most
+  pub is : origin ≡ Step.Call ctx (GuestCall.UdpReceive handle most)
   pub of : kind_at t handle ≡ Some (Incoming place)
 
 -- How the incoming stream of a UDP socket moves: it stays as it is; it is made, where there was none; what it holds is taken, by a

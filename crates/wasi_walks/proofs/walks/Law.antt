@@ -1,7 +1,7 @@
 -- A law of runs: what each ask must be, what holds between the asks, and that each move keeps it.
 use Rattle.wasi_walks.proofs.walks.Moves.{Releases}
 use Rattle.wasi_walks.proofs.Words.{Accepting, Accepts, Allows, Ask, AskWrite, Asks, Begins, Bool, Call, End, Entry, Fits, Give, InProgress}
-use Rattle.wasi_walks.proofs.Words.{IsBacklogSet, Item, Kind, List, Listener, None, Not, OpId, Operation, Option, SocketAddressFamily, Some, Step}
+use Rattle.wasi_walks.proofs.Words.{IsBacklogSet, Item, Kind, List, Listener, None, Not, OpId, Operation, Option, SocketAddressFamily, Some, GuestCall, Step}
 use Rattle.wasi_walks.proofs.Words.{Streams, Tcp2, TcpRecord, TcpState, Told, WasiSocketsCtx, [], accept_ended, after_local, allows_then}
 use Rattle.wasi_walks.proofs.Words.{allows_weaker, ap, bind, bind_progress, connect_ended, create_asks, entry, false, give_up_asks, if◌then◌else◌}
 use Rattle.wasi_walks.proofs.Words.{make_asks, own_of, poll_asks, refl, side_at, side_of, subst, sym, told_addr, true}
@@ -146,7 +146,7 @@ module _ {contexts : List WasiSocketsCtx} {line : ℕ} {origin : Step} {law : La
   pub mark : {h : Here} {kind : Kind} {parent : Option ℕ} {sock : Option OpId} → Marks origin h kind parent sock → Walks law h (λ made. record h { machine = record h.machine { table = made.1 } }) (make_asks h.machine.table (own_of line) kind parent sock)
   mark {h} {kind} {parent} {sock} m = record { along = λ es i. law.asks es h _ _ _ (MarksOne kind parent sock m) tt i }
 
-  pub accept : {h : Here} (c listener place : ℕ) (r : TcpRecord) → origin ≡ Step.TcpAccept c listener → h.made ≡ Joined place → h.own ≡ Used → Found h place r
+  pub accept : {h : Here} (c listener place : ℕ) (r : TcpRecord) → origin ≡ Step.Call c (GuestCall.TcpAccept listener) → h.made ≡ Joined place → h.own ≡ Used → Found h place r
       → Walks law h (λ made. record h { machine = record h.machine { table = made.1 }; made = made_so place made.0 }) (make_asks h.machine.table (own_of line) (Tcp2 place) (Some listener) (side_at (tcp2_at h.machine.store.records place)))
   accept {h} c listener place r is e o g = record { along = λ es i. law.asks es h _ _ _ (MarksAccepted c listener place r is e o g) tt i }
 

@@ -1,6 +1,6 @@
 -- The steps of listens and accepts, as moves.
 use Rattle.wasi_walks.proofs.Words.{Accepts, Answer, Bool, Err, ErrorCode, Give, HandleTable, Has, IsListenStep, List, Listening, Machine, None, Ok, Option}
-use Rattle.wasi_walks.proofs.Words.{Ready, Records, Result, Socket, Some, StandingCall, Step, Stop, TcpRecord, WasiSocketsCtx, accept_answered}
+use Rattle.wasi_walks.proofs.Words.{Ready, Records, Result, Socket, Some, StandingCall, GuestCall, Step, Stop, TcpRecord, WasiSocketsCtx, accept_answered}
 use Rattle.wasi_walks.proofs.Words.{accept_at, accept_end, accept_listening, accept_on, accepted_asks, accepted_record, accepted_streams, false}
 use Rattle.wasi_walks.proofs.Words.{first_ids, handles_of, is_nothing, kept_accepted, kind_at, make_asks, own_of, refl, side_at}
 use Rattle.wasi_walks.proofs.Words.{socket_at, start_listen_at, start_listen_by, true, with_records, with_store, socket_with_streams, with_table, ℕ, ⊤, ◌≡◌}
@@ -27,7 +27,7 @@ module _ {contexts : List WasiSocketsCtx} {line : ℕ} {origin : Step} {law : La
 
   -- == an accept
 
-  module _ (c s : ℕ) (is : origin ≡ Step.TcpAccept c s) (m : Machine) (place : ℕ) (k : record_of (kind_at m.table s) ≡ Some place) where
+  module _ (c s : ℕ) (is : origin ≡ Step.Call c (GuestCall.TcpAccept s)) (m : Machine) (place : ℕ) (k : record_of (kind_at m.table s) ≡ Some place) where
     answered_so : (r : TcpRecord) (joined : Result (Unit {0}) Stop × TcpRecord) → Walks law (joined_if (Watching line m place Used) place r joined) (AcceptedSo line m place) (Give (with_records m.store (kept_accepted (tcp2_put m.store.records place r) joined)))
     answered_so r (Ok done, now) = give _
     answered_so r (Err why, now) = give _
@@ -48,7 +48,7 @@ module _ {contexts : List WasiSocketsCtx} {line : ℕ} {origin : Step} {law : La
     accept_at_walks (Some r) g = from (put_same (Watching line m place (Names 1)) place r g) (and_then (accept_listening_walks r r.listening refl g) accept_answered_walks)
 
   -- the handles of what was accepted
-  accepted_streams_walks : (c s p : ℕ) (m : Machine) (made : Result ℕ Stop × HandleTable) → origin ≡ Step.TcpAccept c s → HasRecord (Over m) p
+  accepted_streams_walks : (c s p : ℕ) (m : Machine) (made : Result ℕ Stop × HandleTable) → origin ≡ Step.Call c (GuestCall.TcpAccept s) → HasRecord (Over m) p
       → Walks law (Between None (made_so p made.0) (record m { table = made.1 })) OverWith (accepted_streams (own_of line) p (side_at (tcp2_at m.store.records p)) (with_table m made))
   accepted_streams_walks c s p m (Ok socket, t) is here =
       let now : Machine = record m { table = t } in
@@ -60,11 +60,11 @@ module _ {contexts : List WasiSocketsCtx} {line : ℕ} {origin : Step} {law : La
       with_streams_walks socket (Err why, m) = give _
   accepted_streams_walks c s p m (Err why, t) is here = gives _ (Leaves _)
 
-  accepted_walks : (c s n : ℕ) (m : Machine) (done : Result ℕ Stop × Records) → origin ≡ Step.TcpAccept c s → JoinedSo done → Walks law (AcceptedSo line m n done) OverWith (accepted_asks (own_of line) s (with_store m done))
+  accepted_walks : (c s n : ℕ) (m : Machine) (done : Result ℕ Stop × Records) → origin ≡ Step.Call c (GuestCall.TcpAccept s) → JoinedSo done → Walks law (AcceptedSo line m n done) OverWith (accepted_asks (own_of line) s (with_store m done))
   accepted_walks c s n m (Ok p, store) is j = and_then (accept c s p j.was is refl refl j.found) (λ made. accepted_streams_walks c s p (record m { store = store }) made is (record { was = j.was; found = j.found }))
   accepted_walks c s n m (Err why, store) is j = gives _ (Leaves _)
 
-  pub accept_on_walks : (c s : ℕ) (m : Machine) (o : Option ℕ) → socket_at m s ≡ o → Has (handles_of origin) s → origin ≡ Step.TcpAccept c s → Walks law (Starts m Unused) OverWith (accept_on m (first_ids line) s o)
+  pub accept_on_walks : (c s : ℕ) (m : Machine) (o : Option ℕ) → socket_at m s ≡ o → Has (handles_of origin) s → origin ≡ Step.Call c (GuestCall.TcpAccept s) → Walks law (Starts m Unused) OverWith (accept_on m (first_ids line) s o)
   accept_on_walks c s m None e named is = gives _ (Spends _ refl)
   accept_on_walks c s m (Some place) e named is =
       let k = socket_record (kind_at m.table s) place e in

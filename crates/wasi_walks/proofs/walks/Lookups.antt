@@ -7,7 +7,7 @@ use Rattle.wasi_addr.specs.declared.lookup.ErrorCode.TheVariants.{PermanentResol
 use Rattle.wasi_names.specs.declared.name.HostName.{HostName}
 use Rattle.wasi_names.specs.declared.name.HostName.TheVariants.{Address, Domain}
 use Rattle.wasi_names.specs.Names.{found_host, host_for, name_is}
-use Rattle.wasi_walks.proofs.Words.{Asks, Ask, Call, Full, Give, HandleTable, Kind, Machine, OpId, Step, Stop, Told, Trap, WasiSocketsCtx}
+use Rattle.wasi_walks.proofs.Words.{Asks, Ask, Call, Full, Give, HandleTable, Kind, Machine, OpId, GuestCall, Step, Stop, Told, Trap, WasiSocketsCtx}
 use Rattle.wasi_walks.proofs.Words.{ap, ask_made, bind, context_at, entry, inl, inr, is_full, is_network, kind_at, make_asks, name_of, own_of, refl, subst, sym, with_handle, with_store, ◌∙◌}
 use Rattle.wasi_world.specs.declared.asks.Polled.{Polled}
 use Rattle.wasi_world.specs.Typed.{told_names}
@@ -128,7 +128,7 @@ module _ {contexts : List WasiSocketsCtx} {line : ℕ} {origin : Step} {law : La
         (a.0, λ told fits. (k told).along (es ++ entry (own_of line) (Call.Lookup host) told ∷ []) (a.1 told fits));
   }
 
-  module _ (m : Machine) (idle : m.store.standing ≡ None) (c network : ℕ) (name : List ℕ) (is : origin ≡ Step.Resolve c network name) where
+  module _ (m : Machine) (idle : m.store.standing ≡ None) (c network : ℕ) (name : List ℕ) (is : origin ≡ Step.Call c (GuestCall.Resolve network name)) where
     -- where it has no handle it is given back
     looked_up_walks : (l : Lookup) (made : Result ℕ Stop × HandleTable) → SameNext m.table made → Walks law (Recorded m l made.1) OverWith (Give (looked_up m l made))
     looked_up_walks l (Ok handle, t) k = move (Lists _ _ (job_begins m l)) (gives _ (Leaves _))

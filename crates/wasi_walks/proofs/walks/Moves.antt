@@ -3,7 +3,7 @@
 use Rattle.wasi_walks.proofs.Words.{Accepting, Accepts, Begins, Bool, Call, Connection, End, Err, ErrorCode, Has, InProgress, Input}
 use Rattle.wasi_walks.proofs.Words.{IpSocketAddress, IsBindTo, IsConnectTo, IsListenStep, Item, Job, Kind, List, Listener, Listening, Network, None, Not}
 use Rattle.wasi_walks.proofs.Words.{Ok, OpId, Operation, Option, Other, Output, Pollable, ReadState, Result, SocketAddressFamily, Some, Standing}
-use Rattle.wasi_walks.proofs.Words.{StandingCall, Step, Stop, Streams, Tcp2, TcpRecord, TcpReceiveStream, TcpSendStream, TcpState, WasiSocketsCtx}
+use Rattle.wasi_walks.proofs.Words.{StandingCall, GuestCall, Step, Stop, Streams, Tcp2, TcpRecord, TcpReceiveStream, TcpSendStream, TcpState, WasiSocketsCtx}
 use Rattle.wasi_walks.proofs.Words.{Watched, WriteState, accept_ended, accept_operation, accepted_record, accepted_socket, accepted_state}
 use Rattle.wasi_walks.proofs.Words.{bind_operation, bind_progress, call_place, closing_job, collected, connect_ended, connect_first}
 use Rattle.wasi_walks.proofs.Words.{connect_operation, context_at, false, gone, handles_of, is_connect, is_nothing, is_over, kind_at, length}
@@ -190,35 +190,35 @@ udp_record_of _ = None
 
 -- the step makes such an input or output of no connection
 abbrev pub MakesPlain : Step → Kind → Type 0
-MakesPlain (Step.PipeIn ctx bytes) (PlainInput (plain_input.Pipe place)) = ⊤
-MakesPlain (Step.PipeOut ctx capacity) (PlainOutput (plain_output.Pipe place)) = ⊤
-MakesPlain (Step.Sink ctx) (PlainOutput plain_output.Sink) = ⊤
-MakesPlain (Step.ClosedIn ctx) (PlainInput plain_input.Closed) = ⊤
-MakesPlain (Step.ClosedOut ctx) (PlainOutput plain_output.Closed) = ⊤
+MakesPlain (Step.Call ctx (GuestCall.PipeIn bytes)) (PlainInput (plain_input.Pipe place)) = ⊤
+MakesPlain (Step.Call ctx (GuestCall.PipeOut capacity)) (PlainOutput (plain_output.Pipe place)) = ⊤
+MakesPlain (Step.Call ctx GuestCall.Sink) (PlainOutput plain_output.Sink) = ⊤
+MakesPlain (Step.Call ctx GuestCall.ClosedIn) (PlainInput plain_input.Closed) = ⊤
+MakesPlain (Step.Call ctx GuestCall.ClosedOut) (PlainOutput plain_output.Closed) = ⊤
 MakesPlain _ _ = ⊥
 
 -- a call of streams
 abbrev pub IsStreamCall : Step → Type 0
-IsStreamCall (Step.Read ctx input len) = ⊤
-IsStreamCall (Step.Skip ctx input len) = ⊤
-IsStreamCall (Step.CheckWrite ctx output) = ⊤
-IsStreamCall (Step.Write ctx output bytes) = ⊤
-IsStreamCall (Step.WriteZeroes ctx output len) = ⊤
-IsStreamCall (Step.Flush ctx output) = ⊤
-IsStreamCall (Step.Splice ctx output input len) = ⊤
-IsStreamCall (Step.BlockingRead ctx input len) = ⊤
-IsStreamCall (Step.BlockingSkip ctx input len) = ⊤
-IsStreamCall (Step.BlockingWrite ctx output bytes) = ⊤
-IsStreamCall (Step.BlockingZeroes ctx output len) = ⊤
-IsStreamCall (Step.BlockingFlush ctx output) = ⊤
-IsStreamCall (Step.BlockingSplice ctx output input len) = ⊤
+IsStreamCall (Step.Call ctx (GuestCall.Read input len)) = ⊤
+IsStreamCall (Step.Call ctx (GuestCall.Skip input len)) = ⊤
+IsStreamCall (Step.Call ctx (GuestCall.CheckWrite output)) = ⊤
+IsStreamCall (Step.Call ctx (GuestCall.Write output bytes)) = ⊤
+IsStreamCall (Step.Call ctx (GuestCall.WriteZeroes output len)) = ⊤
+IsStreamCall (Step.Call ctx (GuestCall.Flush output)) = ⊤
+IsStreamCall (Step.Call ctx (GuestCall.Splice output input len)) = ⊤
+IsStreamCall (Step.Call ctx (GuestCall.BlockingRead input len)) = ⊤
+IsStreamCall (Step.Call ctx (GuestCall.BlockingSkip input len)) = ⊤
+IsStreamCall (Step.Call ctx (GuestCall.BlockingWrite output bytes)) = ⊤
+IsStreamCall (Step.Call ctx (GuestCall.BlockingZeroes output len)) = ⊤
+IsStreamCall (Step.Call ctx (GuestCall.BlockingFlush output)) = ⊤
+IsStreamCall (Step.Call ctx (GuestCall.BlockingSplice output input len)) = ⊤
 IsStreamCall _ = ⊥
 
 -- a look at a pollable, or a wait for some
 abbrev pub LooksAtPollables : Step → Type 0
-LooksAtPollables (Step.Ready ctx pollable) = ⊤
-LooksAtPollables (Step.Block ctx pollable) = ⊤
-LooksAtPollables (Step.PollList ctx pollables) = ⊤
+LooksAtPollables (Step.Call ctx (GuestCall.Ready pollable)) = ⊤
+LooksAtPollables (Step.Call ctx (GuestCall.Block pollable)) = ⊤
+LooksAtPollables (Step.Call ctx (GuestCall.PollList pollables)) = ⊤
 LooksAtPollables _ = ⊥
 
 abbrev pub IsCall : CallKind → Step → Type 0
@@ -238,17 +238,17 @@ kind_of (blocking.Poll pollables) = OfPollables
 
 -- a create of this family, by this context
 abbrev pub Creates : List WasiSocketsCtx → WasiSocketsCtx → SocketAddressFamily → Step → Type 0
-Creates contexts ctx family (Step.TcpCreate n f) = (context_at contexts n ≡ ctx) × (f ≡ family)
+Creates contexts ctx family (Step.Call n (GuestCall.TcpCreate f)) = (context_at contexts n ≡ ctx) × (f ≡ family)
 Creates contexts ctx family _ = ⊥
 
 -- the same of a UDP socket
 abbrev pub CreatesUdp : List WasiSocketsCtx → WasiSocketsCtx → SocketAddressFamily → Step → Type 0
-CreatesUdp contexts ctx family (Step.UdpCreate n f) = (context_at contexts n ≡ ctx) × (f ≡ family)
+CreatesUdp contexts ctx family (Step.Call n (GuestCall.UdpCreate f)) = (context_at contexts n ≡ ctx) × (f ≡ family)
 CreatesUdp contexts ctx family _ = ⊥
 
 -- a lookup of this host, by a context that may look names up
 abbrev pub LooksUp : List WasiSocketsCtx → List ℕ → Step → Type 0
-LooksUp contexts host (Step.Resolve n network name) = ((context_at contexts n).ip_name_lookup ≡ true) × (name_is name ≡ Some (Domain host))
+LooksUp contexts host (Step.Call n (GuestCall.Resolve network name)) = ((context_at contexts n).ip_name_lookup ≡ true) × (name_is name ≡ Some (Domain host))
 LooksUp contexts host _ = ⊥
 
 -- The handle is that of the record's socket, whose streams are there; it is no accept's.
@@ -259,15 +259,15 @@ pub record IsOpened (h : Here) (handle place : ℕ) : Type 0 where
 
 -- a handle that the line may mark, with its parent and its network socket
 pub data Marks (origin : Step) (h : Here) : Kind → Option ℕ → Option OpId → Type 0 where
-  ANetwork : (c : ℕ) → origin ≡ Step.Network c → Marks origin h Network None None
-  AStream : (c handle place : ℕ) (kind : Kind) → origin ≡ Step.TcpFinishConnect c handle → (kind ≡ Input place) ⊎ (kind ≡ Output place) → IsOpened h handle place → Marks origin h kind (Some handle) (side_at (tcp2_at h.machine.store.records place))
-  AnAcceptedStream : (c listener handle place : ℕ) (kind : Kind) (r : TcpRecord) → origin ≡ Step.TcpAccept c listener → (kind ≡ Input place) ⊎ (kind ≡ Output place) → h.made ≡ Marked handle place → h.own ≡ Used → Found h place r → Marks origin h kind (Some handle) (side_at (tcp2_at h.machine.store.records place))
-  APollable : (c handle : ℕ) (w : Watched) → origin ≡ Step.Subscribe c handle → tcp_place w ≡ Some (place_in w) → record_of (kind_at h.machine.table handle) ≡ Some (place_in w) → watched_by (kind_at h.machine.table handle) ≡ Some w → Marks origin h (Pollable w) (Some handle) (side_at (tcp2_at h.machine.store.records (place_in w)))
-  AUdpPollable : (c handle : ℕ) (w : Watched) → origin ≡ Step.Subscribe c handle → udp_place w ≡ Some (place_in w) → udp_record_of (kind_at h.machine.table handle) ≡ Some (place_in w) → watched_by (kind_at h.machine.table handle) ≡ Some w → Marks origin h (Pollable w) (Some handle) (udp_side_at (udp2_at h.machine.store.records (place_in w)))
-  ALookup : (c network place : ℕ) (name : List ℕ) → origin ≡ Step.Resolve c network name → is_some (lookup_at h.machine.store.records place) ≡ true → h.made ≡ Numbered place h.machine.table.next → Marks origin h (Lookup place) (Some network) None
-  ALookupPollable : (c handle place : ℕ) → origin ≡ Step.Subscribe c handle → kind_at h.machine.table handle ≡ Some (Lookup place) → Marks origin h (Pollable (Watched.Lookup place)) (Some handle) None
+  ANetwork : (c : ℕ) → origin ≡ Step.Call c GuestCall.Network → Marks origin h Network None None
+  AStream : (c handle place : ℕ) (kind : Kind) → origin ≡ Step.Call c (GuestCall.TcpFinishConnect handle) → (kind ≡ Input place) ⊎ (kind ≡ Output place) → IsOpened h handle place → Marks origin h kind (Some handle) (side_at (tcp2_at h.machine.store.records place))
+  AnAcceptedStream : (c listener handle place : ℕ) (kind : Kind) (r : TcpRecord) → origin ≡ Step.Call c (GuestCall.TcpAccept listener) → (kind ≡ Input place) ⊎ (kind ≡ Output place) → h.made ≡ Marked handle place → h.own ≡ Used → Found h place r → Marks origin h kind (Some handle) (side_at (tcp2_at h.machine.store.records place))
+  APollable : (c handle : ℕ) (w : Watched) → origin ≡ Step.Call c (GuestCall.Subscribe handle) → tcp_place w ≡ Some (place_in w) → record_of (kind_at h.machine.table handle) ≡ Some (place_in w) → watched_by (kind_at h.machine.table handle) ≡ Some w → Marks origin h (Pollable w) (Some handle) (side_at (tcp2_at h.machine.store.records (place_in w)))
+  AUdpPollable : (c handle : ℕ) (w : Watched) → origin ≡ Step.Call c (GuestCall.Subscribe handle) → udp_place w ≡ Some (place_in w) → udp_record_of (kind_at h.machine.table handle) ≡ Some (place_in w) → watched_by (kind_at h.machine.table handle) ≡ Some w → Marks origin h (Pollable w) (Some handle) (udp_side_at (udp2_at h.machine.store.records (place_in w)))
+  ALookup : (c network place : ℕ) (name : List ℕ) → origin ≡ Step.Call c (GuestCall.Resolve network name) → is_some (lookup_at h.machine.store.records place) ≡ true → h.made ≡ Numbered place h.machine.table.next → Marks origin h (Lookup place) (Some network) None
+  ALookupPollable : (c handle place : ℕ) → origin ≡ Step.Call c (GuestCall.Subscribe handle) → kind_at h.machine.table handle ≡ Some (Lookup place) → Marks origin h (Pollable (Watched.Lookup place)) (Some handle) None
   APlain : (kind : Kind) → MakesPlain origin kind → IsNumbered h kind → Marks origin h kind None None
-  APlainPollable : (c handle : ℕ) → origin ≡ Step.Subscribe c handle → watched_by (kind_at h.machine.table handle) ≡ Some Watched.Plain → Marks origin h (Pollable Watched.Plain) (Some handle) None
+  APlainPollable : (c handle : ℕ) → origin ≡ Step.Call c (GuestCall.Subscribe handle) → watched_by (kind_at h.machine.table handle) ≡ Some Watched.Plain → Marks origin h (Pollable Watched.Plain) (Some handle) None
 
 -- == records of a bind
 abbrev pub begun_bind : OpId → OpId → TcpRecord → IpSocketAddress → Operation
@@ -430,7 +430,7 @@ pub data Move (line : ℕ) (origin : Step) : Here → Here → Type 0 where
   Forgets : (h : Here) (place : ℕ) (r : TcpRecord) (l : Listener) (c : ErrorCode) → Found h place r → r.listening ≡ Accepts l → l.accept ≡ Accepting.Failed c → Move line origin h (put h place (accepting_now r l Accepting.Idle))
   -- an accept: nothing was made yet; and what was handed over is taken from its listener, and joins the records
   Watches : (h : Here) → h.own ≡ Unused → Move line origin h (record h { made = Unmade })
-  Joins : (h : Here) (c handle place : ℕ) (r : TcpRecord) (l : Listener) (new : OpId) (peer : IpSocketAddress) → origin ≡ Step.TcpAccept c handle → record_of (kind_at h.machine.table handle) ≡ Some place → h.made ≡ Unmade → Found h place r → r.listening ≡ Accepts l → l.accept ≡ Accepting.Arrived new peer
+  Joins : (h : Here) (c handle place : ℕ) (r : TcpRecord) (l : Listener) (new : OpId) (peer : IpSocketAddress) → origin ≡ Step.Call c (GuestCall.TcpAccept handle) → record_of (kind_at h.machine.table handle) ≡ Some place → h.made ≡ Unmade → Found h place r → r.listening ≡ Accepts l → l.accept ≡ Accepting.Arrived new peer
       → Move line origin h (joining h (tcp2_put h.machine.store.records place (accepting_now r l Accepting.Idle)) (joined l new peer))
   -- a call is pending, by the line that asks; it is in progress; nothing is pending
   Stands : (h : Here) (ids : Ids) (call : StandingCall) (r : TcpRecord) → NoStart h → h.at ≡ Some (call_place call, ids.line) → Found h (call_place call) r → GoesOn call r → Move line origin h (record h { machine = record h.machine { store = record h.machine.store { standing = Some (standing_as ids call) } } })
@@ -443,7 +443,7 @@ pub data Move (line : ℕ) (origin : Step) : Here → Here → Type 0 where
   StandsUdpBind : (h : Here) (ids : Ids) (place : ℕ) (o : OpenUdp) (op : Operation) → NoStart h → h.at ≡ Some (place, ids.line) → FoundUdp h place (UdpRecord.Open o) → o.in_progress ≡ UdpInProgress.Binding op → Move line origin h (record h { machine = record h.machine { store = record h.machine.store { standing = Some (standing_as ids (StandingCall.UdpBind place)) } } })
   StandsUdpCreate : (h : Here) (ids : Ids) (place : ℕ) (create : Create) → NoStart h → FoundUdp h place (UdpRecord.Creating create) → Move line origin h (record h { machine = record h.machine { store = record h.machine.store { standing = Some (standing_as ids (StandingCall.UdpCreate place)) } } })
   -- the datagram streams of a UDP socket: what they are made under, and the connect that comes before, until it is over or pending
-  RemembersStreams : (h : Here) (c handle place : ℕ) (remote : Option IpSocketAddress) → origin ≡ Step.UdpStream c handle remote → udp_of (kind_at h.machine.table handle) ≡ Some place → (o : OpenUdp) → FoundUdp h place (UdpRecord.Open o) → has_streams o ≡ false
+  RemembersStreams : (h : Here) (c handle place : ℕ) (remote : Option IpSocketAddress) → origin ≡ Step.Call c (GuestCall.UdpStream handle remote) → udp_of (kind_at h.machine.table handle) ≡ Some place → (o : OpenUdp) → FoundUdp h place (UdpRecord.Open o) → has_streams o ≡ false
       → Move line origin h (record h { made = ToStream line handle place })
   RecallsStreams : (h : Here) (ids : Ids) (place handle : ℕ) → h.machine.store.standing ≡ Some (standing_as ids (StandingCall.UdpConnect place handle)) → h.own ≡ Unused → Move line origin h (record h { made = ToStream ids.line handle place; own = ToConnect place })
   BeginsUdpConnect : (h : Here) (place : ℕ) (o : OpenUdp) (a : IpSocketAddress) → h.at ≡ Some (place, line) → FoundUdp h place (UdpRecord.Open o) → IsUdpConnectTo a origin → o.inner.bound ≡ true → has_streams o ≡ false → h.own ≡ Unused

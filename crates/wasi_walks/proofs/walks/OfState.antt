@@ -1,7 +1,7 @@
 -- A law of the state alone, which says nothing of the log: what each move keeps, what each thing that is asked leaves, and what a poll
 -- does.
 use Rattle.wasi_walks.proofs.Words.{Allows, Asks, End, Entry, Err, ErrorValue, Has, HandleTable, Item, Kind, List, None, Not, Ok, OpId, Operation, Option}
-use Rattle.wasi_walks.proofs.Words.{ErrorCode, Result, SocketAddressFamily, Some, Step, Streams, Tcp2, TcpRecord, TcpState, Told, WasiSocketsCtx, Socket}
+use Rattle.wasi_walks.proofs.Words.{ErrorCode, Result, SocketAddressFamily, Some, GuestCall, Step, Streams, Tcp2, TcpRecord, TcpState, Told, WasiSocketsCtx, Socket}
 use Rattle.wasi_walks.proofs.Words.{after_create, after_local, allows_if, allows_then, bind, created_asks, create_asks, is_full, length, make_asks, new_asks, new_socket, own_of, poll_asks, side_of, told_addr, told_done, turn_asks, with_handle, with_inner, with_listening, with_record, with_writer, ℕ, ◌≡◌, refl, subst, sym}
 use Rattle.wasi_walks.proofs.Words.{Full, Stop, Trap}
 use Rattle.std.specs.Prelude.{⊤}
@@ -26,7 +26,7 @@ use Rattle.wasi_udp.specs.Socket.{after_local as udp_after_local, after_peer}
 pub data Handles (origin : Step) (h : Here) : Kind → Option ℕ → Made → Type 0 where
   OfLine : (kind : Kind) (parent : Option ℕ) (sock : Option OpId) → Marks origin h kind parent sock
       → Handles origin h kind parent h.made
-  OfAccepted : (c listener place : ℕ) (r : TcpRecord) → origin ≡ Step.TcpAccept c listener → h.made ≡ Joined place
+  OfAccepted : (c listener place : ℕ) (r : TcpRecord) → origin ≡ Step.Call c (GuestCall.TcpAccept listener) → h.made ≡ Joined place
       → h.own ≡ Used → Found h place r → Handles origin h (Tcp2 place) (Some listener)
       (Marked h.machine.table.next place)
   OfCreated : (place : ℕ) (u : UdpRecord) → IsCreated h place u → Handles origin h (Udp2 place) None Past

@@ -1,7 +1,7 @@
 -- The steps on sockets, as moves: the handle is looked up, its record does the call, and is put back.
 use Rattle.wasi_walks.proofs.Words.{AnOption, Answer, Asks, Bool, Chosen, Err, ErrorCode, Give, HandleTable, Has, InProgress, Input, IpSocketAddress}
 use Rattle.wasi_walks.proofs.Words.{IsBacklogSet, IsBindTo, IsConnectTo, Kind, List, Machine, None, Ok, Option, Output, Pending, Records, Result}
-use Rattle.wasi_walks.proofs.Words.{ShutdownType, Socket, Some, StandingCall, Step, Stop, Streams, TcpRecord, TheBacklog, WasiSocketsCtx}
+use Rattle.wasi_walks.proofs.Words.{ShutdownType, Socket, Some, StandingCall, GuestCall, Step, Stop, Streams, TcpRecord, TheBacklog, WasiSocketsCtx}
 use Rattle.wasi_walks.proofs.Words.{call_answered, call_place, false, finish_at, finish_by}
 use Rattle.wasi_walks.proofs.Words.{finish_on, handles_of, inl, inner_answered, inr, is_connect, is_network, is_nothing, kind_at}
 use Rattle.wasi_walks.proofs.Words.{make_asks, own_of, put_back, refl, set_chosen, set_option_asks}
@@ -138,7 +138,7 @@ module _ {contexts : List WasiSocketsCtx} {line : ℕ} {origin : Step} {law : La
       call_given _ (λ done. G done.1) (more m.table (Input place) g) (mark (marks m.table (Input place) (inl refl) g)) (λ why t. gives _ (Leaves _))
       (λ input t k. call _ (mark (marks t (Output place) (inr refl) k)) (λ why u. gives _ (Leaves _)) (λ output u. gives _ (Leaves _)))
 
-  pub finish_connect_walks : (c s : ℕ) (m : Machine) → Has (handles_of origin) s → origin ≡ Step.TcpFinishConnect c s
+  pub finish_connect_walks : (c s : ℕ) (m : Machine) → Has (handles_of origin) s → origin ≡ Step.Call c (GuestCall.TcpFinishConnect s)
       → Walks law (Starts m Unused) OverWith (finish_connect (own_of line) s m)
   finish_connect_walks c s m named is =
       look (λ place. in_store (finish_connect_of place) >> (Read (λ m. side_at (tcp2_at m.store.records place)) >>= λ side. make_streams (own_of line) s place side))

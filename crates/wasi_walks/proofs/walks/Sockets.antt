@@ -12,7 +12,7 @@ use Rattle.wasi_walks.proofs.Words.{Records, TcpReceiveStream, TcpSendStream}
 use Rattle.wasi_walks.proofs.Words.{Accepting, Accepts, Answer, Begins, Bool, Connection, Done, End, Err, ErrorCode, Give, InProgress}
 use Rattle.wasi_walks.proofs.Words.{InvalidArgument, InvalidState, IpSocketAddress, IsBacklogSet, IsBindTo, IsConnectTo, IsListenStep, Item, List}
 use Rattle.wasi_walks.proofs.Words.{Listener, Listening, None, Not, Ok, OpId, Operation, Option, Pending, Ready, Refused, Result, Socket, Some}
-use Rattle.wasi_walks.proofs.Words.{StandingCall, Step, Stop, TcpRecord, TcpState, Waits, WasiSocketsCtx, accept_asks, accept_end, accept_ended}
+use Rattle.wasi_walks.proofs.Words.{StandingCall, GuestCall, Step, Stop, TcpRecord, TcpState, Waits, WasiSocketsCtx, accept_asks, accept_end, accept_ended}
 use Rattle.wasi_walks.proofs.Words.{accepted_record, after_backlog, after_local, ap, ask_bound, ask_set_option, begin_bind_asks, begin_connect_asks}
 use Rattle.wasi_walks.proofs.Words.{begin_listen_asks, bind, bind_allowed, bind_asks, bind_begun, bind_ended, bound_asks, closed_listening}
 use Rattle.wasi_walks.proofs.Words.{connect_begun, connect_first, connect_operation, connect_polled, connect_start, false, finish_connect_asks}
@@ -488,7 +488,7 @@ Took h place (Ok (Ready socket), r) = joined_if h place r (accepted_record socke
 Took h place (Ok Pending, r) = put h place r
 Took h place (Err c, r) = put h place r
 
-module _ {contexts : List WasiSocketsCtx} {line : ℕ} {origin : Step} {law : Law contexts line origin} {h : Here} {place : ℕ} (here : HasRecord h place) (c handle : ℕ) (is : origin ≡ Step.TcpAccept c handle) (of : record_of (kind_at h.machine.table handle) ≡ Some place) (unmade : h.made ≡ Unmade) where
+module _ {contexts : List WasiSocketsCtx} {line : ℕ} {origin : Step} {law : Law contexts line origin} {h : Here} {place : ℕ} (here : HasRecord h place) (c handle : ℕ) (is : origin ≡ Step.Call c (GuestCall.TcpAccept handle)) (of : record_of (kind_at h.machine.table handle) ≡ Some place) (unmade : h.made ≡ Unmade) where
   pub takes_walks : (r : TcpRecord) (l : Listener) (now : Accepting) → Walks law (put h place (accepting_now r l now)) (λ done. Took h place (Ok done.0, with_listening r (Accepts done.1))) (Give (accept_end l now))
   takes_walks r l (Accepting.Arrived new peer) =
       let old : TcpRecord = accepting_now r l (Accepting.Arrived new peer) in

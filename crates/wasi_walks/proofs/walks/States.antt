@@ -2,7 +2,7 @@
 use Rattle.wasi_host.specs.declared.kind.PlainInput.TheVariants as plain_input
 use Rattle.wasi_host.specs.declared.kind.PlainOutput.TheVariants as plain_output
 use Rattle.wasi_walks.proofs.walks.Moves.{MakesPlain}
-use Rattle.wasi_walks.proofs.Words.{Step}
+use Rattle.wasi_walks.proofs.Words.{GuestCall, Step}
 use Rattle.wasi_walks.proofs.Words.{Answer, Ask, AskWrite, Asks, Bool, Err, ErrorCode, Full, Give, HandleTable, Input, Kind, List, Machine, None, Ok}
 use Rattle.wasi_walks.proofs.Words.{OpId, Option, Output, Pending, Pollable, Ready, Records, Result, Socket, Some, Standing, Stop}
 use Rattle.wasi_walks.proofs.Words.{Streams, Tcp2, TcpRecord, Trap, Watched, accept_answered, accept_at, accept_record_asks, accepted_record, ap}
@@ -196,9 +196,9 @@ IsPlain (PlainOutput plain) = ⊤
 IsPlain _ = ⊥
 
 pub makes_plain : (s : Step) (kind : Kind) → MakesPlain s kind → IsPlain kind
-makes_plain (Step.PipeIn ctx bytes) (PlainInput (plain_input.Pipe place)) m = tt
-makes_plain (Step.PipeOut ctx capacity) (PlainOutput (plain_output.Pipe place)) m = tt
-makes_plain (Step.Sink ctx) (PlainOutput plain_output.Sink) m = tt
-makes_plain (Step.ClosedIn ctx) (PlainInput plain_input.Closed) m = tt
-makes_plain (Step.ClosedOut ctx) (PlainOutput plain_output.Closed) m = tt
+makes_plain (Step.Call ctx (GuestCall.PipeIn bytes)) (PlainInput (plain_input.Pipe place)) m = tt
+makes_plain (Step.Call ctx (GuestCall.PipeOut capacity)) (PlainOutput (plain_output.Pipe place)) m = tt
+makes_plain (Step.Call ctx GuestCall.Sink) (PlainOutput plain_output.Sink) m = tt
+makes_plain (Step.Call ctx GuestCall.ClosedIn) (PlainInput plain_input.Closed) m = tt
+makes_plain (Step.Call ctx GuestCall.ClosedOut) (PlainOutput plain_output.Closed) m = tt
 makes_plain _ _ m = absurd m

@@ -1,6 +1,6 @@
 -- A pending call continues; each step is made of moves, and so is a line while a call is pending.
 use Rattle.wasi_walks.proofs.Words.{Answer, Err, Give, InProgress, IsBacklogSet, List, Machine, None, Ok, Option, Records, Result, Some, Standing}
-use Rattle.wasi_walks.proofs.Words.{StandingCall, Step, Stop, TcpRecord, TcpSetting, TheBacklog, WasiSocketsCtx, asks_while, call_of, call_place}
+use Rattle.wasi_walks.proofs.Words.{StandingCall, GuestCall, Step, Stop, TcpRecord, TcpSetting, TheBacklog, WasiSocketsCtx, asks_while, call_of, call_place}
 use Rattle.wasi_walks.proofs.Words.{chosen, context_at, false, get_option_asks, go_on, inl, is_bind}
 use Rattle.wasi_walks.proofs.Words.{is_guest_call, is_listen, kind_at, own_of, rebind_at, refl, relisten_at}
 use Rattle.wasi_walks.proofs.Words.{resume_call, resumed, socket_at, step_asks, subst, sym, true, unstood}
@@ -64,10 +64,10 @@ ResumesSimply (Some s) = ContinuesSimply s.call
 
 -- nor does the step, which is done beside this pending call
 abbrev IsSimpleAt : Option Standing → Step → Type 0
-IsSimpleAt o (Step.Splice ctx output input len) = ⊥
-IsSimpleAt o (Step.BlockingWrite ctx output bytes) = ⊥
-IsSimpleAt o (Step.BlockingZeroes ctx output len) = ⊥
-IsSimpleAt o (Step.BlockingSplice ctx output input len) = ⊥
+IsSimpleAt o (Step.Call ctx (GuestCall.Splice output input len)) = ⊥
+IsSimpleAt o (Step.Call ctx (GuestCall.BlockingWrite output bytes)) = ⊥
+IsSimpleAt o (Step.Call ctx (GuestCall.BlockingZeroes output len)) = ⊥
+IsSimpleAt o (Step.Call ctx (GuestCall.BlockingSplice output input len)) = ⊥
 IsSimpleAt o (Step.Poll n) = ResumesSimply o
 IsSimpleAt o _ = ⊤
 
@@ -161,10 +161,10 @@ module _ {contexts : List WasiSocketsCtx} {line : ℕ} {origin : Step} {law : La
   begun_calls is q w = calls is q (move (Spends _ refl) w)
 
 -- what a set sets, by what its setting chooses
-option_set : (c s : ℕ) (setting : TcpSetting) (option : Opt) (value : ℕ) → chosen setting ≡ AnOption option value → IsSetTo option (value_set option value) (Step.TcpSet c s setting)
+option_set : (c s : ℕ) (setting : TcpSetting) (option : Opt) (value : ℕ) → chosen setting ≡ AnOption option value → IsSetTo option (value_set option value) (Step.Call c (GuestCall.TcpSet s setting))
 option_set c s setting option value e = subst (SetsOption option (value_set option value)) (sym e) (refl, refl)
 
-backlog_set : (c s : ℕ) (setting : TcpSetting) (value : ℕ) → chosen setting ≡ TheBacklog value → IsBacklogSet (clamped_backlog value) (Step.TcpSet c s setting)
+backlog_set : (c s : ℕ) (setting : TcpSetting) (value : ℕ) → chosen setting ≡ TheBacklog value → IsBacklogSet (clamped_backlog value) (Step.Call c (GuestCall.TcpSet s setting))
 backlog_set c s setting value e = subst (SetsBacklog (clamped_backlog value)) (sym e) refl
 
 -- what is finished is no bind in progress
@@ -178,65 +178,65 @@ listen_settles _ e = tt
 
 -- each step is made of moves; where a guest calls, nothing is pending
 pub step_walks : {contexts : List WasiSocketsCtx} (line : ℕ) (s : Step) {law : Law contexts line s} → (m : Machine) → BeginsWrites law ⊎ IsSimpleAt m.store.standing s → (is_guest_call s ≡ true → m.store.standing ≡ None) → Walks law (Starts m (may m s)) OverWith (step_asks contexts m line s)
-step_walks line (Step.Network c) m b f = move (Spends _ refl) (and_then (and_then (mark (ANetwork c refl)) (λ made. give _)) (λ done. give _))
-step_walks {contexts} line (Step.TcpCreate c family) m b f = and_then (create (context_at contexts c) family (refl, refl) refl refl refl) (λ done. give _)
-step_walks line (Step.TcpStartBind c s n a) m b f = and_then (start_bind_walks m s n a (inl refl) refl (none_stands (f refl))) (λ done. give _)
-step_walks line (Step.TcpFinishBind c s) m b f = as_left (finish_started_walks m is_bind bind_settles (socket_at m s))
-step_walks line (Step.TcpStartConnect c s n a) m b f = and_then (start_connect_walks m s n a (inl refl) refl) (λ done. give _)
-step_walks line (Step.TcpFinishConnect c s) m b f = and_then (finish_connect_walks c s m (inl refl) refl) (λ done. give _)
-step_walks line (Step.TcpStartListen c s) m b f = and_then (on_socket m s (socket_at m s) (inl refl) (socket_record (kind_at m.table s)) (λ place. start_listen_at_walks m place (tcp2_at m.store.records place) refl tt (none_stands (f refl)))) (λ done. give _)
-step_walks line (Step.TcpFinishListen c s) m b f = as_left (finish_started_walks m is_listen listen_settles (socket_at m s))
-step_walks line (Step.TcpAccept c s) m b f = and_then (accept_on_walks c s m (socket_at m s) refl (inl refl) refl) (λ done. give _)
-step_walks line (Step.TcpLocalAddress c s) m b f = and_then (local_address_walks m s (inl refl)) (λ done. give _)
-step_walks line (Step.TcpRemoteAddress c s) m b f = and_then (remote_address_walks m s (inl refl)) (λ done. give _)
-step_walks line (Step.TcpIsListening c s) m b f = gives _ (Spends _ refl)
-step_walks line (Step.TcpAddressFamily c s) m b f = gives _ (Spends _ refl)
-step_walks line (Step.TcpGet c s option) m b f = and_then (on_socket m s (socket_at m s) (inl refl) (socket_record (kind_at m.table s)) (λ place. looked_walks m place (λ x. get_option_asks (own_of line) x option) (tcp2_at m.store.records place) refl (λ r here. get_walks here refl r option refl refl))) (λ done. give _)
-step_walks line (Step.TcpSet c s setting) m b f = and_then (set_chosen_walks m s (socket_at m s) (chosen setting) (inl refl) (socket_record (kind_at m.table s)) (option_set c s setting) (backlog_set c s setting)) (λ done. give _)
-step_walks line (Step.TcpShutdown c s how) m b f = and_then (on_socket m s (socket_at m s) (inl refl) (socket_record (kind_at m.table s)) (λ place. shutdown_at_walks m place how (tcp2_at m.store.records place) refl)) (λ done. give _)
-step_walks {contexts} line (Step.UdpCreate c family) m b f = and_then (create_udp_walks m (context_at contexts c) family (refl, refl) (f refl)) (λ done. give _)
-step_walks line (Step.UdpStartBind c s n a) m b f = and_then (start_udp_bind_walks m s n a (inl refl) refl (none_stands (f refl))) (λ done. give _)
-step_walks line (Step.UdpFinishBind c s) m b f = as_left (finish_udp_bind_walks m (udp_socket_at m s))
-step_walks line (Step.UdpLocalAddress c s) m b f = and_then (on_udp m s (udp_socket_at m s) (inl refl) (udp_record (kind_at m.table s)) (λ place. udp_local_at_walks m place (open_at m.store.records place) refl)) (λ done. give _)
-step_walks line (Step.UdpRemoteAddress c s) m b f = gives _ (Spends _ refl)
-step_walks line (Step.UdpAddressFamily c s) m b f = gives _ (Spends _ refl)
-step_walks line (Step.UdpGet c s option) m b f = and_then (on_udp m s (udp_socket_at m s) (inl refl) (udp_record (kind_at m.table s)) (λ place. udp_get_at_walks m place (udp_opt option) refl (open_at m.store.records place) refl)) (λ done. give _)
-step_walks line (Step.UdpSet c s setting) m b f = and_then (on_udp m s (udp_socket_at m s) (inl refl) (udp_record (kind_at m.table s)) (λ place. udp_set_at_walks m place (udp_chosen setting).0 (udp_chosen setting).1 (refl, refl) (open_at m.store.records place) refl)) (λ done. give _)
-step_walks line (Step.UdpStream c s remote) m b f = and_then (stream_walks m c s remote (udp_socket_at m s) refl refl (inl refl) (none_stands (f refl))) (λ done. give _)
-step_walks line (Step.UdpReceive c incoming most) m b f = and_then (receive_walks tt m c incoming most refl (inl refl)) (λ done. give _)
-step_walks line (Step.UdpCheckSend c outgoing) m b f = as_left (check_send_walks m (outgoing_at m outgoing))
-step_walks line (Step.UdpSend c outgoing ds) m b f = and_then (send_walks m c outgoing ds refl (inl refl)) (λ done. give _)
-step_walks line (Step.Resolve c network name) m b f = and_then (resolve_walks m (f refl) c network name refl) (λ done. give _)
-step_walks line (Step.ResolveNext c lookup) m b f = as_left (next_address_walks m (lookup_number m lookup))
-step_walks line (Step.NetworkErrorCode c e) m b f = gives _ (Spends _ refl)
-step_walks line (Step.Read c input len) m b f = and_then (begun_calls tt (none_stands (f refl)) (calls_over (read_asks_walks m input (inl refl) len))) (λ done. give _)
-step_walks line (Step.CheckWrite c output) m b f = and_then (begun_calls tt (none_stands (f refl)) (calls_over (check_asks_walks m output (inl refl)))) (λ done. give _)
-step_walks line (Step.Write c output bytes) m b f = and_then (calls tt (none_stands (f refl)) (calls_over (write_asks_walks m output (inl refl) bytes (AsLet refl)))) (λ done. give _)
-step_walks line (Step.Flush c output) m b f = and_then (begun_calls tt (none_stands (f refl)) (calls_over (flushed_asks_walks m output (inl refl)))) (λ done. give _)
-step_walks line (Step.Subscribe c s) m b f = and_then (subscribe_walks c s m (watched_by (kind_at m.table s)) refl refl) (λ done. give _)
-step_walks line (Step.Ready c p) m b f = ready_asks_walks m (none_stands (f refl)) p (inl refl) tt tt _
-step_walks line (Step.Block c p) {law = law} m b f = and_then (looks_begin tt (none_stands (f refl)) (block_walks law line (p ∷ []) First (refl, (λ q k. k), tt) p refl m 1)) (λ done. give _)
-step_walks line (Step.PollList c ps) m b f = and_then (looks_begin tt (none_stands (f refl)) (poll_asks_walks tt m ps (sym (append-nil ps)))) (λ done. give _)
-step_walks line (Step.Drop c this) m b f = and_then (drop_walks m this (kind_at m.table this) (inl refl) refl (f refl)) (λ done. give _)
-step_walks line (Step.PipeIn c bytes) m b f = and_then (input_pipe_walks m bytes tt) (λ done. give _)
-step_walks line (Step.PipeOut c capacity) m b f = and_then (output_pipe_walks m capacity tt) (λ done. give _)
-step_walks line (Step.PipeContents c output) m b f = gives _ (Spends _ refl)
-step_walks line (Step.Sink c) m b f = and_then (plain_walks m (PlainOutput plain_output.Sink) tt tt) (λ done. give _)
-step_walks line (Step.ClosedIn c) m b f = and_then (plain_walks m (PlainInput plain_input.Closed) tt tt) (λ done. give _)
-step_walks line (Step.ClosedOut c) m b f = and_then (plain_walks m (PlainOutput plain_output.Closed) tt tt) (λ done. give _)
-step_walks line (Step.Skip c input len) m b f = and_then (begun_calls tt (none_stands (f refl)) (calls_over (skip_asks_walks m input (inl refl) len))) (λ done. give _)
-step_walks line (Step.WriteZeroes c output len) m b f = and_then (calls tt (none_stands (f refl)) (calls_over (write_asks_walks m output (inl refl) (zeros len) (AsLet refl)))) (λ done. give _)
-step_walks line (Step.Splice c output input len) m (inl begins) f = and_then (begun_calls tt (none_stands (f refl)) (splice_walks begins output input (inl refl) (inr (inl refl)) m len)) (λ done. give _)
-step_walks line (Step.Splice c output input len) m (inr none) f = absurd none
-step_walks line (Step.BlockingRead c input len) m b f = and_then (begun_calls tt (none_stands (f refl)) (blocking_read_walks (first_ids line) input len m)) (λ done. give _)
-step_walks line (Step.BlockingSkip c input len) m b f = and_then (begun_calls tt (none_stands (f refl)) (blocking_skip_walks (first_ids line) input len m)) (λ done. give _)
-step_walks line (Step.BlockingWrite c output bytes) m (inl begins) f = and_then (begun_calls tt (none_stands (f refl)) (blocking_write_walks (first_ids line) output begins m bytes)) (λ done. give _)
-step_walks line (Step.BlockingWrite c output bytes) m (inr none) f = absurd none
-step_walks line (Step.BlockingZeroes c output len) m (inl begins) f = and_then (begun_calls tt (none_stands (f refl)) (blocking_zeroes_walks (first_ids line) output begins m len)) (λ done. give _)
-step_walks line (Step.BlockingZeroes c output len) m (inr none) f = absurd none
-step_walks line (Step.BlockingFlush c output) m b f = and_then (begun_calls tt (none_stands (f refl)) (blocking_flush_walks (first_ids line) output m)) (λ done. give _)
-step_walks line (Step.BlockingSplice c output input len) m (inl begins) f = and_then (begun_calls tt (none_stands (f refl)) (blocking_splice_walks (first_ids line) begins output input len m)) (λ done. give _)
-step_walks line (Step.BlockingSplice c output input len) m (inr none) f = absurd none
+step_walks line (Step.Call c GuestCall.Network) m b f = move (Spends _ refl) (and_then (and_then (mark (ANetwork c refl)) (λ made. give _)) (λ done. give _))
+step_walks {contexts} line (Step.Call c (GuestCall.TcpCreate family)) m b f = and_then (create (context_at contexts c) family (refl, refl) refl refl refl) (λ done. give _)
+step_walks line (Step.Call c (GuestCall.TcpStartBind s n a)) m b f = and_then (start_bind_walks m s n a (inl refl) refl (none_stands (f refl))) (λ done. give _)
+step_walks line (Step.Call c (GuestCall.TcpFinishBind s)) m b f = as_left (finish_started_walks m is_bind bind_settles (socket_at m s))
+step_walks line (Step.Call c (GuestCall.TcpStartConnect s n a)) m b f = and_then (start_connect_walks m s n a (inl refl) refl) (λ done. give _)
+step_walks line (Step.Call c (GuestCall.TcpFinishConnect s)) m b f = and_then (finish_connect_walks c s m (inl refl) refl) (λ done. give _)
+step_walks line (Step.Call c (GuestCall.TcpStartListen s)) m b f = and_then (on_socket m s (socket_at m s) (inl refl) (socket_record (kind_at m.table s)) (λ place. start_listen_at_walks m place (tcp2_at m.store.records place) refl tt (none_stands (f refl)))) (λ done. give _)
+step_walks line (Step.Call c (GuestCall.TcpFinishListen s)) m b f = as_left (finish_started_walks m is_listen listen_settles (socket_at m s))
+step_walks line (Step.Call c (GuestCall.TcpAccept s)) m b f = and_then (accept_on_walks c s m (socket_at m s) refl (inl refl) refl) (λ done. give _)
+step_walks line (Step.Call c (GuestCall.TcpLocalAddress s)) m b f = and_then (local_address_walks m s (inl refl)) (λ done. give _)
+step_walks line (Step.Call c (GuestCall.TcpRemoteAddress s)) m b f = and_then (remote_address_walks m s (inl refl)) (λ done. give _)
+step_walks line (Step.Call c (GuestCall.TcpIsListening s)) m b f = gives _ (Spends _ refl)
+step_walks line (Step.Call c (GuestCall.TcpAddressFamily s)) m b f = gives _ (Spends _ refl)
+step_walks line (Step.Call c (GuestCall.TcpGet s option)) m b f = and_then (on_socket m s (socket_at m s) (inl refl) (socket_record (kind_at m.table s)) (λ place. looked_walks m place (λ x. get_option_asks (own_of line) x option) (tcp2_at m.store.records place) refl (λ r here. get_walks here refl r option refl refl))) (λ done. give _)
+step_walks line (Step.Call c (GuestCall.TcpSet s setting)) m b f = and_then (set_chosen_walks m s (socket_at m s) (chosen setting) (inl refl) (socket_record (kind_at m.table s)) (option_set c s setting) (backlog_set c s setting)) (λ done. give _)
+step_walks line (Step.Call c (GuestCall.TcpShutdown s how)) m b f = and_then (on_socket m s (socket_at m s) (inl refl) (socket_record (kind_at m.table s)) (λ place. shutdown_at_walks m place how (tcp2_at m.store.records place) refl)) (λ done. give _)
+step_walks {contexts} line (Step.Call c (GuestCall.UdpCreate family)) m b f = and_then (create_udp_walks m (context_at contexts c) family (refl, refl) (f refl)) (λ done. give _)
+step_walks line (Step.Call c (GuestCall.UdpStartBind s n a)) m b f = and_then (start_udp_bind_walks m s n a (inl refl) refl (none_stands (f refl))) (λ done. give _)
+step_walks line (Step.Call c (GuestCall.UdpFinishBind s)) m b f = as_left (finish_udp_bind_walks m (udp_socket_at m s))
+step_walks line (Step.Call c (GuestCall.UdpLocalAddress s)) m b f = and_then (on_udp m s (udp_socket_at m s) (inl refl) (udp_record (kind_at m.table s)) (λ place. udp_local_at_walks m place (open_at m.store.records place) refl)) (λ done. give _)
+step_walks line (Step.Call c (GuestCall.UdpRemoteAddress s)) m b f = gives _ (Spends _ refl)
+step_walks line (Step.Call c (GuestCall.UdpAddressFamily s)) m b f = gives _ (Spends _ refl)
+step_walks line (Step.Call c (GuestCall.UdpGet s option)) m b f = and_then (on_udp m s (udp_socket_at m s) (inl refl) (udp_record (kind_at m.table s)) (λ place. udp_get_at_walks m place (udp_opt option) refl (open_at m.store.records place) refl)) (λ done. give _)
+step_walks line (Step.Call c (GuestCall.UdpSet s setting)) m b f = and_then (on_udp m s (udp_socket_at m s) (inl refl) (udp_record (kind_at m.table s)) (λ place. udp_set_at_walks m place (udp_chosen setting).0 (udp_chosen setting).1 (refl, refl) (open_at m.store.records place) refl)) (λ done. give _)
+step_walks line (Step.Call c (GuestCall.UdpStream s remote)) m b f = and_then (stream_walks m c s remote (udp_socket_at m s) refl refl (inl refl) (none_stands (f refl))) (λ done. give _)
+step_walks line (Step.Call c (GuestCall.UdpReceive incoming most)) m b f = and_then (receive_walks tt m c incoming most refl (inl refl)) (λ done. give _)
+step_walks line (Step.Call c (GuestCall.UdpCheckSend outgoing)) m b f = as_left (check_send_walks m (outgoing_at m outgoing))
+step_walks line (Step.Call c (GuestCall.UdpSend outgoing ds)) m b f = and_then (send_walks m c outgoing ds refl (inl refl)) (λ done. give _)
+step_walks line (Step.Call c (GuestCall.Resolve network name)) m b f = and_then (resolve_walks m (f refl) c network name refl) (λ done. give _)
+step_walks line (Step.Call c (GuestCall.ResolveNext lookup)) m b f = as_left (next_address_walks m (lookup_number m lookup))
+step_walks line (Step.Call c (GuestCall.NetworkErrorCode e)) m b f = gives _ (Spends _ refl)
+step_walks line (Step.Call c (GuestCall.Read input len)) m b f = and_then (begun_calls tt (none_stands (f refl)) (calls_over (read_asks_walks m input (inl refl) len))) (λ done. give _)
+step_walks line (Step.Call c (GuestCall.CheckWrite output)) m b f = and_then (begun_calls tt (none_stands (f refl)) (calls_over (check_asks_walks m output (inl refl)))) (λ done. give _)
+step_walks line (Step.Call c (GuestCall.Write output bytes)) m b f = and_then (calls tt (none_stands (f refl)) (calls_over (write_asks_walks m output (inl refl) bytes (AsLet refl)))) (λ done. give _)
+step_walks line (Step.Call c (GuestCall.Flush output)) m b f = and_then (begun_calls tt (none_stands (f refl)) (calls_over (flushed_asks_walks m output (inl refl)))) (λ done. give _)
+step_walks line (Step.Call c (GuestCall.Subscribe s)) m b f = and_then (subscribe_walks c s m (watched_by (kind_at m.table s)) refl refl) (λ done. give _)
+step_walks line (Step.Call c (GuestCall.Ready p)) m b f = ready_asks_walks m (none_stands (f refl)) p (inl refl) tt tt _
+step_walks line (Step.Call c (GuestCall.Block p)) {law = law} m b f = and_then (looks_begin tt (none_stands (f refl)) (block_walks law line (p ∷ []) First (refl, (λ q k. k), tt) p refl m 1)) (λ done. give _)
+step_walks line (Step.Call c (GuestCall.PollList ps)) m b f = and_then (looks_begin tt (none_stands (f refl)) (poll_asks_walks tt m ps (sym (append-nil ps)))) (λ done. give _)
+step_walks line (Step.Call c (GuestCall.Drop this)) m b f = and_then (drop_walks m this (kind_at m.table this) (inl refl) refl (f refl)) (λ done. give _)
+step_walks line (Step.Call c (GuestCall.PipeIn bytes)) m b f = and_then (input_pipe_walks m bytes tt) (λ done. give _)
+step_walks line (Step.Call c (GuestCall.PipeOut capacity)) m b f = and_then (output_pipe_walks m capacity tt) (λ done. give _)
+step_walks line (Step.Call c (GuestCall.PipeContents output)) m b f = gives _ (Spends _ refl)
+step_walks line (Step.Call c GuestCall.Sink) m b f = and_then (plain_walks m (PlainOutput plain_output.Sink) tt tt) (λ done. give _)
+step_walks line (Step.Call c GuestCall.ClosedIn) m b f = and_then (plain_walks m (PlainInput plain_input.Closed) tt tt) (λ done. give _)
+step_walks line (Step.Call c GuestCall.ClosedOut) m b f = and_then (plain_walks m (PlainOutput plain_output.Closed) tt tt) (λ done. give _)
+step_walks line (Step.Call c (GuestCall.Skip input len)) m b f = and_then (begun_calls tt (none_stands (f refl)) (calls_over (skip_asks_walks m input (inl refl) len))) (λ done. give _)
+step_walks line (Step.Call c (GuestCall.WriteZeroes output len)) m b f = and_then (calls tt (none_stands (f refl)) (calls_over (write_asks_walks m output (inl refl) (zeros len) (AsLet refl)))) (λ done. give _)
+step_walks line (Step.Call c (GuestCall.Splice output input len)) m (inl begins) f = and_then (begun_calls tt (none_stands (f refl)) (splice_walks begins output input (inl refl) (inr (inl refl)) m len)) (λ done. give _)
+step_walks line (Step.Call c (GuestCall.Splice output input len)) m (inr none) f = absurd none
+step_walks line (Step.Call c (GuestCall.BlockingRead input len)) m b f = and_then (begun_calls tt (none_stands (f refl)) (blocking_read_walks (first_ids line) input len m)) (λ done. give _)
+step_walks line (Step.Call c (GuestCall.BlockingSkip input len)) m b f = and_then (begun_calls tt (none_stands (f refl)) (blocking_skip_walks (first_ids line) input len m)) (λ done. give _)
+step_walks line (Step.Call c (GuestCall.BlockingWrite output bytes)) m (inl begins) f = and_then (begun_calls tt (none_stands (f refl)) (blocking_write_walks (first_ids line) output begins m bytes)) (λ done. give _)
+step_walks line (Step.Call c (GuestCall.BlockingWrite output bytes)) m (inr none) f = absurd none
+step_walks line (Step.Call c (GuestCall.BlockingZeroes output len)) m (inl begins) f = and_then (begun_calls tt (none_stands (f refl)) (blocking_zeroes_walks (first_ids line) output begins m len)) (λ done. give _)
+step_walks line (Step.Call c (GuestCall.BlockingZeroes output len)) m (inr none) f = absurd none
+step_walks line (Step.Call c (GuestCall.BlockingFlush output)) m b f = and_then (begun_calls tt (none_stands (f refl)) (blocking_flush_walks (first_ids line) output m)) (λ done. give _)
+step_walks line (Step.Call c (GuestCall.BlockingSplice output input len)) m (inl begins) f = and_then (begun_calls tt (none_stands (f refl)) (blocking_splice_walks (first_ids line) begins output input len m)) (λ done. give _)
+step_walks line (Step.Call c (GuestCall.BlockingSplice output input len)) m (inr none) f = absurd none
 step_walks line (Step.Cancel n) m b f = and_then (cancel_walks m n (call_of m.store.standing n) refl) (λ done. give _)
 step_walks line Step.Turn m b f = and_then (turn_walks m) (λ done. give _)
 step_walks line (Step.Poll n) m b f = and_then (resume_walks m n (call_of m.store.standing n) refl b) (λ done. give _)

@@ -1,5 +1,5 @@
 -- What a step may begin to write, and how a call of streams may begin a write.
-use Rattle.wasi_walks.proofs.Words.{List, Machine, None, OpId, Option, Some, Step, Streams, TcpRecord, WriteState, [], if◌then◌else◌, length, nat_lt}
+use Rattle.wasi_walks.proofs.Words.{List, Machine, None, OpId, Option, Some, GuestCall, Step, Streams, TcpRecord, WriteState, [], if◌then◌else◌, length, nat_lt}
 use Rattle.wasi_walks.proofs.Words.{output_at, ℕ, ◌∷◌}
 use Rattle.wasi_world.specs.Sides.{is_same}
 use Rattle.wasi_walks.proofs.Words.{WasiSocketsCtx, ◌≡◌}
@@ -29,8 +29,8 @@ may_at m bytes (Some place) = may_in (tcp2_at m.store.records place) bytes
 
 -- the bytes that a step may begin to write
 abbrev pub may : Machine → Step → Own
-may m (Step.Write ctx output bytes) = may_at m bytes (output_at m output)
-may m (Step.WriteZeroes ctx output len) = may_at m (zeros len) (output_at m output)
+may m (Step.Call ctx (GuestCall.Write output bytes)) = may_at m bytes (output_at m output)
+may m (Step.Call ctx (GuestCall.WriteZeroes output len)) = may_at m (zeros len) (output_at m output)
 may m _ = Unused
 
 -- the bytes that a step is let write to a network socket

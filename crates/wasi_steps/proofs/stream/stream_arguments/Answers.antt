@@ -1,8 +1,8 @@
 use Rattle.std.proofs.Common.{◌++◌}
-use Rattle.wasi_steps.specs.Steps.{rows_of, input_value_steps, output_value_steps, handle_steps}
+use Rattle.wasi_steps.specs.Steps.{rows_of, input_value_calls, output_value_calls, handle_calls}
 use Rattle.wasi_steps.proofs.StepWords.{past_words}
 use Rattle.wasi_steps.proofs.stream.stream_arguments.Goals as goal
 
 pub returns-in_default : goal.returns-in_default
 returns-in_default c = λ old h.
-    rw (past_words (rows_of (input_value_steps c.args.context)) (rows_of (output_value_steps c.args.context ++ handle_steps c.args.context)) c.args.word.now old (assumption c)) (c.output_arguments.ensures old h)
+    rw (past_words (rows_of input_value_calls) (rows_of (output_value_calls ++ handle_calls)) c.args.word.now old (assumption c)) (c.output_arguments.ensures old h)

@@ -1,0 +1,264 @@
+//! The calls of a guest.
+
+use crate::setting::{TcpSetting, UdpOption, UdpSetting};
+use wasi_addr::{IpSocketAddress, ShutdownType, SocketAddressFamily};
+use wasi_world::{Handle, NameText, NumberList, Octets, Opt, OutgoingDatagrams};
+
+/// A call that a guest makes, with its arguments.
+#[derive(Drop)]
+pub enum GuestCall {
+    /// Makes a handle of the network (`instance-network`).
+    Network,
+    /// Makes a TCP socket of this family (`create-tcp-socket`).
+    TcpCreate {
+        family: SocketAddressFamily,
+    },
+    /// Begins to bind the socket to the address (`start-bind`).
+    TcpStartBind {
+        socket: Handle,
+        network: Handle,
+        addr: IpSocketAddress,
+    },
+    /// Ends a bind that was begun (`finish-bind`).
+    TcpFinishBind {
+        socket: Handle,
+    },
+    /// Begins to connect the socket to the address (`start-connect`).
+    TcpStartConnect {
+        socket: Handle,
+        network: Handle,
+        addr: IpSocketAddress,
+    },
+    /// Polls a connect that was begun, and makes the two streams of the connection
+    /// (`finish-connect`).
+    TcpFinishConnect {
+        socket: Handle,
+    },
+    /// Begins to make the socket listen (`start-listen`).
+    TcpStartListen {
+        socket: Handle,
+    },
+    /// Ends a listen that was begun (`finish-listen`).
+    TcpFinishListen {
+        socket: Handle,
+    },
+    /// Accepts a connection of the listener, and makes its socket and its two streams (`accept`).
+    TcpAccept {
+        socket: Handle,
+    },
+    /// The address that the socket is bound to (`local-address`).
+    TcpLocalAddress {
+        socket: Handle,
+    },
+    /// The address of the other end of the connection (`remote-address`).
+    TcpRemoteAddress {
+        socket: Handle,
+    },
+    /// Whether the socket is listening (`is-listening`).
+    TcpIsListening {
+        socket: Handle,
+    },
+    /// The socket's family (`address-family`).
+    TcpAddressFamily {
+        socket: Handle,
+    },
+    /// The value of an option of the socket (its getter: `keep-alive-enabled`, and so on).
+    TcpGet {
+        socket: Handle,
+        option: Opt,
+    },
+    /// Sets an option of the socket, or its backlog (its setter: `set-keep-alive-enabled`, and so
+    /// on).
+    TcpSet {
+        socket: Handle,
+        setting: TcpSetting,
+    },
+    /// Shuts down this half of the connection, or both (`shutdown`).
+    TcpShutdown {
+        socket: Handle,
+        how: ShutdownType,
+    },
+    /// Makes a UDP socket of this family (`create-udp-socket`).
+    UdpCreate {
+        family: SocketAddressFamily,
+    },
+    /// Begins to bind the UDP socket to the address (`start-bind`).
+    UdpStartBind {
+        socket: Handle,
+        network: Handle,
+        addr: IpSocketAddress,
+    },
+    /// Ends a bind of the UDP socket that was begun (`finish-bind`).
+    UdpFinishBind {
+        socket: Handle,
+    },
+    /// The address that the UDP socket is bound to (`local-address`).
+    UdpLocalAddress {
+        socket: Handle,
+    },
+    /// The one address that the UDP socket sends to and receives from, where there is one
+    /// (`remote-address`).
+    UdpRemoteAddress {
+        socket: Handle,
+    },
+    /// The UDP socket's family (`address-family`).
+    UdpAddressFamily {
+        socket: Handle,
+    },
+    /// The value of an option of the UDP socket (its getter: `unicast-hop-limit`, and so on).
+    UdpGet {
+        socket: Handle,
+        option: UdpOption,
+    },
+    /// Sets an option of the UDP socket (its setter: `set-unicast-hop-limit`, and so on).
+    UdpSet {
+        socket: Handle,
+        setting: UdpSetting,
+    },
+    /// Makes the two datagram streams of the UDP socket, which is connected to the address first,
+    /// or else disconnected from where it was connected (`udp-socket.stream`).
+    UdpStream {
+        socket: Handle,
+        remote: Option<IpSocketAddress>,
+    },
+    /// Receives at most so many datagrams (`incoming-datagram-stream.receive`).
+    UdpReceive {
+        incoming: Handle,
+        max_results: u64,
+    },
+    /// How many datagrams may be sent (`outgoing-datagram-stream.check-send`).
+    UdpCheckSend {
+        outgoing: Handle,
+    },
+    /// Sends the datagrams, of which there are no more than was permitted
+    /// (`outgoing-datagram-stream.send`).
+    UdpSend {
+        outgoing: Handle,
+        datagrams: OutgoingDatagrams,
+    },
+    /// Begins to look up the addresses of a host name (`resolve-addresses`).
+    Resolve {
+        network: Handle,
+        name: NameText,
+    },
+    /// Takes the next address that a lookup found (`resolve-next-address`).
+    ResolveNext {
+        lookup: Handle,
+    },
+    /// Makes an input over the bytes; the host's own, as an embedder's `MemoryInputPipe`.
+    PipeIn {
+        bytes: Octets,
+    },
+    /// Makes an output that keeps what is written to it; the host's own, as an embedder's
+    /// `MemoryOutputPipe`.
+    PipeOut {
+        /// How many bytes it holds, at most 65536.
+        capacity: u32,
+    },
+    /// What was written to an output that [`GuestCall::PipeOut`] made (`MemoryOutputPipe::contents`).
+    PipeContents {
+        output: Handle,
+    },
+    /// Makes an output that takes all bytes and keeps none; the host's own, as an embedder's
+    /// `SinkOutputStream`.
+    Sink,
+    /// Makes an input that is closed; the host's own, as an embedder's `ClosedInputStream`.
+    ClosedIn,
+    /// Makes an output that is closed; the host's own, as an embedder's `ClosedOutputStream`.
+    ClosedOut,
+    /// Reads at most so many bytes (`input-stream.read`).
+    Read {
+        input: Handle,
+        len: u64,
+    },
+    /// Reads at most so many bytes and gives only how many they were (`input-stream.skip`).
+    Skip {
+        input: Handle,
+        len: u64,
+    },
+    /// How many bytes may be written (`output-stream.check-write`).
+    CheckWrite {
+        output: Handle,
+    },
+    /// Writes the bytes, of which there are no more than was permitted (`output-stream.write`).
+    Write {
+        output: Handle,
+        bytes: Octets,
+    },
+    /// Writes so many zeroes, of which there are no more than was permitted
+    /// (`output-stream.write-zeroes`).
+    WriteZeroes {
+        output: Handle,
+        len: u64,
+    },
+    /// Reports a kept error of an output; asks nothing (`output-stream.flush`).
+    Flush {
+        output: Handle,
+    },
+    /// Writes to the output at most so many bytes that are read from the input
+    /// (`output-stream.splice`).
+    Splice {
+        output: Handle,
+        input: Handle,
+        len: u64,
+    },
+    /// Reads at most this many bytes, once there are bytes to read (`input-stream.blocking-read`).
+    BlockingRead {
+        input: Handle,
+        len: u64,
+    },
+    /// Reads at most this many bytes, once there are bytes to read, and gives only how many they
+    /// were (`input-stream.blocking-skip`).
+    BlockingSkip {
+        input: Handle,
+        len: u64,
+    },
+    /// Writes all the bytes, of which there are at most 4096, as the output permits them, and
+    /// flushes it (`output-stream.blocking-write-and-flush`).
+    BlockingWrite {
+        output: Handle,
+        bytes: Octets,
+    },
+    /// Writes so many zeroes, at most 4096, as the output permits them, and flushes it
+    /// (`output-stream.blocking-write-zeroes-and-flush`).
+    BlockingZeroes {
+        output: Handle,
+        len: u64,
+    },
+    /// Flushes the output, until it permits writes again (`output-stream.blocking-flush`).
+    BlockingFlush {
+        output: Handle,
+    },
+    /// Writes to the output at most this many bytes that are read from the input, once the output
+    /// permits it and there are bytes to read (`output-stream.blocking-splice`).
+    BlockingSplice {
+        output: Handle,
+        input: Handle,
+        len: u64,
+    },
+    /// Waits until what the pollable watches is ready (`pollable.block`).
+    Block {
+        pollable: Handle,
+    },
+    /// Waits until what one of the pollables watches is ready (`poll`).
+    PollList {
+        pollables: NumberList,
+    },
+    /// The network's code in the error of a stream, which is always `none` in 0.2: the code was
+    /// returned when the stream failed (`network-error-code`).
+    NetworkErrorCode {
+        error: Handle,
+    },
+    /// Makes a pollable for what the handle stands for (`subscribe` of the resource).
+    Subscribe {
+        handle: Handle,
+    },
+    /// Whether what the pollable watches is ready (`pollable.ready`).
+    Ready {
+        pollable: Handle,
+    },
+    /// Drops the handle (`resource drop`).
+    Drop {
+        handle: Handle,
+    },
+}
