@@ -8,7 +8,9 @@ use Rattle.wasi_causes.proofs.Words.{ℕ, ◌++◌, ◌+◌, ◌↔◌, ◌∙�
 use Rattle.wasi_world.specs.declared.call.HandleKind.TheVariants as name
 use Rattle.wasi_world.specs.declared.call.Call.TheVariants as call
 use Rattle.wasi_world.specs.declared.call.Told.TheVariants as told
+use Rattle.wasi_addr.specs.declared.p2.ErrorCode.{ErrorCode as P2Code}
 use Rattle.wasi_addr.specs.declared.p2.ErrorCode.TheVariants as p2
+use Rattle.wasi_records.specs.Stops.{StopOf}
 use Rattle.wasi_steps.specs.declared.reply.CodeWord.TheVariants as word
 use Rattle.wasi_steps.specs.declared.reply.Reply.TheVariants as reply
 use Rattle.wasi_causes.specs.Outcomes.{IsCodeWord, FullAfter, Conflicts, Outcome}
@@ -106,7 +108,7 @@ makes {Row} {es} t op made parent side full row = branch (is_full t) (λ e. ends
 
 -- == blocks: one lemma a kind of line
 -- a look-up: what isn't found is a trap
-pub finds : {S A B : Type 0} {Row : Rows (Result B Stop × S)} {es : List Entry} {s : S} (next : A → Does S B) (found : Option A) → (found ≡ None → Row es (Err (Trap NoSuchHandle), s))
+pub finds : {C S A B : Type 0} {Row : Rows (Result B (StopOf C) × S)} {es : List Entry} {s : S} (next : A → Does C S B) (found : Option A) → (found ≡ None → Row es (Err (Trap NoSuchHandle), s))
     → ((a : A) → found ≡ Some a → Meets Row es (next a s)) → Meets Row es (or_trap next s found)
 finds next None gone goes = ends (gone refl)
 finds next (Some a) gone goes = goes a refl
@@ -151,7 +153,7 @@ makes_streams {Row} now es own handle place side start count full row =
     one : HandleTable
     one = with_handle now.table (Input place) (Some handle)
 
-    second : ℕ → Does Machine (ℕ × ℕ)
+    second : ℕ → Does P2Code Machine (ℕ × ℕ)
     second input = makes_line own (Output place) (Some handle) side >>= λ output. give (input, output)
 
     next : now.table.next + 1 ≡ start + marks_in (es ++ entry own (call.Made now.table.next name.Input (Some handle) side) told.Done ∷ [])

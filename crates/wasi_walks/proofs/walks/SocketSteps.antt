@@ -23,6 +23,7 @@ use Rattle.wasi_walks.proofs.walks.Law.{Law, HasRecord, found, put_same, Walks, 
 use Rattle.wasi_walks.proofs.walks.Sockets.{WaitsSo, begun_bind_given, idled, connect_settles, set_walks, begin_bind_walks, begin_connect_walks, poll_connect_walks, FinishedSo, finished_of, local_walks, remote_walks, backlog_walks}
 use Rattle.wasi_walks.proofs.walks.Streams.{shut_walks}
 use Rattle.wasi_walks.proofs.walks.Lines.{look, call, call_given}
+use Rattle.wasi_addr.specs.declared.p2.ErrorCode.{ErrorCode as P2Code}
 use Rattle.wasi_addr.specs.declared.p2.ErrorCode.TheVariants.{NotInProgress}
 use Rattle.wasi_records.specs.Stops.{Code}
 use Rattle.wasi_records.specs.Sockets.{poll_connect_asks}
@@ -100,7 +101,7 @@ module _ {contexts : List WasiSocketsCtx} {line : ℕ} {origin : Step} {law : La
       look (λ r. last (asked_of place r asked)) (tcp2_at m.store.records place) (gives _ (Spends _ refl))
       (λ r g. from (put_same (At line m place Unused) place r g) (call _ (w r (there g)) (λ e t. gives _ (Spends _ refl)) (λ a t. gives _ (Spends _ refl))))
 
-  on_handle : {A : Type 0} (m : Machine) (handle : ℕ) (does : ℕ → Does Records A) → Has (handles_of origin) handle
+  on_handle : {A : Type 0} (m : Machine) (handle : ℕ) (does : ℕ → Does P2Code Records A) → Has (handles_of origin) handle
       → ((place : ℕ) → Walks law (At line m place Unused) (Put line m place) (does place m.store))
       → Walks law (Starts m Unused) OverWith (goes_on (tcp_named handle) (λ place. last (in_store (does place))) m)
   on_handle m handle does named w =
