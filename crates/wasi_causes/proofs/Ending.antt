@@ -21,7 +21,7 @@ use Rattle.wasi_causes.proofs.streams.Halves.{OutputRow, outputs}
 use Rattle.wasi_causes.proofs.tables.Meets.{Rows, Meets, ends, asks, chain, onto, told_so, widen}
 use Rattle.wasi_causes.proofs.tables.Routes.{Replied, Says, put_back, Names, its, on_record, apart, none_has}
 use Rattle.wasi_causes.specs.GivenUp.{receive_given_up, send_given_up, streams_given_up, side_closed, arrival_given_up, accept_given_up, listen_given_up, listening_given_up, socket_given_up, ended_side, shut_at_once, last_write, shut_writer, shutdown_entries, shut_down, HasLiveChildren, without, LooksOnce, NoLook, OneLook, IsDropped, GoesAtOnce, IsGone}
-use Rattle.wasi_causes.specs.Outcomes.{Outcome, AsksOnce, AreLike, Gone}
+use Rattle.wasi_causes.specs.Outcomes.{Outcome, AsksOnce, AreLike, Gone, SocketGone}
 use Rattle.wasi_host.specs.Kinds.{none_in, outgoing_of}
 use Rattle.wasi_records.specs.Shutdowns.{shut_receive, shut_send, with_streams}
 use Rattle.wasi_host.specs.TcpCalls.{shut_put}
@@ -187,6 +187,7 @@ module _ (contexts : List WasiSocketsCtx) (m : Machine) (line c handle : ℕ) wh
 
   asks_none : (o : Option Kind) → AsksOnce line o []
   asks_none (Some (Tcp2 place)) = tt
+  asks_none (Some (kinds.Tcp3 place)) = tt
   asks_none (Some (Udp2 place)) = tt
   asks_none (Some (Output place)) = NoLook
   asks_none _ = refl
@@ -196,15 +197,15 @@ module _ (contexts : List WasiSocketsCtx) (m : Machine) (line c handle : ℕ) wh
     no_children h = h.children (none_there (children_of m.table.live handle) childless)
 
     -- == of a socket
-    module _ (place : ℕ) (is : IsKind (Tcp2 place)) where
+    module _ (place : ℕ) (kind : Kind) (is : IsKind kind) (free : (es : List Entry) → AsksOnce line (Some kind) es) (its_gone : (es : List Entry) (after : Machine) → SocketGone m line handle place es after → Gone m line handle (Some kind) es after) where
       left : (r : TcpRecord) → tcp2_at m.store.records place ≡ Some r → (es : List Entry) (done : Unit {0} × TcpRecord) → Released own r es done.1 → DropRow es (answered (with_store (without m handle) (at_once (tt, released m.store place done.1))))
       left r at es done k = (
-        (apart (λ e. cc) no_children, rw is tt),
-        (tt, (refl, rw is (λ q there. let its : r ≡ q = cc in (rw (sym its) k.asked, record { left = put_gone (without m handle) place (Record.Tcp done.1); job = no_job place m.store.jobs })))),
+        (apart (λ e. cc) no_children, rw is (free es)),
+        (tt, (refl, rw is (its_gone es _ (λ q there. let its : r ≡ q = cc in (rw (sym its) k.asked, record { left = put_gone (without m handle) place (Record.Tcp done.1); job = no_job place m.store.jobs }))))),
       )
 
       by_record : (o : Option TcpRecord) → tcp2_at m.store.records place ≡ o → Meets (λ es done. DropRow es (answered (with_store (without m handle) (at_once done)))) [] (release_at m.store own place o)
-      by_record None at = ends ((apart (λ e. cc) no_children, rw is tt), (tt, (refl, rw is (λ r there. absurd (cc)))))
+      by_record None at = ends ((apart (λ e. cc) no_children, rw is (free [])), (tt, (refl, rw is (its_gone [] _ (λ r there. absurd (cc))))))
       by_record (Some r) at = onto _ (widen (left r at) (releases own r))
 
     -- == of a UDP socket
@@ -292,7 +293,8 @@ module _ (contexts : List WasiSocketsCtx) (m : Machine) (line c handle : ℕ) wh
     output_pipe_left place is (Some pipe) at = ((apart (λ e. cc) no_children, asks_none (kind_at m.table handle)), (tt, (refl, rw is (λ its there. refl))))
 
     by_kind : (kind : Kind) → IsKind kind → Meets DropRow [] (drop_kind (without m handle) (first_ids line) kind)
-    by_kind (Tcp2 place) is = onto _ (by_record place is (tcp2_at m.store.records place) refl)
+    by_kind (Tcp2 place) is = onto _ (by_record place (Tcp2 place) is (λ es. tt) (λ es after k. k) (tcp2_at m.store.records place) refl)
+    by_kind (kinds.Tcp3 place) is = onto _ (by_record place (kinds.Tcp3 place) is (λ es. tt) (λ es after k. k) (tcp2_at m.store.records place) refl)
     by_kind (Udp2 place) is = onto _ (udp_by_record place is (udp2_at m.store.records place) refl)
     by_kind (Output place) is = onto _ (widen (of_output place is) (outputs m.store (first_ids line) place (tcp2_at m.store.records place) refl))
     by_kind (Incoming place) is = ends (incoming_left place is (open_at m.store.records place) refl)
@@ -357,6 +359,14 @@ module _ (contexts : List WasiSocketsCtx) (m : Machine) (line c handle : ℕ) wh
   pub socket_ok : (place : ℕ) → kind_at m.table handle ≡ Some (Tcp2 place) → children_of m.table.live handle ≡ [] → (es : List Entry) (r : Reply) (after : Machine) → DropSays es r after → r ≡ reply.Ok no_fields
   socket_ok place is = done_ok (Tcp2 place) is (no_wait (Tcp2 place) tt)
 
+  pub tcp3_ok : (place : ℕ) → kind_at m.table handle ≡ Some (kinds.Tcp3 place) → children_of m.table.live handle ≡ [] → (es : List Entry) (r : Reply) (after : Machine) → DropSays es r after → r ≡ reply.Ok no_fields
+  tcp3_ok place is = done_ok (kinds.Tcp3 place) is (no_wait (kinds.Tcp3 place) tt)
+
+  pub tcp3_gone : (place : ℕ) (r : TcpRecord) → kind_at m.table handle ≡ Some (kinds.Tcp3 place) → tcp2_at m.store.records place ≡ Some r
+      → (es : List Entry) (fields : List Field) (after : Machine) → DropSays es (reply.Ok fields) after
+      → (es ≡ socket_given_up (own_of line) r) × IsGone m handle place after
+  tcp3_gone place r is at es fields after row = rw is at row.1.1.1 r at
+
   pub udp_ok : (place : ℕ) → kind_at m.table handle ≡ Some (Udp2 place) → children_of m.table.live handle ≡ [] → (es : List Entry) (r : Reply) (after : Machine) → DropSays es r after → r ≡ reply.Ok no_fields
   udp_ok place is = done_ok (Udp2 place) is (no_wait (Udp2 place) tt)
 
@@ -370,6 +380,7 @@ module _ (contexts : List WasiSocketsCtx) (m : Machine) (line c handle : ℕ) wh
 
   pub asks_nothing : (kind : Kind) → GoesAtOnce kind → (es : List Entry) → AsksOnce line (Some kind) es → es ≡ []
   asks_nothing (Tcp2 place) plain es h = absurd plain
+  asks_nothing (kinds.Tcp3 place) plain es h = absurd plain
   asks_nothing (Udp2 place) plain es h = absurd plain
   asks_nothing (Output place) plain es h = absurd plain
   asks_nothing (Incoming place) plain es h = absurd plain
@@ -381,6 +392,7 @@ module _ (contexts : List WasiSocketsCtx) (m : Machine) (line c handle : ℕ) wh
 
   plain_left : (kind : Kind) → GoesAtOnce kind → (es : List Entry) (after : Machine) → Gone m line handle (Some kind) es after → after ≡ without m handle
   plain_left (Tcp2 place) plain es after h = absurd plain
+  plain_left (kinds.Tcp3 place) plain es after h = absurd plain
   plain_left (Udp2 place) plain es after h = absurd plain
   plain_left (Output place) plain es after h = absurd plain
   plain_left (Incoming place) plain es after h = absurd plain

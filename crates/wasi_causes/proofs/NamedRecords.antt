@@ -7,7 +7,7 @@ use Rattle.std.proofs.Common.{slice_set, suc, zero}
 use Rattle.wasi_tcp.specs.declared.listener.Accepting.TheVariants as accepting
 use Rattle.wasi_udp.specs.Create.{Create, after_create as udp_after_create}
 use Rattle.wasi_records.specs.Records.{input_pipe_of, lookup_of, output_pipe_of, tcp2_at, tcp2_of, tcp2_put, udp2_at, udp2_of}
-use Rattle.wasi_host.specs.declared.kind.Kind.TheVariants.{Incoming, Input, Lookup, Network, Outgoing, Output, PlainInput, PlainOutput, Pollable, Udp2}
+use Rattle.wasi_host.specs.declared.kind.Kind.TheVariants.{Incoming, Input, Lookup, Network, Outgoing, Output, PlainInput, PlainOutput, Pollable, Tcp3, Udp2}
 use Rattle.wasi_host.specs.declared.kind.PlainInput.TheVariants as plain_input
 use Rattle.wasi_host.specs.declared.kind.PlainOutput.TheVariants as plain_output
 use Rattle.wasi_records.specs.declared.name_lookup.LookupOp.{LookupOp}
@@ -221,9 +221,9 @@ module _ (contexts : List WasiSocketsCtx) (line : ℕ) (origin : Step) where
   becomes_in h _ (UdpGivenUp place create q g) i = put_udp_in h place _ i
   becomes_in h _ (UdpBegun ctx family r c u m) i = begun_in h (udp_after_create (own_of line) ctx.name family r) i
   becomes_in h _ (Resolved host records l same) i = same_in h records same i
-  becomes_in h _ (Created ctx family c u m) i =
+  becomes_in h _ (Created face ctx family c u m) i =
       push_in h.machine.store.records _ h.machine.store.jobs h.machine.store.standing i
-  becomes_in h _ (CreatedWith ctx family c u m) i =
+  becomes_in h _ (CreatedWith face ctx family c u m) i =
       push_in h.machine.store.records _ h.machine.store.jobs h.machine.store.standing i
   becomes_in h _ (Writing _ (InCall place n r s half permit bytes at g e w within used)) i = put_in h place _ i
   becomes_in h _ _ i = i
@@ -247,6 +247,7 @@ module _ (contexts : List WasiSocketsCtx) (line : ℕ) (origin : Step) where
 same_name : (kind : Kind) → record_named kind ≡ named_by kind
 same_name Network = refl
 same_name (Tcp2 place) = refl
+same_name (Tcp3 place) = refl
 same_name (Udp2 place) = refl
 same_name (Input place) = refl
 same_name (Output place) = refl

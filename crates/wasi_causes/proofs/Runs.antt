@@ -2,7 +2,7 @@
 -- pending as a bind is a bind, as a listen a listen, and as a create a create; each live handle is of a record that is there, a
 -- connect in progress may be finished, and a socket that does nothing yet doesn't listen.
 use Rattle.wasi_records.specs.Records.{tcp2_at, udp2_at, open_at, open_of}
-use Rattle.wasi_host.specs.declared.kind.Kind.TheVariants.{Udp2, Lookup, Incoming, Outgoing, PlainInput, PlainOutput, Network, ErrorValue}
+use Rattle.wasi_host.specs.declared.kind.Kind.TheVariants.{Tcp3, Udp2, Lookup, Incoming, Outgoing, PlainInput, PlainOutput, Network, ErrorValue}
 use Rattle.wasi_host.specs.Kinds.{lookup_of}
 use Rattle.wasi_host.specs.Machine.{lookup_number}
 use Rattle.wasi_walks.specs.Answered.{lookup_in}
@@ -149,6 +149,7 @@ module _ (m : Machine) (i : OwnedIn m) where
 
   of_its_record : (handle : ℕ) (kind : Kind) → kind_at m.table handle ≡ Some kind → OfItsRecord m kind
   of_its_record handle (Tcp2 place) e = its_record m i handle place (Tcp2 place) e (inl refl)
+  of_its_record handle (Tcp3 place) e = its_record m i handle place (Tcp3 place) e (inl refl)
   of_its_record handle (Input place) e = tcp_there place (its_record m i handle place (Input place) e (inr refl))
   of_its_record handle (Output place) e = tcp_there place (its_record m i handle place (Output place) e (inr refl))
   of_its_record handle (Udp2 place) e = udp_there place (its_record m i handle place (Udp2 place) e (inl refl))

@@ -208,9 +208,9 @@ module _ (contexts : List WasiSocketsCtx) (line : ℕ) (origin : Step) where
   becomes_steady h _ (UdpBegun ctx family r c u m) i =
       begun_steady h (udp_after_create (own_of line) ctx.name family r) i
   becomes_steady h _ (Resolved host records l same) i = found_steady h.machine.store.records records same i
-  becomes_steady h _ (Created ctx family c u m) i =
+  becomes_steady h _ (Created face ctx family c u m) i =
       push_steady h.machine.store.records _ (λ c. absurd (cc), λ side d. refl, (tt, tt)) i
-  becomes_steady h _ (CreatedWith ctx family c u m) i =
+  becomes_steady h _ (CreatedWith face ctx family c u m) i =
       push_steady h.machine.store.records _ (λ c. absurd (cc), λ side d. refl, (tt, tt)) i
   becomes_steady h _ (Writing _ (InCall place n r s half permit bytes at g e w within used)) i = put_steady h place _ (i place r g) i
   becomes_steady h _ _ i = i

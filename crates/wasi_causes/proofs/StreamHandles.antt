@@ -19,12 +19,12 @@ use Rattle.wasi_walks.proofs.fits.Law.{whatever}
 use Rattle.wasi_walks.proofs.received.Handles.{AreUnder, begun_same, moves_under, polled_same}
 use Rattle.wasi_walks.proofs.walks.Law.{BeginsWrites, InCall, Law}
 use Rattle.wasi_walks.proofs.walks.Moves as walk
-use Rattle.wasi_walks.proofs.walks.Moves.{Found, FoundUdp, GoesOn, NoStartIn, NoStartStands, HasNewStream, Held, Here, KeepsStreams, Made, Marks, MarksNext, Move, Own, Past, SameSockets, ToSend, made_so, put, put_udp, udp_begun}
+use Rattle.wasi_walks.proofs.walks.Moves.{tcp_kind, Found, FoundUdp, GoesOn, NoStartIn, NoStartStands, HasNewStream, Held, Here, KeepsStreams, Made, Marks, MarksNext, Move, Own, Past, SameSockets, ToSend, made_so, put, put_udp, udp_begun}
 use Rattle.wasi_walks.proofs.walks.States.{Over, Starts}
 use Rattle.wasi_causes.proofs.GivenBack.{open_stays}
 use Rattle.wasi_walks.proofs.walks.States.{IsPlain, makes_plain}
 use Rattle.wasi_causes.proofs.UdpConnects.{HasConnects, Quiet, connects, connects_begin, first_connects, starts_with}
-use Rattle.wasi_causes.proofs.StreamsLive.{Both, HasIncoming, IsOther, CallSo, MadeSo, Parts, StandsSo, Streams, begun, changed, connect_keeps, emptied, found, has_none, makes_left, has_next, has_other, has_handle, not_yet, push_tcp, put_none, put_open, put_tcp, remade, restood, stay, taken}
+use Rattle.wasi_causes.proofs.StreamsLive.{tcp_other, Both, HasIncoming, IsOther, CallSo, MadeSo, Parts, StandsSo, Streams, begun, changed, connect_keeps, emptied, found, has_none, makes_left, has_next, has_other, has_handle, not_yet, push_tcp, put_none, put_open, put_tcp, remade, restood, stay, taken}
 use Rattle.wasi_walks.proofs.walks.OfState.{Becomes, Created, CreatedWith, GivenUp, Handles, HasHandle, HasNoRoom, IsClosed, Learnt, NoRoom}
 use Rattle.wasi_walks.proofs.walks.OfState.{OfAccepted, OfCreated, OfError, OfLine, OfState, OfStream, Resolved, UdpBegun, UdpGivenUp, UdpIsClosed, UdpLearnt, Writing, begins_state, of_state}
 use Rattle.wasi_walks.proofs.walks.Layers.{begins_layer, begins_over, begins_stand, layer, over, stand}
@@ -175,11 +175,11 @@ module _ (contexts : List WasiSocketsCtx) (line : ℕ) (origin : Step) where
   becomes_apart es h _ (Resolved host records l same) b i = (found h records same i.0, i.1)
   becomes_apart es h _ (HasHandle kind parent made k) b i = handles_apart h kind parent made k i
   becomes_apart es h _ (NoRoom made none) b i = no_room h made none i
-  becomes_apart es h _ (Created ctx family c u m) b i = created h _ i
-  becomes_apart es h _ (CreatedWith ctx family c u m) b i =
+  becomes_apart es h _ (Created face ctx family c u m) b i = created h _ i
+  becomes_apart es h _ (CreatedWith face ctx family c u m) b i =
       let new = new_record (new_socket (own_of line) ctx.name family) in
       let now : Here = record h { machine = record h.machine { store = with_record h.machine.store (new_socket (own_of line) ctx.name family) } } in
-      has_other now (Tcp2 (length h.machine.store.records)) None tt (created h new i)
+      has_other now (tcp_kind face (length h.machine.store.records)) None (tcp_other face (length h.machine.store.records)) (created h new i)
   becomes_apart es h _ (Writing _ (InCall place n r s half permit bytes at g e w within used)) b i = (put_tcp h place r g _ i.0, i.1)
 
   abbrev apart_state : OfState contexts line origin (λ es h. Owns h × Quiet h)

@@ -17,7 +17,7 @@ use Rattle.wasi_records.specs.declared.udp.OpenUdp.{OpenUdp}
 use Rattle.wasi_records.specs.declared.udp.UdpRecord.{UdpRecord}
 use Rattle.wasi_walks.specs.Licence.{Has}
 use Rattle.wasi_walks.proofs.received.Handles.{MakesUnder, Under, makes_more, under_so}
-use Rattle.wasi_walks.proofs.walks.Moves.{Found, FoundUdp, NoStartIn, NoStartStands, HasNewStream, Here, Made, MarksNext, SameSockets, ToSend, put, put_udp, udp_begun}
+use Rattle.wasi_walks.proofs.walks.Moves.{Interface, OfP2, OfP3, tcp_kind, Found, FoundUdp, NoStartIn, NoStartStands, HasNewStream, Here, Made, MarksNext, SameSockets, ToSend, put, put_udp, udp_begun}
 use Rattle.wasi_causes.proofs.Slots.{SlotOf, has_without, is_another, new_slot, one_of, slot_of, value_of}
 use Rattle.wasi_walks.proofs.Places.{push_still, put_stays, put_still, tcp_sort, udp_sort}
 
@@ -147,6 +147,11 @@ connect_keeps op o (Refused c given, items) e = e
 abbrev pub IsOther : Kind → Type 0
 IsOther (Incoming place) = ⊥
 IsOther _ = ⊤
+
+-- a TCP socket's, of either interface
+pub tcp_other : (face : Interface) (place : ℕ) → IsOther (tcp_kind face place)
+tcp_other OfP2 place = tt
+tcp_other OfP3 place = tt
 
 module _ (t : HandleTable) (kind : Kind) (parent : Option ℕ) where
   abbrev after : HandleTable

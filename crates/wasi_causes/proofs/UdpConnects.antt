@@ -312,8 +312,8 @@ module _ (contexts : List WasiSocketsCtx) (line : ℕ) (origin : Step) where
   becomes_quiet h _ (Resolved host records l same) i = found h records same i
   becomes_quiet h _ (HasHandle kind parent made k) i = (i.0, handles_quiet h kind parent made k i)
   becomes_quiet h _ (NoRoom made none) i = (i.0, no_room made h.machine.store.standing none)
-  becomes_quiet h _ (Created ctx family c own m) i = (created h _ own i, i.1)
-  becomes_quiet h _ (CreatedWith ctx family c own m) i = (created h _ own i, i.1)
+  becomes_quiet h _ (Created face ctx family c own m) i = (created h _ own i, i.1)
+  becomes_quiet h _ (CreatedWith face ctx family c own m) i = (created h _ own i, i.1)
   becomes_quiet h _ (Writing _ (InCall place n r s half permit bytes at g e w within own)) i = begun_tcp h place _ Used Used own used i
 
   abbrev connects_state : OfState contexts line origin (λ es h. ⊤)

@@ -17,7 +17,7 @@ pub use Rattle.wasi_walks.proofs.Words.{append_assoc, arith, arrival_front, arri
 pub use Rattle.wasi_walks.proofs.Words.{begin_connect_asks, begin_listen_asks, begun, bind_allowed, bind_begun, bind_ended, bind_operation}
 pub use Rattle.wasi_walks.proofs.Words.{bind_progress, bound_asks, call_answered, call_of, call_place, check_write_asks, chosen, closed_listening}
 pub use Rattle.wasi_walks.proofs.Words.{collected, connect_begun, connect_ended, connect_polled, connect_start, context_at}
-pub use Rattle.wasi_walks.proofs.Words.{create_asks, created_asks, done_front, drop_output_at, drop_taken, drop_waits, entry, false, finish_at}
+pub use Rattle.wasi_walks.proofs.Words.{create_asks, create_to, created_asks, made_to, done_front, drop_output_at, drop_taken, drop_waits, entry, false, finish_at}
 pub use Rattle.wasi_walks.proofs.Words.{finish_by, finish_in, finish_on, first_ids}
 pub use Rattle.wasi_walks.proofs.Words.{first_state, flush_asks, front, get_where, give_streams_up, give_up_asks, give_up_in, go_on, gone}
 pub use Rattle.wasi_walks.proofs.Words.{has_no_child, idle, if◌then◌else◌, in_hand, in_socket, inl, inner_answered, input_at, inr, is_bind}
@@ -77,15 +77,18 @@ pub use Rattle.wasi_machine.specs.Machine.{taken_reply, triple_reply, truth_repl
 pub use Rattle.wasi_walks.proofs.Gives.{Gives, allows_ask, given, gives_any, gives_both, gives_more, gives_then, gives_where}
 pub use Rattle.wasi_walks.proofs.Lists.{get_front, get_seam, has_split, marks_in-push, value_split}
 pub use Rattle.wasi_walks.specs.Answered.{AlreadyBound, AlreadyClosed, Answered, Begins, BindRefusal, BoundElsewhere, CheckFails, ClosedBy, Closes}
-pub use Rattle.wasi_walks.specs.Answered.{CodeTold, ConnectRefusal, Connects, ConnectsAt, CreateRefusal, Denied, Elsewhere, EndsClosing, EndsPending}
+pub use Rattle.wasi_walks.specs.Answered.{CodeTold, ConnectRefusal, ConnectsAt, Denied, Elsewhere, EndsClosing, EndsPending}
 pub use Rattle.wasi_walks.specs.Answered.{ErrorKept, Failed, FailsWith, FinishRefusal, HasNoConnectInProgress, IsBound, IsFoundUnbound}
 pub use Rattle.wasi_walks.specs.Answered.{IsPastDefault, IsQuiet, IsUnpermitted, Known, KnowsBound, LengthZero}
+pub use Rattle.wasi_causes.specs.Refusals.{Connects, CreateFails, CreateRefusal, LocalClosed, LocalFails, LocalRefusal, NotAllowed, OfTcp3}
+pub use Rattle.wasi_causes.specs.Refusals.{RemoteClosed, RemoteConnecting, RemoteDefault, RemoteFails, RemoteListening, RemoteRefusal}
+pub use Rattle.wasi_causes.specs.Refusals.{RemoteTold, SaidBy, ToldCode, p3_word}
 pub use Rattle.wasi_walks.specs.Missing.{IsOnNothing}
-pub use Rattle.wasi_walks.specs.Answered.{LocalClosed, LocalRefusal, NoConnect, NotAllowed, NotDefault}
+pub use Rattle.wasi_walks.specs.Answered.{NoConnect, NotDefault}
 pub use Rattle.wasi_walks.specs.Missing.{MissesHandle, MissesRecord}
 pub use Rattle.wasi_walks.specs.Answered.{NotReady, OfRecord, OfStreams, PastDefault, Permits, ReadFails, ReadsEnd, ReadsNone, ReadsTold}
-pub use Rattle.wasi_walks.specs.Answered.{RefusedOf, RemoteClosed, RemoteConnecting, RemoteDefault, RemoteListening, RemoteRefusal}
-pub use Rattle.wasi_walks.specs.Answered.{RemoteTold, ToldBound, ToldCode, ToldNone, WriteFails, WrongAddress}
+pub use Rattle.wasi_walks.specs.Answered.{RefusedOf}
+pub use Rattle.wasi_walks.specs.Answered.{ToldBound, ToldNone, WriteFails, WrongAddress}
 pub use Rattle.wasi_walks.specs.Missing.{StandsOnNothing}
 pub use Rattle.wasi_walks.specs.Answered.{closing_writer, knowing_bound, may_bind_to, output_streams, putting, read_entry, record_at, record_in}
 pub use Rattle.wasi_walks.specs.Answered.{streams_in, with_error, word_of_code}

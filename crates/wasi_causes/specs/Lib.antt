@@ -22,4 +22,5 @@ pub mod DatagramAsks
 pub mod Unsendable
 pub mod ShortLists
 pub mod MayAnswer
+pub mod Refusals
 pub mod NamedRecords

@@ -26,6 +26,7 @@ use Rattle.wasi_causes.specs.Cancelled.{IsCancel}
 use Rattle.wasi_causes.specs.Datagrams.{IsUdpSend, IsUdpStream}
 use Rattle.wasi_causes.specs.GivenUp.{IsDrop}
 use Rattle.wasi_causes.specs.PollableCalls.{IsEmptyWait}
+use Rattle.wasi_causes.specs.Refusals.{p3_word}
 
 -- == the fields of a reply that is done
 abbrev pub IsLike : FieldKind → Field → Type 0
@@ -65,6 +66,11 @@ pub record IsCodeWord (w : CodeWord) : Type 0 where
   pub code : ErrorCode
   pub is : w ≡ word_of_code code
 
+-- The 0.3 word of such a code.
+pub record IsP3Word (w : CodeWord) : Type 0 where
+  pub code : ErrorCode
+  pub is : w ≡ p3_word code
+
 -- by which word a step may be refused; beside codes the host has three words of its own, and lookups have theirs
 abbrev pub MayRefuse : Step → CodeWord → Type 0
 MayRefuse (step.Call ctx (guest.TcpCreate family)) w = IsCodeWord w
@@ -92,6 +98,11 @@ MayRefuse (step.Call ctx (guest.UdpReceive incoming most)) w = IsCodeWord w
 MayRefuse (step.Call ctx (guest.UdpSend outgoing datagrams)) w = IsCodeWord w
 MayRefuse (step.Call ctx (guest.Resolve network name)) w = (w ≡ word.PermanentResolverFailure) ⊎ ((w ≡ word.InvalidArgument) ⊎ (w ≡ word.NameUnresolvable))
 MayRefuse (step.Call ctx (guest.ResolveNext lookup)) w = (w ≡ word.WouldBlock) ⊎ (w ≡ word.NameUnresolvable)
+MayRefuse (step.Call ctx (guest.P3TcpCreate family)) w = IsP3Word w
+MayRefuse (step.Call ctx (guest.P3TcpLocalAddress socket)) w = IsP3Word w
+MayRefuse (step.Call ctx (guest.P3TcpRemoteAddress socket)) w = IsP3Word w
+MayRefuse (step.Call ctx (guest.P3TcpGet socket option)) w = IsP3Word w
+MayRefuse (step.Call ctx (guest.P3TcpSet socket setting)) w = IsP3Word w
 MayRefuse (step.Poll n) w = IsCodeWord w
 MayRefuse _ w = ⊥
 
@@ -119,6 +130,7 @@ abbrev pub MayMiss : Step → Type 0
 MayMiss (step.Call ctx guest.Network) = ⊥
 MayMiss (step.Call ctx (guest.TcpCreate family)) = ⊥
 MayMiss (step.Call ctx (guest.UdpCreate family)) = ⊥
+MayMiss (step.Call ctx (guest.P3TcpCreate family)) = ⊥
 MayMiss (step.Call ctx (guest.PipeIn bytes)) = ⊥
 MayMiss (step.Call ctx (guest.PipeOut capacity)) = ⊥
 MayMiss (step.Call ctx guest.Sink) = ⊥

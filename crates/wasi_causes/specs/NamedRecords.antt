@@ -1,7 +1,7 @@
 -- Which records handles, pending calls and jobs name, and which were given back.
 use Rattle.std.specs.Prelude.{◌≡◌, ℕ, Option, Some, None, slice_get}
 use Rattle.wasi_host.specs.declared.kind.Kind.{Kind}
-use Rattle.wasi_host.specs.declared.kind.Kind.TheVariants.{Tcp2, Udp2, Input, Output, PlainInput, PlainOutput, Incoming, Outgoing, Pollable, Lookup}
+use Rattle.wasi_host.specs.declared.kind.Kind.TheVariants.{Tcp2, Tcp3, Udp2, Input, Output, PlainInput, PlainOutput, Incoming, Outgoing, Pollable, Lookup}
 use Rattle.wasi_host.specs.declared.kind.PlainInput.TheVariants as plain_input
 use Rattle.wasi_host.specs.declared.kind.PlainOutput.TheVariants as plain_output
 use Rattle.wasi_host.specs.declared.kind.Watched.{Watched}
@@ -29,6 +29,7 @@ record_watched watched.Plain = None
 -- the record that a handle of this kind is of; a network, an error, a sink and a closed stream have none
 abbrev pub record_named : Kind → Option ℕ
 record_named (Tcp2 place) = Some place
+record_named (Tcp3 place) = Some place
 record_named (Udp2 place) = Some place
 record_named (Input place) = Some place
 record_named (Output place) = Some place

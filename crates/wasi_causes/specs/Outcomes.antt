@@ -1,10 +1,11 @@
 -- How each step is answered: which replies it may give; and by the kind of its reply, where that comes from, and what is left
 -- afterwards.
-pub use Rattle.wasi_causes.specs.MayAnswer.{AreLike, EachMayAnswer, IsBlockingWrite, IsCodeWord, IsStreamCall, MayMiss, MayRefuse, MayTrap, MayWait, may_answer}
+pub use Rattle.wasi_causes.specs.MayAnswer.{AreLike, EachMayAnswer, IsBlockingWrite, IsCodeWord, IsP3Word, IsStreamCall, MayMiss, MayRefuse, MayTrap, MayWait, may_answer}
 pub use Rattle.wasi_causes.specs.Plain.{Quiet}
 use Rattle.wasi_records.specs.Records.{input_pipe_at, output_pipe_at, tcp2_at, udp2_at, open_at, lookup_at}
 use Rattle.std.specs.Prelude.{IsSome}
 use Rattle.wasi_walks.specs.Answered.{streams_in}
+use Rattle.wasi_addr.specs.declared.address.SocketAddressFamily.{SocketAddressFamily}
 use Rattle.std.specs.Prelude.{IfSome}
 use Rattle.wasi_world.specs.declared.ids.Ids.{Ids}
 use Rattle.memory_streams.specs.Plain.{no_contents}
@@ -44,7 +45,7 @@ use Rattle.wasi_steps.specs.declared.reply.Reply.TheVariants as reply
 use Rattle.wasi_steps.specs.declared.step.Step.{Step}
 use Rattle.wasi_steps.specs.declared.guest_call.GuestCall.TheVariants as guest
 use Rattle.wasi_steps.specs.declared.step.Step.TheVariants as step
-use Rattle.wasi_walks.specs.Answered.{open_udp_at, outgoing_in, CheckFails, closing_reader, closing_writer, ConnectsAt, CreateRefusal, EndsPending, FailsWith, FinishRefusal, HasNoBindInProgress, HasNoConnectInProgress, HasOperationInProgress, KnowsBound, IsGivenUp, IsUnpermitted, LocalRefusal, OfRecord, OfStreams, output_streams, Permits, putting, ReadFails, ReadsEnd, ReadsNone, ReadsTold, record_at, RefusedBind, RefusedConnect, RefusedOf, RemoteRefusal, WasClosedWith, with_error, WriteFails}
+use Rattle.wasi_walks.specs.Answered.{open_udp_at, outgoing_in, CheckFails, closing_reader, closing_writer, ConnectsAt, EndsPending, FailsWith, FinishRefusal, HasNoBindInProgress, HasNoConnectInProgress, HasOperationInProgress, KnowsBound, IsGivenUp, IsUnpermitted, OfRecord, OfStreams, output_streams, Permits, putting, ReadFails, ReadsEnd, ReadsNone, ReadsTold, record_at, RefusedBind, RefusedConnect, RefusedOf, WasClosedWith, with_error, WriteFails}
 use Rattle.wasi_machine.specs.Machine.{first_ids, context_at}
 use Rattle.wasi_steps.specs.Replies.{kinds_of}
 use Rattle.wasi_steps.specs.Reply.{family_fields, no_fields, number_fields, triple_fields, truth_fields}
@@ -72,7 +73,8 @@ use Rattle.wasi_walks.specs.Licence.{entry, Has, marks_in}
 use Rattle.wasi_walks.specs.Listens.{AcceptsAt, closed_by_listen, AcceptTakes, HasNoListenInProgress, RefusedAccept, RefusedListen}
 use Rattle.wasi_steps.specs.Settings.{chosen, udp_opt}
 use Rattle.wasi_causes.specs.Lookups.{found_lookup, HandsOut, LookedOn, LookupGone, LookupWaits, LosesLookup, OfLookup, RefusesNames, ResolveRefusal, Resolves, TellsNext, WatchesLookup}
-use Rattle.wasi_causes.specs.Options.{GetsOption, RefusedGet, RefusedSet, SetsChosen}
+use Rattle.wasi_causes.specs.Options.{GetsOption, P3RefusedGet, P3RefusedSet, RefusedGet, RefusedSet, SetsChosen}
+use Rattle.wasi_causes.specs.Refusals.{CreateRefusal, KnowsTcp3Bound, LocalRefusal, OfTcp3, P3CreateRefusal, P3LocalRefusal, P3RemoteRefusal, RemoteRefusal}
 use Rattle.wasi_causes.specs.Reached.{FinishesAt, ListensLateAt}
 use Rattle.wasi_causes.specs.Turns.{IsOfJob}
 use Rattle.wasi_host.specs.DatagramCalls.{outgoing_ready}
@@ -102,6 +104,7 @@ ReadyAtOnce m es r after = (r ≡ reply.Ok (truth_fields true)) × Quiet m es af
 -- what the drop of a handle of this kind asks, unless that is a socket's
 abbrev pub AsksOnce : ℕ → Option Kind → List Entry → Type 0
 AsksOnce line (Some (kind.Tcp2 place)) es = ⊤
+AsksOnce line (Some (kind.Tcp3 place)) es = ⊤
 AsksOnce line (Some (kind.Udp2 place)) es = ⊤
 AsksOnce line (Some (kind.Output place)) es = LooksOnce (own_of line) es
 AsksOnce line _ es = es ≡ []
@@ -172,6 +175,10 @@ Always contexts m line (step.Call c (guest.UdpSet s setting)) es r after = after
 Always contexts m line (step.Call c (guest.Resolve n name)) es r after = OnlyWhere (context_at contexts c).ip_name_lookup m es after × (is_network (kind_at m.table n) ≡ true → RefusesNames (context_at contexts c) name r)
 Always contexts m line (step.Call c (guest.ResolveNext h)) es r after = TellsNext (found_lookup m h) es r
 Always contexts m line (step.Call c (guest.NetworkErrorCode e)) es r after = Quiet m es after
+Always contexts m line (step.Call c (guest.P3TcpCreate family)) es r after = OnlyWhere (context_at contexts c).tcp m es after
+Always contexts m line (step.Call c (guest.P3TcpIsListening s)) es r after = Quiet m es after
+Always contexts m line (step.Call c (guest.P3TcpAddressFamily s)) es r after = Quiet m es after
+Always contexts m line (step.Call c (guest.P3TcpGet s option)) es r after = after ≡ m
 Always contexts m line step.Turn es r after = Turns m es r after
 Always contexts m line (step.Poll n) es r after = ((r ≡ reply.NoSuchCall) ↔ (stands_as m.store.standing n ≡ false)) × (stands_as m.store.standing n ≡ true → (r ≡ reply.Pending n) ⊎ (after.store.standing ≡ None)) × BlockedGoesOn contexts m n es r after
 Always contexts m line _ es r after = ⊤
@@ -205,9 +212,14 @@ Looks m line pollable es (field.True ∷ []) = ⊤
 Looks m line pollable es (field.False ∷ []) = (WatchesDatagrams m pollable → ⊥) → WatchesConnect m pollable → WatchesAccept m pollable → OfWatched m pollable (λ w r. IsUnready (own_of line) r es w) ⊎ LookupWaits m pollable es
 Looks m line pollable es _ = ⊥
 
+-- what is left where the handle that was dropped is of the TCP socket of this record, of either interface
+abbrev pub SocketGone : Machine → ℕ → ℕ → ℕ → List Entry → Machine → Type 0
+SocketGone m line handle place es after = (r : TcpRecord) → tcp2_at m.store.records place ≡ Some r → (es ≡ socket_given_up (own_of line) r) × IsGone m handle place after
+
 -- what is left where the handle that was dropped is of this kind
 abbrev pub Gone : Machine → ℕ → ℕ → Option Kind → List Entry → Machine → Type 0
-Gone m line handle (Some (kind.Tcp2 place)) es after = (r : TcpRecord) → tcp2_at m.store.records place ≡ Some r → (es ≡ socket_given_up (own_of line) r) × IsGone m handle place after
+Gone m line handle (Some (kind.Tcp2 place)) es after = SocketGone m line handle place es after
+Gone m line handle (Some (kind.Tcp3 place)) es after = SocketGone m line handle place es after
 Gone m line handle (Some (kind.Udp2 place)) es after = (u : UdpRecord) → udp2_at m.store.records place ≡ Some u → (es ≡ udp_given_up (own_of line) u) × (after ≡ udp_left (without m handle) place u)
 Gone m line handle (Some (kind.Output place)) es after = ⊤
 Gone m line handle (Some (kind.Incoming place)) es after = (o : OpenUdp) → open_at m.store.records place ≡ Some o → IncomingGone m handle place o es after
@@ -251,6 +263,8 @@ Done contexts m line (step.Call c (guest.UdpCheckSend s)) es fields after = OfOu
 Done contexts m line (step.Call c (guest.Resolve n name)) es fields after = Resolves m (own_of line) (context_at contexts c) n name es fields after
 Done contexts m line (step.Call c (guest.ResolveNext h)) es fields after = OfLookup m h (λ place l. HandsOut m place l fields after)
 Done contexts m line (step.Call c (guest.NetworkErrorCode e)) es fields after = fields ≡ field.Absent ∷ []
+Done contexts m line (step.Call c (guest.P3TcpGet s option)) es fields after = OfTcp3 m s (λ place r. GetsOption (own_of line) option r fields es)
+Done contexts m line (step.Call c (guest.P3TcpSet s setting)) es fields after = (fields ≡ no_fields) × OfTcp3 m s (λ place r. SetsChosen m (own_of line) (chosen setting) place r es after)
 Done contexts m line (step.Poll n) es fields after = IsSomeAnd m.store.standing (λ s. GivesBy m fields after s.call)
 Done contexts m line s es fields after = ⊤
 
@@ -285,6 +299,11 @@ Refused contexts m line (step.Call c (guest.UdpSend s datagrams)) es w after = O
 Refused contexts m line (step.Call c (guest.UdpStream s remote)) es w after = RefusedOfUdp m s (λ place o. UdpStreamRefusal m (own_of line) place o remote) es w after
 Refused contexts m line (step.Call c (guest.Resolve n name)) es w after = ResolveRefusal (own_of line) (context_at contexts c) name es w × (after ≡ m)
 Refused contexts m line (step.Call c (guest.ResolveNext h)) es w after = after ≡ m
+Refused contexts m line (step.Call c (guest.P3TcpCreate family)) es w after = P3CreateRefusal (own_of line) (context_at contexts c) family es w × (after ≡ m)
+Refused contexts m line (step.Call c (guest.P3TcpLocalAddress s)) es w after = P3LocalRefusal m (own_of line) s es w after × ((after ≡ m) ⊎ KnowsTcp3Bound m s after)
+Refused contexts m line (step.Call c (guest.P3TcpRemoteAddress s)) es w after = P3RemoteRefusal m (own_of line) s es w × (after ≡ m)
+Refused contexts m line (step.Call c (guest.P3TcpGet s option)) es w after = P3RefusedGet m (own_of line) s option es w after
+Refused contexts m line (step.Call c (guest.P3TcpSet s setting)) es w after = P3RefusedSet m (own_of line) s setting es w after
 Refused contexts m line (step.Poll n) es w after = (PendingCallsFit m → FailureLeaves m n es w after) × (after.table ≡ m.table)
 Refused contexts m line s es w after = ⊤
 
@@ -323,10 +342,15 @@ Pends contexts m line s es after = ⊤
 abbrev pub FullAfter : Machine → List Entry → Machine → Type 0
 FullAfter m es after = (is_full after.table ≡ true) × (after.table.next ≡ m.table.next + marks_in es)
 
--- what a create leaves then: the network socket and its record
+-- what a create of a TCP socket leaves then: the network socket and its record
+abbrev pub LeavesSocket : Machine → ℕ → WasiSocketsCtx → SocketAddressFamily → List Entry → Machine → Type 0
+LeavesSocket m line ctx family es after =
+    (is_full m.table ≡ true) × (es ≡ entry (own_of line) (call.TcpCreate ctx.name family) told.Done ∷ []) × (after ≡ record m { store = with_record m.store (new_socket (own_of line) ctx.name family) })
+
+-- what a call that makes a handle leaves then
 abbrev pub LeftFull : List WasiSocketsCtx → Machine → ℕ → Step → List Entry → Machine → Type 0
-LeftFull contexts m line (step.Call c (guest.TcpCreate family)) es after =
-    (is_full m.table ≡ true) × (es ≡ entry (own_of line) (call.TcpCreate (context_at contexts c).name family) told.Done ∷ []) × (after ≡ record m { store = with_record m.store (new_socket (own_of line) (context_at contexts c).name family) })
+LeftFull contexts m line (step.Call c (guest.TcpCreate family)) es after = LeavesSocket m line (context_at contexts c) family es after
+LeftFull contexts m line (step.Call c (guest.P3TcpCreate family)) es after = LeavesSocket m line (context_at contexts c) family es after
 LeftFull contexts m line (step.Call c (guest.UdpCreate family)) es after =
     let its = context_at contexts c in
     (is_full m.table ≡ true) × (es ≡ udp_create_entry (own_of line) its family told.Done ∷ writable_entry (own_of line) told.Done ∷ []) × (after ≡ with_udp_record m (new_udp (own_of line) its family))

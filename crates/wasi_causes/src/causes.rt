@@ -3,7 +3,7 @@
 //! is a TCP socket here, where nothing else is said.
 //!
 //! Other modules have the calls of TCP sockets (`tcp`), their listens and accepts (`listens`),
-//! options (`options`), UDP sockets (`udp`), their datagram streams (`datagrams`), the calls of
+//! options (`options`), 0.3 sockets (`p3`), UDP sockets (`udp`), their datagram streams (`datagrams`), the calls of
 //! streams (`stream_calls`, `blocking`), pending calls (`pending_calls`), pollables (`readiness`),
 //! waits for them (`waiting`), and lookups (`lookups`).
 

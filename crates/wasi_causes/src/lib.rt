@@ -9,6 +9,7 @@ pub mod datagrams;
 pub mod listens;
 pub mod lookups;
 pub mod options;
+pub mod p3;
 pub mod pending_calls;
 pub mod readiness;
 pub mod received;

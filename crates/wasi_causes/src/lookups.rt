@@ -161,7 +161,7 @@ pub fn lookups_are_watched_and_dropped()
 
 /// What a context may not use asks nothing, and leaves the machine unchanged:
 ///
-/// - `tcp`: a `tcp-create`.
+/// - `tcp`: a `tcp-create`; `p3_tcp`: a `p3-tcp-create`.
 /// - `udp`: a `udp-create`.
 /// - `lookup`: a `resolve`.
 pub fn what_is_forbidden_asks_nothing()
@@ -170,6 +170,11 @@ pub fn what_is_forbidden_asks_nothing()
         → (context_at contexts ctx).tcp ≡ false
         → Answered contexts m line (Step.Call ctx (GuestCall.TcpCreate family)) entries reply after
         → (entries ≡ []) × (after ≡ m) }
+    ensures p3_tcp { (contexts : List WasiSocketsCtx) (m : Machine) (line ctx : ℕ)
+        (family : SocketAddressFamily) (entries : List Entry) (reply : Reply) (after : Machine)
+        → (context_at contexts ctx).tcp ≡ false
+        → Answered contexts m line (Step.Call ctx (GuestCall.P3TcpCreate family)) entries reply
+        after → (entries ≡ []) × (after ≡ m) }
     ensures udp { (contexts : List WasiSocketsCtx) (m : Machine) (line ctx : ℕ)
         (family : SocketAddressFamily) (entries : List Entry) (reply : Reply) (after : Machine)
         → (context_at contexts ctx).udp ≡ false

@@ -18,7 +18,7 @@ use Rattle.wasi_streams.specs.declared.fault.Fault.{Fault}
 use Rattle.wasi_streams.specs.declared.fault.Fault.TheVariants as fault
 use Rattle.wasi_host.specs.declared.machine.Machine.{Machine}
 use Rattle.wasi_host.specs.declared.kind.Kind.{Kind}
-use Rattle.wasi_host.specs.declared.kind.Kind.TheVariants.{Network, Tcp2, Udp2, Input, Output, PlainInput, PlainOutput, Incoming, Outgoing, Pollable, ErrorValue, Lookup}
+use Rattle.wasi_host.specs.declared.kind.Kind.TheVariants.{Network, Tcp2, Tcp3, Udp2, Input, Output, PlainInput, PlainOutput, Incoming, Outgoing, Pollable, ErrorValue, Lookup}
 use Rattle.wasi_host.specs.CallStops.{CallStop, call_outcome, error_outcome, failed_outcome, IsStreamStop, IfStreamMemory}
 use Rattle.wasi_records.specs.Stops.{fault_outcome}
 use Rattle.wasi_host.specs.Kinds.{HandleTable, input_of, output_of, stream_of, make_asks}
@@ -32,6 +32,7 @@ input_stream (Some (Input p)) place q = q
 input_stream None place q = absurd (cc)
 input_stream (Some Network) place q = absurd (cc)
 input_stream (Some (Tcp2 p)) place q = absurd (cc)
+input_stream (Some (Tcp3 p)) place q = absurd (cc)
 input_stream (Some (Udp2 p)) place q = absurd (cc)
 input_stream (Some (Output p)) place q = absurd (cc)
 input_stream (Some (Incoming p)) place q = absurd (cc)
@@ -47,6 +48,7 @@ output_stream (Some (Output p)) place q = q
 output_stream None place q = absurd (cc)
 output_stream (Some Network) place q = absurd (cc)
 output_stream (Some (Tcp2 p)) place q = absurd (cc)
+output_stream (Some (Tcp3 p)) place q = absurd (cc)
 output_stream (Some (Udp2 p)) place q = absurd (cc)
 output_stream (Some (Input p)) place q = absurd (cc)
 output_stream (Some (Incoming p)) place q = absurd (cc)

@@ -1,6 +1,8 @@
 pub mod CallStops
 pub mod Kinds
 pub mod Store
+pub mod Rows
+pub mod Making
 pub mod Standing
 pub mod GivingBack
 pub mod TcpCalls

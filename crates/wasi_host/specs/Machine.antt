@@ -14,13 +14,13 @@ use Rattle.wasi_tcp.specs.Socket.{new_asks, side_of}
 use Rattle.wasi_table.specs.Table.{empty}
 use Rattle.wasi_records.specs.Records.{tcp2_at, udp2_at, open_at, lookup_at}
 use Rattle.wasi_host.specs.declared.kind.Kind.{Kind}
-use Rattle.wasi_host.specs.declared.kind.Kind.TheVariants.{Tcp2, Udp2, Output, PlainInput, PlainOutput, Incoming, Outgoing, Pollable, Lookup}
+use Rattle.wasi_host.specs.declared.kind.Kind.TheVariants.{Tcp2, Udp2, Output, PlainInput, PlainOutput, Incoming, Outgoing, Pollable, Lookup, Tcp3}
 use Rattle.wasi_host.specs.declared.kind.Watched.{Watched}
 use Rattle.wasi_host.specs.declared.kind.Watched.TheVariants as watched
 use Rattle.wasi_host.specs.declared.machine.Machine.{Machine}
 use Rattle.wasi_records.specs.declared.socket.TcpRecord.{TcpRecord}
 use Rattle.wasi_records.specs.Stops.{Stop, Trap, code_stop}
-use Rattle.wasi_host.specs.Kinds.{HandleTable, kind_at, place_of, udp_of, input_of, output_of, incoming_of, outgoing_of, lookup_of, watched_by, watch_of, place_in, make_asks, taken_out}
+use Rattle.wasi_host.specs.Kinds.{HandleTable, kind_at, place_of, udp_of, tcp3_of, input_of, output_of, incoming_of, outgoing_of, lookup_of, watched_by, watch_of, place_in, make_asks, taken_out}
 pub use Rattle.wasi_records.specs.Names.{own_of}
 use Rattle.wasi_host.specs.Store.{Records, no_records, with_record}
 use Rattle.wasi_host.specs.Jobs.{turn_store_asks}
@@ -49,6 +49,9 @@ socket_at m h = place_of (kind_at m.table h)
 abbrev pub udp_socket_at : Machine → ℕ → Option ℕ
 udp_socket_at m h = udp_of (kind_at m.table h)
 
+abbrev pub tcp3_at : Machine → ℕ → Option ℕ
+tcp3_at m h = tcp3_of (kind_at m.table h)
+
 abbrev pub input_at : Machine → ℕ → Option ℕ
 input_at m h = input_of (kind_at m.table h)
 
@@ -73,16 +76,34 @@ side_at None = None
 side_at (Some r) = r.side
 
 -- == a socket is made
+-- its record, and a handle of this kind for it; these say what is answered for the handle, and for a code
+abbrev pub handle_to : {A : Type 0} → (Result ℕ Stop → A) → (ℕ → Kind) → Machine → OpId → Socket → Asks (A × Machine)
+handle_to tells kind m own socket =
+    bind (make_asks m.table own (kind (length m.store.records)) None (side_of socket))
+    (λ made. Give (tells made.0, record m { table = made.1; store = with_record m.store socket }))
+
+abbrev pub made_to : {A : Type 0} → (Result ℕ Stop → A) → (ErrorCode → A) → (ℕ → Kind) → Machine → OpId → Result Socket ErrorCode → Asks (A × Machine)
+made_to tells fails kind m own (Err c) = Give (fails c, m)
+made_to tells fails kind m own (Ok socket) = handle_to tells kind m own socket
+
+abbrev pub create_to : {A : Type 0} → (Result ℕ Stop → A) → (ErrorCode → A) → (ℕ → Kind) → Machine → OpId → WasiSocketsCtx → SocketAddressFamily → Asks (A × Machine)
+create_to tells fails kind m own ctx family = bind (new_asks own ctx family) (made_to tells fails kind m own)
+
+-- of the 0.2 interface
+abbrev pub code_told : ErrorCode → Result ℕ Stop
+code_told c = Err (code_stop c)
+
+abbrev pub same_told : Result ℕ Stop → Result ℕ Stop
+same_told told = told
+
 abbrev pub create_handle : Machine → OpId → Socket → Asks (Result ℕ Stop × Machine)
-create_handle m own socket =
-    bind (make_asks m.table own (Tcp2 (length m.store.records)) None (side_of socket)) (λ made. Give (with_table (record m { store = with_record m.store socket }) made))
+create_handle m own socket = handle_to same_told Tcp2 m own socket
 
 abbrev pub created_asks : Machine → OpId → Result Socket ErrorCode → Asks (Result ℕ Stop × Machine)
-created_asks m own (Err c) = Give (Err (code_stop c), m)
-created_asks m own (Ok socket) = create_handle m own socket
+created_asks m own made = made_to same_told code_told Tcp2 m own made
 
 abbrev pub create_asks : Machine → OpId → WasiSocketsCtx → SocketAddressFamily → Asks (Result ℕ Stop × Machine)
-create_asks m own ctx family = bind (new_asks own ctx family) (created_asks m own)
+create_asks m own ctx family = create_to same_told code_told Tcp2 m own ctx family
 
 -- == pollables
 -- the network socket of what is watched, by which its pollables are marked
@@ -147,6 +168,7 @@ at_once done = (Ready tt, done.1)
 abbrev pub drop_kind : Machine → Ids → Kind → Asks (Result (Answer (Unit {0})) Stop × Machine)
 drop_kind m ids (Tcp2 place) = bind (release_at m.store (own_of ids.line) place (tcp2_at m.store.records place)) (λ done. Give (answered (with_store m (at_once done))))
 drop_kind m ids (Udp2 place) = bind (release_udp_at m.store (own_of ids.line) place (udp2_at m.store.records place)) (λ done. Give (answered (with_store m (at_once done))))
+drop_kind m ids (Tcp3 place) = bind (release_at m.store (own_of ids.line) place (tcp2_at m.store.records place)) (λ done. Give (answered (with_store m (at_once done))))
 drop_kind m ids (Output place) = bind (drop_output_at m.store ids place (tcp2_at m.store.records place)) (λ done. Give (answered (with_store m done)))
 drop_kind m ids (Incoming place) = Give (answered (with_store m (at_once (drop_incoming_at m.store place (open_at m.store.records place)))))
 drop_kind m ids (Outgoing place) = Give (answered (with_store m (drop_outgoing_at m.store ids place (open_at m.store.records place))))

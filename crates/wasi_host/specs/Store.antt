@@ -1,5 +1,5 @@
 -- The records that handles name, and the pending call.
-use Rattle.std.specs.Prelude.{ℕ, List, [], Option, Some, None, Result, Ok, Err}
+use Rattle.std.specs.Prelude.{ℕ, List, [], Option, Some, None, Result, Ok, Err, slice_set}
 use Rattle.wasi_addr.specs.declared.code.ErrorCode.{ErrorCode}
 use Rattle.wasi_world.specs.declared.outcome.TrapKind.TheVariants.{NoSuchHandle}
 use Rattle.wasi_world.specs.Asks.{Asks, Give, bind}
@@ -21,6 +21,10 @@ pub record Records : Type 0 where
 
 abbrev pub no_records : Records
 no_records = record { records = []; jobs = []; standing = None }
+
+-- a record in place of the one of this number, by what a record it is
+abbrev pub with_stored : {T : Type 0} → (T → Record) → Records → ℕ → T → Records
+with_stored into store place t = record store { records = slice_set store.records place (into t) }
 
 abbrev pub with_socket : Records → ℕ → TcpRecord → Records
 with_socket store place r = record store { records = tcp2_put store.records place r }

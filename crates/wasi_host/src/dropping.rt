@@ -128,7 +128,7 @@ fn release_kind<W: World>(
         (W.seen world.new) }
 {
     match kind {
-        Kind::Tcp2(place) => {
+        Kind::Tcp2(place) | Kind::Tcp3(place) => {
             view.store.tcp_release(world, ids.own(), place)?;
             Ok(Answer::Ready(()))
         }

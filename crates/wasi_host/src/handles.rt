@@ -8,7 +8,7 @@ ghost use Rattle.wasi_table.specs.Table.{is_full, pushed};
 ghost use Rattle.wasi_records.specs.Stops.{fault_outcome};
 ghost use Rattle.wasi_host.specs.Store.{Records};
 ghost use Rattle.wasi_host.specs.KnownSides.{KnowsSides};
-ghost use Rattle.wasi_host.specs.Kinds.{kind_at, place_of, udp_of, input_of, output_of};
+ghost use Rattle.wasi_host.specs.Kinds.{kind_at, place_of, udp_of, tcp3_of, input_of, output_of};
 ghost use Rattle.wasi_host.specs.Kinds.{incoming_of, outgoing_of, stream_of, lookup_of, is_network};
 ghost use Rattle.wasi_host.specs.Kinds.{is_error, is_readable, is_writable, plain_input_of};
 ghost use Rattle.wasi_host.specs.Kinds.{plain_output_of, watched_by, watch_of, table_parent};
@@ -47,6 +47,16 @@ pub fn udp_socket(table: &Table<Kind>, handle: Handle) -> Result<RecordId, Fault
 {
     match kind(table, handle) {
         Some(Kind::Udp2(place)) => Ok(place),
+        _ => Err(Fault::Trap(TrapKind::NoSuchHandle)),
+    }
+}
+
+/// The record number of a TCP socket of 0.3.
+pub fn tcp3_socket(table: &Table<Kind>, handle: Handle) -> Result<RecordId, Fault>
+    ensures { Names result (tcp3_of (kind_at table.now handle)) }
+{
+    match kind(table, handle) {
+        Some(Kind::Tcp3(place)) => Ok(place),
         _ => Err(Fault::Trap(TrapKind::NoSuchHandle)),
     }
 }

@@ -75,6 +75,8 @@ pub enum Kind {
     Lookup(RecordId),
     /// The error of a stream's operation.
     ErrorValue,
+    /// A TCP socket of the 0.3 interface.
+    Tcp3(RecordId),
 }
 
 impl Kind {
@@ -93,6 +95,7 @@ impl Kind {
             Kind::Pollable(_) => HandleKind::Pollable,
             Kind::Lookup(_) => HandleKind::Lookup,
             Kind::ErrorValue => HandleKind::ErrorValue,
+            Kind::Tcp3(_) => HandleKind::Tcp3,
         }
     }
 
@@ -114,7 +117,8 @@ impl Kind {
             | Kind::PlainInput(_)
             | Kind::PlainOutput(_)
             | Kind::Lookup(_)
-            | Kind::ErrorValue => None,
+            | Kind::ErrorValue
+            | Kind::Tcp3(_) => None,
         }
     }
 }

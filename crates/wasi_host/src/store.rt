@@ -1,12 +1,16 @@
 //! The records that handles name, and the pending call.
 
 ghost use Rattle.std.specs.Prelude.{◌≡◌, true, false, Ok, is_some, IfOk, OnErr, length};
-ghost use Rattle.wasi_world.specs.Asks.{AsksFor};
-ghost use Rattle.wasi_records.specs.Records.{tcp2_at};
+ghost use Rattle.std.specs.Prelude.{option_map};
+ghost use Rattle.std.specs.Borrow.{LendsIf, sem};
+ghost use Rattle.wasi_world.specs.Asks.{AsksFor, outcome};
+ghost use Rattle.wasi_records.specs.Records.{tcp2_at, stored_at};
 ghost use Rattle.wasi_records.specs.Stops.{host_outcome};
 ghost use Rattle.wasi_host.specs.Jobs.{write_at};
 ghost use Rattle.wasi_host.specs.Standing.{exclusive_of, stands_as, stood};
-ghost use Rattle.wasi_host.specs.Store.{no_records, stream_at, with_record};
+ghost use Rattle.wasi_host.specs.Making.{MakesTcp};
+ghost use Rattle.wasi_host.specs.Rows.{store_row};
+ghost use Rattle.wasi_host.specs.Store.{no_records, stream_at, with_record, with_stored};
 ghost use Rattle.wasi_records.specs.Halves.{reader_asks, writer_asks, flush_asks};
 ghost use Rattle.wasi_streams.specs.StreamStop.{stream_outcome};
 ghost use Rattle.wasi_tcp.specs.Reader.{read_state_asks};
@@ -21,12 +25,15 @@ use std::marker::Model;
 use wasi_addr::SocketAddressFamily;
 use wasi_jobs::{HostJob, JobList};
 use wasi_records::{
-    Record, RecordId, RecordList, SocketError, TcpRecord, close_sides, find, find_mut, find_mut_in,
+    Record, RecordId, RecordList, SocketError, Stored, TcpRecord, close_sides, find, find_mut,
+    find_mut_in,
 };
 use wasi_streams::StreamError;
 use wasi_table::Table;
 use wasi_tcp::TcpSocket;
-use wasi_world::{Answer, Handle, Ids, Octets, OpId, Sock, TrapKind, WasiSocketsCtx, World};
+use wasi_world::{
+    Answer, Handle, Ids, Octets, OpId, Refusal, Sock, TrapKind, WasiSocketsCtx, World,
+};
 
 /// A pending call, with what it needs to go on.
 #[derive(Drop)]
@@ -122,14 +129,51 @@ impl Store {
         ensures sides { KnowsSides (W.seen world.old) self.old
             → KnowsSides (W.seen world.new) self.new }
     {
+        let place = self.make_tcp(world, own, ctx, family)?;
+        let side = self.side(place);
+        let handle = handles::make(table, world, own, Kind::Tcp2(place), None, side)?;
+        Ok(handle)
+    }
+
+    /// Creates a TCP socket and its record, which has no handle yet, and returns the number of the
+    /// record. Takes memory for the record before the network socket is made, so that every network
+    /// socket has a record. A context that may not use TCP: `AccessDenied`, and nothing is asked.
+    /// Where there is no socket the store stays as it was.
+    pub fn make_tcp<W: World>(
+        &mut self,
+        world: &mut W,
+        own: OpId,
+        ctx: &WasiSocketsCtx,
+        family: SocketAddressFamily,
+    ) -> Result<RecordId, Refusal>
+        requires { (W.seen world.old).ended ≡ false }
+        ensures made { MakesTcp own ctx.now family (W.seen world.old) (W.seen world.new) self.old
+            self.new (outcome result) }
+        ensures sides { KnowsSides (W.seen world.old) self.old
+            → KnowsSides (W.seen world.new) self.new }
+    {
         self.records.reserve()?;
         let socket = TcpSocket::new(world, own, ctx, family)?;
         let place = self.records.len();
-        let side = socket.side();
         self.records
             .push_reserved(Record::Tcp(TcpRecord::new(socket)));
-        let handle = handles::make(table, world, own, Kind::Tcp2(place), None, side)?;
-        Ok(handle)
+        Ok(place)
+    }
+
+    /// What of this type the record with this number is, if any. Takes no memory.
+    pub fn find<T: Stored>(&self, place: RecordId) -> Option<&T>
+        ensures item { option_map (λ r. r.now) result ≡ stored_at T.of self.now.records place }
+    {
+        find(&self.records, place)
+    }
+
+    /// The same, to be changed. Takes no memory.
+    pub fn find_mut<T: Stored>(&mut self, place: RecordId) -> Option<&mut T>
+        ensures* writes_back { sem 𝓛 (LendsIf store_row T.row self.entry result
+            (with_stored T.into self.old place) self.old) }
+        ensures item { option_map (λ r. r.now) result ≡ stored_at T.of self.old.records place }
+    {
+        find_mut(&mut self.records, place)
     }
 
     /// The network socket that the TCP socket with this record number was made with; `None` where

@@ -9,7 +9,7 @@ pub use Rattle.wasi_walks.proofs.Words.{Tcp2, TcpRecord, TcpState, Told, Unclose
 pub use Rattle.wasi_walks.proofs.Words.{accept_front, accept_operation, admitted_front, after_create, allows_at, allows_if, allows_keep, allows_polls}
 pub use Rattle.wasi_walks.proofs.Words.{allows_then, allows_weaker, ap, append-nil, append_assoc, arith, arrival_front, arrived, asks_while}
 pub use Rattle.wasi_walks.proofs.Words.{bind_operation, bind_progress, check_front, check_write_asks, closed_by, closing_side, collected}
-pub use Rattle.wasi_walks.proofs.Words.{connect_ended, connect_first, connect_operation, create_asks, created_asks, done_front, entry, false}
+pub use Rattle.wasi_walks.proofs.Words.{connect_ended, connect_first, connect_operation, create_asks, create_to, made_to, created_asks, done_front, entry, false}
 pub use Rattle.wasi_walks.proofs.Words.{first_state, front, give_up_asks, give_up_in, hand_front, if◌then◌else◌, in_hand, inl, inr, is_full, is_over}
 pub use Rattle.wasi_walks.proofs.Words.{is_trap, job_asks, job_in, last_ask, left_of, length, less_one, local_front, look_asks, look_in, machine_asks}
 pub use Rattle.wasi_walks.proofs.Words.{make_asks, name_of, nat_lt, new_asks, new_job, new_record, new_socket, number_fields, output_at, own_of}

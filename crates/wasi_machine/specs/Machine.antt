@@ -3,6 +3,7 @@ use Rattle.std.specs.Prelude.{◌≡◌, ℕ, ◌+◌, length, Bool, true, false
 use Rattle.wasi_addr.specs.declared.address.IpSocketAddress.{IpSocketAddress}
 use Rattle.wasi_addr.specs.declared.address.SocketAddressFamily.{SocketAddressFamily}
 use Rattle.wasi_addr.specs.declared.p2.ErrorCode.{ErrorCode as P2Code}
+use Rattle.wasi_addr.specs.declared.p3.ErrorCode.{ErrorCode as P3Code}
 use Rattle.wasi_addr.specs.Code.{p2_of_code}
 use Rattle.wasi_world.specs.declared.ids.OpId.{OpId}
 use Rattle.wasi_world.specs.declared.outcome.Answer.{Answer}
@@ -15,7 +16,7 @@ use Rattle.wasi_host.specs.declared.pending.Outcome.{Outcome}
 use Rattle.wasi_host.specs.declared.pending.Outcome.TheVariants.{Nothing, One, Two, Count, Bytes, Places}
 use Rattle.wasi_host.specs.declared.pending.Outcome.TheVariants as outcome
 use Rattle.wasi_host.specs.declared.store.Standing.{Standing}
-use Rattle.wasi_records.specs.Stops.{Stop, Code, Trap}
+use Rattle.wasi_records.specs.Stops.{Stop, StopOf, Code, Trap}
 use Rattle.wasi_host.specs.CallStops.{CallStop, Failed, Closed, Traps}
 use Rattle.wasi_host.specs.Machine.{first_state, own_of, socket_at, udp_socket_at, incoming_at, outgoing_at, lookup_number, create_asks, subscribe_asks, ready_asks, drop_asks, turn_machine_asks}
 use Rattle.wasi_host.specs.declared.kind.Kind.TheVariants.{PlainInput, PlainOutput}
@@ -35,7 +36,11 @@ use Rattle.wasi_p2.specs.Tcp.{network_asks, start_bind_asks, finish_on, start_co
 use Rattle.wasi_p2.specs.Options.{get_option_on, set_option_on, set_backlog_on}
 use Rattle.wasi_p2.specs.Lookup.{resolve_asks, next_address_on, error_code_on}
 use Rattle.wasi_p2.specs.Udp.{start_udp_bind_asks, finish_udp_bind_on, udp_local_on, udp_remote_on, udp_family_on, get_udp_option_on, set_udp_option_on, udp_stream_asks, check_send_on, send_datagrams_on, receive_datagrams_on}
+use Rattle.wasi_host.specs.Block.{Does}
+use Rattle.wasi_p3.specs.Stops.{P3Stop}
+use Rattle.wasi_p3.specs.Tcp as p3
 use Rattle.wasi_steps.specs.declared.fields.NoCode.{NoCode}
+use Rattle.wasi_steps.specs.declared.reply.CodeWord.{CodeWord}
 use Rattle.wasi_steps.specs.declared.reply.Field.{Field}
 use Rattle.wasi_steps.specs.declared.reply.Reply.{Reply}
 use Rattle.wasi_steps.specs.declared.reply.Reply.TheVariants as reply
@@ -43,19 +48,30 @@ use Rattle.wasi_steps.specs.declared.guest_call.GuestCall.{GuestCall}
 use Rattle.wasi_steps.specs.declared.step.Step.{Step}
 use Rattle.wasi_steps.specs.declared.guest_call.GuestCall.TheVariants as guest
 use Rattle.wasi_steps.specs.declared.step.Step.TheVariants as step
-use Rattle.wasi_steps.specs.Reply.{word_of_p2, is_trap, no_fields, no_values, number_fields, numbers_fields, pair_fields, pair_values, datagram_values, triple_values, bytes_fields, truth_fields, family_fields, address_values, found_values, absent_values}
+use Rattle.wasi_steps.specs.Reply.{word_of_p2, word_of_p3, is_trap, no_fields, no_values, number_fields, numbers_fields, pair_fields, pair_values, datagram_values, triple_values, bytes_fields, truth_fields, family_fields, address_values, found_values, absent_values}
 use Rattle.wasi_steps.specs.Settings.{Chosen, AnOption, TheBacklog, chosen, udp_opt, udp_chosen}
 use Rattle.wasi_steps.specs.Steps.{context_of}
 
 -- == replies
-abbrev pub stop_reply : Stop → Reply
-stop_reply (Code c) = reply.Err (word_of_p2 c)
-stop_reply (Trap kind) = reply.Trap kind
+-- of a call with codes of this type, by the words of its codes
+abbrev pub stop_as : {C : Type 0} → (C → CodeWord) → StopOf C → Reply
+stop_as word (Code c) = reply.Err (word c)
+stop_as word (Trap kind) = reply.Trap kind
 
--- of a call, by the fields that say what it gives
+abbrev pub stop_reply : Stop → Reply
+stop_reply stop = stop_as word_of_p2 stop
+
+-- and by the fields that say what it gives
+abbrev pub reply_as : {A C : Type 0} → (C → CodeWord) → (A → List Field) → Result A (StopOf C) → Reply
+reply_as word fields (Ok value) = reply.Ok (fields value)
+reply_as word fields (Err stop) = stop_as word stop
+
 abbrev pub reply_of : {A : Type 0} → (A → List Field) → Result A Stop → Reply
-reply_of fields (Ok value) = reply.Ok (fields value)
-reply_of fields (Err stop) = stop_reply stop
+reply_of fields told = reply_as word_of_p2 fields told
+
+-- of a call of 0.3
+abbrev pub p3_reply : {A : Type 0} → (A → List Field) → Result A P3Stop → Reply
+p3_reply fields told = reply_as word_of_p3 fields told
 
 abbrev pub handle_reply : Result ℕ Stop → Reply
 handle_reply = reply_of number_fields
@@ -148,6 +164,11 @@ abbrev pub set_chosen : Machine → OpId → Option ℕ → Chosen → Asks (Res
 set_chosen m own found (AnOption option value) = set_option_on m own option value found
 set_chosen m own found (TheBacklog value) = set_backlog_on m own value found
 
+-- of a socket of 0.3
+abbrev pub set_p3 : OpId → ℕ → Chosen → Does P3Code Machine (Unit {0})
+set_p3 own socket (AnOption option value) = p3.set_option own socket option value
+set_p3 own socket (TheBacklog value) = p3.set_backlog own socket value
+
 -- == steps
 -- a context that isn't there is allowed nothing
 abbrev pub context_in : Option WasiSocketsCtx → WasiSocketsCtx
@@ -213,6 +234,13 @@ call_asks ctx m line (guest.BlockingWrite output bytes) = bind (blocking_write_a
 call_asks ctx m line (guest.BlockingZeroes output len) = bind (blocking_zeroes_asks m (first_ids line) output len) (λ done. Give (blocked_reply_of no_values line done.0, done.1))
 call_asks ctx m line (guest.BlockingFlush output) = bind (blocking_flush_asks m (first_ids line) output) (λ done. Give (blocked_reply_of no_values line done.0, done.1))
 call_asks ctx m line (guest.BlockingSplice output input len) = bind (blocking_splice_asks m (first_ids line) output input len) (λ done. Give (blocked_reply_of number_fields line done.0, done.1))
+call_asks ctx m line (guest.P3TcpCreate family) = bind (p3.create (own_of line) ctx family m) (λ done. Give (p3_reply number_fields done.0, done.1))
+call_asks ctx m line (guest.P3TcpLocalAddress s) = bind (p3.local_address (own_of line) s m) (λ done. Give (p3_reply address_values done.0, done.1))
+call_asks ctx m line (guest.P3TcpRemoteAddress s) = bind (p3.remote_address (own_of line) s m) (λ done. Give (p3_reply address_values done.0, done.1))
+call_asks ctx m line (guest.P3TcpIsListening s) = Give (p3_reply truth_fields (p3.is_listening m s), m)
+call_asks ctx m line (guest.P3TcpAddressFamily s) = Give (p3_reply family_fields (p3.address_family m s), m)
+call_asks ctx m line (guest.P3TcpGet s option) = bind (p3.get_option (own_of line) s option m) (λ done. Give (p3_reply number_fields done.0, done.1))
+call_asks ctx m line (guest.P3TcpSet s setting) = bind (set_p3 (own_of line) s (chosen setting) m) (λ done. Give (p3_reply no_values done.0, done.1))
 
 -- what a step asks, its reply, and the machine afterwards, where this is the context of its guest
 abbrev pub asks_in : WasiSocketsCtx → Machine → ℕ → Step → Asks (Reply × Machine)

@@ -6,6 +6,9 @@ ghost use Rattle.wasi_records.specs.Stops.{host_outcome, IsStop};
 ghost use Rattle.wasi_machine.specs.Machine.{reply_of, stream_reply_of, answer_reply_of};
 ghost use Rattle.wasi_machine.specs.Machine.{blocked_reply_of, cancelled_reply, stop_reply};
 ghost use Rattle.wasi_machine.specs.Machine.{call_stop_reply, outcome_reply, resumed_reply};
+ghost use Rattle.wasi_machine.specs.Machine.{p3_reply, stop_as};
+ghost use Rattle.wasi_p3.specs.Stops.{ends_as, IsStopOf};
+ghost use Rattle.wasi_steps.specs.Reply.{word_of_p3};
 
 use std::alloc::{AllocError, Global};
 use wasi_addr::{ErrorCode, p2};
@@ -32,6 +35,20 @@ pub fn reply_of<T: IntoFields>(
     match answer {
         Ok(value) => ok(alloc, value),
         Err(error) => stop_reply(error),
+    }
+}
+
+/// The reply of a call of 0.3: `ok` with its value, the word of its code, or its trap. Takes memory
+/// for the fields. The only error is out of memory, the call's own too.
+pub fn p3_reply<T: IntoFields>(
+    alloc: Global,
+    answer: Result<T, wasi_p3::SocketError>,
+) -> Result<Reply, AllocError>
+    ensures { IfOk result (λ reply. IsOkAnd (ends_as answer) (λ x. reply ≡ p3_reply T.fields x)) }
+{
+    match answer {
+        Ok(value) => ok(alloc, value),
+        Err(error) => p3_stop_reply(error),
     }
 }
 
@@ -92,6 +109,17 @@ fn stop_reply(error: SocketError) -> Result<Reply, AllocError>
         SocketError::Code(code) => Ok(Reply::Err(CodeWord::from_p2(code))),
         SocketError::Trap(kind) => Ok(Reply::Trap(kind)),
         SocketError::Memory(e) => Err(e),
+    }
+}
+
+/// The same of a call of 0.3.
+fn p3_stop_reply(error: wasi_p3::SocketError) -> Result<Reply, AllocError>
+    ensures { IfOk result (λ reply. IsStopOf error (λ stop. reply ≡ stop_as word_of_p3 stop)) }
+{
+    match error {
+        wasi_p3::SocketError::Code(code) => Ok(Reply::Err(CodeWord::from_p3(code))),
+        wasi_p3::SocketError::Trap(kind) => Ok(Reply::Trap(kind)),
+        wasi_p3::SocketError::Memory(e) => Err(e),
     }
 }
 

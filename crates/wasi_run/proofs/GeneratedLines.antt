@@ -1,9 +1,9 @@
 -- The texts of generated lines.
-use Rattle.wasi_run.proofs.Words.{OnOk, Step, codes, decimal, is_ok, if◌then◌else◌, ◌≡◌, ℕ, List, ◌++◌, Result, Ok, Err, refl, ap, ◌∙◌, append_assoc, bytes_text, Network, TcpCreate, TcpStartConnect, TcpFinishConnect, CheckWrite, Write, TcpShutdown, Drop}
+use Rattle.wasi_run.proofs.Words.{OnOk, Step, codes, decimal, is_ok, if◌then◌else◌, ◌≡◌, ℕ, List, ◌++◌, Result, Ok, Err, refl, ap, sym, subst, ◌∙◌, append_assoc, bytes_text, Network, TcpCreate, TcpStartConnect, TcpFinishConnect, CheckWrite, Write, TcpShutdown, Drop}
 use Rattle.std.specs.Fmt.{digits}
 use Rattle.wasi_addr.specs.declared.address.ShutdownType.TheVariants.{Both}
 use Rattle.wasi_addr.specs.declared.address.SocketAddressFamily.TheVariants.{Ipv4}
-use Rattle.wasi_run.specs.Generate.{loopback, script_line}
+use Rattle.wasi_run.specs.Generate.{loopback, script_line, step_in}
 
 -- what was written is the line
 pub written : {T E : Type 0} (r : Result T E) (now old text line : List ℕ) → OnOk r (now ≡ old ++ text) → text ≡ line → OnOk r (now ≡ old ++ line)
@@ -14,6 +14,13 @@ written (Err e) now old text line h f = tt
 pub pushed : {T E : Type 0} (r : Result T E) (now old text line : List ℕ) → now ≡ (if is_ok r then old ++ text else old) → text ≡ line → OnOk r (now ≡ old ++ line)
 pushed (Ok t) now old text line h e = h ∙ ap (λ more. old ++ more) e
 pushed (Err e) now old text line h f = tt
+
+-- the line at a place of a block
+pub at_place : {T E : Type 0} (r : Result T E) (now old : List ℕ) (s x place at : ℕ) → place ≡ at
+    → OnOk r (now ≡ old ++ script_line (step_in s x at)) → OnOk r (now ≡ old ++ script_line (step_in s x place))
+at_place r now old s x place at e h =
+    let P : ℕ → Type 0 = λ p. OnOk r (now ≡ old ++ script_line (step_in s x p)) in
+    subst P (sym e) h
 
 -- numbers as text
 decimal-0 : decimal 0 ≡ codes "0"

@@ -5,25 +5,25 @@ ghost use Rattle.std.specs.Result.{result_map_both};
 ghost use Rattle.std.specs.Prelude.{◌≡◌, ◌&&◌, is_some, false};
 ghost use Rattle.wasi_world.specs.Asks.{AsksFor};
 ghost use Rattle.wasi_records.specs.Stops.{fault_outcome, host_outcome};
-ghost use Rattle.wasi_host.specs.Machine.{own_of, socket_at, udp_socket_at};
 ghost use Rattle.wasi_host.specs.KnownSides.{KnowsSides};
-ghost use Rattle.wasi_host.specs.Views.{HostKept, SameView, state_of};
-ghost use Rattle.wasi_machine.specs.Machine.{without_code, first_ids, machine_asks, set_chosen};
-ghost use Rattle.wasi_machine.specs.Machine.{is_guest_call, asks_in, call_asks, context_at, context_for};
-ghost use Rattle.wasi_p2.specs.Udp.{set_udp_option_on};
-ghost use Rattle.wasi_steps.specs.Settings.{chosen, udp_chosen, udp_opt};
+ghost use Rattle.wasi_host.specs.Views.{SameView, state_of};
+ghost use Rattle.wasi_machine.specs.Machine.{without_code, first_ids, machine_asks};
+ghost use Rattle.wasi_machine.specs.Machine.{is_guest_call, asks_in, call_asks, context_at};
+ghost use Rattle.wasi_machine.specs.Machine.{context_for};
 
+use crate::settings::{set, set_p3, set_udp, udp_opt};
 use std::alloc::{AllocError, Global};
 use wasi_addr::p2;
 use wasi_host::{Kind, Machine, SocketError, Store, WasiSocketsCtxView};
 use wasi_machine::replies::{
-    answer_reply, blocked_reply, cancelled_reply, reply_of, resumed_reply, stream_reply_of,
+    answer_reply, blocked_reply, cancelled_reply, p3_reply, reply_of, resumed_reply,
+    stream_reply_of,
 };
 use wasi_p2::{ip_name_lookup, tcp, udp};
-use wasi_steps::{GuestCall, NoCode, Reply, Step, TcpSetting, UdpOption, UdpSetting};
+use wasi_steps::{GuestCall, NoCode, Reply, Step};
 use wasi_streams::Fault;
 use wasi_table::Table;
-use wasi_world::{Handle, Ids, Opt, WasiSocketsCtx, World};
+use wasi_world::{Ids, WasiSocketsCtx, World};
 
 /// Whether the step is a call of a guest while another call is pending.
 fn is_held_up(store: &Store, step: &Step) -> bool
@@ -371,6 +371,34 @@ fn guest_call<W: World>(
             let answer = wasi_host::drop_handle(view, world, ids, handle);
             answer_reply(alloc, ids.line, socket_result(answer))
         }
+        GuestCall::P3TcpCreate { family } => {
+            let made = wasi_p3::tcp::create(view, world, ids, family);
+            p3_reply(alloc, made)
+        }
+        GuestCall::P3TcpLocalAddress { socket } => {
+            let told = wasi_p3::tcp::get_local_address(view, world, ids, socket);
+            p3_reply(alloc, told)
+        }
+        GuestCall::P3TcpRemoteAddress { socket } => {
+            let told = wasi_p3::tcp::get_remote_address(view, world, ids, socket);
+            p3_reply(alloc, told)
+        }
+        GuestCall::P3TcpIsListening { socket } => {
+            let told = wasi_p3::tcp::get_is_listening(view, socket);
+            p3_reply(alloc, told)
+        }
+        GuestCall::P3TcpAddressFamily { socket } => {
+            let told = wasi_p3::tcp::get_address_family(view, socket);
+            p3_reply(alloc, told)
+        }
+        GuestCall::P3TcpGet { socket, option } => {
+            let told = wasi_p3::tcp::get_option(view, world, ids, socket, option);
+            p3_reply(alloc, told)
+        }
+        GuestCall::P3TcpSet { socket, setting } => {
+            let done = set_p3(view, world, ids, socket, setting);
+            p3_reply(alloc, done)
+        }
         GuestCall::PollList { pollables } => {
             let answer = wasi_host::poll(alloc, view, world, ids, pollables);
             answer_reply(alloc, ids.line, socket_result(answer))
@@ -391,69 +419,6 @@ fn without_code(told: Result<Option<p2::ErrorCode>, SocketError>) -> Result<NoCo
 {
     told?;
     Ok(NoCode)
-}
-
-/// Sets an option of a socket, or its backlog.
-fn set<W: World>(
-    view: &mut WasiSocketsCtxView<'_>,
-    world: &mut W,
-    ids: &mut Ids,
-    socket: Handle,
-    setting: TcpSetting,
-) -> Result<(), SocketError>
-    requires { (W.seen world.old).ended ≡ false }
-    ensures asked { AsksFor (set_chosen (state_of view.old) (own_of ids.old.line)
-        (socket_at (state_of view.old) socket) (chosen setting)) (W.seen world.old)
-        (W.seen world.new) (λ done. (done, state_of view.new)) (host_outcome result) }
-    ensures kept { HostKept view.old view.new ids.old ids.new (W.seen world.old)
-        (W.seen world.new) }
-{
-    use TcpSetting::*;
-    match setting {
-        KeepAliveEnabled(value) => tcp::set_keep_alive_enabled(view, world, ids, socket, value),
-        KeepAliveIdleTime(value) => tcp::set_keep_alive_idle_time(view, world, ids, socket, value),
-        KeepAliveInterval(value) => tcp::set_keep_alive_interval(view, world, ids, socket, value),
-        KeepAliveCount(value) => tcp::set_keep_alive_count(view, world, ids, socket, value),
-        HopLimit(value) => tcp::set_hop_limit(view, world, ids, socket, value),
-        ReceiveBufferSize(value) => tcp::set_receive_buffer_size(view, world, ids, socket, value),
-        SendBufferSize(value) => tcp::set_send_buffer_size(view, world, ids, socket, value),
-        ListenBacklogSize(value) => tcp::set_listen_backlog_size(view, world, ids, socket, value),
-    }
-}
-
-/// The network's option that an option of a UDP socket is.
-fn udp_opt(option: UdpOption) -> Opt
-    ensures { result ≡ udp_opt option }
-{
-    match option {
-        UdpOption::HopLimit => Opt::HopLimit,
-        UdpOption::ReceiveBufferSize => Opt::ReceiveBufferSize,
-        UdpOption::SendBufferSize => Opt::SendBufferSize,
-    }
-}
-
-/// Sets an option of a UDP socket.
-fn set_udp<W: World>(
-    view: &mut WasiSocketsCtxView<'_>,
-    world: &mut W,
-    ids: &mut Ids,
-    socket: Handle,
-    setting: UdpSetting,
-) -> Result<(), SocketError>
-    requires { (W.seen world.old).ended ≡ false }
-    ensures asked { AsksFor (set_udp_option_on (state_of view.old) (own_of ids.old.line)
-        (udp_chosen setting).0 (udp_chosen setting).1 (udp_socket_at (state_of view.old) socket))
-        (W.seen world.old) (W.seen world.new) (λ done. (done, state_of view.new))
-        (host_outcome result) }
-    ensures kept { HostKept view.old view.new ids.old ids.new (W.seen world.old)
-        (W.seen world.new) }
-{
-    use UdpSetting::*;
-    match setting {
-        HopLimit(value) => udp::set_unicast_hop_limit(view, world, ids, socket, value),
-        ReceiveBufferSize(value) => udp::set_receive_buffer_size(view, world, ids, socket, value),
-        SendBufferSize(value) => udp::set_send_buffer_size(view, world, ids, socket, value),
-    }
 }
 
 /// The context with this number; one that isn't there is allowed nothing.

@@ -9,6 +9,7 @@ pub mod generate;
 pub mod lines;
 pub mod run;
 pub mod session;
+mod settings;
 mod text_source;
 
 pub use counts::Counts;

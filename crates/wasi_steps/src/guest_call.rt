@@ -261,4 +261,35 @@ pub enum GuestCall {
     Drop {
         handle: Handle,
     },
+    /// Makes a TCP socket of the 0.3 interface, of this family (`create`).
+    P3TcpCreate {
+        family: SocketAddressFamily,
+    },
+    /// The address that the 0.3 socket is bound to (`get-local-address`).
+    P3TcpLocalAddress {
+        socket: Handle,
+    },
+    /// The address of the other end of the 0.3 socket's connection (`get-remote-address`).
+    P3TcpRemoteAddress {
+        socket: Handle,
+    },
+    /// Whether the 0.3 socket is listening (`get-is-listening`).
+    P3TcpIsListening {
+        socket: Handle,
+    },
+    /// The 0.3 socket's family (`get-address-family`).
+    P3TcpAddressFamily {
+        socket: Handle,
+    },
+    /// The value of an option of the 0.3 socket (its getter: `get-keep-alive-enabled`, and so on).
+    P3TcpGet {
+        socket: Handle,
+        option: Opt,
+    },
+    /// Sets an option of the 0.3 socket, or its backlog (its setter: `set-keep-alive-enabled`, and
+    /// so on).
+    P3TcpSet {
+        socket: Handle,
+        setting: TcpSetting,
+    },
 }

@@ -2,7 +2,7 @@
 
 ghost use Rattle.std.specs.Prelude.{◌++◌};
 ghost use Rattle.wasi_steps.specs.Settings.{ReadsNumber};
-ghost use Rattle.wasi_steps.specs.Steps.{handle_calls, udp_handle_calls, output_handle_calls};
+ghost use Rattle.wasi_steps.specs.Steps.{handle_calls, udp_handle_calls, p3_handle_calls, output_handle_calls};
 ghost use Rattle.wasi_steps.specs.Steps.{other_handle_calls, rows_of};
 
 use crate::guest_call::GuestCall;
@@ -40,10 +40,28 @@ fn output_handle_call(word: &str, handle: u32) -> Option<GuestCall>
     }
 }
 
+/// The call of this word, which takes a handle alone and is no 0.2 socket's.
+#[tactic(auto, unfolding(world_text::specs::Fields::read_then, world_text::specs::Fields::give, world_text::specs::Fields::give_some))]
+fn p3_handle_call(word: &str, handle: u32) -> Option<GuestCall>
+    ensures { ReadsNumber 4294967295 (rows_of (p3_handle_calls ++ output_handle_calls
+        ++ other_handle_calls)) word.now handle result }
+{
+    use GuestCall::*;
+    let socket = handle;
+    match word {
+        "p3-tcp-local-address" => Some(P3TcpLocalAddress { socket }),
+        "p3-tcp-remote-address" => Some(P3TcpRemoteAddress { socket }),
+        "p3-tcp-is-listening" => Some(P3TcpIsListening { socket }),
+        "p3-tcp-address-family" => Some(P3TcpAddressFamily { socket }),
+        _ => output_handle_call(word, handle),
+    }
+}
+
 /// The call of this word, which takes a handle alone and is no TCP socket's.
 #[tactic(auto, unfolding(world_text::specs::Fields::read_then, world_text::specs::Fields::give, world_text::specs::Fields::give_some))]
 fn udp_handle_call(word: &str, handle: u32) -> Option<GuestCall>
-    ensures { ReadsNumber 4294967295 (rows_of (udp_handle_calls ++ output_handle_calls ++ other_handle_calls)) word.now handle result }
+    ensures { ReadsNumber 4294967295 (rows_of (udp_handle_calls ++ p3_handle_calls
+        ++ output_handle_calls ++ other_handle_calls)) word.now handle result }
 {
     use GuestCall::*;
     let socket = handle;
@@ -53,7 +71,7 @@ fn udp_handle_call(word: &str, handle: u32) -> Option<GuestCall>
         "udp-remote-address" => Some(UdpRemoteAddress { socket }),
         "udp-address-family" => Some(UdpAddressFamily { socket }),
         "udp-check-send" => Some(UdpCheckSend { outgoing: handle }),
-        _ => output_handle_call(word, handle),
+        _ => p3_handle_call(word, handle),
     }
 }
 

@@ -10,7 +10,7 @@ ghost use Rattle.wasi_steps.specs.Settings.{ReadsNumber, ReadsAfter, option_at, 
 ghost use Rattle.wasi_steps.specs.Settings.{setting_words, setting_at, udp_option_at};
 ghost use Rattle.wasi_steps.specs.Settings.{udp_setting_at};
 ghost use Rattle.wasi_steps.specs.Steps.{line_of, IsStep, guest_calls, plain_calls, value_calls};
-ghost use Rattle.wasi_steps.specs.Steps.{tcp_value_calls, udp_value_calls, input_value_calls};
+ghost use Rattle.wasi_steps.specs.Steps.{tcp_value_calls, udp_value_calls, p3_value_calls, input_value_calls};
 ghost use Rattle.wasi_steps.specs.Steps.{output_value_calls, handle_calls, bare_rows, rows_of};
 ghost use Rattle.wasi_steps.specs.Steps.{call_at, guest_call_at, step_reader, step_of, takes_a_name};
 
@@ -125,11 +125,31 @@ fn udp_setting(fields: &mut Fields<'_>) -> Option<UdpSetting>
     }
 }
 
+/// Takes what follows the handle of a call: more arguments where the word is that of a socket of 0.3
+/// or of a stream and takes them, else nothing.
+#[tactic(auto, unfolding(world_text::specs::Fields::read_then, world_text::specs::Fields::give, world_text::specs::Fields::give_some))]
+fn p3_arguments(fields: &mut Fields<'_>, word: &str, handle: u32) -> Option<GuestCall>
+    ensures { ReadsAfter 4294967295 (rows_of (p3_value_calls ++ input_value_calls
+        ++ output_value_calls ++ handle_calls)) word.now handle fields.old result fields.new }
+{
+    match word {
+        "p3-tcp-get" => Some(GuestCall::P3TcpGet {
+            socket: handle,
+            option: option(fields)?,
+        }),
+        "p3-tcp-set" => Some(GuestCall::P3TcpSet {
+            socket: handle,
+            setting: setting(fields)?,
+        }),
+        _ => stream_arguments(fields, word, handle),
+    }
+}
+
 /// Takes what follows the handle of a call: more arguments where the word is a UDP socket's or
 /// a stream's and takes them, else nothing.
 #[tactic(auto, unfolding(world_text::specs::Fields::read_then, world_text::specs::Fields::give, world_text::specs::Fields::give_some))]
 fn udp_arguments(fields: &mut Fields<'_>, word: &str, handle: u32) -> Option<GuestCall>
-    ensures { ReadsAfter 4294967295 (rows_of (udp_value_calls ++ input_value_calls
+    ensures { ReadsAfter 4294967295 (rows_of (udp_value_calls ++ p3_value_calls ++ input_value_calls
         ++ output_value_calls ++ handle_calls)) word.now handle fields.old result
         fields.new }
 {
@@ -155,7 +175,7 @@ fn udp_arguments(fields: &mut Fields<'_>, word: &str, handle: u32) -> Option<Gue
             incoming: handle,
             max_results: fields.number(u64::MAX)?,
         }),
-        _ => stream_arguments(fields, word, handle),
+        _ => p3_arguments(fields, word, handle),
     }
 }
 
@@ -223,6 +243,9 @@ fn plain_arguments(fields: &mut Fields<'_>, word: &str) -> Option<GuestCall>
         "sink" => Some(GuestCall::Sink),
         "closed-in" => Some(GuestCall::ClosedIn),
         "closed-out" => Some(GuestCall::ClosedOut),
+        "p3-tcp-create" => Some(GuestCall::P3TcpCreate {
+            family: fields.family()?,
+        }),
         _ => handle_arguments(fields, word),
     }
 }

@@ -8,13 +8,13 @@ ghost use Rattle.wasi_steps.specs.declared.step.Step.{Step};
 ghost use Rattle.wasi_steps.specs.Replies.{FieldKinds, polled_fields, GivesAs, Gives, is_poll};
 ghost use Rattle.wasi_steps.specs.Replies.{code_text, trap_text, field_text, fields_of_reply};
 ghost use Rattle.wasi_steps.specs.Replies.{text_of};
-ghost use Rattle.wasi_steps.specs.Reply.{word_of_p2, is_trap, no_fields};
+ghost use Rattle.wasi_steps.specs.Reply.{word_of_p2, word_of_p3, is_trap, no_fields};
 
 use std::alloc::{AllocError, Global};
 use std::fmt;
 use std::fmt::Write;
 use std::marker::Model;
-use wasi_addr::p2;
+use wasi_addr::{p2, p3};
 use wasi_world::{Handle, Octets, TrapKind};
 use world_text::fields::push_octets;
 
@@ -120,6 +120,29 @@ impl CodeWord {
             p2::ErrorCode::NameUnresolvable => CodeWord::NameUnresolvable,
             p2::ErrorCode::TemporaryResolverFailure => CodeWord::TemporaryResolverFailure,
             p2::ErrorCode::PermanentResolverFailure => CodeWord::PermanentResolverFailure,
+        }
+    }
+
+    /// The word of a 0.3 code, which has the code's name.
+    pub fn from_p3(code: p3::ErrorCode) -> CodeWord
+        ensures { result ≡ word_of_p3 code }
+    {
+        match code {
+            p3::ErrorCode::AccessDenied => CodeWord::AccessDenied,
+            p3::ErrorCode::NotSupported => CodeWord::NotSupported,
+            p3::ErrorCode::InvalidArgument => CodeWord::InvalidArgument,
+            p3::ErrorCode::OutOfMemory => CodeWord::OutOfMemory,
+            p3::ErrorCode::Timeout => CodeWord::Timeout,
+            p3::ErrorCode::InvalidState => CodeWord::InvalidState,
+            p3::ErrorCode::AddressNotBindable => CodeWord::AddressNotBindable,
+            p3::ErrorCode::AddressInUse => CodeWord::AddressInUse,
+            p3::ErrorCode::RemoteUnreachable => CodeWord::RemoteUnreachable,
+            p3::ErrorCode::ConnectionRefused => CodeWord::ConnectionRefused,
+            p3::ErrorCode::ConnectionBroken => CodeWord::ConnectionBroken,
+            p3::ErrorCode::ConnectionReset => CodeWord::ConnectionReset,
+            p3::ErrorCode::ConnectionAborted => CodeWord::ConnectionAborted,
+            p3::ErrorCode::DatagramTooLarge => CodeWord::DatagramTooLarge,
+            p3::ErrorCode::Other => CodeWord::Other,
         }
     }
 }

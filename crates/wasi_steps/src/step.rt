@@ -100,6 +100,13 @@ pub const STEP_FORMS: &str = "    0 network                               makes 
     0 subscribe H                           makes a pollable of a socket, a stream or a lookup
     0 ready P                               whether what it watches is ready: ok true or ok false
     0 drop H                                drops a handle
+    0 p3-tcp-create F                       makes a TCP socket of 0.3; F is 4 or 6
+    0 p3-tcp-local-address S                its address
+    0 p3-tcp-remote-address S               the address of its other end
+    0 p3-tcp-is-listening S                 whether it listens: ok true or ok false
+    0 p3-tcp-address-family S               its family: ok 4 or ok 6
+    0 p3-tcp-get S OPTION                   the value of an option: ok V
+    0 p3-tcp-set S OPTION V                 sets an option
     turn                                    polls each write, datagram, receive and lookup in the background, once
     poll N                                  polls the call of line N, which answered pending N
     cancel N                                gives that call up

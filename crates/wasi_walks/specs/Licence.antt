@@ -16,7 +16,7 @@ use Rattle.wasi_world.specs.declared.call.Call.{Call}
 use Rattle.wasi_world.specs.declared.call.Call.TheVariants.{Check, Lookup, TcpCreate, UdpCreate, UdpWritable, Local, Peer, Bind, UdpBind, UdpConnect, Listen, SetBacklog, Connect, Accept, Hand, Refuse, Read, ReadReady, WriteReady, Write, Shutdown, UdpDisconnect, Send, Recv, GetOption, SetOption, Close, Made}
 use Rattle.wasi_world.specs.declared.call.HandleKind.{HandleKind}
 use Rattle.wasi_world.specs.declared.call.HandleKind.TheVariants as handle_kind
-use Rattle.wasi_world.specs.declared.call.HandleKind.TheVariants.{Network, Tcp2, Udp2, Input, Output, Pollable, ErrorValue, Incoming, Outgoing}
+use Rattle.wasi_world.specs.declared.call.HandleKind.TheVariants.{Network, Tcp2, Tcp3, Udp2, Input, Output, Pollable, ErrorValue, Incoming, Outgoing}
 use Rattle.wasi_world.specs.declared.call.Opt.{Opt}
 use Rattle.wasi_world.specs.declared.call.Told.{Told}
 use Rattle.wasi_world.specs.declared.call.Told.TheVariants.{Done, Yes, Addr, Arrived, Code}
@@ -181,6 +181,7 @@ pub record MayUseTcp (contexts : List WasiSocketsCtx) (number name : ℕ) : Type
 -- a create of this family, by the context of this name
 abbrev pub IsTcpCreate : List WasiSocketsCtx → ℕ → SocketAddressFamily → Step → Type 0
 IsTcpCreate contexts name family (step.Call ctx (guest.TcpCreate f)) = MayUseTcp contexts ctx name × (f ≡ family)
+IsTcpCreate contexts name family (step.Call ctx (guest.P3TcpCreate f)) = MayUseTcp contexts ctx name × (f ≡ family)
 IsTcpCreate contexts name family _ = ⊥
 
 -- The context of this number has this name, and may use UDP.
@@ -209,6 +210,7 @@ IsLookupOf contexts host _ = ⊥
 -- a create of a TCP socket
 abbrev pub MakesTcp : Step → Type 0
 MakesTcp (step.Call ctx (guest.TcpCreate family)) = ⊤
+MakesTcp (step.Call ctx (guest.P3TcpCreate family)) = ⊤
 MakesTcp _ = ⊥
 
 -- a create of a UDP socket
@@ -281,6 +283,7 @@ IsListenStep _ = ⊥
 -- a get of this option
 abbrev pub IsGetOf : Opt → Step → Type 0
 IsGetOf option (step.Call ctx (guest.TcpGet socket o)) = o ≡ option
+IsGetOf option (step.Call ctx (guest.P3TcpGet socket o)) = o ≡ option
 IsGetOf option (step.Call ctx (guest.UdpGet socket o)) = udp_opt o ≡ option
 IsGetOf option _ = ⊥
 
@@ -291,6 +294,7 @@ SetsOption option value (TheBacklog n) = ⊥
 
 abbrev pub IsSetTo : Opt → ℕ → Step → Type 0
 IsSetTo option value (step.Call ctx (guest.TcpSet socket setting)) = SetsOption option value (chosen setting)
+IsSetTo option value (step.Call ctx (guest.P3TcpSet socket setting)) = SetsOption option value (chosen setting)
 IsSetTo option value (step.Call ctx (guest.UdpSet socket setting)) = SetsOption option value (AnOption (udp_chosen setting).0 (udp_chosen setting).1)
 IsSetTo option value _ = ⊥
 
@@ -301,15 +305,20 @@ SetsBacklog backlog (TheBacklog n) = backlog ≡ clamped_backlog n
 
 abbrev pub IsBacklogSet : ℕ → Step → Type 0
 IsBacklogSet backlog (step.Call ctx (guest.TcpSet socket setting)) = SetsBacklog backlog (chosen setting)
+IsBacklogSet backlog (step.Call ctx (guest.P3TcpSet socket setting)) = SetsBacklog backlog (chosen setting)
 IsBacklogSet backlog _ = ⊥
 
 -- its parent is this handle, of whose network socket it is
 abbrev pub IsOfParent : List Entry → ℕ → Option ℕ → Option OpId → Type 0
 IsOfParent before handle parent sock = (parent ≡ Some handle) × IsMarkedWith before handle sock
 
+-- a TCP socket of either interface
+abbrev pub IsTcpName : HandleKind → Type 0
+IsTcpName name = (name ≡ Tcp2) ⊎ (name ≡ Tcp3)
+
 -- the network socket is in no mark of a TCP socket
 abbrev pub MarksNoSocket : List Entry → OpId → Type 0
-MarksNoSocket before side = (o : OpId) (handle : ℕ) (parent : Option ℕ) (told : Told) → Has before (entry o (Made handle Tcp2 parent (Some side)) told) → ⊥
+MarksNoSocket before side = (o : OpId) (handle : ℕ) (name : HandleKind) (parent : Option ℕ) (told : Told) → IsTcpName name → Has before (entry o (Made handle name parent (Some side)) told) → ⊥
 
 -- The first mark of an accept's step is of the socket that was accepted: its parent is the listener's handle, and its network
 -- socket was handed over on the listener's network socket, and is in no earlier mark of a socket.
@@ -379,6 +388,8 @@ abbrev pub IsMarkOf : List Entry → OpId → HandleKind → Option ℕ → Opti
 IsMarkOf before op kind parent sock (step.Call ctx guest.Network) = (kind ≡ Network) × (parent ≡ None) × (sock ≡ None)
 IsMarkOf before op kind parent sock (step.Call ctx (guest.TcpCreate family)) =
     (kind ≡ Tcp2) × (parent ≡ None) × (sock ≡ Some op) × ((name : ℕ) × (f : SocketAddressFamily) × Has before (entry op (TcpCreate name f) Done))
+IsMarkOf before op kind parent sock (step.Call ctx (guest.P3TcpCreate family)) =
+    (kind ≡ Tcp3) × (parent ≡ None) × (sock ≡ Some op) × ((name : ℕ) × (f : SocketAddressFamily) × Has before (entry op (TcpCreate name f) Done))
 IsMarkOf before op kind parent sock (step.Call ctx (guest.UdpCreate family)) =
     (kind ≡ Udp2) × (parent ≡ None) × (sock ≡ Some op) × ((name : ℕ) × (f : SocketAddressFamily) × Has before (entry op (UdpCreate name f) Done))
 IsMarkOf before op kind parent sock (step.Call ctx (guest.TcpFinishConnect socket)) = ((kind ≡ Input) ⊎ (kind ≡ Output)) × IsOfParent before socket parent sock

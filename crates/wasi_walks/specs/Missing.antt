@@ -19,7 +19,8 @@ use Rattle.wasi_host.specs.Machine.{lookup_number}
 use Rattle.wasi_records.specs.Records.{tcp2_at, udp2_at, open_at, input_pipe_at, output_pipe_at}
 use Rattle.wasi_host.specs.Standing.{call_of}
 use Rattle.wasi_host.specs.StreamCalls.{plain_input_at, plain_output_at}
-use Rattle.wasi_steps.specs.Steps.{Kind, HandleOf, ALine, ANetwork, ASocket, ADatagramSocket, AnInput, AnOutput, AnIncoming, AnOutgoing, ALookup, AnError, Watchable, APollable, Anything, SomePollables, Value, Values, written_of}
+use Rattle.wasi_p3.specs.Lines as p3
+use Rattle.wasi_steps.specs.Steps.{Kind, HandleOf, ALine, ANetwork, ASocket, ASocket3, ADatagramSocket, AnInput, AnOutput, AnIncoming, AnOutgoing, ALookup, AnError, Watchable, APollable, Anything, SomePollables, Value, Values, written_of}
 use Rattle.wasi_steps.specs.declared.step.Step.{Step}
 use Rattle.wasi_steps.specs.declared.guest_call.GuestCall.TheVariants as guest
 use Rattle.wasi_steps.specs.declared.step.Step.TheVariants as step
@@ -109,6 +110,7 @@ StandsOnNothing m n = IsSomeAnd (call_of m.store.standing n) (λ s. IsOnNothing 
 abbrev pub MissesValue : Machine → (kind : Kind) → Value kind → Type 0
 MissesValue m (HandleOf ANetwork) h = is_network (kind_at m.table h) ≡ false
 MissesValue m (HandleOf ASocket) h = record_at m h ≡ None
+MissesValue m (HandleOf ASocket3) h = p3.tcp_of m h ≡ None
 MissesValue m (HandleOf ADatagramSocket) h = open_udp_at m h ≡ None
 MissesValue m (HandleOf AnIncoming) h = incoming_in m h ≡ None
 MissesValue m (HandleOf AnOutgoing) h = outgoing_in m h ≡ None
@@ -144,6 +146,7 @@ MissesHandle m s = MissesFirst m (written_of s).kinds (written_of s).values
 abbrev pub MakesHandle : Step → Type 0
 MakesHandle (step.Call ctx guest.Network) = ⊤
 MakesHandle (step.Call ctx (guest.TcpCreate family)) = ⊤
+MakesHandle (step.Call ctx (guest.P3TcpCreate family)) = ⊤
 MakesHandle (step.Call ctx (guest.UdpCreate family)) = ⊤
 MakesHandle (step.Call ctx (guest.UdpStream socket remote)) = ⊤
 MakesHandle (step.Call ctx (guest.TcpFinishConnect socket)) = ⊤

@@ -1,7 +1,7 @@
 -- The law that of what the stream of a handle received all was handed out but what waits: by each line but one that receives on it.
 use Rattle.wasi_walks.proofs.walks.Law.{BeginsWrites, Rests, begins_by}
 use Rattle.wasi_walks.proofs.walks.Asked.{Asked, Questions, SetsBacklog, Learns, Closes, MarksOne, AsksCreate, MarksAccepted, Polls, Turns, GivesUp, UdpQuestions, UdpLearns, UdpPeers, UdpCloses, UdpBegins, MarksUdp, MarksStream, MarksError, UdpGivesUp, Resolves, Looks}
-use Rattle.wasi_causes.proofs.Words.{Allows, Asks, Call, End, Entry, Err, ErrorCode, ErrorValue, HoldsAccept, HoldsConnect, IsAcceptOn, Item, Job, Kind, List, None, Ok, OpId, Operation, Option, Result, Socket, Some, GuestCall, Step, Streams, Tcp2, TcpRecord, Told, WasiSocketsCtx, WriteState, [], accept_ended, allows_if, allows_then, ap, arith, bind, bind_progress, connect_ended, created_asks, entry, give_up_asks, inl, inr, is_full, kind_at, length, make_asks, name_of, new_asks, new_record, own_of, poll_asks, refl, side_at, side_of, subst, sym, told_done, turn_asks, with_handle, with_inner, with_listening, with_progress, with_state, with_writer, Bool, ℕ, ⊤, ◌++◌, ◌∙◌, ◌∷◌, ◌≡◌}
+use Rattle.wasi_causes.proofs.Words.{made_to, Stop, Allows, Asks, Call, End, Entry, Err, ErrorCode, ErrorValue, HoldsAccept, HoldsConnect, IsAcceptOn, Item, Job, Kind, List, None, Ok, OpId, Operation, Option, Result, Socket, Some, GuestCall, Step, Streams, Tcp2, TcpRecord, Told, WasiSocketsCtx, WriteState, [], accept_ended, allows_if, allows_then, ap, arith, bind, bind_progress, connect_ended, entry, give_up_asks, inl, inr, is_full, kind_at, length, make_asks, name_of, new_asks, new_record, own_of, poll_asks, refl, side_at, side_of, subst, sym, told_done, turn_asks, with_handle, with_inner, with_listening, with_progress, with_state, with_writer, Bool, ℕ, ⊤, ◌++◌, ◌∙◌, ◌∷◌, ◌≡◌}
 use Rattle.wasi_tcp.specs.Connect as connect
 use Rattle.wasi_tcp.specs.Listen.{IsListen}
 use Rattle.wasi_tcp.specs.declared.listener.Accepting.TheVariants as accepting
@@ -30,9 +30,9 @@ use Rattle.wasi_walks.proofs.received.Polls.{AreSilent, Elsewhere, IsApart}
 use Rattle.wasi_walks.proofs.received.Silent.{WritesApart, accept_silent, bind_silent, cancelled_silent, connect_silent, given_up_silent, listen_silent, new_silent, send_silent, turn_silent, udp_bind_silent, udp_connect_silent}
 use Rattle.wasi_walks.proofs.remotes.State.{OpenKeeps, WritesBy}
 use Rattle.wasi_walks.proofs.walks.Moves as walk
-use Rattle.wasi_walks.proofs.walks.Moves.{Found, FoundUdp, HasNewStream, Held, Here, Marks, MarksNext, Move, StreamMoves, ToSend, ToStream, UdpPlain, joined, listen_after, part_of, put, put_udp, receive_op, receiving_in, send_op, sending_in, udp_begun}
+use Rattle.wasi_walks.proofs.walks.Moves.{Interface, tcp_kind, Found, FoundUdp, HasNewStream, Held, Here, Marks, MarksNext, Move, StreamMoves, ToSend, ToStream, UdpPlain, joined, listen_after, part_of, put, put_udp, receive_op, receiving_in, send_op, sending_in, udp_begun}
 use Rattle.wasi_causes.proofs.Slots.{SlotOf, slot_of}
-use Rattle.wasi_causes.proofs.StreamsLive.{IsOther}
+use Rattle.wasi_causes.proofs.StreamsLive.{IsOther, tcp_other}
 use Rattle.wasi_causes.proofs.StreamHandles.{apart_in, is_other, streams_law}
 use Rattle.wasi_causes.proofs.receiving.Along.{Along, HandName}
 use Rattle.wasi_causes.proofs.receiving.Named.{IsFirst, job_name, name_of_op, streams_name}
@@ -225,11 +225,11 @@ module _ (handle : ℕ) (list : List IncomingDatagram) (contexts : List WasiSock
         (marks_new es h b place n socket new.socket at new.new i))
 
     -- == what is created
-    pub joins : (es : List Entry) (h : Here) (own : OpId) (made : Result Socket ErrorCode) → Inv es h → Allows Anything (λ fs done. StreamIs handle list fs done.1.table done.1.store.records × IsFresh handle list done.1.table) es (created_asks h.machine own made)
-    joins es h own (Err c) i = i
-    joins es h own (Ok socket) i =
-        allows_then Anything (λ fs made. StreamIs handle list fs made.1 h.machine.store.records × IsFresh handle list made.1) (λ fs done. StreamIs handle list fs done.1.table done.1.store.records × IsFresh handle list done.1.table) es (make_asks h.machine.table own (Tcp2 (length h.machine.store.records)) None (side_of socket)) _
-        (marks_other es h own (Tcp2 (length h.machine.store.records)) None (side_of socket) tt i) (λ fs made k. (stream_push_tcp handle list fs made.1 h.machine.store.records (new_record socket) k.0, k.1))
+    pub joins : {T : Type 0} (tells : Result ℕ Stop → T) (fails : ErrorCode → T) (face : Interface) (es : List Entry) (h : Here) (own : OpId) (made : Result Socket ErrorCode) → Inv es h → Allows Anything (λ fs done. StreamIs handle list fs done.1.table done.1.store.records × IsFresh handle list done.1.table) es (made_to tells fails (tcp_kind face) h.machine own made)
+    joins tells fails face es h own (Err c) i = i
+    joins tells fails face es h own (Ok socket) i =
+        allows_then Anything (λ fs made. StreamIs handle list fs made.1 h.machine.store.records × IsFresh handle list made.1) (λ fs done. StreamIs handle list fs done.1.table done.1.store.records × IsFresh handle list done.1.table) es (make_asks h.machine.table own (tcp_kind face (length h.machine.store.records)) None (side_of socket)) _
+        (marks_other es h own (tcp_kind face (length h.machine.store.records)) None (side_of socket) (tcp_other face (length h.machine.store.records)) i) (λ fs made k. (stream_push_tcp handle list fs made.1 h.machine.store.records (new_record socket) k.0, k.1))
 
     pub begun : (es : List Entry) (h : Here) (made : Result Create ErrorCode) → Inv es h → Inv es (udp_begun h made)
     begun es h (Ok create) i = (stream_push handle list es h.machine.table h.machine.store.records (UdpRecord.Creating create) i.0, i.1)
@@ -274,7 +274,7 @@ module _ (handle : ℕ) (list : List IncomingDatagram) (contexts : List WasiSock
     exacts_asks es h _ _ _ (Learns place r x at g e) b i = (tt, λ told f. tcp _ h place r _ g (asked es h (own_of line) (Call.Local x) told tt i))
     exacts_asks es h _ _ _ (Closes place r x q g e) b i = (tt, λ told f. tcp _ h place r _ g (asked es h (own_of line) (Call.Close x) told tt i))
     exacts_asks es h _ _ _ (MarksOne kind parent sock m) b i = marks_other es h (own_of line) kind parent sock (is_other contexts line origin h kind parent sock m) i
-    exacts_asks es h _ _ _ (AsksCreate ctx family c a o m) b i = allows_then Anything (λ fs made. Inv fs h) (λ fs done. StreamIs handle list fs done.1.table done.1.store.records × IsFresh handle list done.1.table) es (new_asks (own_of line) ctx family) (created_asks h.machine (own_of line)) (silent es h (new_asks (own_of line) ctx family) (λ side Names. new_silent side ⊤ Names es (own_of line) ctx family) i) (λ fs made k. joins fs h (own_of line) made k)
+    exacts_asks es h _ _ _ (AsksCreate tells fails face ctx family c a o m) b i = allows_then Anything (λ fs made. Inv fs h) (λ fs done. StreamIs handle list fs done.1.table done.1.store.records × IsFresh handle list done.1.table) es (new_asks (own_of line) ctx family) (made_to tells fails (tcp_kind face) h.machine (own_of line)) (silent es h (new_asks (own_of line) ctx family) (λ side Names. new_silent side ⊤ Names es (own_of line) ctx family) i) (λ fs made k. joins tells fails face fs h (own_of line) made k)
     exacts_asks es h _ _ _ (MarksAccepted c s place r is e o g) b i = marks_other es h (own_of line) (Tcp2 place) (Some s) _ tt i
     exacts_asks es h _ _ _ (Polls op after k) b i = polls_exact es h op after k b i
     exacts_asks es h _ _ _ (Turns place r s g e) b i = quietly handle list contexts line origin h (λ done. tcp2_put h.machine.store.records place (with_writer r s done.1)) es (turn_asks s.writer) i (λ fs done p live st. tcp_at handle list fs h.machine.store.records place p r _ g st) (λ p live st. turn_silent st.socket.inner.side ⊤ (HandName (hand_of st.stream.receiving)) es s.writer (writer_apart es h b place r s g e p st))

@@ -142,8 +142,8 @@ module _ (contexts : List WasiSocketsCtx) (line : ℕ) (origin : Step) where
   becomes_apart h _ (UdpGivenUp place create q g) i = udp_other h place (UdpRecord.Creating create) _ g refl tt i
   becomes_apart h _ (UdpBegun ctx family r c u m) i = begun_apart h (udp_after_create (own_of line) ctx.name family r) i
   becomes_apart h _ (Resolved host records l same) i = same_apart line h.own h.machine.store.records records same i
-  becomes_apart h _ (Created ctx family c u m) i = created h _ refl i
-  becomes_apart h _ (CreatedWith ctx family c u m) i = created h _ refl i
+  becomes_apart h _ (Created face ctx family c u m) i = created h _ refl i
+  becomes_apart h _ (CreatedWith face ctx family c u m) i = created h _ refl i
   becomes_apart h _ (Writing _ (InCall place n r s half permit bytes at g e w within own)) i =
       used (put h place _) (put_tcp line h.own h.machine.store.records place _ refl i)
   becomes_apart h _ _ i = record { later = i.later; apart = i.apart; connects = i.connects; writes = i.writes; gives = i.gives }

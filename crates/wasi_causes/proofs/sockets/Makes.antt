@@ -1,6 +1,6 @@
 -- The steps that make handles of sockets and of streams: a network, a create, the finish of a connect, and an accept.
 use Rattle.wasi_causes.proofs.Words.{AcceptFailed, AcceptGives, AcceptWaits, Accepting, AcceptsAt, Answer, Bool, ClosedBy, Closes, Connection}
-use Rattle.wasi_causes.proofs.Words.{ConnectsAt, CreateRefusal, Done, End, Entry, Err, ErrorCode, FinishRefusal, Give, HandleTable}
+use Rattle.wasi_causes.proofs.Words.{ConnectsAt, Done, End, Entry, Err, ErrorCode, FinishRefusal, Give, HandleTable}
 use Rattle.wasi_causes.proofs.Words.{HasNoConnectInProgress, HoldsAccept, Input, InvalidState, IpSocketAddress, IsDoneOrCode, Item, List}
 use Rattle.wasi_causes.proofs.Words.{Listener, Listening, Machine, Network, NoConnect, NoListener, NoSuchHandle, None, NotAllowed}
 use Rattle.wasi_causes.proofs.Words.{Ok, OpId, Operation, Option, Output, Records, Refused, Result}
@@ -8,7 +8,7 @@ use Rattle.wasi_causes.proofs.Words.{Socket, SocketAddressFamily, Some, StillAcc
 use Rattle.wasi_causes.proofs.Words.{WasiSocketsCtx, [], accept_answered, accept_at, accept_end, accept_listening, accept_name, accept_on}
 use Rattle.wasi_causes.proofs.Words.{accepted_asks, accepted_handles, accepted_marks, accepted_record, accepted_socket, accepted_state}
 use Rattle.wasi_causes.proofs.Words.{accepted_streams, accepting_now, after_create, ap, append_assoc, arith, bind, code_stop, connect_ended}
-use Rattle.wasi_causes.proofs.Words.{connect_polled, context_at, create_asks, created_asks, entry, false}
+use Rattle.wasi_causes.proofs.Words.{connect_polled, context_at, create_asks, entry, false}
 use Rattle.wasi_causes.proofs.Words.{finish_in, first_ids, handle_reply, idle}
 use Rattle.wasi_causes.proofs.Words.{in_socket, inl, inr, is_connect, length, marks_in, marks_in-push, network_asks, new_asks, new_socket}
 use Rattle.wasi_causes.proofs.Words.{opened_receive, opened_send, own_of, pair_reply, record_at, refl, side_at, side_of}
@@ -19,9 +19,10 @@ use Rattle.wasi_causes.proofs.operations.Accepts.{AcceptRow, accepts}
 use Rattle.wasi_causes.proofs.operations.Marks.{poll_marks_none}
 use Rattle.wasi_causes.proofs.operations.Polls.{EndsFor, connect_ends}
 use Rattle.wasi_causes.proofs.tables.Meets.{Rows, Meets, ends, asks, chain, onto, branch, widen, both, granted}
-use Rattle.wasi_causes.proofs.tables.Routes.{Replied, Says, makes, full_so, code_word, makes_streams, Names, its, here, finds, calls, through_record, apart, none_has, not_of_code, put_back}
-use Rattle.wasi_causes.proofs.Words.{CodeWord}
-use Rattle.wasi_causes.specs.Outcomes.{OnlyWhere, Outcome}
+use Rattle.wasi_causes.proofs.tables.Routes.{Says, makes, full_so, code_word, makes_streams, Names, its, here, finds, calls, through_record, apart, none_has, not_of_code, put_back}
+use Rattle.wasi_causes.proofs.Words.{CreateFails, Full, Kind, create_to, is_full, made_to}
+use Rattle.wasi_host.specs.Machine.{code_told, same_told}
+use Rattle.wasi_causes.specs.Outcomes.{FullAfter, LeavesSocket, OnlyWhere, Outcome}
 use Rattle.wasi_causes.specs.Reached.{Finishes, FinishesAt, MayFinish}
 use Rattle.wasi_records.specs.Records.{tcp2_at, tcp2_put, tcp2_pushed}
 use Rattle.wasi_records.specs.declared.tcp_listening.Listening.TheVariants as listening
@@ -54,7 +55,7 @@ module _ (contexts : List WasiSocketsCtx) (m : Machine) (line c : ℕ) where
 
     abbrev SocketRow : Rows (Result Socket ErrorCode)
     SocketRow es (Ok socket) = (socket ≡ new_socket (own_of line) ctx.name family) × (es ≡ entry (own_of line) (call.TcpCreate ctx.name family) told.Done ∷ []) × (ctx.tcp ≡ true)
-    SocketRow es (Err code) = CreateRefusal (own_of line) ctx family es (word_of_code code)
+    SocketRow es (Err code) = CreateFails (own_of line) ctx family es code
 
     told_create : ctx.tcp ≡ true → (t : Told) → IsDoneOrCode t → SocketRow (entry (own_of line) (call.TcpCreate ctx.name family) t ∷ []) (after_create (own_of line) ctx.name family (told_done t))
     told_create tcp told.Done fits = (refl, refl, tcp)
@@ -66,24 +67,36 @@ module _ (contexts : List WasiSocketsCtx) (m : Machine) (line c : ℕ) where
     makes_socket = branch ctx.tcp (λ tcp. asks (λ t fits. ends (told_create tcp t fits))) (λ no. ends (NotAllowed no))
 
     -- nothing is asked where it may not use TCP
-    refused_at_once : {es : List Entry} {w : CodeWord} → ctx.tcp ≡ false → CreateRefusal (own_of line) ctx family es w → es ≡ []
-    refused_at_once denied (NotAllowed other) = refl
-    refused_at_once denied (ToldCode code tcp) = absurd (cc)
+    pub refused_at_once : {es : List Entry} {code : ErrorCode} → CreateFails (own_of line) ctx family es code → OnlyWhere ctx.tcp m es m
+    refused_at_once (NotAllowed other) denied = (refl, refl)
+    refused_at_once (ToldCode code tcp) denied = absurd (cc)
 
-    created : (es : List Entry) (made : Result Socket ErrorCode) → SocketRow es made → Meets (Replied contexts m line (step.Call c (guest.TcpCreate family)) handle_reply) es (created_asks m (own_of line) made)
-    created es (Err code) k = ends (λ denied. (refused_at_once denied k, refl), (code_word code, (k, refl)))
-    created es (Ok socket) k =
-        let with_it : Machine = record m { store = with_record m.store socket } in
-        onto _ (makes m.table (own_of line) (Tcp2 (length m.store.records)) None (side_of socket)
-        (λ full. (only, (tt, full_so m with_it es full refl (ap marks_in k.1), (full, k.1, ap (λ (made : Socket). let left : Machine = record m { store = with_record m.store made } in left) k.0))))
-        (only, ((tt, tt), tt)))
+    -- where its network socket was made it may use TCP
+    pub may_use : {es fs : List Entry} {socket : Socket} {after : Machine} → SocketRow es (Ok socket) → OnlyWhere ctx.tcp m fs after
+    may_use k denied = let may = k.2 in absurd (cc)
+
+    -- the record of the socket, and with a handle of this kind
+    abbrev with_its : Socket → Machine
+    with_its socket = record m { store = with_record m.store socket }
+
+    pub no_room : {es : List Entry} {socket : Socket} → SocketRow es (Ok socket) → is_full m.table ≡ true → FullAfter m es (with_its socket) × LeavesSocket m line ctx family es (with_its socket)
+    no_room {es} {socket} k full = (full_so m (with_its socket) es full refl (ap marks_in k.1), (full, k.1, ap with_its k.0))
+
+    -- a create of either interface: refused, with no room for the handle, and with it
+    pub creates : {T : Type 0} {Row : Rows (T × Machine)} (tells : Result ℕ Stop → T) (fails : ErrorCode → T) (kind : ℕ → Kind) → ((es : List Entry) (code : ErrorCode) → CreateFails (own_of line) ctx family es code → Row es (fails code, m))
+        → ((es : List Entry) (socket : Socket) → SocketRow es (Ok socket) → is_full m.table ≡ true → Row es (tells (Err (Trap Full)), with_its socket))
+        → ((es fs : List Entry) (socket : Socket) → SocketRow es (Ok socket) → Row fs (tells (Ok m.table.next), record m { table = with_handle m.table (kind (length m.store.records)) None; store = with_record m.store socket }))
+        → Meets Row [] (create_to tells fails kind m (own_of line) ctx family)
+    creates {T} {Row} tells fails kind refused full made = chain {Mid = SocketRow} makes_socket by_made
       where
-        -- it may use TCP
-        only : {fs : List Entry} {after : Machine} → OnlyWhere ctx.tcp m fs after
-        only denied = let may = k.2 in absurd (cc)
+        by_made : (es : List Entry) (made : Result Socket ErrorCode) → SocketRow es made → Meets Row es (made_to tells fails kind m (own_of line) made)
+        by_made es (Err code) k = ends (refused es code k)
+        by_made es (Ok socket) k = onto _ (makes m.table (own_of line) (kind (length m.store.records)) None (side_of socket) (λ none. full es socket k none) (made es _ socket k))
 
     pub create : Meets (Says contexts m line (step.Call c (guest.TcpCreate family))) [] (bind (create_asks m (own_of line) ctx family) (λ done. Give (handle_reply done.0, done.1)))
-    create = onto _ (chain {Mid = SocketRow} makes_socket created)
+    create =
+        onto _ (creates same_told code_told Tcp2 (λ es code k. (refused_at_once k, (code_word code, (record { code = code; is = refl; cause = k }, refl))))
+        (λ es socket k none. let left = no_room k none in (may_use k, (tt, left.0, left.1))) (λ es fs socket k. (may_use k, ((tt, tt), tt))))
 
 module _ (contexts : List WasiSocketsCtx) (m : Machine) (line c handle : ℕ) where
   abbrev own : OpId

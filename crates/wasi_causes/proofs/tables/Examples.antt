@@ -8,6 +8,8 @@ use Rattle.wasi_steps.specs.declared.reply.Reply.TheVariants as reply
 use Rattle.wasi_steps.specs.declared.guest_call.GuestCall.TheVariants as guest
 use Rattle.wasi_steps.specs.declared.step.Step.TheVariants as step
 use Rattle.wasi_causes.specs.Outcomes.{may_answer}
+use Rattle.wasi_causes.proofs.Words.{AccessDenied, CodeWord, ErrorCode, p3_word, subst, sym, word_of_code}
+use Rattle.wasi_world.specs.declared.call.Opt.{Opt}
 
 abbrev Never : ℕ → Step → Reply → Type 0
 Never line s r = may_answer line s r → ⊥
@@ -61,3 +63,26 @@ of_no_stream c h most n ds = (λ k. k, λ k. k, λ k. k, λ k. k, λ k. absurd (
 of_no_lookup : (c h n : ℕ) (name : List ℕ) → Never 7 (step.Call c (guest.Resolve h name)) (reply.Pending 7) × Never 7 (step.Call c (guest.Resolve h name)) (reply.Err word.WouldBlock) × Never 7 (step.Call c (guest.ResolveNext h)) (reply.Err word.InvalidArgument) × Never 7 (step.Call c (guest.ResolveNext h)) (reply.Trap Full)
     × Never 7 (step.Call c (guest.NetworkErrorCode h)) (reply.Err word.NameUnresolvable) × Never 7 (step.Call c (guest.NetworkErrorCode h)) (reply.Ok (field.Number n ∷ []))
 of_no_lookup c h n name = (λ k. k, λ k. elim k [ inl e ↦ absurd (cc) | inr f ↦ elim f [ inl e ↦ absurd (cc) | inr e ↦ absurd (cc) ] ], λ k. elim k [ inl e ↦ absurd (cc) | inr e ↦ absurd (cc) ], λ k. k, λ k. k, λ k. k.0)
+
+-- == 0.3 sockets
+abbrev IsKnown : CodeWord → Type 0
+IsKnown word.Unknown = ⊥
+IsKnown _ = Unit {0}
+
+known : (c : ErrorCode) → IsKnown (p3_word c)
+known AccessDenied = tt
+known _ = tt
+
+abbrev IsNotBroken : CodeWord → Type 0
+IsNotBroken word.ConnectionBroken = ⊥
+IsNotBroken _ = Unit {0}
+
+not_broken : (c : ErrorCode) → IsNotBroken (word_of_code c)
+not_broken AccessDenied = tt
+not_broken _ = tt
+
+-- a create of a 0.3 socket names no handle and isn't pending, its family is never refused, its address needs no room, and `unknown` is
+-- no word of 0.3, as `connection-broken` is none of 0.2
+of_no_p3 : (c s n : ℕ) (f : SocketAddressFamily) (o : Opt) → Never 7 (step.Call c (guest.P3TcpCreate f)) (reply.Trap NoSuchHandle) × Never 7 (step.Call c (guest.P3TcpCreate f)) (reply.Pending n) × Never 7 (step.Call c (guest.P3TcpAddressFamily s)) (reply.Err word.InvalidState) × Never 7 (step.Call c (guest.P3TcpLocalAddress s)) (reply.Trap Full)
+    × Never 7 (step.Call c (guest.P3TcpGet s o)) (reply.Err word.Unknown) × Never 7 (step.Call c (guest.TcpGet s o)) (reply.Err word.ConnectionBroken)
+of_no_p3 c s n f o = (λ h. h, λ h. h, λ h. h, λ h. h, λ h. subst IsKnown (sym h.is) (known h.code), λ h. subst IsNotBroken (sym h.is) (not_broken h.code))

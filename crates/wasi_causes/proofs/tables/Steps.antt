@@ -5,6 +5,7 @@ use Rattle.wasi_causes.proofs.Machine.{subscribe, ready}
 use Rattle.wasi_causes.proofs.Resumes.{poll}
 use Rattle.wasi_causes.proofs.sockets.Makes.{network, create, finish_connect_row, accept}
 use Rattle.wasi_causes.proofs.sockets.Questions.{get, set, local_address_row, remote_address_row, is_listens, family}
+use Rattle.wasi_causes.proofs.sockets.Tcp3.{p3_address_family, p3_create, p3_get, p3_is_listening, p3_local_address, p3_remote_address, p3_set}
 use Rattle.wasi_causes.proofs.sockets.Starts.{finish_bind, finish_listen, start_bind, start_connect, start_listen}
 use Rattle.wasi_causes.proofs.sockets.Udp.{udp_finish_bind, udp_local_address, udp_remote_address, udp_family, udp_get, udp_set}
 use Rattle.wasi_causes.proofs.sockets.UdpBinds.{udp_start_bind}
@@ -91,6 +92,13 @@ module _ (contexts : List WasiSocketsCtx) (m : Machine) (line : ℕ) where
   rows (step.Call c (guest.Subscribe h)) = subscribe contexts m line c h
   rows (step.Call c (guest.Ready p)) = ready contexts m line c p
   rows (step.Call c (guest.Drop h)) = drop contexts m line c h
+  rows (step.Call c (guest.P3TcpCreate family)) = p3_create contexts m line c family
+  rows (step.Call c (guest.P3TcpLocalAddress s)) = p3_local_address contexts m line c s
+  rows (step.Call c (guest.P3TcpRemoteAddress s)) = p3_remote_address contexts m line c s
+  rows (step.Call c (guest.P3TcpIsListening s)) = p3_is_listening contexts m line c s
+  rows (step.Call c (guest.P3TcpAddressFamily s)) = p3_address_family contexts m line c s
+  rows (step.Call c (guest.P3TcpGet s option)) = p3_get contexts m line c s option
+  rows (step.Call c (guest.P3TcpSet s setting)) = p3_set contexts m line c s setting
   rows step.Turn = turn m contexts line
   rows (step.Poll n) = poll contexts m line n
 
@@ -150,6 +158,7 @@ misses : (m : Machine) (s : Step) → MissesHandle m s → MayMiss s
 misses m (step.Call ctx guest.Network) h = h
 misses m (step.Call ctx (guest.TcpCreate _)) h = h
 misses m (step.Call ctx (guest.UdpCreate _)) h = h
+misses m (step.Call ctx (guest.P3TcpCreate _)) h = h
 misses m (step.Call ctx (guest.PipeIn _)) h = h
 misses m (step.Call ctx (guest.PipeOut _)) h = h
 misses m (step.Call ctx guest.Sink) h = h

@@ -7,7 +7,7 @@ use Rattle.wasi_tcp.specs.declared.socket.TcpState.TheVariants as state
 use Rattle.socket_common.specs.Rounds.{is_going, some_left}
 use Rattle.wasi_walks.proofs.claims.Law.{begins_on_names}
 use Rattle.wasi_walks.proofs.walks.Runs.{each_entry}
-use Rattle.wasi_laws.proofs.Words.{false, ErrorValue, BeginsWrites, Accepts, Allows, Asks, Base, BaseBetween, Begins, Call, End, Entry, Err, ErrorCode, FitListening, Found, HandleTable, Held, Here, HoldsAccept, IpSocketAddress, IsAcceptOn, IsDoneOrCode, Item, Job, Kind, Law, Left, List, Listener, Machine, Made, Move, None, Not, Ok, OpId, Operation, Option, Over, Own, Reply, Result, Socket, SocketAddressFamily, Some, Spends, Starts, Step, Streams, Tcp2, TcpRecord, Told, Unused, Used, Walks, WasiSocketsCtx, WriteState, [], after_create, allows_if, allows_then, allows_weaker, ap, base_over, base_starts, bind, closed_record, created_asks, entry, first_base, first_state, job_after, length, machine_asks, machine_walks, made_so, make_asks, may_while, new_asks, new_socket, on_along, on_names, own_of, poll_asks, put, refl, run, side_at, side_in, side_of, socket_of, subst, sym, told_addr, told_done, told_same, true, with_listening, with_writer, ℕ, ◌++◌, ◌+◌, ◌∙◌, ◌∷◌, ◌≡◌}
+use Rattle.wasi_laws.proofs.Words.{made_to, false, ErrorValue, BeginsWrites, Accepts, Allows, Asks, Base, BaseBetween, Begins, Call, End, Entry, Err, ErrorCode, FitListening, Found, HandleTable, Held, Here, HoldsAccept, IpSocketAddress, IsAcceptOn, IsDoneOrCode, Item, Job, Kind, Law, Left, List, Listener, Machine, Made, Move, None, Not, Ok, OpId, Operation, Option, Over, Own, Reply, Result, Socket, SocketAddressFamily, Some, Spends, Starts, Step, Streams, Tcp2, TcpRecord, Told, Unused, Used, Walks, WasiSocketsCtx, WriteState, [], after_create, allows_if, allows_then, allows_weaker, ap, base_over, base_starts, bind, closed_record, created_asks, entry, first_base, first_state, job_after, length, machine_asks, machine_walks, made_so, make_asks, may_while, new_asks, new_socket, on_along, on_names, own_of, poll_asks, put, refl, run, side_at, side_in, side_of, socket_of, subst, sym, told_addr, told_done, told_same, true, with_listening, with_writer, ℕ, ◌++◌, ◌+◌, ◌∙◌, ◌∷◌, ◌≡◌}
 use Rattle.wasi_walks.proofs.walks.Asked.{Asked, Questions, SetsBacklog, Learns, Closes, UdpQuestions, UdpLearns, UdpPeers, UdpCloses, UdpBegins, Resolves, Looks, MarksOne, MarksAccepted, MarksUdp, MarksStream, MarksError, AsksCreate, Polls, Turns, GivesUp, UdpGivesUp}
 use Rattle.wasi_walks.proofs.walks.Layers.{begins_layer, layer}
 use Rattle.wasi_walks.proofs.walks.OfState.{begins_state, creating, of_state}
@@ -29,7 +29,7 @@ use Rattle.wasi_udp.specs.Create.{Create, create_cancel_asks, new_create, after_
 use Rattle.wasi_udp.specs.Shape.{Socket as UdpShape}
 use Rattle.wasi_udp.specs.Socket.{after_local as udp_after_local, after_peer}
 use Rattle.wasi_walks.proofs.fits.UdpFits.{learnt_side}
-use Rattle.wasi_walks.proofs.walks.Moves.{Past, ToSend, put_udp, FoundUdp, part_of, udp_begun, with_records}
+use Rattle.wasi_walks.proofs.walks.Moves.{Interface, tcp_kind, Past, ToSend, put_udp, FoundUdp, part_of, udp_begun, with_records}
 
 -- a close of this network socket leaves the record so
 pub data Closing (r : TcpRecord) : TcpRecord → OpId → Type 0 where
@@ -109,12 +109,12 @@ module _ (contexts : List WasiSocketsCtx) (line : ℕ) (origin : Step) where
         by_told (told.Code c) f = x.1 (told.Code c)
         by_told _ f = absurd f
 
-    joins : (fs : List Entry) (h : Here) (ctx : WasiSocketsCtx) (family : SocketAddressFamily) (made : Result Socket ErrorCode) → h.own ≡ Unused → Created h ctx family fs made → Grounds h → Allows P (λ gs done. Inv gs (record h { machine = done.1; own = Used })) fs (created_asks h.machine (own_of line) made)
-    joins fs h ctx family (Err c) u k b = a.moves fs h _ (Spends h u) b k
-    joins fs h ctx family (Ok socket) u k b =
-        subst (λ (x : Socket). Allows P (λ gs done. Inv gs (record h { machine = done.1; own = Used })) fs (created_asks h.machine (own_of line) (Ok x))) (sym k.0)
-        (let now = creating h (own_of line) ctx family in allows_then P (λ gs made. Inv gs now) (λ gs done. Inv gs (record h { machine = done.1; own = Used })) fs (make_asks h.machine.table (own_of line) (Tcp2 (length h.machine.store.records)) None (Some (own_of line))) _
-        (marked fs now (Tcp2 (length h.machine.store.records)) None (Some (own_of line)) k.1) (λ gs made i. a.tables gs now made.1 h.made i))
+    joins : {T : Type 0} (tells : Result ℕ Stop → T) (fails : ErrorCode → T) (face : Interface) (fs : List Entry) (h : Here) (ctx : WasiSocketsCtx) (family : SocketAddressFamily) (made : Result Socket ErrorCode) → h.own ≡ Unused → Created h ctx family fs made → Grounds h → Allows P (λ gs done. Inv gs (record h { machine = done.1; own = Used })) fs (made_to tells fails (tcp_kind face) h.machine (own_of line) made)
+    joins tells fails face fs h ctx family (Err c) u k b = a.moves fs h _ (Spends h u) b k
+    joins tells fails face fs h ctx family (Ok socket) u k b =
+        subst (λ (x : Socket). Allows P (λ gs done. Inv gs (record h { machine = done.1; own = Used })) fs (made_to tells fails (tcp_kind face) h.machine (own_of line) (Ok x))) (sym k.0)
+        (let now = creating h (own_of line) ctx family in allows_then P (λ gs made. Inv gs now) (λ gs done. Inv gs (record h { machine = done.1; own = Used })) fs (make_asks h.machine.table (own_of line) (tcp_kind face (length h.machine.store.records)) None (Some (own_of line))) _
+        (marked fs now (tcp_kind face (length h.machine.store.records)) None (Some (own_of line)) k.1) (λ gs made i. a.tables gs now made.1 h.made i))
 
     -- a listening that is released
     undoes : (es : List Entry) (h : Here) (place : ℕ) (r : TcpRecord) (op : OpId) (c : Call) → Found h place r → Undoes r.listening op c → Grounds h → Inv es h → Then P (λ fs. Inv fs (put h place (with_listening r Not))) es op c
@@ -160,7 +160,7 @@ module _ (contexts : List WasiSocketsCtx) (line : ℕ) (origin : Step) where
     single_asks es h _ _ _ (MarksUdp place u g) b i = made_by es h (udp_side u) (Udp2 place) None (Some (udp_side u)) (λ made. Past) i
     single_asks es h _ _ _ (MarksStream place n handle reached kind m new e) b i = made_by es h (own_of n) kind (Some handle) (udp_side_at (udp2_at h.machine.store.records place)) (λ made. ToSend n handle reached) i
     single_asks es h _ _ _ (MarksError n handle place handles m k e f) b i = made_by es h (own_of n) ErrorValue (Some handle) (side_at (tcp2_at h.machine.store.records place)) (λ made. h.made) i
-    single_asks es h _ _ _ (AsksCreate ctx family c at u m) b i = allows_then P (Created h ctx family) (λ fs done. Inv fs (record h { machine = done.1; own = Used })) es (new_asks (own_of line) ctx family) (created_asks h.machine (own_of line)) (created es h ctx family u b i) (λ fs made k. joins fs h ctx family made u k b)
+    single_asks es h _ _ _ (AsksCreate tells fails face ctx family c at u m) b i = allows_then P (Created h ctx family) (λ fs done. Inv fs (record h { machine = done.1; own = Used })) es (new_asks (own_of line) ctx family) (made_to tells fails (tcp_kind face) h.machine (own_of line)) (created es h ctx family u b i) (λ fs made k. joins tells fails face fs h ctx family made u k b)
     single_asks es h _ _ _ (Polls op after k) b i = a.polls es h op after k b i
     single_asks es h _ _ _ (Turns place r s g e) b i = turns_by P (λ fs w. Inv fs (put h place (with_writer r s w))) es s.writer (a.same es h place r (with_writer r s s.writer) g (record { side = refl; streams = sym e; listening = refl; does = refl; doing = refl }) i) (λ job now on. a.turns es h place r s job now g e on b i)
     single_asks es h _ _ _ (GivesUp place r q g) b i = gives_up_by P (λ fs. Inv fs (put h place (with_listening r Not))) es (a.stops es h place r g i) r.inner.state r.listening (b.1 place r g).1 (λ op c u. undoes es h place r op c g u b i)

@@ -188,8 +188,8 @@ module _ (contexts : List WasiSocketsCtx) (line : ℕ) (origin : Step) where
   becomes_shape h _ (UdpGivenUp place create q g) i = udp_shape h place _ i
   becomes_shape h _ (UdpBegun ctx family r c u m) i = begun_shape h _ i
   becomes_shape h _ (Resolved host records l s) i = lookup_shape h records (sockets_stay s) i
-  becomes_shape h _ (Created ctx family c u m) i = push_shape h.machine.store.records _ (tt, tt) i
-  becomes_shape h _ (CreatedWith ctx family c u m) i = push_shape h.machine.store.records _ (tt, tt) i
+  becomes_shape h _ (Created face ctx family c u m) i = push_shape h.machine.store.records _ (tt, tt) i
+  becomes_shape h _ (CreatedWith face ctx family c u m) i = push_shape h.machine.store.records _ (tt, tt) i
   becomes_shape h _ (Writing _ (InCall place n r s half permit bytes at g e w within used)) i = write_shape h place n r s half permit bytes g e w i
   becomes_shape h _ _ i = i
 

@@ -387,8 +387,8 @@ module _ (contexts : List WasiSocketsCtx) (line : ℕ) (origin : Step) where
       put_udp_fit h place (UdpRecord.Creating create) (UdpRecord.Closed create.operation.who.side) g (inl q) tt i
   becomes_fit h _ (UdpBegun ctx family r c u m) i = begun_fits h (own_of line) ctx.name family r i
   becomes_fit h _ (Resolved host records l s) i = records_fit h records s i
-  becomes_fit h _ (Created ctx family c u m) i = created_fit h (own_of line) ctx family i
-  becomes_fit h _ (CreatedWith ctx family c u m) i =
+  becomes_fit h _ (Created face ctx family c u m) i = created_fit h (own_of line) ctx family i
+  becomes_fit h _ (CreatedWith face ctx family c u m) i =
       let j = created_fit h (own_of line) ctx family i in
       record { records = j.records; udps = j.udps; stands = j.stands }
   becomes_fit h _ (Writing _ (InCall place n r s half permit bytes at g e w within used)) i =

@@ -72,4 +72,4 @@ module _ (contexts : List WasiSocketsCtx) (steps : List Step) (line : ℕ) (orig
       let named : Has (handles_of b.origin) handle = subst (λ (xs : List ℕ). Has xs handle) (sym b.holds.1) k in
       let r = names_record es h.machine.store.records handle place (kind_at h.machine.table handle) e (i.fine.handles handle) in
       let w : IsMarkedWith es handle sock = subst (IsMarkedWith es handle) (sym (ap side_at r.at)) r.marked in
-      mark_fine contexts steps line origin is_line es h (own_of n) ErrorValue (Some handle) sock (record { origin = b.origin; at = b.at; holds = error_mark es (own_of n) handle sock w (has_failed es h n handle place f i) b.origin b.holds.0 named }) (not_accept n handles b) (λ p. absurd (cc)) (λ t. (tt, tt, tt)) i
+      mark_fine contexts steps line origin is_line es h (own_of n) ErrorValue (Some handle) sock (record { origin = b.origin; at = b.at; holds = error_mark es (own_of n) handle sock w (has_failed es h n handle place f i) b.origin b.holds.0 named }) (not_accept n handles b) (λ p. elim p [ inl q ↦ cc | inr q ↦ cc ]) (λ t. (tt, tt, tt)) i

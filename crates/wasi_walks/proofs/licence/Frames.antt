@@ -16,7 +16,9 @@ use Rattle.wasi_tcp.specs.declared.writer.WriteError.{WriteError}
 use Rattle.wasi_world.specs.Operation.{End, Refused}
 use Rattle.wasi_walks.proofs.licence.State.{NamesRecord, EndTold, ErrorTold, KnowsMaker, BindLeft, Whole, Checked, Over, ConnectLeft, Unbound, Unchecked, Allowed, ToClose, Ended, Names, WorksOn, BindIsFine, ConnectIsFine, JobIsFine, WritesOn, IsConnectedOn, StreamsAreFine, ListeningStands, accept_name, AcceptIsFine, AcceptingIsFine, ListeningIsFine, ProgressIsFine, SocketIsFine, RecordIsFine, LastAccept, AcceptLeft, Unarrived, ToCheck, AcceptingStands, name_in, OneHolds}
 use Rattle.wasi_walks.proofs.walks.Moves.{KeepsBinding}
-use Rattle.wasi_world.specs.declared.call.HandleKind.TheVariants.{Tcp2}
+use Rattle.wasi_world.specs.declared.call.HandleKind.{HandleKind}
+use Rattle.wasi_world.specs.declared.call.HandleKind.TheVariants.{Tcp2, Tcp3}
+use Rattle.wasi_walks.specs.Licence.{IsTcpName}
 use Rattle.wasi_walks.specs.Licence.{UdpCreated}
 use Rattle.wasi_walks.proofs.Places.{push_new, put_found, put_stays, tcp_sort}
 
@@ -26,6 +28,7 @@ abbrev pub Touches : OpId → Call → OpId → Type 0
 Touches op (Accept side) x = op ≡ x
 Touches op (Hand side peer) x = op ≡ x
 Touches op (Made handle Tcp2 parent (Some side)) x = side ≡ x
+Touches op (Made handle Tcp3 parent (Some side)) x = side ≡ x
 Touches op _ x = ⊥
 
 -- the call touches no accept of these records
@@ -49,18 +52,23 @@ handed_unless es op c told x h n l p t i = elim (has_split es (entry op c told) 
 ]
 
 pub unmarked_unless : (es : List Entry) (op : OpId) (c : Call) (told : Told) (x : OpId) → MarksNoSocket es x → (marked_by c ≡ 0) → MarksNoSocket (es ++ entry op c told ∷ []) x
-unmarked_unless es op c told x h n o handle parent t i = elim (has_split es (entry op c told) (entry o (Made handle Tcp2 parent (Some x)) t) i) [
-  | inl j ↦ h o handle parent t j
-  | inr e ↦ absurd (let p = ap marked_by (call_of (entry op c told) (entry o (Made handle Tcp2 parent (Some x)) t) e) in omega arith)
+unmarked_unless es op c told x h n o handle name parent t is i = elim (has_split es (entry op c told) (entry o (Made handle name parent (Some x)) t) i) [
+  | inl j ↦ h o handle name parent t is j
+  | inr e ↦ absurd (let p = ap marked_by (call_of (entry op c told) (entry o (Made handle name parent (Some x)) t) e) in omega arith)
 ]
+
+-- the mark of a TCP socket touches its network socket
+pub touched : (op x : OpId) (handle : ℕ) (name : HandleKind) (parent : Option ℕ) → IsTcpName name → Touches op (Made handle name parent (Some x)) x
+touched op x handle name parent (inl e) = subst (λ (k : HandleKind). Touches op (Made handle k parent (Some x)) x) (sym e) refl
+touched op x handle name parent (inr e) = subst (λ (k : HandleKind). Touches op (Made handle k parent (Some x)) x) (sym e) refl
 
 pub handed_more : (es : List Entry) (op : OpId) (c : Call) (told : Told) (x : OpId) → HandedNone es x → (Touches op c x → ⊥) → HandedNone (es ++ entry op c told ∷ []) x
 handed_more es op c told x h n = handed_unless es op c told x h (λ l p o e. n (touches_by op c (Hand l p) x e o))
 
 pub unmarked_more : (es : List Entry) (op : OpId) (c : Call) (told : Told) (x : OpId) → MarksNoSocket es x → (Touches op c x → ⊥) → MarksNoSocket (es ++ entry op c told ∷ []) x
-unmarked_more es op c told x h n o handle parent t i = elim (has_split es (entry op c told) (entry o (Made handle Tcp2 parent (Some x)) t) i) [
-  | inl j ↦ h o handle parent t j
-  | inr e ↦ n (touches_by op c (Made handle Tcp2 parent (Some x)) x (call_of (entry op c told) (entry o (Made handle Tcp2 parent (Some x)) t) e) refl)
+unmarked_more es op c told x h n o handle name parent t is i = elim (has_split es (entry op c told) (entry o (Made handle name parent (Some x)) t) i) [
+  | inl j ↦ h o handle name parent t is j
+  | inr e ↦ n (touches_by op c (Made handle name parent (Some x)) x (call_of (entry op c told) (entry o (Made handle name parent (Some x)) t) e) (touched op x handle name parent is))
 ]
 
 pub last_more : (es : List Entry) (op : OpId) (c : Call) (told : Told) (x side : OpId) (peer : IpSocketAddress) → LastAccept es x side peer → (Touches op c x → ⊥) → LastAccept (es ++ entry op c told ∷ []) x side peer

@@ -7,7 +7,7 @@ use Rattle.wasi_walks.proofs.Words.{marked_by, slice_get, step_at, subst, suc, s
 use Rattle.wasi_walks.proofs.Lists.{Cut, cut_of, has_front, has_split}
 use Rattle.wasi_walks.proofs.licence.State.{name_in, accept_name, AcceptingIsFine, ListeningIsFine, StateIsFine}
 use Rattle.wasi_walks.proofs.licence.Frames.{Spared, Free}
-use Rattle.wasi_walks.specs.Licence.{UdpCreated}
+use Rattle.wasi_walks.specs.Licence.{IsTcpName, UdpCreated}
 use Rattle.wasi_world.specs.declared.call.HandleKind.TheVariants as name
 use Rattle.wasi_records.specs.declared.records.Record.{Record}
 
@@ -82,43 +82,48 @@ module _ (contexts : List WasiSocketsCtx) (steps : List Step) where
     made_below op handle kind parent sock t i = began_below op _ (may_at _ (cut_of log _ i)).1
 
     -- the network socket in a socket's mark is of its own line, or was handed over
-    marked_below : (op : OpId) (parent : Option ℕ) (x : OpId) (c : Entry) (k : Cut log c) (s : Step) → op.step ≤ length steps → IsMarkOf k.front op name.Tcp2 parent (Some x) s → x.step ≤ length steps
-    marked_below op parent x c k (Step.Call ctx GuestCall.Network) b m = absurd (let e = m.0 in cc)
-    marked_below op parent x c k (Step.Call ctx (GuestCall.TcpCreate family)) b m = let e : x ≡ op = (let q = m.2 in cc) in subst (λ (o : OpId). o.step ≤ length steps) (sym e) b
-    marked_below op parent x c k (Step.Call ctx (GuestCall.UdpCreate family)) b m = absurd (let e = m.0 in cc)
-    marked_below op parent x c k (Step.Call ctx (GuestCall.TcpAccept socket)) b (inl m) =
+    no_tcp : (its other : HandleKind) → IsTcpName its → its ≡ other → (other ≡ name.Tcp2 → ⊥) → (other ≡ name.Tcp3 → ⊥) → ⊥
+    no_tcp its other (inl is) e two three = two (sym e ∙ is)
+    no_tcp its other (inr is) e two three = three (sym e ∙ is)
+
+    marked_below : (its : HandleKind) → IsTcpName its → (op : OpId) (parent : Option ℕ) (x : OpId) (c : Entry) (k : Cut log c) (s : Step) → op.step ≤ length steps → IsMarkOf k.front op its parent (Some x) s → x.step ≤ length steps
+    marked_below its is op parent x c k (Step.Call ctx GuestCall.Network) b m = absurd (no_tcp its _ is m.0 (λ e. cc) (λ e. cc))
+    marked_below its is op parent x c k (Step.Call ctx (GuestCall.TcpCreate family)) b m = let e : x ≡ op = (let q = m.2 in cc) in subst (λ (o : OpId). o.step ≤ length steps) (sym e) b
+    marked_below its is op parent x c k (Step.Call ctx (GuestCall.P3TcpCreate family)) b m = let e : x ≡ op = (let q = m.2 in cc) in subst (λ (o : OpId). o.step ≤ length steps) (sym e) b
+    marked_below its is op parent x c k (Step.Call ctx (GuestCall.UdpCreate family)) b m = absurd (no_tcp its _ is m.0 (λ e. cc) (λ e. cc))
+    marked_below its is op parent x c k (Step.Call ctx (GuestCall.TcpAccept socket)) b (inl m) =
         let e : m.accept ≡ x = (let q = m.side in cc) in
         subst (λ (o : OpId). o.step ≤ length steps) e (handed_below m.accept m.on m.peer m.told (front_in c _ k m.handed))
-    marked_below op parent x c k (Step.Call ctx (GuestCall.TcpAccept socket)) b (inr m) = absurd (elim m.stream [ inl e ↦ cc | inr e ↦ cc ])
-    marked_below op parent x c k (Step.Call ctx (GuestCall.TcpFinishConnect socket)) b m = absurd (elim m.0 [ inl e ↦ cc | inr e ↦ cc ])
-    marked_below op parent x c k (Step.Call ctx (GuestCall.PipeIn bytes)) b m = absurd (let e = m.0 in cc)
-    marked_below op parent x c k (Step.Call ctx (GuestCall.PipeOut capacity)) b m = absurd (let e = m.0 in cc)
-    marked_below op parent x c k (Step.Call ctx GuestCall.Sink) b m = absurd (let e = m.0 in cc)
-    marked_below op parent x c k (Step.Call ctx GuestCall.ClosedIn) b m = absurd (let e = m.0 in cc)
-    marked_below op parent x c k (Step.Call ctx GuestCall.ClosedOut) b m = absurd (let e = m.0 in cc)
-    marked_below op parent x c k (Step.Call ctx (GuestCall.Read input len)) b m = absurd (let e = m.0 in cc)
-    marked_below op parent x c k (Step.Call ctx (GuestCall.Skip input len)) b m = absurd (let e = m.0 in cc)
-    marked_below op parent x c k (Step.Call ctx (GuestCall.CheckWrite output)) b m = absurd (let e = m.0 in cc)
-    marked_below op parent x c k (Step.Call ctx (GuestCall.Write output bytes)) b m = absurd (let e = m.0 in cc)
-    marked_below op parent x c k (Step.Call ctx (GuestCall.WriteZeroes output len)) b m = absurd (let e = m.0 in cc)
-    marked_below op parent x c k (Step.Call ctx (GuestCall.Flush output)) b m = absurd (let e = m.0 in cc)
-    marked_below op parent x c k (Step.Call ctx (GuestCall.BlockingRead input len)) b m = absurd (let e = m.0 in cc)
-    marked_below op parent x c k (Step.Call ctx (GuestCall.BlockingSkip input len)) b m = absurd (let e = m.0 in cc)
-    marked_below op parent x c k (Step.Call ctx (GuestCall.BlockingWrite output bytes)) b m = absurd (let e = m.0 in cc)
-    marked_below op parent x c k (Step.Call ctx (GuestCall.BlockingZeroes output len)) b m = absurd (let e = m.0 in cc)
-    marked_below op parent x c k (Step.Call ctx (GuestCall.BlockingFlush output)) b m = absurd (let e = m.0 in cc)
-    marked_below op parent x c k (Step.Call ctx (GuestCall.Splice output input len)) b m = absurd (elim m [ inl e ↦ (let k = e.0 in cc) | inr e ↦ (let k = e.0 in cc) ])
-    marked_below op parent x c k (Step.Call ctx (GuestCall.BlockingSplice output input len)) b m = absurd (elim m [ inl e ↦ (let k = e.0 in cc) | inr e ↦ (let k = e.0 in cc) ])
-    marked_below op parent x c k (Step.Call ctx (GuestCall.Resolve network host)) b m = absurd (let e = m.0 in cc)
-    marked_below op parent x c k (Step.Call ctx (GuestCall.Subscribe handle)) b m = absurd (let e = m.0 in cc)
-    marked_below op parent x c k (Step.Call ctx (GuestCall.UdpStream socket remote)) b m = absurd (elim m.0 [ inl e ↦ cc | inr e ↦ cc ])
-    marked_below op parent x c k _ b m = absurd m
+    marked_below its is op parent x c k (Step.Call ctx (GuestCall.TcpAccept socket)) b (inr m) = absurd (elim m.stream [ inl e ↦ no_tcp its _ is e (λ q. cc) (λ q. cc) | inr e ↦ no_tcp its _ is e (λ q. cc) (λ q. cc) ])
+    marked_below its is op parent x c k (Step.Call ctx (GuestCall.TcpFinishConnect socket)) b m = absurd (elim m.0 [ inl e ↦ no_tcp its _ is e (λ q. cc) (λ q. cc) | inr e ↦ no_tcp its _ is e (λ q. cc) (λ q. cc) ])
+    marked_below its is op parent x c k (Step.Call ctx (GuestCall.PipeIn bytes)) b m = absurd (no_tcp its _ is m.0 (λ e. cc) (λ e. cc))
+    marked_below its is op parent x c k (Step.Call ctx (GuestCall.PipeOut capacity)) b m = absurd (no_tcp its _ is m.0 (λ e. cc) (λ e. cc))
+    marked_below its is op parent x c k (Step.Call ctx GuestCall.Sink) b m = absurd (no_tcp its _ is m.0 (λ e. cc) (λ e. cc))
+    marked_below its is op parent x c k (Step.Call ctx GuestCall.ClosedIn) b m = absurd (no_tcp its _ is m.0 (λ e. cc) (λ e. cc))
+    marked_below its is op parent x c k (Step.Call ctx GuestCall.ClosedOut) b m = absurd (no_tcp its _ is m.0 (λ e. cc) (λ e. cc))
+    marked_below its is op parent x c k (Step.Call ctx (GuestCall.Read input len)) b m = absurd (no_tcp its _ is m.0 (λ e. cc) (λ e. cc))
+    marked_below its is op parent x c k (Step.Call ctx (GuestCall.Skip input len)) b m = absurd (no_tcp its _ is m.0 (λ e. cc) (λ e. cc))
+    marked_below its is op parent x c k (Step.Call ctx (GuestCall.CheckWrite output)) b m = absurd (no_tcp its _ is m.0 (λ e. cc) (λ e. cc))
+    marked_below its is op parent x c k (Step.Call ctx (GuestCall.Write output bytes)) b m = absurd (no_tcp its _ is m.0 (λ e. cc) (λ e. cc))
+    marked_below its is op parent x c k (Step.Call ctx (GuestCall.WriteZeroes output len)) b m = absurd (no_tcp its _ is m.0 (λ e. cc) (λ e. cc))
+    marked_below its is op parent x c k (Step.Call ctx (GuestCall.Flush output)) b m = absurd (no_tcp its _ is m.0 (λ e. cc) (λ e. cc))
+    marked_below its is op parent x c k (Step.Call ctx (GuestCall.BlockingRead input len)) b m = absurd (no_tcp its _ is m.0 (λ e. cc) (λ e. cc))
+    marked_below its is op parent x c k (Step.Call ctx (GuestCall.BlockingSkip input len)) b m = absurd (no_tcp its _ is m.0 (λ e. cc) (λ e. cc))
+    marked_below its is op parent x c k (Step.Call ctx (GuestCall.BlockingWrite output bytes)) b m = absurd (no_tcp its _ is m.0 (λ e. cc) (λ e. cc))
+    marked_below its is op parent x c k (Step.Call ctx (GuestCall.BlockingZeroes output len)) b m = absurd (no_tcp its _ is m.0 (λ e. cc) (λ e. cc))
+    marked_below its is op parent x c k (Step.Call ctx (GuestCall.BlockingFlush output)) b m = absurd (no_tcp its _ is m.0 (λ e. cc) (λ e. cc))
+    marked_below its is op parent x c k (Step.Call ctx (GuestCall.Splice output input len)) b m = absurd (elim m [ inl e ↦ no_tcp its _ is e.0 (λ q. cc) (λ q. cc) | inr e ↦ no_tcp its _ is e.0 (λ q. cc) (λ q. cc) ])
+    marked_below its is op parent x c k (Step.Call ctx (GuestCall.BlockingSplice output input len)) b m = absurd (elim m [ inl e ↦ no_tcp its _ is e.0 (λ q. cc) (λ q. cc) | inr e ↦ no_tcp its _ is e.0 (λ q. cc) (λ q. cc) ])
+    marked_below its is op parent x c k (Step.Call ctx (GuestCall.Resolve network host)) b m = absurd (no_tcp its _ is m.0 (λ e. cc) (λ e. cc))
+    marked_below its is op parent x c k (Step.Call ctx (GuestCall.Subscribe handle)) b m = absurd (no_tcp its _ is m.0 (λ e. cc) (λ e. cc))
+    marked_below its is op parent x c k (Step.Call ctx (GuestCall.UdpStream socket remote)) b m = absurd (elim m.0 [ inl e ↦ no_tcp its _ is e (λ q. cc) (λ q. cc) | inr e ↦ no_tcp its _ is e (λ q. cc) (λ q. cc) ])
+    marked_below its is op parent x c k _ b m = absurd m
 
-    socket_below : (op : OpId) (handle : ℕ) (parent : Option ℕ) (x : OpId) (t : Told) → Has log (entry op (Call.Made handle name.Tcp2 parent (Some x)) t) → x.step ≤ length steps
-    socket_below op handle parent x t i =
-        let c = cut_of log (entry op (Call.Made handle name.Tcp2 parent (Some x)) t) i in
+    socket_below : (op : OpId) (handle : ℕ) (its : HandleKind) → IsTcpName its → (parent : Option ℕ) (x : OpId) (t : Told) → Has log (entry op (Call.Made handle its parent (Some x)) t) → x.step ≤ length steps
+    socket_below op handle its is parent x t i =
+        let c = cut_of log (entry op (Call.Made handle its parent (Some x)) t) i in
         let may = may_at _ c in
-        marked_below op parent x (entry op (Call.Made handle name.Tcp2 parent (Some x)) t) c may.1.origin (made_below op handle name.Tcp2 parent (Some x) t i) may.1.holds
+        marked_below its is op parent x (entry op (Call.Made handle its parent (Some x)) t) c may.1.origin (made_below op handle its parent (Some x) t i) may.1.holds
 
     -- an accept in a record has the name of an earlier line
     name_below : (side : OpId) (maker : ℕ) (a : Accepting) (x : OpId) → AcceptingIsFine steps log side maker a → name_in a ≡ Some x → x.step ≤ length steps
@@ -133,7 +138,7 @@ module _ (contexts : List WasiSocketsCtx) (steps : List Step) where
     pub next_is_new : (m : Machine) → StateIsFine contexts steps log m → IsNew log m.store.records (length steps + 1)
     next_is_new m f = record {
       handed = λ x e l p t i. let k = handed_below x l p t i in omega arith;
-      marked = λ x e o handle parent t i. let k = socket_below o handle parent x t i in omega arith;
+      marked = λ x e o handle its parent t is i. let k = socket_below o handle its is parent x t i in omega arith;
       made = λ x e handle kind above side t i. let k = made_below x handle kind above side t i in omega arith;
       free = λ x e place r g n. let k = listening_below r.side r.listening x (f.records place r g).listening n in omega arith;
     }

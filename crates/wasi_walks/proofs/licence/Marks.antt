@@ -1,7 +1,7 @@
 -- A create is licensed, and so are the marks of handles; and what they make fits.
 use Rattle.wasi_walks.proofs.walks.States.{IsPlain, makes_plain}
-use Rattle.wasi_walks.proofs.walks.Moves.{record_of}
-use Rattle.wasi_walks.proofs.Words.{Allows, BeganBy, Call, Created, Entry, Err, ErrorCode, HandleKind, Has, Input, IsDoneOrCode, IsMaker}
+use Rattle.wasi_walks.proofs.walks.Moves.{OfP2, OfP3, Interface, tcp_kind, record_of}
+use Rattle.wasi_walks.proofs.Words.{made_to, handle_to, Stop, Allows, BeganBy, Call, Created, Entry, Err, ErrorCode, HandleKind, Has, Input, IsDoneOrCode, IsMaker}
 use Rattle.wasi_walks.proofs.Words.{IsMarkOf, IsMarkedWith, IsSide, IsTcpCreate, Kind, List, MarksNoSocket, MayAsk, MayUseTcp, Network, None, Ok}
 use Rattle.wasi_walks.proofs.Words.{OpId, Option, Output, Pollable, Result, Socket, SocketAddressFamily, Some, GuestCall, Step, Tcp2, TcpRecord, TcpState, Told}
 use Rattle.wasi_walks.proofs.Words.{WasiSocketsCtx, [], after_create, allows_if, allows_then, ap, bind, context_in, create_handle, created_asks}
@@ -11,7 +11,7 @@ use Rattle.wasi_walks.proofs.claims.Law.{Named, fresh}
 use Rattle.wasi_walks.proofs.walks.Here.{IsToCome}
 use Rattle.wasi_walks.proofs.walks.Moves.{Own, Used, Unused, Marks, ANetwork, AStream, ALookup, ALookupPollable, APlain, APlainPollable, MakesPlain, Here, Found, Joined, Marked, made_so, APollable, AUdpPollable, tcp_place, udp_place, FoundUdp, AnAcceptedStream, Creates, Past}
 use Rattle.wasi_walks.proofs.Lists.{has_last, has_split, has_front}
-use Rattle.wasi_walks.specs.Licence.{MakesTcp}
+use Rattle.wasi_walks.specs.Licence.{IsTcpName, MakesTcp}
 use Rattle.wasi_walks.proofs.licence.State.{accept_name, NamesRecord, NamesUdp, HandleIsFine, NamesItsOwn, SocketIsFine}
 use Rattle.wasi_walks.proofs.licence.Frames.{Touches, Spared, handed_unless, stay, same_record, names_on}
 use Rattle.wasi_walks.proofs.licence.States.{state_made, state_push}
@@ -35,17 +35,17 @@ not_used e = absurd (cc)
 
 module _ (contexts : List WasiSocketsCtx) (steps : List Step) (line : ℕ) (origin : Step) (is_line : step_at steps line ≡ Some origin) where
   -- == marks
-  pub unmarked_made : (es : List Entry) (op : OpId) (n : ℕ) (k : HandleKind) (parent : Option ℕ) (sock : Option OpId) (t : Told) (x : OpId) → MarksNoSocket es x → (k ≡ name.Tcp2 → sock ≡ Some x → ⊥) → MarksNoSocket (es ++ entry op (Call.Made n k parent sock) t ∷ []) x
-  unmarked_made es op n k parent sock t x m f o handle above u i = elim (has_split es (entry op (Call.Made n k parent sock) t) (entry o (Call.Made handle name.Tcp2 above (Some x)) u) i) [
-    | inl j ↦ m o handle above u j
-    | inr e ↦ (let p = ap (λ (y : Entry). y.call) e in let a : k ≡ name.Tcp2 = cc in let b : sock ≡ Some x = cc in f a b)
+  pub unmarked_made : (es : List Entry) (op : OpId) (n : ℕ) (k : HandleKind) (parent : Option ℕ) (sock : Option OpId) (t : Told) (x : OpId) → MarksNoSocket es x → (IsTcpName k → sock ≡ Some x → ⊥) → MarksNoSocket (es ++ entry op (Call.Made n k parent sock) t ∷ []) x
+  unmarked_made es op n k parent sock t x m f o handle its above u is i = elim (has_split es (entry op (Call.Made n k parent sock) t) (entry o (Call.Made handle its above (Some x)) u) i) [
+    | inl j ↦ m o handle its above u is j
+    | inr e ↦ (let p = ap (λ (y : Entry). y.call) e in let a : its ≡ k = cc in let b : sock ≡ Some x = cc in f (subst IsTcpName a is) b)
   ]
 
   -- a mark, and what its handle stands for
   pub made_fine : (es : List Entry) (h : Here) (kind : Kind) (parent : Option ℕ) (sock : Option OpId) → BeganBy steps (own_of line) (IsMarkOf es (own_of line) (name_of kind) parent sock)
       → Spared h.machine.store.records (own_of line) (Call.Made h.machine.table.next (name_of kind) parent sock)
       → ((c s : ℕ) → origin ≡ Step.Call c (GuestCall.TcpAccept s) → (h.own ≡ Unused) ⊎ NotMarked h.made → ⊥)
-      → ((x : OpId) → IsToCome line h.own x ⊎ ((p : ℕ) × (h.made ≡ Joined p)) → name_of kind ≡ name.Tcp2 → sock ≡ Some x → ⊥)
+      → ((x : OpId) → IsToCome line h.own x ⊎ ((p : ℕ) × (h.made ≡ Joined p)) → IsTcpName (name_of kind) → sock ≡ Some x → ⊥)
       → ((t : Told) → NamesItsOwn (es ++ entry (own_of line) (Call.Made h.machine.table.next (name_of kind) parent sock) t ∷ []) h.machine.store.records h.machine.table.next kind) → Licensed contexts steps line origin es h
       → Allows (MayAsk contexts steps) (λ fs made. Licensed contexts steps line origin fs (record h { machine = record h.machine { table = made.1 } })) es (make_asks h.machine.table (own_of line) kind parent sock)
   unfolding bind
@@ -69,13 +69,15 @@ module _ (contexts : List WasiSocketsCtx) (steps : List Step) (line : ℕ) (orig
             },
       ))
 
-  pub socket_touch : (op x : OpId) (n : ℕ) (k : HandleKind) (parent : Option ℕ) (sock : Option OpId) → Touches op (Call.Made n k parent sock) x → k ≡ name.Tcp2
-  socket_touch op x n name.Tcp2 parent (Some s) t = refl
+  pub socket_touch : (op x : OpId) (n : ℕ) (k : HandleKind) (parent : Option ℕ) (sock : Option OpId) → Touches op (Call.Made n k parent sock) x → IsTcpName k
+  socket_touch op x n name.Tcp2 parent (Some s) t = inl refl
   socket_touch op x n name.Tcp2 parent None t = absurd t
+  socket_touch op x n name.Tcp3 parent (Some s) t = inr refl
+  socket_touch op x n name.Tcp3 parent None t = absurd t
   socket_touch op x n _ parent sock t = absurd t
 
   -- of a handle that is no socket's
-  other_fine : (es : List Entry) (h : Here) (kind : Kind) (parent : Option ℕ) (sock : Option OpId) → BeganBy steps (own_of line) (IsMarkOf es (own_of line) (name_of kind) parent sock) → (name_of kind ≡ name.Tcp2 → ⊥)
+  other_fine : (es : List Entry) (h : Here) (kind : Kind) (parent : Option ℕ) (sock : Option OpId) → BeganBy steps (own_of line) (IsMarkOf es (own_of line) (name_of kind) parent sock) → (IsTcpName (name_of kind) → ⊥)
       → ((c s : ℕ) → origin ≡ Step.Call c (GuestCall.TcpAccept s) → (h.own ≡ Unused) ⊎ NotMarked h.made → ⊥)
       → ((t : Told) → NamesItsOwn (es ++ entry (own_of line) (Call.Made h.machine.table.next (name_of kind) parent sock) t ∷ []) h.machine.store.records h.machine.table.next kind) → Licensed contexts steps line origin es h
       → Allows (MayAsk contexts steps) (λ fs made. Licensed contexts steps line origin fs (record h { machine = record h.machine { table = made.1 } })) es (make_asks h.machine.table (own_of line) kind parent sock)
@@ -88,9 +90,11 @@ module _ (contexts : List WasiSocketsCtx) (steps : List Step) (line : ℕ) (orig
   stream_name kind place (inl e) = inl (ap name_of e)
   stream_name kind place (inr e) = inr (ap name_of e)
 
-  no_socket : (k : HandleKind) → (k ≡ name.Input) ⊎ (k ≡ name.Output) → k ≡ name.Tcp2 → ⊥
-  no_socket k (inl e) p = absurd (cc)
-  no_socket k (inr e) p = absurd (cc)
+  no_socket : (k : HandleKind) → (k ≡ name.Input) ⊎ (k ≡ name.Output) → IsTcpName k → ⊥
+  no_socket k (inl e) (inl p) = absurd (cc)
+  no_socket k (inl e) (inr p) = absurd (cc)
+  no_socket k (inr e) (inl p) = absurd (cc)
+  no_socket k (inr e) (inr p) = absurd (cc)
 
   stream_handle : (fs : List Entry) (records : List Record) (handle place : ℕ) (kind : Kind) → OneOfTwo kind place → NamesRecord fs records handle place → NamesItsOwn fs records handle kind
   stream_handle fs records handle place kind (inl e) n = subst (NamesItsOwn fs records handle) (sym e) (n, tt, tt)
@@ -146,9 +150,9 @@ module _ (contexts : List WasiSocketsCtx) (steps : List Step) (line : ℕ) (orig
   plain_mark es op (Step.Call c GuestCall.ClosedOut) (Kind.PlainOutput plain_output.Closed) m = (refl, refl, refl)
   plain_mark es op _ _ m = absurd m
 
-  plain_name : (kind : Kind) → IsPlain kind → name_of kind ≡ name.Tcp2 → ⊥
-  plain_name (Kind.PlainInput plain) m e = absurd (cc)
-  plain_name (Kind.PlainOutput plain) m e = absurd (cc)
+  plain_name : (kind : Kind) → IsPlain kind → IsTcpName (name_of kind) → ⊥
+  plain_name (Kind.PlainInput plain) m e = elim e [ inl q ↦ cc | inr q ↦ cc ]
+  plain_name (Kind.PlainOutput plain) m e = elim e [ inl q ↦ cc | inr q ↦ cc ]
   plain_name _ m e = m
 
   plain_handle : (fs : List Entry) (records : List Record) (handle : ℕ) (kind : Kind) → IsPlain kind → IsMarkedWith fs handle None → NamesItsOwn fs records handle kind
@@ -168,7 +172,7 @@ module _ (contexts : List WasiSocketsCtx) (steps : List Step) (line : ℕ) (orig
   pub marked_fine : (es : List Entry) (h : Here) (kind : Kind) (parent : Option ℕ) (sock : Option OpId) → Marks origin h kind parent sock → Licensed contexts steps line origin es h
       → Allows (MayAsk contexts steps) (λ fs made. Licensed contexts steps line origin fs (record h { machine = record h.machine { table = made.1 } })) es (make_asks h.machine.table (own_of line) kind parent sock)
   marked_fine es h _ _ _ (ANetwork c e) i =
-      other_fine es h Network None None (record { origin = origin; at = is_line; holds = subst (IsMarkOf es (own_of line) name.Network None None) (sym e) (refl, refl, refl) }) (λ p. absurd (cc)) (λ a k is. not_accept (Step.Call c GuestCall.Network) (λ a k p. absurd (cc)) e a k is h) (λ t. (tt, tt, tt)) i
+      other_fine es h Network None None (record { origin = origin; at = is_line; holds = subst (IsMarkOf es (own_of line) name.Network None None) (sym e) (refl, refl, refl) }) (λ p. elim p [ inl e ↦ cc | inr e ↦ cc ]) (λ a k is. not_accept (Step.Call c GuestCall.Network) (λ a k p. absurd (cc)) e a k is h) (λ t. (tt, tt, tt)) i
   marked_fine es h kind _ _ (AStream c handle place _ is which e) i =
       let sock = side_at (tcp2_at h.machine.store.records place) in
       let n = names_record es h.machine.store.records handle place (kind_at h.machine.table handle) (ap record_of e.socket) (i.fine.handles handle) in
@@ -188,22 +192,22 @@ module _ (contexts : List WasiSocketsCtx) (steps : List Step) (line : ℕ) (orig
       let sock = side_at (tcp2_at h.machine.store.records place) in
       let n = names_record es h.machine.store.records handle place (kind_at h.machine.table handle) e (i.fine.handles handle) in
       let k : IsMarkedWith es handle sock = subst (IsMarkedWith es handle) (sym (ap side_at n.at)) n.marked in
-      other_fine es h (Pollable w) (Some handle) sock (record { origin = origin; at = is_line; holds = subst (IsMarkOf es (own_of line) name.Pollable (Some handle) sock) (sym is) (refl, (refl, k)) }) (λ p. absurd (cc)) (λ a s p. not_accept (Step.Call c (GuestCall.Subscribe handle)) (λ a s p. absurd (cc)) is a s p h)
+      other_fine es h (Pollable w) (Some handle) sock (record { origin = origin; at = is_line; holds = subst (IsMarkOf es (own_of line) name.Pollable (Some handle) sock) (sym is) (refl, (refl, k)) }) (λ p. elim p [ inl e ↦ cc | inr e ↦ cc ]) (λ a s p. not_accept (Step.Call c (GuestCall.Subscribe handle)) (λ a s p. absurd (cc)) is a s p h)
       (λ t. pollable_handle _ h.machine.store.records h.machine.table.next w p (new_names es h h.machine.table.next place name.Pollable (Some handle) n.found t n.at)) i
   marked_fine es h _ _ _ (AUdpPollable c handle w is p e by) i =
       let place = place_in w in
       let sock = udp_side_at (udp2_at h.machine.store.records place) in
       let n = names_udp es h.machine.store.records handle place (kind_at h.machine.table handle) e (i.fine.handles handle) in
       let k : IsMarkedWith es handle sock = subst (IsMarkedWith es handle) (sym (ap udp_side_at n.at)) n.marked in
-      other_fine es h (Pollable w) (Some handle) sock (record { origin = origin; at = is_line; holds = subst (IsMarkOf es (own_of line) name.Pollable (Some handle) sock) (sym is) (refl, (refl, k)) }) (λ p. absurd (cc))
+      other_fine es h (Pollable w) (Some handle) sock (record { origin = origin; at = is_line; holds = subst (IsMarkOf es (own_of line) name.Pollable (Some handle) sock) (sym is) (refl, (refl, k)) }) (λ p. elim p [ inl e ↦ cc | inr e ↦ cc ])
       (λ a s p. not_accept (Step.Call c (GuestCall.Subscribe handle)) (λ a s p. absurd (cc)) is a s p h)
       (λ t. udp_pollable_handle _ h.machine.store.records h.machine.table.next w p (new_udp_names es h h.machine.table.next place name.Pollable (Some handle) n.found t n.at)) i
   marked_fine es h _ _ _ (ALookup c network place host e there made) i =
-      other_fine es h (Kind.Lookup place) (Some network) None (record { origin = origin; at = is_line; holds = subst (IsMarkOf es (own_of line) name.Lookup (Some network) None) (sym e) (refl, refl, refl) }) (λ p. absurd (cc)) (λ a k p. not_accept (Step.Call c (GuestCall.Resolve network host)) (λ a k p. absurd (cc)) e a k p h)
+      other_fine es h (Kind.Lookup place) (Some network) None (record { origin = origin; at = is_line; holds = subst (IsMarkOf es (own_of line) name.Lookup (Some network) None) (sym e) (refl, refl, refl) }) (λ p. elim p [ inl e ↦ cc | inr e ↦ cc ]) (λ a k p. not_accept (Step.Call c (GuestCall.Resolve network host)) (λ a k p. absurd (cc)) e a k p h)
       (λ t. (tt, tt, marks_none es h.machine.table.next name.Lookup (Some network) t)) i
   marked_fine es h _ _ _ (ALookupPollable c handle place is e) i =
       let k : IsMarkedWith es handle None = (i.fine.handles handle (Kind.Lookup place) e).2 in
-      other_fine es h (Pollable (Watched.Lookup place)) (Some handle) None (record { origin = origin; at = is_line; holds = subst (IsMarkOf es (own_of line) name.Pollable (Some handle) None) (sym is) (refl, (refl, k)) }) (λ p. absurd (cc)) (λ a s p. not_accept (Step.Call c (GuestCall.Subscribe handle)) (λ a s p. absurd (cc)) is a s p h)
+      other_fine es h (Pollable (Watched.Lookup place)) (Some handle) None (record { origin = origin; at = is_line; holds = subst (IsMarkOf es (own_of line) name.Pollable (Some handle) None) (sym is) (refl, (refl, k)) }) (λ p. elim p [ inl e ↦ cc | inr e ↦ cc ]) (λ a s p. not_accept (Step.Call c (GuestCall.Subscribe handle)) (λ a s p. absurd (cc)) is a s p h)
       (λ t. (tt, tt, marks_none es h.machine.table.next name.Pollable (Some handle) t)) i
   marked_fine es h kind _ _ (APlain _ m numbered) i =
       let p = makes_plain origin kind m in
@@ -211,7 +215,7 @@ module _ (contexts : List WasiSocketsCtx) (steps : List Step) (line : ℕ) (orig
       (λ t. plain_handle _ h.machine.store.records h.machine.table.next kind p (marks_none es h.machine.table.next (name_of kind) None t)) i
   marked_fine es h _ _ _ (APlainPollable c handle is e) i =
       let k : IsMarkedWith es handle None = plain_named es h.machine.store.records handle (kind_at h.machine.table handle) e (i.fine.handles handle) in
-      other_fine es h (Pollable Watched.Plain) (Some handle) None (record { origin = origin; at = is_line; holds = subst (IsMarkOf es (own_of line) name.Pollable (Some handle) None) (sym is) (refl, (refl, k)) }) (λ p. absurd (cc)) (λ a s p. not_accept (Step.Call c (GuestCall.Subscribe handle)) (λ a s p. absurd (cc)) is a s p h)
+      other_fine es h (Pollable Watched.Plain) (Some handle) None (record { origin = origin; at = is_line; holds = subst (IsMarkOf es (own_of line) name.Pollable (Some handle) None) (sym is) (refl, (refl, k)) }) (λ p. elim p [ inl e ↦ cc | inr e ↦ cc ]) (λ a s p. not_accept (Step.Call c (GuestCall.Subscribe handle)) (λ a s p. absurd (cc)) is a s p h)
       (λ t. (tt, tt, marks_none es h.machine.table.next name.Pollable (Some handle) t)) i
 
   -- the mark of what was accepted
@@ -269,11 +273,14 @@ module _ (contexts : List WasiSocketsCtx) (steps : List Step) (line : ℕ) (orig
   may_use n None e t = absurd (cc)
   may_use n (Some ctx) e t = record { ctx = ctx; at = e; named = refl; tcp = t }
 
-  may_create : (ctx : WasiSocketsCtx) (family : SocketAddressFamily) (s : Step) → Creates contexts ctx family s → ctx.tcp ≡ true → IsTcpCreate contexts ctx.name family s
-  may_create ctx family (Step.Call n (GuestCall.TcpCreate f)) c t =
+  may_create : (ctx : WasiSocketsCtx) (family : SocketAddressFamily) (face : Interface) (s : Step) → Creates contexts ctx family face s → ctx.tcp ≡ true → IsTcpCreate contexts ctx.name family s
+  may_create ctx family face (Step.Call n (GuestCall.TcpCreate f)) c t =
       let T : WasiSocketsCtx → Type 0 = λ x. x.tcp ≡ true → MayUseTcp contexts n x.name in
       (subst T c.0 (may_use n (slice_get contexts n) refl) t, c.1)
-  may_create ctx family _ c t = absurd c
+  may_create ctx family face (Step.Call n (GuestCall.P3TcpCreate f)) c t =
+      let T : WasiSocketsCtx → Type 0 = λ x. x.tcp ≡ true → MayUseTcp contexts n x.name in
+      (subst T c.0 (may_use n (slice_get contexts n) refl) t, c.1)
+  may_create ctx family face _ c t = absurd c
 
   abbrev pub CreatedIsFine : ℕ → SocketAddressFamily → List Entry → Result Socket ErrorCode → Type 0
   CreatedIsFine maker family es (Ok socket) = Has es (entry (own_of line) (Call.TcpCreate maker family) Told.Done) × (socket ≡ new_socket (own_of line) maker family)
@@ -284,35 +291,47 @@ module _ (contexts : List WasiSocketsCtx) (steps : List Step) (line : ℕ) (orig
   fine_told es maker family (Told.Code c) fits = tt
   fine_told es maker family _ fits = absurd fits
 
-  pub new_fine : (es : List Entry) (ctx : WasiSocketsCtx) (family : SocketAddressFamily) → Creates contexts ctx family origin → Allows (MayQuietly contexts steps) (CreatedIsFine ctx.name family) es (new_asks (own_of line) ctx family)
+  pub new_fine : (face : Interface) (es : List Entry) (ctx : WasiSocketsCtx) (family : SocketAddressFamily) → Creates contexts ctx family face origin → Allows (MayQuietly contexts steps) (CreatedIsFine ctx.name family) es (new_asks (own_of line) ctx family)
   unfolding bind
-  new_fine es ctx family c =
-      allows_if (MayQuietly contexts steps) (CreatedIsFine ctx.name family) es ctx.tcp _ _ (λ t. (((record { origin = origin; at = is_line; holds = may_create ctx family origin c t }, tt), tt), λ u fits. fine_told es ctx.name family u fits)) (λ t. tt)
+  new_fine face es ctx family c =
+      allows_if (MayQuietly contexts steps) (CreatedIsFine ctx.name family) es ctx.tcp _ _ (λ t. (((record { origin = origin; at = is_line; holds = may_create ctx family face origin c t }, tt), tt), λ u fits. fine_told es ctx.name family u fits)) (λ t. tt)
 
-  created_mark : (es : List Entry) (maker : ℕ) (family : SocketAddressFamily) (ctx : WasiSocketsCtx) (its : SocketAddressFamily) (s : Step) → Creates contexts ctx its s → Has es (entry (own_of line) (Call.TcpCreate maker family) Told.Done) → IsMarkOf es (own_of line) name.Tcp2 None (Some (own_of line)) s
-  created_mark es maker family ctx its (Step.Call n (GuestCall.TcpCreate f)) c k = (refl, refl, refl, (maker, family, k))
-  created_mark es maker family ctx its _ c k = absurd c
+  created_mark : (face : Interface) (place : ℕ) (es : List Entry) (maker : ℕ) (family : SocketAddressFamily) (ctx : WasiSocketsCtx) (its : SocketAddressFamily) (s : Step) → Creates contexts ctx its face s → Has es (entry (own_of line) (Call.TcpCreate maker family) Told.Done) → IsMarkOf es (own_of line) (name_of (tcp_kind face place)) None (Some (own_of line)) s
+  created_mark face place es maker family ctx its (Step.Call n (GuestCall.TcpCreate f)) c k = (ap (λ (f : Interface). name_of (tcp_kind f place)) c.2, refl, refl, (maker, family, k))
+  created_mark face place es maker family ctx its (Step.Call n (GuestCall.P3TcpCreate f)) c k = (ap (λ (f : Interface). name_of (tcp_kind f place)) c.2, refl, refl, (maker, family, k))
+  created_mark face place es maker family ctx its _ c k = absurd c
 
   maker_is : (es : List Entry) (maker : ℕ) (family : SocketAddressFamily) (side : OpId) → Some (own_of line) ≡ Some side → IsMaker es maker family (own_of line) → IsMaker es maker family side
   maker_is es maker family side e i = subst (IsMaker es maker family) (sym (some_same side (own_of line) e)) i
 
-  makes_tcp : (ctx : WasiSocketsCtx) (family : SocketAddressFamily) (s : Step) → Creates contexts ctx family s → MakesTcp s
-  makes_tcp ctx family (Step.Call n (GuestCall.TcpCreate f)) c = tt
-  makes_tcp ctx family _ c = c
+  makes_tcp : (face : Interface) (ctx : WasiSocketsCtx) (family : SocketAddressFamily) (s : Step) → Creates contexts ctx family face s → MakesTcp s
+  makes_tcp face ctx family (Step.Call n (GuestCall.TcpCreate f)) c = tt
+  makes_tcp face ctx family (Step.Call n (GuestCall.P3TcpCreate f)) c = tt
+  makes_tcp face ctx family _ c = c
 
-  creates_only : (ctx : WasiSocketsCtx) (family : SocketAddressFamily) → Creates contexts ctx family origin → (c s : ℕ) → origin ≡ Step.Call c (GuestCall.TcpAccept s) → ⊥
-  creates_only ctx family k c s e = subst (Creates contexts ctx family) e k
+  creates_only : (face : Interface) (ctx : WasiSocketsCtx) (family : SocketAddressFamily) → Creates contexts ctx family face origin → (c s : ℕ) → origin ≡ Step.Call c (GuestCall.TcpAccept s) → ⊥
+  creates_only face ctx family k c s e = subst (Creates contexts ctx family face) e k
 
-  pub joins : (es : List Entry) (h : Here) (ctx : WasiSocketsCtx) (family : SocketAddressFamily) (made : Result Socket ErrorCode) → Creates contexts ctx family origin → h.at ≡ None → h.own ≡ Unused → h.made ≡ Past → CreatedIsFine ctx.name family es made → Named line h → Licensed contexts steps line origin es h
-      → Allows (MayAsk contexts steps) (λ fs done. Licensed contexts steps line origin fs (record h { machine = done.1; own = Used })) es (created_asks h.machine (own_of line) made)
-  joins es h ctx family (Err x) c nowhere u past k b i = spent es h i
-  joins es h ctx family (Ok socket) c nowhere u past k b i =
+  -- the handle of a TCP socket, of either interface, names its record
+  socket_handle : (face : Interface) (fs : List Entry) (records : List Record) (handle place : ℕ) → NamesRecord fs records handle place → NamesItsOwn fs records handle (tcp_kind face place)
+  socket_handle OfP2 fs records handle place n = (n, tt, tt)
+  socket_handle OfP3 fs records handle place n = (n, tt, tt)
+
+  -- the mark of a TCP socket, of either interface, touches its network socket alone
+  its_own : (face : Interface) (place n : ℕ) (parent : Option ℕ) (side x : OpId) → Touches (own_of line) (Call.Made n (name_of (tcp_kind face place)) parent (Some side)) x → side ≡ x
+  its_own OfP2 place n parent side x t = t
+  its_own OfP3 place n parent side x t = t
+
+  pub joins : {T : Type 0} (tells : Result ℕ Stop → T) (fails : ErrorCode → T) (face : Interface) (es : List Entry) (h : Here) (ctx : WasiSocketsCtx) (family : SocketAddressFamily) (made : Result Socket ErrorCode) → Creates contexts ctx family face origin → h.at ≡ None → h.own ≡ Unused → h.made ≡ Past → CreatedIsFine ctx.name family es made → Named line h → Licensed contexts steps line origin es h
+      → Allows (MayAsk contexts steps) (λ fs done. Licensed contexts steps line origin fs (record h { machine = done.1; own = Used })) es (made_to tells fails (tcp_kind face) h.machine (own_of line) made)
+  joins tells fails face es h ctx family (Err x) c nowhere u past k b i = spent es h i
+  joins tells fails face es h ctx family (Ok socket) c nowhere u past k b i =
       let own = own_of line in
       let now = new_socket own ctx.name family in
       let next : Here = record h { machine = record h.machine { store = with_record h.machine.store now }; own = Used } in
       let made_it : SocketIsFine steps es now = record {
         knows = record { maker = λ side e. maker_is es ctx.name family side e (Created own Told.Done k.0) };
-        tcp = λ side e. subst (λ (o : OpId). BeganBy steps o MakesTcp) (sym (some_same side own (default_side own side e))) (record { origin = origin; at = is_line; holds = makes_tcp ctx family origin c });
+        tcp = λ side e. subst (λ (o : OpId). BeganBy steps o MakesTcp) (sym (some_same side own (default_side own side e))) (record { origin = origin; at = is_line; holds = makes_tcp face ctx family origin c });
         bound = λ side e b. absurd (cc);
         listens = λ side e. absurd (cc);
         connect = λ op e. absurd (cc);
@@ -323,18 +342,18 @@ module _ (contexts : List WasiSocketsCtx) (steps : List Step) (line : ℕ) (orig
         udp_names = λ p n u a e. absurd (no_place p n (sym nowhere ∙ a));
         listens = λ p q op d m. elim (push_new tcp_sort h.machine.store.records (new_record now) p q d) [ inl v ↦ i.listens p q op v m | inr v ↦ absurd (no_listen op (ap (λ (y : TcpRecord). y.listening) v ∙ m)) ];
         new = λ x t. absurd t;
-        unmade = λ e d s is. absurd (creates_only ctx family c d s is);
+        unmade = λ e d s is. absurd (creates_only face ctx family c d s is);
         joined = λ p e. absurd (not_joined p (sym past ∙ e));
         marked = λ a p e q d. elim (push_new tcp_sort h.machine.store.records (new_record now) p q d) [ inl v ↦ i.marked a p e q v | inr v ↦ absurd (not_marked a p (sym past ∙ e)) ];
         making = subst (MakingStands steps) (sym past) tt;
       } in
-      subst (λ (s : Socket). Allows (MayAsk contexts steps) (λ fs done. Licensed contexts steps line origin fs (record h { machine = done.1; own = Used })) es (create_handle h.machine own s)) (sym k.1)
+      subst (λ (s : Socket). Allows (MayAsk contexts steps) (λ fs done. Licensed contexts steps line origin fs (record h { machine = done.1; own = Used })) es (handle_to tells (tcp_kind face) h.machine own s)) (sym k.1)
       (allows_then (MayAsk contexts steps) (λ fs made. Licensed contexts steps line origin fs (record next { machine = record next.machine { table = made.1 } })) (λ fs done. Licensed contexts steps line origin fs (record h { machine = done.1; own = Used })) es
-      (make_asks h.machine.table own (Tcp2 (length h.machine.store.records)) None (Some own)) _
-      (made_fine contexts steps line origin is_line es next (Tcp2 (length h.machine.store.records)) None (Some own) (record { origin = origin; at = is_line; holds = created_mark es ctx.name family ctx family origin c k.0 })
-      (λ p r x e n t. elim (push_new tcp_sort h.machine.store.records (new_record now) p r e) [ inl v ↦ fresh contexts line origin h u b x (of_line x t) p r v (inr n) | inr v ↦ no_name x (ap (λ (y : TcpRecord). accept_name y.listening) v ∙ n) ])
-      (λ a s is w. creates_only ctx family c a s is) (λ x w p q. elim w [ inl d ↦ absurd d | inr d ↦ not_joined d.0 (sym past ∙ d.1) ])
-      (λ t. (record { found = new_record now; at = push_finds tcp_sort h.machine.store.records (new_record now); marked = record { op = own; kind = name.Tcp2; parent = None; told = t; mark = has_last es _ } }, tt, tt)) j) (λ fs made l. l))
+      (make_asks h.machine.table own (tcp_kind face (length h.machine.store.records)) None (Some own)) _
+      (made_fine contexts steps line origin is_line es next (tcp_kind face (length h.machine.store.records)) None (Some own) (record { origin = origin; at = is_line; holds = created_mark face (length h.machine.store.records) es ctx.name family ctx family origin c k.0 })
+      (λ p r x e n t. elim (push_new tcp_sort h.machine.store.records (new_record now) p r e) [ inl v ↦ fresh contexts line origin h u b x (of_line x (its_own face (length h.machine.store.records) h.machine.table.next None own x t)) p r v (inr n) | inr v ↦ no_name x (ap (λ (y : TcpRecord). accept_name y.listening) v ∙ n) ])
+      (λ a s is w. creates_only face ctx family c a s is) (λ x w p q. elim w [ inl d ↦ absurd d | inr d ↦ not_joined d.0 (sym past ∙ d.1) ])
+      (λ t. socket_handle face _ _ h.machine.table.next (length h.machine.store.records) (record { found = new_record now; at = push_finds tcp_sort h.machine.store.records (new_record now); marked = record { op = own; kind = name_of (tcp_kind face (length h.machine.store.records)); parent = None; told = t; mark = has_last es _ } })) j) (λ fs made l. l))
     where
       default_side : (a b : OpId) → TcpState.Default a ≡ TcpState.Default b → Some a ≡ Some b
       default_side a b e = ap side_in e

@@ -56,11 +56,18 @@ module _ (contexts : List WasiSocketsCtx) (steps : List Step) (log : List Entry)
       let e : a.0.ctx ≡ b.0.ctx = cc in
       let n = ap (λ (x : WasiSocketsCtx). x.name) e in
       (sym a.0.named ∙ (n ∙ b.0.named), sym a.1 ∙ b.1)
+  one_create (Step.Call ctx (GuestCall.P3TcpCreate family)) c d f g a b =
+      let p = a.0.at in
+      let q = b.0.at in
+      let e : a.0.ctx ≡ b.0.ctx = cc in
+      let n = ap (λ (x : WasiSocketsCtx). x.name) e in
+      (sym a.0.named ∙ (n ∙ b.0.named), sym a.1 ∙ b.1)
   one_create _ c d f g a b = absurd a
 
   -- a create names no listener
   names_none : (s : Step) (c : ℕ) (f : SocketAddressFamily) (handle : ℕ) → IsTcpCreate contexts c f s → Has (handles_of s) handle → ⊥
   names_none (Step.Call ctx (GuestCall.TcpCreate family)) c f handle a i = i
+  names_none (Step.Call ctx (GuestCall.P3TcpCreate family)) c f handle a i = i
   names_none _ c f handle a i = absurd a
 
   -- the same of a UDP socket
@@ -83,6 +90,7 @@ module _ (contexts : List WasiSocketsCtx) (steps : List Step) (log : List Entry)
   -- a step makes a TCP socket or a UDP socket
   one_kind : (s : Step) (c d : ℕ) (f g : SocketAddressFamily) → IsTcpCreate contexts c f s → IsUdpCreate contexts d g s → ⊥
   one_kind (Step.Call ctx (GuestCall.TcpCreate family)) c d f g a b = b
+  one_kind (Step.Call ctx (GuestCall.P3TcpCreate family)) c d f g a b = b
   one_kind _ c d f g a b = a
 
   kinds_apart : (c d : ℕ) (f g : SocketAddressFamily) (side : OpId) (t u : Told) → Has log (entry side (TcpCreate c f) t) → Has log (entry side (UdpCreate d g) u) → ⊥

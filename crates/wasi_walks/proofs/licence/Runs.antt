@@ -1,7 +1,7 @@
 -- Each ask of a run is licensed: the law that it is, on the base law; and between two lines the state fits the log, each line being
 -- judged by the steps up to it.
 use Rattle.wasi_walks.proofs.walks.Asked.{Asked, Questions, SetsBacklog, Learns, Closes, MarksOne, AsksCreate, MarksAccepted, Polls, Turns, GivesUp, UdpQuestions, UdpLearns, UdpPeers, UdpCloses, UdpBegins, MarksUdp, MarksStream, MarksError, UdpGivesUp, Resolves, Looks}
-use Rattle.wasi_walks.proofs.Words.{Allows, Asks, Begins, Call, Entry, Give, HasRun, IsLicensed, Left, List, Machine, MayAsk, Not, OpId, Operation, Reply}
+use Rattle.wasi_walks.proofs.Words.{made_to, Allows, Asks, Begins, Call, Entry, Give, HasRun, IsLicensed, Left, List, Machine, MayAsk, Not, OpId, Operation, Reply}
 use Rattle.wasi_walks.proofs.Words.{Some, Step, TcpRecord, WasiSocketsCtx, [], add-one, allows_at, allows_if, allows_keep, allows_then}
 use Rattle.wasi_walks.proofs.Words.{allows_weaker, ap, append-nil, append_assoc, arith, created_asks, entry, first_state, give_up_asks, inl, is_trap}
 use Rattle.wasi_walks.proofs.Words.{length, length-append, machine_asks, new_asks, own_of, refl, run, side_in, step_at, subst, sym}
@@ -23,7 +23,7 @@ use Rattle.wasi_walks.proofs.claims.Law.{Base, begins_on_two, on_two, on_two_alo
 use Rattle.wasi_walks.proofs.remotes.State.{Keeps, first_keeps}
 use Rattle.wasi_walks.proofs.remotes.Law.{begins_kept, remotes}
 use Rattle.wasi_walks.proofs.walks.Here.{IsToCome}
-use Rattle.wasi_walks.proofs.walks.Moves.{closed_record, Here, Names, OfSocket, Own, ToConnect, ToWrite, Unused, Used, put}
+use Rattle.wasi_walks.proofs.walks.Moves.{tcp_kind, closed_record, Here, Names, OfSocket, Own, ToConnect, ToWrite, Unused, Used, put}
 use Rattle.wasi_walks.proofs.licence.Frames.{listening_gone}
 use Rattle.wasi_walks.proofs.walks.Law.{BeginsWrites, Law, Rests, Walks, begins_by}
 use Rattle.wasi_walks.proofs.licence.Moves.{begins_write, closed_fine, gone_maker, moves_fine}
@@ -56,9 +56,9 @@ module _ (contexts : List WasiSocketsCtx) (steps : List Step) (line : ℕ) (orig
         put_fine fs h place r (closed_record r) g refl (listening_gone r.listening) (gone_maker contexts steps line origin is_line r (closed_record r).inner) (closed_fine contexts steps line origin is_line fs r) (asked_fine contexts steps line origin is_line es h (own_of line) (Call.Close side) told tt (spares contexts steps line origin is_line h (Call.Close side) tt) i),
   )
   licences_asks es h _ _ _ (MarksOne kind parent sock m) b i = marked_fine contexts steps line origin is_line es h kind parent sock m i
-  licences_asks es h _ _ _ (AsksCreate ctx family c a o past) b i =
-      allows_then (MayAsk contexts steps) (λ fs made. Licensed contexts steps line origin fs h × CreatedIsFine contexts steps line origin is_line ctx.name family fs made) (λ fs done. Licensed contexts steps line origin fs (record h { machine = done.1; own = Used })) es (new_asks (own_of line) ctx family) (created_asks h.machine (own_of line))
-      (kept contexts steps line origin is_line h (CreatedIsFine contexts steps line origin is_line ctx.name family) es (new_asks (own_of line) ctx family) i (new_fine contexts steps line origin is_line es ctx family c)) (λ fs made k. joins contexts steps line origin is_line fs h ctx family made c a o past k.1 b.0.1 k.0)
+  licences_asks es h _ _ _ (AsksCreate tells fails face ctx family c a o past) b i =
+      allows_then (MayAsk contexts steps) (λ fs made. Licensed contexts steps line origin fs h × CreatedIsFine contexts steps line origin is_line ctx.name family fs made) (λ fs done. Licensed contexts steps line origin fs (record h { machine = done.1; own = Used })) es (new_asks (own_of line) ctx family) (made_to tells fails (tcp_kind face) h.machine (own_of line))
+      (kept contexts steps line origin is_line h (CreatedIsFine contexts steps line origin is_line ctx.name family) es (new_asks (own_of line) ctx family) i (new_fine contexts steps line origin is_line face es ctx family c)) (λ fs made k. joins contexts steps line origin is_line tells fails face fs h ctx family made c a o past k.1 b.0.1 k.0)
   licences_asks es h _ _ _ (MarksAccepted c s place r is e o g) b i = accepted_fine contexts steps line origin is_line es h c s place r is e o g b.0.1 i
   licences_asks es h _ _ _ (Polls x0 x1 x2) b i = (polls_fine contexts steps line origin is_line) es h x0 x1 x2 b i
   licences_asks es h _ _ _ (Turns place r s g e) b i = turned_fine contexts steps line origin is_line es h place r s g e i

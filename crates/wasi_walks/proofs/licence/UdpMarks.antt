@@ -3,7 +3,7 @@ use Rattle.wasi_walks.proofs.Words.{Allows, BeganBy, Bool, Call, Entry, IsAddr, 
 use Rattle.wasi_walks.proofs.Words.{SocketAddressFamily, Some, GuestCall, Step, Told, WasiSocketsCtx, [], allows_if, allows_weaker, ap, bind, context_in, entry, false}
 use Rattle.wasi_walks.proofs.Words.{if◌then◌else◌, inl, inr, is_full, is_wildcard, make_asks, own_of, refl, slice_get, step_at, subst, sym, told_addr}
 use Rattle.wasi_walks.proofs.Words.{told_done, true, ℕ, ◌++◌, ◌∙◌, ◌∷◌, ◌≡◌}
-use Rattle.wasi_walks.specs.Licence.{IsDisconnect, IsGetOf, IsMarkedWith, IsSetTo, IsStreamOf, IsUdpCreate, MayUseUdp, UdpCreated}
+use Rattle.wasi_walks.specs.Licence.{IsTcpName, IsDisconnect, IsGetOf, IsMarkedWith, IsSetTo, IsStreamOf, IsUdpCreate, MayUseUdp, UdpCreated}
 use Rattle.wasi_walks.proofs.walks.Moves.{Here, Made, MarksNext, one_stream, put_udp, FoundUdp, CreatesUdp, udp_begun, udp_record_of, part_of, ToSend, IsUdpQuestionOf, Past, Joined, Marked}
 use Rattle.wasi_walks.proofs.Lists.{has_front, has_last, has_split}
 use Rattle.wasi_walks.specs.Licence.{MakesTcp, MakesUdp}
@@ -36,6 +36,7 @@ module _ (contexts : List WasiSocketsCtx) (steps : List Step) (line : ℕ) (orig
   -- == a UDP socket's network socket is none of a TCP socket's
   one_kind : (s : Step) → MakesTcp s → MakesUdp s → ⊥
   one_kind (Step.Call ctx (GuestCall.TcpCreate family)) a b = b
+  one_kind (Step.Call ctx (GuestCall.P3TcpCreate family)) a b = b
   one_kind _ a b = a
 
   pub kinds_apart : (side : OpId) → BeganBy steps side MakesTcp → BeganBy steps side MakesUdp → ⊥
@@ -211,7 +212,7 @@ module _ (contexts : List WasiSocketsCtx) (steps : List Step) (line : ℕ) (orig
   is_made es (UdpRecord.Closed side) f = record { maker = f.maker; family = f.family; made = f.made }
 
   -- a mark by an operation that isn't the own one of an accept, of no TCP socket's handle
-  pub mark_fine : (es : List Entry) (h : Here) (op : OpId) (kind : Kind) (parent : Option ℕ) (sock : Option OpId) → BeganBy steps op (IsMarkOf es op (name_of kind) parent sock) → ((c s : ℕ) → origin ≡ Step.Call c (GuestCall.TcpAccept s) → op ≡ own_of line → ⊥) → (name_of kind ≡ name.Tcp2 → ⊥)
+  pub mark_fine : (es : List Entry) (h : Here) (op : OpId) (kind : Kind) (parent : Option ℕ) (sock : Option OpId) → BeganBy steps op (IsMarkOf es op (name_of kind) parent sock) → ((c s : ℕ) → origin ≡ Step.Call c (GuestCall.TcpAccept s) → op ≡ own_of line → ⊥) → (IsTcpName (name_of kind) → ⊥)
       → ((t : Told) → NamesItsOwn (es ++ entry op (Call.Made h.machine.table.next (name_of kind) parent sock) t ∷ []) h.machine.store.records h.machine.table.next kind) → Licensed contexts steps line origin es h
       → Allows (MayAsk contexts steps) (λ fs made. Licensed contexts steps line origin fs (record h { machine = record h.machine { table = made.1 } })) es (make_asks h.machine.table op kind parent sock)
   unfolding bind
@@ -241,7 +242,7 @@ module _ (contexts : List WasiSocketsCtx) (steps : List Step) (line : ℕ) (orig
       let m = is_made es u (i.fine.udp place u g) in
       allows_weaker (MayAsk contexts steps) (λ fs made. Licensed contexts steps line origin fs (record h { machine = record h.machine { table = made.1 } })) _
       (λ fs made k. remade fs (record h { machine = record h.machine { table = made.1 } }) Past tt tt k) es _
-      (mark_fine es h (udp_side u) (Udp2 place) None (Some (udp_side u)) (began_mark es (udp_side u) m.maker m.family m.made) (not_accept (udp_side u) m.made.by) (λ e. absurd (cc))
+      (mark_fine es h (udp_side u) (Udp2 place) None (Some (udp_side u)) (began_mark es (udp_side u) m.maker m.family m.made) (not_accept (udp_side u) m.made.by) (λ e. elim e [ inl p ↦ cc | inr p ↦ cc ])
       (λ t. (tt, record { found = u; at = g; marked = record { op = udp_side u; kind = name.Udp2; parent = None; told = t; mark = has_last es _ } }, tt)) i)
 
   -- == the handles of datagram streams
@@ -252,9 +253,11 @@ module _ (contexts : List WasiSocketsCtx) (steps : List Step) (line : ℕ) (orig
   stream_name kind place (inl e) = inl (ap name_of e)
   stream_name kind place (inr e) = inr (ap name_of e)
 
-  no_tcp : (kind : Kind) (place : ℕ) → OneStream kind place → name_of kind ≡ name.Tcp2 → ⊥
-  no_tcp kind place (inl e) p = absurd (let q : name.Incoming ≡ name.Tcp2 = sym (ap name_of e) ∙ p in cc)
-  no_tcp kind place (inr e) p = absurd (let q : name.Outgoing ≡ name.Tcp2 = sym (ap name_of e) ∙ p in cc)
+  no_tcp : (kind : Kind) (place : ℕ) → OneStream kind place → IsTcpName (name_of kind) → ⊥
+  no_tcp kind place (inl e) (inl p) = absurd (let q : name.Incoming ≡ name.Tcp2 = sym (ap name_of e) ∙ p in cc)
+  no_tcp kind place (inl e) (inr p) = absurd (let q : name.Incoming ≡ name.Tcp3 = sym (ap name_of e) ∙ p in cc)
+  no_tcp kind place (inr e) (inl p) = absurd (let q : name.Outgoing ≡ name.Tcp2 = sym (ap name_of e) ∙ p in cc)
+  no_tcp kind place (inr e) (inr p) = absurd (let q : name.Outgoing ≡ name.Tcp3 = sym (ap name_of e) ∙ p in cc)
 
   stream_handle : (fs : List Entry) (records : List Record) (handle place : ℕ) (kind : Kind) → OneStream kind place → NamesUdp fs records handle place → NamesItsOwn fs records handle kind
   stream_handle fs records handle place kind (inl e) n = subst (NamesItsOwn fs records handle) (sym e) (tt, n, tt)

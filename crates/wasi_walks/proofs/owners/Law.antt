@@ -5,7 +5,7 @@ use Rattle.wasi_table.specs.Table.{Live}
 use Rattle.wasi_udp.specs.Create.{Create, after_create as udp_after_create}
 use Rattle.wasi_host.specs.Kinds.{udp_of}
 use Rattle.wasi_records.specs.Records.{tcp2_at, tcp2_put, udp2_of}
-use Rattle.wasi_host.specs.declared.kind.Kind.TheVariants.{Incoming, Lookup, Outgoing, PlainInput, PlainOutput, Udp2}
+use Rattle.wasi_host.specs.declared.kind.Kind.TheVariants.{Incoming, Lookup, Outgoing, PlainInput, PlainOutput, Tcp3, Udp2}
 use Rattle.wasi_host.specs.declared.kind.PlainInput.TheVariants as plain_input
 use Rattle.wasi_host.specs.declared.kind.PlainOutput.TheVariants as plain_output
 use Rattle.wasi_records.specs.declared.name_lookup.LookupOp.{LookupOp}
@@ -20,7 +20,7 @@ use Rattle.wasi_walks.proofs.walks.Law.{BeginsWrites, InCall, Law}
 use Rattle.wasi_walks.proofs.walks.OfState.{Becomes, Learnt, IsClosed, GivenUp, UdpLearnt, UdpIsClosed, UdpGivenUp, UdpBegun, Resolved, HasHandle, NoRoom, Created, CreatedWith, Writing, Handles, OfLine, OfAccepted, OfCreated, OfStream, OfError, HasNoRoom, OfState, begins_state, of_state}
 use Rattle.wasi_walks.proofs.Words.{Done, Refused, Waits, new_socket}
 use Rattle.wasi_walks.proofs.walks.Moves as walk
-use Rattle.wasi_walks.proofs.walks.Moves.{Emptied, Found, FoundUdp, Held, Here, IsLeft, IsNumbered, IsOpenUdp, Joined, Made, MakesPlain, Marked, Marks, Move, Numbered, Past, SameSockets, ToSend, accepting_now, joined, made_so, one_stream, put, put_udp, udp_begun, with_records, without_record}
+use Rattle.wasi_walks.proofs.walks.Moves.{Interface, OfP2, OfP3, tcp_kind, IsDropped, tcp_socket_of, Emptied, Found, FoundUdp, Held, Here, IsLeft, IsNumbered, IsOpenUdp, Joined, Made, MakesPlain, Marked, Marks, Move, Numbered, Past, SameSockets, ToSend, accepting_now, joined, made_so, one_stream, put, put_udp, udp_begun, with_records, without_record}
 use Rattle.std.specs.Prelude.{IsSome, is_some}
 use Rattle.wasi_records.specs.Records.{open_of, tcp2_of}
 use Rattle.wasi_walks.proofs.owners.Names.{Names, as_none, names_none, names_open, names_push, names_same, names_set, names_tcp}
@@ -68,15 +68,21 @@ put_none h place u g now none i = (
       (λ same was. absurd (no_udp_streams h place u g was)) n) h.made i.1,
 )
 
+-- a TCP socket of either interface owns its record
+owner_is : (kind : Kind) (place : ℕ) → tcp_socket_of kind ≡ Some place → owner_of kind ≡ Some place
+owner_is (Tcp2 p) place e = e
+owner_is (Tcp3 p) place e = e
+owner_is _ place e = absurd (cc)
+
 -- a TCP socket that is dropped
-put_gone : (h : Here) (place : ℕ) (now : Record) → h.made ≡ Emptied (Tcp2 place) → Owns h
+put_gone : (h : Here) (place : ℕ) (now : Record) → IsDropped h.made place → Owns h
     → Owned h.machine.table (slice_set h.machine.store.records place now) × MadeSo h.machine.table
     (slice_set h.machine.store.records place now) h.made
-put_gone h place now emptied i =
-    let none : MadeSo h.machine.table h.machine.store.records (Emptied (Tcp2 place)) =
-    subst (MadeSo h.machine.table h.machine.store.records) emptied i.1 in (
-      none_set h place now (none place refl) i.0,
-      subst (MadeSo h.machine.table (slice_set h.machine.store.records place now)) (sym emptied) none,
+put_gone h place now dropped i =
+    let none : MadeSo h.machine.table h.machine.store.records (Emptied dropped.kind) =
+    subst (MadeSo h.machine.table h.machine.store.records) dropped.made i.1 in (
+      none_set h place now (none place (owner_is dropped.kind place dropped.socket)) i.0,
+      subst (MadeSo h.machine.table (slice_set h.machine.store.records place now)) (sym dropped.made) none,
     )
 
 -- nothing is of a UDP socket that isn't there yet, or is closed
@@ -87,7 +93,8 @@ none_open h place u g n i a l e =
 
 -- nor of what was just dropped, or has no handle yet
 pub left_none : (h : Here) (place : ℕ) → IsLeft h place → Owns h → NoneOf h.machine.table place
-left_none h place (walk.OfTcp r made g) i = (subst (MadeSo h.machine.table h.machine.store.records) made i.1) place refl
+left_none h place (walk.OfTcp r its g) i =
+    (subst (MadeSo h.machine.table h.machine.store.records) its.made i.1) place (owner_is its.kind place its.socket)
 left_none h place (walk.OfUdp side g) i = none_open h place (UdpRecord.Closed side) g refl i
 left_none h place (walk.OfLookup l made g) i =
     (subst (MadeSo h.machine.table h.machine.store.records) made i.1) place refl
@@ -100,8 +107,8 @@ left_none h place (walk.OfOutput pipe made g) i =
 left_made : (h : Here) (place : ℕ) → IsLeft h place → (now : List Record)
     → now ≡ slice_set h.machine.store.records place Record.Gone
     → MadeSo h.machine.table h.machine.store.records h.made → MadeSo h.machine.table now h.made
-left_made h place (walk.OfTcp r made g) now e k =
-    subst (MadeSo h.machine.table now) (sym made) (subst (MadeSo h.machine.table h.machine.store.records) made k)
+left_made h place (walk.OfTcp r its g) now e k =
+    subst (MadeSo h.machine.table now) (sym its.made) (subst (MadeSo h.machine.table h.machine.store.records) its.made k)
 left_made h place (walk.OfUdp side g) now e k =
     subst (λ (xs : List Record). MadeSo h.machine.table xs h.made) (sym e)
     (made_stays h.machine.table h.machine.store.records _
@@ -319,8 +326,10 @@ module _ (contexts : List WasiSocketsCtx) (line : ℕ) (origin : Step) where
       two_fits h.machine.table h.machine.store.records kind (Input place) (Output place) place handle two (stream_fits h.machine.table h.machine.store.records (Input place) place handle refl (λ w e. absurd (cc)) one stays) (stream_fits h.machine.table h.machine.store.records (Output place) place handle refl (λ w e. absurd (cc)) one stays)
 
   -- a socket that is created, and what an accept took, are the first of their records
-  first_fits : (t : HandleTable) (records : List Record) (place : ℕ) → NoneOf t place → IsSome (tcp2_at records place) → IsNew t records (Tcp2 place) None
-  first_fits t records place none stays = owner_fits t records (Tcp2 place) place None refl (λ w e. absurd (cc)) none stays
+  first_fits : (face : Interface) (t : HandleTable) (records : List Record) (place : ℕ) → NoneOf t place → IsSome (tcp2_at records place)
+      → IsNew t records (tcp_kind face place) None
+  first_fits OfP2 t records place none stays = owner_fits t records (Tcp2 place) place None refl (λ w e. absurd (cc)) none stays
+  first_fits OfP3 t records place none stays = owner_fits t records (Tcp3 place) place None refl (λ w e. absurd (cc)) none stays
 
   marks_owns : (h : Here) (kind : Kind) (parent : Option ℕ) (sock : Option OpId) → Marks origin h kind parent sock → Owns h → IsMadeSo h kind parent h.made
   marks_owns h _ parent sock (walk.ANetwork c e) i = made_other h Network None tt i
@@ -358,7 +367,7 @@ module _ (contexts : List WasiSocketsCtx) (line : ℕ) (origin : Step) where
       let k : MadeSo h.machine.table h.machine.store.records (Joined place) =
       subst (MadeSo h.machine.table h.machine.store.records) e i.1 in
       record {
-        new = first_fits h.machine.table h.machine.store.records place k.0 (ap is_some g);
+        new = first_fits OfP2 h.machine.table h.machine.store.records place k.0 (ap is_some g);
         so = (λ a l e. elim (one_of h.machine.table (Tcp2 place) (Some s) a l) [ inl old ↦ absurd (k.0 a old (inl e)) | inr n ↦ ap (λ (x : Live Kind). x.handle) (sym n) ], k.1);
       }
   handles_owns h _ _ _ (OfCreated place u g) i = record {
@@ -379,6 +388,12 @@ module _ (contexts : List WasiSocketsCtx) (line : ℕ) (origin : Step) where
   no_room h (ToSend n handle reached) none i = (i.0, tt)
   no_room h _ none i = absurd none
 
+  -- a TCP socket's handle, of either interface
+  first_owned : (face : Interface) (t : HandleTable) (records : List Record) (place : ℕ) → NoneOf t place → IsSome (tcp2_at records place)
+      → Owned t records → Owned (with_handle t (tcp_kind face place) None) records
+  first_owned OfP2 t records place none stays i = made_owned t records (Tcp2 place) None (first_fits OfP2 t records place none stays) i
+  first_owned OfP3 t records place none stays i = made_owned t records (Tcp3 place) None (first_fits OfP3 t records place none stays) i
+
   pub becomes_owns : (h now : Here) → Becomes contexts line origin h now → Owns h → Owns now
   becomes_owns h _ (Learnt place r side told at g e) i = put_owns h place r g _ (λ s. s) i
   becomes_owns h _ (IsClosed place r side q g e) i = put_gone h place _ q.1 i
@@ -396,18 +411,17 @@ module _ (contexts : List WasiSocketsCtx) (line : ℕ) (origin : Step) where
       let x = handles_owns h kind parent made k i in
       (made_owned h.machine.table h.machine.store.records kind parent x.new i.0, x.so)
   becomes_owns h _ (NoRoom made none) i = no_room h made none i
-  becomes_owns h _ (Created ctx family c u m) i = (
+  becomes_owns h _ (Created face ctx family c u m) i = (
     push_owned h.machine.table h.machine.store.records _ i.0,
     push_made h.machine.table h.machine.store.records _ h.made i.1,
   )
-  becomes_owns h _ (CreatedWith ctx family c u past) i =
+  becomes_owns h _ (CreatedWith face ctx family c u past) i =
       let records = h.machine.store.records in
       let new = Record.Tcp (new_record (new_socket (own_of line) ctx.name family)) in (
-        made_owned h.machine.table (records ++ new ∷ []) (Tcp2 (length records)) None
-            (first_fits h.machine.table (records ++ new ∷ []) (length records) (none_at_end h.machine.table records i.0)
-            (ap (λ (o : Option Record). is_some (tcp2_of o)) (get_seam records new)))
+        first_owned face h.machine.table (records ++ new ∷ []) (length records) (none_at_end h.machine.table records i.0)
+            (ap (λ (o : Option Record). is_some (tcp2_of o)) (get_seam records new))
             (push_owned h.machine.table records new i.0),
-        subst (MadeSo (with_handle h.machine.table (Tcp2 (length records)) None) (records ++ new ∷ [])) (sym past) tt,
+        subst (MadeSo (with_handle h.machine.table (tcp_kind face (length records)) None) (records ++ new ∷ [])) (sym past) tt,
       )
   becomes_owns h _ (Writing _ (InCall place n r s half permit bytes at g e w within used)) i = put_owns h place r g _ (λ s. refl) i
 

@@ -2,7 +2,7 @@
 use Rattle.std.proofs.Common.{◌≡◌, inl, inr, ℕ, List, [], ◌∷◌, ◌++◌, Option, Some, None, refl, subst, sym, slice_get, slice_set}
 use Rattle.std.specs.Prelude.{IsSome, ⊤}
 use Rattle.wasi_host.specs.declared.kind.Kind.{Kind}
-use Rattle.wasi_host.specs.declared.kind.Kind.TheVariants.{Tcp2, Udp2, Input, Output, Incoming, Outgoing, Lookup, PlainInput, PlainOutput}
+use Rattle.wasi_host.specs.declared.kind.Kind.TheVariants.{Tcp2, Tcp3, Udp2, Input, Output, Incoming, Outgoing, Lookup, PlainInput, PlainOutput}
 use Rattle.wasi_host.specs.declared.kind.PlainInput.TheVariants as plain_input
 use Rattle.wasi_host.specs.declared.kind.PlainOutput.TheVariants as plain_output
 use Rattle.wasi_records.specs.Records.{tcp2_of, udp2_of, open_of, lookup_of, input_pipe_of, output_pipe_of}
@@ -19,6 +19,7 @@ use Rattle.wasi_walks.proofs.Places.{push_at, set_at, tcp_sort, udp_sort}
 -- An input and an output of a connection are of a socket that has its streams, and what is of a UDP socket is of an open one.
 abbrev pub Names : Kind → Option Record → Type 0
 Names (Tcp2 place) o = IsSome (tcp2_of o)
+Names (Tcp3 place) o = IsSome (tcp2_of o)
 Names (Input place) o = IsSome (streams_in (tcp2_of o))
 Names (Output place) o = IsSome (streams_in (tcp2_of o))
 Names (Udp2 place) o = IsSome (open_of (udp2_of o))
@@ -33,6 +34,7 @@ Names _ o = ⊤
 tcp_names : (kind : Kind) (r now : TcpRecord) → (IsSome r.streams → IsSome now.streams)
     → Names kind (Some (Record.Tcp r)) → Names kind (Some (Record.Tcp now))
 tcp_names (Tcp2 place) r now keeps s = refl
+tcp_names (Tcp3 place) r now keeps s = refl
 tcp_names (Input place) r now keeps s = keeps s
 tcp_names (Output place) r now keeps s = keeps s
 tcp_names (PlainInput (plain_input.Pipe place)) r now keeps s = s
@@ -80,6 +82,7 @@ names_open xs i o now g k kind s =
 -- == nothing is of a record that isn't there
 pub names_none : (kind : Kind) (place : ℕ) → IsOf kind place → Names kind None → ⊥
 names_none (Tcp2 p) place e s = absurd (cc)
+names_none (Tcp3 p) place e s = absurd (cc)
 names_none (Input p) place e s = absurd (cc)
 names_none (Output p) place e s = absurd (cc)
 names_none (Udp2 p) place e s = absurd (cc)
@@ -105,6 +108,7 @@ names_push xs now k kind e s =
 pub names_same : {new : LookupOp → Type 0} (old now : List Record) (k : ℕ) (kind : Kind) → SameSockets new old now
     → Names kind (slice_get old k) → Names kind (slice_get now k)
 names_same old now k (Tcp2 p) same s = subst IsSome (sym (same.tcp k)) s
+names_same old now k (Tcp3 p) same s = subst IsSome (sym (same.tcp k)) s
 names_same old now k (Input p) same s = subst (λ (o : Option TcpRecord). IsSome (streams_in o)) (sym (same.tcp k)) s
 names_same old now k (Output p) same s = subst (λ (o : Option TcpRecord). IsSome (streams_in o)) (sym (same.tcp k)) s
 names_same old now k (Udp2 p) same s = subst (λ (o : Option UdpRecord). IsSome (open_of o)) (sym (same.udp k)) s

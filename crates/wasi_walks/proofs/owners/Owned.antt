@@ -3,7 +3,7 @@ use Rattle.wasi_walks.proofs.Words.{HandleTable, Input, Kind, List, None, Option
 use Rattle.wasi_table.specs.Table.{Live}
 use Rattle.wasi_host.specs.Kinds.{has_no_child}
 use Rattle.wasi_host.specs.Machine.{first_state}
-use Rattle.wasi_host.specs.declared.kind.Kind.TheVariants.{Incoming, Lookup, Outgoing, PlainInput, PlainOutput, Udp2}
+use Rattle.wasi_host.specs.declared.kind.Kind.TheVariants.{Incoming, Lookup, Outgoing, PlainInput, PlainOutput, Tcp3, Udp2}
 use Rattle.wasi_host.specs.declared.kind.PlainInput.TheVariants as plain_input
 use Rattle.wasi_host.specs.declared.kind.PlainOutput.TheVariants as plain_output
 use Rattle.wasi_records.specs.declared.records.Record.{Record}
@@ -217,6 +217,7 @@ watched_place Watched.Plain = None
 -- the record that a handle names
 abbrev pub named_by : Kind → Option ℕ
 named_by (Tcp2 place) = Some place
+named_by (Tcp3 place) = Some place
 named_by (Udp2 place) = Some place
 named_by (Lookup place) = Some place
 named_by (PlainInput (plain_input.Pipe place)) = Some place
@@ -230,6 +231,7 @@ named_by _ = None
 
 pub watched_is_of : (kind : Kind) (w : Watched) (place : ℕ) → watched_by (Some kind) ≡ Some w → watched_place w ≡ Some place → IsOf kind place
 watched_is_of (Tcp2 n) w place e f = let p : Watched.Socket n ≡ w = cc in inl (ap watched_place p ∙ f)
+watched_is_of (Tcp3 n) w place e f = absurd (cc)
 watched_is_of (Udp2 n) w place e f = let p : Watched.Udp n ≡ w = cc in inl (ap watched_place p ∙ f)
 watched_is_of (Lookup n) w place e f = let p : Watched.Lookup n ≡ w = cc in inl (ap watched_place p ∙ f)
 watched_is_of (Input n) w place e f = let p : Watched.Input n ≡ w = cc in inr (ap watched_place p ∙ f)
@@ -248,6 +250,7 @@ module _ (t : HandleTable) (records : List Record) (i : Owned t records) where
       by_kind : (k : Kind) → SlotOf t.live handle k → named_by k ≡ Some place → (a : Live Kind) × (Has t.live a × IsOf a.value place)
       by_kind (Pollable w) s n = let k = i.watches s.slot w s.live_one s.value in (k.slot, (k.live_one, watched_is_of k.slot.value w place k.watched n))
       by_kind (Tcp2 p) s n = (s.slot, (s.live_one, inl (ap owner_of s.value ∙ n)))
+      by_kind (Tcp3 p) s n = (s.slot, (s.live_one, inl (ap owner_of s.value ∙ n)))
       by_kind (Udp2 p) s n = (s.slot, (s.live_one, inl (ap owner_of s.value ∙ n)))
       by_kind (Lookup p) s n = (s.slot, (s.live_one, inl (ap owner_of s.value ∙ n)))
       by_kind (PlainInput (plain_input.Pipe p)) s n = (s.slot, (s.live_one, inl (ap owner_of s.value ∙ n)))
@@ -275,6 +278,7 @@ module _ (t : HandleTable) (records : List Record) (i : Owned t records) where
 -- a handle that is of a socket names its record
 pub tcp_names : (kind : Kind) (place : ℕ) → record_of (Some kind) ≡ Some place → named_by kind ≡ Some place
 tcp_names (Tcp2 n) place e = e
+tcp_names (Tcp3 n) place e = e
 tcp_names (Input n) place e = e
 tcp_names (Output n) place e = e
 tcp_names (Pollable w) place e = by_watched w e

@@ -148,8 +148,8 @@ module _ (contexts : List WasiSocketsCtx) (line : ℕ) (origin : Step) where
   becomes_wanted h _ (UdpBegun ctx family r c u m) i =
       begun_wanted h (udp_after_create (own_of line) ctx.name family r) i
   becomes_wanted h _ (Resolved host records l same) i = same_wanted h.machine.store.records records same i
-  becomes_wanted h _ (Created ctx family c u m) i = push_tcp h.machine.store.records _ i
-  becomes_wanted h _ (CreatedWith ctx family c u m) i = push_tcp h.machine.store.records _ i
+  becomes_wanted h _ (Created face ctx family c u m) i = push_tcp h.machine.store.records _ i
+  becomes_wanted h _ (CreatedWith face ctx family c u m) i = push_tcp h.machine.store.records _ i
   becomes_wanted h _ (Writing _ (InCall place n r s half permit bytes at g e w within used)) i = put_tcp _ place _ i
   becomes_wanted h _ _ i = i
 

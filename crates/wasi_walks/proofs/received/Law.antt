@@ -1,6 +1,6 @@
 -- The law that what the incoming stream of a network socket holds was received from a place of the log on.
 use Rattle.wasi_walks.proofs.walks.Asked.{Asked, Questions, SetsBacklog, Learns, Closes, MarksOne, AsksCreate, MarksAccepted, Polls, Turns, GivesUp, UdpQuestions, UdpLearns, UdpPeers, UdpCloses, UdpBegins, MarksUdp, MarksStream, MarksError, UdpGivesUp, Resolves, Looks}
-use Rattle.wasi_walks.proofs.Words.{refl, Option, HoldsAccept, HoldsConnect, IsAcceptOn, Job, HandleTable, Kind, Streams, WriteState, allows_keep, arith, inl, inr, ⊤, ◌⊎◌, ◌≤◌, Allows, Asks, Call, Done, End, Entry, Err, ErrorCode, ErrorValue, IsDoneOrCode, Item, List, Machine}
+use Rattle.wasi_walks.proofs.Words.{made_to, create_to, Stop, refl, Option, HoldsAccept, HoldsConnect, IsAcceptOn, Job, HandleTable, Kind, Streams, WriteState, allows_keep, arith, inl, inr, ⊤, ◌⊎◌, ◌≤◌, Allows, Asks, Call, Done, End, Entry, Err, ErrorCode, ErrorValue, IsDoneOrCode, Item, List, Machine}
 use Rattle.wasi_walks.proofs.Words.{None, Not, Ok, OpId, Operation, Refused, Result, Socket, SocketAddressFamily, Some, Step, Tcp2, TcpRecord, Told, Waits}
 use Rattle.wasi_walks.proofs.Words.{WasiSocketsCtx, [], allows_then, allows_weaker, ap, bind_progress, connect_ended, accept_ended, create_asks, created_asks, entry, give_up_asks, length, make_asks}
 use Rattle.wasi_walks.proofs.Words.{new_asks, new_record, own_of, poll_asks, side_of, subst, sym, told_addr, told_done, turn_asks}
@@ -26,7 +26,7 @@ use Rattle.wasi_walks.proofs.fits.Records.{FitProgress, FitListening, FitUdpProg
 use Rattle.wasi_walks.proofs.fits.UdpFits.{learnt_side}
 use Rattle.wasi_walks.proofs.walks.Law.{BeginsWrites, Law, Rests, Walks, begins_by}
 use Rattle.wasi_walks.proofs.walks.Moves as walk
-use Rattle.wasi_walks.proofs.walks.Moves.{IsQuestionOf, IsUdpQuestionOf, Found, send_op, sending_in, FoundUdp, Held, Here, Move, Used, accepting_now, closed_record, joined, listen_after, opened_by, part_of, receive_op, receiving_in, udp_begun}
+use Rattle.wasi_walks.proofs.walks.Moves.{Interface, tcp_kind, IsQuestionOf, IsUdpQuestionOf, Found, send_op, sending_in, FoundUdp, Held, Here, Move, Used, accepting_now, closed_record, joined, listen_after, opened_by, part_of, receive_op, receiving_in, udp_begun}
 use Rattle.wasi_walks.proofs.remotes.Law.{begins_kept, remotes}
 use Rattle.wasi_walks.proofs.remotes.State.{WritesBy, Keeps, OpenKeeps, ReceivesFor, maker_of}
 use Rattle.wasi_walks.proofs.received.Late.{NoRecvOf, OnlyOf, long_more, only_other, InHandLate, IncomingLate, ReceivingLate, poll_late}
@@ -54,15 +54,15 @@ module _ (side : OpId) (from : ℕ) where
   marks_late records es t op kind parent sock i = along records es (make_asks t op kind parent sock) i (made_silent side (IsHeld side records) NoName es t op kind parent sock)
 
   -- a socket that is created joins the records
-  pub socket_adds : (es : List Entry) (m : Machine) (own : OpId) (made : Result Socket ErrorCode) → It es m.store.records → Allows Anything (λ fs done. It fs done.1.store.records) es (created_asks m own made)
-  socket_adds es m own (Err c) i = i
-  socket_adds es m own (Ok socket) i =
-      allows_then Anything (λ fs made. It fs m.store.records) (λ fs done. It fs done.1.store.records) es (make_asks m.table own (Tcp2 (length m.store.records)) None (side_of socket)) _ (marks_late m.store.records es m.table own (Tcp2 (length m.store.records)) None (side_of socket) i)
+  pub socket_adds : {T : Type 0} (tells : Result ℕ Stop → T) (fails : ErrorCode → T) (face : Interface) (es : List Entry) (m : Machine) (own : OpId) (made : Result Socket ErrorCode) → It es m.store.records → Allows Anything (λ fs done. It fs done.1.store.records) es (made_to tells fails (tcp_kind face) m own made)
+  socket_adds tells fails face es m own (Err c) i = i
+  socket_adds tells fails face es m own (Ok socket) i =
+      allows_then Anything (λ fs made. It fs m.store.records) (λ fs done. It fs done.1.store.records) es (make_asks m.table own (tcp_kind face (length m.store.records)) None (side_of socket)) _ (marks_late m.store.records es m.table own (tcp_kind face (length m.store.records)) None (side_of socket) i)
       (λ fs made k. push_tcp side from fs m.store.records (new_record socket) k)
 
-  pub creates_late : (es : List Entry) (m : Machine) (own : OpId) (ctx : WasiSocketsCtx) (family : SocketAddressFamily) → It es m.store.records → Allows Anything (λ fs done. It fs done.1.store.records) es (create_asks m own ctx family)
-  creates_late es m own ctx family i =
-      allows_then Anything (λ fs made. It fs m.store.records) (λ fs done. It fs done.1.store.records) es (new_asks own ctx family) (created_asks m own) (along m.store.records es (new_asks own ctx family) i (new_silent side (IsHeld side m.store.records) NoName es own ctx family)) (λ fs made k. socket_adds fs m own made k)
+  pub creates_late : {T : Type 0} (tells : Result ℕ Stop → T) (fails : ErrorCode → T) (face : Interface) (es : List Entry) (m : Machine) (own : OpId) (ctx : WasiSocketsCtx) (family : SocketAddressFamily) → It es m.store.records → Allows Anything (λ fs done. It fs done.1.store.records) es (create_to tells fails (tcp_kind face) m own ctx family)
+  creates_late tells fails face es m own ctx family i =
+      allows_then Anything (λ fs made. It fs m.store.records) (λ fs done. It fs done.1.store.records) es (new_asks own ctx family) (made_to tells fails (tcp_kind face) m own) (along m.store.records es (new_asks own ctx family) i (new_silent side (IsHeld side m.store.records) NoName es own ctx family)) (λ fs made k. socket_adds tells fails face fs m own made k)
 
   -- a create of a UDP socket was answered
   pub begun_late : (es : List Entry) (h : Here) (own : OpId) (maker : ℕ) (family : SocketAddressFamily) (told : Told) → IsDoneOrCode told → It es h.machine.store.records
@@ -207,7 +207,7 @@ module _ (side : OpId) (from : ℕ) where
     lates_asks es h _ _ _ (Learns place r x at g e) b i = (tt, λ told f. put_tcp side from _ _ place _ (one_late side from es (own_of line) (Call.Local x) told _ (λ y. tt) i))
     lates_asks es h _ _ _ (Closes place r x q g e) b i = (tt, λ told f. put_tcp side from _ _ place (closed_record r) (one_late side from es (own_of line) (Call.Close x) told _ (λ y. tt) i))
     lates_asks es h _ _ _ (MarksOne kind parent sock m) b i = marks_late _ es h.machine.table (own_of line) kind parent sock i
-    lates_asks es h _ _ _ (AsksCreate ctx family c a o m) b i = creates_late es h.machine (own_of line) ctx family i
+    lates_asks es h _ _ _ (AsksCreate tells fails face ctx family c a o m) b i = creates_late tells fails face es h.machine (own_of line) ctx family i
     lates_asks es h _ _ _ (MarksAccepted c s place r is e o g) b i = marks_late _ es h.machine.table (own_of line) (Tcp2 place) (Some s) _ i
     lates_asks es h _ _ _ (Polls op after k) b i = polls_late es h op after k b.0 b.1 i
     lates_asks es h _ _ _ (Turns place r s g e) b i = allows_weaker Anything (λ fs done. It fs h.machine.store.records) (λ fs done. It fs (tcp2_put h.machine.store.records place (with_writer r s done.1))) (λ fs done k. put_tcp side from fs _ place _ k) es (turn_asks s.writer) (along _ es (turn_asks s.writer) i (turn_silent side (IsHeld side h.machine.store.records) NoName es s.writer (writer_apart line es h place r s g e b.0.1 b.1)))

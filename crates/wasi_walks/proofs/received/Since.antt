@@ -1,6 +1,6 @@
 -- The law that what the incoming streams of a network socket hold was received after the marks of their handles.
 use Rattle.wasi_walks.proofs.walks.Asked.{Asked, Questions, SetsBacklog, Learns, Closes, MarksOne, AsksCreate, MarksAccepted, Polls, Turns, GivesUp, UdpQuestions, UdpLearns, UdpPeers, UdpCloses, UdpBegins, MarksUdp, MarksStream, MarksError, UdpGivesUp, Resolves, Looks}
-use Rattle.wasi_walks.proofs.Words.{Allows, Asks, Call, Entry, Err, ErrorCode, ErrorValue, Full, HandleTable, Kind, List, None, Not, Ok, OpId, Option, Result, Socket, Some, Step, Stop, Tcp2, Told, Trap, WasiSocketsCtx, []}
+use Rattle.wasi_walks.proofs.Words.{made_to, Allows, Asks, Call, Entry, Err, ErrorCode, ErrorValue, Full, HandleTable, Kind, List, None, Not, Ok, OpId, Option, Result, Socket, Some, Step, Stop, Tcp2, Told, Trap, WasiSocketsCtx, []}
 use Rattle.wasi_walks.proofs.Words.{allows_if, allows_keep, allows_then, allows_weaker, ap, arith, bind, created_asks, entry, give_up_asks, inl, inr, is_full, kind_at, length, length-append, make_asks, name_of, new_asks, new_record, own_of, poll_asks}
 use Rattle.wasi_walks.proofs.Words.{refl, side_of, subst, sym, told_done, turn_asks, with_handle, with_listening, with_writer, ℕ, ◌++◌, ◌∷◌, ◌≡◌, ◌⊎◌}
 use Rattle.wasi_udp.specs.Create.{create_cancel_asks, after_create as udp_after_create}
@@ -24,7 +24,7 @@ use Rattle.wasi_walks.proofs.received.Polls.{NoName}
 use Rattle.wasi_walks.proofs.received.Silent.{new_silent}
 use Rattle.wasi_walks.proofs.received.State.{IsHeld, Late, OneEach, one_late, put_later, push_tcp, put_tcp, same_or_not}
 use Rattle.wasi_walks.proofs.walks.Law.{BeginsWrites, Law, Rests, Walks, begins_by}
-use Rattle.wasi_walks.proofs.walks.Moves.{HasNewStream, Here, Made, MarksNext, Past, ToSend, Used, made_so, put, put_udp, udp_begun}
+use Rattle.wasi_walks.proofs.walks.Moves.{Interface, OfP2, OfP3, tcp_kind, HasNewStream, Here, Made, MarksNext, Past, ToSend, Used, made_so, put, put_udp, udp_begun}
 use Rattle.wasi_walks.proofs.Places.{put_again, udp_sort}
 
 module _ (side : OpId) (from : ℕ) where
@@ -121,13 +121,18 @@ module _ (side : OpId) (from : ℕ) where
       subst (λ (k : Kind). A k (udp_side_at (udp2_at h.machine.store.records place))) (sym e)
       (subst (A (Incoming place)) (sym (ap udp_side_at at)) (marks_new es h place n handle one new.socket at i reached (λ fs. subst (IncomingLate (length fs) fs side) (sym new.new) tt)))
 
+  -- the handle of a TCP socket is no incoming stream's
+  other_kind : (face : Interface) (place : ℕ) → NotIncoming side (tcp_kind face place)
+  other_kind OfP2 place = tt
+  other_kind OfP3 place = tt
+
   -- == a create
-  joins : (es : List Entry) (h : Here) (own : OpId) (made : Result Socket ErrorCode) → h.made ≡ Past → Inv es h → Allows Anything (λ fs done. Inv fs (record h { machine = done.1; own = Used })) es (created_asks h.machine own made)
-  joins es h own (Err c) past i = i
-  joins es h own (Ok socket) past i =
+  joins : {T : Type 0} (tells : Result ℕ Stop → T) (fails : ErrorCode → T) (face : Interface) (es : List Entry) (h : Here) (own : OpId) (made : Result Socket ErrorCode) → h.made ≡ Past → Inv es h → Allows Anything (λ fs done. Inv fs (record h { machine = done.1; own = Used })) es (made_to tells fails (tcp_kind face) h.machine own made)
+  joins tells fails face es h own (Err c) past i = i
+  joins tells fails face es h own (Ok socket) past i =
       let next : Here = record h { machine = record h.machine { store = record h.machine.store { records = tcp2_pushed h.machine.store.records (new_record socket) } } } in
-      allows_then Anything (λ fs made. Inv fs (record next { machine = record next.machine { table = made.1 } })) (λ fs done. Inv fs (record h { machine = done.1; own = Used })) es (make_asks h.machine.table own (Tcp2 (length h.machine.store.records)) None (side_of socket)) _
-      (marks_other es next own (Tcp2 (length h.machine.store.records)) None (side_of socket) tt (record { start = i.0.start; on = i.0.on; late = push_tcp side i.0.start es _ (new_record socket) i.0.late; early = i.0.early }, i.1)) (λ fs made k. k)
+      allows_then Anything (λ fs made. Inv fs (record next { machine = record next.machine { table = made.1 } })) (λ fs done. Inv fs (record h { machine = done.1; own = Used })) es (make_asks h.machine.table own (tcp_kind face (length h.machine.store.records)) None (side_of socket)) _
+      (marks_other es next own (tcp_kind face (length h.machine.store.records)) None (side_of socket) (other_kind face (length h.machine.store.records)) (record { start = i.0.start; on = i.0.on; late = push_tcp side i.0.start es _ (new_record socket) i.0.late; early = i.0.early }, i.1)) (λ fs made k. k)
 
   module _ (contexts : List WasiSocketsCtx) (line : ℕ) (origin : Step) where
     -- the law: the calls may be any
@@ -140,10 +145,10 @@ module _ (side : OpId) (from : ℕ) where
     sinces_asks es h _ _ _ (Learns place r x at g e) b i = (tt, λ told f. (longer es _ _ _ _ i.0 (((lates side i.0.start contexts line origin).asks es h _ _ _ (Learns place r x at g e) b i.0.late).1 told f), i.1))
     sinces_asks es h _ _ _ (Closes place r x q g e) b i = (tt, λ told f. (longer es _ _ _ _ i.0 (((lates side i.0.start contexts line origin).asks es h _ _ _ (Closes place r x q g e) b i.0.late).1 told f), i.1))
     sinces_asks es h _ _ _ (MarksOne kind parent sock m) b i = marks_other es h (own_of line) kind parent sock (is_other side origin h kind parent sock m) i
-    sinces_asks es h _ _ _ (AsksCreate ctx family c a o m) b i =
-        allows_then Anything (λ fs made. Inv fs h) (λ fs done. Inv fs (record h { machine = done.1; own = Used })) es (new_asks (own_of line) ctx family) (created_asks h.machine (own_of line))
+    sinces_asks es h _ _ _ (AsksCreate tells fails face ctx family c a o m) b i =
+        allows_then Anything (λ fs made. Inv fs h) (λ fs done. Inv fs (record h { machine = done.1; own = Used })) es (new_asks (own_of line) ctx family) (made_to tells fails (tcp_kind face) h.machine (own_of line))
         (kept h (λ made. h) es (new_asks (own_of line) ctx family) i (λ made. i.1) (λ fs made k. k) (along side i.0.start h.machine.store.records es (new_asks (own_of line) ctx family) i.0.late (new_silent side (IsHeld side h.machine.store.records) NoName es (own_of line) ctx family)))
-        (λ fs made k. joins fs h (own_of line) made m k)
+        (λ fs made k. joins tells fails face fs h (own_of line) made m k)
     sinces_asks es h _ _ _ (MarksAccepted c s place r is e o g) b i = marks_so es h (own_of line) (Tcp2 place) (Some s) _ (made_so place) tt tt tt i
     sinces_asks es h _ _ _ (Polls op after k) b i = kept h after es (poll_asks op) i (λ end. polled_same (λ t made standing. AreUnder t made standing) h op after k end i.1) (λ fs end. polled_same (λ t made standing. AreEarly side i.0.start fs t) h op after k end) ((lates side i.0.start contexts line origin).asks es h _ _ _ (Polls op after k) b i.0.late)
     sinces_asks es h _ _ _ (Turns place r s g e) b i = kept h (λ done. put h place (with_writer r s done.1)) es (turn_asks s.writer) i (λ done. i.1) (λ fs done k. k) ((lates side i.0.start contexts line origin).asks es h _ _ _ (Turns place r s g e) b i.0.late)

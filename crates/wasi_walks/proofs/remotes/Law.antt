@@ -1,7 +1,7 @@
 -- The law that the remote address that an open UDP socket keeps is what the network reported last.
 use Rattle.wasi_walks.proofs.walks.Law.{BeginsWrites, Rests, begins_by}
 use Rattle.wasi_walks.proofs.walks.Asked.{Asked, Questions, SetsBacklog, Learns, Closes, MarksOne, AsksCreate, MarksAccepted, Polls, Turns, GivesUp, UdpQuestions, UdpLearns, UdpPeers, UdpCloses, UdpBegins, MarksUdp, MarksStream, MarksError, UdpGivesUp, Resolves, Looks}
-use Rattle.wasi_walks.proofs.Words.{Asks}
+use Rattle.wasi_walks.proofs.Words.{made_to, create_to, Stop, Asks}
 use Rattle.wasi_walks.proofs.Words.{Accepting, Accepts, Allows, Begins, Bool, Call, Done, End, Entry, Err, ErrorCode, Give, HandleTable}
 use Rattle.wasi_walks.proofs.Words.{ErrorValue, IpSocketAddress, IsDoneOrCode, Job, Kind, List, Listening, Machine, None, Not, Ok, OpId, Option}
 use Rattle.wasi_walks.proofs.Words.{ReadState, Refused, Result, Socket, SocketAddressFamily, Some, Step, Streams, Tcp2, TcpRecord, TcpSendStream, Told, Unclosed}
@@ -25,7 +25,7 @@ use Rattle.wasi_walks.proofs.claims.Law.{Named, Base}
 use Rattle.wasi_walks.proofs.fits.Polls.{Anything}
 use Rattle.wasi_walks.proofs.fits.UdpFits.{kept_op}
 use Rattle.wasi_walks.proofs.walks.Moves as walk
-use Rattle.wasi_walks.proofs.walks.Moves.{closed_record, udp_begun, opened_by, part_of, Found, Here, IsOn, IsQuestionOf, IsUdpQuestionOf, Move, OfReader, OfSocket, OfWriter, UdpPlain, joined, receiving_in}
+use Rattle.wasi_walks.proofs.walks.Moves.{Interface, tcp_kind, closed_record, udp_begun, opened_by, part_of, Found, Here, IsOn, IsQuestionOf, IsUdpQuestionOf, Move, OfReader, OfSocket, OfWriter, UdpPlain, joined, receiving_in}
 use Rattle.wasi_walks.proofs.remotes.Held.{peer_keeps, polls_keep}
 use Rattle.wasi_walks.proofs.remotes.Polls.{AreSilent, NoPeer, Unpeered, silent_poll}
 use Rattle.wasi_walks.proofs.remotes.ConnectPolls.{Whole}
@@ -87,17 +87,17 @@ unfolding bind
 new_quiet es own ctx family = allows_if Unpeered (λ fs made. ⊤) es ctx.tcp _ _ (λ may. (tt, λ told f. tt)) (λ other. tt)
 
 -- the socket that is created joins the records
-socket_adds : (es : List Entry) (m : Machine) (own : OpId) (made : Result Socket ErrorCode) → Allows Unpeered (λ fs done. Adds m done.1) es (created_asks m own made)
-socket_adds es m own (Err c) = λ gs k. k
-socket_adds es m own (Ok socket) =
-    allows_then Unpeered (λ fs made. ⊤) (λ fs done. Adds m done.1) es (make_asks m.table own (Tcp2 (length m.store.records)) None (side_of socket)) _ (made_quiet es m.table own (Tcp2 (length m.store.records)) None (side_of socket))
+socket_adds : {T : Type 0} (tells : Result ℕ Stop → T) (fails : ErrorCode → T) (face : Interface) (es : List Entry) (m : Machine) (own : OpId) (made : Result Socket ErrorCode) → Allows Unpeered (λ fs done. Adds m done.1) es (made_to tells fails (tcp_kind face) m own made)
+socket_adds tells fails face es m own (Err c) = λ gs k. k
+socket_adds tells fails face es m own (Ok socket) =
+    allows_then Unpeered (λ fs made. ⊤) (λ fs done. Adds m done.1) es (make_asks m.table own (tcp_kind face (length m.store.records)) None (side_of socket)) _ (made_quiet es m.table own (tcp_kind face (length m.store.records)) None (side_of socket))
     (λ fs made t. λ gs k. push_tcp gs m.store.records (new_record socket) (with_none (new_record socket) refl) k)
 
 -- a create keeps what is known
-pub creates_keep : (es : List Entry) (m : Machine) (own : OpId) (ctx : WasiSocketsCtx) (family : SocketAddressFamily) → Keeps es m.store.records → Allows Anything (λ fs done. Keeps fs done.1.store.records) es (create_asks m own ctx family)
-creates_keep es m own ctx family i =
+pub creates_keep : {T : Type 0} (tells : Result ℕ Stop → T) (fails : ErrorCode → T) (face : Interface) (es : List Entry) (m : Machine) (own : OpId) (ctx : WasiSocketsCtx) (family : SocketAddressFamily) → Keeps es m.store.records → Allows Anything (λ fs done. Keeps fs done.1.store.records) es (create_to tells fails (tcp_kind face) m own ctx family)
+creates_keep tells fails face es m own ctx family i =
     allows_weaker Anything (λ fs done. Keeps fs m.store.records × Adds m done.1) (λ fs done. Keeps fs done.1.store.records) (λ fs done k. k.1 fs k.0) es _
-    (kept m.store.records (λ fs done. Adds m done.1) es (create_asks m own ctx family) i (allows_then Unpeered (λ fs made. ⊤) (λ fs done. Adds m done.1) es (new_asks own ctx family) (created_asks m own) (new_quiet es own ctx family) (λ fs made t. socket_adds fs m own made)))
+    (kept m.store.records (λ fs done. Adds m done.1) es (create_to tells fails (tcp_kind face) m own ctx family) i (allows_then Unpeered (λ fs made. ⊤) (λ fs done. Adds m done.1) es (new_asks own ctx family) (made_to tells fails (tcp_kind face) m own) (new_quiet es own ctx family) (λ fs made t. socket_adds tells fails face fs m own made)))
 
 -- a create of a UDP socket was answered
 pub begun_keeps : (es : List Entry) (h : Here) (own : OpId) (maker : ℕ) (family : SocketAddressFamily) (told : Told) → IsDoneOrCode told → Keeps es h.machine.store.records
@@ -220,7 +220,7 @@ module _ (contexts : List WasiSocketsCtx) (line : ℕ) (origin : Step) where
   remotes_asks es h _ _ _ (Learns place r side at g e) b i = (tt, λ told f. put_tcp _ _ place _ (i.tcps place r g) (asked es _ (own_of line) _ told (quiet _ _ tt) i))
   remotes_asks es h _ _ _ (Closes place r side q g e) b i = (tt, λ told f. put_tcp _ _ place (closed_record r) (with_none (closed_record r) refl) (asked es _ (own_of line) _ told (quiet _ _ tt) i))
   remotes_asks es h _ _ _ (MarksOne kind parent sock m) b i = marks_keep es _ h.machine.table (own_of line) kind parent sock i
-  remotes_asks es h _ _ _ (AsksCreate ctx family c a o m) b i = creates_keep es h.machine (own_of line) ctx family i
+  remotes_asks es h _ _ _ (AsksCreate tells fails face ctx family c a o m) b i = creates_keep tells fails face es h.machine (own_of line) ctx family i
   remotes_asks es h _ _ _ (MarksAccepted c s place r is e o g) b i = marks_keep es _ h.machine.table (own_of line) (Tcp2 place) (Some s) _ i
   remotes_asks es h _ _ _ (Polls op after k) b i = polls_keep contexts line origin es h op after k b i
   remotes_asks es h _ _ _ (Turns place r s g e) b i = turned_keeps es h place r s g e i

@@ -1,10 +1,10 @@
 -- What a line asks, as cases: a part of its tree, why the line may ask it, and where the line is by what the part gives.
-use Rattle.wasi_walks.proofs.Words.{Asks, Call, End, ErrorValue, Has, IsBacklogSet, Item, Kind, List, None, Not, OpId, Operation, Option}
+use Rattle.wasi_walks.proofs.Words.{create_to, ErrorCode, Asks, Call, End, ErrorValue, Has, IsBacklogSet, Item, Kind, List, None, Not, OpId, Operation, Option}
 use Rattle.wasi_walks.proofs.Words.{HandleTable, Result, SocketAddressFamily, Some, GuestCall, Step, Stop, Streams, Tcp2, TcpRecord, TcpState, Told, WasiSocketsCtx, WriteState}
 use Rattle.wasi_walks.proofs.Words.{Entry, Machine, after_local, create_asks, give_up_asks, make_asks, own_of, poll_asks, side_at, side_of}
 use Rattle.wasi_walks.proofs.Words.{told_addr, told_done, true, turn_asks, with_inner, with_listening, with_writer, ℕ, ◌≡◌}
 use Rattle.wasi_world.specs.Asks.{one}
-use Rattle.wasi_walks.proofs.walks.Moves.{Calls, Creates, CreatesUdp, Found, FoundUdp, HasNewStream, Held, Here, IsCreated, IsOn, IsQuestionOf}
+use Rattle.wasi_walks.proofs.walks.Moves.{Interface, tcp_kind, Calls, Creates, CreatesUdp, Found, FoundUdp, HasNewStream, Held, Here, IsCreated, IsOn, IsQuestionOf}
 use Rattle.wasi_walks.proofs.walks.Moves.{IsUdpQuestionOf, Joined, LooksUp, Marks, MarksNext, NoStart, OfStreams, Past, Releases, ReleasesUdp}
 use Rattle.wasi_walks.proofs.walks.Moves.{SameSockets, ToSend, Unused, Used, closed_record, made_so, part_of, put, put_udp, record_of, udp_begun, with_records}
 use Rattle.wasi_walks.proofs.walks.Failures.{Fails}
@@ -86,9 +86,10 @@ pub data Asked (contexts : List WasiSocketsCtx) (line : ℕ) (origin : Step) (es
       (side_at (tcp2_at h.machine.store.records place)))
       (λ made. record h { machine = record h.machine { table = made.1 } })
   -- several calls
-  AsksCreate : (ctx : WasiSocketsCtx) (family : SocketAddressFamily) → Creates contexts ctx family origin
+  AsksCreate : {T : Type 0} (tells : Result ℕ Stop → T) (fails : ErrorCode → T) (face : Interface)
+      (ctx : WasiSocketsCtx) (family : SocketAddressFamily) → Creates contexts ctx family face origin
       → h.at ≡ None → h.own ≡ Unused → h.made ≡ Past
-      → Asked contexts line origin es h (Result ℕ Stop × Machine) (create_asks h.machine (own_of line) ctx family)
+      → Asked contexts line origin es h (T × Machine) (create_to tells fails (tcp_kind face) h.machine (own_of line) ctx family)
       (λ done. record h { machine = done.1; own = Used })
   Polls : (op : Operation) (after : End × List Item → Here) → Held h op after
       → Asked contexts line origin es h (End × List Item) (poll_asks op) after

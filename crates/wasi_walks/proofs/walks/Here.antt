@@ -7,7 +7,7 @@ use Rattle.wasi_records.specs.Datagrams.{has_streams}
 use Rattle.wasi_records.specs.Receiving.{taken, with_receiving}
 use Rattle.wasi_records.specs.Records.{open_at, open_of, tcp2_at, udp2_at, lookup_at, input_pipe_at, output_pipe_at}
 use Rattle.wasi_host.specs.UdpCalls.{with_udp}
-use Rattle.wasi_host.specs.declared.kind.Kind.TheVariants.{Incoming, Outgoing, Udp2, Lookup, PlainInput, PlainOutput}
+use Rattle.wasi_host.specs.declared.kind.Kind.TheVariants.{Incoming, Outgoing, Tcp3, Udp2, Lookup, PlainInput, PlainOutput}
 use Rattle.wasi_records.specs.declared.datagrams.Incoming.{Incoming as IncomingStream}
 use Rattle.memory_streams.specs.Plain.{Contents}
 use Rattle.wasi_host.specs.GivingBack.{given_back}
@@ -126,9 +126,30 @@ NoStartStands (Some s) = NoStartIn s.call
 abbrev pub NoStart : Here → Type 0
 NoStart h = NoStartStands h.machine.store.standing
 
+-- the two interfaces, and the kind of handle that a TCP socket has in each
+pub data Interface : Type 0 where
+  OfP2 : Interface
+  OfP3 : Interface
+
+abbrev pub tcp_kind : Interface → ℕ → Kind
+tcp_kind OfP2 place = Tcp2 place
+tcp_kind OfP3 place = Tcp3 place
+
+-- the record of the TCP socket that a handle of either interface names
+abbrev pub tcp_socket_of : Kind → Option ℕ
+tcp_socket_of (Tcp2 place) = Some place
+tcp_socket_of (Tcp3 place) = Some place
+tcp_socket_of _ = None
+
+-- the handle that the line dropped was a TCP socket's
+pub record IsDropped (now : Made) (place : ℕ) : Type 0 where
+  pub kind : Kind
+  pub made : now ≡ Emptied kind
+  pub socket : tcp_socket_of kind ≡ Some place
+
 -- and the record is that of a socket that is dropped, so that its streams may go
 abbrev pub Releases : Here → ℕ → Type 0
-Releases h place = NoStart h × (h.made ≡ Emptied (Tcp2 place))
+Releases h place = NoStart h × IsDropped h.made place
 
 abbrev pub ReleasesUdp : Here → ℕ → Type 0
 ReleasesUdp h place = NoStart h × (h.made ≡ Emptied (Udp2 place))
@@ -155,7 +176,7 @@ KeepsJobs records old now = (job : HostJob) → Has now job → Has old job ⊎ 
 -- a record to which no handle is any more: the one that it had was just dropped, or it is a UDP socket whose network socket is closed,
 -- or a lookup whose handle wasn't made
 pub data IsLeft (h : Here) (place : ℕ) : Type 0 where
-  OfTcp : (r : TcpRecord) → h.made ≡ Emptied (Tcp2 place) → Found h place r → IsLeft h place
+  OfTcp : (r : TcpRecord) → IsDropped h.made place → Found h place r → IsLeft h place
   OfUdp : (side : OpId) → FoundUdp h place (UdpRecord.Closed side) → IsLeft h place
   OfLookup : (l : NameLookup) → h.made ≡ Emptied (Lookup place) → lookup_at h.machine.store.records place ≡ Some l → IsLeft h place
   OfUnnamed : (l : NameLookup) → h.made ≡ Numbered place h.machine.table.next → lookup_at h.machine.store.records place ≡ Some l → IsLeft h place

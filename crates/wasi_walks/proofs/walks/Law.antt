@@ -1,6 +1,6 @@
 -- A law of runs: what each ask must be, what holds between the asks, and that each move keeps it.
-use Rattle.wasi_walks.proofs.walks.Moves.{Releases}
-use Rattle.wasi_walks.proofs.Words.{Accepting, Accepts, Allows, Ask, AskWrite, Asks, Begins, Bool, Call, End, Entry, Fits, Give, InProgress}
+use Rattle.wasi_walks.proofs.walks.Moves.{Interface, tcp_kind, Releases}
+use Rattle.wasi_walks.proofs.Words.{create_to, Result, Stop, ErrorCode, Accepting, Accepts, Allows, Ask, AskWrite, Asks, Begins, Bool, Call, End, Entry, Fits, Give, InProgress}
 use Rattle.wasi_walks.proofs.Words.{IsBacklogSet, Item, Kind, List, Listener, None, Not, OpId, Operation, Option, SocketAddressFamily, Some, GuestCall, Step}
 use Rattle.wasi_walks.proofs.Words.{Streams, Tcp2, TcpRecord, TcpState, Told, WasiSocketsCtx, [], accept_ended, after_local, allows_then}
 use Rattle.wasi_walks.proofs.Words.{allows_weaker, ap, bind, bind_progress, connect_ended, create_asks, entry, false, give_up_asks, if◌then◌else◌}
@@ -150,8 +150,8 @@ module _ {contexts : List WasiSocketsCtx} {line : ℕ} {origin : Step} {law : La
       → Walks law h (λ made. record h { machine = record h.machine { table = made.1 }; made = made_so place made.0 }) (make_asks h.machine.table (own_of line) (Tcp2 place) (Some listener) (side_at (tcp2_at h.machine.store.records place)))
   accept {h} c listener place r is e o g = record { along = λ es i. law.asks es h _ _ _ (MarksAccepted c listener place r is e o g) tt i }
 
-  pub create : {h : Here} (ctx : WasiSocketsCtx) (family : SocketAddressFamily) → Creates contexts ctx family origin → h.at ≡ None → h.own ≡ Unused → h.made ≡ Past → Walks law h (λ done. record h { machine = done.1; own = Used }) (create_asks h.machine (own_of line) ctx family)
-  create {h} ctx family c a o m = record { along = λ es i. law.asks es h _ _ _ (AsksCreate ctx family c a o m) tt i }
+  pub create : {T : Type 0} {h : Here} (tells : Result ℕ Stop → T) (fails : ErrorCode → T) (face : Interface) (ctx : WasiSocketsCtx) (family : SocketAddressFamily) → Creates contexts ctx family face origin → h.at ≡ None → h.own ≡ Unused → h.made ≡ Past → Walks law h (λ done. record h { machine = done.1; own = Used }) (create_to tells fails (tcp_kind face) h.machine (own_of line) ctx family)
+  create {h = h} tells fails face ctx family c a o m = record { along = λ es i. law.asks es h _ _ _ (AsksCreate tells fails face ctx family c a o m) tt i }
 
   -- == on the record of a place, whichever it is by now
   module _ {h : Here} {place : ℕ} (here : HasRecord h place) where

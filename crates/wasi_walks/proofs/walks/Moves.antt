@@ -12,7 +12,7 @@ use Rattle.wasi_walks.proofs.Words.{side_at, side_of, standing_as, true, wildcar
 use Rattle.wasi_walks.proofs.Words.{with_progress, with_reader, with_state, with_writer, without_handle, writer_side, ℕ, ⊤}
 use Rattle.wasi_walks.proofs.Words.{◌≡◌, ◌⊎◌}
 use Rattle.wasi_world.specs.declared.ids.Ids.{Ids}
-pub use Rattle.wasi_walks.proofs.walks.Here.{KeepsJobs, IsRecord, job_place, keeps_incoming, StreamGoes, StreamIsMade, StreamIsTaken, StreamMoves, StreamStays, TakesFrom, ConnectIsOver, HasNewStream, KeepsStreams, MarksNext, TakesOver, one_stream, IsCreated, IsOpenUdp, NoStart, NoStartIn, NoStartStands, Releases, ReleasesUdp, CallKind, OfPollables, OfStreams, Found, FoundUdp, Here, Own, Names, ToConnect, ToWrite, Unused, Used, Made, Awaited, Calls, Emptied, Joined, Marked, Past, ToSend, ToStream, Unmade, part_of, put, put_udp, with_records, IsLeft, IsNumbered, OfTcp, OfUdp, OfLookup, OfUnnamed, OfInput, OfOutput, without_record, Numbered}
+pub use Rattle.wasi_walks.proofs.walks.Here.{Interface, IsDropped, OfP2, OfP3, tcp_kind, tcp_socket_of, KeepsJobs, IsRecord, job_place, keeps_incoming, StreamGoes, StreamIsMade, StreamIsTaken, StreamMoves, StreamStays, TakesFrom, ConnectIsOver, HasNewStream, KeepsStreams, MarksNext, TakesOver, one_stream, IsCreated, IsOpenUdp, NoStart, NoStartIn, NoStartStands, Releases, ReleasesUdp, CallKind, OfPollables, OfStreams, Found, FoundUdp, Here, Own, Names, ToConnect, ToWrite, Unused, Used, Made, Awaited, Calls, Emptied, Joined, Marked, Past, ToSend, ToStream, Unmade, part_of, put, put_udp, with_records, IsLeft, IsNumbered, OfTcp, OfUdp, OfLookup, OfUnnamed, OfInput, OfOutput, without_record, Numbered}
 use Rattle.wasi_records.specs.Records.{tcp2_at, tcp2_put, tcp2_pushed, udp2_at, lookup_at, input_pipe_at, output_pipe_at}
 use Rattle.wasi_records.specs.declared.name_lookup.Lookup.TheVariants as lookup
 use Rattle.wasi_records.specs.declared.name_lookup.LookupOp.{LookupOp}
@@ -31,7 +31,7 @@ use Rattle.wasi_records.specs.declared.datagrams.Receiving.{Receiving}
 use Rattle.wasi_records.specs.declared.datagrams.Sending.{Sending}
 use Rattle.wasi_host.specs.declared.blocking.BlockingCall.{BlockingCall}
 use Rattle.wasi_host.specs.declared.blocking.BlockingCall.TheVariants as blocking
-use Rattle.wasi_host.specs.declared.kind.Kind.TheVariants.{Udp2, PlainInput, PlainOutput, Incoming, Outgoing, Lookup}
+use Rattle.wasi_host.specs.declared.kind.Kind.TheVariants.{Tcp3, Udp2, PlainInput, PlainOutput, Incoming, Outgoing, Lookup}
 use Rattle.wasi_host.specs.declared.kind.PlainInput.TheVariants as plain_input
 use Rattle.wasi_host.specs.declared.kind.PlainOutput.TheVariants as plain_output
 use Rattle.wasi_host.specs.Blocking.{blocking_handles}
@@ -175,6 +175,7 @@ udp_place w = None
 -- the TCP socket that a handle is of
 abbrev pub record_of : Option Kind → Option ℕ
 record_of (Some (Tcp2 place)) = Some place
+record_of (Some (Tcp3 place)) = Some place
 record_of (Some (Input place)) = Some place
 record_of (Some (Output place)) = Some place
 record_of (Some (Pollable w)) = tcp_place w
@@ -236,10 +237,11 @@ kind_of (blocking.Splice to from len) = OfStreams
 kind_of (blocking.Block pollable) = OfPollables
 kind_of (blocking.Poll pollables) = OfPollables
 
--- a create of this family, by this context
-abbrev pub Creates : List WasiSocketsCtx → WasiSocketsCtx → SocketAddressFamily → Step → Type 0
-Creates contexts ctx family (Step.Call n (GuestCall.TcpCreate f)) = (context_at contexts n ≡ ctx) × (f ≡ family)
-Creates contexts ctx family _ = ⊥
+-- a create of this family, by this context, of the interface
+abbrev pub Creates : List WasiSocketsCtx → WasiSocketsCtx → SocketAddressFamily → Interface → Step → Type 0
+Creates contexts ctx family face (Step.Call n (GuestCall.TcpCreate f)) = (context_at contexts n ≡ ctx) × (f ≡ family) × (face ≡ OfP2)
+Creates contexts ctx family face (Step.Call n (GuestCall.P3TcpCreate f)) = (context_at contexts n ≡ ctx) × (f ≡ family) × (face ≡ OfP3)
+Creates contexts ctx family face _ = ⊥
 
 -- the same of a UDP socket
 abbrev pub CreatesUdp : List WasiSocketsCtx → WasiSocketsCtx → SocketAddressFamily → Step → Type 0

@@ -1,6 +1,6 @@
 -- A law of the state alone, which says nothing of the log: what each move keeps, what each thing that is asked leaves, and what a poll
 -- does.
-use Rattle.wasi_walks.proofs.Words.{Allows, Asks, End, Entry, Err, ErrorValue, Has, HandleTable, Item, Kind, List, None, Not, Ok, OpId, Operation, Option}
+use Rattle.wasi_walks.proofs.Words.{made_to, create_to, Allows, Asks, End, Entry, Err, ErrorValue, Has, HandleTable, Item, Kind, List, None, Not, Ok, OpId, Operation, Option}
 use Rattle.wasi_walks.proofs.Words.{ErrorCode, Result, SocketAddressFamily, Some, GuestCall, Step, Streams, Tcp2, TcpRecord, TcpState, Told, WasiSocketsCtx, Socket}
 use Rattle.wasi_walks.proofs.Words.{after_create, after_local, allows_if, allows_then, bind, created_asks, create_asks, is_full, length, make_asks, new_asks, new_socket, own_of, poll_asks, side_of, told_addr, told_done, turn_asks, with_handle, with_inner, with_listening, with_record, with_writer, ℕ, ◌≡◌, refl, subst, sym}
 use Rattle.wasi_walks.proofs.Words.{Full, Stop, Trap}
@@ -10,7 +10,7 @@ use Rattle.wasi_walks.proofs.Gives.{gives_any}
 use Rattle.wasi_walks.proofs.fits.UdpFits.{learnt_side}
 use Rattle.wasi_walks.proofs.walks.Asked.{Asked, Questions, SetsBacklog, Learns, Closes, UdpQuestions, UdpLearns, UdpPeers, UdpCloses, UdpBegins, Resolves, Looks, MarksOne, MarksAccepted, MarksUdp, MarksStream, MarksError, AsksCreate, Polls, Turns, GivesUp, UdpGivesUp}
 use Rattle.wasi_walks.proofs.walks.Law.{BeginsIn, BeginsWrites, Rests}
-use Rattle.wasi_walks.proofs.walks.Moves.{Calls, Creates, CreatesUdp, Found, FoundUdp, HasNewStream, Held, Here, IsCreated, Joined, LooksUp, Made, Marked, Marks, MarksNext, Move}
+use Rattle.wasi_walks.proofs.walks.Moves.{Interface, tcp_kind, Calls, Creates, CreatesUdp, Found, FoundUdp, HasNewStream, Held, Here, IsCreated, Joined, LooksUp, Made, Marked, Marks, MarksNext, Move}
 use Rattle.wasi_walks.proofs.walks.Moves.{NoStart, OfStreams, Past, Releases, ReleasesUdp, SameSockets, Spends, ToSend, Unused, Used, closed_record, put, put_udp, record_of, udp_begun, with_records}
 use Rattle.wasi_host.specs.Kinds.{kind_at, udp_of}
 use Rattle.wasi_host.specs.declared.kind.Kind.TheVariants.{Udp2}
@@ -72,13 +72,15 @@ pub data Becomes (contexts : List WasiSocketsCtx) (line : ℕ) (origin : Step) (
       → Becomes contexts line origin h (record h
       { machine = record h.machine { table = with_handle h.machine.table kind parent }; made = made })
   NoRoom : (made : Made) → HasNoRoom made → Becomes contexts line origin h (record h { made = made })
-  Created : (ctx : WasiSocketsCtx) (family : SocketAddressFamily) → Creates contexts ctx family origin
+  Created : (face : Interface) (ctx : WasiSocketsCtx) (family : SocketAddressFamily)
+      → Creates contexts ctx family face origin
       → h.own ≡ Unused → h.made ≡ Past → Becomes contexts line origin h (creating h (own_of line) ctx family)
-  CreatedWith : (ctx : WasiSocketsCtx) (family : SocketAddressFamily) → Creates contexts ctx family origin
+  CreatedWith : (face : Interface) (ctx : WasiSocketsCtx) (family : SocketAddressFamily)
+      → Creates contexts ctx family face origin
       → h.own ≡ Unused → h.made ≡ Past
       → Becomes contexts line origin h (record (creating h (own_of line) ctx family) {
         machine = record (creating h (own_of line) ctx family).machine
-            { table = with_handle h.machine.table (Tcp2 (length h.machine.store.records)) None };
+            { table = with_handle h.machine.table (tcp_kind face (length h.machine.store.records)) None };
       })
   Writing : (now : Here) → BeginsIn h now → Becomes contexts line origin h now
 
@@ -120,33 +122,34 @@ module _ {contexts : List WasiSocketsCtx} {line : ℕ} {origin : Step} {B : List
       by_told (Ok done) = refl
       by_told (Err c) = tt
 
-  joins : (es : List Entry) (h : Here) (ctx : WasiSocketsCtx) (family : SocketAddressFamily)
+  joins : {T : Type 0} (tells : Result ℕ Stop → T) (fails : ErrorCode → T) (face : Interface) (es : List Entry) (h : Here) (ctx : WasiSocketsCtx) (family : SocketAddressFamily)
       (made : Result Socket ErrorCode) → IsNewSocket (new_socket (own_of line) ctx.name family) made
-      → Creates contexts ctx family origin → h.own ≡ Unused → h.made ≡ Past → B es h → a.Holds h
+      → Creates contexts ctx family face origin → h.own ≡ Unused → h.made ≡ Past → B es h → a.Holds h
       → (fs : List Entry) → Allows Anything (λ gs done. a.Holds (record h { machine = done.1; own = Used })) fs
-      (created_asks h.machine (own_of line) made)
-  joins es h ctx family (Err e) k c u m b i fs = a.moves es h _ (Spends h u) b i
-  joins es h ctx family (Ok socket) k c u m b i fs =
+      (made_to tells fails (tcp_kind face) h.machine (own_of line) made)
+  joins tells fails face es h ctx family (Err e) k c u m b i fs = a.moves es h _ (Spends h u) b i
+  joins tells fails face es h ctx family (Ok socket) k c u m b i fs =
       let now : Here = creating h (own_of line) ctx family in
       let at : HandleTable → Here = λ t. record now { machine = record now.machine { table = t } } in
       subst (λ (x : Socket). Allows Anything (λ gs done. a.Holds (record h { machine = done.1; own = Used })) fs
-      (created_asks h.machine (own_of line) (Ok x))) (sym k)
+      (made_to tells fails (tcp_kind face) h.machine (own_of line) (Ok x))) (sym k)
       (allows_then Anything (λ gs made. a.Holds (at made.1))
       (λ gs done. a.Holds (record h { machine = done.1; own = Used })) fs
-      (make_asks h.machine.table (own_of line) (Tcp2 (length h.machine.store.records)) None (Some (own_of line))) _
-      (makes fs (own_of line) h.machine.table (Tcp2 (length h.machine.store.records)) None (Some (own_of line))
-      (λ made. at made.1) (a.becomes es h _ (Created ctx family c u m) b i)
-      (a.becomes es h _ (CreatedWith ctx family c u m) b i)) (λ gs made l. l))
+      (make_asks h.machine.table (own_of line) (tcp_kind face (length h.machine.store.records)) None (Some (own_of line))) _
+      (makes fs (own_of line) h.machine.table (tcp_kind face (length h.machine.store.records)) None (Some (own_of line))
+      (λ made. at made.1) (a.becomes es h _ (Created face ctx family c u m) b i)
+      (a.becomes es h _ (CreatedWith face ctx family c u m) b i)) (λ gs made l. l))
 
-  created : (es : List Entry) (h : Here) (ctx : WasiSocketsCtx) (family : SocketAddressFamily)
-      → Creates contexts ctx family origin → h.own ≡ Unused → h.made ≡ Past → B es h → a.Holds h
+  created : {T : Type 0} (tells : Result ℕ Stop → T) (fails : ErrorCode → T) (face : Interface) (es : List Entry)
+      (h : Here) (ctx : WasiSocketsCtx) (family : SocketAddressFamily)
+      → Creates contexts ctx family face origin → h.own ≡ Unused → h.made ≡ Past → B es h → a.Holds h
       → Allows Anything (λ fs done. a.Holds (record h { machine = done.1; own = Used })) es
-      (create_asks h.machine (own_of line) ctx family)
-  created es h ctx family c u m b i =
+      (create_to tells fails (tcp_kind face) h.machine (own_of line) ctx family)
+  created tells fails face es h ctx family c u m b i =
       allows_then Anything (λ fs made. IsNewSocket (new_socket (own_of line) ctx.name family) made)
       (λ fs done. a.Holds (record h { machine = done.1; own = Used })) es (new_asks (own_of line) ctx family)
-      (created_asks h.machine (own_of line)) (new_is es ctx family)
-      (λ fs made k. joins es h ctx family made k c u m b i fs)
+      (made_to tells fails (tcp_kind face) h.machine (own_of line)) (new_is es ctx family)
+      (λ fs made k. joins tells fails face es h ctx family made k c u m b i fs)
 
   pub asks : (es : List Entry) (h : Here) (A : Type 0) (tree : Asks A) (end : A → Here)
       → Asked contexts line origin es h A tree end → B es h → a.Holds h
@@ -186,7 +189,7 @@ module _ {contexts : List WasiSocketsCtx} {line : ℕ} {origin : Step} {B : List
   asks es h _ _ end (MarksError n handle place handles m k e f) b i =
       makes es _ h.machine.table _ _ _ end i (a.becomes es h _
       (HasHandle _ _ _ (OfError n handle place handles m k e)) b i)
-  asks es h _ _ _ (AsksCreate ctx family c t o m) b i = created es h ctx family c o m b i
+  asks es h _ _ _ (AsksCreate tells fails face ctx family c t o m) b i = created tells fails face es h ctx family c o m b i
   asks es h _ _ _ (Polls op after k) b i = a.polls es h op after k b i
   asks es h _ _ _ (Turns place r s g e) b i = a.turns es h place r s g e b i
   asks es h _ tree _ (GivesUp place r q g) b i =

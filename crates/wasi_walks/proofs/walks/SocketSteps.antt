@@ -16,6 +16,7 @@ use Rattle.socket_common.specs.Options.{value_set}
 use Rattle.wasi_walks.specs.Licence.{IsSetTo}
 use Rattle.wasi_records.specs.Records.{tcp2_at}
 use Rattle.wasi_walks.proofs.Words.{Tcp2}
+use Rattle.wasi_host.specs.Store.{with_socket}
 use Rattle.wasi_host.specs.Options.{looked_at, set_backlog_at}
 use Rattle.wasi_p2.specs.Options.{record_asks}
 use Rattle.wasi_walks.proofs.walks.Moves.{NoStartStands, IsSettled, Used, Unused, Here, put, Found, record_of, AStream, Reaches, Leaves, Spends, Changes, Stands, Made, Past, Marks}
@@ -25,10 +26,10 @@ use Rattle.wasi_walks.proofs.walks.Streams.{shut_walks}
 use Rattle.wasi_walks.proofs.walks.Lines.{look, call, call_given}
 use Rattle.wasi_addr.specs.declared.p2.ErrorCode.{ErrorCode as P2Code}
 use Rattle.wasi_addr.specs.declared.p2.ErrorCode.TheVariants.{NotInProgress}
-use Rattle.wasi_records.specs.Stops.{Code}
+use Rattle.wasi_records.specs.Stops.{Code, StopOf, code_stop}
 use Rattle.wasi_records.specs.Sockets.{poll_connect_asks}
-use Rattle.wasi_host.specs.Block.{Does, Read, last, need, goes_on, ◌>>=◌, ◌>>◌}
-use Rattle.wasi_host.specs.Lines.{tcp_named, in_store, on_tcp, asked_of, done_by, finish_connect_of}
+use Rattle.wasi_host.specs.Block.{Call, Does, Read, last, need, goes_on, or_trap, ◌>>=◌, ◌>>◌}
+use Rattle.wasi_host.specs.Lines.{tcp_at, tcp_named, in_store, on_tcp, asked_of, done_by, finish_connect_of}
 use Rattle.wasi_p2.specs.Tcp.{local_address, remote_address, finish_connect, make_streams}
 use Rattle.wasi_walks.proofs.walks.States.{OverWith, Between, socket_record, make_given, socket_kind, At, Starts, streams_are, Put, Over, there}
 
@@ -93,32 +94,33 @@ module _ {contexts : List WasiSocketsCtx} {line : ℕ} {origin : Step} {law : La
   pub start_connect_walks : (m : Machine) (s n : ℕ) (a : IpSocketAddress) → Has (handles_of origin) s → IsConnectTo a origin → Walks law (Starts m Unused) OverWith (start_connect_asks m (own_of line) s n a)
   start_connect_walks m s n a named to = by_if (is_network (kind_at m.table n)) (λ yes. start_connect_on_walks m s a (socket_at m s) refl named to) (λ other. gives _ (Spends _ refl))
 
-  -- == blocks: a call on the record of a number, and of a handle
-  on_tcp_walks : {A : Type 0} (m : Machine) (place : ℕ) (asked : TcpRecord → Asks (Result A ErrorCode × TcpRecord))
+  -- == blocks, with codes of either interface: a call on the record of a number, and of a handle
+  pub on_tcp_walks : {C A : Type 0} (m : Machine) (place : ℕ) (seen : ErrorCode → StopOf C) (asked : TcpRecord → Asks (Result A ErrorCode × TcpRecord))
       → ((r : TcpRecord) → HasRecord (At line m place Unused) place → Walks law (put (At line m place Unused) place r) (λ done. put (At line m place Unused) place done.1) (asked r))
-      → Walks law (At line m place Unused) (Put line m place) (on_tcp place asked m.store)
-  on_tcp_walks m place asked w =
-      look (λ r. last (asked_of place r asked)) (tcp2_at m.store.records place) (gives _ (Spends _ refl))
+      → Walks law (At line m place Unused) (Put line m place) (goes_on (tcp_at place) (λ r. last (Call seen (λ store. r) (λ store now. with_socket store place now) asked)) m.store)
+  on_tcp_walks m place seen asked w =
+      look (λ r. last (Call seen (λ store. r) (λ store now. with_socket store place now) asked)) (tcp2_at m.store.records place) (gives _ (Spends _ refl))
       (λ r g. from (put_same (At line m place Unused) place r g) (call _ (w r (there g)) (λ e t. gives _ (Spends _ refl)) (λ a t. gives _ (Spends _ refl))))
 
-  on_handle : {A : Type 0} (m : Machine) (handle : ℕ) (does : ℕ → Does P2Code Records A) → Has (handles_of origin) handle
+  pub on_handle : {C A : Type 0} (m : Machine) (handle : ℕ) (named : Option ℕ) → ((place : ℕ) → named ≡ Some place → record_of (kind_at m.table handle) ≡ Some place)
+      → (does : ℕ → Does C Records A) → Has (handles_of origin) handle
       → ((place : ℕ) → Walks law (At line m place Unused) (Put line m place) (does place m.store))
-      → Walks law (Starts m Unused) OverWith (goes_on (tcp_named handle) (λ place. last (in_store (does place))) m)
-  on_handle m handle does named w =
-      look (λ place. last (in_store (does place))) (socket_at m handle) (gives _ (Spends _ refl))
-      (λ place e. move (Reaches _ handle place named (socket_record (kind_at m.table handle) place e))
+      → Walks law (Starts m Unused) OverWith (or_trap (λ place. last (in_store (does place))) m named)
+  on_handle m handle named is does has w =
+      look (λ place. last (in_store (does place))) named (gives _ (Spends _ refl))
+      (λ place e. move (Reaches _ handle place has (is place e))
       (call _ (w place) (λ e t. gives _ (Leaves _)) (λ a t. gives _ (Leaves _))))
 
   -- == the addresses
   pub local_address_walks : (m : Machine) (s : ℕ) → Has (handles_of origin) s → Walks law (Starts m Unused) OverWith (local_address (own_of line) s m)
   local_address_walks m s named =
-      on_handle m s (λ place. on_tcp place (tell_local_asks (own_of line))) named
-      (λ place. on_tcp_walks m place (tell_local_asks (own_of line)) (λ r here. local_walks here refl r))
+      on_handle m s (socket_at m s) (socket_record (kind_at m.table s)) (λ place. on_tcp place (tell_local_asks (own_of line))) named
+      (λ place. on_tcp_walks m place code_stop (tell_local_asks (own_of line)) (λ r here. local_walks here refl r))
 
   pub remote_address_walks : (m : Machine) (s : ℕ) → Has (handles_of origin) s → Walks law (Starts m Unused) OverWith (remote_address (own_of line) s m)
   remote_address_walks m s named =
-      on_handle m s (λ place. on_tcp place (tell_remote_asks (own_of line))) named
-      (λ place. on_tcp_walks m place (tell_remote_asks (own_of line)) (λ r here. remote_walks here refl r))
+      on_handle m s (socket_at m s) (socket_record (kind_at m.table s)) (λ place. on_tcp place (tell_remote_asks (own_of line))) named
+      (λ place. on_tcp_walks m place code_stop (tell_remote_asks (own_of line)) (λ r here. remote_walks here refl r))
 
   -- == a connect is finished
   finish_of_walks : (m : Machine) (place : ℕ) → Walks law (At line m place Unused) (Put line m place) (finish_connect_of place m.store)

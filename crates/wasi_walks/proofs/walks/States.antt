@@ -11,8 +11,8 @@ use Rattle.wasi_walks.proofs.Words.{length, name_of, output_of, place_of, refl, 
 use Rattle.wasi_walks.proofs.Words.{watch_of, watched_by, with_handle, with_records, ℕ, ⊤, ◌==◌, ◌∙◌, ◌≡◌}
 use Rattle.wasi_world.specs.declared.ids.Ids.{Ids}
 use Rattle.wasi_walks.proofs.walks.Moves.{Own, Used, Here, put, Found, NoStartStands, record_of, udp_record_of, tcp_place, udp_place, Made, Awaited, Emptied, Numbered, Past, Unmade, Joined}
-use Rattle.wasi_host.specs.declared.kind.Kind.TheVariants.{Udp2, PlainInput, PlainOutput, Incoming, Outgoing, Lookup}
-use Rattle.wasi_host.specs.Kinds.{udp_of, incoming_of, outgoing_of}
+use Rattle.wasi_host.specs.declared.kind.Kind.TheVariants.{Tcp3, Udp2, PlainInput, PlainOutput, Incoming, Outgoing, Lookup}
+use Rattle.wasi_host.specs.Kinds.{tcp3_of, udp_of, incoming_of, outgoing_of}
 use Rattle.wasi_walks.proofs.Lists.{value_front}
 use Rattle.wasi_walks.proofs.walks.Law.{HasRecord, Given, given_then}
 use Rattle.wasi_records.specs.Records.{tcp2_at, tcp2_put}
@@ -51,6 +51,10 @@ Numbering m = record (Over m) { made = Numbered (length m.store.records) m.table
 pub socket_record : (k : Option Kind) (place : ℕ) → place_of k ≡ Some place → record_of k ≡ Some place
 socket_record (Some (Tcp2 n)) place e = e
 socket_record _ place e = absurd (cc)
+
+pub tcp3_record : (k : Option Kind) (place : ℕ) → tcp3_of k ≡ Some place → record_of k ≡ Some place
+tcp3_record (Some (Tcp3 n)) place e = e
+tcp3_record _ place e = absurd (cc)
 
 pub socket_kind : (k : Option Kind) (place : ℕ) → place_of k ≡ Some place → k ≡ Some (Tcp2 place)
 socket_kind (Some (Tcp2 n)) place e = cc

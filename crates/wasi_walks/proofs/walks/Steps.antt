@@ -42,6 +42,10 @@ use Rattle.wasi_walks.proofs.walks.Blocking.{WritesNone, blocking_flush_walks, b
 use Rattle.wasi_walks.proofs.walks.Calls.{Calling, calls_over, check_asks_walks, flushed_asks_walks, read_asks_walks, skip_asks_walks, write_asks_walks}
 use Rattle.wasi_host.specs.declared.polling.Look.TheVariants.{First}
 use Rattle.wasi_walks.proofs.walks.Polling.{block_walks, looks_begin, poll_asks_walks, ready_asks_walks}
+use Rattle.wasi_host.specs.Machine.{code_told, same_told}
+use Rattle.wasi_p3.specs.Tcp as p3
+use Rattle.wasi_walks.proofs.walks.P3Steps.{p3_get_walks, p3_local_walks, p3_remote_walks, p3_set_walks}
+use Rattle.wasi_walks.proofs.walks.Moves.{OfP2, OfP3}
 use Rattle.wasi_walks.proofs.walks.Cancels.{cancel_walks}
 use Rattle.wasi_walks.proofs.walks.Pipes.{input_pipe_walks, output_pipe_walks, plain_walks}
 use Rattle.wasi_walks.proofs.walks.Splices.{splice_walks}
@@ -167,6 +171,12 @@ option_set c s setting option value e = subst (SetsOption option (value_set opti
 backlog_set : (c s : ℕ) (setting : TcpSetting) (value : ℕ) → chosen setting ≡ TheBacklog value → IsBacklogSet (clamped_backlog value) (Step.Call c (GuestCall.TcpSet s setting))
 backlog_set c s setting value e = subst (SetsBacklog (clamped_backlog value)) (sym e) refl
 
+p3_option_set : (c s : ℕ) (setting : TcpSetting) (option : Opt) (value : ℕ) → chosen setting ≡ AnOption option value → IsSetTo option (value_set option value) (Step.Call c (GuestCall.P3TcpSet s setting))
+p3_option_set c s setting option value e = subst (SetsOption option (value_set option value)) (sym e) (refl, refl)
+
+p3_backlog_set : (c s : ℕ) (setting : TcpSetting) (value : ℕ) → chosen setting ≡ TheBacklog value → IsBacklogSet (clamped_backlog value) (Step.Call c (GuestCall.P3TcpSet s setting))
+p3_backlog_set c s setting value e = subst (SetsBacklog (clamped_backlog value)) (sym e) refl
+
 -- what is finished is no bind in progress
 bind_settles : (doing : InProgress) → is_bind doing ≡ true → IsSettled doing
 bind_settles (InProgress.Binding op) e = absurd (cc)
@@ -179,7 +189,7 @@ listen_settles _ e = tt
 -- each step is made of moves; where a guest calls, nothing is pending
 pub step_walks : {contexts : List WasiSocketsCtx} (line : ℕ) (s : Step) {law : Law contexts line s} → (m : Machine) → BeginsWrites law ⊎ IsSimpleAt m.store.standing s → (is_guest_call s ≡ true → m.store.standing ≡ None) → Walks law (Starts m (may m s)) OverWith (step_asks contexts m line s)
 step_walks line (Step.Call c GuestCall.Network) m b f = move (Spends _ refl) (and_then (and_then (mark (ANetwork c refl)) (λ made. give _)) (λ done. give _))
-step_walks {contexts} line (Step.Call c (GuestCall.TcpCreate family)) m b f = and_then (create (context_at contexts c) family (refl, refl) refl refl refl) (λ done. give _)
+step_walks {contexts} line (Step.Call c (GuestCall.TcpCreate family)) m b f = and_then (create same_told code_told OfP2 (context_at contexts c) family (refl, refl, refl) refl refl refl) (λ done. give _)
 step_walks line (Step.Call c (GuestCall.TcpStartBind s n a)) m b f = and_then (start_bind_walks m s n a (inl refl) refl (none_stands (f refl))) (λ done. give _)
 step_walks line (Step.Call c (GuestCall.TcpFinishBind s)) m b f = as_left (finish_started_walks m is_bind bind_settles (socket_at m s))
 step_walks line (Step.Call c (GuestCall.TcpStartConnect s n a)) m b f = and_then (start_connect_walks m s n a (inl refl) refl) (λ done. give _)
@@ -194,6 +204,13 @@ step_walks line (Step.Call c (GuestCall.TcpAddressFamily s)) m b f = gives _ (Sp
 step_walks line (Step.Call c (GuestCall.TcpGet s option)) m b f = and_then (on_socket m s (socket_at m s) (inl refl) (socket_record (kind_at m.table s)) (λ place. looked_walks m place (λ x. get_option_asks (own_of line) x option) (tcp2_at m.store.records place) refl (λ r here. get_walks here refl r option refl refl))) (λ done. give _)
 step_walks line (Step.Call c (GuestCall.TcpSet s setting)) m b f = and_then (set_chosen_walks m s (socket_at m s) (chosen setting) (inl refl) (socket_record (kind_at m.table s)) (option_set c s setting) (backlog_set c s setting)) (λ done. give _)
 step_walks line (Step.Call c (GuestCall.TcpShutdown s how)) m b f = and_then (on_socket m s (socket_at m s) (inl refl) (socket_record (kind_at m.table s)) (λ place. shutdown_at_walks m place how (tcp2_at m.store.records place) refl)) (λ done. give _)
+step_walks {contexts} line (Step.Call c (GuestCall.P3TcpCreate family)) m b f = and_then (create p3.handle_told p3.code_told OfP3 (context_at contexts c) family (refl, refl, refl) refl refl refl) (λ done. give _)
+step_walks line (Step.Call c (GuestCall.P3TcpLocalAddress s)) m b f = and_then (p3_local_walks m s (inl refl)) (λ done. give _)
+step_walks line (Step.Call c (GuestCall.P3TcpRemoteAddress s)) m b f = and_then (p3_remote_walks m s (inl refl)) (λ done. give _)
+step_walks line (Step.Call c (GuestCall.P3TcpIsListening s)) m b f = gives _ (Spends _ refl)
+step_walks line (Step.Call c (GuestCall.P3TcpAddressFamily s)) m b f = gives _ (Spends _ refl)
+step_walks line (Step.Call c (GuestCall.P3TcpGet s option)) m b f = and_then (p3_get_walks m s option (inl refl) refl) (λ done. give _)
+step_walks line (Step.Call c (GuestCall.P3TcpSet s setting)) m b f = and_then (p3_set_walks m s (chosen setting) (inl refl) (p3_option_set c s setting) (p3_backlog_set c s setting)) (λ done. give _)
 step_walks {contexts} line (Step.Call c (GuestCall.UdpCreate family)) m b f = and_then (create_udp_walks m (context_at contexts c) family (refl, refl) (f refl)) (λ done. give _)
 step_walks line (Step.Call c (GuestCall.UdpStartBind s n a)) m b f = and_then (start_udp_bind_walks m s n a (inl refl) refl (none_stands (f refl))) (λ done. give _)
 step_walks line (Step.Call c (GuestCall.UdpFinishBind s)) m b f = as_left (finish_udp_bind_walks m (udp_socket_at m s))

@@ -5,7 +5,7 @@ use Rattle.std.proofs.Common.{sym}
 use Rattle.wasi_steps.specs.Reply.{absent_values, found_values, numbers_fields}
 use Rattle.wasi_world.specs.declared.ids.Ids.{Ids}
 use Rattle.wasi_world.proofs.Walks.{asks_at}
-use Rattle.wasi_machine.specs.Machine.{blocked_reply_of}
+use Rattle.wasi_machine.specs.Machine.{blocked_reply_of, p3_reply}
 use Rattle.wasi_host.specs.Machine.{drop_asks}
 use Rattle.wasi_host.specs.Views.{state_of}
 use Rattle.wasi_run.proofs.Contents.{given_if}
@@ -175,3 +175,24 @@ returns-in-BlockingSplice-clause-asked g c = rw c.in-BlockingSplice.is (asks_ans
 
 pub returns-in-PipeContents-clause-asked : goal.returns-in-PipeContents-clause-asked
 returns-in-PipeContents-clause-asked g c = rw c.in-PipeContents.is (given_if (reply_of bytes_fields) _ _ _ (rw (← c.socket_result-in-PipeContents.ensures) at c.pipe_contents-contents.ensures) c.reply_of-in-PipeContents.ensures)
+
+pub returns-in-P3TcpCreate-clause-asked : goal.returns-in-P3TcpCreate-clause-asked
+returns-in-P3TcpCreate-clause-asked g c = rw c.in-P3TcpCreate.is (asks_answered (p3_reply number_fields) _ _ c.create-made.ensures.asked c.p3_reply.ensures)
+
+pub returns-in-P3TcpLocalAddress-clause-asked : goal.returns-in-P3TcpLocalAddress-clause-asked
+returns-in-P3TcpLocalAddress-clause-asked g c = rw c.in-P3TcpLocalAddress.is (asks_answered (p3_reply address_values) _ _ c.get_local_address-told.ensures.asked c.p3_reply-in-P3TcpLocalAddress.ensures)
+
+pub returns-in-P3TcpRemoteAddress-clause-asked : goal.returns-in-P3TcpRemoteAddress-clause-asked
+returns-in-P3TcpRemoteAddress-clause-asked g c = rw c.in-P3TcpRemoteAddress.is (asks_answered (p3_reply address_values) _ _ c.get_remote_address-told.ensures.asked c.p3_reply-in-P3TcpRemoteAddress.ensures)
+
+pub returns-in-P3TcpIsListening-clause-asked : goal.returns-in-P3TcpIsListening-clause-asked
+returns-in-P3TcpIsListening-clause-asked g c = rw c.in-P3TcpIsListening.is (given_answered (p3_reply truth_fields) _ _ _ c.get_is_listening-told.ensures c.p3_reply-in-P3TcpIsListening.ensures)
+
+pub returns-in-P3TcpAddressFamily-clause-asked : goal.returns-in-P3TcpAddressFamily-clause-asked
+returns-in-P3TcpAddressFamily-clause-asked g c = rw c.in-P3TcpAddressFamily.is (given_answered (p3_reply family_fields) _ _ _ c.get_address_family-told.ensures c.p3_reply-in-P3TcpAddressFamily.ensures)
+
+pub returns-in-P3TcpGet-clause-asked : goal.returns-in-P3TcpGet-clause-asked
+returns-in-P3TcpGet-clause-asked g c = rw c.in-P3TcpGet.is (asks_answered (p3_reply number_fields) _ _ c.get_option-told-in-P3TcpGet.ensures.asked c.p3_reply-in-P3TcpGet.ensures)
+
+pub returns-in-P3TcpSet-clause-asked : goal.returns-in-P3TcpSet-clause-asked
+returns-in-P3TcpSet-clause-asked g c = rw c.in-P3TcpSet.is (asks_answered (p3_reply no_values) _ _ c.set_p3-done.ensures.asked c.p3_reply-in-P3TcpSet.ensures)

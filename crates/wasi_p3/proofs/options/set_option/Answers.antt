@@ -1,0 +1,42 @@
+use Rattle.std.proofs.Common.{refl, sym}
+use Rattle.socket_common.specs.Options.{option_of, number_of}
+use Rattle.wasi_world.specs.Asks.{outcome}
+use Rattle.wasi_world.proofs.Walks.{asks_gives}
+use Rattle.wasi_tcp.specs.Options.{set_option_asks}
+use Rattle.wasi_records.specs.Names.{own_of}
+use Rattle.wasi_records.specs.Sockets.{inner_answered, with_inner}
+use Rattle.wasi_records.proofs.OptionSides.{calm_set}
+use Rattle.wasi_records.proofs.SideCounts.{Any, held_in-set}
+use Rattle.wasi_host.specs.Views.{state_of}
+use Rattle.wasi_host.proofs.KnownSides.{knows_asked}
+use Rattle.wasi_p3.specs.Lines.{inner_call}
+use Rattle.wasi_p3.proofs.Called.{tcp_called, tcp_none}
+use Rattle.wasi_p3.proofs.options.set_option.Goals as goal
+
+pub returns-in_default-clause-asked : goal.returns-in_default-clause-asked
+returns-in_default-clause-asked g c =
+    tcp_none (state_of c.args.view.now) c.args.socket
+    (inner_call
+    (λ s. set_option_asks (own_of c.args.ids.now.line) s (option_of c.args.setting) (number_of c.args.setting)))
+    c.in_ok-place.ensures (sym c.in_default.ensures.item)
+
+pub returns-clause-asked : goal.returns-clause-asked
+returns-clause-asked g c =
+    tcp_called (state_of c.args.view.now) c.args.socket (with_inner c.in-Some.record.now c.set_option.new.self)
+    (inner_call
+    (λ s. set_option_asks (own_of c.args.ids.now.line) s (option_of c.args.setting) (number_of c.args.setting)))
+    c.set_option.result
+    c.answered.result c.in_ok-place.ensures (sym c.in-Some.ensures.item) c.answered.ensures.told
+    (asks_gives (inner_answered c.in-Some.record.now) (rw c.own.ensures at c.set_option.ensures.asked))
+
+pub returns-clause-kept : goal.returns-clause-kept
+returns-clause-kept g c = record {
+  sides = knows_asked Any (outcome c.set_option.result) _ _
+      (calm_set _ c.in-Some.record.now.inner (option_of c.args.setting) (number_of c.args.setting))
+      c.set_option.ensures.asked
+      (held_in-set c.args.view.now.store.now.records _ c.in-Some.record.now
+      (with_inner c.in-Some.record.now c.set_option.new.self) (sym c.in-Some.ensures.item) c.set_option.ensures.side
+      refl);
+  view = record { context = refl; same_context = refl; same_table = refl; same_store = refl };
+  ids = refl;
+}

@@ -1,0 +1,30 @@
+use Rattle.std.proofs.Common.{refl, sym}
+use Rattle.wasi_world.specs.Asks.{outcome}
+use Rattle.wasi_world.proofs.Walks.{asks_at}
+use Rattle.wasi_records.specs.Names.{own_of}
+use Rattle.wasi_records.specs.Sockets.{tell_local_asks}
+use Rattle.wasi_records.proofs.SideCounts.{Any, held_in-set, calm_tell_local}
+use Rattle.wasi_host.specs.Views.{state_of}
+use Rattle.wasi_host.proofs.KnownSides.{knows_asked}
+use Rattle.wasi_p3.proofs.Called.{tcp_called, tcp_none}
+use Rattle.wasi_p3.proofs.tcp.get_local_address.Goals as goal
+
+pub returns-in_default-clause-asked : goal.returns-in_default-clause-asked
+returns-in_default-clause-asked g c = tcp_none (state_of c.args.view.now) c.args.socket
+    (tell_local_asks (own_of c.args.ids.now.line)) c.in_ok-place.ensures (sym c.in_default.ensures.item)
+
+pub returns-clause-asked : goal.returns-clause-asked
+returns-clause-asked g c = tcp_called (state_of c.args.view.now) c.args.socket c.local_address.new.self
+    (tell_local_asks (own_of c.args.ids.now.line)) c.local_address.result c.answered.result c.in_ok-place.ensures
+    (sym c.in-Some.ensures.item) c.answered.ensures.told
+    (asks_at (λ op. tell_local_asks op c.in-Some.record.now) (sym c.own.ensures) c.local_address.ensures.asked)
+
+pub returns-clause-kept : goal.returns-clause-kept
+returns-clause-kept g c = record {
+  sides = knows_asked Any (outcome c.local_address.result) _ _ (calm_tell_local _ c.in-Some.record.now)
+      c.local_address.ensures.asked (held_in-set c.args.view.now.store.now.records _ c.in-Some.record.now
+      c.local_address.new.self (sym c.in-Some.ensures.item) c.local_address.ensures.side
+      c.local_address.ensures.listening);
+  view = record { context = refl; same_context = refl; same_table = refl; same_store = refl };
+  ids = refl;
+}

@@ -1,0 +1,54 @@
+-- The lines of blocks of 0.3: what a handle names, and a call on it.
+use Rattle.std.specs.Prelude.{ℕ, Option, Some, None, Result, Err}
+use Rattle.wasi_addr.specs.declared.code.ErrorCode.{ErrorCode}
+use Rattle.wasi_addr.specs.declared.p3.ErrorCode.{ErrorCode as P3Code}
+use Rattle.wasi_world.specs.declared.outcome.TrapKind.TheVariants.{NoSuchHandle}
+use Rattle.wasi_world.specs.Asks.{Asks, Give, bind}
+use Rattle.wasi_tcp.specs.Shape.{Socket}
+use Rattle.wasi_records.specs.declared.socket.TcpRecord.{TcpRecord}
+use Rattle.wasi_records.specs.Sockets.{inner_answered}
+use Rattle.wasi_records.specs.Stops.{Trap}
+use Rattle.wasi_host.specs.declared.machine.Machine.{Machine}
+use Rattle.wasi_host.specs.Block.{Does, Line, Look, Call, last, ◌>>=◌}
+pub use Rattle.wasi_host.specs.Lines.{in_store, same_stop}
+use Rattle.wasi_host.specs.Lines.{tcp_at, tcp_in}
+use Rattle.wasi_host.specs.Machine.{tcp3_at}
+use Rattle.wasi_host.specs.Store.{Records, with_socket}
+use Rattle.wasi_p3.specs.Stops.{P3Stop, p3_stop, p3_told}
+
+-- == of the records
+-- a call on a TCP socket, whose codes get their 0.3 names
+abbrev pub asked_of : {A : Type 0} → ℕ → TcpRecord → (TcpRecord → Asks (Result A ErrorCode × TcpRecord))
+    → Line P3Code Records A
+asked_of place r call = Call p3_stop (λ store. r) (λ store now. with_socket store place now) call
+
+-- the socket itself is called
+abbrev pub inner_call : {A : Type 0} → (Socket → Asks (Result A ErrorCode × Socket)) → TcpRecord
+    → Asks (Result A ErrorCode × TcpRecord)
+inner_call call r = bind (call r.inner) (λ done. Give (inner_answered r done))
+
+-- and no more
+abbrev pub on_tcp : {A : Type 0} → ℕ → (TcpRecord → Asks (Result A ErrorCode × TcpRecord)) → Does P3Code Records A
+on_tcp place call = do
+  r ← tcp_at place
+  last (asked_of place r call)
+
+-- what is told of a socket without asking, or that there is none
+abbrev pub told_of : {R A : Type 0} → (R → Result A ErrorCode) → Option R → Result A P3Stop
+told_of tells None = Err (Trap NoSuchHandle)
+told_of tells (Some r) = p3_told (tells r)
+
+-- == of the machine
+-- the TCP socket that a handle names
+abbrev pub tcp_of : Machine → ℕ → Option TcpRecord
+tcp_of m handle = tcp_in m (tcp3_at m handle)
+
+-- the number that the handle of a TCP socket names
+abbrev pub tcp_named : {C : Type 0} → ℕ → Line C Machine ℕ
+tcp_named handle = Look (λ m. tcp3_at m handle)
+
+-- a call on the TCP socket that a handle names, and no more
+abbrev pub of_tcp : {A : Type 0} → ℕ → (TcpRecord → Asks (Result A ErrorCode × TcpRecord)) → Does P3Code Machine A
+of_tcp handle call = do
+  place ← tcp_named handle
+  last (in_store (on_tcp place call))
