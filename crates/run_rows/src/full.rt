@@ -18,6 +18,7 @@ fn one_handle_too_many_is_a_trap(rt: HostRuntime) -> Result<(), Fail> {
         scenario: b"",
         script: script.as_slice(),
         most: 4096,
+        takes: 4096,
         room: 1_000_000,
         failing: NONE,
     };

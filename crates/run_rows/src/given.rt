@@ -26,8 +26,10 @@ pub struct Given<'a> {
     pub words: &'a [&'a str],
     pub scenario: &'a [u8],
     pub script: &'a [u8],
-    /// Reads and writes give or take at most so many bytes.
+    /// A read gives at most so many bytes.
     pub most: usize,
+    /// A write takes at most so many bytes.
+    pub takes: usize,
     /// The sink has room for so many bytes.
     pub room: usize,
     pub failing: Failing<'a>,
@@ -63,7 +65,7 @@ impl<'a> Given<'a> {
         let words = owned(alloc, self.words)?;
         let mut scenario = source(alloc, self.scenario, self.most, scenario)?;
         let script = source(alloc, self.script, self.most, reads)?;
-        let sink = MemorySink::new(alloc, self.most.max(1), self.room, writes.to_vec(alloc)?)?;
+        let sink = MemorySink::new(alloc, self.takes.max(1), self.room, writes.to_vec(alloc)?)?;
         Ok(run_main(
             *rt,
             alloc,

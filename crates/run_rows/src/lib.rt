@@ -1,10 +1,12 @@
-//! Tests of runs that a transcript can't say: statuses, sources and sinks that fail, a full table
-//! of handles, replies that no script reaches, drawn scripts; what a check of transcripts prints;
-//! and the line that a program shows.
+//! Tests of runs that a transcript can't say: statuses, faults at each call, a full table of
+//! handles, replies that no script reaches, drawn scripts; what a check of transcripts prints; and
+//! the line that a program shows.
 #![tactic(auto)]
 
 #[cfg(test)]
 mod checked_cases;
+#[cfg(test)]
+mod faults;
 #[cfg(test)]
 mod full;
 #[cfg(test)]
@@ -17,5 +19,7 @@ mod replies;
 mod runs;
 #[cfg(test)]
 mod same;
+#[cfg(test)]
+mod served;
 #[cfg(test)]
 mod shown;

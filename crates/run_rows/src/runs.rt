@@ -6,7 +6,7 @@ use crate::same::same;
 use std::test::Fail;
 
 /// Binds a socket: 81 bytes.
-const BIND: &[u8] =
+pub const BIND: &[u8] =
     b"0 network\n0 tcp-create 4\n0 tcp-start-bind 2 1 4 127 0 0 1 80\n0 tcp-finish-bind 2\n";
 
 type Words = &'static [&'static str];
@@ -80,6 +80,7 @@ fn runs_end_by_their_words_and_texts(rt: HostRuntime) -> Result<(), Fail> {
                 scenario,
                 script,
                 most,
+                takes: most,
                 room: 4096,
                 failing: NONE,
             };
@@ -173,6 +174,7 @@ fn runs_end_where_a_call_fails(rt: HostRuntime) -> Result<(), Fail> {
             scenario: b"",
             script: BIND,
             most: 4096,
+            takes: 4096,
             room,
             failing,
         };

@@ -1,23 +1,35 @@
 //! The program `transcripts`: prints what a script of `wasi:sockets` calls makes of the scripted
-//! network of `scenario.txt`, and runs files of such transcripts again.
+//! network of `scenario.txt`, runs files of such transcripts again, and tries a script with a fault
+//! at each call of its network.
 #![tactic(auto)]
 
+mod streams;
+mod tried;
+
+use std::alloc::AllocError;
 use std::process::ExitCode;
 use std::rt::Files;
 use std::{fs, io};
+use tried::{Tried, tries_in, try_text};
 use wasi_console::{LineSource, end, line_of, print, words};
 use wasi_program::{Choice, Status, choice_in, scenario_path};
 use wasi_transcript::program::{End, Words, check, show, words_in};
+use wasi_transcript::survey::faults;
 use world_io::{FileSource, StdSink, StdSource};
 
 const VERSION: &str = "transcripts 0.1.0\n";
 
 const HELP: &str = "\
-Prints what a script of wasi:sockets calls makes of a scripted network, or runs such transcripts again.
+Prints what a script of wasi:sockets calls makes of a scripted network, runs such transcripts again, or tries a script
+with a fault at each call of the network.
 
 usage: transcripts show LIMIT    prints the transcript of the script on standard input, of at most LIMIT bytes,
                                  over the network that scenario.txt in this folder plans
        transcripts check FILE..  runs the cases of each file again, and compares
+       transcripts check-streams TRIES FILE..
+                                 does so, and also runs each script over a source and a sink that fail, at as many
+                                 as TRIES calls of each, and that give and take one byte per call
+       transcripts faults LIMIT  runs such a script again for each call that may fail, with connection-reset as its answer
        transcripts --help        prints this
        transcripts --version     prints the version
 
@@ -32,13 +44,18 @@ the end of the run closed.
 A file for check has many cases. Each is a line `# ` with what it shows, a line `given ` for each line of its
 scenario, the transcript, and an empty line.
 
+For each run of faults stand the call, and the first reply that isn't the one without the fault, with the line that it
+answers; behind it the trap that came later, if one did. A script that goes on with a handle that it was refused traps
+so. The last line counts the runs.
+
 The program ends with 0, or prints its status on standard error, with what is wrong, and ends with it:
     1  the words aren't in order            7  memory ran out
     2  a bad line in scenario.txt           8  scenario.txt can't be read
     3  a bad line in the script            20  a case does not hold
     4  the script is longer than LIMIT     21  a file is no list of cases
     5  a read of the script failed         22  a file can't be read
-    6  a write failed
+    6  a write failed                      23  a fault made a step trap
+                                           24  with a fault a run broke off, or left a network socket open
 
 example: : > scenario.txt; printf '0 network\\n0 tcp-create 4\\n' | transcripts show 1000
     > 0 network
@@ -65,10 +82,14 @@ fn main(rt: HostRuntime) -> ExitCode {
 
 /// Does what the words ask for.
 fn run(rt: HostRuntime, words: &[String]) -> ExitCode {
+    if let Some((tries, files)) = tries_in(words) {
+        return check_all(rt, files, Some(tries));
+    }
     match words_in(words) {
         None => end(&rt, Status::BadWords, 0, None),
         Some(Words::Show(limit)) => show_script(rt, limit),
-        Some(Words::Check(files)) => check_all(rt, files),
+        Some(Words::Check(files)) => check_all(rt, files, None),
+        Some(Words::Faults(limit)) => try_script(rt, limit),
     }
 }
 
@@ -78,10 +99,7 @@ fn show_script(rt: HostRuntime, limit: u32) -> ExitCode {
     let mut source = LineSource::new(StdSource::new(rt.stdin()));
     let mut sink = StdSink::new(rt.stdout());
     match show(rt.alloc(), limit, &mut scenario, &mut source, &mut sink) {
-        End::Run(Status::BadScenario, line) => {
-            let front = line_of(FileSource::open(&rt, scenario_path()), u64::from(line));
-            end(&rt, Status::BadScenario, line, front)
-        }
+        End::Run(Status::BadScenario, line) => bad_scenario(rt, line),
         End::Run(Status::BadStep, line) => {
             end(&rt, Status::BadStep, line, source.line(u64::from(line)))
         }
@@ -89,11 +107,29 @@ fn show_script(rt: HostRuntime, limit: u32) -> ExitCode {
     }
 }
 
-/// Checks each file, and ends as the first that isn't in order.
-fn check_all(rt: HostRuntime, files: &[String]) -> ExitCode {
+/// Runs the script on standard input again for each call of its network that may fail.
+fn try_script(rt: HostRuntime, limit: u32) -> ExitCode {
+    let mut scenario = FileSource::open(&rt, scenario_path());
+    let mut source = StdSource::new(rt.stdin());
+    let mut sink = StdSink::new(rt.stdout());
+    match faults(rt.alloc(), limit, &mut scenario, &mut source, &mut sink) {
+        End::Run(Status::BadScenario, line) => bad_scenario(rt, line),
+        ended => stop(&rt, ended),
+    }
+}
+
+/// Prints that this line of the scenario isn't in its grammar, and its start.
+fn bad_scenario(rt: HostRuntime, line: u32) -> ExitCode {
+    let front = line_of(FileSource::open(&rt, scenario_path()), u64::from(line));
+    end(&rt, Status::BadScenario, line, front)
+}
+
+/// Checks each file, also over streams that fail where it says at how many calls, and ends as the
+/// first that isn't in order.
+fn check_all(rt: HostRuntime, files: &[String], tries: Option<u64>) -> ExitCode {
     let mut first = End::Run(Status::Ok, 0);
     for file in files {
-        let ended = check_file(rt, file.as_str());
+        let ended = check_file(rt, file.as_str(), tries);
         if first == End::Run(Status::Ok, 0) {
             first = ended;
         }
@@ -101,14 +137,35 @@ fn check_all(rt: HostRuntime, files: &[String]) -> ExitCode {
     stop(&rt, first)
 }
 
-fn check_file(rt: HostRuntime, file: &str) -> End {
+fn check_file(rt: HostRuntime, file: &str, tries: Option<u64>) -> End {
     let mut sink = StdSink::new(rt.stdout());
-    match fs::read(&rt, file) {
-        Ok(text) => check(rt.alloc(), file, text.as_slice(), &mut sink),
+    let text = match fs::read(&rt, file) {
+        Ok(text) => text,
         Err(error) => match error.kind() {
-            io::ErrorKind::OutOfMemory => End::Run(Status::Memory, 0),
-            _ => End::NoFile,
+            io::ErrorKind::OutOfMemory => return End::Run(Status::Memory, 0),
+            _ => return End::NoFile,
         },
+    };
+    match (check(rt.alloc(), file, text.as_slice(), &mut sink), tries) {
+        (End::Run(Status::Ok, _), Some(tries)) => try_file(rt, file, text.as_slice(), tries),
+        (ended, _) => ended,
+    }
+}
+
+/// Runs each script of the file over streams that fail, and prints how many runs there were, or the
+/// line of the first case that differs.
+fn try_file(rt: HostRuntime, file: &str, text: &[u8], tries: u64) -> End {
+    match try_text(rt.alloc(), text, tries) {
+        Ok(Tried::Held(runs)) => {
+            let _ = println!(rt; "{file}: {runs} runs hold");
+            End::Run(Status::Ok, 0)
+        }
+        Ok(Tried::Failed(line, failed)) => {
+            let _ = println!(rt; "{file}:{line}: {failed:?}");
+            End::Differs
+        }
+        Ok(Tried::NotCases) => End::NotCases,
+        Err(AllocError) => End::Run(Status::Memory, 0),
     }
 }
 
@@ -120,6 +177,8 @@ fn stop<R: Eprint>(rt: &R, ended: End) -> ExitCode {
         End::Differs => "a case does not hold; standard output has the first line that differs",
         End::NotCases => "a file is not a list of cases; standard output has the line",
         End::NoFile => "a file can't be opened and read",
+        End::Trapped => "a fault of the network made a step trap",
+        End::Lost => "with a fault a run broke off, or left a network socket open",
     };
     let _ = eprintln!(rt; "status {status}\n{why}");
     ExitCode::from(status)

@@ -7,3 +7,4 @@ pub mod Cases
 pub mod CaseRead
 pub mod CaseHolds
 pub mod Words
+pub mod Faults

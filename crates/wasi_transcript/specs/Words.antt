@@ -18,23 +18,31 @@ use Rattle.wasi_transcript.specs.declared.check.Failed.{Failed}
 use Rattle.wasi_transcript.specs.declared.program.End.{End}
 use Rattle.wasi_transcript.specs.declared.program.End.TheVariants as end
 use Rattle.wasi_transcript.specs.declared.program.Words.{Words}
-use Rattle.wasi_transcript.specs.declared.program.Words.TheVariants.{Show, Check}
+use Rattle.wasi_transcript.specs.declared.program.Words.TheVariants.{Show, Check, Faults}
 use Rattle.wasi_transcript.specs.CaseHolds.{ChecksText}
 use Rattle.wasi_transcript.specs.Shown.{IsShown}
 
--- the words are `show LIMIT`
-abbrev pub limit_in : List (List ℕ) → Option ℕ
-limit_in (word ∷ limit ∷ []) = if bytes_eq word (codes "show") then number_in limit 4294967295 else None
-limit_in _ = None
+-- the limit after this word, where nothing else follows
+abbrev pub limit_after : List ℕ → List (List ℕ) → Option ℕ
+limit_after first (word ∷ limit ∷ []) = if bytes_eq word first then number_in limit 4294967295 else None
+limit_after first _ = None
+
+-- the words are `show LIMIT`, or `faults LIMIT`
+abbrev pub show_in : List (List ℕ) → Option ℕ
+show_in words = limit_after (codes "show") words
+
+abbrev pub faults_in : List (List ℕ) → Option ℕ
+faults_in words = limit_after (codes "faults") words
 
 -- the words are `check FILE..`
 abbrev pub IsCheck : List (List ℕ) → List (List ℕ) → Type 0
 IsCheck words files = (words ≡ codes "check" ∷ files) × (files ≢ [])
 
 abbrev pub AreWords : List (List ℕ) → Option Words → Type 0
-AreWords words (Some (Show limit)) = limit_in words ≡ Some limit
+AreWords words (Some (Show limit)) = show_in words ≡ Some limit
 AreWords words (Some (Check files)) = IsCheck words (map (λ w. string_bytes w) files.now)
-AreWords words None = (limit_in words ≡ None) × ((files : List (List ℕ)) → IsCheck words files → ⊥)
+AreWords words (Some (Faults limit)) = faults_in words ≡ Some limit
+AreWords words None = (show_in words ≡ None) × (faults_in words ≡ None) × ((files : List (List ℕ)) → IsCheck words files → ⊥)
 
 -- the number of each end
 abbrev pub number_of : End → ℕ
@@ -42,6 +50,8 @@ number_of (end.Run s line) = run.number_of s
 number_of end.Differs = 20
 number_of end.NotCases = 21
 number_of end.NoFile = 22
+number_of end.Trapped = 23
+number_of end.Lost = 24
 
 -- == show
 -- Nothing was read from the source or written to the sink.

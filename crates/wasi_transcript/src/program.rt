@@ -1,7 +1,8 @@
 //! What the program does with its words.
 
 ghost use Rattle.std.specs.Prelude.{◌≡◌, map, string_bytes};
-ghost use Rattle.wasi_transcript.specs.Words.{limit_in, AreWords, number_of, ShowEnds, CheckEnds};
+ghost use Rattle.wasi_transcript.specs.Words.{limit_after, AreWords, number_of, ShowEnds};
+ghost use Rattle.wasi_transcript.specs.Words.{CheckEnds};
 
 use crate::check::{Checked, check_text};
 use crate::report::report;
@@ -25,6 +26,10 @@ pub enum End {
     NotCases,
     /// A file can't be read.
     NoFile,
+    /// A fault of the network made a step trap.
+    Trapped,
+    /// A run in which the network failed broke off, or left a network socket open.
+    Lost,
 }
 
 impl End {
@@ -37,6 +42,8 @@ impl End {
             End::Differs => 20,
             End::NotCases => 21,
             End::NoFile => 22,
+            End::Trapped => 23,
+            End::Lost => 24,
         }
     }
 }
@@ -48,15 +55,17 @@ pub enum Words<'a> {
     Show(u32),
     /// `check FILE..`.
     Check(&'a [String]),
+    /// `faults LIMIT`.
+    Faults(u32),
 }
 
-/// The limit of `show LIMIT`, from 0 to 4,294,967,295.
-fn limit_in(words: &[String]) -> Option<u32>
-    ensures { result ≡ limit_in (map (λ w. string_bytes w) words.now) }
+/// The limit after this word, from 0 to 4,294,967,295, where nothing else follows.
+fn limit_after(first: &str, words: &[String]) -> Option<u32>
+    ensures { result ≡ limit_after first.now (map (λ w. string_bytes w) words.now) }
 {
     match words {
         [word, limit] => {
-            if word.as_str() != "show" {
+            if word.as_str() != first {
                 return None;
             }
             let limit = number(limit.as_str().as_bytes(), u64::from(u32::MAX))?;
@@ -70,8 +79,11 @@ fn limit_in(words: &[String]) -> Option<u32>
 pub fn words_in(words: &[String]) -> Option<Words<'_>>
     ensures { AreWords (map (λ w. string_bytes w) words.now) result }
 {
-    if let Some(limit) = limit_in(words) {
+    if let Some(limit) = limit_after("show", words) {
         return Some(Words::Show(limit));
+    }
+    if let Some(limit) = limit_after("faults", words) {
+        return Some(Words::Faults(limit));
     }
     let (first, files) = words.split_first()?;
     if first.as_str() != "check" || files.is_empty() {

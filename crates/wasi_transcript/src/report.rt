@@ -7,14 +7,14 @@ use std::fmt::Write;
 
 /// The first line in which two texts differ: its number, counted from 0, and what each has there.
 #[derive(Drop)]
-struct Difference<'a> {
-    line: u32,
-    wanted: Option<&'a [u8]>,
-    came: Option<&'a [u8]>,
+pub(crate) struct Difference<'a> {
+    pub line: u32,
+    pub wanted: Option<&'a [u8]>,
+    pub came: Option<&'a [u8]>,
 }
 
 /// Where two texts differ first, counted in lines; past the last line of both where they don't.
-fn first_difference<'a>(wanted: &'a [u8], came: &'a [u8]) -> Difference<'a> {
+pub(crate) fn first_difference<'a>(wanted: &'a [u8], came: &'a [u8]) -> Difference<'a> {
     let mut lines = TextLines::of(wanted);
     let mut others = TextLines::of(came);
     let mut line = 0u32;

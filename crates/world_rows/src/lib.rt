@@ -5,6 +5,8 @@
 #[cfg(test)]
 mod addresses;
 #[cfg(test)]
+mod arming;
+#[cfg(test)]
 mod calls;
 #[cfg(test)]
 mod memory;

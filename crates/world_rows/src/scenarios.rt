@@ -13,7 +13,7 @@ use world_scripted::{Lists, ScenarioError, ScriptedWorld};
 use world_text::ToldText;
 
 /// Asks for each of the answers in turn.
-fn expect_answers(
+pub fn expect_answers(
     rt: &impl Abort,
     alloc: Global,
     world: &mut ScriptedWorld,

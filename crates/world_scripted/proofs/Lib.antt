@@ -1,5 +1,6 @@
 pub mod Queues
 pub mod Fitting
+pub mod Armed
 pub mod Listing
 pub mod Known
 pub mod Logs

@@ -1,4 +1,5 @@
 pub mod Known
 pub mod Queued
+pub mod Armed
 pub mod Scripted
 pub mod Scenario

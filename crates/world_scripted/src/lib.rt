@@ -2,12 +2,14 @@
 //! it.
 #![tactic(auto)]
 
+pub mod arming;
 pub mod lists;
 mod queue;
 pub mod scenario;
 pub mod scripted;
 mod sides;
 
+pub use arming::{Arming, code_fits};
 pub use lists::Lists;
 pub use scenario::ScenarioError;
 pub use scripted::ScriptedWorld;

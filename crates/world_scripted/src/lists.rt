@@ -26,7 +26,7 @@ fn place(kind: Kind) -> usize
 }
 
 /// The kind of answer that a call takes; none where it is always done.
-fn kind_of(call: &Call) -> Option<Kind>
+pub(crate) fn kind_of(call: &Call) -> Option<Kind>
     ensures { result ≡ kind_of call.now }
 {
     match call {

@@ -362,10 +362,10 @@ fn or_free(mut contexts: Vec<WasiSocketsCtx>) -> Result<Vec<WasiSocketsCtx>, All
 }
 
 impl ScriptedWorld {
-    ghost use Rattle.world_scripted.specs.Scripted.{seen_by, started};
+    ghost use Rattle.world_scripted.specs.Scripted.{seen_by, stage_of, started};
 
-    /// The world that a scenario plans, and its contexts, numbered from 0 in the order of their
-    /// lines; with no such line one, numbered 0, that allows all three. Takes memory for the
+    /// The world that a scenario plans, unarmed, and its contexts, numbered from 0 in the order of
+    /// their lines; with no such line one, numbered 0, that allows all three. Takes memory for the
     /// answers and the contexts.
     pub fn parse(
         alloc: Global,
@@ -375,6 +375,7 @@ impl ScriptedWorld {
             ≡ Ok (seen_by parsed.0, parsed.1.items)) }
         ensures numbered { IfOk result (λ parsed. AreNumbered parsed.1.items) }
         ensures few { IfOk result (λ parsed. length parsed.1.items < 2 ^ 32) }
+        ensures unarmed { IfOk result (λ parsed. (stage_of parsed.0).armed.nth ≡ 0) }
         ensures bad { IfErr result (λ e. IfSome (bad_line e) (λ n. scenario_of bytes.now ≡ Err n)) }
     {
         let Setup { lists, contexts } = read_lines(alloc, bytes, MOST_BYTES)?;

@@ -4,12 +4,15 @@ ghost use Rattle.std.specs.Prelude.{◌≡◌, IfOk, OnErr, [], ◌∷◌, Some,
 ghost use Rattle.wasi_world.specs.declared.ids.OpId.{OpId};
 ghost use Rattle.wasi_world.specs.Asks.{IsFront};
 ghost use Rattle.wasi_world.specs.Fits.{Fits};
-ghost use Rattle.wasi_world.specs.Seen.{Counts, Passes};
+ghost use Rattle.wasi_world.specs.Seen.{Counts, Passes, Plan};
 ghost use Rattle.wasi_world.specs.Kinds.{kind_of};
 ghost use Rattle.wasi_world.specs.Script.{Offers, offered, default, as_planned, waiting};
 ghost use Rattle.wasi_world.specs.Script.{next_answer, progress, IsScripted};
+ghost use Rattle.wasi_world.specs.Sides.{unmade};
+ghost use Rattle.world_scripted.specs.Armed.{armed_left, told_at, stage_after};
 ghost use Rattle.world_scripted.specs.Known.{known};
 
+use crate::arming::Arming;
 use crate::lists::Lists;
 use crate::sides::{Sides, default_local, keep, known, value_of};
 use std::alloc::{AllocError, Global};
@@ -76,39 +79,95 @@ fn tell(
     }
 }
 
+/// Goes on to what is left of the lists after a call; one that a code answers takes nothing.
+fn advance(lists: &mut Lists, armed: Arming, call: &Call)
+    ensures { lists.new ≡ record {
+      all = lists.old.all;
+      left = armed_left armed lists.old.left call.now;
+    } }
+{
+    if !armed.falls(call) {
+        lists.advance(call);
+    }
+}
+
 /// A network that answers each call from a list for its kind, in order and over all network
-/// sockets, and by a default once that list is used up. It keeps its log.
+/// sockets, and by a default once that list is used up. It keeps its log. A world that was armed
+/// answers one call by a code, and no longer reports its plan.
 #[derive(Drop)]
 pub struct ScriptedWorld {
     lists: Lists,
     sides: Sides,
+    armed: Arming,
+    by_plan: bool,
     log: Vec<Entry>,
     ended: bool,
     closings: u64,
     faults: u64,
-    ghost left: { lists.left ≡ (progress lists.all log.items).left },
-    ghost sides_known: { (sock : OpId) → known sides sock
+    ghost unarmed: { by_plan ≡ true → armed.nth ≡ 0 },
+    ghost left: { by_plan ≡ true → lists.left ≡ (progress lists.all log.items).left },
+    ghost sides_known: { by_plan ≡ true → (sock : OpId) → known sides sock
         ≡ (progress lists.all log.items).sides sock },
-    ghost scripted: { IsScripted lists.all log.items },
+    ghost scripted: { by_plan ≡ true → IsScripted lists.all log.items },
 }
 
 impl ScriptedWorld {
-    ghost use Rattle.world_scripted.specs.Scripted.{seen_by, at_start};
+    ghost use Rattle.world_scripted.specs.Scripted.{seen_by, stage_of, at_start, armed_seen};
 
     /// A world that goes by these lists, from their start: with an empty log, no end mark and no
-    /// faults. Takes no memory.
+    /// faults, and never armed. Takes no memory.
     pub fn new(alloc: Global, lists: Lists) -> ScriptedWorld
         requires { lists.left ≡ lists.all }
-        ensures { seen_by result ≡ at_start lists.all }
+        ensures start { seen_by result ≡ at_start lists.all }
+        ensures left { (stage_of result).left ≡ lists.all }
+        ensures sides { (sock : OpId) → (stage_of result).sides sock ≡ unmade }
+        ensures unarmed { (stage_of result).armed.nth ≡ 0 }
     {
         ScriptedWorld {
             lists,
             sides: HashMap::new(alloc),
+            armed: Arming {
+                nth: 0,
+                code: ErrorCode::Other,
+            },
+            by_plan: true,
             log: Vec::new(alloc),
             ended: false,
             closings: 0,
             faults: 0,
         }
+    }
+
+    /// Arms it: the `nth` later call that the code fits, counted from 1, is answered by the code,
+    /// and takes nothing from its list. 0 disarms. Takes no memory.
+    ///
+    /// From then on it doesn't report its plan, as it doesn't go by it; a world that was only
+    /// disarmed still does.
+    pub fn arm(&mut self, nth: u32, code: ErrorCode)
+        ensures seen { seen_by self.new ≡ armed_seen nth (seen_by self.old) }
+        ensures armed { stage_of self.new ≡ record {
+          left = (stage_of self.old).left;
+          sides = (stage_of self.old).sides;
+          armed = record { nth = nth; code = code };
+        } }
+    {
+        self.armed = Arming { nth, code };
+        self.by_plan = self.by_plan && nth == 0;
+    }
+
+    /// The answer to a call: the code that it is armed with, or else that of its lists.
+    fn tell(&self, call: &Call, bytes: &[u8]) -> Result<Told, AllocError>
+        requires some { Offers call.now }
+        requires offered { length bytes.now ≡ offered call.now }
+        ensures told { IfOk result (λ told. as_planned told ≡ told_at (stage_of self.now) call.now) }
+        ensures fits { IfOk result (λ told. Fits call.now told) }
+        ensures front { IfOk result (λ told. IsFront told bytes.now) }
+    {
+        if self.armed.falls(call) {
+            return Ok(Told::Code(self.armed.code));
+        }
+        let alloc = *self.log.allocator();
+        tell(alloc, &self.lists, &self.sides, call, bytes)
     }
 
     /// Answers a call and keeps it in the log. `bytes` are those that a write offers.
@@ -119,14 +178,18 @@ impl ScriptedWorld {
             ((record { op = op; call = call; answer = told }) ∷ []) (seen_by self.new)) }
         ensures fits { IfOk result (λ told. Fits call told) }
         ensures front { IfOk result (λ told. IsFront told bytes.now) }
+        ensures told { IfOk result (λ told. as_planned told ≡ told_at (stage_of self.old) call) }
+        ensures stage { IfOk result (λ told. stage_of self.new ≡ stage_after (stage_of self.old)
+            (record { op = op; call = call; answer = told })) }
         ensures err { OnErr result (seen_by self.new ≡ seen_by self.old) }
+        ensures kept { OnErr result (stage_of self.new ≡ stage_of self.old) }
     {
-        let alloc = *self.log.allocator();
-        let told = tell(alloc, &self.lists, &self.sides, &call, bytes)?;
+        let told = self.tell(&call, bytes)?;
         let answer = told.try_clone()?;
         self.log.reserve(1)?;
         keep(&mut self.sides, op, &call, &told)?;
-        self.lists.advance(&call);
+        advance(&mut self.lists, self.armed, &call);
+        self.armed = self.armed.after(&call);
         self.faults = count_after(self.faults, &told);
         self.log.push_reserved(Entry { op, call, answer });
         Ok(told)
@@ -143,9 +206,11 @@ impl ScriptedWorld {
         self.log.as_slice()
     }
 
-    /// The log itself; takes no memory.
+    /// The log itself; takes no memory. One of a world that reports its plan is answered by it.
     pub fn into_entries(self) -> Vec<Entry>
-        ensures { (seen_by self).log ≡ Some result.items }
+        ensures log { (seen_by self).log ≡ Some result.items }
+        ensures scripted { (plan : Plan) → (seen_by self).plan ≡ Some plan
+            → IsScripted plan result.items }
     {
         self.log
     }
@@ -174,18 +239,47 @@ impl ScriptedWorld {
 }
 
 impl World for ScriptedWorld {
-    ghost use Rattle.wasi_world.specs.Script.{goes_by_plan};
-    ghost use Rattle.world_scripted.specs.Scripted.{seen_by};
+    ghost use Rattle.std.specs.Prelude.{◌≤◌, ◌<◌, ◌^◌};
+    ghost use Rattle.wasi_world.specs.Asks.{one, one_write, AsksFor};
+    ghost use Rattle.wasi_world.specs.Fits.{IsPlain, IsWritten};
+    ghost use Rattle.world_scripted.specs.Scripted.{seen_by, stage_of, goes_by_its_plan};
 
     ghost seen = { seen_by };
 
-    ghost scripted = { λ world. goes_by_plan world.lists.all world.log.items world.scripted };
+    ghost scripted = { λ world. goes_by_its_plan world.by_plan world.lists.all world.log.items
+        world.scripted };
 
-    fn call(&mut self, op: OpId, call: Call) -> Result<Told, AllocError> {
+    /// Makes any call but a write and a send; `told` and `stage` say what a world that is armed
+    /// answers.
+    fn call(&mut self, op: OpId, call: Call) -> Result<Told, AllocError>
+        requires open { (seen_by self.old).ended ≡ false }
+        requires plain { IsPlain call }
+        ensures asked { AsksFor (one op call) (seen_by self.old) (seen_by self.new) (λ told. told)
+            result }
+        ensures fits { IfOk result (λ told. Fits call told) }
+        ensures err { OnErr result (seen_by self.new ≡ seen_by self.old) }
+        ensures told { IfOk result (λ told. as_planned told ≡ told_at (stage_of self.old) call) }
+        ensures stage { IfOk result (λ told. stage_of self.new ≡ stage_after (stage_of self.old)
+            (record { op = op; call = call; answer = told })) }
+        ensures kept { OnErr result (stage_of self.new ≡ stage_of self.old) }
+    {
         self.answer(op, call, &[])
     }
 
-    fn write(&mut self, op: OpId, sock: Sock, bytes: &[u8]) -> Result<Told, AllocError> {
+    fn write(&mut self, op: OpId, sock: Sock, bytes: &[u8]) -> Result<Told, AllocError>
+        requires open { (seen_by self.old).ended ≡ false }
+        requires some { 1 ≤ length bytes.now }
+        requires short { length bytes.now < 2 ^ 32 }
+        ensures asked { AsksFor (one_write op sock bytes.now) (seen_by self.old) (seen_by self.new)
+            (λ told. told) result }
+        ensures fits { IfOk result (λ told. IsWritten (length bytes.now) told) }
+        ensures err { OnErr result (seen_by self.new ≡ seen_by self.old) }
+        ensures told { IfOk result (λ told. as_planned told
+            ≡ told_at (stage_of self.old) (Call.Write sock (length bytes.now))) }
+        ensures stage { IfOk result (λ told. stage_of self.new ≡ stage_after (stage_of self.old)
+            (record { op = op; call = Call.Write sock (length bytes.now); answer = told })) }
+        ensures kept { OnErr result (stage_of self.new ≡ stage_of self.old) }
+    {
         let offered = bytes.len() as u32;
         self.answer(op, Call::Write { sock, offered }, bytes)
     }
@@ -196,7 +290,17 @@ impl World for ScriptedWorld {
         sock: Sock,
         addr: IpSocketAddress,
         bytes: &[u8],
-    ) -> Result<Told, AllocError> {
+    ) -> Result<Told, AllocError>
+        requires open { (seen_by self.old).ended ≡ false }
+        ensures asked { AsksFor (one op (Call.Send sock addr bytes.now)) (seen_by self.old)
+            (seen_by self.new) (λ told. told) result }
+        ensures err { OnErr result (seen_by self.new ≡ seen_by self.old) }
+        ensures told { IfOk result (λ told. as_planned told
+            ≡ told_at (stage_of self.old) (Call.Send sock addr bytes.now)) }
+        ensures stage { IfOk result (λ told. stage_of self.new ≡ stage_after (stage_of self.old)
+            (record { op = op; call = Call.Send sock addr bytes.now; answer = told })) }
+        ensures kept { OnErr result (stage_of self.new ≡ stage_of self.old) }
+    {
         let bytes = Octets::copy_of(*self.log.allocator(), bytes)?;
         self.answer(op, Call::Send { sock, addr, bytes }, &[])
     }
