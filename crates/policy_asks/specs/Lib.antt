@@ -3,3 +3,4 @@ pub mod Answer
 pub mod Io
 pub mod OneLine
 pub mod Asked
+pub mod Findings

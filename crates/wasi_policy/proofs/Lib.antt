@@ -5,3 +5,8 @@ pub mod Handing
 pub mod FirstCells
 pub mod ReachLaws
 pub mod NodeLaws
+pub mod PointLaws
+pub mod StartLaws
+pub mod MarkLaws
+pub mod OverlapLaws
+pub mod FindingLaws

@@ -12,8 +12,10 @@ use Rattle.wasi_addr.specs.Address.{canonical, ip_of, port_of}
 use Rattle.wasi_policy.specs.declared.rule.Net.{Net}
 use Rattle.wasi_policy.specs.declared.rule.Net.TheVariants as net
 use Rattle.wasi_policy.specs.declared.rule.Rule.{Rule}
-use Rattle.wasi_policy.specs.Decision.{ipv4_number, ipv6_number, is_in, is_about, matches, decided_from}
+use Rattle.wasi_policy.specs.Decision.{ipv4_number, ipv6_number, is_in, is_about, matches, allows, decided_from, decision}
+use Rattle.wasi_policy.specs.Explained.{explained_from, explained_by, explained_at, explanation}
 use Rattle.wasi_policy.specs.declared.reach.Reach.{Reach}
+use Rattle.wasi_policy.specs.Points.{in_range}
 use Rattle.wasi_policy.specs.Reach.{family_of, ip_number, block_low, block_high, range_of, reach_over, reach_of, with_reach, reaches_from, no_rule, first_of, by_rule, by_place}
 
 -- == numbers that agree but for their last bits
@@ -49,12 +51,7 @@ agree_is bits m n h =
     ∙ ap (λ b. nat_le (block_low bits m) n && b) (below_both n (block_low bits m + (2 ^ bits - 1)) h)
 
 -- == one rule
--- what a net's addresses of the family have, as a test of numbers
-abbrev in_range : Option (ℕ × ℕ) → ℕ → Bool
-in_range None n = false
-in_range (Some (low, high)) n = nat_le low n && nat_le n high
-
-range_is : (net : Net) (address : IpAddress) → ip_number address < 2 ^ 128 → is_in net address ≡ in_range (range_of net (family_of address)) (ip_number address)
+pub range_is : (net : Net) (address : IpAddress) → ip_number address < 2 ^ 128 → is_in net address ≡ in_range (range_of net (family_of address)) (ip_number address)
 range_is net.Any (ip.Ipv4 a) h = sym (all_in (ip_number (ip.Ipv4 a)) h) where
   all_in : (n : ℕ) → n < 2 ^ 128 → (nat_le 0 n && nat_le n (2 ^ 128 - 1)) ≡ true
   all_in n h = grind (arith, nat_tests)
@@ -156,6 +153,39 @@ module _ (address : IpSocketAddress) (asked : SocketAddrUse) (fits : ip_number (
   decision_is rules h = decided 0 rules (omega (arith, h)) ∙ ap (λ k. by_rule (first 0 rules) (slice_get rules k)) (less (first 0 rules)) where
     less : (n : ℕ) → n - 0 ≡ n
     less n = omega arith
+
+  explained : (place : ℕ) (rules : List Rule) → place + length rules ≤ no_rule → explained_from (place + 1) rules address asked ≡ explained_by (first place rules) (slice_get rules (first place rules - place))
+  explained place [] h = refl
+  explained place (rule ∷ rules) h =
+      let rest = within (place + 1) rules (omega arith) in
+      let more = explained (place + 1) rules (omega arith) in
+      rw (first_is place rule rules rest.high) (by_match (matches rule address asked) refl rest.low rest.high more)
+    where
+      by_match : (b : Bool) → matches rule address asked ≡ b → place + 1 ≤ first (place + 1) rules → first (place + 1) rules ≤ no_rule → explained_from (place + 1 + 1) rules address asked ≡ explained_by (first (place + 1) rules) (slice_get rules (first (place + 1) rules - (place + 1))) → explained_from (place + 1) (rule ∷ rules) address asked ≡ explained_by (min (place_if (matches rule address asked) place) (first (place + 1) rules)) (slice_get (rule ∷ rules) (min (place_if (matches rule address asked) place) (first (place + 1) rules) - place))
+      by_match true e low high more =
+          let here : min place (first (place + 1) rules) ≡ place = omega (arith, low) in
+          let none : place - place ≡ 0 = omega arith in
+          rw (e, here, none) refl
+      by_match false e low high more =
+          let here : min no_rule (first (place + 1) rules) ≡ first (place + 1) rules = omega (arith, high) in
+          let next : first (place + 1) rules - place ≡ suc (first (place + 1) rules - (place + 1)) = omega (arith, low) in
+          rw (e, here, next) more
+
+  -- and names the rule
+  pub explanation_is : (rules : List Rule) → length rules ≤ no_rule → explained_from 1 rules address asked ≡ explained_at rules (first 0 rules)
+  explanation_is rules h = explained 0 rules (omega (arith, h)) ∙ ap (λ k. explained_by (first 0 rules) (slice_get rules k)) (less (first 0 rules)) where
+    less : (n : ℕ) → n - 0 ≡ n
+    less n = omega arith
+
+-- the rule that is named is the one that decides
+pub explains : (rules : List Rule) (address : IpSocketAddress) (asked : SocketAddrUse) → ((explanation rules address asked).line ≡ (decision rules address asked).rule) × (allows (explanation rules address asked).rule.action ≡ (decision rules address asked).allow)
+explains rules address asked = from 1 rules where
+  from : (line : ℕ) (rules : List Rule) → ((explained_from line rules address asked).line ≡ (decided_from line rules address asked).rule) × (allows (explained_from line rules address asked).rule.action ≡ (decided_from line rules address asked).allow)
+  from line [] = (refl, refl)
+  from line (rule ∷ rules) = by_match (matches rule address asked) refl (from (line + 1) rules) where
+    by_match : (b : Bool) → matches rule address asked ≡ b → ((explained_from (line + 1) rules address asked).line ≡ (decided_from (line + 1) rules address asked).rule) × (allows (explained_from (line + 1) rules address asked).rule.action ≡ (decided_from (line + 1) rules address asked).allow) → ((explained_from line (rule ∷ rules) address asked).line ≡ (decided_from line (rule ∷ rules) address asked).rule) × (allows (explained_from line (rule ∷ rules) address asked).rule.action ≡ (decided_from line (rule ∷ rules) address asked).allow)
+    by_match true e rest = rw e (refl, refl)
+    by_match false e rest = rw e rest
 
 -- the same place by the parts of an address
 pub same_place : (rules : List Rule) (asked : SocketAddrUse) (address : IpSocketAddress) (ip : IpAddress) (number port : ℕ) → ip ≡ canonical (ip_of address) → number ≡ ip_number ip → port ≡ port_of address → first_of (reaches_from 0 rules asked (family_of ip)) number port ≡ first_of (reaches_from 0 rules asked (family_of (canonical (ip_of address)))) (ip_number (canonical (ip_of address))) (port_of address)

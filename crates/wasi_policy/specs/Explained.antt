@@ -1,5 +1,6 @@
 -- Which rule decided, and how decisions are written.
-use Rattle.std.specs.Prelude.{ℕ, ◌+◌, if◌then◌else◌, List, [], ◌∷◌, ◌++◌, codes, decimal, None}
+use Rattle.std.specs.Prelude.{ℕ, ◌+◌, if◌then◌else◌, List, [], ◌∷◌, ◌++◌, codes, decimal, Option, Some, None}
+use Rattle.std.specs.List.{slice_get}
 use Rattle.wasi_addr.specs.declared.address.IpSocketAddress.{IpSocketAddress}
 use Rattle.wasi_addr.specs.declared.address.SocketAddrUse.{SocketAddrUse}
 use Rattle.wasi_policy.specs.declared.rule.Action.TheVariants.{Deny}
@@ -38,3 +39,11 @@ explained_from line (rule ∷ rules) address asked =
 
 abbrev pub explanation : List Rule → IpSocketAddress → SocketAddrUse → Explanation
 explanation rules address asked = explained_from 1 rules address asked
+
+-- the rule of a place; none where there is no such rule
+abbrev pub explained_by : ℕ → Option Rule → Explanation
+explained_by place None = record { line = 0; rule = last_rule }
+explained_by place (Some rule) = record { line = place + 1; rule = rule }
+
+abbrev pub explained_at : List Rule → ℕ → Explanation
+explained_at rules place = explained_by place (slice_get rules place)

@@ -7,3 +7,7 @@ pub mod Reach
 pub mod Cells
 pub mod Nodes
 pub mod Index
+pub mod Points
+pub mod Findings
+pub mod Marks
+pub mod Overlaps

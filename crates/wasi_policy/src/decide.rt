@@ -89,7 +89,7 @@ pub fn matches(rule: &Rule, address: IpSocketAddress, usage: SocketAddrUse) -> b
 }
 
 /// Whether the action is to allow.
-fn allows(action: Action) -> bool
+pub fn allows(action: Action) -> bool
     ensures { result ≡ allows action }
 {
     matches!(action, Action::Allow)

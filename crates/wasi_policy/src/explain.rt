@@ -1,12 +1,9 @@
-//! The rule that decides.
+//! The rule that decides, by its place.
 
 ghost use Rattle.std.specs.Prelude.{◌≡◌, ◌<◌, ◌^◌, length};
-ghost use Rattle.wasi_policy.specs.Decision.{allows, decision};
-ghost use Rattle.wasi_policy.specs.Explained.{explanation};
+ghost use Rattle.wasi_policy.specs.Explained.{explained_at};
 
-use crate::decide::matches;
 use crate::rule::{Action, Explanation, Net, Rule};
-use wasi_addr::{IpSocketAddress, SocketAddrUse};
 
 /// What holds where no rule matches.
 const LAST_RULE: Rule = Rule {
@@ -17,28 +14,19 @@ const LAST_RULE: Rule = Rule {
     high: u16::MAX,
 };
 
-/// The first rule that matches, by a look at each in turn; where none does, the one that denies
-/// everything. Takes no memory.
-pub fn explain_by_scan(
-    rules: &[Rule],
-    address: IpSocketAddress,
-    usage: SocketAddrUse,
-) -> Explanation
+/// The rule of a place, counted from 0; where there is none, the one that denies everything.
+pub fn explanation_of(rules: &[Rule], place: u32) -> Explanation
     requires { length rules.now < 2 ^ 32 }
-    ensures rule { result ≡ explanation rules.now address usage }
-    ensures line { result.line ≡ (decision rules.now address usage).rule }
-    ensures action { allows result.rule.action ≡ (decision rules.now address usage).allow }
+    ensures { result ≡ explained_at rules.now place }
 {
-    for (at, rule) in rules.iter().enumerate() {
-        if matches(rule, address, usage) {
-            return Explanation {
-                line: at as u32 + 1,
-                rule: *rule,
-            };
-        }
-    }
-    Explanation {
-        line: 0,
-        rule: LAST_RULE,
+    match rules.get(place as usize) {
+        Some(rule) => Explanation {
+            line: place + 1,
+            rule: *rule,
+        },
+        None => Explanation {
+            line: 0,
+            rule: LAST_RULE,
+        },
     }
 }

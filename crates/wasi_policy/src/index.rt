@@ -3,15 +3,17 @@
 ghost use Rattle.std.specs.Prelude.{◌≡◌, ◌<◌, ◌^◌, IfOk, List, length};
 ghost use Rattle.wasi_addr.specs.declared.address.SocketAddrUse.{SocketAddrUse};
 ghost use Rattle.wasi_policy.specs.declared.rule.Rule.{Rule};
-ghost use Rattle.wasi_policy.specs.Decision.{decision};
-ghost use Rattle.wasi_policy.specs.Reach.{family_of};
+ghost use Rattle.wasi_policy.specs.Decision.{allows, decision};
+ghost use Rattle.wasi_policy.specs.Explained.{explanation, explained_at};
+ghost use Rattle.wasi_policy.specs.Reach.{by_place, family_of};
 ghost use Rattle.wasi_policy.specs.Index.{AreNodesOf, AreUseNodesOf, IsIndexOf};
 
 use crate::decide::decision_of;
+use crate::explain::explanation_of;
 use crate::node::Node;
 use crate::nodes::{first_in, nodes_of};
 use crate::reach::{ip_number, reaches_of};
-use crate::rule::{Decision, Rule};
+use crate::rule::{Decision, Explanation, Rule};
 use std::alloc::{AllocError, Global};
 use wasi_addr::{IpAddress, IpSocketAddress, SocketAddrUse, SocketAddressFamily};
 
@@ -112,6 +114,20 @@ impl Index {
         }
     }
 
+    /// The place of the first of these rules, of which it is the index, that matches this use of
+    /// this address; `NO_RULE` where none does.
+    fn first(&self, rules: &[Rule], address: IpSocketAddress, usage: SocketAddrUse) -> u32
+        requires few { length rules.now < 2 ^ 32 }
+        requires index { IsIndexOf rules.now self.now }
+        ensures decides { by_place rules.now result ≡ decision rules.now address usage }
+        ensures explains { explained_at rules.now result ≡ explanation rules.now address usage }
+    {
+        let ip = address.ip().to_canonical();
+        let number = ip_number(ip);
+        let nodes = self.of_use(usage).of_family(ip);
+        first_in(nodes, number, address.port())
+    }
+
     /// What these rules, of which it is the index, decide of this use of this address. Takes no
     /// memory.
     pub fn decide(&self, rules: &[Rule], address: IpSocketAddress, usage: SocketAddrUse) -> Decision
@@ -119,9 +135,23 @@ impl Index {
         requires index { IsIndexOf rules.now self.now }
         ensures { result ≡ decision rules.now address usage }
     {
-        let ip = address.ip().to_canonical();
-        let number = ip_number(ip);
-        let nodes = self.of_use(usage).of_family(ip);
-        decision_of(rules, first_in(nodes, number, address.port()))
+        decision_of(rules, self.first(rules, address, usage))
+    }
+
+    /// Which of these rules, of which it is the index, decides this use of this address. Takes no
+    /// memory.
+    pub fn explain(
+        &self,
+        rules: &[Rule],
+        address: IpSocketAddress,
+        usage: SocketAddrUse,
+    ) -> Explanation
+        requires few { length rules.now < 2 ^ 32 }
+        requires index { IsIndexOf rules.now self.now }
+        ensures rule { result ≡ explanation rules.now address usage }
+        ensures line { result.line ≡ (decision rules.now address usage).rule }
+        ensures action { allows result.rule.action ≡ (decision rules.now address usage).allow }
+    {
+        explanation_of(rules, self.first(rules, address, usage))
     }
 }

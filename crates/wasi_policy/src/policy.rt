@@ -1,12 +1,11 @@
 //! Rules that were read.
 
-ghost use Rattle.std.specs.Prelude.{◌≡◌, IfOk, IfErr, IfSome, Ok, Err};
+ghost use Rattle.std.specs.Prelude.{◌≡◌, ◌<◌, ◌^◌, IfOk, IfErr, IfSome, Ok, Err, length};
 ghost use Rattle.wasi_policy.specs.Decision.{allows, decision};
 ghost use Rattle.wasi_policy.specs.Explained.{explanation};
 ghost use Rattle.wasi_policy.specs.Grammar.{rules_of};
 ghost use Rattle.wasi_policy.specs.Parsed.{bad_line};
 
-use crate::explain::explain_by_scan;
 use crate::index::Index;
 use crate::parse::{RulesError, rules_within};
 use crate::rule::{Decision, Explanation, Rule};
@@ -51,7 +50,8 @@ impl Policy {
 
     /// The rules, in the order of their lines.
     pub fn rules(&self) -> &[Rule]
-        ensures { result.now ≡ self.now }
+        ensures rules { result.now ≡ self.now }
+        ensures few { length self.now < 2 ^ 32 }
     {
         self.rules.as_slice()
     }
@@ -65,12 +65,12 @@ impl Policy {
     }
 
     /// The first rule that matches, with its line; where none does, line 0 and the rule that denies
-    /// everything. It is the rule that decides. Takes no memory.
+    /// everything. It is the rule that decides, and found as `decide` finds it. Takes no memory.
     pub fn explain(&self, address: IpSocketAddress, usage: SocketAddrUse) -> Explanation
         ensures rule { result ≡ explanation self.now address usage }
         ensures line { result.line ≡ (decision self.now address usage).rule }
         ensures action { allows result.rule.action ≡ (decision self.now address usage).allow }
     {
-        explain_by_scan(self.rules.as_slice(), address, usage)
+        self.index.explain(self.rules.as_slice(), address, usage)
     }
 }

@@ -69,7 +69,7 @@ fn block(number: u128, bits: u8) -> (u128, u128)
 }
 
 /// The addresses of a net that are of this family, if it has any.
-fn range_of(net: Net, family: SocketAddressFamily) -> Option<(u128, u128)>
+pub fn range_of(net: Net, family: SocketAddressFamily) -> Option<(u128, u128)>
     ensures { result ≡ range_of net family }
 {
     match (net, family) {
