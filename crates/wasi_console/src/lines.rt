@@ -2,6 +2,7 @@
 
 ghost use Rattle.std.specs.Prelude.{◌≤◌, length};
 
+use memchr::{memchr, memrchr};
 use std::fmt::{self, Display, Formatter, Write};
 use world_io::{Failed, Source};
 
@@ -52,18 +53,27 @@ impl Display for Front {
 fn first_line(bytes: &[u8]) -> &[u8]
     ensures { length result.now ≤ length bytes.now }
 {
-    match bytes.iter().position(|b| *b == b'\n') {
+    match memchr(b'\n', bytes) {
         Some(end) => &bytes[..end],
         None => bytes,
     }
 }
 
+/// How many newlines there are in at most 255 bytes.
+fn few_newlines(bytes: &[u8]) -> u8 {
+    let mut count: u8 = 0;
+    for byte in bytes {
+        // A sum with no branch and of one byte, so that many bytes are looked at in one instruction.
+        count = count.wrapping_add(u8::from(*byte == b'\n'));
+    }
+    count
+}
+
 /// How many newlines there are in a piece.
 fn newlines(piece: &[u8]) -> u32 {
     let mut count: u32 = 0;
-    for byte in piece {
-        // A sum with no branch, so that many bytes are looked at in one instruction.
-        count = count.wrapping_add(u32::from(*byte == b'\n'));
+    for bytes in piece.chunks(255) {
+        count = count.wrapping_add(u32::from(few_newlines(bytes)));
     }
     count
 }
@@ -99,7 +109,7 @@ impl LastPiece {
         let mut line = self.line;
         let mut front = self.front;
         let mut begun = bytes;
-        if let Some(end) = bytes.iter().rposition(|b| *b == b'\n') {
+        if let Some(end) = memrchr(b'\n', bytes) {
             line = line.saturating_add(u64::from(newlines(bytes)));
             front = Front::new();
             begun = &bytes[end + 1..];

@@ -1,20 +1,21 @@
 //! A world that answers from lists.
 
-ghost use Rattle.std.specs.Prelude.{◌≡◌, IfOk, OnErr, [], ◌∷◌, Some, true, false, length};
+ghost use Rattle.std.specs.Prelude.{◌≡◌, IfOk, OnErr, [], ◌∷◌, Some, true, false, length, List, ℕ};
+ghost use Rattle.wasi_world.specs.declared.call.Told.{Told};
 ghost use Rattle.wasi_world.specs.declared.ids.OpId.{OpId};
 ghost use Rattle.wasi_world.specs.Asks.{IsFront};
 ghost use Rattle.wasi_world.specs.Fits.{Fits};
 ghost use Rattle.wasi_world.specs.Seen.{Counts, Passes, Plan};
 ghost use Rattle.wasi_world.specs.Kinds.{kind_of};
-ghost use Rattle.wasi_world.specs.Script.{Offers, offered, default, as_planned, waiting};
-ghost use Rattle.wasi_world.specs.Script.{next_answer, progress, IsScripted};
+ghost use Rattle.wasi_world.specs.Script.{Offers, offered, default, default_peer, as_planned};
+ghost use Rattle.wasi_world.specs.Script.{waiting, next_answer, progress, IsScripted};
 ghost use Rattle.wasi_world.specs.Sides.{unmade};
 ghost use Rattle.world_scripted.specs.Armed.{armed_left, told_at, stage_after};
 ghost use Rattle.world_scripted.specs.Known.{known};
 
 use crate::arming::Arming;
 use crate::lists::Lists;
-use crate::sides::{Sides, default_local, keep, known, value_of};
+use crate::sides::{Sides, keep, local_of, option_of, peer_of};
 use std::alloc::{AllocError, Global};
 use std::collections::HashMap;
 use wasi_addr::{ErrorCode, IpSocketAddress};
@@ -30,6 +31,25 @@ fn count_after(faults: u64, told: &Told) -> u64
     }
 }
 
+/// The default answer to a `peer`.
+fn tell_peer(sides: &Sides, sock: Sock) -> Told
+    ensures told { as_planned result ≡ default_peer (known sides.now sock).peer }
+    ensures front { (bytes : List ℕ) → IsFront result bytes }
+{
+    match peer_of(sides, sock) {
+        Some(addr) => Told::Addr(addr),
+        None => Told::Code(ErrorCode::InvalidState),
+    }
+}
+
+/// Takes all of a write's bytes.
+fn take_all(alloc: Global, bytes: &[u8]) -> Result<Told, AllocError>
+    ensures { IfOk result (λ told. told ≡ Told.Took bytes.now) }
+{
+    let taken = Octets::copy_of(alloc, bytes)?;
+    Ok(Told::Took(taken))
+}
+
 /// The default answer to a call. `bytes` are those that a write offers, of which it takes all.
 fn tell_default(alloc: Global, sides: &Sides, call: &Call, bytes: &[u8]) -> Result<Told, AllocError>
     requires { length bytes.now ≡ offered call.now }
@@ -39,21 +59,13 @@ fn tell_default(alloc: Global, sides: &Sides, call: &Call, bytes: &[u8]) -> Resu
     match call {
         Call::Check { .. } => Ok(Told::Yes),
         Call::Lookup { .. } => Ok(Told::Code(ErrorCode::Other)),
-        Call::Local { sock } => Ok(Told::Addr(default_local(&known(sides, *sock)))),
-        Call::Peer { sock } => match known(sides, *sock).peer {
-            Some(addr) => Ok(Told::Addr(addr)),
-            None => Ok(Told::Code(ErrorCode::InvalidState)),
-        },
+        Call::Local { sock } => Ok(Told::Addr(local_of(sides, *sock))),
+        Call::Peer { sock } => Ok(tell_peer(sides, *sock)),
         Call::Accept { .. } | Call::Read { .. } | Call::ReadReady { .. } | Call::Recv { .. } => {
             Ok(Told::Pending)
         }
-        Call::Write { .. } => {
-            let taken = Octets::copy_of(alloc, bytes)?;
-            Ok(Told::Took(taken))
-        }
-        Call::GetOption { sock, option } => {
-            Ok(Told::Value(value_of(&known(sides, *sock).options, *option)))
-        }
+        Call::Write { .. } => take_all(alloc, bytes),
+        Call::GetOption { sock, option } => Ok(Told::Value(option_of(sides, *sock, *option))),
         _ => Ok(Told::Done),
     }
 }

@@ -4,6 +4,7 @@
 ghost use Rattle.std.specs.Prelude.{◌≡◌, OnOk, OnErr, None};
 ghost use Rattle.std.specs.HashMap.{IsUnchanged};
 ghost use Rattle.wasi_addr.specs.Address.{wildcard};
+ghost use Rattle.wasi_world.specs.declared.call.Told.{Told};
 ghost use Rattle.wasi_world.specs.Sides.{unset, value_of, with_value, new_side, chosen_port};
 ghost use Rattle.wasi_world.specs.Sides.{with_port, bound, bound_anyway, default_local, connected};
 ghost use Rattle.wasi_world.specs.Sides.{disconnected, handed, with_option, change, sides_after};
@@ -176,6 +177,30 @@ pub fn known(sides: &Sides, sock: Sock) -> Side
     }
 }
 
+/// The value of an option of a network socket.
+pub fn option_of(sides: &Sides, sock: Sock, option: Opt) -> u64
+    ensures { result ≡ value_of (known sides.now sock).options option }
+{
+    match sides.get(&(sock.step, sock.part)) {
+        Some(side) => value_of(&side.options, option),
+        None => value_of(&unset(), option),
+    }
+}
+
+/// The address that `local` of a network socket reports by default.
+pub fn local_of(sides: &Sides, sock: Sock) -> IpSocketAddress
+    ensures { result ≡ default_local (known sides.now sock) }
+{
+    default_local(&known(sides, sock))
+}
+
+/// The peer of a network socket.
+pub fn peer_of(sides: &Sides, sock: Sock) -> Option<IpSocketAddress>
+    ensures { result ≡ (known sides.now sock).peer }
+{
+    known(sides, sock).peer
+}
+
 /// The network socket that a call changes once it is answered done, and what is known of that
 /// network socket then.
 fn change(sides: &Sides, op: OpId, call: &Call) -> Option<(Sock, Side)>
@@ -203,18 +228,27 @@ fn change(sides: &Sides, op: OpId, call: &Call) -> Option<(Sock, Side)>
     }
 }
 
+/// Keeps what a call that is done changed; takes memory where its network socket is new.
+fn keep_done(sides: &mut Sides, op: OpId, call: &Call) -> Result<(), AllocError>
+    ensures ok { OnOk result ((sock : OpId) → known sides.new sock
+        ≡ sides_after (known sides.old) op call.now Told.Done sock) }
+    ensures err { OnErr result (IsUnchanged sides.old sides.new) }
+{
+    let Some((sock, side)) = change(sides, op, call) else {
+        return Ok(());
+    };
+    sides.insert((sock.step, sock.part), side)?;
+    Ok(())
+}
+
 /// Keeps what an answered call changed; takes memory where its network socket is new.
 pub fn keep(sides: &mut Sides, op: OpId, call: &Call, told: &Told) -> Result<(), AllocError>
     ensures ok { OnOk result ((sock : OpId) → known sides.new sock
         ≡ sides_after (known sides.old) op call.now told.now sock) }
     ensures err { OnErr result (IsUnchanged sides.old sides.new) }
 {
-    let Told::Done = told else {
-        return Ok(());
-    };
-    let Some((sock, side)) = change(sides, op, call) else {
-        return Ok(());
-    };
-    sides.insert((sock.step, sock.part), side)?;
-    Ok(())
+    match told {
+        Told::Done => keep_done(sides, op, call),
+        _ => Ok(()),
+    }
 }

@@ -1,9 +1,15 @@
 -- The text of bytes, a byte at a time.
-use Rattle.std.proofs.Common.{◌≡◌, ℕ, ◌+◌, ◌/◌, ◌%◌, ◌≤◌, ◌<◌, false, eqb, List, [], ◌∷◌, ◌++◌, length, take, slice_index, append_assoc, arith, ap, ◌∙◌, refl, ◌==◌, ◌^◌, ◌-◌, Option, Some}
-use Rattle.std.specs.Fmt.{digit_glyph, digits, padded_integral, format_spec, AppendsText}
-use Rattle.std.proofs.lemmas.Bool.{eqb-true}
+use Rattle.std.proofs.Common.{◌≡◌, ℕ, ◌+◌, ◌/◌, ◌%◌, ◌≤◌, ◌<◌, false, eqb, List, [], ◌∷◌, ◌++◌, length, take, slice_index, arith, ap, refl, ◌==◌, ◌^◌, ◌-◌}
+use Rattle.std.specs.Fmt.{digit_glyph, digits, padded_integral, format_spec}
+use Rattle.std.proofs.lemmas.Bool.{eqb-true, ltb-true, and_parts}
 use Rattle.std.proofs.lemmas.List.{take_more, take_all}
 use Rattle.std.proofs.lemmas.Fmt.{hex_byte}
+use Rattle.std.specs.Str.{IsAscii}
+use Rattle.std.proofs.Common.{IsUtf8, true, ltb}
+use Rattle.std.specs.List.{list_all}
+use Rattle.std.proofs.lemmas.Str.{IsUtf8-from_ascii}
+use Rattle.std.proofs.lemmas.Str.Ascii.{IsAscii-nil, IsAscii-cons}
+use Rattle.hex.proofs.HexLemmas.{IsAscii-encode_with}
 use Rattle.hex.specs.Hex.{lower_digits, encode_with, encode_lower}
 use Rattle.world_text.specs.Fields.{bytes_text}
 use Rattle.world_text.proofs.BytesBack.{passes_at}
@@ -23,11 +29,6 @@ pub byte_text : (byte : ℕ) → byte < 256 → padded_integral (format_spec 32 
 unfolding encode_with
 byte_text byte small = rw (hex_byte false byte small, glyph_is (byte / 16) (omega arith), glyph_is (byte % 16) (omega arith))
 
-pub byte_written : (old now : List ℕ) (byte : ℕ) (output : Option (List ℕ)) → byte < 256 → output ≡ Some (padded_integral (format_spec 32 0 4 2 (2 ^ 64 - 1)) false [] (digits 16 false byte)) → AppendsText old now output → now ≡ old ++ encode_lower (byte ∷ [])
-unfolding encode_with
-byte_written old now byte output small is written =
-    let appended = rw (is, byte_text byte small) at written in appended
-
 -- one byte more
 pub encode_next : (bytes : List ℕ) (i : ℕ) → i < length bytes → encode_lower (take (i + 1) bytes) ≡ encode_lower (take i bytes) ++ encode_lower (slice_index bytes i ∷ [])
 encode_next bytes i at = rw (take_more bytes i 0 at, encode-append (take i bytes) (slice_index bytes i ∷ []))
@@ -37,11 +38,13 @@ pub encode_whole : (bytes : List ℕ) (i : ℕ) → (length bytes == 0) ≡ fals
 encode_whole [] i some past = cc
 encode_whole (byte ∷ bytes) i some past = ap encode_lower (take_all i (byte ∷ bytes) past)
 
--- as a string grows, a byte at a time
-pub encode_more : (old so_far now bytes : List ℕ) (i : ℕ) → i < length bytes → so_far ≡ old ++ encode_lower (take i bytes) → now ≡ so_far ++ encode_lower (slice_index bytes i ∷ []) → now ≡ old ++ encode_lower (take (i + 1) bytes)
-encode_more old so_far now bytes i at had added =
-    rw (encode_next bytes i at)
-    (added ∙ (ap (λ t. t ++ encode_lower (slice_index bytes i ∷ [])) had ∙ append_assoc old (encode_lower (take i bytes)) (encode_lower (slice_index bytes i ∷ []))))
+-- bytes that a test says are ASCII
+ascii_from_test : (bytes : List ℕ) → list_all (λ b. ltb b 128) bytes ≡ true → IsAscii bytes
+ascii_from_test [] all = IsAscii-nil
+ascii_from_test (b ∷ bytes) all =
+    let both = and_parts (ltb b 128) _ all in
+    IsAscii-cons b bytes (ltb-true _ _ both.0) (ascii_from_test bytes both.1)
 
-pub encode_all : (old now bytes : List ℕ) (i : ℕ) → (length bytes == 0) ≡ false → length bytes ≤ i → now ≡ old ++ encode_lower (take i bytes) → now ≡ old ++ bytes_text bytes
-encode_all old now bytes i some past had = had ∙ ap (λ text. old ++ text) (encode_whole bytes i some past)
+-- the digits of bytes are text
+pub encoded_is_text : (bytes : List ℕ) → IsUtf8 (encode_lower bytes)
+encoded_is_text bytes = IsUtf8-from_ascii _ (IsAscii-encode_with lower_digits bytes (ascii_from_test lower_digits refl))

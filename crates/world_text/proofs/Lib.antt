@@ -1,3 +1,5 @@
+pub mod Places
+pub mod Decoding
 pub mod FieldsOf
 pub mod Numbers
 pub mod Reading

@@ -1,5 +1,5 @@
 -- Laws of the numbers that fields are.
-use Rattle.std.proofs.Common.{◌≡◌, ℕ, zero, suc, ◌^◌, ◌<◌, ◌≤◌, Bool, true, false, cond, ◌&&◌, nat_le, List, Option, Some, None, length, get_or, bytes_eq, decimal, arith, ap, sym, ◌∙◌, refl, inl, inr, Err, IsUtf8, ◌↔◌, IfSome}
+use Rattle.std.proofs.Common.{◌≡◌, ℕ, zero, suc, [], ◌∷◌, ◌-◌, ◌^◌, ◌<◌, ◌≤◌, Bool, true, false, cond, ◌&&◌, nat_le, List, Option, Some, None, length, get_or, bytes_eq, decimal, arith, ap, sym, ◌∙◌, refl, inl, inr, Err, IsUtf8, ◌↔◌, IfSome}
 use Rattle.std.specs.Bool.{then_some}
 use Rattle.std.specs.Str.Parse.{AllDigits, IsNumeral, digits_value, ParsesUnsigned, without_leading_plus}
 use Rattle.std.proofs.lemmas.Str.{IsUtf8-from_ascii}
@@ -87,7 +87,7 @@ parsed_is field n begins parsed value =
     let same : n ≡ digits_value 10 field = rw plain at value in
     rw same (decimal-digits_value digits field numeral.1 numeral.0 (begins_no_zero field begins) small, small)
 
-within : (field : List ℕ) (most n : ℕ) → most < 2 ^ 64 → n < 2 ^ 64 → field ≡ decimal n → (b : Bool) → nat_le n most ≡ b → then_some b n ≡ number_in field most
+pub within : (field : List ℕ) (most n : ℕ) → most < 2 ^ 64 → n < 2 ^ 64 → field ≡ decimal n → (b : Bool) → nat_le n most ≡ b → then_some b n ≡ number_in field most
 within field most n room small e true h = sym (number_in_decimal field most n room e (leb-true _ _ h))
 within field most n room small e false h =
     sym (number_in_none field most (λ m fits k.
@@ -102,3 +102,11 @@ parsed_within field most n room begins parsed value =
 pub number_bound : (r : Option ℕ) (field : List ℕ) (most : ℕ) → r ≡ number_in field most → IfSome r (λ n. n ≤ most)
 number_bound None field most h = tt
 number_bound (Some n) field most h = (number_in_is field most n (sym h)).1
+
+-- a field of one digit
+pub one_digit_is : (field : List ℕ) → length field ≡ 1 → 48 ≤ get_or field 0 0 → get_or field 0 0 ≤ 57
+    → field ≡ decimal (get_or field 0 0 - 48)
+one_digit_is [] one low high = cc
+one_digit_is (c ∷ d ∷ field) one low high = absurd (omega arith)
+one_digit_is (c ∷ []) one low high =
+    sym (decimal_digit (c - 48) (omega arith) ∙ ap (λ (x : ℕ). x ∷ []) (omega arith))

@@ -2,9 +2,10 @@
 
 ghost use Rattle.std.specs.Prelude.{IsUtf8, ◌≢◌, OnOk, OnErr, string_bytes, ◌++◌, ◌<◌, ◌^◌};
 ghost use Rattle.std.specs.Prelude.{option_copied, IfOk, ◌≡◌, ◌≤◌, ℕ, List, ◌∷◌, [], decimal, Some};
-ghost use Rattle.std.specs.Prelude.{IsTrue, ◌↔◌, IfSome, IfNone, position};
+ghost use Rattle.std.specs.Prelude.{IsTrue, ◌↔◌, IfSome, IfNone, position, true, Ok, length, ◌*◌};
+ghost use Rattle.std.specs.Prelude.{slice_index};
 ghost use Rattle.std.specs.List.{list_all};
-ghost use Rattle.hex.specs.Hex.{encode_lower};
+ghost use Rattle.hex.specs.Hex.{decode_of, encode_lower, hex_digit_value, lower_digits, pair_value};
 ghost use Rattle.world_text.specs.Written.{ReadsExactly, AreVisible, AreBytes, number_fields};
 ghost use Rattle.world_text.specs.Written.{family_fields, ip_fields, address_fields, code_fields};
 ghost use Rattle.world_text.specs.Written.{bytes_fields, FitsIp, FitsAddress};
@@ -14,9 +15,8 @@ ghost use Rattle.world_text.specs.Fields.{code_at, bytes_at, BeginsPlain, rest_a
 ghost use Rattle.world_text.specs.Fields.{number_in, number_at, family_of, family_at, ipv4_at};
 ghost use Rattle.world_text.specs.Fields.{ipv6_at, ip_at, address_at};
 
-use hex::FromHexError;
+use memchr::memchr;
 use std::alloc::{AllocError, Global};
-use std::fmt::Write;
 use std::marker::Model;
 use wasi_addr::{
     ErrorCode, IpAddress, IpSocketAddress, Ipv4SocketAddress, Ipv6SocketAddress,
@@ -44,7 +44,7 @@ impl<'a> Model for Fields<'a> {
 fn space_in(bytes: &[u8]) -> Option<usize>
     ensures { result ≡ position is_space bytes.now }
 {
-    bytes.iter().position(|byte| *byte == b' ')
+    memchr(b' ', bytes)
 }
 
 impl<'a> Fields<'a> {
@@ -311,12 +311,26 @@ fn begins_plain(field: &[u8]) -> bool
     matches!(field, [b'0'] | [b'1'..=b'9', ..])
 }
 
+/// The number that the field is, where it has one digit.
+fn one_digit(field: &[u8]) -> Option<u64>
+    ensures { IfSome result (λ n. (n < 10) × (field.now ≡ decimal n)) }
+{
+    match field {
+        [digit @ b'0'..=b'9'] => Some(u64::from(*digit - b'0')),
+        _ => None,
+    }
+}
+
 /// The number that the field is, if it is at most this: decimal digits with no sign and no leading
 /// zero.
 pub fn number(field: &[u8], most: u64) -> Option<u64>
     ensures value { result ≡ number_in field.now most }
     ensures exact { (n : ℕ) → (result ≡ Some n) ↔ ((field.now ≡ decimal n) × (n ≤ most)) }
 {
+    // Most numbers of a script have one digit.
+    if let Some(number) = one_digit(field) {
+        return (number <= most).then_some(number);
+    }
     if !begins_plain(field) {
         return None;
     }
@@ -390,13 +404,48 @@ fn is_lower_digit(byte: &u8) -> bool
 fn are_lower_digits(field: &[u8]) -> bool
     ensures { result ≡ list_all is_lower_digit field.now }
 {
-    field.iter().all(is_lower_digit)
+    let mut are = true;
+    for byte in field {
+        // With no early end, so that many bytes are tested in one instruction.
+        are &= is_lower_digit(byte);
+    }
+    are
 }
 
 fn is_lower_hex(field: &[u8]) -> bool
     ensures { result ≡ is_lower_hex field.now }
 {
     !field.is_empty() && are_lower_digits(field)
+}
+
+/// The value of a digit in lower case.
+fn digit_value(digit: u8) -> u8
+    requires { is_lower_digit digit ≡ true }
+    ensures value { hex_digit_value digit ≡ Some result }
+    ensures bound { result < 16 }
+{
+    // The letters are those whose bit of 64 is set, and their low bits count from 1.
+    (digit & 15) + 9 * (digit >> 6)
+}
+
+/// The byte of two digits in lower case.
+fn pair(high: u8, low: u8) -> u8
+    requires high { is_lower_digit high ≡ true }
+    requires low { is_lower_digit low ≡ true }
+    ensures { (place : ℕ) → pair_value high low place ≡ Ok result }
+{
+    digit_value(high) * 16 + digit_value(low)
+}
+
+/// Puts the bytes of pairs of digits in lower case.
+fn decode_into(digits: &[u8], bytes: &mut [u8])
+    requires lower { list_all is_lower_digit digits.now ≡ true }
+    requires room { length digits.now ≡ 2 * length bytes.old }
+    ensures { decode_of digits.now ≡ Ok bytes.new }
+{
+    'bytes: for i in 0..bytes.len() {
+        bytes[i] = pair(digits[2 * i], digits[2 * i + 1]);
+    }
 }
 
 /// The bytes that the field says: `-` for none, else pairs of digits of `0` to `9` and `a` to `f`,
@@ -408,37 +457,47 @@ pub fn octets(alloc: Global, field: &[u8]) -> Result<Option<Octets>, AllocError>
     if field == b"-".as_slice() {
         return Ok(Some(Octets::from_vec(Vec::new(alloc))));
     }
-    if !is_lower_hex(field) {
+    if field.len() % 2 != 0 || !is_lower_hex(field) {
         return Ok(None);
     }
-    match hex::decode(alloc, field) {
-        Ok(bytes) => Ok(Some(Octets::from_vec(bytes))),
-        Err(FromHexError::OutOfMemory) => Err(AllocError),
-        Err(_) => Ok(None),
+    let mut bytes = vec![in alloc; 0u8; field.len() / 2]?;
+    decode_into(field, bytes.as_mut_slice());
+    Ok(Some(Octets::from_vec(bytes)))
+}
+
+/// The digit of a value, in lower case.
+fn digit_of(value: u8) -> u8
+    requires { value < 16 }
+    ensures { result ≡ slice_index lower_digits value }
+{
+    // The letters begin 39 places after the place that follows 9.
+    b'0' + value + 39 * u8::from(value > 9)
+}
+
+/// Puts the digits of bytes, two for each.
+fn encode_into(bytes: &[u8], digits: &mut [u8])
+    requires { length digits.old ≡ 2 * length bytes.now }
+    ensures { digits.new ≡ encode_lower bytes.now }
+{
+    'bytes: for i in 0..bytes.len() {
+        digits[2 * i] = digit_of(bytes[i] / 16);
+        digits[2 * i + 1] = digit_of(bytes[i] % 16);
     }
 }
 
-/// Appends the two digits of a byte.
-#[tactic(auto, unfolding(hex::specs::Hex::encode_with))]
-fn push_byte(text: &mut String, byte: u8) -> Result<(), AllocError>
-    ensures { OnOk result (string_bytes text.new ≡ string_bytes text.old ++ encode_lower
-        (byte ∷ [])) }
-{
-    write!(text, "{byte:02x}")
-}
-
-/// Appends the text of the bytes; takes memory for it. After running out of memory a part of it may
-/// be there.
+/// Appends the text of the bytes; takes memory for it. After running out of memory it is as it was.
 pub fn push_octets(text: &mut String, bytes: &[u8]) -> Result<(), AllocError>
     ensures { OnOk result (string_bytes text.new ≡ string_bytes text.old ++ bytes_text bytes.now) }
 {
     if bytes.is_empty() {
         return text.push_str("-");
     }
-    for byte in bytes {
-        push_byte(text, *byte)?;
+    let mut digits = vec![in *text.allocator(); 0u8; 2 * bytes.len()]?;
+    encode_into(bytes, digits.as_mut_slice());
+    match str::from_utf8(digits.as_slice()) {
+        Ok(digits) => text.push_str(digits),
+        Err(_) => unreachable!(),
     }
-    Ok(())
 }
 
 /// What is read is written so, and what is written so is read, whatever follows it.
