@@ -6,7 +6,9 @@ pub mod WatchedLooks
 pub mod JobLists
 pub mod Pipes
 pub mod Blocks
+pub mod WriteRests
 pub mod Called
+pub mod Bases
 pub mod Cancels
 pub mod PollLists
 pub mod FoundMaps

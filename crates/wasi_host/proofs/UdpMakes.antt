@@ -18,13 +18,15 @@ use Rattle.wasi_world.specs.Fits.{IsDoneOrCode}
 use Rattle.wasi_world.specs.Seen.{Seen}
 use Rattle.wasi_world.specs.Typed.{told_done, ask_udp_create}
 use Rattle.wasi_udp.specs.Create.{Create, after_create, new_asks}
-use Rattle.wasi_host.specs.declared.kind.Kind.TheVariants.{Udp2}
+use Rattle.wasi_host.specs.declared.kind.Interface.{Interface}
 use Rattle.wasi_host.specs.declared.machine.Machine.{Machine}
 use Rattle.wasi_records.specs.declared.records.Record.{Record}
 use Rattle.wasi_records.specs.declared.udp.UdpRecord.{UdpRecord}
 use Rattle.wasi_records.specs.declared.udp.UdpRecord.TheVariants.{Creating}
-use Rattle.wasi_records.specs.Stops.{Stop}
-use Rattle.wasi_host.specs.Kinds.{make_asks}
+use Rattle.wasi_streams.specs.declared.fault.HostError.{HostError}
+use Rattle.wasi_streams.specs.declared.fault.HostError.TheVariants as error
+use Rattle.wasi_host.specs.BaseStops.{BaseStop, base_outcome, ends_as}
+use Rattle.wasi_host.specs.Kinds.{make_asks, udp_kind}
 use Rattle.wasi_records.specs.Records.{udp2_pushed}
 use Rattle.wasi_records.specs.Sides.{one_if_done, made_in, closed_in}
 use Rattle.wasi_host.specs.KnownSides.{KnowsSides}
@@ -67,16 +69,20 @@ knows_begun op ctx family create store h k =
     let m = begun op ctx family ctx.udp h.entries (Ok create) h.left in
     knows_then h.entries store (with_creating store create) h.passed (rw (m.made, m.closed, held_in-udp_more store.records (Creating create)) (omega arith)) k
 
-pub knows_refused : (op : OpId) (ctx : WasiSocketsCtx) (family : SocketAddressFamily) {s t : Seen} (x : Refusal) (store : Records) → AsksFor (new_asks op ctx family) s t (λ (made : Result Create ErrorCode). made) (outcome {T = Create} (Err x)) → OnErr (outcome {T = Create} (Err x)) (t ≡ s) → KnowsSides s store → KnowsSides t store
-knows_refused op ctx family (refusal.Code c) store h e k = let m = begun op ctx family ctx.udp h.ok.entries (Err c) h.ok.left in knows_then h.ok.entries store store h.ok.passed (rw (m.made, m.closed) refl) k
-knows_refused op ctx family (refusal.Memory d) store h e k = rw e k
+pub knows_refused : (op : OpId) (ctx : WasiSocketsCtx) (family : SocketAddressFamily) {s t : Seen} (told : Result Create Refusal) (x : HostError ErrorCode) (store : Records) → ends_as {T = Create} (Err x) ≡ base_outcome told
+    → AsksFor (new_asks op ctx family) s t (λ (made : Result Create ErrorCode). made) (outcome told) → OnErr (outcome told) (t ≡ s) → KnowsSides s store → KnowsSides t store
+knows_refused op ctx family (Ok create) (error.Code c) store q h e k = absurd (cc)
+knows_refused op ctx family (Ok create) (error.Trap c) store q h e k = absurd (cc)
+knows_refused op ctx family (Ok create) (error.Memory c) store q h e k = absurd (cc)
+knows_refused op ctx family (Err (refusal.Code c)) x store q h e k = let m = begun op ctx family ctx.udp h.ok.entries (Err c) h.ok.left in knows_then h.ok.entries store store h.ok.passed (rw (m.made, m.closed) refl) k
+knows_refused op ctx family (Err (refusal.Memory d)) x store q h e k = rw e k
 
 -- == its record is polled
-pub begun_on : (m : Machine) (ids : Ids) (create : Create) {place : ℕ} {records : List Record} {s t : Seen} {view : Result (Answer ℕ) Stop → Result (Answer ℕ) Stop × Machine} {o : Result (Result (Answer ℕ) Stop) AllocError} → place ≡ length m.store.records → records ≡ udp2_pushed m.store.records (Creating create)
-    → AsksFor (create_on (record { table = m.table; store = record { records = records; jobs = m.store.jobs; standing = m.store.standing } }) ids place) s t view o → AsksFor (create_on (with_create m create) ids (length m.store.records)) s t view o
-begun_on m ids create p r h = rw (p, r) at h
+pub begun_on : (face : Interface) (m : Machine) (ids : Ids) (create : Create) {place : ℕ} {records : List Record} {s t : Seen} {view : Result (Answer ℕ) BaseStop → Result (Answer ℕ) BaseStop × Machine} {o : Result (Result (Answer ℕ) BaseStop) AllocError} → place ≡ length m.store.records → records ≡ udp2_pushed m.store.records (Creating create)
+    → AsksFor (create_on face (record { table = m.table; store = record { records = records; jobs = m.store.jobs; standing = m.store.standing } }) ids place) s t view o → AsksFor (create_on face (with_create m create) ids (length m.store.records)) s t view o
+begun_on face m ids create p r h = rw (p, r) at h
 
 -- == its handle
-pub marked : (m : Machine) (place : ℕ) (u : Option UdpRecord) (side : OpId) → Some side ≡ udp_side_at u → mark_udp m place u ≡ bind (make_asks m.table side (Udp2 place) None (Some side)) (λ made. Give (handle_made m made))
-marked m place None side h = absurd (cc)
-marked m place (Some u) side h = let e : side ≡ udp_side u = cc in rw e refl
+pub marked : (face : Interface) (m : Machine) (place : ℕ) (u : Option UdpRecord) (side : OpId) → Some side ≡ udp_side_at u → mark_udp face m place u ≡ bind (make_asks m.table side (udp_kind face place) None (Some side)) (λ made. Give (handle_made m made))
+marked face m place None side h = absurd (cc)
+marked face m place (Some u) side h = let e : side ≡ udp_side u = cc in rw e refl

@@ -1,4 +1,5 @@
 pub mod CallStops
+pub mod BaseStops
 pub mod Kinds
 pub mod Store
 pub mod Rows
@@ -16,6 +17,7 @@ pub mod KnownSides
 pub mod Machine
 pub mod PlainStreams
 pub mod StreamCalls
+pub mod StreamEnds
 pub mod Blocking
 pub mod Polling
 pub mod FoundMap

@@ -14,13 +14,13 @@ use Rattle.wasi_tcp.specs.Socket.{new_asks, side_of}
 use Rattle.wasi_table.specs.Table.{empty}
 use Rattle.wasi_records.specs.Records.{tcp2_at, udp2_at, open_at, lookup_at}
 use Rattle.wasi_host.specs.declared.kind.Kind.{Kind}
-use Rattle.wasi_host.specs.declared.kind.Kind.TheVariants.{Tcp2, Udp2, Output, PlainInput, PlainOutput, Incoming, Outgoing, Pollable, Lookup, Tcp3}
+use Rattle.wasi_host.specs.declared.kind.Kind.TheVariants.{Tcp2, Udp2, Output, PlainInput, PlainOutput, Incoming, Outgoing, Pollable, Lookup, Tcp3, Udp3}
 use Rattle.wasi_host.specs.declared.kind.Watched.{Watched}
 use Rattle.wasi_host.specs.declared.kind.Watched.TheVariants as watched
 use Rattle.wasi_host.specs.declared.machine.Machine.{Machine}
 use Rattle.wasi_records.specs.declared.socket.TcpRecord.{TcpRecord}
 use Rattle.wasi_records.specs.Stops.{Stop, Trap, code_stop}
-use Rattle.wasi_host.specs.Kinds.{HandleTable, kind_at, place_of, udp_of, tcp3_of, input_of, output_of, incoming_of, outgoing_of, lookup_of, watched_by, watch_of, place_in, make_asks, taken_out}
+use Rattle.wasi_host.specs.Kinds.{HandleTable, kind_at, place_of, udp_of, tcp3_of, udp3_of, input_of, output_of, incoming_of, outgoing_of, lookup_of, watched_by, watch_of, place_in, make_asks, taken_out}
 pub use Rattle.wasi_records.specs.Names.{own_of}
 use Rattle.wasi_host.specs.Store.{Records, no_records, with_record}
 use Rattle.wasi_host.specs.Jobs.{turn_store_asks}
@@ -51,6 +51,9 @@ udp_socket_at m h = udp_of (kind_at m.table h)
 
 abbrev pub tcp3_at : Machine → ℕ → Option ℕ
 tcp3_at m h = tcp3_of (kind_at m.table h)
+
+abbrev pub udp3_at : Machine → ℕ → Option ℕ
+udp3_at m h = udp3_of (kind_at m.table h)
 
 abbrev pub input_at : Machine → ℕ → Option ℕ
 input_at m h = input_of (kind_at m.table h)
@@ -169,6 +172,7 @@ abbrev pub drop_kind : Machine → Ids → Kind → Asks (Result (Answer (Unit {
 drop_kind m ids (Tcp2 place) = bind (release_at m.store (own_of ids.line) place (tcp2_at m.store.records place)) (λ done. Give (answered (with_store m (at_once done))))
 drop_kind m ids (Udp2 place) = bind (release_udp_at m.store (own_of ids.line) place (udp2_at m.store.records place)) (λ done. Give (answered (with_store m (at_once done))))
 drop_kind m ids (Tcp3 place) = bind (release_at m.store (own_of ids.line) place (tcp2_at m.store.records place)) (λ done. Give (answered (with_store m (at_once done))))
+drop_kind m ids (Udp3 place) = bind (release_udp_at m.store (own_of ids.line) place (udp2_at m.store.records place)) (λ done. Give (answered (with_store m (at_once done))))
 drop_kind m ids (Output place) = bind (drop_output_at m.store ids place (tcp2_at m.store.records place)) (λ done. Give (answered (with_store m done)))
 drop_kind m ids (Incoming place) = Give (answered (with_store m (at_once (drop_incoming_at m.store place (open_at m.store.records place)))))
 drop_kind m ids (Outgoing place) = Give (answered (with_store m (drop_outgoing_at m.store ids place (open_at m.store.records place))))

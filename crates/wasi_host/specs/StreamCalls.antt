@@ -34,13 +34,6 @@ convert_asks m own handle place (stream.Failed c) =
 convert_asks m own handle place stream.Closed = Give (Closed, m)
 convert_asks m own handle place (stream.Trap kind) = Give (Traps kind, m)
 
--- the same by the stream's handle alone, which may name no stream
-abbrev pub convert_on : Machine → OpId → ℕ → Option ℕ → StreamStop → Asks (CallStop × Machine)
-convert_on m own handle (Some place) stop = convert_asks m own handle place stop
-convert_on m own handle None (stream.Failed c) = Give (Traps NoSuchHandle, m)
-convert_on m own handle None stream.Closed = Give (Closed, m)
-convert_on m own handle None (stream.Trap kind) = Give (Traps kind, m)
-
 abbrev pub stopped : {T : Type 0} → CallStop × Machine → Result T CallStop × Machine
 stopped (stop, m) = (Err stop, m)
 

@@ -5,27 +5,26 @@ ghost use Rattle.std.specs.Prelude.{◌≡◌, false, take, drop, IfOk, Some};
 ghost use Rattle.wasi_world.specs.declared.outcome.Answer.TheVariants.{Pending};
 ghost use Rattle.wasi_world.specs.Asks.{AsksFor};
 ghost use Rattle.wasi_world.specs.Seen.{Seen};
-ghost use Rattle.wasi_host.specs.Blocking.{look_at, look_on, look_asks, blocking_read_asks};
+ghost use Rattle.wasi_host.specs.Blocking.{look_at, blocking_read_asks};
 ghost use Rattle.wasi_host.specs.Blocking.{blocking_skip_asks, blocking_flush_asks};
 ghost use Rattle.wasi_host.specs.Blocking.{last_check_asks, finish_write_asks, write_rounds};
 ghost use Rattle.wasi_host.specs.Blocking.{blocking_write_asks, blocking_zeroes_asks};
-ghost use Rattle.wasi_host.specs.Blocking.{blocking_splice_asks};
+ghost use Rattle.wasi_host.specs.Blocking.{blocking_splice_asks, write_rest_asks};
 ghost use Rattle.wasi_records.specs.Stops.{fault_outcome};
 ghost use Rattle.wasi_host.specs.CallStops.{call_outcome};
-ghost use Rattle.wasi_host.specs.Machine.{own_of, input_at};
 ghost use Rattle.wasi_host.specs.Pending.{write_told};
 ghost use Rattle.wasi_records.specs.Records.{tcp2_at};
 ghost use Rattle.wasi_host.specs.KnownSides.{KnowsSides};
 ghost use Rattle.wasi_host.specs.Standing.{standing_as};
+ghost use Rattle.wasi_host.specs.StreamEnds.{NamesOutput};
 ghost use Rattle.wasi_host.specs.Views.{state_of, HostKept};
 
 use crate::error::CallError;
-use crate::handles;
 use crate::store::{Standing, StandingCall, Store};
-use crate::streams::{check_write, flush, read, skip, write};
+use crate::stream_ends::{NamedInput, NamedOutput};
 use crate::view::WasiSocketsCtxView;
 use std::alloc::{AllocError, Global};
-use wasi_records::{TcpRecord, find_mut};
+use wasi_records::{RecordId, TcpRecord, find_mut};
 use wasi_streams::{Fault, zeros};
 use wasi_world::{Answer, Handle, Ids, NumberList, Octets, OpId, TrapKind, World};
 
@@ -33,7 +32,7 @@ use wasi_world::{Answer, Handle, Ids, NumberList, Octets, OpId, TrapKind, World}
 const MOST_BYTES: u64 = 4096;
 
 /// How many rounds of a blocking write one poll makes at most. A round writes at least a byte.
-pub(crate) const MOST_ROUNDS: u32 = 4096;
+const MOST_ROUNDS: u32 = 4096;
 
 /// A pending call that blocks, with what is left of it.
 #[derive(Drop)]
@@ -80,11 +79,11 @@ pub enum BlockingCall {
 impl Store {
     /// Whether there is something to read from the connection of the TCP socket with this record
     /// number.
-    fn input_ready<W: World>(
+    pub(crate) fn input_ready<W: World>(
         &mut self,
         world: &mut W,
         op: OpId,
-        place: usize,
+        place: RecordId,
     ) -> Result<bool, Fault>
         requires { (W.seen world.old).ended ≡ false }
         ensures asked { AsksFor (look_at self.old op place (tcp2_at self.old.records place))
@@ -138,46 +137,6 @@ fn write_end(error: CallError) -> Result<Answer<()>, CallError>
     }
 }
 
-/// Whether an input is ready to be read: it has bytes, its end or a code. An input in memory is
-/// always ready.
-fn input_ready<W: World>(
-    view: &mut WasiSocketsCtxView<'_>,
-    world: &mut W,
-    ids: &mut Ids,
-    input: Handle,
-) -> Result<bool, CallError>
-    requires { (W.seen world.old).ended ≡ false }
-    ensures asked { AsksFor (look_asks (state_of view.old) (own_of ids.old.line) input)
-        (W.seen world.old) (W.seen world.new) (λ done. (done, state_of view.new))
-        (call_outcome result) }
-    ensures kept { HostKept view.old view.new ids.old ids.new (W.seen world.old)
-        (W.seen world.new) }
-{
-    match handles::plain_input(view.table, input) {
-        Some(_) => Ok(true),
-        None => connection_ready(view, world, ids, input),
-    }
-}
-
-/// Whether a connection is ready to be read: it has bytes, its end or a code.
-fn connection_ready<W: World>(
-    view: &mut WasiSocketsCtxView<'_>,
-    world: &mut W,
-    ids: &mut Ids,
-    input: Handle,
-) -> Result<bool, CallError>
-    requires { (W.seen world.old).ended ≡ false }
-    ensures asked { AsksFor (look_on (state_of view.old) (own_of ids.old.line)
-        (input_at (state_of view.old) input)) (W.seen world.old) (W.seen world.new)
-        (λ done. (done, state_of view.new)) (call_outcome result) }
-    ensures kept { HostKept view.old view.new ids.old ids.new (W.seen world.old)
-        (W.seen world.new) }
-{
-    let place = handles::input(view.table, input)?;
-    let ready = view.store.input_ready(world, ids.own(), place)?;
-    Ok(ready)
-}
-
 /// Reads at most `len` bytes from an input (`input-stream.blocking-read`). Pending while there is
 /// nothing to read; where `len` is 0 the answer is no bytes.
 pub fn blocking_read<W: World>(
@@ -195,11 +154,12 @@ pub fn blocking_read<W: World>(
     ensures kept { HostKept view.old view.new ids.old ids.new (W.seen world.old)
         (W.seen world.new) }
 {
-    if !input_ready(view, world, ids, input)? {
+    let from = NamedInput::resolve(view.table, input)?;
+    if !from.is_ready(view, world, ids)? {
         let call = BlockingCall::Read { input, len };
         return Ok(view.store.block_as(*ids, call));
     }
-    let bytes = read(alloc, view, world, ids, input, len)?;
+    let bytes = from.read(alloc, view, world, ids, len)?;
     if len == 0 {
         return Ok(Answer::Ready(bytes));
     }
@@ -227,11 +187,12 @@ pub fn blocking_skip<W: World>(
     ensures kept { HostKept view.old view.new ids.old ids.new (W.seen world.old)
         (W.seen world.new) }
 {
-    if !input_ready(view, world, ids, input)? {
+    let from = NamedInput::resolve(view.table, input)?;
+    if !from.is_ready(view, world, ids)? {
         let call = BlockingCall::Skip { input, len };
         return Ok(view.store.block_as(*ids, call));
     }
-    let count = skip(alloc, view, world, ids, input, len)?;
+    let count = from.skip(alloc, view, world, ids, len)?;
     if len == 0 {
         return Ok(Answer::Ready(count));
     }
@@ -256,8 +217,9 @@ pub fn blocking_flush<W: World>(
     ensures kept { HostKept view.old view.new ids.old ids.new (W.seen world.old)
         (W.seen world.new) }
 {
-    flush(view, world, ids, output)?;
-    let permit = check_write(view, world, ids, output)?;
+    let to = NamedOutput::resolve(view.table, output)?;
+    to.flush(view, world, ids)?;
+    let permit = to.check_write(view, world, ids)?;
     if permit == 0 {
         let call = BlockingCall::Flush { output };
         return Ok(view.store.block_as(*ids, call));
@@ -266,21 +228,23 @@ pub fn blocking_flush<W: World>(
 }
 
 /// Waits until what was written is flushed: pending while nothing may be written.
-pub(crate) fn last_check<W: World>(
+fn last_check<W: World>(
     view: &mut WasiSocketsCtxView<'_>,
     world: &mut W,
     ids: &mut Ids,
-    output: Handle,
+    to: NamedOutput,
 ) -> Result<Answer<()>, CallError>
-    requires { (W.seen world.old).ended ≡ false }
-    ensures asked { AsksFor (last_check_asks (state_of view.old) ids.old output) (W.seen world.old)
-        (W.seen world.new) (λ done. (done, state_of view.new)) (call_outcome result) }
+    requires open { (W.seen world.old).ended ≡ false }
+    requires named { NamesOutput view.old.table.now to }
+    ensures asked { AsksFor (last_check_asks (state_of view.old) ids.old to.handle)
+        (W.seen world.old) (W.seen world.new) (λ done. (done, state_of view.new))
+        (call_outcome result) }
     ensures kept { HostKept view.old view.new ids.old ids.new (W.seen world.old)
         (W.seen world.new) }
 {
-    match check_write(view, world, ids, output) {
+    match to.check_write(view, world, ids) {
         Ok(0) => {
-            let call = BlockingCall::Finish { output };
+            let call = BlockingCall::Finish { output: to.handle };
             Ok(view.store.block_as(*ids, call))
         }
         Ok(_) => Ok(Answer::Ready(())),
@@ -293,53 +257,93 @@ fn finish_write<W: World>(
     view: &mut WasiSocketsCtxView<'_>,
     world: &mut W,
     ids: &mut Ids,
-    output: Handle,
+    to: NamedOutput,
 ) -> Result<Answer<()>, CallError>
-    requires { (W.seen world.old).ended ≡ false }
-    ensures asked { AsksFor (finish_write_asks (state_of view.old) ids.old output)
+    requires open { (W.seen world.old).ended ≡ false }
+    requires named { NamesOutput view.old.table.now to }
+    ensures asked { AsksFor (finish_write_asks (state_of view.old) ids.old to.handle)
         (W.seen world.old) (W.seen world.new) (λ done. (done, state_of view.new))
         (call_outcome result) }
     ensures kept { HostKept view.old view.new ids.old ids.new (W.seen world.old)
         (W.seen world.new) }
 {
-    match flush(view, world, ids, output) {
-        Ok(()) => last_check(view, world, ids, output),
+    match to.flush(view, world, ids) {
+        Ok(()) => last_check(view, world, ids, to),
         Err(error) => write_end(error),
     }
 }
 
 /// Writes the bytes in at most this many rounds, each as many as are permitted, and then flushes.
-pub(crate) fn write_rounds<W: World>(
+fn write_rounds<W: World>(
+    alloc: Global,
+    view: &mut WasiSocketsCtxView<'_>,
+    world: &mut W,
+    ids: &mut Ids,
+    to: NamedOutput,
+    rest: Octets,
+    rounds: u32,
+) -> Result<Answer<()>, CallError>
+    requires open { (W.seen world.old).ended ≡ false }
+    requires named { NamesOutput view.old.table.now to }
+    ensures asked { AsksFor (write_rounds rounds ids.old to.handle (state_of view.old) rest)
+        (W.seen world.old) (W.seen world.new) (λ done. (done, state_of view.new))
+        (call_outcome result) }
+    ensures kept { HostKept view.old view.new ids.old ids.new (W.seen world.old)
+        (W.seen world.new) }
+{
+    let output = to.handle;
+    if rounds == 0 {
+        let call = BlockingCall::Write { output, rest };
+        return Ok(view.store.block_as(*ids, call));
+    }
+    let permit = to.check_write(view, world, ids)?;
+    if permit == 0 {
+        let call = BlockingCall::Write { output, rest };
+        return Ok(view.store.block_as(*ids, call));
+    }
+    let (now, later) = cut(alloc, rest, permit)?;
+    to.write(view, world, ids, now)?;
+    if later.is_empty() {
+        return finish_write(view, world, ids, to);
+    }
+    write_rounds(alloc, view, world, ids, to, later, rounds - 1)
+}
+
+/// Goes on with a write of which these bytes are left.
+pub(crate) fn write_rest<W: World>(
     alloc: Global,
     view: &mut WasiSocketsCtxView<'_>,
     world: &mut W,
     ids: &mut Ids,
     output: Handle,
     rest: Octets,
-    rounds: u32,
 ) -> Result<Answer<()>, CallError>
     requires { (W.seen world.old).ended ≡ false }
-    ensures asked { AsksFor (write_rounds rounds ids.old output (state_of view.old) rest)
+    ensures asked { AsksFor (write_rest_asks (state_of view.old) ids.old output rest)
         (W.seen world.old) (W.seen world.new) (λ done. (done, state_of view.new))
         (call_outcome result) }
     ensures kept { HostKept view.old view.new ids.old ids.new (W.seen world.old)
         (W.seen world.new) }
 {
-    if rounds == 0 {
-        let call = BlockingCall::Write { output, rest };
-        return Ok(view.store.block_as(*ids, call));
-    }
-    let permit = check_write(view, world, ids, output)?;
-    if permit == 0 {
-        let call = BlockingCall::Write { output, rest };
-        return Ok(view.store.block_as(*ids, call));
-    }
-    let (now, later) = cut(alloc, rest, permit)?;
-    write(view, world, ids, output, now)?;
-    if later.is_empty() {
-        return finish_write(view, world, ids, output);
-    }
-    write_rounds(alloc, view, world, ids, output, later, rounds - 1)
+    let to = NamedOutput::resolve(view.table, output)?;
+    write_rounds(alloc, view, world, ids, to, rest, MOST_ROUNDS)
+}
+
+/// Goes on with a write that is flushed and not ready yet.
+pub(crate) fn finish_rest<W: World>(
+    view: &mut WasiSocketsCtxView<'_>,
+    world: &mut W,
+    ids: &mut Ids,
+    output: Handle,
+) -> Result<Answer<()>, CallError>
+    requires { (W.seen world.old).ended ≡ false }
+    ensures asked { AsksFor (last_check_asks (state_of view.old) ids.old output) (W.seen world.old)
+        (W.seen world.new) (λ done. (done, state_of view.new)) (call_outcome result) }
+    ensures kept { HostKept view.old view.new ids.old ids.new (W.seen world.old)
+        (W.seen world.new) }
+{
+    let to = NamedOutput::resolve(view.table, output)?;
+    last_check(view, world, ids, to)
 }
 
 /// Writes all of at most 4,096 bytes to an output, and flushes it
@@ -361,11 +365,11 @@ pub fn blocking_write_and_flush<W: World>(
     ensures kept { HostKept view.old view.new ids.old ids.new (W.seen world.old)
         (W.seen world.new) }
 {
-    handles::writable(view.table, output)?;
+    let to = NamedOutput::resolve(view.table, output)?;
     if bytes.len() as u64 > MOST_BYTES {
         return Err(CallError::Trap(TrapKind::TooLong));
     }
-    write_rounds(alloc, view, world, ids, output, bytes, MOST_ROUNDS)
+    write_rounds(alloc, view, world, ids, to, bytes, MOST_ROUNDS)
 }
 
 /// Writes at most 4,096 zeros to an output, all of them, and flushes it
@@ -387,12 +391,12 @@ pub fn blocking_write_zeroes_and_flush<W: World>(
     ensures kept { HostKept view.old view.new ids.old ids.new (W.seen world.old)
         (W.seen world.new) }
 {
-    handles::writable(view.table, output)?;
+    let to = NamedOutput::resolve(view.table, output)?;
     if len > MOST_BYTES {
         return Err(CallError::Trap(TrapKind::TooLong));
     }
     let bytes = zeros(alloc, len as usize)?;
-    write_rounds(alloc, view, world, ids, output, bytes, MOST_ROUNDS)
+    write_rounds(alloc, view, world, ids, to, bytes, MOST_ROUNDS)
 }
 
 /// Reads from an input what an output permits, at most `len` bytes, and writes them there; returns
@@ -414,9 +418,9 @@ pub fn blocking_splice<W: World>(
     ensures kept { HostKept view.old view.new ids.old ids.new (W.seen world.old)
         (W.seen world.new) }
 {
-    handles::writable(view.table, output)?;
-    handles::readable(view.table, input)?;
-    let permit = check_write(view, world, ids, output)?;
+    let to = NamedOutput::resolve(view.table, output)?;
+    let from = NamedInput::resolve(view.table, input)?;
+    let permit = to.check_write(view, world, ids)?;
     if permit == 0 {
         let call = BlockingCall::Splice { output, input, len };
         return Ok(view.store.block_as(*ids, call));
@@ -425,16 +429,16 @@ pub fn blocking_splice<W: World>(
     if most == 0 {
         return Ok(Answer::Ready(0));
     }
-    if !input_ready(view, world, ids, input)? {
+    if !from.is_ready(view, world, ids)? {
         let call = BlockingCall::Splice { output, input, len };
         return Ok(view.store.block_as(*ids, call));
     }
-    let bytes = read(alloc, view, world, ids, input, most)?;
+    let bytes = from.read(alloc, view, world, ids, most)?;
     if bytes.is_empty() {
         let call = BlockingCall::Splice { output, input, len };
         return Ok(view.store.block_as(*ids, call));
     }
     let count = bytes.len() as u64;
-    write(view, world, ids, output, bytes)?;
+    to.write(view, world, ids, bytes)?;
     Ok(Answer::Ready(count))
 }

@@ -132,7 +132,7 @@ fn release_kind<W: World>(
             view.store.tcp_release(world, ids.own(), place)?;
             Ok(Answer::Ready(()))
         }
-        Kind::Udp2(place) => {
+        Kind::Udp2(place) | Kind::Udp3(place) => {
             view.store.release_udp(world, ids.own(), place)?;
             Ok(Answer::Ready(()))
         }

@@ -8,13 +8,12 @@ ghost use Rattle.wasi_table.specs.Table.{is_full, pushed};
 ghost use Rattle.wasi_records.specs.Stops.{fault_outcome};
 ghost use Rattle.wasi_host.specs.Store.{Records};
 ghost use Rattle.wasi_host.specs.KnownSides.{KnowsSides};
-ghost use Rattle.wasi_host.specs.Kinds.{kind_at, place_of, udp_of, tcp3_of, input_of, output_of};
-ghost use Rattle.wasi_host.specs.Kinds.{incoming_of, outgoing_of, stream_of, lookup_of, is_network};
-ghost use Rattle.wasi_host.specs.Kinds.{is_error, is_readable, is_writable, plain_input_of};
+ghost use Rattle.wasi_host.specs.Kinds.{kind_at, place_of, udp_of, tcp3_of, udp3_of, incoming_of};
+ghost use Rattle.wasi_host.specs.Kinds.{outgoing_of, lookup_of, is_network, is_error};
 ghost use Rattle.wasi_host.specs.Kinds.{plain_output_of, watched_by, watch_of, table_parent};
-ghost use Rattle.wasi_host.specs.Kinds.{make_asks, taken_out, Names, with_handle};
+ghost use Rattle.wasi_host.specs.Kinds.{make_asks, taken_out, Names};
 
-use crate::kind::{Kind, PlainInput, PlainOutput, Watched};
+use crate::kind::{Kind, PlainOutput, Watched};
 use std::alloc::AllocError;
 use wasi_records::RecordId;
 use wasi_streams::{Fault, TrapKind};
@@ -61,6 +60,16 @@ pub fn tcp3_socket(table: &Table<Kind>, handle: Handle) -> Result<RecordId, Faul
     }
 }
 
+/// The record number of a UDP socket of 0.3.
+pub fn udp3_socket(table: &Table<Kind>, handle: Handle) -> Result<RecordId, Fault>
+    ensures { Names result (udp3_of (kind_at table.now handle)) }
+{
+    match kind(table, handle) {
+        Some(Kind::Udp3(place)) => Ok(place),
+        _ => Err(Fault::Trap(TrapKind::NoSuchHandle)),
+    }
+}
+
 /// Tests that the handle is the network's.
 pub fn network(table: &Table<Kind>, handle: Handle) -> Result<(), Fault>
     ensures ok { OnOk result (is_network (kind_at table.now handle) ≡ true) }
@@ -73,36 +82,6 @@ pub fn network(table: &Table<Kind>, handle: Handle) -> Result<(), Fault>
     }
 }
 
-/// The record number of the TCP socket that an input reads from.
-pub fn input(table: &Table<Kind>, handle: Handle) -> Result<usize, Fault>
-    ensures { Names result (input_of (kind_at table.now handle)) }
-{
-    match kind(table, handle) {
-        Some(Kind::Input(place)) => Ok(place),
-        _ => Err(Fault::Trap(TrapKind::NoSuchHandle)),
-    }
-}
-
-/// The record number of the TCP socket that an output writes to.
-pub fn output(table: &Table<Kind>, handle: Handle) -> Result<usize, Fault>
-    ensures { Names result (output_of (kind_at table.now handle)) }
-{
-    match kind(table, handle) {
-        Some(Kind::Output(place)) => Ok(place),
-        _ => Err(Fault::Trap(TrapKind::NoSuchHandle)),
-    }
-}
-
-/// What an input in memory reads from; `None` where the handle is of another kind.
-pub fn plain_input(table: &Table<Kind>, handle: Handle) -> Option<PlainInput>
-    ensures { result ≡ plain_input_of (kind_at table.now handle) }
-{
-    match kind(table, handle) {
-        Some(Kind::PlainInput(input)) => Some(input),
-        _ => None,
-    }
-}
-
 /// What an output in memory writes to; `None` where the handle is of another kind.
 pub fn plain_output(table: &Table<Kind>, handle: Handle) -> Option<PlainOutput>
     ensures { result ≡ plain_output_of (kind_at table.now handle) }
@@ -110,30 +89,6 @@ pub fn plain_output(table: &Table<Kind>, handle: Handle) -> Option<PlainOutput>
     match kind(table, handle) {
         Some(Kind::PlainOutput(output)) => Some(output),
         _ => None,
-    }
-}
-
-/// Tests that the handle is an input's, of a connection or in memory.
-pub fn readable(table: &Table<Kind>, handle: Handle) -> Result<(), Fault>
-    ensures ok { OnOk result (is_readable (kind_at table.now handle) ≡ true) }
-    ensures err { IfErr result (λ fault. (fault ≡ Fault.Trap TrapKind.NoSuchHandle)
-        × (is_readable (kind_at table.now handle) ≡ false)) }
-{
-    match kind(table, handle) {
-        Some(Kind::Input(_) | Kind::PlainInput(_)) => Ok(()),
-        _ => Err(Fault::Trap(TrapKind::NoSuchHandle)),
-    }
-}
-
-/// Tests that the handle is an output's, of a connection or in memory.
-pub fn writable(table: &Table<Kind>, handle: Handle) -> Result<(), Fault>
-    ensures ok { OnOk result (is_writable (kind_at table.now handle) ≡ true) }
-    ensures err { IfErr result (λ fault. (fault ≡ Fault.Trap TrapKind.NoSuchHandle)
-        × (is_writable (kind_at table.now handle) ≡ false)) }
-{
-    match kind(table, handle) {
-        Some(Kind::Output(_) | Kind::PlainOutput(_)) => Ok(()),
-        _ => Err(Fault::Trap(TrapKind::NoSuchHandle)),
     }
 }
 
@@ -153,16 +108,6 @@ pub fn outgoing(table: &Table<Kind>, handle: Handle) -> Result<RecordId, Fault>
 {
     match kind(table, handle) {
         Some(Kind::Outgoing(place)) => Ok(place),
-        _ => Err(Fault::Trap(TrapKind::NoSuchHandle)),
-    }
-}
-
-/// The record number of the TCP socket that a stream of a connection reads from or writes to.
-pub fn stream(table: &Table<Kind>, handle: Handle) -> Result<usize, Fault>
-    ensures { Names result (stream_of (kind_at table.now handle)) }
-{
-    match kind(table, handle) {
-        Some(Kind::Input(place) | Kind::Output(place)) => Ok(place),
         _ => Err(Fault::Trap(TrapKind::NoSuchHandle)),
     }
 }

@@ -2,7 +2,7 @@
 
 ghost use Rattle.std.specs.Prelude.{◌≡◌};
 ghost use Rattle.wasi_host.specs.Kinds.{name_of, table_parent, watched_by, watch_of, place_of};
-ghost use Rattle.wasi_host.specs.Kinds.{udp_of, input_of, output_of, is_network};
+ghost use Rattle.wasi_host.specs.Kinds.{udp_of, input_of, output_of, is_network, udp_kind};
 
 use wasi_records::RecordId;
 use wasi_world::{Handle, HandleKind};
@@ -48,6 +48,27 @@ pub enum PlainOutput {
     Closed,
 }
 
+/// The two interfaces of a guest.
+#[derive(Clone, Copy, Debug, PartialEq, Eq)]
+pub enum Interface {
+    /// 0.2.
+    P2,
+    /// 0.3.
+    P3,
+}
+
+impl Interface {
+    /// What the handle of a UDP socket stands for.
+    pub(crate) fn udp_kind(self, place: RecordId) -> Kind
+        ensures { result ≡ udp_kind self place }
+    {
+        match self {
+            Interface::P2 => Kind::Udp2(place),
+            Interface::P3 => Kind::Udp3(place),
+        }
+    }
+}
+
 /// What a handle stands for, with the number of its record in the store.
 #[derive(Clone, Copy, Debug, PartialEq, Eq)]
 pub enum Kind {
@@ -77,6 +98,8 @@ pub enum Kind {
     ErrorValue,
     /// A TCP socket of the 0.3 interface.
     Tcp3(RecordId),
+    /// A UDP socket of the 0.3 interface.
+    Udp3(RecordId),
 }
 
 impl Kind {
@@ -96,6 +119,7 @@ impl Kind {
             Kind::Lookup(_) => HandleKind::Lookup,
             Kind::ErrorValue => HandleKind::ErrorValue,
             Kind::Tcp3(_) => HandleKind::Tcp3,
+            Kind::Udp3(_) => HandleKind::Udp3,
         }
     }
 
@@ -118,7 +142,8 @@ impl Kind {
             | Kind::PlainOutput(_)
             | Kind::Lookup(_)
             | Kind::ErrorValue
-            | Kind::Tcp3(_) => None,
+            | Kind::Tcp3(_)
+            | Kind::Udp3(_) => None,
         }
     }
 }

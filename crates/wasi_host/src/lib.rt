@@ -18,6 +18,7 @@ mod plain_streams;
 mod pollables;
 pub mod polling;
 pub mod store;
+mod stream_ends;
 mod streams;
 mod tcp_calls;
 mod udp_calls;
@@ -29,9 +30,9 @@ pub use blocking::{
 };
 pub use cancelling::cancel;
 pub use dropping::drop_handle;
-pub use error::CallError;
+pub use error::{CallError, StoreError};
 pub use jobs::turn;
-pub use kind::{Kind, PlainInput, PlainOutput, Watched};
+pub use kind::{Interface, Kind, PlainInput, PlainOutput, Watched};
 pub use machine::Machine;
 pub use pending::{Outcome, resume};
 pub use plain_streams::{

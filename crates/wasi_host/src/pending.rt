@@ -1,26 +1,29 @@
 //! Pending calls, and how they continue.
 
-ghost use Rattle.std.specs.Prelude.{◌≡◌, IfNone, IsSome, false};
+ghost use Rattle.std.specs.Prelude.{◌≡◌, IfNone, IsSome, Ok, false};
 ghost use Rattle.wasi_world.specs.Asks.{AsksFor};
 ghost use Rattle.wasi_records.specs.Records.{tcp2_at};
 ghost use Rattle.wasi_records.specs.Stops.{host_outcome};
 ghost use Rattle.wasi_host.specs.Pending.{outcome_of, handle_outcome, pair_outcome, places_outcome};
 ghost use Rattle.wasi_host.specs.Pending.{rebind_at, relisten_at, stop_told, blocked_told};
 ghost use Rattle.wasi_host.specs.Pending.{nothing_given, unblock_asks, go_on, resume_asks};
+ghost use Rattle.wasi_host.specs.Pending.{refused_as, created_told};
+ghost use Rattle.wasi_host.specs.BaseStops.{ends_as};
 ghost use Rattle.wasi_host.specs.KnownSides.{KnowsSides};
 ghost use Rattle.wasi_host.specs.Standing.{call_of, unstood};
 ghost use Rattle.wasi_host.specs.Views.{SameView, state_of};
 
 use crate::blocking::{
-    BlockingCall, MOST_ROUNDS, blocking_flush, blocking_read, blocking_skip, blocking_splice,
-    last_check, write_rounds,
+    BlockingCall, blocking_flush, blocking_read, blocking_skip, blocking_splice, finish_rest,
+    write_rest,
 };
-use crate::error::CallError;
+use crate::error::{CallError, StoreError};
+use crate::kind::Interface;
 use crate::polling::{Look, block_by, poll_by};
 use crate::store::{Standing, StandingCall, Store};
 use crate::view::WasiSocketsCtxView;
 use std::alloc::Global;
-use wasi_addr::ErrorCode;
+use wasi_addr::{ErrorCode, p2, p3};
 use wasi_records::{RecordId, SocketError, TcpRecord, find_mut};
 use wasi_world::{Answer, Handle, Ids, NumberList, Octets, TrapKind, World};
 
@@ -43,6 +46,8 @@ pub enum Outcome {
     Closed,
     /// The places of the pollables that are ready, counted from 0 and rising.
     Places(NumberList),
+    /// A call of 0.3 was refused with this code.
+    Refused(p3::ErrorCode),
 }
 
 impl Outcome {
@@ -190,6 +195,34 @@ fn of_nothing(answer: Result<Answer<()>, CallError>) -> Result<Answer<Outcome>, 
     }
 }
 
+/// The outcome of a call that is refused with this code: of 0.2 its error, of 0.3 an outcome.
+fn of_refusal(interface: Interface, code: ErrorCode) -> Result<Answer<Outcome>, SocketError>
+    ensures { host_outcome result ≡ Ok (refused_as interface code) }
+{
+    match interface {
+        Interface::P2 => Err(SocketError::Code(p2::ErrorCode::from_code(code))),
+        Interface::P3 => {
+            let code = p3::ErrorCode::from_code(code);
+            Ok(Answer::Ready(Outcome::Refused(code)))
+        }
+    }
+}
+
+/// The outcome of a create of a UDP socket for this interface.
+fn of_create(
+    interface: Interface,
+    created: Result<Answer<Handle>, StoreError>,
+) -> Result<Answer<Outcome>, SocketError>
+    ensures { host_outcome result ≡ created_told interface (ends_as created) }
+{
+    match created {
+        Ok(answer) => Ok(Outcome::of_handle(answer)),
+        Err(StoreError::Code(code)) => of_refusal(interface, code),
+        Err(StoreError::Trap(kind)) => Err(SocketError::Trap(kind)),
+        Err(StoreError::Memory(e)) => Err(SocketError::Memory(e)),
+    }
+}
+
 /// Polls a call that blocks, under the names of its line.
 fn unblock<W: World>(
     alloc: Global,
@@ -217,16 +250,10 @@ fn unblock<W: World>(
         BlockingCall::Skip { input, len } => {
             of_count(blocking_skip(alloc, view, world, &mut ids, input, len))
         }
-        BlockingCall::Write { output, rest } => of_nothing(write_rounds(
-            alloc,
-            view,
-            world,
-            &mut ids,
-            output,
-            rest,
-            MOST_ROUNDS,
-        )),
-        BlockingCall::Finish { output } => of_nothing(last_check(view, world, &mut ids, output)),
+        BlockingCall::Write { output, rest } => {
+            of_nothing(write_rest(alloc, view, world, &mut ids, output, rest))
+        }
+        BlockingCall::Finish { output } => of_nothing(finish_rest(view, world, &mut ids, output)),
         BlockingCall::Flush { output } => of_nothing(blocking_flush(view, world, &mut ids, output)),
         BlockingCall::Splice { output, input, len } => of_count(blocking_splice(
             alloc, view, world, &mut ids, output, input, len,
@@ -271,9 +298,11 @@ fn go_on<W: World>(
             let answer = view.store.drop_output(world, ids, socket)?;
             Ok(Outcome::of_nothing(answer))
         }
-        StandingCall::UdpCreate { socket } => {
-            let answer = view.store.create_on(view.table, world, ids, socket)?;
-            Ok(Outcome::of_handle(answer))
+        StandingCall::UdpCreate { socket, interface } => {
+            let created = view
+                .store
+                .create_on(view.table, world, ids, socket, interface);
+            of_create(interface, created)
         }
         StandingCall::UdpBind { socket } => {
             let answer = view.store.rebind_udp(world, ids, socket)?;
@@ -296,8 +325,8 @@ fn go_on<W: World>(
 /// Polls the pending call with this number once, under the operation names of the line that began
 /// it; `None` exactly where there is none. If it is still pending it is stored again.
 ///
-/// The error of a call of a stream is an [`Outcome`]. A code is that of a bind, a listen, a create
-/// or a connect.
+/// The error of a call of a stream is an [`Outcome`], and so is the code of a call of 0.3. A code
+/// that is an error is that of a bind, a listen, a create or a connect of 0.2.
 pub fn resume<W: World>(
     alloc: Global,
     view: &mut WasiSocketsCtxView<'_>,

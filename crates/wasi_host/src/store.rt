@@ -19,7 +19,7 @@ ghost use Rattle.wasi_tcp.specs.Writer.{check_write_asks, write_state_asks};
 use crate::blocking::BlockingCall;
 use crate::handles;
 use crate::jobs::keep_job;
-use crate::kind::Kind;
+use crate::kind::{Interface, Kind};
 use std::alloc::{AllocError, Global};
 use std::marker::Model;
 use wasi_addr::SocketAddressFamily;
@@ -39,23 +39,39 @@ use wasi_world::{
 #[derive(Drop)]
 pub enum StandingCall {
     /// Binds the TCP socket with this record number; its record has the operation.
-    Bind { socket: RecordId },
+    Bind {
+        socket: RecordId,
+    },
     /// Makes the TCP socket with this record number listen; its record has the operation.
-    Listen { socket: RecordId },
+    Listen {
+        socket: RecordId,
+    },
     /// Drops the output of the TCP socket with this record number, and waits until its writer is
     /// ready.
-    DropOutput { socket: RecordId },
-    /// Creates the UDP socket with this record number, and then its handle; its record has the
-    /// operation.
-    UdpCreate { socket: RecordId },
+    DropOutput {
+        socket: RecordId,
+    },
+    /// Creates the UDP socket with this record number, and then its handle in this interface; its
+    /// record has the operation.
+    UdpCreate {
+        socket: RecordId,
+        interface: Interface,
+    },
     /// Binds the UDP socket with this record number; its record has the operation.
-    UdpBind { socket: RecordId },
+    UdpBind {
+        socket: RecordId,
+    },
     /// Connects the UDP socket with this record number, whose record has the operation, and then
     /// makes its datagram streams under this handle.
-    UdpConnect { socket: RecordId, handle: Handle },
+    UdpConnect {
+        socket: RecordId,
+        handle: Handle,
+    },
     /// Drops the outgoing datagram stream of the UDP socket with this record number, and waits
     /// until its datagram is sent or has failed.
-    DropOutgoing { socket: RecordId },
+    DropOutgoing {
+        socket: RecordId,
+    },
     /// A call of a stream or of pollables that blocks.
     Blocking(BlockingCall),
 }

@@ -1,29 +1,26 @@
 //! The calls of streams that don't block.
 
-ghost use Rattle.std.specs.Prelude.{◌≡◌, false, IfOk};
+ghost use Rattle.std.specs.Prelude.{◌≡◌, false};
+ghost use Rattle.wasi_streams.specs.StreamStop.{StreamStop};
 ghost use Rattle.wasi_streams.specs.Streams.{zeros};
 ghost use Rattle.wasi_world.specs.Asks.{AsksFor};
-ghost use Rattle.wasi_streams.specs.StreamStop.{StreamStop};
 ghost use Rattle.wasi_host.specs.CallStops.{call_outcome, error_outcome, failed_outcome};
 ghost use Rattle.wasi_host.specs.CallStops.{IsStreamStop, IfStreamMemory};
-ghost use Rattle.wasi_host.specs.Kinds.{kind_at, stream_of};
-ghost use Rattle.wasi_host.specs.Machine.{own_of, input_at, output_at};
+ghost use Rattle.wasi_host.specs.Machine.{own_of};
 ghost use Rattle.wasi_host.specs.StreamCalls.{read_asks, skip_asks, check_asks, write_asks};
 ghost use Rattle.wasi_host.specs.StreamCalls.{write_zeroes_asks, flushed_asks, splice_asks};
-ghost use Rattle.wasi_host.specs.StreamCalls.{splice_some, stream_on, write_on, convert_on};
-ghost use Rattle.wasi_host.specs.StreamCalls.{splice_read};
-ghost use Rattle.wasi_records.specs.Halves.{reader_asks, writer_asks, flush_asks};
-ghost use Rattle.wasi_tcp.specs.Reader.{read_state_asks};
-ghost use Rattle.wasi_tcp.specs.Writer.{check_write_asks, write_state_asks};
+ghost use Rattle.wasi_host.specs.StreamCalls.{splice_some, convert_asks};
+ghost use Rattle.wasi_host.specs.StreamEnds.{NamesInput, NamesOutput};
 ghost use Rattle.wasi_host.specs.Views.{state_of, HostKept};
 
 use crate::error::CallError;
 use crate::handles;
 use crate::kind::Kind;
-use crate::plain_streams::{flush_plain, plain};
+use crate::stream_ends::{NamedInput, NamedOutput};
 use crate::view::WasiSocketsCtxView;
-use std::alloc::{AllocError, Global};
+use std::alloc::Global;
 use wasi_addr::ErrorCode;
+use wasi_records::RecordId;
 use wasi_streams::{Fault, StreamError, zeros};
 use wasi_world::{Handle, Ids, Octets, World};
 
@@ -44,37 +41,8 @@ pub fn read<W: World>(
     ensures kept { HostKept view.old view.new ids.old ids.new (W.seen world.old)
         (W.seen world.new) }
 {
-    match handles::plain_input(view.table, this) {
-        Some(stream) => plain(view.store.read_plain(alloc, stream, len as usize)),
-        None => read_connection(alloc, view, world, ids, this, len),
-    }
-}
-
-/// Reads at most `len` bytes from a connection.
-fn read_connection<W: World>(
-    alloc: Global,
-    view: &mut WasiSocketsCtxView<'_>,
-    world: &mut W,
-    ids: &mut Ids,
-    this: Handle,
-    len: u64,
-) -> Result<Octets, CallError>
-    requires { (W.seen world.old).ended ≡ false }
-    ensures asked { AsksFor (stream_on (state_of view.old) (own_of ids.old.line) this
-        (reader_asks (λ r. read_state_asks (own_of ids.old.line) r len))
-        (input_at (state_of view.old) this)) (W.seen world.old) (W.seen world.new)
-        (λ read. (read, state_of view.new)) (call_outcome result) }
-    ensures kept { HostKept view.old view.new ids.old ids.new (W.seen world.old)
-        (W.seen world.new) }
-{
-    let place = handles::input(view.table, this)?;
-    match view
-        .store
-        .read(alloc, world, ids.own(), place, len as usize)
-    {
-        Ok(bytes) => Ok(bytes),
-        Err(error) => Err(convert_stream_error(view, world, ids, this, error)),
-    }
+    let input = NamedInput::resolve(view.table, this)?;
+    input.read(alloc, view, world, ids, len)
 }
 
 /// The permit: how many bytes may be written to an output (`output-stream.check-write`).
@@ -91,32 +59,8 @@ pub fn check_write<W: World>(
     ensures kept { HostKept view.old view.new ids.old ids.new (W.seen world.old)
         (W.seen world.new) }
 {
-    match handles::plain_output(view.table, this) {
-        Some(stream) => plain(view.store.check_plain(stream)).map(|permit| permit as u64),
-        None => check_write_connection(view, world, ids, this),
-    }
-}
-
-/// The permit of a connection.
-fn check_write_connection<W: World>(
-    view: &mut WasiSocketsCtxView<'_>,
-    world: &mut W,
-    ids: &mut Ids,
-    this: Handle,
-) -> Result<u64, CallError>
-    requires { (W.seen world.old).ended ≡ false }
-    ensures asked { AsksFor (stream_on (state_of view.old) (own_of ids.old.line) this
-        (writer_asks (check_write_asks (own_of ids.old.line))) (output_at (state_of view.old) this))
-        (W.seen world.old) (W.seen world.new) (λ permit. (permit, state_of view.new))
-        (call_outcome result) }
-    ensures kept { HostKept view.old view.new ids.old ids.new (W.seen world.old)
-        (W.seen world.new) }
-{
-    let place = handles::output(view.table, this)?;
-    match view.store.check_write(world, ids.own(), place) {
-        Ok(permit) => Ok(permit as u64),
-        Err(error) => Err(convert_stream_error(view, world, ids, this, error)),
-    }
+    let output = NamedOutput::resolve(view.table, this)?;
+    output.check_write(view, world, ids)
 }
 
 /// Writes bytes to an output, no more than its permit (`output-stream.write`).
@@ -134,33 +78,8 @@ pub fn write<W: World>(
     ensures kept { HostKept view.old view.new ids.old ids.new (W.seen world.old)
         (W.seen world.new) }
 {
-    match handles::plain_output(view.table, this) {
-        Some(stream) => plain(view.store.write_plain(stream, bytes.as_slice())),
-        None => write_connection(view, world, ids, this, bytes),
-    }
-}
-
-/// Writes bytes to a connection, no more than its permit.
-fn write_connection<W: World>(
-    view: &mut WasiSocketsCtxView<'_>,
-    world: &mut W,
-    ids: &mut Ids,
-    this: Handle,
-    bytes: Octets,
-) -> Result<(), CallError>
-    requires { (W.seen world.old).ended ≡ false }
-    ensures asked { AsksFor (write_on (state_of view.old) (own_of ids.old.line) this
-        (writer_asks (λ w. write_state_asks (own_of ids.old.line) w bytes))
-        (output_at (state_of view.old) this)) (W.seen world.old) (W.seen world.new)
-        (λ written. (written, state_of view.new)) (call_outcome result) }
-    ensures kept { HostKept view.old view.new ids.old ids.new (W.seen world.old)
-        (W.seen world.new) }
-{
-    let place = handles::output(view.table, this)?;
-    match view.store.write(world, ids.own(), place, bytes) {
-        Ok(()) => Ok(()),
-        Err(error) => Err(convert_stream_error(view, world, ids, this, error)),
-    }
+    let output = NamedOutput::resolve(view.table, this)?;
+    output.write(view, world, ids, bytes)
 }
 
 /// Returns the error of an output that is closed (`output-stream.flush`).
@@ -177,31 +96,8 @@ pub fn flush<W: World>(
     ensures kept { HostKept view.old view.new ids.old ids.new (W.seen world.old)
         (W.seen world.new) }
 {
-    match handles::plain_output(view.table, this) {
-        Some(stream) => plain(flush_plain(stream)),
-        None => flush_connection(view, world, ids, this),
-    }
-}
-
-/// Returns the error of a connection's writer that is closed.
-fn flush_connection<W: World>(
-    view: &mut WasiSocketsCtxView<'_>,
-    world: &mut W,
-    ids: &mut Ids,
-    this: Handle,
-) -> Result<(), CallError>
-    requires { (W.seen world.old).ended ≡ false }
-    ensures asked { AsksFor (stream_on (state_of view.old) (own_of ids.old.line) this
-        (writer_asks flush_asks) (output_at (state_of view.old) this)) (W.seen world.old)
-        (W.seen world.new) (λ flushed. (flushed, state_of view.new)) (call_outcome result) }
-    ensures kept { HostKept view.old view.new ids.old ids.new (W.seen world.old)
-        (W.seen world.new) }
-{
-    let place = handles::output(view.table, this)?;
-    match view.store.flush(world, place) {
-        Ok(()) => Ok(()),
-        Err(error) => Err(convert_stream_error(view, world, ids, this, error)),
-    }
+    let output = NamedOutput::resolve(view.table, this)?;
+    output.flush(view, world, ids)
 }
 
 /// Reads at most `len` bytes from an input and discards them; returns how many there were
@@ -221,8 +117,8 @@ pub fn skip<W: World>(
     ensures kept { HostKept view.old view.new ids.old ids.new (W.seen world.old)
         (W.seen world.new) }
 {
-    let bytes = read(alloc, view, world, ids, this, len)?;
-    Ok(bytes.len() as u64)
+    let input = NamedInput::resolve(view.table, this)?;
+    input.skip(alloc, view, world, ids, len)
 }
 
 /// Writes zeros to an output, no more than its permit (`output-stream.write-zeroes`). Takes memory
@@ -266,10 +162,10 @@ pub fn splice<W: World>(
     ensures kept { HostKept view.old view.new ids.old ids.new (W.seen world.old)
         (W.seen world.new) }
 {
-    handles::writable(view.table, output)?;
-    handles::readable(view.table, input)?;
-    let permit = check_write(view, world, ids, output)?;
-    splice_some(alloc, view, world, ids, output, input, permit.min(len))
+    let to = NamedOutput::resolve(view.table, output)?;
+    let from = NamedInput::resolve(view.table, input)?;
+    let permit = to.check_write(view, world, ids)?;
+    splice_some(alloc, view, world, ids, to, from, permit.min(len))
 }
 
 /// Reads at most as many bytes from the input as the output permits, and writes them there.
@@ -278,51 +174,54 @@ fn splice_some<W: World>(
     view: &mut WasiSocketsCtxView<'_>,
     world: &mut W,
     ids: &mut Ids,
-    output: Handle,
-    input: Handle,
+    to: NamedOutput,
+    from: NamedInput,
     count: u64,
 ) -> Result<u64, CallError>
-    requires { (W.seen world.old).ended ≡ false }
-    ensures asked { AsksFor (splice_some (own_of ids.old.line) output input (state_of view.old)
-        count) (W.seen world.old) (W.seen world.new) (λ done. (done, state_of view.new))
-        (call_outcome result) }
+    requires open { (W.seen world.old).ended ≡ false }
+    requires output { NamesOutput view.old.table.now to }
+    requires input { NamesInput view.old.table.now from }
+    ensures asked { AsksFor (splice_some (own_of ids.old.line) to.handle from.handle
+        (state_of view.old) count) (W.seen world.old) (W.seen world.new)
+        (λ done. (done, state_of view.new)) (call_outcome result) }
     ensures kept { HostKept view.old view.new ids.old ids.new (W.seen world.old)
         (W.seen world.new) }
 {
     if count == 0 {
         return Ok(0);
     }
-    let bytes = read(alloc, view, world, ids, input, count)?;
+    let bytes = from.read(alloc, view, world, ids, count)?;
     if bytes.is_empty() {
         return Ok(0);
     }
     let count = bytes.len() as u64;
-    write(view, world, ids, output, bytes)?;
+    to.write(view, world, ids, bytes)?;
     Ok(count)
 }
 
-/// Makes the error of a stream's call (`convert_stream_error` of the crate wasmtime-wasi). A
+/// Makes the error of a call on the stream of a connection (`convert_stream_error` of the crate
+/// wasmtime-wasi), which has this handle and is of the TCP socket with this record number. A
 /// failure gets the handle of a new error, whose parent is the stream. Where no handle can be made:
-/// `Trap(Full)` or out of memory. Where the handle is no connection's stream: `Trap(NoSuchHandle)`.
+/// `Trap(Full)` or out of memory.
 pub fn convert_stream_error<W: World>(
     view: &mut WasiSocketsCtxView<'_>,
     world: &mut W,
     ids: &mut Ids,
     this: Handle,
+    place: RecordId,
     error: StreamError,
 ) -> CallError
     requires { (W.seen world.old).ended ≡ false }
-    ensures asked { IsStreamStop error (λ stop. AsksFor (convert_on (state_of view.old)
-        (own_of ids.old.line) this (stream_of (kind_at view.old.table.now this)) stop)
-        (W.seen world.old) (W.seen world.new) (λ converted. (converted, state_of view.new))
-        (error_outcome result)) }
+    ensures asked { IsStreamStop error (λ stop. AsksFor (convert_asks (state_of view.old)
+        (own_of ids.old.line) this place stop) (W.seen world.old) (W.seen world.new)
+        (λ converted. (converted, state_of view.new)) (error_outcome result)) }
     ensures memory { IfStreamMemory error (λ e. (result ≡ CallError.Memory e)
         × (state_of view.new ≡ state_of view.old) × (W.seen world.new ≡ W.seen world.old)) }
     ensures kept { HostKept view.old view.new ids.old ids.new (W.seen world.old)
         (W.seen world.new) }
 {
     match error {
-        StreamError::LastOperationFailed(code) => failed(view, world, ids, this, code),
+        StreamError::LastOperationFailed(code) => failed(view, world, ids, this, place, code),
         StreamError::Closed => CallError::Closed,
         StreamError::Trap(kind) => CallError::Trap(kind),
         StreamError::Memory(e) => CallError::Memory(e),
@@ -335,19 +234,16 @@ fn failed<W: World>(
     world: &mut W,
     ids: &mut Ids,
     this: Handle,
+    place: RecordId,
     code: ErrorCode,
 ) -> CallError
     requires { (W.seen world.old).ended ≡ false }
-    ensures asked { AsksFor (convert_on (state_of view.old) (own_of ids.old.line) this
-        (stream_of (kind_at view.old.table.now this)) (StreamStop.Failed code)) (W.seen world.old)
-        (W.seen world.new) (λ converted. (converted, state_of view.new)) (error_outcome result) }
+    ensures asked { AsksFor (convert_asks (state_of view.old) (own_of ids.old.line) this place
+        (StreamStop.Failed code)) (W.seen world.old) (W.seen world.new)
+        (λ converted. (converted, state_of view.new)) (error_outcome result) }
     ensures kept { HostKept view.old view.new ids.old ids.new (W.seen world.old)
         (W.seen world.new) }
 {
-    let place = match handles::stream(view.table, this) {
-        Ok(place) => place,
-        Err(fault) => return CallError::from(fault),
-    };
     let side = view.store.side(place);
     let made = handles::make(
         view.table,

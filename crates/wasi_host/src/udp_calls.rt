@@ -11,11 +11,13 @@ ghost use Rattle.wasi_host.specs.UdpCalls.{start_udp_bind_at, rebind_udp_at, fin
 ghost use Rattle.wasi_host.specs.UdpCalls.{udp_local_at, udp_remote_at, udp_family_at};
 ghost use Rattle.wasi_host.specs.UdpCalls.{get_udp_option_at, set_udp_option_at, release_udp_at};
 ghost use Rattle.wasi_host.specs.UdpCalls.{udp_left};
-ghost use Rattle.wasi_host.specs.UdpCreates.{create_udp_asks, create_on, mark_udp, poll_create_at};
-ghost use Rattle.wasi_host.specs.UdpCreates.{udp_side_at};
+ghost use Rattle.wasi_host.specs.BaseStops.{ends_as};
+ghost use Rattle.wasi_host.specs.UdpCreates.{create_udp_asks, create_udp, create_on, mark_udp};
+ghost use Rattle.wasi_host.specs.UdpCreates.{poll_create_at, udp_side_at};
 
+use crate::error::{StoreError, named, unnamed};
 use crate::handles;
-use crate::kind::Kind;
+use crate::kind::{Interface, Kind};
 use crate::store::{Standing, StandingCall, Store};
 use socket_common::Setting;
 use std::alloc::AllocError;
@@ -28,9 +30,8 @@ use wasi_udp::UdpSocket;
 use wasi_world::{Answer, Handle, Ids, OpId, Opt, Sock, TrapKind, WasiSocketsCtx, World};
 
 impl Store {
-    /// Begins to create a UDP socket and polls that once (`create-udp-socket`). Takes memory for
-    /// the record before the network socket is made, so that every network socket has a record,
-    /// also where no handle can be made for it.
+    /// Begins to create a UDP socket of 0.2 and polls that once (`create-udp-socket`); see
+    /// [`create_udp`](Store::create_udp).
     pub fn create_udp_socket<W: World>(
         &mut self,
         table: &mut Table<Kind>,
@@ -47,61 +48,92 @@ impl Store {
         ensures sides { KnowsSides (W.seen world.old) self.old
             → KnowsSides (W.seen world.new) self.new }
     {
+        named(self.create_udp(table, world, ids, ctx, family, Interface::P2))
+    }
+
+    /// Begins to create a UDP socket of this interface and polls that once. Takes memory for the
+    /// record before the network socket is made, so that every network socket has a record, also
+    /// where no handle can be made for it.
+    pub fn create_udp<W: World>(
+        &mut self,
+        table: &mut Table<Kind>,
+        world: &mut W,
+        ids: Ids,
+        ctx: &WasiSocketsCtx,
+        family: SocketAddressFamily,
+        interface: Interface,
+    ) -> Result<Answer<Handle>, StoreError>
+        requires { (W.seen world.old).ended ≡ false }
+        ensures asked { AsksFor (create_udp interface (record {
+          table = table.old;
+          store = self.old;
+        }) ids ctx.now family) (W.seen world.old) (W.seen world.new)
+            (λ answer. (answer, record { table = table.new; store = self.new })) (ends_as result) }
+        ensures sides { KnowsSides (W.seen world.old) self.old
+            → KnowsSides (W.seen world.new) self.new }
+    {
         self.records.reserve()?;
-        let create = UdpSocket::new(world, ids.own(), ctx, family)?;
+        let create = unnamed(UdpSocket::new(world, ids.own(), ctx, family))?;
         let place = self.records.len();
         let creating = UdpRecord::Creating(PendingCreate::new(create));
         self.records.push_reserved(Record::Udp(creating));
-        self.create_on(table, world, ids, place)
+        self.create_on(table, world, ids, place, interface)
     }
 
     /// Polls the create in the record with this number. Pending, it is the pending call; done, the
-    /// socket gets its handle.
+    /// socket gets its handle in this interface.
     pub(crate) fn create_on<W: World>(
         &mut self,
         table: &mut Table<Kind>,
         world: &mut W,
         ids: Ids,
         place: RecordId,
-    ) -> Result<Answer<Handle>, SocketError>
+        interface: Interface,
+    ) -> Result<Answer<Handle>, StoreError>
         requires { (W.seen world.old).ended ≡ false }
-        ensures asked { AsksFor (create_on (record { table = table.old; store = self.old }) ids
-            place) (W.seen world.old) (W.seen world.new)
-            (λ answer. (answer, record { table = table.new; store = self.new }))
-            (host_outcome result) }
+        ensures asked { AsksFor (create_on interface (record {
+          table = table.old;
+          store = self.old;
+        }) ids place) (W.seen world.old) (W.seen world.new)
+            (λ answer. (answer, record { table = table.new; store = self.new })) (ends_as result) }
         ensures sides { KnowsSides (W.seen world.old) self.old
             → KnowsSides (W.seen world.new) self.new }
     {
         match self.poll_create(world, place)? {
             Answer::Pending => {
-                let call = StandingCall::UdpCreate { socket: place };
+                let call = StandingCall::UdpCreate {
+                    socket: place,
+                    interface,
+                };
                 self.standing = Some(Standing { ids, call });
                 Ok(Answer::Pending)
             }
-            Answer::Ready(()) => self.make_udp_handle(table, world, place),
+            Answer::Ready(()) => self.make_udp_handle(table, world, place, interface),
         }
     }
 
-    /// Makes the handle of the UDP socket with this record number. It is logged under the name of
-    /// the create, which is the network socket's name, too.
+    /// Makes the handle of the UDP socket with this record number in this interface. It is logged
+    /// under the name of the create, which is the network socket's name, too.
     fn make_udp_handle<W: World>(
         &self,
         table: &mut Table<Kind>,
         world: &mut W,
         place: RecordId,
-    ) -> Result<Answer<Handle>, SocketError>
+        interface: Interface,
+    ) -> Result<Answer<Handle>, StoreError>
         requires { (W.seen world.old).ended ≡ false }
-        ensures asked { AsksFor (mark_udp (record { table = table.old; store = self.now }) place
-            (udp2_at self.now.records place)) (W.seen world.old) (W.seen world.new)
-            (λ answer. (answer, record { table = table.new; store = self.now }))
-            (host_outcome result) }
+        ensures asked { AsksFor (mark_udp interface (record {
+          table = table.old;
+          store = self.now;
+        }) place (udp2_at self.now.records place)) (W.seen world.old) (W.seen world.new)
+            (λ answer. (answer, record { table = table.new; store = self.now })) (ends_as result) }
         ensures sides { KnowsSides (W.seen world.old) self.now
             → KnowsSides (W.seen world.new) self.now }
     {
         let Some(side) = self.udp_side(place) else {
-            return Err(SocketError::Trap(TrapKind::NoSuchHandle));
+            return Err(StoreError::Trap(TrapKind::NoSuchHandle));
         };
-        let kind = Kind::Udp2(place);
+        let kind = interface.udp_kind(place);
         let handle = handles::make(table, world, side, kind, None, Some(side))?;
         Ok(Answer::Ready(handle))
     }
@@ -111,22 +143,22 @@ impl Store {
         &mut self,
         world: &mut W,
         place: RecordId,
-    ) -> Result<Answer<()>, SocketError>
+    ) -> Result<Answer<()>, StoreError>
         requires { (W.seen world.old).ended ≡ false }
         ensures asked { AsksFor (poll_create_at self.old place (udp2_at self.old.records place))
             (W.seen world.old) (W.seen world.new) (λ answer. (answer, self.new))
-            (host_outcome result) }
+            (ends_as result) }
         ensures sides { KnowsSides (W.seen world.old) self.old
             → KnowsSides (W.seen world.new) self.new }
     {
         let Some(record) = find_mut::<UdpRecord>(&mut self.records, place) else {
-            return Err(SocketError::Trap(TrapKind::NoSuchHandle));
+            return Err(StoreError::Trap(TrapKind::NoSuchHandle));
         };
         match record.poll_create(world) {
             Ok(answer) => Ok(answer),
             Err(refusal) => {
                 self.leave_udp(place);
-                Err(SocketError::from(refusal))
+                unnamed(Err(refusal))
             }
         }
     }

@@ -39,6 +39,7 @@ use Rattle.wasi_p2.specs.Udp.{start_udp_bind_asks, finish_udp_bind_on, udp_local
 use Rattle.wasi_host.specs.Block.{Does}
 use Rattle.wasi_p3.specs.Stops.{P3Stop}
 use Rattle.wasi_p3.specs.Tcp as p3
+use Rattle.wasi_p3.specs.Udp as udp3
 use Rattle.wasi_steps.specs.declared.fields.NoCode.{NoCode}
 use Rattle.wasi_steps.specs.declared.reply.CodeWord.{CodeWord}
 use Rattle.wasi_steps.specs.declared.reply.Field.{Field}
@@ -133,6 +134,12 @@ answer_reply_of fields line (Ok (Ready value)) = reply.Ok (fields value)
 answer_reply_of fields line (Ok Pending) = reply.Pending line
 answer_reply_of fields line (Err stop) = stop_reply stop
 
+-- the same of a call of 0.3
+abbrev pub p3_answer_reply : {A : Type 0} → (A → List Field) → ℕ → Result (Answer A) P3Stop → Reply
+p3_answer_reply fields line (Ok (Ready value)) = reply.Ok (fields value)
+p3_answer_reply fields line (Ok Pending) = reply.Pending line
+p3_answer_reply fields line (Err stop) = stop_as word_of_p3 stop
+
 abbrev pub answer_reply : ℕ → Result (Answer (Unit {0})) Stop → Reply
 answer_reply = answer_reply_of no_values
 
@@ -146,6 +153,7 @@ outcome_reply line (Ready (Bytes bytes)) = reply.Ok (bytes_fields bytes)
 outcome_reply line (Ready (outcome.Failed c e)) = call_stop_reply (Failed c e)
 outcome_reply line (Ready outcome.Closed) = reply.Closed
 outcome_reply line (Ready (Places places)) = reply.Ok (numbers_fields places)
+outcome_reply line (Ready (outcome.Refused c)) = reply.Err (word_of_p3 c)
 outcome_reply line Pending = reply.Pending line
 
 abbrev pub resumed_reply : ℕ → Result (Option (Answer Outcome)) Stop → Reply
@@ -241,6 +249,13 @@ call_asks ctx m line (guest.P3TcpIsListening s) = Give (p3_reply truth_fields (p
 call_asks ctx m line (guest.P3TcpAddressFamily s) = Give (p3_reply family_fields (p3.address_family m s), m)
 call_asks ctx m line (guest.P3TcpGet s option) = bind (p3.get_option (own_of line) s option m) (λ done. Give (p3_reply number_fields done.0, done.1))
 call_asks ctx m line (guest.P3TcpSet s setting) = bind (set_p3 (own_of line) s (chosen setting) m) (λ done. Give (p3_reply no_values done.0, done.1))
+call_asks ctx m line (guest.P3UdpCreate family) = bind (udp3.create (first_ids line) ctx family m) (λ done. Give (p3_answer_reply number_fields line done.0, done.1))
+call_asks ctx m line (guest.P3UdpDisconnect s) = bind (udp3.disconnect (own_of line) s m) (λ done. Give (p3_reply no_values done.0, done.1))
+call_asks ctx m line (guest.P3UdpLocalAddress s) = bind (udp3.local_address (own_of line) s m) (λ done. Give (p3_reply address_values done.0, done.1))
+call_asks ctx m line (guest.P3UdpRemoteAddress s) = Give (p3_reply address_values (udp3.remote_address m s), m)
+call_asks ctx m line (guest.P3UdpAddressFamily s) = Give (p3_reply family_fields (udp3.address_family m s), m)
+call_asks ctx m line (guest.P3UdpGet s option) = bind (udp3.get_option (own_of line) s (udp_opt option) m) (λ done. Give (p3_reply number_fields done.0, done.1))
+call_asks ctx m line (guest.P3UdpSet s setting) = bind (udp3.set_option (own_of line) s (udp_chosen setting).0 (udp_chosen setting).1 m) (λ done. Give (p3_reply no_values done.0, done.1))
 
 -- what a step asks, its reply, and the machine afterwards, where this is the context of its guest
 abbrev pub asks_in : WasiSocketsCtx → Machine → ℕ → Step → Asks (Reply × Machine)

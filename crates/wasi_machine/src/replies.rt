@@ -6,7 +6,7 @@ ghost use Rattle.wasi_records.specs.Stops.{host_outcome, IsStop};
 ghost use Rattle.wasi_machine.specs.Machine.{reply_of, stream_reply_of, answer_reply_of};
 ghost use Rattle.wasi_machine.specs.Machine.{blocked_reply_of, cancelled_reply, stop_reply};
 ghost use Rattle.wasi_machine.specs.Machine.{call_stop_reply, outcome_reply, resumed_reply};
-ghost use Rattle.wasi_machine.specs.Machine.{p3_reply, stop_as};
+ghost use Rattle.wasi_machine.specs.Machine.{p3_reply, p3_answer_reply, stop_as};
 ghost use Rattle.wasi_p3.specs.Stops.{ends_as, IsStopOf};
 ghost use Rattle.wasi_steps.specs.Reply.{word_of_p3};
 
@@ -101,6 +101,22 @@ pub fn answer_reply<T: IntoFields>(
     }
 }
 
+/// The same of a call of 0.3.
+pub fn p3_answer_reply<T: IntoFields>(
+    alloc: Global,
+    line: u32,
+    answer: Result<Answer<T>, wasi_p3::SocketError>,
+) -> Result<Reply, AllocError>
+    ensures { IfOk result (λ reply. IsOkAnd (ends_as answer)
+        (λ x. reply ≡ p3_answer_reply T.fields line x)) }
+{
+    match answer {
+        Ok(Answer::Ready(value)) => ok(alloc, value),
+        Ok(Answer::Pending) => Ok(Reply::Pending(line)),
+        Err(error) => p3_stop_reply(error),
+    }
+}
+
 /// The reply of a call without a value: its code or its trap. Out of memory has none.
 fn stop_reply(error: SocketError) -> Result<Reply, AllocError>
     ensures { IfOk result (λ reply. IsStop error (λ stop. reply ≡ stop_reply stop)) }
@@ -158,6 +174,7 @@ fn outcome_reply(alloc: Global, line: u32, answer: Answer<Outcome>) -> Result<Re
         Answer::Ready(Outcome::Failed(code, handle)) => Ok(failed(code, handle)),
         Answer::Ready(Outcome::Closed) => Ok(Reply::Closed),
         Answer::Ready(Outcome::Places(places)) => ok(alloc, places),
+        Answer::Ready(Outcome::Refused(code)) => Ok(Reply::Err(CodeWord::from_p3(code))),
         Answer::Pending => Ok(Reply::Pending(line)),
     }
 }

@@ -1,4 +1,4 @@
--- What a call of a TCP socket asks, by what the socket is asked, and what a create asks.
+-- What a call of a socket asks, by what the socket is asked, and what a create asks.
 use Rattle.std.specs.Prelude.{◌≡◌, ℕ, Some, None, Result, Ok, Err, IsErrAnd, refl}
 use Rattle.std.proofs.Common.{sym, subst}
 use Rattle.wasi_addr.specs.declared.address.SocketAddressFamily.{SocketAddressFamily}
@@ -18,16 +18,18 @@ use Rattle.wasi_world.specs.Seen.{Seen}
 use Rattle.wasi_world.specs.Asks.{Asks, bind, AsksFor, outcome}
 use Rattle.wasi_world.proofs.Walks.{asks_end, asks_err, asks_given, reaches_in, reaches_on, asks_ok}
 use Rattle.wasi_records.specs.declared.socket.TcpRecord.{TcpRecord}
-use Rattle.wasi_records.specs.Records.{tcp2_at}
+use Rattle.wasi_records.specs.declared.udp.OpenUdp.{OpenUdp}
+use Rattle.wasi_records.specs.Records.{open_at, tcp2_at}
 use Rattle.wasi_records.specs.Stops.{Stop, Trap, fault_outcome}
 use Rattle.wasi_host.specs.declared.kind.Kind.TheVariants.{Tcp3}
 use Rattle.wasi_host.specs.declared.machine.Machine.{Machine}
 use Rattle.wasi_host.specs.Block.{give, or_stop}
 use Rattle.wasi_host.specs.Lines.{storing}
-use Rattle.wasi_host.specs.Machine.{tcp3_at, made_to}
+use Rattle.wasi_host.specs.Machine.{tcp3_at, udp3_at, made_to}
 use Rattle.wasi_host.specs.Making.{MakesTcp}
 use Rattle.wasi_host.specs.Store.{Records, with_socket}
-use Rattle.wasi_p3.specs.Lines.{same_stop, of_tcp}
+use Rattle.wasi_host.specs.UdpCalls.{with_open_udp}
+use Rattle.wasi_p3.specs.Lines.{same_stop, of_tcp, of_udp}
 use Rattle.wasi_p3.specs.Stops.{P3Stop, p3_stop, p3_outcome, ends_as}
 use Rattle.wasi_p3.specs.Tcp.{create, code_told, handle_told}
 
@@ -68,6 +70,23 @@ pub tcp_none : {A : Type 0} (m : Machine) (handle : ℕ) {place : ℕ}
     (Ok (Err (Trap NoSuchHandle)))
 unfolding bind
 tcp_none m handle call h f = rw (h, f) (asks_given _ _ refl refl)
+
+-- of a UDP socket
+pub udp_called : {A : Type 0} (m : Machine) (handle : ℕ) {place : ℕ} {o : OpenUdp} (now : OpenUdp)
+    (call : OpenUdp → Asks (Result A ErrorCode × OpenUdp)) {s t : Seen} (told : Result A Refusal)
+    (result : Result A Error)
+    → udp3_at m handle ≡ Some place → open_at m.store.records place ≡ Some o → ends_as result ≡ p3_outcome told
+    → AsksFor (call o) s t (λ x. (x, now)) (outcome told)
+    → AsksFor (of_udp handle call m) s t (λ x. (x, storing m (with_open_udp m.store place now))) (ends_as result)
+udp_called m handle {place} now call told result h f e k =
+    rw (h, f) (socket_called (with_open_udp m.store place) m told result e k)
+
+pub udp_none : {A : Type 0} (m : Machine) (handle : ℕ) {place : ℕ}
+    (call : OpenUdp → Asks (Result A ErrorCode × OpenUdp)) {s : Seen} → udp3_at m handle ≡ Some place
+    → open_at m.store.records place ≡ None → AsksFor (of_udp handle call m) s s (λ x. (x, m))
+    (Ok (Err (Trap NoSuchHandle)))
+unfolding bind
+udp_none m handle call h f = rw (h, f) (asks_given _ _ refl refl)
 
 -- == a socket is made
 -- none was

@@ -1,3 +1,4 @@
 pub mod Stops
 pub mod Lines
 pub mod Tcp
+pub mod Udp

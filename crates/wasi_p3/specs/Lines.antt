@@ -6,13 +6,16 @@ use Rattle.wasi_world.specs.declared.outcome.TrapKind.TheVariants.{NoSuchHandle}
 use Rattle.wasi_world.specs.Asks.{Asks, Give, bind}
 use Rattle.wasi_tcp.specs.Shape.{Socket}
 use Rattle.wasi_records.specs.declared.socket.TcpRecord.{TcpRecord}
+use Rattle.wasi_records.specs.declared.udp.OpenUdp.{OpenUdp}
+use Rattle.wasi_records.specs.Records.{open_at}
 use Rattle.wasi_records.specs.Sockets.{inner_answered}
 use Rattle.wasi_records.specs.Stops.{Trap}
 use Rattle.wasi_host.specs.declared.machine.Machine.{Machine}
 use Rattle.wasi_host.specs.Block.{Does, Line, Look, Call, last, ◌>>=◌}
 pub use Rattle.wasi_host.specs.Lines.{in_store, same_stop}
 use Rattle.wasi_host.specs.Lines.{tcp_at, tcp_in}
-use Rattle.wasi_host.specs.Machine.{tcp3_at}
+use Rattle.wasi_host.specs.Machine.{tcp3_at, udp3_at}
+use Rattle.wasi_host.specs.UdpCalls.{with_open_udp}
 use Rattle.wasi_host.specs.Store.{Records, with_socket}
 use Rattle.wasi_p3.specs.Stops.{P3Stop, p3_stop, p3_told}
 
@@ -52,3 +55,21 @@ abbrev pub of_tcp : {A : Type 0} → ℕ → (TcpRecord → Asks (Result A Error
 of_tcp handle call = do
   place ← tcp_named handle
   last (in_store (on_tcp place call))
+
+-- == UDP sockets: the same
+abbrev pub on_udp : {A : Type 0} → ℕ → (OpenUdp → Asks (Result A ErrorCode × OpenUdp)) → Does P3Code Records A
+on_udp place call = do
+  o ← Look (λ store. open_at store.records place)
+  last (Call p3_stop (λ store. o) (λ store now. with_open_udp store place now) call)
+
+abbrev pub udp_in : Machine → Option ℕ → Option OpenUdp
+udp_in m None = None
+udp_in m (Some place) = open_at m.store.records place
+
+abbrev pub udp_of : Machine → ℕ → Option OpenUdp
+udp_of m handle = udp_in m (udp3_at m handle)
+
+abbrev pub of_udp : {A : Type 0} → ℕ → (OpenUdp → Asks (Result A ErrorCode × OpenUdp)) → Does P3Code Machine A
+of_udp handle call = do
+  place ← Look (λ m. udp3_at m handle)
+  last (in_store (on_udp place call))

@@ -7,10 +7,10 @@ use Rattle.wasi_addr.specs.declared.p3.ErrorCode.{ErrorCode as P3Code}
 use Rattle.wasi_addr.specs.Code.{p3_of_code}
 use Rattle.wasi_world.specs.declared.outcome.Refusal.{Refusal}
 use Rattle.wasi_world.specs.declared.outcome.Refusal.TheVariants as refusal
-use Rattle.wasi_world.specs.declared.outcome.TrapKind.TheVariants.{Full}
 use Rattle.wasi_streams.specs.declared.fault.HostError.{HostError}
 use Rattle.wasi_streams.specs.declared.fault.HostError.TheVariants as error
-use Rattle.wasi_records.specs.Stops.{Stop, StopOf, Code, Trap}
+use Rattle.wasi_records.specs.Stops.{StopOf, Code, Trap}
+pub use Rattle.wasi_host.specs.BaseStops.{ends_as, trap_of}
 
 -- that of a call of a socket
 abbrev pub P3Stop : Type 0
@@ -19,13 +19,6 @@ P3Stop = StopOf P3Code
 -- a code by its 0.3 name
 abbrev pub p3_stop : ErrorCode → P3Stop
 p3_stop c = Code (p3_of_code c)
-
--- a code and a trap are answers; only running out of memory isn't
-abbrev pub ends_as : {C T : Type 0} → Result T (HostError C) → Result (Result T (StopOf C)) AllocError
-ends_as (Ok value) = Ok (Ok value)
-ends_as (Err (error.Code c)) = Ok (Err (Code c))
-ends_as (Err (error.Trap k)) = Ok (Err (Trap k))
-ends_as (Err (error.Memory e)) = Err e
 
 -- what a socket told, by the 0.3 name of its code
 abbrev pub p3_told : {T : Type 0} → Result T ErrorCode → Result T P3Stop
@@ -42,11 +35,6 @@ p3_outcome (Err (refusal.Memory e)) = Err e
 abbrev pub truth_told : Result Bool P3Stop → Result ℕ P3Stop
 truth_told (Ok b) = Ok (from_bool b)
 truth_told (Err stop) = Err stop
-
--- the trap in place of a handle; the table gives no code
-abbrev pub trap_of : {C : Type 0} → Stop → StopOf C
-trap_of (Trap k) = Trap k
-trap_of (Code c) = Trap Full
 
 -- it is a code or a trap, of which this holds
 abbrev pub IsStopOf : {C : Type 0} → HostError C → (StopOf C → Type 0) → Type 0

@@ -2,7 +2,7 @@
 use Rattle.std.specs.Prelude.{ℕ, Bool, true, false, ◌==◌, List, [], ◌∷◌, ◌++◌, map, codes, Option, Some, None}
 use Rattle.world_text.specs.Fields.{line_with}
 use Rattle.wasi_steps.specs.declared.step.Step.{Step}
-use Rattle.wasi_steps.specs.Arguments.{Target, ANetwork, ASocket, ASocket3, ADatagramSocket, AnInput, AnOutput, AnIncoming, AnOutgoing, ALookup, AnError, Watchable, APollable, Anything, Kind, HandleOf, ALine, ACount, ACapacity, AFamily, ASocketAddress, AnOption, ASetting, AUdpOption, AUdpSetting, AHalf, AllBytes, ARemote, SomeDatagrams, SomePollables, AName}
+use Rattle.wasi_steps.specs.Arguments.{Target, ANetwork, ASocket, ASocket3, ADatagramSocket, ADatagramSocket3, AnInput, AnOutput, AnIncoming, AnOutgoing, ALookup, AnError, Watchable, APollable, Anything, Kind, HandleOf, ALine, ACount, ACapacity, AFamily, ASocketAddress, AnOption, ASetting, AUdpOption, AUdpSetting, AHalf, AllBytes, ARemote, SomeDatagrams, SomePollables, AName}
 use Rattle.wasi_steps.specs.Steps.{context_of, written_of}
 
 -- the letters for a handle, and for an argument
@@ -11,6 +11,7 @@ handle_letters ANetwork = codes "N"
 handle_letters ASocket = codes "S"
 handle_letters ASocket3 = codes "S"
 handle_letters ADatagramSocket = codes "S"
+handle_letters ADatagramSocket3 = codes "S"
 handle_letters AnInput = codes "IN"
 handle_letters AnOutput = codes "OUT"
 handle_letters AnIncoming = codes "IN"

@@ -292,4 +292,35 @@ pub enum GuestCall {
         socket: Handle,
         setting: TcpSetting,
     },
+    /// Makes a UDP socket of the 0.3 interface, of this family (`create`).
+    P3UdpCreate {
+        family: SocketAddressFamily,
+    },
+    /// Takes the 0.3 UDP socket's remote address away (`disconnect`).
+    P3UdpDisconnect {
+        socket: Handle,
+    },
+    /// The address that the 0.3 UDP socket is bound to (`get-local-address`).
+    P3UdpLocalAddress {
+        socket: Handle,
+    },
+    /// The address that the 0.3 UDP socket is connected to (`get-remote-address`).
+    P3UdpRemoteAddress {
+        socket: Handle,
+    },
+    /// The 0.3 UDP socket's family (`get-address-family`).
+    P3UdpAddressFamily {
+        socket: Handle,
+    },
+    /// The value of an option of the 0.3 UDP socket (its getter: `get-unicast-hop-limit`, and so
+    /// on).
+    P3UdpGet {
+        socket: Handle,
+        option: UdpOption,
+    },
+    /// Sets an option of the 0.3 UDP socket (its setter: `set-unicast-hop-limit`, and so on).
+    P3UdpSet {
+        socket: Handle,
+        setting: UdpSetting,
+    },
 }

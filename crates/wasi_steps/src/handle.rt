@@ -53,6 +53,10 @@ fn p3_handle_call(word: &str, handle: u32) -> Option<GuestCall>
         "p3-tcp-remote-address" => Some(P3TcpRemoteAddress { socket }),
         "p3-tcp-is-listening" => Some(P3TcpIsListening { socket }),
         "p3-tcp-address-family" => Some(P3TcpAddressFamily { socket }),
+        "p3-udp-disconnect" => Some(P3UdpDisconnect { socket }),
+        "p3-udp-local-address" => Some(P3UdpLocalAddress { socket }),
+        "p3-udp-remote-address" => Some(P3UdpRemoteAddress { socket }),
+        "p3-udp-address-family" => Some(P3UdpAddressFamily { socket }),
         _ => output_handle_call(word, handle),
     }
 }

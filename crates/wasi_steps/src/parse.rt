@@ -141,6 +141,14 @@ fn p3_arguments(fields: &mut Fields<'_>, word: &str, handle: u32) -> Option<Gues
             socket: handle,
             setting: setting(fields)?,
         }),
+        "p3-udp-get" => Some(GuestCall::P3UdpGet {
+            socket: handle,
+            option: udp_option(fields)?,
+        }),
+        "p3-udp-set" => Some(GuestCall::P3UdpSet {
+            socket: handle,
+            setting: udp_setting(fields)?,
+        }),
         _ => stream_arguments(fields, word, handle),
     }
 }
@@ -244,6 +252,9 @@ fn plain_arguments(fields: &mut Fields<'_>, word: &str) -> Option<GuestCall>
         "closed-in" => Some(GuestCall::ClosedIn),
         "closed-out" => Some(GuestCall::ClosedOut),
         "p3-tcp-create" => Some(GuestCall::P3TcpCreate {
+            family: fields.family()?,
+        }),
+        "p3-udp-create" => Some(GuestCall::P3UdpCreate {
             family: fields.family()?,
         }),
         _ => handle_arguments(fields, word),

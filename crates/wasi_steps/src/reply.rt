@@ -10,6 +10,7 @@ ghost use Rattle.wasi_steps.specs.Replies.{code_text, trap_text, field_text, fie
 ghost use Rattle.wasi_steps.specs.Replies.{text_of};
 ghost use Rattle.wasi_steps.specs.Reply.{word_of_p2, word_of_p3, is_trap, no_fields};
 
+use itoa::Buffer;
 use std::alloc::{AllocError, Global};
 use std::fmt;
 use std::fmt::Write;
@@ -255,7 +256,7 @@ fn push_field(text: &mut String, field: &Field) -> Result<(), AllocError>
     ensures { OnOk result (string_bytes text.new ≡ string_bytes text.old ++ field_text field.now) }
 {
     match field {
-        Field::Number(number) => write!(text, "{number}"),
+        Field::Number(number) => text.push_str(Buffer::new().format(*number)),
         Field::Bytes(bytes) => push_octets(text, bytes.as_slice()),
         Field::True => text.push_str("true"),
         Field::False => text.push_str("false"),

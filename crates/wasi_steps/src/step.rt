@@ -107,6 +107,13 @@ pub const STEP_FORMS: &str = "    0 network                               makes 
     0 p3-tcp-address-family S               its family: ok 4 or ok 6
     0 p3-tcp-get S OPTION                   the value of an option: ok V
     0 p3-tcp-set S OPTION V                 sets an option
+    0 p3-udp-create F                       makes a UDP socket of 0.3; F is 4 or 6
+    0 p3-udp-disconnect S                   takes its remote address away
+    0 p3-udp-local-address S                its address
+    0 p3-udp-remote-address S               the address that it is connected to
+    0 p3-udp-address-family S               its family: ok 4 or ok 6
+    0 p3-udp-get S OPTION                   the value of an option: ok V
+    0 p3-udp-set S OPTION V                 sets an option
     turn                                    polls each write, datagram, receive and lookup in the background, once
     poll N                                  polls the call of line N, which answered pending N
     cancel N                                gives that call up

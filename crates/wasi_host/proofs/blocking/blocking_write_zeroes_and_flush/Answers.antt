@@ -9,4 +9,5 @@ pub returns-clause-asked : goal.returns-clause-asked
 returns-clause-asked g c =
     let small : c.args.len ≤ 4096 = omega (arith, c.if-len-gt-MOST_BYTES.false) in
     let short : nat_lt 4096 c.args.len ≡ false = grind (arith, small) in
-    rw (c.in_ok-writable.ensures.ok, short, ← c.in_ok-bytes.ensures) c.write_rounds.ensures.asked
+    rw (c.in_ok-to.ensures.some, ← c.in_ok-to.ensures.named.0, short, ← c.in_ok-bytes.ensures)
+    c.write_rounds.ensures.asked

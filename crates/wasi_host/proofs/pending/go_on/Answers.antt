@@ -1,6 +1,8 @@
 use Rattle.std.proofs.Common.{refl}
 use Rattle.wasi_world.proofs.Walks.{asks_end}
 use Rattle.wasi_records.proofs.Hosts.{host_exit, host_passed}
+use Rattle.wasi_host.specs.BaseStops.{ends_as}
+use Rattle.wasi_host.proofs.Bases.{created_goes}
 use Rattle.wasi_host.proofs.pending.go_on.Goals as goal
 
 pub returns-in_err-answer-in-Bind-clause-asked : goal.returns-in_err-answer-in-Bind-clause-asked
@@ -21,11 +23,8 @@ returns-in_err-answer-in-DropOutput-clause-asked g c = rw c.in-DropOutput.is (ho
 pub returns-in_ok-answer-in-DropOutput-clause-asked : goal.returns-in_ok-answer-in-DropOutput-clause-asked
 returns-in_ok-answer-in-DropOutput-clause-asked g c = rw c.in-DropOutput.is (asks_end _ c.in_ok-answer-in-DropOutput.ensures.asked.ok (rw c.of_nothing-in-DropOutput.ensures refl))
 
-pub returns-in_err-answer-in-UdpCreate-clause-asked : goal.returns-in_err-answer-in-UdpCreate-clause-asked
-returns-in_err-answer-in-UdpCreate-clause-asked g c = rw c.in-UdpCreate.is (host_passed _ _ c.from_residual-in_err-answer-in-UdpCreate.result c.from_residual-in_err-answer-in-UdpCreate.ensures.1 c.in_err-answer-in-UdpCreate.ensures.asked (λ stop. refl))
-
-pub returns-in_ok-answer-in-UdpCreate-clause-asked : goal.returns-in_ok-answer-in-UdpCreate-clause-asked
-returns-in_ok-answer-in-UdpCreate-clause-asked g c = rw c.in-UdpCreate.is (asks_end _ c.in_ok-answer-in-UdpCreate.ensures.asked.ok (rw c.of_handle.ensures refl))
+pub returns-in-UdpCreate-clause-asked : goal.returns-in-UdpCreate-clause-asked
+returns-in-UdpCreate-clause-asked g c = rw (c.in-UdpCreate.is, c.of_create.ensures) (created_goes c.in-UdpCreate.interface (ends_as c.create_on-created.result) c.create_on-created.ensures.asked)
 
 pub returns-in_err-answer-in-UdpBind-clause-asked : goal.returns-in_err-answer-in-UdpBind-clause-asked
 returns-in_err-answer-in-UdpBind-clause-asked g c = rw c.in-UdpBind.is (host_passed _ _ c.from_residual-in_err-answer-in-UdpBind.result c.from_residual-in_err-answer-in-UdpBind.ensures.1 c.in_err-answer-in-UdpBind.ensures.asked (λ stop. refl))

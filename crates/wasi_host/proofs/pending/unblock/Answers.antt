@@ -14,10 +14,14 @@ pub returns-in-Skip-clause-asked : goal.returns-in-Skip-clause-asked
 returns-in-Skip-clause-asked g c = rw c.in-Skip.is (call_outcome_of Count (state_of c.blocking_skip.new.view) c.blocking_skip.result c.of_count.ensures c.blocking_skip.ensures.asked)
 
 pub returns-in-Write-clause-asked : goal.returns-in-Write-clause-asked
-returns-in-Write-clause-asked g c = rw c.in-Write.is (call_outcome_of nothing_given (state_of c.write_rounds.new.view) c.write_rounds.result c.of_nothing.ensures c.write_rounds.ensures.asked)
+returns-in-Write-clause-asked g c =
+    rw c.in-Write.is (call_outcome_of nothing_given (state_of c.write_rest.new.view) c.write_rest.result
+    c.of_nothing.ensures c.write_rest.ensures.asked)
 
 pub returns-in-Finish-clause-asked : goal.returns-in-Finish-clause-asked
-returns-in-Finish-clause-asked g c = rw c.in-Finish.is (call_outcome_of nothing_given (state_of c.last_check.new.view) c.last_check.result c.of_nothing-in-Finish.ensures c.last_check.ensures.asked)
+returns-in-Finish-clause-asked g c =
+    rw c.in-Finish.is (call_outcome_of nothing_given (state_of c.finish_rest.new.view) c.finish_rest.result
+    c.of_nothing-in-Finish.ensures c.finish_rest.ensures.asked)
 
 pub returns-in-Flush-clause-asked : goal.returns-in-Flush-clause-asked
 returns-in-Flush-clause-asked g c = rw c.in-Flush.is (call_outcome_of nothing_given (state_of c.blocking_flush.new.view) c.blocking_flush.result c.of_nothing-in-Flush.ensures c.blocking_flush.ensures.asked)

@@ -1,10 +1,8 @@
 use Rattle.std.proofs.Common.{refl}
-use Rattle.wasi_world.proofs.Walks.{asks_end}
-use Rattle.wasi_host.proofs.Blocks.{call_passed}
+use Rattle.wasi_host.proofs.StreamCalls.{none_named}
 use Rattle.wasi_host.proofs.streams.skip.Goals as goal
 
-pub returns-in_err-bytes-clause-asked : goal.returns-in_err-bytes-clause-asked
-returns-in_err-bytes-clause-asked g c = call_passed _ _ c.from_residual.result c.from_residual.ensures.1 c.in_err-bytes.ensures.asked (λ stop. refl)
-
-pub returns-clause-asked : goal.returns-clause-asked
-returns-clause-asked g c = asks_end _ c.in_ok-bytes.ensures.asked.ok (rw c.len.ensures refl)
+pub returns-in_err-input-clause-asked : goal.returns-in_err-input-clause-asked
+returns-in_err-input-clause-asked g c =
+    rw (c.in_err-input.ensures.none.1, c.in_err-input.ensures.none.0) (none_named _ _ _ c.from_residual.result
+    c.from_residual.ensures.1 c.in_err-input.ensures.err refl)

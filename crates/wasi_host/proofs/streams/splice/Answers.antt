@@ -4,7 +4,21 @@ use Rattle.wasi_host.proofs.Blocks.{call_passed}
 use Rattle.wasi_host.proofs.streams.splice.Goals as goal
 
 pub returns-in_err-permit-clause-asked : goal.returns-in_err-permit-clause-asked
-returns-in_err-permit-clause-asked g c = rw (c.in_ok-writable.ensures.ok, c.in_ok-readable.ensures.ok) (call_passed _ _ c.from_residual-in_err-permit.result c.from_residual-in_err-permit.ensures.1 c.in_err-permit.ensures.asked (λ stop. refl))
+returns-in_err-permit-clause-asked g c =
+    rw (
+      c.in_ok-to.ensures.some,
+      c.in_ok-from.ensures.some,
+      ← c.in_ok-to.ensures.named.0,
+      ← c.in_ok-from.ensures.named.0,
+    ) (call_passed _ _ c.from_residual-in_err-permit.result
+    c.from_residual-in_err-permit.ensures.1 c.in_err-permit.ensures.asked (λ stop. refl))
 
 pub returns-clause-asked : goal.returns-clause-asked
-returns-clause-asked g c = rw (c.in_ok-writable.ensures.ok, c.in_ok-readable.ensures.ok) (asks_then _ c.in_ok-permit.ensures.asked.ok (rw (c.min.ensures, c.in_ok-permit.ensures.kept.ids) at c.splice_some.ensures.asked))
+returns-clause-asked g c =
+    rw (
+      c.in_ok-to.ensures.some,
+      c.in_ok-from.ensures.some,
+      ← c.in_ok-to.ensures.named.0,
+      ← c.in_ok-from.ensures.named.0,
+    ) (asks_then _ c.in_ok-permit.ensures.asked.ok (rw
+    (c.min.ensures, c.in_ok-permit.ensures.kept.ids) at c.splice_some.ensures.asked))

@@ -1,10 +1,10 @@
 use Rattle.std.proofs.Common.{Err, refl, ap, sym, ◌∙◌}
 use Rattle.wasi_world.specs.Asks.{Give}
 use Rattle.wasi_world.proofs.Walks.{asks_end}
-use Rattle.wasi_records.specs.Stops.{code_stop}
+use Rattle.wasi_records.specs.Stops.{Code}
 use Rattle.wasi_host.specs.Store.{Records}
 use Rattle.wasi_host.proofs.GivenBack.{udp_there, left_put}
-use Rattle.wasi_records.proofs.Hosts.{host_refused}
+use Rattle.wasi_host.proofs.Bases.{base_refused}
 use Rattle.wasi_records.proofs.UdpLookups.{udp_at}
 use Rattle.wasi_host.proofs.KnownSides.{knows_fewer}
 use Rattle.wasi_host.proofs.store.Store.poll_create.Goals as goal
@@ -22,7 +22,7 @@ returns-in-Err-clause-asked g c =
     let store : Records = record { records = c.self.inside.records.items; jobs = c.self.inside.jobs.items; standing = c.self.inside.standing } in
     let found = udp_at c.self.inside.records.items c.args.place c.in-Some.record c.in-Some.ensures.item in
     let left = c.leave_udp.ensures.state c.poll_create.new.self (udp_there store.records c.args.place c.in-Some.record.now c.poll_create.new.self found) ∙ left_put store c.args.place c.poll_create.new.self in
-    rw (← c.self.view_is, found) (host_refused _ c.in-Err.refusal (Err c.from.result) c.from.ensures c.in-Err.ensures.asked (λ code. ap (λ (now : Records). Give (Err (code_stop code), now)) (sym left)))
+    rw (← c.self.view_is, found) (base_refused _ c.in-Err.refusal c.unnamed.result c.unnamed.ensures.told c.in-Err.ensures.asked (λ code. ap (λ (now : Records). Give (Err (Code code), now)) (sym left)))
 
 pub returns-in-Err-clause-sides : goal.returns-in-Err-clause-sides
 returns-in-Err-clause-sides g c = λ k.

@@ -1,0 +1,31 @@
+use Rattle.std.proofs.Common.{refl, sym}
+use Rattle.wasi_world.specs.Asks.{outcome}
+use Rattle.wasi_world.proofs.Walks.{asks_at}
+use Rattle.wasi_records.specs.Names.{own_of}
+use Rattle.wasi_records.specs.Udp.{udp_local_asks}
+use Rattle.wasi_records.proofs.SideCounts.{Any}
+use Rattle.wasi_records.proofs.UdpCalms.{calm_udp_local}
+use Rattle.wasi_records.proofs.UdpLookups.{held_in-open}
+use Rattle.wasi_host.specs.Views.{state_of}
+use Rattle.wasi_host.proofs.KnownSides.{knows_asked}
+use Rattle.wasi_p3.proofs.Called.{udp_called, udp_none}
+use Rattle.wasi_p3.proofs.udp.get_local_address.Goals as goal
+
+pub returns-in_default-clause-asked : goal.returns-in_default-clause-asked
+returns-in_default-clause-asked g c = udp_none (state_of c.args.view.now) c.args.socket
+    (udp_local_asks (own_of c.args.ids.now.line)) c.in_ok-place.ensures (sym c.in_default.ensures.item)
+
+pub returns-clause-asked : goal.returns-clause-asked
+returns-clause-asked g c = udp_called (state_of c.args.view.now) c.args.socket c.local_address.new.self
+    (udp_local_asks (own_of c.args.ids.now.line)) c.local_address.result c.answered.result c.in_ok-place.ensures
+    (sym c.in-Some.ensures.item) c.answered.ensures.told
+    (asks_at (λ op. udp_local_asks op c.in-Some.socket.now) (sym c.own.ensures) c.local_address.ensures.asked)
+
+pub returns-clause-kept : goal.returns-clause-kept
+returns-clause-kept g c = record {
+  sides = knows_asked Any (outcome c.local_address.result) _ _ (calm_udp_local _ c.in-Some.socket.now)
+      c.local_address.ensures.asked (held_in-open c.args.view.now.store.now.records _ c.in-Some.socket.now
+      c.local_address.new.self (sym c.in-Some.ensures.item));
+  view = record { context = refl; same_context = refl; same_table = refl; same_store = refl };
+  ids = refl;
+}

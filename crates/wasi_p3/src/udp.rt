@@ -1,0 +1,276 @@
+//! The calls of UDP sockets (`udp-socket` of `wasi:sockets/types@0.3`). Each tests its handle
+//! first: one that isn't live, or is of another kind, is the trap `NoSuchHandle`.
+
+ghost use Rattle.std.specs.Prelude.{◌≡◌, ◌≤◌, IfOk, Ok, false};
+ghost use Rattle.wasi_world.specs.Asks.{AsksFor};
+ghost use Rattle.socket_common.specs.Options.{largest_value, option_of, number_of};
+ghost use Rattle.wasi_host.specs.Machine.{own_of};
+ghost use Rattle.wasi_host.specs.Views.{state_of, HostKept};
+ghost use Rattle.wasi_p3.specs.Stops.{ends_as};
+ghost use Rattle.wasi_p3.specs.Udp.{create, local_address, remote_address, address_family};
+ghost use Rattle.wasi_p3.specs.Udp.{disconnect, get_option, set_option};
+
+use crate::error::{SocketError, answered, named, told};
+use socket_common::Setting;
+use wasi_addr::{IpSocketAddress, SocketAddressFamily};
+use wasi_host::{Interface, OpenUdp, WasiSocketsCtxView, handles};
+use wasi_world::{Answer, Handle, Ids, Opt, TrapKind, World};
+
+/// Creates a UDP socket of this family (`udp-socket.create`). A context that may not use UDP:
+/// `AccessDenied`, and nothing is asked. The call is pending until the network socket can send, and
+/// [`resume`](wasi_host::resume) continues it. Takes memory for its record and its handle.
+pub fn create<W: World>(
+    view: &mut WasiSocketsCtxView<'_>,
+    world: &mut W,
+    ids: &mut Ids,
+    family: SocketAddressFamily,
+) -> Result<Answer<Handle>, SocketError>
+    requires { (W.seen world.old).ended ≡ false }
+    ensures asked { AsksFor (create ids.old view.old.ctx.now family (state_of view.old))
+        (W.seen world.old) (W.seen world.new) (λ answer. (answer, state_of view.new))
+        (ends_as result) }
+    ensures kept { HostKept view.old view.new ids.old ids.new (W.seen world.old)
+        (W.seen world.new) }
+{
+    let ids = *ids;
+    named(
+        view.store
+            .create_udp(view.table, world, ids, view.ctx, family, Interface::P3),
+    )
+}
+
+/// The address that a socket is bound to (`udp-socket.get-local-address`). Not bound:
+/// `InvalidState`. A code that the network reports is returned.
+pub fn get_local_address<W: World>(
+    view: &mut WasiSocketsCtxView<'_>,
+    world: &mut W,
+    ids: &mut Ids,
+    socket: Handle,
+) -> Result<IpSocketAddress, SocketError>
+    requires { (W.seen world.old).ended ≡ false }
+    ensures asked { AsksFor (local_address (own_of ids.old.line) socket (state_of view.old))
+        (W.seen world.old) (W.seen world.new) (λ told. (told, state_of view.new)) (ends_as result) }
+    ensures kept { HostKept view.old view.new ids.old ids.new (W.seen world.old)
+        (W.seen world.new) }
+{
+    let place = handles::udp3_socket(view.table, socket)?;
+    let Some(socket) = view.store.find_mut::<OpenUdp>(place) else {
+        return Err(SocketError::Trap(TrapKind::NoSuchHandle));
+    };
+    answered(socket.local_address(world, ids.own()))
+}
+
+/// The address that a socket is connected to (`udp-socket.get-remote-address`). None:
+/// `InvalidState`. Asks nothing.
+pub fn get_remote_address(
+    view: &WasiSocketsCtxView<'_>,
+    socket: Handle,
+) -> Result<IpSocketAddress, SocketError>
+    ensures { ends_as result ≡ Ok (remote_address (state_of view.now) socket) }
+{
+    let place = handles::udp3_socket(view.table, socket)?;
+    match view.store.find::<OpenUdp>(place) {
+        Some(socket) => told(socket.inner.remote_address()),
+        None => Err(SocketError::Trap(TrapKind::NoSuchHandle)),
+    }
+}
+
+/// The family of a socket (`udp-socket.get-address-family`). Asks nothing.
+pub fn get_address_family(
+    view: &WasiSocketsCtxView<'_>,
+    socket: Handle,
+) -> Result<SocketAddressFamily, SocketError>
+    ensures { ends_as result ≡ Ok (address_family (state_of view.now) socket) }
+{
+    let place = handles::udp3_socket(view.table, socket)?;
+    match view.store.find::<OpenUdp>(place) {
+        Some(socket) => Ok(socket.inner.address_family()),
+        None => Err(SocketError::Trap(TrapKind::NoSuchHandle)),
+    }
+}
+
+/// Takes a socket's remote address away (`udp-socket.disconnect`), by which it receives from
+/// anywhere again. None: `InvalidState`, and nothing is asked. The network's code is returned once
+/// it was asked for the remote address again.
+pub fn disconnect<W: World>(
+    view: &mut WasiSocketsCtxView<'_>,
+    world: &mut W,
+    ids: &mut Ids,
+    socket: Handle,
+) -> Result<(), SocketError>
+    requires { (W.seen world.old).ended ≡ false }
+    ensures asked { AsksFor (disconnect (own_of ids.old.line) socket (state_of view.old))
+        (W.seen world.old) (W.seen world.new) (λ done. (done, state_of view.new)) (ends_as result) }
+    ensures kept { HostKept view.old view.new ids.old ids.new (W.seen world.old)
+        (W.seen world.new) }
+{
+    let place = handles::udp3_socket(view.table, socket)?;
+    let Some(socket) = view.store.find_mut::<OpenUdp>(place) else {
+        return Err(SocketError::Trap(TrapKind::NoSuchHandle));
+    };
+    answered(socket.inner.disconnect(world, ids.own()))
+}
+
+/// Reads an option: the hop limit, or a size in bytes. The getters below are this call with their
+/// option.
+///
+/// - A code that the network reports is returned.
+/// - A reported size is halved.
+/// - A reported value above the option's `largest_value` is `NotSupported`.
+pub fn get_option<W: World>(
+    view: &mut WasiSocketsCtxView<'_>,
+    world: &mut W,
+    ids: &mut Ids,
+    socket: Handle,
+    option: Opt,
+) -> Result<u64, SocketError>
+    requires { (W.seen world.old).ended ≡ false }
+    ensures asked { AsksFor (get_option (own_of ids.old.line) socket option (state_of view.old))
+        (W.seen world.old) (W.seen world.new) (λ told. (told, state_of view.new)) (ends_as result) }
+    ensures within { IfOk result (λ value. value ≤ largest_value option) }
+    ensures kept { HostKept view.old view.new ids.old ids.new (W.seen world.old)
+        (W.seen world.new) }
+{
+    let place = handles::udp3_socket(view.table, socket)?;
+    let Some(socket) = view.store.find_mut::<OpenUdp>(place) else {
+        return Err(SocketError::Trap(TrapKind::NoSuchHandle));
+    };
+    answered(socket.inner.get_option(world, ids.own(), option))
+}
+
+/// Sets an option. The setters below are this call with their setting. The socket stays as it is.
+///
+/// - 0 is `InvalidArgument`, and nothing is asked.
+/// - Sizes are brought into their range first.
+/// - A code that the network reports is returned.
+fn set_option<W: World>(
+    view: &mut WasiSocketsCtxView<'_>,
+    world: &mut W,
+    ids: &mut Ids,
+    socket: Handle,
+    setting: Setting,
+) -> Result<(), SocketError>
+    requires { (W.seen world.old).ended ≡ false }
+    ensures asked { AsksFor (set_option (own_of ids.old.line) socket (option_of setting)
+        (number_of setting) (state_of view.old))
+        (W.seen world.old) (W.seen world.new) (λ done. (done, state_of view.new)) (ends_as result) }
+    ensures kept { HostKept view.old view.new ids.old ids.new (W.seen world.old)
+        (W.seen world.new) }
+{
+    let place = handles::udp3_socket(view.table, socket)?;
+    let Some(socket) = view.store.find_mut::<OpenUdp>(place) else {
+        return Err(SocketError::Trap(TrapKind::NoSuchHandle));
+    };
+    answered(socket.inner.set_option(world, ids.own(), setting))
+}
+
+/// How many hops a datagram lives (`get-unicast-hop-limit`). A number above 255 that is reported:
+/// `NotSupported`.
+pub fn get_unicast_hop_limit<W: World>(
+    view: &mut WasiSocketsCtxView<'_>,
+    world: &mut W,
+    ids: &mut Ids,
+    socket: Handle,
+) -> Result<u8, SocketError>
+    requires { (W.seen world.old).ended ≡ false }
+    ensures asked { AsksFor (get_option (own_of ids.old.line) socket Opt.HopLimit
+        (state_of view.old))
+        (W.seen world.old) (W.seen world.new) (λ told. (told, state_of view.new)) (ends_as result) }
+    ensures kept { HostKept view.old view.new ids.old ids.new (W.seen world.old)
+        (W.seen world.new) }
+{
+    let value = get_option(view, world, ids, socket, Opt::HopLimit)?;
+    Ok(value as u8)
+}
+
+/// Sets how many hops a datagram lives (`set-unicast-hop-limit`). 0: `InvalidArgument`.
+pub fn set_unicast_hop_limit<W: World>(
+    view: &mut WasiSocketsCtxView<'_>,
+    world: &mut W,
+    ids: &mut Ids,
+    socket: Handle,
+    value: u8,
+) -> Result<(), SocketError>
+    requires { (W.seen world.old).ended ≡ false }
+    ensures asked { AsksFor (set_option (own_of ids.old.line) socket Opt.HopLimit value
+        (state_of view.old))
+        (W.seen world.old) (W.seen world.new) (λ done. (done, state_of view.new)) (ends_as result) }
+    ensures kept { HostKept view.old view.new ids.old ids.new (W.seen world.old)
+        (W.seen world.new) }
+{
+    set_option(view, world, ids, socket, Setting::HopLimit(value))
+}
+
+/// The size of the buffer for what comes in, in bytes (`get-receive-buffer-size`): half of what is
+/// reported.
+pub fn get_receive_buffer_size<W: World>(
+    view: &mut WasiSocketsCtxView<'_>,
+    world: &mut W,
+    ids: &mut Ids,
+    socket: Handle,
+) -> Result<u64, SocketError>
+    requires { (W.seen world.old).ended ≡ false }
+    ensures asked { AsksFor (get_option (own_of ids.old.line) socket Opt.ReceiveBufferSize
+        (state_of view.old))
+        (W.seen world.old) (W.seen world.new) (λ told. (told, state_of view.new)) (ends_as result) }
+    ensures kept { HostKept view.old view.new ids.old ids.new (W.seen world.old)
+        (W.seen world.new) }
+{
+    get_option(view, world, ids, socket, Opt::ReceiveBufferSize)
+}
+
+/// Sets the size of the buffer for what comes in, in bytes (`set-receive-buffer-size`): brought
+/// into 1 to 2,147,483,647. 0: `InvalidArgument`.
+pub fn set_receive_buffer_size<W: World>(
+    view: &mut WasiSocketsCtxView<'_>,
+    world: &mut W,
+    ids: &mut Ids,
+    socket: Handle,
+    value: u64,
+) -> Result<(), SocketError>
+    requires { (W.seen world.old).ended ≡ false }
+    ensures asked { AsksFor (set_option (own_of ids.old.line) socket Opt.ReceiveBufferSize value
+        (state_of view.old))
+        (W.seen world.old) (W.seen world.new) (λ done. (done, state_of view.new)) (ends_as result) }
+    ensures kept { HostKept view.old view.new ids.old ids.new (W.seen world.old)
+        (W.seen world.new) }
+{
+    set_option(view, world, ids, socket, Setting::ReceiveBufferSize(value))
+}
+
+/// The size of the buffer for what goes out, in bytes (`get-send-buffer-size`): half of what is
+/// reported.
+pub fn get_send_buffer_size<W: World>(
+    view: &mut WasiSocketsCtxView<'_>,
+    world: &mut W,
+    ids: &mut Ids,
+    socket: Handle,
+) -> Result<u64, SocketError>
+    requires { (W.seen world.old).ended ≡ false }
+    ensures asked { AsksFor (get_option (own_of ids.old.line) socket Opt.SendBufferSize
+        (state_of view.old))
+        (W.seen world.old) (W.seen world.new) (λ told. (told, state_of view.new)) (ends_as result) }
+    ensures kept { HostKept view.old view.new ids.old ids.new (W.seen world.old)
+        (W.seen world.new) }
+{
+    get_option(view, world, ids, socket, Opt::SendBufferSize)
+}
+
+/// Sets the size of the buffer for what goes out, in bytes (`set-send-buffer-size`): brought into 1
+/// to 2,147,483,647. 0: `InvalidArgument`.
+pub fn set_send_buffer_size<W: World>(
+    view: &mut WasiSocketsCtxView<'_>,
+    world: &mut W,
+    ids: &mut Ids,
+    socket: Handle,
+    value: u64,
+) -> Result<(), SocketError>
+    requires { (W.seen world.old).ended ≡ false }
+    ensures asked { AsksFor (set_option (own_of ids.old.line) socket Opt.SendBufferSize value
+        (state_of view.old))
+        (W.seen world.old) (W.seen world.new) (λ done. (done, state_of view.new)) (ends_as result) }
+    ensures kept { HostKept view.old view.new ids.old ids.new (W.seen world.old)
+        (W.seen world.new) }
+{
+    set_option(view, world, ids, socket, Setting::SendBufferSize(value))
+}
