@@ -9,7 +9,7 @@ use Rattle.wasi_records.specs.Datagrams.{sends as still_sends}
 use Rattle.wasi_host.specs.DatagramCalls.{drop_incoming_at, drop_outgoing_at, drop_outgoing_by, without_receives}
 use Rattle.wasi_records.specs.declared.udp.OpenUdp.{OpenUdp}
 use Rattle.wasi_records.specs.Udp.{close_udp_asks}
-use Rattle.wasi_host.specs.UdpCalls.{release_udp_at, udp_closed, with_open_udp, with_udp}
+use Rattle.wasi_host.specs.UdpCalls.{release_udp_at, udp_closed, with_open_udp}
 use Rattle.wasi_host.specs.declared.kind.Kind.TheVariants.{Udp2, Incoming, Outgoing}
 use Rattle.wasi_records.specs.declared.udp.UdpRecord.{UdpRecord}
 use Rattle.wasi_records.specs.declared.udp.UdpRecord.TheVariants as udp
@@ -21,7 +21,7 @@ use Rattle.wasi_causes.proofs.streams.Halves.{OutputRow, outputs}
 use Rattle.wasi_causes.proofs.tables.Meets.{Rows, Meets, ends, asks, chain, onto, told_so, widen}
 use Rattle.wasi_causes.proofs.tables.Routes.{Replied, Says, put_back, Names, its, on_record, apart, none_has}
 use Rattle.wasi_causes.specs.GivenUp.{receive_given_up, send_given_up, streams_given_up, side_closed, arrival_given_up, accept_given_up, listen_given_up, listening_given_up, socket_given_up, ended_side, shut_at_once, last_write, shut_writer, shutdown_entries, shut_down, HasLiveChildren, without, LooksOnce, NoLook, OneLook, IsDropped, GoesAtOnce, IsGone}
-use Rattle.wasi_causes.specs.Outcomes.{Outcome, AsksOnce, AreLike, Gone, SocketGone}
+use Rattle.wasi_causes.specs.Outcomes.{Outcome, AsksOnce, AreLike, Gone, SocketGone, UdpGone}
 use Rattle.wasi_host.specs.Kinds.{none_in, outgoing_of}
 use Rattle.wasi_records.specs.Shutdowns.{shut_receive, shut_send, with_streams}
 use Rattle.wasi_host.specs.TcpCalls.{shut_put}
@@ -189,6 +189,7 @@ module _ (contexts : List WasiSocketsCtx) (m : Machine) (line c handle : ℕ) wh
   asks_none (Some (Tcp2 place)) = tt
   asks_none (Some (kinds.Tcp3 place)) = tt
   asks_none (Some (Udp2 place)) = tt
+  asks_none (Some (kinds.Udp3 place)) = tt
   asks_none (Some (Output place)) = NoLook
   asks_none _ = refl
 
@@ -209,7 +210,7 @@ module _ (contexts : List WasiSocketsCtx) (m : Machine) (line c handle : ℕ) wh
       by_record (Some r) at = onto _ (widen (left r at) (releases own r))
 
     -- == of a UDP socket
-    module _ (place : ℕ) (is : IsKind (Udp2 place)) where
+    module _ (place : ℕ) (kind : Kind) (is : IsKind kind) (free : (es : List Entry) → AsksOnce line (Some kind) es) (its_gone : (es : List Entry) (after : Machine) → UdpGone m line handle place es after → Gone m line handle (Some kind) es after) where
       -- what it closed is given back
       abbrev UdpShut : UdpRecord → UdpRecord → Type 0
       UdpShut (udp.Open o) now = now ≡ udp.Closed o.inner.side
@@ -226,7 +227,7 @@ module _ (contexts : List WasiSocketsCtx) (m : Machine) (line c handle : ℕ) wh
 
       udp_ends : (u : UdpRecord) → udp2_at m.store.records place ≡ Some u → (es : List Entry) (done : Unit {0} × UdpRecord) → (es ≡ udp_given_up own u) × UdpShut u done.1 → DropRow es (answered (with_store (without m handle) (at_once (udp_closed m.store place done))))
       udp_ends u at es done k =
-          ((apart (λ e. cc) no_children, rw is tt), (tt, (refl, rw is (λ q there. let its : u ≡ q = cc in (rw (sym its) k.0, udp_gone u at done.1 k.1 ∙ ap (udp_left (without m handle) place) its)))))
+          ((apart (λ e. cc) no_children, rw is (free es)), (tt, (refl, rw is (its_gone es _ (λ q there. let its : u ≡ q = cc in (rw (sym its) k.0, udp_gone u at done.1 k.1 ∙ ap (udp_left (without m handle) place) its))))))
 
       udp_closes : (u : UdpRecord) → Meets (λ es done. (es ≡ udp_given_up own u) × UdpShut u done.1) [] (close_udp_asks own u)
       unfolding bind
@@ -235,7 +236,7 @@ module _ (contexts : List WasiSocketsCtx) (m : Machine) (line c handle : ℕ) wh
       udp_closes (udp.Closed side) = ends (refl, refl)
 
       udp_by_record : (o : Option UdpRecord) → udp2_at m.store.records place ≡ o → Meets (λ es done. DropRow es (answered (with_store (without m handle) (at_once done)))) [] (release_udp_at m.store own place o)
-      udp_by_record None at = ends ((apart (λ e. cc) no_children, rw is tt), (tt, (refl, rw is (λ u there. absurd (cc)))))
+      udp_by_record None at = ends ((apart (λ e. cc) no_children, rw is (free [])), (tt, (refl, rw is (its_gone [] _ (λ u there. absurd (cc))))))
       udp_by_record (Some u) at = onto _ (widen (udp_ends u at) (udp_closes u))
 
     -- == of an output
@@ -295,7 +296,8 @@ module _ (contexts : List WasiSocketsCtx) (m : Machine) (line c handle : ℕ) wh
     by_kind : (kind : Kind) → IsKind kind → Meets DropRow [] (drop_kind (without m handle) (first_ids line) kind)
     by_kind (Tcp2 place) is = onto _ (by_record place (Tcp2 place) is (λ es. tt) (λ es after k. k) (tcp2_at m.store.records place) refl)
     by_kind (kinds.Tcp3 place) is = onto _ (by_record place (kinds.Tcp3 place) is (λ es. tt) (λ es after k. k) (tcp2_at m.store.records place) refl)
-    by_kind (Udp2 place) is = onto _ (udp_by_record place is (udp2_at m.store.records place) refl)
+    by_kind (Udp2 place) is = onto _ (udp_by_record place (Udp2 place) is (λ es. tt) (λ es after k. k) (udp2_at m.store.records place) refl)
+    by_kind (kinds.Udp3 place) is = onto _ (udp_by_record place (kinds.Udp3 place) is (λ es. tt) (λ es after k. k) (udp2_at m.store.records place) refl)
     by_kind (Output place) is = onto _ (widen (of_output place is) (outputs m.store (first_ids line) place (tcp2_at m.store.records place) refl))
     by_kind (Incoming place) is = ends (incoming_left place is (open_at m.store.records place) refl)
     by_kind (Outgoing place) is = ends (outgoing_by place is (open_at m.store.records place) refl)
@@ -370,6 +372,14 @@ module _ (contexts : List WasiSocketsCtx) (m : Machine) (line c handle : ℕ) wh
   pub udp_ok : (place : ℕ) → kind_at m.table handle ≡ Some (Udp2 place) → children_of m.table.live handle ≡ [] → (es : List Entry) (r : Reply) (after : Machine) → DropSays es r after → r ≡ reply.Ok no_fields
   udp_ok place is = done_ok (Udp2 place) is (no_wait (Udp2 place) tt)
 
+  pub udp3_ok : (place : ℕ) → kind_at m.table handle ≡ Some (kinds.Udp3 place) → children_of m.table.live handle ≡ [] → (es : List Entry) (r : Reply) (after : Machine) → DropSays es r after → r ≡ reply.Ok no_fields
+  udp3_ok place is = done_ok (kinds.Udp3 place) is (no_wait (kinds.Udp3 place) tt)
+
+  pub udp3_gone : (place : ℕ) (u : UdpRecord) → kind_at m.table handle ≡ Some (kinds.Udp3 place) → udp2_at m.store.records place ≡ Some u
+      → (es : List Entry) (fields : List Field) (after : Machine) → DropSays es (reply.Ok fields) after
+      → (es ≡ udp_given_up (own_of line) u) × (after ≡ udp_left (without m handle) place u)
+  udp3_gone place u is at es fields after row = rw is at row.1.1.1 u at
+
   pub record GivesUp (r : TcpRecord) (es : List Entry) (after : Machine) : Type 0 where
     pub asked : es ≡ socket_given_up (own_of line) r
     pub gone : OfRecord m handle (λ place r. IsGone m handle place after)
@@ -382,6 +392,7 @@ module _ (contexts : List WasiSocketsCtx) (m : Machine) (line c handle : ℕ) wh
   asks_nothing (Tcp2 place) plain es h = absurd plain
   asks_nothing (kinds.Tcp3 place) plain es h = absurd plain
   asks_nothing (Udp2 place) plain es h = absurd plain
+  asks_nothing (kinds.Udp3 place) plain es h = absurd plain
   asks_nothing (Output place) plain es h = absurd plain
   asks_nothing (Incoming place) plain es h = absurd plain
   asks_nothing (Outgoing place) plain es h = absurd plain
@@ -394,6 +405,7 @@ module _ (contexts : List WasiSocketsCtx) (m : Machine) (line c handle : ℕ) wh
   plain_left (Tcp2 place) plain es after h = absurd plain
   plain_left (kinds.Tcp3 place) plain es after h = absurd plain
   plain_left (Udp2 place) plain es after h = absurd plain
+  plain_left (kinds.Udp3 place) plain es after h = absurd plain
   plain_left (Output place) plain es after h = absurd plain
   plain_left (Incoming place) plain es after h = absurd plain
   plain_left (Outgoing place) plain es after h = absurd plain

@@ -12,6 +12,7 @@ pub mod Machine
 pub mod Resumes
 pub mod Slots
 pub mod GivenBack
+pub mod ReceivesGo
 pub mod Derived
 pub mod Steady
 pub mod UdpConnects

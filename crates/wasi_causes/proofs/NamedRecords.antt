@@ -7,7 +7,7 @@ use Rattle.std.proofs.Common.{slice_set, suc, zero}
 use Rattle.wasi_tcp.specs.declared.listener.Accepting.TheVariants as accepting
 use Rattle.wasi_udp.specs.Create.{Create, after_create as udp_after_create}
 use Rattle.wasi_records.specs.Records.{input_pipe_of, lookup_of, output_pipe_of, tcp2_at, tcp2_of, tcp2_put, udp2_at, udp2_of}
-use Rattle.wasi_host.specs.declared.kind.Kind.TheVariants.{Incoming, Input, Lookup, Network, Outgoing, Output, PlainInput, PlainOutput, Pollable, Tcp3, Udp2}
+use Rattle.wasi_host.specs.declared.kind.Kind.TheVariants.{Incoming, Input, Lookup, Network, Outgoing, Output, PlainInput, PlainOutput, Pollable, Tcp3, Udp2, Udp3}
 use Rattle.wasi_host.specs.declared.kind.PlainInput.TheVariants as plain_input
 use Rattle.wasi_host.specs.declared.kind.PlainOutput.TheVariants as plain_output
 use Rattle.wasi_records.specs.declared.name_lookup.LookupOp.{LookupOp}
@@ -193,7 +193,7 @@ module _ (contexts : List WasiSocketsCtx) (line : ℕ) (origin : Step) where
   moves_in _ _ (walk.Unstands h over) i = (tt, i.1)
   moves_in _ _ (walk.Stands h ids call r quiet at g k) i = (goes_in h.machine.store.records call r g k, i.1)
   moves_in _ _ (walk.StandsUdpBind h ids place o op quiet at g e) i = (udp_goes_in h.machine.store.records place (UdpRecord.Open o) g, i.1)
-  moves_in _ _ (walk.StandsUdpCreate h ids place create quiet g) i = (udp_goes_in h.machine.store.records place (UdpRecord.Creating create) g, i.1)
+  moves_in _ _ (walk.StandsUdpCreate h ids place face create quiet made g) i = (udp_goes_in h.machine.store.records place (UdpRecord.Creating create) g, i.1)
   moves_in _ _ (walk.StandsUdpConnect h ids place handle o op quiet at made g e) i = (udp_goes_in h.machine.store.records place (UdpRecord.Open o) g, i.1)
   moves_in _ _ (walk.StandsDropOutgoing h ids place o quiet at g e) i = (udp_goes_in h.machine.store.records place (UdpRecord.Open o) g, i.1)
   moves_in _ _ (walk.StandsBlocking h ids call handles made its) i = (λ place e. absurd (cc), i.1)
@@ -219,7 +219,7 @@ module _ (contexts : List WasiSocketsCtx) (line : ℕ) (origin : Step) where
   becomes_in h _ (UdpLearnt place o socket g e) i = put_udp_in h place _ i
   becomes_in h _ (UdpIsClosed place o q g) i = put_udp_in h place _ i
   becomes_in h _ (UdpGivenUp place create q g) i = put_udp_in h place _ i
-  becomes_in h _ (UdpBegun ctx family r c u m) i = begun_in h (udp_after_create (own_of line) ctx.name family r) i
+  becomes_in h _ (UdpBegun face ctx family r c u m) i = begun_in h (udp_after_create (own_of line) ctx.name family r) i
   becomes_in h _ (Resolved host records l same) i = same_in h records same i
   becomes_in h _ (Created face ctx family c u m) i =
       push_in h.machine.store.records _ h.machine.store.jobs h.machine.store.standing i
@@ -249,6 +249,7 @@ same_name Network = refl
 same_name (Tcp2 place) = refl
 same_name (Tcp3 place) = refl
 same_name (Udp2 place) = refl
+same_name (Udp3 place) = refl
 same_name (Input place) = refl
 same_name (Output place) = refl
 same_name (PlainInput (plain_input.Pipe place)) = refl

@@ -95,12 +95,12 @@ module _ (contexts : List WasiSocketsCtx) (line : ℕ) (origin : Step) (plain : 
   moves_none _ _ (Watches h own) i = (i.0, tt)
   moves_none _ _ (Numbers h) i = (i.0, tt)
   moves_none _ _ (Empties h handle kind e none) i = (i.0, tt)
-  moves_none _ _ (AwaitsCreate h place create g) i = (i.0, tt)
+  moves_none _ _ (AwaitsCreate h place face create is g) i = (i.0, tt)
   moves_none _ _ (Joins h c handle place r l new peer is of u g e a) i = (i.0, tt)
   moves_none _ _ (Unstands h over) i = (tt, i.1)
   moves_none _ _ (Stands h ids call r quiet at g k) i = (goes_none call r k, i.1)
   moves_none _ _ (StandsUdpBind h ids place o op quiet at g e) i = (tt, i.1)
-  moves_none _ _ (StandsUdpCreate h ids place create quiet g) i = (tt, i.1)
+  moves_none _ _ (StandsUdpCreate h ids place face create quiet made g) i = (tt, i.1)
   moves_none _ _ (StandsDropOutgoing h ids place o quiet at g e) i = (tt, i.1)
   moves_none _ _ (RemembersStreams h c handle place remote is of o g none) i = absurd (plain (inl (subst IsUdpStream (sym is) tt)))
   moves_none _ _ (RecallsStreams h ids place handle e own) i = absurd (subst NoStreamsStand e i.0)
@@ -124,7 +124,7 @@ module _ (contexts : List WasiSocketsCtx) (line : ℕ) (origin : Step) (plain : 
   no_room _ none = absurd none
 
   becomes_none : (h now : Here) → Becomes contexts line origin h now → NoStreams h → NoStreams now
-  becomes_none h _ (UdpBegun ctx family r c u m) i = begun_none h (udp_after_create (own_of line) ctx.name family r) i
+  becomes_none h _ (UdpBegun face ctx family r c u m) i = begun_none h (udp_after_create (own_of line) ctx.name family r) i
   becomes_none h _ (HasHandle kind parent made k) i = (i.0, handles_none h kind parent made k i.1)
   becomes_none h _ (NoRoom made none) i = (i.0, no_room made none)
   becomes_none h _ (Writing _ (InCall place n r s half permit bytes at g e w within used)) i = i
@@ -274,7 +274,7 @@ module _ (contexts : List WasiSocketsCtx) (m : Machine) (line : ℕ) (inputs : (
         by_call (StandingCall.Bind place) is = polled_other (no_blocking (StandingCall.Bind place) is (λ k. k)) stands well
         by_call (StandingCall.Listen place) is = polled_other (no_blocking (StandingCall.Listen place) is (λ k. k)) stands well
         by_call (StandingCall.DropOutput place) is = polled_other (no_blocking (StandingCall.DropOutput place) is (λ k. k)) stands well
-        by_call (StandingCall.UdpCreate place) is = polled_other (no_blocking (StandingCall.UdpCreate place) is (λ k. k)) stands well
+        by_call (StandingCall.UdpCreate place face) is = polled_other (no_blocking (StandingCall.UdpCreate place face) is (λ k. k)) stands well
         by_call (StandingCall.UdpBind place) is = polled_other (no_blocking (StandingCall.UdpBind place) is (λ k. k)) stands well
         by_call (StandingCall.UdpConnect place handle) is = polled_other (no_blocking (StandingCall.UdpConnect place handle) is (λ k. k)) stands well
         by_call (StandingCall.DropOutgoing place) is = polled_other (no_blocking (StandingCall.DropOutgoing place) is (λ k. k)) stands well

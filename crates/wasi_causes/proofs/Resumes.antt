@@ -6,10 +6,10 @@ use Rattle.wasi_causes.specs.Outcomes.{BlockedGoesOn}
 use Rattle.wasi_records.specs.Records.{tcp2_at, udp2_at, open_at, open_of}
 use Rattle.wasi_records.specs.declared.tcp_binding.InProgress.TheVariants.{Binding}
 use Rattle.wasi_walks.proofs.walks.States.{stands_so as stands_under}
-use Rattle.wasi_causes.proofs.Words.{Answer, BindFailed, BindFails, BindWaits, Bool, CallFails, CallWaits, Done, End, EndsPending, Entry, Err, ErrorCode, Full, Give, IfSome, InProgress, InvalidState, IsBinding, IsListening, IsOnNothing, IsRestOfBind}
+use Rattle.wasi_causes.proofs.Words.{◌⊎◌, Answer, BindFailed, BindFails, BindWaits, Bool, CallFails, CallWaits, CodeWord, Done, End, EndsPending, Entry, Err, ErrorCode, Full, Give, IfSome, InProgress, InvalidState, IsBinding, IsListening, IsOnNothing, IsRestOfBind}
 use Rattle.wasi_causes.proofs.Words.{IsSome, IsSomeAnd, Item, List, ListenEnds, ListenFailed, ListenWaits, Listening, Machine, NoSuchHandle, None, Ok, OpId, Operation, Option, Pending, PendingCallsFit, Ready, Records, Refused, Reply, Result, Some}
 use Rattle.wasi_causes.proofs.Words.{Standing, StandingCall, Stop, TcpRecord, Waits, WasiSocketsCtx, [], allowed_answer, ap, bind, bind_ended, call_answered, call_of, call_place, closed_listening, entry, eq-eqb, false, go_on, if◌then◌else◌, inl}
-use Rattle.wasi_causes.proofs.Words.{inr, listen_ended, listen_polled, marks_in, no_fields, nothing_stands, number_fields, own_of, poll_begun, poll_binding, poll_listening, rebind_at, refl, relisten_at, resume_asks, resume_call, resumed}
+use Rattle.wasi_causes.proofs.Words.{inr, listen_ended, listen_polled, marks_in, no_fields, nothing_stands, name_of, number_fields, own_of, poll_begun, poll_binding, poll_listening, rebind_at, refl, relisten_at, resume_asks, resume_call, resumed}
 use Rattle.wasi_causes.proofs.Words.{resumed_reply, side_of, standing_as, stands_as, subst, sym, true, unstood, with_handle, with_socket, with_store, word_of_code, ℕ, ⊤, ◌++◌, ◌+◌, ◌==◌, ◌∙◌, ◌∷◌, ◌≡◌, ◌≢◌}
 use Rattle.wasi_world.specs.declared.ids.Ids.{Ids}
 use Rattle.wasi_causes.proofs.operations.Polls.{EndsFor, bind_ends as bind_polls, listen_ends as listen_polls}
@@ -38,7 +38,13 @@ use Rattle.wasi_records.specs.declared.records.Record.{Record}
 use Rattle.wasi_causes.proofs.GivenBack.{put_gone}
 use Rattle.wasi_host.specs.UdpCalls.{udp_left, with_udp, with_open_udp, udp_call_answered, rebind_udp_at}
 use Rattle.wasi_host.specs.UdpCreates.{create_answered, poll_create_at, create_so, create_on}
-use Rattle.wasi_host.specs.declared.kind.Kind.TheVariants.{Udp2}
+use Rattle.wasi_host.specs.BaseStops.{BaseStop}
+use Rattle.wasi_host.specs.Kinds.{udp_kind}
+use Rattle.wasi_host.specs.declared.kind.Interface.{Interface}
+use Rattle.wasi_host.specs.declared.kind.Interface.TheVariants.{P2, P3}
+use Rattle.wasi_records.specs.Stops.{Code}
+use Rattle.wasi_walks.specs.Waiting.{word_for}
+use Rattle.wasi_causes.specs.MayAnswer.{IsCodeWord, IsP3Word}
 use Rattle.wasi_records.specs.declared.udp.OpenUdp.{OpenUdp}
 use Rattle.wasi_records.specs.declared.udp.UdpRecord.{UdpRecord}
 use Rattle.wasi_records.specs.declared.udp.UdpRecord.TheVariants as udp
@@ -56,19 +62,18 @@ use Rattle.wasi_steps.specs.declared.reply.Reply.TheVariants as reply
 use Rattle.wasi_steps.specs.declared.step.Step.TheVariants as step
 use Rattle.wasi_tcp.specs.Listen.{is_over as listen_over}
 use Rattle.wasi_world.specs.declared.call.Call.TheVariants as call
-use Rattle.wasi_world.specs.declared.call.HandleKind.TheVariants as name
 use Rattle.wasi_world.specs.declared.call.Told.TheVariants as told
 use Rattle.wasi_walks.proofs.Places.{put_finds, udp_sort}
 
 -- it gives nothing where it is done
 abbrev pub IsOfNoCreate : StandingCall → Type 0
-IsOfNoCreate (StandingCall.UdpCreate place) = ⊥
+IsOfNoCreate (StandingCall.UdpCreate place face) = ⊥
 IsOfNoCreate (StandingCall.UdpConnect place handle) = ⊥
 IsOfNoCreate (StandingCall.Blocking call) = ⊥
 IsOfNoCreate _ = ⊤
 
 pub gives_none : (m after : Machine) (call : StandingCall) → IsOfNoCreate call → after.table ≡ m.table → GivesBy m no_fields after call
-gives_none m after (StandingCall.UdpCreate place) plain same = absurd plain
+gives_none m after (StandingCall.UdpCreate place face) plain same = absurd plain
 gives_none m after (StandingCall.UdpConnect place handle) plain same = absurd plain
 gives_none m after (StandingCall.Blocking call) plain same = absurd plain
 gives_none m after (StandingCall.DropOutgoing place) plain same = (refl, same)
@@ -76,6 +81,18 @@ gives_none m after (Bind place) plain same = (refl, same)
 gives_none m after (Listen place) plain same = (refl, same)
 gives_none m after (DropOutput place) plain same = (refl, same)
 gives_none m after (StandingCall.UdpBind place) plain same = (refl, same)
+
+-- the words of its codes: those of 0.2, but for a create of 0.3
+may_word : (call : StandingCall) (code : ErrorCode) → IsCodeWord (word_for call code) ⊎ IsP3Word (word_for call code)
+may_word (StandingCall.UdpCreate place P3) code = inr (record { code = code; is = refl })
+may_word (StandingCall.UdpCreate place P2) code = inl (code_word code)
+may_word _ code = inl (code_word code)
+
+plain_word : (call : StandingCall) → IsOfNoCreate call → (code : ErrorCode) → word_for call code ≡ word_of_code code
+plain_word (StandingCall.UdpCreate place face) plain code = absurd plain
+plain_word (StandingCall.UdpConnect place handle) plain code = absurd plain
+plain_word (StandingCall.Blocking call) plain code = absurd plain
+plain_word _ plain code = refl
 
 the_same : {x y : Standing} → Some x ≡ Some y → x ≡ y
 the_same e = cc
@@ -123,11 +140,11 @@ module _ (contexts : List WasiSocketsCtx) (m : Machine) (line : ℕ) (ids : Ids)
     abbrev pub FailsSo : List Entry → ErrorCode → Machine → Type 0
     FailsSo es code after = (why : CallFails m es call code) × (after ≡ left_failed m why)
 
-    pub fails : (es : List Entry) (after : Machine) (code : ErrorCode) → after.store.standing ≡ None → after.table ≡ m.table → (PendingCallsFit m → FailsSo es code after) → Row es (reply.Err (word_of_code code), after)
+    pub fails : (es : List Entry) (after : Machine) (code : ErrorCode) → after.store.standing ≡ None → after.table ≡ m.table → (PendingCallsFit m → FailsSo es code after) → Row es (reply.Err (word_for call code), after)
     fails es after code none same cause = (
-      it_ends es (reply.Err (word_of_code code)) after (λ e. cc) none,
+      it_ends es (reply.Err (word_for call code)) after (λ e. cc) none,
       (
-        code_word code,
+        may_word call code,
         (
           λ fits. record { fails = record { ids = ids; call = call; code = code; stands = stands; number = refl; cause = (cause fits).0; word_is = refl }; left = (cause fits).1 },
           same,
@@ -147,7 +164,9 @@ module _ (contexts : List WasiSocketsCtx) (m : Machine) (line : ℕ) (ids : Ids)
     pub answered_so : IsOfNoCreate call → (es : List Entry) (begun : Result (Answer (Unit {0})) ErrorCode × TcpRecord) → Due es begun.0 (record m { store = with_socket free (call_place call) begun.1 }) → CallRow es (call_answered free ids call begun)
     answered_so plain es (Ok Pending, r) h = waits es (record m { store = record (with_socket free (call_place call) r) { standing = Some (standing_as ids call) } }) refl refl h
     answered_so plain es (Ok (Ready given), r) h = let left : Machine = record m { store = with_socket free (call_place call) r } in done es left refl (gives_none m left call plain refl)
-    answered_so plain es (Err code, r) h = fails es (record m { store = with_socket free (call_place call) r }) code refl refl h
+    answered_so plain es (Err code, r) h =
+        let left : Machine = record m { store = with_socket free (call_place call) r } in
+        subst (λ (w : CodeWord). Row es (reply.Err w, left)) (plain_word call plain code) (fails es left code refl refl h)
 
     pub missing : IsOnNothing m call → Row [] (reply.Trap NoSuchHandle, nothing_stands m)
     missing nothing = (it_ends [] (reply.Trap NoSuchHandle) (nothing_stands m) (λ e. cc) refl, (rw (stands, eq-eqb n n refl) nothing, λ live. (refl, refl)))
@@ -234,12 +253,20 @@ module _ (contexts : List WasiSocketsCtx) (m : Machine) (line : ℕ) (ids : Ids)
     rebinds (Some r) at = onto _ (rebinds_by r at r.in_progress refl)
 
   -- == of a create of a UDP socket
-  module _ (place : ℕ) (stands : Under (StandingCall.UdpCreate place)) where
-    abbrev CreatedRow : Rows (Result (Answer ℕ) Stop × Machine)
-    CreatedRow es made = GoneRow es (created_on made)
+  module _ (place : ℕ) (face : Interface) (stands : Under (StandingCall.UdpCreate place face)) where
+    abbrev CreatedRow : Rows (Result (Answer ℕ) BaseStop × Machine)
+    CreatedRow es made = GoneRow es (created_on face made)
 
-    abbrev MadeRow : Rows (Result (Answer (Unit {0})) Stop × Records)
-    MadeRow es made = Meets CreatedRow es (create_so ids place (nothing_stands m) made)
+    abbrev MadeRow : Rows (Result (Answer (Unit {0})) BaseStop × Records)
+    MadeRow es made = Meets CreatedRow es (create_so face ids place (nothing_stands m) made)
+
+    -- a code is told by the word of its interface
+    refused_row : (es : List Entry) (after : Machine) (code : ErrorCode) → Row es (reply.Err (word_for (StandingCall.UdpCreate place face) code), after) → CreatedRow es (Err (Code code), after)
+    refused_row es after code row = by_face face row
+      where
+        by_face : (f : Interface) → Row es (reply.Err (word_for (StandingCall.UdpCreate place f) code), after) → GoneRow es (created_on f (Err (Code code), after))
+        by_face P2 row = row
+        by_face P3 row = row
 
     module _ (u : UdpRecord) (at : udp2_at m.store.records place ≡ Some u) where
       creates_on : PendingCallsFit m → IsCreating u
@@ -252,7 +279,7 @@ module _ (contexts : List WasiSocketsCtx) (m : Machine) (line : ℕ) (ids : Ids)
 
       -- a pending create is in progress
       uncreated : (IsCreating u → ⊥) → MadeRow [] (create_answered free place (Err InvalidState, u))
-      uncreated none = ends (fails (StandingCall.UdpCreate place) stands (λ k. k) [] (record m { store = udp_left free place u }) InvalidState (left_free u) refl (λ fits. absurd (none (creates_on fits))))
+      uncreated none = ends (refused_row [] (record m { store = udp_left free place u }) InvalidState (fails (StandingCall.UdpCreate place face) stands (λ k. k) [] (record m { store = udp_left free place u }) InvalidState (left_free u) refl (λ fits. absurd (none (creates_on fits)))))
 
     module _ (create : Create) (at : udp2_at m.store.records place ≡ Some (udp.Creating create)) where
       -- the socket is there
@@ -263,25 +290,27 @@ module _ (contexts : List WasiSocketsCtx) (m : Machine) (line : ℕ) (ids : Ids)
       there = put_finds udp_sort m.store.records place (udp.Creating create) (opened_udp (made_by create)) at
 
       abbrev mark : Entry
-      mark = entry create.operation.who.side (call.Made m.table.next name.Udp2 None (Some create.operation.who.side)) told.Done
+      mark = entry create.operation.who.side (call.Made m.table.next (name_of (udp_kind face place)) None (Some create.operation.who.side)) told.Done
 
       is_create : IsSomeAnd m.store.standing (λ s. IsPendingCreate s.call)
       is_create = subst (λ (o : Option Standing). IsSomeAnd o (λ s. IsPendingCreate s.call)) (sym stands) tt
 
-      gives_handle : let after : Machine = record made_so { table = with_handle m.table (Udp2 place) None } in IsSomeAnd m.store.standing (λ s. GivesBy m (number_fields m.table.next) after s.call)
+      gives_handle : let after : Machine = record made_so { table = with_handle m.table (udp_kind face place) None } in IsSomeAnd m.store.standing (λ s. GivesBy m (number_fields m.table.next) after s.call)
       gives_handle =
-          let after : Machine = record made_so { table = with_handle m.table (Udp2 place) None } in
+          let after : Machine = record made_so { table = with_handle m.table (udp_kind face place) None } in
           subst (λ (o : Option Standing). IsSomeAnd o (λ s. GivesBy m (number_fields m.table.next) after s.call)) (sym stands) (refl, refl, subst IsSome (sym (ap open_of there)) refl)
 
       create_ended : (es : List Entry) (end : End × List Item) → (marks_in es ≡ 0) × (PendingCallsFit m → EndsFor create.operation (CreateFails create.operation) es end) → MadeRow es (create_answered free place (udp_create_ended create end))
       create_ended es (Waits, items) k =
-          ends (waits (StandingCall.UdpCreate place) stands (λ k. k) es (record m { store = record (with_udp free place (udp.Creating (with_left create items))) { standing = Some (standing_as ids (StandingCall.UdpCreate place)) } }) refl refl
+          ends (waits (StandingCall.UdpCreate place face) stands (λ k. k) es (record m { store = record (with_udp free place (udp.Creating (with_left create items))) { standing = Some (standing_as ids (StandingCall.UdpCreate place face)) } }) refl refl
           (λ fits. subst (λ (o : Option UdpRecord). IsSomeAnd o (λ u. CreateWaits u es)) (sym at) (k.1 fits)))
       create_ended es (Done given, items) k =
-          marks_udp made_so place (opened_udp (made_by create)) there
-          (λ full. (it_ends (StandingCall.UdpCreate place) stands (λ k. k) es (reply.Trap Full) made_so (λ e. cc) refl, (tt, full_so m made_so es full refl k.0, inl (full, is_create))))
-          (it_ends (StandingCall.UdpCreate place) stands (λ k. k) (es ++ mark ∷ []) (reply.Ok (number_fields m.table.next)) (record made_so { table = with_handle m.table (Udp2 place) None }) (λ e. cc) refl, (inl (inr (inl (tt, tt))), gives_handle))
-      create_ended es (Refused code given, items) k = ends (fails (StandingCall.UdpCreate place) stands (λ k. k) es (record m { store = given_back place (with_udp free place (udp.Closed create.operation.who.side)) }) code refl refl (λ fits. (CreateFailed place create code at (k.1 fits), put_gone (nothing_stands m) place (Record.Udp (udp.Closed create.operation.who.side)))))
+          marks_udp face made_so place (opened_udp (made_by create)) there
+          (λ full. (it_ends (StandingCall.UdpCreate place face) stands (λ k. k) es (reply.Trap Full) made_so (λ e. cc) refl, (tt, full_so m made_so es full refl k.0, inl (full, is_create))))
+          (it_ends (StandingCall.UdpCreate place face) stands (λ k. k) (es ++ mark ∷ []) (reply.Ok (number_fields m.table.next)) (record made_so { table = with_handle m.table (udp_kind face place) None }) (λ e. cc) refl, (inl (inr (inl (tt, tt))), gives_handle))
+      create_ended es (Refused code given, items) k =
+          let left : Machine = record m { store = given_back place (with_udp free place (udp.Closed create.operation.who.side)) } in
+          ends (refused_row es left code (fails (StandingCall.UdpCreate place face) stands (λ k. k) es left code refl refl (λ fits. (CreateFailed place face create code at (k.1 fits), put_gone (nothing_stands m) place (Record.Udp (udp.Closed create.operation.who.side))))))
 
     recreates_by : (u : UdpRecord) → udp2_at m.store.records place ≡ Some u → Meets (λ es done. MadeRow es (create_answered free place done)) [] (poll_create_asks u)
     recreates_by (udp.Creating create) at = onto _ (widen (create_ended create at) (both (record { along = poll_marks_none create.operation }) (granted (λ fits. create_ends create.operation (creates_on (udp.Creating create) at fits)))))
@@ -289,10 +318,10 @@ module _ (contexts : List WasiSocketsCtx) (m : Machine) (line : ℕ) (ids : Ids)
     recreates_by (udp.Closed side) at = ends (uncreated (udp.Closed side) at (λ k. k))
 
     recreates_at : (o : Option UdpRecord) → udp2_at m.store.records place ≡ o → Meets MadeRow [] (poll_create_at free place o)
-    recreates_at None at = ends (ends (missing (StandingCall.UdpCreate place) stands (λ k. k) at))
+    recreates_at None at = ends (ends (missing (StandingCall.UdpCreate place face) stands (λ k. k) at))
     recreates_at (Some u) at = onto _ (recreates_by u at)
 
-    recreates : Meets CreatedRow [] (create_on (nothing_stands m) ids place)
+    recreates : Meets CreatedRow [] (create_on face (nothing_stands m) ids place)
     recreates = chain {Mid = MadeRow} (recreates_at (udp2_at m.store.records place) refl) (λ es made k. k)
 
   -- == of a bind of a UDP socket
@@ -401,7 +430,7 @@ module _ (contexts : List WasiSocketsCtx) (m : Machine) (line : ℕ) (ids : Ids)
   goes_on_as : (call : StandingCall) → Under call → Meets GoneRow [] (go_on (nothing_stands m) ids call)
   goes_on_as (Bind place) stands = onto _ (rebinds place stands (tcp2_at m.store.records place) refl)
   goes_on_as (Listen place) stands = onto _ (relists place stands (tcp2_at m.store.records place) refl)
-  goes_on_as (StandingCall.UdpCreate place) stands = onto _ (recreates place stands)
+  goes_on_as (StandingCall.UdpCreate place face) stands = onto _ (recreates place face stands)
   goes_on_as (StandingCall.UdpBind place) stands = onto _ (udp_rebinds place stands (open_at m.store.records place) refl)
   goes_on_as (StandingCall.UdpConnect place handle) stands = onto _ (remakes place handle stands)
   goes_on_as (StandingCall.DropOutgoing place) stands = ends (goes place stands (open_at m.store.records place) refl)

@@ -2,7 +2,7 @@
 -- pending as a bind is a bind, as a listen a listen, and as a create a create; each live handle is of a record that is there, a
 -- connect in progress may be finished, and a socket that does nothing yet doesn't listen.
 use Rattle.wasi_records.specs.Records.{tcp2_at, udp2_at, open_at, open_of}
-use Rattle.wasi_host.specs.declared.kind.Kind.TheVariants.{Tcp3, Udp2, Lookup, Incoming, Outgoing, PlainInput, PlainOutput, Network, ErrorValue}
+use Rattle.wasi_host.specs.declared.kind.Kind.TheVariants.{Tcp3, Udp2, Udp3, Lookup, Incoming, Outgoing, PlainInput, PlainOutput, Network, ErrorValue}
 use Rattle.wasi_host.specs.Kinds.{lookup_of}
 use Rattle.wasi_host.specs.Machine.{lookup_number}
 use Rattle.wasi_walks.specs.Answered.{lookup_in}
@@ -117,7 +117,7 @@ module _ (m : Machine) (f : Fit (Over m)) (i : Steady m.store.records) where
       subst (λ (o : Option TcpRecord). IfSome o (λ r. IsListening r.inner.state r.listening)) (sym h.at)
       (listens_so h.was.inner.state h.was.listening (f.records place h.was h.at).1 (i place h.was h.at).2.1 h.goes)
   by_call (standing.DropOutput place) h = tt
-  by_call (standing.UdpCreate place) h = subst (λ (o : Option UdpRecord). IfSome o IsCreating) (sym h.at) (f.udps place (UdpRecord.Creating h.was) h.at)
+  by_call (standing.UdpCreate place face) h = subst (λ (o : Option UdpRecord). IfSome o IsCreating) (sym h.at) (f.udps place (UdpRecord.Creating h.was) h.at)
   by_call (standing.UdpBind place) h =
       let bind : IsUdpBinding (UdpInProgress.Binding h.op) = (subst (FitUdpProgress h.was.inner.side) h.goes (f.udps place (UdpRecord.Open h.was) h.at).0).bind in
       subst (λ (o : Option OpenUdp). IfSome o (λ q. IsUdpBinding q.in_progress)) (sym (ap open_of h.at)) (subst IsUdpBinding (sym h.goes) bind)
@@ -153,6 +153,7 @@ module _ (m : Machine) (i : OwnedIn m) where
   of_its_record handle (Input place) e = tcp_there place (its_record m i handle place (Input place) e (inr refl))
   of_its_record handle (Output place) e = tcp_there place (its_record m i handle place (Output place) e (inr refl))
   of_its_record handle (Udp2 place) e = udp_there place (its_record m i handle place (Udp2 place) e (inl refl))
+  of_its_record handle (Udp3 place) e = udp_there place (its_record m i handle place (Udp3 place) e (inl refl))
   of_its_record handle (Incoming place) e = udp_there place (its_record m i handle place (Incoming place) e (inr refl))
   of_its_record handle (Outgoing place) e = udp_there place (its_record m i handle place (Outgoing place) e (inr refl))
   of_its_record handle (Lookup place) e = its_record m i handle place (Lookup place) e (inl refl)
@@ -194,7 +195,7 @@ module _ (m : Machine) (f : Fit (Over m)) (well : PendingHandleIsLive m) where
   on_nothing (standing.Bind place) h its none = let at = h.at in cc
   on_nothing (standing.Listen place) h its none = let at = h.at in cc
   on_nothing (standing.DropOutput place) h its none = none
-  on_nothing (standing.UdpCreate place) h its none = let at = h.at in cc
+  on_nothing (standing.UdpCreate place face) h its none = let at = h.at in cc
   on_nothing (standing.UdpBind place) h its none = let at : open_at m.store.records place ≡ Some h.was = ap open_of h.at in cc
   on_nothing (standing.UdpConnect place handle) h its (inl none) = let at : open_at m.store.records place ≡ Some h.was = ap open_of h.at in cc
   on_nothing (standing.UdpConnect place handle) h its (inr none) = cc

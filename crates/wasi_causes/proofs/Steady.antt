@@ -205,7 +205,7 @@ module _ (contexts : List WasiSocketsCtx) (line : ℕ) (origin : Step) where
   becomes_steady h _ (UdpLearnt place o socket g e) i = put_udp_steady h place _ i
   becomes_steady h _ (UdpIsClosed place o q g) i = put_udp_steady h place _ i
   becomes_steady h _ (UdpGivenUp place create q g) i = put_udp_steady h place _ i
-  becomes_steady h _ (UdpBegun ctx family r c u m) i =
+  becomes_steady h _ (UdpBegun face ctx family r c u m) i =
       begun_steady h (udp_after_create (own_of line) ctx.name family r) i
   becomes_steady h _ (Resolved host records l same) i = found_steady h.machine.store.records records same i
   becomes_steady h _ (Created face ctx family c u m) i =

@@ -10,7 +10,8 @@ use Rattle.wasi_records.specs.Datagrams.{has_streams}
 use Rattle.wasi_records.specs.Records.{tcp2_put, tcp2_pushed, udp2_at}
 use Rattle.wasi_records.specs.declared.datagrams.Incoming.{Incoming as IncomingStream}
 use Rattle.wasi_records.specs.declared.datagrams.Outgoing.{Outgoing as OutgoingStream}
-use Rattle.wasi_host.specs.declared.kind.Kind.TheVariants.{Incoming, Udp2}
+use Rattle.wasi_host.specs.Kinds.{udp_kind}
+use Rattle.wasi_host.specs.declared.kind.Kind.TheVariants.{Incoming}
 use Rattle.wasi_records.specs.declared.records.Record.{Record}
 use Rattle.wasi_records.specs.declared.udp.OpenUdp.{OpenUdp}
 use Rattle.wasi_records.specs.declared.udp.UdpRecord.{UdpRecord}
@@ -24,11 +25,11 @@ use Rattle.wasi_walks.proofs.walks.States.{Over, Starts}
 use Rattle.wasi_causes.proofs.GivenBack.{open_stays}
 use Rattle.wasi_walks.proofs.walks.States.{IsPlain, makes_plain}
 use Rattle.wasi_causes.proofs.UdpConnects.{HasConnects, Quiet, connects, connects_begin, first_connects, starts_with}
-use Rattle.wasi_causes.proofs.StreamsLive.{tcp_other, Both, HasIncoming, IsOther, CallSo, MadeSo, Parts, StandsSo, Streams, begun, changed, connect_keeps, emptied, found, has_none, makes_left, has_next, has_other, has_handle, not_yet, push_tcp, put_none, put_open, put_tcp, remade, restood, stay, taken}
+use Rattle.wasi_causes.proofs.StreamsLive.{tcp_other, udp_other, Both, HasIncoming, IsOther, CallSo, MadeSo, Parts, StandsSo, Streams, begun, changed, connect_keeps, emptied, found, has_none, makes_left, has_next, has_other, has_handle, not_yet, push_tcp, put_none, put_open, put_tcp, remade, restood, stay, taken}
 use Rattle.wasi_walks.proofs.walks.OfState.{Becomes, Created, CreatedWith, GivenUp, Handles, HasHandle, HasNoRoom, IsClosed, Learnt, NoRoom}
 use Rattle.wasi_walks.proofs.walks.OfState.{OfAccepted, OfCreated, OfError, OfLine, OfState, OfStream, Resolved, UdpBegun, UdpGivenUp, UdpIsClosed, UdpLearnt, Writing, begins_state, of_state}
 use Rattle.wasi_walks.proofs.walks.Layers.{begins_layer, begins_over, begins_stand, layer, over, stand}
-use Rattle.wasi_walks.proofs.owners.Law.{Owns, owners, owners_begin}
+use Rattle.wasi_walks.proofs.owners.Law.{Owns, owners, owners_begin, udp_owner}
 use Rattle.wasi_walks.proofs.owners.Owned as owned
 use Rattle.wasi_walks.proofs.owners.Owned.{stream_place}
 use Rattle.wasi_causes.proofs.Derived.{OwnedIn, first_in}
@@ -84,13 +85,13 @@ module _ (contexts : List WasiSocketsCtx) (line : ℕ) (origin : Step) where
   moves_apart _ _ (walk.Watches h own) i = remade _ _ h.made Made.Unmade _ tt i
   moves_apart _ _ (walk.CallsHandles h kind calls quiet) i = remade _ _ h.made (Made.Calls kind line _) _ tt i
   moves_apart _ _ (walk.RecallsCall h ids call e) i = remade _ _ h.made (Made.Calls (walk.kind_of call) ids.line _) _ tt i
-  moves_apart _ _ (walk.AwaitsCreate h place create g) i = remade _ _ h.made (Made.Awaited place) _ tt i
+  moves_apart _ _ (walk.AwaitsCreate h place face create is g) i = remade _ _ h.made (Made.Awaited face create.operation.who.side place) _ tt i
   moves_apart _ _ (walk.RemembersStreams h c handle place remote is of o g none) i = remade _ _ h.made (Made.ToStream line handle place) _ (has_none h place o g none i) i
   moves_apart _ _ (walk.RecallsStreams h ids place handle e own) i = remade _ _ h.made (Made.ToStream ids.line handle place) _ (subst (StandsSo h.machine.table) e i.stands) i
   moves_apart _ _ (walk.Unstands h over) i = restood _ _ h.made _ None tt i
   moves_apart _ _ (walk.Stands h ids call r quiet at g k) i = restood _ _ h.made _ (Some (standing_as ids call)) (goes_so h.machine.table call r k) i
   moves_apart _ _ (walk.StandsUdpBind h ids place o op quiet at g e) i = restood _ _ h.made _ (Some (standing_as ids (StandingCall.UdpBind place))) tt i
-  moves_apart _ _ (walk.StandsUdpCreate h ids place create quiet g) i = restood _ _ h.made _ (Some (standing_as ids (StandingCall.UdpCreate place))) tt i
+  moves_apart _ _ (walk.StandsUdpCreate h ids place face create quiet made g) i = restood _ _ h.made _ (Some (standing_as ids (StandingCall.UdpCreate place face))) tt i
   moves_apart _ _ (walk.StandsDropOutgoing h ids place o quiet at g e) i = restood _ _ h.made _ (Some (standing_as ids (StandingCall.DropOutgoing place))) tt i
   moves_apart _ _ (walk.StandsBlocking h ids call handles made its) i = restood _ _ h.made _ (Some (standing_as ids (StandingCall.Blocking call))) tt i
   moves_apart _ _ (walk.StandsUdpConnect h ids place handle o op quiet at made g e) i = restood _ _ h.made _ (Some (standing_as ids (StandingCall.UdpConnect place handle))) (subst (MadeSo h.machine.table) made i.makes) i
@@ -139,7 +140,7 @@ module _ (contexts : List WasiSocketsCtx) (line : ℕ) (origin : Step) where
   handles_apart h _ _ _ (OfLine kind parent sock m) i = has_other h kind parent (is_other h kind parent sock m) i
   handles_apart h _ _ _ (OfAccepted c s place r is e o g) i =
       has_handle h (Tcp2 place) (Some s) (Made.Marked h.machine.table.next place) tt tt tt i
-  handles_apart h _ _ _ (OfCreated place u g) i = has_handle h (Udp2 place) None Past tt tt tt i
+  handles_apart h _ _ _ (OfCreated face place u g) i = has_handle h (udp_kind face place) None Past (udp_other face place) tt tt i
   handles_apart h _ _ _ (OfStream place n handle reached kind next new of) i =
       has_next h n handle reached new place kind next of i
   handles_apart h _ _ _ (OfError n handle place handles m k e) i = has_other h ErrorValue (Some handle) tt i
@@ -165,11 +166,11 @@ module _ (contexts : List WasiSocketsCtx) (line : ℕ) (origin : Step) where
   becomes_apart es h _ (GivenUp place r q g) b i = (put_tcp h place r g _ i.0, i.1)
   becomes_apart es h _ (UdpLearnt place o socket g e) b i = (put_open h place o _ g (λ e. e) i.0, i.1)
   becomes_apart es h _ (UdpIsClosed place o q g) b i =
-      let none = subst (owned.MadeSo h.machine.table h.machine.store.records) q.1 b.0.1 place refl in
+      let none = subst (owned.MadeSo h.machine.table h.machine.store.records) q.1.made b.0.1 place (udp_owner q.1.kind place q.1.socket) in
       (put_none h place (UdpRecord.Closed o.inner.side) (λ a l e. none a l (inr (ap stream_place e))) i.0, i.1)
   becomes_apart es h _ (UdpGivenUp place create q g) b i =
       (put_none h place (UdpRecord.Closed create.operation.who.side) (not_yet h place create g i.0) i.0, i.1)
-  becomes_apart es h _ (UdpBegun ctx family r c u m) b i =
+  becomes_apart es h _ (UdpBegun face ctx family r c u m) b i =
       let made = udp_after_create (own_of line) ctx.name family r in
       (begun h made i.0, begun_same (λ t made standing. AreUnder t made standing) h made i.1)
   becomes_apart es h _ (Resolved host records l same) b i = (found h records same i.0, i.1)

@@ -7,7 +7,7 @@ use Rattle.wasi_table.specs.Table.{Live}
 use Rattle.wasi_udp.specs.Create.{Create}
 use Rattle.wasi_world.specs.Operation.{Done, Refused, Waits}
 use Rattle.wasi_records.specs.Datagrams.{has_streams, udp_connect_left}
-use Rattle.wasi_host.specs.Kinds.{udp_of}
+use Rattle.wasi_host.specs.Kinds.{udp_kind, udp_of}
 use Rattle.wasi_records.specs.Records.{tcp2_pushed, udp2_at, udp2_put}
 use Rattle.wasi_records.specs.declared.datagrams.Incoming.{Incoming as IncomingStream}
 use Rattle.wasi_host.specs.declared.kind.Kind.TheVariants.{Incoming}
@@ -17,7 +17,7 @@ use Rattle.wasi_records.specs.declared.udp.OpenUdp.{OpenUdp}
 use Rattle.wasi_records.specs.declared.udp.UdpRecord.{UdpRecord}
 use Rattle.wasi_walks.specs.Licence.{Has}
 use Rattle.wasi_walks.proofs.received.Handles.{MakesUnder, Under, makes_more, under_so}
-use Rattle.wasi_walks.proofs.walks.Moves.{Interface, OfP2, OfP3, tcp_kind, Found, FoundUdp, NoStartIn, NoStartStands, HasNewStream, Here, Made, MarksNext, SameSockets, ToSend, put, put_udp, udp_begun}
+use Rattle.wasi_walks.proofs.walks.Moves.{Interface, P2, P3, tcp_kind, Found, FoundUdp, NoStartIn, NoStartStands, HasNewStream, Here, Made, MarksNext, SameSockets, ToSend, put, put_udp, udp_begun}
 use Rattle.wasi_causes.proofs.Slots.{SlotOf, has_without, is_another, new_slot, one_of, slot_of, value_of}
 use Rattle.wasi_walks.proofs.Places.{push_still, put_stays, put_still, tcp_sort, udp_sort}
 
@@ -150,8 +150,13 @@ IsOther _ = ⊤
 
 -- a TCP socket's, of either interface
 pub tcp_other : (face : Interface) (place : ℕ) → IsOther (tcp_kind face place)
-tcp_other OfP2 place = tt
-tcp_other OfP3 place = tt
+tcp_other P2 place = tt
+tcp_other P3 place = tt
+
+-- and a UDP socket's
+pub udp_other : (face : Interface) (place : ℕ) → IsOther (udp_kind face place)
+udp_other P2 place = tt
+udp_other P3 place = tt
 
 module _ (t : HandleTable) (kind : Kind) (parent : Option ℕ) where
   abbrev after : HandleTable

@@ -221,7 +221,7 @@ module _ (contexts : List WasiSocketsCtx) (line : ℕ) (origin : Step) where
       let idle = walk.accepting_now r l accepting.Idle in (push_tcp (tcp2_put h.machine.store.records place idle) (walk.joined l new peer) h.machine.store.standing h.own (put_tcp h place idle i).0, tt)
   moves_quiet _ _ (walk.Leaves h) i = (i.0, tt)
   moves_quiet _ _ (walk.Watches h own) i = (i.0, tt)
-  moves_quiet _ _ (walk.AwaitsCreate h place create g) i = (i.0, tt)
+  moves_quiet _ _ (walk.AwaitsCreate h place face create is g) i = (i.0, tt)
   moves_quiet _ _ (walk.RemembersStreams h c handle place remote is of o g none) i = (i.0, tt)
   moves_quiet _ _ (walk.RecallsStreams h ids place handle e own) i = ((spent h (ToConnect place) Unused own unused i).0, tt)
   moves_quiet _ _ (walk.CallsHandles h kind calls quiet) i = (i.0, no_start h.machine.store.standing quiet)
@@ -229,7 +229,7 @@ module _ (contexts : List WasiSocketsCtx) (line : ℕ) (origin : Step) where
   moves_quiet _ _ (walk.Empties h handle kind e none) i = (i.0, tt)
   moves_quiet _ _ (walk.Stands h ids call r quiet at g k) i = restood h (standing_as ids call) quiet (goes_none call r k) i
   moves_quiet _ _ (walk.StandsUdpBind h ids place o op quiet at g e) i = restood h (standing_as ids (StandingCall.UdpBind place)) quiet tt i
-  moves_quiet _ _ (walk.StandsUdpCreate h ids place create quiet g) i = restood h (standing_as ids (StandingCall.UdpCreate place)) quiet tt i
+  moves_quiet _ _ (walk.StandsUdpCreate h ids place face create quiet made g) i = restood h (standing_as ids (StandingCall.UdpCreate place face)) quiet tt i
   moves_quiet _ _ (walk.StandsDropOutgoing h ids place o quiet at g e) i = restood h (standing_as ids (StandingCall.DropOutgoing place)) quiet tt i
   moves_quiet _ _ (walk.StandsBlocking h ids call handles made its) i =
       let now = Some (standing_as ids (StandingCall.Blocking call)) in (stands_now h.machine.store.records h.machine.store.standing now h.own (subst (λ (m : Made). CallsSo m h.machine.store.standing) made i.1) i.0, calls_so h.made now tt)
@@ -308,7 +308,7 @@ module _ (contexts : List WasiSocketsCtx) (line : ℕ) (origin : Step) where
   becomes_quiet h _ (UdpIsClosed place o q g) i = put_none h place (UdpRecord.Closed o.inner.side) (closed_none o.inner.side) i
   becomes_quiet h _ (UdpGivenUp place create q g) i =
       let side = create.operation.who.side in put_none h place (UdpRecord.Closed side) (closed_none side) i
-  becomes_quiet h _ (UdpBegun ctx family r c own m) i = begun h (udp_after_create (own_of line) ctx.name family r) own i
+  becomes_quiet h _ (UdpBegun face ctx family r c own m) i = begun h (udp_after_create (own_of line) ctx.name family r) own i
   becomes_quiet h _ (Resolved host records l same) i = found h records same i
   becomes_quiet h _ (HasHandle kind parent made k) i = (i.0, handles_quiet h kind parent made k i)
   becomes_quiet h _ (NoRoom made none) i = (i.0, no_room made h.machine.store.standing none)

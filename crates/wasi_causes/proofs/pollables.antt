@@ -8,3 +8,6 @@ pub mod Live
 pub mod AsReady
 pub mod Places
 pub mod Unnamed
+pub mod Begins
+pub mod Quiet
+pub mod Leaves

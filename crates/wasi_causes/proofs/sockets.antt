@@ -3,6 +3,7 @@ pub mod Makes
 pub mod Questions
 pub mod Starts
 pub mod Tcp3
+pub mod P3Udp
 pub mod Udp
 pub mod UdpBinds
 pub mod UdpCreates

@@ -23,3 +23,5 @@ pub mod ErrorMarks
 pub mod Splices
 pub mod Turns
 pub mod Live
+pub mod TurnPolls
+pub mod ReadsInRuns

@@ -59,7 +59,7 @@ abbrev pub CancelsBy : Machine → List Entry → Machine → StandingCall → T
 CancelsBy m es after (Bind place) = (r : TcpRecord) → tcp2_at m.store.records place ≡ Some r → (es ≡ []) × (after ≡ putting (nothing_stands m) place (with_progress r doing.Nothing))
 CancelsBy m es after (Listen place) = (r : TcpRecord) → tcp2_at m.store.records place ≡ Some r → ListenGivenUp m place r es after
 CancelsBy m es after (DropOutput place) = OnlyUnstands m es after
-CancelsBy m es after (UdpCreate place) = (create : Create) → udp2_at m.store.records place ≡ Some (udp.Creating create) → CreateGivenUp m place create es after
+CancelsBy m es after (UdpCreate place face) = (create : Create) → udp2_at m.store.records place ≡ Some (udp.Creating create) → CreateGivenUp m place create es after
 CancelsBy m es after (UdpBind place) = (o : OpenUdp) → open_at m.store.records place ≡ Some o → (es ≡ []) × (after ≡ putting_udp (nothing_stands m) place (with_udp_progress o udp_doing.Nothing))
 CancelsBy m es after (UdpConnect place handle) = (o : OpenUdp) → open_at m.store.records place ≡ Some o → (es ≡ []) × (after ≡ putting_udp (nothing_stands m) place (record o { connecting = None }))
 CancelsBy m es after (DropOutgoing place) = (o : OpenUdp) → open_at m.store.records place ≡ Some o → OutgoingGivenUp m place o es after

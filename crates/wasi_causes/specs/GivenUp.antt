@@ -83,6 +83,7 @@ giving_back m place = record m { store = given_back place m.store }
 abbrev pub GoesAtOnce : Kind → Type 0
 GoesAtOnce (kind.Tcp2 place) = ⊥
 GoesAtOnce (kind.Tcp3 place) = ⊥
+GoesAtOnce (kind.Udp3 place) = ⊥
 GoesAtOnce (kind.Udp2 place) = ⊥
 GoesAtOnce (kind.Output place) = ⊥
 GoesAtOnce (kind.Incoming place) = ⊥

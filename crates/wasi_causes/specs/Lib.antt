@@ -23,4 +23,8 @@ pub mod Unsendable
 pub mod ShortLists
 pub mod MayAnswer
 pub mod Refusals
+pub mod P3Udp
 pub mod NamedRecords
+pub mod TurnPolls
+pub mod HandedBytes
+pub mod LookPolls

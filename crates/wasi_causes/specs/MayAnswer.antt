@@ -103,7 +103,13 @@ MayRefuse (step.Call ctx (guest.P3TcpLocalAddress socket)) w = IsP3Word w
 MayRefuse (step.Call ctx (guest.P3TcpRemoteAddress socket)) w = IsP3Word w
 MayRefuse (step.Call ctx (guest.P3TcpGet socket option)) w = IsP3Word w
 MayRefuse (step.Call ctx (guest.P3TcpSet socket setting)) w = IsP3Word w
-MayRefuse (step.Poll n) w = IsCodeWord w
+MayRefuse (step.Call ctx (guest.P3UdpCreate family)) w = IsP3Word w
+MayRefuse (step.Call ctx (guest.P3UdpDisconnect socket)) w = IsP3Word w
+MayRefuse (step.Call ctx (guest.P3UdpLocalAddress socket)) w = IsP3Word w
+MayRefuse (step.Call ctx (guest.P3UdpRemoteAddress socket)) w = w ≡ word.InvalidState
+MayRefuse (step.Call ctx (guest.P3UdpGet socket option)) w = IsP3Word w
+MayRefuse (step.Call ctx (guest.P3UdpSet socket setting)) w = IsP3Word w
+MayRefuse (step.Poll n) w = IsCodeWord w ⊎ IsP3Word w
 MayRefuse _ w = ⊥
 
 -- == the other replies
@@ -130,6 +136,7 @@ abbrev pub MayMiss : Step → Type 0
 MayMiss (step.Call ctx guest.Network) = ⊥
 MayMiss (step.Call ctx (guest.TcpCreate family)) = ⊥
 MayMiss (step.Call ctx (guest.UdpCreate family)) = ⊥
+MayMiss (step.Call ctx (guest.P3UdpCreate family)) = ⊥
 MayMiss (step.Call ctx (guest.P3TcpCreate family)) = ⊥
 MayMiss (step.Call ctx (guest.PipeIn bytes)) = ⊥
 MayMiss (step.Call ctx (guest.PipeOut capacity)) = ⊥
@@ -162,6 +169,7 @@ abbrev pub MayWait : ℕ → Step → ℕ → Type 0
 MayWait line (step.Call ctx (guest.TcpStartBind socket network a)) n = n ≡ line
 MayWait line (step.Call ctx (guest.TcpStartListen socket)) n = n ≡ line
 MayWait line (step.Call ctx (guest.UdpCreate family)) n = n ≡ line
+MayWait line (step.Call ctx (guest.P3UdpCreate family)) n = n ≡ line
 MayWait line (step.Call ctx (guest.UdpStartBind socket network a)) n = n ≡ line
 MayWait line (step.Call ctx (guest.UdpStream socket remote)) n = n ≡ line
 MayWait line (step.Call ctx (guest.Drop handle)) n = n ≡ line

@@ -1,7 +1,7 @@
 -- Which records handles, pending calls and jobs name, and which were given back.
 use Rattle.std.specs.Prelude.{◌≡◌, ℕ, Option, Some, None, slice_get}
 use Rattle.wasi_host.specs.declared.kind.Kind.{Kind}
-use Rattle.wasi_host.specs.declared.kind.Kind.TheVariants.{Tcp2, Tcp3, Udp2, Input, Output, PlainInput, PlainOutput, Incoming, Outgoing, Pollable, Lookup}
+use Rattle.wasi_host.specs.declared.kind.Kind.TheVariants.{Tcp2, Tcp3, Udp2, Udp3, Input, Output, PlainInput, PlainOutput, Incoming, Outgoing, Pollable, Lookup}
 use Rattle.wasi_host.specs.declared.kind.PlainInput.TheVariants as plain_input
 use Rattle.wasi_host.specs.declared.kind.PlainOutput.TheVariants as plain_output
 use Rattle.wasi_host.specs.declared.kind.Watched.{Watched}
@@ -31,6 +31,7 @@ abbrev pub record_named : Kind → Option ℕ
 record_named (Tcp2 place) = Some place
 record_named (Tcp3 place) = Some place
 record_named (Udp2 place) = Some place
+record_named (Udp3 place) = Some place
 record_named (Input place) = Some place
 record_named (Output place) = Some place
 record_named (PlainInput (plain_input.Pipe place)) = Some place
@@ -46,7 +47,7 @@ abbrev pub call_names : StandingCall → Option ℕ
 call_names (call.Bind place) = Some place
 call_names (call.Listen place) = Some place
 call_names (call.DropOutput place) = Some place
-call_names (call.UdpCreate place) = Some place
+call_names (call.UdpCreate place face) = Some place
 call_names (call.UdpBind place) = Some place
 call_names (call.UdpConnect place handle) = Some place
 call_names (call.DropOutgoing place) = Some place

@@ -82,7 +82,9 @@ use Rattle.wasi_records.specs.Names.{next_name}
 use Rattle.wasi_causes.specs.SendCauses.{ReceivesSome, SendsSome, UdpReceiveRefusal, UdpSendRefusal}
 use Rattle.wasi_causes.specs.StreamCauses.{HasNewStreams, MakesStreams, UdpStreamRefusal, StreamsStand}
 use Rattle.wasi_causes.specs.Datagrams.{IsUdpSend, IsUdpStream, HasUdpStreams, IsSpent, OfIncoming, OfOutgoing, LacksRoomForBoth, MadeBoth, PermitsSend, PendingHandleIsLive, LacksRoomForStreams, IsReceiving, WatchesDatagrams, WatchesIncoming, WatchesOutgoing, OutgoingWaits, IncomingGone, OutgoingGone}
-use Rattle.wasi_causes.specs.Udp.{OfUdp, RefusedOfUdp, HasUdpInProgress, HasNoUdpBind, KeepsNoRemote, WatchesUdp, udp_create_entry, writable_entry, with_udp_record, new_udp, UdpCreateRefusal, CreatesUdp, CreateStands, KnowsUdpBound, UdpBindRefusal, BindsUdp, UdpBindStands, FinishesUdpBind, UdpLocalRefusal, TellsUdpLocal, TellsUdpRemote, UdpGetRefusal, GetsUdpOption, UdpSetRefusal, SetsUdpOption, udp_given_up, udp_left, GivesBy, IsPendingCreate}
+use Rattle.wasi_causes.specs.P3Udp.{Disconnects, KnowsUdp3Bound, OfUdp3, P3DisconnectRefusal, P3UdpCreateRefusal, P3UdpGetRefusal, P3UdpLocalRefusal, P3UdpSetRefusal}
+use Rattle.wasi_host.specs.declared.kind.Interface.TheVariants.{P3}
+use Rattle.wasi_causes.specs.Udp.{OfUdp, RefusedOfUdp, HasUdpInProgress, HasNoUdpBind, KeepsNoRemote, WatchesUdp, udp_create_entry, writable_entry, with_udp_record, new_udp, UdpCreateRefusal, CreatesUdp, CreatesUdpFor, CreateStands, CreateStandsFor, KnowsUdpBound, UdpBindRefusal, BindsUdp, UdpBindStands, FinishesUdpBind, UdpLocalRefusal, TellsUdpLocal, TellsUdpRemote, UdpGetRefusal, GetsUdpOption, UdpSetRefusal, SetsUdpOption, udp_given_up, udp_left, GivesBy, IsPendingCreate}
 
 -- == what holds whatever the reply is
 -- a start is refused so exactly where an operation is in progress
@@ -106,6 +108,7 @@ abbrev pub AsksOnce : ℕ → Option Kind → List Entry → Type 0
 AsksOnce line (Some (kind.Tcp2 place)) es = ⊤
 AsksOnce line (Some (kind.Tcp3 place)) es = ⊤
 AsksOnce line (Some (kind.Udp2 place)) es = ⊤
+AsksOnce line (Some (kind.Udp3 place)) es = ⊤
 AsksOnce line (Some (kind.Output place)) es = LooksOnce (own_of line) es
 AsksOnce line _ es = es ≡ []
 
@@ -179,6 +182,11 @@ Always contexts m line (step.Call c (guest.P3TcpCreate family)) es r after = Onl
 Always contexts m line (step.Call c (guest.P3TcpIsListening s)) es r after = Quiet m es after
 Always contexts m line (step.Call c (guest.P3TcpAddressFamily s)) es r after = Quiet m es after
 Always contexts m line (step.Call c (guest.P3TcpGet s option)) es r after = after ≡ m
+Always contexts m line (step.Call c (guest.P3UdpCreate family)) es r after = OnlyWhere (context_at contexts c).udp m es after
+Always contexts m line (step.Call c (guest.P3UdpRemoteAddress s)) es r after = Quiet m es after
+Always contexts m line (step.Call c (guest.P3UdpAddressFamily s)) es r after = Quiet m es after
+Always contexts m line (step.Call c (guest.P3UdpGet s option)) es r after = after ≡ m
+Always contexts m line (step.Call c (guest.P3UdpSet s setting)) es r after = after ≡ m
 Always contexts m line step.Turn es r after = Turns m es r after
 Always contexts m line (step.Poll n) es r after = ((r ≡ reply.NoSuchCall) ↔ (stands_as m.store.standing n ≡ false)) × (stands_as m.store.standing n ≡ true → (r ≡ reply.Pending n) ⊎ (after.store.standing ≡ None)) × BlockedGoesOn contexts m n es r after
 Always contexts m line _ es r after = ⊤
@@ -216,11 +224,16 @@ Looks m line pollable es _ = ⊥
 abbrev pub SocketGone : Machine → ℕ → ℕ → ℕ → List Entry → Machine → Type 0
 SocketGone m line handle place es after = (r : TcpRecord) → tcp2_at m.store.records place ≡ Some r → (es ≡ socket_given_up (own_of line) r) × IsGone m handle place after
 
+-- the same of a UDP socket
+abbrev pub UdpGone : Machine → ℕ → ℕ → ℕ → List Entry → Machine → Type 0
+UdpGone m line handle place es after = (u : UdpRecord) → udp2_at m.store.records place ≡ Some u → (es ≡ udp_given_up (own_of line) u) × (after ≡ udp_left (without m handle) place u)
+
 -- what is left where the handle that was dropped is of this kind
 abbrev pub Gone : Machine → ℕ → ℕ → Option Kind → List Entry → Machine → Type 0
 Gone m line handle (Some (kind.Tcp2 place)) es after = SocketGone m line handle place es after
 Gone m line handle (Some (kind.Tcp3 place)) es after = SocketGone m line handle place es after
-Gone m line handle (Some (kind.Udp2 place)) es after = (u : UdpRecord) → udp2_at m.store.records place ≡ Some u → (es ≡ udp_given_up (own_of line) u) × (after ≡ udp_left (without m handle) place u)
+Gone m line handle (Some (kind.Udp2 place)) es after = UdpGone m line handle place es after
+Gone m line handle (Some (kind.Udp3 place)) es after = UdpGone m line handle place es after
 Gone m line handle (Some (kind.Output place)) es after = ⊤
 Gone m line handle (Some (kind.Incoming place)) es after = (o : OpenUdp) → open_at m.store.records place ≡ Some o → IncomingGone m handle place o es after
 Gone m line handle (Some (kind.Outgoing place)) es after = (o : OpenUdp) → open_at m.store.records place ≡ Some o → OutgoingGone m handle place o es after
@@ -265,6 +278,13 @@ Done contexts m line (step.Call c (guest.ResolveNext h)) es fields after = OfLoo
 Done contexts m line (step.Call c (guest.NetworkErrorCode e)) es fields after = fields ≡ field.Absent ∷ []
 Done contexts m line (step.Call c (guest.P3TcpGet s option)) es fields after = OfTcp3 m s (λ place r. GetsOption (own_of line) option r fields es)
 Done contexts m line (step.Call c (guest.P3TcpSet s setting)) es fields after = (fields ≡ no_fields) × OfTcp3 m s (λ place r. SetsChosen m (own_of line) (chosen setting) place r es after)
+Done contexts m line (step.Call c (guest.P3UdpCreate family)) es fields after = CreatesUdpFor P3 m (own_of line) (context_at contexts c) family es fields after
+Done contexts m line (step.Call c (guest.P3UdpDisconnect s)) es fields after = OfUdp3 m s (λ place o. Disconnects m (own_of line) place o es after)
+Done contexts m line (step.Call c (guest.P3UdpLocalAddress s)) es fields after = OfUdp3 m s (λ place o. TellsUdpLocal m (own_of line) place o es fields after)
+Done contexts m line (step.Call c (guest.P3UdpRemoteAddress s)) es fields after = OfUdp3 m s (λ place o. TellsUdpRemote o fields)
+Done contexts m line (step.Call c (guest.P3UdpAddressFamily s)) es fields after = OfUdp3 m s (λ place o. fields ≡ family_fields o.inner.family)
+Done contexts m line (step.Call c (guest.P3UdpGet s option)) es fields after = OfUdp3 m s (λ place o. GetsUdpOption (own_of line) (udp_opt option) o fields es)
+Done contexts m line (step.Call c (guest.P3UdpSet s setting)) es fields after = OfUdp3 m s (λ place o. SetsUdpOption (own_of line) setting o es)
 Done contexts m line (step.Poll n) es fields after = IsSomeAnd m.store.standing (λ s. GivesBy m fields after s.call)
 Done contexts m line s es fields after = ⊤
 
@@ -304,6 +324,12 @@ Refused contexts m line (step.Call c (guest.P3TcpLocalAddress s)) es w after = P
 Refused contexts m line (step.Call c (guest.P3TcpRemoteAddress s)) es w after = P3RemoteRefusal m (own_of line) s es w × (after ≡ m)
 Refused contexts m line (step.Call c (guest.P3TcpGet s option)) es w after = P3RefusedGet m (own_of line) s option es w after
 Refused contexts m line (step.Call c (guest.P3TcpSet s setting)) es w after = P3RefusedSet m (own_of line) s setting es w after
+Refused contexts m line (step.Call c (guest.P3UdpCreate family)) es w after = P3UdpCreateRefusal m (own_of line) (context_at contexts c) family es w after
+Refused contexts m line (step.Call c (guest.P3UdpDisconnect s)) es w after = P3DisconnectRefusal m (own_of line) s es w after
+Refused contexts m line (step.Call c (guest.P3UdpLocalAddress s)) es w after = P3UdpLocalRefusal m (own_of line) s es w after × ((after ≡ m) ⊎ KnowsUdp3Bound m s after)
+Refused contexts m line (step.Call c (guest.P3UdpRemoteAddress s)) es w after = OfUdp3 m s (λ place o. o.inner.remote ≡ None)
+Refused contexts m line (step.Call c (guest.P3UdpGet s option)) es w after = P3UdpGetRefusal m (own_of line) s (udp_opt option) es w
+Refused contexts m line (step.Call c (guest.P3UdpSet s setting)) es w after = P3UdpSetRefusal m (own_of line) s setting es w
 Refused contexts m line (step.Poll n) es w after = (PendingCallsFit m → FailureLeaves m n es w after) × (after.table ≡ m.table)
 Refused contexts m line s es w after = ⊤
 
@@ -332,6 +358,7 @@ Pends contexts m line (step.Call c (guest.TcpStartBind s n a)) es after = EndsPe
 Pends contexts m line (step.Call c (guest.TcpStartListen s)) es after = EndsPending (own_of line) es
 Pends contexts m line (step.Call c (guest.Drop h)) es after = (after.table ≡ without_handle m.table h) × (OutputWaits m (own_of line) (output_at m h) es ⊎ OutgoingWaits m (outgoing_at m h) es)
 Pends contexts m line (step.Call c (guest.UdpCreate family)) es after = CreateStands m line (own_of line) (context_at contexts c) family es after
+Pends contexts m line (step.Call c (guest.P3UdpCreate family)) es after = CreateStandsFor P3 m line (own_of line) (context_at contexts c) family es after
 Pends contexts m line (step.Call c (guest.UdpStartBind s n a)) es after = OfUdp m s (λ place o. UdpBindStands m line (own_of line) place o a es after)
 Pends contexts m line (step.Call c (guest.UdpStream s remote)) es after = (after.table ≡ m.table) × OfUdp m s (λ place o. StreamsStand m line s place o remote es after)
 Pends contexts m line (step.Poll n) es after = (PendingCallsFit m → StandingWaits m (own_of n) es) × (after.table ≡ m.table) × ((BlockingCallStands m → ⊥) → after.store.standing ≡ m.store.standing)
@@ -347,13 +374,17 @@ abbrev pub LeavesSocket : Machine → ℕ → WasiSocketsCtx → SocketAddressFa
 LeavesSocket m line ctx family es after =
     (is_full m.table ≡ true) × (es ≡ entry (own_of line) (call.TcpCreate ctx.name family) told.Done ∷ []) × (after ≡ record m { store = with_record m.store (new_socket (own_of line) ctx.name family) })
 
+-- and that of a UDP socket, once the network socket may be used
+abbrev pub LeavesUdpSocket : Machine → ℕ → WasiSocketsCtx → SocketAddressFamily → List Entry → Machine → Type 0
+LeavesUdpSocket m line ctx family es after =
+    (is_full m.table ≡ true) × (es ≡ udp_create_entry (own_of line) ctx family told.Done ∷ writable_entry (own_of line) told.Done ∷ []) × (after ≡ with_udp_record m (new_udp (own_of line) ctx family))
+
 -- what a call that makes a handle leaves then
 abbrev pub LeftFull : List WasiSocketsCtx → Machine → ℕ → Step → List Entry → Machine → Type 0
 LeftFull contexts m line (step.Call c (guest.TcpCreate family)) es after = LeavesSocket m line (context_at contexts c) family es after
 LeftFull contexts m line (step.Call c (guest.P3TcpCreate family)) es after = LeavesSocket m line (context_at contexts c) family es after
-LeftFull contexts m line (step.Call c (guest.UdpCreate family)) es after =
-    let its = context_at contexts c in
-    (is_full m.table ≡ true) × (es ≡ udp_create_entry (own_of line) its family told.Done ∷ writable_entry (own_of line) told.Done ∷ []) × (after ≡ with_udp_record m (new_udp (own_of line) its family))
+LeftFull contexts m line (step.Call c (guest.UdpCreate family)) es after = LeavesUdpSocket m line (context_at contexts c) family es after
+LeftFull contexts m line (step.Call c (guest.P3UdpCreate family)) es after = LeavesUdpSocket m line (context_at contexts c) family es after
 LeftFull contexts m line (step.Call c (guest.UdpStream s remote)) es after = IsSomeAnd (udp_socket_at m s) (λ place. LacksRoomForBoth m.table place s)
 LeftFull contexts m line (step.Call c (guest.Resolve n name)) es after = LosesLookup m (own_of line) name es after
 LeftFull contexts m line (step.Call c (guest.PipeIn bytes)) es after = Quiet m es after

@@ -11,6 +11,7 @@ use Rattle.wasi_host.specs.declared.blocking.BlockingCall.TheVariants.{Block, Po
 use Rattle.wasi_host.specs.declared.machine.Machine.{Machine}
 use Rattle.wasi_host.specs.declared.polling.Look.{Look}
 use Rattle.wasi_host.specs.declared.polling.Look.TheVariants.{First, Later}
+use Rattle.wasi_host.specs.declared.store.StandingCall.{StandingCall}
 use Rattle.wasi_host.specs.declared.store.StandingCall.TheVariants.{Blocking}
 use Rattle.wasi_host.specs.Kinds.{kind_at, watch_of}
 use Rattle.wasi_host.specs.Machine.{ready_asks}
@@ -117,3 +118,14 @@ AreDifferent (n ∷ ns) = (Has ns n → ⊥) × AreDifferent ns
 abbrev pub pollables_of : Found → List ℕ
 pollables_of [] = []
 pollables_of (f ∷ found) = f.0 ∷ pollables_of found
+
+-- == a pending wait
+-- the pollables that a pending call waits for
+abbrev pub waits_for : StandingCall → List ℕ
+waits_for (Blocking (Block pollable)) = pollable ∷ []
+waits_for (Blocking (Poll pollables)) = pollables
+waits_for _ = []
+
+-- a look at none of these would begin anything
+abbrev pub BeginsNone : Machine → List ℕ → Type 0
+BeginsNone m pollables = (pollable : ℕ) → Has pollables pollable → begins_at m pollable ≡ false

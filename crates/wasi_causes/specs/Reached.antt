@@ -8,7 +8,7 @@ use Rattle.wasi_records.specs.Records.{tcp2_at, udp2_at, lookup_at, input_pipe_a
 use Rattle.wasi_host.specs.declared.kind.PlainInput.TheVariants as plain_input
 use Rattle.wasi_host.specs.declared.kind.PlainOutput.TheVariants as plain_output
 use Rattle.wasi_host.specs.declared.kind.Kind.{Kind}
-use Rattle.wasi_host.specs.declared.kind.Kind.TheVariants.{Network, Tcp2, Tcp3, Udp2, Input, Output, PlainInput, PlainOutput, Incoming, Outgoing, Pollable, Lookup, ErrorValue}
+use Rattle.wasi_host.specs.declared.kind.Kind.TheVariants.{Network, Tcp2, Tcp3, Udp2, Udp3, Input, Output, PlainInput, PlainOutput, Incoming, Outgoing, Pollable, Lookup, ErrorValue}
 use Rattle.wasi_host.specs.declared.kind.Watched.TheVariants as watched
 use Rattle.wasi_records.specs.declared.tcp_listening.Listening.{Listening}
 use Rattle.wasi_records.specs.declared.tcp_listening.Listening.TheVariants as listening
@@ -43,6 +43,7 @@ OfItsRecord m Network = ⊤
 OfItsRecord m (Tcp2 place) = HasRecord m place
 OfItsRecord m (Tcp3 place) = HasRecord m place
 OfItsRecord m (Udp2 place) = HasUdpRecord m place
+OfItsRecord m (Udp3 place) = HasUdpRecord m place
 OfItsRecord m (Input place) = HasRecord m place
 OfItsRecord m (Output place) = HasRecord m place
 OfItsRecord m (PlainInput (plain_input.Pipe place)) = HasInputPipe m place

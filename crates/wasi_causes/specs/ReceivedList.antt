@@ -29,7 +29,9 @@ use Rattle.wasi_steps.specs.declared.guest_call.GuestCall.TheVariants as guest
 use Rattle.wasi_steps.specs.declared.step.Step.TheVariants as step
 use Rattle.wasi_steps.specs.Reply.{received_values}
 use Rattle.wasi_walks.specs.Allowed.{entry}
+use Rattle.wasi_addr.specs.declared.address.SocketAddressFamily.{SocketAddressFamily}
 use Rattle.wasi_walks.specs.Licence.{IsRemote}
+use Rattle.wasi_walks.specs.Remotes.{HasRemote}
 
 -- == in hand
 -- A datagram that the network socket was told, by this operation, and about whose sender the check hasn't answered yet.
@@ -155,3 +157,14 @@ pub record HandsOutFront (log : List Entry) (steps : List Step) (replies : List 
   pub gives : HandedOut handle steps replies handed
   pub more : List IncomingDatagram
   pub front_of : received_since side remote later ≡ handed ++ more
+
+-- == which address it keeps
+-- the network socket's remote address: what was reported last since its create, of its family
+abbrev pub LastRemote : List Entry → OpId → Option IpSocketAddress → Type 0
+LastRemote log side remote = (family : SocketAddressFamily) × HasRemote log side family remote
+
+-- The stream of the handle keeps the remote address that its network socket had where the handle was marked.
+pub record KeepsLastRemote (log : List Entry) (handle : ℕ) (side : OpId) (kept : Option IpSocketAddress) : Type 0 where
+  pub later : List Entry
+  pub marked : MarkedBefore log handle side later
+  pub last : LastRemote marked.front side kept

@@ -1,7 +1,6 @@
 -- Why the calls of TCP sockets that both interfaces have are refused, by base codes; each interface has its own words for
 -- them.
 use Rattle.std.specs.Prelude.{◌≡◌, ℕ, true, false, List, [], ◌∷◌, ◌++◌, Some, None, Ok}
-use Rattle.wasi_addr.specs.Code.{p3_of_code}
 use Rattle.wasi_addr.specs.declared.address.SocketAddressFamily.{SocketAddressFamily}
 use Rattle.wasi_addr.specs.declared.code.ErrorCode.{ErrorCode}
 use Rattle.wasi_addr.specs.declared.code.ErrorCode.TheVariants.{AccessDenied, InvalidState}
@@ -20,15 +19,11 @@ use Rattle.wasi_records.specs.Records.{tcp2_at}
 use Rattle.wasi_host.specs.declared.machine.Machine.{Machine}
 use Rattle.wasi_host.specs.Machine.{tcp3_at}
 use Rattle.wasi_steps.specs.declared.reply.CodeWord.{CodeWord}
-use Rattle.wasi_steps.specs.Reply.{word_of_p3}
+pub use Rattle.wasi_walks.specs.Answered.{p3_word}
 use Rattle.wasi_walks.specs.Answered.{IsBound, IsFoundUnbound, knowing_bound, word_of_code}
 use Rattle.wasi_walks.specs.Licence.{entry}
 
 -- == words
--- the 0.3 word of a base code
-abbrev pub p3_word : ErrorCode → CodeWord
-p3_word c = word_of_p3 (p3_of_code c)
-
 -- This is refused with a base code, and the word is the one that an interface has for it.
 pub record SaidBy (word : ErrorCode → CodeWord) (Refused : ErrorCode → Type 0) (w : CodeWord) : Type 0 where
   pub code : ErrorCode

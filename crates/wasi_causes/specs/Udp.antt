@@ -6,11 +6,11 @@ use Rattle.wasi_addr.specs.declared.address.IpSocketAddress.{IpSocketAddress}
 use Rattle.wasi_addr.specs.declared.address.SocketAddressFamily.{SocketAddressFamily}
 use Rattle.wasi_addr.specs.declared.address.SocketAddrUse.TheVariants as usages
 use Rattle.wasi_addr.specs.declared.code.ErrorCode.{ErrorCode}
+use Rattle.wasi_addr.specs.declared.code.ErrorCode.TheVariants.{AccessDenied, InvalidArgument, InvalidState, NotSupported}
 use Rattle.wasi_addr.specs.Address.{ip_of, is_of_family}
 use Rattle.wasi_world.specs.declared.ids.OpId.{OpId}
 use Rattle.wasi_world.specs.declared.call.Call.TheVariants as call
 use Rattle.wasi_world.specs.declared.call.Entry.{Entry}
-use Rattle.wasi_world.specs.declared.call.HandleKind.TheVariants as name
 use Rattle.wasi_world.specs.declared.call.Opt.{Opt}
 use Rattle.wasi_world.specs.declared.call.Told.{Told}
 use Rattle.wasi_world.specs.declared.call.Told.TheVariants as told
@@ -21,7 +21,8 @@ use Rattle.wasi_udp.specs.Shape.{Socket}
 use Rattle.wasi_udp.specs.Socket.{asker_of}
 use Rattle.wasi_udp.specs.declared.bind.UdpBindStage.TheVariants as stage
 use Rattle.wasi_udp.specs.Create.{new_create, made_by}
-use Rattle.wasi_host.specs.declared.kind.Kind.TheVariants as kind
+use Rattle.wasi_host.specs.declared.kind.Interface.{Interface}
+use Rattle.wasi_host.specs.declared.kind.Interface.TheVariants.{P2}
 use Rattle.wasi_host.specs.declared.kind.Watched.TheVariants as watched
 use Rattle.wasi_host.specs.declared.machine.Machine.{Machine}
 use Rattle.wasi_host.specs.declared.store.StandingCall.{StandingCall}
@@ -31,7 +32,7 @@ use Rattle.wasi_records.specs.declared.udp.UdpRecord.{UdpRecord}
 use Rattle.wasi_records.specs.declared.udp.UdpRecord.TheVariants as udp
 use Rattle.wasi_records.specs.declared.udp.UdpInProgress.TheVariants as doing
 use Rattle.wasi_records.specs.Datagrams.{has_streams}
-use Rattle.wasi_host.specs.Kinds.{kind_at, watch_of, with_handle}
+use Rattle.wasi_host.specs.Kinds.{kind_at, name_of, udp_kind, watch_of, with_handle}
 use Rattle.wasi_host.specs.Machine.{udp_socket_at}
 use Rattle.wasi_records.specs.Records.{udp2_pushed, open_at, open_put}
 use Rattle.wasi_host.specs.Standing.{standing_as}
@@ -47,6 +48,7 @@ use Rattle.wasi_steps.specs.Settings.{udp_chosen}
 use Rattle.wasi_walks.specs.Answered.{says_bound, word_of_code}
 use Rattle.wasi_walks.specs.Licence.{entry}
 use Rattle.wasi_causes.specs.Datagrams.{MadeBoth}
+use Rattle.wasi_causes.specs.Refusals.{SaidBy}
 
 -- == the sockets that handles name
 -- The handle names a UDP socket that is made and not closed, at this place, of which this holds.
@@ -99,26 +101,35 @@ new_udp own ctx family = opened_udp (made_by (new_create own ctx.name family))
 -- A create is refused: the context may not use UDP, and nothing is asked; or the create returned a code, and nothing is made; or
 -- its network socket, which was made, returned one when it was waited for, and was closed, and nothing is left of the record that
 -- it had.
-pub data UdpCreateRefusal (m : Machine) (own : OpId) (ctx : WasiSocketsCtx) (family : SocketAddressFamily) : List Entry → CodeWord → Machine → Type 0 where
-  UdpNotAllowed : ctx.udp ≡ false → UdpCreateRefusal m own ctx family [] word.AccessDenied m
-  UdpCreateTold : (c : ErrorCode) → ctx.udp ≡ true → UdpCreateRefusal m own ctx family (udp_create_entry own ctx family (told.Code c) ∷ []) (word_of_code c) m
+pub data UdpCreateFails (m : Machine) (own : OpId) (ctx : WasiSocketsCtx) (family : SocketAddressFamily) : List Entry → ErrorCode → Machine → Type 0 where
+  UdpNotAllowed : ctx.udp ≡ false → UdpCreateFails m own ctx family [] AccessDenied m
+  UdpCreateTold : (c : ErrorCode) → ctx.udp ≡ true → UdpCreateFails m own ctx family (udp_create_entry own ctx family (told.Code c) ∷ []) c m
   UdpWritableTold : (c : ErrorCode) → ctx.udp ≡ true
-      → UdpCreateRefusal m own ctx family (udp_create_entry own ctx family told.Done ∷ writable_entry own (told.Code c) ∷ entry own (call.Close own) told.Done ∷ []) (word_of_code c) (giving_back (with_udp_record m (udp.Closed own)) (length m.store.records))
+      → UdpCreateFails m own ctx family (udp_create_entry own ctx family told.Done ∷ writable_entry own (told.Code c) ∷ entry own (call.Close own) told.Done ∷ []) c (giving_back (with_udp_record m (udp.Closed own)) (length m.store.records))
 
--- The socket was made, and its network socket may be used; it has a record, and the next handle, which is marked by the name of
--- the create.
-pub record CreatesUdp (m : Machine) (own : OpId) (ctx : WasiSocketsCtx) (family : SocketAddressFamily) (entries : List Entry) (fields : List Field) (after : Machine) : Type 0 where
+abbrev pub UdpCreateRefusal : Machine → OpId → WasiSocketsCtx → SocketAddressFamily → List Entry → CodeWord → Machine → Type 0
+UdpCreateRefusal m own ctx family es w after = SaidBy word_of_code (λ c. UdpCreateFails m own ctx family es c after) w
+
+-- The socket was made, and its network socket may be used; it has a record, and the next handle in its interface, which is marked by
+-- the name of the create.
+pub record CreatesUdpFor (face : Interface) (m : Machine) (own : OpId) (ctx : WasiSocketsCtx) (family : SocketAddressFamily) (entries : List Entry) (fields : List Field) (after : Machine) : Type 0 where
   pub number : fields ≡ number_fields m.table.next
-  pub asked : entries ≡ udp_create_entry own ctx family told.Done ∷ writable_entry own told.Done ∷ entry own (call.Made m.table.next name.Udp2 None (Some own)) told.Done ∷ []
-  pub left : after ≡ record (with_udp_record m (new_udp own ctx family)) { table = with_handle m.table (kind.Udp2 (length m.store.records)) None }
+  pub asked : entries ≡ udp_create_entry own ctx family told.Done ∷ writable_entry own told.Done ∷ entry own (call.Made m.table.next (name_of (udp_kind face (length m.store.records))) None (Some own)) told.Done ∷ []
+  pub left : after ≡ record (with_udp_record m (new_udp own ctx family)) { table = with_handle m.table (udp_kind face (length m.store.records)) None }
+
+abbrev pub CreatesUdp : Machine → OpId → WasiSocketsCtx → SocketAddressFamily → List Entry → List Field → Machine → Type 0
+CreatesUdp m own ctx family entries fields after = CreatesUdpFor P2 m own ctx family entries fields after
 
 -- The socket was made, and its network socket is waited for: the create is kept in its record, and is pending under its line's
 -- number.
-pub record CreateStands (m : Machine) (line : ℕ) (own : OpId) (ctx : WasiSocketsCtx) (family : SocketAddressFamily) (entries : List Entry) (after : Machine) : Type 0 where
+pub record CreateStandsFor (face : Interface) (m : Machine) (line : ℕ) (own : OpId) (ctx : WasiSocketsCtx) (family : SocketAddressFamily) (entries : List Entry) (after : Machine) : Type 0 where
   pub asked : entries ≡ udp_create_entry own ctx family told.Done ∷ writable_entry own told.Pending ∷ []
   pub table : after.table ≡ m.table
   pub records : after.store.records ≡ udp2_pushed m.store.records (udp.Creating (new_create own ctx.name family))
-  pub stands : after.store.standing ≡ Some (standing_as (first_ids line) (standing.UdpCreate (length m.store.records)))
+  pub stands : after.store.standing ≡ Some (standing_as (first_ids line) (standing.UdpCreate (length m.store.records) face))
+
+abbrev pub CreateStands : Machine → ℕ → OpId → WasiSocketsCtx → SocketAddressFamily → List Entry → Machine → Type 0
+CreateStands m line own ctx family entries after = CreateStandsFor P2 m line own ctx family entries after
 
 -- == whether a socket is bound
 abbrev pub udp_local_entry : OpId → Socket → Told → Entry
@@ -192,10 +203,13 @@ pub record FinishesUdpBind (m : Machine) (place : ℕ) (o : OpenUdp) (after : Ma
 
 -- == addresses
 -- The local address is refused: the socket isn't bound, or is, and its network socket returned a code.
-pub data UdpLocalRefusal (m : Machine) (own : OpId) (place : ℕ) (o : OpenUdp) : List Entry → CodeWord → Machine → Type 0 where
-  UdpNotBound : (local : Told) → IsUdpUnbound o.inner local → UdpLocalRefusal m own place o (udp_local_entry own o.inner local ∷ []) word.InvalidState m
+pub data UdpLocalFails (m : Machine) (own : OpId) (place : ℕ) (o : OpenUdp) : List Entry → ErrorCode → Machine → Type 0 where
+  UdpNotBound : (local : Told) → IsUdpUnbound o.inner local → UdpLocalFails m own place o (udp_local_entry own o.inner local ∷ []) InvalidState m
   UdpLocalTold : (asked : List Entry) (c : ErrorCode) → IsUdpBound own o.inner asked
-      → UdpLocalRefusal m own place o (asked ++ udp_local_entry own o.inner (told.Code c) ∷ []) (word_of_code c) (udp_knowing_bound m place o)
+      → UdpLocalFails m own place o (asked ++ udp_local_entry own o.inner (told.Code c) ∷ []) c (udp_knowing_bound m place o)
+
+abbrev pub UdpLocalRefusal : Machine → OpId → ℕ → OpenUdp → List Entry → CodeWord → Machine → Type 0
+UdpLocalRefusal m own place o es w after = SaidBy word_of_code (λ c. UdpLocalFails m own place o es c after) w
 
 -- The socket is bound, and the address is the one that its network socket reported last.
 pub record TellsUdpLocal (m : Machine) (own : OpId) (place : ℕ) (o : OpenUdp) (entries : List Entry) (fields : List Field) (after : Machine) : Type 0 where
@@ -214,9 +228,12 @@ pub record TellsUdpRemote (o : OpenUdp) (fields : List Field) : Type 0 where
 
 -- == options
 -- A get is refused: the network socket returned a code, or a value that is too large for the option.
-pub data UdpGetRefusal (own : OpId) (option : Opt) (o : OpenUdp) : List Entry → CodeWord → Type 0 where
-  UdpGetTold : (c : ErrorCode) → UdpGetRefusal own option o (entry own (call.GetOption o.inner.side option) (told.Code c) ∷ []) (word_of_code c)
-  UdpTooLarge : (value : ℕ) → largest_value option < value_told option value → UdpGetRefusal own option o (entry own (call.GetOption o.inner.side option) (told.Value value) ∷ []) word.NotSupported
+pub data UdpGetFails (own : OpId) (option : Opt) (o : OpenUdp) : List Entry → ErrorCode → Type 0 where
+  UdpGetTold : (c : ErrorCode) → UdpGetFails own option o (entry own (call.GetOption o.inner.side option) (told.Code c) ∷ []) c
+  UdpTooLarge : (value : ℕ) → largest_value option < value_told option value → UdpGetFails own option o (entry own (call.GetOption o.inner.side option) (told.Value value) ∷ []) NotSupported
+
+abbrev pub UdpGetRefusal : OpId → Opt → OpenUdp → List Entry → CodeWord → Type 0
+UdpGetRefusal own option o es w = SaidBy word_of_code (UdpGetFails own option o es) w
 
 -- The one thing asked was the option of the network socket, and the fields are the number that it was answered, as the option
 -- reads it, which isn't too large.
@@ -230,9 +247,12 @@ abbrev pub udp_set_entry : OpId → UdpSetting → OpenUdp → Told → Entry
 udp_set_entry own setting o told = entry own (call.SetOption o.inner.side (udp_chosen setting).0 (value_set (udp_chosen setting).0 (udp_chosen setting).1)) told
 
 -- A set is refused: 0 is no value of any option, and nothing is asked; or the network socket returned a code.
-pub data UdpSetRefusal (own : OpId) (setting : UdpSetting) (o : OpenUdp) : List Entry → CodeWord → Type 0 where
-  UdpZero : (udp_chosen setting).1 ≡ 0 → UdpSetRefusal own setting o [] word.InvalidArgument
-  UdpSetTold : (c : ErrorCode) → 0 < (udp_chosen setting).1 → UdpSetRefusal own setting o (udp_set_entry own setting o (told.Code c) ∷ []) (word_of_code c)
+pub data UdpSetFails (own : OpId) (setting : UdpSetting) (o : OpenUdp) : List Entry → ErrorCode → Type 0 where
+  UdpZero : (udp_chosen setting).1 ≡ 0 → UdpSetFails own setting o [] InvalidArgument
+  UdpSetTold : (c : ErrorCode) → 0 < (udp_chosen setting).1 → UdpSetFails own setting o (udp_set_entry own setting o (told.Code c) ∷ []) c
+
+abbrev pub UdpSetRefusal : OpId → UdpSetting → OpenUdp → List Entry → CodeWord → Type 0
+UdpSetRefusal own setting o es w = SaidBy word_of_code (UdpSetFails own setting o es) w
 
 -- The value isn't 0, and the one thing asked was to set the option of the network socket to it, brought into its range, and
 -- that was answered done.
@@ -256,12 +276,12 @@ udp_left m place (udp.Closed side) = giving_back m place
 -- a create that is done gives the next handle, which is of its record, and the socket is there; datagram streams give the next two,
 -- under the handle that they were asked of; a call of a stream gives what it is for; the others give nothing; and none of these makes one
 abbrev pub GivesBy : Machine → List Field → Machine → StandingCall → Type 0
-GivesBy m fields after (standing.UdpCreate place) = (fields ≡ number_fields m.table.next) × (after.table ≡ with_handle m.table (kind.Udp2 place) None) × IsSome (open_at after.store.records place)
+GivesBy m fields after (standing.UdpCreate place face) = (fields ≡ number_fields m.table.next) × (after.table ≡ with_handle m.table (udp_kind face place) None) × IsSome (open_at after.store.records place)
 GivesBy m fields after (standing.UdpConnect place handle) = MadeBoth m handle fields after
 GivesBy m fields after (standing.Blocking call) = GivesOf call fields × (after.table ≡ m.table)
 GivesBy m fields after _ = (fields ≡ no_fields) × (after.table ≡ m.table)
 
 -- it is a create
 abbrev pub IsPendingCreate : StandingCall → Type 0
-IsPendingCreate (standing.UdpCreate place) = Unit {0}
+IsPendingCreate (standing.UdpCreate place face) = Unit {0}
 IsPendingCreate _ = ⊥

@@ -42,37 +42,43 @@ pub fn calls_that_block_are_their_parts()
     ensures read { (contexts : List WasiSocketsCtx) (m : Machine) (line ctx input len : ℕ)
         (entries : List Entry) (reply : Reply) (after : Machine)
         → m.store.standing ≡ None
-        → Answered contexts m line (Step.Call ctx (GuestCall.BlockingRead input len)) entries reply after
+        → Answered contexts m line (Step.Call ctx (GuestCall.BlockingRead input len)) entries reply
+        after
         → BlocksAs contexts m ctx (first_ids line) (BlockingCall.Read input len) entries reply
         after }
     ensures skip { (contexts : List WasiSocketsCtx) (m : Machine) (line ctx input len : ℕ)
         (entries : List Entry) (reply : Reply) (after : Machine)
         → m.store.standing ≡ None
-        → Answered contexts m line (Step.Call ctx (GuestCall.BlockingSkip input len)) entries reply after
+        → Answered contexts m line (Step.Call ctx (GuestCall.BlockingSkip input len)) entries reply
+        after
         → BlocksAs contexts m ctx (first_ids line) (BlockingCall.Skip input len) entries reply
         after }
     ensures write { (contexts : List WasiSocketsCtx) (m : Machine) (line ctx output : ℕ)
         (bytes : List ℕ) (entries : List Entry) (reply : Reply) (after : Machine)
         → m.store.standing ≡ None
-        → Answered contexts m line (Step.Call ctx (GuestCall.BlockingWrite output bytes)) entries reply after
+        → Answered contexts m line (Step.Call ctx (GuestCall.BlockingWrite output bytes)) entries
+        reply after
         → BeginsToWrite contexts m ctx (first_ids line) output (length bytes) bytes entries
         reply after }
     ensures zeroes { (contexts : List WasiSocketsCtx) (m : Machine) (line ctx output len : ℕ)
         (entries : List Entry) (reply : Reply) (after : Machine)
         → m.store.standing ≡ None
-        → Answered contexts m line (Step.Call ctx (GuestCall.BlockingZeroes output len)) entries reply after
+        → Answered contexts m line (Step.Call ctx (GuestCall.BlockingZeroes output len)) entries
+        reply after
         → BeginsToWrite contexts m ctx (first_ids line) output len (zeros len) entries reply
         after }
     ensures flush { (contexts : List WasiSocketsCtx) (m : Machine) (line ctx output : ℕ)
         (entries : List Entry) (reply : Reply) (after : Machine)
         → m.store.standing ≡ None
-        → Answered contexts m line (Step.Call ctx (GuestCall.BlockingFlush output)) entries reply after
+        → Answered contexts m line (Step.Call ctx (GuestCall.BlockingFlush output)) entries reply
+        after
         → BlocksAs contexts m ctx (first_ids line) (BlockingCall.Flush output) entries reply
         after }
     ensures splice { (contexts : List WasiSocketsCtx) (m : Machine) (line ctx to from len : ℕ)
         (entries : List Entry) (reply : Reply) (after : Machine)
         → m.store.standing ≡ None
-        → Answered contexts m line (Step.Call ctx (GuestCall.BlockingSplice to from len)) entries reply after
+        → Answered contexts m line (Step.Call ctx (GuestCall.BlockingSplice to from len)) entries
+        reply after
         → BlocksAs contexts m ctx (first_ids line) (BlockingCall.Splice to from len) entries
         reply after }
 {}

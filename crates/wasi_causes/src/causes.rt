@@ -3,9 +3,9 @@
 //! is a TCP socket here, where nothing else is said.
 //!
 //! Other modules have the calls of TCP sockets (`tcp`), their listens and accepts (`listens`),
-//! options (`options`), 0.3 sockets (`p3`), UDP sockets (`udp`), their datagram streams (`datagrams`), the calls of
-//! streams (`stream_calls`, `blocking`), pending calls (`pending_calls`), pollables (`readiness`),
-//! waits for them (`waiting`), and lookups (`lookups`).
+//! options (`options`), 0.3 sockets (`p3`), UDP sockets (`udp`), their datagram streams
+//! (`datagrams`), the calls of streams (`stream_calls`, `blocking`), pending calls
+//! (`pending_calls`), pollables (`readiness`), waits for them (`waiting`), and lookups (`lookups`).
 
 ghost use Rattle.std.specs.Prelude.{◌≡◌, ◌↔◌, ◌⊎◌, ℕ, ◌+◌, true, List, [], ◌∷◌, IsSome};
 ghost use Rattle.std.specs.Prelude.{Some, None};
@@ -222,15 +222,18 @@ pub fn runs_keep_their_records()
 pub fn errors_have_no_network_code()
     ensures none { (contexts : List WasiSocketsCtx) (m : Machine) (line ctx error : ℕ)
         (fields : List Field) (entries : List Entry) (after : Machine)
-        → Answered contexts m line (Step.Call ctx (GuestCall.NetworkErrorCode error)) entries (Reply.Ok fields) after
+        → Answered contexts m line (Step.Call ctx (GuestCall.NetworkErrorCode error)) entries
+        (Reply.Ok fields) after
         → fields ≡ Field.Absent ∷ [] }
     ensures never { (contexts : List WasiSocketsCtx) (m : Machine) (line ctx error : ℕ)
         (entries : List Entry) (word : CodeWord) (after : Machine)
-        → Answered contexts m line (Step.Call ctx (GuestCall.NetworkErrorCode error)) entries (Reply.Err word) after
+        → Answered contexts m line (Step.Call ctx (GuestCall.NetworkErrorCode error)) entries
+        (Reply.Err word) after
         → ⊥ }
     ensures quiet { (contexts : List WasiSocketsCtx) (m : Machine) (line ctx error : ℕ)
         (entries : List Entry) (reply : Reply) (after : Machine)
-        → Answered contexts m line (Step.Call ctx (GuestCall.NetworkErrorCode error)) entries reply after
+        → Answered contexts m line (Step.Call ctx (GuestCall.NetworkErrorCode error)) entries reply
+        after
         → (entries ≡ []) × (after ≡ m) }
 {}
 
@@ -259,17 +262,20 @@ pub fn drops_give_up_what_is_open()
     ensures given_up { (contexts : List WasiSocketsCtx) (m : Machine) (line ctx handle : ℕ)
         (r : TcpRecord) (fields : List Field) (entries : List Entry) (after : Machine)
         → record_at m handle ≡ Some r
-        → Answered contexts m line (Step.Call ctx (GuestCall.Drop handle)) entries (Reply.Ok fields) after
+        → Answered contexts m line (Step.Call ctx (GuestCall.Drop handle)) entries (Reply.Ok fields)
+        after
         → entries ≡ socket_given_up (own_of line) r }
     ensures gone { (contexts : List WasiSocketsCtx) (m : Machine) (line ctx handle : ℕ)
         (r : TcpRecord) (fields : List Field) (entries : List Entry) (after : Machine)
         → record_at m handle ≡ Some r
-        → Answered contexts m line (Step.Call ctx (GuestCall.Drop handle)) entries (Reply.Ok fields) after
+        → Answered contexts m line (Step.Call ctx (GuestCall.Drop handle)) entries (Reply.Ok fields)
+        after
         → OfRecord m handle (λ place r. IsGone m handle place after) }
     ensures plain { (contexts : List WasiSocketsCtx) (m : Machine) (line ctx handle : ℕ)
         (kind : Kind) (entries : List Entry) (reply : Reply) (after : Machine)
         → kind_at m.table handle ≡ Some kind → GoesAtOnce kind
-        → Answered contexts m line (Step.Call ctx (GuestCall.Drop handle)) entries reply after → entries ≡ [] }
+        → Answered contexts m line (Step.Call ctx (GuestCall.Drop handle)) entries reply after →
+        entries ≡ [] }
     ensures plain_leaves { (contexts : List WasiSocketsCtx) (m : Machine) (line ctx handle : ℕ)
         (kind : Kind) (entries : List Entry) (reply : Reply) (after : Machine)
         → kind_at m.table handle ≡ Some kind → GoesAtOnce kind → IsDropped reply
@@ -279,13 +285,15 @@ pub fn drops_give_up_what_is_open()
         (bytes : List ℕ) (fields : List Field) (entries : List Entry) (after : Machine)
         → kind_at m.table handle ≡ Some (Kind.PlainInput (PlainInput.Pipe place))
         → input_pipe_at m.store.records place ≡ Some bytes
-        → Answered contexts m line (Step.Call ctx (GuestCall.Drop handle)) entries (Reply.Ok fields) after
+        → Answered contexts m line (Step.Call ctx (GuestCall.Drop handle)) entries (Reply.Ok fields)
+        after
         → (entries ≡ []) × (after ≡ giving_back (without m handle) place) }
     ensures output_pipe { (contexts : List WasiSocketsCtx) (m : Machine) (line ctx handle place : ℕ)
         (pipe : Contents) (fields : List Field) (entries : List Entry) (after : Machine)
         → kind_at m.table handle ≡ Some (Kind.PlainOutput (PlainOutput.Pipe place))
         → output_pipe_at m.store.records place ≡ Some pipe
-        → Answered contexts m line (Step.Call ctx (GuestCall.Drop handle)) entries (Reply.Ok fields) after
+        → Answered contexts m line (Step.Call ctx (GuestCall.Drop handle)) entries (Reply.Ok fields)
+        after
         → (entries ≡ []) × (after ≡ giving_back (without m handle) place) }
     ensures output { (contexts : List WasiSocketsCtx) (m : Machine) (line ctx handle place : ℕ)
         (entries : List Entry) (reply : Reply) (after : Machine)
@@ -294,11 +302,13 @@ pub fn drops_give_up_what_is_open()
         → LooksOnce (own_of line) entries }
     ensures table { (contexts : List WasiSocketsCtx) (m : Machine) (line ctx handle : ℕ)
         (entries : List Entry) (reply : Reply) (after : Machine)
-        → IsDropped reply → Answered contexts m line (Step.Call ctx (GuestCall.Drop handle)) entries reply after
+        → IsDropped reply → Answered contexts m line (Step.Call ctx (GuestCall.Drop handle)) entries
+        reply after
         → after.table ≡ without_handle m.table handle }
     ensures not_live { (contexts : List WasiSocketsCtx) (m : Machine) (line ctx handle : ℕ)
         (entries : List Entry) (reply : Reply) (after : Machine)
-        → IsDropped reply → Answered contexts m line (Step.Call ctx (GuestCall.Drop handle)) entries reply after
+        → IsDropped reply → Answered contexts m line (Step.Call ctx (GuestCall.Drop handle)) entries
+        reply after
         → kind_at after.table handle ≡ None }
 {}
 

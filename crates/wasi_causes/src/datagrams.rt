@@ -64,32 +64,33 @@ pub fn udp_streams_make_two_handles()
     ensures numbers { (contexts : List WasiSocketsCtx) (m : Machine) (line ctx handle : ℕ)
         (remote : Option IpSocketAddress) (fields : List Field) (entries : List Entry)
         (after : Machine)
-        → Answered contexts m line (Step.Call ctx (GuestCall.UdpStream handle remote)) entries (Reply.Ok fields)
-        after
+        → Answered contexts m line (Step.Call ctx (GuestCall.UdpStream handle remote)) entries
+        (Reply.Ok fields) after
         → fields ≡ pair_fields m.table.next (m.table.next + 1) }
     ensures made { (contexts : List WasiSocketsCtx) (m : Machine) (line ctx handle : ℕ)
         (remote : Option IpSocketAddress) (fields : List Field) (entries : List Entry)
         (after : Machine)
-        → Answered contexts m line (Step.Call ctx (GuestCall.UdpStream handle remote)) entries (Reply.Ok fields)
-        after
+        → Answered contexts m line (Step.Call ctx (GuestCall.UdpStream handle remote)) entries
+        (Reply.Ok fields) after
         → IsSomeAnd (udp_socket_at m handle) (λ place. after.table ≡ with_both m.table place handle) }
     ensures new { (contexts : List WasiSocketsCtx) (m : Machine) (line ctx handle : ℕ)
         (remote : Option IpSocketAddress) (fields : List Field) (entries : List Entry)
         (after : Machine)
-        → Answered contexts m line (Step.Call ctx (GuestCall.UdpStream handle remote)) entries (Reply.Ok fields)
-        after
+        → Answered contexts m line (Step.Call ctx (GuestCall.UdpStream handle remote)) entries
+        (Reply.Ok fields) after
         → OfUdp m handle (λ place o. HasNewStreams place after) }
     ensures asked { (contexts : List WasiSocketsCtx) (m : Machine) (line ctx handle : ℕ)
         (remote : Option IpSocketAddress) (fields : List Field) (entries : List Entry)
         (after : Machine)
-        → Answered contexts m line (Step.Call ctx (GuestCall.UdpStream handle remote)) entries (Reply.Ok fields)
-        after
+        → Answered contexts m line (Step.Call ctx (GuestCall.UdpStream handle remote)) entries
+        (Reply.Ok fields) after
         → OfUdp m handle (λ place o. MakesStreams m (own_of line) handle place o remote entries
         after) }
     ensures alive { (contexts : List WasiSocketsCtx) (m : Machine) (line ctx handle : ℕ)
         (remote : Option IpSocketAddress) (entries : List Entry) (reply : Reply) (after : Machine)
         → m.store.standing ≡ None
-        → Answered contexts m line (Step.Call ctx (GuestCall.UdpStream handle remote)) entries reply after
+        → Answered contexts m line (Step.Call ctx (GuestCall.UdpStream handle remote)) entries reply
+        after
         → (reply ≡ Reply.Trap TrapKind.StreamsAlive) ↔ HasUdpStreams (open_udp_at m handle) }
     ensures alive_stays { (contexts : List WasiSocketsCtx) (m : Machine) (line ctx handle : ℕ)
         (remote : Option IpSocketAddress) (entries : List Entry) (after : Machine)
@@ -114,8 +115,8 @@ pub fn new_streams_keep_the_remote_address()
     ensures kept { (contexts : List WasiSocketsCtx) (m : Machine) (line ctx handle : ℕ)
         (remote : Option IpSocketAddress) (fields : List Field) (entries : List Entry)
         (after : Machine)
-        → Answered contexts m line (Step.Call ctx (GuestCall.UdpStream handle remote)) entries (Reply.Ok fields)
-        after
+        → Answered contexts m line (Step.Call ctx (GuestCall.UdpStream handle remote)) entries
+        (Reply.Ok fields) after
         → OfUdp m handle (λ place o. NewStreamsKeep m (own_of line) handle place o remote entries
         after) }
 {}
@@ -134,7 +135,8 @@ pub fn new_streams_keep_the_remote_address()
 pub fn udp_stream_refusals()
     ensures cause { (contexts : List WasiSocketsCtx) (m : Machine) (line ctx handle : ℕ)
         (remote : Option IpSocketAddress) (entries : List Entry) (word : CodeWord) (after : Machine)
-        → Answered contexts m line (Step.Call ctx (GuestCall.UdpStream handle remote)) entries (Reply.Err word) after
+        → Answered contexts m line (Step.Call ctx (GuestCall.UdpStream handle remote)) entries
+        (Reply.Err word) after
         → RefusedOfUdp m handle (λ place o. UdpStreamRefusal m (own_of line) place o remote) entries
         word after }
 {}
@@ -149,13 +151,13 @@ pub fn udp_stream_refusals()
 pub fn udp_streams_wait_for_their_connect()
     ensures waits { (contexts : List WasiSocketsCtx) (m : Machine) (line ctx handle : ℕ)
         (remote : Option IpSocketAddress) (entries : List Entry) (number : ℕ) (after : Machine)
-        → Answered contexts m line (Step.Call ctx (GuestCall.UdpStream handle remote)) entries (Reply.Pending number)
-        after
+        → Answered contexts m line (Step.Call ctx (GuestCall.UdpStream handle remote)) entries
+        (Reply.Pending number) after
         → OfUdp m handle (λ place o. StreamsStand m line handle place o remote entries after) }
     ensures handles { (contexts : List WasiSocketsCtx) (m : Machine) (line ctx handle : ℕ)
         (remote : Option IpSocketAddress) (entries : List Entry) (number : ℕ) (after : Machine)
-        → Answered contexts m line (Step.Call ctx (GuestCall.UdpStream handle remote)) entries (Reply.Pending number)
-        after
+        → Answered contexts m line (Step.Call ctx (GuestCall.UdpStream handle remote)) entries
+        (Reply.Pending number) after
         → after.table ≡ m.table }
     ensures live { (contexts : List WasiSocketsCtx) (steps : List Step) (log : List Entry)
         (replies : List Reply) (m : Machine)
@@ -172,16 +174,19 @@ pub fn udp_streams_wait_for_their_connect()
 pub fn send_permits_have_causes()
     ensures asks_nothing { (contexts : List WasiSocketsCtx) (m : Machine) (line ctx outgoing : ℕ)
         (entries : List Entry) (reply : Reply) (after : Machine)
-        → Answered contexts m line (Step.Call ctx (GuestCall.UdpCheckSend outgoing)) entries reply after
+        → Answered contexts m line (Step.Call ctx (GuestCall.UdpCheckSend outgoing)) entries reply
+        after
         → entries ≡ [] }
     ensures permit { (contexts : List WasiSocketsCtx) (m : Machine) (line ctx outgoing : ℕ)
         (fields : List Field) (entries : List Entry) (after : Machine)
-        → Answered contexts m line (Step.Call ctx (GuestCall.UdpCheckSend outgoing)) entries (Reply.Ok fields) after
+        → Answered contexts m line (Step.Call ctx (GuestCall.UdpCheckSend outgoing)) entries
+        (Reply.Ok fields) after
         → OfOutgoing m (outgoing_at m outgoing) (λ place o out. PermitsSend m place o out fields
         after) }
     ensures never { (contexts : List WasiSocketsCtx) (m : Machine) (line ctx outgoing : ℕ)
         (entries : List Entry) (word : CodeWord) (after : Machine)
-        → Answered contexts m line (Step.Call ctx (GuestCall.UdpCheckSend outgoing)) entries (Reply.Err word) after
+        → Answered contexts m line (Step.Call ctx (GuestCall.UdpCheckSend outgoing)) entries
+        (Reply.Err word) after
         → ⊥ }
 {}
 
@@ -194,7 +199,8 @@ pub fn sends_past_the_permit_trap()
     ensures exactly { (contexts : List WasiSocketsCtx) (m : Machine) (line ctx outgoing : ℕ)
         (datagrams : List OutgoingDatagram) (entries : List Entry) (reply : Reply) (after : Machine)
         → m.store.standing ≡ None
-        → Answered contexts m line (Step.Call ctx (GuestCall.UdpSend outgoing datagrams)) entries reply after
+        → Answered contexts m line (Step.Call ctx (GuestCall.UdpSend outgoing datagrams)) entries
+        reply after
         → (reply ≡ Reply.Trap TrapKind.NotPermitted)
         ↔ IsSomeAnd (outgoing_in m outgoing) (λ out. out.permit < length datagrams) }
     ensures stays { (contexts : List WasiSocketsCtx) (m : Machine) (line ctx outgoing : ℕ)
@@ -213,13 +219,15 @@ pub fn stream_drops_ask_nothing()
         (o : OpenUdp) (fields : List Field) (entries : List Entry) (after : Machine)
         → kind_at m.table handle ≡ Some (Kind.Incoming place)
         → open_at m.store.records place ≡ Some o
-        → Answered contexts m line (Step.Call ctx (GuestCall.Drop handle)) entries (Reply.Ok fields) after
+        → Answered contexts m line (Step.Call ctx (GuestCall.Drop handle)) entries (Reply.Ok fields)
+        after
         → IncomingGone m handle place o entries after }
     ensures outgoing { (contexts : List WasiSocketsCtx) (m : Machine) (line ctx handle place : ℕ)
         (o : OpenUdp) (fields : List Field) (entries : List Entry) (after : Machine)
         → kind_at m.table handle ≡ Some (Kind.Outgoing place)
         → open_at m.store.records place ≡ Some o
-        → Answered contexts m line (Step.Call ctx (GuestCall.Drop handle)) entries (Reply.Ok fields) after
+        → Answered contexts m line (Step.Call ctx (GuestCall.Drop handle)) entries (Reply.Ok fields)
+        after
         → OutgoingGone m handle place o entries after }
 {}
 
@@ -247,47 +255,47 @@ pub fn sends_have_causes()
     ensures count { (contexts : List WasiSocketsCtx) (m : Machine) (line ctx outgoing : ℕ)
         (datagrams : List OutgoingDatagram) (fields : List Field) (entries : List Entry)
         (after : Machine)
-        → Answered contexts m line (Step.Call ctx (GuestCall.UdpSend outgoing datagrams)) entries (Reply.Ok fields)
-        after
+        → Answered contexts m line (Step.Call ctx (GuestCall.UdpSend outgoing datagrams)) entries
+        (Reply.Ok fields) after
         → SendsSome datagrams fields }
     ensures cause { (contexts : List WasiSocketsCtx) (m : Machine) (line ctx outgoing : ℕ)
         (datagrams : List OutgoingDatagram) (entries : List Entry) (word : CodeWord)
         (after : Machine)
-        → Answered contexts m line (Step.Call ctx (GuestCall.UdpSend outgoing datagrams)) entries (Reply.Err word)
-        after
+        → Answered contexts m line (Step.Call ctx (GuestCall.UdpSend outgoing datagrams)) entries
+        (Reply.Err word) after
         → OfOutgoing m (outgoing_at m outgoing) (λ place o out. UdpSendRefusal m
         (next_name (first_ids line)) place datagrams o out entries word after) }
     ensures spends { (contexts : List WasiSocketsCtx) (m : Machine) (line ctx outgoing : ℕ)
         (datagrams : List OutgoingDatagram) (fields : List Field) (entries : List Entry)
         (after : Machine)
-        → 0 < length datagrams → Answered contexts m line (Step.Call ctx (GuestCall.UdpSend outgoing datagrams))
-        entries (Reply.Ok fields) after
+        → 0 < length datagrams → Answered contexts m line (Step.Call ctx (GuestCall.UdpSend outgoing
+        datagrams)) entries (Reply.Ok fields) after
         → IsSpent after outgoing }
     ensures spends_refused { (contexts : List WasiSocketsCtx) (m : Machine) (line ctx outgoing : ℕ)
         (datagrams : List OutgoingDatagram) (entries : List Entry) (word : CodeWord)
         (after : Machine)
-        → Answered contexts m line (Step.Call ctx (GuestCall.UdpSend outgoing datagrams)) entries (Reply.Err word)
-        after
+        → Answered contexts m line (Step.Call ctx (GuestCall.UdpSend outgoing datagrams)) entries
+        (Reply.Err word) after
         → IsSpent after outgoing }
     ensures asked { (contexts : List WasiSocketsCtx) (m : Machine) (line ctx outgoing : ℕ)
         (datagrams : List OutgoingDatagram) (before rest : List Entry) (e : Entry) (reply : Reply)
         (after : Machine)
-        → Answered contexts m line (Step.Call ctx (GuestCall.UdpSend outgoing datagrams)) (before ++ e ∷ rest) reply
-        after
+        → Answered contexts m line (Step.Call ctx (GuestCall.UdpSend outgoing datagrams))
+        (before ++ e ∷ rest) reply after
         → OfOutgoing m (outgoing_at m outgoing) (λ place o out. IsOfSend line o.inner datagrams
         before e.op e.call) }
     ensures sent { (contexts : List WasiSocketsCtx) (m : Machine) (line ctx outgoing : ℕ)
         (datagrams : List OutgoingDatagram) (fields : List Field) (entries : List Entry)
         (after : Machine)
-        → Answered contexts m line (Step.Call ctx (GuestCall.UdpSend outgoing datagrams)) entries (Reply.Ok fields)
-        after
+        → Answered contexts m line (Step.Call ctx (GuestCall.UdpSend outgoing datagrams)) entries
+        (Reply.Ok fields) after
         → OfOutgoing m (outgoing_at m outgoing) (λ place o out. CountsSent line o.inner datagrams
         fields entries (datagram_of (open_at after.store.records place))) }
     ensures fewer { (contexts : List WasiSocketsCtx) (m : Machine) (line ctx outgoing : ℕ)
         (datagrams : List OutgoingDatagram) (fields : List Field) (entries : List Entry)
         (after : Machine)
-        → Answered contexts m line (Step.Call ctx (GuestCall.UdpSend outgoing datagrams)) entries (Reply.Ok fields)
-        after
+        → Answered contexts m line (Step.Call ctx (GuestCall.UdpSend outgoing datagrams)) entries
+        (Reply.Ok fields) after
         → OfOutgoing m (outgoing_at m outgoing) (λ place o out. CountsUpTo line o.inner out.sending
         datagrams fields entries) }
     ensures none { (contexts : List WasiSocketsCtx) (m : Machine) (line ctx outgoing : ℕ)
@@ -316,13 +324,14 @@ pub fn sends_are_refused_by_their_line()
         → open_at m.store.records place ≡ Some o → o.outgoing ≡ Some out
         → out.sending ≡ Sending.Nothing → length (d ∷ more) ≤ out.permit
         → IsUnsendable o.inner.family o.inner.remote d c
-        → Answered contexts m line (Step.Call ctx (GuestCall.UdpSend outgoing (d ∷ more))) entries reply after
+        → Answered contexts m line (Step.Call ctx (GuestCall.UdpSend outgoing (d ∷ more))) entries
+        reply after
         → reply ≡ Reply.Err (word_of_code c) }
     ensures only { (contexts : List WasiSocketsCtx) (m : Machine) (line ctx outgoing : ℕ)
         (datagrams : List OutgoingDatagram) (entries : List Entry) (word : CodeWord)
         (after : Machine)
-        → Answered contexts m line (Step.Call ctx (GuestCall.UdpSend outgoing datagrams)) entries (Reply.Err word)
-        after
+        → Answered contexts m line (Step.Call ctx (GuestCall.UdpSend outgoing datagrams)) entries
+        (Reply.Err word) after
         → OfOutgoing m (outgoing_at m outgoing) (λ place o out. RefusesSend o.inner.family
         o.inner.remote out.sending datagrams entries word) }
 {}
@@ -344,44 +353,45 @@ pub fn sends_are_refused_by_their_line()
 /// - `fewer`: fewer than were wanted, and fewer than 16, are handed out only where there is no room
 ///   for more; or a receive was in progress before and is so still, and then none is handed out and
 ///   nothing asked; or one of the line's receives is in progress afterwards: the last call was its,
-///   and was answered pending, or it dropped 64 datagrams; or, after at least one, a receive failed.
+///   and was answered pending, or it dropped 64 datagrams; or, after at least one, a receive
+///   failed.
 /// - `none`: none is handed out only where none was wanted or a receive is in progress afterwards,
 ///   as just said.
 pub fn receives_have_causes()
     ensures datagrams { (contexts : List WasiSocketsCtx) (m : Machine) (line ctx incoming most : ℕ)
         (fields : List Field) (entries : List Entry) (after : Machine)
-        → Answered contexts m line (Step.Call ctx (GuestCall.UdpReceive incoming most)) entries (Reply.Ok fields)
-        after
+        → Answered contexts m line (Step.Call ctx (GuestCall.UdpReceive incoming most)) entries
+        (Reply.Ok fields) after
         → ReceivesSome most fields }
     ensures cause { (contexts : List WasiSocketsCtx) (m : Machine) (line ctx incoming most : ℕ)
         (entries : List Entry) (word : CodeWord) (after : Machine)
-        → Answered contexts m line (Step.Call ctx (GuestCall.UdpReceive incoming most)) entries (Reply.Err word)
-        after
+        → Answered contexts m line (Step.Call ctx (GuestCall.UdpReceive incoming most)) entries
+        (Reply.Err word) after
         → OfIncoming m (incoming_at m incoming) (λ place o inc. UdpReceiveRefusal m
         (next_name (first_ids line)) place o inc entries word after) }
     ensures asked { (contexts : List WasiSocketsCtx) (m : Machine) (line ctx incoming most : ℕ)
         (before rest : List Entry) (e : Entry) (reply : Reply) (after : Machine)
-        → Answered contexts m line (Step.Call ctx (GuestCall.UdpReceive incoming most)) (before ++ e ∷ rest) reply
-        after
+        → Answered contexts m line (Step.Call ctx (GuestCall.UdpReceive incoming most))
+        (before ++ e ∷ rest) reply after
         → OfIncoming m (incoming_at m incoming) (λ place o inc. IsOfReceive line o.inner most before
         e.op e.call) }
     ensures came { (contexts : List WasiSocketsCtx) (m : Machine) (line ctx incoming most : ℕ)
         (fields : List Field) (entries : List Entry) (after : Machine)
-        → Answered contexts m line (Step.Call ctx (GuestCall.UdpReceive incoming most)) entries (Reply.Ok fields)
-        after
+        → Answered contexts m line (Step.Call ctx (GuestCall.UdpReceive incoming most)) entries
+        (Reply.Ok fields) after
         → OfIncoming m (incoming_at m incoming) (λ place o inc. HandsOutWhatCame line o.inner inc
         fields entries) }
     ensures from { (contexts : List WasiSocketsCtx) (steps : List Step) (log : List Entry)
         (replies : List Reply) (m : Machine) (line ctx incoming most : ℕ) (fields : List Field)
         (entries : List Entry) (after : Machine)
         → Left (run contexts [] first_state 1 steps) log (Give (replies, m))
-        → Answered contexts m line (Step.Call ctx (GuestCall.UdpReceive incoming most)) entries (Reply.Ok fields)
-        after
+        → Answered contexts m line (Step.Call ctx (GuestCall.UdpReceive incoming most)) entries
+        (Reply.Ok fields) after
         → OfIncoming m (incoming_at m incoming) (λ place o inc. ReceivedFrom inc.remote fields) }
     ensures fewer { (contexts : List WasiSocketsCtx) (m : Machine) (line ctx incoming most : ℕ)
         (fields : List Field) (entries : List Entry) (after : Machine)
-        → Answered contexts m line (Step.Call ctx (GuestCall.UdpReceive incoming most)) entries (Reply.Ok fields)
-        after
+        → Answered contexts m line (Step.Call ctx (GuestCall.UdpReceive incoming most)) entries
+        (Reply.Ok fields) after
         → OfIncoming m (incoming_at m incoming) (λ place o inc. HandsOutUpTo line o.inner most inc
         (receive_of (open_at after.store.records place)) fields entries) }
     ensures none { (contexts : List WasiSocketsCtx) (m : Machine) (line ctx incoming most : ℕ)

@@ -42,20 +42,24 @@ ghost use Rattle.wasi_causes.specs.Reached.{ListensNoMore};
 pub fn finish_listen_refusals()
     ensures asks_nothing { (contexts : List WasiSocketsCtx) (m : Machine) (line ctx handle : ℕ)
         (entries : List Entry) (reply : Reply) (after : Machine)
-        → Answered contexts m line (Step.Call ctx (GuestCall.TcpFinishListen handle)) entries reply after
+        → Answered contexts m line (Step.Call ctx (GuestCall.TcpFinishListen handle)) entries reply
+        after
         → entries ≡ [] }
     ensures exactly { (contexts : List WasiSocketsCtx) (m : Machine) (line ctx handle : ℕ)
         (entries : List Entry) (reply : Reply) (after : Machine)
         → m.store.standing ≡ None
-        → Answered contexts m line (Step.Call ctx (GuestCall.TcpFinishListen handle)) entries reply after
+        → Answered contexts m line (Step.Call ctx (GuestCall.TcpFinishListen handle)) entries reply
+        after
         → (reply ≡ Reply.Err CodeWord.NotInProgress) ↔ HasNoListenInProgress (record_at m handle) }
     ensures no_other { (contexts : List WasiSocketsCtx) (m : Machine) (line ctx handle : ℕ)
         (entries : List Entry) (word : CodeWord) (after : Machine)
-        → Answered contexts m line (Step.Call ctx (GuestCall.TcpFinishListen handle)) entries (Reply.Err word) after
+        → Answered contexts m line (Step.Call ctx (GuestCall.TcpFinishListen handle)) entries
+        (Reply.Err word) after
         → word ≡ CodeWord.NotInProgress }
     ensures stays { (contexts : List WasiSocketsCtx) (m : Machine) (line ctx handle : ℕ)
         (entries : List Entry) (word : CodeWord) (after : Machine)
-        → Answered contexts m line (Step.Call ctx (GuestCall.TcpFinishListen handle)) entries (Reply.Err word) after
+        → Answered contexts m line (Step.Call ctx (GuestCall.TcpFinishListen handle)) entries
+        (Reply.Err word) after
         → after ≡ m }
 {}
 
@@ -76,26 +80,28 @@ pub fn start_listen_refusals()
     ensures exactly { (contexts : List WasiSocketsCtx) (m : Machine) (line ctx handle : ℕ)
         (entries : List Entry) (reply : Reply) (after : Machine)
         → m.store.standing ≡ None
-        → Answered contexts m line (Step.Call ctx (GuestCall.TcpStartListen handle)) entries reply after
+        → Answered contexts m line (Step.Call ctx (GuestCall.TcpStartListen handle)) entries reply
+        after
         → (reply ≡ Reply.Err CodeWord.ConcurrencyConflict)
         ↔ HasOperationInProgress (record_at m handle) }
     ensures cause { (contexts : List WasiSocketsCtx) (m : Machine) (line ctx handle : ℕ)
         (entries : List Entry) (word : CodeWord) (after : Machine)
         → ListensLateAt m handle
-        → Answered contexts m line (Step.Call ctx (GuestCall.TcpStartListen handle)) entries (Reply.Err word)
-        after
+        → Answered contexts m line (Step.Call ctx (GuestCall.TcpStartListen handle)) entries
+        (Reply.Err word) after
         → RefusedListen m (own_of line) handle entries word after }
     ensures stays { (contexts : List WasiSocketsCtx) (m : Machine) (line ctx handle : ℕ)
         (entries : List Entry) (word : CodeWord) (after : Machine)
-        → Answered contexts m line (Step.Call ctx (GuestCall.TcpStartListen handle)) entries (Reply.Err word) after
+        → Answered contexts m line (Step.Call ctx (GuestCall.TcpStartListen handle)) entries
+        (Reply.Err word) after
         → (after ≡ m) ⊎ (KnowsBound m handle after ⊎ OfRecord m handle
         (λ place r. after ≡ closed_by_listen m place r)) }
     ensures in_runs { (contexts : List WasiSocketsCtx) (steps : List Step) (log : List Entry)
         (replies : List Reply) (m : Machine) (line ctx handle : ℕ) (entries : List Entry)
         (word : CodeWord) (after : Machine)
         → Left (run contexts [] first_state 1 steps) log (Give (replies, m))
-        → Answered contexts m line (Step.Call ctx (GuestCall.TcpStartListen handle)) entries (Reply.Err word)
-        after
+        → Answered contexts m line (Step.Call ctx (GuestCall.TcpStartListen handle)) entries
+        (Reply.Err word) after
         → RefusedListen m (own_of line) handle entries word after }
 {}
 
@@ -139,8 +145,8 @@ pub fn listens_leave_a_closed_socket()
 pub fn accept_refusals()
     ensures { (contexts : List WasiSocketsCtx) (m : Machine) (line ctx handle : ℕ)
         (entries : List Entry) (word : CodeWord) (after : Machine)
-        → AcceptsAt m handle → Answered contexts m line (Step.Call ctx (GuestCall.TcpAccept handle)) entries
-        (Reply.Err word) after
+        → AcceptsAt m handle → Answered contexts m line (Step.Call ctx (GuestCall.TcpAccept handle))
+        entries (Reply.Err word) after
         → RefusedAccept m line handle entries word after }
 {}
 
@@ -156,12 +162,13 @@ pub fn accept_refusals()
 pub fn accepts_take_what_was_handed_over()
     ensures numbers { (contexts : List WasiSocketsCtx) (m : Machine) (line ctx handle : ℕ)
         (fields : List Field) (entries : List Entry) (after : Machine)
-        → Answered contexts m line (Step.Call ctx (GuestCall.TcpAccept handle)) entries (Reply.Ok fields) after
+        → Answered contexts m line (Step.Call ctx (GuestCall.TcpAccept handle)) entries
+        (Reply.Ok fields) after
         → fields ≡ triple_fields m.table.next (m.table.next + 1) (m.table.next + 2) }
     ensures takes { (contexts : List WasiSocketsCtx) (m : Machine) (line ctx handle : ℕ)
         (fields : List Field) (entries : List Entry) (after : Machine)
-        → AcceptsAt m handle → Answered contexts m line (Step.Call ctx (GuestCall.TcpAccept handle)) entries
-        (Reply.Ok fields) after
+        → AcceptsAt m handle → Answered contexts m line (Step.Call ctx (GuestCall.TcpAccept handle))
+        entries (Reply.Ok fields) after
         → OfRecord m handle (λ place r. AcceptTakes m (own_of line) line handle place r entries
         after) }
 {}

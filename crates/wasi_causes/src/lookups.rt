@@ -46,22 +46,26 @@ pub fn resolve_refusals()
     ensures forbidden { (contexts : List WasiSocketsCtx) (m : Machine) (line ctx network : ℕ)
         (name : List ℕ) (entries : List Entry) (reply : Reply) (after : Machine)
         → m.store.standing ≡ None → is_network (kind_at m.table network) ≡ true
-        → Answered contexts m line (Step.Call ctx (GuestCall.Resolve network name)) entries reply after
+        → Answered contexts m line (Step.Call ctx (GuestCall.Resolve network name)) entries reply
+        after
         → (reply ≡ Reply.Err CodeWord.PermanentResolverFailure)
         ↔ ((context_at contexts ctx).ip_name_lookup ≡ false) }
     ensures unnamed { (contexts : List WasiSocketsCtx) (m : Machine) (line ctx network : ℕ)
         (name : List ℕ) (entries : List Entry) (reply : Reply) (after : Machine)
         → m.store.standing ≡ None → is_network (kind_at m.table network) ≡ true
-        → Answered contexts m line (Step.Call ctx (GuestCall.Resolve network name)) entries reply after
+        → Answered contexts m line (Step.Call ctx (GuestCall.Resolve network name)) entries reply
+        after
         → (reply ≡ Reply.Err CodeWord.InvalidArgument)
         ↔ (((context_at contexts ctx).ip_name_lookup ≡ true) × (name_is name ≡ None)) }
     ensures cause { (contexts : List WasiSocketsCtx) (m : Machine) (line ctx network : ℕ)
         (name : List ℕ) (entries : List Entry) (word : CodeWord) (after : Machine)
-        → Answered contexts m line (Step.Call ctx (GuestCall.Resolve network name)) entries (Reply.Err word) after
+        → Answered contexts m line (Step.Call ctx (GuestCall.Resolve network name)) entries
+        (Reply.Err word) after
         → ResolveRefusal (own_of line) (context_at contexts ctx) name entries word }
     ensures stays { (contexts : List WasiSocketsCtx) (m : Machine) (line ctx network : ℕ)
         (name : List ℕ) (entries : List Entry) (word : CodeWord) (after : Machine)
-        → Answered contexts m line (Step.Call ctx (GuestCall.Resolve network name)) entries (Reply.Err word) after
+        → Answered contexts m line (Step.Call ctx (GuestCall.Resolve network name)) entries
+        (Reply.Err word) after
         → after ≡ m }
 {}
 
@@ -75,7 +79,8 @@ pub fn resolve_refusals()
 pub fn resolves_make_a_handle()
     ensures done { (contexts : List WasiSocketsCtx) (m : Machine) (line ctx network : ℕ)
         (name : List ℕ) (fields : List Field) (entries : List Entry) (after : Machine)
-        → Answered contexts m line (Step.Call ctx (GuestCall.Resolve network name)) entries (Reply.Ok fields) after
+        → Answered contexts m line (Step.Call ctx (GuestCall.Resolve network name)) entries
+        (Reply.Ok fields) after
         → Resolves m (own_of line) (context_at contexts ctx) network name entries fields after }
     ensures full { (contexts : List WasiSocketsCtx) (m : Machine) (line ctx network : ℕ)
         (name : List ℕ) (entries : List Entry) (after : Machine)
@@ -98,39 +103,46 @@ pub fn resolves_make_a_handle()
 pub fn addresses_are_handed_out_in_order()
     ensures asks_nothing { (contexts : List WasiSocketsCtx) (m : Machine) (line ctx handle : ℕ)
         (entries : List Entry) (reply : Reply) (after : Machine)
-        → Answered contexts m line (Step.Call ctx (GuestCall.ResolveNext handle)) entries reply after
+        → Answered contexts m line (Step.Call ctx (GuestCall.ResolveNext handle)) entries reply
+        after
         → entries ≡ [] }
     ensures in_progress { (contexts : List WasiSocketsCtx) (m : Machine) (line ctx handle : ℕ)
         (entries : List Entry) (reply : Reply) (after : Machine)
         → m.store.standing ≡ None
-        → Answered contexts m line (Step.Call ctx (GuestCall.ResolveNext handle)) entries reply after
+        → Answered contexts m line (Step.Call ctx (GuestCall.ResolveNext handle)) entries reply
+        after
         → (reply ≡ Reply.Err CodeWord.WouldBlock) ↔ (looks_on (found_lookup m handle) ≡ true) }
     ensures failed { (contexts : List WasiSocketsCtx) (m : Machine) (line ctx handle : ℕ)
         (entries : List Entry) (reply : Reply) (after : Machine)
         → m.store.standing ≡ None
-        → Answered contexts m line (Step.Call ctx (GuestCall.ResolveNext handle)) entries reply after
+        → Answered contexts m line (Step.Call ctx (GuestCall.ResolveNext handle)) entries reply
+        after
         → (reply ≡ Reply.Err CodeWord.NameUnresolvable)
         ↔ (found_lookup m handle ≡ Some Lookup.Failed) }
     ensures stays { (contexts : List WasiSocketsCtx) (m : Machine) (line ctx handle : ℕ)
         (entries : List Entry) (word : CodeWord) (after : Machine)
-        → Answered contexts m line (Step.Call ctx (GuestCall.ResolveNext handle)) entries (Reply.Err word) after
+        → Answered contexts m line (Step.Call ctx (GuestCall.ResolveNext handle)) entries
+        (Reply.Err word) after
         → after ≡ m }
     ensures over { (contexts : List WasiSocketsCtx) (m : Machine) (line ctx handle : ℕ)
         (entries : List Entry) (reply : Reply) (after : Machine)
         → m.store.standing ≡ None
-        → Answered contexts m line (Step.Call ctx (GuestCall.ResolveNext handle)) entries reply after
+        → Answered contexts m line (Step.Call ctx (GuestCall.ResolveNext handle)) entries reply
+        after
         → (reply ≡ Reply.Ok (found_values None))
         ↔ (found_lookup m handle ≡ Some (Lookup.Found [])) }
     ensures first { (contexts : List WasiSocketsCtx) (m : Machine) (line ctx handle : ℕ)
         (a : IpAddress) (left : List IpAddress) (entries : List Entry) (reply : Reply)
         (after : Machine)
         → m.store.standing ≡ None → found_lookup m handle ≡ Some (Lookup.Found (a ∷ left))
-        → Answered contexts m line (Step.Call ctx (GuestCall.ResolveNext handle)) entries reply after
+        → Answered contexts m line (Step.Call ctx (GuestCall.ResolveNext handle)) entries reply
+        after
         → (reply ≡ Reply.Ok (found_values (Some a)))
         × (found_lookup after handle ≡ Some (Lookup.Found left)) }
     ensures handed { (contexts : List WasiSocketsCtx) (m : Machine) (line ctx handle : ℕ)
         (fields : List Field) (entries : List Entry) (after : Machine)
-        → Answered contexts m line (Step.Call ctx (GuestCall.ResolveNext handle)) entries (Reply.Ok fields) after
+        → Answered contexts m line (Step.Call ctx (GuestCall.ResolveNext handle)) entries
+        (Reply.Ok fields) after
         → OfLookup m handle (λ place l. HandsOut m place l fields after) }
     ensures missing { (contexts : List WasiSocketsCtx) (steps : List Step) (log : List Entry)
         (replies : List Reply) (m : Machine) (handle : ℕ)
@@ -155,14 +167,15 @@ pub fn lookups_are_watched_and_dropped()
         (l : Lookup) (fields : List Field) (entries : List Entry) (after : Machine)
         → kind_at m.table handle ≡ Some (Kind.Lookup place)
         → lookup_at m.store.records place ≡ Some l
-        → Answered contexts m line (Step.Call ctx (GuestCall.Drop handle)) entries (Reply.Ok fields) after
+        → Answered contexts m line (Step.Call ctx (GuestCall.Drop handle)) entries (Reply.Ok fields)
+        after
         → LookupGone m handle place entries after }
 {}
 
 /// What a context may not use asks nothing, and leaves the machine unchanged:
 ///
 /// - `tcp`: a `tcp-create`; `p3_tcp`: a `p3-tcp-create`.
-/// - `udp`: a `udp-create`.
+/// - `udp`: a `udp-create`; `p3_udp`: a `p3-udp-create`.
 /// - `lookup`: a `resolve`.
 pub fn what_is_forbidden_asks_nothing()
     ensures tcp { (contexts : List WasiSocketsCtx) (m : Machine) (line ctx : ℕ)
@@ -180,9 +193,15 @@ pub fn what_is_forbidden_asks_nothing()
         → (context_at contexts ctx).udp ≡ false
         → Answered contexts m line (Step.Call ctx (GuestCall.UdpCreate family)) entries reply after
         → (entries ≡ []) × (after ≡ m) }
+    ensures p3_udp { (contexts : List WasiSocketsCtx) (m : Machine) (line ctx : ℕ)
+        (family : SocketAddressFamily) (entries : List Entry) (reply : Reply) (after : Machine)
+        → (context_at contexts ctx).udp ≡ false
+        → Answered contexts m line (Step.Call ctx (GuestCall.P3UdpCreate family)) entries reply
+        after → (entries ≡ []) × (after ≡ m) }
     ensures lookup { (contexts : List WasiSocketsCtx) (m : Machine) (line ctx network : ℕ)
         (name : List ℕ) (entries : List Entry) (reply : Reply) (after : Machine)
         → (context_at contexts ctx).ip_name_lookup ≡ false
-        → Answered contexts m line (Step.Call ctx (GuestCall.Resolve network name)) entries reply after
+        → Answered contexts m line (Step.Call ctx (GuestCall.Resolve network name)) entries reply
+        after
         → (entries ≡ []) × (after ≡ m) }
 {}

@@ -28,11 +28,13 @@ ghost use Rattle.wasi_steps.specs.Settings.{chosen};
 pub fn get_option_refusals()
     ensures cause { (contexts : List WasiSocketsCtx) (m : Machine) (line ctx handle : ℕ)
         (option : Opt) (entries : List Entry) (word : CodeWord) (after : Machine)
-        → Answered contexts m line (Step.Call ctx (GuestCall.TcpGet handle option)) entries (Reply.Err word) after
+        → Answered contexts m line (Step.Call ctx (GuestCall.TcpGet handle option)) entries
+        (Reply.Err word) after
         → RefusedGet m (own_of line) handle option entries word after }
     ensures stays { (contexts : List WasiSocketsCtx) (m : Machine) (line ctx handle : ℕ)
         (option : Opt) (entries : List Entry) (reply : Reply) (after : Machine)
-        → Answered contexts m line (Step.Call ctx (GuestCall.TcpGet handle option)) entries reply after → after ≡ m }
+        → Answered contexts m line (Step.Call ctx (GuestCall.TcpGet handle option)) entries reply
+        after → after ≡ m }
 {}
 
 /// Why a set is refused (`cause`); the machine is unchanged then (`stays`).
@@ -48,11 +50,13 @@ pub fn get_option_refusals()
 pub fn set_option_refusals()
     ensures cause { (contexts : List WasiSocketsCtx) (m : Machine) (line ctx handle : ℕ)
         (setting : TcpSetting) (entries : List Entry) (word : CodeWord) (after : Machine)
-        → Answered contexts m line (Step.Call ctx (GuestCall.TcpSet handle setting)) entries (Reply.Err word) after
+        → Answered contexts m line (Step.Call ctx (GuestCall.TcpSet handle setting)) entries
+        (Reply.Err word) after
         → RefusedSet m (own_of line) handle setting entries word after }
     ensures stays { (contexts : List WasiSocketsCtx) (m : Machine) (line ctx handle : ℕ)
         (setting : TcpSetting) (entries : List Entry) (word : CodeWord) (after : Machine)
-        → Answered contexts m line (Step.Call ctx (GuestCall.TcpSet handle setting)) entries (Reply.Err word) after
+        → Answered contexts m line (Step.Call ctx (GuestCall.TcpSet handle setting)) entries
+        (Reply.Err word) after
         → after ≡ m }
 {}
 
@@ -70,15 +74,18 @@ pub fn set_option_refusals()
 pub fn options_are_read_and_set()
     ensures read { (contexts : List WasiSocketsCtx) (m : Machine) (line ctx handle : ℕ)
         (option : Opt) (fields : List Field) (entries : List Entry) (after : Machine)
-        → Answered contexts m line (Step.Call ctx (GuestCall.TcpGet handle option)) entries (Reply.Ok fields) after
+        → Answered contexts m line (Step.Call ctx (GuestCall.TcpGet handle option)) entries
+        (Reply.Ok fields) after
         → OfRecord m handle (λ place r. GetsOption (own_of line) option r fields entries) }
     ensures nothing { (contexts : List WasiSocketsCtx) (m : Machine) (line ctx handle : ℕ)
         (setting : TcpSetting) (fields : List Field) (entries : List Entry) (after : Machine)
-        → Answered contexts m line (Step.Call ctx (GuestCall.TcpSet handle setting)) entries (Reply.Ok fields) after
+        → Answered contexts m line (Step.Call ctx (GuestCall.TcpSet handle setting)) entries
+        (Reply.Ok fields) after
         → fields ≡ no_fields }
     ensures written { (contexts : List WasiSocketsCtx) (m : Machine) (line ctx handle : ℕ)
         (setting : TcpSetting) (fields : List Field) (entries : List Entry) (after : Machine)
-        → Answered contexts m line (Step.Call ctx (GuestCall.TcpSet handle setting)) entries (Reply.Ok fields) after
+        → Answered contexts m line (Step.Call ctx (GuestCall.TcpSet handle setting)) entries
+        (Reply.Ok fields) after
         → OfRecord m handle (λ place r. SetsChosen m (own_of line) (chosen setting) place r entries
         after) }
 {}

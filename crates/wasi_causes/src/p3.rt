@@ -95,8 +95,8 @@ pub fn p3_listening_and_family_are_never_refused()
         (entries : List Entry) (word : CodeWord) (after : Machine)
         → Answered contexts m line (Step.Call ctx (GuestCall.P3TcpIsListening handle)) entries
         (Reply.Err word) after → ⊥ }
-    ensures listening_is_quiet { (contexts : List WasiSocketsCtx) (m : Machine) (line ctx handle : ℕ)
-        (entries : List Entry) (reply : Reply) (after : Machine)
+    ensures listening_is_quiet { (contexts : List WasiSocketsCtx) (m : Machine)
+        (line ctx handle : ℕ) (entries : List Entry) (reply : Reply) (after : Machine)
         → Answered contexts m line (Step.Call ctx (GuestCall.P3TcpIsListening handle)) entries
         reply after → (entries ≡ []) × (after ≡ m) }
     ensures family { (contexts : List WasiSocketsCtx) (m : Machine) (line ctx handle : ℕ)

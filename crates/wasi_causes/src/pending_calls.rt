@@ -102,11 +102,12 @@ pub fn pending_where_told()
         (Reply.Pending number) after → EndsPending (own_of line) entries }
     ensures listen { (contexts : List WasiSocketsCtx) (m : Machine) (line ctx handle : ℕ)
         (entries : List Entry) (number : ℕ) (after : Machine)
-        → Answered contexts m line (Step.Call ctx (GuestCall.TcpStartListen handle)) entries (Reply.Pending number)
-        after → EndsPending (own_of line) entries }
+        → Answered contexts m line (Step.Call ctx (GuestCall.TcpStartListen handle)) entries
+        (Reply.Pending number) after → EndsPending (own_of line) entries }
     ensures output { (contexts : List WasiSocketsCtx) (m : Machine) (line ctx handle : ℕ)
         (entries : List Entry) (number : ℕ) (after : Machine)
-        → Answered contexts m line (Step.Call ctx (GuestCall.Drop handle)) entries (Reply.Pending number) after
+        → Answered contexts m line (Step.Call ctx (GuestCall.Drop handle)) entries
+        (Reply.Pending number) after
         → OutputWaits m (own_of line) (output_at m handle) entries
         ⊎ OutgoingWaits m (outgoing_at m handle) entries }
     ensures polled { (contexts : List WasiSocketsCtx) (m : Machine) (line n : ℕ)

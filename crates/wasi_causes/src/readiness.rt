@@ -41,7 +41,8 @@ ghost use Rattle.wasi_walks.specs.Waiting.{WatchesIdle};
 pub fn readiness_has_causes()
     ensures values { (contexts : List WasiSocketsCtx) (m : Machine) (line ctx pollable : ℕ)
         (fields : List Field) (entries : List Entry) (after : Machine)
-        → Answered contexts m line (Step.Call ctx (GuestCall.Ready pollable)) entries (Reply.Ok fields) after
+        → Answered contexts m line (Step.Call ctx (GuestCall.Ready pollable)) entries
+        (Reply.Ok fields) after
         → (fields ≡ truth_fields true) ⊎ (fields ≡ truth_fields false) }
     ensures not_ready { (contexts : List WasiSocketsCtx) (m : Machine) (line ctx pollable : ℕ)
         (entries : List Entry) (after : Machine)
@@ -62,7 +63,8 @@ pub fn readiness_has_causes()
         → (reply ≡ Reply.Ok (truth_fields true)) × (entries ≡ []) × (after ≡ m) }
     ensures never_fails { (contexts : List WasiSocketsCtx) (m : Machine) (line ctx pollable : ℕ)
         (entries : List Entry) (reply : Reply) (after : Machine)
-        → Answered contexts m line (Step.Call ctx (GuestCall.Ready pollable)) entries reply after → IsFailure reply
+        → Answered contexts m line (Step.Call ctx (GuestCall.Ready pollable)) entries reply after →
+        IsFailure reply
         → ⊥ }
 {}
 
@@ -76,20 +78,24 @@ pub fn readiness_has_causes()
 pub fn subscribe_makes_a_pollable()
     ensures number { (contexts : List WasiSocketsCtx) (m : Machine) (line ctx handle : ℕ)
         (fields : List Field) (entries : List Entry) (after : Machine)
-        → Answered contexts m line (Step.Call ctx (GuestCall.Subscribe handle)) entries (Reply.Ok fields) after
+        → Answered contexts m line (Step.Call ctx (GuestCall.Subscribe handle)) entries
+        (Reply.Ok fields) after
         → fields ≡ number_fields m.table.next }
     ensures marked { (contexts : List WasiSocketsCtx) (m : Machine) (line ctx handle : ℕ)
         (fields : List Field) (entries : List Entry) (after : Machine)
-        → Answered contexts m line (Step.Call ctx (GuestCall.Subscribe handle)) entries (Reply.Ok fields) after
+        → Answered contexts m line (Step.Call ctx (GuestCall.Subscribe handle)) entries
+        (Reply.Ok fields) after
         → IsSomeAnd (watched_by (kind_at m.table handle))
         (λ w. entries ≡ pollable_mark m (own_of line) handle w ∷ []) }
     ensures made { (contexts : List WasiSocketsCtx) (m : Machine) (line ctx handle : ℕ)
         (fields : List Field) (entries : List Entry) (after : Machine)
-        → Answered contexts m line (Step.Call ctx (GuestCall.Subscribe handle)) entries (Reply.Ok fields) after
+        → Answered contexts m line (Step.Call ctx (GuestCall.Subscribe handle)) entries
+        (Reply.Ok fields) after
         → IsSomeAnd (watched_by (kind_at m.table handle))
         (λ w. after ≡ record m { table = with_handle m.table (Kind.Pollable w) (Some handle) }) }
     ensures never_fails { (contexts : List WasiSocketsCtx) (m : Machine) (line ctx handle : ℕ)
         (entries : List Entry) (reply : Reply) (after : Machine)
-        → Answered contexts m line (Step.Call ctx (GuestCall.Subscribe handle)) entries reply after → IsFailure reply
+        → Answered contexts m line (Step.Call ctx (GuestCall.Subscribe handle)) entries reply after
+        → IsFailure reply
         → ⊥ }
 {}

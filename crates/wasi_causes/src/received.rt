@@ -1,5 +1,5 @@
-//! An incoming datagram stream hands out all that it received: a law over the definitions of
-//! specs/, that is, a function that does nothing, whose contract is the law.
+//! What incoming datagram streams receive, and from whom: laws over the definitions of specs/. Each
+//! is a function that does nothing, whose contract is the law.
 
 ghost use Rattle.std.specs.Prelude.{◌≡◌, ◌⊎◌, ℕ, List, [], Some};
 ghost use Rattle.wasi_world.specs.declared.call.Entry.{Entry};
@@ -13,7 +13,8 @@ ghost use Rattle.wasi_machine.specs.Machine.{run};
 ghost use Rattle.wasi_steps.specs.declared.reply.Reply.{Reply};
 ghost use Rattle.wasi_steps.specs.declared.step.Step.{Step};
 ghost use Rattle.wasi_causes.specs.Datagrams.{OfIncoming};
-ghost use Rattle.wasi_causes.specs.ReceivedList.{HandsOutFront, HasAllReceived, handed_out};
+ghost use Rattle.wasi_causes.specs.ReceivedList.{HandsOutFront, HasAllReceived};
+ghost use Rattle.wasi_causes.specs.ReceivedList.{KeepsLastRemote, handed_out};
 
 /// What an incoming datagram stream received are the datagrams that `recv` gave its network socket
 /// since the stream's handle was logged, about whose sender the operation was then answered yes,
@@ -36,4 +37,17 @@ pub fn streams_hand_out_all_they_received()
         (replies : List Reply) (m : Machine) (handle : ℕ)
         → Left (run contexts [] first_state 1 steps) log (Give (replies, m))
         → (handed_out handle steps replies ≡ []) ⊎ HandsOutFront log steps replies handle }
+{}
+
+/// In a run a live incoming datagram stream keeps the remote address that its network socket had
+/// where its handle was logged: the one that the last `peer` about that network socket, since it
+/// was made, was answered with. It keeps none exactly where there was no `peer`, or the last one
+/// was answered with a code or with the wildcard.
+pub fn streams_keep_the_last_remote_address()
+    ensures { (contexts : List WasiSocketsCtx) (steps : List Step) (log : List Entry)
+        (replies : List Reply) (m : Machine) (handle place : ℕ)
+        → Left (run contexts [] first_state 1 steps) log (Give (replies, m))
+        → kind_at m.table handle ≡ Some (Kind.Incoming place)
+        → OfIncoming m (Some place) (λ place o stream. KeepsLastRemote log handle o.inner.side
+        stream.remote) }
 {}

@@ -55,8 +55,8 @@ pub fn reads_hand_out_what_was_told()
         (b ∷ bytes) entries) × (after ≡ m)) ⊎ TakesFront m input len (b ∷ bytes) entries after }
     ensures none { (contexts : List WasiSocketsCtx) (m : Machine) (line ctx input len : ℕ)
         (entries : List Entry) (after : Machine)
-        → Answered contexts m line (Step.Call ctx (GuestCall.Read input len)) entries (Reply.Ok (bytes_fields []))
-        after
+        → Answered contexts m line (Step.Call ctx (GuestCall.Read input len)) entries
+        (Reply.Ok (bytes_fields [])) after
         → (OfStreams m (input_at m input) (λ place r s. ReadsNone (own_of line) len s.reader
         entries) × (after ≡ m)) ⊎ TakesNothing m input len entries after }
 {}
@@ -73,13 +73,14 @@ pub fn reads_hand_out_what_was_told()
 pub fn reads_end()
     ensures closed { (contexts : List WasiSocketsCtx) (m : Machine) (line ctx input len : ℕ)
         (entries : List Entry) (after : Machine)
-        → Answered contexts m line (Step.Call ctx (GuestCall.Read input len)) entries Reply.Closed after
+        → Answered contexts m line (Step.Call ctx (GuestCall.Read input len)) entries Reply.Closed
+        after
         → OfStreams m (input_at m input) (λ place r s. ReadsEnd (own_of line) len s.reader entries
         × (after ≡ closing_reader m place r s)) ⊎ EndsPlain m input entries after }
     ensures failed { (contexts : List WasiSocketsCtx) (m : Machine) (line ctx input len : ℕ)
         (entries : List Entry) (word : CodeWord) (handle : ℕ) (after : Machine)
-        → Answered contexts m line (Step.Call ctx (GuestCall.Read input len)) entries (Reply.Failed word handle)
-        after
+        → Answered contexts m line (Step.Call ctx (GuestCall.Read input len)) entries
+        (Reply.Failed word handle) after
         → OfStreams m (input_at m input) (λ place r s. FailsWith m (own_of line) input
         (ReadFails (own_of line) len s.reader) entries word handle
         × (after ≡ with_error (closing_reader m place r s))) }
@@ -92,25 +93,29 @@ pub fn reads_end()
 
 /// Which network socket the error of a failed call is marked with.
 ///
-/// - `read`, `check`, `write`, `flush`: the last entry of a call that fails marks the next handle as
-///   an error's, under the stream's handle, with the network socket that the stream's record was
+/// - `read`, `check`, `write`, `flush`: the last entry of a call that fails marks the next handle
+///   as an error's, under the stream's handle, with the network socket that the stream's record was
 ///   made with.
 pub fn errors_are_marked_with_their_socket()
     ensures read { (contexts : List WasiSocketsCtx) (m : Machine) (line ctx stream len : ℕ)
         (entries : List Entry) (word : CodeWord) (handle : ℕ) (after : Machine)
-        → Answered contexts m line (Step.Call ctx (GuestCall.Read stream len)) entries (Reply.Failed word handle)
-        after → MarksItsSocket m (own_of line) stream (input_at m stream) entries }
+        → Answered contexts m line (Step.Call ctx (GuestCall.Read stream len)) entries
+        (Reply.Failed word handle) after → MarksItsSocket m (own_of line) stream (input_at m stream)
+        entries }
     ensures check { (contexts : List WasiSocketsCtx) (m : Machine) (line ctx stream : ℕ)
         (entries : List Entry) (word : CodeWord) (handle : ℕ) (after : Machine)
-        → Answered contexts m line (Step.Call ctx (GuestCall.CheckWrite stream)) entries (Reply.Failed word handle)
-        after → MarksItsSocket m (own_of line) stream (output_at m stream) entries }
+        → Answered contexts m line (Step.Call ctx (GuestCall.CheckWrite stream)) entries
+        (Reply.Failed word handle) after → MarksItsSocket m (own_of line) stream
+        (output_at m stream) entries }
     ensures write { (contexts : List WasiSocketsCtx) (m : Machine) (line ctx stream : ℕ)
         (bytes : List ℕ) (entries : List Entry) (word : CodeWord) (handle : ℕ) (after : Machine)
-        → Answered contexts m line (Step.Call ctx (GuestCall.Write stream bytes)) entries (Reply.Failed word handle)
-        after → MarksItsSocket m (own_of line) stream (output_at m stream) entries }
+        → Answered contexts m line (Step.Call ctx (GuestCall.Write stream bytes)) entries
+        (Reply.Failed word handle) after → MarksItsSocket m (own_of line) stream
+        (output_at m stream) entries }
     ensures flush { (contexts : List WasiSocketsCtx) (m : Machine) (line ctx stream : ℕ)
         (entries : List Entry) (word : CodeWord) (handle : ℕ) (after : Machine)
-        → Answered contexts m line (Step.Call ctx (GuestCall.Flush stream)) entries (Reply.Failed word handle) after
+        → Answered contexts m line (Step.Call ctx (GuestCall.Flush stream)) entries
+        (Reply.Failed word handle) after
         → MarksItsSocket m (own_of line) stream (output_at m stream) entries }
 {}
 
@@ -120,8 +125,8 @@ pub fn errors_are_marked_with_their_socket()
 pub fn permits_have_causes()
     ensures { (contexts : List WasiSocketsCtx) (m : Machine) (line ctx output n : ℕ)
         (entries : List Entry) (after : Machine)
-        → Answered contexts m line (Step.Call ctx (GuestCall.CheckWrite output)) entries (Reply.Ok (number_fields n))
-        after
+        → Answered contexts m line (Step.Call ctx (GuestCall.CheckWrite output)) entries
+        (Reply.Ok (number_fields n)) after
         → OfStreams m (output_at m output) (λ place r s. Permits (own_of line) s.writer n entries)
         ⊎ IsSomeAnd (plain_output_at m output) (λ o. PermitsPlain m o n) }
 {}
@@ -136,7 +141,8 @@ pub fn writes_past_the_permit_trap()
     ensures exactly { (contexts : List WasiSocketsCtx) (m : Machine) (line ctx output : ℕ)
         (bytes : List ℕ) (entries : List Entry) (reply : Reply) (after : Machine)
         → m.store.standing ≡ None
-        → Answered contexts m line (Step.Call ctx (GuestCall.Write output bytes)) entries reply after
+        → Answered contexts m line (Step.Call ctx (GuestCall.Write output bytes)) entries reply
+        after
         → (reply ≡ Reply.Trap TrapKind.NotPermitted)
         ↔ IsSomeAnd (output_streams m output) (λ s. IsUnpermitted s.writer (length bytes)) }
     ensures stays { (contexts : List WasiSocketsCtx) (m : Machine) (line ctx output : ℕ)
@@ -154,7 +160,8 @@ pub fn writes_past_the_capacity_trap()
     ensures exactly { (contexts : List WasiSocketsCtx) (m : Machine) (line ctx output : ℕ)
         (bytes : List ℕ) (entries : List Entry) (reply : Reply) (after : Machine)
         → m.store.standing ≡ None
-        → Answered contexts m line (Step.Call ctx (GuestCall.Write output bytes)) entries reply after
+        → Answered contexts m line (Step.Call ctx (GuestCall.Write output bytes)) entries reply
+        after
         → PastCapacity m output (length bytes) reply }
     ensures stays { (contexts : List WasiSocketsCtx) (m : Machine) (line ctx output : ℕ)
         (bytes : List ℕ) (entries : List Entry) (after : Machine)
@@ -173,16 +180,19 @@ pub fn writes_past_the_capacity_trap()
 pub fn flushes_tell_the_kept_error()
     ensures done { (contexts : List WasiSocketsCtx) (m : Machine) (line ctx output : ℕ)
         (fields : List Field) (entries : List Entry) (after : Machine)
-        → Answered contexts m line (Step.Call ctx (GuestCall.Flush output)) entries (Reply.Ok fields) after
+        → Answered contexts m line (Step.Call ctx (GuestCall.Flush output)) entries
+        (Reply.Ok fields) after
         → (entries ≡ []) × (after ≡ m) }
     ensures closed { (contexts : List WasiSocketsCtx) (m : Machine) (line ctx output : ℕ)
         (entries : List Entry) (after : Machine)
-        → Answered contexts m line (Step.Call ctx (GuestCall.Flush output)) entries Reply.Closed after
+        → Answered contexts m line (Step.Call ctx (GuestCall.Flush output)) entries Reply.Closed
+        after
         → (OfStreams m (output_at m output) (λ place r s. IsGivenUp s.writer) × (entries ≡ [])
         × (after ≡ m)) ⊎ EndsOutput m output entries after }
     ensures failed { (contexts : List WasiSocketsCtx) (m : Machine) (line ctx output : ℕ)
         (entries : List Entry) (word : CodeWord) (handle : ℕ) (after : Machine)
-        → Answered contexts m line (Step.Call ctx (GuestCall.Flush output)) entries (Reply.Failed word handle) after
+        → Answered contexts m line (Step.Call ctx (GuestCall.Flush output)) entries
+        (Reply.Failed word handle) after
         → OfStreams m (output_at m output) (λ place r s. FailsWith m (own_of line) output
         (WasClosedWith s.writer) entries word handle) × (after ≡ with_error m) }
     ensures plain { (contexts : List WasiSocketsCtx) (m : Machine) (line ctx output : ℕ)
@@ -201,14 +211,15 @@ pub fn flushes_tell_the_kept_error()
 pub fn checks_tell_the_kept_error()
     ensures closed { (contexts : List WasiSocketsCtx) (m : Machine) (line ctx output : ℕ)
         (entries : List Entry) (after : Machine)
-        → Answered contexts m line (Step.Call ctx (GuestCall.CheckWrite output)) entries Reply.Closed after
+        → Answered contexts m line (Step.Call ctx (GuestCall.CheckWrite output)) entries
+        Reply.Closed after
         → OfStreams m (output_at m output) (λ place r s. CheckFails WriteError.Closed s.writer
         entries × (after ≡ closing_writer m place r s WriteError.Closed))
         ⊎ EndsCheck m output entries after }
     ensures failed { (contexts : List WasiSocketsCtx) (m : Machine) (line ctx output : ℕ)
         (entries : List Entry) (word : CodeWord) (handle : ℕ) (after : Machine)
-        → Answered contexts m line (Step.Call ctx (GuestCall.CheckWrite output)) entries (Reply.Failed word handle)
-        after
+        → Answered contexts m line (Step.Call ctx (GuestCall.CheckWrite output)) entries
+        (Reply.Failed word handle) after
         → OfStreams m (output_at m output) (λ place r s. FailsWith m (own_of line) output
         (λ c before. CheckFails (WriteError.LastOperationFailed c) s.writer before
         × (after ≡ with_error (closing_writer m place r s (WriteError.LastOperationFailed c))))
@@ -232,14 +243,15 @@ pub fn checks_tell_the_kept_error()
 pub fn writes_tell_their_error()
     ensures closed { (contexts : List WasiSocketsCtx) (m : Machine) (line ctx output : ℕ)
         (bytes : List ℕ) (entries : List Entry) (after : Machine)
-        → Answered contexts m line (Step.Call ctx (GuestCall.Write output bytes)) entries Reply.Closed after
+        → Answered contexts m line (Step.Call ctx (GuestCall.Write output bytes)) entries
+        Reply.Closed after
         → OfStreams m (output_at m output) (λ place r s. WriteFails (own_of line) WriteError.Closed
         s.writer entries × (after ≡ closing_writer m place r s WriteError.Closed))
         ⊎ EndsOutput m output entries after }
     ensures failed { (contexts : List WasiSocketsCtx) (m : Machine) (line ctx output : ℕ)
         (bytes : List ℕ) (entries : List Entry) (word : CodeWord) (handle : ℕ) (after : Machine)
-        → Answered contexts m line (Step.Call ctx (GuestCall.Write output bytes)) entries (Reply.Failed word handle)
-        after
+        → Answered contexts m line (Step.Call ctx (GuestCall.Write output bytes)) entries
+        (Reply.Failed word handle) after
         → OfStreams m (output_at m output) (λ place r s. FailsWith m (own_of line) output
         (λ c before. WriteFails (own_of line) (WriteError.LastOperationFailed c) s.writer before
         × (after ≡ with_error (closing_writer m place r s (WriteError.LastOperationFailed c))))
@@ -247,11 +259,13 @@ pub fn writes_tell_their_error()
     ensures plain { (contexts : List WasiSocketsCtx) (m : Machine) (line ctx output : ℕ)
         (bytes : List ℕ) (entries : List Entry) (reply : Reply) (after : Machine)
         → m.store.standing ≡ None
-        → Answered contexts m line (Step.Call ctx (GuestCall.Write output bytes)) entries reply after
+        → Answered contexts m line (Step.Call ctx (GuestCall.Write output bytes)) entries reply
+        after
         → PlainWrite m output entries reply }
     ensures taken { (contexts : List WasiSocketsCtx) (m : Machine) (line ctx output : ℕ)
         (bytes : List ℕ) (fields : List Field) (entries : List Entry) (after : Machine)
-        → Answered contexts m line (Step.Call ctx (GuestCall.Write output bytes)) entries (Reply.Ok fields) after
+        → Answered contexts m line (Step.Call ctx (GuestCall.Write output bytes)) entries
+        (Reply.Ok fields) after
         → IfSome (plain_output_at m output) (λ o. WritesPlain m o bytes after) }
 {}
 
@@ -264,12 +278,14 @@ pub fn writes_tell_their_error()
 pub fn pipes_are_made()
     ensures pipe_in { (contexts : List WasiSocketsCtx) (m : Machine) (line ctx : ℕ) (bytes : List ℕ)
         (fields : List Field) (entries : List Entry) (after : Machine)
-        → Answered contexts m line (Step.Call ctx (GuestCall.PipeIn bytes)) entries (Reply.Ok fields) after
+        → Answered contexts m line (Step.Call ctx (GuestCall.PipeIn bytes)) entries
+        (Reply.Ok fields) after
         → MakesPlain m line (Kind.PlainInput (PlainInput.Pipe (length m.store.records)))
         (with_record_more m.store (Record.InputPipe bytes)) entries fields after }
     ensures pipe_out { (contexts : List WasiSocketsCtx) (m : Machine) (line ctx capacity : ℕ)
         (fields : List Field) (entries : List Entry) (after : Machine)
-        → Answered contexts m line (Step.Call ctx (GuestCall.PipeOut capacity)) entries (Reply.Ok fields) after
+        → Answered contexts m line (Step.Call ctx (GuestCall.PipeOut capacity)) entries
+        (Reply.Ok fields) after
         → MakesPlain m line (Kind.PlainOutput (PlainOutput.Pipe (length m.store.records)))
         (with_record_more m.store (Record.OutputPipe (no_contents capacity))) entries fields
         after }
@@ -279,11 +295,13 @@ pub fn pipes_are_made()
         → MakesPlain m line (Kind.PlainOutput PlainOutput.Sink) m.store entries fields after }
     ensures closed_in { (contexts : List WasiSocketsCtx) (m : Machine) (line ctx : ℕ)
         (fields : List Field) (entries : List Entry) (after : Machine)
-        → Answered contexts m line (Step.Call ctx GuestCall.ClosedIn) entries (Reply.Ok fields) after
+        → Answered contexts m line (Step.Call ctx GuestCall.ClosedIn) entries (Reply.Ok fields)
+        after
         → MakesPlain m line (Kind.PlainInput PlainInput.Closed) m.store entries fields after }
     ensures closed_out { (contexts : List WasiSocketsCtx) (m : Machine) (line ctx : ℕ)
         (fields : List Field) (entries : List Entry) (after : Machine)
-        → Answered contexts m line (Step.Call ctx GuestCall.ClosedOut) entries (Reply.Ok fields) after
+        → Answered contexts m line (Step.Call ctx GuestCall.ClosedOut) entries (Reply.Ok fields)
+        after
         → MakesPlain m line (Kind.PlainOutput PlainOutput.Closed) m.store entries fields after }
     ensures full { (contexts : List WasiSocketsCtx) (m : Machine) (line : ℕ) (s : Step)
         (entries : List Entry) (after : Machine)
@@ -300,17 +318,20 @@ pub fn pipes_are_made()
 pub fn contents_are_told()
     ensures told { (contexts : List WasiSocketsCtx) (m : Machine) (line ctx output : ℕ)
         (fields : List Field) (entries : List Entry) (after : Machine)
-        → Answered contexts m line (Step.Call ctx (GuestCall.PipeContents output)) entries (Reply.Ok fields) after
+        → Answered contexts m line (Step.Call ctx (GuestCall.PipeContents output)) entries
+        (Reply.Ok fields) after
         → OfOutputPipe m output (λ place pipe. fields ≡ bytes_fields pipe.held) }
     ensures exactly { (contexts : List WasiSocketsCtx) (m : Machine) (line ctx output : ℕ)
         (entries : List Entry) (reply : Reply) (after : Machine)
         → m.store.standing ≡ None
-        → Answered contexts m line (Step.Call ctx (GuestCall.PipeContents output)) entries reply after
+        → Answered contexts m line (Step.Call ctx (GuestCall.PipeContents output)) entries reply
+        after
         → (reply ≡ Reply.Trap TrapKind.NoSuchHandle)
         ↔ (pipe_of m (plain_output_at m output) ≡ None) }
     ensures quiet { (contexts : List WasiSocketsCtx) (m : Machine) (line ctx output : ℕ)
         (entries : List Entry) (reply : Reply) (after : Machine)
-        → Answered contexts m line (Step.Call ctx (GuestCall.PipeContents output)) entries reply after
+        → Answered contexts m line (Step.Call ctx (GuestCall.PipeContents output)) entries reply
+        after
         → (entries ≡ []) × (after ≡ m) }
 {}
 
@@ -329,8 +350,10 @@ pub fn zeros_are_written()
     ensures { (contexts : List WasiSocketsCtx) (m : Machine) (line ctx output len : ℕ)
         (entries : List Entry) (reply : Reply) (after : Machine)
         → m.store.standing ≡ None
-        → Answered contexts m line (Step.Call ctx (GuestCall.WriteZeroes output len)) entries reply after
-        → Answered contexts m line (Step.Call ctx (GuestCall.Write output (zeros len))) entries reply after }
+        → Answered contexts m line (Step.Call ctx (GuestCall.WriteZeroes output len)) entries reply
+        after
+        → Answered contexts m line (Step.Call ctx (GuestCall.Write output (zeros len))) entries
+        reply after }
 {}
 
 /// A splice traps, and asks nothing, where one of its handles isn't an output's or an input's. Else
@@ -340,6 +363,7 @@ pub fn splices_are_their_parts()
     ensures { (contexts : List WasiSocketsCtx) (m : Machine) (line ctx to from len : ℕ)
         (entries : List Entry) (reply : Reply) (after : Machine)
         → m.store.standing ≡ None
-        → Answered contexts m line (Step.Call ctx (GuestCall.Splice to from len)) entries reply after
+        → Answered contexts m line (Step.Call ctx (GuestCall.Splice to from len)) entries reply
+        after
         → Splices contexts m line ctx to from len entries reply after }
 {}

@@ -26,9 +26,9 @@ ghost use Rattle.wasi_walks.specs.Answered.{Answered};
 ghost use Rattle.wasi_walks.specs.Licence.{Has};
 ghost use Rattle.wasi_walks.specs.Waiting.{nothing_stands};
 ghost use Rattle.wasi_causes.specs.Blocking.{IsCallOfStream};
-ghost use Rattle.wasi_causes.specs.PollableCalls.{AreDifferent, BeginsToWait, BlocksOn, different};
-ghost use Rattle.wasi_causes.specs.PollableCalls.{Finds, LooksInTurn, pollables_of, RisesFrom};
-ghost use Rattle.wasi_causes.specs.PollableCalls.{waiting, WaitsOn};
+ghost use Rattle.wasi_causes.specs.PollableCalls.{AreDifferent, BeginsNone, BeginsToWait, BlocksOn};
+ghost use Rattle.wasi_causes.specs.PollableCalls.{different, Finds, LooksInTurn, pollables_of, RisesFrom};
+ghost use Rattle.wasi_causes.specs.PollableCalls.{waiting, waits_for, WaitsOn};
 
 /// A wait for one pollable is a `ready` of it in its line. All of this is said where no call is
 /// pending.
@@ -50,19 +50,22 @@ pub fn waits_for_one_are_looks()
         → m.store.standing ≡ None
         → Answered contexts m line (Step.Call ctx (GuestCall.Ready pollable)) entries
         (Reply.Ok (truth_fields true)) after
-        → Answered contexts m line (Step.Call ctx (GuestCall.Block pollable)) entries (Reply.Ok no_fields) after }
+        → Answered contexts m line (Step.Call ctx (GuestCall.Block pollable)) entries
+        (Reply.Ok no_fields) after }
     ensures unready { (contexts : List WasiSocketsCtx) (m : Machine) (line ctx pollable : ℕ)
         (entries : List Entry) (after : Machine)
         → m.store.standing ≡ None
         → Answered contexts m line (Step.Call ctx (GuestCall.Ready pollable)) entries
         (Reply.Ok (truth_fields false)) after
-        → Answered contexts m line (Step.Call ctx (GuestCall.Block pollable)) entries (Reply.Pending line)
-        (waiting after (first_ids line) (BlockingCall.Block pollable)) }
+        → Answered contexts m line (Step.Call ctx (GuestCall.Block pollable)) entries
+        (Reply.Pending line) (waiting after (first_ids line) (BlockingCall.Block pollable)) }
     ensures traps { (contexts : List WasiSocketsCtx) (m : Machine) (line ctx pollable : ℕ)
         (entries : List Entry) (kind : TrapKind) (after : Machine)
         → m.store.standing ≡ None
-        → Answered contexts m line (Step.Call ctx (GuestCall.Ready pollable)) entries (Reply.Trap kind) after
-        → Answered contexts m line (Step.Call ctx (GuestCall.Block pollable)) entries (Reply.Trap kind) after }
+        → Answered contexts m line (Step.Call ctx (GuestCall.Ready pollable)) entries
+        (Reply.Trap kind) after
+        → Answered contexts m line (Step.Call ctx (GuestCall.Block pollable)) entries
+        (Reply.Trap kind) after }
     ensures handles { (contexts : List WasiSocketsCtx) (m : Machine) (line ctx pollable : ℕ)
         (entries : List Entry) (reply : Reply) (after : Machine)
         → m.store.standing ≡ None
@@ -90,12 +93,14 @@ pub fn waits_for_several_look_at_each()
     ensures no_pollable { (contexts : List WasiSocketsCtx) (m : Machine) (line ctx : ℕ)
         (pollables : List ℕ) (entries : List Entry) (reply : Reply) (after : Machine)
         → m.store.standing ≡ None → pollables ≢ [] → are_pollables m pollables ≡ false
-        → Answered contexts m line (Step.Call ctx (GuestCall.PollList pollables)) entries reply after
+        → Answered contexts m line (Step.Call ctx (GuestCall.PollList pollables)) entries reply
+        after
         → (reply ≡ Reply.Trap TrapKind.NoSuchHandle) × (entries ≡ []) × (after ≡ m) }
     ensures looks { (contexts : List WasiSocketsCtx) (m : Machine) (line ctx : ℕ)
         (pollables : List ℕ) (entries : List Entry) (reply : Reply) (after : Machine)
         → m.store.standing ≡ None
-        → Answered contexts m line (Step.Call ctx (GuestCall.PollList pollables)) entries reply after
+        → Answered contexts m line (Step.Call ctx (GuestCall.PollList pollables)) entries reply
+        after
         → BeginsToWait m line pollables entries reply after }
     ensures as_ready { (contexts : List WasiSocketsCtx) (m : Machine) (line ctx pollable : ℕ)
         (entries : List Entry) (ready : Bool) (after : Machine)
@@ -106,13 +111,15 @@ pub fn waits_for_several_look_at_each()
     ensures handles { (contexts : List WasiSocketsCtx) (m : Machine) (line ctx : ℕ)
         (pollables : List ℕ) (entries : List Entry) (reply : Reply) (after : Machine)
         → m.store.standing ≡ None
-        → Answered contexts m line (Step.Call ctx (GuestCall.PollList pollables)) entries reply after
+        → Answered contexts m line (Step.Call ctx (GuestCall.PollList pollables)) entries reply
+        after
         → after.table ≡ m.table }
     ensures in_runs { (contexts : List WasiSocketsCtx) (steps : List Step) (log : List Entry)
         (replies : List Reply) (m : Machine) (line ctx : ℕ) (pollables : List ℕ)
         (entries : List Entry) (kind : TrapKind) (after : Machine)
         → Left (run contexts [] first_state 1 steps) log (Give (replies, m))
-        → Answered contexts m line (Step.Call ctx (GuestCall.PollList pollables)) entries (Reply.Trap kind) after
+        → Answered contexts m line (Step.Call ctx (GuestCall.PollList pollables)) entries
+        (Reply.Trap kind) after
         → ((pollables ≡ []) ⊎ (are_pollables m pollables ≡ false)) × (entries ≡ []) × (after ≡ m) }
 {}
 
@@ -174,6 +181,35 @@ pub fn polls_of_waits_begin_nothing()
         → Answered contexts m line (Step.Poll ids.line) entries (Reply.Trap kind) after → ⊥ }
 {}
 
+/// In a run no pollable of a pending wait would begin anything: the look of its line did, or there
+/// was nothing to begin.
+///
+/// - `none`: a look at any of them would begin no accept and no receive.
+/// - `one`, `several`: so a poll of the wait looks as its line did, when nothing was pending, and
+///   comes out as that. A pollable that is ready without a look is never found.
+pub fn pending_waits_would_begin_nothing()
+    ensures none { (contexts : List WasiSocketsCtx) (steps : List Step) (log : List Entry)
+        (replies : List Reply) (m : Machine) (ids : Ids) (call : StandingCall)
+        → Left (run contexts [] first_state 1 steps) log (Give (replies, m))
+        → m.store.standing ≡ Some (standing_as ids call) → BeginsNone m (waits_for call) }
+    ensures one { (contexts : List WasiSocketsCtx) (steps : List Step) (log : List Entry)
+        (replies : List Reply) (m : Machine) (line ctx pollable : ℕ) (ids : Ids)
+        (entries : List Entry) (reply : Reply) (after : Machine)
+        → Left (run contexts [] first_state 1 steps) log (Give (replies, m))
+        → m.store.standing ≡ Some (standing_as ids (StandingCall.Blocking
+        (BlockingCall.Block pollable))) → Answered contexts m line (Step.Poll ids.line) entries
+        reply after
+        → BlocksOn contexts (nothing_stands m) ctx ids pollable Look.First entries reply after }
+    ensures several { (contexts : List WasiSocketsCtx) (steps : List Step) (log : List Entry)
+        (replies : List Reply) (m : Machine) (line : ℕ) (pollables : List ℕ) (ids : Ids)
+        (entries : List Entry) (reply : Reply) (after : Machine)
+        → Left (run contexts [] first_state 1 steps) log (Give (replies, m))
+        → m.store.standing ≡ Some (standing_as ids (StandingCall.Blocking
+        (BlockingCall.Poll pollables))) → Answered contexts m line (Step.Poll ids.line) entries
+        reply after
+        → WaitsOn (nothing_stands m) (first_ids ids.line) pollables Look.First entries reply after }
+{}
+
 /// A wait that is pending is kept with its pollables, under the number of its line.
 ///
 /// - `one`, `several`: after the step that makes it.
@@ -184,15 +220,15 @@ pub fn pending_waits_are_for_their_pollables()
     ensures one { (contexts : List WasiSocketsCtx) (m : Machine) (line ctx pollable number : ℕ)
         (entries : List Entry) (after : Machine)
         → m.store.standing ≡ None
-        → Answered contexts m line (Step.Call ctx (GuestCall.Block pollable)) entries (Reply.Pending number)
-        after
+        → Answered contexts m line (Step.Call ctx (GuestCall.Block pollable)) entries
+        (Reply.Pending number) after
         → (number ≡ line) × (after.store.standing ≡ Some
         (standing_as (first_ids line) (StandingCall.Blocking (BlockingCall.Block pollable)))) }
     ensures several { (contexts : List WasiSocketsCtx) (m : Machine) (line ctx number : ℕ)
         (pollables : List ℕ) (entries : List Entry) (after : Machine)
         → m.store.standing ≡ None
-        → Answered contexts m line (Step.Call ctx (GuestCall.PollList pollables)) entries (Reply.Pending number)
-        after
+        → Answered contexts m line (Step.Call ctx (GuestCall.PollList pollables)) entries
+        (Reply.Pending number) after
         → (number ≡ line) × (after.store.standing ≡ Some
         (standing_as (first_ids line) (StandingCall.Blocking (BlockingCall.Poll pollables)))) }
     ensures one_polled { (contexts : List WasiSocketsCtx) (m : Machine) (line pollable number : ℕ)

@@ -66,8 +66,8 @@ pub fn permit_means_all_is_taken()
         (ctx output n : ℕ) (entries : List Entry) (next : Machine)
         → Did contexts side first_state 1 steps log permitted after
         → WritesTo after output side
-        → Answered contexts after (1 + length steps) (Step.Call ctx (GuestCall.CheckWrite output)) entries
-        (Reply.Ok (number_fields n)) next
+        → Answered contexts after (1 + length steps) (Step.Call ctx (GuestCall.CheckWrite output))
+        entries (Reply.Ok (number_fields n)) next
         → 0 < n
         → taken_in side (log ++ entries) ≡ permitted }
 {}

@@ -8,7 +8,7 @@ use Rattle.wasi_addr.specs.declared.address.SocketAddrUse.TheVariants.{TcpBind}
 use Rattle.wasi_addr.specs.declared.code.ErrorCode.{ErrorCode}
 use Rattle.wasi_addr.specs.declared.code.ErrorCode.TheVariants.{AccessDenied}
 use Rattle.wasi_addr.specs.Address.{ip_of, is_of_family, is_unicast, is_wildcard}
-use Rattle.wasi_addr.specs.Code.{p2_of_code}
+use Rattle.wasi_addr.specs.Code.{p2_of_code, p3_of_code}
 use Rattle.wasi_world.specs.declared.ids.OpId.{OpId}
 use Rattle.wasi_world.specs.declared.call.Call.{Call}
 use Rattle.wasi_world.specs.declared.call.Call.TheVariants as call
@@ -47,7 +47,7 @@ use Rattle.wasi_steps.specs.declared.step.Step.{Step}
 use Rattle.wasi_steps.specs.declared.guest_call.GuestCall.TheVariants as guest
 use Rattle.wasi_steps.specs.declared.step.Step.TheVariants as step
 use Rattle.wasi_host.specs.declared.kind.Kind.TheVariants as kind
-use Rattle.wasi_steps.specs.Reply.{word_of_p2}
+use Rattle.wasi_steps.specs.Reply.{word_of_p2, word_of_p3}
 use Rattle.wasi_host.specs.Kinds.{with_handle}
 use Rattle.wasi_records.specs.Binding.{left_of}
 use Rattle.wasi_records.specs.InProgress.{is_nothing, is_bind, is_connect}
@@ -161,6 +161,10 @@ pub record EndsPending (own : OpId) (entries : List Entry) : Type 0 where
 -- a code's word is that of its 0.2 code
 abbrev pub word_of_code : ErrorCode → CodeWord
 word_of_code c = word_of_p2 (p2_of_code c)
+
+-- and its 0.3 word
+abbrev pub p3_word : ErrorCode → CodeWord
+p3_word c = word_of_p3 (p3_of_code c)
 
 -- what was asked and answered, the word, and the machine afterwards, by the record that the handle names
 abbrev pub RefusedOf : Machine → ℕ → (ℕ → TcpRecord → List Entry → CodeWord → Machine → Type 0) → List Entry → CodeWord → Machine → Type 0

@@ -5,3 +5,4 @@ pub mod Missing
 pub mod Listens
 pub mod Waiting
 pub mod Received
+pub mod Remotes

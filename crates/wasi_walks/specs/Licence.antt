@@ -16,7 +16,7 @@ use Rattle.wasi_world.specs.declared.call.Call.{Call}
 use Rattle.wasi_world.specs.declared.call.Call.TheVariants.{Check, Lookup, TcpCreate, UdpCreate, UdpWritable, Local, Peer, Bind, UdpBind, UdpConnect, Listen, SetBacklog, Connect, Accept, Hand, Refuse, Read, ReadReady, WriteReady, Write, Shutdown, UdpDisconnect, Send, Recv, GetOption, SetOption, Close, Made}
 use Rattle.wasi_world.specs.declared.call.HandleKind.{HandleKind}
 use Rattle.wasi_world.specs.declared.call.HandleKind.TheVariants as handle_kind
-use Rattle.wasi_world.specs.declared.call.HandleKind.TheVariants.{Network, Tcp2, Tcp3, Udp2, Input, Output, Pollable, ErrorValue, Incoming, Outgoing}
+use Rattle.wasi_world.specs.declared.call.HandleKind.TheVariants.{Network, Tcp2, Tcp3, Udp2, Udp3, Input, Output, Pollable, ErrorValue, Incoming, Outgoing}
 use Rattle.wasi_world.specs.declared.call.Opt.{Opt}
 use Rattle.wasi_world.specs.declared.call.Told.{Told}
 use Rattle.wasi_world.specs.declared.call.Told.TheVariants.{Done, Yes, Addr, Arrived, Code}
@@ -194,6 +194,7 @@ pub record MayUseUdp (contexts : List WasiSocketsCtx) (number name : ℕ) : Type
 -- a create of a UDP socket of this family, by the context of this name
 abbrev pub IsUdpCreate : List WasiSocketsCtx → ℕ → SocketAddressFamily → Step → Type 0
 IsUdpCreate contexts name family (step.Call ctx (guest.UdpCreate f)) = MayUseUdp contexts ctx name × (f ≡ family)
+IsUdpCreate contexts name family (step.Call ctx (guest.P3UdpCreate f)) = MayUseUdp contexts ctx name × (f ≡ family)
 IsUdpCreate contexts name family _ = ⊥
 
 -- The context of this number may look names up.
@@ -216,6 +217,7 @@ MakesTcp _ = ⊥
 -- a create of a UDP socket
 abbrev pub MakesUdp : Step → Type 0
 MakesUdp (step.Call ctx (guest.UdpCreate family)) = ⊤
+MakesUdp (step.Call ctx (guest.P3UdpCreate family)) = ⊤
 MakesUdp _ = ⊥
 
 -- a bind of a UDP socket to this address
@@ -228,9 +230,10 @@ abbrev pub IsUdpConnectTo : IpSocketAddress → Step → Type 0
 IsUdpConnectTo addr (step.Call ctx (guest.UdpStream socket remote)) = remote ≡ Some addr
 IsUdpConnectTo addr _ = ⊥
 
--- datagram streams that are made without an address: a socket that is connected is disconnected
+-- datagram streams that are made without an address: a socket that is connected is disconnected; or a disconnect
 abbrev pub IsDisconnect : Step → Type 0
 IsDisconnect (step.Call ctx (guest.UdpStream socket None)) = ⊤
+IsDisconnect (step.Call ctx (guest.P3UdpDisconnect socket)) = ⊤
 IsDisconnect _ = ⊥
 
 -- datagrams are received, or pollables are looked at, by which a receive may begin too
@@ -285,6 +288,7 @@ abbrev pub IsGetOf : Opt → Step → Type 0
 IsGetOf option (step.Call ctx (guest.TcpGet socket o)) = o ≡ option
 IsGetOf option (step.Call ctx (guest.P3TcpGet socket o)) = o ≡ option
 IsGetOf option (step.Call ctx (guest.UdpGet socket o)) = udp_opt o ≡ option
+IsGetOf option (step.Call ctx (guest.P3UdpGet socket o)) = udp_opt o ≡ option
 IsGetOf option _ = ⊥
 
 -- what is set is this option, and its value, brought into the option's range, is this
@@ -296,6 +300,7 @@ abbrev pub IsSetTo : Opt → ℕ → Step → Type 0
 IsSetTo option value (step.Call ctx (guest.TcpSet socket setting)) = SetsOption option value (chosen setting)
 IsSetTo option value (step.Call ctx (guest.P3TcpSet socket setting)) = SetsOption option value (chosen setting)
 IsSetTo option value (step.Call ctx (guest.UdpSet socket setting)) = SetsOption option value (AnOption (udp_chosen setting).0 (udp_chosen setting).1)
+IsSetTo option value (step.Call ctx (guest.P3UdpSet socket setting)) = SetsOption option value (AnOption (udp_chosen setting).0 (udp_chosen setting).1)
 IsSetTo option value _ = ⊥
 
 -- what is set is the backlog, which is this, brought into its range
@@ -392,6 +397,8 @@ IsMarkOf before op kind parent sock (step.Call ctx (guest.P3TcpCreate family)) =
     (kind ≡ Tcp3) × (parent ≡ None) × (sock ≡ Some op) × ((name : ℕ) × (f : SocketAddressFamily) × Has before (entry op (TcpCreate name f) Done))
 IsMarkOf before op kind parent sock (step.Call ctx (guest.UdpCreate family)) =
     (kind ≡ Udp2) × (parent ≡ None) × (sock ≡ Some op) × ((name : ℕ) × (f : SocketAddressFamily) × Has before (entry op (UdpCreate name f) Done))
+IsMarkOf before op kind parent sock (step.Call ctx (guest.P3UdpCreate family)) =
+    (kind ≡ Udp3) × (parent ≡ None) × (sock ≡ Some op) × ((name : ℕ) × (f : SocketAddressFamily) × Has before (entry op (UdpCreate name f) Done))
 IsMarkOf before op kind parent sock (step.Call ctx (guest.TcpFinishConnect socket)) = ((kind ≡ Input) ⊎ (kind ≡ Output)) × IsOfParent before socket parent sock
 IsMarkOf before op kind parent sock (step.Call ctx (guest.TcpAccept socket)) = IsAcceptedMark before op socket kind parent sock ⊎ IsStreamMark before op kind parent sock
 IsMarkOf before op kind parent sock (step.Call ctx (guest.UdpStream socket remote)) = ((kind ≡ Incoming) ⊎ (kind ≡ Outgoing)) × IsOfParent before socket parent sock

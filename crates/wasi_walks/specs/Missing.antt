@@ -20,7 +20,7 @@ use Rattle.wasi_records.specs.Records.{tcp2_at, udp2_at, open_at, input_pipe_at,
 use Rattle.wasi_host.specs.Standing.{call_of}
 use Rattle.wasi_host.specs.StreamCalls.{plain_input_at, plain_output_at}
 use Rattle.wasi_p3.specs.Lines as p3
-use Rattle.wasi_steps.specs.Steps.{Kind, HandleOf, ALine, ANetwork, ASocket, ASocket3, ADatagramSocket, AnInput, AnOutput, AnIncoming, AnOutgoing, ALookup, AnError, Watchable, APollable, Anything, SomePollables, Value, Values, written_of}
+use Rattle.wasi_steps.specs.Steps.{Kind, HandleOf, ALine, ANetwork, ASocket, ASocket3, ADatagramSocket, ADatagramSocket3, AnInput, AnOutput, AnIncoming, AnOutgoing, ALookup, AnError, Watchable, APollable, Anything, SomePollables, Value, Values, written_of}
 use Rattle.wasi_steps.specs.declared.step.Step.{Step}
 use Rattle.wasi_steps.specs.declared.guest_call.GuestCall.TheVariants as guest
 use Rattle.wasi_steps.specs.declared.step.Step.TheVariants as step
@@ -95,7 +95,7 @@ abbrev pub IsOnNothing : Machine → StandingCall → Type 0
 IsOnNothing m (standing.Bind place) = tcp2_at m.store.records place ≡ None
 IsOnNothing m (standing.Listen place) = tcp2_at m.store.records place ≡ None
 IsOnNothing m (standing.DropOutput place) = ⊥
-IsOnNothing m (standing.UdpCreate place) = udp2_at m.store.records place ≡ None
+IsOnNothing m (standing.UdpCreate place face) = udp2_at m.store.records place ≡ None
 IsOnNothing m (standing.UdpBind place) = open_at m.store.records place ≡ None
 IsOnNothing m (standing.UdpConnect place handle) = (open_at m.store.records place ≡ None) ⊎ (udp_of (kind_at m.table handle) ≡ None)
 IsOnNothing m (standing.DropOutgoing place) = ⊥
@@ -112,6 +112,7 @@ MissesValue m (HandleOf ANetwork) h = is_network (kind_at m.table h) ≡ false
 MissesValue m (HandleOf ASocket) h = record_at m h ≡ None
 MissesValue m (HandleOf ASocket3) h = p3.tcp_of m h ≡ None
 MissesValue m (HandleOf ADatagramSocket) h = open_udp_at m h ≡ None
+MissesValue m (HandleOf ADatagramSocket3) h = p3.udp_of m h ≡ None
 MissesValue m (HandleOf AnIncoming) h = incoming_in m h ≡ None
 MissesValue m (HandleOf AnOutgoing) h = outgoing_in m h ≡ None
 MissesValue m (HandleOf AnInput) h = MissesInput m h
@@ -148,6 +149,7 @@ MakesHandle (step.Call ctx guest.Network) = ⊤
 MakesHandle (step.Call ctx (guest.TcpCreate family)) = ⊤
 MakesHandle (step.Call ctx (guest.P3TcpCreate family)) = ⊤
 MakesHandle (step.Call ctx (guest.UdpCreate family)) = ⊤
+MakesHandle (step.Call ctx (guest.P3UdpCreate family)) = ⊤
 MakesHandle (step.Call ctx (guest.UdpStream socket remote)) = ⊤
 MakesHandle (step.Call ctx (guest.TcpFinishConnect socket)) = ⊤
 MakesHandle (step.Call ctx (guest.TcpAccept socket)) = ⊤

@@ -43,6 +43,8 @@ use Rattle.wasi_records.specs.declared.udp.UdpInProgress.{UdpInProgress}
 use Rattle.wasi_records.specs.declared.udp.UdpInProgress.TheVariants as udp_doing
 use Rattle.wasi_udp.specs.Bind.{IsBind as IsUdpBind}
 use Rattle.wasi_udp.specs.Create.{Create}
+use Rattle.wasi_host.specs.declared.kind.Interface.{Interface}
+use Rattle.wasi_host.specs.declared.kind.Interface.TheVariants.{P3}
 use Rattle.wasi_host.specs.declared.store.StandingCall.{StandingCall}
 use Rattle.wasi_host.specs.declared.store.StandingCall.TheVariants as standing
 use Rattle.wasi_host.specs.Kinds.{kind_at, watch_of, place_in}
@@ -56,7 +58,7 @@ use Rattle.wasi_steps.specs.declared.reply.Reply.TheVariants as reply
 use Rattle.wasi_steps.specs.declared.step.Step.{Step}
 use Rattle.wasi_steps.specs.declared.guest_call.GuestCall.TheVariants as guest
 use Rattle.wasi_steps.specs.declared.step.Step.TheVariants as step
-use Rattle.wasi_walks.specs.Answered.{AllOf, ConnectsOn, OfStreams, EndsPending, EndsClosing, IsUnfinished, word_of_code}
+use Rattle.wasi_walks.specs.Answered.{AllOf, ConnectsOn, OfStreams, EndsPending, EndsClosing, IsUnfinished, p3_word, word_of_code}
 use Rattle.wasi_walks.specs.Listens.{AcceptWaits, accept_name, AcceptsIn, HasNoListener}
 use Rattle.wasi_walks.specs.Licence.{Has, entry}
 
@@ -133,6 +135,7 @@ abbrev pub MayStand : Machine → ℕ → Step → ℕ → Type 0
 MayStand m line (step.Call ctx (guest.TcpStartBind socket network a)) n = n ≡ line
 MayStand m line (step.Call ctx (guest.TcpStartListen socket)) n = n ≡ line
 MayStand m line (step.Call ctx (guest.UdpCreate family)) n = n ≡ line
+MayStand m line (step.Call ctx (guest.P3UdpCreate family)) n = n ≡ line
 MayStand m line (step.Call ctx (guest.UdpStartBind socket network a)) n = n ≡ line
 MayStand m line (step.Call ctx (guest.UdpStream socket remote)) n = n ≡ line
 MayStand m line (step.Call ctx (guest.Drop handle)) n = (IsSome (output_at m handle) ⊎ IsSome (outgoing_at m handle)) × (n ≡ line)
@@ -215,7 +218,7 @@ abbrev pub HoldsCall : Machine → StandingCall → Type 0
 HoldsCall m (standing.Bind place) = IfSome (tcp2_at m.store.records place) (λ r. IsBinding r.in_progress)
 HoldsCall m (standing.Listen place) = IfSome (tcp2_at m.store.records place) (λ r. IsListening r.inner.state r.listening)
 HoldsCall m (standing.DropOutput place) = ⊤
-HoldsCall m (standing.UdpCreate place) = IfSome (udp2_at m.store.records place) IsCreating
+HoldsCall m (standing.UdpCreate place face) = IfSome (udp2_at m.store.records place) IsCreating
 HoldsCall m (standing.UdpBind place) = IfSome (open_at m.store.records place) (λ o. IsUdpBinding o.in_progress)
 HoldsCall m (standing.UdpConnect place handle) = IfSome (open_at m.store.records place) (λ o. IsUdpConnecting o.connecting)
 HoldsCall m (standing.DropOutgoing place) = ⊤
@@ -255,7 +258,7 @@ UdpConnectWaits None entries = ⊥
 abbrev pub CallWaits : Machine → OpId → List Entry → StandingCall → Type 0
 CallWaits m own entries (standing.Bind place) = IsSomeAnd (tcp2_at m.store.records place) (λ r. BindWaits r.in_progress entries)
 CallWaits m own entries (standing.Listen place) = IsSomeAnd (tcp2_at m.store.records place) (λ r. ListenWaits r.listening entries)
-CallWaits m own entries (standing.UdpCreate place) = IsSomeAnd (udp2_at m.store.records place) (λ u. CreateWaits u entries)
+CallWaits m own entries (standing.UdpCreate place face) = IsSomeAnd (udp2_at m.store.records place) (λ u. CreateWaits u entries)
 CallWaits m own entries (standing.UdpBind place) = IsSomeAnd (open_at m.store.records place) (λ o. UdpBindWaits o.in_progress entries)
 CallWaits m own entries (standing.UdpConnect place handle) = IsSomeAnd (open_at m.store.records place) (λ o. UdpConnectWaits o.connecting entries)
 CallWaits m own entries (standing.DropOutgoing place) = IsSomeAnd (open_at m.store.records place) (λ o. (sends o.outgoing ≡ true) × (entries ≡ []))
@@ -299,11 +302,16 @@ pub data UdpConnectFails (op : Operation) (entries : List Entry) : ErrorCode →
 
 -- Why the pending call failed with a code: its bind, its listen, its create or its connect ended with it.
 pub data CallFails (m : Machine) (entries : List Entry) : StandingCall → ErrorCode → Type 0 where
-  CreateFailed : (place : ℕ) (create : Create) (c : ErrorCode) → udp2_at m.store.records place ≡ Some (udp.Creating create) → EndsClosing create.operation.who (call.UdpWritable create.operation.who.side) (told.Code c) entries → CallFails m entries (standing.UdpCreate place) c
+  CreateFailed : (place : ℕ) (face : Interface) (create : Create) (c : ErrorCode) → udp2_at m.store.records place ≡ Some (udp.Creating create) → EndsClosing create.operation.who (call.UdpWritable create.operation.who.side) (told.Code c) entries → CallFails m entries (standing.UdpCreate place face) c
   UdpConnectFailed : (place handle : ℕ) (o : OpenUdp) (op : Operation) (c : ErrorCode) → open_at m.store.records place ≡ Some o → o.connecting ≡ Some op → UdpConnectFails op entries c → CallFails m entries (standing.UdpConnect place handle) c
   UdpBindFailed : (place : ℕ) (o : OpenUdp) (op : Operation) (c : ErrorCode) → open_at m.store.records place ≡ Some o → o.in_progress ≡ udp_doing.Binding op → UdpBindFails op entries c → CallFails m entries (standing.UdpBind place) c
   BindFailed : (place : ℕ) (r : TcpRecord) (op : Operation) (c : ErrorCode) → tcp2_at m.store.records place ≡ Some r → r.in_progress ≡ Binding op → BindFails op entries c → CallFails m entries (standing.Bind place) c
   ListenFailed : (place : ℕ) (r : TcpRecord) (op : Operation) (c : ErrorCode) → tcp2_at m.store.records place ≡ Some r → r.listening ≡ listening.Begins op → ListenEnds op entries c → CallFails m entries (standing.Listen place) c
+
+-- the word of a code that a pending call fails with: that of its interface
+abbrev pub word_for : StandingCall → ErrorCode → CodeWord
+word_for (standing.UdpCreate place P3) c = p3_word c
+word_for call c = word_of_code c
 
 -- A call is pending under this number, and failed with a code of this word.
 pub record StandingFails (m : Machine) (n : ℕ) (entries : List Entry) (word : CodeWord) : Type 0 where
@@ -313,7 +321,7 @@ pub record StandingFails (m : Machine) (n : ℕ) (entries : List Entry) (word : 
   pub stands : m.store.standing ≡ Some (record { ids = ids; call = call })
   pub number : ids.line ≡ n
   pub cause : CallFails m entries call code
-  pub word_is : word ≡ word_of_code code
+  pub word_is : word ≡ word_for call code
 
 -- nothing is pending
 abbrev pub nothing_stands : Machine → Machine

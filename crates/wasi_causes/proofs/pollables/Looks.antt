@@ -148,7 +148,9 @@ module _ (ids : Ids) (r : TcpRecord) where
     at_output (Some s) has = onto _ (widen (λ es done k. (λ h. absurd (cc), λ e. cc)) (whatever (look_asks (own_of ids.line) s.writer)))
 
 -- == by what is watched
-job_stays : (store : Records) (place : ℕ) (o now : OpenUdp) (b : Bool) → ((with_job (with_open_udp store place now) (Receive place) b).standing ≡ store.standing) × ((with_job (with_open_udp store place now) (Receive place) b).records ≡ open_put store.records place now)
+pub job_stays : (store : Records) (place : ℕ) (o now : OpenUdp) (b : Bool) →
+    ((with_job (with_open_udp store place now) (Receive place) b).standing ≡ store.standing) ×
+    ((with_job (with_open_udp store place now) (Receive place) b).records ≡ open_put store.records place now)
 job_stays store place o now true = (refl, refl)
 job_stays store place o now false = (refl, refl)
 

@@ -1,5 +1,5 @@
 -- What a stream received, along a log that grows: what each kind of entry does to it.
-use Rattle.wasi_causes.proofs.Words.{Allows, Asks, IfSome, allows_keep, told_verdict, Verdict, Bool, Call, Entry, IpSocketAddress, List, None, OpId, Option, Some, Told, [], ap, append-nil, append_assoc, entry, eq-eqb, eqb-true, false, if◌then◌else◌, refl, subst, sym, true, ℕ, ⊤, ◌&&◌, ◌++◌, ◌==◌, ◌∙◌, ◌∷◌, ◌≡◌}
+use Rattle.wasi_causes.proofs.Words.{Allows, Asks, IfSome, allows_keep, told_verdict, Verdict, Bool, Call, Entry, IpSocketAddress, List, None, OpId, Option, Some, Told, [], ap, append-nil, append_assoc, entry, false, if◌then◌else◌, refl, subst, sym, true, ℕ, ⊤, ◌&&◌, ◌++◌, ◌∙◌, ◌∷◌, ◌≡◌}
 use Rattle.wasi_addr.specs.Address.{same_address}
 use Rattle.wasi_addr.specs.declared.address.SocketAddrUse.TheVariants.{UdpReceive}
 use Rattle.wasi_addr.proofs.SameAddresses.{same_address-self}
@@ -11,23 +11,10 @@ use Rattle.wasi_walks.proofs.fits.Polls.{Anything}
 use Rattle.wasi_walks.proofs.licence.State.{RemoteIs}
 use Rattle.wasi_walks.proofs.Words.{allows_weaker}
 use Rattle.wasi_walks.proofs.received.Polls.{Elsewhere, Spares}
-use Rattle.wasi_causes.specs.ReceivedList.{InHand, MarkedBefore, NoneIsReplaced, in_hand_or, left_in_hand, received, received_at, received_if, still_in_hand, then_in_hand, told_by, unless_answered, verdict_on}
+pub use Rattle.wasi_walks.proofs.remotes.Along.{same_self, same_true}
+use Rattle.wasi_causes.specs.ReceivedList.{InHand, LastRemote, MarkedBefore, NoneIsReplaced, in_hand_or, left_in_hand, received, received_at, received_if, still_in_hand, then_in_hand, told_by, unless_answered, verdict_on}
 
 -- == names
-pub same_self : (a : OpId) → is_same a a ≡ true
-same_self a = rw (eq-eqb a.step a.step refl, eq-eqb a.part a.part refl) refl
-
-pub same_true : (a b : OpId) → is_same a b ≡ true → a ≡ b
-same_true a b e = by_steps (a.step == b.step) refl e
-  where
-    by_parts : a.step ≡ b.step → (t : Bool) → (a.part == b.part) ≡ t → t ≡ true → a ≡ b
-    by_parts s true p e = let q : a.part ≡ b.part = eqb-true a.part b.part p in ap (λ (x : ℕ). let y : OpId = record { step = x; part = a.part } in y) s ∙ ap (λ (x : ℕ). let y : OpId = record { step = b.step; part = x } in y) q
-    by_parts s false p e = absurd (cc)
-
-    by_steps : (t : Bool) → (a.step == b.step) ≡ t → (t && (a.part == b.part)) ≡ true → a ≡ b
-    by_steps true p e = by_parts (eqb-true a.step b.step p) (a.part == b.part) refl e
-    by_steps false p e = absurd (cc)
-
 pub same_false : (a b : OpId) → (a ≡ b → ⊥) → is_same a b ≡ false
 same_false a b n = by_test (is_same a b) refl
   where
@@ -121,6 +108,7 @@ pub record Along (handle : ℕ) (side : OpId) (kept : Option IpSocketAddress) (e
   pub later : List Entry
   pub marked : MarkedBefore es handle side later
   pub reported : RemoteIs marked.front side kept
+  pub exactly : LastRemote marked.front side kept
   pub all : received side kept None later ≡ list
   pub left : left_in_hand side None later ≡ hand
   pub one : NoneIsReplaced side None later
@@ -134,6 +122,7 @@ module _ (handle : ℕ) (side : OpId) (kept : Option IpSocketAddress) where
         later = k.later ++ e ∷ [];
         marked = record { front = m.front; op = m.op; parent = m.parent; told = m.told; cut = cut_more es (e ∷ []) m.front k.later _ m.cut };
         reported = k.reported;
+        exactly = k.exactly;
         all = received_more side kept None k.later (e ∷ []) ∙ (ap (λ (ds : List IncomingDatagram). ds ++ received side kept (left_in_hand side None k.later) (e ∷ [])) k.all ∙ (ap (λ (o : Option InHand). list ++ received side kept o (e ∷ [])) k.left ∙ (ap (λ (ds : List IncomingDatagram). list ++ ds) (append-nil (received_at kept hand e)) ∙ gives)));
         one = none_replaced_more side None k.later (e ∷ []) k.one (subst (λ (o : Option InHand). NoneIsReplaced side o (e ∷ [])) (sym k.left) (free, tt));
         left = left_more side None k.later (e ∷ []) ∙ (ap (λ (o : Option InHand). then_in_hand side o e) k.left ∙ stays);

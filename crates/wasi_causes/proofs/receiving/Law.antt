@@ -1,6 +1,6 @@
 -- The law that of what the stream of a handle received all was handed out but what waits: by each line but one that receives on it.
 use Rattle.wasi_walks.proofs.walks.Law.{BeginsWrites, Rests, begins_by}
-use Rattle.wasi_walks.proofs.walks.Asked.{Asked, Questions, SetsBacklog, Learns, Closes, MarksOne, AsksCreate, MarksAccepted, Polls, Turns, GivesUp, UdpQuestions, UdpLearns, UdpPeers, UdpCloses, UdpBegins, MarksUdp, MarksStream, MarksError, UdpGivesUp, Resolves, Looks}
+use Rattle.wasi_walks.proofs.walks.Asked.{Asked, Questions, SetsBacklog, Learns, Closes, MarksOne, AsksCreate, MarksAccepted, Polls, Turns, GivesUp, UdpQuestions, UdpDisconnects, UdpLearns, UdpPeers, UdpCloses, UdpBegins, MarksUdp, MarksStream, MarksError, UdpGivesUp, Resolves, Looks}
 use Rattle.wasi_causes.proofs.Words.{made_to, Stop, Allows, Asks, Call, End, Entry, Err, ErrorCode, ErrorValue, HoldsAccept, HoldsConnect, IsAcceptOn, Item, Job, Kind, List, None, Ok, OpId, Operation, Option, Result, Socket, Some, GuestCall, Step, Streams, Tcp2, TcpRecord, Told, WasiSocketsCtx, WriteState, [], accept_ended, allows_if, allows_then, ap, arith, bind, bind_progress, connect_ended, entry, give_up_asks, inl, inr, is_full, kind_at, length, make_asks, name_of, new_asks, new_record, own_of, poll_asks, refl, side_at, side_of, subst, sym, told_done, turn_asks, with_handle, with_inner, with_listening, with_progress, with_state, with_writer, Bool, ℕ, ⊤, ◌++◌, ◌∙◌, ◌∷◌, ◌≡◌}
 use Rattle.wasi_tcp.specs.Connect as connect
 use Rattle.wasi_tcp.specs.Listen.{IsListen}
@@ -10,14 +10,14 @@ use Rattle.wasi_udp.specs.Receive.{receive_start}
 use Rattle.wasi_udp.specs.Send.{at_remote}
 use Rattle.wasi_world.specs.declared.datagram.IncomingDatagram.{IncomingDatagram}
 use Rattle.wasi_records.specs.Datagrams.{udp_connect_left, with_sending}
-use Rattle.wasi_host.specs.Kinds.{udp_of}
+use Rattle.wasi_host.specs.Kinds.{udp_kind, udp_of}
 use Rattle.wasi_records.specs.Receiving.{with_receiving}
 use Rattle.wasi_records.specs.Records.{tcp2_at, tcp2_put, udp2_at, udp2_put}
 use Rattle.wasi_records.specs.Udp.{udp_bind_progress, udp_create_left, udp_side, with_udp_progress}
 use Rattle.wasi_host.specs.UdpCreates.{udp_side_at}
 use Rattle.wasi_records.specs.declared.datagrams.Incoming.{Incoming as IncomingStream}
 use Rattle.wasi_records.specs.declared.datagrams.Receiving.{Receiving}
-use Rattle.wasi_host.specs.declared.kind.Kind.TheVariants.{Incoming, Udp2}
+use Rattle.wasi_host.specs.declared.kind.Kind.TheVariants.{Incoming}
 use Rattle.wasi_records.specs.declared.tcp_listening.Listening.TheVariants as listening
 use Rattle.wasi_records.specs.declared.udp.OpenUdp.{OpenUdp}
 use Rattle.wasi_records.specs.declared.udp.UdpRecord.{UdpRecord}
@@ -32,7 +32,7 @@ use Rattle.wasi_walks.proofs.remotes.State.{OpenKeeps, WritesBy}
 use Rattle.wasi_walks.proofs.walks.Moves as walk
 use Rattle.wasi_walks.proofs.walks.Moves.{Interface, tcp_kind, Found, FoundUdp, HasNewStream, Held, Here, Marks, MarksNext, Move, StreamMoves, ToSend, ToStream, UdpPlain, joined, listen_after, part_of, put, put_udp, receive_op, receiving_in, send_op, sending_in, udp_begun}
 use Rattle.wasi_causes.proofs.Slots.{SlotOf, slot_of}
-use Rattle.wasi_causes.proofs.StreamsLive.{IsOther, tcp_other}
+use Rattle.wasi_causes.proofs.StreamsLive.{IsOther, tcp_other, udp_other}
 use Rattle.wasi_causes.proofs.StreamHandles.{apart_in, is_other, streams_law}
 use Rattle.wasi_causes.proofs.receiving.Along.{Along, HandName}
 use Rattle.wasi_causes.proofs.receiving.Named.{IsFirst, job_name, name_of_op, streams_name}
@@ -192,6 +192,8 @@ module _ (handle : ℕ) (list : List IncomingDatagram) (contexts : List WasiSock
           later = [];
           marked = record { front = es; op = own_of n; parent = Some socket; told = told; cut = ap (λ (number : ℕ). es ++ mark number told ∷ []) its };
           reported = (let keeps : OpenKeeps es o = b.0.1.udps place (UdpRecord.Open o) at in keeps.remote);
+          exactly =
+              (let keeps : OpenKeeps es o = b.0.1.udps place (UdpRecord.Open o) at in (o.inner.family, keeps.told));
           all = sym (i.1 (omega (arith, its)));
           left = refl;
           one = tt;
@@ -281,10 +283,11 @@ module _ (handle : ℕ) (list : List IncomingDatagram) (contexts : List WasiSock
     exacts_asks es h _ _ _ (GivesUp place r q g) b i = quietly handle list contexts line origin h (λ done. tcp2_put h.machine.store.records place (with_listening r listening.Not)) es (give_up_asks r.listening) i (λ fs done p live st. tcp_at handle list fs h.machine.store.records place p r _ g st) (λ p live st. given_up_silent st.socket.inner.side ⊤ (HandName (hand_of st.stream.receiving)) es r.listening)
     exacts_asks es h _ _ _ (UdpQuestions place n o c at g q) b i = (tt, λ told f. asked es h (own_of n) c told (udp_question_else line origin n o.inner.side c q) i)
     exacts_asks es h _ _ _ (UdpLearns place part o at g) b i = (tt, λ told f. udp_same _ h place o _ g (learnt_side o.inner (told_addr told)) refl (asked es h (part_of line part) (Call.Local o.inner.side) told tt i))
+    exacts_asks es h _ _ _ (UdpDisconnects place o at g is) b i = (tt, λ told f. udp_same _ h place o _ g refl refl (asked es h (own_of line) (Call.UdpDisconnect o.inner.side) told tt i))
     exacts_asks es h _ _ _ (UdpPeers place o at g) b i = (tt, λ told f. udp_same _ h place o _ g refl refl (asked es h (own_of line) (Call.Peer o.inner.side) told tt i))
     exacts_asks es h _ _ _ (UdpCloses place o q g) b i = (tt, λ told f. udp _ h place (UdpRecord.Open o) (UdpRecord.Closed o.inner.side) g (λ live. absurd (closed_none es h b place o q g told f live)) (asked es h (own_of line) (Call.Close o.inner.side) told tt i))
-    exacts_asks es h _ _ _ (UdpBegins ctx family c may a o m) b i = (tt, λ told f. begun _ h (udp_after_create (own_of line) ctx.name family (told_done told)) (asked es h (own_of line) (Call.UdpCreate ctx.name family) told tt i))
-    exacts_asks es h _ _ _ (MarksUdp place u g) b i = marks_other es h (udp_side u) (Udp2 place) None (Some (udp_side u)) tt i
+    exacts_asks es h _ _ _ (UdpBegins face ctx family c may a o m) b i = (tt, λ told f. begun _ h (udp_after_create (own_of line) ctx.name family (told_done told)) (asked es h (own_of line) (Call.UdpCreate ctx.name family) told tt i))
+    exacts_asks es h _ _ _ (MarksUdp face place u g) b i = marks_other es h (udp_side u) (udp_kind face place) None (Some (udp_side u)) (udp_other face place) i
     exacts_asks es h _ _ _ (MarksStream place n socket reached kind next new of) b i = marks_next es h b place n socket reached kind next new of i
     exacts_asks es h _ _ _ (MarksError n its place handles m k e f) b i = marks_other es h (own_of n) ErrorValue (Some its) (side_at (tcp2_at h.machine.store.records place)) tt i
     exacts_asks es h _ _ _ (UdpGivesUp place create q g) b i = quietly handle list contexts line origin h (λ done. udp2_put h.machine.store.records place (UdpRecord.Closed create.operation.who.side)) es (create_cancel_asks create) i (λ fs done p live st. put_at handle list fs h.machine.table h.machine.store.records place p (UdpRecord.Creating create) (UdpRecord.Closed create.operation.who.side) g live (λ same. no_stream handle list contexts line origin fs create (UdpRecord.Closed create.operation.who.side)) st) (λ p live st. cancelled_silent st.socket.inner.side ⊤ (HandName (hand_of st.stream.receiving)) es create)

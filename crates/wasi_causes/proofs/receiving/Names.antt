@@ -140,7 +140,7 @@ module _ (contexts : List WasiSocketsCtx) (line : ℕ) (origin : Step) where
   becomes_apart h _ (UdpIsClosed place o q g) i =
       udp_other h place (UdpRecord.Open o) (UdpRecord.Closed o.inner.side) g refl tt i
   becomes_apart h _ (UdpGivenUp place create q g) i = udp_other h place (UdpRecord.Creating create) _ g refl tt i
-  becomes_apart h _ (UdpBegun ctx family r c u m) i = begun_apart h (udp_after_create (own_of line) ctx.name family r) i
+  becomes_apart h _ (UdpBegun face ctx family r c u m) i = begun_apart h (udp_after_create (own_of line) ctx.name family r) i
   becomes_apart h _ (Resolved host records l same) i = same_apart line h.own h.machine.store.records records same i
   becomes_apart h _ (Created face ctx family c u m) i = created h _ refl i
   becomes_apart h _ (CreatedWith face ctx family c u m) i = created h _ refl i

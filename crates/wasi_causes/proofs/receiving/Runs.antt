@@ -14,7 +14,7 @@ use Rattle.wasi_walks.proofs.Words.{length-append}
 use Rattle.wasi_walks.proofs.fits.Polls.{Anything}
 use Rattle.wasi_walks.proofs.licence.State.{RemoteIs}
 use Rattle.wasi_causes.specs.Datagrams.{OfIncoming}
-use Rattle.wasi_causes.specs.ReceivedList.{HandedOut, HandsOutFront, HasAllReceived, KeptThere, handed_by, handed_out}
+use Rattle.wasi_causes.specs.ReceivedList.{KeepsLastRemote, HandedOut, HandsOutFront, HasAllReceived, KeptThere, handed_by, handed_out}
 use Rattle.wasi_causes.proofs.receiving.Lines.{first_rest}
 use Rattle.wasi_causes.proofs.receiving.Polled.{Exact, none_over}
 use Rattle.wasi_causes.proofs.receiving.Replies.{Fronts, StreamBetween, Takes, line_takes, waiting_is}
@@ -103,6 +103,22 @@ module _ (handle : ℕ) where
               one = knows.one;
               over = λ e. knows.left ∙ none_over s.stream.receiving e;
             };
+          }
+
+      -- and the address that it keeps
+      pub runs_keep_remotes : (place : ℕ) → kind_at m.table handle ≡ Some (Incoming place) → OfIncoming m (Some place)
+          (λ place o stream. KeepsLastRemote log handle o.inner.side stream.remote)
+      runs_keep_remotes place live =
+          let s : StreamAt handle ended.list log m.store.records place = ended.between.stream place live in
+          let knows : Exact handle s.socket.inner.side s.stream.remote log ended.list s.stream.receiving = s.knows in
+          record {
+            place = place;
+            found = s.socket;
+            stream = s.stream;
+            names = refl;
+            at = ap (λ u. open_of u) s.at;
+            has = s.has;
+            holds = record { later = knows.later; marked = knows.marked; last = knows.exactly };
           }
 
       -- any stream

@@ -1,12 +1,12 @@
 -- How a call finds its UDP socket; what a socket says of itself: whether it is bound, its addresses, its family and its
 -- options, which are set too; and the finish of a bind.
-use Rattle.wasi_causes.proofs.Words.{◌≡◌, ◌⊎◌, ◌∙◌, ◌<◌, ◌==◌, inl, inr, ℕ, Bool, true, false, not, if◌then◌else◌, nat_le, List, [], ◌∷◌, ◌++◌, Option, Some, None, Result, Ok, Err, refl, sym, subst, ap, arith, eqb-true, eqb-false, leb-true, leb-false, IpSocketAddress, ErrorCode, Stop, Trap, NoSuchHandle, Machine, Records, own_of, with_store, no_such_handle, word_of_code, entry, is_wildcard, address_reply, value_reply, done_reply, family_reply, number_fields, CodeWord, Give, bind, IsAddr, IsDoneOrCode, IsValue, told_addr, told_done, told_value, Entry, Told, OpId, Asks, WasiSocketsCtx, zero_test, refused_before, refused_after}
-use Rattle.wasi_addr.specs.declared.code.ErrorCode.TheVariants.{NotSupported}
+use Rattle.wasi_causes.proofs.Words.{◌≡◌, ◌⊎◌, ◌∙◌, ◌<◌, ◌==◌, inl, inr, ℕ, Bool, true, false, not, if◌then◌else◌, nat_le, List, [], ◌∷◌, ◌++◌, Option, Some, None, Result, Ok, Err, refl, sym, subst, ap, arith, eqb-true, eqb-false, leb-true, leb-false, IpSocketAddress, ErrorCode, Stop, Trap, NoSuchHandle, Machine, Records, own_of, with_store, no_such_handle, entry, is_wildcard, address_reply, value_reply, done_reply, family_reply, number_fields, Give, bind, IsAddr, IsDoneOrCode, IsValue, told_addr, told_done, told_value, Entry, Told, OpId, Asks, WasiSocketsCtx, zero_test, refused_before, refused_after}
+use Rattle.wasi_addr.specs.declared.code.ErrorCode.TheVariants.{InvalidState, NotSupported}
 use Rattle.wasi_causes.proofs.udp_streams.Routes.{on_open, on_open_record, open_same}
 use Rattle.wasi_causes.proofs.tables.Meets.{Rows, Meets, ends, asks, chain, onto, widen, branch}
 use Rattle.wasi_causes.proofs.tables.Routes.{Replied, Says, code_word, apart, none_has}
 use Rattle.wasi_causes.specs.Outcomes.{Outcome}
-use Rattle.wasi_causes.specs.Udp.{OfUdp, putting_udp, IsUdpBound, UdpKnown, UdpToldBound, IsUdpUnbound, udp_local_entry, KnowsUdpBound, UdpLocalRefusal, UdpNotBound, UdpLocalTold, TellsUdpLocal, UdpGetRefusal, UdpGetTold, UdpTooLarge, GetsUdpOption, udp_set_entry, UdpSetRefusal, UdpZero, UdpSetTold, SetsUdpOption}
+use Rattle.wasi_causes.specs.Udp.{OfUdp, putting_udp, IsUdpBound, UdpKnown, UdpToldBound, IsUdpUnbound, udp_local_entry, udp_knowing_bound, UdpLocalFails, UdpNotBound, UdpLocalTold, TellsUdpLocal, UdpGetFails, UdpGetTold, UdpTooLarge, GetsUdpOption, udp_set_entry, UdpSetFails, UdpZero, UdpSetTold, SetsUdpOption}
 use Rattle.socket_common.specs.Options.{largest_value, value_told, option_answer}
 use Rattle.wasi_host.specs.Machine.{udp_socket_at}
 use Rattle.wasi_host.specs.Options.{code_told}
@@ -16,7 +16,6 @@ use Rattle.wasi_host.specs.UdpCalls.{udp_put_back, finish_udp_bind_by, finish_ud
 use Rattle.wasi_records.specs.declared.udp.OpenUdp.{OpenUdp}
 use Rattle.wasi_records.specs.declared.udp.UdpInProgress.{UdpInProgress}
 use Rattle.wasi_p2.specs.Udp.{finish_udp_bind_on, udp_local_on, udp_remote_on, udp_family_on, get_udp_option_on, set_udp_option_on}
-use Rattle.wasi_steps.specs.declared.reply.CodeWord.TheVariants as word
 use Rattle.wasi_steps.specs.declared.reply.Reply.{Reply}
 use Rattle.wasi_steps.specs.declared.reply.Reply.TheVariants as reply
 use Rattle.wasi_steps.specs.declared.setting.UdpOption.{UdpOption}
@@ -91,34 +90,34 @@ module _ (own : OpId) (socket : Socket) where
   udp_bounds = branch socket.bound (λ e. ends (is_known e)) (λ unknown. asks (λ t fits. ends (told_local t fits unknown)))
 
 -- == the local address
-module _ (m : Machine) (own : OpId) (handle place : ℕ) (o : OpenUdp) (n : NamesUdp m handle place o) where
+module _ (m : Machine) (own : OpId) (place : ℕ) (o : OpenUdp) (at : open_at m.store.records place ≡ Some o) where
   -- why it is refused, and what is left then
-  abbrev UdpLocalRefused : List Entry → CodeWord → Machine → Type 0
-  UdpLocalRefused es w after = UdpLocalRefusal m own place o es w after × ((after ≡ m) ⊎ KnowsUdpBound m handle after)
+  abbrev pub UdpLocalRefused : List Entry → ErrorCode → Machine → Type 0
+  UdpLocalRefused es code after = UdpLocalFails m own place o es code after × ((after ≡ m) ⊎ (after ≡ udp_knowing_bound m place o))
 
-  abbrev UdpLocalRow : Rows (Result IpSocketAddress ErrorCode × Socket)
+  abbrev pub UdpLocalRow : Rows (Result IpSocketAddress ErrorCode × Socket)
   UdpLocalRow es (Ok a, now) = TellsUdpLocal m own place o es (address_values a) (putting_udp m place (with_udp_inner o now))
-  UdpLocalRow es (Err code, now) = UdpLocalRefused es (word_of_code code) (putting_udp m place (with_udp_inner o now))
+  UdpLocalRow es (Err code, now) = UdpLocalRefused es code (putting_udp m place (with_udp_inner o now))
 
   told_again : (es : List Entry) → IsUdpBound own o.inner es → (t : Told) → IsAddr t → UdpLocalRow (es ++ udp_local_entry own o.inner t ∷ []) (told_addr t, record o.inner { bound = true })
   told_again es is (told.Addr a) fits = record { before = es; address = a; bound = is; asked = refl; gives = refl; left = refl }
-  told_again es is (told.Code code) fits = (UdpLocalTold es code is, inr (here_udp n refl))
+  told_again es is (told.Code code) fits = (UdpLocalTold es code is, inr refl)
   told_again es is _ fits = absurd fits
 
   by_bound : (es : List Entry) (b : Bool × Socket) → UdpBoundRow own o.inner es b → Meets UdpLocalRow es (local_where own b.1 b.0)
   unfolding bind
   by_bound _ _ (ItsBound es is) = asks (λ t fits. ends (told_again es is t fits))
-  by_bound _ _ (ItsFree local free) = ends (put_udp_back (UdpLocalRefused (udp_local_entry own o.inner local ∷ []) word.InvalidState) m place o n.at (UdpNotBound local free, inl refl))
+  by_bound _ _ (ItsFree local free) = ends (put_udp_back (UdpLocalRefused (udp_local_entry own o.inner local ∷ []) InvalidState) m place o at (UdpNotBound local free, inl refl))
 
-  udp_local_row : Meets UdpLocalRow [] (local_asks own o.inner)
+  pub udp_local_row : Meets UdpLocalRow [] (local_asks own o.inner)
   udp_local_row = chain (udp_bounds own o.inner) by_bound
 
 -- == the options
 module _ (own : OpId) (o : OpenUdp) where
   module _ (option : Opt) where
-    abbrev UdpGetRow : Rows (Result ℕ ErrorCode)
+    abbrev pub UdpGetRow : Rows (Result ℕ ErrorCode)
     UdpGetRow es (Ok value) = GetsUdpOption own option o (number_fields value) es
-    UdpGetRow es (Err code) = UdpGetRefusal own option o es (word_of_code code)
+    UdpGetRow es (Err code) = UdpGetFails own option o es code
 
     abbrev got : Told → List Entry
     got t = entry own (call.GetOption o.inner.side option) t ∷ []
@@ -132,14 +131,14 @@ module _ (own : OpId) (o : OpenUdp) where
     told_got (told.Code code) fits = UdpGetTold code
     told_got _ fits = absurd fits
 
-    udp_gets : Meets UdpGetRow [] (get_option_asks own o.inner option)
+    pub udp_gets : Meets UdpGetRow [] (get_option_asks own o.inner option)
     unfolding bind
     udp_gets = asks (λ t fits. ends (told_got t fits))
 
   module _ (what : UdpSetting) where
-    abbrev UdpSetRow : Rows (Result (Unit {0}) ErrorCode)
+    abbrev pub UdpSetRow : Rows (Result (Unit {0}) ErrorCode)
     UdpSetRow es (Ok done) = SetsUdpOption own what o es
-    UdpSetRow es (Err code) = UdpSetRefusal own what o es (word_of_code code)
+    UdpSetRow es (Err code) = UdpSetFails own what o es code
 
     abbrev its_option : Opt
     its_option = (udp_chosen what).0
@@ -160,7 +159,7 @@ module _ (own : OpId) (o : OpenUdp) where
         (λ e. branch (refused_after (zero_test its_option) its_value) (λ zero. ends (UdpZero (eqb-true its_value 0 (sym late ∙ zero))))
         (λ more. let some = eqb-false its_value 0 (sym late ∙ more) in asks (λ t fits. ends (told_set (omega (arith, some)) t fits))))
 
-  udp_sets : (what : UdpSetting) → Meets (UdpSetRow what) [] (set_option_asks own o.inner (udp_chosen what).0 (udp_chosen what).1)
+  pub udp_sets : (what : UdpSetting) → Meets (UdpSetRow what) [] (set_option_asks own o.inner (udp_chosen what).0 (udp_chosen what).1)
   udp_sets (setting.HopLimit n) = tests_zero (setting.HopLimit n) refl refl
   udp_sets (setting.ReceiveBufferSize n) = tests_zero (setting.ReceiveBufferSize n) refl refl
   udp_sets (setting.SendBufferSize n) = tests_zero (setting.SendBufferSize n) refl refl
@@ -191,15 +190,15 @@ module _ (contexts : List WasiSocketsCtx) (m : Machine) (line c handle : ℕ) wh
       missing none = ((refl, apart (λ same. cc) (none_has _ (open_udp_at m handle) none)), (none, (refl, refl)))
 
   -- == addresses
-  local_said : (place : ℕ) (o : OpenUdp) (n : NamesUdp m handle place o) (es : List Entry) (done : Result IpSocketAddress ErrorCode × Socket) → UdpLocalRow m own handle place o n es done
+  local_said : (place : ℕ) (o : OpenUdp) (n : NamesUdp m handle place o) (es : List Entry) (done : Result IpSocketAddress ErrorCode × Socket) → UdpLocalRow m own place o n.at es done
       → Replied contexts m line (step.Call c (guest.UdpLocalAddress handle)) address_reply es (with_store m (udp_put_back m.store place (udp_inner_answered o done)))
   local_said place o n es (Ok a, now) h = (tt, ((a, refl), here_udp n h))
-  local_said place o n es (Err code, now) h = (tt, (code_word code, (here_udp n h.0, h.1)))
+  local_said place o n es (Err code, now) h = (tt, (code_word code, (here_udp n (record { code = code; is = refl; cause = h.0 }), elim h.1 [ inl same ↦ inl same | inr knows ↦ inr (here_udp n knows) ])))
 
   pub udp_local_address : Meets (Says contexts m line (step.Call c (guest.UdpLocalAddress handle))) [] (bind (udp_local_on m own (udp_socket_at m handle)) (λ done. Give (address_reply done.0, done.1)))
   udp_local_address =
       onto _ (on_udp_record m handle (udp_local_on m own) (λ place o. udp_local_at m.store own place o) refl (λ place. refl) (λ place. refl) (λ none. (tt, (none, (refl, refl))))
-      (λ place o n. onto _ (onto _ (widen (local_said place o n) (udp_local_row m own handle place o n)))))
+      (λ place o n. onto _ (onto _ (widen (local_said place o n) (udp_local_row m own place o n.at)))))
 
   abbrev RemoteRow : Rows (Reply × Machine)
   RemoteRow = Says contexts m line (step.Call c (guest.UdpRemoteAddress handle))
@@ -224,7 +223,7 @@ module _ (contexts : List WasiSocketsCtx) (m : Machine) (line c handle : ℕ) wh
   module _ (option : UdpOption) where
     got_so : (place : ℕ) (o : OpenUdp) → NamesUdp m handle place o → (es : List Entry) (done : Result ℕ ErrorCode) → UdpGetRow own o (udp_opt option) es done → Outcome contexts m line (step.Call c (guest.UdpGet handle option)) es (value_reply (code_told done)) m
     got_so place o n es (Ok value) h = (refl, ((tt, tt), here_udp n h))
-    got_so place o n es (Err code) h = (refl, (code_word code, here_udp n h))
+    got_so place o n es (Err code) h = (refl, (code_word code, here_udp n (record { code = code; is = refl; cause = h })))
 
     pub udp_get : Meets (Says contexts m line (step.Call c (guest.UdpGet handle option))) [] (bind (get_udp_option_on m own (udp_opt option) (udp_socket_at m handle)) (λ done. Give (value_reply done.0, done.1)))
     udp_get =
@@ -234,7 +233,7 @@ module _ (contexts : List WasiSocketsCtx) (m : Machine) (line c handle : ℕ) wh
   module _ (what : UdpSetting) where
     set_so : (place : ℕ) (o : OpenUdp) → NamesUdp m handle place o → (es : List Entry) (done : Result (Unit {0}) ErrorCode) → UdpSetRow own o what es done → Outcome contexts m line (step.Call c (guest.UdpSet handle what)) es (done_reply (code_told done)) m
     set_so place o n es (Ok done) h = (refl, (tt, here_udp n h))
-    set_so place o n es (Err code) h = (refl, (code_word code, here_udp n h))
+    set_so place o n es (Err code) h = (refl, (code_word code, here_udp n (record { code = code; is = refl; cause = h })))
 
     pub udp_set : Meets (Says contexts m line (step.Call c (guest.UdpSet handle what))) [] (bind (set_udp_option_on m own (udp_chosen what).0 (udp_chosen what).1 (udp_socket_at m handle)) (λ done. Give (done_reply done.0, done.1)))
     udp_set =

@@ -1,4 +1,5 @@
 -- A cancel of the pending call.
+use Rattle.wasi_host.specs.declared.kind.Interface.{Interface}
 use Rattle.wasi_causes.proofs.Words.{nothing_stands, ◌≡◌, ◌==◌, ◌∙◌, ℕ, Bool, true, false, if◌then◌else◌, List, [], Option, Some, None, refl, sym, subst, ap, inl, inr, Entry, Give, IfSome, IsListening, IsSomeAnd, Listening, Machine, PendingCallsFit, Records, Standing, StandingCall, TcpRecord, WasiSocketsCtx, bind, call_of, eq-eqb, side_of, stands_as, standing_as, unstood}
 use Rattle.wasi_world.specs.declared.ids.Ids.{Ids}
 use Rattle.wasi_world.specs.declared.call.Call.TheVariants as call
@@ -73,22 +74,22 @@ module _ (m : Machine) where
         onto _ (widen (λ es done k. (λ q there. let its : r ≡ q = cc in subst (λ (x : TcpRecord). ListenGivenUp m place x es (record m { store = listen_gone free place r })) its (record { asked = k; left = refl; closed = listen_closed place r at stands }), refl)) (listening_up r.listening))
 
     -- a create that is pending waits for its network socket
-    goes_on : (place : ℕ) (create : Create) → udp2_at m.store.records place ≡ Some (udp.Creating create) → Under ids (StandingCall.UdpCreate place) → PendingCallsFit m → is_going create.operation ≡ true
-    goes_on place create at stands fits =
+    goes_on : (place : ℕ) (face : Interface) (create : Create) → udp2_at m.store.records place ≡ Some (udp.Creating create) → Under ids (StandingCall.UdpCreate place face) → PendingCallsFit m → is_going create.operation ≡ true
+    goes_on place face create at stands fits =
         let k : IfSome (udp2_at m.store.records place) IsCreating = rw stands at fits in
         let its : IsCreating (udp.Creating create) = rw at at k in ap (λ (items : List Item). is_going (record create.operation { left = items })) its.1
 
-    created : (place : ℕ) (create : Create) → udp2_at m.store.records place ≡ Some (udp.Creating create) → Under ids (StandingCall.UdpCreate place) → (es : List Entry) → (PendingCallsFit m → es ≡ entry create.operation.who.id (call.Close create.operation.who.side) told.Done ∷ []) → LeftRow (StandingCall.UdpCreate place) es (given_back place (with_udp free place (udp.Closed create.operation.who.side)))
-    created place create at stands es asked = (λ other there. let its : create ≡ other = cc in subst (λ (x : Create). CreateGivenUp m place x es (record m { store = given_back place (with_udp free place (udp.Closed create.operation.who.side)) })) its (record { asked = asked; left = put_gone (nothing_stands m) place (Record.Udp (udp.Closed create.operation.who.side)) }), refl)
+    created : (place : ℕ) (face : Interface) (create : Create) → udp2_at m.store.records place ≡ Some (udp.Creating create) → Under ids (StandingCall.UdpCreate place face) → (es : List Entry) → (PendingCallsFit m → es ≡ entry create.operation.who.id (call.Close create.operation.who.side) told.Done ∷ []) → LeftRow (StandingCall.UdpCreate place face) es (given_back place (with_udp free place (udp.Closed create.operation.who.side)))
+    created place face create at stands es asked = (λ other there. let its : create ≡ other = cc in subst (λ (x : Create). CreateGivenUp m place x es (record m { store = given_back place (with_udp free place (udp.Closed create.operation.who.side)) })) its (record { asked = asked; left = put_gone (nothing_stands m) place (Record.Udp (udp.Closed create.operation.who.side)) }), refl)
 
-    create_goes : (place : ℕ) → Under ids (StandingCall.UdpCreate place) → (o : Option UdpRecord) → udp2_at m.store.records place ≡ o → Meets (LeftRow (StandingCall.UdpCreate place)) [] (cancel_create_at free place o)
+    create_goes : (place : ℕ) (face : Interface) → Under ids (StandingCall.UdpCreate place face) → (o : Option UdpRecord) → udp2_at m.store.records place ≡ o → Meets (LeftRow (StandingCall.UdpCreate place face)) [] (cancel_create_at free place o)
     unfolding bind
-    create_goes place stands None at = ends (λ create there. absurd (cc), refl)
-    create_goes place stands (Some (udp.Creating create)) at =
-        onto _ (branch (is_going create.operation) (λ going. asks (λ t fits. ends (created place create at stands _ (λ pending. told_so create.operation.who.id [] (call.Close create.operation.who.side) t fits))))
-        (λ over. ends (created place create at stands [] (λ pending. let going = goes_on place create at stands pending in absurd (cc)))))
-    create_goes place stands (Some (udp.Open o)) at = ends (λ create there. absurd (cc), refl)
-    create_goes place stands (Some (udp.Closed side)) at = ends (λ create there. absurd (cc), refl)
+    create_goes place face stands None at = ends (λ create there. absurd (cc), refl)
+    create_goes place face stands (Some (udp.Creating create)) at =
+        onto _ (branch (is_going create.operation) (λ going. asks (λ t fits. ends (created place face create at stands _ (λ pending. told_so create.operation.who.id [] (call.Close create.operation.who.side) t fits))))
+        (λ over. ends (created place face create at stands [] (λ pending. let going = goes_on place face create at stands pending in absurd (cc)))))
+    create_goes place face stands (Some (udp.Open o)) at = ends (λ create there. absurd (cc), refl)
+    create_goes place face stands (Some (udp.Closed side)) at = ends (λ create there. absurd (cc), refl)
 
     udp_bind_goes : (place : ℕ) (o : Option OpenUdp) → open_at m.store.records place ≡ o → LeftRow (StandingCall.UdpBind place) [] (cancel_udp_bind_at free place o)
     udp_bind_goes place None at = (λ o there. absurd (cc), refl)
@@ -106,7 +107,7 @@ module _ (m : Machine) where
     goes (StandingCall.Bind place) stands = ends (bind_goes place (tcp2_at m.store.records place) refl)
     goes (StandingCall.Listen place) stands = listen_goes place stands (tcp2_at m.store.records place) refl
     goes (StandingCall.DropOutput place) stands = ends ((refl, refl), refl)
-    goes (StandingCall.UdpCreate place) stands = create_goes place stands (udp2_at m.store.records place) refl
+    goes (StandingCall.UdpCreate place face) stands = create_goes place face stands (udp2_at m.store.records place) refl
     goes (StandingCall.UdpBind place) stands = ends (udp_bind_goes place (open_at m.store.records place) refl)
     goes (StandingCall.UdpConnect place handle) stands = ends (connect_goes place handle (open_at m.store.records place) refl)
     goes (StandingCall.DropOutgoing place) stands = ends (outgoing_goes place (open_at m.store.records place) refl)

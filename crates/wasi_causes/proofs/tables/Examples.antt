@@ -86,3 +86,9 @@ not_broken _ = tt
 of_no_p3 : (c s n : ℕ) (f : SocketAddressFamily) (o : Opt) → Never 7 (step.Call c (guest.P3TcpCreate f)) (reply.Trap NoSuchHandle) × Never 7 (step.Call c (guest.P3TcpCreate f)) (reply.Pending n) × Never 7 (step.Call c (guest.P3TcpAddressFamily s)) (reply.Err word.InvalidState) × Never 7 (step.Call c (guest.P3TcpLocalAddress s)) (reply.Trap Full)
     × Never 7 (step.Call c (guest.P3TcpGet s o)) (reply.Err word.Unknown) × Never 7 (step.Call c (guest.TcpGet s o)) (reply.Err word.ConnectionBroken)
 of_no_p3 c s n f o = (λ h. h, λ h. h, λ h. h, λ h. h, λ h. subst IsKnown (sym h.is) (known h.code), λ h. subst IsNotBroken (sym h.is) (not_broken h.code))
+
+-- a create of a 0.3 UDP socket names no handle, is pending under its own line alone and refused by no word of 0.2 alone, a disconnect
+-- isn't pending, a look at a remote address is refused in one way, and at a family never
+of_no_p3_udp : (c s n : ℕ) (f : SocketAddressFamily) → Never 7 (step.Call c (guest.P3UdpCreate f)) (reply.Trap NoSuchHandle) × Never 7 (step.Call c (guest.P3UdpCreate f)) (reply.Pending 6) × Never 7 (step.Call c (guest.P3UdpCreate f)) (reply.Err word.Unknown)
+    × Never 7 (step.Call c (guest.P3UdpDisconnect s)) (reply.Pending n) × Never 7 (step.Call c (guest.P3UdpRemoteAddress s)) (reply.Err word.AccessDenied) × Never 7 (step.Call c (guest.P3UdpAddressFamily s)) (reply.Err word.InvalidState)
+of_no_p3_udp c s n f = (λ h. h, λ h. absurd (let e : 6 ≡ 7 = h in cc), λ h. subst IsKnown (sym h.is) (known h.code), λ h. h, λ h. absurd (let e : word.AccessDenied ≡ word.InvalidState = h in cc), λ h. h)

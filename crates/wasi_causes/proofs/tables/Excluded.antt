@@ -56,11 +56,11 @@ no_send own socket before _ (ChecksSender bytes a came) is = is
 
 -- of a create that failed nothing is left: its record was given back
 abbrev ClosesBy : Machine → StandingCall → Type 0
-ClosesBy after (StandingCall.UdpCreate place) = slice_get after.store.records place ≡ Some Gone
+ClosesBy after (StandingCall.UdpCreate place face) = slice_get after.store.records place ≡ Some Gone
 ClosesBy after _ = ⊤
 
 closes : (m : Machine) (es : List Entry) (pending : StandingCall) (c : ErrorCode) → (why : CallFails m es pending c) → ClosesBy (left_failed m why) pending
-closes m es _ _ (CreateFailed place create c at why) = gone_at m.store.records place (udp.Creating create) at
+closes m es _ _ (CreateFailed place face create c at why) = gone_at m.store.records place (udp.Creating create) at
 closes m es _ _ (UdpConnectFailed place handle o op c at is why) = tt
 closes m es _ _ (UdpBindFailed place o op c at is why) = tt
 closes m es _ _ (BindFailed place r op c at is why) = tt

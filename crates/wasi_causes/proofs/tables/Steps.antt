@@ -5,11 +5,12 @@ use Rattle.wasi_causes.proofs.Machine.{subscribe, ready}
 use Rattle.wasi_causes.proofs.Resumes.{poll}
 use Rattle.wasi_causes.proofs.sockets.Makes.{network, create, finish_connect_row, accept}
 use Rattle.wasi_causes.proofs.sockets.Questions.{get, set, local_address_row, remote_address_row, is_listens, family}
+use Rattle.wasi_causes.proofs.sockets.P3Udp.{p3_udp_disconnect, p3_udp_family, p3_udp_get, p3_udp_local_address, p3_udp_remote_address, p3_udp_set}
 use Rattle.wasi_causes.proofs.sockets.Tcp3.{p3_address_family, p3_create, p3_get, p3_is_listening, p3_local_address, p3_remote_address, p3_set}
 use Rattle.wasi_causes.proofs.sockets.Starts.{finish_bind, finish_listen, start_bind, start_connect, start_listen}
 use Rattle.wasi_causes.proofs.sockets.Udp.{udp_finish_bind, udp_local_address, udp_remote_address, udp_family, udp_get, udp_set}
 use Rattle.wasi_causes.proofs.sockets.UdpBinds.{udp_start_bind}
-use Rattle.wasi_causes.proofs.sockets.UdpCreates.{udp_create}
+use Rattle.wasi_causes.proofs.sockets.UdpCreates.{p3_udp_create, udp_create}
 use Rattle.wasi_causes.proofs.udp_streams.Sends.{udp_check_send, udp_send}
 use Rattle.wasi_causes.proofs.udp_streams.Receives.{udp_receive}
 use Rattle.wasi_causes.proofs.udp_streams.Streams.{udp_stream}
@@ -99,6 +100,13 @@ module _ (contexts : List WasiSocketsCtx) (m : Machine) (line : ℕ) where
   rows (step.Call c (guest.P3TcpAddressFamily s)) = p3_address_family contexts m line c s
   rows (step.Call c (guest.P3TcpGet s option)) = p3_get contexts m line c s option
   rows (step.Call c (guest.P3TcpSet s setting)) = p3_set contexts m line c s setting
+  rows (step.Call c (guest.P3UdpCreate family)) = p3_udp_create contexts m line c family
+  rows (step.Call c (guest.P3UdpDisconnect s)) = p3_udp_disconnect contexts m line c s
+  rows (step.Call c (guest.P3UdpLocalAddress s)) = p3_udp_local_address contexts m line c s
+  rows (step.Call c (guest.P3UdpRemoteAddress s)) = p3_udp_remote_address contexts m line c s
+  rows (step.Call c (guest.P3UdpAddressFamily s)) = p3_udp_family contexts m line c s
+  rows (step.Call c (guest.P3UdpGet s option)) = p3_udp_get contexts m line c s option
+  rows (step.Call c (guest.P3UdpSet s setting)) = p3_udp_set contexts m line c s setting
   rows step.Turn = turn m contexts line
   rows (step.Poll n) = poll contexts m line n
 
@@ -158,6 +166,7 @@ misses : (m : Machine) (s : Step) → MissesHandle m s → MayMiss s
 misses m (step.Call ctx guest.Network) h = h
 misses m (step.Call ctx (guest.TcpCreate _)) h = h
 misses m (step.Call ctx (guest.UdpCreate _)) h = h
+misses m (step.Call ctx (guest.P3UdpCreate _)) h = h
 misses m (step.Call ctx (guest.P3TcpCreate _)) h = h
 misses m (step.Call ctx (guest.PipeIn _)) h = h
 misses m (step.Call ctx (guest.PipeOut _)) h = h
@@ -172,6 +181,7 @@ waits : (m : Machine) (line n : ℕ) (s : Step) → MayStand m line s n → MayW
 waits m line n (step.Call ctx (guest.TcpStartBind socket _ a)) h = h
 waits m line n (step.Call ctx (guest.TcpStartListen socket)) h = h
 waits m line n (step.Call ctx (guest.UdpCreate _)) h = h
+waits m line n (step.Call ctx (guest.P3UdpCreate _)) h = h
 waits m line n (step.Call ctx (guest.UdpStartBind socket _ a)) h = h
 waits m line n (step.Call ctx (guest.UdpStream socket remote)) h = h
 waits m line n (step.Call ctx (guest.Drop handle)) h = h.1

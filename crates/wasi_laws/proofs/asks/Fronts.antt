@@ -40,7 +40,6 @@ pub udp_question_calm : (line : ℕ) (origin : Step) (n : ℕ) (side : OpId) (c 
 udp_question_calm line origin n side (call.Local s) q = record { calm = refl; on = ap (λ (x : OpId). Some x) q }
 udp_question_calm line origin n side (call.GetOption s option) q = record { calm = refl; on = ap (λ (x : OpId). Some x) q.0 }
 udp_question_calm line origin n side (call.SetOption s option value) q = record { calm = refl; on = ap (λ (x : OpId). Some x) q.0 }
-udp_question_calm line origin n side (call.UdpDisconnect s) q = record { calm = refl; on = ap (λ (x : OpId). Some x) q.0 }
 udp_question_calm line origin n side _ q = absurd q
 
 pub unwritten : (c : Call) → is_calm c ≡ true → NoWrite c

@@ -8,7 +8,7 @@ use Rattle.socket_common.specs.Rounds.{is_going, some_left}
 use Rattle.wasi_walks.proofs.claims.Law.{begins_on_names}
 use Rattle.wasi_walks.proofs.walks.Runs.{each_entry}
 use Rattle.wasi_laws.proofs.Words.{made_to, false, ErrorValue, BeginsWrites, Accepts, Allows, Asks, Base, BaseBetween, Begins, Call, End, Entry, Err, ErrorCode, FitListening, Found, HandleTable, Held, Here, HoldsAccept, IpSocketAddress, IsAcceptOn, IsDoneOrCode, Item, Job, Kind, Law, Left, List, Listener, Machine, Made, Move, None, Not, Ok, OpId, Operation, Option, Over, Own, Reply, Result, Socket, SocketAddressFamily, Some, Spends, Starts, Step, Streams, Tcp2, TcpRecord, Told, Unused, Used, Walks, WasiSocketsCtx, WriteState, [], after_create, allows_if, allows_then, allows_weaker, ap, base_over, base_starts, bind, closed_record, created_asks, entry, first_base, first_state, job_after, length, machine_asks, machine_walks, made_so, make_asks, may_while, new_asks, new_socket, on_along, on_names, own_of, poll_asks, put, refl, run, side_at, side_in, side_of, socket_of, subst, sym, told_addr, told_done, told_same, true, with_listening, with_writer, ℕ, ◌++◌, ◌+◌, ◌∙◌, ◌∷◌, ◌≡◌}
-use Rattle.wasi_walks.proofs.walks.Asked.{Asked, Questions, SetsBacklog, Learns, Closes, UdpQuestions, UdpLearns, UdpPeers, UdpCloses, UdpBegins, Resolves, Looks, MarksOne, MarksAccepted, MarksUdp, MarksStream, MarksError, AsksCreate, Polls, Turns, GivesUp, UdpGivesUp}
+use Rattle.wasi_walks.proofs.walks.Asked.{Asked, Questions, SetsBacklog, Learns, Closes, UdpQuestions, UdpDisconnects, UdpLearns, UdpPeers, UdpCloses, UdpBegins, Resolves, Looks, MarksOne, MarksAccepted, MarksUdp, MarksStream, MarksError, AsksCreate, Polls, Turns, GivesUp, UdpGivesUp}
 use Rattle.wasi_walks.proofs.walks.Layers.{begins_layer, layer}
 use Rattle.wasi_walks.proofs.walks.OfState.{begins_state, creating, of_state}
 use Rattle.wasi_laws.proofs.Words.{BeginsIn, Rests}
@@ -19,7 +19,7 @@ use Rattle.wasi_laws.proofs.asks.Trees.{GoesOn, Undoes, Then, makes_by, turns_by
 use Rattle.wasi_laws.proofs.shapes.Shape.{ListenerShape, on_socket, Same, SocketsStay, sockets_stay, UdpLives}
 use Rattle.wasi_laws.proofs.shapes.Law.{Shaped, shapes}
 use Rattle.wasi_records.specs.Records.{tcp2_at, udp2_at}
-use Rattle.wasi_host.specs.declared.kind.Kind.TheVariants.{Udp2}
+use Rattle.wasi_host.specs.Kinds.{udp_kind}
 use Rattle.wasi_records.specs.declared.records.Record.{Record}
 use Rattle.wasi_records.specs.declared.udp.OpenUdp.{OpenUdp}
 use Rattle.wasi_records.specs.declared.udp.UdpRecord.{UdpRecord}
@@ -150,14 +150,15 @@ module _ (contexts : List WasiSocketsCtx) (line : ℕ) (origin : Step) where
     single_asks es h _ _ _ (Closes place r side q g e) b i = let x = a.closes es h place r _ (own_of line) side g (ClosesSocket side e) b i in (x.0, λ told f. x.1 told)
     single_asks es h _ _ _ (UdpQuestions place n o c at g q) b i = let k = udp_question_calm line origin n o.inner.side c q in let x = a.asks es h (own_of n) c k.calm (OnUdp place o g k.on b) i in (x.0, λ told f. x.1 told)
     single_asks es h _ _ _ (UdpLearns place part o at g) b i = let x = udp_told es h place o (part_of line part) (call.Local o.inner.side) (λ told. (udp_after_local o.inner (told_addr told)).1) refl refl (λ told. learnt_side o.inner (told_addr told)) g b i in (x.0, λ told f. x.1 told)
+    single_asks es h _ _ _ (UdpDisconnects place o at g is) b i = let x = udp_told es h place o (own_of line) (call.UdpDisconnect o.inner.side) (λ told. let now : UdpShape = record o.inner { bound = true } in now) refl refl (λ told. refl) g b i in (x.0, λ told f. x.1 told)
     single_asks es h _ _ _ (UdpPeers place o at g) b i = let x = udp_told es h place o (own_of line) (call.Peer o.inner.side) (λ told. after_peer o.inner (told_addr told)) refl refl (λ told. refl) g b i in (x.0, λ told f. x.1 told)
     single_asks es h _ _ _ (UdpCloses place o q g) b i = let x = a.udp_closes es h place (UdpRecord.Open o) (own_of line) g tt b i in (x.0, λ told f. x.1 told)
-    single_asks es h _ _ _ (UdpBegins ctx family c may at u m) b i = ((a.asks es h (own_of line) (call.UdpCreate ctx.name family) refl (OnNone refl) i).0, λ told f. udp_created es h ctx family u b i told f)
+    single_asks es h _ _ _ (UdpBegins face ctx family c may at u m) b i = ((a.asks es h (own_of line) (call.UdpCreate ctx.name family) refl (OnNone refl) i).0, λ told f. udp_created es h ctx family u b i told f)
     single_asks es h _ _ _ (Resolves host records l s) b i = let x = a.asks es h (own_of line) (call.Lookup host) refl (OnNone refl) i in (x.0, λ told f. a.lookups _ h (records told) (sockets_stay (s told)) (x.1 told))
     single_asks es h _ _ _ (Looks place op g) b i = let x = a.asks es h op.id (call.Lookup op.host) refl (OnNone refl) i in (x.0, λ told f. x.1 told)
     single_asks es h _ _ _ (MarksOne kind parent sock m) b i = made_by es h (own_of line) kind parent sock (λ made. h.made) i
     single_asks es h _ _ _ (MarksAccepted c listener place r is e o g) b i = made_by es h (own_of line) (Tcp2 place) (Some listener) (side_at (tcp2_at h.machine.store.records place)) (λ made. made_so place made.0) i
-    single_asks es h _ _ _ (MarksUdp place u g) b i = made_by es h (udp_side u) (Udp2 place) None (Some (udp_side u)) (λ made. Past) i
+    single_asks es h _ _ _ (MarksUdp face place u g) b i = made_by es h (udp_side u) (udp_kind face place) None (Some (udp_side u)) (λ made. Past) i
     single_asks es h _ _ _ (MarksStream place n handle reached kind m new e) b i = made_by es h (own_of n) kind (Some handle) (udp_side_at (udp2_at h.machine.store.records place)) (λ made. ToSend n handle reached) i
     single_asks es h _ _ _ (MarksError n handle place handles m k e f) b i = made_by es h (own_of n) ErrorValue (Some handle) (side_at (tcp2_at h.machine.store.records place)) (λ made. h.made) i
     single_asks es h _ _ _ (AsksCreate tells fails face ctx family c at u m) b i = allows_then P (Created h ctx family) (λ fs done. Inv fs (record h { machine = done.1; own = Used })) es (new_asks (own_of line) ctx family) (made_to tells fails (tcp_kind face) h.machine (own_of line)) (created es h ctx family u b i) (λ fs made k. joins tells fails face fs h ctx family made u k b)

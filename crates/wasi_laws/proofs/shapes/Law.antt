@@ -186,7 +186,7 @@ module _ (contexts : List WasiSocketsCtx) (line : ℕ) (origin : Step) where
   becomes_shape h _ (UdpLearnt place o socket g e) i = udp_shape h place _ i
   becomes_shape h _ (UdpIsClosed place o q g) i = udp_shape h place _ i
   becomes_shape h _ (UdpGivenUp place create q g) i = udp_shape h place _ i
-  becomes_shape h _ (UdpBegun ctx family r c u m) i = begun_shape h _ i
+  becomes_shape h _ (UdpBegun face ctx family r c u m) i = begun_shape h _ i
   becomes_shape h _ (Resolved host records l s) i = lookup_shape h records (sockets_stay s) i
   becomes_shape h _ (Created face ctx family c u m) i = push_shape h.machine.store.records _ (tt, tt) i
   becomes_shape h _ (CreatedWith face ctx family c u m) i = push_shape h.machine.store.records _ (tt, tt) i

@@ -413,7 +413,7 @@ module _ (contexts : List WasiSocketsCtx) (line : ℕ) (origin : Step) where
       put_udp_named line h place (UdpRecord.Open o) (UdpRecord.Closed o.inner.side) g refl n
   becomes_named h _ (UdpGivenUp place create q g) n =
       put_udp_named line h place (UdpRecord.Creating create) (UdpRecord.Closed create.operation.who.side) g refl n
-  becomes_named h _ (UdpBegun ctx family r c u m) n = begun_named h ctx.name family r u n
+  becomes_named h _ (UdpBegun face ctx family r c u m) n = begun_named h ctx.name family r u n
   becomes_named h _ (Resolved host records l s) n = records_named line h records s n
   becomes_named h _ (Created face ctx family c u m) n = created_named h ctx family u n
   becomes_named h _ (CreatedWith face ctx family c u m) n = let j = created_named h ctx family u n in record { one = j.one; apart = j.apart; older = j.older; named = j.named; held = j.held; udps = record { one = j.udps.one; apart = j.udps.apart; older = j.udps.older } }

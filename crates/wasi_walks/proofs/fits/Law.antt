@@ -76,7 +76,7 @@ module _ (h : Here) (place : ℕ) (r now : TcpRecord) (g : Found h place r) (k :
       goes : tcp2_at h.machine.store.records place ≡ Some b.was → HasListen now.listening
       goes at = let same : b.was ≡ r = cc in elim k [ inl quiet ↦ absurd (none quiet) | inr f ↦ f.1 (subst (λ (x : TcpRecord). HasListen x.listening) same b.goes) ]
   call_put c e (StandingCall.DropOutput n) q b = tt
-  call_put c e (StandingCall.UdpCreate n) q b = record { was = b.was; at = put_still tcp_sort udp_sort (λ t. refl) h.machine.store.records place r now n (UdpRecord.Creating b.was) g b.at }
+  call_put c e (StandingCall.UdpCreate n face) q b = record { was = b.was; at = put_still tcp_sort udp_sort (λ t. refl) h.machine.store.records place r now n (UdpRecord.Creating b.was) g b.at }
   call_put c e (StandingCall.UdpBind n) q b = record { was = b.was; at = put_still tcp_sort udp_sort (λ t. refl) h.machine.store.records place r now n (UdpRecord.Open b.was) g b.at; op = b.op; goes = b.goes }
   call_put c e (StandingCall.UdpConnect n handle) q b = record { was = b.was; at = put_still tcp_sort udp_sort (λ t. refl) h.machine.store.records place r now n (UdpRecord.Open b.was) g b.at; op = b.op; goes = b.goes }
   call_put c e (StandingCall.DropOutgoing n) q b = tt
@@ -94,7 +94,7 @@ call_kept : (records now : List Record) → ((k : ℕ) (r : TcpRecord) → tcp2_
 call_kept records now t u (StandingCall.Bind n) b = record { was = b.was; at = t n b.was b.at; goes = b.goes }
 call_kept records now t u (StandingCall.Listen n) b = record { was = b.was; at = t n b.was b.at; goes = b.goes }
 call_kept records now t u (StandingCall.DropOutput n) b = tt
-call_kept records now t u (StandingCall.UdpCreate n) b = record { was = b.was; at = u n (UdpRecord.Creating b.was) b.at }
+call_kept records now t u (StandingCall.UdpCreate n face) b = record { was = b.was; at = u n (UdpRecord.Creating b.was) b.at }
 call_kept records now t u (StandingCall.UdpBind n) b = record { was = b.was; at = u n (UdpRecord.Open b.was) b.at; op = b.op; goes = b.goes }
 call_kept records now t u (StandingCall.UdpConnect n handle) b = record { was = b.was; at = u n (UdpRecord.Open b.was) b.at; op = b.op; goes = b.goes }
 call_kept records now t u (StandingCall.DropOutgoing n) b = tt
@@ -124,7 +124,7 @@ call_stands : (records : List Record) (call : StandingCall) (r : TcpRecord) → 
 call_stands records (StandingCall.Bind n) r g k = record { was = r; at = g; goes = k }
 call_stands records (StandingCall.Listen n) r g k = record { was = r; at = g; goes = k }
 call_stands records (StandingCall.DropOutput n) r g k = tt
-call_stands records (StandingCall.UdpCreate n) r g k = absurd k
+call_stands records (StandingCall.UdpCreate n face) r g k = absurd k
 call_stands records (StandingCall.UdpBind n) r g k = absurd k
 call_stands records (StandingCall.UdpConnect n handle) r g k = absurd k
 call_stands records (StandingCall.DropOutgoing n) r g k = absurd k
@@ -143,10 +143,10 @@ module _ (h : Here) (place : ℕ) (u now : UdpRecord) (g : FoundUdp h place u) (
   udp_call_put c e (StandingCall.Bind n) q b = record { was = b.was; at = put_still udp_sort tcp_sort (λ t. refl) h.machine.store.records place u now n b.was g b.at; goes = b.goes }
   udp_call_put c e (StandingCall.Listen n) q b = record { was = b.was; at = put_still udp_sort tcp_sort (λ t. refl) h.machine.store.records place u now n b.was g b.at; goes = b.goes }
   udp_call_put c e (StandingCall.DropOutput n) q b = tt
-  udp_call_put c e (StandingCall.UdpCreate n) q b = elim (put_stays udp_sort h.machine.store.records place now n (UdpRecord.Creating b.was) b.at) [
+  udp_call_put c e (StandingCall.UdpCreate n face) q b = elim (put_stays udp_sort h.machine.store.records place now n (UdpRecord.Creating b.was) b.at) [
     | inl p ↦ record { was = b.was; at = p }
     | inr p ↦ elim k [
-      | inl quiet ↦ absurd (none c e (StandingCall.UdpCreate n) q quiet)
+      | inl quiet ↦ absurd (none c e (StandingCall.UdpCreate n face) q quiet)
       | inr o ↦ (let at : Some (UdpRecord.Creating b.was) ≡ Some u = sym b.at ∙ (ap (udp2_at h.machine.store.records) p.0 ∙ g) in absurd (no_open b.was o.was (same_udp (UdpRecord.Creating b.was) u at ∙ o.from)))
     ]
   ]
@@ -294,7 +294,7 @@ module _ (contexts : List WasiSocketsCtx) (line : ℕ) (origin : Step) where
       let now : OpenUdp = with_udp_progress o (UdpInProgress.Binding (begun_udp_bind (own_of line) o a)) in
       begun_udp_fit h place o now Used g (record { was = o; is = now; from = refl; to = refl; binds = λ op e. absurd (idle_keeps o.in_progress idle op e); connects = λ op e. (op, e) }) (record { bind = record { last = refl; left = udp.Unchecked a }; of_side = refl }, f.1, f.2, f.3) i
   moves_fit _ _ (StandsUdpBind h ids place o op quiet at g e) i = stood_fit h ids (StandingCall.UdpBind place) (record { was = o; at = g; op = op; goes = e }) i
-  moves_fit _ _ (StandsUdpCreate h ids place create quiet g) i = stood_fit h ids (StandingCall.UdpCreate place) (record { was = create; at = g }) i
+  moves_fit _ _ (StandsUdpCreate h ids place face create quiet m g) i = stood_fit h ids (StandingCall.UdpCreate place face) (record { was = create; at = g }) i
   moves_fit _ _ (BeginsUdpConnect h place o a at g to bound none own) i =
       let f = i.udps place (UdpRecord.Open o) g in
       let op = begun_udp_connect (own_of line) o a in
@@ -385,7 +385,7 @@ module _ (contexts : List WasiSocketsCtx) (line : ℕ) (origin : Step) where
   becomes_fit h _ (UdpIsClosed place o q g) i = put_udp_fit h place (UdpRecord.Open o) (UdpRecord.Closed o.inner.side) g (inl q.0) tt i
   becomes_fit h _ (UdpGivenUp place create q g) i =
       put_udp_fit h place (UdpRecord.Creating create) (UdpRecord.Closed create.operation.who.side) g (inl q) tt i
-  becomes_fit h _ (UdpBegun ctx family r c u m) i = begun_fits h (own_of line) ctx.name family r i
+  becomes_fit h _ (UdpBegun face ctx family r c u m) i = begun_fits h (own_of line) ctx.name family r i
   becomes_fit h _ (Resolved host records l s) i = records_fit h records s i
   becomes_fit h _ (Created face ctx family c u m) i = created_fit h (own_of line) ctx family i
   becomes_fit h _ (CreatedWith face ctx family c u m) i =

@@ -115,7 +115,7 @@ abbrev pub FitCall : List Record → StandingCall → Type 0
 FitCall records (StandingCall.Bind place) = BindGoesOn records place
 FitCall records (StandingCall.Listen place) = ListenGoesOn records place
 FitCall records (StandingCall.DropOutput place) = ⊤
-FitCall records (StandingCall.UdpCreate place) = UdpCreateGoesOn records place
+FitCall records (StandingCall.UdpCreate place face) = UdpCreateGoesOn records place
 FitCall records (StandingCall.UdpBind place) = UdpBindGoesOn records place
 FitCall records (StandingCall.UdpConnect place handle) = UdpConnectGoesOn records place
 FitCall records (StandingCall.DropOutgoing place) = ⊤

@@ -91,6 +91,7 @@ module _ (contexts : List WasiSocketsCtx) (steps : List Step) where
     marked_below its is op parent x c k (Step.Call ctx (GuestCall.TcpCreate family)) b m = let e : x ≡ op = (let q = m.2 in cc) in subst (λ (o : OpId). o.step ≤ length steps) (sym e) b
     marked_below its is op parent x c k (Step.Call ctx (GuestCall.P3TcpCreate family)) b m = let e : x ≡ op = (let q = m.2 in cc) in subst (λ (o : OpId). o.step ≤ length steps) (sym e) b
     marked_below its is op parent x c k (Step.Call ctx (GuestCall.UdpCreate family)) b m = absurd (no_tcp its _ is m.0 (λ e. cc) (λ e. cc))
+    marked_below its is op parent x c k (Step.Call ctx (GuestCall.P3UdpCreate family)) b m = absurd (no_tcp its _ is m.0 (λ e. cc) (λ e. cc))
     marked_below its is op parent x c k (Step.Call ctx (GuestCall.TcpAccept socket)) b (inl m) =
         let e : m.accept ≡ x = (let q = m.side in cc) in
         subst (λ (o : OpId). o.step ≤ length steps) e (handed_below m.accept m.on m.peer m.told (front_in c _ k m.handed))

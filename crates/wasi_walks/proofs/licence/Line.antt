@@ -1,5 +1,5 @@
 -- What holds of a line: the state fits the log, and so does what the line works on.
-use Rattle.wasi_walks.proofs.walks.Moves.{Awaited, Emptied, Numbered}
+use Rattle.wasi_walks.proofs.walks.Moves.{Awaited, Emptied, MakesUdpFor, Numbered}
 use Rattle.wasi_walks.proofs.Words.{BeganBy, Begins, Call, Entry, HandedNone, Has, IpSocketAddress, IsMaker, IsSide, Kind, List, MarksNoSocket, None, Not}
 use Rattle.wasi_walks.proofs.Words.{OpId, Operation, Option, SocketAddressFamily, Some, GuestCall, Step, TcpRecord, Told, WasiSocketsCtx, ap, entry, inl, inr, length}
 use Rattle.wasi_walks.proofs.Words.{own_of, refl, side_in, subst, sym, with_socket, ℕ, ⊤, ◌∙◌, ◌≡◌, ◌⊎◌}
@@ -82,7 +82,7 @@ NoAccept (ToSend line handle place) = ⊤
 NoAccept (Calls kind line handles) = ⊤
 NoAccept Past = ⊤
 NoAccept (Emptied kind) = ⊤
-NoAccept (Awaited place) = ⊤
+NoAccept (Awaited face side place) = ⊤
 NoAccept (Numbered place next) = ⊤
 NoAccept _ = ⊥
 
@@ -91,11 +91,13 @@ no_mark Unmade q u = q
 no_mark (Joined place) q u = q
 no_mark _ q u = u
 
--- where streams are made, or called, for a line, its step says so
+-- where streams are made, or called, for a line, its step says so; and where a create is polled for an interface, the step that made
+-- its network socket is a create of it
 abbrev pub MakingStands : List Step → Made → Type 0
 MakingStands steps (ToStream line handle place) = MakesStreams steps line handle
 MakingStands steps (ToSend line handle place) = MakesStreams steps line handle
 MakingStands steps (Calls kind line handles) = MakesCalls steps kind line handles
+MakingStands steps (Awaited face side place) = BeganBy steps side (MakesUdpFor face)
 MakingStands steps _ = ⊤
 
 -- a line's operation names a handle of the network socket that the record was made with

@@ -1,6 +1,6 @@
 -- A create is licensed, and so are the marks of handles; and what they make fits.
 use Rattle.wasi_walks.proofs.walks.States.{IsPlain, makes_plain}
-use Rattle.wasi_walks.proofs.walks.Moves.{OfP2, OfP3, Interface, tcp_kind, record_of}
+use Rattle.wasi_walks.proofs.walks.Moves.{P2, P3, Interface, tcp_kind, record_of}
 use Rattle.wasi_walks.proofs.Words.{made_to, handle_to, Stop, Allows, BeganBy, Call, Created, Entry, Err, ErrorCode, HandleKind, Has, Input, IsDoneOrCode, IsMaker}
 use Rattle.wasi_walks.proofs.Words.{IsMarkOf, IsMarkedWith, IsSide, IsTcpCreate, Kind, List, MarksNoSocket, MayAsk, MayUseTcp, Network, None, Ok}
 use Rattle.wasi_walks.proofs.Words.{OpId, Option, Output, Pollable, Result, Socket, SocketAddressFamily, Some, GuestCall, Step, Tcp2, TcpRecord, TcpState, Told}
@@ -314,13 +314,13 @@ module _ (contexts : List WasiSocketsCtx) (steps : List Step) (line : ℕ) (orig
 
   -- the handle of a TCP socket, of either interface, names its record
   socket_handle : (face : Interface) (fs : List Entry) (records : List Record) (handle place : ℕ) → NamesRecord fs records handle place → NamesItsOwn fs records handle (tcp_kind face place)
-  socket_handle OfP2 fs records handle place n = (n, tt, tt)
-  socket_handle OfP3 fs records handle place n = (n, tt, tt)
+  socket_handle P2 fs records handle place n = (n, tt, tt)
+  socket_handle P3 fs records handle place n = (n, tt, tt)
 
   -- the mark of a TCP socket, of either interface, touches its network socket alone
   its_own : (face : Interface) (place n : ℕ) (parent : Option ℕ) (side x : OpId) → Touches (own_of line) (Call.Made n (name_of (tcp_kind face place)) parent (Some side)) x → side ≡ x
-  its_own OfP2 place n parent side x t = t
-  its_own OfP3 place n parent side x t = t
+  its_own P2 place n parent side x t = t
+  its_own P3 place n parent side x t = t
 
   pub joins : {T : Type 0} (tells : Result ℕ Stop → T) (fails : ErrorCode → T) (face : Interface) (es : List Entry) (h : Here) (ctx : WasiSocketsCtx) (family : SocketAddressFamily) (made : Result Socket ErrorCode) → Creates contexts ctx family face origin → h.at ≡ None → h.own ≡ Unused → h.made ≡ Past → CreatedIsFine ctx.name family es made → Named line h → Licensed contexts steps line origin es h
       → Allows (MayAsk contexts steps) (λ fs done. Licensed contexts steps line origin fs (record h { machine = done.1; own = Used })) es (made_to tells fails (tcp_kind face) h.machine (own_of line) made)

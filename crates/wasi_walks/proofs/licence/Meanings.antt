@@ -2,7 +2,7 @@
 use Rattle.wasi_walks.proofs.Words.{BeganBy, Call, Created, Entry, Hand, Handed, Has, IpSocketAddress, IsLicensed, IsMaker, IsSide, IsTcpCreate, List}
 use Rattle.wasi_walks.proofs.Words.{MayAsk, NamesSide, OpId, Reply, SocketAddressFamily, GuestCall, Step, TcpCreate, Told, WasiSocketsCtx, [], ap, arith, entry}
 use Rattle.wasi_walks.proofs.Words.{handles_of, inl, inr, marked_by, marks_in, refl, subst, sym, ℕ, ◌++◌, ◌∙◌, ◌∷◌, ◌≡◌, ◌⊎◌}
-use Rattle.wasi_walks.specs.Licence.{IsUdpCreate, UdpCreated}
+use Rattle.wasi_walks.specs.Licence.{IsUdpCreate, MayUseUdp, UdpCreated}
 use Rattle.wasi_world.specs.declared.call.Call.TheVariants.{UdpCreate}
 use Rattle.wasi_walks.proofs.Lists.{entry_call, Cut, cut_of}
 
@@ -74,17 +74,22 @@ module _ (contexts : List WasiSocketsCtx) (steps : List Step) (log : List Entry)
   udp_created_by : (side : OpId) (ctx : ℕ) (family : SocketAddressFamily) (t : Told) → Has log (entry side (UdpCreate ctx family) t) → BeganBy steps side (IsUdpCreate contexts ctx family)
   udp_created_by side ctx family t i = may_at _ (cut_of log _ i)
 
+  -- a context that may use UDP has one name
+  one_user : (n c d : ℕ) → MayUseUdp contexts n c → MayUseUdp contexts n d → c ≡ d
+  one_user n c d a b =
+      let p = a.at in
+      let q = b.at in
+      let e : a.ctx ≡ b.ctx = cc in
+      sym a.named ∙ (ap (λ (x : WasiSocketsCtx). x.name) e ∙ b.named)
+
   one_udp_create : (s : Step) (c d : ℕ) (f g : SocketAddressFamily) → IsUdpCreate contexts c f s → IsUdpCreate contexts d g s → (c ≡ d) × (f ≡ g)
-  one_udp_create (Step.Call ctx (GuestCall.UdpCreate family)) c d f g a b =
-      let p = a.0.at in
-      let q = b.0.at in
-      let e : a.0.ctx ≡ b.0.ctx = cc in
-      let n = ap (λ (x : WasiSocketsCtx). x.name) e in
-      (sym a.0.named ∙ (n ∙ b.0.named), sym a.1 ∙ b.1)
+  one_udp_create (Step.Call ctx (GuestCall.UdpCreate family)) c d f g a b = (one_user ctx c d a.0 b.0, sym a.1 ∙ b.1)
+  one_udp_create (Step.Call ctx (GuestCall.P3UdpCreate family)) c d f g a b = (one_user ctx c d a.0 b.0, sym a.1 ∙ b.1)
   one_udp_create _ c d f g a b = absurd a
 
   udp_names_none : (s : Step) (c : ℕ) (f : SocketAddressFamily) (handle : ℕ) → IsUdpCreate contexts c f s → Has (handles_of s) handle → ⊥
   udp_names_none (Step.Call ctx (GuestCall.UdpCreate family)) c f handle a i = i
+  udp_names_none (Step.Call ctx (GuestCall.P3UdpCreate family)) c f handle a i = i
   udp_names_none _ c f handle a i = absurd a
 
   -- a step makes a TCP socket or a UDP socket

@@ -1,8 +1,8 @@
 -- Each move keeps that the state fits the log.
-use Rattle.wasi_walks.proofs.walks.Moves.{Awaited, AwaitsCreate, Emptied, Empties, GivesBack, Numbers}
+use Rattle.wasi_walks.proofs.walks.Moves.{FoundUdp, Awaited, AwaitsCreate, Begun, CreateIsFor, Interface, MakesUdpFor, Recalled, Emptied, Empties, GivesBack, Numbers}
 use Rattle.wasi_walks.proofs.owners.Law.{left_none}
 use Rattle.wasi_walks.proofs.Words.{Accepting, Accepts, Bool, Connection, Done, End, Entry, Handed, InProgress, IpSocketAddress, IsMaker}
-use Rattle.wasi_walks.proofs.Words.{Job, List, Listener, MarksNoSocket, MayGoOut, None, Not, OpId, ReadState, Refused, Socket}
+use Rattle.wasi_walks.proofs.Words.{BeganBy, Job, List, Listener, MarksNoSocket, MayGoOut, None, Not, OpId, ReadState, Refused, Socket}
 use Rattle.wasi_walks.proofs.Words.{SocketAddressFamily, Some, StandingCall, Step, Streams, TcpSendStream, TcpRecord, TcpState, Waits, WasiSocketsCtx, WriteState}
 use Rattle.wasi_walks.proofs.Words.{accepted_socket, ap, call_place, closed_by, connect_first, connect_operation, false, gone, inl, inr}
 use Rattle.wasi_walks.proofs.Words.{new_job, new_streams, own_of, refl, side_in, side_of, standing_as, step_at, subst}
@@ -12,7 +12,7 @@ use Rattle.wasi_walks.proofs.claims.Law.{Base, same_begun, fresh_to_come}
 use Rattle.wasi_walks.proofs.walks.Moves.{EndsConnect, Own, Past, ToStream, Used, CallsHandles, RecallsCall, ReachesHandle, StandsBlocking, CancelsBind, CancelsUdpBind, CancelsUdpConnect, GoesOn, RemembersStreams, RecallsStreams, BeginsUdpConnect, StandsUdpConnect, StandsDropOutgoing, Counts, SpendsNames, BeginsSend, BeginsReceive, closed_record, Here, put, Found, WriterMoves, Collects, LastsAfter, Closes, Plain, Move, Reaches, ReachesUdp, Leaves, Spends, Changes, ClosesReader, Writes, IsGone, opened_by, Reconnects, Opens, BeginsConnect, BeginsBind, BeginsWrite, begun_bind, Stands, Resumes, Unstands, UdpChanges, BeginsUdpBind, StandsUdpBind, StandsUdpCreate, Finds, Lists, Takes, BeginsListen, BeginsAccept, Unlistens, Forgets, Watches, Joins, accepting_now, begun_listen, beginning_listen, new_accept, joined, part_of}
 use Rattle.std.specs.Prelude.{◌+◌}
 use Rattle.wasi_walks.proofs.walks.Here.{IsToCome, next_shrinks, next_to_come, shrinks_to}
-use Rattle.wasi_walks.proofs.licence.State.{ConnectIsFine, ConnectLeft, Unbound, Unchecked, ReadsOn, Whole, ToWrite, Names, BindIsFine, EndTold, ErrorTold, JobIsFine, WritesOn, StreamsAreFine, AcceptingIsFine, ListeningIsFine, SocketIsFine, RecordIsFine, IsHanded, Unarrived, AcceptingStands, ListeningStands, ListenerIsFine, MakesStreams, OfTcp, OfUdp, StreamsStand, name_in}
+use Rattle.wasi_walks.proofs.licence.State.{ConnectIsFine, ConnectLeft, Unbound, Unchecked, ReadsOn, Whole, ToWrite, Names, BindIsFine, EndTold, ErrorTold, JobIsFine, WritesOn, StreamsAreFine, AcceptingIsFine, ListeningIsFine, SocketIsFine, RecordIsFine, IsHanded, Unarrived, AcceptingStands, ListeningStands, ListenerIsFine, MakesStreams, OfTcp, OfUdp, StreamsStand, CreateStands, name_in}
 use Rattle.wasi_walks.proofs.licence.Frames.{same_listening, listening_kept, listening_gone, Only, KeepsSide, record_kept}
 use Rattle.wasi_walks.proofs.licence.States.{state_taken, state_put, state_stands, state_unstands, state_jobs, state_renewed, state_joined}
 use Rattle.wasi_walks.proofs.licence.WriteJobs.{shut_after}
@@ -21,7 +21,10 @@ use Rattle.wasi_walks.proofs.licence.LookupMoves.{fewer_fine, records_fine}
 use Rattle.wasi_walks.proofs.licence.UdpMoves.{begins_receive, begins_send, begins_udp_connect, recalls_streams, remembers_streams, reaches_udp, resumes, udp_changes, begins_udp_bind, cancels_udp_bind, cancels_udp_connect}
 use Rattle.wasi_walks.proofs.licence.StreamMoves.{calls_handles, is_side, reaches, reaches_handle, recalls_call, stands_blocking}
 use Rattle.wasi_records.specs.Records.{tcp2_put}
+use Rattle.wasi_records.specs.declared.records.Record.{Record}
 use Rattle.wasi_records.specs.declared.udp.UdpRecord.{UdpRecord}
+use Rattle.wasi_records.specs.Udp.{udp_side}
+use Rattle.wasi_udp.specs.Create.{Create}
 use Rattle.wasi_addr.specs.declared.code.ErrorCode.{ErrorCode}
 use Rattle.wasi_tcp.specs.Writer.{error_of_code}
 use Rattle.wasi_walks.specs.Licence.{WriteFailed}
@@ -157,10 +160,19 @@ module _ (contexts : List WasiSocketsCtx) (steps : List Step) (line : ℕ) (orig
       }
 
   -- a call of a TCP socket makes no datagram streams
-  no_streams_stand : (r : TcpRecord) (n : ℕ) (call : StandingCall) → GoesOn call r → StreamsStand steps n call
-  no_streams_stand r n (StandingCall.UdpConnect place handle) k = absurd k
-  no_streams_stand r n (StandingCall.Blocking call) k = absurd k
-  no_streams_stand r n _ k = tt
+  -- a create that goes on for an interface was begun for it
+  made_for : (es : List Entry) (h : Here) (place : ℕ) (face : Interface) (create : Create) → CreateIsFor line origin h.machine.store.standing place face create.operation.who.side → FoundUdp h place (UdpRecord.Creating create) → Licensed contexts steps line origin es h → BeganBy steps create.operation.who.side (MakesUdpFor face)
+  made_for es h place face create (Begun makes own) g i = subst (λ (o : OpId). BeganBy steps o (MakesUdpFor face)) (sym own) (record { origin = origin; at = is_line; holds = makes })
+  made_for es h place face create (Recalled ids e) g i =
+      let k = (i.fine.standing (standing_as ids (StandingCall.UdpCreate place face)) e).2 in
+      let same : k.found ≡ UdpRecord.Creating create = (let at = k.at in cc) in
+      subst (λ (u : UdpRecord). BeganBy steps (udp_side u) (MakesUdpFor face)) same k.made
+
+  no_streams_stand : (r : TcpRecord) (records : List Record) (n : ℕ) (call : StandingCall) → GoesOn call r → StreamsStand steps n call × CreateStands steps records call
+  no_streams_stand r records n (StandingCall.UdpConnect place handle) k = absurd k
+  no_streams_stand r records n (StandingCall.UdpCreate place face) k = absurd k
+  no_streams_stand r records n (StandingCall.Blocking call) k = absurd k
+  no_streams_stand r records n _ k = (tt, tt)
 
   -- datagram streams are made for a line whose step says so
   streams_of : (es : List Entry) (h : Here) (n handle place : ℕ) → h.made ≡ ToStream n handle place → Licensed contexts steps line origin es h → MakesStreams steps n handle
@@ -280,21 +292,23 @@ module _ (contexts : List WasiSocketsCtx) (steps : List Step) (line : ℕ) (orig
         marked = λ s p m. absurd (cc);
         making = tt;
       }
-  moves_fine es _ _ (Stands h ids call r quiet at g k) b i = elsewhere es h _ refl refl refl i (state_stands contexts steps es h.machine (standing_as ids call) (λ o. OfTcp r g (i.names (call_place call) ids.line r at g), no_streams_stand r ids.line call k) i.fine) i.names i.udp_names
+  moves_fine es _ _ (Stands h ids call r quiet at g k) b i = elsewhere es h _ refl refl refl i (state_stands contexts steps es h.machine (standing_as ids call) (let none = no_streams_stand r h.machine.store.records ids.line call k in (λ o. OfTcp r g (i.names (call_place call) ids.line r at g), none.0, none.1)) i.fine) i.names i.udp_names
   moves_fine es _ _ (Resumes h s e o) b i = resumes contexts steps line origin is_line es h s e o i
   moves_fine es _ _ (Unstands h over) b i = elsewhere es h _ refl refl refl i (state_unstands contexts steps es h.machine i.fine) i.names i.udp_names
   moves_fine es _ _ (UdpChanges h place o now g p keeps) b i = udp_changes contexts steps line origin is_line es h place o now g p i
   moves_fine es _ _ (BeginsUdpBind h place o a at g to idle u) b i = begins_udp_bind contexts steps line origin is_line es h place o a at g to i
   moves_fine es _ _ (StandsUdpBind h ids place o op quiet at g e) b i =
-      elsewhere es h _ refl refl refl i (state_stands contexts steps es h.machine (standing_as ids (StandingCall.UdpBind place)) (λ c. OfUdp (UdpRecord.Open o) g (i.udp_names place ids.line (UdpRecord.Open o) at g), tt) i.fine) i.names i.udp_names
-  moves_fine es _ _ (StandsUdpCreate h ids place create quiet g) b i = elsewhere es h _ refl refl refl i (state_stands contexts steps es h.machine (standing_as ids (StandingCall.UdpCreate place)) (λ c. absurd c, tt) i.fine) i.names i.udp_names
+      elsewhere es h _ refl refl refl i (state_stands contexts steps es h.machine (standing_as ids (StandingCall.UdpBind place)) (λ c. OfUdp (UdpRecord.Open o) g (i.udp_names place ids.line (UdpRecord.Open o) at g), tt, tt) i.fine) i.names i.udp_names
+  moves_fine es _ _ (StandsUdpCreate h ids place face create quiet m g) b i =
+      let made : BeganBy steps create.operation.who.side (MakesUdpFor face) = subst (MakingStands steps) m i.making in
+      elsewhere es h _ refl refl refl i (state_stands contexts steps es h.machine (standing_as ids (StandingCall.UdpCreate place face)) (λ c. absurd c, tt, record { found = UdpRecord.Creating create; at = g; made = made }) i.fine) i.names i.udp_names
   moves_fine es _ _ (RemembersStreams h c handle place remote is of o g none) b i = remembers_streams contexts steps line origin is_line es h c handle place remote is i
   moves_fine es _ _ (RecallsStreams h ids place handle e own) b i = recalls_streams contexts steps line origin is_line es h ids place handle e i
   moves_fine es _ _ (BeginsUdpConnect h place o a at g to bound none u) b i = begins_udp_connect contexts steps line origin is_line es h place o a at g to bound i
   moves_fine es _ _ (StandsUdpConnect h ids place handle o op quiet at m g e) b i =
-      elsewhere es h _ refl refl refl i (state_stands contexts steps es h.machine (standing_as ids (StandingCall.UdpConnect place handle)) (λ c. OfUdp (UdpRecord.Open o) g (i.udp_names place ids.line (UdpRecord.Open o) at g), streams_of es h ids.line handle place m i) i.fine) i.names i.udp_names
+      elsewhere es h _ refl refl refl i (state_stands contexts steps es h.machine (standing_as ids (StandingCall.UdpConnect place handle)) (λ c. OfUdp (UdpRecord.Open o) g (i.udp_names place ids.line (UdpRecord.Open o) at g), streams_of es h ids.line handle place m i, tt) i.fine) i.names i.udp_names
   moves_fine es _ _ (StandsDropOutgoing h ids place o quiet at g e) b i =
-      elsewhere es h _ refl refl refl i (state_stands contexts steps es h.machine (standing_as ids (StandingCall.DropOutgoing place)) (λ c. OfUdp (UdpRecord.Open o) g (i.udp_names place ids.line (UdpRecord.Open o) at g), tt) i.fine) i.names i.udp_names
+      elsewhere es h _ refl refl refl i (state_stands contexts steps es h.machine (standing_as ids (StandingCall.DropOutgoing place)) (λ c. OfUdp (UdpRecord.Open o) g (i.udp_names place ids.line (UdpRecord.Open o) at g), tt, tt) i.fine) i.names i.udp_names
   moves_fine es _ _ (Counts h u) b i = owned es h (Own.Names 1) (λ e. absurd (cc)) (shrinks_to line h.own Own.Unused (Own.Names 1) u (λ x t. t)) i
   moves_fine es _ _ (SpendsNames h n u) b i = spent es h i
   moves_fine es _ _ (BeginsSend h place n o out d bound at g e is known u) b i = begins_send contexts steps line origin is_line es h place n o out d bound at g is known u i
@@ -309,7 +323,7 @@ module _ (contexts : List WasiSocketsCtx) (steps : List Step) (line : ℕ) (orig
   moves_fine es _ _ (CancelsUdpBind h place o op q g e) b i = cancels_udp_bind contexts steps line origin is_line es h place o g i
   moves_fine es _ _ (CancelsUdpConnect h place o q g) b i = cancels_udp_connect contexts steps line origin is_line es h place o g i
   moves_fine es _ _ (Finds h records s) b i = records_fine (λ op. ⊥) (λ op e. absurd e) es h records s i
-  moves_fine es _ _ (AwaitsCreate h place create g) b i = remade es h (Awaited place) tt tt i
+  moves_fine es _ _ (AwaitsCreate h place face create is g) b i = remade es h (Awaited face create.operation.who.side place) tt (made_for es h place face create is g i) i
   moves_fine es _ _ (Empties h handle kind e none) b i =
       let was : Here = record h { made = Emptied kind } in
       elsewhere es was _ refl refl refl (remade es h (Emptied kind) tt tt i) (state_taken contexts steps es h.machine handle i.fine) i.names i.udp_names

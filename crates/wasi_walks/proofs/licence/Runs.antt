@@ -1,9 +1,9 @@
 -- Each ask of a run is licensed: the law that it is, on the base law; and between two lines the state fits the log, each line being
 -- judged by the steps up to it.
-use Rattle.wasi_walks.proofs.walks.Asked.{Asked, Questions, SetsBacklog, Learns, Closes, MarksOne, AsksCreate, MarksAccepted, Polls, Turns, GivesUp, UdpQuestions, UdpLearns, UdpPeers, UdpCloses, UdpBegins, MarksUdp, MarksStream, MarksError, UdpGivesUp, Resolves, Looks}
+use Rattle.wasi_walks.proofs.walks.Asked.{Asked, Questions, SetsBacklog, Learns, Closes, MarksOne, AsksCreate, MarksAccepted, Polls, Turns, GivesUp, UdpQuestions, UdpDisconnects, UdpLearns, UdpPeers, UdpCloses, UdpBegins, MarksUdp, MarksStream, MarksError, UdpGivesUp, Resolves, Looks}
 use Rattle.wasi_walks.proofs.Words.{made_to, Allows, Asks, Begins, Call, Entry, Give, HasRun, IsLicensed, Left, List, Machine, MayAsk, Not, OpId, Operation, Reply}
 use Rattle.wasi_walks.proofs.Words.{Some, Step, TcpRecord, WasiSocketsCtx, [], add-one, allows_at, allows_if, allows_keep, allows_then}
-use Rattle.wasi_walks.proofs.Words.{allows_weaker, ap, append-nil, append_assoc, arith, created_asks, entry, first_state, give_up_asks, inl, is_trap}
+use Rattle.wasi_walks.proofs.Words.{allows_weaker, ap, append-nil, append_assoc, arith, entry, first_state, give_up_asks, inl, is_trap}
 use Rattle.wasi_walks.proofs.Words.{length, length-append, machine_asks, new_asks, own_of, refl, run, side_in, step_at, subst, sym}
 use Rattle.wasi_walks.proofs.Words.{with_listening, ℕ, ⊤, ◌++◌, ◌+◌, ◌∙◌, ◌∷◌, ◌≡◌}
 use Rattle.wasi_walks.proofs.licence.State.{StateIsFine}
@@ -29,7 +29,7 @@ use Rattle.wasi_walks.proofs.walks.Law.{BeginsWrites, Law, Rests, Walks, begins_
 use Rattle.wasi_walks.proofs.licence.Moves.{begins_write, closed_fine, gone_maker, moves_fine}
 use Rattle.wasi_walks.proofs.licence.Asked.{spares, asked_fine, on_side, names_on_side, not_held, question_local, question_may, learned_fine, kept}
 use Rattle.wasi_walks.proofs.licence.Marks.{marked_fine, accepted_fine, CreatedIsFine, new_fine, joins}
-use Rattle.wasi_walks.proofs.licence.UdpMarks.{stream_marked, udp_asked, udp_learned, udp_peered, udp_closed, udp_creates, udp_marked}
+use Rattle.wasi_walks.proofs.licence.UdpMarks.{stream_marked, udp_asked, udp_learned, udp_disconnected, udp_peered, udp_closed, udp_creates, udp_marked}
 use Rattle.wasi_walks.proofs.licence.ErrorMarks.{error_marked}
 use Rattle.wasi_walks.proofs.licence.UdpGoesOn.{udp_given_up}
 use Rattle.wasi_walks.proofs.licence.LookupAsks.{looked_up, looked_on}
@@ -66,11 +66,12 @@ module _ (contexts : List WasiSocketsCtx) (steps : List Step) (line : ℕ) (orig
       allows_weaker (MayAsk contexts steps) (λ fs done. Licensed contexts steps line origin fs h × ⊤) (λ fs done. Licensed contexts steps line origin fs (put h place (with_listening r Not))) (λ fs done k. taken_out contexts steps line origin is_line fs h place r g k.0) es (give_up_asks r.listening)
       (kept contexts steps line origin is_line h (λ fs done. ⊤) es (give_up_asks r.listening) i (given_up contexts steps line origin is_line es r.side r.listening (i.fine.records place r g).listening))
   licences_asks es h _ _ _ (UdpQuestions place n o c at g q) b i = (let a = udp_asked contexts steps line origin is_line es h place n o c at g q i in (a.0, λ told fits. a.1 told))
+  licences_asks es h _ _ _ (UdpDisconnects place o at g is) b i = (let k = udp_disconnected contexts steps line origin is_line es h place o at g is i in (k.0, λ told fits. k.1 told))
   licences_asks es h _ _ _ (UdpLearns place part o at g) b i = udp_learned contexts steps line origin is_line es h place part o at g i
   licences_asks es h _ _ _ (UdpPeers place o at g) b i = (let a = udp_peered contexts steps line origin is_line es h place o at g i in (a.0, λ told fits. a.1 told))
   licences_asks es h _ _ _ (UdpCloses place o q g) b i = (tt, λ told fits. udp_closed contexts steps line origin is_line es h place o told g i)
-  licences_asks es h _ _ _ (UdpBegins ctx family c may a o past) b i = udp_creates contexts steps line origin is_line es h ctx family c may a past i
-  licences_asks es h _ _ _ (MarksUdp place u g) b i = udp_marked contexts steps line origin is_line es h place u g.found i
+  licences_asks es h _ _ _ (UdpBegins face ctx family c may a o past) b i = udp_creates contexts steps line origin is_line face es h ctx family c may a past i
+  licences_asks es h _ _ _ (MarksUdp face place u g) b i = udp_marked contexts steps line origin is_line es h face place u g i
   licences_asks es h _ _ _ (MarksStream place n handle reached kind m new e) b i = stream_marked contexts steps line origin is_line es h place n handle reached kind m e i
   licences_asks es h _ _ _ (MarksError n handle place handles m k e f) b i = error_marked contexts steps line origin is_line es h n handle place handles m k e f i
   licences_asks es h _ _ _ (UdpGivesUp place create q g) b i = udp_given_up contexts steps line origin is_line es h place create g i
@@ -169,38 +170,67 @@ module _ (contexts : List WasiSocketsCtx) where
       allows_both (MayAsk contexts steps) Anything (λ fs done. Fine contexts steps (line + 1) fs done.1) (λ fs done. MayReply fs s done.0) es (machine_asks contexts m line s)
       (line_licensed steps line s l m es n i) (step_replies contexts steps line s m es i.fine i.keeps i.late)
 
+  -- what a run of these lines leaves: replies that it may have, and a state that is fine
+  abbrev pub Ends : List Step → List Entry → List Reply × Machine → Type 0
+  Ends all fs done = EachMayReply fs all done.0 × ((line : ℕ) × Fine contexts all line fs done.1)
+
   -- each line is judged by the steps so far, and what these license the whole script does
   lines : (all : List Step) (replies : List Reply) (m : Machine) (line : ℕ) (before rest : List Step) (es : List Entry) → all ≡ before ++ rest → line ≡ length before + 1 → EachMayCome contexts before [] es → length replies ≡ length before → EachMayReply es before replies → Fine contexts before line es m
-      → Allows (MayAsk contexts all) (λ fs done. EachMayReply fs all done.0) es (run contexts replies m line rest)
-  lines all replies m line before [] es a e c n r h = subst (λ (steps : List Step). EachMayReply es steps replies) (sym a) (replies_longer es before [] replies r)
+      → Allows (MayAsk contexts all) (Ends all) es (run contexts replies m line rest)
+  lines all replies m line before [] es a e c n r h = (
+    subst (λ (steps : List Step). EachMayReply es steps replies) (sym a) (replies_longer es before [] replies r),
+    (
+      line,
+      subst (λ (steps : List Step). Fine contexts steps line es m) (sym a)
+          (fine_more contexts before [] line es m h),
+    ),
+  )
   lines all replies m line before (s ∷ rest) es a e c n r h =
       let now = before ++ s ∷ [] in
       let b : all ≡ now ++ rest = a ∙ sym (append_assoc before (s ∷ []) rest) in
       let new : IsNew es m.store.records line = subst (IsNew es m.store.records) (sym e) (next_is_new contexts before es (licensed contexts before es c) m h.fine) in
       let M : List Entry → Type 0 = λ fs. EachMayCome contexts now [] fs × EachMayReply fs before replies in
-      allows_then (MayAsk contexts all) (λ fs done. M fs × (Fine contexts now (line + 1) fs done.1 × MayReply fs s done.0)) (λ fs done. EachMayReply fs all done.0) es (machine_asks contexts m line s) _
+      allows_then (MayAsk contexts all)
+      (λ fs done. M fs × (Fine contexts now (line + 1) fs done.1 × MayReply fs s done.0)) (Ends all) es
+      (machine_asks contexts m line s) _
       (allows_keep (MayAsk contexts now) (MayAsk contexts all) M (λ fs done. Fine contexts now (line + 1) fs done.1 × MayReply fs s done.0)
       (λ fs op c t fits k q. (may_come contexts now fs _ k.0 q, replies_more fs _ before replies k.1))
       (λ fs op c q. subst (λ (steps : List Step). MayAsk contexts steps fs op c) (sym b) (may_more now rest contexts fs op c q)) es _ (come_longer contexts before (s ∷ []) [] es c, r)
       (line_replies now line s (last_line before s line e) m es new (fine_more contexts before (s ∷ []) line es m h)))
       (λ fs done k.
       let said : EachMayReply fs now (replies ++ done.0 ∷ []) = replies_push fs before replies s done.0 n k.0.1 k.1.1 in
-      allows_if (MayAsk contexts all) (λ fs done. EachMayReply fs all done.0) fs (is_trap done.0) _ _
-      (λ trap. subst (λ (steps : List Step). EachMayReply fs steps (replies ++ done.0 ∷ [])) (sym b) (replies_longer fs now rest (replies ++ done.0 ∷ []) said))
+      allows_if (MayAsk contexts all) (Ends all) fs (is_trap done.0) _ _
+      (λ trap. (
+        subst (λ (steps : List Step). EachMayReply fs steps (replies ++ done.0 ∷ [])) (sym b)
+            (replies_longer fs now rest (replies ++ done.0 ∷ []) said),
+        (
+          line + 1,
+          subst (λ (steps : List Step). Fine contexts steps (line + 1) fs done.1) (sym b)
+              (fine_more contexts now rest (line + 1) fs done.1 k.1.0),
+        ),
+      ))
       (λ on. lines all (replies ++ done.0 ∷ []) done.1 (line + 1) now rest fs b (next_line before s line e) k.0.0 (same_length replies before done.0 s n) said k.1.0))
     where
       same_length : (replies : List Reply) (before : List Step) (r : Reply) (s : Step) → length replies ≡ length before → length (replies ++ r ∷ []) ≡ length (before ++ s ∷ [])
       same_length replies before r s n = let p = length-append replies (r ∷ []) in let q = length-append before (s ∷ []) in omega arith
 
   -- from the beginning
-  from_first : (steps : List Step) → Allows (MayAsk contexts steps) (λ fs done. EachMayReply fs steps done.0) [] (run contexts [] first_state 1 steps)
+  from_first : (steps : List Step) → Allows (MayAsk contexts steps) (Ends steps) []
+      (run contexts [] first_state 1 steps)
   from_first steps = lines steps [] first_state 1 [] steps [] refl refl tt refl tt (first_fine contexts)
+
+  -- the state that a run leaves
+  pub runs_fine : (steps : List Step) (log : List Entry) (replies : List Reply) (m : Machine) → Left
+      (run contexts [] first_state 1 steps) log (Give (replies, m)) → (line : ℕ) × Fine contexts steps line log m
+  runs_fine steps log replies m w = (reached (MayAsk contexts steps) (Ends steps) []
+      (run contexts [] first_state 1 steps) log (Give (replies, m)) (from_first steps) w).1
 
   -- at every point of the run, before a reply is given
   pub begun_licensed : (steps : List Step) (log : List Entry) (rest : Asks (List Reply × Machine)) → Left (run contexts [] first_state 1 steps) log rest → IsLicensed contexts steps log []
   begun_licensed steps log rest w = record {
     each = λ before e after cut.
-        allows_at (MayAsk contexts steps) (λ fs done. EachMayReply fs steps done.0) [] (run contexts [] first_state 1 steps) rest before e after (from_first steps)
+        allows_at (MayAsk contexts steps) (Ends steps) [] (run contexts [] first_state 1 steps) rest before e after
+        (from_first steps)
         (subst (λ (es : List Entry). Left (run contexts [] first_state 1 steps) es rest) cut w);
     replied = tt;
   }
@@ -208,7 +238,8 @@ module _ (contexts : List WasiSocketsCtx) where
   -- and with the replies that were given by then
   pub runs_licensed : (steps : List Step) (log : List Entry) (replies : List Reply) → HasRun contexts steps log replies → IsLicensed contexts steps log replies
   runs_licensed steps log replies h =
-      let at_front : EachMayReply h.front h.done replies = reached (MayAsk contexts h.done) (λ fs done. EachMayReply fs h.done done.0) [] (run contexts [] first_state 1 h.done) h.front (Give (replies, h.state)) (from_first h.done) h.ran in
+      let at_front : EachMayReply h.front h.done replies = (reached (MayAsk contexts h.done) (Ends h.done) []
+      (run contexts [] first_state 1 h.done) h.front (Give (replies, h.state)) (from_first h.done) h.ran).0 in
       let in_log : EachMayReply log h.done replies = subst (λ (es : List Entry). EachMayReply es h.done replies) (sym h.cut) (replies_more h.front h.back h.done replies at_front) in
       with_replies contexts steps log replies (subst (λ (steps : List Step). EachMayReply log steps replies) (sym h.first) (replies_longer log h.done h.more replies in_log)) (begun_licensed steps log h.rest h.begun)
 

@@ -6,7 +6,7 @@ use Rattle.wasi_walks.proofs.Words.{NamesSide, None, Nothing, NothingLast, OpId,
 use Rattle.wasi_walks.proofs.Words.{SocketAddressFamily, Some, Standing, Step, Streams, TcpRecord, TcpBind, TcpConnect, TcpState, Told, WasiSocketsCtx, Write}
 use Rattle.wasi_walks.proofs.Words.{WriteState, Yes, [], call_place, entry, kind_at, marks_in, own_of, side_of, true, wildcard, ℕ, ⊤, ◌++◌}
 use Rattle.wasi_walks.proofs.Words.{◌+◌, ◌∷◌, ◌≡◌}
-use Rattle.wasi_walks.proofs.walks.Moves.{record_of, udp_record_of, sending_in, receiving_in, IsOfHandle, CallKind, IsCall, kind_of}
+use Rattle.wasi_walks.proofs.walks.Moves.{Interface, MakesUdpFor, record_of, udp_record_of, sending_in, receiving_in, IsOfHandle, CallKind, IsCall, kind_of}
 use Rattle.wasi_walks.proofs.licence.Lookups.{LookupsAreFine, NamesNone}
 use Rattle.wasi_host.specs.Blocking.{blocking_handles}
 use Rattle.wasi_host.specs.Kinds.{name_of}
@@ -384,9 +384,19 @@ module _ (steps : List Step) where
   StreamsStand line (StandingCall.Blocking call) = MakesCalls (kind_of call) line (blocking_handles call)
   StreamsStand line _ = ⊤
 
-  -- a create that is pending names none, and a call on handles says which
+  -- The record's network socket was made by a create of the interface.
+  pub record IsMadeFor (records : List Record) (place : ℕ) (face : Interface) : Type 0 where
+    pub found : UdpRecord
+    pub at : udp2_at records place ≡ Some found
+    pub made : BeganBy steps (udp_side found) (MakesUdpFor face)
+
+  abbrev pub CreateStands : List Record → StandingCall → Type 0
+  CreateStands records (StandingCall.UdpCreate place face) = IsMadeFor records place face
+  CreateStands records _ = ⊤
+
+  -- a create that is pending names none, but its record is of its interface; and a call on handles says which
   abbrev pub StandingIsFine : List Entry → List Record → Standing → Type 0
-  StandingIsFine es records s = (IsOfHandle s.call → LineNames es records s.ids.line (call_place s.call)) × StreamsStand s.ids.line s.call
+  StandingIsFine es records s = (IsOfHandle s.call → LineNames es records s.ids.line (call_place s.call)) × StreamsStand s.ids.line s.call × CreateStands records s.call
 
 pub record StateIsFine (contexts : List WasiSocketsCtx) (steps : List Step) (es : List Entry) (m : Machine) : Type 0 where
   pub count : m.table.next ≡ marks_in es + 1

@@ -52,4 +52,4 @@ module _ (contexts : List WasiSocketsCtx) (steps : List Step) (line : ℕ) (orig
   pub stands_blocking : (es : List Entry) (h : Here) (ids : Ids) (call : BlockingCall) (handles : List ℕ) → h.made ≡ Calls (kind_of call) ids.line handles → blocking_handles call ≡ handles → Licensed contexts steps line origin es h
       → Licensed contexts steps line origin es (record h { machine = record h.machine { store = record h.machine.store { standing = Some (standing_as ids (StandingCall.Blocking call)) } } })
   stands_blocking es h ids call handles m k i =
-      elsewhere es h _ refl refl refl i (state_stands contexts steps es h.machine (standing_as ids (StandingCall.Blocking call)) (λ c. absurd c, subst (MakesCalls steps (kind_of call) ids.line) (sym k) (made_for es h (kind_of call) ids.line handles m i)) i.fine) i.names i.udp_names
+      elsewhere es h _ refl refl refl i (state_stands contexts steps es h.machine (standing_as ids (StandingCall.Blocking call)) (λ c. absurd c, subst (MakesCalls steps (kind_of call) ids.line) (sym k) (made_for es h (kind_of call) ids.line handles m i), tt) i.fine) i.names i.udp_names

@@ -1,11 +1,11 @@
 -- What is known of the UDP sockets under more entries; and what handles and the pending call name, where the records change.
-use Rattle.wasi_walks.proofs.Words.{Entry, IpSocketAddress, IsMarkedWith, Item, Kind, List, None, OpId, Operation, Option, Pollable, Some}
+use Rattle.wasi_walks.proofs.Words.{BeganBy, Entry, IpSocketAddress, IsMarkedWith, Item, Kind, List, None, OpId, Operation, Option, Pollable, Some}
 use Rattle.wasi_walks.proofs.Words.{SocketAddressFamily, Standing, Step, TcpRecord, Watched, ap, call_place, inl, inr, own_of, refl, subst, sym, ℕ, ◌++◌}
 use Rattle.wasi_walks.proofs.Words.{◌∙◌, ◌≡◌}
 use Rattle.wasi_walks.proofs.Lists.{has_front}
-use Rattle.wasi_walks.proofs.walks.Moves.{record_of, udp_record_of, sending_in, receiving_in}
+use Rattle.wasi_walks.proofs.walks.Moves.{MakesUdpFor, record_of, udp_record_of, sending_in, receiving_in}
 use Rattle.wasi_walks.proofs.licence.Lookups.{NamesNone}
-use Rattle.wasi_walks.proofs.licence.State.{NamesIf, NamesUdp, NamesUdpIf, HandleIsFine, UdpBindLeft, UdpUnchecked, UdpChecked, UdpOver, Names, UdpMade, UdpBindIsFine, UdpProgressIsFine, UdpIsFine, LineNames, OfTcp, OfUdp, IfOp, StreamsStand, StandingIsFine}
+use Rattle.wasi_walks.proofs.licence.State.{NamesIf, NamesUdp, NamesUdpIf, HandleIsFine, UdpBindLeft, UdpUnchecked, UdpChecked, UdpOver, Names, UdpMade, UdpBindIsFine, UdpProgressIsFine, UdpIsFine, LineNames, OfTcp, OfUdp, IfOp, StreamsStand, CreateStands, StandingIsFine}
 use Rattle.wasi_walks.proofs.licence.DatagramFrames.{free_more, udp_connect_more, send_more, receive_more}
 use Rattle.wasi_host.specs.declared.store.StandingCall.{StandingCall}
 use Rattle.wasi_walks.proofs.licence.Frames.{Goes, began_more, marked_as_more, marked_more, names_on, works_more, IsMadeWith, made_put, names_record_more}
@@ -102,13 +102,17 @@ module _ (es : List Entry) (old now : List Record) (k : KeepsSides old now) wher
   handle_kept handle kind h = (tcp_kept handle (record_of (Some kind)) h.0, udp_kept handle (udp_record_of (Some kind)) h.1, h.2, h.3)
 
 -- == the pending call
+create_kept : (steps : List Step) (old now : List Record) → KeepsSides old now → (call : StandingCall) → CreateStands steps old call → CreateStands steps now call
+create_kept steps old now k (StandingCall.UdpCreate place face) h = let m = k.udp place h.found h.at in record { found = m.found; at = m.at; made = subst (λ (s : OpId). BeganBy steps s (MakesUdpFor face)) (sym m.same) h.made }
+create_kept steps old now k _ h = tt
+
 module _ {steps : List Step} (es : List Entry) (old now : List Record) (k : KeepsSides old now) where
   line_kept : (line place : ℕ) → LineNames steps es old line place → LineNames steps es now line place
   line_kept line place (OfTcp r e n) = let m = k.tcp place r e in OfTcp m.found m.at (λ side s. n side (sym m.same ∙ s))
   line_kept line place (OfUdp u e n) = let m = k.udp place u e in OfUdp m.found m.at (subst (Names steps es (own_of line)) (sym m.same) n)
 
   pub standing_kept : (s : Standing) → StandingIsFine steps es old s → StandingIsFine steps es now s
-  standing_kept s h = (λ o. line_kept s.ids.line (call_place s.call) (h.0 o), h.1)
+  standing_kept s h = (λ o. line_kept s.ids.line (call_place s.call) (h.0 o), h.1, create_kept steps old now k s.call h.2)
 
 module _ {steps now : List Step} (goes : Goes steps now) where
   line_more : (es fs : List Entry) (records : List Record) (line place : ℕ) → LineNames steps es records line place → LineNames now (es ++ fs) records line place
@@ -120,8 +124,12 @@ module _ {steps now : List Step} (goes : Goes steps now) where
   streams_more line (StandingCall.Blocking call) h = began_more goes (own_of line) _ h
   streams_more line _ h = tt
 
+  create_more : (records : List Record) (call : StandingCall) → CreateStands steps records call → CreateStands now records call
+  create_more records (StandingCall.UdpCreate place face) h = record { found = h.found; at = h.at; made = began_more goes (udp_side h.found) _ h.made }
+  create_more records _ h = tt
+
   pub standing_more : (es fs : List Entry) (records : List Record) (s : Standing) → StandingIsFine steps es records s → StandingIsFine now (es ++ fs) records s
-  standing_more es fs records s h = (λ o. line_more es fs records s.ids.line (call_place s.call) (h.0 o), streams_more s.ids.line s.call h.1)
+  standing_more es fs records s h = (λ o. line_more es fs records s.ids.line (call_place s.call) (h.0 o), streams_more s.ids.line s.call h.1, create_more records s.call h.2)
 
   -- == UDP sockets
   pub udp_made_more : (es fs : List Entry) (side : OpId) (maker : ℕ) (family : SocketAddressFamily) → UdpMade steps es side maker family → UdpMade now (es ++ fs) side maker family

@@ -1,10 +1,10 @@
 -- What a line asks of a UDP socket by its own operation is licensed, and so are a create and the mark of its handle.
 use Rattle.wasi_walks.proofs.Words.{Allows, BeganBy, Bool, Call, Entry, IsAddr, IsDoneOrCode, IsMarkOf, Has, List, MarksNoSocket, MayAsk, Ok, None, OpId, Option}
-use Rattle.wasi_walks.proofs.Words.{SocketAddressFamily, Some, GuestCall, Step, Told, WasiSocketsCtx, [], allows_if, allows_weaker, ap, bind, context_in, entry, false}
+use Rattle.wasi_walks.proofs.Words.{SocketAddressFamily, Some, GuestCall, Step, Told, WasiSocketsCtx, [], allows_if, allows_weaker, ap, bind, context_at, context_in, entry, false}
 use Rattle.wasi_walks.proofs.Words.{if◌then◌else◌, inl, inr, is_full, is_wildcard, make_asks, own_of, refl, slice_get, step_at, subst, sym, told_addr}
 use Rattle.wasi_walks.proofs.Words.{told_done, true, ℕ, ◌++◌, ◌∙◌, ◌∷◌, ◌≡◌}
 use Rattle.wasi_walks.specs.Licence.{IsTcpName, IsDisconnect, IsGetOf, IsMarkedWith, IsSetTo, IsStreamOf, IsUdpCreate, MayUseUdp, UdpCreated}
-use Rattle.wasi_walks.proofs.walks.Moves.{Here, Made, MarksNext, one_stream, put_udp, FoundUdp, CreatesUdp, udp_begun, udp_record_of, part_of, ToSend, IsUdpQuestionOf, Past, Joined, Marked}
+use Rattle.wasi_walks.proofs.walks.Moves.{Here, Made, MarksNext, one_stream, put_udp, FoundUdp, CreatesUdp, Interface, IsCreated, MakesUdpFor, P2, P3, udp_begun, udp_record_of, part_of, ToSend, IsUdpQuestionOf, Past, Joined, Marked}
 use Rattle.wasi_walks.proofs.Lists.{has_front, has_last, has_split}
 use Rattle.wasi_walks.specs.Licence.{MakesTcp, MakesUdp}
 use Rattle.wasi_walks.proofs.licence.State.{NamesItsOwn, MakesStreams, Names, NamesUdp, UdpMade, UdpIsFine, OpenIsFine}
@@ -19,7 +19,7 @@ use Rattle.wasi_world.specs.declared.call.HandleKind.TheVariants as name
 use Rattle.wasi_records.specs.Udp.{udp_side, with_udp_inner}
 use Rattle.wasi_host.specs.declared.kind.Kind.TheVariants.{Udp2, Incoming, Outgoing}
 use Rattle.wasi_host.specs.declared.kind.Kind.{Kind}
-use Rattle.wasi_host.specs.Kinds.{kind_at, name_of, udp_of}
+use Rattle.wasi_host.specs.Kinds.{kind_at, name_of, udp_kind, udp_of}
 use Rattle.wasi_records.specs.Records.{udp2_at}
 use Rattle.wasi_host.specs.UdpCreates.{udp_side_at}
 use Rattle.wasi_records.specs.declared.records.Record.{Record}
@@ -51,7 +51,6 @@ module _ (contexts : List WasiSocketsCtx) (steps : List Step) (line : ℕ) (orig
   udp_may n es side (Call.Local s) q k = (inl (subst (Names steps es (own_of n)) (sym q) k), tt)
   udp_may n es side (Call.GetOption s o) q k = ((inl (subst (Names steps es (own_of n)) (sym q.0) k), own_line contexts steps line origin is_line n (IsGetOf o) q.1 q.2), tt)
   udp_may n es side (Call.SetOption s o v) q k = ((inl (subst (Names steps es (own_of n)) (sym q.0) k), own_line contexts steps line origin is_line n (IsSetTo o v) q.1 q.2), tt)
-  udp_may n es side (Call.UdpDisconnect s) q k = ((inl (subst (Names steps es (own_of n)) (sym q.0) k), own_line contexts steps line origin is_line n IsDisconnect q.1 q.2), tt)
   udp_may n es side _ q k = absurd q
 
   udp_local : (n : ℕ) (side x : OpId) (c : Call) → IsUdpQuestionOf line origin n side c → c ≡ Call.Local x → side ≡ x
@@ -67,6 +66,20 @@ module _ (contexts : List WasiSocketsCtx) (steps : List Step) (line : ℕ) (orig
   udp_asked es h place n o c at g q i =
       let k = udp_may n es o.inner.side c q (i.udp_names place n (UdpRecord.Open o) at g) in
       (k.0, asked_open es h place o (own_of n) c g k.1 (λ x e. udp_local n o.inner.side x c q e) i)
+
+  -- it is disconnected, and is bound from then on
+  pub udp_disconnected : (es : List Entry) (h : Here) (place : ℕ) (o : OpenUdp) → h.at ≡ Some (place, line) → FoundUdp h place (UdpRecord.Open o) → IsDisconnect origin → Licensed contexts steps line origin es h
+      → MayAsk contexts steps es (own_of line) (Call.UdpDisconnect o.inner.side) × ((told : Told) → Licensed contexts steps line origin (es ++ entry (own_of line) (Call.UdpDisconnect o.inner.side) told ∷ []) (put_udp h place (UdpRecord.Open (with_udp_inner o (record o.inner { bound = true })))))
+  udp_disconnected es h place o at g is i = (
+    (inl (i.udp_names place line (UdpRecord.Open o) at g), record { origin = origin; at = is_line; holds = is }),
+    λ told.
+        let e = entry (own_of line) (Call.UdpDisconnect o.inner.side) told in
+        let fs : List Entry = es ++ e ∷ [] in
+        let j = asked_open es h place o (own_of line) (Call.UdpDisconnect o.inner.side) g tt (λ x p. absurd (cc)) i told in
+        let f = open_at_place contexts steps line origin is_line fs h place o g j in
+        put_udp_fine fs h place (UdpRecord.Open o) (UdpRecord.Open (with_udp_inner o (record o.inner { bound = true }))) g refl
+        (record { made = f.made; bound = λ b. inr (record { op = own_of line; told = told; entry_is = has_last es e }); progress = f.progress; connecting = f.connecting; sending = f.sending; receiving = f.receiving }) j,
+  )
 
   -- the remote address
   pub udp_peered : (es : List Entry) (h : Here) (place : ℕ) (o : OpenUdp) → h.at ≡ Some (place, line) → FoundUdp h place (UdpRecord.Open o) → Licensed contexts steps line origin es h
@@ -127,31 +140,36 @@ module _ (contexts : List WasiSocketsCtx) (steps : List Step) (line : ℕ) (orig
   may_use n None e t = absurd (cc)
   may_use n (Some ctx) e t = record { ctx = ctx; at = e; named = refl; udp = t }
 
-  may_create : (ctx : WasiSocketsCtx) (family : SocketAddressFamily) (s : Step) → CreatesUdp contexts ctx family s → ctx.udp ≡ true → IsUdpCreate contexts ctx.name family s
-  may_create ctx family (Step.Call n (GuestCall.UdpCreate f)) c t =
+  may_by : (n : ℕ) (ctx : WasiSocketsCtx) → context_at contexts n ≡ ctx → ctx.udp ≡ true → MayUseUdp contexts n ctx.name
+  may_by n ctx e t =
       let T : WasiSocketsCtx → Type 0 = λ x. x.udp ≡ true → MayUseUdp contexts n x.name in
-      (subst T c.0 (may_use n (slice_get contexts n) refl) t, c.1)
-  may_create ctx family _ c t = absurd c
+      subst T e (may_use n (slice_get contexts n) refl) t
 
-  makes_udp : (ctx : WasiSocketsCtx) (family : SocketAddressFamily) (s : Step) → CreatesUdp contexts ctx family s → MakesUdp s
-  makes_udp ctx family (Step.Call n (GuestCall.UdpCreate f)) c = tt
-  makes_udp ctx family _ c = c
+  may_create : (face : Interface) (ctx : WasiSocketsCtx) (family : SocketAddressFamily) (s : Step) → CreatesUdp contexts ctx family face s → ctx.udp ≡ true → IsUdpCreate contexts ctx.name family s
+  may_create face ctx family (Step.Call n (GuestCall.UdpCreate f)) c t = (may_by n ctx c.0 t, c.1)
+  may_create face ctx family (Step.Call n (GuestCall.P3UdpCreate f)) c t = (may_by n ctx c.0 t, c.1)
+  may_create face ctx family _ c t = absurd c
 
-  creates_only : (ctx : WasiSocketsCtx) (family : SocketAddressFamily) → CreatesUdp contexts ctx family origin → (c s : ℕ) → origin ≡ Step.Call c (GuestCall.TcpAccept s) → ⊥
-  creates_only ctx family k c s e = subst (CreatesUdp contexts ctx family) e k
+  makes_udp : (face : Interface) (ctx : WasiSocketsCtx) (family : SocketAddressFamily) (s : Step) → CreatesUdp contexts ctx family face s → MakesUdp s
+  makes_udp face ctx family (Step.Call n (GuestCall.UdpCreate f)) c = tt
+  makes_udp face ctx family (Step.Call n (GuestCall.P3UdpCreate f)) c = tt
+  makes_udp face ctx family _ c = c
+
+  creates_only : (face : Interface) (ctx : WasiSocketsCtx) (family : SocketAddressFamily) → CreatesUdp contexts ctx family face origin → (c s : ℕ) → origin ≡ Step.Call c (GuestCall.TcpAccept s) → ⊥
+  creates_only face ctx family k c s e = subst (CreatesUdp contexts ctx family face) e k
 
   -- a network socket that was made has its record
-  created_so : (fs : List Entry) (h : Here) (ctx : WasiSocketsCtx) (family : SocketAddressFamily) → CreatesUdp contexts ctx family origin → h.at ≡ None → h.made ≡ Past → Has fs (entry (own_of line) (Call.UdpCreate ctx.name family) Told.Done) → Licensed contexts steps line origin fs h
+  created_so : (face : Interface) (fs : List Entry) (h : Here) (ctx : WasiSocketsCtx) (family : SocketAddressFamily) → CreatesUdp contexts ctx family face origin → h.at ≡ None → h.made ≡ Past → Has fs (entry (own_of line) (Call.UdpCreate ctx.name family) Told.Done) → Licensed contexts steps line origin fs h
       → Licensed contexts steps line origin fs (udp_begun h (Ok (new_create (own_of line) ctx.name family)))
-  created_so fs h ctx family c nowhere past has j =
+  created_so face fs h ctx family c nowhere past has j =
       let now = UdpRecord.Creating (new_create (own_of line) ctx.name family) in
       record {
-        fine = state_joined_udp contexts steps fs h.machine now (record { made = record { by = record { origin = origin; at = is_line; holds = makes_udp ctx family origin c }; created = has }; own = refl; last = refl; left = refl }) j.fine;
+        fine = state_joined_udp contexts steps fs h.machine now (record { made = record { by = record { origin = origin; at = is_line; holds = makes_udp face ctx family origin c }; created = has }; own = refl; last = refl; left = refl }) j.fine;
         names = λ p n r a e. absurd (no_place p n (sym nowhere ∙ a));
         udp_names = λ p n u a e. absurd (no_place p n (sym nowhere ∙ a));
         listens = λ p q op d m. j.listens p q op (push_was udp_sort tcp_sort (λ t. refl) h.machine.store.records now p q d) m;
         new = λ x t. absurd t;
-        unmade = λ e d s is. absurd (creates_only ctx family c d s is);
+        unmade = λ e d s is. absurd (creates_only face ctx family c d s is);
         joined = λ p e. absurd (not_joined p (sym past ∙ e));
         marked = λ a p e q d. absurd (not_marked a p (sym past ∙ e));
         making = subst (MakingStands steps) (sym past) tt;
@@ -166,26 +184,27 @@ module _ (contexts : List WasiSocketsCtx) (steps : List Step) (line : ℕ) (orig
       not_joined : (p : ℕ) → Past ≡ Joined p → ⊥
       not_joined p e = absurd (cc)
 
-  pub udp_creates : (es : List Entry) (h : Here) (ctx : WasiSocketsCtx) (family : SocketAddressFamily) → CreatesUdp contexts ctx family origin → ctx.udp ≡ true → h.at ≡ None → h.made ≡ Past → Licensed contexts steps line origin es h
+  pub udp_creates : (face : Interface) (es : List Entry) (h : Here) (ctx : WasiSocketsCtx) (family : SocketAddressFamily) → CreatesUdp contexts ctx family face origin → ctx.udp ≡ true → h.at ≡ None → h.made ≡ Past → Licensed contexts steps line origin es h
       → MayAsk contexts steps es (own_of line) (Call.UdpCreate ctx.name family)
       × ((told : Told) → IsDoneOrCode told → Licensed contexts steps line origin (es ++ entry (own_of line) (Call.UdpCreate ctx.name family) told ∷ []) (udp_begun h (after_create (own_of line) ctx.name family (told_done told))))
-  udp_creates es h ctx family c may nowhere past i = (record { origin = origin; at = is_line; holds = may_create ctx family origin c may }, by_told)
+  udp_creates face es h ctx family c may nowhere past i = (record { origin = origin; at = is_line; holds = may_create face ctx family origin c may }, by_told)
     where
       asked : (told : Told) → Licensed contexts steps line origin (es ++ entry (own_of line) (Call.UdpCreate ctx.name family) told ∷ []) h
       asked told = asked_fine contexts steps line origin is_line es h (own_of line) (Call.UdpCreate ctx.name family) told tt (spares contexts steps line origin is_line h (Call.UdpCreate ctx.name family) tt) i
 
       by_told : (told : Told) → IsDoneOrCode told → Licensed contexts steps line origin (es ++ entry (own_of line) (Call.UdpCreate ctx.name family) told ∷ []) (udp_begun h (after_create (own_of line) ctx.name family (told_done told)))
-      by_told Told.Done fits = created_so _ h ctx family c nowhere past (has_last es _) (asked Told.Done)
+      by_told Told.Done fits = created_so face _ h ctx family c nowhere past (has_last es _) (asked Told.Done)
       by_told (Told.Code x) fits = spent _ h (asked (Told.Code x))
       by_told _ fits = absurd fits
 
   -- == the mark of its handle, which has the name of the create
-  udp_mark : (es : List Entry) (side : OpId) (maker : ℕ) (family : SocketAddressFamily) (s : Step) → MakesUdp s → Has es (entry side (Call.UdpCreate maker family) Told.Done) → IsMarkOf es side name.Udp2 None (Some side) s
-  udp_mark es side maker family (Step.Call ctx (GuestCall.UdpCreate f)) m has = (refl, refl, refl, (maker, family, has))
-  udp_mark es side maker family _ m has = absurd m
+  udp_mark : (es : List Entry) (side : OpId) (maker : ℕ) (family : SocketAddressFamily) (face : Interface) (place : ℕ) (s : Step) → MakesUdpFor face s → Has es (entry side (Call.UdpCreate maker family) Told.Done) → IsMarkOf es side (name_of (udp_kind face place)) None (Some side) s
+  udp_mark es side maker family face place (Step.Call ctx (GuestCall.UdpCreate f)) m has = (ap (λ (x : Interface). name_of (udp_kind x place)) m, refl, refl, (maker, family, has))
+  udp_mark es side maker family face place (Step.Call ctx (GuestCall.P3UdpCreate f)) m has = (ap (λ (x : Interface). name_of (udp_kind x place)) m, refl, refl, (maker, family, has))
+  udp_mark es side maker family face place _ m has = absurd m
 
-  began_mark : (es : List Entry) (side : OpId) (maker : ℕ) (family : SocketAddressFamily) → UdpMade steps es side maker family → BeganBy steps side (IsMarkOf es side name.Udp2 None (Some side))
-  began_mark es side maker family m = record { origin = m.by.origin; at = m.by.at; holds = udp_mark es side maker family m.by.origin m.by.holds m.created }
+  began_mark : (es : List Entry) (side : OpId) (maker : ℕ) (family : SocketAddressFamily) (face : Interface) (place : ℕ) → UdpMade steps es side maker family → BeganBy steps side (MakesUdpFor face) → BeganBy steps side (IsMarkOf es side (name_of (udp_kind face place)) None (Some side))
+  began_mark es side maker family face place m b = record { origin = b.origin; at = b.at; holds = udp_mark es side maker family face place b.origin b.holds m.created }
 
   -- an accept is no create
   not_accept : (side : OpId) → BeganBy steps side MakesUdp → (c s : ℕ) → origin ≡ Step.Call c (GuestCall.TcpAccept s) → side ≡ own_of line → ⊥
@@ -236,14 +255,25 @@ module _ (contexts : List WasiSocketsCtx) (steps : List Step) (line : ℕ) (orig
       ))
 
   -- a new handle of a UDP socket
-  pub udp_marked : (es : List Entry) (h : Here) (place : ℕ) (u : UdpRecord) → FoundUdp h place u → Licensed contexts steps line origin es h
-      → Allows (MayAsk contexts steps) (λ fs made. Licensed contexts steps line origin fs (record h { machine = record h.machine { table = made.1 }; made = Past })) es (make_asks h.machine.table (udp_side u) (Udp2 place) None (Some (udp_side u)))
-  udp_marked es h place u g i =
-      let m = is_made es u (i.fine.udp place u g) in
+  udp_no_tcp : (face : Interface) (place : ℕ) → IsTcpName (name_of (udp_kind face place)) → ⊥
+  udp_no_tcp P2 place (inl p) = absurd (cc)
+  udp_no_tcp P2 place (inr p) = absurd (cc)
+  udp_no_tcp P3 place (inl p) = absurd (cc)
+  udp_no_tcp P3 place (inr p) = absurd (cc)
+
+  udp_handle : (face : Interface) (fs : List Entry) (records : List Record) (handle place : ℕ) → NamesUdp fs records handle place → NamesItsOwn fs records handle (udp_kind face place)
+  udp_handle P2 fs records handle place n = (tt, n, tt)
+  udp_handle P3 fs records handle place n = (tt, n, tt)
+
+  pub udp_marked : (es : List Entry) (h : Here) (face : Interface) (place : ℕ) (u : UdpRecord) → IsCreated h face place u → Licensed contexts steps line origin es h
+      → Allows (MayAsk contexts steps) (λ fs made. Licensed contexts steps line origin fs (record h { machine = record h.machine { table = made.1 }; made = Past })) es (make_asks h.machine.table (udp_side u) (udp_kind face place) None (Some (udp_side u)))
+  udp_marked es h face place u is i =
+      let m = is_made es u (i.fine.udp place u is.found) in
+      let b : BeganBy steps (udp_side u) (MakesUdpFor face) = subst (MakingStands steps) is.awaited i.making in
       allows_weaker (MayAsk contexts steps) (λ fs made. Licensed contexts steps line origin fs (record h { machine = record h.machine { table = made.1 } })) _
       (λ fs made k. remade fs (record h { machine = record h.machine { table = made.1 } }) Past tt tt k) es _
-      (mark_fine es h (udp_side u) (Udp2 place) None (Some (udp_side u)) (began_mark es (udp_side u) m.maker m.family m.made) (not_accept (udp_side u) m.made.by) (λ e. elim e [ inl p ↦ cc | inr p ↦ cc ])
-      (λ t. (tt, record { found = u; at = g; marked = record { op = udp_side u; kind = name.Udp2; parent = None; told = t; mark = has_last es _ } }, tt)) i)
+      (mark_fine es h (udp_side u) (udp_kind face place) None (Some (udp_side u)) (began_mark es (udp_side u) m.maker m.family face place m.made b) (not_accept (udp_side u) m.made.by) (udp_no_tcp face place)
+      (λ t. udp_handle face _ h.machine.store.records h.machine.table.next place (record { found = u; at = is.found; marked = record { op = udp_side u; kind = name_of (udp_kind face place); parent = None; told = t; mark = has_last es _ } })) i)
 
   -- == the handles of datagram streams
   abbrev pub OneStream : Kind → ℕ → Type 0

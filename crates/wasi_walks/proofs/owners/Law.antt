@@ -3,9 +3,9 @@ use Rattle.wasi_walks.proofs.Words.{End, Err, ErrorCode, ErrorValue, HandleTable
 use Rattle.wasi_walks.proofs.Words.{[], ap, arith, inl, inr, kind_at, length, new_record, own_of, poll_asks, refl, slice_get, slice_set, subst, sym, table_parent, watched_by, with_handle, with_writer, ℕ, ⊤, ◌++◌, ◌∷◌, ◌∙◌, ◌≡◌, ◌⊎◌}
 use Rattle.wasi_table.specs.Table.{Live}
 use Rattle.wasi_udp.specs.Create.{Create, after_create as udp_after_create}
-use Rattle.wasi_host.specs.Kinds.{udp_of}
+use Rattle.wasi_host.specs.Kinds.{udp_kind, udp_of}
 use Rattle.wasi_records.specs.Records.{tcp2_at, tcp2_put, udp2_of}
-use Rattle.wasi_host.specs.declared.kind.Kind.TheVariants.{Incoming, Lookup, Outgoing, PlainInput, PlainOutput, Tcp3, Udp2}
+use Rattle.wasi_host.specs.declared.kind.Kind.TheVariants.{Incoming, Lookup, Outgoing, PlainInput, PlainOutput, Tcp3, Udp2, Udp3}
 use Rattle.wasi_host.specs.declared.kind.PlainInput.TheVariants as plain_input
 use Rattle.wasi_host.specs.declared.kind.PlainOutput.TheVariants as plain_output
 use Rattle.wasi_records.specs.declared.name_lookup.LookupOp.{LookupOp}
@@ -20,7 +20,7 @@ use Rattle.wasi_walks.proofs.walks.Law.{BeginsWrites, InCall, Law}
 use Rattle.wasi_walks.proofs.walks.OfState.{Becomes, Learnt, IsClosed, GivenUp, UdpLearnt, UdpIsClosed, UdpGivenUp, UdpBegun, Resolved, HasHandle, NoRoom, Created, CreatedWith, Writing, Handles, OfLine, OfAccepted, OfCreated, OfStream, OfError, HasNoRoom, OfState, begins_state, of_state}
 use Rattle.wasi_walks.proofs.Words.{Done, Refused, Waits, new_socket}
 use Rattle.wasi_walks.proofs.walks.Moves as walk
-use Rattle.wasi_walks.proofs.walks.Moves.{Interface, OfP2, OfP3, tcp_kind, IsDropped, tcp_socket_of, Emptied, Found, FoundUdp, Held, Here, IsLeft, IsNumbered, IsOpenUdp, Joined, Made, MakesPlain, Marked, Marks, Move, Numbered, Past, SameSockets, ToSend, accepting_now, joined, made_so, one_stream, put, put_udp, udp_begun, with_records, without_record}
+use Rattle.wasi_walks.proofs.walks.Moves.{Interface, P2, P3, tcp_kind, IsDropped, tcp_socket_of, udp_socket_of, Emptied, Found, FoundUdp, Held, Here, IsLeft, IsNumbered, IsOpenUdp, Joined, Made, MakesPlain, Marked, Marks, Move, Numbered, Past, SameSockets, ToSend, accepting_now, joined, made_so, one_stream, put, put_udp, udp_begun, with_records, without_record}
 use Rattle.std.specs.Prelude.{IsSome, is_some}
 use Rattle.wasi_records.specs.Records.{open_of, tcp2_of}
 use Rattle.wasi_walks.proofs.owners.Names.{Names, as_none, names_none, names_open, names_push, names_same, names_set, names_tcp}
@@ -73,6 +73,12 @@ owner_is : (kind : Kind) (place : ℕ) → tcp_socket_of kind ≡ Some place →
 owner_is (Tcp2 p) place e = e
 owner_is (Tcp3 p) place e = e
 owner_is _ place e = absurd (cc)
+
+-- and so does a UDP socket
+pub udp_owner : (kind : Kind) (place : ℕ) → udp_socket_of kind ≡ Some place → owner_of kind ≡ Some place
+udp_owner (Udp2 p) place e = e
+udp_owner (Udp3 p) place e = e
+udp_owner _ place e = absurd (cc)
 
 -- a TCP socket that is dropped
 put_gone : (h : Here) (place : ℕ) (now : Record) → IsDropped h.made place → Owns h
@@ -299,7 +305,7 @@ module _ (contexts : List WasiSocketsCtx) (line : ℕ) (origin : Step) where
   moves_owns _ _ (walk.CancelsUdpConnect h place o q g) i = put_open h place o g _ i
   moves_owns _ _ (walk.Finds h records same) i = same_owns h records same i
   moves_owns _ _ (walk.Numbers h) i = (i.0, (omega arith, λ same. none_at_end h.machine.table h.machine.store.records i.0))
-  moves_owns _ _ (walk.AwaitsCreate h place create g) i = (i.0, none_open h place (UdpRecord.Creating create) g refl i)
+  moves_owns _ _ (walk.AwaitsCreate h place face create is g) i = (i.0, none_open h place (UdpRecord.Creating create) g refl i)
   moves_owns _ _ (walk.Empties h handle kind e none) i = (taken_owned h.machine.table h.machine.store.records handle none i.0, emptied_made h.machine.table h.machine.store.records handle none kind e i.0)
   moves_owns _ _ (walk.Takes h handle none) i = (taken_owned h.machine.table h.machine.store.records handle none i.0, taken_made h.machine.table h.machine.store.records handle none h.made i.1)
   moves_owns _ _ (walk.GivesBack h place idle left) i = given_back_owns h place left i
@@ -328,8 +334,14 @@ module _ (contexts : List WasiSocketsCtx) (line : ℕ) (origin : Step) where
   -- a socket that is created, and what an accept took, are the first of their records
   first_fits : (face : Interface) (t : HandleTable) (records : List Record) (place : ℕ) → NoneOf t place → IsSome (tcp2_at records place)
       → IsNew t records (tcp_kind face place) None
-  first_fits OfP2 t records place none stays = owner_fits t records (Tcp2 place) place None refl (λ w e. absurd (cc)) none stays
-  first_fits OfP3 t records place none stays = owner_fits t records (Tcp3 place) place None refl (λ w e. absurd (cc)) none stays
+  first_fits P2 t records place none stays = owner_fits t records (Tcp2 place) place None refl (λ w e. absurd (cc)) none stays
+  first_fits P3 t records place none stays = owner_fits t records (Tcp3 place) place None refl (λ w e. absurd (cc)) none stays
+
+  -- and so is a UDP socket
+  created_fits : (face : Interface) (t : HandleTable) (records : List Record) (place : ℕ) → NoneOf t place → IsSome (open_of (udp2_of (slice_get records place)))
+      → IsNew t records (udp_kind face place) None
+  created_fits P2 t records place none stays = owner_fits t records (Udp2 place) place None refl (λ w e. absurd (cc)) none stays
+  created_fits P3 t records place none stays = owner_fits t records (Udp3 place) place None refl (λ w e. absurd (cc)) none stays
 
   marks_owns : (h : Here) (kind : Kind) (parent : Option ℕ) (sock : Option OpId) → Marks origin h kind parent sock → Owns h → IsMadeSo h kind parent h.made
   marks_owns h _ parent sock (walk.ANetwork c e) i = made_other h Network None tt i
@@ -367,11 +379,15 @@ module _ (contexts : List WasiSocketsCtx) (line : ℕ) (origin : Step) where
       let k : MadeSo h.machine.table h.machine.store.records (Joined place) =
       subst (MadeSo h.machine.table h.machine.store.records) e i.1 in
       record {
-        new = first_fits OfP2 h.machine.table h.machine.store.records place k.0 (ap is_some g);
+        new = first_fits P2 h.machine.table h.machine.store.records place k.0 (ap is_some g);
         so = (λ a l e. elim (one_of h.machine.table (Tcp2 place) (Some s) a l) [ inl old ↦ absurd (k.0 a old (inl e)) | inr n ↦ ap (λ (x : Live Kind). x.handle) (sym n) ], k.1);
       }
-  handles_owns h _ _ _ (OfCreated place u g) i = record {
-    new = owner_fits h.machine.table h.machine.store.records (Udp2 place) place None refl (λ w e. absurd (cc)) (subst (MadeSo h.machine.table h.machine.store.records) g.awaited i.1) (created_stays (slice_get h.machine.store.records place) u g.found g.opens);
+  handles_owns h _ _ _ (OfCreated P2 place u g) i = record {
+    new = created_fits P2 h.machine.table h.machine.store.records place (subst (MadeSo h.machine.table h.machine.store.records) g.awaited i.1) (created_stays (slice_get h.machine.store.records place) u g.found g.opens);
+    so = tt;
+  }
+  handles_owns h _ _ _ (OfCreated P3 place u g) i = record {
+    new = created_fits P3 h.machine.table h.machine.store.records place (subst (MadeSo h.machine.table h.machine.store.records) g.awaited i.1) (created_stays (slice_get h.machine.store.records place) u g.found g.opens);
     so = tt;
   }
   handles_owns h _ _ _ (OfStream place n handle reached kind next new of) i =
@@ -391,8 +407,8 @@ module _ (contexts : List WasiSocketsCtx) (line : ℕ) (origin : Step) where
   -- a TCP socket's handle, of either interface
   first_owned : (face : Interface) (t : HandleTable) (records : List Record) (place : ℕ) → NoneOf t place → IsSome (tcp2_at records place)
       → Owned t records → Owned (with_handle t (tcp_kind face place) None) records
-  first_owned OfP2 t records place none stays i = made_owned t records (Tcp2 place) None (first_fits OfP2 t records place none stays) i
-  first_owned OfP3 t records place none stays i = made_owned t records (Tcp3 place) None (first_fits OfP3 t records place none stays) i
+  first_owned P2 t records place none stays i = made_owned t records (Tcp2 place) None (first_fits P2 t records place none stays) i
+  first_owned P3 t records place none stays i = made_owned t records (Tcp3 place) None (first_fits P3 t records place none stays) i
 
   pub becomes_owns : (h now : Here) → Becomes contexts line origin h now → Owns h → Owns now
   becomes_owns h _ (Learnt place r side told at g e) i = put_owns h place r g _ (λ s. s) i
@@ -401,11 +417,11 @@ module _ (contexts : List WasiSocketsCtx) (line : ℕ) (origin : Step) where
   becomes_owns h _ (UdpLearnt place o socket g e) i = put_open h place o g _ i
   becomes_owns h _ (UdpIsClosed place o q g) i =
       put_none h place (UdpRecord.Open o) g (UdpRecord.Closed o.inner.side)
-      ((subst (MadeSo h.machine.table h.machine.store.records) q.1 i.1) place refl) i
+      ((subst (MadeSo h.machine.table h.machine.store.records) q.1.made i.1) place (udp_owner q.1.kind place q.1.socket)) i
   becomes_owns h _ (UdpGivenUp place create q g) i =
       put_none h place (UdpRecord.Creating create) g (UdpRecord.Closed create.operation.who.side)
       (none_open h place (UdpRecord.Creating create) g refl i) i
-  becomes_owns h _ (UdpBegun ctx family r c u m) i = begun_owns h (udp_after_create (own_of line) ctx.name family r) i
+  becomes_owns h _ (UdpBegun face ctx family r c u m) i = begun_owns h (udp_after_create (own_of line) ctx.name family r) i
   becomes_owns h _ (Resolved host records l same) i = same_owns h records same i
   becomes_owns h _ (HasHandle kind parent made k) i =
       let x = handles_owns h kind parent made k i in

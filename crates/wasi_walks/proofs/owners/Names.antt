@@ -2,7 +2,7 @@
 use Rattle.std.proofs.Common.{◌≡◌, inl, inr, ℕ, List, [], ◌∷◌, ◌++◌, Option, Some, None, refl, subst, sym, slice_get, slice_set}
 use Rattle.std.specs.Prelude.{IsSome, ⊤}
 use Rattle.wasi_host.specs.declared.kind.Kind.{Kind}
-use Rattle.wasi_host.specs.declared.kind.Kind.TheVariants.{Tcp2, Tcp3, Udp2, Input, Output, Incoming, Outgoing, Lookup, PlainInput, PlainOutput}
+use Rattle.wasi_host.specs.declared.kind.Kind.TheVariants.{Tcp2, Tcp3, Udp2, Udp3, Input, Output, Incoming, Outgoing, Lookup, PlainInput, PlainOutput}
 use Rattle.wasi_host.specs.declared.kind.PlainInput.TheVariants as plain_input
 use Rattle.wasi_host.specs.declared.kind.PlainOutput.TheVariants as plain_output
 use Rattle.wasi_records.specs.Records.{tcp2_of, udp2_of, open_of, lookup_of, input_pipe_of, output_pipe_of}
@@ -23,6 +23,7 @@ Names (Tcp3 place) o = IsSome (tcp2_of o)
 Names (Input place) o = IsSome (streams_in (tcp2_of o))
 Names (Output place) o = IsSome (streams_in (tcp2_of o))
 Names (Udp2 place) o = IsSome (open_of (udp2_of o))
+Names (Udp3 place) o = IsSome (open_of (udp2_of o))
 Names (Incoming place) o = IsSome (open_of (udp2_of o))
 Names (Outgoing place) o = IsSome (open_of (udp2_of o))
 Names (Lookup place) o = IsSome (lookup_of o)
@@ -47,6 +48,7 @@ tcp_names _ r now keeps s = s
 open_names : (kind : Kind) (o now : OpenUdp) → Names kind (Some (Record.Udp (UdpRecord.Open o)))
     → Names kind (Some (Record.Udp (UdpRecord.Open now)))
 open_names (Udp2 place) o now s = refl
+open_names (Udp3 place) o now s = refl
 open_names (Incoming place) o now s = refl
 open_names (Outgoing place) o now s = refl
 open_names (PlainInput (plain_input.Pipe place)) o now s = s
@@ -86,6 +88,7 @@ names_none (Tcp3 p) place e s = absurd (cc)
 names_none (Input p) place e s = absurd (cc)
 names_none (Output p) place e s = absurd (cc)
 names_none (Udp2 p) place e s = absurd (cc)
+names_none (Udp3 p) place e s = absurd (cc)
 names_none (Incoming p) place e s = absurd (cc)
 names_none (Outgoing p) place e s = absurd (cc)
 names_none (Lookup p) place e s = absurd (cc)
@@ -112,6 +115,7 @@ names_same old now k (Tcp3 p) same s = subst IsSome (sym (same.tcp k)) s
 names_same old now k (Input p) same s = subst (λ (o : Option TcpRecord). IsSome (streams_in o)) (sym (same.tcp k)) s
 names_same old now k (Output p) same s = subst (λ (o : Option TcpRecord). IsSome (streams_in o)) (sym (same.tcp k)) s
 names_same old now k (Udp2 p) same s = subst (λ (o : Option UdpRecord). IsSome (open_of o)) (sym (same.udp k)) s
+names_same old now k (Udp3 p) same s = subst (λ (o : Option UdpRecord). IsSome (open_of o)) (sym (same.udp k)) s
 names_same old now k (Incoming p) same s = subst (λ (o : Option UdpRecord). IsSome (open_of o)) (sym (same.udp k)) s
 names_same old now k (Outgoing p) same s = subst (λ (o : Option UdpRecord). IsSome (open_of o)) (sym (same.udp k)) s
 names_same old now k (Lookup p) same s = same.stays k s
@@ -126,6 +130,7 @@ names_same old now k _ same s = tt
 pub as_none : (kind : Kind) (u : UdpRecord) → open_of (Some u) ≡ None → Names kind (Some (Record.Udp u))
     → Names kind None
 as_none (Udp2 p) u e n = subst IsSome e n
+as_none (Udp3 p) u e n = subst IsSome e n
 as_none (Incoming p) u e n = subst IsSome e n
 as_none (Outgoing p) u e n = subst IsSome e n
 as_none (PlainInput (plain_input.Pipe p)) u e n = n

@@ -3,7 +3,7 @@ use Rattle.wasi_walks.proofs.Words.{HandleTable, Input, Kind, List, None, Option
 use Rattle.wasi_table.specs.Table.{Live}
 use Rattle.wasi_host.specs.Kinds.{has_no_child}
 use Rattle.wasi_host.specs.Machine.{first_state}
-use Rattle.wasi_host.specs.declared.kind.Kind.TheVariants.{Incoming, Lookup, Outgoing, PlainInput, PlainOutput, Tcp3, Udp2}
+use Rattle.wasi_host.specs.declared.kind.Kind.TheVariants.{Incoming, Lookup, Outgoing, PlainInput, PlainOutput, Tcp3, Udp2, Udp3}
 use Rattle.wasi_host.specs.declared.kind.PlainInput.TheVariants as plain_input
 use Rattle.wasi_host.specs.declared.kind.PlainOutput.TheVariants as plain_output
 use Rattle.wasi_records.specs.declared.records.Record.{Record}
@@ -46,7 +46,7 @@ abbrev pub MadeSo : HandleTable → List Record → Made → Type 0
 MadeSo t records (Joined place) = NoneOf t place × HasStreams records place
 MadeSo t records (Marked handle place) = OneOwner t handle place × HasStreams records place
 MadeSo t records (Emptied kind) = (place : ℕ) → owner_of kind ≡ Some place → NoneOf t place
-MadeSo t records (Awaited place) = NoneOf t place
+MadeSo t records (Awaited face side place) = NoneOf t place
 MadeSo t records (Numbered place next) = (next ≤ t.next) × (t.next ≡ next → NoneOf t place)
 MadeSo t records _ = ⊤
 
@@ -57,7 +57,7 @@ pub made_stays : (t : HandleTable) (old now : List Record)
 made_stays t old now s (Joined place) k = (k.0, s place k.1)
 made_stays t old now s (Marked handle place) k = (k.0, s place k.1)
 made_stays t old now s (Emptied kind) k = k
-made_stays t old now s (Awaited place) k = k
+made_stays t old now s (Awaited face side place) k = k
 made_stays t old now s (Numbered place next) k = k
 made_stays t old now s _ k = tt
 
@@ -151,7 +151,7 @@ module _ (t : HandleTable) (records : List Record) (kind : Kind) (parent : Optio
   other_still (Joined place) other k = (none_still place (other place) k.0, k.1)
   other_still (Marked handle place) other k = (one_still handle place (λ e. other place (inl e)) k.0, k.1)
   other_still (Emptied gone) other k = λ place e. none_still place (other place) (k place e)
-  other_still (Awaited place) other k = none_still place (other place) k
+  other_still (Awaited face side place) other k = none_still place (other place) k
   other_still (Numbered place next) other k = numbered_still place next k
   other_still _ other k = tt
 
@@ -172,7 +172,7 @@ module _ (t : HandleTable) (records : List Record) (handle : ℕ) (none : has_no
   taken_made (Joined place) k = (λ a l e. k.0 a (has_without t.live handle a l) e, k.1)
   taken_made (Marked n place) k = (λ a l e. k.0 a (has_without t.live handle a l) e, k.1)
   taken_made (Emptied kind) k = λ place its a l e. k place its a (has_without t.live handle a l) e
-  taken_made (Awaited place) k = λ a l e. k a (has_without t.live handle a l) e
+  taken_made (Awaited face side place) k = λ a l e. k a (has_without t.live handle a l) e
   taken_made (Numbered place next) k = (k.0, λ same a l e. k.1 same a (has_without t.live handle a l) e)
   taken_made _ k = tt
 
@@ -219,6 +219,7 @@ abbrev pub named_by : Kind → Option ℕ
 named_by (Tcp2 place) = Some place
 named_by (Tcp3 place) = Some place
 named_by (Udp2 place) = Some place
+named_by (Udp3 place) = Some place
 named_by (Lookup place) = Some place
 named_by (PlainInput (plain_input.Pipe place)) = Some place
 named_by (PlainOutput (plain_output.Pipe place)) = Some place
@@ -233,6 +234,7 @@ pub watched_is_of : (kind : Kind) (w : Watched) (place : ℕ) → watched_by (So
 watched_is_of (Tcp2 n) w place e f = let p : Watched.Socket n ≡ w = cc in inl (ap watched_place p ∙ f)
 watched_is_of (Tcp3 n) w place e f = absurd (cc)
 watched_is_of (Udp2 n) w place e f = let p : Watched.Udp n ≡ w = cc in inl (ap watched_place p ∙ f)
+watched_is_of (Udp3 n) w place e f = absurd (cc)
 watched_is_of (Lookup n) w place e f = let p : Watched.Lookup n ≡ w = cc in inl (ap watched_place p ∙ f)
 watched_is_of (Input n) w place e f = let p : Watched.Input n ≡ w = cc in inr (ap watched_place p ∙ f)
 watched_is_of (Output n) w place e f = let p : Watched.Output n ≡ w = cc in inr (ap watched_place p ∙ f)
@@ -252,6 +254,7 @@ module _ (t : HandleTable) (records : List Record) (i : Owned t records) where
       by_kind (Tcp2 p) s n = (s.slot, (s.live_one, inl (ap owner_of s.value ∙ n)))
       by_kind (Tcp3 p) s n = (s.slot, (s.live_one, inl (ap owner_of s.value ∙ n)))
       by_kind (Udp2 p) s n = (s.slot, (s.live_one, inl (ap owner_of s.value ∙ n)))
+      by_kind (Udp3 p) s n = (s.slot, (s.live_one, inl (ap owner_of s.value ∙ n)))
       by_kind (Lookup p) s n = (s.slot, (s.live_one, inl (ap owner_of s.value ∙ n)))
       by_kind (PlainInput (plain_input.Pipe p)) s n = (s.slot, (s.live_one, inl (ap owner_of s.value ∙ n)))
       by_kind (PlainOutput (plain_output.Pipe p)) s n = (s.slot, (s.live_one, inl (ap owner_of s.value ∙ n)))
@@ -292,6 +295,7 @@ tcp_names _ place e = absurd (cc)
 
 pub udp_names : (kind : Kind) (place : ℕ) → udp_record_of (Some kind) ≡ Some place → named_by kind ≡ Some place
 udp_names (Udp2 n) place e = e
+udp_names (Udp3 n) place e = e
 udp_names (Incoming n) place e = e
 udp_names (Outgoing n) place e = e
 udp_names (Pollable w) place e = by_watched w e

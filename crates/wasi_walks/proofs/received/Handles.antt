@@ -122,14 +122,14 @@ moves_under _ _ (walk.Numbers h) i = record { older = i.older; makes = tt; stand
 moves_under _ _ (walk.Watches h own) i = record { older = i.older; makes = tt; stands = i.stands }
 moves_under _ _ (walk.CallsHandles h kind calls quiet) i = record { older = i.older; makes = tt; stands = i.stands }
 moves_under _ _ (walk.RecallsCall h ids call e) i = record { older = i.older; makes = tt; stands = i.stands }
-moves_under _ _ (walk.AwaitsCreate h place create g) i = record { older = i.older; makes = tt; stands = i.stands }
+moves_under _ _ (walk.AwaitsCreate h place face create is g) i = record { older = i.older; makes = tt; stands = i.stands }
 moves_under _ _ (walk.Joins h c handle place r l new peer is of u g e a) i = record { older = i.older; makes = tt; stands = i.stands }
 moves_under _ _ (walk.RemembersStreams h c handle place remote is of o g none) i = record { older = i.older; makes = reached_under h.machine.table handle place i.older of; stands = i.stands }
 moves_under _ _ (walk.RecallsStreams h ids place handle e own) i = record { older = i.older; makes = subst (StandsUnder h.machine.table) e i.stands; stands = i.stands }
 moves_under _ _ (walk.Stands h ids call r quiet at g k) i = stands_so _ _ _ (Some (standing_as ids call)) (goes_under h.machine.table call r k) i
 moves_under _ _ (walk.Unstands h over) i = stands_so _ _ _ None tt i
 moves_under _ _ (walk.StandsUdpBind h ids place o op quiet at g e) i = stands_so _ _ _ (Some (standing_as ids (StandingCall.UdpBind place))) tt i
-moves_under _ _ (walk.StandsUdpCreate h ids place create quiet g) i = stands_so _ _ _ (Some (standing_as ids (StandingCall.UdpCreate place))) tt i
+moves_under _ _ (walk.StandsUdpCreate h ids place face create quiet m g) i = stands_so _ _ _ (Some (standing_as ids (StandingCall.UdpCreate place face))) tt i
 moves_under _ _ (walk.StandsDropOutgoing h ids place o quiet at g e) i = stands_so _ _ _ (Some (standing_as ids (StandingCall.DropOutgoing place))) tt i
 moves_under _ _ (walk.StandsBlocking h ids call handles made its) i = stands_so _ _ _ (Some (standing_as ids (StandingCall.Blocking call))) tt i
 moves_under _ _ (walk.StandsUdpConnect h ids place handle o op quiet at made g e) i = stands_so _ _ _ (Some (standing_as ids (StandingCall.UdpConnect place handle))) (subst (MakesUnder h.machine.table) made i.makes) i

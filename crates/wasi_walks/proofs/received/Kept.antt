@@ -145,7 +145,7 @@ module _ (contexts : List WasiSocketsCtx) (line : ℕ) (origin : Step) where
   becomes_wanted h _ (UdpIsClosed place o q g) i = put_udps _ place (UdpRecord.Closed o.inner.side) tt i
   becomes_wanted h _ (UdpGivenUp place create q g) i =
       put_udps _ place (UdpRecord.Closed create.operation.who.side) tt i
-  becomes_wanted h _ (UdpBegun ctx family r c u m) i =
+  becomes_wanted h _ (UdpBegun face ctx family r c u m) i =
       begun_wanted h (udp_after_create (own_of line) ctx.name family r) i
   becomes_wanted h _ (Resolved host records l same) i = same_wanted h.machine.store.records records same i
   becomes_wanted h _ (Created face ctx family c u m) i = push_tcp h.machine.store.records _ i

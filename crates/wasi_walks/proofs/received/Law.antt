@@ -1,5 +1,5 @@
 -- The law that what the incoming stream of a network socket holds was received from a place of the log on.
-use Rattle.wasi_walks.proofs.walks.Asked.{Asked, Questions, SetsBacklog, Learns, Closes, MarksOne, AsksCreate, MarksAccepted, Polls, Turns, GivesUp, UdpQuestions, UdpLearns, UdpPeers, UdpCloses, UdpBegins, MarksUdp, MarksStream, MarksError, UdpGivesUp, Resolves, Looks}
+use Rattle.wasi_walks.proofs.walks.Asked.{Asked, Questions, SetsBacklog, Learns, Closes, MarksOne, AsksCreate, MarksAccepted, Polls, Turns, GivesUp, UdpQuestions, UdpDisconnects, UdpLearns, UdpPeers, UdpCloses, UdpBegins, MarksUdp, MarksStream, MarksError, UdpGivesUp, Resolves, Looks}
 use Rattle.wasi_walks.proofs.Words.{made_to, create_to, Stop, refl, Option, HoldsAccept, HoldsConnect, IsAcceptOn, Job, HandleTable, Kind, Streams, WriteState, allows_keep, arith, inl, inr, ⊤, ◌⊎◌, ◌≤◌, Allows, Asks, Call, Done, End, Entry, Err, ErrorCode, ErrorValue, IsDoneOrCode, Item, List, Machine}
 use Rattle.wasi_walks.proofs.Words.{None, Not, Ok, OpId, Operation, Refused, Result, Socket, SocketAddressFamily, Some, Step, Tcp2, TcpRecord, Told, Waits}
 use Rattle.wasi_walks.proofs.Words.{WasiSocketsCtx, [], allows_then, allows_weaker, ap, bind_progress, connect_ended, accept_ended, create_asks, created_asks, entry, give_up_asks, length, make_asks}
@@ -11,7 +11,7 @@ use Rattle.wasi_udp.specs.Receive.{receive_first, receive_left as left_of_receiv
 use Rattle.wasi_udp.specs.Send.{at_remote}
 use Rattle.wasi_records.specs.Datagrams.{udp_connect_left, with_sending}
 use Rattle.wasi_records.specs.Receiving.{receive_left, with_receiving}
-use Rattle.wasi_host.specs.declared.kind.Kind.TheVariants.{Udp2}
+use Rattle.wasi_host.specs.Kinds.{udp_kind}
 use Rattle.wasi_records.specs.Records.{tcp2_put, udp2_put}
 use Rattle.wasi_records.specs.Udp.{udp_side, udp_bind_progress, udp_create_left, with_udp_progress}
 use Rattle.wasi_records.specs.declared.datagrams.Incoming.{Incoming}
@@ -214,10 +214,11 @@ module _ (side : OpId) (from : ℕ) where
     lates_asks es h _ _ _ (GivesUp place r q g) b i = allows_weaker Anything (λ fs done. It fs h.machine.store.records) (λ fs done. It fs (tcp2_put h.machine.store.records place (with_listening r Not))) (λ fs done k. put_tcp side from fs _ place _ k) es (give_up_asks r.listening) (along _ es (give_up_asks r.listening) i (given_up_silent side (IsHeld side h.machine.store.records) NoName es r.listening))
     lates_asks es h _ _ _ (UdpQuestions place n o c at g q) b i = (tt, λ told f. one_late side from es (own_of n) c told _ (λ y. udp_question_quiet line origin n o.inner.side c q) i)
     lates_asks es h _ _ _ (UdpLearns place part o at g) b i = (tt, λ told f. (let k = one_late side from es (part_of line part) (Call.Local o.inner.side) told _ (λ y. tt) i in put_udps side from _ _ place (UdpRecord.Open _) (λ q. k.udps place (UdpRecord.Open o) g (sym (learnt_side o.inner (told_addr told)) ∙ q)) k))
+    lates_asks es h _ _ _ (UdpDisconnects place o at g is) b i = (tt, λ told f. (let k = one_late side from es (own_of line) (Call.UdpDisconnect o.inner.side) told _ (λ y. tt) i in put_udps side from _ _ place (UdpRecord.Open _) (k.udps place (UdpRecord.Open o) g) k))
     lates_asks es h _ _ _ (UdpPeers place o at g) b i = (tt, λ told f. (let k = one_late side from es (own_of line) (Call.Peer o.inner.side) told _ (λ y. tt) i in put_udps side from _ _ place (UdpRecord.Open _) (k.udps place (UdpRecord.Open o) g) k))
     lates_asks es h _ _ _ (UdpCloses place o q g) b i = (tt, λ told f. put_udps side from _ _ place (UdpRecord.Closed o.inner.side) tt (one_late side from es (own_of line) (Call.Close o.inner.side) told _ (λ y. tt) i))
-    lates_asks es h _ _ _ (UdpBegins ctx family c may a o m) b i = (tt, λ told f. begun_late es h (own_of line) ctx.name family told f i)
-    lates_asks es h _ _ _ (MarksUdp place u g) b i = marks_late _ es h.machine.table (udp_side u) (Udp2 place) None (Some (udp_side u)) i
+    lates_asks es h _ _ _ (UdpBegins face ctx family c may a o m) b i = (tt, λ told f. begun_late es h (own_of line) ctx.name family told f i)
+    lates_asks es h _ _ _ (MarksUdp face place u g) b i = marks_late _ es h.machine.table (udp_side u) (udp_kind face place) None (Some (udp_side u)) i
     lates_asks es h _ _ _ (MarksStream place n handle reached kind m new e) b i = marks_late _ es h.machine.table (own_of n) kind (Some handle) _ i
     lates_asks es h _ _ _ (MarksError n handle place handles m k e f) b i = marks_late _ es h.machine.table (own_of n) ErrorValue (Some handle) _ i
     lates_asks es h _ _ _ (UdpGivesUp place create q g) b i = allows_weaker Anything (λ fs done. It fs h.machine.store.records) (λ fs done. It fs (udp2_put h.machine.store.records place (UdpRecord.Closed create.operation.who.side))) (λ fs done k. put_udps side from fs _ place (UdpRecord.Closed create.operation.who.side) tt k) es (create_cancel_asks create) (along _ es (create_cancel_asks create) i (cancelled_silent side (IsHeld side h.machine.store.records) NoName es create))

@@ -1,14 +1,14 @@
 -- The law that what the incoming streams of a network socket hold was received after the marks of their handles.
-use Rattle.wasi_walks.proofs.walks.Asked.{Asked, Questions, SetsBacklog, Learns, Closes, MarksOne, AsksCreate, MarksAccepted, Polls, Turns, GivesUp, UdpQuestions, UdpLearns, UdpPeers, UdpCloses, UdpBegins, MarksUdp, MarksStream, MarksError, UdpGivesUp, Resolves, Looks}
+use Rattle.wasi_walks.proofs.walks.Asked.{Asked, Questions, SetsBacklog, Learns, Closes, MarksOne, AsksCreate, MarksAccepted, Polls, Turns, GivesUp, UdpQuestions, UdpDisconnects, UdpLearns, UdpPeers, UdpCloses, UdpBegins, MarksUdp, MarksStream, MarksError, UdpGivesUp, Resolves, Looks}
 use Rattle.wasi_walks.proofs.Words.{made_to, Allows, Asks, Call, Entry, Err, ErrorCode, ErrorValue, Full, HandleTable, Kind, List, None, Not, Ok, OpId, Option, Result, Socket, Some, Step, Stop, Tcp2, Told, Trap, WasiSocketsCtx, []}
 use Rattle.wasi_walks.proofs.Words.{allows_if, allows_keep, allows_then, allows_weaker, ap, arith, bind, created_asks, entry, give_up_asks, inl, inr, is_full, kind_at, length, length-append, make_asks, name_of, new_asks, new_record, own_of, poll_asks}
 use Rattle.wasi_walks.proofs.Words.{refl, side_of, subst, sym, told_done, turn_asks, with_handle, with_listening, with_writer, ℕ, ◌++◌, ◌∷◌, ◌≡◌, ◌⊎◌}
 use Rattle.wasi_udp.specs.Create.{create_cancel_asks, after_create as udp_after_create}
-use Rattle.wasi_host.specs.Kinds.{udp_of}
+use Rattle.wasi_host.specs.Kinds.{udp_kind, udp_of}
 use Rattle.wasi_records.specs.Records.{tcp2_pushed, udp2_at}
 use Rattle.wasi_records.specs.Udp.{udp_side}
 use Rattle.wasi_host.specs.UdpCreates.{udp_side_at}
-use Rattle.wasi_host.specs.declared.kind.Kind.TheVariants.{Incoming, Udp2}
+use Rattle.wasi_host.specs.declared.kind.Kind.TheVariants.{Incoming}
 use Rattle.wasi_records.specs.declared.records.Record.{Record}
 use Rattle.wasi_records.specs.declared.udp.OpenUdp.{OpenUdp}
 use Rattle.wasi_records.specs.declared.udp.UdpRecord.{UdpRecord}
@@ -24,7 +24,7 @@ use Rattle.wasi_walks.proofs.received.Polls.{NoName}
 use Rattle.wasi_walks.proofs.received.Silent.{new_silent}
 use Rattle.wasi_walks.proofs.received.State.{IsHeld, Late, OneEach, one_late, put_later, push_tcp, put_tcp, same_or_not}
 use Rattle.wasi_walks.proofs.walks.Law.{BeginsWrites, Law, Rests, Walks, begins_by}
-use Rattle.wasi_walks.proofs.walks.Moves.{Interface, OfP2, OfP3, tcp_kind, HasNewStream, Here, Made, MarksNext, Past, ToSend, Used, made_so, put, put_udp, udp_begun}
+use Rattle.wasi_walks.proofs.walks.Moves.{Interface, P2, P3, tcp_kind, HasNewStream, Here, Made, MarksNext, Past, ToSend, Used, made_so, put, put_udp, udp_begun}
 use Rattle.wasi_walks.proofs.Places.{put_again, udp_sort}
 
 module _ (side : OpId) (from : ℕ) where
@@ -123,8 +123,13 @@ module _ (side : OpId) (from : ℕ) where
 
   -- the handle of a TCP socket is no incoming stream's
   other_kind : (face : Interface) (place : ℕ) → NotIncoming side (tcp_kind face place)
-  other_kind OfP2 place = tt
-  other_kind OfP3 place = tt
+  other_kind P2 place = tt
+  other_kind P3 place = tt
+
+  -- nor is that of a UDP socket
+  udp_other : (face : Interface) (place : ℕ) → NotIncoming side (udp_kind face place)
+  udp_other P2 place = tt
+  udp_other P3 place = tt
 
   -- == a create
   joins : {T : Type 0} (tells : Result ℕ Stop → T) (fails : ErrorCode → T) (face : Interface) (es : List Entry) (h : Here) (own : OpId) (made : Result Socket ErrorCode) → h.made ≡ Past → Inv es h → Allows Anything (λ fs done. Inv fs (record h { machine = done.1; own = Used })) es (made_to tells fails (tcp_kind face) h.machine own made)
@@ -155,16 +160,17 @@ module _ (side : OpId) (from : ℕ) where
     sinces_asks es h _ _ _ (GivesUp place r q g) b i = kept h (λ done. put h place (with_listening r Not)) es (give_up_asks r.listening) i (λ done. i.1) (λ fs done k. k) ((lates side i.0.start contexts line origin).asks es h _ _ _ (GivesUp place r q g) b i.0.late)
     sinces_asks es h _ _ _ (UdpQuestions place n o c at g q) b i = (tt, λ told f. (longer es _ _ _ _ i.0 (((lates side i.0.start contexts line origin).asks es h _ _ _ (UdpQuestions place n o c at g q) b i.0.late).1 told f), i.1))
     sinces_asks es h _ _ _ (UdpLearns place part o at g) b i = (tt, λ told f. (longer es _ _ _ _ i.0 (((lates side i.0.start contexts line origin).asks es h _ _ _ (UdpLearns place part o at g) b i.0.late).1 told f), i.1))
+    sinces_asks es h _ _ _ (UdpDisconnects place o at g is) b i = (tt, λ told f. (longer es _ _ _ _ i.0 (((lates side i.0.start contexts line origin).asks es h _ _ _ (UdpDisconnects place o at g is) b i.0.late).1 told f), i.1))
     sinces_asks es h _ _ _ (UdpPeers place o at g) b i = (tt, λ told f. (longer es _ _ _ _ i.0 (((lates side i.0.start contexts line origin).asks es h _ _ _ (UdpPeers place o at g) b i.0.late).1 told f), i.1))
     sinces_asks es h _ _ _ (UdpCloses place o q g) b i = (tt, λ told f. (longer es _ _ _ _ i.0 (((lates side i.0.start contexts line origin).asks es h _ _ _ (UdpCloses place o q g) b i.0.late).1 told f), i.1))
-    sinces_asks es h _ _ _ (UdpBegins ctx family c may a o m) b i = (
+    sinces_asks es h _ _ _ (UdpBegins face ctx family c may a o m) b i = (
       tt,
       λ told f.
           let begun = udp_after_create (own_of line) ctx.name family (told_done told) in
-          let s = longer es _ _ _ _ i.0 (((lates side i.0.start contexts line origin).asks es h _ _ _ (UdpBegins ctx family c may a o m) b i.0.late).1 told f) in
+          let s = longer es _ _ _ _ i.0 (((lates side i.0.start contexts line origin).asks es h _ _ _ (UdpBegins face ctx family c may a o m) b i.0.late).1 told f) in
           (begun_same (λ t made standing. Since side from (es ++ entry (own_of line) (Call.UdpCreate ctx.name family) told ∷ []) (udp_begun h begun).machine.store.records t) h begun s, begun_same (λ t made standing. AreUnder t made standing) h begun i.1),
     )
-    sinces_asks es h _ _ _ (MarksUdp place u g) b i = marks_so es h (udp_side u) (Udp2 place) None (Some (udp_side u)) (λ made. Past) tt tt tt i
+    sinces_asks es h _ _ _ (MarksUdp face place u g) b i = marks_so es h (udp_side u) (udp_kind face place) None (Some (udp_side u)) (λ made. Past) (udp_other face place) tt tt i
     sinces_asks es h _ _ _ (MarksStream place n handle reached kind m new e) b i = streams_so es h place n handle reached kind m new e (λ x y p q a c z. b.0.1.udps.one q.inner.side x y (UdpRecord.Open p) (UdpRecord.Open q) a c z refl) i
     sinces_asks es h _ _ _ (MarksError n handle place handles m k e f) b i = marks_other es h (own_of n) ErrorValue (Some handle) _ tt i
     sinces_asks es h _ _ _ (UdpGivesUp place create q g) b i = kept h (λ done. put_udp h place (UdpRecord.Closed create.operation.who.side)) es (create_cancel_asks create) i (λ done. i.1) (λ fs done k. k) ((lates side i.0.start contexts line origin).asks es h _ _ _ (UdpGivesUp place create q g) b i.0.late)

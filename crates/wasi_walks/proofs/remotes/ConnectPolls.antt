@@ -12,7 +12,9 @@ use Rattle.wasi_walks.specs.Licence.{IsLastPeer, IsRemote}
 use Rattle.wasi_walks.proofs.Lists.{cut_more, has_split}
 use Rattle.wasi_walks.proofs.licence.Frames.{maker_more}
 use Rattle.wasi_walks.proofs.licence.State.{RemoteIs}
+use Rattle.wasi_walks.proofs.remotes.Along.{has_more, has_told}
 use Rattle.wasi_walks.proofs.remotes.Polls.{NoPeer}
+use Rattle.wasi_walks.specs.Remotes.{HasRemote}
 
 -- == the last report
 -- an entry that is no `peer` of the network socket leaves it
@@ -68,7 +70,8 @@ module _ (who : Who) (ctx : ℕ) (family : SocketAddressFamily) (socket : Socket
 
   -- the remote address is that of the socket, or what was given
   abbrev Known : List Entry → Given → Type 0
-  Known es given = IsMaker es ctx family who.side × RemoteIs es who.side (with_given socket given).remote
+  Known es given = IsMaker es ctx family who.side × (RemoteIs es who.side (with_given socket given).remote × HasRemote
+      es who.side family (with_given socket given).remote)
 
   -- before each ask
   abbrev Before : List Entry → Given → List Item → Type 0
@@ -94,7 +97,14 @@ module _ (who : Who) (ctx : ℕ) (family : SocketAddressFamily) (socket : Socket
 
   -- under one more entry, which asks for none
   known_more : (es : List Entry) (op : OpId) (c : Call) (t : Told) (given : Given) → NoPeer c → Known es given → Known (es ++ entry op c t ∷ []) given
-  known_more es op c t given n k = (maker_more es _ ctx family who.side k.0, remote_more es op c t who.side (with_given socket given).remote (no_peer c n who.side) k.1)
+  known_more es op c t given n k = (
+    maker_more es _ ctx family who.side k.0,
+    (
+      remote_more es op c t who.side (with_given socket given).remote (no_peer c n who.side) k.1.0,
+      has_more es op c t
+          who.side family (with_given socket given).remote (no_peer c n who.side) k.1.1,
+    ),
+  )
 
   -- the last ask
   last_known : (es : List Entry) (last : LastAsk) (c : ErrorCode) (given : Given) → Known es given → Allows AsksOwn After es (last_ask who last c given)
@@ -109,22 +119,36 @@ module _ (who : Who) (ctx : ℕ) (family : SocketAddressFamily) (socket : Socket
   by_verdict es i items Verdict.Pending k stays goes = (k, stays)
 
   -- the remote address was reported
-  by_peer : (es : List Entry) (r : Result (Unit {0}) ErrorCode) (remote : Option IpSocketAddress) → IsMaker es ctx family who.side → RemoteIs es who.side remote → Keeps [] es (peer_front r remote)
+  by_peer : (es : List Entry) (r : Result (Unit {0}) ErrorCode) (remote : Option IpSocketAddress) → IsMaker es ctx
+      family who.side → RemoteIs es who.side remote × HasRemote es who.side family remote → Keeps [] es
+      (peer_front r remote)
   by_peer es (Ok done) remote m k = ((m, k), Over _)
   by_peer es (Err c) remote m k = last_known es who.last c _ (m, k)
 
   -- it is asked for
-  peers : (es : List Entry) (r : Result (Unit {0}) ErrorCode) → IsMaker es ctx family who.side → Allows AsksOwn (λ fs f. Keeps [] fs f) es (ask_peer_front who family r)
+  peers : (es : List Entry) (r : Result (Unit {0}) ErrorCode) → Known es Nothing → Allows AsksOwn
+      (λ fs f. Keeps [] fs f) es (ask_peer_front who family r)
   unfolding bind
-  peers es r m = (λ side e. (let p : Call.Peer who.side ≡ Call.Peer side = e in cc), λ t fits. by_peer _ r _ (maker_more es _ ctx family who.side m) (told_kept es who.id ctx family who.side t m))
+  peers es r k = (
+    λ side e. (let p : Call.Peer who.side ≡ Call.Peer side = e in cc),
+    λ t fits. by_peer _ r _
+        (maker_more es _ ctx family who.side k.0) (
+          told_kept es who.id ctx family who.side t k.0,
+          has_told es who.id t who.side family
+              (with_given socket Nothing).remote k.1.1,
+        ),
+  )
 
   -- each front ask
   connect_front : (es : List Entry) (given : Given) (i : Item) (items : List Item) → Known es given → ConnectLeft family given (i ∷ items) → Allows AsksOwn (λ fs f. Keeps items fs f) es (front who i)
   unfolding bind
   connect_front es _ _ _ k (Whole a) = (own_if _ tt, λ t fits. by_verdict _ _ _ (told_verdict t) (known_more es _ _ t Nothing tt k) (Whole a) (SendChecked a))
   connect_front es _ _ _ k (SendChecked a) = (own_if _ tt, λ t fits. by_verdict _ _ _ (told_verdict t) (known_more es _ _ t Nothing tt k) (SendChecked a) (Checked a))
-  connect_front es _ _ _ k (Checked a) = (own_if _ tt, λ t fits. peers _ (told_done t) (known_more es _ _ t Nothing tt k).0)
+  connect_front es _ _ _ k (Checked a) =
+      (own_if _ tt, λ t fits. peers _ (told_done t) (known_more es _ _ t Nothing tt k))
 
   -- a poll of it
-  pub connect_poll : (items : List Item) (es : List Entry) → IsMaker es ctx family who.side → RemoteIs es who.side socket.remote → ConnectLeft family Nothing items → Allows AsksOwn After es (poll_asks (record { who = who; left = items }))
+  pub connect_poll : (items : List Item) (es : List Entry) → IsMaker es ctx family who.side → RemoteIs es who.side
+      socket.remote × HasRemote es who.side family socket.remote → ConnectLeft family Nothing items → Allows AsksOwn
+      After es (poll_asks (record { who = who; left = items }))
   connect_poll items es m k left = allows_polls AsksOwn who Before After (λ fs given i rest h. connect_front fs given i rest h.0 h.1) (λ fs rest h. h) (λ fs given h. h.0) 64 items es ((m, k), left)

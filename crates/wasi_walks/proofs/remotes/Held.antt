@@ -20,7 +20,7 @@ use Rattle.wasi_walks.specs.Waiting as binding
 use Rattle.wasi_records.specs.Datagrams.{udp_connect_left, with_sending, with_streams}
 use Rattle.wasi_records.specs.Receiving.{receive_left, with_receiving}
 use Rattle.wasi_records.specs.Records.{tcp2_put, udp2_at, udp2_put}
-use Rattle.wasi_records.specs.Udp.{udp_bind_progress, udp_create_left, with_udp_inner, with_udp_progress}
+use Rattle.wasi_records.specs.Udp.{udp_bind_progress, udp_create_left, udp_side, with_udp_inner, with_udp_progress}
 use Rattle.wasi_records.specs.declared.datagrams.Incoming.{Incoming}
 use Rattle.wasi_records.specs.declared.datagrams.Receiving.{Receiving}
 use Rattle.wasi_records.specs.declared.records.Record.{Record}
@@ -37,7 +37,9 @@ use Rattle.wasi_walks.proofs.walks.Moves as walk
 use Rattle.wasi_walks.proofs.walks.Moves.{FoundUdp, Held, Here, accepting_now, listen_after, receive_op, receiving_in, send_op, sending_in}
 use Rattle.wasi_walks.proofs.remotes.Polls.{AreSilent, Unpeered, silent_poll}
 use Rattle.wasi_walks.proofs.remotes.ConnectPolls.{After, AsksOwn, connect_poll, none_kept, told_kept}
-use Rattle.wasi_walks.proofs.remotes.State.{ConnectsBy, Keeps, OpenKeeps, ReceivesFor, TcpKeeps, UdpKeeps, asked, kept, maker_of, put_tcp, put_udps, Spares}
+use Rattle.wasi_walks.proofs.remotes.Along.{has_told}
+use Rattle.wasi_walks.specs.Remotes.{HasRemote}
+use Rattle.wasi_walks.proofs.remotes.State.{ConnectsBy, IsCreated, Keeps, OpenKeeps, ReceivesFor, SparesUdp, TcpKeeps, UdpKeeps, asked, kept, maker_of, put_tcp, put_udps, Spares}
 use Rattle.wasi_walks.proofs.Places.{put_finds, put_found, put_twice, udp_sort}
 
 -- == items that ask for no remote address
@@ -124,7 +126,8 @@ listened_keeps r op (Refused c given, items) k = k
 -- the record that a create leaves
 created_keeps : (create : Create) (fs : List Entry) (ended : End × List Item) → UdpKeeps fs (UdpRecord.Creating create) → UdpKeeps fs (udp_create_left create ended)
 created_keeps create fs (Waits, items) k = k
-created_keeps create fs (Done given, items) k = record { created = k; remote = none_kept fs _ None refl; connects = tt; receiver = tt }
+created_keeps create fs (Done given, items) k = record
+    { created = k.0; remote = none_kept fs _ None refl; told = k.1; connects = tt; receiver = tt }
 created_keeps create fs (Refused c given, items) k = tt
 
 -- a change that leaves the socket, its connect and its incoming stream
@@ -132,6 +135,7 @@ same_open : (fs : List Entry) (o now : OpenUdp) → now.inner ≡ o.inner → no
 same_open fs o now p q r k = record {
   created = rw p k.created;
   remote = rw p k.remote;
+  told = rw p k.told;
   connects = rw (p, q) k.connects;
   receiver = rw (p, r) k.receiver;
 }
@@ -150,49 +154,79 @@ polled_receive es h place o inc op g e f its i =
     let k : OpenKeeps es o = i.udps place (UdpRecord.Open o) g in
     let for : ReceivesFor o.inner.maker (Some op) = subst (ReceivesFor o.inner.maker) (ap receiving_in e ∙ ap receive_op f) k.receiver in
     polled_udp es h place (UdpRecord.Open o) (wanting inc.remote op) (λ ended. UdpRecord.Open (record o { incoming = Some (with_receiving inc (receive_left op ended)) })) g
-    (λ fs ended m. record { created = m.created; remote = m.remote; connects = m.connects; receiver = receives_for o.inner.maker op ended for })
+    (λ fs ended m. record {
+      created = m.created;
+      remote = m.remote;
+      told = m.told;
+      connects = m.connects;
+      receiver = receives_for
+          o.inner.maker op ended for;
+    })
     (receive_silent (wanting inc.remote op).left (wanted_left inc.remote op.left its.receive.left)) i
 
 -- == a connect of a UDP socket
--- while it is polled, the remote address is left out
-abbrev forgotten : OpenUdp → OpenUdp
-forgotten o = record o { inner = record o.inner { remote = None } }
-
--- the rest is known still
-forget : (es : List Entry) (o : OpenUdp) → OpenKeeps es o → OpenKeeps es (forgotten o)
-forget es o k = record { created = k.created; remote = none_kept es _ None refl; connects = k.connects; receiver = k.receiver }
-
--- the remote address that is kept
-abbrev remote_of : UdpRecord → Option IpSocketAddress
-remote_of (UdpRecord.Open o) = o.inner.remote
-remote_of _ = None
+-- while it is polled, the socket is left out
+abbrev forgotten : OpenUdp → UdpRecord
+forgotten o = UdpRecord.Closed o.inner.side
 
 -- its own remote address is that of no other socket
-spares_but : (line : ℕ) (h : Here) (place : ℕ) (o : OpenUdp) (c : Call) → FoundUdp h place (UdpRecord.Open o) → Named line h → ((x : OpId) → c ≡ Call.Peer x → o.inner.side ≡ x) → Spares (udp2_put h.machine.store.records place (UdpRecord.Open (forgotten o))) c
-spares_but line h place o c g n own k p e q = elim (put_found udp_sort h.machine.store.records place (UdpRecord.Open (forgotten o)) k (UdpRecord.Open p) e) [
-  | inl a ↦ sym (ap remote_of a.1)
-  | inr a ↦ (
-      let at : place ≡ k = n.udps.one p.inner.side place k (UdpRecord.Open o) (UdpRecord.Open p) g a (own p.inner.side q) refl in
-      let there : udp2_at (udp2_put h.machine.store.records place (UdpRecord.Open (forgotten o))) k ≡ Some (UdpRecord.Open (forgotten o)) = subst (λ (x : ℕ). udp2_at (udp2_put h.machine.store.records place (UdpRecord.Open (forgotten o))) x ≡ Some (UdpRecord.Open (forgotten o))) at (put_finds udp_sort h.machine.store.records place (UdpRecord.Open o) (UdpRecord.Open (forgotten o)) g) in
-      let same : Some (UdpRecord.Open (forgotten o)) ≡ Some (UdpRecord.Open p) = sym there ∙ e in
-      let is : UdpRecord.Open (forgotten o) ≡ UdpRecord.Open p = cc in
-      sym (ap remote_of is))
+spares_but : (line : ℕ) (h : Here) (place : ℕ) (o : OpenUdp) (c : Call) → FoundUdp h place (UdpRecord.Open o) → Named
+    line h → ((x : OpId) → c ≡ Call.Peer x → o.inner.side ≡ x) → Spares
+    (udp2_put h.machine.store.records place (forgotten o)) c
+spares_but line h place o c g n own k u e = elim (put_found udp_sort h.machine.store.records place (forgotten o) k u e) [
+  | inl a ↦ subst (λ (x : UdpRecord). SparesUdp x c) a.1 tt
+  | inr a ↦ by_record u a e
 ]
+  where
+    there : udp2_at (udp2_put h.machine.store.records place (forgotten o)) place ≡ Some (forgotten o)
+    there = put_finds udp_sort h.machine.store.records place (UdpRecord.Open o) (forgotten o) g
+
+    other : (u : UdpRecord) → FoundUdp h k u → udp2_at (udp2_put h.machine.store.records place (forgotten o)) k ≡ Some u
+        → c ≡ Call.Peer (udp_side u) → Some (forgotten o) ≡ Some u
+    other u a e q =
+        let at : place ≡ k = n.udps.one (udp_side u) place k (UdpRecord.Open o) u g a (own (udp_side u) q) refl in
+        sym there ∙ (ap (λ (x : ℕ). udp2_at (udp2_put h.machine.store.records place (forgotten o)) x) at ∙ e)
+
+    by_record : (u : UdpRecord) → FoundUdp h k u → udp2_at (udp2_put h.machine.store.records place (forgotten o)) k ≡
+        Some u → SparesUdp u c
+    by_record (UdpRecord.Creating create) a e = λ q. let same = other (UdpRecord.Creating create) a e q in cc
+    by_record (UdpRecord.Open p) a e = λ q. let same = other (UdpRecord.Open p) a e q in cc
+    by_record (UdpRecord.Closed side) a e = tt
 
 -- what a connect gives leaves all but the remote address
-given_keeps : (fs : List Entry) (o : OpenUdp) (given : Given) → OpenKeeps fs (forgotten o) → RemoteIs fs o.inner.side (with_given o.inner given).remote → OpenKeeps fs (record o { inner = with_given o.inner given; connecting = None })
-given_keeps fs o (Remote remote) k r = record { created = k.created; remote = r; connects = tt; receiver = k.receiver }
-given_keeps fs o _ k r = record { created = k.created; remote = r; connects = tt; receiver = k.receiver }
+module _ (fs : List Entry) (o : OpenUdp) (created : IsCreated fs o.inner.side o.inner.maker o.inner.family)
+    (receiver : ReceivesFor o.inner.maker (receiving_in o.incoming)) where
+  given_keeps : (given : Given) → RemoteIs fs o.inner.side (with_given o.inner given).remote × HasRemote fs o.inner.side
+      o.inner.family (with_given o.inner given).remote → OpenKeeps fs
+      (record o { inner = with_given o.inner given; connecting = None })
+  given_keeps (Remote remote) r = record
+      { created = created; remote = r.0; told = r.1; connects = tt; receiver = receiver }
+  given_keeps _ r = record { created = created; remote = r.0; told = r.1; connects = tt; receiver = receiver }
 
 -- the streams are new then
 streams_keep : (fs : List Entry) (o : OpenUdp) → OpenKeeps fs o → OpenKeeps fs (with_streams o)
-streams_keep fs o k = record { created = k.created; remote = k.remote; connects = k.connects; receiver = tt }
+streams_keep fs o k = record
+    { created = k.created; remote = k.remote; told = k.told; connects = k.connects; receiver = tt }
 
 -- what is known after a poll of the connect
-connected_keeps : (fs : List Entry) (o : OpenUdp) (op : Operation) (ended : End × List Item) → op.who.side ≡ o.inner.side → OpenKeeps fs (forgotten o) → After op.who o.inner.maker o.inner.family o.inner fs ended → UdpKeeps fs (UdpRecord.Open (udp_connect_left op o ended))
-connected_keeps fs o op (Waits, items) s k a = record { created = k.created; remote = subst (λ (x : OpId). RemoteIs fs x o.inner.remote) s a.0.1; connects = a.1; receiver = k.receiver }
-connected_keeps fs o op (Done given, items) s k a = streams_keep fs _ (given_keeps fs o given k (subst (λ (x : OpId). RemoteIs fs x (with_given o.inner given).remote) s a.1))
-connected_keeps fs o op (Refused c given, items) s k a = given_keeps fs o given k (subst (λ (x : OpId). RemoteIs fs x (with_given o.inner given).remote) s a.1)
+connected_keeps : (fs : List Entry) (o : OpenUdp) (op : Operation) (ended : End × List Item) → op.who.side ≡
+    o.inner.side → IsCreated fs o.inner.side o.inner.maker o.inner.family → ReceivesFor o.inner.maker
+    (receiving_in o.incoming) → After op.who o.inner.maker o.inner.family o.inner fs ended → UdpKeeps fs
+    (UdpRecord.Open (udp_connect_left op o ended))
+connected_keeps fs o op ended s created receiver a = by_end ended a
+  where
+    known : (remote : Option IpSocketAddress) → RemoteIs fs op.who.side remote × HasRemote fs op.who.side o.inner.family
+        remote → RemoteIs fs o.inner.side remote × HasRemote fs o.inner.side o.inner.family remote
+    known remote k = subst (λ (x : OpId). RemoteIs fs x remote × HasRemote fs x o.inner.family remote) s k
+
+    by_end : (ended : End × List Item) → After op.who o.inner.maker o.inner.family o.inner fs ended → UdpKeeps fs
+        (UdpRecord.Open (udp_connect_left op o ended))
+    by_end (Waits, items) a = let k = known o.inner.remote a.0.1 in record
+        { created = created; remote = k.0; told = k.1; connects = a.1; receiver = receiver }
+    by_end (Done given, items) a = streams_keep fs _
+        (given_keeps fs o created receiver given (known (with_given o.inner given).remote a.1))
+    by_end (Refused c given, items) a = given_keeps fs o created receiver given
+        (known (with_given o.inner given).remote a.1)
 
 -- a socket is put back
 put_back : (fs : List Entry) (records : List Record) (place : ℕ) (out now : UdpRecord) → UdpKeeps fs now → Keeps fs (udp2_put records place out) → Keeps fs (udp2_put records place now)
@@ -203,13 +237,24 @@ polled_connect : (line : ℕ) (es : List Entry) (h : Here) (place : ℕ) (o : Op
     → Allows Anything (λ fs ended. Keeps fs (udp2_put h.machine.store.records place (UdpRecord.Open (udp_connect_left op o ended)))) es (poll_asks op)
 polled_connect line es h place o op g e its n i =
     let k : OpenKeeps es o = i.udps place (UdpRecord.Open o) g in
-    let out : List Record = udp2_put h.machine.store.records place (UdpRecord.Open (forgotten o)) in
-    allows_weaker Anything (λ fs ended. Keeps fs out × After op.who o.inner.maker o.inner.family o.inner fs ended) (λ fs ended. Keeps fs (udp2_put h.machine.store.records place (UdpRecord.Open (udp_connect_left op o ended))))
-    (λ fs ended m. put_back fs h.machine.store.records place (UdpRecord.Open (forgotten o)) (UdpRecord.Open (udp_connect_left op o ended)) (connected_keeps fs o op ended its.of_side (m.0.udps place (UdpRecord.Open (forgotten o)) (put_finds udp_sort h.machine.store.records place (UdpRecord.Open o) (UdpRecord.Open (forgotten o)) g)) m.1) m.0) es (poll_asks op)
-    (allows_keep (AsksOwn op.who o.inner.maker o.inner.family o.inner) Anything (λ fs. Keeps fs out) (λ fs ended. After op.who o.inner.maker o.inner.family o.inner fs ended)
-    (λ fs own c t fits m a. asked fs out own c t (spares_but line h place o c g n (λ x p. sym its.of_side ∙ a x p)) m) (λ fs own c a. tt) es (poll_asks op)
-    (put_udps es h.machine.store.records place (UdpRecord.Open (forgotten o)) (forget es o k) i)
-    (connect_poll op.who o.inner.maker o.inner.family o.inner op.left es (subst (IsMaker es o.inner.maker o.inner.family) (sym its.of_side) (maker_of es o k)) (subst (λ (x : OpId). RemoteIs es x o.inner.remote) (sym its.of_side) k.remote) (subst (ConnectsBy o.inner.family) e k.connects)))
+    let out : List Record = udp2_put h.machine.store.records place (forgotten o) in
+    let on : op.who.side ≡ o.inner.side = its.of_side in
+    allows_weaker Anything (λ fs ended. (Keeps fs out × IsCreated fs o.inner.side o.inner.maker o.inner.family) × After
+    op.who o.inner.maker o.inner.family o.inner fs ended)
+    (λ fs ended. Keeps fs (udp2_put h.machine.store.records place (UdpRecord.Open (udp_connect_left op o ended))))
+    (λ fs ended m. put_back fs h.machine.store.records place (forgotten o)
+    (UdpRecord.Open (udp_connect_left op o ended)) (connected_keeps fs o op ended on m.0.1 k.receiver m.1) m.0.0) es
+    (poll_asks op)
+    (allows_keep (AsksOwn op.who o.inner.maker o.inner.family o.inner) Anything (λ fs. Keeps fs out × IsCreated fs
+    o.inner.side o.inner.maker o.inner.family) (λ fs ended. After op.who o.inner.maker o.inner.family o.inner fs
+    ended)
+    (λ fs own c t fits m a.
+    (asked fs out own c t (spares_but line h place o c g n (λ x p. sym on ∙ a x p)) m.0, has_front fs _ _ m.1))
+    (λ fs own c a. tt) es (poll_asks op)
+    (put_udps es h.machine.store.records place (forgotten o) tt i, k.created)
+    (connect_poll op.who o.inner.maker o.inner.family o.inner op.left es (subst (IsMaker es o.inner.maker
+    o.inner.family) (sym on) (maker_of es o k)) (subst (λ (x : OpId). RemoteIs es x o.inner.remote × HasRemote es x
+    o.inner.family o.inner.remote) (sym on) (k.remote, k.told)) (subst (ConnectsBy o.inner.family) e k.connects)))
 
 -- it asks what the remote address is, and keeps it
 pub peer_keeps : (line : ℕ) (es : List Entry) (h : Here) (place : ℕ) (o : OpenUdp) (op : OpId) (told : Told) → FoundUdp h place (UdpRecord.Open o) → Named line h → Keeps es h.machine.store.records
@@ -217,9 +262,19 @@ pub peer_keeps : (line : ℕ) (es : List Entry) (h : Here) (place : ℕ) (o : Op
 peer_keeps line es h place o op told g n i =
     let k : OpenKeeps es o = i.udps place (UdpRecord.Open o) g in
     let fs : List Entry = es ++ entry op (Call.Peer o.inner.side) told ∷ [] in
-    put_back fs h.machine.store.records place (UdpRecord.Open (forgotten o)) (UdpRecord.Open (with_udp_inner o (after_peer o.inner (told_addr told))))
-    (record { created = has_front es _ _ k.created; remote = told_kept es op o.inner.maker o.inner.family o.inner.side told (maker_of es o k); connects = k.connects; receiver = k.receiver })
-    (asked es _ op (Call.Peer o.inner.side) told (spares_but line h place o (Call.Peer o.inner.side) g n (λ x p. cc)) (put_udps es h.machine.store.records place (UdpRecord.Open (forgotten o)) (forget es o k) i))
+    put_back fs h.machine.store.records place (forgotten o)
+    (UdpRecord.Open (with_udp_inner o (after_peer o.inner (told_addr told))))
+    (record {
+      created = has_front es _ _ k.created;
+      remote = told_kept es op o.inner.maker o.inner.family o.inner.side told
+          (maker_of es o k);
+      told = has_told es op told o.inner.side o.inner.family o.inner.remote k.told;
+      connects =
+          k.connects;
+      receiver = k.receiver;
+    })
+    (asked es _ op (Call.Peer o.inner.side) told (spares_but line h place o (Call.Peer o.inner.side) g n (λ x p. cc))
+    (put_udps es h.machine.store.records place (forgotten o) tt i))
 
 -- == what is in progress
 -- each poll keeps what is known of the records

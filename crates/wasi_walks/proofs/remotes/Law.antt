@@ -1,12 +1,12 @@
 -- The law that the remote address that an open UDP socket keeps is what the network reported last.
 use Rattle.wasi_walks.proofs.walks.Law.{BeginsWrites, Rests, begins_by}
-use Rattle.wasi_walks.proofs.walks.Asked.{Asked, Questions, SetsBacklog, Learns, Closes, MarksOne, AsksCreate, MarksAccepted, Polls, Turns, GivesUp, UdpQuestions, UdpLearns, UdpPeers, UdpCloses, UdpBegins, MarksUdp, MarksStream, MarksError, UdpGivesUp, Resolves, Looks}
+use Rattle.wasi_walks.proofs.walks.Asked.{Asked, Questions, SetsBacklog, Learns, Closes, MarksOne, AsksCreate, MarksAccepted, Polls, Turns, GivesUp, UdpQuestions, UdpDisconnects, UdpLearns, UdpPeers, UdpCloses, UdpBegins, MarksUdp, MarksStream, MarksError, UdpGivesUp, Resolves, Looks}
 use Rattle.wasi_walks.proofs.Words.{made_to, create_to, Stop, Asks}
 use Rattle.wasi_walks.proofs.Words.{Accepting, Accepts, Allows, Begins, Bool, Call, Done, End, Entry, Err, ErrorCode, Give, HandleTable}
 use Rattle.wasi_walks.proofs.Words.{ErrorValue, IpSocketAddress, IsDoneOrCode, Job, Kind, List, Listening, Machine, None, Not, Ok, OpId, Option}
 use Rattle.wasi_walks.proofs.Words.{ReadState, Refused, Result, Socket, SocketAddressFamily, Some, Step, Streams, Tcp2, TcpRecord, TcpSendStream, Told, Unclosed}
 use Rattle.wasi_walks.proofs.Words.{Waits, WasiSocketsCtx, Who, WriteState, [], allows_if, allows_then, allows_weaker, ap, ask_close, bind}
-use Rattle.wasi_walks.proofs.Words.{closing_side, create_asks, created_asks, entry, false, give_up_asks, give_up_in, gone, if◌then◌else◌, in_hand}
+use Rattle.wasi_walks.proofs.Words.{closing_side, entry, false, give_up_asks, give_up_in, gone, if◌then◌else◌, in_hand}
 use Rattle.wasi_walks.proofs.Words.{inl, is_full, is_over, is_wildcard, job_asks, job_in, length, make_asks, new_asks, new_job, new_record}
 use Rattle.wasi_walks.proofs.Words.{own_of, poll_asks, refl, refuse_in, side_in, side_of, subst, told_addr, told_done, true, turn_asks}
 use Rattle.wasi_walks.proofs.Words.{with_listening, with_reader, with_writer, writer_side, writing_side, ℕ, ⊤, ◌++◌, ◌∙◌, ◌∷◌, ◌≡◌}
@@ -15,7 +15,7 @@ use Rattle.wasi_udp.specs.Create.{Create, create_cancel_asks, new_create, after_
 use Rattle.wasi_udp.specs.Shape.{Socket as UdpSocket}
 use Rattle.wasi_udp.specs.Socket.{after_local as udp_after_local}
 use Rattle.wasi_records.specs.Records.{tcp2_put, udp2_put}
-use Rattle.wasi_host.specs.declared.kind.Kind.TheVariants.{Udp2}
+use Rattle.wasi_host.specs.Kinds.{udp_kind}
 use Rattle.wasi_records.specs.Udp.{udp_side, with_udp_inner}
 use Rattle.wasi_records.specs.declared.records.Record.{Record}
 use Rattle.wasi_records.specs.declared.udp.OpenUdp.{OpenUdp}
@@ -28,8 +28,9 @@ use Rattle.wasi_walks.proofs.walks.Moves as walk
 use Rattle.wasi_walks.proofs.walks.Moves.{Interface, tcp_kind, closed_record, udp_begun, opened_by, part_of, Found, Here, IsOn, IsQuestionOf, IsUdpQuestionOf, Move, OfReader, OfSocket, OfWriter, UdpPlain, joined, receiving_in}
 use Rattle.wasi_walks.proofs.remotes.Held.{peer_keeps, polls_keep}
 use Rattle.wasi_walks.proofs.remotes.Polls.{AreSilent, NoPeer, Unpeered, silent_poll}
+use Rattle.wasi_walks.proofs.remotes.Along.{has_made}
 use Rattle.wasi_walks.proofs.remotes.ConnectPolls.{Whole}
-use Rattle.wasi_walks.proofs.remotes.State.{JobBy, Keeps, OpenKeeps, ReadsBy, ReceivesFor, TcpKeeps, WritesBy, asked, kept, push_tcp, push_udps, put_tcp, put_udps, quiet, records_keep, fewer_keep, same_streams, with_none, with_these, writer_moves, Spares}
+use Rattle.wasi_walks.proofs.remotes.State.{JobBy, Keeps, OpenKeeps, ReadsBy, ReceivesFor, TcpKeeps, WritesBy, asked, kept, push_tcp, push_udps, put_tcp, put_udps, quiet, records_keep, fewer_keep, same_streams, spares_none, with_none, with_these, writer_moves, Spares}
 
 -- == what is asked of a network socket of TCP is asked of none of UDP
 -- a writer is on the network socket that its record was made with
@@ -62,9 +63,13 @@ made_with line h place r side g (OfWriter s e w) n k = writes_on r.side side s.w
 
 -- a question of a TCP socket is of no UDP socket
 pub tcp_spares : (line : ℕ) (origin : Step) (n : ℕ) (es : List Entry) (h : Here) (place : ℕ) (r : TcpRecord) (side : OpId) (c : Call) → Found h place r → IsOn r side → IsQuestionOf line origin n side c → Named line h → Keeps es h.machine.store.records → Spares h.machine.store.records c
-tcp_spares line origin n es h place r side c g on q names i k o f e =
-    let is : o.inner.side ≡ side = subst (IsQuestionOf line origin n side) e q in
-    absurd (names.udps.apart side place k r (UdpRecord.Open o) g f (inl (made_with line h place r side g on names (i.tcps place r g))) is)
+tcp_spares line origin n es h place r side c g on q names i k u f = spares_none u c apart
+  where
+    apart : c ≡ Call.Peer (udp_side u) → ⊥
+    apart e =
+        let is : udp_side u ≡ side = subst (IsQuestionOf line origin n side) e q in
+        absurd (names.udps.apart side place k r u g f
+        (inl (made_with line h place r side g on names (i.tcps place r g))) is)
 
 -- == marks and creates
 -- a mark asks for no remote address
@@ -102,18 +107,25 @@ creates_keep tells fails face es m own ctx family i =
 -- a create of a UDP socket was answered
 pub begun_keeps : (es : List Entry) (h : Here) (own : OpId) (maker : ℕ) (family : SocketAddressFamily) (told : Told) → IsDoneOrCode told → Keeps es h.machine.store.records
     → Keeps (es ++ entry own (Call.UdpCreate maker family) told ∷ []) (udp_begun h (udp_after_create own maker family (told_done told))).machine.store.records
-begun_keeps es h own maker family Told.Done f i = push_udps _ h.machine.store.records (UdpRecord.Creating (new_create own maker family)) (has_last es _) (asked es h.machine.store.records own (Call.UdpCreate maker family) Told.Done (quiet _ _ tt) i)
+begun_keeps es h own maker family Told.Done f i = push_udps _ h.machine.store.records
+    (UdpRecord.Creating (new_create own maker family)) (has_last es _, has_made es own maker family)
+    (asked es h.machine.store.records own (Call.UdpCreate maker family) Told.Done (quiet _ _ tt) i)
 begun_keeps es h own maker family (Told.Code c) f i = asked es h.machine.store.records own (Call.UdpCreate maker family) (Told.Code c) (quiet _ _ tt) i
 begun_keeps es h own maker family _ f i = absurd f
 
 -- what is learnt of whether it is bound leaves the rest
+bound_keeps : (fs : List Entry) (o : OpenUdp) → OpenKeeps fs o → OpenKeeps fs (with_udp_inner o (record o.inner { bound = true }))
+bound_keeps fs o k = record { created = k.created; remote = k.remote; told = k.told; connects = k.connects; receiver = k.receiver }
+
 pub learnt_keeps : (fs : List Entry) (o : OpenUdp) (told : Result IpSocketAddress ErrorCode) → OpenKeeps fs o → OpenKeeps fs (with_udp_inner o (udp_after_local o.inner told).1)
 learnt_keeps fs o (Ok a) k = by_test (is_wildcard o.inner.family a)
   where
     by_test : (b : Bool) → (let answer : Bool × UdpSocket = if b then (false, o.inner) else (true, record o.inner { bound = true }) in OpenKeeps fs (with_udp_inner o answer.1))
-    by_test true = record { created = k.created; remote = k.remote; connects = k.connects; receiver = k.receiver }
-    by_test false = record { created = k.created; remote = k.remote; connects = k.connects; receiver = k.receiver }
-learnt_keeps fs o (Err c) k = record { created = k.created; remote = k.remote; connects = k.connects; receiver = k.receiver }
+    by_test true = record
+        { created = k.created; remote = k.remote; told = k.told; connects = k.connects; receiver = k.receiver }
+    by_test false = bound_keeps fs o k
+learnt_keeps fs o (Err c) k = record
+    { created = k.created; remote = k.remote; told = k.told; connects = k.connects; receiver = k.receiver }
 
 -- == a turn of a writer, and what is released
 -- one poll of a write
@@ -162,6 +174,7 @@ plain_keeps : (es : List Entry) (o now : OpenUdp) → UdpPlain o now → OpenKee
 plain_keeps es o now p k = record {
   created = rw (p.side, p.maker, p.family) k.created;
   remote = rw (p.side, p.remote) k.remote;
+  told = rw (p.side, p.family, p.remote) k.told;
   connects = rw (p.family, p.connects) k.connects;
   receiver = rw p.maker (kept_op (ReceivesFor o.inner.maker) tt (receiving_in o.incoming) (receiving_in now.incoming) p.receives k.receiver);
 }
@@ -197,15 +210,26 @@ module _ (contexts : List WasiSocketsCtx) (line : ℕ) (origin : Step) where
   moves_keep es _ _ (walk.Forgets h place r l c g e a) b i = put_tcp es _ place _ (i.tcps place r g) i
   moves_keep es _ _ (walk.Joins h c handle place r l new peer is of u g e a) b i = push_tcp es _ (joined l new peer) (with_these (joined l new peer) _ refl (refl, refl)) (put_tcp es _ place _ (i.tcps place r g) i)
   moves_keep es _ _ (walk.UdpChanges h place o now g p keeps) b i = put_udps es _ place (UdpRecord.Open now) (plain_keeps es o now p (i.udps place (UdpRecord.Open o) g)) i
-  moves_keep es _ _ (walk.BeginsUdpBind h place o a at g to idle own) b i = let k = i.udps place (UdpRecord.Open o) g in put_udps es _ place (UdpRecord.Open _) (record { created = k.created; remote = k.remote; connects = k.connects; receiver = k.receiver }) i
-  moves_keep es _ _ (walk.BeginsUdpConnect h place o a at g to bound none own) b i = let k = i.udps place (UdpRecord.Open o) g in put_udps es _ place (UdpRecord.Open _) (record { created = k.created; remote = k.remote; connects = Whole a; receiver = k.receiver }) i
-  moves_keep es _ _ (walk.BeginsSend h place n o out d bound at g e is known own) b i = let k = i.udps place (UdpRecord.Open o) g in put_udps es _ place (UdpRecord.Open _) (record { created = k.created; remote = k.remote; connects = k.connects; receiver = k.receiver }) i
+  moves_keep es _ _ (walk.BeginsUdpBind h place o a at g to idle own) b i = let k = i.udps place (UdpRecord.Open o) g in
+      put_udps es _ place (UdpRecord.Open _)
+      (record { created = k.created; remote = k.remote; told = k.told; connects = k.connects; receiver = k.receiver }) i
+  moves_keep es _ _ (walk.BeginsUdpConnect h place o a at g to bound none own) b i = let k = i.udps place
+      (UdpRecord.Open o) g in put_udps es _ place (UdpRecord.Open _)
+      (record { created = k.created; remote = k.remote; told = k.told; connects = Whole a; receiver = k.receiver }) i
+  moves_keep es _ _ (walk.BeginsSend h place n o out d bound at g e is known own) b i = let k = i.udps place
+      (UdpRecord.Open o) g in put_udps es _ place (UdpRecord.Open _)
+      (record { created = k.created; remote = k.remote; told = k.told; connects = k.connects; receiver = k.receiver }) i
   moves_keep es _ _ (walk.BeginsReceive h place n o inc bound at g e is own) b i =
       let k = i.udps place (UdpRecord.Open o) g in
-      put_udps es _ place (UdpRecord.Open _) (record { created = k.created; remote = k.remote; connects = k.connects; receiver = refl }) i
+      put_udps es _ place (UdpRecord.Open _)
+      (record { created = k.created; remote = k.remote; told = k.told; connects = k.connects; receiver = refl }) i
   moves_keep es _ _ (walk.CancelsBind h place r op q g e) b i = put_tcp es _ place _ (i.tcps place r g) i
-  moves_keep es _ _ (walk.CancelsUdpBind h place o op q g e) b i = let k = i.udps place (UdpRecord.Open o) g in put_udps es _ place (UdpRecord.Open _) (record { created = k.created; remote = k.remote; connects = k.connects; receiver = k.receiver }) i
-  moves_keep es _ _ (walk.CancelsUdpConnect h place o q g) b i = let k = i.udps place (UdpRecord.Open o) g in put_udps es _ place (UdpRecord.Open _) (record { created = k.created; remote = k.remote; connects = tt; receiver = k.receiver }) i
+  moves_keep es _ _ (walk.CancelsUdpBind h place o op q g e) b i = let k = i.udps place (UdpRecord.Open o) g in put_udps
+      es _ place (UdpRecord.Open _)
+      (record { created = k.created; remote = k.remote; told = k.told; connects = k.connects; receiver = k.receiver }) i
+  moves_keep es _ _ (walk.CancelsUdpConnect h place o q g) b i = let k = i.udps place (UdpRecord.Open o) g in put_udps
+      es _ place (UdpRecord.Open _)
+      (record { created = k.created; remote = k.remote; told = k.told; connects = tt; receiver = k.receiver }) i
   moves_keep es _ _ (walk.Finds h records s) b i = records_keep es h.machine.store.records records s i
   moves_keep es _ _ (walk.GivesBack h place idle left) b i = fewer_keep es h.machine.store.records place i
   moves_keep es _ _ _ b i = i
@@ -229,10 +253,11 @@ module _ (contexts : List WasiSocketsCtx) (line : ℕ) (origin : Step) where
       (λ fs done k. put_tcp fs _ place (with_listening r Not) (i.tcps place r g) k.0) es _ (kept h.machine.store.records (λ fs done. ⊤) es (give_up_asks r.listening) i (given_up es r.listening))
   remotes_asks es h _ _ _ (UdpQuestions place n o c at g q) b i = (tt, λ told f. asked es _ (own_of n) c told (quiet _ c (udp_question_quiet line origin n o.inner.side c q)) i)
   remotes_asks es h _ _ _ (UdpLearns place part o at g) b i = (tt, λ told f. (let k = asked es h.machine.store.records (part_of line part) (Call.Local o.inner.side) told (quiet _ _ tt) i in put_udps _ _ place (UdpRecord.Open _) (learnt_keeps _ o (told_addr told) (k.udps place (UdpRecord.Open o) g)) k))
+  remotes_asks es h _ _ _ (UdpDisconnects place o at g is) b i = (tt, λ told f. (let k = asked es h.machine.store.records (own_of line) (Call.UdpDisconnect o.inner.side) told (quiet _ _ tt) i in put_udps _ _ place (UdpRecord.Open _) (bound_keeps _ o (k.udps place (UdpRecord.Open o) g)) k))
   remotes_asks es h _ _ _ (UdpPeers place o at g) b i = (tt, λ told f. peer_keeps line es h place o (own_of line) told g b.1 i)
   remotes_asks es h _ _ _ (UdpCloses place o q g) b i = (tt, λ told f. put_udps _ _ place (UdpRecord.Closed o.inner.side) tt (asked es _ (own_of line) _ told (quiet _ _ tt) i))
-  remotes_asks es h _ _ _ (UdpBegins ctx family c may a o m) b i = (tt, λ told f. begun_keeps es h (own_of line) ctx.name family told f i)
-  remotes_asks es h _ _ _ (MarksUdp place u g) b i = marks_keep es _ h.machine.table (udp_side u) (Udp2 place) None (Some (udp_side u)) i
+  remotes_asks es h _ _ _ (UdpBegins face ctx family c may a o m) b i = (tt, λ told f. begun_keeps es h (own_of line) ctx.name family told f i)
+  remotes_asks es h _ _ _ (MarksUdp face place u g) b i = marks_keep es _ h.machine.table (udp_side u) (udp_kind face place) None (Some (udp_side u)) i
   remotes_asks es h _ _ _ (MarksStream place n handle reached kind m new e) b i = marks_keep es _ h.machine.table (own_of n) kind (Some handle) _ i
   remotes_asks es h _ _ _ (MarksError n handle place handles m k e f) b i = marks_keep es _ h.machine.table (own_of n) ErrorValue (Some handle) _ i
   remotes_asks es h _ _ _ (UdpGivesUp place create q g) b i =

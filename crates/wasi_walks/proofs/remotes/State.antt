@@ -1,12 +1,13 @@
 -- What is known of the records: of a UDP socket that its create was answered, that the remote address it keeps is what was reported
 -- last, that its connect is of its family, and that it receives for its creator; of a TCP socket that its streams are of its network
 -- socket, and write.
-use Rattle.wasi_walks.proofs.Words.{Allows, Asks, Call, Done, End, Entry, Has, IpSocketAddress, IsMaker, Item, Job, List, None, OpId, Operation}
+use Rattle.wasi_walks.proofs.Words.{Allows, Asks, Call, Done, End, Entry, Has, IsMaker, Item, Job, List, None, OpId, Operation}
 use Rattle.wasi_walks.proofs.Words.{Option, ReadState, Refused, SocketAddressFamily, Some, Streams, TcpRecord, Told, Waits, Write, WriteState, []}
-use Rattle.wasi_walks.proofs.Words.{allows_keep, ap, closed_by, collected, entry, first_state, inl, inr, refl, subst, sym, then_closed, written_by, ℕ, ⊤, ◌++◌}
+use Rattle.wasi_walks.proofs.Words.{allows_keep, closed_by, collected, entry, first_state, inl, inr, refl, subst, sym, then_closed, written_by, ℕ, ⊤, ◌++◌}
 use Rattle.wasi_walks.proofs.Words.{◌∙◌, ◌∷◌, ◌≡◌}
 use Rattle.wasi_world.specs.Operation.{Nothing}
 use Rattle.wasi_records.specs.Numbered.{record_gone}
+use Rattle.wasi_records.specs.Udp.{udp_side}
 use Rattle.wasi_records.specs.Records.{tcp2_at, tcp2_of, tcp2_put, tcp2_pushed, udp2_at, udp2_of, udp2_put, udp2_pushed}
 use Rattle.wasi_walks.proofs.GoneLists.{was_there}
 use Rattle.wasi_records.specs.declared.name_lookup.LookupOp.{LookupOp}
@@ -18,8 +19,10 @@ use Rattle.wasi_walks.proofs.Lists.{has_front}
 use Rattle.wasi_walks.proofs.walks.Moves.{Here, FoundUdp, SameSockets, WriterMoves, Collects, Permits, Lasts, LastsAfter, Closes, receiving_in}
 use Rattle.wasi_walks.proofs.fits.Polls.{Anything}
 use Rattle.wasi_walks.proofs.licence.State.{RemoteIs}
+use Rattle.wasi_walks.proofs.remotes.Along.{has_more}
 use Rattle.wasi_walks.proofs.remotes.Polls.{NoPeer, Unpeered, AreSilent}
-use Rattle.wasi_walks.proofs.remotes.ConnectPolls.{ConnectLeft, remote_more, none_kept}
+use Rattle.wasi_walks.specs.Remotes.{HasRemote}
+use Rattle.wasi_walks.proofs.remotes.ConnectPolls.{ConnectLeft, remote_more}
 use Rattle.wasi_walks.proofs.Places.{push_found, push_new, push_was, put_found, put_was, tcp_sort, udp_sort}
 
 -- == what is to be shown
@@ -57,13 +60,16 @@ ConnectsBy family None = ⊤
 pub record OpenKeeps (es : List Entry) (o : OpenUdp) : Type 0 where
   pub created : IsCreated es o.inner.side o.inner.maker o.inner.family
   pub remote : RemoteIs es o.inner.side o.inner.remote
+  pub told : HasRemote es o.inner.side o.inner.family o.inner.remote
   pub connects : ConnectsBy o.inner.family o.connecting
   pub receiver : ReceivesFor o.inner.maker (receiving_in o.incoming)
 
 -- what is known of a UDP socket
 abbrev pub UdpKeeps : List Entry → UdpRecord → Type 0
+UdpKeeps es (UdpRecord.Creating create) = CreatedBy es (UdpRecord.Creating create) × HasRemote es
+    create.operation.who.side create.family None
 UdpKeeps es (UdpRecord.Open o) = OpenKeeps es o
-UdpKeeps es u = CreatedBy es u
+UdpKeeps es (UdpRecord.Closed side) = ⊤
 
 -- == TCP sockets
 -- the half that is read is of this network socket
@@ -106,9 +112,14 @@ remotes_in es h k place o g = (k.udps place (UdpRecord.Open o) g).remote
 
 -- of one create
 created_by : (es : List Entry) (u : UdpRecord) → UdpKeeps es u → CreatedBy es u
-created_by es (UdpRecord.Creating create) k = k
+created_by es (UdpRecord.Creating create) k = k.0
 created_by es (UdpRecord.Open o) k = k.created
 created_by es (UdpRecord.Closed side) k = tt
+
+-- and what was reported last
+pub told_in : (es : List Entry) (h : Here) → Keeps es h.machine.store.records → (place : ℕ) (o : OpenUdp) → FoundUdp h
+    place (UdpRecord.Open o) → HasRemote es o.inner.side o.inner.family o.inner.remote
+told_in es h k place o g = (k.udps place (UdpRecord.Open o) g).told
 
 -- of the creates
 pub creates_in : (es : List Entry) (h : Here) → Keeps es h.machine.store.records → Creates es h
@@ -156,24 +167,29 @@ pub fewer_keep : (es : List Entry) (old : List Record) (place : ℕ) → Keeps e
 fewer_keep es old place k = record { udps = λ i u e. k.udps i u (was_there udp2_of refl old place i u e); tcps = λ i r e. k.tcps i r (was_there tcp2_of refl old place i r e) }
 
 -- == one more entry
--- the call asks no network socket for its remote address, of which one is kept
+-- the call asks no network socket that isn't closed for its remote address
+abbrev pub SparesUdp : UdpRecord → Call → Type 0
+SparesUdp (UdpRecord.Creating create) c = c ≡ Call.Peer create.operation.who.side → ⊥
+SparesUdp (UdpRecord.Open o) c = c ≡ Call.Peer o.inner.side → ⊥
+SparesUdp (UdpRecord.Closed side) c = ⊤
+
 abbrev pub Spares : List Record → Call → Type 0
-Spares records c = (place : ℕ) (o : OpenUdp) → udp2_at records place ≡ Some (UdpRecord.Open o) → c ≡ Call.Peer o.inner.side → o.inner.remote ≡ None
+Spares records c = (place : ℕ) (u : UdpRecord) → udp2_at records place ≡ Some u → SparesUdp u c
 
-peer_side : (a b : OpId) → Call.Peer a ≡ Call.Peer b → a ≡ b
-peer_side a b e = cc
-
--- where none is kept, any call leaves it so
-remote_unless : (es : List Entry) (op : OpId) (c : Call) (told : Told) (side : OpId) (remote : Option IpSocketAddress) → (c ≡ Call.Peer side → remote ≡ None) → RemoteIs es side remote → RemoteIs (es ++ entry op c told ∷ []) side remote
-remote_unless es op c told side None n k = none_kept _ side None refl
-remote_unless es op c told side (Some a) n k = remote_more es op c told side (Some a) (λ e. let p : Some a ≡ None = n e in absurd (cc)) k
+pub spares_none : (u : UdpRecord) (c : Call) → (c ≡ Call.Peer (udp_side u) → ⊥) → SparesUdp u c
+spares_none (UdpRecord.Creating create) c n = n
+spares_none (UdpRecord.Open o) c n = n
+spares_none (UdpRecord.Closed side) c n = tt
 
 -- what is known of a UDP socket, under one more entry
-udp_more : (es : List Entry) (op : OpId) (c : Call) (told : Told) (u : UdpRecord) → ((o : OpenUdp) → u ≡ UdpRecord.Open o → c ≡ Call.Peer o.inner.side → o.inner.remote ≡ None) → UdpKeeps es u → UdpKeeps (es ++ entry op c told ∷ []) u
-udp_more es op c told (UdpRecord.Creating create) n k = has_front es _ _ k
+udp_more : (es : List Entry) (op : OpId) (c : Call) (told : Told) (u : UdpRecord) → SparesUdp u c → UdpKeeps es u →
+    UdpKeeps (es ++ entry op c told ∷ []) u
+udp_more es op c told (UdpRecord.Creating create) n k =
+    (has_front es _ _ k.0, has_more es op c told create.operation.who.side create.family None n k.1)
 udp_more es op c told (UdpRecord.Open o) n k = record {
   created = has_front es _ _ k.created;
-  remote = remote_unless es op c told o.inner.side o.inner.remote (n o refl) k.remote;
+  remote = remote_more es op c told o.inner.side o.inner.remote n k.remote;
+  told = has_more es op c told o.inner.side o.inner.family o.inner.remote n k.told;
   connects = k.connects;
   receiver = k.receiver;
 }
@@ -181,11 +197,12 @@ udp_more es op c told (UdpRecord.Closed side) n k = tt
 
 -- a call that spares them keeps what is known
 pub asked : (es : List Entry) (records : List Record) (op : OpId) (c : Call) (told : Told) → Spares records c → Keeps es records → Keeps (es ++ entry op c told ∷ []) records
-asked es records op c told n k = record { udps = λ i u e. udp_more es op c told u (λ o p. n i o (e ∙ ap (λ (x : UdpRecord). Some x) p)) (k.udps i u e); tcps = k.tcps }
+asked es records op c told n k = record
+    { udps = λ i u e. udp_more es op c told u (n i u e) (k.udps i u e); tcps = k.tcps }
 
 -- a call that asks for no remote address spares them
 pub quiet : (records : List Record) (c : Call) → NoPeer c → Spares records c
-quiet records c n place o g e = absurd (subst NoPeer e n)
+quiet records c n place u g = spares_none u c (λ e. absurd (subst NoPeer e n))
 
 -- what asks for no remote address
 pub kept : {A : Type 0} (records : List Record) (Q : List Entry → A → Type 0) (es : List Entry) (asks : Asks A) → Keeps es records → Allows Unpeered Q es asks → Allows Anything (λ fs a. Keeps fs records × Q fs a) es asks

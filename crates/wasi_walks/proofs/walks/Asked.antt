@@ -8,9 +8,9 @@ use Rattle.wasi_walks.proofs.walks.Moves.{Interface, tcp_kind, Calls, Creates, C
 use Rattle.wasi_walks.proofs.walks.Moves.{IsUdpQuestionOf, Joined, LooksUp, Marks, MarksNext, NoStart, OfStreams, Past, Releases, ReleasesUdp}
 use Rattle.wasi_walks.proofs.walks.Moves.{SameSockets, ToSend, Unused, Used, closed_record, made_so, part_of, put, put_udp, record_of, udp_begun, with_records}
 use Rattle.wasi_walks.proofs.walks.Failures.{Fails}
-use Rattle.wasi_host.specs.Kinds.{kind_at, udp_of}
+use Rattle.wasi_host.specs.Kinds.{kind_at, udp_kind, udp_of}
+use Rattle.wasi_walks.specs.Licence.{IsDisconnect}
 use Rattle.wasi_host.specs.UdpCreates.{udp_side_at}
-use Rattle.wasi_host.specs.declared.kind.Kind.TheVariants.{Udp2}
 use Rattle.wasi_records.specs.Records.{tcp2_at, udp2_at, lookup_at}
 use Rattle.wasi_records.specs.Udp.{udp_side, with_udp_inner}
 use Rattle.wasi_records.specs.declared.name_lookup.Lookup.TheVariants as lookup
@@ -42,13 +42,17 @@ pub data Asked (contexts : List WasiSocketsCtx) (line : ℕ) (origin : Step) (es
   UdpLearns : (place part : ℕ) (o : OpenUdp) → h.at ≡ Some (place, line) → FoundUdp h place (UdpRecord.Open o)
       → Asked contexts line origin es h Told (one (part_of line part) (Call.Local o.inner.side))
       (λ told. put_udp h place (UdpRecord.Open (with_udp_inner o (udp_after_local o.inner (told_addr told)).1)))
+  UdpDisconnects : (place : ℕ) (o : OpenUdp) → h.at ≡ Some (place, line) → FoundUdp h place (UdpRecord.Open o)
+      → IsDisconnect origin
+      → Asked contexts line origin es h Told (one (own_of line) (Call.UdpDisconnect o.inner.side))
+      (λ told. put_udp h place (UdpRecord.Open (with_udp_inner o (record o.inner { bound = true }))))
   UdpPeers : (place : ℕ) (o : OpenUdp) → h.at ≡ Some (place, line) → FoundUdp h place (UdpRecord.Open o)
       → Asked contexts line origin es h Told (one (own_of line) (Call.Peer o.inner.side))
       (λ told. put_udp h place (UdpRecord.Open (with_udp_inner o (after_peer o.inner (told_addr told)))))
   UdpCloses : (place : ℕ) (o : OpenUdp) → ReleasesUdp h place → FoundUdp h place (UdpRecord.Open o)
       → Asked contexts line origin es h Told (one (own_of line) (Call.Close o.inner.side))
       (λ told. put_udp h place (UdpRecord.Closed o.inner.side))
-  UdpBegins : (ctx : WasiSocketsCtx) (family : SocketAddressFamily) → CreatesUdp contexts ctx family origin
+  UdpBegins : (face : Interface) (ctx : WasiSocketsCtx) (family : SocketAddressFamily) → CreatesUdp contexts ctx family face origin
       → ctx.udp ≡ true → h.at ≡ None → h.own ≡ Unused → h.made ≡ Past
       → Asked contexts line origin es h Told (one (own_of line) (Call.UdpCreate ctx.name family))
       (λ told. udp_begun h (udp_after_create (own_of line) ctx.name family (told_done told)))
@@ -70,9 +74,9 @@ pub data Asked (contexts : List WasiSocketsCtx) (line : ℕ) (origin : Step) (es
       (make_asks h.machine.table (own_of line) (Tcp2 place) (Some listener)
       (side_at (tcp2_at h.machine.store.records place)))
       (λ made. record h { machine = record h.machine { table = made.1 }; made = made_so place made.0 })
-  MarksUdp : (place : ℕ) (u : UdpRecord) → IsCreated h place u
+  MarksUdp : (face : Interface) (place : ℕ) (u : UdpRecord) → IsCreated h face place u
       → Asked contexts line origin es h (Result ℕ Stop × HandleTable)
-      (make_asks h.machine.table (udp_side u) (Udp2 place) None (Some (udp_side u)))
+      (make_asks h.machine.table (udp_side u) (udp_kind face place) None (Some (udp_side u)))
       (λ made. record h { machine = record h.machine { table = made.1 }; made = Past })
   MarksStream : (place n handle reached : ℕ) (kind : Kind) → MarksNext h.made n handle reached kind place
       → HasNewStream h.machine.store reached → udp_of (kind_at h.machine.table handle) ≡ Some place

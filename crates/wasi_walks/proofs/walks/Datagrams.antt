@@ -23,15 +23,15 @@ use Rattle.wasi_host.specs.UdpCreates.{udp_side_at}
 use Rattle.wasi_p2.specs.Udp.{udp_stream_on}
 use Rattle.wasi_udp.specs.Connect.{connect_asks, connect_start, is_connectable}
 use Rattle.wasi_udp.specs.Shape.{Socket}
-use Rattle.wasi_udp.specs.Socket.{after_local, ask_bound, bound_asks, disconnect_asks, disconnect_in, is_connected, then_peer}
+use Rattle.wasi_udp.specs.Socket.{after_local, ask_bound, bound_asks, disconnect_asks, is_connected}
 use Rattle.wasi_walks.proofs.Lists.{value_front}
 use Rattle.wasi_walks.specs.Licence.{IsDisconnect, IsUdpConnectTo}
 use Rattle.wasi_walks.proofs.walks.Here.{no_open}
 use Rattle.wasi_walks.proofs.walks.Moves.{StreamIsMade, StreamMoves, EndsConnect, HasNewStream, Here, ToConnect, ToSend, ToStream, Own, put_udp, FoundUdp, NoStart, NoStartStands, ReachesUdp, Leaves, Spends, UdpChanges, RemembersStreams, BeginsUdpConnect, StandsUdpConnect, Used, Unused}
 use Rattle.wasi_walks.proofs.walks.Law.{Law, Walks, Given, given_along, given_then, given_on, give, and_then, and_given, move, gives, from}
 use Rattle.wasi_walks.proofs.walks.States.{At, Over, OverWith, Starts, udp_record}
-use Rattle.wasi_walks.proofs.walks.Udp.{bound_walks, open_is, udp_there}
-use Rattle.wasi_walks.proofs.walks.UdpLaw.{HasUdp, over_at, udp_put_put, udp_put_same, udp_found, ask_udp, peer_udp, poll_udp_connect_walks, mark_stream}
+use Rattle.wasi_walks.proofs.walks.Udp.{bound_walks, disconnect_walks, open_is, udp_there}
+use Rattle.wasi_walks.proofs.walks.UdpLaw.{HasUdp, over_at, udp_put_put, udp_put_same, udp_found, poll_udp_connect_walks, mark_stream}
 use Rattle.wasi_walks.proofs.Places.{put_finds, udp_sort}
 
 -- the incoming stream is new
@@ -145,9 +145,6 @@ bound_connect : (op : OpId) (socket : Socket) (a : IpSocketAddress) → socket.b
 unfolding bind
 bound_connect op socket a e = ap (λ b. if is_connectable socket a then bind (ask_bound op socket b) (λ x. Give (Ok (connect_start op x.1 a x.0), x.1)) else Give (Err InvalidArgument, socket)) e
 
-bound_same : (socket : Socket) → socket.bound ≡ true → socket ≡ record socket { bound = true }
-bound_same socket e = ap (λ b. let s : Socket = record socket { bound = b } in s) e
-
 -- a socket that has no streams has no incoming one
 no_incoming : (o : OpenUdp) → has_streams o ≡ false → o.incoming ≡ None
 no_incoming o e = by_stream o.incoming e
@@ -216,15 +213,8 @@ module _ {contexts : List WasiSocketsCtx} {line : ℕ} {origin : Step} {law : La
     told_walks o none (Ok d, socket) = opens (with_udp_inner o socket) none
     told_walks o none (Err c, socket) = gives _ (Spends _ free)
 
-    disconnect_walks : IsDisconnect origin → (o : OpenUdp) (remote : Option IpSocketAddress) → o.inner.bound ≡ true → Walks law (put_udp h place (UdpRecord.Open o)) (λ done. put_udp h place (UdpRecord.Open (with_udp_inner o done.1))) (disconnect_in (own_of line) o.inner remote)
-    unfolding bind
-    disconnect_walks to o None bound = give _
-    disconnect_walks to o (Some a) bound =
-        ask_udp here o at (refl, refl, to) (λ told. subst (λ (s : Socket). Walks law (put_udp h place (UdpRecord.Open o)) (λ done. put_udp h place (UdpRecord.Open (with_udp_inner o done.1))) (then_peer (own_of line) s (told_done told))) (bound_same o.inner bound)
-        (peer_udp here o at (λ t. give _)))
-
     without_walks : IsDisconnect origin → (o : OpenUdp) → o.incoming ≡ None → (connected : Bool) → o.inner.bound ≡ true → Walks law (put_udp h place (UdpRecord.Open o)) (Ends h place) (disconnect_streams (own_of line) o connected)
-    without_walks to o none true bound = and_then (disconnect_walks to o o.inner.remote bound) (told_walks o none)
+    without_walks to o none true bound = and_then (disconnect_walks here at to o o.inner.remote) (told_walks o none)
     without_walks to o none false bound = opens o none
 
     streams_to_walks : (c s : ℕ) (remote : Option IpSocketAddress) → origin ≡ Step.Call c (GuestCall.UdpStream s remote) → (o : OpenUdp) → o.inner.bound ≡ true → has_streams o ≡ false → Walks law (put_udp h place (UdpRecord.Open o)) (Ends h place) (streams_to (own_of line) o remote)

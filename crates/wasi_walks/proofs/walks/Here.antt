@@ -7,7 +7,10 @@ use Rattle.wasi_records.specs.Datagrams.{has_streams}
 use Rattle.wasi_records.specs.Receiving.{taken, with_receiving}
 use Rattle.wasi_records.specs.Records.{open_at, open_of, tcp2_at, udp2_at, lookup_at, input_pipe_at, output_pipe_at}
 use Rattle.wasi_host.specs.UdpCalls.{with_udp}
-use Rattle.wasi_host.specs.declared.kind.Kind.TheVariants.{Incoming, Outgoing, Tcp3, Udp2, Lookup, PlainInput, PlainOutput}
+pub use Rattle.wasi_host.specs.declared.kind.Interface.{Interface}
+pub use Rattle.wasi_host.specs.declared.kind.Interface.TheVariants.{P2, P3}
+use Rattle.wasi_host.specs.declared.kind.Kind.TheVariants.{Incoming, Outgoing, Tcp3, Udp2, Udp3, Lookup, PlainInput, PlainOutput}
+use Rattle.wasi_records.specs.Udp.{udp_side}
 use Rattle.wasi_records.specs.declared.datagrams.Incoming.{Incoming as IncomingStream}
 use Rattle.memory_streams.specs.Plain.{Contents}
 use Rattle.wasi_host.specs.GivingBack.{given_back}
@@ -40,14 +43,15 @@ pub data CallKind : Type 0 where
 -- what an accept has made so far: nothing, the record of what it took, or its handle too; the line whose call makes datagram
 -- streams, the handle that they are made under, and the record that it is of, and the same once the incoming one was marked; the line
 -- whose call on streams or on pollables is done, and the handles that it named; the kind of a handle that was dropped, under which
--- nothing was live; the record whose create is polled, which has no handle yet; the number of the record of a lookup or of a pipe that
+-- nothing was live; the record whose create is polled for an interface, by its
+-- network socket, which has no handle yet; the number of the record of a lookup or of a pipe that
 -- is made, while the next handle is still this one; else nothing is said of it
 pub data Made : Type 0 where
   ToStream : ℕ → ℕ → ℕ → Made
   ToSend : ℕ → ℕ → ℕ → Made
   Calls : CallKind → ℕ → List ℕ → Made
   Emptied : Kind → Made
-  Awaited : ℕ → Made
+  Awaited : Interface → OpId → ℕ → Made
   Numbered : ℕ → ℕ → Made
   Past : Made
   Unmade : Made
@@ -126,20 +130,22 @@ NoStartStands (Some s) = NoStartIn s.call
 abbrev pub NoStart : Here → Type 0
 NoStart h = NoStartStands h.machine.store.standing
 
--- the two interfaces, and the kind of handle that a TCP socket has in each
-pub data Interface : Type 0 where
-  OfP2 : Interface
-  OfP3 : Interface
-
+-- the kind of handle that a TCP socket has in each interface
 abbrev pub tcp_kind : Interface → ℕ → Kind
-tcp_kind OfP2 place = Tcp2 place
-tcp_kind OfP3 place = Tcp3 place
+tcp_kind P2 place = Tcp2 place
+tcp_kind P3 place = Tcp3 place
 
 -- the record of the TCP socket that a handle of either interface names
 abbrev pub tcp_socket_of : Kind → Option ℕ
 tcp_socket_of (Tcp2 place) = Some place
 tcp_socket_of (Tcp3 place) = Some place
 tcp_socket_of _ = None
+
+-- the same of a UDP socket
+abbrev pub udp_socket_of : Kind → Option ℕ
+udp_socket_of (Udp2 place) = Some place
+udp_socket_of (Udp3 place) = Some place
+udp_socket_of _ = None
 
 -- the handle that the line dropped was a TCP socket's
 pub record IsDropped (now : Made) (place : ℕ) : Type 0 where
@@ -151,8 +157,14 @@ pub record IsDropped (now : Made) (place : ℕ) : Type 0 where
 abbrev pub Releases : Here → ℕ → Type 0
 Releases h place = NoStart h × IsDropped h.made place
 
+-- the same of a UDP socket
+pub record IsUdpDropped (now : Made) (place : ℕ) : Type 0 where
+  pub kind : Kind
+  pub made : now ≡ Emptied kind
+  pub socket : udp_socket_of kind ≡ Some place
+
 abbrev pub ReleasesUdp : Here → ℕ → Type 0
-ReleasesUdp h place = NoStart h × (h.made ≡ Emptied (Udp2 place))
+ReleasesUdp h place = NoStart h × IsUdpDropped h.made place
 
 -- == what is made of no network socket
 -- the record of a pipe is there before its handle, and has the next number
@@ -194,8 +206,8 @@ IsOpenUdp (UdpRecord.Open o) = ⊤
 IsOpenUdp _ = ⊥
 
 -- The record of a create that is done, which has no handle yet.
-pub record IsCreated (h : Here) (place : ℕ) (u : UdpRecord) : Type 0 where
-  pub awaited : h.made ≡ Awaited place
+pub record IsCreated (h : Here) (face : Interface) (place : ℕ) (u : UdpRecord) : Type 0 where
+  pub awaited : h.made ≡ Awaited face (udp_side u) place
   pub found : FoundUdp h place u
   pub opens : IsOpenUdp u
 

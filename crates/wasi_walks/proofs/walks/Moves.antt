@@ -12,7 +12,7 @@ use Rattle.wasi_walks.proofs.Words.{side_at, side_of, standing_as, true, wildcar
 use Rattle.wasi_walks.proofs.Words.{with_progress, with_reader, with_state, with_writer, without_handle, writer_side, ℕ, ⊤}
 use Rattle.wasi_walks.proofs.Words.{◌≡◌, ◌⊎◌}
 use Rattle.wasi_world.specs.declared.ids.Ids.{Ids}
-pub use Rattle.wasi_walks.proofs.walks.Here.{Interface, IsDropped, OfP2, OfP3, tcp_kind, tcp_socket_of, KeepsJobs, IsRecord, job_place, keeps_incoming, StreamGoes, StreamIsMade, StreamIsTaken, StreamMoves, StreamStays, TakesFrom, ConnectIsOver, HasNewStream, KeepsStreams, MarksNext, TakesOver, one_stream, IsCreated, IsOpenUdp, NoStart, NoStartIn, NoStartStands, Releases, ReleasesUdp, CallKind, OfPollables, OfStreams, Found, FoundUdp, Here, Own, Names, ToConnect, ToWrite, Unused, Used, Made, Awaited, Calls, Emptied, Joined, Marked, Past, ToSend, ToStream, Unmade, part_of, put, put_udp, with_records, IsLeft, IsNumbered, OfTcp, OfUdp, OfLookup, OfUnnamed, OfInput, OfOutput, without_record, Numbered}
+pub use Rattle.wasi_walks.proofs.walks.Here.{Interface, IsDropped, IsUdpDropped, P2, P3, tcp_kind, tcp_socket_of, udp_socket_of, KeepsJobs, IsRecord, job_place, keeps_incoming, StreamGoes, StreamIsMade, StreamIsTaken, StreamMoves, StreamStays, TakesFrom, ConnectIsOver, HasNewStream, KeepsStreams, MarksNext, TakesOver, one_stream, IsCreated, IsOpenUdp, NoStart, NoStartIn, NoStartStands, Releases, ReleasesUdp, CallKind, OfPollables, OfStreams, Found, FoundUdp, Here, Own, Names, ToConnect, ToWrite, Unused, Used, Made, Awaited, Calls, Emptied, Joined, Marked, Past, ToSend, ToStream, Unmade, part_of, put, put_udp, with_records, IsLeft, IsNumbered, OfTcp, OfUdp, OfLookup, OfUnnamed, OfInput, OfOutput, without_record, Numbered}
 use Rattle.wasi_records.specs.Records.{tcp2_at, tcp2_put, tcp2_pushed, udp2_at, lookup_at, input_pipe_at, output_pipe_at}
 use Rattle.wasi_records.specs.declared.name_lookup.Lookup.TheVariants as lookup
 use Rattle.wasi_records.specs.declared.name_lookup.LookupOp.{LookupOp}
@@ -31,7 +31,7 @@ use Rattle.wasi_records.specs.declared.datagrams.Receiving.{Receiving}
 use Rattle.wasi_records.specs.declared.datagrams.Sending.{Sending}
 use Rattle.wasi_host.specs.declared.blocking.BlockingCall.{BlockingCall}
 use Rattle.wasi_host.specs.declared.blocking.BlockingCall.TheVariants as blocking
-use Rattle.wasi_host.specs.declared.kind.Kind.TheVariants.{Tcp3, Udp2, PlainInput, PlainOutput, Incoming, Outgoing, Lookup}
+use Rattle.wasi_host.specs.declared.kind.Kind.TheVariants.{Tcp3, Udp2, Udp3, PlainInput, PlainOutput, Incoming, Outgoing, Lookup}
 use Rattle.wasi_host.specs.declared.kind.PlainInput.TheVariants as plain_input
 use Rattle.wasi_host.specs.declared.kind.PlainOutput.TheVariants as plain_output
 use Rattle.wasi_host.specs.Blocking.{blocking_handles}
@@ -50,7 +50,7 @@ use Rattle.wasi_udp.specs.Socket.{asker_of}
 use Rattle.wasi_udp.specs.declared.bind.UdpBindStage.{UdpBindStage}
 use Rattle.wasi_records.specs.declared.records.Record.{Record}
 use Rattle.wasi_jobs.specs.declared.job.HostJob.{HostJob}
-use Rattle.wasi_walks.specs.Licence.{IsGetOf, IsSetTo, IsSendOf, IsDisconnect, IsUdpBindTo, IsUdpConnectTo, Receives}
+use Rattle.wasi_walks.specs.Licence.{IsGetOf, IsSetTo, IsSendOf, IsUdpBindTo, IsUdpConnectTo, Receives}
 use Rattle.wasi_walks.specs.Answered.{streams_in}
 use Rattle.wasi_walks.specs.Waiting.{StartsTold}
 use Rattle.wasi_tcp.specs.declared.bind.BindStage.TheVariants.{Check}
@@ -94,7 +94,7 @@ GoesOn _ r = ⊥
 
 -- the pending call was made of a handle of its record: any but a create, and but one of streams, which is on handles
 abbrev pub IsOfHandle : StandingCall → Type 0
-IsOfHandle (StandingCall.UdpCreate place) = ⊥
+IsOfHandle (StandingCall.UdpCreate place face) = ⊥
 IsOfHandle (StandingCall.Blocking call) = ⊥
 IsOfHandle _ = ⊤
 
@@ -112,12 +112,11 @@ IsQuestionOf line origin n side (Call.WriteReady s) = s ≡ side
 IsQuestionOf line origin n side (Call.Shutdown s how) = s ≡ side
 IsQuestionOf line origin n side _ = ⊥
 
--- the same of a UDP socket, which may be disconnected too
+-- the same of a UDP socket
 abbrev pub IsUdpQuestionOf : ℕ → Step → ℕ → OpId → Call → Type 0
 IsUdpQuestionOf line origin n side (Call.Local s) = s ≡ side
 IsUdpQuestionOf line origin n side (Call.GetOption s option) = (s ≡ side) × (n ≡ line) × IsGetOf option origin
 IsUdpQuestionOf line origin n side (Call.SetOption s option value) = (s ≡ side) × (n ≡ line) × IsSetTo option value origin
-IsUdpQuestionOf line origin n side (Call.UdpDisconnect s) = (s ≡ side) × (n ≡ line) × IsDisconnect origin
 IsUdpQuestionOf line origin n side _ = ⊥
 
 -- the network socket is the socket's, or that of one of its halves
@@ -184,6 +183,7 @@ record_of _ = None
 -- the UDP socket that a handle is of
 abbrev pub udp_record_of : Option Kind → Option ℕ
 udp_record_of (Some (Udp2 place)) = Some place
+udp_record_of (Some (Udp3 place)) = Some place
 udp_record_of (Some (Incoming place)) = Some place
 udp_record_of (Some (Outgoing place)) = Some place
 udp_record_of (Some (Pollable w)) = udp_place w
@@ -239,14 +239,26 @@ kind_of (blocking.Poll pollables) = OfPollables
 
 -- a create of this family, by this context, of the interface
 abbrev pub Creates : List WasiSocketsCtx → WasiSocketsCtx → SocketAddressFamily → Interface → Step → Type 0
-Creates contexts ctx family face (Step.Call n (GuestCall.TcpCreate f)) = (context_at contexts n ≡ ctx) × (f ≡ family) × (face ≡ OfP2)
-Creates contexts ctx family face (Step.Call n (GuestCall.P3TcpCreate f)) = (context_at contexts n ≡ ctx) × (f ≡ family) × (face ≡ OfP3)
+Creates contexts ctx family face (Step.Call n (GuestCall.TcpCreate f)) = (context_at contexts n ≡ ctx) × (f ≡ family) × (face ≡ P2)
+Creates contexts ctx family face (Step.Call n (GuestCall.P3TcpCreate f)) = (context_at contexts n ≡ ctx) × (f ≡ family) × (face ≡ P3)
 Creates contexts ctx family face _ = ⊥
 
 -- the same of a UDP socket
-abbrev pub CreatesUdp : List WasiSocketsCtx → WasiSocketsCtx → SocketAddressFamily → Step → Type 0
-CreatesUdp contexts ctx family (Step.Call n (GuestCall.UdpCreate f)) = (context_at contexts n ≡ ctx) × (f ≡ family)
-CreatesUdp contexts ctx family _ = ⊥
+abbrev pub CreatesUdp : List WasiSocketsCtx → WasiSocketsCtx → SocketAddressFamily → Interface → Step → Type 0
+CreatesUdp contexts ctx family face (Step.Call n (GuestCall.UdpCreate f)) = (context_at contexts n ≡ ctx) × (f ≡ family) × (face ≡ P2)
+CreatesUdp contexts ctx family face (Step.Call n (GuestCall.P3UdpCreate f)) = (context_at contexts n ≡ ctx) × (f ≡ family) × (face ≡ P3)
+CreatesUdp contexts ctx family face _ = ⊥
+
+-- a create of a UDP socket of the interface
+abbrev pub MakesUdpFor : Interface → Step → Type 0
+MakesUdpFor face (Step.Call n (GuestCall.UdpCreate f)) = face ≡ P2
+MakesUdpFor face (Step.Call n (GuestCall.P3UdpCreate f)) = face ≡ P3
+MakesUdpFor face _ = ⊥
+
+-- why a create goes on for an interface: the line began it, or it is the pending call
+pub data CreateIsFor (line : ℕ) (origin : Step) (standing : Option Standing) (place : ℕ) (face : Interface) (side : OpId) : Type 0 where
+  Begun : MakesUdpFor face origin → side ≡ own_of line → CreateIsFor line origin standing place face side
+  Recalled : (ids : Ids) → standing ≡ Some (standing_as ids (StandingCall.UdpCreate place face)) → CreateIsFor line origin standing place face side
 
 -- a lookup of this host, by a context that may look names up
 abbrev pub LooksUp : List WasiSocketsCtx → List ℕ → Step → Type 0
@@ -443,7 +455,8 @@ pub data Move (line : ℕ) (origin : Step) : Here → Here → Type 0 where
   BeginsUdpBind : (h : Here) (place : ℕ) (o : OpenUdp) (a : IpSocketAddress) → h.at ≡ Some (place, line) → FoundUdp h place (UdpRecord.Open o) → IsUdpBindTo a origin → is_udp_idle o.in_progress ≡ true → h.own ≡ Unused
       → Move line origin h (record (put_udp h place (UdpRecord.Open (with_udp_progress o (UdpInProgress.Binding (begun_udp_bind (own_of line) o a))))) { own = Used })
   StandsUdpBind : (h : Here) (ids : Ids) (place : ℕ) (o : OpenUdp) (op : Operation) → NoStart h → h.at ≡ Some (place, ids.line) → FoundUdp h place (UdpRecord.Open o) → o.in_progress ≡ UdpInProgress.Binding op → Move line origin h (record h { machine = record h.machine { store = record h.machine.store { standing = Some (standing_as ids (StandingCall.UdpBind place)) } } })
-  StandsUdpCreate : (h : Here) (ids : Ids) (place : ℕ) (create : Create) → NoStart h → FoundUdp h place (UdpRecord.Creating create) → Move line origin h (record h { machine = record h.machine { store = record h.machine.store { standing = Some (standing_as ids (StandingCall.UdpCreate place)) } } })
+  StandsUdpCreate : (h : Here) (ids : Ids) (place : ℕ) (face : Interface) (create : Create) → NoStart h → h.made ≡ Awaited face create.operation.who.side place → FoundUdp h place (UdpRecord.Creating create)
+      → Move line origin h (record h { machine = record h.machine { store = record h.machine.store { standing = Some (standing_as ids (StandingCall.UdpCreate place face)) } } })
   -- the datagram streams of a UDP socket: what they are made under, and the connect that comes before, until it is over or pending
   RemembersStreams : (h : Here) (c handle place : ℕ) (remote : Option IpSocketAddress) → origin ≡ Step.Call c (GuestCall.UdpStream handle remote) → udp_of (kind_at h.machine.table handle) ≡ Some place → (o : OpenUdp) → FoundUdp h place (UdpRecord.Open o) → has_streams o ≡ false
       → Move line origin h (record h { made = ToStream line handle place })
@@ -475,7 +488,8 @@ pub data Move (line : ℕ) (origin : Step) : Here → Here → Type 0 where
   Finds : (h : Here) (records : List Record) → SameSockets (λ op. ⊥) h.machine.store.records records → Move line origin h (with_records h records)
   Numbers : (h : Here) → Move line origin h (record h { made = Numbered (length h.machine.store.records) h.machine.table.next })
   -- a create that is to be polled: no handle is of its record
-  AwaitsCreate : (h : Here) (place : ℕ) (create : Create) → FoundUdp h place (UdpRecord.Creating create) → Move line origin h (record h { made = Awaited place })
+  AwaitsCreate : (h : Here) (place : ℕ) (face : Interface) (create : Create) → CreateIsFor line origin h.machine.store.standing place face create.operation.who.side → FoundUdp h place (UdpRecord.Creating create)
+      → Move line origin h (record h { made = Awaited face create.operation.who.side place })
   -- a handle is taken out of the table, under which nothing is live; of a socket that is dropped it is noted which
   Empties : (h : Here) (handle : ℕ) (kind : Kind) → kind_at h.machine.table handle ≡ Some kind → has_no_child h.machine.table handle ≡ true → Move line origin h (record h { machine = record h.machine { table = without_handle h.machine.table handle }; made = Emptied kind })
   Takes : (h : Here) (handle : ℕ) → has_no_child h.machine.table handle ≡ true → Move line origin h (record h { machine = record h.machine { table = without_handle h.machine.table handle } })

@@ -4,16 +4,15 @@ use Rattle.wasi_walks.proofs.Words.{made_to, create_to, Allows, Asks, End, Entry
 use Rattle.wasi_walks.proofs.Words.{ErrorCode, Result, SocketAddressFamily, Some, GuestCall, Step, Streams, Tcp2, TcpRecord, TcpState, Told, WasiSocketsCtx, Socket}
 use Rattle.wasi_walks.proofs.Words.{after_create, after_local, allows_if, allows_then, bind, created_asks, create_asks, is_full, length, make_asks, new_asks, new_socket, own_of, poll_asks, side_of, told_addr, told_done, turn_asks, with_handle, with_inner, with_listening, with_record, with_writer, ℕ, ◌≡◌, refl, subst, sym}
 use Rattle.wasi_walks.proofs.Words.{Full, Stop, Trap}
-use Rattle.std.specs.Prelude.{⊤}
+use Rattle.std.specs.Prelude.{true, ⊤}
 use Rattle.wasi_walks.proofs.fits.Polls.{Anything}
 use Rattle.wasi_walks.proofs.Gives.{gives_any}
 use Rattle.wasi_walks.proofs.fits.UdpFits.{learnt_side}
-use Rattle.wasi_walks.proofs.walks.Asked.{Asked, Questions, SetsBacklog, Learns, Closes, UdpQuestions, UdpLearns, UdpPeers, UdpCloses, UdpBegins, Resolves, Looks, MarksOne, MarksAccepted, MarksUdp, MarksStream, MarksError, AsksCreate, Polls, Turns, GivesUp, UdpGivesUp}
+use Rattle.wasi_walks.proofs.walks.Asked.{Asked, Questions, SetsBacklog, Learns, Closes, UdpQuestions, UdpDisconnects, UdpLearns, UdpPeers, UdpCloses, UdpBegins, Resolves, Looks, MarksOne, MarksAccepted, MarksUdp, MarksStream, MarksError, AsksCreate, Polls, Turns, GivesUp, UdpGivesUp}
 use Rattle.wasi_walks.proofs.walks.Law.{BeginsIn, BeginsWrites, Rests}
 use Rattle.wasi_walks.proofs.walks.Moves.{Interface, tcp_kind, Calls, Creates, CreatesUdp, Found, FoundUdp, HasNewStream, Held, Here, IsCreated, Joined, LooksUp, Made, Marked, Marks, MarksNext, Move}
 use Rattle.wasi_walks.proofs.walks.Moves.{NoStart, OfStreams, Past, Releases, ReleasesUdp, SameSockets, Spends, ToSend, Unused, Used, closed_record, put, put_udp, record_of, udp_begun, with_records}
-use Rattle.wasi_host.specs.Kinds.{kind_at, udp_of}
-use Rattle.wasi_host.specs.declared.kind.Kind.TheVariants.{Udp2}
+use Rattle.wasi_host.specs.Kinds.{udp_kind, kind_at, udp_of}
 use Rattle.wasi_records.specs.Udp.{with_udp_inner}
 use Rattle.wasi_records.specs.declared.records.Record.{Record}
 use Rattle.wasi_records.specs.declared.udp.OpenUdp.{OpenUdp}
@@ -29,7 +28,7 @@ pub data Handles (origin : Step) (h : Here) : Kind → Option ℕ → Made → T
   OfAccepted : (c listener place : ℕ) (r : TcpRecord) → origin ≡ Step.Call c (GuestCall.TcpAccept listener) → h.made ≡ Joined place
       → h.own ≡ Used → Found h place r → Handles origin h (Tcp2 place) (Some listener)
       (Marked h.machine.table.next place)
-  OfCreated : (place : ℕ) (u : UdpRecord) → IsCreated h place u → Handles origin h (Udp2 place) None Past
+  OfCreated : (face : Interface) (place : ℕ) (u : UdpRecord) → IsCreated h face place u → Handles origin h (udp_kind face place) None Past
   OfStream : (place n handle reached : ℕ) (kind : Kind) → MarksNext h.made n handle reached kind place
       → HasNewStream h.machine.store reached → udp_of (kind_at h.machine.table handle) ≡ Some place
       → Handles origin h kind (Some handle) (ToSend n handle reached)
@@ -62,8 +61,8 @@ pub data Becomes (contexts : List WasiSocketsCtx) (line : ℕ) (origin : Step) (
       → Becomes contexts line origin h (put_udp h place (UdpRecord.Closed o.inner.side))
   UdpGivenUp : (place : ℕ) (create : Create) → NoStart h → FoundUdp h place (UdpRecord.Creating create)
       → Becomes contexts line origin h (put_udp h place (UdpRecord.Closed create.operation.who.side))
-  UdpBegun : (ctx : WasiSocketsCtx) (family : SocketAddressFamily) (r : Result (Unit {0}) ErrorCode)
-      → CreatesUdp contexts ctx family origin → h.own ≡ Unused → h.made ≡ Past
+  UdpBegun : (face : Interface) (ctx : WasiSocketsCtx) (family : SocketAddressFamily) (r : Result (Unit {0}) ErrorCode)
+      → CreatesUdp contexts ctx family face origin → h.own ≡ Unused → h.made ≡ Past
       → Becomes contexts line origin h (udp_begun h (udp_after_create (own_of line) ctx.name family r))
   Resolved : (host : List ℕ) (records : List Record) → LooksUp contexts host origin
       → SameSockets (λ op. op ≡ record { id = own_of line; host = host }) h.machine.store.records records
@@ -166,11 +165,13 @@ module _ {contexts : List WasiSocketsCtx} {line : ℕ} {origin : Step} {B : List
     λ told fits. a.becomes es h _ (UdpLearnt place o (udp_after_local o.inner (told_addr told)).1 g
         (learnt_side o.inner (told_addr told))) b i,
   )
+  asks es h _ _ _ (UdpDisconnects place o at g is) b i =
+      (tt, λ told fits. a.becomes es h _ (UdpLearnt place o (record o.inner { bound = true }) g refl) b i)
   asks es h _ _ _ (UdpPeers place o at g) b i =
       (tt, λ told fits. a.becomes es h _ (UdpLearnt place o (after_peer o.inner (told_addr told)) g refl) b i)
   asks es h _ _ _ (UdpCloses place o q g) b i = (tt, λ told fits. a.becomes es h _ (UdpIsClosed place o q g) b i)
-  asks es h _ _ _ (UdpBegins ctx family c may t o m) b i =
-      (tt, λ told fits. a.becomes es h _ (UdpBegun ctx family (told_done told) c o m) b i)
+  asks es h _ _ _ (UdpBegins face ctx family c may t o m) b i =
+      (tt, λ told fits. a.becomes es h _ (UdpBegun face ctx family (told_done told) c o m) b i)
   asks es h _ _ _ (Resolves host records l s) b i =
       (tt, λ told fits. a.becomes es h _ (Resolved host (records told) l (s told)) b i)
   asks es h _ _ _ (Looks place op e) b i = (tt, λ told fits. i)
@@ -180,9 +181,9 @@ module _ {contexts : List WasiSocketsCtx} {line : ℕ} {origin : Step} {B : List
   asks es h _ _ end (MarksAccepted c listener place r is e o g) b i =
       makes es _ h.machine.table _ _ _ end (a.becomes es h _ (NoRoom Past tt) b i)
       (a.becomes es h _ (HasHandle _ _ _ (OfAccepted c listener place r is e o g)) b i)
-  asks es h _ _ end (MarksUdp place u g) b i =
+  asks es h _ _ end (MarksUdp face place u g) b i =
       makes es _ h.machine.table _ _ _ end (a.becomes es h _ (NoRoom Past tt) b i)
-      (a.becomes es h _ (HasHandle _ _ _ (OfCreated place u g)) b i)
+      (a.becomes es h _ (HasHandle _ _ _ (OfCreated face place u g)) b i)
   asks es h _ _ end (MarksStream place n handle reached kind m new e) b i =
       makes es _ h.machine.table _ _ _ end (a.becomes es h _ (NoRoom (ToSend n handle reached) tt) b i)
       (a.becomes es h _ (HasHandle _ _ _ (OfStream place n handle reached kind m new e)) b i)

@@ -19,7 +19,7 @@ use Rattle.wasi_walks.proofs.Words.{Tcp2}
 use Rattle.wasi_host.specs.Store.{with_socket}
 use Rattle.wasi_host.specs.Options.{looked_at, set_backlog_at}
 use Rattle.wasi_p2.specs.Options.{record_asks}
-use Rattle.wasi_walks.proofs.walks.Moves.{NoStartStands, IsSettled, Used, Unused, Here, put, Found, record_of, AStream, Reaches, Leaves, Spends, Changes, Stands, Made, Past, Marks}
+use Rattle.wasi_walks.proofs.walks.Moves.{Move, NoStartStands, IsSettled, Used, Unused, Here, put, Found, record_of, AStream, Reaches, Leaves, Spends, Changes, Stands, Made, Past, Marks}
 use Rattle.wasi_walks.proofs.walks.Law.{Law, HasRecord, found, put_same, Walks, Given, give, and_then, and_given, by_if, move, gives, from, mark}
 use Rattle.wasi_walks.proofs.walks.Sockets.{WaitsSo, begun_bind_given, idled, connect_settles, set_walks, begin_bind_walks, begin_connect_walks, poll_connect_walks, FinishedSo, finished_of, local_walks, remote_walks, backlog_walks}
 use Rattle.wasi_walks.proofs.walks.Streams.{shut_walks}
@@ -102,14 +102,19 @@ module _ {contexts : List WasiSocketsCtx} {line : ℕ} {origin : Step} {law : La
       look (λ r. last (Call seen (λ store. r) (λ store now. with_socket store place now) asked)) (tcp2_at m.store.records place) (gives _ (Spends _ refl))
       (λ r g. from (put_same (At line m place Unused) place r g) (call _ (w r (there g)) (λ e t. gives _ (Spends _ refl)) (λ a t. gives _ (Spends _ refl))))
 
+  pub on_named : {C A : Type 0} (m : Machine) (named : Option ℕ) → ((place : ℕ) → named ≡ Some place → Move line origin (Starts m Unused) (At line m place Unused)) → (does : ℕ → Does C Records A)
+      → ((place : ℕ) → Walks law (At line m place Unused) (Put line m place) (does place m.store))
+      → Walks law (Starts m Unused) OverWith (or_trap (λ place. last (in_store (does place))) m named)
+  on_named m named reaches does w =
+      look (λ place. last (in_store (does place))) named (gives _ (Spends _ refl))
+      (λ place e. move (reaches place e)
+      (call _ (w place) (λ e t. gives _ (Leaves _)) (λ a t. gives _ (Leaves _))))
+
   pub on_handle : {C A : Type 0} (m : Machine) (handle : ℕ) (named : Option ℕ) → ((place : ℕ) → named ≡ Some place → record_of (kind_at m.table handle) ≡ Some place)
       → (does : ℕ → Does C Records A) → Has (handles_of origin) handle
       → ((place : ℕ) → Walks law (At line m place Unused) (Put line m place) (does place m.store))
       → Walks law (Starts m Unused) OverWith (or_trap (λ place. last (in_store (does place))) m named)
-  on_handle m handle named is does has w =
-      look (λ place. last (in_store (does place))) named (gives _ (Spends _ refl))
-      (λ place e. move (Reaches _ handle place has (is place e))
-      (call _ (w place) (λ e t. gives _ (Leaves _)) (λ a t. gives _ (Leaves _))))
+  on_handle m handle named is does has w = on_named m named (λ place e. Reaches _ handle place has (is place e)) does w
 
   -- == the addresses
   pub local_address_walks : (m : Machine) (s : ℕ) → Has (handles_of origin) s → Walks law (Starts m Unused) OverWith (local_address (own_of line) s m)

@@ -10,9 +10,9 @@ use Rattle.wasi_walks.proofs.Words.{ask_made, bind, call_of, eqb-true, false, if
 use Rattle.wasi_walks.proofs.Words.{length, name_of, output_of, place_of, refl, subst, sym, table_parent, true}
 use Rattle.wasi_walks.proofs.Words.{watch_of, watched_by, with_handle, with_records, ℕ, ⊤, ◌==◌, ◌∙◌, ◌≡◌}
 use Rattle.wasi_world.specs.declared.ids.Ids.{Ids}
-use Rattle.wasi_walks.proofs.walks.Moves.{Own, Used, Here, put, Found, NoStartStands, record_of, udp_record_of, tcp_place, udp_place, Made, Awaited, Emptied, Numbered, Past, Unmade, Joined}
-use Rattle.wasi_host.specs.declared.kind.Kind.TheVariants.{Tcp3, Udp2, PlainInput, PlainOutput, Incoming, Outgoing, Lookup}
-use Rattle.wasi_host.specs.Kinds.{tcp3_of, udp_of, incoming_of, outgoing_of}
+use Rattle.wasi_walks.proofs.walks.Moves.{Interface, Own, Used, Here, put, Found, NoStartStands, record_of, udp_record_of, tcp_place, udp_place, Made, Awaited, Emptied, Numbered, Past, Unmade, Joined}
+use Rattle.wasi_host.specs.declared.kind.Kind.TheVariants.{Tcp3, Udp2, Udp3, PlainInput, PlainOutput, Incoming, Outgoing, Lookup}
+use Rattle.wasi_host.specs.Kinds.{tcp3_of, udp3_of, udp_of, incoming_of, outgoing_of}
 use Rattle.wasi_walks.proofs.Lists.{value_front}
 use Rattle.wasi_walks.proofs.walks.Law.{HasRecord, Given, given_then}
 use Rattle.wasi_records.specs.Records.{tcp2_at, tcp2_put}
@@ -41,8 +41,8 @@ abbrev pub Emptying : ℕ → Machine → ℕ → Kind → Own → Here
 Emptying n m place kind own = record (At n m place own) { made = Emptied kind }
 
 -- it works on a create, whose record has no handle yet
-abbrev pub Awaiting : Machine → ℕ → Here
-Awaiting m place = record (Over m) { made = Awaited place }
+abbrev pub Awaiting : Interface → OpId → Machine → ℕ → Here
+Awaiting face side m place = record (Over m) { made = Awaited face side place }
 
 -- a lookup or a pipe is made, whose record has the next number
 abbrev pub Numbering : Machine → Here
@@ -132,6 +132,10 @@ watch_record _ w e = absurd (cc)
 pub udp_record : (k : Option Kind) (place : ℕ) → udp_of k ≡ Some place → udp_record_of k ≡ Some place
 udp_record (Some (Udp2 n)) place e = e
 udp_record _ place e = absurd (cc)
+
+pub udp3_record : (k : Option Kind) (place : ℕ) → udp3_of k ≡ Some place → udp_record_of k ≡ Some place
+udp3_record (Some (Udp3 n)) place e = e
+udp3_record _ place e = absurd (cc)
 
 pub incoming_kind : (k : Option Kind) (place : ℕ) → incoming_of k ≡ Some place → k ≡ Some (Incoming place)
 incoming_kind (Some (Incoming n)) place e = let p : n ≡ place = cc in ap (λ (x : ℕ). Some (Incoming x)) p

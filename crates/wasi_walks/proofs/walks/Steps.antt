@@ -22,7 +22,7 @@ use Rattle.wasi_walks.proofs.walks.Streams.{subscribe_walks, drop_walks, turn_wa
 use Rattle.wasi_walks.proofs.walks.States.{At, Over, OverWith, udp_record, Put, Starts, socket_record, stands_so, there, none_stands}
 use Rattle.wasi_walks.proofs.walks.SocketSteps.{finish_started_walks, local_address_walks, shutdown_at_walks, start_connect_walks, start_bind_walks, looked_walks, set_chosen_walks, remote_address_walks, on_socket, finish_connect_walks, as_left, answered_walks}
 use Rattle.wasi_walks.proofs.walks.ListenSteps.{accept_on_walks, start_listen_at_walks}
-use Rattle.wasi_records.specs.Records.{tcp2_at, open_at}
+use Rattle.wasi_records.specs.Records.{tcp2_at, open_at, udp2_at}
 use Rattle.wasi_host.specs.declared.pending.Outcome.{Outcome}
 use Rattle.wasi_host.specs.Machine.{udp_socket_at, outgoing_at, lookup_number}
 use Rattle.wasi_host.specs.Pending.{gone_on, created_on, streams_on}
@@ -32,7 +32,10 @@ use Rattle.wasi_walks.proofs.walks.Datagrams.{Streaming, stream_walks, streams_a
 use Rattle.wasi_walks.proofs.walks.Receives.{receive_walks}
 use Rattle.wasi_walks.proofs.walks.Lookups.{next_address_walks, resolve_walks}
 use Rattle.wasi_walks.proofs.walks.Sends.{check_send_walks, drop_outgoing_walks, send_walks}
-use Rattle.wasi_walks.proofs.walks.Udp.{on_udp, udp_local_at_walks, udp_get_at_walks, udp_set_at_walks, start_udp_bind_walks, finish_udp_bind_walks, rebind_udp_walks, create_on_walks, create_udp_walks}
+use Rattle.wasi_walks.proofs.walks.Udp.{on_udp, udp_local_at_walks, udp_get_at_walks, udp_set_at_walks, start_udp_bind_walks, finish_udp_bind_walks, rebind_udp_walks, Polling, polled_walks, create_udp_walks}
+use Rattle.wasi_walks.proofs.walks.P3Udp.{p3_disconnect_walks, p3_udp_get_walks, p3_udp_local_walks, p3_udp_set_walks}
+use Rattle.wasi_host.specs.BaseStops.{BaseStop}
+use Rattle.wasi_records.specs.declared.udp.UdpRecord.{UdpRecord}
 use Rattle.wasi_walks.proofs.Words.{Asks, append-nil, first_ids, handles_of, inr, ◌∷◌, []}
 use Rattle.wasi_streams.specs.Streams.{zeros}
 use Rattle.wasi_host.specs.declared.kind.Kind.TheVariants.{PlainInput, PlainOutput}
@@ -45,14 +48,14 @@ use Rattle.wasi_walks.proofs.walks.Polling.{block_walks, looks_begin, poll_asks_
 use Rattle.wasi_host.specs.Machine.{code_told, same_told}
 use Rattle.wasi_p3.specs.Tcp as p3
 use Rattle.wasi_walks.proofs.walks.P3Steps.{p3_get_walks, p3_local_walks, p3_remote_walks, p3_set_walks}
-use Rattle.wasi_walks.proofs.walks.Moves.{OfP2, OfP3}
+use Rattle.wasi_walks.proofs.walks.Moves.{AwaitsCreate, Interface, P2, P3, Recalled}
 use Rattle.wasi_walks.proofs.walks.Cancels.{cancel_walks}
 use Rattle.wasi_walks.proofs.walks.Pipes.{input_pipe_walks, output_pipe_walks, plain_walks}
 use Rattle.wasi_walks.proofs.walks.Splices.{splice_walks}
 
 -- it makes no handle
 abbrev MakesNoHandle : StandingCall → Type 0
-MakesNoHandle (StandingCall.UdpCreate place) = ⊥
+MakesNoHandle (StandingCall.UdpCreate place face) = ⊥
 MakesNoHandle (StandingCall.UdpConnect place handle) = ⊥
 MakesNoHandle (StandingCall.Blocking call) = ⊥
 MakesNoHandle _ = ⊤
@@ -110,9 +113,8 @@ module _ {contexts : List WasiSocketsCtx} {line : ℕ} {origin : Step} {law : La
     gone_on_walks place (Ok answer, store) = gives _ (Leaves _)
     gone_on_walks place (Err why, store) = gives _ (Leaves _)
 
-    created_on_walks : (done : Result (Answer ℕ) Stop × Machine) → Walks law (Over done.1) OverWith (Give (created_on done))
-    created_on_walks (Ok answer, m) = give _
-    created_on_walks (Err why, m) = give _
+    created_on_walks : (face : Interface) (done : Result (Answer ℕ) BaseStop × Machine) → Walks law (Over done.1) OverWith (Give (created_on face done))
+    created_on_walks face done = give _
 
     -- a call that makes no handle works on the record of its place
     go_on_walks : (call : StandingCall) → MakesNoHandle call → Walks law (At ids.line m (call_place call) Used) OverWith (go_on m ids call)
@@ -121,7 +123,7 @@ module _ {contexts : List WasiSocketsCtx} {line : ℕ} {origin : Step} {law : La
     go_on_walks (StandingCall.DropOutput place) k = and_then (drop_output_walks ids place m quiet (tcp2_at m.store.records place) refl) (λ done. gone_on_walks place (allowed_answer done))
     go_on_walks (StandingCall.UdpBind place) k = and_then (rebind_udp_walks ids m quiet place (open_at m.store.records place) refl) (gone_on_walks place)
     go_on_walks (StandingCall.DropOutgoing place) k = drop_outgoing_walks ids m place quiet (λ done. gone_on (with_store m (allowed_answer done))) (dropped_so m)
-    go_on_walks (StandingCall.UdpCreate place) k = absurd k
+    go_on_walks (StandingCall.UdpCreate place face) k = absurd k
     go_on_walks (StandingCall.UdpConnect place handle) k = absurd k
     go_on_walks (StandingCall.Blocking call) k = absurd k
 
@@ -132,8 +134,8 @@ module _ {contexts : List WasiSocketsCtx} {line : ℕ} {origin : Step} {law : La
     streams_go_on : (place handle : ℕ) → Walks law (Streaming ids.line m place handle (ToConnect place)) OverWith (go_on m ids (StandingCall.UdpConnect place handle))
     streams_go_on place handle = and_then (streams_again ids m place handle quiet) streamed_walks
 
-    create_goes_on : m.store.standing ≡ None → (place : ℕ) → Walks law (Over m) OverWith (go_on m ids (StandingCall.UdpCreate place))
-    create_goes_on idle place = and_then (create_on_walks ids m idle place) created_on_walks
+    create_goes_on : m.store.standing ≡ None → (place : ℕ) (face : Interface) → Walks law (Polling face m place (udp2_at m.store.records place)) OverWith (go_on m ids (StandingCall.UdpCreate place face))
+    create_goes_on idle place face = and_then (polled_walks face m place ids idle (udp2_at m.store.records place) refl) (created_on_walks face)
 
   resumed_walks : (done : Result (Answer Outcome) Stop × Machine) → Walks law (Over done.1) OverWith (Give (resumed done))
   resumed_walks (Ok answer, m) = give _
@@ -141,7 +143,22 @@ module _ {contexts : List WasiSocketsCtx} {line : ℕ} {origin : Step} {law : La
 
   -- the call is taken out, and continues
   taken_walks : (m : Machine) (ids : Ids) (call : StandingCall) → MayContinue law call → m.store.standing ≡ Some (standing_as ids call) → Walks law (Starts m Unused) OverWith (go_on (record m { store = unstood m.store }) ids call)
-  taken_walks m ids (StandingCall.UdpCreate place) lets e = move (Unstands _ (takes_none m.store.standing ids (StandingCall.UdpCreate place) Unused e tt)) (move (Spends _ refl) (create_goes_on ids (record m { store = unstood m.store }) tt refl place))
+  taken_walks m ids (StandingCall.UdpCreate place face) lets e = by_record (udp2_at m.store.records place) refl
+    where
+      now : Machine
+      now = record m { store = unstood m.store }
+
+      goes : Walks law (Polling face now place (udp2_at m.store.records place)) OverWith (go_on now ids (StandingCall.UdpCreate place face))
+      goes = create_goes_on ids now tt refl place face
+
+      none : (p : ℕ) → ConnectStands m.store.standing p → Unused ≡ ToConnect p
+      none = takes_none m.store.standing ids (StandingCall.UdpCreate place face) Unused e tt
+
+      by_record : (u : Option UdpRecord) → udp2_at m.store.records place ≡ u → Walks law (Starts m Unused) OverWith (go_on now ids (StandingCall.UdpCreate place face))
+      by_record (Some (UdpRecord.Creating create)) g = move (AwaitsCreate _ place face create (Recalled ids e) g) (move (Unstands _ none) (move (Spends _ refl) (from (ap (Polling face now place) g) goes)))
+      by_record (Some (UdpRecord.Open o)) g = move (Unstands _ none) (move (Spends _ refl) (from (ap (Polling face now place) g) goes))
+      by_record (Some (UdpRecord.Closed side)) g = move (Unstands _ none) (move (Spends _ refl) (from (ap (Polling face now place) g) goes))
+      by_record None g = move (Unstands _ none) (move (Spends _ refl) (from (ap (Polling face now place) g) goes))
   taken_walks m ids (StandingCall.Blocking call) lets e = move (RecallsCall _ ids call e) (move (Unstands _ (takes_none m.store.standing ids (StandingCall.Blocking call) Unused e tt)) (move (Spends _ refl) (unblock_walks ids (record m { store = unstood m.store }) call lets)))
   taken_walks m ids (StandingCall.UdpConnect place handle) lets e = move (Resumes _ (standing_as ids (StandingCall.UdpConnect place handle)) e tt) (move (RecallsStreams _ ids place handle e refl) (move (Unstands _ (λ p k. ap (λ (x : ℕ). ToConnect x) (subst (λ (o : Option Standing). ConnectStands o p) e k))) (streams_go_on ids (record m { store = unstood m.store }) tt place handle)))
   taken_walks m ids (StandingCall.DropOutgoing place) lets e = move (Resumes _ (standing_as ids (StandingCall.DropOutgoing place)) e tt) (move (Unstands _ (takes_none m.store.standing ids (StandingCall.DropOutgoing place) Unused e tt)) (move (Spends _ refl) (go_on_walks ids (record m { store = unstood m.store }) tt (StandingCall.DropOutgoing place) tt)))
@@ -189,7 +206,7 @@ listen_settles _ e = tt
 -- each step is made of moves; where a guest calls, nothing is pending
 pub step_walks : {contexts : List WasiSocketsCtx} (line : ℕ) (s : Step) {law : Law contexts line s} → (m : Machine) → BeginsWrites law ⊎ IsSimpleAt m.store.standing s → (is_guest_call s ≡ true → m.store.standing ≡ None) → Walks law (Starts m (may m s)) OverWith (step_asks contexts m line s)
 step_walks line (Step.Call c GuestCall.Network) m b f = move (Spends _ refl) (and_then (and_then (mark (ANetwork c refl)) (λ made. give _)) (λ done. give _))
-step_walks {contexts} line (Step.Call c (GuestCall.TcpCreate family)) m b f = and_then (create same_told code_told OfP2 (context_at contexts c) family (refl, refl, refl) refl refl refl) (λ done. give _)
+step_walks {contexts} line (Step.Call c (GuestCall.TcpCreate family)) m b f = and_then (create same_told code_told P2 (context_at contexts c) family (refl, refl, refl) refl refl refl) (λ done. give _)
 step_walks line (Step.Call c (GuestCall.TcpStartBind s n a)) m b f = and_then (start_bind_walks m s n a (inl refl) refl (none_stands (f refl))) (λ done. give _)
 step_walks line (Step.Call c (GuestCall.TcpFinishBind s)) m b f = as_left (finish_started_walks m is_bind bind_settles (socket_at m s))
 step_walks line (Step.Call c (GuestCall.TcpStartConnect s n a)) m b f = and_then (start_connect_walks m s n a (inl refl) refl) (λ done. give _)
@@ -204,14 +221,21 @@ step_walks line (Step.Call c (GuestCall.TcpAddressFamily s)) m b f = gives _ (Sp
 step_walks line (Step.Call c (GuestCall.TcpGet s option)) m b f = and_then (on_socket m s (socket_at m s) (inl refl) (socket_record (kind_at m.table s)) (λ place. looked_walks m place (λ x. get_option_asks (own_of line) x option) (tcp2_at m.store.records place) refl (λ r here. get_walks here refl r option refl refl))) (λ done. give _)
 step_walks line (Step.Call c (GuestCall.TcpSet s setting)) m b f = and_then (set_chosen_walks m s (socket_at m s) (chosen setting) (inl refl) (socket_record (kind_at m.table s)) (option_set c s setting) (backlog_set c s setting)) (λ done. give _)
 step_walks line (Step.Call c (GuestCall.TcpShutdown s how)) m b f = and_then (on_socket m s (socket_at m s) (inl refl) (socket_record (kind_at m.table s)) (λ place. shutdown_at_walks m place how (tcp2_at m.store.records place) refl)) (λ done. give _)
-step_walks {contexts} line (Step.Call c (GuestCall.P3TcpCreate family)) m b f = and_then (create p3.handle_told p3.code_told OfP3 (context_at contexts c) family (refl, refl, refl) refl refl refl) (λ done. give _)
+step_walks {contexts} line (Step.Call c (GuestCall.P3TcpCreate family)) m b f = and_then (create p3.handle_told p3.code_told P3 (context_at contexts c) family (refl, refl, refl) refl refl refl) (λ done. give _)
 step_walks line (Step.Call c (GuestCall.P3TcpLocalAddress s)) m b f = and_then (p3_local_walks m s (inl refl)) (λ done. give _)
 step_walks line (Step.Call c (GuestCall.P3TcpRemoteAddress s)) m b f = and_then (p3_remote_walks m s (inl refl)) (λ done. give _)
 step_walks line (Step.Call c (GuestCall.P3TcpIsListening s)) m b f = gives _ (Spends _ refl)
 step_walks line (Step.Call c (GuestCall.P3TcpAddressFamily s)) m b f = gives _ (Spends _ refl)
 step_walks line (Step.Call c (GuestCall.P3TcpGet s option)) m b f = and_then (p3_get_walks m s option (inl refl) refl) (λ done. give _)
 step_walks line (Step.Call c (GuestCall.P3TcpSet s setting)) m b f = and_then (p3_set_walks m s (chosen setting) (inl refl) (p3_option_set c s setting) (p3_backlog_set c s setting)) (λ done. give _)
-step_walks {contexts} line (Step.Call c (GuestCall.UdpCreate family)) m b f = and_then (create_udp_walks m (context_at contexts c) family (refl, refl) (f refl)) (λ done. give _)
+step_walks {contexts} line (Step.Call c (GuestCall.P3UdpCreate family)) m b f = and_then (and_then (create_udp_walks P3 m (context_at contexts c) family (refl, refl, refl) (f refl)) (λ done. give _)) (λ done. give _)
+step_walks line (Step.Call c (GuestCall.P3UdpDisconnect s)) m b f = and_then (p3_disconnect_walks m s (inl refl) tt) (λ done. give _)
+step_walks line (Step.Call c (GuestCall.P3UdpLocalAddress s)) m b f = and_then (p3_udp_local_walks m s (inl refl)) (λ done. give _)
+step_walks line (Step.Call c (GuestCall.P3UdpRemoteAddress s)) m b f = gives _ (Spends _ refl)
+step_walks line (Step.Call c (GuestCall.P3UdpAddressFamily s)) m b f = gives _ (Spends _ refl)
+step_walks line (Step.Call c (GuestCall.P3UdpGet s option)) m b f = and_then (p3_udp_get_walks m s (udp_opt option) (inl refl) refl) (λ done. give _)
+step_walks line (Step.Call c (GuestCall.P3UdpSet s setting)) m b f = and_then (p3_udp_set_walks m s (udp_chosen setting).0 (udp_chosen setting).1 (inl refl) (refl, refl)) (λ done. give _)
+step_walks {contexts} line (Step.Call c (GuestCall.UdpCreate family)) m b f = and_then (and_then (create_udp_walks P2 m (context_at contexts c) family (refl, refl, refl) (f refl)) (λ done. give _)) (λ done. give _)
 step_walks line (Step.Call c (GuestCall.UdpStartBind s n a)) m b f = and_then (start_udp_bind_walks m s n a (inl refl) refl (none_stands (f refl))) (λ done. give _)
 step_walks line (Step.Call c (GuestCall.UdpFinishBind s)) m b f = as_left (finish_udp_bind_walks m (udp_socket_at m s))
 step_walks line (Step.Call c (GuestCall.UdpLocalAddress s)) m b f = and_then (on_udp m s (udp_socket_at m s) (inl refl) (udp_record (kind_at m.table s)) (λ place. udp_local_at_walks m place (open_at m.store.records place) refl)) (λ done. give _)

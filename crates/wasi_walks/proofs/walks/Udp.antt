@@ -9,29 +9,33 @@ use Rattle.wasi_world.specs.declared.ids.Ids.{Ids}
 use Rattle.wasi_world.specs.declared.call.Opt.{Opt}
 use Rattle.socket_common.specs.Options.{value_set, zero_test, refused_before, refused_after}
 use Rattle.wasi_records.specs.Records.{open_at, open_of, udp2_at}
-use Rattle.wasi_host.specs.declared.kind.Kind.TheVariants.{Udp2}
+use Rattle.wasi_host.specs.declared.kind.Interface.{Interface}
+use Rattle.wasi_host.specs.BaseStops.{BaseStop}
+use Rattle.wasi_walks.proofs.Words.{GuestCall, Kind, OpId, Told}
 use Rattle.wasi_records.specs.declared.udp.OpenUdp.{OpenUdp}
 use Rattle.wasi_records.specs.declared.udp.UdpRecord.{UdpRecord}
 use Rattle.wasi_records.specs.declared.udp.UdpInProgress.{UdpInProgress}
 use Rattle.wasi_records.specs.Datagrams.{has_streams}
 use Rattle.wasi_host.specs.Machine.{udp_socket_at}
-use Rattle.wasi_records.specs.Udp.{begin_udp_bind_asks, close_udp_asks, is_udp_bound, is_udp_idle, poll_create_asks, poll_udp_bind_asks, poll_udp_binding, udp_bind_begun, udp_bind_ended, udp_create_ended, udp_create_left, udp_local_asks, with_udp_inner, with_udp_progress}
+use Rattle.wasi_records.specs.Udp.{begin_udp_bind_asks, close_udp_asks, is_udp_bound, is_udp_idle, poll_create_asks, poll_udp_bind_asks, poll_udp_binding, udp_bind_begun, udp_bind_ended, udp_create_ended, udp_create_left, udp_local_asks, udp_side, with_udp_inner, with_udp_progress}
 use Rattle.wasi_host.specs.UdpCalls.{finish_udp_bind_at, finish_udp_bind_by, get_udp_option_at, rebind_udp_at, release_udp_at, set_udp_option_at, udp_left, start_udp_bind_at, start_udp_bind_by, start_udp_bind_unless, udp_call_answered, udp_local_at, udp_put_back}
-use Rattle.wasi_host.specs.UdpCreates.{create_answered, create_begun, create_on, create_so, create_udp_asks, handle_made, mark_udp, poll_create_at, with_create}
+use Rattle.wasi_host.specs.UdpCreates.{create_answered, create_begun, create_so, create_udp, handle_made, mark_udp, poll_create_at, with_create}
 use Rattle.wasi_p2.specs.Options.{record_asks}
 use Rattle.wasi_p2.specs.Udp.{finish_udp_bind_on, start_udp_bind_asks}
 use Rattle.wasi_udp.specs.Bind.{bind_asks, bind_operation, bind_start}
 use Rattle.wasi_udp.specs.declared.bind.UdpBindStage.{UdpBindStage}
-use Rattle.wasi_udp.specs.Create.{Create}
+use Rattle.wasi_udp.specs.Create.{Create, after_create, new_asks}
+use Rattle.wasi_world.specs.Typed.{ask_udp_create, told_done}
+use Rattle.wasi_addr.specs.declared.code.ErrorCode.TheVariants.{AccessDenied}
 use Rattle.wasi_udp.specs.Options.{get_option_asks, set_option_asks}
 use Rattle.wasi_udp.specs.Shape.{Socket}
-use Rattle.wasi_udp.specs.Socket.{asker_of, ask_bound, bound_asks, local_where}
-use Rattle.wasi_walks.specs.Licence.{IsGetOf, IsSetTo, IsUdpBindTo}
-use Rattle.wasi_walks.proofs.walks.Moves.{StreamStays, AwaitsCreate, Here, put_udp, FoundUdp, IsOpenUdp, NoStart, NoStartStands, ReleasesUdp, CreatesUdp, udp_begun, part_of, udp_record_of, IsUdpSettled, ReachesUdp, Leaves, Spends, UdpChanges, BeginsUdpBind, StandsUdpBind, StandsUdpCreate, Used, Unused, GivesBack, OfUdp}
+use Rattle.wasi_udp.specs.Socket.{asker_of, ask_bound, bound_asks, disconnect_in, local_where}
+use Rattle.wasi_walks.specs.Licence.{IsDisconnect, IsGetOf, IsSetTo, IsUdpBindTo}
+use Rattle.wasi_walks.proofs.walks.Moves.{Awaited, Begun, MakesUdpFor, udp_socket_of, StreamStays, AwaitsCreate, Here, put_udp, FoundUdp, IsOpenUdp, NoStart, NoStartStands, ReleasesUdp, CreatesUdp, udp_begun, part_of, udp_record_of, IsUdpSettled, ReachesUdp, Leaves, Spends, UdpChanges, BeginsUdpBind, StandsUdpBind, StandsUdpCreate, Used, Unused, GivesBack, OfUdp}
 use Rattle.wasi_walks.proofs.walks.Law.{Law, Walks, Given, given_then, given_on, given_along, give, and_then, and_so, and_given, by_if, move, gives, from}
 use Rattle.wasi_walks.proofs.walks.States.{At, Awaiting, Emptying, Over, OverWith, Put, Starts, none_stands, udp_record}
-use Rattle.wasi_walks.proofs.walks.UdpLaw.{HasUdp, udp_put_put, udp_put_same, udp_found, create_udp, mark_udp_walks, ask_udp, learn_udp, close_udp, poll_create_walks, poll_udp_bind_walks}
-use Rattle.wasi_walks.proofs.Places.{put_finds, udp_sort}
+use Rattle.wasi_walks.proofs.walks.UdpLaw.{HasUdp, udp_put_put, udp_put_same, udp_found, begin_create, mark_udp_walks, ask_udp, disconnect_udp, learn_udp, peer_udp, close_udp, poll_create_walks, poll_udp_bind_walks}
+use Rattle.wasi_walks.proofs.Places.{push_finds, put_finds, udp_sort}
 
 -- what is open at a place is the UDP socket there
 pub open_is : (u : Option UdpRecord) (o : OpenUdp) → open_of u ≡ Some o → u ≡ Some (UdpRecord.Open o)
@@ -66,25 +70,46 @@ begun_given o (Err c, socket) = tt
 begin_given : (own : _) (o : OpenUdp) (a : IpSocketAddress) → Given WaitsUdp (begin_udp_bind_asks own o a)
 begin_given own o a = given_on WaitsUdp (udp_bind_begun o) (begun_given o) (bind_asks own o.inner a)
 
--- and a create that is pending has its create in progress
-pub record IsCreatingNow (u : UdpRecord) : Type 0 where
+-- and a create that is pending has its create in progress, for the same network socket
+pub record IsCreatingNow (side : OpId) (u : UdpRecord) : Type 0 where
   pub create : Create
   pub is : u ≡ UdpRecord.Creating create
+  pub same : create.operation.who.side ≡ side
 
-abbrev pub WaitsCreate : Result (Answer (Unit {0})) ErrorCode × UdpRecord → Type 0
-WaitsCreate (Ok Pending, u) = IsCreatingNow u
-WaitsCreate (Ok (Ready d), u) = IsOpenUdp u
-WaitsCreate _ = ⊤
+abbrev pub WaitsCreate : OpId → Result (Answer (Unit {0})) ErrorCode × UdpRecord → Type 0
+WaitsCreate side (Ok Pending, u) = IsCreatingNow side u
+WaitsCreate side (Ok (Ready d), u) = IsOpenUdp u × (udp_side u ≡ side)
+WaitsCreate side _ = ⊤
 
-create_given : (u : UdpRecord) → Given WaitsCreate (poll_create_asks u)
-create_given (UdpRecord.Creating create) = given_then WaitsCreate (udp_create_ended create) ended (poll_asks create.operation)
+create_given : (u : UdpRecord) → Given (WaitsCreate (udp_side u)) (poll_create_asks u)
+create_given (UdpRecord.Creating create) = given_then (WaitsCreate create.operation.who.side) (udp_create_ended create) ended (poll_asks create.operation)
   where
-    ended : (e : End × List Item) → WaitsCreate (udp_create_ended create e)
-    ended (Waits, items) = record { create = _; is = refl }
-    ended (Done given, items) = tt
+    ended : (e : End × List Item) → WaitsCreate create.operation.who.side (udp_create_ended create e)
+    ended (Waits, items) = record { create = _; is = refl; same = refl }
+    ended (Done given, items) = (tt, refl)
     ended (Refused c given, items) = tt
 create_given (UdpRecord.Open o) = tt
 create_given (UdpRecord.Closed s) = tt
+
+-- one that the line begins has the line's own name
+abbrev IsOwn : ℕ → Result Create ErrorCode → Type 0
+IsOwn line (Ok create) = create.operation.who.side ≡ own_of line
+IsOwn line (Err c) = ⊤
+
+own_given : (line : ℕ) (ctx : WasiSocketsCtx) (family : SocketAddressFamily) → Given (IsOwn line) (new_asks (own_of line) ctx family)
+unfolding bind
+own_given line ctx family = by_use ctx.udp
+  where
+    told_own : (told : Told) → IsOwn line (after_create (own_of line) ctx.name family (told_done told))
+    told_own told = by_done (told_done told)
+      where
+        by_done : (done : Result (Unit {0}) ErrorCode) → IsOwn line (after_create (own_of line) ctx.name family done)
+        by_done (Ok d) = refl
+        by_done (Err c) = tt
+
+    by_use : (b : Bool) → Given (IsOwn line) (if b then bind (ask_udp_create (own_of line) ctx.name family) (λ told. Give (after_create (own_of line) ctx.name family told)) else Give (Err AccessDenied))
+    by_use true = told_own
+    by_use false = tt
 
 -- only what was started is finished, and that is no bind in progress
 bound_settles : (doing : UdpInProgress) → is_udp_bound doing ≡ true → IsUdpSettled doing
@@ -97,36 +122,59 @@ udp_there {u} g = record { was = u; at = g }
 pub opened : (line : ℕ) (m : Machine) (place : ℕ) (o : OpenUdp) → open_at m.store.records place ≡ Some o → FoundUdp (At line m place Unused) place (UdpRecord.Open o)
 opened line m place o e = open_is (udp2_at m.store.records place) o e
 
--- The socket of the record is there.
-record HasOpened (store : Records) (place : ℕ) : Type 0 where
+-- The socket of the record is there, with this network socket.
+record HasOpened (store : Records) (place : ℕ) (side : OpId) : Type 0 where
   was : UdpRecord
   at : udp2_at store.records place ≡ Some was
   opens : IsOpenUdp was
+  same : udp_side was ≡ side
+
+-- The record is being created, for this network socket.
+record HasCreating (store : Records) (place : ℕ) (side : OpId) : Type 0 where
+  quiet : NoStartStands store.standing
+  create : Create
+  at : udp2_at store.records place ≡ Some (UdpRecord.Creating create)
+  same : create.operation.who.side ≡ side
 
 -- the record is being created, where the create is pending, and is there where it is done
-abbrev CreatesOn : ℕ → Result (Answer (Unit {0})) Stop × Records → Type 0
-CreatesOn place (Ok Pending, store) = NoStartStands store.standing × ((create : Create) × (udp2_at store.records place ≡ Some (UdpRecord.Creating create)))
-CreatesOn place (Ok (Ready d), store) = HasOpened store place
-CreatesOn place _ = ⊤
+abbrev CreatesOn : ℕ → OpId → Result (Answer (Unit {0})) BaseStop × Records → Type 0
+CreatesOn place side (Ok Pending, store) = HasCreating store place side
+CreatesOn place side (Ok (Ready d), store) = HasOpened store place side
+CreatesOn place side _ = ⊤
 
--- where a create is done, its record has no handle yet
-abbrev Polled : Machine → ℕ → Result (Answer (Unit {0})) ErrorCode × UdpRecord → Here
-Polled m place (Ok (Ready d), u) = put_udp (Awaiting m place) place u
-Polled m place (_, u) = put_udp (Over m) place u
+-- where a create isn't refused, its record has no handle yet
+abbrev Polled : Interface → OpId → Machine → ℕ → Result (Answer (Unit {0})) ErrorCode × UdpRecord → Here
+Polled face side m place (Ok answer, u) = put_udp (Awaiting face side m place) place u
+Polled face side m place (Err c, u) = put_udp (Over m) place u
 
-abbrev CreatedSo : Machine → ℕ → Result (Answer (Unit {0})) Stop × Records → Here
-CreatedSo m place (Ok (Ready d), store) = Awaiting (record m { store = store }) place
-CreatedSo m place (_, store) = Over (record m { store = store })
+abbrev CreatedSo : Interface → OpId → Machine → ℕ → Result (Answer (Unit {0})) BaseStop × Records → Here
+CreatedSo face side m place (Ok answer, store) = Awaiting face side (record m { store = store }) place
+CreatedSo face side m place (Err stop, store) = Over (record m { store = store })
+
+-- a create that is polled is awaited
+abbrev pub Polling : Interface → Machine → ℕ → Option UdpRecord → Here
+Polling face m place (Some (UdpRecord.Creating create)) = Awaiting face create.operation.who.side m place
+Polling face m place _ = Over m
+
+same_polling : (face : Interface) (m : Machine) (place : ℕ) (u : UdpRecord) → udp2_at m.store.records place ≡ Some u → put_udp (Polling face m place (Some u)) place u ≡ Polling face m place (Some u)
+same_polling face m place (UdpRecord.Creating create) g = udp_put_same (Awaiting face create.operation.who.side m place) place (UdpRecord.Creating create) g
+same_polling face m place (UdpRecord.Open o) g = udp_put_same (Over m) place (UdpRecord.Open o) g
+same_polling face m place (UdpRecord.Closed s) g = udp_put_same (Over m) place (UdpRecord.Closed s) g
+
+-- a step that creates is one that makes sockets of its interface
+made_for : (contexts : List WasiSocketsCtx) (face : Interface) (ctx : WasiSocketsCtx) (family : SocketAddressFamily) (s : Step) → CreatesUdp contexts ctx family face s → MakesUdpFor face s
+made_for contexts face ctx family (Step.Call n (GuestCall.UdpCreate f)) c = c.2
+made_for contexts face ctx family (Step.Call n (GuestCall.P3UdpCreate f)) c = c.2
+made_for contexts face ctx family _ c = absurd c
 
 module _ (m : Machine) (place : ℕ) where
-  answered_given : NoStartStands m.store.standing → (was : UdpRecord) → udp2_at m.store.records place ≡ Some was → (done : Result (Answer (Unit {0})) ErrorCode × UdpRecord) → WaitsCreate done → CreatesOn place (create_answered m.store place done)
-  answered_given q was g (Ok Pending, u) w = (q, (w.create, put_finds udp_sort m.store.records place was u g ∙ ap (λ (x : UdpRecord). Some x) w.is))
-  answered_given q was g (Ok (Ready d), u) w = record { was = u; at = put_finds udp_sort m.store.records place was u g; opens = w }
-  answered_given q was g (Err c, u) w = tt
+  answered_given : NoStartStands m.store.standing → (was : UdpRecord) → udp2_at m.store.records place ≡ Some was → (side : OpId) (done : Result (Answer (Unit {0})) ErrorCode × UdpRecord) → WaitsCreate side done → CreatesOn place side (create_answered m.store place done)
+  answered_given q was g side (Ok Pending, u) w = record { quiet = q; create = w.create; at = put_finds udp_sort m.store.records place was u g ∙ ap (λ (x : UdpRecord). Some x) w.is; same = w.same }
+  answered_given q was g side (Ok (Ready d), u) w = record { was = u; at = put_finds udp_sort m.store.records place was u g; opens = w.0; same = w.1 }
+  answered_given q was g side (Err c, u) w = tt
 
-  poll_at_given : NoStartStands m.store.standing → (u : Option UdpRecord) → udp2_at m.store.records place ≡ u → Given (CreatesOn place) (poll_create_at m.store place u)
-  poll_at_given q None g = tt
-  poll_at_given q (Some u) g = given_along WaitsCreate (CreatesOn place) (poll_create_asks u) (λ done. Give (create_answered m.store place done)) (create_given u) (answered_given q u g)
+  poll_at_given : NoStartStands m.store.standing → (u : UdpRecord) → udp2_at m.store.records place ≡ Some u → Given (CreatesOn place (udp_side u)) (poll_create_at m.store place (Some u))
+  poll_at_given q u g = given_along (WaitsCreate (udp_side u)) (CreatesOn place (udp_side u)) (poll_create_asks u) (λ done. Give (create_answered m.store place done)) (create_given u) (answered_given q u g (udp_side u))
 
 -- with another store
 abbrev with_store_of : Here → Records → Here
@@ -154,6 +202,12 @@ module _ {contexts : List WasiSocketsCtx} {line : ℕ} {origin : Step} {law : La
 
     pub udp_local_walks : (o : OpenUdp) → Walks law (put_udp h place (UdpRecord.Open o)) (λ done. put_udp h place (UdpRecord.Open done.1)) (udp_local_asks (own_of line) o)
     udp_local_walks o = and_then (and_then (bound_walks o) (λ b. where_walks (with_udp_inner o b.1) b.0)) (λ done. give _)
+
+    -- its remote address is taken away
+    pub disconnect_walks : IsDisconnect origin → (o : OpenUdp) (remote : Option IpSocketAddress) → Walks law (put_udp h place (UdpRecord.Open o)) (λ done. put_udp h place (UdpRecord.Open (with_udp_inner o done.1))) (disconnect_in (own_of line) o.inner remote)
+    unfolding bind
+    disconnect_walks to o None = give _
+    disconnect_walks to o (Some a) = disconnect_udp here o at to (λ told. peer_udp here (with_udp_inner o (record o.inner { bound = true })) at (λ t. give _))
 
     -- options
     pub get_udp_walks : (o : OpenUdp) (option : Opt) → IsGetOf option origin → Walks law (put_udp h place (UdpRecord.Open o)) (λ done. put_udp h place (UdpRecord.Open o)) (get_option_asks (own_of line) o.inner option)
@@ -281,56 +335,62 @@ module _ {contexts : List WasiSocketsCtx} {line : ℕ} {origin : Step} {law : La
   left_walks here q (UdpRecord.Creating create) w = w
   left_walks here q (UdpRecord.Open o) w = w
 
-  pub release_udp_walks : (m : Machine) (place : ℕ) (u : Option UdpRecord) → udp2_at m.store.records place ≡ u → m.store.standing ≡ None → Walks law (Emptying line m place (Udp2 place) Unused) (λ done. Emptying line (record m { store = done.1 }) place (Udp2 place) Used) (release_udp_at m.store (own_of line) place u)
-  release_udp_walks m place None g q = gives _ (Spends _ refl)
-  release_udp_walks m place (Some u) g q =
-      from (udp_put_same (Emptying line m place (Udp2 place) Unused) place u g)
-      (and_then (close_by (udp_there {h = Emptying line m place (Udp2 place) Unused} g) (none_stands q, refl) u) (λ done. move (Spends _ refl) (left_walks (udp_there {h = Emptying line m place (Udp2 place) Used} g) q done.1 (give _))))
+  pub release_udp_walks : (m : Machine) (place : ℕ) (kind : Kind) → udp_socket_of kind ≡ Some place → (u : Option UdpRecord) → udp2_at m.store.records place ≡ u → m.store.standing ≡ None → Walks law (Emptying line m place kind Unused) (λ done. Emptying line (record m { store = done.1 }) place kind Used) (release_udp_at m.store (own_of line) place u)
+  release_udp_walks m place kind is None g q = gives _ (Spends _ refl)
+  release_udp_walks m place kind is (Some u) g q =
+      from (udp_put_same (Emptying line m place kind Unused) place u g)
+      (and_then (close_by (udp_there {h = Emptying line m place kind Unused} g) (none_stands q, record { kind = kind; made = refl; socket = is }) u) (λ done. move (Spends _ refl) (left_walks (udp_there {h = Emptying line m place kind Used} g) q done.1 (give _))))
 
   -- == a create
-  created_by : (m : Machine) (made : Result ℕ Stop × HandleTable) → Walks law (Over (record m { table = made.1 })) OverWith (Give (handle_made m made))
-  created_by m (Ok handle, t) = give _
-  created_by m (Err why, t) = give _
+  created_walks : (m : Machine) (made : Result ℕ Stop × HandleTable) → Walks law (Over (record m { table = made.1 })) OverWith (Give (handle_made m made))
+  created_walks m (Ok handle, t) = give _
+  created_walks m (Err why, t) = give _
 
-  mark_walks : (m : Machine) (place : ℕ) (u : Option UdpRecord) → udp2_at m.store.records place ≡ u → HasOpened m.store place → Walks law (Awaiting m place) OverWith (mark_udp m place u)
-  mark_walks m place None g o = absurd (let at = o.at in cc)
-  mark_walks m place (Some u) g o =
-      let same : o.was ≡ u = let at = o.at in cc in
-      and_then (mark_udp_walks place u (record { awaited = refl; found = g; opens = subst IsOpenUdp same o.opens })) (created_by m)
+  module _ (face : Interface) where
+    mark_walks : (side : OpId) (m : Machine) (place : ℕ) (u : Option UdpRecord) → udp2_at m.store.records place ≡ u → HasOpened m.store place side → Walks law (Awaiting face side m place) OverWith (mark_udp face m place u)
+    mark_walks side m place None g o = absurd (let at = o.at in cc)
+    mark_walks side m place (Some u) g o =
+        let same : o.was ≡ u = let at = o.at in cc in
+        let its : udp_side u ≡ side = subst (λ (x : UdpRecord). udp_side x ≡ side) same o.same in
+        and_then (mark_udp_walks face place u (record { awaited = ap (λ (x : OpId). Awaited face x place) (sym its); found = g; opens = subst IsOpenUdp same o.opens })) (created_walks m)
 
-  create_so_walks : (ids : Ids) (place : ℕ) (m : Machine) (done : Result (Answer (Unit {0})) Stop × Records) → CreatesOn place done → Walks law (CreatedSo m place done) OverWith (create_so ids place m done)
-  create_so_walks ids place m (Ok Pending, store) w = gives _ (StandsUdpCreate _ ids place w.1.0 w.0 w.1.1)
-  create_so_walks ids place m (Ok (Ready d), store) w = mark_walks (record m { store = store }) place (udp2_at store.records place) refl w
-  create_so_walks ids place m (Err c, store) w = give _
+    create_so_walks : (side : OpId) (ids : Ids) (place : ℕ) (m : Machine) (done : Result (Answer (Unit {0})) BaseStop × Records) → CreatesOn place side done → Walks law (CreatedSo face side m place done) OverWith (create_so face ids place m done)
+    create_so_walks side ids place m (Ok Pending, store) w = move (StandsUdpCreate _ ids place face w.create w.quiet (ap (λ (x : OpId). Awaited face x place) (sym w.same)) w.at) (gives _ (Leaves _))
+    create_so_walks side ids place m (Ok (Ready d), store) w = mark_walks side (record m { store = store }) place (udp2_at store.records place) refl w
+    create_so_walks side ids place m (Err c, store) w = give _
 
-  module _ (m : Machine) (place : ℕ) where
-    ended_walks : (create : Create) (ended : End × List Item) → Walks law (put_udp (Awaiting m place) place (udp_create_left create ended)) (Polled m place) (Give (udp_create_ended create ended))
-    ended_walks create (Waits, items) = gives _ (Leaves _)
-    ended_walks create (Done given, items) = give _
-    ended_walks create (Refused c given, items) = gives _ (Leaves _)
+    module _ (m : Machine) (place : ℕ) where
+      ended_walks : (create : Create) (ended : End × List Item) → Walks law (put_udp (Awaiting face create.operation.who.side m place) place (udp_create_left create ended)) (Polled face create.operation.who.side m place) (Give (udp_create_ended create ended))
+      ended_walks create (Waits, items) = give _
+      ended_walks create (Done given, items) = give _
+      ended_walks create (Refused c given, items) = gives _ (Leaves _)
 
-    poll_so : (u : UdpRecord) → FoundUdp (Over m) place u → m.store.standing ≡ None → Walks law (put_udp (Over m) place u) (Polled m place) (poll_create_asks u)
-    poll_so (UdpRecord.Creating create) g q =
-        move (AwaitsCreate _ place create (udp_found (udp_there {h = Over m} g) (UdpRecord.Creating create)))
-        (and_then (poll_create_walks (udp_there {h = Awaiting m place} g) create (none_stands q)) (ended_walks create))
-    poll_so (UdpRecord.Open o) g q = give _
-    poll_so (UdpRecord.Closed s) g q = give _
+      poll_so : (u : UdpRecord) → udp2_at m.store.records place ≡ Some u → m.store.standing ≡ None → Walks law (put_udp (Polling face m place (Some u)) place u) (Polled face (udp_side u) m place) (poll_create_asks u)
+      poll_so (UdpRecord.Creating create) g q = and_then (poll_create_walks (udp_there {h = Awaiting face create.operation.who.side m place} g) create (none_stands q)) (ended_walks create)
+      poll_so (UdpRecord.Open o) g q = give _
+      poll_so (UdpRecord.Closed s) g q = give _
 
-    answered_so : HasUdp (Over m) place → m.store.standing ≡ None → (done : Result (Answer (Unit {0})) ErrorCode × UdpRecord) → Walks law (Polled m place done) (CreatedSo m place) (Give (create_answered m.store place done))
-    answered_so here q (Ok (Ready d), u) = give _
-    answered_so here q (Ok Pending, u) = give _
-    answered_so here q (Err c, u) = left_walks here q u (give _)
+      answered_so : (side : OpId) → HasUdp (Over m) place → m.store.standing ≡ None → (done : Result (Answer (Unit {0})) ErrorCode × UdpRecord) → Walks law (Polled face side m place done) (CreatedSo face side m place) (Give (create_answered m.store place done))
+      answered_so side here q (Ok answer, u) = give _
+      answered_so side here q (Err c, u) = left_walks here q u (give _)
 
-    poll_at_walks : (u : Option UdpRecord) → udp2_at m.store.records place ≡ u → m.store.standing ≡ None → Walks law (Over m) (CreatedSo m place) (poll_create_at m.store place u)
-    poll_at_walks None g q = give _
-    poll_at_walks (Some u) g q = from (udp_put_same (Over m) place u g) (and_then (poll_so u g q) (answered_so (udp_there {h = Over m} g) q))
+      poll_at_walks : (u : UdpRecord) → udp2_at m.store.records place ≡ Some u → m.store.standing ≡ None → Walks law (Polling face m place (Some u)) (CreatedSo face (udp_side u) m place) (poll_create_at m.store place (Some u))
+      poll_at_walks u g q = from (same_polling face m place u g) (and_then (poll_so u g q) (answered_so (udp_side u) (udp_there {h = Over m} g) q))
 
-  pub create_on_walks : (ids : Ids) (m : Machine) → m.store.standing ≡ None → (place : ℕ) → Walks law (Over m) OverWith (create_on m ids place)
-  create_on_walks ids m q place = and_given (CreatesOn place) (poll_at_given m place (none_stands q) (udp2_at m.store.records place) refl) (poll_at_walks m place (udp2_at m.store.records place) refl q) (create_so_walks ids place m)
+      pub polled_walks : (ids : Ids) → m.store.standing ≡ None → (u : Option UdpRecord) → udp2_at m.store.records place ≡ u → Walks law (Polling face m place u) OverWith (bind (poll_create_at m.store place u) (create_so face ids place m))
+      unfolding bind
+      polled_walks ids q None g = give _
+      polled_walks ids q (Some u) g = and_given (CreatesOn place (udp_side u)) (poll_at_given m place (none_stands q) u g) (poll_at_walks u g q) (create_so_walks (udp_side u) ids place m)
 
-  create_begun_walks : (m : Machine) → m.store.standing ≡ None → (begun : Result Create ErrorCode) → Walks law (udp_begun (Starts m Unused) begun) OverWith (create_begun m (first_ids line) begun)
-  create_begun_walks m q (Ok create) = create_on_walks (first_ids line) (with_create m create) q (length m.store.records)
-  create_begun_walks m q (Err c) = give _
+    -- one that the line begins
+    create_begun_walks : (m : Machine) → m.store.standing ≡ None → MakesUdpFor face origin → (begun : Result Create ErrorCode) → IsOwn line begun → Walks law (udp_begun (Starts m Unused) begun) OverWith (create_begun face m (first_ids line) begun)
+    create_begun_walks m q makes (Ok create) own =
+        let now : Machine = with_create m create in
+        let place = length m.store.records in
+        let found = push_finds udp_sort m.store.records (UdpRecord.Creating create) in
+        move (AwaitsCreate _ place face create (Begun makes own) found)
+        (from (ap (Polling face now place) found) (polled_walks now place (first_ids line) q (udp2_at now.store.records place) refl))
+    create_begun_walks m q makes (Err c) own = give _
 
-  pub create_udp_walks : (m : Machine) (ctx : WasiSocketsCtx) (family : SocketAddressFamily) → CreatesUdp contexts ctx family origin → m.store.standing ≡ None → Walks law (Starts m Unused) OverWith (create_udp_asks m (first_ids line) ctx family)
-  create_udp_walks m ctx family c q = and_then (create_udp ctx family c refl refl refl) (create_begun_walks m q)
+    pub create_udp_walks : (m : Machine) (ctx : WasiSocketsCtx) (family : SocketAddressFamily) → CreatesUdp contexts ctx family face origin → m.store.standing ≡ None → Walks law (Starts m Unused) OverWith (create_udp face m (first_ids line) ctx family)
+    create_udp_walks m ctx family c q = and_given (IsOwn line) (own_given line ctx family) (begin_create face ctx family c refl refl refl) (create_begun_walks m q (made_for contexts face ctx family origin c))

@@ -1,5 +1,5 @@
 -- How walks of UDP sockets are put together: what is asked of one, the polls of its create and of its bind, and its end.
-use Rattle.std.specs.Prelude.{◌≡◌, ℕ, List, [], ◌∷◌, ◌++◌, Some, None}
+use Rattle.std.specs.Prelude.{◌≡◌, ℕ, true, List, [], ◌∷◌, ◌++◌, Some, None}
 use Rattle.wasi_walks.proofs.Words.{Asks, Ask, Call, End, Entry, Item, Operation, SocketAddressFamily, Step, Told, WasiSocketsCtx}
 use Rattle.wasi_walks.proofs.Words.{ap, bind, entry, ◌∙◌, make_asks, own_of, poll_asks, subst, told_addr}
 use Rattle.wasi_records.specs.Datagrams.{udp_connect_left, with_sending}
@@ -12,7 +12,8 @@ use Rattle.wasi_records.specs.declared.datagrams.Outgoing.{Outgoing}
 use Rattle.wasi_records.specs.declared.datagrams.Receiving.{Receiving}
 use Rattle.wasi_records.specs.declared.datagrams.Sending.{Sending}
 use Rattle.wasi_host.specs.declared.kind.Kind.{Kind}
-use Rattle.wasi_host.specs.declared.kind.Kind.TheVariants.{Udp2}
+use Rattle.wasi_host.specs.Kinds.{udp_kind}
+use Rattle.wasi_walks.specs.Licence.{IsDisconnect}
 use Rattle.wasi_udp.specs.Receive.{wanting}
 use Rattle.wasi_udp.specs.Send.{at_remote}
 use Rattle.wasi_records.specs.declared.records.Record.{Record}
@@ -22,8 +23,8 @@ use Rattle.wasi_records.specs.declared.udp.UdpInProgress.{UdpInProgress}
 use Rattle.wasi_records.specs.Udp.{udp_side, udp_create_left, udp_bind_progress, with_udp_inner, with_udp_progress}
 use Rattle.wasi_udp.specs.Create.{Create, new_asks}
 use Rattle.wasi_udp.specs.Socket.{after_local, after_peer}
-use Rattle.wasi_walks.proofs.walks.Moves.{HasNewStream, Here, MarksNext, put_udp, FoundUdp, IsCreated, NoStart, ReleasesUdp, IsUdpQuestionOf, CreatesUdp, udp_begun, ToSend, part_of, SettlesSend, Unused, Past, Spends, Held, UdpCreates, UdpBindsOn, UdpConnectsOn, SendsOn, ReceivesOn}
-use Rattle.wasi_walks.proofs.walks.Asked.{MarksStream, MarksUdp, Polls, UdpBegins, UdpCloses, UdpLearns, UdpPeers, UdpQuestions}
+use Rattle.wasi_walks.proofs.walks.Moves.{Interface, HasNewStream, Here, MarksNext, put_udp, FoundUdp, IsCreated, NoStart, ReleasesUdp, IsUdpQuestionOf, CreatesUdp, udp_begun, ToSend, part_of, SettlesSend, Unused, Past, Spends, Held, UdpCreates, UdpBindsOn, UdpConnectsOn, SendsOn, ReceivesOn}
+use Rattle.wasi_walks.proofs.walks.Asked.{MarksStream, MarksUdp, Polls, UdpBegins, UdpCloses, UdpDisconnects, UdpLearns, UdpPeers, UdpQuestions}
 use Rattle.wasi_walks.proofs.walks.Law.{Law, Walks, ends, by_if, gives}
 use Rattle.wasi_walks.proofs.Places.{put_again, put_finds, put_twice, udp_sort}
 
@@ -51,13 +52,13 @@ over_at here o none x op g e = absurd (let its : o ≡ x = (let p = udp_found he
 
 module _ {contexts : List WasiSocketsCtx} {line : ℕ} {origin : Step} {law : Law contexts line origin} where
   -- its network socket is made
-  pub create_udp : {h : Here} (ctx : WasiSocketsCtx) (family : SocketAddressFamily) → CreatesUdp contexts ctx family origin → h.at ≡ None → h.own ≡ Unused → h.made ≡ Past → Walks law h (udp_begun h) (new_asks (own_of line) ctx family)
+  pub begin_create : {h : Here} (face : Interface) (ctx : WasiSocketsCtx) (family : SocketAddressFamily) → CreatesUdp contexts ctx family face origin → h.at ≡ None → h.own ≡ Unused → h.made ≡ Past → Walks law h (udp_begun h) (new_asks (own_of line) ctx family)
   unfolding bind
-  create_udp {h} ctx family c t o m = by_if ctx.udp (λ may. record { along = λ es i. let a = law.asks es h _ _ _ (UdpBegins ctx family c may t o m) tt i in (a.0, λ told f. a.1 told f) }) (λ other. gives _ (Spends _ o))
+  begin_create {h} face ctx family c t o m = by_if ctx.udp (λ may. record { along = λ es i. let a = law.asks es h _ _ _ (UdpBegins face ctx family c may t o m) tt i in (a.0, λ told f. a.1 told f) }) (λ other. gives _ (Spends _ o))
 
   -- it gets its handle
-  pub mark_udp_walks : {h : Here} (place : ℕ) (u : UdpRecord) → IsCreated h place u → Walks law h (λ made. record h { machine = record h.machine { table = made.1 }; made = Past }) (make_asks h.machine.table (udp_side u) (Udp2 place) None (Some (udp_side u)))
-  mark_udp_walks {h} place u g = record { along = λ es i. law.asks es h _ _ _ (MarksUdp place u g) tt i }
+  pub mark_udp_walks : {h : Here} (face : Interface) (place : ℕ) (u : UdpRecord) → IsCreated h face place u → Walks law h (λ made. record h { machine = record h.machine { table = made.1 }; made = Past }) (make_asks h.machine.table (udp_side u) (udp_kind face place) None (Some (udp_side u)))
+  mark_udp_walks {h} face place u g = record { along = λ es i. law.asks es h _ _ _ (MarksUdp face place u g) tt i }
 
   module _ {h : Here} {place : ℕ} (here : HasUdp h place) where
     -- a question
@@ -79,6 +80,19 @@ module _ {contexts : List WasiSocketsCtx} {line : ℕ} {origin : Step} {law : La
             λ told fits.
                 let fs : List Entry = es ++ entry (part_of line part) (Call.Local o.inner.side) told ∷ [] in
                 (k told).along fs (subst (law.Inv fs) (udp_put_put h place (UdpRecord.Open o) (UdpRecord.Open (with_udp_inner o (after_local o.inner (told_addr told)).1))) (a.1 told fits)),
+          );
+    }
+
+    -- it is disconnected, and bound from then on
+    pub disconnect_udp : {A : Type 0} {end : A → Here} (o : OpenUdp) {next : Told → Asks A} → h.at ≡ Some (place, line) → IsDisconnect origin → ((told : Told) → Walks law (put_udp h place (UdpRecord.Open (with_udp_inner o (record o.inner { bound = true })))) end (next told))
+        → Walks law (put_udp h place (UdpRecord.Open o)) end (Ask (own_of line) (Call.UdpDisconnect o.inner.side) next)
+    disconnect_udp o at to k = record {
+      along = λ es i.
+          let a = law.asks es (put_udp h place (UdpRecord.Open o)) _ _ _ (UdpDisconnects place o at (udp_found here (UdpRecord.Open o)) to) tt i in (
+            a.0,
+            λ told fits.
+                let fs : List Entry = es ++ entry (own_of line) (Call.UdpDisconnect o.inner.side) told ∷ [] in
+                (k told).along fs (subst (law.Inv fs) (udp_put_put h place (UdpRecord.Open o) (UdpRecord.Open (with_udp_inner o (record o.inner { bound = true })))) (a.1 told fits)),
           );
     }
 

@@ -1,0 +1,50 @@
+//! Which bytes reads hand out in runs: a law over the definitions of specs/, that is, a function that
+//! does nothing, whose contract is the law.
+
+ghost use Rattle.std.specs.Prelude.{◌≡◌, ℕ, List, [], ◌∷◌, Some};
+ghost use Rattle.wasi_world.specs.declared.call.Entry.{Entry};
+ghost use Rattle.wasi_world.specs.declared.outcome.WasiSocketsCtx.{WasiSocketsCtx};
+ghost use Rattle.wasi_world.specs.Asks.{Give, Left};
+ghost use Rattle.wasi_host.specs.declared.machine.Machine.{Machine};
+ghost use Rattle.wasi_host.specs.Machine.{first_state, own_of};
+ghost use Rattle.wasi_machine.specs.Machine.{run};
+ghost use Rattle.wasi_steps.specs.declared.reply.Reply.{Reply};
+ghost use Rattle.wasi_steps.specs.declared.guest_call.GuestCall.{GuestCall};
+ghost use Rattle.wasi_steps.specs.declared.step.Step.{Step};
+ghost use Rattle.wasi_steps.specs.Reply.{bytes_fields};
+ghost use Rattle.wasi_walks.specs.Answered.{Answered};
+ghost use Rattle.wasi_walks.specs.Licence.{step_at};
+ghost use Rattle.wasi_causes.specs.HandedBytes.{HandsOutBytes};
+
+/// In a run the bytes that a read of a connection hands out are those that the last call of its
+/// line was answered with: a read by the operation of the read's own line, of the network socket
+/// that its handle was marked with. An input that was marked with no network socket is no
+/// connection's.
+///
+/// - `read`: a `read`, in its line.
+/// - `blocking_read`: a `blocking-read`, in its line.
+/// - `polled`: a `blocking-read` that was pending, in the poll that answers it.
+pub fn reads_hand_out_what_they_were_told()
+    ensures read { (contexts : List WasiSocketsCtx) (steps : List Step) (log : List Entry)
+        (replies : List Reply) (m : Machine) (line ctx input len b : ℕ) (bytes : List ℕ)
+        (entries : List Entry) (after : Machine)
+        → Left (run contexts [] first_state 1 steps) log (Give (replies, m))
+        → Answered contexts m line (Step.Call ctx (GuestCall.Read input len)) entries
+        (Reply.Ok (bytes_fields (b ∷ bytes))) after
+        → HandsOutBytes log (own_of line) input (b ∷ bytes) entries }
+    ensures blocking_read { (contexts : List WasiSocketsCtx) (steps : List Step) (log : List Entry)
+        (replies : List Reply) (m : Machine) (line ctx input len b : ℕ) (bytes : List ℕ)
+        (entries : List Entry) (after : Machine)
+        → Left (run contexts [] first_state 1 steps) log (Give (replies, m))
+        → Answered contexts m line (Step.Call ctx (GuestCall.BlockingRead input len)) entries
+        (Reply.Ok (bytes_fields (b ∷ bytes))) after
+        → HandsOutBytes log (own_of line) input (b ∷ bytes) entries }
+    ensures polled { (contexts : List WasiSocketsCtx) (steps : List Step) (log : List Entry)
+        (replies : List Reply) (m : Machine) (line n ctx input len b : ℕ) (bytes : List ℕ)
+        (entries : List Entry) (after : Machine)
+        → Left (run contexts [] first_state 1 steps) log (Give (replies, m))
+        → step_at steps n ≡ Some (Step.Call ctx (GuestCall.BlockingRead input len))
+        → Answered contexts m line (Step.Poll n) entries (Reply.Ok (bytes_fields (b ∷ bytes)))
+        after
+        → HandsOutBytes log (own_of n) input (b ∷ bytes) entries }
+{}
