@@ -14,4 +14,5 @@ mod Generated
 mod Newlines
 mod GeneratedSteps
 mod OwnErrors
+mod CountedRuns
 mod Contents

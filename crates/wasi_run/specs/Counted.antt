@@ -1,9 +1,10 @@
 -- The run of a generated script, and its counts.
-use Rattle.std.specs.Prelude.{◌≡◌, ℕ, min, List, [], ◌∷◌, ◌++◌, Some, false, codes, decimal, length, sum_by}
+use Rattle.std.specs.Prelude.{◌≡◌, ◌⊎◌, ℕ, min, List, [], ◌∷◌, ◌++◌, Some, false, codes, decimal, length, sum_by}
 use Rattle.wasi_world.specs.declared.call.Told.{Told}
 use Rattle.wasi_world.specs.declared.call.Told.TheVariants.{Took}
 use Rattle.wasi_world.specs.declared.call.Entry.{Entry}
 use Rattle.wasi_world.specs.Seen.{Seen}
+use Rattle.wasi_world.specs.Script.{IsScripted}
 use Rattle.world_io.specs.Io.{Reading, Writing}
 use Rattle.world_text.specs.Lines.{lines_of}
 use Rattle.world_scripted.specs.Queued.{no_answers}
@@ -11,7 +12,7 @@ use Rattle.wasi_world.specs.Contexts.{free_context}
 use Rattle.world_scripted.specs.Scripted.{at_start}
 use Rattle.wasi_run.specs.declared.error.RunError.{RunError}
 use Rattle.wasi_run.specs.declared.error.RunError.TheVariants.{Memory, WriteFault}
-use Rattle.wasi_run.specs.Causes.{DoneLines}
+use Rattle.wasi_run.specs.Causes.{ReadsAll, StopsAtTrap}
 use Rattle.wasi_run.specs.declared.counts.Counts.{Counts}
 use Rattle.wasi_run.specs.Generate.{generated}
 
@@ -30,15 +31,22 @@ unread text = record { left = Some text; ended = false; faults = 0 }
 abbrev pub unwritten : Writing
 unwritten = record { written = Some []; flushed = Some false; faults = 0; refused = 0 }
 
--- The run of the generated script over the empty scenario was done, and these are its counts.
+-- All lines were done, or the last that was done trapped.
+abbrev pub Finishes : ℕ → List ℕ → Reading → Writing → Seen → Type 0
+Finishes limit text after sink seen = ReadsAll (free_context ∷ []) limit (unread text) after unwritten sink (at_start no_answers) seen
+    ⊎ StopsAtTrap 4095 (free_context ∷ []) limit (unread text) after unwritten sink (at_start no_answers) seen
+
+-- The generated script was run over the empty scenario to its end or to a trap, each call was answered by the plan that plans
+-- nothing, and these are the run's counts.
 pub record CountsRun (seed steps : ℕ) (counts : Counts) : Type 0 where
   pub after : Reading
   pub sink : Writing
   pub seen : Seen
   pub log : List Entry
   pub written : List ℕ
-  pub ran : DoneLines (free_context ∷ []) (length (generated seed steps)) (unread (generated seed steps)) after unwritten sink (at_start no_answers) seen
+  pub ran : Finishes (length (generated seed steps)) (generated seed steps) after sink seen
   pub logged : seen.log ≡ Some log
+  pub planned : IsScripted no_answers log
   pub wrote : sink.written ≡ Some written
   pub lines : counts.lines ≡ steps
   pub replies : counts.replies ≡ length (lines_of written)

@@ -11,13 +11,13 @@ ghost use Rattle.wasi_machine.specs.Machine.{without_code, first_ids, machine_as
 ghost use Rattle.wasi_machine.specs.Machine.{is_guest_call, asks_in, call_asks, context_at};
 ghost use Rattle.wasi_machine.specs.Machine.{context_for};
 
-use crate::settings::{set, set_p3, set_udp, udp_opt};
+use crate::settings::{set, set_p3, set_p3_udp, set_udp, udp_opt};
 use std::alloc::{AllocError, Global};
 use wasi_addr::p2;
 use wasi_host::{Kind, Machine, SocketError, Store, WasiSocketsCtxView};
 use wasi_machine::replies::{
-    answer_reply, blocked_reply, cancelled_reply, p3_reply, reply_of, resumed_reply,
-    stream_reply_of,
+    answer_reply, blocked_reply, cancelled_reply, p3_answer_reply, p3_reply, reply_of,
+    resumed_reply, stream_reply_of,
 };
 use wasi_p2::{ip_name_lookup, tcp, udp};
 use wasi_steps::{GuestCall, NoCode, Reply, Step};
@@ -397,6 +397,34 @@ fn guest_call<W: World>(
         }
         GuestCall::P3TcpSet { socket, setting } => {
             let done = set_p3(view, world, ids, socket, setting);
+            p3_reply(alloc, done)
+        }
+        GuestCall::P3UdpCreate { family } => {
+            let answer = wasi_p3::udp::create(view, world, ids, family);
+            p3_answer_reply(alloc, ids.line, answer)
+        }
+        GuestCall::P3UdpDisconnect { socket } => {
+            let done = wasi_p3::udp::disconnect(view, world, ids, socket);
+            p3_reply(alloc, done)
+        }
+        GuestCall::P3UdpLocalAddress { socket } => {
+            let told = wasi_p3::udp::get_local_address(view, world, ids, socket);
+            p3_reply(alloc, told)
+        }
+        GuestCall::P3UdpRemoteAddress { socket } => {
+            let told = wasi_p3::udp::get_remote_address(view, socket);
+            p3_reply(alloc, told)
+        }
+        GuestCall::P3UdpAddressFamily { socket } => {
+            let told = wasi_p3::udp::get_address_family(view, socket);
+            p3_reply(alloc, told)
+        }
+        GuestCall::P3UdpGet { socket, option } => {
+            let told = wasi_p3::udp::get_option(view, world, ids, socket, udp_opt(option));
+            p3_reply(alloc, told)
+        }
+        GuestCall::P3UdpSet { socket, setting } => {
+            let done = set_p3_udp(view, world, ids, socket, setting);
             p3_reply(alloc, done)
         }
         GuestCall::PollList { pollables } => {

@@ -6,7 +6,7 @@ ghost use Rattle.wasi_run.specs.Counted.{took_count, taken_bytes, CountsRun, IsO
 
 use crate::error::RunError;
 use crate::generate::generate;
-use crate::run::run_script;
+use crate::run::{RunEnd, run_script};
 use crate::text_source::TextSource;
 use std::alloc::{AllocError, Global};
 use std::fmt::Write;
@@ -95,7 +95,7 @@ pub fn run_generated(alloc: Global, seed: u64, steps: u32) -> Result<Counts, All
     let mut contexts = vec![in alloc; FREE]?;
     let mut source = TextSource::new(script);
     let mut sink = GrowingSink::new(alloc);
-    if let Err(error) = run_script(
+    match run_script(
         alloc,
         &mut world,
         &mut contexts,
@@ -103,13 +103,15 @@ pub fn run_generated(alloc: Global, seed: u64, steps: u32) -> Result<Counts, All
         &mut source,
         &mut sink,
     ) {
-        return Err(no_memory(error));
+        Ok(RunEnd::AllRead | RunEnd::Trapped) => {}
+        Err(error) => return Err(no_memory(error)),
     }
+    let log = world.into_entries();
     Ok(Counts {
         lines,
         replies: count_lines(sink.bytes()),
-        entries: world.entries().len() as u64,
-        bytes: taken_bytes(world.entries()),
+        entries: log.len() as u64,
+        bytes: taken_bytes(log.as_slice()),
     })
 }
 

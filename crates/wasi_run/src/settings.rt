@@ -8,6 +8,7 @@ ghost use Rattle.wasi_host.specs.Views.{HostKept, state_of};
 ghost use Rattle.wasi_machine.specs.Machine.{set_chosen, set_p3};
 ghost use Rattle.wasi_p2.specs.Udp.{set_udp_option_on};
 ghost use Rattle.wasi_p3.specs.Stops.{ends_as};
+ghost use Rattle.wasi_p3.specs.Udp.{set_option};
 ghost use Rattle.wasi_steps.specs.Settings.{chosen, udp_chosen, udp_opt};
 
 use wasi_host::{SocketError, WasiSocketsCtxView};
@@ -106,5 +107,31 @@ pub fn set_udp<W: World>(
         HopLimit(value) => udp::set_unicast_hop_limit(view, world, ids, socket, value),
         ReceiveBufferSize(value) => udp::set_receive_buffer_size(view, world, ids, socket, value),
         SendBufferSize(value) => udp::set_send_buffer_size(view, world, ids, socket, value),
+    }
+}
+
+/// Sets an option of a UDP socket of 0.3.
+pub fn set_p3_udp<W: World>(
+    view: &mut WasiSocketsCtxView<'_>,
+    world: &mut W,
+    ids: &mut Ids,
+    socket: Handle,
+    setting: UdpSetting,
+) -> Result<(), wasi_p3::SocketError>
+    requires { (W.seen world.old).ended ≡ false }
+    ensures asked { AsksFor (set_option (own_of ids.old.line) socket (udp_chosen setting).0
+        (udp_chosen setting).1 (state_of view.old)) (W.seen world.old) (W.seen world.new) (λ done. (
+          done,
+          state_of view.new,
+        )) (ends_as result) }
+    ensures kept { HostKept view.old view.new ids.old ids.new (W.seen world.old)
+        (W.seen world.new) }
+{
+    use UdpSetting::*;
+    use wasi_p3::udp as p3;
+    match setting {
+        HopLimit(value) => p3::set_unicast_hop_limit(view, world, ids, socket, value),
+        ReceiveBufferSize(value) => p3::set_receive_buffer_size(view, world, ids, socket, value),
+        SendBufferSize(value) => p3::set_send_buffer_size(view, world, ids, socket, value),
     }
 }

@@ -5,7 +5,7 @@ use Rattle.std.proofs.Common.{sym}
 use Rattle.wasi_steps.specs.Reply.{absent_values, found_values, numbers_fields}
 use Rattle.wasi_world.specs.declared.ids.Ids.{Ids}
 use Rattle.wasi_world.proofs.Walks.{asks_at}
-use Rattle.wasi_machine.specs.Machine.{blocked_reply_of, p3_reply}
+use Rattle.wasi_machine.specs.Machine.{blocked_reply_of, p3_answer_reply, p3_reply}
 use Rattle.wasi_host.specs.Machine.{drop_asks}
 use Rattle.wasi_host.specs.Views.{state_of}
 use Rattle.wasi_run.proofs.Contents.{given_if}
@@ -196,3 +196,24 @@ returns-in-P3TcpGet-clause-asked g c = rw c.in-P3TcpGet.is (asks_answered (p3_re
 
 pub returns-in-P3TcpSet-clause-asked : goal.returns-in-P3TcpSet-clause-asked
 returns-in-P3TcpSet-clause-asked g c = rw c.in-P3TcpSet.is (asks_answered (p3_reply no_values) _ _ c.set_p3-done.ensures.asked c.p3_reply-in-P3TcpSet.ensures)
+
+pub returns-in-P3UdpCreate-clause-asked : goal.returns-in-P3UdpCreate-clause-asked
+returns-in-P3UdpCreate-clause-asked g c = rw c.in-P3UdpCreate.is (asks_answered (p3_answer_reply number_fields c.args.ids.now.line) _ _ (rw c.requires.first at c.create-answer.ensures.asked) (rw c.create-answer.ensures.kept.ids at c.p3_answer_reply.ensures))
+
+pub returns-in-P3UdpDisconnect-clause-asked : goal.returns-in-P3UdpDisconnect-clause-asked
+returns-in-P3UdpDisconnect-clause-asked g c = rw c.in-P3UdpDisconnect.is (asks_answered (p3_reply no_values) _ _ c.disconnect-done.ensures.asked c.p3_reply-in-P3UdpDisconnect.ensures)
+
+pub returns-in-P3UdpLocalAddress-clause-asked : goal.returns-in-P3UdpLocalAddress-clause-asked
+returns-in-P3UdpLocalAddress-clause-asked g c = rw c.in-P3UdpLocalAddress.is (asks_answered (p3_reply address_values) _ _ c.get_local_address-told-in-P3UdpLocalAddress.ensures.asked c.p3_reply-in-P3UdpLocalAddress.ensures)
+
+pub returns-in-P3UdpRemoteAddress-clause-asked : goal.returns-in-P3UdpRemoteAddress-clause-asked
+returns-in-P3UdpRemoteAddress-clause-asked g c = rw c.in-P3UdpRemoteAddress.is (given_answered (p3_reply address_values) _ _ _ c.get_remote_address-told-in-P3UdpRemoteAddress.ensures c.p3_reply-in-P3UdpRemoteAddress.ensures)
+
+pub returns-in-P3UdpAddressFamily-clause-asked : goal.returns-in-P3UdpAddressFamily-clause-asked
+returns-in-P3UdpAddressFamily-clause-asked g c = rw c.in-P3UdpAddressFamily.is (given_answered (p3_reply family_fields) _ _ _ c.get_address_family-told-in-P3UdpAddressFamily.ensures c.p3_reply-in-P3UdpAddressFamily.ensures)
+
+pub returns-in-P3UdpGet-clause-asked : goal.returns-in-P3UdpGet-clause-asked
+returns-in-P3UdpGet-clause-asked g c = rw (c.in-P3UdpGet.is, ← c.udp_opt-in-P3UdpGet.ensures) (asks_answered (p3_reply number_fields) _ _ c.get_option-told-in-P3UdpGet.ensures.asked c.p3_reply-in-P3UdpGet.ensures)
+
+pub returns-in-P3UdpSet-clause-asked : goal.returns-in-P3UdpSet-clause-asked
+returns-in-P3UdpSet-clause-asked g c = rw c.in-P3UdpSet.is (asks_answered (p3_reply no_values) _ _ c.set_p3_udp-done.ensures.asked c.p3_reply-in-P3UdpSet.ensures)
