@@ -1,5 +1,5 @@
 -- What a write stream answers, by what its owner knows.
-use Rattle.std.specs.Prelude.{◌≡◌, ◌≤◌, ◌<◌, ◌+◌, ◌-◌, ◌⊎◌, ⊤, ℕ, true, false, ◌==◌, if◌then◌else◌, List, [], ◌++◌, length, Result, Ok, Err, IsErr}
+use Rattle.std.specs.Prelude.{◌≡◌, ◌≤◌, ◌<◌, ◌+◌, ◌-◌, ◌⊎◌, ⊤, ℕ, true, false, ◌==◌, if◌then◌else◌, List, [], ◌++◌, length, Result, Ok, Err}
 use Rattle.wasi_world.specs.declared.outcome.TrapKind.{TrapKind}
 use Rattle.wasi_world.specs.declared.outcome.TrapKind.TheVariants as trap
 use Rattle.wasi_streams.specs.declared.error.StreamError.{StreamError}
@@ -50,10 +50,16 @@ ErrorCause knows P (Trap kind) = P kind
 ErrorCause knows P (Memory e) = ⊤
 
 module _ {A : Type 0} where
-  -- Once the fault was reported, and once the stream was stopped, a call is refused.
+  -- an error that is no trap
+  abbrev pub IsUntrapped : Result A StreamError → Type 0
+  IsUntrapped (Ok done) = ⊥
+  IsUntrapped (Err (Trap kind)) = ⊥
+  IsUntrapped (Err e) = ⊤
+
+  -- Once the fault was reported a call is answered `Closed`; once the stream was stopped, by the fault or `Closed`, and by no trap.
   pub record IsRefused (knows : OwnerKnows) (result : Result A StreamError) : Type 0 where
     pub told : knows.told ≡ true → UnlessMemory result (result ≡ Err Closed)
-    pub stopped : knows.stopped ≡ true → IsErr result
+    pub stopped : knows.stopped ≡ true → IsUntrapped result
 
 -- why the budget may be used up: a flush was accepted, or so many bytes were
 abbrev pub IsFull : ℕ → OwnerKnows → Type 0
