@@ -115,6 +115,48 @@ fn steps_before_a_fault_of_the_network_are_answered(rt: HostRuntime) -> Result<(
     Ok(())
 }
 
+/// A run of this script under a large limit, over streams that give and take all at once.
+fn all_at_once<'a>(scenario: &'a [u8], script: &'a [u8]) -> Given<'a> {
+    Given {
+        words: &["run", "1000000"],
+        scenario,
+        script,
+        most: 4096,
+        takes: 4096,
+        room: 4096,
+        failing: NONE,
+    }
+}
+
+// Each prefix of a script does its whole lines; a line that isn't ended by a newline is a bad one.
+#[test]
+fn a_script_that_is_cut_does_its_whole_lines(rt: HostRuntime) -> Result<(), Fail> {
+    let alloc = rt.alloc();
+    let served = make_served(alloc)?;
+    let (scenario, script) = (served.scenario.as_bytes(), served.script.as_bytes());
+    let mut whole = 0u32;
+    for len in 0..=script.len() {
+        let cut = &script[..len];
+        let ends_whole = cut.last().is_none_or(|byte| *byte == b'\n');
+        if len > 0 && ends_whole {
+            whole = whole.saturating_add(1);
+        }
+        let (status, line) = if ends_whole {
+            (0, 0)
+        } else {
+            (3, whole.saturating_add(1))
+        };
+        let replies = first_lines(alloc, served.replies.as_str(), whole as usize)?;
+        let done = all_at_once(scenario, cut).run(&rt, alloc)?;
+        same(
+            &rt,
+            (len, done.status, done.line, done.sink.bytes()),
+            (len, status, line, replies.as_bytes()),
+        );
+    }
+    Ok(())
+}
+
 /// The calls of a pump's streams that fail, its status, and what its sink holds.
 const PUMPS: [(Failing<'static>, u8, &[u8]); 2] = [
     ([&[], &[], &[2], &[], &[]], 12, b"012"),
