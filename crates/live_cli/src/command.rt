@@ -36,6 +36,13 @@ fn ports_in(alloc: Global, words: &[String]) -> Result<Option<Vec<u16>>, AllocEr
     Ok(Some(ports))
 }
 
+/// The limit that a word is.
+pub fn limit_in(word: &str) -> Option<u32>
+    ensures { result ≡ number_in word.now 4294967295 }
+{
+    Some(number(word.as_bytes(), u64::from(u32::MAX))? as u32)
+}
+
 /// The command in the words: a limit and any number of ports. None where they aren't in order.
 pub fn command_in(alloc: Global, words: &[String]) -> Result<Option<Command>, AllocError>
     ensures { IfOk result (λ command. option_map shown command
@@ -44,14 +51,11 @@ pub fn command_in(alloc: Global, words: &[String]) -> Result<Option<Command>, Al
     let [limit, rest @ ..] = words else {
         return Ok(None);
     };
-    let Some(limit) = number(limit.as_str().as_bytes(), u64::from(u32::MAX)) else {
+    let Some(limit) = limit_in(limit.as_str()) else {
         return Ok(None);
     };
     match ports_in(alloc, rest)? {
-        Some(ports) => Ok(Some(Command {
-            limit: limit as u32,
-            ports,
-        })),
+        Some(ports) => Ok(Some(Command { limit, ports })),
         None => Ok(None),
     }
 }

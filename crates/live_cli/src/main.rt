@@ -3,15 +3,19 @@
 #![tactic(auto)]
 
 mod command;
+mod ruled;
 mod script;
 
-use command::command_in;
+use command::{command_in, limit_in};
+use policy_commands::PolicyStatus;
+use policy_commands::report::end_at_rules;
+use ruled::run_ruled;
 use script::run_live;
 use std::process::ExitCode;
 use wasi_console::{LineSource, end, print, words};
 use wasi_program::Status;
 use wasi_run::RunError;
-use world_io::{StdSink, StdSource};
+use world_io::{FileSource, StdSink, StdSource};
 
 const VERSION: &str = "live 0.1.0\n";
 
@@ -20,6 +24,7 @@ Runs a script of wasi:sockets calls over this machine's network, and writes one 
 
 usage: live LIMIT PORT..                  runs the script on standard input, of at most LIMIT bytes
        live --any-address LIMIT PORT..    the same, where every address may be used
+       live --policy RULES LIMIT          the same, where the rules of the file RULES decide
        live --help                        prints this
        live --version                     prints the version
 
@@ -27,6 +32,8 @@ Sockets of TCP and UDP may be bound to, listen on, connect to and send to 127.0.
 all else is access-denied, and no call of the system is made for it. What arrives may come from any port of this machine.
 Port 0, where it is named, stands for any port that is free. After --any-address the named ports may be used with every
 address, so other machines can connect to what listens, and a script can reach them.
+After --policy an address and a use need a rule that allows them, in place of a named port, and the address is one of
+this machine's own, or a wildcard to bind. The program policy has the form of rules, and answers what they decide.
 
 The script's lines are those of the program sockets; its --help lists them. A look for a connection, for bytes or for the
 end of a connect (tcp-accept, ready, tcp-finish-connect) waits for about a second at most, without using the processor.
@@ -36,6 +43,7 @@ The program ends with 0, or prints its status on standard error, with what is wr
     1  the words aren't in order            5  a read of the script failed
     3  a bad line in the script             6  a write failed
     4  the script is longer than LIMIT      7  memory ran out
+    16 a bad line in RULES                  17 RULES can't be read
 
 example: printf '0 network\\n0 tcp-create 4\\n0 tcp-start-bind 2 1 4 127 0 0 1 81\\n' | live 1000 80
     ok 1
@@ -52,6 +60,9 @@ fn main(rt: HostRuntime) -> ExitCode {
         [word] if word.as_str() == "--help" => print(&rt, &[HELP]),
         [word] if word.as_str() == "--version" => print(&rt, &[VERSION]),
         [first, rest @ ..] if first.as_str() == "--any-address" => run(rt, rest, true),
+        [first, path, limit] if first.as_str() == "--policy" => {
+            run_by_rules(rt, path.as_str(), limit.as_str())
+        }
         words => run(rt, words, false),
     }
 }
@@ -69,5 +80,20 @@ fn run(rt: HostRuntime, words: &[String], anywhere: bool) -> ExitCode {
             end(&rt, Status::BadStep, line, source.line(u64::from(line)))
         }
         outcome => end(&rt, Status::of_run(outcome), 0, None),
+    }
+}
+
+/// Runs the script under the rules of this file.
+fn run_by_rules(rt: HostRuntime, path: &str, limit: &str) -> ExitCode {
+    let Some(limit) = limit_in(limit) else {
+        return end(&rt, Status::BadWords, 0, None);
+    };
+    let mut rules = FileSource::open(&rt, path);
+    let mut source = LineSource::new(StdSource::new(rt.stdin()));
+    let mut sink = StdSink::new(rt.stdout());
+    let (status, line) = run_ruled(&rt, rt.alloc(), &mut rules, limit, &mut source, &mut sink);
+    match status {
+        PolicyStatus::Of(status) => end(&rt, status, line, source.line(u64::from(line))),
+        status => end_at_rules(&rt, status.number(), path, line),
     }
 }

@@ -21,14 +21,14 @@ const FREE: WasiSocketsCtx = WasiSocketsCtx {
     tcp: true,
 };
 
-fn contexts(alloc: Global) -> Result<Vec<WasiSocketsCtx>, AllocError>
+pub fn contexts(alloc: Global) -> Result<Vec<WasiSocketsCtx>, AllocError>
     ensures { IfOk result (λ contexts. contexts.items ≡ free_context ∷ []) }
 {
     Ok(vec![in alloc; FREE]?)
 }
 
 /// How long a look waits, in milliseconds.
-const PATIENCE: i32 = 1000;
+pub const PATIENCE: i32 = 1000;
 
 /// The addresses that may be used: the ports, on every address or on this machine's own alone.
 fn allowed(ports: Vec<u16>, anywhere: bool) -> Allowed
@@ -39,6 +39,15 @@ fn allowed(ports: Vec<u16>, anywhere: bool) -> Allowed
     } else {
         Allowed::loopback(ports)
     }
+}
+
+/// Every port.
+pub fn every_port(alloc: Global) -> Result<Vec<u16>, AllocError> {
+    let mut ports = Vec::with_capacity(alloc, 65536)?;
+    for port in 0..=u16::MAX {
+        ports.push(port)?;
+    }
+    Ok(ports)
 }
 
 /// Runs the script that the source gives over the system's sockets, of which the command's ports

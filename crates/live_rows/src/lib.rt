@@ -2,4 +2,6 @@
 #![tactic(auto)]
 
 #[cfg(test)]
+mod ruled;
+#[cfg(test)]
 mod scripts;

@@ -1,14 +1,14 @@
 //! Scripts that connect to themselves, over a loopback address of their own and ports that the
 //! system doesn't hand out.
 
-ghost use Rattle.std.specs.Prelude.{◌≡◌, [], ◌∷◌, IfOk};
+ghost use Rattle.std.specs.Prelude.{◌≡◌, [], ◌∷◌, IfOk, false};
 ghost use Rattle.wasi_world.specs.Contexts.{free_context};
 
 use std::alloc::{AllocError, Global};
 use std::test::Fail;
 use wasi_net::{Allowed, Linux, PatientWorld, SystemWorld};
 use wasi_run::{RunEnd, run_script};
-use wasi_world::WasiSocketsCtx;
+use wasi_world::{WasiSocketsCtx, World};
 use world_io::{MemorySink, MemorySource};
 
 /// Binds and listens, connects, accepts, writes a byte and reads it.
@@ -37,7 +37,7 @@ const DATAGRAMS: (&[u8], &[u8]) = (
 );
 
 /// Every port.
-fn all_ports(alloc: Global) -> Result<Vec<u16>, AllocError> {
+pub fn all_ports(alloc: Global) -> Result<Vec<u16>, AllocError> {
     let mut ports = Vec::new(alloc);
     for port in 0..=u16::MAX {
         ports.push(port)?;
@@ -57,27 +57,32 @@ fn contexts(alloc: Global) -> Result<Vec<WasiSocketsCtx>, AllocError>
     Ok(vec![in alloc; all]?)
 }
 
+/// Runs the script over a world, and fails where it doesn't write these replies to its end.
+pub fn gives<W: World>(
+    alloc: Global,
+    world: &mut W,
+    script: &[u8],
+    replies: &[u8],
+) -> Result<(), Fail>
+    requires { (W.seen world.old).ended ≡ false }
+{
+    let mut contexts = contexts(alloc)?;
+    let mut source = MemorySource::new(script.to_vec(alloc)?, 4096, Vec::new(alloc));
+    let mut sink = MemorySink::new(alloc, 4096, 4096, Vec::new(alloc))?;
+    let outcome = run_script(alloc, world, &mut contexts, 4096, &mut source, &mut sink);
+    if sink.bytes() != replies || !matches!(outcome, Ok(RunEnd::AllRead)) {
+        return Err(Fail::new("other replies"));
+    }
+    Ok(())
+}
+
 /// Runs the script with every port allowed, and fails where it doesn't write these replies to its
 /// end.
 fn runs(rt: HostRuntime, script: &[u8], replies: &[u8]) -> Result<(), Fail> {
     let alloc = rt.alloc();
     let allowed = Allowed::loopback(all_ports(alloc)?);
     let mut world = PatientWorld::new(SystemWorld::new(Linux::new(&rt), alloc, allowed), 1000);
-    let mut contexts = contexts(alloc)?;
-    let mut source = MemorySource::new(script.to_vec(alloc)?, 4096, Vec::new(alloc));
-    let mut sink = MemorySink::new(alloc, 4096, 4096, Vec::new(alloc))?;
-    let outcome = run_script(
-        alloc,
-        &mut world,
-        &mut contexts,
-        4096,
-        &mut source,
-        &mut sink,
-    );
-    if sink.bytes() != replies || !matches!(outcome, Ok(RunEnd::AllRead)) {
-        return Err(Fail::new("other replies"));
-    }
-    Ok(())
+    gives(alloc, &mut world, script, replies)
 }
 
 #[test]

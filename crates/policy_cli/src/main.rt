@@ -1,14 +1,16 @@
-//! The program `policy`: answers questions about the rules of `rules.txt`, or runs a script of
-//! `wasi:sockets` calls under them, over the scripted network of `scenario.txt`.
+//! The program `policy`: answers questions about the rules of `rules.txt`, says which of them are
+//! odd, or runs a script of `wasi:sockets` calls under them, over the scripted network of
+//! `scenario.txt`.
 #![tactic(auto)]
 
 ghost use Rattle.std.specs.Prelude.{◌≡◌};
 ghost use Rattle.std.specs.Process.{exit_status};
 
 use policy_commands::policy_main;
+use policy_commands::report::{end_at_line, end_at_rules};
 use std::process::ExitCode;
 use std::rt::Files;
-use wasi_console::{Front, LineSource, end, line_of, print, words};
+use wasi_console::{LineSource, end, line_of, print, words};
 use wasi_program::{Choice, ShownLine, Status, choice_in, scenario_path, shown_line};
 use world_io::{FileSource, StdSink, StdSource};
 
@@ -17,18 +19,19 @@ const VERSION: &str = "policy 0.1.0\n";
 /// Where the rules are.
 const RULES_PATH: &str = "rules.txt";
 
-const RULE_LINES: &str =
-    "a rule such as `allow tcp-connect 4 127 0 0 0 8 80 443`, ended by a newline, in a file of at most 1048576 bytes";
-
 const QUESTION_LINES: &str =
     "a use and an address such as `tcp-connect 4 127 0 0 1 80`, ended by a newline";
 
 const HELP: &str = "\
-Answers questions about the rules of rules.txt in this folder, or runs a script of wasi:sockets calls under them.
+Answers questions about the rules of rules.txt in this folder, says which of them are odd, or runs a script of
+wasi:sockets calls under them.
 
 usage: policy ask LIMIT      answers each question on standard input, of at most LIMIT bytes in all, by
                              `allow N` or `deny N`: N is the line of the rule that decided, 0 where none matches
        policy explain LIMIT  answers each question by `N RULE`, the rule that decided
+       policy check          writes `shadowed N` for each line N whose rule decides nothing, since rules before it
+                             decide all that it matches, and `overlap N M` for each two lines whose rules match
+                             something in common, of which one allows and the other denies
        policy run LIMIT      runs the script on standard input, of at most LIMIT bytes, under the rules, over the
                              network that scenario.txt in this folder plans, and writes one reply per line
        policy --help         prints this
@@ -101,9 +104,8 @@ fn stop<R: Eprint + Files, I>(
 ) -> ExitCode
     ensures { exit_status result ≡ number }
 {
-    if number == 16 {
-        let front = line_of(FileSource::open(rt, RULES_PATH), u64::from(line));
-        return bad_line(rt, number, "rules.txt", line, front, RULE_LINES);
+    if number == 16 || number == 17 {
+        return end_at_rules(rt, number, RULES_PATH, line);
     }
     if is_run(words) {
         return stop_with(rt, number, line, input);
@@ -111,7 +113,7 @@ fn stop<R: Eprint + Files, I>(
     match number {
         3 => {
             let front = input.line(u64::from(line));
-            bad_line(rt, number, "the questions", line, front, QUESTION_LINES)
+            end_at_line(rt, number, "the questions", line, front, QUESTION_LINES)
         }
         4 => {
             let printed = eprintln!(rt;
@@ -129,10 +131,6 @@ fn stop_with<R: Eprint + Files, I>(rt: &R, number: u8, line: u32, input: &LineSo
     ensures { exit_status result ≡ number }
 {
     let Some(status) = Status::of_number(number) else {
-        let printed = eprintln!(rt;
-            "status {number}\nrules.txt in this folder can't be opened and read"
-        );
-        let _ = printed;
         return ExitCode::from(number);
     };
     let front = match shown_line(status) {
@@ -141,27 +139,4 @@ fn stop_with<R: Eprint + Files, I>(rt: &R, number: u8, line: u32, input: &LineSo
         ShownLine::Neither => None,
     };
     end(rt, status, line, front)
-}
-
-/// Prints the status with its line, and what was expected of that line, and ends so.
-fn bad_line<R: Eprint>(
-    rt: &R,
-    number: u8,
-    input: &str,
-    line: u32,
-    front: Option<Front>,
-    expected: &str,
-) -> ExitCode
-    ensures { exit_status result ≡ number }
-{
-    let printed = match front {
-        Some(front) => eprintln!(rt;
-            "status {number} line {line}\nline {line} of {input} is `{front}`; expected {expected}"
-        ),
-        None => eprintln!(rt;
-            "status {number} line {line}\nline {line} of {input} is not {expected}"
-        ),
-    };
-    let _ = printed;
-    ExitCode::from(number)
 }

@@ -12,8 +12,9 @@ use Rattle.wasi_policy.specs.Grammar.{rules_of}
 use Rattle.policy_asks.specs.declared.answer.Form.{Form}
 use Rattle.policy_asks.specs.declared.asking.AskError.{AskError}
 use Rattle.policy_asks.specs.Asked.{AskEnds}
+use Rattle.policy_asks.specs.Findings.{CheckEnds}
 use Rattle.policy_commands.specs.declared.status.Command.{Command}
-use Rattle.policy_commands.specs.declared.status.Command.TheVariants.{Run, Ask}
+use Rattle.policy_commands.specs.declared.status.Command.TheVariants.{Run, Ask, Check}
 use Rattle.policy_commands.specs.declared.status.PolicyStatus.{PolicyStatus}
 use Rattle.policy_commands.specs.declared.status.PolicyStatus.TheVariants.{Of, BadRules, RulesFault}
 use Rattle.policy_commands.specs.Words.{number_of, status_of_ask, bad_line_of_ask, command_in}
@@ -75,6 +76,15 @@ pub record AsksEnd (rules : List Rule) (form : Form) (limit : ℕ) (s_old s_new 
   pub line_is : line ≡ bad_line_of_ask outcome
   pub ends : AskEnds rules form limit s_old s_new k_old k_new outcome
 
+-- What is odd about the rules was written, and so the program ends so; there is no log.
+pub record FindingsEnd (rules : List Rule) (k_old k_new : Writing) (denied : List Denied) (inner : List Entry) (line : ℕ) (end : PolicyStatus) : Type 0 where
+  pub denied_is : denied ≡ []
+  pub inner_is : inner ≡ []
+  pub outcome : Result (Unit {0}) AskError
+  pub status_is : end ≡ status_of_ask outcome
+  pub line_is : line ≡ 0
+  pub ends : CheckEnds rules k_old k_new outcome
+
 -- how a command ends, under these rules
 abbrev pub CommandEnds : List Rule → Command → Reading → Reading → Reading → Reading → Writing → Writing → List Denied → List Entry → ℕ → PolicyStatus → Type 0
 CommandEnds rules (Run limit) c_old c_new s_old s_new k_old k_new denied inner line (Of end) =
@@ -82,6 +92,8 @@ CommandEnds rules (Run limit) c_old c_new s_old s_new k_old k_new denied inner l
 CommandEnds rules (Run limit) c_old c_new s_old s_new k_old k_new denied inner line _ = ⊥
 CommandEnds rules (Ask form limit) c_old c_new s_old s_new k_old k_new denied inner line end =
     (c_new ≡ c_old) × AsksEnd rules form limit s_old s_new k_old k_new denied inner line end
+CommandEnds rules Check c_old c_new s_old s_new k_old k_new denied inner line end =
+    (c_new ≡ c_old) × (s_new ≡ s_old) × FindingsEnd rules k_old k_new denied inner line end
 
 -- The rules were read whole, and are in their grammar.
 pub record RulesRead (r_old r_new : Reading) (rules : List Rule) : Type 0 where

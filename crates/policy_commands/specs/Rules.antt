@@ -3,8 +3,8 @@ use Rattle.std.specs.Prelude.{◌≡◌}
 use Rattle.world_io.specs.Io.{Reading}
 use Rattle.wasi_world.specs.Seen.{Rose}
 use Rattle.wasi_program.specs.declared.status.Status.TheVariants as status
-use Rattle.policy_commands.specs.declared.main_words.FoundRules.{FoundRules}
-use Rattle.policy_commands.specs.declared.main_words.FoundRules.TheVariants.{Read, Stopped}
+use Rattle.policy_commands.specs.declared.rules.FoundRules.{FoundRules}
+use Rattle.policy_commands.specs.declared.rules.FoundRules.TheVariants.{Read, Stopped}
 use Rattle.policy_commands.specs.declared.status.PolicyStatus.TheVariants.{Of, BadRules, RulesFault}
 use Rattle.policy_commands.specs.Ends.{RulesRead, HasBadRule}
 

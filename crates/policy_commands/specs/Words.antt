@@ -8,7 +8,7 @@ use Rattle.policy_asks.specs.declared.answer.Form.TheVariants as form
 use Rattle.policy_asks.specs.declared.asking.AskError.{AskError}
 use Rattle.policy_asks.specs.declared.asking.AskError.TheVariants as error
 use Rattle.policy_commands.specs.declared.status.Command.{Command}
-use Rattle.policy_commands.specs.declared.status.Command.TheVariants.{Run, Ask}
+use Rattle.policy_commands.specs.declared.status.Command.TheVariants.{Run, Ask, Check}
 use Rattle.policy_commands.specs.declared.status.PolicyStatus.{PolicyStatus}
 use Rattle.policy_commands.specs.declared.status.PolicyStatus.TheVariants.{Of, BadRules, RulesFault}
 
@@ -41,7 +41,12 @@ limited_by word limit =
 abbrev pub limited_in : List ℕ → List ℕ → Option Command
 limited_in word limit = option_and_then (limited_by word) (number_in limit 4294967295)
 
--- the command in the words: `run LIMIT`, `ask LIMIT` or `explain LIMIT`
+-- the command of one word
+abbrev pub alone : List ℕ → Option Command
+alone word = if bytes_eq word (codes "check") then Some Check else None
+
+-- the command in the words: `run LIMIT`, `ask LIMIT`, `explain LIMIT` or `check`
 abbrev pub command_in : List (List ℕ) → Option Command
+command_in (word ∷ []) = alone word
 command_in (word ∷ limit ∷ []) = limited_in word limit
 command_in _ = None

@@ -2,8 +2,11 @@
 #![tactic(auto)]
 
 pub mod main_words;
+pub mod report;
+pub mod rules;
 pub mod run;
 pub mod status;
 
 pub use main_words::{PolicyDone, policy_main};
+pub use rules::{FoundRules, read_rules};
 pub use status::PolicyStatus;

@@ -2,15 +2,14 @@
 
 ghost use Rattle.std.specs.Prelude.{◌≡◌, ◌↔◌, None, map, string_bytes};
 ghost use Rattle.policy_commands.specs.Words.{command_in, number_of};
-ghost use Rattle.policy_commands.specs.Rules.{IsReadSo};
 ghost use Rattle.policy_commands.specs.Ends.{CommandEnds, RulesEnd, RanMain};
 
-use crate::run::{Ended, answer_questions, run_scenario};
+use crate::rules::{FoundRules, read_rules};
+use crate::run::{Ended, answer_questions, run_scenario, write_findings};
 use crate::status::{Command, PolicyStatus, command_in};
 use std::alloc::Global;
-use wasi_policy::{Denied, Policy, RulesError};
+use wasi_policy::{Denied, Policy};
 use wasi_program::Status;
-use wasi_program::scenario::{Unread, read_scenario};
 use wasi_world::Entry;
 use world_io::{Sink, Source};
 
@@ -25,31 +24,6 @@ pub struct PolicyDone<S, K> {
     pub inner: Vec<Entry>,
     pub source: S,
     pub sink: K,
-}
-
-/// The rules, or how the program ends without them.
-#[derive(Drop)]
-enum FoundRules {
-    Read(Policy),
-    Stopped(PolicyStatus, u32),
-}
-
-/// Reads the rules and their grammar.
-fn read_rules<R: Source>(alloc: Global, rules: &mut R) -> FoundRules
-    ensures { IsReadSo (R.reading rules.old) (R.reading rules.new) result }
-{
-    let text = match read_scenario(alloc, rules) {
-        Ok(text) => text,
-        Err(Unread::Fault) => return FoundRules::Stopped(PolicyStatus::RulesFault, 0),
-        Err(Unread::Memory(_)) => {
-            return FoundRules::Stopped(PolicyStatus::Of(Status::Memory), 0);
-        }
-    };
-    match Policy::parse(alloc, text.as_slice()) {
-        Ok(policy) => FoundRules::Read(policy),
-        Err(RulesError::BadRules(line)) => FoundRules::Stopped(PolicyStatus::BadRules, line),
-        Err(RulesError::Memory(_)) => FoundRules::Stopped(PolicyStatus::Of(Status::Memory), 0),
-    }
 }
 
 /// Does a command under rules.
@@ -68,6 +42,7 @@ fn do_command<C: Source, S: Source, K: Sink>(
     match command {
         Command::Run(limit) => run_scenario(alloc, policy, limit, scenario, source, sink),
         Command::Ask(form, limit) => { answer_questions(alloc, &policy, form, limit, source, sink) }
+        Command::Check => write_findings(alloc, &policy, sink),
     }
 }
 
@@ -93,8 +68,9 @@ fn do_under_rules<R: Source, C: Source, S: Source, K: Sink>(
 /// Does what the program's words say. `run LIMIT` runs the script that the source gives, of at most
 /// LIMIT bytes, under the rules over the scenario's world; replies go to the sink. `ask LIMIT`
 /// answers the questions that the source gives, of at most LIMIT bytes: what the rules decide, and
-/// by which line. `explain LIMIT` answers them with the rule that decided. Other words are status
-/// 1.
+/// by which line. `explain LIMIT` answers them with the rule that decided. `check` writes which
+/// rules decide nothing, and which overlap and say otherwise, and reads no source. Other words are
+/// status 1.
 ///
 /// The words are tested first, then the rules are read whole (a failed read is status 17) and
 /// parsed (status 16), and then for `run` the scenario (statuses 8 and 2).

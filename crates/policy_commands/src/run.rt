@@ -5,10 +5,10 @@ ghost use Rattle.wasi_world.specs.Contexts.{AreNumbered};
 ghost use Rattle.world_scripted.specs.Scripted.{seen_by};
 ghost use Rattle.wasi_world.specs.Seen.{Plan};
 ghost use Rattle.policy_commands.specs.Run.{RanUnder, PlanEnds};
-ghost use Rattle.policy_commands.specs.Ends.{AsksEnd, CommandEnds, TextEnds};
+ghost use Rattle.policy_commands.specs.Ends.{AsksEnd, CommandEnds, FindingsEnd, TextEnds};
 
 use crate::status::{Command, PolicyStatus, bad_line_of_ask};
-use policy_asks::{Form, ask};
+use policy_asks::{Form, ask, check};
 use std::alloc::Global;
 use std::marker::Brand;
 use wasi_policy::{Denied, Policy, PolicyWorld, Rules};
@@ -186,4 +186,13 @@ pub fn answer_questions<S: Source, K: Sink>(
         PolicyStatus::of_ask(outcome),
         bad_line_of_ask(outcome),
     )
+}
+
+/// Writes what is odd about the rules.
+pub fn write_findings<K: Sink>(alloc: Global, policy: &Policy, sink: &mut K) -> Ended
+    ensures { FindingsEnd policy.now (K.writing sink.old) (K.writing sink.new) result.denied.items
+        result.inner.items result.line result.status }
+{
+    let outcome = check(alloc, policy, sink);
+    Ended::without_run(alloc, PolicyStatus::of_ask(outcome), 0)
 }

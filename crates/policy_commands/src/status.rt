@@ -2,7 +2,7 @@
 
 ghost use Rattle.std.specs.Prelude.{◌≡◌, map, string_bytes};
 ghost use Rattle.policy_commands.specs.Words.{number_of, status_of_ask, bad_line_of_ask};
-ghost use Rattle.policy_commands.specs.Words.{limited_by, limited_in, command_in};
+ghost use Rattle.policy_commands.specs.Words.{limited_by, limited_in, alone, command_in};
 
 use policy_asks::{AskError, Form};
 use wasi_program::Status;
@@ -63,6 +63,8 @@ pub enum Command {
     Run(u32),
     /// `ask LIMIT` and `explain LIMIT`: questions of at most so many bytes, answered so.
     Ask(Form, u32),
+    /// `check`: what is odd about the rules.
+    Check,
 }
 
 /// The command of a word with a limit.
@@ -88,11 +90,23 @@ fn limited_in(word: &str, limit: &str) -> Option<Command>
     limited_by(word, limit as u32)
 }
 
+/// The command of one word.
+fn alone(word: &str) -> Option<Command>
+    ensures { result ≡ alone word.now }
+{
+    if word == "check" {
+        Some(Command::Check)
+    } else {
+        None
+    }
+}
+
 /// The command in the words.
 pub fn command_in(words: &[String]) -> Option<Command>
     ensures { result ≡ command_in (map (λ w. string_bytes w) words.now) }
 {
     match words {
+        [word] => alone(word.as_str()),
         [word, limit] => limited_in(word.as_str(), limit.as_str()),
         _ => None,
     }

@@ -5,6 +5,7 @@ pub mod Handing
 pub mod FirstCells
 pub mod ReachLaws
 pub mod NodeLaws
+pub mod Gathering
 pub mod PointLaws
 pub mod StartLaws
 pub mod MarkLaws

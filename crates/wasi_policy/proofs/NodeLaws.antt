@@ -2,10 +2,10 @@
 use Rattle.std.specs.Prelude.{nat_le, min, if◌then◌else◌, ◌&&◌}
 use Rattle.std.specs.List.{All}
 use Rattle.std.specs.List.Sorted.{IsNonDecreasingBy, IsPermutation}
-use Rattle.std.proofs.Common.{◌≡◌, ℕ, zero, suc, ◌+◌, ◌-◌, ◌≤◌, ◌<◌, Bool, true, false, List, [], ◌∷◌, ◌++◌, length, take, drop, get_or, ◌⊎◌, inl, inr, arith, ap, sym, ◌∙◌, refl}
+use Rattle.std.proofs.Common.{◌≡◌, ℕ, zero, suc, ◌+◌, ◌-◌, ◌≤◌, ◌<◌, Bool, true, false, List, [], ◌∷◌, ◌++◌, length, take, drop, get_or, ◌⊎◌, inl, inr, arith, ap, sym, subst, ◌∙◌, refl}
 use Rattle.std.proofs.lemmas.Bool.{and_parts, false≢true, cases_lt, cases_order}
 use Rattle.std.proofs.lemmas.Bool.Decides.{nat_tests}
-use Rattle.std.proofs.lemmas.List.{take_more, take_all, take-take, take-append-drop, drop-take, length-drop, length-take-le, get_or-take, get_or-drop, get_or_append_left, get_or_push, get_or_default, length_push}
+use Rattle.std.proofs.lemmas.List.{take_more, take_all, take-take, take-append-le, take-append-drop, drop-take, length-drop, length-take-le, get_or-take, get_or-drop, get_or_append_left, get_or_push, get_or_default, length_push}
 use Rattle.std.proofs.lemmas.List.Elements.{All-nil, All-cons, All-head, All-tail}
 use Rattle.std.proofs.lemmas.List.Sorted.{All-permutation, IsPermutation-sym, IsNonDecreasingBy-push}
 use Rattle.wasi_policy.specs.declared.cells.Cell.{Cell}
@@ -13,7 +13,7 @@ use Rattle.wasi_policy.specs.declared.node.Node.{Node}
 use Rattle.wasi_policy.specs.declared.reach.Reach.{Reach}
 use Rattle.wasi_policy.specs.Reach.{no_rule, has_port, has, first_by_port, first_of}
 use Rattle.wasi_policy.specs.Cells.{at_port}
-use Rattle.wasi_policy.specs.Nodes.{at_range, at_node, at_nodes, IsLinked, IsIndex, BeginBy, AreAlike}
+use Rattle.wasi_policy.specs.Nodes.{at_range, at_node, at_nodes, next_for, IsLinked, StandFor, IsIndex, BeginBy, AreAlike, Gathers}
 
 -- == what nodes have together
 holds_not : (low high : ℕ) (cells : List Cell) (number port : ℕ) → (number < low) ⊎ (high < number) → at_range low high cells number port ≡ no_rule
@@ -92,8 +92,9 @@ walk_starts nodes number port start h begun later = record {
   all [] h later = let none : start ≡ 0 = omega (arith, h) in rw none refl
   all (node ∷ nodes) h later = passed_to number port (node ∷ nodes) start (length (node ∷ nodes)) node h (omega arith) (λ k e f. holds_not _ _ _ number port (inl (later k node e f)))
 
-pub walk_next : (nodes : List Node) (number port start at first : ℕ) (node : Node) → IsLinked nodes → 0 < at → node ≡ get_or nodes (at - 1) node → LeftTo nodes number port start at first → LeftTo nodes number port start node.before (min first (at_node node number port))
-walk_next nodes number port start at first node linked some is left =
+-- a node that may not hold the address leads past those that don't
+walk_past : (nodes : List Node) (number port start at first : ℕ) (node : Node) → IsLinked nodes → 0 < at → node ≡ get_or nodes (at - 1) node → LeftTo nodes number port start at first → LeftTo nodes number port start node.before (min first (at_node node number port))
+walk_past nodes number port start at first node linked some is left =
     let inside : at - 1 < length nodes = omega (arith, some, left.bound, left.within) in
     let link = linked (at - 1) node inside in
     let before : node.before ≡ (get_or nodes (at - 1) node).before = ap (λ (x : Node). x.before) is in
@@ -119,6 +120,44 @@ walk_next nodes number port start at first node linked some is left =
 
     by_least : (a b c here all : ℕ) → b ≡ a → c ≡ min b here → min first c ≡ all → min (min first here) a ≡ all
     by_least a b c here all e f g = omega (arith, e, f, g)
+
+-- a node that holds the address stands for those round it
+walk_in : (nodes : List Node) (number port start at first : ℕ) (node : Node) → StandFor nodes → 0 < at → node ≡ get_or nodes (at - 1) node → number ≤ node.high → LeftTo nodes number port start at first → LeftTo nodes number port start node.next (min first (at_node node number port))
+walk_in nodes number port start at first node gathered some is high left =
+    let inside : at - 1 < length nodes = omega (arith, some, left.bound, left.within) in
+    let stands = gathered (at - 1) node inside in
+    let next : node.next ≡ (get_or nodes (at - 1) node).next = ap (λ (x : Node). x.next) is in
+    let begins : (get_or nodes (at - 1) node).low ≤ number = left.begun (at - 1) node (omega (arith, some, left.bound)) in
+    let ends : number ≤ (get_or nodes (at - 1) node).high = omega (arith, high, ap (λ (x : Node). x.high) is) in
+    record {
+      bound = omega (arith, next, stands.0, left.bound, some);
+      within = left.within;
+      begun = left.begun;
+      most = less first (at_node node number port) left.most;
+      rest =
+          let same : at - 1 + 1 ≡ at = omega (arith, some) in
+          let here : at_nodes (take at nodes) number port ≡ min (at_node node number port) (at_nodes (take node.next nodes) number port) =
+          ap (λ k. at_nodes (take k nodes) number port) (sym same)
+          ∙ (stands.1 number port begins ends ∙ ap (λ (x : Node). min (at_node x number port) (at_nodes (take x.next nodes) number port)) (sym is)) in
+          by_least (at_node node number port) (at_nodes (take node.next nodes) number port) (at_nodes (take at nodes) number port) (at_nodes nodes number port) here left.rest;
+    }
+  where
+    less : (a b : ℕ) → a ≤ no_rule → min a b ≤ no_rule
+    less a b h = omega (arith, h)
+
+    by_least : (here a c all : ℕ) → c ≡ min here a → min first c ≡ all → min (min first here) a ≡ all
+    by_least here a c all e f = omega (arith, e, f)
+
+pub walk_next : (nodes : List Node) (number port start at first : ℕ) (node : Node) → IsIndex nodes → 0 < at → node ≡ get_or nodes (at - 1) node → LeftTo nodes number port start at first → LeftTo nodes number port start (next_for node number) (min first (at_node node number port))
+walk_next nodes number port start at first node index some is left = by_end (nat_le number node.high) refl where
+  leads_to : (k : ℕ) → k ≡ next_for node number → LeftTo nodes number port start k (min first (at_node node number port)) → LeftTo nodes number port start (next_for node number) (min first (at_node node number port))
+  leads_to k e left = subst (λ k. LeftTo nodes number port start k (min first (at_node node number port))) e left
+
+  by_end : (b : Bool) → nat_le number node.high ≡ b → LeftTo nodes number port start (next_for node number) (min first (at_node node number port))
+  by_end true e =
+      let high : number ≤ node.high = grind (arith, nat_tests) in
+      leads_to node.next (rw e refl) (walk_in nodes number port start at first node index.gathered some is high left)
+  by_end false e = leads_to node.before (rw e refl) (walk_past nodes number port start at first node index.linked some is left)
 
 pub walk_ends : (nodes : List Node) (number port start at first : ℕ) → at ≤ 0 → LeftTo nodes number port start at first → first ≡ at_nodes nodes number port
 walk_ends nodes number port start at first ended left =
@@ -148,7 +187,7 @@ ends_next nodes low at node linked begin some bound is high ends =
         omega (arith, ap (λ (x : Node). x.high) same, link.1 k (omega (arith, before, e)) g, begun)
     by_place inside link before begun k d e f (inr (inr g)) = ends k d (omega (arith, g)) f
 
-module _ (nodes : List Node) (node : Node) (index : IsIndex nodes) (begin : BeginBy nodes node.low) (bound : node.before ≤ length nodes) (ends : EndBefore nodes node.low node.before) where
+module _ (nodes : List Node) (node : Node) (own : List Cell) (index : IsIndex nodes) (begin : BeginBy nodes node.low) (bound : node.before ≤ length nodes) (ends : EndBefore nodes node.low node.before) (cells : Gathers nodes node.high node.before own node.next node.cells.items) where
   pub begin_more : BeginBy (nodes ++ node ∷ []) node.low
   begin_more k d h = by_place (cases_lt k (length nodes)) where
     by_place : (k < length nodes) ⊎ (length nodes ≤ k) → (get_or (nodes ++ node ∷ []) k d).low ≤ node.low
@@ -169,10 +208,69 @@ module _ (nodes : List Node) (node : Node) (index : IsIndex nodes) (begin : Begi
         let here = get_or_push nodes node d k last in
         (rw here (omega (arith, bound, last)), λ i f g. rw (here, get_or_append_left nodes (node ∷ []) d i (omega (arith, g, last))) (ends i d (omega (arith, f, ap (λ (x : Node). x.before) here)) (omega (arith, g, last))))
 
+  -- for its addresses the nodes before it tell what those tell that it leads to
+  same_before : (number port : ℕ) → node.low ≤ number → at_nodes nodes number port ≡ at_nodes (take node.before nodes) number port
+  same_before number port low =
+      ap (λ xs. at_nodes xs number port) (sym (take_all (length nodes) nodes (omega arith)))
+      ∙ passed_to number port nodes node.before (length nodes) node bound (omega arith) (λ k e f. holds_not _ _ _ number port (inr (omega (arith, ends k node e f, low))))
+
+  begin_by : (number : ℕ) → node.low ≤ number → BeginBy nodes number
+  begin_by number low k d h = omega (arith, begin k d h, low)
+
+  holds : (number port : ℕ) → node.low ≤ number → number ≤ node.high → at_node node number port ≡ at_port no_rule node.cells.items port
+  holds number port low high =
+      let begins : nat_le node.low number ≡ true = grind (arith, nat_tests) in
+      let reaches : nat_le number node.high ≡ true = grind (arith, nat_tests) in
+      rw (begins, reaches) refl
+
+  stand_more : StandFor (nodes ++ node ∷ [])
+  stand_more k d h = by_place (cases_lt k (length nodes)) where
+    by_place : (k < length nodes) ⊎ (length nodes ≤ k) → ((get_or (nodes ++ node ∷ []) k d).next ≤ k) × ((number port : ℕ) → (get_or (nodes ++ node ∷ []) k d).low ≤ number → number ≤ (get_or (nodes ++ node ∷ []) k d).high → at_nodes (take (k + 1) (nodes ++ node ∷ [])) number port ≡ min (at_node (get_or (nodes ++ node ∷ []) k d) number port) (at_nodes (take (get_or (nodes ++ node ∷ []) k d).next (nodes ++ node ∷ [])) number port))
+    by_place (inl e) =
+        let here = get_or_append_left nodes (node ∷ []) d k e in
+        let stands = index.gathered k d e in
+        let front = take-append-le (k + 1) nodes (node ∷ []) (omega (arith, e)) in
+        let back = take-append-le (get_or nodes k d).next nodes (node ∷ []) (omega (arith, stands.0, e)) in
+        (rw here stands.0, λ number port low high. rw (here, front, back) (stands.1 number port (omega (arith, low, ap (λ (x : Node). x.low) here)) (omega (arith, high, ap (λ (x : Node). x.high) here))))
+    by_place (inr e) =
+        let last : length nodes ≡ k = omega (arith, e, h, length_push nodes node) in
+        let here = get_or_push nodes node d k last in
+        let below : node.next ≤ length nodes = omega (arith, cells.bound, bound) in
+        let whole = take_all (k + 1) (nodes ++ node ∷ []) (omega (arith, last, length_push nodes node)) in
+        let back = take-append-le node.next nodes (node ∷ []) below in (
+          rw here (omega (arith, below, last)),
+          λ number port low high.
+              let low' : node.low ≤ number = omega (arith, low, ap (λ (x : Node). x.low) here) in
+              let high' : number ≤ node.high = omega (arith, high, ap (λ (x : Node). x.high) here) in
+              rw (here, whole, back) (with_one number port nodes node ∙ last_one number port low' high'),
+        )
+      where
+        by_least : (before own c next : ℕ) → c ≤ own → min c next ≡ min own before → min before c ≡ min c next
+        by_least before own c next e f = omega (arith, e, f)
+
+        last_one : (number port : ℕ) → node.low ≤ number → number ≤ node.high → min (at_nodes nodes number port) (at_node node number port) ≡ min (at_node node number port) (at_nodes (take node.next nodes) number port)
+        last_one number port low high =
+            rw (same_before number port low, holds number port low high) (by_least (at_nodes (take node.before nodes) number port) (at_port no_rule own port) (at_port no_rule node.cells.items port) (at_nodes (take node.next nodes) number port) (cells.more port) (cells.same number port (begin_by number low) high))
+
+  -- the nodes tell what they told before, and what its own cells have
+  pub adds : (number port : ℕ) → at_nodes (nodes ++ node ∷ []) number port ≡ min (at_nodes nodes number port) (at_range node.low node.high own number port)
+  adds number port = with_one number port nodes node ∙ by_address (nat_le node.low number) (nat_le number node.high) refl refl where
+    by_least : (before own c next : ℕ) → c ≤ own → min c next ≡ min own before → min before c ≡ min before own
+    by_least before own c next e f = omega (arith, e, f)
+
+    by_address : (a b : Bool) → nat_le node.low number ≡ a → nat_le number node.high ≡ b → min (at_nodes nodes number port) (at_node node number port) ≡ min (at_nodes nodes number port) (at_range node.low node.high own number port)
+    by_address true true e f =
+        let low : node.low ≤ number = grind (arith, nat_tests) in
+        let high : number ≤ node.high = grind (arith, nat_tests) in
+        rw (e, f, same_before number port low) (by_least (at_nodes (take node.before nodes) number port) (at_port no_rule own port) (at_port no_rule node.cells.items port) (at_nodes (take node.next nodes) number port) (cells.more port) (cells.same number port (begin_by number low) high))
+    by_address true false e f = rw (e, f) refl
+    by_address false b e f = rw e refl
+
   pub index_more : IsIndex (nodes ++ node ∷ [])
   index_more = record {
     rising = IsNonDecreasingBy-push (λ (x : Node). x.low) nodes node index.rising (λ d h. begin (length nodes - 1) d (omega (arith, h)));
     linked = linked_more;
+    gathered = stand_more;
   }
 
 -- == what rules match, in nodes
@@ -251,7 +349,7 @@ pub record HasNodesTo (reaches : List Reach) (at : ℕ) (nodes : List Node) : Ty
 
 pub no_nodes : (reaches : List Reach) → HasNodesTo reaches 0 []
 no_nodes reaches = record {
-  index = record { rising = λ i j d h k. absurd (omega (arith, k)); linked = λ k d h. absurd (omega (arith, h)) };
+  index = record { rising = λ i j d h k. absurd (omega (arith, k)); linked = λ k d h. absurd (omega (arith, h)); gathered = λ k d h. absurd (omega (arith, h)) };
   bound = omega arith;
   begun = λ d h k e f. absurd (omega (arith, f));
   first = λ number port. refl;

@@ -53,8 +53,9 @@ fn is_next(these: &[Cell], those: &[Cell]) -> bool
     }
 }
 
-/// Cells that have the lesser of what two lists of cells have at each port.
-fn merge(alloc: Global, these: &[Cell], those: &[Cell]) -> Result<Vec<Cell>, AllocError>
+/// Cells that have the lesser of what two lists of cells have at each port. Takes memory for as many
+/// as both have.
+pub fn merge(alloc: Global, these: &[Cell], those: &[Cell]) -> Result<Vec<Cell>, AllocError>
     ensures { IfOk result (λ cells. cells.items
         ≡ merged_cells no_rule no_rule these.now those.now) }
 {

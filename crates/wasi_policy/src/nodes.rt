@@ -3,22 +3,28 @@
 //! Rules that match the same addresses share a node, whose cells tell the first of them at each
 //! port. Nodes stand by their least addresses. Those that hold an address are found from the last
 //! that begins at it or before it: each node leads to the last one before it that reaches its least
-//! address, and no node between the two holds an address from there on.
+//! address, and no node between the two holds an address from there on. The cells of a node stand
+//! for nodes round it too, as far as those are few enough, so that an address in many nets is found
+//! at a look or two.
 
-ghost use Rattle.std.specs.Prelude.{◌≡◌, ◌≤◌, ◌<◌, ℕ, min, IfOk, OnOk, length};
+ghost use Rattle.std.specs.Prelude.{◌≡◌, ◌≤◌, ◌<◌, ◌&&◌, ℕ, min, nat_le, IfOk, OnOk, length};
 ghost use Rattle.std.specs.List.{slice_index_or};
 ghost use Rattle.std.specs.List.Sorted.{IsNonDecreasingBy};
 ghost use Rattle.wasi_policy.specs.declared.node.Node.{Node};
 ghost use Rattle.wasi_policy.specs.declared.reach.Reach.{Reach};
 ghost use Rattle.wasi_policy.specs.Reach.{first_of};
 ghost use Rattle.wasi_policy.specs.Cells.{IsRising};
-ghost use Rattle.wasi_policy.specs.Nodes.{at_range, at_nodes, IsIndex, BeginBy};
-ghost use Rattle.wasi_policy.specs.Nodes.{AreAlike};
+ghost use Rattle.wasi_policy.specs.Nodes.{at_range, at_nodes, IsIndex, IsLinked, BeginBy};
+ghost use Rattle.wasi_policy.specs.Nodes.{AreAlike, Gathers};
 
-use crate::cells::{Cell, NO_RULE, cells_of};
+use crate::cells::{Cell, NO_RULE, cells_of, merge};
 use crate::node::Node;
 use crate::reach::Reach;
 use std::alloc::{AllocError, Global};
+
+/// How many times as many cells as its own rules need a node has at most, where it stands for nodes
+/// round it.
+const SHARE: usize = 32;
 
 /// How many nodes begin at this address or before it.
 fn count_from(nodes: &[Node], number: u128) -> usize
@@ -43,7 +49,7 @@ pub fn first_in(nodes: &[Node], number: u128, port: u16) -> u32
     'walk: while at > 0 {
         let node = &nodes[at - 1];
         first = first.min(node.first_at(number, port));
-        at = node.before;
+        at = node.next_for(number);
     }
     first
 }
@@ -51,7 +57,7 @@ pub fn first_in(nodes: &[Node], number: u128, port: u16) -> u32
 /// How many nodes there are up to the last that reaches this address, at which or before which all
 /// of them begin.
 fn count_before(nodes: &[Node], low: u128) -> usize
-    requires index { IsIndex nodes.now }
+    requires linked { IsLinked nodes.now }
     requires begun { BeginBy nodes.now low }
     ensures bound { result ≤ length nodes.now }
     ensures ended { (k : ℕ) (d : Node) → result ≤ k → k < length nodes.now
@@ -64,21 +70,64 @@ fn count_before(nodes: &[Node], low: u128) -> usize
     at
 }
 
-/// Adds a node behind those that begin at its least address or before it.
-fn add(nodes: &mut Vec<Node>, low: u128, high: u128, cells: Vec<Cell>) -> Result<(), AllocError>
+/// Whether a node holds its addresses up to this one, in no more cells than there is room for.
+fn joins(node: &Node, high: u128, room: usize) -> bool
+    ensures { result ≡ (nat_le high node.now.high && nat_le (length node.now.cells.items) room) }
+{
+    node.high >= high && node.cells.len() <= room
+}
+
+/// These cells with those of the nodes that hold all their addresses, which go up to this one and
+/// begin behind all nodes: of the nodes before a place, and as many of them as there is room for.
+/// Also the place before which the others are.
+fn gather(
+    alloc: Global,
+    nodes: &[Node],
+    high: u128,
+    before: usize,
+    own: Vec<Cell>,
+) -> Result<(Vec<Cell>, usize), AllocError>
+    requires index { IsIndex nodes.now }
+    requires bound { before ≤ length nodes.now }
+    requires rising { IsRising own.items }
+    ensures { IfOk result (λ found. Gathers nodes.now high before own.items found.1
+        found.0.items) }
+{
+    let most = own.len().saturating_mul(SHARE);
+    let mut cells = own;
+    let mut at = before;
+    'gathering: while at > 0 && joins(&nodes[at - 1], high, most.saturating_sub(cells.len())) {
+        let node = &nodes[at - 1];
+        cells = merge(alloc, cells.as_slice(), node.cells.as_slice())?;
+        at = node.next;
+    }
+    Ok((cells, at))
+}
+
+/// Adds a node behind those that begin at its least address or before it, with these cells and those
+/// of nodes round it.
+fn add(
+    alloc: Global,
+    nodes: &mut Vec<Node>,
+    low: u128,
+    high: u128,
+    own: Vec<Cell>,
+) -> Result<(), AllocError>
     requires index { IsIndex nodes.old.items }
     requires begun { BeginBy nodes.old.items low }
-    requires rising { IsRising cells.items }
+    requires rising { IsRising own.items }
     ensures index { OnOk result (IsIndex nodes.new.items) }
     ensures begun { OnOk result (BeginBy nodes.new.items low) }
     ensures added { OnOk result ((number port : ℕ) → at_nodes nodes.new.items number port
-        ≡ min (at_nodes nodes.old.items number port) (at_range low high cells.items number port)) }
+        ≡ min (at_nodes nodes.old.items number port) (at_range low high own.items number port)) }
 {
     let before = count_before(nodes.as_slice(), low);
+    let (cells, next) = gather(alloc, nodes.as_slice(), high, before, own)?;
     nodes.push(Node {
         low,
         high,
         before,
+        next,
         cells,
     })?;
     Ok(())
@@ -101,7 +150,8 @@ fn count_alike(reaches: &[Reach]) -> usize
     count
 }
 
-/// The nodes of what rules match, which stand by their least addresses. Takes memory for them.
+/// The nodes of what rules match, which stand by their least addresses. Takes memory for them, and
+/// for at most 64 cells a rule.
 fn nodes_by_low(alloc: Global, reaches: &[Reach]) -> Result<Vec<Node>, AllocError>
     requires rising { IsNonDecreasingBy (λ (reach : Reach). reach.low) reaches.now }
     ensures index { IfOk result (λ nodes. IsIndex nodes.items) }
@@ -114,19 +164,20 @@ fn nodes_by_low(alloc: Global, reaches: &[Reach]) -> Result<Vec<Node>, AllocErro
         let rest = &reaches[at..];
         let count = count_alike(rest);
         let cells = cells_of(alloc, &rest[..count])?;
-        add(&mut nodes, rest[0].low, rest[0].high, cells)?;
+        add(alloc, &mut nodes, rest[0].low, rest[0].high, cells)?;
         at += count;
     }
     Ok(nodes)
 }
 
-/// The nodes of what rules match. Takes memory for them.
+/// The nodes of what rules match. Takes memory for them, and for at most 64 cells a rule.
 pub fn nodes_of(alloc: Global, mut reaches: Vec<Reach>) -> Result<Vec<Node>, AllocError>
     ensures index { IfOk result (λ nodes. IsIndex nodes.items) }
     ensures first { IfOk result (λ nodes. (number port : ℕ)
         → at_nodes nodes.items number port ≡ first_of reaches.items number port) }
 {
-    reaches.sort_by_key(|reach| reach.high)?;
+    // Of those that begin alike the greatest first, so that nodes come behind those that hold them.
+    reaches.sort_by_key(|reach| u128::MAX - reach.high)?;
     reaches.sort_by_key(|reach| reach.low)?;
     nodes_by_low(alloc, reaches.as_slice())
 }

@@ -38,7 +38,7 @@ impl Model for Policy {
 
 impl Policy {
     /// Reads rules: a line for each, in the order in which they are asked. Takes memory for
-    /// them and for an index of them.
+    /// them and for an index of them, which has at most 64 cells a rule for each use and family.
     pub fn parse(alloc: Global, bytes: &[u8]) -> Result<Policy, RulesError>
         ensures rules { IfOk result (λ policy. rules_of bytes.now ≡ Ok policy) }
         ensures bad { IfErr result (λ e. IfSome (bad_line e) (λ n. rules_of bytes.now ≡ Err n)) }

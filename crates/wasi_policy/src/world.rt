@@ -124,8 +124,9 @@ impl<W: World, R: Rules> PolicyWorld<W, R> {
         ensures asked { AsksFor (one op call) (seen_under self.old.denied.items
             (W.seen self.old.inner)) (seen_under self.new.denied.items (W.seen self.new.inner))
             (λ told. told) result }
-        ensures inner { W.seen self.new.inner ≡ W.seen self.old.inner }
+        ensures inner { self.new.inner ≡ self.old.inner }
         ensures fits { IfOk result (λ told. Fits call told) }
+        ensures told { IfOk result (λ told. told ≡ Told.No) }
         ensures err { OnErr result (self.new.denied.items ≡ self.old.denied.items) }
     {
         let place = self.handed.len() as u64;
@@ -140,16 +141,30 @@ impl<W: World, R: Rules> PolicyWorld<W, R> {
 }
 
 impl<W: World, R: Rules> World for PolicyWorld<W, R> {
+    ghost use Rattle.std.specs.Prelude.{option_map, false};
+    ghost use Rattle.wasi_world.specs.Fits.{IsPlain};
     ghost use Rattle.wasi_world.specs.Script.{without_plan};
     ghost use Rattle.wasi_policy.specs.Policed.{seen_under, merged};
-    ghost use Rattle.std.specs.Prelude.{option_map};
 
     ghost seen = { λ world. seen_under world.denied.items (W.seen world.inner) };
 
     ghost scripted = { λ world. without_plan (option_map (merged world.denied.items)
         (W.seen world.inner).log) };
 
-    fn call(&mut self, op: OpId, call: Call) -> Result<Told, AllocError> {
+    fn call(&mut self, op: OpId, call: Call) -> Result<Told, AllocError>
+        requires open { (seen_under self.old.denied.items (W.seen self.old.inner)).ended ≡ false }
+        requires plain { IsPlain call }
+        ensures asked { AsksFor (one op call) (seen_under self.old.denied.items
+            (W.seen self.old.inner)) (seen_under self.new.denied.items (W.seen self.new.inner))
+            (λ told. told) result }
+        ensures fits { IfOk result (λ told. Fits call told) }
+        ensures err { OnErr result (seen_under self.new.denied.items (W.seen self.new.inner)
+            ≡ seen_under self.old.denied.items (W.seen self.old.inner)) }
+
+        // Whatever the inner world reports.
+        ensures denied { denies R.rules call ≡ true → IfOk result (λ told. told ≡ Told.No) }
+        ensures kept { denies R.rules call ≡ true → self.new.inner ≡ self.old.inner }
+    {
         if self.denies(&call) {
             return self.deny(op, call);
         }
