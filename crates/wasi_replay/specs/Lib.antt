@@ -1,6 +1,7 @@
-pub mod Recorded
 pub mod Arguments
 pub mod Calls
 pub mod Log
 pub mod Parsed
 pub mod Pieces
+pub mod Recorded
+pub mod Replayed

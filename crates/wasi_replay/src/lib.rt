@@ -1,5 +1,5 @@
-//! Recorded runs: the text of a log, how it is written and how it is read, and which answers fit
-//! which call.
+//! Recorded runs: the text of a log, how it is written and how it is read, which answers fit which
+//! call, a world that answers from a log, and one that notes what is asked of another.
 #![tactic(auto)]
 
 pub mod call;
@@ -8,10 +8,15 @@ pub mod fields;
 pub mod laws;
 pub mod line;
 pub mod parse;
+pub mod recording_world;
+pub mod replay_world;
+pub mod same;
 pub mod text;
 pub mod told;
 
 pub use entry::fits;
 pub use laws::logs_are_read_exactly;
 pub use parse::{LogError, parse_log};
+pub use recording_world::RecordingWorld;
+pub use replay_world::{Recorded, ReplayWorld};
 pub use text::log_text;

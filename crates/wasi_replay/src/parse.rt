@@ -4,6 +4,9 @@ ghost use Rattle.std.specs.Prelude.{◌≡◌, ◌≤◌, ◌<◌, ◌+◌, ◌^
 ghost use Rattle.std.specs.Prelude.{true, false, Ok, Err, ◌∷◌, ◌++◌, [], length, take};
 ghost use Rattle.wasi_replay.specs.Log.{so_far, add_line, with_line, log_within, log_of};
 ghost use Rattle.wasi_replay.specs.Parsed.{bad_line};
+ghost use Rattle.wasi_replay.specs.Recorded.{fits_entry};
+ghost use Rattle.wasi_world.specs.Contexts.{AreNumbered};
+ghost use Rattle.std.specs.List.{list_all};
 
 use crate::line::{Line, parse_line};
 use std::alloc::{AllocError, Global};
@@ -166,6 +169,10 @@ fn log_within(alloc: Global, bytes: &[u8], most: usize) -> Result<SoFar, LogErro
 pub fn parse_log(alloc: Global, bytes: &[u8]) -> Result<(Vec<WasiSocketsCtx>, Vec<Entry>), LogError>
     ensures ok { IfOk result (λ log. log_of bytes.now ≡ Ok (log.0.items, log.1.items)) }
     ensures bad { IfErr result (λ e. IfSome (bad_line e) (λ n. log_of bytes.now ≡ Err n)) }
+    ensures fits { IfOk result (λ log. list_all fits_entry log.1.items ≡ true) }
+    ensures numbered { IfOk result (λ log. AreNumbered log.0.items) }
+    ensures few_contexts { IfOk result (λ log. length log.0.items < 2 ^ 32) }
+    ensures few_entries { IfOk result (λ log. length log.1.items < 4294967295) }
 {
     let SoFar {
         contexts,

@@ -1,0 +1,237 @@
+//! A world that notes what is asked of another one.
+
+ghost use Rattle.std.specs.Prelude.{◌≡◌, ◌<◌, Some, None, [], IfOk, OnErr, ◌∷◌, ◌++◌, vec_len};
+ghost use Rattle.std.specs.Prelude.{vec_capacity};
+ghost use Rattle.wasi_world.specs.Seen.{Counts};
+ghost use Rattle.wasi_replay.specs.Replayed.{entry, seen_of};
+
+use crate::replay_world::count_code;
+use std::alloc::{AllocError, Global};
+use wasi_addr::IpSocketAddress;
+use wasi_world::{Call, Entry, Octets, OpId, Sock, Told, World};
+
+/// A world round another one that reports no log, as one over the system's sockets. It hands every
+/// call on, and its own log is what it noted: each call with the other world's answer.
+///
+/// Room for a note is taken before its call is handed on, but for the copy of an answer that holds
+/// bytes or names: where there is no room for that, the call was made and isn't noted, and it is
+/// out of memory, which ends a run.
+#[derive(Drop)]
+pub struct RecordingWorld<W: World> {
+    inner: W,
+    log: Vec<Entry>,
+    faults: u64,
+    ghost silent: { (W.seen inner).log ≡ None },
+}
+
+/// A copy of a call. Takes memory where it holds bytes.
+fn copy_call(call: &Call) -> Result<Call, AllocError>
+    ensures { IfOk result (λ copy. copy ≡ call.now) }
+{
+    match call {
+        Call::Lookup { host } => {
+            let host = host.try_clone()?;
+            Ok(Call::Lookup { host })
+        }
+        Call::Send { sock, addr, bytes } => {
+            let (sock, addr) = (*sock, *addr);
+            let bytes = bytes.try_clone()?;
+            Ok(Call::Send { sock, addr, bytes })
+        }
+        Call::Check { ctx, addr, usage } => Ok(Call::Check {
+            ctx: *ctx,
+            addr: *addr,
+            usage: *usage,
+        }),
+        Call::TcpCreate { ctx, family } => Ok(Call::TcpCreate {
+            ctx: *ctx,
+            family: *family,
+        }),
+        Call::UdpCreate { ctx, family } => Ok(Call::UdpCreate {
+            ctx: *ctx,
+            family: *family,
+        }),
+        Call::UdpWritable { sock } => Ok(Call::UdpWritable { sock: *sock }),
+        Call::Local { sock } => Ok(Call::Local { sock: *sock }),
+        Call::Peer { sock } => Ok(Call::Peer { sock: *sock }),
+        Call::Bind { sock, addr } => Ok(Call::Bind {
+            sock: *sock,
+            addr: *addr,
+        }),
+        Call::UdpBind { sock, addr } => Ok(Call::UdpBind {
+            sock: *sock,
+            addr: *addr,
+        }),
+        Call::UdpConnect { sock, addr } => Ok(Call::UdpConnect {
+            sock: *sock,
+            addr: *addr,
+        }),
+        Call::Listen { sock, backlog } => Ok(Call::Listen {
+            sock: *sock,
+            backlog: *backlog,
+        }),
+        Call::SetBacklog { sock, backlog } => Ok(Call::SetBacklog {
+            sock: *sock,
+            backlog: *backlog,
+        }),
+        Call::Connect { sock, addr } => Ok(Call::Connect {
+            sock: *sock,
+            addr: *addr,
+        }),
+        Call::Accept { sock } => Ok(Call::Accept { sock: *sock }),
+        Call::Hand { sock, peer } => Ok(Call::Hand {
+            sock: *sock,
+            peer: *peer,
+        }),
+        Call::Refuse { sock, peer } => Ok(Call::Refuse {
+            sock: *sock,
+            peer: *peer,
+        }),
+        Call::Read { sock, size } => Ok(Call::Read {
+            sock: *sock,
+            size: *size,
+        }),
+        Call::ReadReady { sock } => Ok(Call::ReadReady { sock: *sock }),
+        Call::WriteReady { sock } => Ok(Call::WriteReady { sock: *sock }),
+        Call::Write { sock, offered } => Ok(Call::Write {
+            sock: *sock,
+            offered: *offered,
+        }),
+        Call::Shutdown { sock, how } => Ok(Call::Shutdown {
+            sock: *sock,
+            how: *how,
+        }),
+        Call::UdpDisconnect { sock } => Ok(Call::UdpDisconnect { sock: *sock }),
+        Call::Recv { sock } => Ok(Call::Recv { sock: *sock }),
+        Call::GetOption { sock, option } => Ok(Call::GetOption {
+            sock: *sock,
+            option: *option,
+        }),
+        Call::SetOption {
+            sock,
+            option,
+            value,
+        } => Ok(Call::SetOption {
+            sock: *sock,
+            option: *option,
+            value: *value,
+        }),
+        Call::Close { sock } => Ok(Call::Close { sock: *sock }),
+        Call::Made {
+            handle,
+            kind,
+            parent,
+            sock,
+        } => Ok(Call::Made {
+            handle: *handle,
+            kind: *kind,
+            parent: *parent,
+            sock: *sock,
+        }),
+    }
+}
+
+impl<W: World> RecordingWorld<W> {
+    /// A world round one that was asked nothing yet and reports no log. Takes no memory.
+    pub fn new(alloc: Global, inner: W) -> RecordingWorld<W>
+        requires { (W.seen inner).log ≡ None }
+        ensures { seen_of result.log.items (W.seen result.inner).ended
+            (W.seen result.inner).closings result.faults ≡ seen_of [] (W.seen inner).ended
+            (W.seen inner).closings 0 }
+    {
+        RecordingWorld {
+            inner,
+            log: Vec::new(alloc),
+            faults: 0,
+        }
+    }
+
+    /// The calls that were noted, with their answers: its own log.
+    pub fn entries(&self) -> &[Entry]
+        ensures { result.now ≡ self.now.log.items }
+    {
+        self.log.as_slice()
+    }
+
+    /// The calls that were noted, and the other world. Takes no memory.
+    pub fn into_parts(self) -> (Vec<Entry>, W)
+        ensures log { result.0.items ≡ self.log.items }
+        ensures inner { result.1 ≡ self.inner }
+    {
+        (self.log, self.inner)
+    }
+}
+
+/// Notes a call and its answer, for which there is room but for a copy of the answer.
+fn note(
+    log: &mut Vec<Entry>,
+    faults: &mut u64,
+    op: OpId,
+    call: Call,
+    told: Told,
+) -> Result<Told, AllocError>
+    requires { vec_len log.old < vec_capacity log.old }
+    ensures log { IfOk result (λ answer. log.new.items ≡ log.old.items
+        ++ entry op call answer ∷ []) }
+    ensures told { IfOk result (λ answer. answer ≡ told) }
+    ensures counted { IfOk result (λ answer. Counts answer faults.old faults.new) }
+    ensures err { OnErr result (log.new.items ≡ log.old.items) }
+    ensures uncounted { OnErr result (faults.new ≡ faults.old) }
+{
+    let answer = told.try_clone()?;
+    log.push_reserved(Entry { op, call, answer });
+    count_code(faults, &told);
+    Ok(told)
+}
+
+impl<W: World> World for RecordingWorld<W> {
+    ghost use Rattle.std.specs.Prelude.{Some};
+    ghost use Rattle.wasi_world.specs.Script.{without_plan};
+    ghost use Rattle.wasi_replay.specs.Replayed.{seen_of};
+
+    ghost seen = { λ world. seen_of world.log.items (W.seen world.inner).ended
+        (W.seen world.inner).closings world.faults };
+
+    ghost scripted = { λ world. without_plan (Some world.log.items) };
+
+    fn call(&mut self, op: OpId, call: Call) -> Result<Told, AllocError> {
+        self.log.reserve(1)?;
+        let noted = copy_call(&call)?;
+        let told = self.inner.call(op, call)?;
+        note(&mut self.log, &mut self.faults, op, noted, told)
+    }
+
+    fn write(&mut self, op: OpId, sock: Sock, bytes: &[u8]) -> Result<Told, AllocError> {
+        self.log.reserve(1)?;
+        let offered = bytes.len() as u32;
+        let told = self.inner.write(op, sock, bytes)?;
+        let noted = Call::Write { sock, offered };
+        note(&mut self.log, &mut self.faults, op, noted, told)
+    }
+
+    fn send(
+        &mut self,
+        op: OpId,
+        sock: Sock,
+        addr: IpSocketAddress,
+        bytes: &[u8],
+    ) -> Result<Told, AllocError> {
+        self.log.reserve(1)?;
+        let copy = Octets::copy_of(*self.log.allocator(), bytes)?;
+        let told = self.inner.send(op, sock, addr, bytes)?;
+        let noted = Call::Send {
+            sock,
+            addr,
+            bytes: copy,
+        };
+        note(&mut self.log, &mut self.faults, op, noted, told)
+    }
+
+    fn end(&mut self) {
+        self.inner.end();
+    }
+
+    fn close_after_end(&mut self, sock: Sock) {
+        self.inner.close_after_end(sock);
+    }
+}
