@@ -10,11 +10,11 @@ use world_io::GrowingSink;
 const HOLDS: &str = "\
 # a socket
 > 0 network
-    1.0 made 1 network - - = done
+    1 0 made 1 network - - = done
 ok 1
 > 0 tcp-create 4
-    2.0 tcp-create 0 4 = done
-    2.0 made 2 tcp2 - 2 0 = done
+    2 0 tcp-create 0 4 = done
+    2 0 made 2 tcp2 - 2 0 = done
 ok 2
 closes 1
 
@@ -39,25 +39,25 @@ const CASES: [(&str, &str, End, &str); 12] = [
         "> 0 network",
         "given tcp-create code not-supported\n> 0 network",
         End::Differs,
-        "f:7: a socket\n    wanted:     2.0 tcp-create 0 4 = done\n    came:       2.0 tcp-create 0 4 = code not-supported\n",
+        "f:7: a socket\n    wanted:     2 0 tcp-create 0 4 = done\n    came:       2 0 tcp-create 0 4 = code not-supported\n",
     ),
     (
         "> 0 tcp-create 4",
         "> 0 tcp-create 6",
         End::Differs,
-        "f:6: a socket\n    wanted:     2.0 tcp-create 0 4 = done\n    came:       2.0 tcp-create 0 6 = done\n",
+        "f:6: a socket\n    wanted:     2 0 tcp-create 0 4 = done\n    came:       2 0 tcp-create 0 6 = done\n",
     ),
     (
-        "    2.0 made 2 tcp2 - 2 0 = done\n",
+        "    2 0 made 2 tcp2 - 2 0 = done\n",
         "",
         End::Differs,
-        "f:7: a socket\n    wanted: ok 2\n    came:       2.0 made 2 tcp2 - 2 0 = done\n",
+        "f:7: a socket\n    wanted: ok 2\n    came:       2 0 made 2 tcp2 - 2 0 = done\n",
     ),
     (
         "ok 2\n",
-        "    2.0 close 2 0 = done\nok 2\n",
+        "    2 0 close 2 0 = done\nok 2\n",
         End::Differs,
-        "f:8: a socket\n    wanted:     2.0 close 2 0 = done\n    came:   ok 2\n",
+        "f:8: a socket\n    wanted:     2 0 close 2 0 = done\n    came:   ok 2\n",
     ),
     (
         "ok 2\n",

@@ -59,11 +59,11 @@ The program ends with 0, or prints its status on standard error, with what is wr
 
 example: : > scenario.txt; printf '0 network\\n0 tcp-create 4\\n' | transcripts show 1000
     > 0 network
-        1.0 made 1 network - - = done
+        1 0 made 1 network - - = done
     ok 1
     > 0 tcp-create 4
-        2.0 tcp-create 0 4 = done
-        2.0 made 2 tcp2 - 2 0 = done
+        2 0 tcp-create 0 4 = done
+        2 0 made 2 tcp2 - 2 0 = done
     ok 2
     closes 1
 ";

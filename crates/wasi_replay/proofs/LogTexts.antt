@@ -14,7 +14,7 @@ use Rattle.wasi_world.specs.declared.call.Told.{Told}
 use Rattle.wasi_world.specs.declared.call.Told.TheVariants as told
 use Rattle.wasi_world.specs.declared.ids.OpId.{OpId}
 use Rattle.wasi_world.specs.declared.outcome.WasiSocketsCtx.{WasiSocketsCtx}
-use Rattle.world_text.specs.EntryText.{ip_text, ips_text, call_text, told_text}
+use Rattle.world_text.specs.EntryText.{ip_text, ips_text, call_text, told_text, sock_text}
 use Rattle.world_text.specs.Fields.{line_with}
 use Rattle.world_text.specs.Written.{ip_fields}
 use Rattle.wasi_replay.specs.Arguments.{Kind, ASock, ANumber, AValue, AFamily, AnAddress, AUse, AHalf, AnOption, SomeBytes, AHandleKind, AParent, AMaybeSock, ACode, SomeIps, Value, value_fields, Values, values_fields}
@@ -107,11 +107,11 @@ told_text_is (told.Value value) = texts_are (codes "value") (AValue ∷ []) (val
 told_text_is _ = refl
 
 -- == lines
-spaced : (a b c d s e n : List ℕ) → a ++ s ++ b ++ s ++ c ++ e ++ d ++ n ≡ (a ++ (s ++ (b ++ (s ++ (c ++ (e ++ d)))))) ++ n
+spaced : (a b c d s e n : List ℕ) → (a ++ (s ++ b)) ++ s ++ c ++ e ++ d ++ n ≡ (a ++ (s ++ (b ++ (s ++ (c ++ (e ++ d)))))) ++ n
 spaced a b c d s e n = simp append_assoc refl
 
 abbrev entry_with : Entry → List ℕ → List ℕ → List ℕ
-entry_with e call answer = decimal e.op.step ++ codes " " ++ decimal e.op.part ++ codes " " ++ call ++ codes " = " ++ answer ++ codes "\n"
+entry_with e call answer = sock_text e.op ++ codes " " ++ call ++ codes " = " ++ answer ++ codes "\n"
 
 entry_text_is : (e : Entry) → entry_text e ≡ entry_line e ++ 10 ∷ []
 entry_text_is e =

@@ -1,8 +1,8 @@
 -- The text of a log as it is written, a piece at a time.
-use Rattle.std.specs.Prelude.{ℕ, List, ◌++◌, flat_map, codes, decimal}
+use Rattle.std.specs.Prelude.{ℕ, List, ◌++◌, flat_map, codes}
 use Rattle.wasi_world.specs.declared.call.Entry.{Entry}
 use Rattle.wasi_world.specs.declared.outcome.WasiSocketsCtx.{WasiSocketsCtx}
-use Rattle.world_text.specs.EntryText.{call_text, told_text}
+use Rattle.world_text.specs.EntryText as shown
 use Rattle.wasi_replay.specs.Log.{allowed_text}
 
 abbrev pub context_text : WasiSocketsCtx → List ℕ
@@ -12,7 +12,7 @@ abbrev pub contexts_text : List WasiSocketsCtx → List ℕ
 contexts_text contexts = flat_map context_text contexts
 
 abbrev pub entry_text : Entry → List ℕ
-entry_text e = decimal e.op.step ++ codes " " ++ decimal e.op.part ++ codes " " ++ call_text e.call ++ codes " = " ++ told_text e.answer ++ codes "\n"
+entry_text e = shown.entry_text e ++ codes "\n"
 
 abbrev pub entries_text : List Entry → List ℕ
 entries_text log = flat_map entry_text log

@@ -7,8 +7,8 @@ ghost use Rattle.wasi_replay.specs.Pieces.{pieces};
 
 use std::alloc::{AllocError, Global};
 use std::fmt::Write;
-use wasi_world::{Entry, Octets, OpId, WasiSocketsCtx};
-use world_text::text::{CallText, ToldText};
+use wasi_world::{Entry, Octets, WasiSocketsCtx};
+use world_text::EntryText;
 
 /// Whether something is allowed, as `yes` or `no`.
 fn allowed_word(allowed: bool) -> &'static str
@@ -43,10 +43,7 @@ fn push_contexts(text: &mut String, contexts: &[WasiSocketsCtx]) -> Result<(), A
 fn push_entry(text: &mut String, entry: &Entry) -> Result<(), AllocError>
     ensures { OnOk result (string_bytes text.new ≡ string_bytes text.old ++ entry_text entry.now) }
 {
-    let OpId { step, part } = entry.op;
-    let call = CallText(&entry.call);
-    let answer = ToldText(&entry.answer);
-    write!(text, "{step} {part} {call} = {answer}\n")
+    write!(text, "{}\n", EntryText(entry))
 }
 
 /// Appends the lines of entries.

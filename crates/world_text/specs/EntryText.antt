@@ -1,4 +1,4 @@
--- The text of an entry of a log: its operation, its call and its answer, as in `3.0 bind 2 0 4 127 0 0 1 80 = done`.
+-- The text of an entry of a log: its operation, its call and its answer, as in `3 0 bind 2 0 4 127 0 0 1 80 = done`.
 use Rattle.std.specs.Prelude.{ℕ, List, [], ◌∷◌, ◌++◌, codes, decimal, Option, Some, None}
 use Rattle.std.specs.List.{flat_map}
 use Rattle.wasi_addr.specs.declared.address.IpAddress.{IpAddress}
@@ -68,7 +68,7 @@ handle_kind_text kind.Send3 = codes "send3"
 handle_kind_text kind.Result3 = codes "result3"
 
 -- == values
--- a socket's name: the number of the line that made it, and the part of that line
+-- the name of an operation, or of the socket that it made: the number of the line that began it, and its part of that line
 abbrev pub sock_text : OpId → List ℕ
 sock_text sock = line_with (decimal sock.step ∷ decimal sock.part ∷ [])
 
@@ -185,9 +185,5 @@ told_text (told.Datagram bytes a) = line_with (codes "datagram" ∷ address_text
 told_text (told.Value value) = line_with (codes "value" ∷ decimal value ∷ [])
 told_text (told.Names addresses) = codes "names" ++ ips_text addresses
 
--- an operation: the number of its line, and its part of that line
-abbrev pub op_text : OpId → List ℕ
-op_text op = decimal op.step ++ codes "." ++ decimal op.part
-
 abbrev pub entry_text : Entry → List ℕ
-entry_text e = op_text e.op ++ codes " " ++ call_text e.call ++ codes " = " ++ told_text e.answer
+entry_text e = sock_text e.op ++ codes " " ++ call_text e.call ++ codes " = " ++ told_text e.answer

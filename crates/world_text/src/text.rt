@@ -1,5 +1,5 @@
 //! The text of an entry of a log: its operation, its call and its answer, as in
-//! `3.0 bind 2 0 4 127 0 0 1 80 = done`.
+//! `3 0 bind 2 0 4 127 0 0 1 80 = done`. A log has such lines, and a transcript too.
 
 ghost use Rattle.std.specs.Prelude.{◌≡◌, ◌∷◌, ◌++◌, [], Some, codes, decimal};
 ghost use Rattle.std.specs.Fmt.{DisplaysOnOk};
@@ -8,7 +8,7 @@ ghost use Rattle.world_text.specs.Written.{family_number};
 ghost use Rattle.world_text.specs.Fields.{line_with, bytes_text};
 ghost use Rattle.world_text.specs.EntryText.{sock_text, maybe_sock_text, maybe_handle_text};
 ghost use Rattle.world_text.specs.EntryText.{address_text, ip_text, on_text, to_text};
-ghost use Rattle.world_text.specs.EntryText.{with_number_text, create_text, op_text, call_text};
+ghost use Rattle.world_text.specs.EntryText.{with_number_text, create_text, call_text};
 ghost use Rattle.world_text.specs.EntryText.{use_text, option_text, handle_kind_text};
 ghost use Rattle.world_text.specs.EntryText.{told_text, entry_text};
 
@@ -19,22 +19,10 @@ use wasi_addr::{
     IpAddress, IpSocketAddress, Ipv4SocketAddress, Ipv6SocketAddress, ShutdownType, SocketAddrUse,
     SocketAddressFamily,
 };
-use wasi_world::{Call, Entry, HandleKind, OpId, Opt, Sock, Told};
+use wasi_world::{Call, Entry, HandleKind, Opt, Sock, Told};
 
-/// An operation, as `3.0`: the number of the line that began it, and its part of that line.
-#[derive(Clone, Copy)]
-struct OpText(OpId);
-
-impl fmt::Display for OpText {
-    ghost output = { λ op. Some (op_text op.0) };
-
-    fn fmt<W: fmt::Write>(&self, f: &mut fmt::Formatter<W>) -> fmt::Result {
-        let OpId { step, part } = self.0;
-        write!(f, "{step}.{part}")
-    }
-}
-
-/// A socket's name as two fields.
+/// The name of an operation, or of the socket that it made, as two fields: the number of the line
+/// that began it, and its part of that line.
 #[derive(Clone, Copy)]
 struct SockText(Sock);
 
@@ -413,7 +401,7 @@ impl fmt::Display for ToldText<'_> {
     }
 }
 
-/// An entry of a log, as `3.0 bind 2 0 4 127 0 0 1 80 = done`.
+/// An entry of a log, as `3 0 bind 2 0 4 127 0 0 1 80 = done`.
 #[derive(Clone, Copy)]
 pub struct EntryText<'a>(pub &'a Entry);
 
@@ -425,7 +413,7 @@ impl fmt::Display for EntryText<'_> {
         write!(
             f,
             "{} {} = {}",
-            OpText(*op),
+            SockText(*op),
             CallText(call),
             ToldText(answer)
         )
