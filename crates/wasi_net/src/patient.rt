@@ -62,6 +62,8 @@ impl<S: System> World for PatientWorld<S> {
 
     ghost seen = { patient_seen };
 
+    ghost closed = { λ world. None };
+
     ghost scripted = { λ world. without_plan None };
 
     fn call(&mut self, op: OpId, call: Call) -> Result<Told, AllocError> {

@@ -131,6 +131,7 @@ impl<S: System> World for SystemWorld<S> {
     ghost use Rattle.wasi_world.specs.Asks.{one, one_write, AsksFor};
     ghost use Rattle.wasi_world.specs.Fits.{Fits, IsPlain, IsWritten};
     ghost use Rattle.wasi_world.specs.Script.{without_plan};
+    ghost use Rattle.wasi_world.specs.Closings.{Named};
     ghost use Rattle.wasi_world.specs.Seen.{Closes};
     ghost use Rattle.wasi_net.specs.Does.{WriteDoes, SendDoes};
     ghost use Rattle.wasi_net.specs.Known.{Same, With};
@@ -138,6 +139,9 @@ impl<S: System> World for SystemWorld<S> {
     ghost use Rattle.wasi_net.specs.Net.{seen_by, policy_in, sides_of, system_of};
 
     ghost seen = { seen_by };
+
+    // It keeps no names.
+    ghost closed = { λ world. None };
 
     ghost scripted = { λ world. without_plan None };
 
@@ -221,7 +225,8 @@ impl<S: System> World for SystemWorld<S> {
 
     fn close_after_end(&mut self, sock: Sock)
         requires ended { (seen_by self.old).ended ≡ true }
-        ensures closed { Closes (seen_by self.old) (seen_by self.new) }
+        ensures counted { Closes (seen_by self.old) (seen_by self.new) }
+        ensures named { Named None sock None }
         ensures sides { With (sides_of self.old) sock None (sides_of self.new) }
         ensures policy { policy_in self.new ≡ policy_in self.old }
     {

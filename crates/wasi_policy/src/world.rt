@@ -148,6 +148,8 @@ impl<W: World, R: Rules> World for PolicyWorld<W, R> {
 
     ghost seen = { λ world. seen_under world.denied.items (W.seen world.inner) };
 
+    ghost closed = { λ world. W.closed world.inner };
+
     ghost scripted = { λ world. without_plan (option_map (merged world.denied.items)
         (W.seen world.inner).log) };
 

@@ -5,6 +5,7 @@ use Rattle.wasi_addr.specs.declared.address.SocketAddrUse.TheVariants.{TcpBind, 
 use Rattle.wasi_addr.specs.declared.code.ErrorCode.{ErrorCode}
 use Rattle.wasi_addr.specs.declared.code.ErrorCode.TheVariants.{AccessDenied}
 use Rattle.std.specs.Prelude.{Result, Ok, Err, OnErr}
+use Rattle.wasi_world.specs.declared.call.Call.{Call}
 use Rattle.wasi_world.specs.declared.call.Told.{Told}
 use Rattle.wasi_world.specs.declared.call.Told.TheVariants as told
 use Rattle.wasi_world.specs.declared.call.Entry.{Entry}
@@ -33,86 +34,88 @@ use Rattle.wasi_records.specs.declared.records.Record.TheVariants.{Tcp, Udp, Loo
 use Rattle.wasi_records.specs.declared.socket.TcpRecord.{TcpRecord}
 use Rattle.wasi_world.proofs.Walks.{asks_end, reaches_in, asks_err}
 use Rattle.wasi_records.specs.Sockets.{with_inner, opened_send, opened_receive, opened, connect_polled, connect_settled, connect_told, poll_connect_asks}
-use Rattle.wasi_records.specs.Sides.{made_by, closed_by, made_in, closed_in, one_if_some, holds, held_in, Balances}
+use Rattle.wasi_records.specs.Sides.{Weight, Tally, no_socket, tally, makes, made_by, closed_by, made_in, closed_in, holds, held_in, Balances}
 use Rattle.wasi_records.proofs.SideCounts.{holds-same}
 
--- == trees that make no network socket: so many were closed before, and this holds of how many there are at the end
-abbrev pub Counted : {A : Type 0} → (ℕ → A → Type 0) → ℕ → Asks A → Type 0
-Counted Q n (Give a) = Q n a
-Counted Q n (Ask op call next) = ((t : Told) → made_by call t ≡ 0) × ((t : Told) → Counted Q (n + closed_by call) (next t))
-Counted Q n (AskWrite op sock bytes next) = (t : Told) → Counted Q n (next t)
+-- == trees that make no network socket, of which each counts for so much: so much was closed before, and this holds of how much
+-- there is at the end
+abbrev pub Counted : {A : Type 0} → Weight → (ℕ → A → Type 0) → ℕ → Asks A → Type 0
+Counted w Q n (Give a) = Q n a
+Counted w Q n (Ask op call next) = ((t : Told) → makes call t ≡ false) × ((t : Told) → Counted w Q (n + tally (closed_by call) w) (next t))
+Counted w Q n (AskWrite op sock bytes next) = (t : Told) → Counted w Q n (next t)
 
-pub counted_then : {A B : Type 0} (R : ℕ → A → Type 0) (Q : ℕ → B → Type 0) (n : ℕ) (asks : Asks A) (f : A → Asks B) → Counted R n asks → ((k : ℕ) (a : A) → R k a → Counted Q k (f a)) → Counted Q n (bind asks f)
-unfolding bind
-counted_then R Q n (Give a) f h k = k n a h
-counted_then R Q n (Ask op call next) f h k = (h.0, λ t. counted_then R Q (n + closed_by call) (next t) f (h.1 t) k)
-counted_then R Q n (AskWrite op sock bytes next) f h k = λ t. counted_then R Q n (next t) f (h t) k
+module _ (w : Weight) where
+  pub counted_then : {A B : Type 0} (R : ℕ → A → Type 0) (Q : ℕ → B → Type 0) (n : ℕ) (asks : Asks A) (f : A → Asks B) → Counted w R n asks → ((k : ℕ) (a : A) → R k a → Counted w Q k (f a)) → Counted w Q n (bind asks f)
+  unfolding bind
+  counted_then R Q n (Give a) f h k = k n a h
+  counted_then R Q n (Ask op call next) f h k = (h.0, λ t. counted_then R Q (n + tally (closed_by call) w) (next t) f (h.1 t) k)
+  counted_then R Q n (AskWrite op sock bytes next) f h k = λ t. counted_then R Q n (next t) f (h t) k
 
--- what was made and closed on a walk, and what is left of the tree
-pub record Walked {A : Type 0} (Q : ℕ → A → Type 0) (n : ℕ) (es : List Entry) (rest : Asks A) : Type 0 where
-  pub made : made_in es ≡ 0
-  pub left : Counted Q (n + closed_in es) rest
+  -- what was made and closed on a walk, and what is left of the tree
+  pub record Walked {A : Type 0} (Q : ℕ → A → Type 0) (n : ℕ) (es : List Entry) (rest : Asks A) : Type 0 where
+    pub made : made_in es w ≡ 0
+    pub left : Counted w Q (n + closed_in es w) rest
 
-pub counted_left : {A : Type 0} (Q : ℕ → A → Type 0) (n : ℕ) (asks : Asks A) (es : List Entry) (rest : Asks A) → Counted Q n asks → Left asks es rest → Walked Q n es rest
-counted_left Q n asks [] rest h w = record { made = refl; left = let z : n ≡ n + 0 = omega arith in subst (λ (k : ℕ). Counted Q k rest) z (subst (Counted Q n) w h) }
-counted_left Q n (Give a) (e ∷ es) rest h w = absurd w
-counted_left Q n (Ask op call next) (e ∷ es) rest h w =
-    let r = counted_left Q (n + closed_by call) (next e.answer) es rest (h.1 e.answer) w.1 in
-    let m : made_by e.call e.answer ≡ 0 = rw w.0.1 (h.0 e.answer) in
-    let c : closed_by e.call ≡ closed_by call = ap closed_by w.0.1 in
-    let q = r.made in
-    let z : n + closed_by call + closed_in es ≡ n + (closed_by e.call + closed_in es) = omega arith in
-    record { made = omega arith; left = subst (λ (k : ℕ). Counted Q k rest) z r.left }
-counted_left Q n (AskWrite op sock bytes next) (e ∷ es) rest h w =
-    let r = counted_left Q n (next e.answer) es rest (h e.answer) w.2 in
-    let m : made_by e.call e.answer ≡ 0 = rw w.0.1 refl in
-    let c : closed_by e.call ≡ 0 = rw w.0.1 refl in
-    let q = r.made in
-    let z : n + closed_in es ≡ n + (closed_by e.call + closed_in es) = omega arith in
-    record { made = omega arith; left = subst (λ (k : ℕ). Counted Q k rest) z r.left }
+  pub counted_left : {A : Type 0} (Q : ℕ → A → Type 0) (n : ℕ) (asks : Asks A) (es : List Entry) (rest : Asks A) → Counted w Q n asks → Left asks es rest → Walked Q n es rest
+  counted_left Q n asks [] rest h walk = record { made = refl; left = let z : n ≡ n + 0 = omega arith in subst (λ (k : ℕ). Counted w Q k rest) z (subst (Counted w Q n) walk h) }
+  counted_left Q n (Give a) (e ∷ es) rest h walk = absurd walk
+  counted_left Q n (Ask op call next) (e ∷ es) rest h walk =
+      let r = counted_left Q (n + tally (closed_by call) w) (next e.answer) es rest (h.1 e.answer) walk.1 in
+      let m : made_by e.op e.call e.answer w ≡ 0 = rw (walk.0.1, h.0 e.answer) refl in
+      let c : tally (closed_by e.call) w ≡ tally (closed_by call) w = ap (λ (c : Call). tally (closed_by c) w) walk.0.1 in
+      let q = r.made in
+      let z : n + tally (closed_by call) w + closed_in es w ≡ n + (tally (closed_by e.call) w + closed_in es w) = omega arith in
+      record { made = omega arith; left = subst (λ (k : ℕ). Counted w Q k rest) z r.left }
+  counted_left Q n (AskWrite op sock bytes next) (e ∷ es) rest h walk =
+      let r = counted_left Q n (next e.answer) es rest (h e.answer) walk.2 in
+      let m : made_by e.op e.call e.answer w ≡ 0 = rw walk.0.1 refl in
+      let c : tally (closed_by e.call) w ≡ 0 = rw walk.0.1 refl in
+      let q = r.made in
+      let z : n + closed_in es w ≡ n + (tally (closed_by e.call) w + closed_in es w) = omega arith in
+      record { made = omega arith; left = subst (λ (k : ℕ). Counted w Q k rest) z r.left }
 
--- where the end reports how many were closed before, there is one such number
-pub counted_once : {A : Type 0} (Q : ℕ → A → Type 0) → ((n m : ℕ) (a : A) → Q n a → Q m a → n ≡ m) → (n m : ℕ) (asks : Asks A) → Counted Q n asks → Counted Q m asks → n ≡ m
-counted_once Q one n m (Give a) h k = one n m a h k
-counted_once Q one n m (Ask op call next) h k = let e = counted_once Q one (n + closed_by call) (m + closed_by call) (next told.Done) (h.1 told.Done) (k.1 told.Done) in omega arith
-counted_once Q one n m (AskWrite op sock bytes next) h k = counted_once Q one n m (next told.Done) (h told.Done) (k told.Done)
+  -- where the ends of two report how much was closed before, it is as much
+  pub counted_once : {A : Type 0} (Q R : ℕ → A → Type 0) (p q : ℕ) → ((n m : ℕ) (a : A) → Q n a → R m a → n + p ≡ m + q) → (n m : ℕ) (asks : Asks A) → Counted w Q n asks → Counted w R m asks → n + p ≡ m + q
+  counted_once Q R p q one n m (Give a) h k = one n m a h k
+  counted_once Q R p q one n m (Ask op call next) h k = let e = counted_once Q R p q one (n + tally (closed_by call) w) (m + tally (closed_by call) w) (next told.Done) (h.1 told.Done) (k.1 told.Done) in omega arith
+  counted_once Q R p q one n m (AskWrite op sock bytes next) h k = counted_once Q R p q one n m (next told.Done) (h told.Done) (k told.Done)
 
 -- == a poll of a connect
 -- refused, it closed its network socket; else it closed none
-abbrev Closes : ℕ → End × List Item → Type 0
-Closes n (Waits, items) = n ≡ 0
-Closes n (Done given, items) = n ≡ 0
-Closes n (Refused c given, items) = n ≡ 1
+abbrev Closes : ℕ → ℕ → End × List Item → Type 0
+Closes one n (Waits, items) = n ≡ 0
+Closes one n (Done given, items) = n ≡ 0
+Closes one n (Refused c given, items) = n ≡ one
 
-module _ (who : Who) (last : who.last ≡ CloseLast) (again : List Item → Asks (End × List Item)) where
-  closes : (c : ErrorCode) → Counted Closes 0 (last_ask who who.last c Nothing)
+module _ (w : Weight) (who : Who) (last : who.last ≡ CloseLast) (again : List Item → Asks (End × List Item)) where
+  closes : (c : ErrorCode) → Counted w (Closes (w who.side)) 0 (last_ask who who.last c Nothing)
   unfolding bind
-  closes c = subst (λ (l : LastAsk). Counted Closes 0 (last_ask who l c Nothing)) (sym last) ((λ t. refl), λ t. refl)
+  closes c = subst (λ (l : LastAsk). Counted w (Closes (w who.side)) 0 (last_ask who l c Nothing)) (sym last) ((λ t. refl), λ t. omega arith)
 
-  told_connect : (a : IpSocketAddress) (t : Told) → Counted Closes 0 (after again who [] (λ g. round again who g []) (polled_front (Connect a) (told_polled t)))
+  told_connect : (a : IpSocketAddress) (t : Told) → Counted w (Closes (w who.side)) 0 (after again who [] (λ g. round again who g []) (polled_front (Connect a) (told_polled t)))
   told_connect a told.Done = refl
   told_connect a (told.Code c) = closes c
   told_connect a _ = refl
 
-  connects : (a : IpSocketAddress) (given : Given) → Counted Closes 0 (round again who given (Connect a ∷ []))
+  connects : (a : IpSocketAddress) (given : Given) → Counted w (Closes (w who.side)) 0 (round again who given (Connect a ∷ []))
   unfolding bind
   connects a given = ((λ t. refl), λ t. told_connect a t)
 
-  told_check : (a : IpSocketAddress) (t : Told) → Counted Closes 0 (after again who (Connect a ∷ []) (λ g. round again who g (Connect a ∷ [])) (verdict_front (Check a TcpConnect) (told_verdict t)))
+  told_check : (a : IpSocketAddress) (t : Told) → Counted w (Closes (w who.side)) 0 (after again who (Connect a ∷ []) (λ g. round again who g (Connect a ∷ [])) (verdict_front (Check a TcpConnect) (told_verdict t)))
   told_check a told.Yes = connects a Nothing
   told_check a told.No = closes AccessDenied
   told_check a _ = refl
 
-  checks : (a : IpSocketAddress) (given : Given) → Counted Closes 0 (round again who given (Check a TcpConnect ∷ Connect a ∷ []))
+  checks : (a : IpSocketAddress) (given : Given) → Counted w (Closes (w who.side)) 0 (round again who given (Check a TcpConnect ∷ Connect a ∷ []))
   unfolding bind
   checks a given = ((λ t. refl), λ t. told_check a t)
 
-  told_wildcard : (wildcard a : IpSocketAddress) (t : Told) → Counted Closes 0 (after again who (Check a TcpConnect ∷ Connect a ∷ []) (λ g. round again who g (Check a TcpConnect ∷ Connect a ∷ [])) (verdict_front (Check wildcard TcpBind) (told_verdict t)))
+  told_wildcard : (wildcard a : IpSocketAddress) (t : Told) → Counted w (Closes (w who.side)) 0 (after again who (Check a TcpConnect ∷ Connect a ∷ []) (λ g. round again who g (Check a TcpConnect ∷ Connect a ∷ [])) (verdict_front (Check wildcard TcpBind) (told_verdict t)))
   told_wildcard wildcard a told.Yes = checks a Nothing
   told_wildcard wildcard a told.No = closes AccessDenied
   told_wildcard wildcard a _ = refl
 
-  count_round : (items : List Item) → IsLeftOfConnect items → Counted Closes 0 (round again who Nothing items)
+  count_round : (items : List Item) → IsLeftOfConnect items → Counted w (Closes (w who.side)) 0 (round again who Nothing items)
   unfolding bind
   count_round _ (Unbound wildcard a) = ((λ t. refl), λ t. told_wildcard wildcard a t)
   count_round _ (Unchecked a) = checks a Nothing
@@ -120,50 +123,54 @@ module _ (who : Who) (last : who.last ≡ CloseLast) (again : List Item → Asks
   count_round _ (ToClose c) = closes c
   count_round _ Ended = refl
 
-count_poll : (op : Operation) → IsConnect op → Counted Closes 0 (poll_asks op)
+count_poll : (w : Weight) (op : Operation) → IsConnect op → Counted w (Closes (w op.who.side)) 0 (poll_asks op)
 unfolding polls
-count_poll op h = count_round op.who h.last (polls 63 op.who) op.left h.left
+count_poll w op h = count_round w op.who h.last (polls 63 op.who) op.left h.left
 
 -- == the state of a socket
-abbrev held : TcpState → ℕ
-held s = one_if_some (side_in s)
+abbrev held : TcpState → Tally
+held s = tally (side_in s)
 
-abbrev Balanced : ℕ → ℕ → Result (Answer (Unit {0})) ErrorCode × Socket → Type 0
-Balanced before n done = n + held done.1.state ≡ before
+abbrev Balanced : Weight → ℕ → ℕ → Result (Answer (Unit {0})) ErrorCode × Socket → Type 0
+Balanced w before n done = n + held done.1.state w ≡ before
 
-count_ended : (socket : Socket) (op : Operation) (n : ℕ) (end : End × List Item) → Closes n end → Balanced 1 n (in_socket socket (connect_ended op.who end))
-count_ended socket op n (Waits, items) h = rw h refl
-count_ended socket op n (Done given, items) h = rw h refl
-count_ended socket op n (Refused c given, items) h = rw h refl
+count_ended : (w : Weight) (socket : Socket) (op : Operation) (n : ℕ) (end : End × List Item) → Closes (w op.who.side) n end → Balanced w (w op.who.side) n (in_socket socket (connect_ended op.who end))
+count_ended w socket op n (Waits, items) h = rw h (omega arith)
+count_ended w socket op n (Done given, items) h = rw h (omega arith)
+count_ended w socket op n (Refused c given, items) h = rw h (omega arith)
 
-count_finish : (socket : Socket) (s : TcpState) → HoldsConnect s → Counted (λ n done. Balanced (held s) n (in_socket socket done)) 0 (finish_in s)
-count_finish socket (state.Default side) h = refl
-count_finish socket (state.Listening side) h = refl
-count_finish socket (state.Connecting op) h = counted_then Closes (λ n done. Balanced 1 n (in_socket socket done)) 0 (poll_asks op) _ (count_poll op h) (λ n end c. count_ended socket op n end c)
-count_finish socket (state.Connected c) h = refl
-count_finish socket (state.Closed c) h = refl
+count_finish : (w : Weight) (socket : Socket) (s : TcpState) → HoldsConnect s → Counted w (λ n done. Balanced w (held s w) n (in_socket socket done)) 0 (finish_in s)
+count_finish w socket (state.Default side) h = omega arith
+count_finish w socket (state.Listening side) h = omega arith
+count_finish w socket (state.Connecting op) h = counted_then w (Closes (w op.who.side)) (λ n done. Balanced w (w op.who.side) n (in_socket socket done)) 0 (poll_asks op) _ (count_poll w op h) (λ n end c. count_ended w socket op n end c)
+count_finish w socket (state.Connected c) h = omega arith
+count_finish w socket (state.Closed c) h = omega arith
 
-count_socket : (socket : Socket) → HoldsConnect socket.state → Counted (Balanced (held socket.state)) 0 (finish_connect_asks socket)
-count_socket socket h =
-    counted_then (λ n done. Balanced (held socket.state) n (in_socket socket done)) (Balanced (held socket.state)) 0 (finish_in socket.state) _ (count_finish socket socket.state h) (λ n done c. c)
+count_socket : (w : Weight) (socket : Socket) → HoldsConnect socket.state → Counted w (Balanced w (held socket.state w)) 0 (finish_connect_asks socket)
+count_socket w socket h =
+    counted_then w (λ n done. Balanced w (held socket.state w) n (in_socket socket done)) (Balanced w (held socket.state w)) 0 (finish_in socket.state) _ (count_finish w socket socket.state h) (λ n done c. c)
 
 -- the poll came to its end
-closes_done : (r : TcpRecord) {answer : Result (Answer (Unit {0})) ErrorCode} {now : Socket} {s t : Seen} → HoldsConnect r.inner.state → Reaches (finish_connect_asks r.inner) (Give (answer, now)) s t → Balances s t 0 r (with_inner r now)
-closes_done r h e =
-    let w = counted_left (Balanced (held r.inner.state)) 0 (finish_connect_asks r.inner) e.entries _ (count_socket r.inner h) e.left in
-    let balance = w.left in
-    let made = w.made in
-    record { entries = e.entries; passed = e.passed; balance = omega arith }
+closes_done : (r : TcpRecord) {answer : Result (Answer (Unit {0})) ErrorCode} {now : Socket} {s t : Seen} → HoldsConnect r.inner.state → Reaches (finish_connect_asks r.inner) (Give (answer, now)) s t → Balances s t no_socket r (with_inner r now)
+closes_done r {answer} {now} h e = record {
+  entries = e.entries;
+  passed = e.passed;
+  balance = λ w. (let walk = counted_left w (Balanced w (held r.inner.state w)) 0 (finish_connect_asks r.inner) e.entries (Give (answer, now)) (count_socket w r.inner h) e.left in
+      let balance = walk.left in
+      let made = walk.made in omega arith);
+}
 
 -- or memory ran out
-closes_memory : (r : TcpRecord) (now : Socket) {s t : Seen} → HoldsConnect r.inner.state → HoldsConnect now.state → side_of now ≡ side_of r.inner → Reaches (finish_connect_asks r.inner) (finish_connect_asks now) s t → Balances s t 0 r (with_inner r now)
-closes_memory r now h k e f =
-    let same : held now.state ≡ held r.inner.state = ap one_if_some e in
-    let w = counted_left (Balanced (held r.inner.state)) 0 (finish_connect_asks r.inner) f.entries (finish_connect_asks now) (count_socket r.inner h) f.left in
-    let own = subst (λ (b : ℕ). Counted (Balanced b) 0 (finish_connect_asks now)) same (count_socket now k) in
-    let none = counted_once (Balanced (held r.inner.state)) (λ n m done p q. omega arith) (0 + closed_in f.entries) 0 (finish_connect_asks now) w.left own in
-    let made = w.made in
-    record { entries = f.entries; passed = f.passed; balance = omega arith }
+closes_memory : (r : TcpRecord) (now : Socket) {s t : Seen} → HoldsConnect r.inner.state → HoldsConnect now.state → side_of now ≡ side_of r.inner → Reaches (finish_connect_asks r.inner) (finish_connect_asks now) s t → Balances s t no_socket r (with_inner r now)
+closes_memory r now h k e f = record {
+  entries = f.entries;
+  passed = f.passed;
+  balance = λ w. (let same : held now.state w ≡ held r.inner.state w = ap (λ o. tally o w) e in
+      let walk = counted_left w (Balanced w (held r.inner.state w)) 0 (finish_connect_asks r.inner) f.entries (finish_connect_asks now) (count_socket w r.inner h) f.left in
+      let own = subst (λ (b : ℕ). Counted w (Balanced w b) 0 (finish_connect_asks now)) same (count_socket w now k) in
+      let none = counted_once w (Balanced w (held r.inner.state w)) (Balanced w (held r.inner.state w)) 0 0 (λ n m done p q. omega arith) (0 + closed_in f.entries w) 0 (finish_connect_asks now) walk.left own in
+      let made = walk.made in omega arith);
+}
 
 -- == a record whose connect was polled
 pub poll_asked : (r : TcpRecord) (now : Socket) (p : Result (Answer (Unit {0})) Refusal) {s t : Seen} → AsksFor (finish_connect_asks r.inner) s t (λ answer. (answer, now)) (outcome p)
@@ -232,27 +239,27 @@ settled_listening r (Err (refusal.Code c)) = refl
 settled_listening r (Err (refusal.Memory e)) = refl
 
 -- another record that holds as many network sockets
-pub balances_as : {s t : Seen} {n : ℕ} {old now : TcpRecord} (other : TcpRecord) → holds other ≡ holds now → Balances s t n old now → Balances s t n old other
-balances_as other e c = let b = c.balance in record { entries = c.entries; passed = c.passed; balance = omega arith }
+pub balances_as : {s t : Seen} {given : Tally} {old now : TcpRecord} (other : TcpRecord) → holds other ≡ holds now → Balances s t given old now → Balances s t given old other
+balances_as other e c = record { entries = c.entries; passed = c.passed; balance = λ w. (let b = c.balance w in let same = ap (λ (held : Tally). held w) e in omega arith) }
 
 pub closed_by_poll : (r : TcpRecord) (now : Socket) (p : Result (Answer (Unit {0})) Refusal) {s t : Seen} → HoldsConnect r.inner.state → HoldsConnect now.state → AsksFor (finish_connect_asks r.inner) s t (λ answer. (answer, now)) (outcome p)
-    → OnErr (outcome p) (Reaches (finish_connect_asks r.inner) (finish_connect_asks now) s t) → OnErr (outcome p) (side_of now ≡ side_of r.inner) → Balances s t 0 r (with_inner r now)
+    → OnErr (outcome p) (Reaches (finish_connect_asks r.inner) (finish_connect_asks now) s t) → OnErr (outcome p) (side_of now ≡ side_of r.inner) → Balances s t no_socket r (with_inner r now)
 closed_by_poll r now (Ok a) h k asked e side = closes_done r h asked.ok
 closed_by_poll r now (Err (refusal.Code c)) h k asked e side = closes_done r h asked.ok
 closed_by_poll r now (Err (refusal.Memory d)) h k asked e side = closes_memory r now h k side e
 
 pub poll_closes : (r : TcpRecord) (now : Socket) (p : Result (Answer (Unit {0})) Refusal) {s t : Seen} → HoldsConnect r.inner.state → HoldsConnect now.state → AsksFor (finish_connect_asks r.inner) s t (λ answer. (answer, now)) (outcome p)
-    → OnErr (outcome p) (Reaches (finish_connect_asks r.inner) (finish_connect_asks now) s t) → OnErr (outcome p) (side_of now ≡ side_of r.inner) → Balances s t 0 r (connect_settled (with_inner r now) p)
+    → OnErr (outcome p) (Reaches (finish_connect_asks r.inner) (finish_connect_asks now) s t) → OnErr (outcome p) (side_of now ≡ side_of r.inner) → Balances s t no_socket r (connect_settled (with_inner r now) p)
 poll_closes r now p h k asked e side =
     balances_as (connect_settled (with_inner r now) p) (holds-same (with_inner r now) (connect_settled (with_inner r now) p) (settled_side (with_inner r now) p) (settled_listening (with_inner r now) p)) (closed_by_poll r now p h k asked e side)
 
 -- == the records, where one of them was polled
-pub held_in-swap : (rs : List Record) (i : ℕ) (old now : TcpRecord) → tcp2_at rs i ≡ Some old → held_in (tcp2_put rs i now) + holds old ≡ held_in rs + holds now
-held_in-swap [] i old now h = absurd (cc)
-held_in-swap (Tcp x ∷ rs) zero old now h = let k : x ≡ old = cc in let p = ap (λ (r : TcpRecord). holds r) k in omega arith
-held_in-swap (Udp u ∷ rs) zero r s h = absurd (cc)
-held_in-swap (Lookup l ∷ rs) zero r s h = absurd (cc)
-held_in-swap (InputPipe b ∷ rs) zero r s h = absurd (cc)
-held_in-swap (OutputPipe p ∷ rs) zero r s h = absurd (cc)
-held_in-swap (Gone ∷ rs) zero r s h = absurd (cc)
-held_in-swap (x ∷ rs) (suc i) old now h = let p = held_in-swap rs i old now h in omega arith
+pub held_in-swap : (w : Weight) (rs : List Record) (i : ℕ) (old now : TcpRecord) → tcp2_at rs i ≡ Some old → held_in (tcp2_put rs i now) w + holds old w ≡ held_in rs w + holds now w
+held_in-swap w [] i old now h = absurd (cc)
+held_in-swap w (Tcp x ∷ rs) zero old now h = let k : x ≡ old = cc in let p = ap (λ (r : TcpRecord). holds r w) k in omega arith
+held_in-swap w (Udp u ∷ rs) zero r s h = absurd (cc)
+held_in-swap w (Lookup l ∷ rs) zero r s h = absurd (cc)
+held_in-swap w (InputPipe b ∷ rs) zero r s h = absurd (cc)
+held_in-swap w (OutputPipe p ∷ rs) zero r s h = absurd (cc)
+held_in-swap w (Gone ∷ rs) zero r s h = absurd (cc)
+held_in-swap w (x ∷ rs) (suc i) old now h = let p = held_in-swap w rs i old now h in omega arith

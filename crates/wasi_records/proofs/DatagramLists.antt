@@ -1,5 +1,5 @@
 -- Datagrams that are sent in turn: how one of them that was sent leaves the others, and how the list ends.
-use Rattle.std.proofs.Common.{◌≡◌, ℕ, zero, suc, ◌+◌, ◌<◌, List, ◌∷◌, length, refl, arith}
+use Rattle.std.proofs.Common.{◌≡◌, ℕ, zero, suc, ◌+◌, ◌<◌, ◌≤◌, List, ◌∷◌, length, refl, arith}
 use Rattle.std.specs.Prelude.{Result, Ok, Err}
 use Rattle.std.proofs.lemmas.List.{nil_from_length}
 use Rattle.std.specs.declared.alloc.AllocError.{AllocError}
@@ -16,7 +16,7 @@ use Rattle.wasi_world.proofs.Walks.{asks_end, reaches_in, reaches_on, reaches_th
 use Rattle.wasi_udp.specs.Shape.{Socket}
 use Rattle.wasi_records.specs.declared.datagrams.Outgoing.{Outgoing}
 use Rattle.wasi_records.specs.Datagrams.{send_after, send_all, send_next_asks, refusal_told}
-use Rattle.wasi_records.specs.Names.{next_name, names_after}
+use Rattle.wasi_records.specs.Names.{RoseUpTo, next_name, names_after}
 
 -- what is asked after the first of the asks were made
 asks_after : {A T : Type 0} {first mid : Asks A} {o p q : Seen} {view : T → A} {r : Result T AllocError} → Reaches first mid o p → AsksFor mid p q view r → AsksFor first o q view r
@@ -63,3 +63,7 @@ one_taken n d rest more e h = let k = rw e at h in omega arith
 
 pub one_wanted : (n : ℕ) (d : OutgoingDatagram) (rest more : List OutgoingDatagram) → rest ≡ d ∷ more → n + length rest < 18446744073709551616 → n + 1 < 18446744073709551616
 one_wanted n d rest more e h = let k = rw e at h in omega arith
+
+-- the parts of a line that one more datagram took
+pub parts_more : {first now next : Ids} {most left more : ℕ} → first.next_part ≤ now.next_part → now.next_part + left ≤ first.next_part + most → RoseUpTo 1 now next → left ≡ suc more → RoseUpTo most first next
+parts_more forth few one less = let p = one.kept in let q = one.few in record { kept = omega arith; few = omega arith }

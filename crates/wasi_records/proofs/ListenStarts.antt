@@ -18,9 +18,9 @@ use Rattle.wasi_records.specs.declared.tcp_listening.Listening.{Listening}
 use Rattle.wasi_records.specs.declared.tcp_listening.Listening.TheVariants.{Not, Begins}
 use Rattle.wasi_records.specs.declared.socket.TcpRecord.{TcpRecord}
 use Rattle.wasi_records.specs.Listening.{side_in}
-use Rattle.wasi_records.specs.Sides.{one_if_some, Balances}
+use Rattle.wasi_records.specs.Sides.{Weight, no_socket, tally, holds, Balances}
 use Rattle.wasi_records.specs.Sockets.{with_inner}
-use Rattle.wasi_records.proofs.SideCounts.{Calm, Any, calm_then, calm_bound, balances_walk, balances_calm, holds-same}
+use Rattle.wasi_records.proofs.SideCounts.{Calm, Any, calm_then, calm_bound, balances_walk, balances_calm, holds-same, same_tally}
 use Rattle.wasi_records.proofs.ListenCounts.{held_going}
 
 -- what a whole walk gives
@@ -31,7 +31,7 @@ calm_given Q (Ask op call next) (e ∷ es) a h w = calm_given Q (next e.answer) 
 calm_given Q (AskWrite op sock bytes next) (e ∷ es) a h w = calm_given Q (next e.answer) es a (h e.answer) w.2
 
 -- calm asks of the socket, which keeps its network socket
-pub balances_inner : {A T : Type 0} {asks : Asks A} {s t : Seen} {view : T → A} (r : TcpRecord) (socket : Socket) (o : Result T AllocError) → Calm Any asks → AsksFor asks s t view o → side_of socket ≡ side_of r.inner → Balances s t 0 r (with_inner r socket)
+pub balances_inner : {A T : Type 0} {asks : Asks A} {s t : Seen} {view : T → A} (r : TcpRecord) (socket : Socket) (o : Result T AllocError) → Calm Any asks → AsksFor asks s t view o → side_of socket ≡ side_of r.inner → Balances s t no_socket r (with_inner r socket)
 balances_inner r socket o q h e = balances_calm q o h (holds-same r (with_inner r socket) e refl)
 
 -- == the start of a listen is calm, and an operation that begins isn't over
@@ -52,10 +52,16 @@ fresh_listen op socket = calm_then Any IsFresh (bound_asks op socket) _ (calm_bo
 
 -- the network socket goes from the socket to the operation
 pub listen_begins : (op : OpId) (r : TcpRecord) (begun : Operation) (now : Socket) {s t : Seen} → r.listening ≡ Not → (side_of r.inner ≡ Some begun.who.side) × (side_of now ≡ None) → Reaches (listen_asks op r.inner) (Give (Ok begun, now)) s t
-    → Balances s t 0 r (record r { inner = now; listening = Begins begun })
-listen_begins op r begun now l taken reached =
-    let a : one_if_some (side_of r.inner) ≡ 1 = ap one_if_some taken.0 in
-    let b : one_if_some (side_in r.listening) ≡ 0 = ap (λ (x : Listening). one_if_some (side_in x)) l in
-    let c : one_if_some (side_of now) ≡ 0 = ap one_if_some taken.1 in
-    let d = held_going begun (calm_given IsFresh (listen_asks op r.inner) reached.entries (Ok begun, now) (fresh_listen op r.inner) reached.left) in
-    balances_walk (calm_listen op r.inner) reached (omega arith)
+    → Balances s t no_socket r (record r { inner = now; listening = Begins begun })
+listen_begins op r begun now {s} {t} l taken reached =
+    balances_walk (calm_listen op r.inner) reached (same_tally held)
+  where
+    going : is_over begun ≡ false
+    going = calm_given IsFresh (listen_asks op r.inner) reached.entries (Ok begun, now) (fresh_listen op r.inner) reached.left
+
+    held : (w : Weight) → holds (record r { inner = now; listening = Begins begun }) w ≡ holds r w
+    held w =
+        let a : tally (side_of r.inner) w ≡ w begun.who.side = ap (λ o. tally o w) taken.0 in
+        let b : tally (side_in r.listening) w ≡ 0 = ap (λ (x : Listening). tally (side_in x) w) l in
+        let c : tally (side_of now) w ≡ 0 = ap (λ o. tally o w) taken.1 in
+        let d = held_going w begun going in omega arith

@@ -6,12 +6,12 @@ use Rattle.wasi_records.specs.declared.records.Record.{Record}
 use Rattle.wasi_records.specs.declared.records.Record.TheVariants.{Tcp, Udp, Lookup, InputPipe, OutputPipe, Gone}
 use Rattle.wasi_records.specs.Numbered.{item_at}
 use Rattle.wasi_records.specs.Records.{lookup_at, lookup_put, lookup_pushed}
-use Rattle.wasi_records.specs.Sides.{held_by, held_in}
+use Rattle.wasi_records.specs.Sides.{Weight, no_socket, held_by, held_in}
 use Rattle.wasi_addr.specs.Address.{canonical}
 use Rattle.wasi_addr.specs.declared.address.IpAddress.{IpAddress}
 use Rattle.wasi_world.specs.declared.ids.OpId.{OpId}
 use Rattle.wasi_world.specs.Typed.{ask_lookup}
-use Rattle.wasi_records.proofs.SideCounts.{Calm, Any}
+use Rattle.wasi_records.proofs.SideCounts.{Calm, Any, same_tally}
 
 -- no network socket is made or closed
 pub calm_lookup : (op : OpId) (host : List ℕ) → Calm Any (ask_lookup op host)
@@ -55,21 +55,28 @@ lookup_there (x ∷ xs) zero now old h = refl
 lookup_there (x ∷ xs) (suc i) now old h = lookup_there xs i now old h
 
 -- == the network sockets of the records
+module _ (w : Weight) where
+  put_in : (rs : List Record) (i : ℕ) (old now : NameLookup) → lookup_at rs i ≡ Some old → held_in (lookup_put rs i now) w ≡ held_in rs w
+  put_in [] i old now h = refl
+  put_in (Tcp r ∷ rs) zero old now h = absurd (cc)
+  put_in (Udp u ∷ rs) zero old now h = absurd (cc)
+  put_in (InputPipe b ∷ rs) zero old now h = absurd (cc)
+  put_in (OutputPipe p ∷ rs) zero old now h = absurd (cc)
+  put_in (Gone ∷ rs) zero old now h = absurd (cc)
+  put_in (Lookup l ∷ rs) zero old now h = refl
+  put_in (x ∷ rs) (suc i) old now h = ap (λ n. held_by x w + n) (put_in rs i old now h)
+
+  pushed_in : (rs : List Record) (l : NameLookup) → held_in (lookup_pushed rs l) w ≡ held_in rs w
+  pushed_in [] l = refl
+  pushed_in (x ∷ rs) l = ap (λ n. held_by x w + n) (pushed_in rs l)
+
 pub held_in-lookup : (rs : List Record) (i : ℕ) (old now : NameLookup) → lookup_at rs i ≡ Some old → held_in (lookup_put rs i now) ≡ held_in rs
-held_in-lookup [] i old now h = refl
-held_in-lookup (Tcp r ∷ rs) zero old now h = absurd (cc)
-held_in-lookup (Udp u ∷ rs) zero old now h = absurd (cc)
-held_in-lookup (InputPipe b ∷ rs) zero old now h = absurd (cc)
-held_in-lookup (OutputPipe p ∷ rs) zero old now h = absurd (cc)
-held_in-lookup (Gone ∷ rs) zero old now h = absurd (cc)
-held_in-lookup (Lookup l ∷ rs) zero old now h = refl
-held_in-lookup (x ∷ rs) (suc i) old now h = ap (λ n. held_by x + n) (held_in-lookup rs i old now h)
+held_in-lookup rs i old now h = same_tally (λ w. put_in w rs i old now h)
 
 pub held_in-lookup_more : (rs : List Record) (l : NameLookup) → held_in (lookup_pushed rs l) ≡ held_in rs
-held_in-lookup_more [] l = refl
-held_in-lookup_more (x ∷ rs) l = ap (λ n. held_by x + n) (held_in-lookup_more rs l)
+held_in-lookup_more rs l = same_tally (λ w. pushed_in w rs l)
 
 -- the last of the records, which holds none
-pub lookup_held : (rs : List Record) (l : NameLookup) → held_by (item_at (lookup_pushed rs l) (length rs)) ≡ 0
+pub lookup_held : (rs : List Record) (l : NameLookup) → held_by (item_at (lookup_pushed rs l) (length rs)) ≡ no_socket
 lookup_held [] l = refl
 lookup_held (x ∷ rs) l = lookup_held rs l

@@ -1,21 +1,23 @@
 -- Datagrams that are received in turn: a datagram more, and how their list ends.
 use Rattle.std.proofs.Common.{◌≡◌, true, false, ◌==◌, ℕ, zero, suc, ◌+◌, ◌-◌, ◌<◌, ◌≤◌, List, [], ◌∷◌, ◌++◌, length, refl, sym, subst, arith}
-use Rattle.std.specs.Prelude.{Result, Ok, Err}
+use Rattle.std.specs.Prelude.{Result, Ok, Err, OnErr}
 use Rattle.std.proofs.lemmas.Bool.Decides.{nat_tests}
 use Rattle.wasi_addr.specs.declared.code.ErrorCode.{ErrorCode}
 use Rattle.wasi_world.specs.declared.datagram.IncomingDatagram.{IncomingDatagram}
 use Rattle.wasi_world.specs.declared.ids.Ids.{Ids}
 use Rattle.wasi_world.specs.declared.outcome.Answer.{Answer}
 use Rattle.wasi_world.specs.declared.outcome.Answer.TheVariants.{Ready, Pending}
+use Rattle.wasi_world.specs.declared.outcome.Refusal.{Refusal}
+use Rattle.wasi_world.specs.declared.outcome.Refusal.TheVariants as refusal
 use Rattle.wasi_world.specs.Seen.{Seen}
-use Rattle.wasi_world.specs.Asks.{Asks, Give, bind, Reaches, Started}
+use Rattle.wasi_world.specs.Asks.{Asks, Give, bind, Reaches, Started, outcome}
 use Rattle.wasi_world.proofs.Walks.{reaches_all, reaches_in, reaches_on, reaches_then}
 use Rattle.wasi_udp.specs.Shape.{Socket}
 use Rattle.wasi_records.specs.declared.datagrams.Incoming.{Incoming}
 use Rattle.wasi_records.specs.declared.datagrams.Receiving.{Receiving}
 use Rattle.wasi_records.specs.declared.datagrams.Receiving.TheVariants as receiving
-use Rattle.wasi_records.specs.Names.{next_name}
-use Rattle.wasi_records.specs.Receiving.{fetch_names, receive_next_asks, receive_after, receive_all, received_told}
+use Rattle.wasi_records.specs.Names.{RoseUpTo, next_name}
+use Rattle.wasi_records.specs.Receiving.{LosesTaken, fetch_names, receive_next_asks, receive_after, receive_all, received_told}
 
 -- one place is gone, and so many are left
 one_less : (n i : ℕ) → i < n → n - i ≡ suc (n - (i + 1))
@@ -109,3 +111,34 @@ name_more receiving.Nothing ids now e = rw e (omega arith)
 name_more (receiving.InProgress op) ids now e = rw e (omega arith)
 name_more (receiving.Came d) ids now e = rw e (omega arith)
 name_more (receiving.Failed c) ids now e = rw e (omega arith)
+
+-- and none is given back
+pub name_kept : (r : Receiving) (ids now : Ids) → now ≡ fetch_names r ids → ids.next_part ≤ now.next_part
+name_kept receiving.Nothing ids now e = rw e (omega arith)
+name_kept (receiving.InProgress op) ids now e = rw e (omega arith)
+name_kept (receiving.Came d) ids now e = rw e (omega arith)
+name_kept (receiving.Failed c) ids now e = rw e (omega arith)
+
+pub took_one : (first now next : Ids) (most rounds : ℕ) → first.next_part ≤ now.next_part → now.next_part ≤ first.next_part + rounds → rounds < most → now.next_part ≤ next.next_part → next.next_part ≤ now.next_part + 1 → RoseUpTo most first next
+took_one first now next most rounds forth part less kept more = record { kept = omega (arith, forth, kept); few = omega (arith, part, less, more) }
+
+-- == what is lost for lack of memory
+none_lost_yet : (most room : ℕ) (ids : Ids) (x : Socket × Incoming) (s : Seen) → LosesTaken most room ids x s s
+none_lost_yet most room ids x s = record {
+  lost = [];
+  left = most;
+  space = room;
+  names = ids;
+  met = x;
+  seen = s;
+  took = reaches_all (receive_all most room ids [] x) s;
+  began = record { rest = receive_next_asks (next_name ids) x; reached = reaches_all (receive_next_asks (next_name ids) x) s };
+}
+
+pub none_lost : {T : Type 0} (most room : ℕ) (ids : Ids) (x : Socket × Incoming) (s : Seen) (r : Result T Refusal) → OnErr (outcome r) (LosesTaken most room ids x s s)
+none_lost most room ids x s (Ok t) = tt
+none_lost most room ids x s (Err (refusal.Code c)) = tt
+none_lost most room ids x s (Err (refusal.Memory e)) = none_lost_yet most room ids x s
+
+pub taken_lost : (most room left space : ℕ) (ids names : Ids) (lost : List IncomingDatagram) (x met : Socket × Incoming) (s t u : Seen) → Reaches (receive_all most room ids [] x) (receive_all left space names lost met) s t → Started (receive_next_asks (next_name names) met) t u → LosesTaken most room ids x s u
+taken_lost most room left space ids names lost x met s t u took began = record { lost = lost; left = left; space = space; names = names; met = met; seen = t; took = took; began = began }

@@ -16,6 +16,7 @@ use Rattle.wasi_world.specs.declared.asks.Verdict.{Verdict}
 use Rattle.wasi_world.specs.declared.asks.Verdict.TheVariants as verdict
 use Rattle.wasi_world.specs.declared.outcome.WasiSocketsCtx.{WasiSocketsCtx}
 use Rattle.wasi_world.specs.Fits.{IsDoneOrCode}
+use Rattle.wasi_world.specs.Sides.{is_done}
 use Rattle.wasi_world.specs.Typed.{told_done, ask_tcp_create, ask_made}
 use Rattle.wasi_world.specs.Seen.{Seen, Passes, CountsAll}
 use Rattle.wasi_world.specs.Asks.{Asks, Give, Ask, AskWrite, bind, Left, Reaches, AsksFor}
@@ -37,11 +38,11 @@ use Rattle.wasi_records.specs.declared.records.Record.{Record}
 use Rattle.wasi_records.specs.declared.records.Record.TheVariants.{Tcp, Udp, Lookup, InputPipe, OutputPipe, Gone}
 use Rattle.wasi_records.specs.declared.socket.TcpRecord.{TcpRecord}
 use Rattle.wasi_records.specs.Sockets.{begin_connect_asks, tell_local_asks, tell_remote_asks}
-use Rattle.wasi_records.specs.Sides.{one_if_done, made_by, closed_by, made_in, closed_in, holds, held_in, Balances, MakesNone, held_by}
+use Rattle.wasi_records.specs.Sides.{Weight, Tally, no_socket, tally, makes, made_by, closed_by, made_in, closed_in, holds, held_in, Balances, MakesNone, held_by}
 
 -- == calls that neither make nor close a network socket
 abbrev pub IsQuiet : Call → Type 0
-IsQuiet c = ((t : Told) → made_by c t ≡ 0) × (closed_by c ≡ 0)
+IsQuiet c = ((t : Told) → makes c t ≡ false) × (closed_by c ≡ None)
 
 -- each ask of the tree is quiet, and this holds of what it gives
 abbrev pub Calm : {A : Type 0} → (A → Type 0) → Asks A → Type 0
@@ -60,70 +61,81 @@ Any a = Unit {0}
 
 -- nothing was made or closed
 pub record NoneMade (es : List Entry) : Type 0 where
-  pub made : made_in es ≡ 0
-  pub closed : closed_in es ≡ 0
+  pub made : (w : Weight) → made_in es w ≡ 0
+  pub closed : (w : Weight) → closed_in es w ≡ 0
+
+unmade : (w : Weight) (op : OpId) (c : Call) (t : Told) → makes c t ≡ false → made_by op c t w ≡ 0
+unmade w op c t h = rw h refl
 
 none_more : (e : Entry) (es : List Entry) → IsQuiet e.call → NoneMade es → NoneMade (e ∷ es)
-none_more e es q h = let m = q.0 e.answer in let c = q.1 in record { made = omega arith; closed = omega arith }
+none_more e es q h = record {
+  made = λ w. (let m = unmade w e.op e.call e.answer (q.0 e.answer) in let k = h.made w in omega arith);
+  closed = λ w. (let c : tally (closed_by e.call) w ≡ 0 = ap (λ o. tally o w) q.1 in let k = h.closed w in omega arith);
+}
 
 write_quiet : (sock : OpId) (n : ℕ) → IsQuiet (call.Write sock n)
 write_quiet sock n = (λ t. refl, refl)
 
 pub calm_left : {A : Type 0} (Q : A → Type 0) (asks : Asks A) (es : List Entry) (rest : Asks A) → Calm Q asks → Left asks es rest → NoneMade es
-calm_left Q asks [] rest h w = record { made = refl; closed = refl }
+calm_left Q asks [] rest h w = record { made = λ w. refl; closed = λ w. refl }
 calm_left Q (Give a) (e ∷ es) rest h w = absurd w
 calm_left Q (Ask op call next) (e ∷ es) rest h w = none_more e es (rw w.0.1 h.0) (calm_left Q (next e.answer) es rest (h.1 e.answer) w.1)
 calm_left Q (AskWrite op sock bytes next) (e ∷ es) rest h w = none_more e es (rw w.0.1 (write_quiet sock (length bytes))) (calm_left Q (next e.answer) es rest (h e.answer) w.2)
 
 -- == network sockets of a log that grew
-made_in-append : (xs ys : List Entry) → made_in (xs ++ ys) ≡ made_in xs + made_in ys
-made_in-append [] ys = omega arith
-made_in-append (x ∷ xs) ys = let h = made_in-append xs ys in omega arith
+made_in-append : (w : Weight) (xs ys : List Entry) → made_in (xs ++ ys) w ≡ made_in xs w + made_in ys w
+made_in-append w [] ys = omega arith
+made_in-append w (x ∷ xs) ys = let h = made_in-append w xs ys in omega arith
 
-closed_in-append : (xs ys : List Entry) → closed_in (xs ++ ys) ≡ closed_in xs + closed_in ys
-closed_in-append [] ys = omega arith
-closed_in-append (x ∷ xs) ys = let h = closed_in-append xs ys in omega arith
+closed_in-append : (w : Weight) (xs ys : List Entry) → closed_in (xs ++ ys) w ≡ closed_in xs w + closed_in ys w
+closed_in-append w [] ys = omega arith
+closed_in-append w (x ∷ xs) ys = let h = closed_in-append w xs ys in omega arith
 
--- the records know the network sockets where as many more are held as were made
-pub knows_grown : (old new : Option (List Entry)) (es : List Entry) (a b : ℕ) → new ≡ option_map (λ log. log ++ es) old → b + closed_in es ≡ a + made_in es → IfSome old (λ log. closed_in log + a ≡ made_in log) → IfSome new (λ log. closed_in log + b ≡ made_in log)
+-- the records know the network sockets where those that were made are held besides
+pub knows_grown : (old new : Option (List Entry)) (es : List Entry) (a b : Tally) → new ≡ option_map (λ log. log ++ es) old → ((w : Weight) → b w + closed_in es w ≡ a w + made_in es w) → IfSome old (λ log. (w : Weight) → closed_in log w + a w ≡ made_in log w) → IfSome new (λ log. (w : Weight) → closed_in log w + b w ≡ made_in log w)
 knows_grown None new es a b e h k = rw e tt
-knows_grown (Some log) new es a b e h k = rw e (let m = made_in-append log es in let c = closed_in-append log es in omega arith)
+knows_grown (Some log) new es a b e h k = rw e (λ w. let m = made_in-append w log es in let c = closed_in-append w log es in let p = h w in let q = k w in omega arith)
 
--- == a record that is replaced holds as many network sockets
+-- == a record that is replaced holds the same network sockets
+same_in : (w : Weight) (rs : List Record) (i : ℕ) (r s : TcpRecord) → tcp2_at rs i ≡ Some r → holds s w ≡ holds r w → held_in (tcp2_put rs i s) w ≡ held_in rs w
+same_in w [] i r s h e = refl
+same_in w (Tcp x ∷ rs) zero r s h e = let k : x ≡ r = cc in ap (λ n. n + held_in rs w) (e ∙ ap (λ (y : TcpRecord). holds y w) (sym k))
+same_in w (Udp u ∷ rs) zero r s h e = absurd (cc)
+same_in w (Lookup l ∷ rs) zero r s h e = absurd (cc)
+same_in w (InputPipe b ∷ rs) zero r s h e = absurd (cc)
+same_in w (OutputPipe p ∷ rs) zero r s h e = absurd (cc)
+same_in w (Gone ∷ rs) zero r s h e = absurd (cc)
+same_in w (x ∷ rs) (suc i) r s h e = ap (λ n. held_by x w + n) (same_in w rs i r s h e)
+
+-- what counts for as much, whatever each counts for, is the same network sockets
+pub same_tally : {a b : Tally} → ((w : Weight) → a w ≡ b w) → a ≡ b
+same_tally h = λ i w. h w i
+
 pub held_in-same : (rs : List Record) (i : ℕ) (r s : TcpRecord) → tcp2_at rs i ≡ Some r → holds s ≡ holds r → held_in (tcp2_put rs i s) ≡ held_in rs
-held_in-same [] i r s h e = refl
-held_in-same (Tcp x ∷ rs) zero r s h e = let k : x ≡ r = cc in ap (λ n. n + held_in rs) (e ∙ ap (λ (y : TcpRecord). holds y) (sym k))
-held_in-same (Udp u ∷ rs) zero r s h e = absurd (cc)
-held_in-same (Lookup l ∷ rs) zero r s h e = absurd (cc)
-held_in-same (InputPipe b ∷ rs) zero r s h e = absurd (cc)
-held_in-same (OutputPipe p ∷ rs) zero r s h e = absurd (cc)
-held_in-same (Gone ∷ rs) zero r s h e = absurd (cc)
-held_in-same (x ∷ rs) (suc i) r s h e = ap (λ n. held_by x + n) (held_in-same rs i r s h e)
+held_in-same rs i r s h e = same_tally (λ w. same_in w rs i r s h (ap (λ (held : Tally). held w) e))
 
 pub holds-same : (r s : TcpRecord) → side_of s.inner ≡ side_of r.inner → s.listening ≡ r.listening → holds s ≡ holds r
-holds-same r s e l = rw (e, l) refl
+holds-same r s e l = same_tally {a = holds s} {b = holds r} (λ w. rw (e, l) refl)
 
 pub held_in-set : (rs : List Record) (i : ℕ) (r s : TcpRecord) → tcp2_at rs i ≡ Some r → side_of s.inner ≡ side_of r.inner → s.listening ≡ r.listening → held_in (tcp2_put rs i s) ≡ held_in rs
 held_in-set rs i r s h e l = held_in-same rs i r s h (holds-same r s e l)
 
-pub held_in-append : (rs : List Record) (r : TcpRecord) → held_in (tcp2_pushed rs r) ≡ held_in rs + holds r
-held_in-append [] r = omega arith
-held_in-append (x ∷ rs) r = let h = held_in-append rs r in omega arith
+pub held_in-append : (w : Weight) (rs : List Record) (r : TcpRecord) → held_in (tcp2_pushed rs r) w ≡ held_in rs w + holds r w
+held_in-append w [] r = omega arith
+held_in-append w (x ∷ rs) r = let h = held_in-append w rs r in omega arith
 
 -- == what calm asks make of a record's network sockets
-pub balances_walk : {A : Type 0} {asks rest : Asks A} {s t : Seen} {old now : TcpRecord} → Calm Any asks → Reaches asks rest s t → holds now ≡ holds old → Balances s t 0 old now
+pub balances_walk : {A : Type 0} {asks rest : Asks A} {s t : Seen} {old now : TcpRecord} → Calm Any asks → Reaches asks rest s t → holds now ≡ holds old → Balances s t no_socket old now
 balances_walk {asks = asks} {rest} q h e =
     let n = calm_left Any asks h.entries rest q h.left in
-    let m = n.made in
-    let c = n.closed in
-    record { entries = h.entries; passed = h.passed; balance = omega arith }
+    record { entries = h.entries; passed = h.passed; balance = λ w. (let m = n.made w in let c = n.closed w in let k = ap (λ (held : Tally). held w) e in omega arith) }
 
-pub balances_calm : {A T : Type 0} {asks : Asks A} {s t : Seen} {view : T → A} {old now : TcpRecord} → Calm Any asks → (r : Result T AllocError) → AsksFor asks s t view r → holds now ≡ holds old → Balances s t 0 old now
+pub balances_calm : {A T : Type 0} {asks : Asks A} {s t : Seen} {view : T → A} {old now : TcpRecord} → Calm Any asks → (r : Result T AllocError) → AsksFor asks s t view r → holds now ≡ holds old → Balances s t no_socket old now
 balances_calm q (Ok x) h e = balances_walk q h.ok e
 balances_calm q (Err d) h e = balances_walk q h.err.reached e
 
 -- no ask, and the record as it was
-pub balances_none : (r : TcpRecord) (s : Seen) → Balances s s 0 r r
+pub balances_none : (r : TcpRecord) (s : Seen) → Balances s s no_socket r r
 balances_none r s = let done : Unit {0} = tt in balances_walk {asks = Give done} {rest = Give done} tt (reaches_all (Give done) s) refl
 
 -- == a bind is calm
@@ -231,27 +243,30 @@ pub calm_tell_remote : (op : OpId) (r : TcpRecord) → Calm Any (tell_remote_ask
 calm_tell_remote op r = calm_then Any Any (remote_asks op r.inner) _ (calm_then Any Any (remote_in op r.inner.state) _ (calm_remote_in op r.inner.state) (λ d k. tt)) (λ d k. tt)
 
 -- == a create makes one network socket where it gives a socket, and none where it doesn't
-abbrev made_or_not : Result Socket ErrorCode → ℕ
-made_or_not (Ok s) = 1
-made_or_not (Err c) = 0
+abbrev made_or_not : Result Socket ErrorCode → Tally
+made_or_not (Ok s) = tally (side_of s)
+made_or_not (Err c) = no_socket
 
-one_made : (op : OpId) (n : ℕ) (family : SocketAddressFamily) (t : Told) → IsDoneOrCode t → one_if_done t ≡ made_or_not (after_create op n family (told_done t))
-one_made op n family told.Done h = refl
-one_made op n family (told.Code c) h = refl
-one_made op n family _ h = absurd h
+one_made : (w : Weight) (op : OpId) (n : ℕ) (family : SocketAddressFamily) (t : Told) → IsDoneOrCode t → (if is_done t then w op else 0) ≡ made_or_not (after_create op n family (told_done t)) w
+one_made w op n family told.Done h = refl
+one_made w op n family (told.Code c) h = refl
+one_made w op n family _ h = absurd h
 
 pub record MadeSo (es : List Entry) (r : Result Socket ErrorCode) : Type 0 where
-  pub made : made_in es ≡ made_or_not r
-  pub closed : closed_in es ≡ 0
+  pub made : (w : Weight) → made_in es w ≡ made_or_not r w
+  pub closed : (w : Weight) → closed_in es w ≡ 0
 
 pub created : (op : OpId) (ctx : WasiSocketsCtx) (family : SocketAddressFamily) (b : Bool) (es : List Entry) (r : Result Socket ErrorCode) → Left (if b then bind (ask_tcp_create op ctx.name family) (λ t. Give (after_create op ctx.name family t)) else Give (Err AccessDenied)) es (Give r) → MadeSo es r
 unfolding bind
 created op ctx family true [] r w = absurd (cc)
 created op ctx family true (e ∷ []) r w =
     let k : after_create op ctx.name family (told_done e.answer) ≡ r = cc in
-    record { made = rw (w.0.1, ← k) (let m = one_made op ctx.name family e.answer w.0.2 in omega arith); closed = rw w.0.1 refl }
+    record {
+      made = λ weight. rw (w.0.0, w.0.1, ← k) (let m = one_made weight op ctx.name family e.answer w.0.2 in omega arith);
+      closed = λ weight. rw w.0.1 refl;
+    }
 created op ctx family true (e ∷ f ∷ es) r w = absurd w.1
-created op ctx family false [] r w = let k : Err AccessDenied ≡ r = cc in rw (← k) (record { made = refl; closed = refl })
+created op ctx family false [] r w = let k : Err AccessDenied ≡ r = cc in rw (← k) (record { made = λ weight. refl; closed = λ weight. refl })
 created op ctx family false (e ∷ es) r w = absurd w
 
 -- == a mark is calm
@@ -267,17 +282,19 @@ none_log None = refl
 none_log (Some log) = ap Some (sym (append-nil log))
 
 pub none_first : (s : Seen) → MakesNone s s
-none_first s = record { entries = []; log = none_log s.log; made = refl; closed = refl }
+none_first s = record { entries = []; log = none_log s.log; made = λ w. refl; closed = λ w. refl }
 
 both_logs : (old mid new : Option (List Entry)) (es fs : List Entry) → mid ≡ option_map (λ log. log ++ es) old → new ≡ option_map (λ log. log ++ fs) mid → new ≡ option_map (λ log. log ++ (es ++ fs)) old
 both_logs None mid new es fs h k = k ∙ ap (option_map (λ log. log ++ fs)) h
 both_logs (Some log) mid new es fs h k = k ∙ (ap (option_map (λ log. log ++ fs)) h ∙ ap Some (append_assoc log es fs))
 
 pub none_then : {s t u : Seen} → MakesNone s t → MakesNone t u → MakesNone s u
-none_then {s} {t} {u} h k =
-    let m = h.made in let n = k.made in let c = h.closed in let d = k.closed in
-    let p = made_in-append h.entries k.entries in let q = closed_in-append h.entries k.entries in
-    record { entries = h.entries ++ k.entries; log = both_logs s.log t.log u.log h.entries k.entries h.log k.log; made = omega arith; closed = omega arith }
+none_then {s} {t} {u} h k = record {
+  entries = h.entries ++ k.entries;
+  log = both_logs s.log t.log u.log h.entries k.entries h.log k.log;
+  made = λ w. (let m = h.made w in let n = k.made w in let p = made_in-append w h.entries k.entries in omega arith);
+  closed = λ w. (let c = h.closed w in let d = k.closed w in let q = closed_in-append w h.entries k.entries in omega arith);
+}
 
 -- == one walk after another
 counts_then : (es fs : List Entry) (n k m : ℕ) → CountsAll es n k → CountsAll fs k m → CountsAll (es ++ fs) n m
@@ -293,10 +310,9 @@ passes_then {s} {t} {u} {es} {fs} h k = record {
   plan = k.plan ∙ h.plan;
 }
 
-pub balances_then : {s t u : Seen} {n : ℕ} {old mid now : TcpRecord} → Balances s t 0 old mid → Balances t u n mid now → Balances s u n old now
-balances_then h k =
-    let a = h.balance in
-    let b = k.balance in
-    let m = made_in-append h.entries k.entries in
-    let c = closed_in-append h.entries k.entries in
-    record { entries = h.entries ++ k.entries; passed = passes_then h.passed k.passed; balance = omega arith }
+pub balances_then : {s t u : Seen} {given : Tally} {old mid now : TcpRecord} → Balances s t no_socket old mid → Balances t u given mid now → Balances s u given old now
+balances_then h k = record {
+  entries = h.entries ++ k.entries;
+  passed = passes_then h.passed k.passed;
+  balance = λ w. (let a = h.balance w in let b = k.balance w in let m = made_in-append w h.entries k.entries in let c = closed_in-append w h.entries k.entries in omega arith);
+}

@@ -7,8 +7,9 @@ use Rattle.wasi_records.specs.declared.udp.OpenUdp.{OpenUdp}
 use Rattle.wasi_records.specs.declared.udp.UdpRecord.{UdpRecord}
 use Rattle.wasi_records.specs.declared.udp.UdpRecord.TheVariants.{Creating, Open, Closed}
 use Rattle.wasi_records.specs.Records.{udp2_at, udp2_put, udp2_pushed, open_of, open_at, open_put}
-use Rattle.wasi_records.specs.Sides.{held_in}
+use Rattle.wasi_records.specs.Sides.{Weight, held_in}
 use Rattle.wasi_records.specs.Udp.{udp_holds}
+use Rattle.wasi_records.proofs.SideCounts.{same_tally}
 
 -- == what is lent, by its number
 pub udp_at : (xs : List Record) (i : ℕ) (x : MutBor UdpRecord) → Some x.now ≡ udp2_at xs i → udp2_at xs i ≡ Some x.now
@@ -57,20 +58,25 @@ open_put_there (x ∷ xs) zero now old h = refl
 open_put_there (x ∷ xs) (suc i) now old h = open_put_there xs i now old h
 
 -- == the network sockets of the records
-pub held_in-udp_swap : (rs : List Record) (i : ℕ) (old now : UdpRecord) → udp2_at rs i ≡ Some old → held_in (udp2_put rs i now) + udp_holds old ≡ held_in rs + udp_holds now
-held_in-udp_swap [] i old now h = absurd (cc)
-held_in-udp_swap (Tcp r ∷ rs) zero old now h = absurd (cc)
-held_in-udp_swap (Lookup l ∷ rs) zero old now h = absurd (cc)
-held_in-udp_swap (InputPipe b ∷ rs) zero old now h = absurd (cc)
-held_in-udp_swap (OutputPipe p ∷ rs) zero old now h = absurd (cc)
-held_in-udp_swap (Gone ∷ rs) zero old now h = absurd (cc)
-held_in-udp_swap (Udp u ∷ rs) zero old now h = let k : u ≡ old = cc in let p = ap (λ (y : UdpRecord). udp_holds y) k in omega arith
-held_in-udp_swap (x ∷ rs) (suc i) old now h = let p = held_in-udp_swap rs i old now h in omega arith
+pub held_in-udp_swap : (w : Weight) (rs : List Record) (i : ℕ) (old now : UdpRecord) → udp2_at rs i ≡ Some old → held_in (udp2_put rs i now) w + udp_holds old w ≡ held_in rs w + udp_holds now w
+held_in-udp_swap w [] i old now h = absurd (cc)
+held_in-udp_swap w (Tcp r ∷ rs) zero old now h = absurd (cc)
+held_in-udp_swap w (Lookup l ∷ rs) zero old now h = absurd (cc)
+held_in-udp_swap w (InputPipe b ∷ rs) zero old now h = absurd (cc)
+held_in-udp_swap w (OutputPipe p ∷ rs) zero old now h = absurd (cc)
+held_in-udp_swap w (Gone ∷ rs) zero old now h = absurd (cc)
+held_in-udp_swap w (Udp u ∷ rs) zero old now h = let k : u ≡ old = cc in let p = ap (λ (y : UdpRecord). udp_holds y w) k in omega arith
+held_in-udp_swap w (x ∷ rs) (suc i) old now h = let p = held_in-udp_swap w rs i old now h in omega arith
 
 -- an open socket holds its own, whatever it is in the middle of
-pub held_in-open : (rs : List Record) (i : ℕ) (old now : OpenUdp) → open_at rs i ≡ Some old → held_in (open_put rs i now) ≡ held_in rs
-held_in-open rs i old now h = let p = held_in-udp_swap rs i (Open old) (Open now) (open_there rs i old h) in omega arith
+open_in : (w : Weight) (rs : List Record) (i : ℕ) (old now : OpenUdp) → open_at rs i ≡ Some old → now.inner.side ≡ old.inner.side → held_in (open_put rs i now) w ≡ held_in rs w
+open_in w rs i old now h same =
+    let side : w now.inner.side ≡ w old.inner.side = ap w same in
+    let p = held_in-udp_swap w rs i (Open old) (Open now) (open_there rs i old h) in omega arith
 
-pub held_in-udp_more : (rs : List Record) (u : UdpRecord) → held_in (udp2_pushed rs u) ≡ held_in rs + udp_holds u
-held_in-udp_more [] u = omega arith
-held_in-udp_more (x ∷ rs) u = let h = held_in-udp_more rs u in omega arith
+pub held_in-open : (rs : List Record) (i : ℕ) (old now : OpenUdp) → open_at rs i ≡ Some old → now.inner.side ≡ old.inner.side → held_in (open_put rs i now) ≡ held_in rs
+held_in-open rs i old now h same = same_tally (λ w. open_in w rs i old now h same)
+
+pub held_in-udp_more : (w : Weight) (rs : List Record) (u : UdpRecord) → held_in (udp2_pushed rs u) w ≡ held_in rs w + udp_holds u w
+held_in-udp_more w [] u = omega arith
+held_in-udp_more w (x ∷ rs) u = let h = held_in-udp_more w rs u in omega arith

@@ -1,6 +1,7 @@
 -- A create of a UDP socket that is polled, and a UDP socket that is closed: what its record is then, and the network sockets
-use Rattle.std.proofs.Common.{◌≡◌, true, ℕ, ◌+◌, List, [], Some, refl, sym, subst, ◌∙◌, arith, Result, Ok, Err}
-use Rattle.std.specs.Prelude.{Result, Ok, Err, OnErr, IfOk}
+use Rattle.std.proofs.Common.{◌≡◌, true, ℕ, ◌+◌, ◌++◌, append-nil, ap, List, [], Option, None, Some, refl, sym, subst, ◌∙◌, arith, Result, Ok, Err}
+use Rattle.std.specs.Prelude.{Result, Ok, Err, OnErr, IfOk, option_map}
+use Rattle.wasi_world.specs.declared.call.Entry.{Entry}
 use Rattle.wasi_addr.specs.declared.code.ErrorCode.{ErrorCode}
 use Rattle.wasi_world.specs.declared.call.Told.{Told}
 use Rattle.wasi_world.specs.declared.call.Told.TheVariants as told
@@ -21,7 +22,7 @@ use Rattle.wasi_records.specs.declared.udp.OpenUdp.{OpenUdp}
 use Rattle.wasi_records.specs.declared.udp.UdpRecord.{UdpRecord}
 use Rattle.wasi_records.specs.declared.udp.UdpRecord.TheVariants.{Creating, Open, Closed}
 use Rattle.wasi_records.specs.Records.{open_of}
-use Rattle.wasi_records.specs.Sides.{closed_in, HoldsFewer}
+use Rattle.wasi_records.specs.Sides.{Weight, Tally, no_socket, one_socket, closed_in, HoldsFewer}
 use Rattle.wasi_records.specs.Udp.{udp_holds, opened_udp, udp_create_ended, poll_create_asks, udp_create_settled, udp_create_done}
 use Rattle.wasi_records.proofs.ConnectCounts.{Counted, counted_then, counted_left, counted_once}
 use Rattle.std.specs.declared.alloc.AllocError.{AllocError}
@@ -75,59 +76,77 @@ create_left_over create now (Err (refusal.Memory e)) s t going still h =
 
 -- == what a poll of the create closes
 -- refused, it closed its network socket; else it closed none
-abbrev Closes : ℕ → End × List Item → Type 0
-Closes n (Waits, items) = n ≡ 0
-Closes n (Done given, items) = n ≡ 0
-Closes n (Refused c given, items) = n ≡ 1
+abbrev Closes : ℕ → ℕ → End × List Item → Type 0
+Closes one n (Waits, items) = n ≡ 0
+Closes one n (Done given, items) = n ≡ 0
+Closes one n (Refused c given, items) = n ≡ one
 
-module _ (who : Who) (last : who.last ≡ CloseLast) (again : List Item → Asks (End × List Item)) where
-  closes : (c : ErrorCode) → Counted Closes 0 (last_ask who who.last c Nothing)
+module _ (w : Weight) (who : Who) (last : who.last ≡ CloseLast) (again : List Item → Asks (End × List Item)) where
+  closes : (c : ErrorCode) → Counted w (Closes (w who.side)) 0 (last_ask who who.last c Nothing)
   unfolding bind
-  closes c = subst (λ (l : LastAsk). Counted Closes 0 (last_ask who l c Nothing)) (sym last) ((λ t. refl), λ t. refl)
+  closes c = subst (λ (l : LastAsk). Counted w (Closes (w who.side)) 0 (last_ask who l c Nothing)) (sym last) ((λ t. refl), λ t. omega arith)
 
-  told_ready : (t : Told) → Counted Closes 0 (after again who [] (λ g. round again who g []) (polled_front UdpWritable (told_polled t)))
+  told_ready : (t : Told) → Counted w (Closes (w who.side)) 0 (after again who [] (λ g. round again who g []) (polled_front UdpWritable (told_polled t)))
   told_ready told.Done = refl
   told_ready (told.Code c) = closes c
   told_ready _ = refl
 
-  count_round : (items : List Item) → IsLeftOfCreate items → Counted Closes 0 (round again who Nothing items)
+  count_round : (items : List Item) → IsLeftOfCreate items → Counted w (Closes (w who.side)) 0 (round again who Nothing items)
   unfolding bind
   count_round _ Unready = ((λ t. refl), λ t. told_ready t)
   count_round _ (ToClose c) = closes c
   count_round _ Ended = refl
 
-count_poll : (op : Operation) → IsCreate op → Counted Closes 0 (poll_asks op)
-unfolding polls
-count_poll op h = count_round op.who h.last (polls 63 op.who) op.left h.left
+module _ (w : Weight) where
+  count_poll : (op : Operation) → IsCreate op → Counted w (Closes (w op.who.side)) 0 (poll_asks op)
+  unfolding polls
+  count_poll op h = count_round w op.who h.last (polls 63 op.who) op.left h.left
 
--- the same of what it answers
-abbrev ClosesBy : ℕ → Result (Answer Socket) ErrorCode × Create → Type 0
-ClosesBy n (Ok answer, create) = n ≡ 0
-ClosesBy n (Err c, create) = n ≡ 1
+  -- the same of what it answers: so much was held before
+  abbrev ClosesBy : ℕ → ℕ → Result (Answer Socket) ErrorCode × Create → Type 0
+  ClosesBy before n (Ok (Ready socket), create) = n + w socket.side ≡ before
+  ClosesBy before n (Ok Pending, create) = n + w create.operation.who.side ≡ before
+  ClosesBy before n (Err c, create) = n ≡ before
 
-closes_ended : (create : Create) (n : ℕ) (ended : End × List Item) → Closes n ended → ClosesBy n (create_ended create ended)
-closes_ended create n (Waits, items) h = h
-closes_ended create n (Done given, items) h = h
-closes_ended create n (Refused c given, items) h = h
+  closes_ended : (create : Create) (n : ℕ) (ended : End × List Item) → Closes (w create.operation.who.side) n ended → ClosesBy (w create.operation.who.side) n (create_ended create ended)
+  closes_ended create n (Waits, items) h = rw h (omega arith)
+  closes_ended create n (Done given, items) h = rw h (omega arith)
+  closes_ended create n (Refused c given, items) h = h
 
-count_create : (create : Create) → IsCreate create.operation → is_going create.operation ≡ true → Counted ClosesBy 0 (create_poll_asks create)
-count_create create its going = rw going (counted_then Closes ClosesBy 0 (poll_asks create.operation) _ (count_poll create.operation its) (λ n ended c. closes_ended create n ended c))
+  count_create : (create : Create) → IsCreate create.operation → is_going create.operation ≡ true → Counted w (ClosesBy (w create.operation.who.side)) 0 (create_poll_asks create)
+  count_create create its going =
+      rw going (counted_then w (Closes (w create.operation.who.side)) (ClosesBy (w create.operation.who.side)) 0 (poll_asks create.operation) _ (count_poll create.operation its) (λ n ended c. closes_ended create n ended c))
 
-one_number : (n m : ℕ) (done : Result (Answer Socket) ErrorCode × Create) → ClosesBy n done → ClosesBy m done → n ≡ m
-one_number n m (Ok answer, create) h k = omega arith
-one_number n m (Err c, create) h k = omega arith
+  as_much : (p q n m : ℕ) (done : Result (Answer Socket) ErrorCode × Create) → ClosesBy p n done → ClosesBy q m done → n + q ≡ m + p
+  as_much p q n m (Ok (Ready socket), create) h k = omega arith
+  as_much p q n m (Ok Pending, create) h k = omega arith
+  as_much p q n m (Err c, create) h k = omega arith
 
--- as many network sockets fewer as were closed
-fewer : {s t : Seen} {asks rest : Asks (Result (Answer Socket) ErrorCode × Create)} (now : ℕ) → Counted ClosesBy 0 asks → (h : Reaches asks rest s t) → (Counted ClosesBy (0 + closed_in h.entries) rest → closed_in h.entries + now ≡ 1) → HoldsFewer s t 1 now
-fewer {asks} {rest} now q h left = let w = counted_left ClosesBy 0 asks h.entries rest q h.left in record { entries = h.entries; passed = h.passed; made = w.made; balance = left w.left }
+-- the network sockets are fewer by those that were closed
+fewer : (create : Create) {s t : Seen} {rest : Asks (Result (Answer Socket) ErrorCode × Create)} (now : Tally) → IsCreate create.operation → is_going create.operation ≡ true → (h : Reaches (create_poll_asks create) rest s t)
+    → ((w : Weight) → Counted w (ClosesBy w (w create.operation.who.side)) (0 + closed_in h.entries w) rest → closed_in h.entries w + now w ≡ w create.operation.who.side) → HoldsFewer s t (one_socket create.operation.who.side) now
+fewer create {s} {t} {rest} now its going h left = record {
+  entries = h.entries;
+  passed = h.passed;
+  made = λ w. (counted_left w (ClosesBy w (w create.operation.who.side)) 0 (create_poll_asks create) h.entries rest (count_create w create its going) h.left).made;
+  balance = λ w. left w (counted_left w (ClosesBy w (w create.operation.who.side)) 0 (create_poll_asks create) h.entries rest (count_create w create its going) h.left).left;
+}
 
 pub create_holds : (create now : Create) (p : Result (Answer Socket) Refusal) {s t : Seen} → IsCreate create.operation → IsCreate now.operation → is_going create.operation ≡ true → is_going now.operation ≡ stays_going p
-    → AsksFor (create_poll_asks create) s t (λ answer. (answer, now)) (outcome p) → OnErr (outcome p) (Reaches (create_poll_asks create) (create_poll_asks now) s t) → HoldsFewer s t 1 (udp_holds (udp_create_settled now p))
-create_holds create now (Ok (Ready socket)) its kept going still h e = fewer 1 (count_create create its going) h.ok (λ z. omega arith)
-create_holds create now (Ok Pending) its kept going still h e = fewer 1 (count_create create its going) h.ok (λ z. omega arith)
-create_holds create now (Err (refusal.Code c)) its kept going still h e = fewer 0 (count_create create its going) h.ok (λ z. omega arith)
+    → AsksFor (create_poll_asks create) s t (λ answer. (answer, now)) (outcome p) → OnErr (outcome p) (Reaches (create_poll_asks create) (create_poll_asks now) s t) → HoldsFewer s t (one_socket create.operation.who.side) (udp_holds (udp_create_settled now p))
+create_holds create now (Ok (Ready socket)) its kept going still h e = fewer create _ its going h.ok (λ w z. omega arith)
+create_holds create now (Ok Pending) its kept going still h e = fewer create _ its going h.ok (λ w z. omega arith)
+create_holds create now (Err (refusal.Code c)) its kept going still h e = fewer create _ its going h.ok (λ w z. omega arith)
 create_holds create now (Err (refusal.Memory d)) its kept going still h e =
-    fewer 1 (count_create create its going) e (λ z. let n = counted_once ClosesBy one_number (0 + closed_in e.entries) 0 (create_poll_asks now) z (count_create now kept still) in omega arith)
+    fewer create _ its going e (λ w z. let n = counted_once w (ClosesBy w (w create.operation.who.side)) (ClosesBy w (w now.operation.who.side)) (w now.operation.who.side) (w create.operation.who.side) (as_much w (w create.operation.who.side) (w now.operation.who.side)) (0 + closed_in e.entries w) 0 (create_poll_asks now) z (count_create w now kept still) in omega arith)
+
+log_same : (log : Option (List Entry)) → log ≡ option_map (λ entries. entries ++ []) log
+log_same None = refl
+log_same (Some entries) = ap Some (sym (append-nil entries))
+
+-- nothing was asked, and as much is held
+pub holds_as_before : {s t : Seen} (held : Tally) → t ≡ s → HoldsFewer s t held held
+holds_as_before {s} held same = rw same (record { entries = []; passed = record { log = log_same s.log; faults = refl; ended = refl; closings = refl; plan = refl }; made = λ w. refl; balance = λ w. omega arith })
 
 -- == an open socket is closed
 pub is_open : (u : UdpRecord) (o : OpenUdp) → Some o ≡ open_of (Some u) → u ≡ Open o
@@ -135,17 +154,19 @@ is_open (Creating create) o h = absurd (cc)
 is_open (Open x) o h = cc
 is_open (Closed side) o h = absurd (cc)
 
-count_side : (op side : OpId) → Counted (λ n (done : Unit {0}). n ≡ 1) 0 (ask_close op side)
+count_side : (w : Weight) (op side : OpId) → Counted w (λ n (done : Unit {0}). n ≡ w side) 0 (ask_close op side)
 unfolding bind
-count_side op side = ((λ t. refl), λ t. refl)
+count_side w op side = ((λ t. refl), λ t. omega arith)
 
-pub open_closes : (op side : OpId) {s t : Seen} → Reaches (ask_close op side) (Give tt) s t → HoldsFewer s t 1 0
-open_closes op side h =
-    let w = counted_left (λ n (done : Unit {0}). n ≡ 1) 0 (ask_close op side) h.entries _ (count_side op side) h.left in
-    let closed = w.left in
-    record { entries = h.entries; passed = h.passed; made = w.made; balance = omega arith }
+pub open_closes : (op side : OpId) {s t : Seen} → Reaches (ask_close op side) (Give tt) s t → HoldsFewer s t (one_socket side) no_socket
+open_closes op side h = record {
+  entries = h.entries;
+  passed = h.passed;
+  made = λ w. (counted_left w (λ n (done : Unit {0}). n ≡ w side) 0 (ask_close op side) h.entries (Give tt) (count_side w op side) h.left).made;
+  balance = λ w. (let closed = (counted_left w (λ n (done : Unit {0}). n ≡ w side) 0 (ask_close op side) h.entries (Give tt) (count_side w op side) h.left).left in omega arith);
+}
 
 -- == a create
-pub create_closes : (create : Create) {s t : Seen} (result : Result (Unit {0}) AllocError) → is_going create.operation ≡ true → AsksFor (create_cancel_asks create) s t (λ done. done) result → IfOk result (λ done. HoldsFewer s t 1 0)
+pub create_closes : (create : Create) {s t : Seen} (result : Result (Unit {0}) AllocError) → is_going create.operation ≡ true → AsksFor (create_cancel_asks create) s t (λ done. done) result → IfOk result (λ done. HoldsFewer s t (one_socket create.operation.who.side) no_socket)
 create_closes create (Ok done) g h = let k = rw g at h in open_closes create.operation.who.id create.operation.who.side k.ok
 create_closes create (Err d) g h = tt

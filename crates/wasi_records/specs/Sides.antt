@@ -1,15 +1,15 @@
 -- The network sockets that a log made and closed, and those that the records hold.
-use Rattle.std.specs.Prelude.{◌≡◌, ℕ, ◌+◌, List, [], ◌∷◌, ◌++◌, Option, Some, None, option_map, IfSome, Result, Ok}
+use Rattle.std.specs.Prelude.{◌≡◌, ℕ, ◌+◌, Bool, true, false, if◌then◌else◌, List, [], ◌∷◌, ◌++◌, Option, Some, None, option_map, IfSome, Result, Ok}
 use Rattle.wasi_world.specs.declared.call.Call.{Call}
 use Rattle.wasi_world.specs.declared.call.Call.TheVariants.{TcpCreate, UdpCreate, Hand, Close}
 use Rattle.wasi_world.specs.declared.call.Told.{Told}
-use Rattle.wasi_world.specs.declared.call.Told.TheVariants.{Done}
 use Rattle.wasi_world.specs.declared.call.Entry.{Entry}
 use Rattle.wasi_world.specs.declared.ids.OpId.{OpId}
 use Rattle.wasi_world.specs.declared.outcome.Answer.{Answer}
 use Rattle.wasi_world.specs.declared.outcome.Answer.TheVariants.{Ready}
 use Rattle.wasi_world.specs.declared.outcome.Refusal.{Refusal}
 use Rattle.wasi_world.specs.Seen.{Seen, Passes}
+use Rattle.wasi_world.specs.Sides.{is_done, is_same}
 use Rattle.wasi_tcp.specs.Shape.{Socket}
 use Rattle.wasi_tcp.specs.Socket.{side_of}
 use Rattle.wasi_records.specs.declared.records.Record.{Record}
@@ -18,78 +18,104 @@ use Rattle.wasi_records.specs.declared.socket.TcpRecord.{TcpRecord}
 use Rattle.wasi_records.specs.Listening.{side_in}
 use Rattle.wasi_records.specs.Udp.{udp_holds}
 
-abbrev pub one_if_done : Told → ℕ
-one_if_done Done = 1
-one_if_done _ = 0
+-- what each network socket counts for
+abbrev pub Weight : Type 0
+Weight = OpId → ℕ
 
--- how many network sockets a call made: a create or a hand that was answered done makes one
-abbrev pub made_by : Call → Told → ℕ
-made_by (TcpCreate ctx family) told = one_if_done told
-made_by (UdpCreate ctx family) told = one_if_done told
-made_by (Hand sock peer) told = one_if_done told
-made_by _ told = 0
+-- network sockets, each as often as it comes: what they count for together, whatever each counts for
+abbrev pub Tally : Type 0
+Tally = Weight → ℕ
 
-abbrev pub closed_by : Call → ℕ
-closed_by (Close sock) = 1
-closed_by _ = 0
+-- each counts for one, so that they are counted
+abbrev pub each : Weight
+each sock = 1
 
-abbrev pub made_in : List Entry → ℕ
-made_in [] = 0
-made_in (e ∷ es) = made_by e.call e.answer + made_in es
+-- one network socket counts, and no other, so that it is told how often it comes
+abbrev pub only : OpId → Weight
+only sock other = if is_same sock other then 1 else 0
 
-abbrev pub closed_in : List Entry → ℕ
-closed_in [] = 0
-closed_in (e ∷ es) = closed_by e.call + closed_in es
+-- == network sockets
+abbrev pub no_socket : Tally
+no_socket w = 0
 
-abbrev pub one_if_some : Option OpId → ℕ
-one_if_some (Some side) = 1
-one_if_some None = 0
+abbrev pub one_socket : OpId → Tally
+one_socket sock w = w sock
 
--- how many network sockets the record of a socket holds: the socket's, and that of a listen in progress, or of a connection that
--- isn't taken
-abbrev pub holds : TcpRecord → ℕ
-holds r = one_if_some (side_of r.inner) + one_if_some (side_in r.listening)
+abbrev pub tally : Option OpId → Tally
+tally (Some sock) = one_socket sock
+tally None = no_socket
 
-abbrev pub held_by : Record → ℕ
+abbrev pub tally_all : List OpId → Tally
+tally_all [] w = 0
+tally_all (sock ∷ socks) w = w sock + tally_all socks w
+
+-- == those of a log
+-- whether a call made one: a create or a hand that was answered done makes that of its operation's name
+abbrev pub makes : Call → Told → Bool
+makes (TcpCreate ctx family) told = is_done told
+makes (UdpCreate ctx family) told = is_done told
+makes (Hand sock peer) told = is_done told
+makes _ told = false
+
+abbrev pub made_by : OpId → Call → Told → Tally
+made_by op c told w = if makes c told then w op else 0
+
+abbrev pub closed_by : Call → Option OpId
+closed_by (Close sock) = Some sock
+closed_by _ = None
+
+abbrev pub made_in : List Entry → Tally
+made_in [] w = 0
+made_in (e ∷ es) w = made_by e.op e.call e.answer w + made_in es w
+
+abbrev pub closed_in : List Entry → Tally
+closed_in [] w = 0
+closed_in (e ∷ es) w = tally (closed_by e.call) w + closed_in es w
+
+-- == those of records
+-- what the record of a socket holds: the socket's, and that of a listen in progress, or of a connection that isn't taken
+abbrev pub holds : TcpRecord → Tally
+holds r w = tally (side_of r.inner) w + tally (side_in r.listening) w
+
+abbrev pub held_by : Record → Tally
 held_by (Tcp r) = holds r
 held_by (Udp u) = udp_holds u
-held_by (Lookup l) = 0
-held_by (InputPipe bytes) = 0
-held_by (OutputPipe pipe) = 0
-held_by Gone = 0
+held_by (Lookup l) = no_socket
+held_by (InputPipe bytes) = no_socket
+held_by (OutputPipe pipe) = no_socket
+held_by Gone = no_socket
 
--- how many network sockets the records hold
-abbrev pub held_in : List Record → ℕ
-held_in [] = 0
-held_in (x ∷ rs) = held_by x + held_in rs
+abbrev pub held_in : List Record → Tally
+held_in [] w = 0
+held_in (x ∷ rs) w = held_by x w + held_in rs w
 
--- how many network sockets the answer of an accept gives away
-abbrev pub given_by : Result (Answer Socket) Refusal → ℕ
-given_by (Ok (Ready socket)) = one_if_some (side_of socket)
-given_by _ = 0
+-- the network socket that the answer of an accept gives away
+abbrev pub given_by : Result (Answer Socket) Refusal → Tally
+given_by (Ok (Ready socket)) = tally (side_of socket)
+given_by _ = no_socket
 
--- The record holds as many network sockets more than before, beside so many that it gave away, as were made and not
--- closed.
-pub record Balances (before after : Seen) (given : ℕ) (old now : TcpRecord) : Type 0 where
+-- The record holds the network sockets that it held, with those that were made and without those that were closed or that it
+-- gave away.
+pub record Balances (before after : Seen) (given : Tally) (old now : TcpRecord) : Type 0 where
   pub entries : List Entry
   pub passed : Passes before entries after
-  pub balance : closed_in entries + (holds now + given) ≡ made_in entries + holds old
+  pub balance : (w : Weight) → closed_in entries w + (holds now w + given w) ≡ made_in entries w + holds old w
 
--- What was asked closed as many network sockets as are held fewer than before, and made none.
-pub record HoldsFewer (before after : Seen) (old now : ℕ) : Type 0 where
+-- What was asked closed the network sockets that are no longer held, and made none.
+pub record HoldsFewer (before after : Seen) (old now : Tally) : Type 0 where
   pub entries : List Entry
   pub passed : Passes before entries after
-  pub made : made_in entries ≡ 0
-  pub balance : closed_in entries + now ≡ old
+  pub made : (w : Weight) → made_in entries w ≡ 0
+  pub balance : (w : Weight) → closed_in entries w + now w ≡ old w
 
 -- What was asked made no network socket and closed none.
 pub record MakesNone (before after : Seen) : Type 0 where
   pub entries : List Entry
   pub log : after.log ≡ option_map (λ log. log ++ entries) before.log
-  pub made : made_in entries ≡ 0
-  pub closed : closed_in entries ≡ 0
+  pub made : (w : Weight) → made_in entries w ≡ 0
+  pub closed : (w : Weight) → closed_in entries w ≡ 0
 
 -- As many network sockets were closed after the end mark as the log made and didn't close.
 pub record ClosesAll (old new : Seen) : Type 0 where
   pub log : new.log ≡ old.log
-  pub count : old.closings ≡ 0 → IfSome new.log (λ log. closed_in log + new.closings ≡ made_in log)
+  pub count : old.closings ≡ 0 → IfSome new.log (λ log. closed_in log each + new.closings ≡ made_in log each)

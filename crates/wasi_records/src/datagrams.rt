@@ -9,7 +9,7 @@ ghost use Rattle.wasi_records.specs.Datagrams.{send_one_asks, refusal_told, send
 ghost use Rattle.wasi_records.specs.Datagrams.{send_all, send_datagrams_asks, turn_sending};
 ghost use Rattle.wasi_records.specs.Datagrams.{turn_outgoing, send_turned, turn_told, with_sending};
 ghost use Rattle.wasi_records.specs.Stops.{host_outcome};
-ghost use Rattle.wasi_records.specs.Names.{next_name, names_after};
+ghost use Rattle.wasi_records.specs.Names.{RoseUpTo, next_name, names_after};
 ghost use Rattle.wasi_records.specs.Sides.{MakesNone};
 
 use crate::error::SocketError;
@@ -229,6 +229,7 @@ impl Outgoing {
             (λ answer. (answer, (socket.new, self.new))) (outcome result) }
         ensures line { ids.new.line ≡ ids.old.line }
         ensures names { result ≡ Ok (Answer.Ready tt) → ids.new ≡ names_after ids.old }
+        ensures parts { RoseUpTo 1 ids.old ids.new }
         ensures none { MakesNone (W.seen world.old) (W.seen world.new) }
         ensures side { socket.new.side ≡ socket.old.side }
     {
@@ -261,6 +262,7 @@ impl Outgoing {
             (W.seen world.old) (W.seen world.new) (λ sent. (sent, (socket.new, self.new)))
             (outcome result) }
         ensures line { ids.new.line ≡ ids.old.line }
+        ensures parts { RoseUpTo (length datagrams.items) ids.old ids.new }
         ensures none { MakesNone (W.seen world.old) (W.seen world.new) }
         ensures side { socket.new.side ≡ socket.old.side }
     {
@@ -370,6 +372,7 @@ impl OpenUdp {
             datagrams.items) (W.seen world.old) (W.seen world.new) (λ sent. (sent, self.new))
             (host_outcome result) }
         ensures line { ids.new.line ≡ ids.old.line }
+        ensures parts { RoseUpTo 255 ids.old ids.new }
         ensures none { MakesNone (W.seen world.old) (W.seen world.new) }
         ensures side { self.new.inner.side ≡ self.old.inner.side }
     {

@@ -7,7 +7,7 @@ ghost use Rattle.wasi_records.specs.Looks.{read_told, ready_socket, ready_listen
 ghost use Rattle.wasi_records.specs.Looks.{ready_writer, socket_ids, socket_begins};
 ghost use Rattle.wasi_records.specs.Stops.{fault_outcome};
 ghost use Rattle.wasi_records.specs.Listening.{ids_of};
-ghost use Rattle.wasi_records.specs.Sides.{Balances};
+ghost use Rattle.wasi_records.specs.Sides.{Balances, no_socket};
 ghost use Rattle.wasi_records.specs.InProgress.{is_connect};
 
 use crate::socket::TcpRecord;
@@ -71,7 +71,8 @@ impl TcpRecord {
         ensures asked { AsksFor (ready_socket ids.old self.old) (W.seen world.old)
             (W.seen world.new) (λ ready. (ready, self.new)) (fault_outcome result) }
         ensures ids { ids.new ≡ socket_ids self.old ids.old (is_connect self.old.in_progress) }
-        ensures sides { Balances (W.seen world.old) (W.seen world.new) 0 self.old self.new }
+        ensures sides { Balances (W.seen world.old) (W.seen world.new) no_socket self.old
+            self.new }
     {
         if self.in_progress.is_started(AsyncOperation::Connect) {
             let polled = self.inner.poll_finish_connect(world);
@@ -92,7 +93,8 @@ impl TcpRecord {
             (W.seen world.old) (W.seen world.new) (λ ready. (ready, self.new))
             (fault_outcome result) }
         ensures ids { ids.new ≡ ids_of self.old.listening ids.old }
-        ensures sides { Balances (W.seen world.old) (W.seen world.new) 0 self.old self.new }
+        ensures sides { Balances (W.seen world.old) (W.seen world.new) no_socket self.old
+            self.new }
     {
         match &mut self.listening {
             Listening::Accepts(listener) => is_read(listener.poll_ready(world, ids)),

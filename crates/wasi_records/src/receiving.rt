@@ -1,15 +1,15 @@
 //! How datagrams are received on the incoming stream of a UDP socket.
 
-ghost use Rattle.std.specs.Prelude.{◌≡◌, ◌+◌, ◌<◌, ◌^◌, false, []};
+ghost use Rattle.std.specs.Prelude.{◌≡◌, ◌+◌, ◌<◌, ◌^◌, false, [], OnErr, IfSome, min};
 ghost use Rattle.wasi_world.specs.Asks.{AsksFor, outcome};
 ghost use Rattle.socket_common.specs.Rounds.{is_going, stays_going};
 ghost use Rattle.wasi_records.specs.Stops.{host_outcome};
-ghost use Rattle.wasi_records.specs.Names.{next_name};
+ghost use Rattle.wasi_records.specs.Names.{RoseUpTo, next_name};
 ghost use Rattle.wasi_records.specs.Receiving.{would_receive, is_receiving, receives, fetch_asks};
 ghost use Rattle.wasi_records.specs.Receiving.{fetch_names, taken, receive_next_asks, receive_all};
 ghost use Rattle.wasi_records.specs.Receiving.{receive_datagrams_asks, look_incoming, look_names};
 ghost use Rattle.wasi_records.specs.Receiving.{turn_receiving, turn_incoming, receive_settled};
-ghost use Rattle.wasi_records.specs.Receiving.{receive_wants};
+ghost use Rattle.wasi_records.specs.Receiving.{LosesTaken, receive_wants};
 ghost use Rattle.wasi_records.specs.Sides.{MakesNone};
 
 use crate::datagrams::{Incoming, PendingReceive, Receiving};
@@ -136,7 +136,8 @@ impl Incoming {
     }
 
     /// Takes at most this many datagrams, while there is room for them. The list ends at one that
-    /// hasn't come, and at a code; the code is returned where no datagram comes before it.
+    /// hasn't come, and at a code; the code is returned where no datagram comes before it. Out of
+    /// memory the datagrams that it took are lost, and the next one's receive stays in progress.
     fn receive_all<W: World>(
         &mut self,
         alloc: Global,
@@ -151,10 +152,13 @@ impl Incoming {
             (W.seen world.old) (W.seen world.new) (λ received. (received, (socket.new, self.new)))
             (outcome result) }
         ensures line { ids.new.line ≡ ids.old.line }
+        ensures parts { RoseUpTo most ids.old ids.new }
+        ensures lost { OnErr (outcome result) (LosesTaken most 65536 ids.old (socket.old, self.old)
+            (W.seen world.old) (W.seen world.new)) }
         ensures none { MakesNone (W.seen world.old) (W.seen world.new) }
         ensures side { socket.new.side ≡ socket.old.side }
     {
-        // Room for the list comes first, so that no datagram is lost for want of memory.
+        // Room for the list comes first, so that no datagram is lost for want of it.
         let mut datagrams = Vec::with_capacity(alloc, most as usize)?;
         let mut room = ROOM;
         for _ in 0..most {
@@ -228,6 +232,7 @@ impl OpenUdp {
             (W.seen world.old) (W.seen world.new) (λ received. (received, self.new))
             (host_outcome result) }
         ensures line { ids.new.line ≡ ids.old.line }
+        ensures parts { RoseUpTo 16 ids.old ids.new }
         ensures none { MakesNone (W.seen world.old) (W.seen world.new) }
         ensures side { self.new.inner.side ≡ self.old.inner.side }
     {

@@ -4,7 +4,7 @@ ghost use Rattle.std.specs.Prelude.{◌≡◌, not, OnOk, OnErr, false, None};
 ghost use Rattle.wasi_world.specs.Asks.{AsksFor};
 ghost use Rattle.wasi_records.specs.Releasing.{give_streams_up, close_record, release_asks};
 ghost use Rattle.wasi_records.specs.Releasing.{release_connection};
-ghost use Rattle.wasi_records.specs.Sides.{Balances, holds};
+ghost use Rattle.wasi_records.specs.Sides.{Balances, holds, no_socket};
 ghost use Rattle.wasi_records.specs.declared.tcp_listening.Listening.{Listening};
 
 use crate::socket::TcpRecord;
@@ -19,8 +19,9 @@ impl TcpRecord {
         requires { (W.seen world.old).ended ≡ false }
         ensures asked { AsksFor (release_asks op self.old) (W.seen world.old) (W.seen world.new)
             (λ done. (done, self.new)) result }
-        ensures sides { Balances (W.seen world.old) (W.seen world.new) 0 self.old self.new }
-        ensures none { OnOk result (holds self.new ≡ 0) }
+        ensures sides { Balances (W.seen world.old) (W.seen world.new) no_socket self.old
+            self.new }
+        ensures none { OnOk result (holds self.new ≡ no_socket) }
     {
         self.give_listening_up(world)?;
         self.release_connection(world, op)
@@ -33,8 +34,9 @@ impl TcpRecord {
         requires not { self.old.listening ≡ Listening.Not }
         ensures asked { AsksFor (release_connection op self.old) (W.seen world.old)
             (W.seen world.new) (λ done. (done, self.new)) result }
-        ensures sides { Balances (W.seen world.old) (W.seen world.new) 0 self.old self.new }
-        ensures none { OnOk result (holds self.new ≡ 0) }
+        ensures sides { Balances (W.seen world.old) (W.seen world.new) no_socket self.old
+            self.new }
+        ensures none { OnOk result (holds self.new ≡ no_socket) }
     {
         self.give_streams_up(world, op)?;
         self.close(world, op)
@@ -61,7 +63,7 @@ impl TcpRecord {
             (λ done. (done, self.new)) result }
         ensures err { OnErr result (self.new ≡ self.old) }
         ensures unasked { OnErr result (W.seen world.new ≡ W.seen world.old) }
-        ensures none { OnOk result (holds self.new ≡ 0) }
+        ensures none { OnOk result (holds self.new ≡ no_socket) }
     {
         self.inner.close(world, op)?;
         self.in_progress = InProgress::Nothing;

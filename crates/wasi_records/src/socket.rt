@@ -5,7 +5,7 @@ ghost use Rattle.std.specs.Prelude.{◌≡◌, false, Ok};
 ghost use Rattle.wasi_world.specs.Asks.{AsksFor, outcome};
 ghost use Rattle.wasi_tcp.specs.Socket.{side_of};
 ghost use Rattle.wasi_records.specs.Stops.{host_outcome};
-ghost use Rattle.wasi_records.specs.Sides.{Balances};
+ghost use Rattle.wasi_records.specs.Sides.{Balances, no_socket};
 ghost use Rattle.wasi_records.specs.Sockets.{begin_connect_asks, poll_connect_asks, connect_told};
 ghost use Rattle.wasi_records.specs.Sockets.{connect_settled, opened, tell_local_asks};
 ghost use Rattle.wasi_records.specs.Sockets.{tell_remote_asks, new_record};
@@ -78,7 +78,8 @@ impl TcpRecord {
         requires { (W.seen world.old).ended ≡ false }
         ensures asked { AsksFor (poll_connect_asks self.old) (W.seen world.old) (W.seen world.new)
             (λ done. (done, self.new)) (host_outcome result) }
-        ensures sides { Balances (W.seen world.old) (W.seen world.new) 0 self.old self.new }
+        ensures sides { Balances (W.seen world.old) (W.seen world.new) no_socket self.old
+            self.new }
     {
         let polled = self.inner.poll_finish_connect(world);
         self.settle_connect(polled)

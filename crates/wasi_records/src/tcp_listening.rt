@@ -7,7 +7,7 @@ ghost use Rattle.wasi_records.specs.Listening.{with_listening, listen_told, list
 ghost use Rattle.wasi_records.specs.Listening.{poll_listen_asks, listen_once, begin_listen_asks};
 ghost use Rattle.wasi_records.specs.Listening.{accept_record_asks, with_accepted_in, ids_of};
 ghost use Rattle.wasi_records.specs.Listening.{side_in, give_up_asks, unclosed, Accepted, TakesOne};
-ghost use Rattle.wasi_records.specs.Sides.{Balances, given_by};
+ghost use Rattle.wasi_records.specs.Sides.{Balances, given_by, no_socket};
 
 use crate::error::SocketError;
 use crate::record_list::{RecordId, RecordList};
@@ -81,7 +81,8 @@ impl TcpRecord {
         requires { (W.seen world.old).ended ≡ false }
         ensures asked { AsksFor (begin_listen_asks op self.old) (W.seen world.old)
             (W.seen world.new) (λ answer. (answer, self.new)) (outcome result) }
-        ensures sides { Balances (W.seen world.old) (W.seen world.new) 0 self.old self.new }
+        ensures sides { Balances (W.seen world.old) (W.seen world.new) no_socket self.old
+            self.new }
     {
         if !self.inner.is_bound(world, op)? {
             return Err(Refusal::Code(ErrorCode::InvalidState));
@@ -94,7 +95,8 @@ impl TcpRecord {
         requires { (W.seen world.old).ended ≡ false }
         ensures asked { AsksFor (listen_once op self.old self.old.listening) (W.seen world.old)
             (W.seen world.new) (λ answer. (answer, self.new)) (outcome result) }
-        ensures sides { Balances (W.seen world.old) (W.seen world.new) 0 self.old self.new }
+        ensures sides { Balances (W.seen world.old) (W.seen world.new) no_socket self.old
+            self.new }
     {
         match &self.listening {
             Listening::Not => {}
@@ -113,7 +115,8 @@ impl TcpRecord {
         requires { (W.seen world.old).ended ≡ false }
         ensures asked { AsksFor (poll_listen_asks self.old) (W.seen world.old) (W.seen world.new)
             (λ answer. (answer, self.new)) (outcome result) }
-        ensures sides { Balances (W.seen world.old) (W.seen world.new) 0 self.old self.new }
+        ensures sides { Balances (W.seen world.old) (W.seen world.new) no_socket self.old
+            self.new }
     {
         // The socket has no network socket of its own while its listen is in progress.
         if self.inner.side().is_some() {

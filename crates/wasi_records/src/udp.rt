@@ -8,7 +8,7 @@ ghost use Rattle.socket_common.specs.Rounds.{is_going, stays_going};
 ghost use Rattle.wasi_records.specs.Records.{open_of};
 ghost use Rattle.wasi_records.specs.Rows.{udp_row, open_row};
 ghost use Rattle.wasi_udp.specs.Create.{create_cancel_asks};
-ghost use Rattle.wasi_records.specs.Sides.{HoldsFewer, MakesNone, one_if_some};
+ghost use Rattle.wasi_records.specs.Sides.{HoldsFewer, MakesNone, no_socket, one_socket, tally};
 ghost use Rattle.wasi_records.specs.Udp.{udp_side, udp_holds, poll_create_asks, udp_create_settled};
 ghost use Rattle.wasi_records.specs.Udp.{udp_create_done, is_udp_idle, is_udp_bound};
 ghost use Rattle.wasi_records.specs.Udp.{begin_udp_bind_asks, poll_udp_bind_asks, udp_bind_settled};
@@ -63,8 +63,8 @@ impl PendingCreate {
         requires { (W.seen world.old).ended ≡ false }
         ensures asked { AsksFor (create_cancel_asks self.now) (W.seen world.old) (W.seen world.new)
             (λ done. done) result }
-        ensures closed { IfOk result (λ done. HoldsFewer (W.seen world.old) (W.seen world.new) 1
-            0) }
+        ensures closed { IfOk result (λ done. HoldsFewer (W.seen world.old) (W.seen world.new)
+            (one_socket self.now.operation.who.side) no_socket) }
         ensures unasked { OnErr result (W.seen world.new ≡ W.seen world.old) }
     {
         self.create.cancel(world)
@@ -180,7 +180,7 @@ impl UdpRecord {
 
     /// The network socket that it holds; `None` once that is closed.
     pub(crate) fn held(&self) -> Option<Sock>
-        ensures { one_if_some result ≡ udp_holds self.now }
+        ensures { tally result ≡ udp_holds self.now }
     {
         match self {
             UdpRecord::Creating(create) => Some(create.side()),

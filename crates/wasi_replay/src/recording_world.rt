@@ -192,6 +192,8 @@ impl<W: World> World for RecordingWorld<W> {
     ghost seen = { λ world. seen_of world.log.items (W.seen world.inner).ended
         (W.seen world.inner).closings world.faults };
 
+    ghost closed = { λ world. W.closed world.inner };
+
     ghost scripted = { λ world. without_plan (Some world.log.items) };
 
     fn call(&mut self, op: OpId, call: Call) -> Result<Told, AllocError> {

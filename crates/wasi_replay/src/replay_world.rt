@@ -17,7 +17,7 @@ use crate::same::same_call;
 use std::alloc::{AllocError, Global};
 use std::marker::{Brand, PhantomData};
 use wasi_addr::{ErrorCode, IpSocketAddress};
-use wasi_world::{Call, Entry, Octets, OpId, Sock, Told, World};
+use wasi_world::{Call, ClosedSockets, Entry, Octets, OpId, Sock, Told, World};
 
 /// What proofs know of a [`ReplayWorld`] besides its own log: the log that it answers from. A
 /// caller calls a function that is generic in `Recorded`, at [`Brand`], for which its proof picks
@@ -51,6 +51,7 @@ pub struct ReplayWorld<R: Recorded> {
     differs: Option<u32>,
     ended: bool,
     closings: u64,
+    closed: ClosedSockets,
     faults: u64,
     of: PhantomData<R>,
     ghost within: { made ≤ length entries.items },
@@ -196,12 +197,14 @@ impl<R: Recorded> ReplayWorld<R> {
         ensures { seen_of (take result.made result.entries.items) result.ended result.closings
             result.faults ≡ seen_of [] false 0 0 }
     {
+        let closed = ClosedSockets::new(*recorded.allocator());
         ReplayWorld {
             entries: recorded,
             made: 0,
             differs: None,
             ended: false,
             closings: 0,
+            closed,
             faults: 0,
             of: PhantomData,
         }
@@ -286,6 +289,8 @@ impl<R: Recorded> World for ReplayWorld<R> {
     ghost seen = { λ world. seen_of (take world.made world.entries.items) world.ended
         world.closings world.faults };
 
+    ghost closed = { λ world. world.closed };
+
     ghost scripted = { λ world. without_plan (Some (take world.made world.entries.items)) };
 
     fn call(&mut self, op: OpId, call: Call) -> Result<Told, AllocError> {
@@ -329,9 +334,11 @@ impl<R: Recorded> World for ReplayWorld<R> {
 
     fn end(&mut self) {
         self.ended = true;
+        self.closed = ClosedSockets::new(*self.entries.allocator());
     }
 
-    fn close_after_end(&mut self, _sock: Sock) {
+    fn close_after_end(&mut self, sock: Sock) {
         self.closings = self.closings.saturating_add(1);
+        self.closed.close(sock);
     }
 }

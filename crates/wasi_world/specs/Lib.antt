@@ -1,4 +1,5 @@
 pub mod Fits
+pub mod Closings
 pub mod Seen
 pub mod Asks
 pub mod Typed

@@ -8,6 +8,7 @@
 
 pub mod asks;
 pub mod call;
+pub mod closings;
 pub mod datagram;
 pub mod ids;
 pub mod octets;
@@ -17,6 +18,7 @@ pub mod sides;
 pub mod world;
 
 pub use call::{Call, Entry, HandleKind, Opt, Told};
+pub use closings::ClosedSockets;
 pub use datagram::{IncomingDatagram, IncomingDatagrams, OutgoingDatagram, OutgoingDatagrams};
 pub use ids::{Handle, Ids, OpId, Sock};
 pub use octets::{IpList, NameText, NumberList, Octets};

@@ -12,6 +12,9 @@ use wasi_addr::IpSocketAddress;
 /// made. The log need not be reported: what is known of a world is its ghost `seen`.
 pub trait World {
     ghost use Rattle.std.specs.Prelude.{◌≡◌, ◌<◌, ◌≤◌, ◌^◌, IfOk, OnErr, length, true, false};
+    ghost use Rattle.std.specs.Prelude.{List, Option};
+    ghost use Rattle.wasi_world.specs.declared.ids.OpId.{OpId};
+    ghost use Rattle.wasi_world.specs.Closings.{Named, NoneNamed};
     ghost use Rattle.wasi_world.specs.Fits.{Fits, IsPlain, IsWritten};
     ghost use Rattle.wasi_world.specs.Seen.{Seen, Ends, Closes};
     ghost use Rattle.wasi_world.specs.Asks.{one, one_write, AsksFor};
@@ -19,6 +22,10 @@ pub trait World {
 
     /// What is known of it.
     ghost seen: { Self → Seen };
+
+    /// The network sockets that were closed after the end mark, in order, where it keeps their
+    /// names.
+    ghost closed: { Self → Option (List OpId) };
 
     /// Makes any call but a write and a send. Out of memory the call wasn't made.
     fn call(&mut self, op: OpId, call: Call) -> Result<Told, AllocError>
@@ -53,16 +60,18 @@ pub trait World {
             (seen self.new) (λ told. told) result }
         ensures err { OnErr result (seen self.new ≡ seen self.old) };
 
-    /// Sets the end mark; can't be refused.
+    /// Sets the end mark; can't be refused. None is closed after it yet.
     fn end(&mut self)
         requires open { (seen self.old).ended ≡ false }
-        ensures { Ends (seen self.old) (seen self.new) };
+        ensures mark { Ends (seen self.old) (seen self.new) }
+        ensures none { NoneNamed (closed self.new) };
 
-    /// Closes a network socket after the end mark. It is counted and not logged, and can't be
-    /// refused.
+    /// Closes a network socket after the end mark. It is counted, named where names are kept, and
+    /// not logged, and can't be refused.
     fn close_after_end(&mut self, sock: Sock)
         requires ended { (seen self.old).ended ≡ true }
-        ensures { Closes (seen self.old) (seen self.new) };
+        ensures counted { Closes (seen self.old) (seen self.new) }
+        ensures named { Named (closed self.old) sock (closed self.new) };
 
     /// A world that reports both its log and a plan answers by the plan.
     ghost scripted: { (world : Self) → GoesByPlan (seen world) };

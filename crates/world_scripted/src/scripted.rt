@@ -19,7 +19,7 @@ use crate::sides::{Sides, keep, local_of, option_of, peer_of};
 use std::alloc::{AllocError, Global};
 use std::collections::HashMap;
 use wasi_addr::{ErrorCode, IpSocketAddress};
-use wasi_world::{Call, Entry, Octets, OpId, Sock, Told, World};
+use wasi_world::{Call, ClosedSockets, Entry, Octets, OpId, Sock, Told, World};
 
 /// The count of faults after an answer: one more where it is a code, up to the greatest count.
 fn count_after(faults: u64, told: &Told) -> u64
@@ -115,6 +115,7 @@ pub struct ScriptedWorld {
     log: Vec<Entry>,
     ended: bool,
     closings: u64,
+    closed: ClosedSockets,
     faults: u64,
     ghost unarmed: { by_plan ≡ true → armed.nth ≡ 0 },
     ghost left: { by_plan ≡ true → lists.left ≡ (progress lists.all log.items).left },
@@ -146,6 +147,7 @@ impl ScriptedWorld {
             log: Vec::new(alloc),
             ended: false,
             closings: 0,
+            closed: ClosedSockets::new(alloc),
             faults: 0,
         }
     }
@@ -209,6 +211,7 @@ impl ScriptedWorld {
 }
 
 impl ScriptedWorld {
+    ghost use Rattle.std.specs.Prelude.{option_map};
     ghost use Rattle.world_scripted.specs.Scripted.{seen_by};
 
     /// The log so far.
@@ -242,6 +245,14 @@ impl ScriptedWorld {
         self.closings
     }
 
+    /// The network sockets that were closed after the end mark, in the order of their closing; none
+    /// where there wasn't memory to keep each.
+    pub fn closed_sockets(&self) -> Option<&[Sock]>
+        ensures { option_map (λ names. names.now) result ≡ self.now.closed }
+    {
+        self.closed.names()
+    }
+
     /// How many codes were reported. The count stays at its greatest value.
     pub fn faults(&self) -> u64
         ensures { result ≡ (seen_by self.now).faults }
@@ -257,6 +268,8 @@ impl World for ScriptedWorld {
     ghost use Rattle.world_scripted.specs.Scripted.{seen_by, stage_of, goes_by_its_plan};
 
     ghost seen = { seen_by };
+
+    ghost closed = { λ world. world.closed };
 
     ghost scripted = { λ world. goes_by_its_plan world.by_plan world.lists.all world.log.items
         world.scripted };
@@ -319,9 +332,11 @@ impl World for ScriptedWorld {
 
     fn end(&mut self) {
         self.ended = true;
+        self.closed = ClosedSockets::new(*self.log.allocator());
     }
 
-    fn close_after_end(&mut self, _sock: Sock) {
+    fn close_after_end(&mut self, sock: Sock) {
         self.closings = self.closings.saturating_add(1);
+        self.closed.close(sock);
     }
 }

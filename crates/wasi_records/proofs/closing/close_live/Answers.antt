@@ -15,5 +15,5 @@ loop-number-preserved g c =
     let next = rest_more deref_pair c.loop-number.number-iterator c.next.new.self c.next.result (c.in-Some.number, c.in-Some.slot) c.in-Some.is c.next.ensures.steps in (
       tt,
       tt,
-      next_closed all (records_of c.args.slots.now c.loop-number.number-iterator) (records_of c.args.slots.now c.next.new.self) (record_under c.args.slots.now c.in-Some.slot.now c.in-Some.number.now) short (ap (records_of c.args.slots.now) next) c.loop-number.invariant.2 c.close_in.ensures,
+      next_closed _ _ _ all (records_of c.args.slots.now c.loop-number.number-iterator) (records_of c.args.slots.now c.next.new.self) (record_under c.args.slots.now c.in-Some.slot.now c.in-Some.number.now) short (ap (records_of c.args.slots.now) next) c.loop-number.invariant.2 c.close_in.ensures.counted c.close_in.ensures.named,
     )

@@ -1,7 +1,7 @@
 use Rattle.std.proofs.Common.{Err, ◌∙◌, arith, refl}
 use Rattle.std.specs.Vec.{vec_len}
 use Rattle.wasi_world.proofs.Walks.{reaches_all, reaches_then, refused_none, asks_err, asks_ok}
-use Rattle.wasi_records.proofs.ReceiveLists.{one_more, none_came, code_came, all_begun, all_taken, no_room, some_told, none_told, same_line, name_more, none_less}
+use Rattle.wasi_records.proofs.ReceiveLists.{one_more, none_came, code_came, all_begun, all_taken, no_room, some_told, none_told, same_line, name_kept, name_more, took_one, none_less, none_lost, taken_lost}
 use Rattle.wasi_records.proofs.SideCounts.{none_first, none_then}
 use Rattle.wasi_records.proofs.datagrams.Incoming.receive_all.Goals as goal
 use Rattle.wasi_records.proofs.datagrams.Incoming.receive_all.Goals.{else-loop-test, then-loop-test+then-room-eq0, then-loop-test+else-room-eq0+in-Ok-Pending, then-loop-test+else-room-eq0+in-Err-Code+else-is_empty}
@@ -13,6 +13,7 @@ pub loop-init : goal.loop-init
 loop-init g c = record {
   reached = rw (c.in_ok-datagrams.ensures.items, none_less c.args.most) (reaches_all _ _);
   line = refl;
+  forth = omega arith;
   part = omega arith;
   count = let n = c.in_ok-datagrams.ensures.len in omega arith;
   capacity = c.in_ok-datagrams.ensures.capacity;
@@ -34,6 +35,7 @@ pub loop-preserved : goal.loop-preserved
 loop-preserved g c = record {
   reached = reaches_then c.loop.invariant.reached (one_more c.args.most c.loop.counter c.loop.room c.saturating_sub-room.result c.loop.ids c.receive_next.new.ids c.loop.datagrams.items c.push_reserved.new.self.items c.in-Ok-Ready.datagram (c.loop.socket, c.loop.self) (c.receive_next.new.socket, c.receive_next.new.self) c.loop-test.true c.if-room-eq0.false (rw (c.saturating_sub-room.ensures, c.saturating_sub.ensures, c.len.ensures) refl) c.receive_next.ensures.names c.push_reserved.ensures.items (rw c.in-Ok-Ready.field-0-is at c.in-Ok-Ready.ensures.asked.ok));
   line = same_line _ _ _ c.receive_next.ensures.names ∙ c.loop.invariant.line;
+  forth = let n = name_kept c.loop.self.receiving c.loop.ids c.receive_next.new.ids c.receive_next.ensures.names in let p = c.loop.invariant.forth in omega arith;
   part = let n = name_more c.loop.self.receiving c.loop.ids c.receive_next.new.ids c.receive_next.ensures.names in let p = c.loop.invariant.part in omega arith;
   count = let n = c.push_reserved.ensures.len in let p = c.loop.invariant.count in omega arith;
   capacity = let n = c.push_reserved.ensures.capacity in let p = c.loop.invariant.capacity in omega arith;
@@ -71,3 +73,15 @@ returns-clause-none g c = elim c.loop-test.branch [
   | then-loop-test+else-room-eq0+in-Ok-Pending w ↦ rw w.world-is (none_then c.loop.invariant.none w.receive_next.ensures.none)
   | then-loop-test+else-room-eq0+in-Err-Code+else-is_empty w ↦ rw w.world-is (none_then c.loop.invariant.none w.receive_next.ensures.none)
 ]
+
+pub returns-in_err-datagrams-clause-lost : goal.returns-in_err-datagrams-clause-lost
+returns-in_err-datagrams-clause-lost g c = none_lost _ _ _ _ _ c.from_residual.result
+
+pub returns-in-Err-Memory-clause-lost : goal.returns-in-Err-Memory-clause-lost
+returns-in-Err-Memory-clause-lost g c = taken_lost _ _ _ _ _ _ _ _ _ _ _ _ c.loop.invariant.reached (rw c.in-Err-Memory.field-0-is at c.in-Err-Memory.ensures.asked.err)
+
+pub returns-then-is_empty-clause-parts : goal.returns-then-is_empty-clause-parts
+returns-then-is_empty-clause-parts g c = took_one c.args.ids.now c.loop.ids c.receive_next.new.ids c.args.most c.loop.counter c.loop.invariant.forth c.loop.invariant.part c.loop-test.true (name_kept c.loop.self.receiving c.loop.ids c.receive_next.new.ids c.receive_next.ensures.names) (name_more c.loop.self.receiving c.loop.ids c.receive_next.new.ids c.receive_next.ensures.names)
+
+pub returns-in-Err-Memory-clause-parts : goal.returns-in-Err-Memory-clause-parts
+returns-in-Err-Memory-clause-parts g c = took_one c.args.ids.now c.loop.ids c.receive_next.new.ids c.args.most c.loop.counter c.loop.invariant.forth c.loop.invariant.part c.loop-test.true (name_kept c.loop.self.receiving c.loop.ids c.receive_next.new.ids c.receive_next.ensures.names) (name_more c.loop.self.receiving c.loop.ids c.receive_next.new.ids c.receive_next.ensures.names)

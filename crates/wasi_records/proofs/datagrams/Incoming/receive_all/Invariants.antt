@@ -10,6 +10,7 @@ abbrev pub invariant-loop : goal.invariant-loop
 invariant-loop g l = record {
   reached : Reaches (receive_all l.most 65536 l.fn.ids [] (l.fn.socket, l.fn.self)) (receive_all (l.most - l.counter) l.room l.ids l.datagrams.items (l.socket, l.self)) (g.W.World.seen l.fn.world) (g.W.World.seen l.world);
   line : l.ids.line ≡ l.fn.ids.line;
+  forth : l.fn.ids.next_part ≤ l.ids.next_part;
   part : l.ids.next_part ≤ l.fn.ids.next_part + l.counter;
   count : vec_len l.datagrams ≤ l.counter;
   capacity : l.most ≤ vec_capacity l.datagrams;

@@ -1,7 +1,7 @@
-use Rattle.std.proofs.Common.{Ok, refl, sym, ap, ◌∙◌, arith}
+use Rattle.std.proofs.Common.{Ok, refl, sym, ap, ◌∙◌, arith, length}
 use Rattle.wasi_world.proofs.Walks.{reaches_all}
 use Rattle.wasi_records.specs.Datagrams.{send_all}
-use Rattle.wasi_records.proofs.DatagramLists.{list_goes, list_waits, list_refused, list_ends, one_taken, one_wanted}
+use Rattle.wasi_records.proofs.DatagramLists.{parts_more, list_goes, list_waits, list_refused, list_ends, one_taken, one_wanted}
 use Rattle.wasi_records.proofs.SideCounts.{none_first, none_then}
 use Rattle.wasi_records.proofs.datagrams.Outgoing.send_all.Goals as goal
 
@@ -16,6 +16,8 @@ loop-datagram-init g c =
       names = rw e h;
       fits = rw e (omega arith);
       line = refl;
+      forth = omega arith;
+      few = rw e (omega arith);
       none = none_first _;
       side = refl;
       still = c.requires.open;
@@ -45,6 +47,8 @@ loop-datagram-preserved g c =
       names = rw n (one_taken c.loop-datagram.ids.next_part c.in-Some.datagram c.loop-datagram.datagram-iterator.rest.items c.next.new.self.rest.items e i.names);
       fits = one_taken c.loop-datagram.sent c.in-Some.datagram c.loop-datagram.datagram-iterator.rest.items c.next.new.self.rest.items e i.fits;
       line = c.send_next.ensures.line ∙ i.line;
+      forth = let p = i.forth in let q = c.send_next.ensures.parts.kept in omega arith;
+      few = let p = i.few in let q = c.send_next.ensures.parts.few in let len = ap length e in omega arith;
       none = none_then i.none c.send_next.ensures.none;
       side = c.send_next.ensures.side ∙ i.side;
       still = c.send_next.ensures.asked.ended ∙ i.still;
@@ -55,6 +59,9 @@ returns-in-Ok-Pending-clause-asked g c = list_waits c.loop-datagram.sent c.loop-
 
 pub returns-in-Ok-Pending-clause-line : goal.returns-in-Ok-Pending-clause-line
 returns-in-Ok-Pending-clause-line g c = c.send_next.ensures.line ∙ c.loop-datagram.invariant.line
+
+pub returns-in-Ok-Pending-clause-parts : goal.returns-in-Ok-Pending-clause-parts
+returns-in-Ok-Pending-clause-parts g c = parts_more c.loop-datagram.invariant.forth c.loop-datagram.invariant.few c.send_next.ensures.parts (ap length c.in-Some.ensures.steps.0)
 
 pub returns-in-Ok-Pending-clause-none : goal.returns-in-Ok-Pending-clause-none
 returns-in-Ok-Pending-clause-none g c = none_then c.loop-datagram.invariant.none c.send_next.ensures.none
@@ -68,6 +75,9 @@ returns-in-Err-clause-asked g c = rw c.refusal_told.ensures (list_refused c.loop
 pub returns-in-Err-clause-line : goal.returns-in-Err-clause-line
 returns-in-Err-clause-line g c = c.send_next.ensures.line ∙ c.loop-datagram.invariant.line
 
+pub returns-in-Err-clause-parts : goal.returns-in-Err-clause-parts
+returns-in-Err-clause-parts g c = parts_more c.loop-datagram.invariant.forth c.loop-datagram.invariant.few c.send_next.ensures.parts (ap length c.in-Some.ensures.steps.0)
+
 pub returns-in-Err-clause-none : goal.returns-in-Err-clause-none
 returns-in-Err-clause-none g c = none_then c.loop-datagram.invariant.none c.send_next.ensures.none
 
@@ -79,6 +89,9 @@ returns-clause-asked g c = list_ends c.loop-datagram.sent c.loop-datagram.ids c.
 
 pub returns-clause-line : goal.returns-clause-line
 returns-clause-line g c = c.loop-datagram.invariant.line
+
+pub returns-clause-parts : goal.returns-clause-parts
+returns-clause-parts g c = let p = c.loop-datagram.invariant.few in record { kept = c.loop-datagram.invariant.forth; few = omega arith }
 
 pub returns-clause-none : goal.returns-clause-none
 returns-clause-none g c = c.loop-datagram.invariant.none

@@ -1,4 +1,4 @@
-use Rattle.std.proofs.Common.{◌≡◌, ◌+◌, ◌<◌, false, length}
+use Rattle.std.proofs.Common.{◌≡◌, ◌+◌, ◌<◌, ◌≤◌, false, length}
 use Rattle.wasi_world.specs.Asks.{Reaches}
 use Rattle.wasi_records.specs.Datagrams.{send_all}
 use Rattle.wasi_records.specs.Sides.{MakesNone}
@@ -13,6 +13,8 @@ invariant-loop-datagram g l = record {
   names : l.ids.next_part + length l.datagram-iterator.rest.items < 18446744073709551616;
   fits : l.sent + length l.datagram-iterator.rest.items < 18446744073709551616;
   line : l.ids.line ≡ l.fn.ids.line;
+  forth : l.fn.ids.next_part ≤ l.ids.next_part;
+  few : l.ids.next_part + length l.datagram-iterator.rest.items ≤ l.fn.ids.next_part + length l.fn.datagrams.items;
   none : MakesNone (g.W.World.seen l.fn.world) (g.W.World.seen l.world);
   side : l.socket.side ≡ l.fn.socket.side;
   still : (g.W.World.seen l.world).ended ≡ false;

@@ -16,3 +16,7 @@ pub returns-clause-none : goal.returns-clause-none
 returns-clause-none g c =
     none_then (none_calm (calm_send_begins c.args.op c.args.socket.now c.args.datagram.bytes c.args.datagram.remote_address) _ c.in_ok-send.ensures.asked)
     (send_makes_none c.send.new.self c.in_ok-send.send c.poll-polled.new.self c.poll-polled.result c.poll-polled.ensures.before (c.poll-polled.ensures.polled c.in_ok-send.ensures.going))
+
+pub returns-in_err-send-clause-none : goal.returns-in_err-send-clause-none
+returns-in_err-send-clause-none g c =
+    none_calm (calm_send_begins c.args.op c.args.socket.now c.args.datagram.bytes c.args.datagram.remote_address) _ c.send.ensures.asked

@@ -1,9 +1,9 @@
-use Rattle.std.proofs.Common.{ap, refl}
+use Rattle.std.proofs.Common.{ap}
 use Rattle.wasi_world.proofs.Walks.{asks_exit, asks_end}
 use Rattle.wasi_tcp.specs.Shape.{Socket}
 use Rattle.wasi_records.specs.declared.socket.TcpRecord.{TcpRecord}
 use Rattle.wasi_records.proofs.Looks.{on_err}
-use Rattle.wasi_records.proofs.Releases.{gone_as}
+use Rattle.wasi_records.proofs.Releases.{gone_as, none_held}
 use Rattle.wasi_records.proofs.socket.TcpRecord.close.Goals as goal
 
 pub returns-in_err-close-clause-asked : goal.returns-in_err-close-clause-asked
@@ -16,4 +16,4 @@ pub returns-clause-asked : goal.returns-clause-asked
 returns-clause-asked g c = asks_end _ c.in_ok-close.ensures.asked.ok (gone_as c.args.self.now _ c.requires.not)
 
 pub returns-clause-none : goal.returns-clause-none
-returns-clause-none g c = rw (c.in_ok-close.ensures.gone, c.requires.not) refl
+returns-clause-none g c = none_held _ _ c.in_ok-close.ensures.gone c.requires.not

@@ -10,7 +10,7 @@ returns-in-Creating-clause-asked g c =
 
 pub returns-in-Creating-clause-held : goal.returns-in-Creating-clause-held
 returns-in-Creating-clause-held g c =
-    rw (c.settle_create.ensures.settled, ← c.replace.ensures.value, c.in-Creating.is)
+    rw (c.settle_create.ensures.settled, ← c.replace.ensures.value, c.in-Creating.is, ← c.into_inner-create.ensures.create)
     (create_holds c.into_inner-create.result c.poll-polled.new.self c.poll-polled.result c.poll-polled.ensures.before c.poll-polled.ensures.after c.into_inner-create.ensures.going c.poll-polled.ensures.going c.poll-polled.ensures.asked c.poll-polled.ensures.err)
 
 pub returns-in-Creating-clause-left : goal.returns-in-Creating-clause-left
