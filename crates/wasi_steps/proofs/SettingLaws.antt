@@ -1,8 +1,10 @@
 -- Each option and each setting is read from exactly its fields.
-use Rattle.std.proofs.Common.{◌≡◌, ℕ, zero, suc, ◌≤◌, ◌==◌, Bool, true, false, List, [], ◌∷◌, codes, decimal, refl, ap, arith}
+use Rattle.std.proofs.Common.{◌≡◌, ℕ, zero, suc, ◌≤◌, ◌==◌, Bool, true, false, List, [], ◌∷◌, codes, decimal, refl, ap, subst, arith}
 use Rattle.std.specs.Int.{from_bool}
 use Rattle.wasi_world.specs.declared.call.Opt.{Opt}
 use Rattle.wasi_world.specs.declared.call.Opt.TheVariants as opt
+use Rattle.socket_common.specs.declared.setting.Setting.TheVariants as set
+use Rattle.socket_common.specs.Options.{number_of}
 use Rattle.world_text.specs.Fields.{◌>>=◌, give, after_word, number_at}
 use Rattle.world_text.specs.Written.{ReadsExactly, AreVisible, number_fields}
 use Rattle.world_text.proofs.ReadBack.{u32_exactly, word_exactly}
@@ -60,7 +62,8 @@ bit_is zero fits = refl
 bit_is (suc zero) fits = refl
 bit_is (suc (suc n)) fits = absurd (omega arith)
 
-bit_all : (b : Bool) → All (number_at 1 >>= λ n. give (setting.KeepAliveEnabled (n == 1))) (setting.KeepAliveEnabled b) (decimal (from_bool b) ∷ [])
+bit_all : (b : Bool) → All (number_at 1 >>= λ n. give (setting.Option (set.KeepAliveEnabled (n == 1)))) (setting.Option (set.KeepAliveEnabled b))
+    (decimal (from_bool b) ∷ [])
 bit_all true = all_last _ bit_exactly (omega arith) all_give
 bit_all false = all_last _ bit_exactly (omega arith) all_give
 
@@ -69,13 +72,14 @@ ReadsSetting word taken s = FitsSetting s × (word ∷ taken ≡ setting_fields 
 
 settings_only : (word : List ℕ) → Only (after_word setting_words word) (ReadsSetting word)
 settings_only word = only_word ReadsSetting setting_words word
-    (only_last (λ n. setting.KeepAliveEnabled (n == 1)) bit_exactly (λ n fits. (tt, ap (λ m. codes "keep-alive-enabled" ∷ decimal m ∷ []) (bit_is n fits)))
-    and only_last setting.KeepAliveCount u32_exactly (λ n fits. (fits, refl))
-    and only_last setting.HopLimit byte_exactly (λ n fits. (fits, refl))
-    and only_last setting.KeepAliveIdleTime u64_exactly (λ n fits. (fits, refl))
-    and only_last setting.KeepAliveInterval u64_exactly (λ n fits. (fits, refl))
-    and only_last setting.ReceiveBufferSize u64_exactly (λ n fits. (fits, refl))
-    and only_last setting.SendBufferSize u64_exactly (λ n fits. (fits, refl))
+    (only_last (λ n. setting.Option (set.KeepAliveEnabled (n == 1))) bit_exactly
+    (λ n fits. (subst (λ m. m ≤ 1) (bit_is n fits) fits, ap (λ m. codes "keep-alive-enabled" ∷ decimal m ∷ []) (bit_is n fits)))
+    and only_last (λ n. setting.Option (set.KeepAliveCount n)) u32_exactly (λ n fits. (fits, refl))
+    and only_last (λ n. setting.Option (set.HopLimit n)) byte_exactly (λ n fits. (fits, refl))
+    and only_last (λ n. setting.Option (set.KeepAliveIdleTime n)) u64_exactly (λ n fits. (fits, refl))
+    and only_last (λ n. setting.Option (set.KeepAliveInterval n)) u64_exactly (λ n fits. (fits, refl))
+    and only_last (λ n. setting.Option (set.ReceiveBufferSize n)) u64_exactly (λ n fits. (fits, refl))
+    and only_last (λ n. setting.Option (set.SendBufferSize n)) u64_exactly (λ n fits. (fits, refl))
     and only_last setting.ListenBacklogSize u64_exactly (λ n fits. (fits, refl))
     and tt)
 
@@ -85,10 +89,11 @@ unfolding setting_at
 setting_by word visible value = all_then _ word_exactly (visible_utf8 word visible.0) value
 
 setting_all : (s : TcpSetting) → FitsSetting s → All setting_at s (setting_fields s)
-setting_all (setting.KeepAliveEnabled b) fits = setting_by _ (refl and tt) (bit_all b)
-setting_all (setting.KeepAliveCount n) fits = setting_by _ (refl and tt) (all_last _ u32_exactly fits all_give)
-setting_all (setting.HopLimit n) fits = setting_by _ (refl and tt) (all_last _ byte_exactly fits all_give)
-setting_all _ fits = setting_by _ (refl and tt) (all_last _ u64_exactly fits all_give)
+setting_all (setting.Option (set.KeepAliveEnabled b)) fits = setting_by _ (refl and tt) (bit_all b)
+setting_all (setting.Option (set.KeepAliveCount n)) fits = setting_by _ (refl and tt) (all_last _ u32_exactly fits all_give)
+setting_all (setting.Option (set.HopLimit n)) fits = setting_by _ (refl and tt) (all_last _ byte_exactly fits all_give)
+setting_all (setting.Option _) fits = setting_by _ (refl and tt) (all_last _ u64_exactly fits all_give)
+setting_all (setting.ListenBacklogSize n) fits = setting_by _ (refl and tt) (all_last _ u64_exactly fits all_give)
 
 pub setting_exactly : ReadsExactly setting_at setting_fields FitsSetting
 unfolding setting_at
@@ -103,8 +108,11 @@ value_visible : (n : ℕ) → n ≤ 18446744073709551615 → AreVisible (decimal
 value_visible n fits = number_visible n (omega arith) and tt
 
 pub setting_visible : (s : TcpSetting) → FitsSetting s → AreVisible (setting_fields s)
-setting_visible (setting.KeepAliveEnabled b) fits = refl and bit_visible b
-setting_visible _ fits = refl and value_visible _ (omega arith)
+setting_visible (setting.Option (set.KeepAliveEnabled b)) fits = refl and bit_visible b
+setting_visible (setting.Option (set.KeepAliveCount n)) fits = refl and value_visible n (omega arith)
+setting_visible (setting.Option (set.HopLimit n)) fits = refl and value_visible n (omega arith)
+setting_visible (setting.Option _) fits = refl and value_visible _ fits
+setting_visible (setting.ListenBacklogSize n) fits = refl and value_visible n fits
 
 -- == options and settings of a UDP socket
 pub udp_option_visible : (option : UdpOption) → AreVisible (udp_option_word option ∷ [])

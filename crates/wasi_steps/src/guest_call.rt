@@ -265,6 +265,11 @@ pub enum GuestCall {
     P3TcpCreate {
         family: SocketAddressFamily,
     },
+    /// Binds the 0.3 socket to an address (`bind`).
+    P3TcpBind {
+        socket: Handle,
+        addr: IpSocketAddress,
+    },
     /// The address that the 0.3 socket is bound to (`get-local-address`).
     P3TcpLocalAddress {
         socket: Handle,
@@ -295,6 +300,11 @@ pub enum GuestCall {
     /// Makes a UDP socket of the 0.3 interface, of this family (`create`).
     P3UdpCreate {
         family: SocketAddressFamily,
+    },
+    /// Binds the 0.3 UDP socket to an address (`bind`).
+    P3UdpBind {
+        socket: Handle,
+        addr: IpSocketAddress,
     },
     /// Takes the 0.3 UDP socket's remote address away (`disconnect`).
     P3UdpDisconnect {

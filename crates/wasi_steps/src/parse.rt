@@ -23,6 +23,7 @@ use crate::memory::{
 use crate::setting::{TcpSetting, UdpOption, UdpSetting};
 use crate::step::Step;
 use crate::stream::stream_arguments;
+use socket_common::Setting;
 use std::alloc::{AllocError, Global};
 use wasi_addr::ShutdownType;
 use wasi_world::Opt;
@@ -64,15 +65,16 @@ fn option(fields: &mut Fields<'_>) -> Option<Opt>
 fn wide_setting(word: &str, value: u64) -> Option<TcpSetting>
     ensures { ReadsNumber 18446744073709551615 wide_words word.now value result }
 {
-    use TcpSetting::*;
-    match word {
-        "keep-alive-idle-time" => Some(KeepAliveIdleTime(value)),
-        "keep-alive-interval" => Some(KeepAliveInterval(value)),
-        "receive-buffer-size" => Some(ReceiveBufferSize(value)),
-        "send-buffer-size" => Some(SendBufferSize(value)),
-        "listen-backlog-size" => Some(ListenBacklogSize(value)),
-        _ => None,
-    }
+    use Setting::*;
+    let setting = match word {
+        "keep-alive-idle-time" => KeepAliveIdleTime(value),
+        "keep-alive-interval" => KeepAliveInterval(value),
+        "receive-buffer-size" => ReceiveBufferSize(value),
+        "send-buffer-size" => SendBufferSize(value),
+        "listen-backlog-size" => return Some(TcpSetting::ListenBacklogSize(value)),
+        _ => return None,
+    };
+    Some(TcpSetting::Option(setting))
 }
 
 /// Takes the value of what this word says is set.
@@ -80,11 +82,11 @@ fn wide_setting(word: &str, value: u64) -> Option<TcpSetting>
 fn setting_of(fields: &mut Fields<'_>, word: &str) -> Option<TcpSetting>
     ensures { Reads (after_word setting_words word.now) fields.old result fields.new }
 {
-    use TcpSetting::*;
+    use Setting::*;
     match word {
-        "keep-alive-enabled" => Some(KeepAliveEnabled(fields.number(1)? == 1)),
-        "keep-alive-count" => Some(KeepAliveCount(fields.u32()?)),
-        "hop-limit" => Some(HopLimit(fields.number(255)? as u8)),
+        "keep-alive-enabled" => Some(TcpSetting::Option(KeepAliveEnabled(fields.number(1)? == 1))),
+        "keep-alive-count" => Some(TcpSetting::Option(KeepAliveCount(fields.u32()?))),
+        "hop-limit" => Some(TcpSetting::Option(HopLimit(fields.number(255)? as u8))),
         _ => wide_setting(word, fields.number(u64::MAX)?),
     }
 }
@@ -133,6 +135,10 @@ fn p3_arguments(fields: &mut Fields<'_>, word: &str, handle: u32) -> Option<Gues
         ++ output_value_calls ++ handle_calls)) word.now handle fields.old result fields.new }
 {
     match word {
+        "p3-tcp-bind" => Some(GuestCall::P3TcpBind {
+            socket: handle,
+            addr: fields.socket_address()?,
+        }),
         "p3-tcp-get" => Some(GuestCall::P3TcpGet {
             socket: handle,
             option: option(fields)?,
@@ -140,6 +146,10 @@ fn p3_arguments(fields: &mut Fields<'_>, word: &str, handle: u32) -> Option<Gues
         "p3-tcp-set" => Some(GuestCall::P3TcpSet {
             socket: handle,
             setting: setting(fields)?,
+        }),
+        "p3-udp-bind" => Some(GuestCall::P3UdpBind {
+            socket: handle,
+            addr: fields.socket_address()?,
         }),
         "p3-udp-get" => Some(GuestCall::P3UdpGet {
             socket: handle,

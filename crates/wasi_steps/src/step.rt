@@ -101,6 +101,7 @@ pub const STEP_FORMS: &str = "    0 network                               makes 
     0 ready P                               whether what it watches is ready: ok true or ok false
     0 drop H                                drops a handle
     0 p3-tcp-create F                       makes a TCP socket of 0.3; F is 4 or 6
+    0 p3-tcp-bind S 4 a b c d port          binds it
     0 p3-tcp-local-address S                its address
     0 p3-tcp-remote-address S               the address of its other end
     0 p3-tcp-is-listening S                 whether it listens: ok true or ok false
@@ -108,6 +109,7 @@ pub const STEP_FORMS: &str = "    0 network                               makes 
     0 p3-tcp-get S OPTION                   the value of an option: ok V
     0 p3-tcp-set S OPTION V                 sets an option
     0 p3-udp-create F                       makes a UDP socket of 0.3; F is 4 or 6
+    0 p3-udp-bind S 4 a b c d port          binds it
     0 p3-udp-disconnect S                   takes its remote address away
     0 p3-udp-local-address S                its address
     0 p3-udp-remote-address S               the address that it is connected to

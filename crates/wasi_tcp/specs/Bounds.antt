@@ -1,5 +1,5 @@
 -- How many asks one poll of a write makes at most.
-use Rattle.std.specs.Prelude.{◌≡◌, ℕ, ◌+◌, Bool, List, length}
+use Rattle.std.specs.Prelude.{◌≡◌, ℕ, ◌+◌, Bool, List, length, Option, Some, None}
 use Rattle.wasi_world.specs.declared.ids.OpId.{OpId}
 use Rattle.wasi_world.specs.Operation.{End, Waits, Done, Refused}
 use Rattle.wasi_tcp.specs.declared.job.WriteStage.{WriteStage}
@@ -39,3 +39,15 @@ most_turned (state.Ready half permit) = 0
 most_turned (state.Writing job) = most_polled job
 most_turned (state.Closing job) = most_polled job
 most_turned (state.Closed e) = 0
+
+-- what is not taken yet of a write that is in progress
+abbrev pub rest_until : Job → End → Option (List ℕ)
+rest_until job Waits = Some (bytes_left job.write.left)
+rest_until job (Done given) = None
+rest_until job (Refused c given) = None
+
+abbrev pub rest_of : WriteState → Option (List ℕ)
+rest_of (state.Ready half permit) = None
+rest_of (state.Writing job) = rest_until job job.end
+rest_of (state.Closing job) = rest_until job job.end
+rest_of (state.Closed e) = None

@@ -1,11 +1,12 @@
 //! A background write.
 
 ghost use Rattle.std.specs.Prelude.{◌≡◌, ◌≤◌, ◌<◌, ◌^◌, ℕ, Bool, List, false, length, drop, OnErr};
+ghost use Rattle.std.specs.Prelude.{option_map};
 ghost use Rattle.wasi_world.specs.Asks.{AsksFor, Reaches};
 ghost use Rattle.wasi_world.specs.Operation.{PollsFor, Nothing, Waits, write_front};
 ghost use Rattle.wasi_tcp.specs.Job.{writer, write_operation, new_job, rest_front, write_end};
 ghost use Rattle.wasi_tcp.specs.Job.{end_after, job_asks, told_end, closing_job, finish_asks};
-ghost use Rattle.wasi_tcp.specs.Bounds.{IsWrite};
+ghost use Rattle.wasi_tcp.specs.Bounds.{IsWrite, rest_until};
 
 use crate::halves::answered;
 use std::alloc::AllocError;
@@ -83,6 +84,17 @@ impl WriteJob {
             WriteStage::Write | WriteStage::Close | WriteStage::Refused(_) => None,
             WriteStage::Written => Some(Ok(())),
             WriteStage::Failed(code) => Some(Err(code)),
+        }
+    }
+
+    /// What is not taken yet, none where it ended. Takes no memory.
+    pub fn rest(&self) -> Option<&[u8]>
+        ensures { option_map (λ rest. rest.now) result ≡ rest_until self.now self.now.end }
+    {
+        match self.stage {
+            WriteStage::Write => Some(&self.bytes.as_slice()[self.place..]),
+            WriteStage::Close | WriteStage::Refused(_) => Some(&[]),
+            WriteStage::Written | WriteStage::Failed(_) => None,
         }
     }
 

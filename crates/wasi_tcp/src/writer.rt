@@ -1,13 +1,13 @@
 //! The writing end of a connection as a stream.
 
-ghost use Rattle.std.specs.Prelude.{◌≡◌, true, false, Ok, Err, OnErr};
+ghost use Rattle.std.specs.Prelude.{◌≡◌, true, false, Ok, Err, OnErr, option_map};
 ghost use Rattle.wasi_world.specs.Asks.{AsksFor, Reaches};
 ghost use Rattle.wasi_streams.specs.StreamStop.{stream_outcome};
 ghost use Rattle.wasi_tcp.specs.Writer.{error_of_code, stop_of, collected, look_in, look_asks};
 ghost use Rattle.wasi_tcp.specs.Writer.{with_permit, check_write_asks, turn_asks, write_on_asks};
 ghost use Rattle.wasi_tcp.specs.Writer.{write_state_asks, flush_of, writer_side, is_ready};
 ghost use Rattle.wasi_tcp.specs.Writer.{now_closing, writer_shutdown_asks, writer_give_up_asks};
-ghost use Rattle.wasi_tcp.specs.Bounds.{HoldsWrite};
+ghost use Rattle.wasi_tcp.specs.Bounds.{HoldsWrite, rest_of};
 
 use crate::halves::TcpSendStream;
 use crate::job::WriteJob;
@@ -90,6 +90,17 @@ impl WriteState {
                 Some(_) => None,
             },
             WriteState::Closed(_) => None,
+        }
+    }
+
+    /// What is not taken yet of a write that is in progress. Its bytes aren't copied, however often
+    /// the network takes a part. Takes no memory.
+    pub fn rest(&self) -> Option<&[u8]>
+        ensures { option_map (λ rest. rest.now) result ≡ rest_of self.now }
+    {
+        match self {
+            WriteState::Writing(job) | WriteState::Closing(job) => job.rest(),
+            WriteState::Ready { .. } | WriteState::Closed(_) => None,
         }
     }
 
