@@ -12,7 +12,7 @@ use Rattle.wasi_records.specs.declared.records.Record.{Record}
 use Rattle.wasi_records.specs.declared.socket.TcpRecord.{TcpRecord}
 use Rattle.wasi_records.specs.Listening.{IsAccepted, Connects, Fails, with_accepted_in, accepted_record, ids_of}
 use Rattle.wasi_host.specs.TcpCalls.{accept_ids_at}
-use Rattle.wasi_records.specs.Sides.{one_if_some, held_in, Balances}
+use Rattle.wasi_records.specs.Sides.{Weight, Tally, tally, held_in, Balances}
 use Rattle.wasi_host.specs.KnownSides.{KnowsSides}
 use Rattle.wasi_host.specs.Store.{Records}
 use Rattle.wasi_records.proofs.SideCounts.{held_in-append}
@@ -21,26 +21,27 @@ use Rattle.wasi_records.proofs.ConnectCounts.{held_in-swap}
 use Rattle.wasi_records.proofs.Lookups.{found_at, none_at}
 
 -- the network socket of what was accepted is held by its record; what is closed has none, and is not kept
-held_accepted : (records : List Record) (socket : Socket) → IsAccepted socket → held_in (with_accepted_in records socket).1 ≡ held_in records + one_if_some (side_of socket)
-held_accepted records _ (Connects family maker new peer) = held_in-append records (accepted_record (accepted_socket family maker (accepted_state new peer))).1
-held_accepted records _ (Fails family maker c) = omega arith
+held_accepted : (w : Weight) (records : List Record) (socket : Socket) → IsAccepted socket → held_in (with_accepted_in records socket).1 w ≡ held_in records w + tally (side_of socket) w
+held_accepted w records _ (Connects family maker new peer) = let more = held_in-append w records (accepted_record (accepted_socket family maker (accepted_state new peer))).1 in omega arith
+held_accepted w records _ (Fails family maker c) = omega arith
 
--- a record gave away so many network sockets, and the records hold them now
-knows_given : {s t : Seen} (store : Records) (place : ℕ) (old now : TcpRecord) (given : ℕ) (records : List Record) → tcp2_at store.records place ≡ Some old → Balances s t given old now
-    → held_in records ≡ held_in (tcp2_put store.records place now) + given → KnowsSides s store → KnowsSides t (record store { records = records })
+-- a record gave away such network sockets, and the records hold them now
+knows_given : {s t : Seen} (store : Records) (place : ℕ) (old now : TcpRecord) (given : Tally) (records : List Record) → tcp2_at store.records place ≡ Some old → Balances s t given old now
+    → ((w : Weight) → held_in records w ≡ held_in (tcp2_put store.records place now) w + given w) → KnowsSides s store → KnowsSides t (record store { records = records })
 knows_given store place old now given records g c e k =
-    let p = held_in-swap store.records place old now g in
-    let b = c.balance in
-    knows_then c.entries store (record store { records = records }) c.passed (omega arith) k
+    knows_then c.entries store (record store { records = records }) c.passed (λ w. let p = held_in-swap w store.records place old now g in let b = c.balance w in let h = e w in omega arith) k
 
 -- also where the records are in a list that was made larger
 pub knows_accepted : {s t : Seen} (store : Records) (place : ℕ) (old now : TcpRecord) (socket : Socket) (roomy records : List Record) → roomy ≡ store.records → records ≡ (with_accepted_in (tcp2_put roomy place now) socket).1
-    → tcp2_at store.records place ≡ Some old → IsAccepted socket → Balances s t (one_if_some (side_of socket)) old now → KnowsSides s store → KnowsSides t (record store { records = records })
+    → tcp2_at store.records place ≡ Some old → IsAccepted socket → Balances s t (tally (side_of socket)) old now → KnowsSides s store → KnowsSides t (record store { records = records })
 knows_accepted store place old now socket roomy records e f g a c k =
-    let same : held_in (tcp2_put roomy place now) ≡ held_in (tcp2_put store.records place now) = ap (λ (l : List Record). held_in (tcp2_put l place now)) e in
-    let held = held_accepted (tcp2_put roomy place now) socket a in
-    let put : held_in records ≡ held_in (with_accepted_in (tcp2_put roomy place now) socket).1 = ap held_in f in
-    knows_given store place old now (one_if_some (side_of socket)) records g c (put ∙ (held ∙ ap (λ (n : ℕ). n + one_if_some (side_of socket)) same)) k
+    knows_given store place old now (tally (side_of socket)) records g c held k
+  where
+    held : (w : Weight) → held_in records w ≡ held_in (tcp2_put store.records place now) w + tally (side_of socket) w
+    held w =
+        let same : held_in (tcp2_put roomy place now) w ≡ held_in (tcp2_put store.records place now) w = ap (λ (l : List Record). held_in (tcp2_put l place now) w) e in
+        let all = held_accepted w (tcp2_put roomy place now) socket a in
+        let put : held_in records w ≡ held_in (with_accepted_in (tcp2_put roomy place now) socket).1 w = ap (λ rs. held_in rs w) f in omega arith
 
 -- what is in it
 pub found_still : (roomy records : List Record) (i : ℕ) (x : MutBor TcpRecord) → roomy ≡ records → Some x.now ≡ tcp2_at roomy i → tcp2_at records i ≡ Some x.now

@@ -17,8 +17,13 @@ use Rattle.wasi_streams.specs.HostError.{of_fault}
 use Rattle.wasi_records.specs.Stops.{Stop, StopOf, Code, Trap, fault_outcome}
 use Rattle.wasi_host.specs.declared.kind.Interface.{Interface}
 use Rattle.wasi_host.specs.declared.machine.Machine.{Machine}
-use Rattle.wasi_host.specs.BaseStops.{BaseStop, base_outcome, ends_as, named_as, trap_of}
-use Rattle.wasi_host.specs.Pending.{created_on, created_told}
+use Rattle.wasi_host.specs.BaseStops.{BaseStop, base_outcome, ends_as, named_as, renamed, trap_of}
+use Rattle.wasi_host.specs.declared.pending.Outcome.{Outcome}
+use Rattle.wasi_host.specs.Block.{after_call, give}
+use Rattle.wasi_host.specs.Lines.{storing}
+use Rattle.wasi_host.specs.Machine.{with_store}
+use Rattle.wasi_host.specs.Pending.{answered_on, answered_told}
+use Rattle.wasi_host.specs.Store.{Records}
 use Rattle.wasi_host.specs.UdpCreates.{created_by}
 
 -- out of memory before the first ask
@@ -85,7 +90,20 @@ created_named name (Ok told) k = asks_end _ k.ok refl
 created_named name (Err e) k = asks_err (bind k.err.rest (λ done. Give (created_by name done))) (reaches_in (λ done. Give (created_by name done)) k.err.reached)
 
 -- as what a pending call gives
-pub created_goes : (face : Interface) {asks : Asks (Result (Answer ℕ) BaseStop × Machine)} {s t : Seen} {n : Machine} (told : Result (Result (Answer ℕ) BaseStop) AllocError) → AsksFor asks s t (λ (answer : Result (Answer ℕ) BaseStop). (answer, n)) told
-    → AsksFor (bind asks (λ done. Give (created_on face done))) s t (λ answer. (answer, n)) (created_told face told)
-created_goes face (Ok told) k = asks_end _ k.ok refl
-created_goes face (Err e) k = asks_err (bind k.err.rest (λ done. Give (created_on face done))) (reaches_in (λ done. Give (created_on face done)) k.err.reached)
+pub answered_goes : {A : Type 0} (gives : Answer A → Answer Outcome) (face : Interface) {asks : Asks (Result (Answer A) BaseStop × Machine)} {s t : Seen} {n : Machine} (told : Result (Result (Answer A) BaseStop) AllocError) → AsksFor asks s t (λ (answer : Result (Answer A) BaseStop). (answer, n)) told
+    → AsksFor (bind asks (λ done. Give (answered_on gives face done))) s t (λ answer. (answer, n)) (answered_told gives face told)
+answered_goes gives face (Ok told) k = asks_end _ k.ok refl
+answered_goes gives face (Err e) k = asks_err (bind k.err.rest (λ done. Give (answered_on gives face done))) (reaches_in (λ done. Give (answered_on gives face done)) k.err.reached)
+
+-- the same of a call on the records
+pub stored_goes : {A : Type 0} (gives : Answer A → Answer Outcome) (face : Interface) (m : Machine) {asks : Asks (Result (Answer A) BaseStop × Records)} {s t : Seen} {now : Records} (told : Result (Result (Answer A) BaseStop) AllocError) → AsksFor asks s t (λ (answer : Result (Answer A) BaseStop). (answer, now)) told
+    → AsksFor (bind asks (λ done. Give (answered_on gives face (with_store m done)))) s t (λ answer. (answer, storing m now)) (answered_told gives face told)
+stored_goes gives face m (Ok told) k = asks_end _ k.ok refl
+stored_goes gives face m (Err e) k = asks_err (bind k.err.rest (λ done. Give (answered_on gives face (with_store m done)))) (reaches_in (λ done. Give (answered_on gives face (with_store m done))) k.err.reached)
+
+-- a call on the records, as one on the machine with other names for its codes
+pub stored_named : {C A : Type 0} (name : ErrorCode → C) (m : Machine) {asks : Asks (Result A BaseStop × Records)} {s t : Seen} {now : Records} (told : Result (Result A BaseStop) AllocError) → AsksFor asks s t (λ (answer : Result A BaseStop). (answer, now)) told
+    → AsksFor (bind asks (after_call (renamed name) storing give m)) s t (λ (answer : Result A (StopOf C)). (answer, storing m now)) (named_as name told)
+stored_named name m (Ok (Ok value)) k = asks_end _ k.ok refl
+stored_named name m (Ok (Err stop)) k = asks_end _ k.ok refl
+stored_named name m (Err e) k = asks_err (bind k.err.rest (after_call (renamed name) storing give m)) (reaches_in (after_call (renamed name) storing give m) k.err.reached)

@@ -9,7 +9,7 @@ use Rattle.wasi_records.specs.declared.tcp_listening.Listening.TheVariants.{Not}
 use Rattle.wasi_records.specs.declared.socket.TcpRecord.{TcpRecord}
 use Rattle.wasi_host.specs.Cancel.{listen_gone}
 use Rattle.wasi_records.specs.Listening.{give_up_asks, side_in, unclosed, with_listening}
-use Rattle.wasi_records.specs.Sides.{Balances}
+use Rattle.wasi_records.specs.Sides.{Balances, no_socket}
 use Rattle.wasi_host.specs.Store.{Records, with_socket}
 use Rattle.wasi_records.proofs.Releases.{given_up_closes, unclosed_holds}
 
@@ -20,6 +20,6 @@ listen_cancelled store place r now (Ok done) h e = asks_end _ h.ok (ap (λ (n : 
 listen_cancelled store place r now (Err d) h e = asks_exit (λ d. Unit {0}) _ tt h.err
 
 pub listen_balances : (r now : TcpRecord) {s t : Seen} (result : Result (Unit {0}) AllocError) → AsksFor (give_up_asks r.listening) s t (λ done. done) result → IfOk result (λ done. now ≡ with_listening r Not)
-    → OnErr result (now ≡ with_listening r (unclosed (side_in r.listening))) → OnErr result (t ≡ s) → Balances s t 0 r now
+    → OnErr result (now ≡ with_listening r (unclosed (side_in r.listening))) → OnErr result (t ≡ s) → Balances s t no_socket r now
 listen_balances r now (Ok done) h e f u = rw e (given_up_closes r h.ok)
 listen_balances r now {s} (Err d) h e f u = rw (f, u) (unclosed_holds r s)

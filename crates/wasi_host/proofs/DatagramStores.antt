@@ -28,20 +28,20 @@ use Rattle.wasi_records.proofs.UdpLookups.{open_found, open_back, held_in-open}
 
 -- == the network sockets
 -- a call on the socket made none and closed none
-pub knows_open : {s t : Seen} (store : Records) (place : ℕ) (x : MutBor OpenUdp) (now : OpenUdp) → Some x.now ≡ open_at store.records place → MakesNone s t → KnowsSides s store → KnowsSides t (with_open_udp store place now)
-knows_open store place x now e n k = knows_none store (with_open_udp store place now) n (held_in-open store.records place x.now now (open_found store.records place x e)) k
+pub knows_open : {s t : Seen} (store : Records) (place : ℕ) (x : MutBor OpenUdp) (now : OpenUdp) → Some x.now ≡ open_at store.records place → now.inner.side ≡ x.now.inner.side → MakesNone s t → KnowsSides s store → KnowsSides t (with_open_udp store place now)
+knows_open store place x now e same n k = knows_none store (with_open_udp store place now) n (held_in-open store.records place x.now now (open_found store.records place x e) same) k
 
 -- and it is pending, or done
-pub knows_open-stood : {s t : Seen} (store after : Records) (place : ℕ) (x : MutBor OpenUdp) (now : OpenUdp) (ids : Ids) (call : StandingCall) (answer told : Answer (Unit {0})) → (told, after) ≡ stood (with_open_udp store place now) ids call answer → Some x.now ≡ open_at store.records place → MakesNone s t → KnowsSides s store → KnowsSides t after
-knows_open-stood store after place x now ids call answer told h e n k = knows_stood (with_open_udp store place now) after ids call answer told h (knows_open store place x now e n k)
+pub knows_open-stood : {s t : Seen} (store after : Records) (place : ℕ) (x : MutBor OpenUdp) (now : OpenUdp) (ids : Ids) (call : StandingCall) (answer told : Answer (Unit {0})) → (told, after) ≡ stood (with_open_udp store place now) ids call answer → Some x.now ≡ open_at store.records place → now.inner.side ≡ x.now.inner.side → MakesNone s t → KnowsSides s store → KnowsSides t after
+knows_open-stood store after place x now ids call answer told h e same n k = knows_stood (with_open_udp store place now) after ids call answer told h (knows_open store place x now e same n k)
 
 -- a socket that was looked up and given back as it was
 pub knows_back : {s : Seen} (store : Records) (place : ℕ) (x : MutBor OpenUdp) → Some x.now ≡ open_at store.records place → KnowsSides s store → KnowsSides s (with_open_udp store place x.now)
 knows_back store place x e k = knows_same store (with_open_udp store place x.now) (ap held_in (open_back store.records place x e)) k
 
 -- or changed, while nothing was asked
-pub knows_put : {s : Seen} (store : Records) (place : ℕ) (x : MutBor OpenUdp) (now : OpenUdp) → Some x.now ≡ open_at store.records place → KnowsSides s store → KnowsSides s (with_open_udp store place now)
-knows_put store place x now e k = knows_same store (with_open_udp store place now) (held_in-open store.records place x.now now (open_found store.records place x e)) k
+pub knows_put : {s : Seen} (store : Records) (place : ℕ) (x : MutBor OpenUdp) (now : OpenUdp) → Some x.now ≡ open_at store.records place → now.inner.side ≡ x.now.inner.side → KnowsSides s store → KnowsSides s (with_open_udp store place now)
+knows_put store place x now e same k = knows_same store (with_open_udp store place now) (held_in-open store.records place x.now now (open_found store.records place x e) same) k
 
 -- == the store
 pub given_back : (store : Records) (place : ℕ) (x : MutBor OpenUdp) → Some x.now ≡ open_at store.records place → with_open_udp store place x.now ≡ store

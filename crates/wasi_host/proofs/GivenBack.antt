@@ -11,22 +11,26 @@ use Rattle.wasi_records.specs.declared.udp.UdpRecord.TheVariants.{Creating, Open
 use Rattle.wasi_records.specs.Numbered.{record_gone, item_at}
 use Rattle.wasi_host.specs.GivingBack.{given_back}
 use Rattle.wasi_records.specs.Records.{udp2_at, udp2_put}
-use Rattle.wasi_records.specs.Sides.{held_by, held_in, HoldsFewer}
+use Rattle.wasi_records.specs.Sides.{Weight, Tally, no_socket, one_socket, held_by, held_in, HoldsFewer}
 use Rattle.wasi_host.specs.KnownSides.{KnowsSides}
 use Rattle.wasi_host.specs.Store.{Records}
 use Rattle.wasi_host.specs.UdpCalls.{with_udp, udp_left}
 use Rattle.wasi_records.specs.Udp.{udp_holds, udp_side}
 use Rattle.wasi_host.proofs.KnownSides.{knows_then}
+use Rattle.wasi_records.proofs.SideCounts.{same_tally}
 use Rattle.wasi_records.proofs.UdpLookups.{held_in-udp_swap, udp_put_same}
 
 -- what is left of a record that goes holds none
-pub held_gone : (rs : List Record) (i : ℕ) → held_in (record_gone rs i) + held_by (item_at rs i) ≡ held_in rs
-held_gone [] i = refl
-held_gone (x ∷ rs) zero = omega arith
-held_gone (x ∷ rs) (suc i) = let later = held_gone rs i in omega arith
+held_gone : (w : Weight) (rs : List Record) (i : ℕ) → held_in (record_gone rs i) w + held_by (item_at rs i) w ≡ held_in rs w
+held_gone w [] i = refl
+held_gone w (x ∷ rs) zero = omega arith
+held_gone w (x ∷ rs) (suc i) = let later = held_gone w rs i in omega arith
 
-pub held_still : (rs : List Record) (i : ℕ) → held_by (item_at rs i) ≡ 0 → held_in (record_gone rs i) ≡ held_in rs
-held_still rs i none = let all = held_gone rs i in omega arith
+still_in : (w : Weight) (rs : List Record) (i : ℕ) → held_by (item_at rs i) w ≡ 0 → held_in (record_gone rs i) w ≡ held_in rs w
+still_in w rs i none = let all = held_gone w rs i in omega arith
+
+pub held_still : (rs : List Record) (i : ℕ) → held_by (item_at rs i) ≡ no_socket → held_in (record_gone rs i) ≡ held_in rs
+held_still rs i none = same_tally (λ w. still_in w rs i (ap (λ (held : Tally). held w) none))
 
 -- nothing is left of a record, whatever came in its place before
 pub gone_put : (rs : List Record) (i : ℕ) (x : Record) → record_gone (slice_set rs i x) i ≡ record_gone rs i
@@ -38,25 +42,31 @@ pub given_back_put : (store : Records) (i : ℕ) (x : Record) → given_back i (
 given_back_put store i x = ap (λ (l : List Record). record (given_back i store) { records = l }) (gone_put store.records i x)
 
 -- a record that holds none was put
-pub put_none : (rs : List Record) (i : ℕ) (x : Record) → held_by x ≡ 0 → held_by (item_at (slice_set rs i x) i) ≡ 0
+pub put_none : (rs : List Record) (i : ℕ) (x : Record) → held_by x ≡ no_socket → held_by (item_at (slice_set rs i x) i) ≡ no_socket
 put_none [] i x none = refl
 put_none (y ∷ rs) zero x none = none
 put_none (y ∷ rs) (suc i) x none = put_none rs i x none
 
 -- what a record holds, where one that holds none came in its place
-pub was_held : (rs : List Record) (i : ℕ) (x : Record) (n : ℕ) → held_by x ≡ 0 → held_in (slice_set rs i x) + n ≡ held_in rs → held_by (item_at rs i) ≡ n
-was_held rs i x n none swapped =
-    let before = held_gone rs i in
-    let after = held_gone (slice_set rs i x) i in
-    let now = put_none rs i x none in
-    let same : held_in (record_gone (slice_set rs i x) i) ≡ held_in (record_gone rs i) = ap held_in (gone_put rs i x) in omega arith
+was_held : (w : Weight) (rs : List Record) (i : ℕ) (x : Record) (n : ℕ) → held_by x ≡ no_socket → held_in (slice_set rs i x) w + n ≡ held_in rs w → held_by (item_at rs i) w ≡ n
+was_held w rs i x n none swapped =
+    let before = held_gone w rs i in
+    let after = held_gone w (slice_set rs i x) i in
+    let now = ap (λ (held : Tally). held w) (put_none rs i x none) in
+    let same : held_in (record_gone (slice_set rs i x) i) w ≡ held_in (record_gone rs i) w = ap (λ rs. held_in rs w) (gone_put rs i x) in omega arith
 
-pub was_none : (rs : List Record) (i : ℕ) (x : Record) → held_by x ≡ 0 → held_in (slice_set rs i x) ≡ held_in rs → held_by (item_at rs i) ≡ 0
-was_none rs i x none same = was_held rs i x 0 none (omega (arith, same))
+none_was : (w : Weight) (rs : List Record) (i : ℕ) (x : Record) → held_by x ≡ no_socket → held_in (slice_set rs i x) ≡ held_in rs → held_by (item_at rs i) w ≡ 0
+none_was w rs i x none same = was_held w rs i x 0 none (let s = ap (λ (held : Tally). held w) same in omega arith)
+
+pub was_none : (rs : List Record) (i : ℕ) (x : Record) → held_by x ≡ no_socket → held_in (slice_set rs i x) ≡ held_in rs → held_by (item_at rs i) ≡ no_socket
+was_none rs i x none same = same_tally (λ w. none_was w rs i x none same)
+
+held_udp : (w : Weight) (rs : List Record) (i : ℕ) (u : UdpRecord) → udp2_at rs i ≡ Some u → held_by (item_at rs i) w ≡ udp_holds u w
+held_udp w rs i u found =
+    let swap = held_in-udp_swap w rs i u (Closed (udp_side u)) found in was_held w rs i (Udp (Closed (udp_side u))) (udp_holds u w) refl (omega (arith, swap))
 
 pub udp_held : (rs : List Record) (i : ℕ) (u : UdpRecord) → udp2_at rs i ≡ Some u → held_by (item_at rs i) ≡ udp_holds u
-udp_held rs i u found =
-    let swap = held_in-udp_swap rs i u (Closed (udp_side u)) found in was_held rs i (Udp (Closed (udp_side u))) (udp_holds u) refl (omega (arith, swap))
+udp_held rs i u found = same_tally (λ w. held_udp w rs i u found)
 
 -- == UDP sockets
 set_again : (rs : List Record) (i : ℕ) (x : Record) → slice_set (slice_set rs i x) i x ≡ slice_set rs i x
@@ -90,10 +100,6 @@ left_closed store place u v side found there closed =
     let same : u ≡ Closed side = sym (one_found (udp2_at store.records place) u v found there) ∙ closed in rw same (sym (given_back_put store place (Udp (Closed side))))
 
 -- a create that is given up closed its network socket
-pub knows_cancelled : {s t : Seen} (store : Records) (place : ℕ) (create : Create) → udp2_at store.records place ≡ Some (Creating create) → HoldsFewer s t 1 0 → KnowsSides s store → KnowsSides t (given_back place store)
+pub knows_cancelled : {s t : Seen} (store : Records) (place : ℕ) (create : Create) → udp2_at store.records place ≡ Some (Creating create) → HoldsFewer s t (one_socket create.operation.who.side) no_socket → KnowsSides s store → KnowsSides t (given_back place store)
 knows_cancelled store place create found c k =
-    let gone = held_gone store.records place in
-    let held = udp_held store.records place (Creating create) found in
-    let b = c.balance in
-    let m = c.made in
-    knows_then c.entries store (given_back place store) c.passed (omega arith) k
+    knows_then c.entries store (given_back place store) c.passed (λ w. let gone = held_gone w store.records place in let held = held_udp w store.records place (Creating create) found in let b = c.balance w in let m = c.made w in omega arith) k

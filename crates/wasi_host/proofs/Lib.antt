@@ -9,6 +9,7 @@ pub mod Blocks
 pub mod WriteRests
 pub mod Called
 pub mod Bases
+pub mod Binds
 pub mod Cancels
 pub mod PollLists
 pub mod FoundMaps

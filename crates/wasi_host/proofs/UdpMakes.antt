@@ -16,6 +16,7 @@ use Rattle.wasi_world.specs.declared.outcome.WasiSocketsCtx.{WasiSocketsCtx}
 use Rattle.wasi_world.specs.Asks.{Give, bind, Left, Reaches, AsksFor, outcome}
 use Rattle.wasi_world.specs.Fits.{IsDoneOrCode}
 use Rattle.wasi_world.specs.Seen.{Seen}
+use Rattle.wasi_world.specs.Sides.{is_done}
 use Rattle.wasi_world.specs.Typed.{told_done, ask_udp_create}
 use Rattle.wasi_udp.specs.Create.{Create, after_create, new_asks}
 use Rattle.wasi_host.specs.declared.kind.Interface.{Interface}
@@ -28,7 +29,7 @@ use Rattle.wasi_streams.specs.declared.fault.HostError.TheVariants as error
 use Rattle.wasi_host.specs.BaseStops.{BaseStop, base_outcome, ends_as}
 use Rattle.wasi_host.specs.Kinds.{make_asks, udp_kind}
 use Rattle.wasi_records.specs.Records.{udp2_pushed}
-use Rattle.wasi_records.specs.Sides.{one_if_done, made_in, closed_in}
+use Rattle.wasi_records.specs.Sides.{Weight, Tally, no_socket, one_socket, made_in, closed_in}
 use Rattle.wasi_host.specs.KnownSides.{KnowsSides}
 use Rattle.wasi_host.specs.Store.{Records}
 use Rattle.wasi_records.specs.Udp.{udp_side}
@@ -37,27 +38,30 @@ use Rattle.wasi_host.proofs.KnownSides.{knows_then}
 use Rattle.wasi_records.proofs.UdpLookups.{held_in-udp_more}
 
 -- == a create makes one network socket where it begins, and none where it is refused
-abbrev begun_or_not : Result Create ErrorCode → ℕ
-begun_or_not (Ok create) = 1
-begun_or_not (Err c) = 0
+abbrev begun_or_not : Result Create ErrorCode → Tally
+begun_or_not (Ok create) = one_socket create.operation.who.side
+begun_or_not (Err c) = no_socket
 
-one_made : (op : OpId) (n : ℕ) (family : SocketAddressFamily) (t : Told) → IsDoneOrCode t → one_if_done t ≡ begun_or_not (after_create op n family (told_done t))
-one_made op n family told.Done h = refl
-one_made op n family (told.Code c) h = refl
-one_made op n family _ h = absurd h
+one_made : (w : Weight) (op : OpId) (n : ℕ) (family : SocketAddressFamily) (t : Told) → IsDoneOrCode t → (if is_done t then w op else 0) ≡ begun_or_not (after_create op n family (told_done t)) w
+one_made w op n family told.Done h = refl
+one_made w op n family (told.Code c) h = refl
+one_made w op n family _ h = absurd h
 
 record MadeSo (es : List Entry) (r : Result Create ErrorCode) : Type 0 where
-  made : made_in es ≡ begun_or_not r
-  closed : closed_in es ≡ 0
+  made : (w : Weight) → made_in es w ≡ begun_or_not r w
+  closed : (w : Weight) → closed_in es w ≡ 0
 
 begun : (op : OpId) (ctx : WasiSocketsCtx) (family : SocketAddressFamily) (b : Bool) (es : List Entry) (r : Result Create ErrorCode) → Left (if b then bind (ask_udp_create op ctx.name family) (λ t. Give (after_create op ctx.name family t)) else Give (Err AccessDenied)) es (Give r) → MadeSo es r
 unfolding bind
 begun op ctx family true [] r w = absurd (cc)
 begun op ctx family true (e ∷ []) r w =
     let k : after_create op ctx.name family (told_done e.answer) ≡ r = cc in
-    record { made = rw (w.0.1, ← k) (let m = one_made op ctx.name family e.answer w.0.2 in omega arith); closed = rw w.0.1 refl }
+    record {
+      made = λ weight. rw (w.0.0, w.0.1, ← k) (let m = one_made weight op ctx.name family e.answer w.0.2 in omega arith);
+      closed = λ weight. rw w.0.1 refl;
+    }
 begun op ctx family true (e ∷ f ∷ es) r w = absurd w.1
-begun op ctx family false [] r w = let k : Err AccessDenied ≡ r = cc in rw (← k) (record { made = refl; closed = refl })
+begun op ctx family false [] r w = let k : Err AccessDenied ≡ r = cc in rw (← k) (record { made = λ weight. refl; closed = λ weight. refl })
 begun op ctx family false (e ∷ es) r w = absurd w
 
 -- the store with the record of a create that began
@@ -67,14 +71,14 @@ with_creating store create = record store { records = udp2_pushed store.records 
 pub knows_begun : (op : OpId) (ctx : WasiSocketsCtx) (family : SocketAddressFamily) {s t : Seen} (create : Create) (store : Records) → Reaches (new_asks op ctx family) (Give (Ok create)) s t → KnowsSides s store → KnowsSides t (with_creating store create)
 knows_begun op ctx family create store h k =
     let m = begun op ctx family ctx.udp h.entries (Ok create) h.left in
-    knows_then h.entries store (with_creating store create) h.passed (rw (m.made, m.closed, held_in-udp_more store.records (Creating create)) (omega arith)) k
+    knows_then h.entries store (with_creating store create) h.passed (λ w. let made = m.made w in let closed = m.closed w in let more = held_in-udp_more w store.records (Creating create) in omega arith) k
 
 pub knows_refused : (op : OpId) (ctx : WasiSocketsCtx) (family : SocketAddressFamily) {s t : Seen} (told : Result Create Refusal) (x : HostError ErrorCode) (store : Records) → ends_as {T = Create} (Err x) ≡ base_outcome told
     → AsksFor (new_asks op ctx family) s t (λ (made : Result Create ErrorCode). made) (outcome told) → OnErr (outcome told) (t ≡ s) → KnowsSides s store → KnowsSides t store
 knows_refused op ctx family (Ok create) (error.Code c) store q h e k = absurd (cc)
 knows_refused op ctx family (Ok create) (error.Trap c) store q h e k = absurd (cc)
 knows_refused op ctx family (Ok create) (error.Memory c) store q h e k = absurd (cc)
-knows_refused op ctx family (Err (refusal.Code c)) x store q h e k = let m = begun op ctx family ctx.udp h.ok.entries (Err c) h.ok.left in knows_then h.ok.entries store store h.ok.passed (rw (m.made, m.closed) refl) k
+knows_refused op ctx family (Err (refusal.Code c)) x store q h e k = let m = begun op ctx family ctx.udp h.ok.entries (Err c) h.ok.left in knows_then h.ok.entries store store h.ok.passed (λ w. let made = m.made w in let closed = m.closed w in omega arith) k
 knows_refused op ctx family (Err (refusal.Memory d)) x store q h e k = rw e k
 
 -- == its record is polled

@@ -24,6 +24,7 @@ pub mod FoundMap
 pub mod Cancel
 pub mod Pending
 pub mod UdpCalls
+pub mod Binds
 pub mod UdpCreates
 pub mod DatagramCalls
 pub mod NameLookupCalls

@@ -123,10 +123,10 @@ impl Store {
             → KnowsSides (W.seen world.new) self.new }
     {
         match call {
-            StandingCall::Bind { socket } => self.tcp_cancel_bind(socket),
+            StandingCall::Bind { socket, .. } => self.tcp_cancel_bind(socket),
             StandingCall::Listen { socket } => self.cancel_listen(world, socket)?,
             StandingCall::UdpCreate { socket, .. } => self.cancel_create(world, socket)?,
-            StandingCall::UdpBind { socket } => self.cancel_udp_bind(socket),
+            StandingCall::UdpBind { socket, .. } => self.cancel_udp_bind(socket),
             StandingCall::UdpConnect { socket, .. } => self.cancel_udp_connect(socket),
             StandingCall::DropOutgoing { socket } => self.cancel_drop_outgoing(socket),
             StandingCall::DropOutput { .. } | StandingCall::Blocking(_) => (),

@@ -11,6 +11,7 @@ ghost use Rattle.wasi_host.specs.DatagramCalls.{incoming_names, drop_incoming_at
 ghost use Rattle.wasi_host.specs.DatagramCalls.{outgoing_ready};
 ghost use Rattle.wasi_records.specs.Listening.{TakesOne};
 ghost use Rattle.wasi_records.specs.Stops.{fault_outcome, host_outcome};
+ghost use Rattle.wasi_records.specs.Names.{RoseUpTo};
 ghost use Rattle.wasi_records.specs.Records.{open_at};
 ghost use Rattle.wasi_host.specs.KnownSides.{KnowsSides};
 
@@ -200,6 +201,7 @@ impl Store {
             (open_at self.old.records place)) (W.seen world.old) (W.seen world.new)
             (λ sent. (sent, self.new)) (host_outcome result) }
         ensures line { ids.new.line ≡ ids.old.line }
+        ensures parts { RoseUpTo 255 ids.old ids.new }
         ensures sides { KnowsSides (W.seen world.old) self.old
             → KnowsSides (W.seen world.new) self.new }
     {
@@ -235,6 +237,7 @@ impl Store {
             (open_at self.old.records place)) (W.seen world.old) (W.seen world.new)
             (λ received. (received, self.new)) (host_outcome result) }
         ensures line { ids.new.line ≡ ids.old.line }
+        ensures parts { RoseUpTo 16 ids.old ids.new }
         ensures sides { KnowsSides (W.seen world.old) self.old
             → KnowsSides (W.seen world.new) self.new }
     {

@@ -15,7 +15,7 @@ ghost use Rattle.wasi_host.specs.GivingBack.{given_back};
 ghost use Rattle.wasi_records.specs.Numbered.{item_at};
 ghost use Rattle.wasi_host.specs.Machine.{turn_machine_asks};
 ghost use Rattle.wasi_host.specs.KnownSides.{KnowsSides};
-ghost use Rattle.wasi_records.specs.Sides.{MakesNone, held_by, held_in};
+ghost use Rattle.wasi_records.specs.Sides.{MakesNone, held_by, held_in, no_socket};
 ghost use Rattle.wasi_host.specs.Views.{SameView, state_of};
 
 use crate::store::Store;
@@ -197,7 +197,7 @@ impl Store {
     /// out.
     pub(crate) fn give_back(&mut self, place: RecordId)
         ensures state { self.new ≡ given_back place self.old }
-        ensures sides { (s : Seen) → held_by (item_at self.old.records place) ≡ 0
+        ensures sides { (s : Seen) → held_by (item_at self.old.records place) ≡ no_socket
             → KnowsSides s self.old → KnowsSides s self.new }
     {
         self.records.give_back(place);

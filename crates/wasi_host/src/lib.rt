@@ -2,6 +2,7 @@
 //! they name, views of both, streams and pollables, jobs and pending calls.
 #![tactic(auto)]
 
+mod binding;
 pub mod blocking;
 mod cancelling;
 mod datagram_calls;

@@ -5,9 +5,9 @@ ghost use Rattle.wasi_world.specs.Asks.{AsksFor};
 ghost use Rattle.wasi_records.specs.Records.{tcp2_at};
 ghost use Rattle.wasi_records.specs.Stops.{host_outcome};
 ghost use Rattle.wasi_host.specs.Pending.{outcome_of, handle_outcome, pair_outcome, places_outcome};
-ghost use Rattle.wasi_host.specs.Pending.{rebind_at, relisten_at, stop_told, blocked_told};
+ghost use Rattle.wasi_host.specs.Pending.{relisten_at, stop_told, blocked_told};
 ghost use Rattle.wasi_host.specs.Pending.{nothing_given, unblock_asks, go_on, resume_asks};
-ghost use Rattle.wasi_host.specs.Pending.{refused_as, created_told};
+ghost use Rattle.wasi_host.specs.Pending.{refused_as, answered_told};
 ghost use Rattle.wasi_host.specs.BaseStops.{ends_as};
 ghost use Rattle.wasi_host.specs.KnownSides.{KnowsSides};
 ghost use Rattle.wasi_host.specs.Standing.{call_of, unstood};
@@ -105,28 +105,6 @@ impl Store {
         self.standing.take()
     }
 
-    /// Polls the bind of the TCP socket with this record number. If it is still pending it is
-    /// stored again.
-    fn tcp_rebind<W: World>(
-        &mut self,
-        world: &mut W,
-        ids: Ids,
-        place: RecordId,
-    ) -> Result<Answer<()>, SocketError>
-        requires { (W.seen world.old).ended ≡ false }
-        ensures asked { AsksFor (rebind_at self.old ids place (tcp2_at self.old.records place))
-            (W.seen world.old) (W.seen world.new) (λ answer. (answer, self.new))
-            (host_outcome result) }
-        ensures sides { KnowsSides (W.seen world.old) self.old
-            → KnowsSides (W.seen world.new) self.new }
-    {
-        let Some(record) = find_mut::<TcpRecord>(&mut self.records, place) else {
-            return Err(SocketError::Trap(TrapKind::NoSuchHandle));
-        };
-        let answer = record.poll_bind(world)?;
-        Ok(self.stand(ids, StandingCall::Bind { socket: place }, answer))
-    }
-
     /// Polls the listen of the TCP socket with this record number. If it is still pending it is
     /// stored again.
     fn relisten<W: World>(
@@ -213,10 +191,25 @@ fn of_create(
     interface: Interface,
     created: Result<Answer<Handle>, StoreError>,
 ) -> Result<Answer<Outcome>, SocketError>
-    ensures { host_outcome result ≡ created_told interface (ends_as created) }
+    ensures { host_outcome result ≡ answered_told handle_outcome interface (ends_as created) }
 {
     match created {
         Ok(answer) => Ok(Outcome::of_handle(answer)),
+        Err(StoreError::Code(code)) => of_refusal(interface, code),
+        Err(StoreError::Trap(kind)) => Err(SocketError::Trap(kind)),
+        Err(StoreError::Memory(e)) => Err(SocketError::Memory(e)),
+    }
+}
+
+/// The outcome of a bind for this interface.
+fn of_bind(
+    interface: Interface,
+    bound: Result<Answer<()>, StoreError>,
+) -> Result<Answer<Outcome>, SocketError>
+    ensures { host_outcome result ≡ answered_told outcome_of interface (ends_as bound) }
+{
+    match bound {
+        Ok(answer) => Ok(Outcome::of_nothing(answer)),
         Err(StoreError::Code(code)) => of_refusal(interface, code),
         Err(StoreError::Trap(kind)) => Err(SocketError::Trap(kind)),
         Err(StoreError::Memory(e)) => Err(SocketError::Memory(e)),
@@ -286,9 +279,9 @@ fn go_on<W: World>(
     ensures view { SameView view.old view.new }
 {
     match call {
-        StandingCall::Bind { socket } => {
-            let answer = view.store.tcp_rebind(world, ids, socket)?;
-            Ok(Outcome::of_nothing(answer))
+        StandingCall::Bind { socket, interface } => {
+            let bound = view.store.tcp_rebind(world, ids, socket, interface);
+            of_bind(interface, bound)
         }
         StandingCall::Listen { socket } => {
             let answer = view.store.relisten(world, ids, socket)?;
@@ -304,9 +297,9 @@ fn go_on<W: World>(
                 .create_on(view.table, world, ids, socket, interface);
             of_create(interface, created)
         }
-        StandingCall::UdpBind { socket } => {
-            let answer = view.store.rebind_udp(world, ids, socket)?;
-            Ok(Outcome::of_nothing(answer))
+        StandingCall::UdpBind { socket, interface } => {
+            let bound = view.store.rebind_udp(world, ids, socket, interface);
+            of_bind(interface, bound)
         }
         StandingCall::UdpConnect { socket, handle } => {
             let answer = view

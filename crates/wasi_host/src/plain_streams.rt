@@ -13,7 +13,7 @@ ghost use Rattle.wasi_host.specs.PlainStreams.{output_pipe_asks, plain_asks, con
 ghost use Rattle.wasi_host.specs.PlainStreams.{contents_asks, drop_plain_input, drop_plain_output};
 ghost use Rattle.wasi_records.specs.Records.{output_pipe_at};
 ghost use Rattle.wasi_host.specs.KnownSides.{KnowsSides};
-ghost use Rattle.wasi_records.specs.Sides.{held_by};
+ghost use Rattle.wasi_records.specs.Sides.{held_by, no_socket};
 ghost use Rattle.wasi_host.specs.Views.{state_of, HostKept};
 
 use crate::error::CallError;
@@ -162,7 +162,7 @@ impl Store {
         pipe: Record,
     ) -> Result<Handle, Fault>
         requires open { (W.seen world.old).ended ≡ false }
-        requires holds_none { held_by pipe ≡ 0 }
+        requires holds_none { held_by pipe ≡ no_socket }
         ensures asked { AsksFor (pipe_asks (record { table = table.old; store = self.old }) own kind
             pipe) (W.seen world.old) (W.seen world.new) (λ made.
             (made, record { table = table.new; store = self.new })) (fault_outcome result) }

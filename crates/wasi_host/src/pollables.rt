@@ -8,7 +8,7 @@ ghost use Rattle.wasi_records.specs.Stops.{fault_outcome};
 ghost use Rattle.wasi_host.specs.Machine.{own_of, subscribe_asks, ready_asks, ids_after_ready};
 ghost use Rattle.wasi_host.specs.Machine.{watches_incoming, watched_side};
 ghost use Rattle.wasi_host.specs.Readiness.{ready_at, ready_ids_at, ready_record, ready_ids};
-ghost use Rattle.wasi_records.specs.Sides.{Balances};
+ghost use Rattle.wasi_records.specs.Sides.{Balances, no_socket};
 ghost use Rattle.wasi_host.specs.KnownSides.{KnowsSides};
 ghost use Rattle.wasi_host.specs.Views.{SameView, state_of, HostKept};
 
@@ -33,7 +33,8 @@ fn poll_ready<W: World>(
         (W.seen world.old) (W.seen world.new) (λ ready. (ready, record.new))
         (fault_outcome result) }
     ensures ids { ids.new ≡ ready_ids ids.old watched record.old }
-    ensures sides { Balances (W.seen world.old) (W.seen world.new) 0 record.old record.new }
+    ensures sides { Balances (W.seen world.old) (W.seen world.new) no_socket record.old
+        record.new }
 {
     match watched {
         Watched::Socket(_) => record.socket_ready(world, ids),

@@ -2,7 +2,7 @@
 //! looks again when it is [resumed](crate::resume).
 
 ghost use Rattle.std.specs.Prelude.{◌≡◌, ◌+◌, ◌<◌, ◌^◌, false, true, length, IfOk, OnOk, OnErr, []};
-ghost use Rattle.std.specs.Prelude.{◌∷◌, ◌++◌};
+ghost use Rattle.std.specs.Prelude.{◌∷◌, ◌++◌, ◌≤◌};
 ghost use Rattle.wasi_world.specs.Asks.{AsksFor};
 ghost use Rattle.wasi_world.specs.Seen.{Seen};
 ghost use Rattle.wasi_records.specs.Stops.{fault_outcome};
@@ -215,6 +215,8 @@ fn look_each<W: World>(
         → KnowsSides (W.seen world.new) view.new.store.now }
     ensures view { SameView view.old view.new }
     ensures line { ids.new.line ≡ ids.old.line }
+    ensures forth { ids.old.next_part ≤ ids.new.next_part }
+    ensures few { ids.new.next_part ≤ ids.old.next_part + length pollables.now }
 {
     let mut found = Found::new(alloc);
     for pollable in pollables {
@@ -256,6 +258,8 @@ pub(crate) fn poll_by<W: World>(
         → KnowsSides (W.seen world.new) view.new.store.now }
     ensures view { SameView view.old view.new }
     ensures line { ids.new.line ≡ ids.old.line }
+    ensures forth { ids.old.next_part ≤ ids.new.next_part }
+    ensures few { ids.new.next_part ≤ ids.old.next_part + length pollables }
 {
     if pollables.len() > u32::MAX as usize {
         return Err(Fault::Memory(AllocError));
@@ -286,6 +290,7 @@ pub(crate) fn block_by<W: World>(
         → KnowsSides (W.seen world.new) view.new.store.now }
     ensures view { SameView view.old view.new }
     ensures line { ids.new.line ≡ ids.old.line }
+    ensures taken { TakesOne ids.old ids.new }
 {
     let names = *ids;
     let ready = look_at(view, world, ids, look, pollable)?;
@@ -310,6 +315,7 @@ pub fn block<W: World>(
         → KnowsSides (W.seen world.new) view.new.store.now }
     ensures view { SameView view.old view.new }
     ensures line { ids.new.line ≡ ids.old.line }
+    ensures taken { TakesOne ids.old ids.new }
 {
     block_by(view, world, ids, Look::First, pollable)
 }
@@ -337,6 +343,8 @@ pub fn poll<W: World>(
         → KnowsSides (W.seen world.new) view.new.store.now }
     ensures view { SameView view.old view.new }
     ensures line { ids.new.line ≡ ids.old.line }
+    ensures forth { ids.old.next_part ≤ ids.new.next_part }
+    ensures few { ids.new.next_part ≤ ids.old.next_part + length pollables }
 {
     if pollables.is_empty() {
         return Err(Fault::Trap(TrapKind::EmptyList));

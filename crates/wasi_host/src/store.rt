@@ -38,9 +38,11 @@ use wasi_world::{
 /// A pending call, with what it needs to go on.
 #[derive(Drop)]
 pub enum StandingCall {
-    /// Binds the TCP socket with this record number; its record has the operation.
+    /// Binds the TCP socket with this record number, for this interface; its record has the
+    /// operation.
     Bind {
         socket: RecordId,
+        interface: Interface,
     },
     /// Makes the TCP socket with this record number listen; its record has the operation.
     Listen {
@@ -57,9 +59,11 @@ pub enum StandingCall {
         socket: RecordId,
         interface: Interface,
     },
-    /// Binds the UDP socket with this record number; its record has the operation.
+    /// Binds the UDP socket with this record number, for this interface; its record has the
+    /// operation.
     UdpBind {
         socket: RecordId,
+        interface: Interface,
     },
     /// Connects the UDP socket with this record number, whose record has the operation, and then
     /// makes its datagram streams under this handle.
@@ -112,7 +116,7 @@ impl Model for Store {
 
 impl Store {
     ghost use Rattle.wasi_host.specs.Machine.{create_asks, side_at};
-    ghost use Rattle.wasi_records.specs.Closing.{ClosesSides};
+    ghost use Rattle.wasi_records.specs.Closing.{ClosesSides, NamesThese};
     ghost use Rattle.wasi_host.specs.KnownSides.{KnowsSides};
     ghost use Rattle.wasi_records.specs.Sides.{held_in};
 
@@ -290,7 +294,9 @@ impl Store {
     /// Closes every network socket that a record holds, after the end mark. Takes no memory.
     pub fn close_all<W: World>(self, world: &mut W)
         requires { (W.seen world.old).ended ≡ true }
-        ensures { ClosesSides (W.seen world.old) (W.seen world.new) (held_in self.records) }
+        ensures counted { ClosesSides (W.seen world.old) (W.seen world.new) (held_in self.records) }
+        ensures named { NamesThese (W.closed world.old) (held_in self.records)
+            (W.closed world.new) }
     {
         close_sides(world, &self.records);
     }

@@ -15,6 +15,7 @@ ghost use Rattle.wasi_host.specs.Lines.{finish_connect_of, on_tcp, told_of};
 ghost use Rattle.wasi_records.specs.Sockets.{tell_local_asks, tell_remote_asks};
 ghost use Rattle.wasi_tcp.specs.Addresses.{is_listening};
 
+use crate::kind::Interface;
 use crate::store::{StandingCall, Store};
 use wasi_addr::{IpSocketAddress, ShutdownType, SocketAddressFamily, p2};
 use wasi_records::{
@@ -46,7 +47,11 @@ impl Store {
             return Err(SocketError::Code(p2::ErrorCode::ConcurrencyConflict));
         }
         let answer = record.begin_bind(world, ids.own(), addr)?;
-        Ok(self.stand(ids, StandingCall::Bind { socket: place }, answer))
+        let call = StandingCall::Bind {
+            socket: place,
+            interface: Interface::P2,
+        };
+        Ok(self.stand(ids, call, answer))
     }
 
     /// Finishes an operation that was started (`finish-bind`, `finish-listen`). It wasn't:

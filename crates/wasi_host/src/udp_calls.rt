@@ -7,7 +7,7 @@ ghost use Rattle.socket_common.specs.Options.{largest_value, option_of, number_o
 ghost use Rattle.wasi_records.specs.Stops.{host_outcome};
 ghost use Rattle.wasi_records.specs.Records.{open_at, udp2_at};
 ghost use Rattle.wasi_host.specs.KnownSides.{KnowsSides};
-ghost use Rattle.wasi_host.specs.UdpCalls.{start_udp_bind_at, rebind_udp_at, finish_udp_bind_at};
+ghost use Rattle.wasi_host.specs.UdpCalls.{start_udp_bind_at, finish_udp_bind_at};
 ghost use Rattle.wasi_host.specs.UdpCalls.{udp_local_at, udp_remote_at, udp_family_at};
 ghost use Rattle.wasi_host.specs.UdpCalls.{get_udp_option_at, set_udp_option_at, release_udp_at};
 ghost use Rattle.wasi_host.specs.UdpCalls.{udp_left};
@@ -197,29 +197,11 @@ impl Store {
             return Err(SocketError::Code(p2::ErrorCode::InvalidState));
         }
         let answer = socket.begin_bind(world, ids.own(), addr)?;
-        Ok(self.stand(ids, StandingCall::UdpBind { socket: place }, answer))
-    }
-
-    /// Polls the bind of the UDP socket with this record number. If it is still pending it is
-    /// stored again.
-    pub(crate) fn rebind_udp<W: World>(
-        &mut self,
-        world: &mut W,
-        ids: Ids,
-        place: RecordId,
-    ) -> Result<Answer<()>, SocketError>
-        requires { (W.seen world.old).ended ≡ false }
-        ensures asked { AsksFor (rebind_udp_at self.old ids place (open_at self.old.records place))
-            (W.seen world.old) (W.seen world.new) (λ answer. (answer, self.new))
-            (host_outcome result) }
-        ensures sides { KnowsSides (W.seen world.old) self.old
-            → KnowsSides (W.seen world.new) self.new }
-    {
-        let Some(socket) = find_mut::<OpenUdp>(&mut self.records, place) else {
-            return Err(SocketError::Trap(TrapKind::NoSuchHandle));
+        let call = StandingCall::UdpBind {
+            socket: place,
+            interface: Interface::P2,
         };
-        let answer = socket.poll_bind(world)?;
-        Ok(self.stand(ids, StandingCall::UdpBind { socket: place }, answer))
+        Ok(self.stand(ids, call, answer))
     }
 
     /// Finishes the bind that was started (`finish-bind`). None was: `NotInProgress`.

@@ -22,7 +22,7 @@ pub use crate::options::{
     get_option, hop_limit, keep_alive_count, keep_alive_enabled, keep_alive_idle_time,
     keep_alive_interval, receive_buffer_size, send_buffer_size, set_hop_limit,
     set_keep_alive_count, set_keep_alive_enabled, set_keep_alive_idle_time,
-    set_keep_alive_interval, set_listen_backlog_size, set_receive_buffer_size,
+    set_keep_alive_interval, set_listen_backlog_size, set_option, set_receive_buffer_size,
     set_send_buffer_size,
 };
 use wasi_addr::{IpSocketAddress, ShutdownType, SocketAddressFamily};

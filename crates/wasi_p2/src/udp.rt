@@ -6,6 +6,7 @@ ghost use Rattle.std.specs.Prelude.{◌≡◌, ◌+◌, ◌<◌, ◌≤◌, ◌^
 ghost use Rattle.wasi_world.specs.Asks.{AsksFor};
 ghost use Rattle.wasi_world.specs.Seen.{Seen};
 ghost use Rattle.socket_common.specs.Options.{largest_value, option_of, number_of};
+ghost use Rattle.wasi_records.specs.Names.{RoseUpTo};
 ghost use Rattle.wasi_records.specs.Stops.{host_outcome};
 ghost use Rattle.wasi_host.specs.Machine.{own_of, udp_socket_at, incoming_at, outgoing_at};
 ghost use Rattle.wasi_host.specs.KnownSides.{KnowsSides};
@@ -186,6 +187,7 @@ pub fn send<W: World>(
         → KnowsSides (W.seen world.new) view.new.store.now }
     ensures view { SameView view.old view.new }
     ensures line { ids.new.line ≡ ids.old.line }
+    ensures parts { RoseUpTo 255 ids.old ids.new }
 {
     let place = handles::outgoing(view.table, this)?;
     view.store.send_datagrams(world, ids, place, items)
@@ -213,6 +215,7 @@ pub fn receive<W: World>(
         → KnowsSides (W.seen world.new) view.new.store.now }
     ensures view { SameView view.old view.new }
     ensures line { ids.new.line ≡ ids.old.line }
+    ensures parts { RoseUpTo 16 ids.old ids.new }
 {
     let place = handles::incoming(view.table, this)?;
     view.store

@@ -2,6 +2,7 @@
 use Rattle.std.specs.Prelude.{ℕ, Option, Some, None, Result, Err}
 use Rattle.wasi_addr.specs.declared.code.ErrorCode.{ErrorCode}
 use Rattle.wasi_addr.specs.declared.p3.ErrorCode.{ErrorCode as P3Code}
+use Rattle.wasi_addr.specs.Code.{p3_of_code}
 use Rattle.wasi_world.specs.declared.outcome.TrapKind.TheVariants.{NoSuchHandle}
 use Rattle.wasi_world.specs.Asks.{Asks, Give, bind}
 use Rattle.wasi_tcp.specs.Shape.{Socket}
@@ -12,8 +13,9 @@ use Rattle.wasi_records.specs.Sockets.{inner_answered}
 use Rattle.wasi_records.specs.Stops.{Trap}
 use Rattle.wasi_host.specs.declared.machine.Machine.{Machine}
 use Rattle.wasi_host.specs.Block.{Does, Line, Look, Call, last, ◌>>=◌}
+use Rattle.wasi_host.specs.BaseStops.{renamed}
 pub use Rattle.wasi_host.specs.Lines.{in_store, same_stop}
-use Rattle.wasi_host.specs.Lines.{tcp_at, tcp_in}
+use Rattle.wasi_host.specs.Lines.{storing, tcp_at, tcp_in}
 use Rattle.wasi_host.specs.Machine.{tcp3_at, udp3_at}
 use Rattle.wasi_host.specs.UdpCalls.{with_open_udp}
 use Rattle.wasi_host.specs.Store.{Records, with_socket}
@@ -56,6 +58,10 @@ of_tcp handle call = do
   place ← tcp_named handle
   last (in_store (on_tcp place call))
 
+-- a call on the store, whose codes get their 0.3 names
+abbrev pub in_base : {A : Type 0} → Does ErrorCode Records A → Line P3Code Machine A
+in_base call = Call (renamed p3_of_code) (λ m. m.store) storing call
+
 -- == UDP sockets: the same
 abbrev pub on_udp : {A : Type 0} → ℕ → (OpenUdp → Asks (Result A ErrorCode × OpenUdp)) → Does P3Code Records A
 on_udp place call = do
@@ -69,7 +75,11 @@ udp_in m (Some place) = open_at m.store.records place
 abbrev pub udp_of : Machine → ℕ → Option OpenUdp
 udp_of m handle = udp_in m (udp3_at m handle)
 
+-- the number that its handle names
+abbrev pub udp_named : {C : Type 0} → ℕ → Line C Machine ℕ
+udp_named handle = Look (λ m. udp3_at m handle)
+
 abbrev pub of_udp : {A : Type 0} → ℕ → (OpenUdp → Asks (Result A ErrorCode × OpenUdp)) → Does P3Code Machine A
 of_udp handle call = do
-  place ← Look (λ m. udp3_at m handle)
+  place ← udp_named handle
   last (in_store (on_udp place call))

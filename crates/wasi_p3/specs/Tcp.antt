@@ -5,7 +5,9 @@ use Rattle.wasi_addr.specs.declared.address.SocketAddressFamily.{SocketAddressFa
 use Rattle.wasi_addr.specs.declared.code.ErrorCode.{ErrorCode}
 use Rattle.wasi_addr.specs.declared.p3.ErrorCode.{ErrorCode as P3Code}
 use Rattle.wasi_world.specs.declared.call.Opt.{Opt}
+use Rattle.wasi_world.specs.declared.ids.Ids.{Ids}
 use Rattle.wasi_world.specs.declared.ids.OpId.{OpId}
+use Rattle.wasi_world.specs.declared.outcome.Answer.{Answer}
 use Rattle.wasi_world.specs.declared.outcome.WasiSocketsCtx.{WasiSocketsCtx}
 use Rattle.wasi_world.specs.Asks.{Asks}
 use Rattle.wasi_tcp.specs.Addresses.{is_listening as listens}
@@ -15,8 +17,9 @@ use Rattle.wasi_records.specs.Sockets.{tell_local_asks, tell_remote_asks}
 use Rattle.wasi_host.specs.declared.kind.Kind.TheVariants.{Tcp3}
 use Rattle.wasi_host.specs.declared.machine.Machine.{Machine}
 use Rattle.wasi_host.specs.Machine.{create_to}
-use Rattle.wasi_host.specs.Block.{Does}
-use Rattle.wasi_p3.specs.Lines.{of_tcp, inner_call, tcp_of, told_of}
+use Rattle.wasi_host.specs.Binds.{bind_of}
+use Rattle.wasi_host.specs.Block.{Does, last, ◌>>=◌}
+use Rattle.wasi_p3.specs.Lines.{of_tcp, in_base, inner_call, tcp_named, tcp_of, told_of}
 use Rattle.wasi_p3.specs.Stops.{P3Stop, p3_stop, trap_of}
 
 -- == a socket is made: it has its record, whether or not a handle is made for it
@@ -29,6 +32,12 @@ handle_told (Err stop) = Err (trap_of stop)
 
 abbrev pub create : OpId → WasiSocketsCtx → SocketAddressFamily → Machine → Asks (Result ℕ P3Stop × Machine)
 create own ctx family m = create_to handle_told code_told Tcp3 m own ctx family
+
+-- == a bind
+abbrev pub bind_to : Ids → ℕ → IpSocketAddress → Does P3Code Machine (Answer (Unit {0}))
+bind_to ids socket a = do
+  place ← tcp_named socket
+  last (in_base (bind_of ids place a))
 
 -- == what a socket says of itself
 abbrev pub local_address : OpId → ℕ → Does P3Code Machine IpSocketAddress

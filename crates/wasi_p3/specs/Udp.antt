@@ -18,14 +18,21 @@ use Rattle.wasi_records.specs.declared.udp.OpenUdp.{OpenUdp}
 use Rattle.wasi_records.specs.Udp.{udp_local_asks, with_udp_inner}
 use Rattle.wasi_host.specs.declared.kind.Interface.TheVariants.{P3}
 use Rattle.wasi_host.specs.declared.machine.Machine.{Machine}
-use Rattle.wasi_host.specs.Block.{Does}
+use Rattle.wasi_host.specs.Binds.{udp_bind_of}
+use Rattle.wasi_host.specs.Block.{Does, last, ◌>>=◌}
 use Rattle.wasi_host.specs.UdpCreates.{create_udp, created_by}
-use Rattle.wasi_p3.specs.Lines.{of_udp, udp_of, told_of}
+use Rattle.wasi_p3.specs.Lines.{in_base, of_udp, udp_named, udp_of, told_of}
 use Rattle.wasi_p3.specs.Stops.{P3Stop}
 
 -- == a socket is made: its network socket is waited for, and then it has a handle
 abbrev pub create : Ids → WasiSocketsCtx → SocketAddressFamily → Machine → Asks (Result (Answer ℕ) P3Stop × Machine)
 create ids ctx family m = bind (create_udp P3 m ids ctx family) (λ done. Give (created_by p3_of_code done))
+
+-- == a bind
+abbrev pub bind_to : Ids → ℕ → IpSocketAddress → Does P3Code Machine (Answer (Unit {0}))
+bind_to ids socket a = do
+  place ← udp_named socket
+  last (in_base (udp_bind_of ids place a))
 
 -- == what a socket says of itself
 abbrev pub local_address : OpId → ℕ → Does P3Code Machine IpSocketAddress

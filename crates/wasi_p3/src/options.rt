@@ -51,7 +51,7 @@ pub fn get_option<W: World>(
 ///   size where the state allows a set.
 /// - Times, sizes and numbers of probes are brought into their ranges first.
 /// - A code that the network reports is returned.
-fn set_option<W: World>(
+pub fn set_option<W: World>(
     view: &mut WasiSocketsCtxView<'_>,
     world: &mut W,
     ids: &mut Ids,

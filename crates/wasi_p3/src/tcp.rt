@@ -6,20 +6,20 @@ ghost use Rattle.wasi_world.specs.Asks.{AsksFor};
 ghost use Rattle.wasi_host.specs.Machine.{own_of};
 ghost use Rattle.wasi_host.specs.Views.{state_of, HostKept};
 ghost use Rattle.wasi_p3.specs.Stops.{ends_as};
-ghost use Rattle.wasi_p3.specs.Tcp.{create, local_address};
+ghost use Rattle.wasi_p3.specs.Tcp.{create, bind_to, local_address};
 ghost use Rattle.wasi_p3.specs.Tcp.{remote_address, is_listening, address_family};
 
-use crate::error::{SocketError, answered};
+use crate::error::{SocketError, answered, named};
 pub use crate::options::{
     get_hop_limit, get_keep_alive_count, get_keep_alive_enabled, get_keep_alive_idle_time,
     get_keep_alive_interval, get_option, get_receive_buffer_size, get_send_buffer_size,
     set_hop_limit, set_keep_alive_count, set_keep_alive_enabled, set_keep_alive_idle_time,
-    set_keep_alive_interval, set_listen_backlog_size, set_receive_buffer_size,
+    set_keep_alive_interval, set_listen_backlog_size, set_option, set_receive_buffer_size,
     set_send_buffer_size,
 };
 use wasi_addr::{IpSocketAddress, SocketAddressFamily};
 use wasi_host::{Kind, TcpRecord, WasiSocketsCtxView, handles};
-use wasi_world::{Handle, Ids, TrapKind, World};
+use wasi_world::{Answer, Handle, Ids, TrapKind, World};
 
 /// Creates a TCP socket of this family (`tcp-socket.create`). A context that may not use TCP:
 /// `AccessDenied`, and nothing is asked. Takes memory for its record and its handle.
@@ -43,6 +43,27 @@ pub fn create<W: World>(
     let side = view.store.side(place);
     let handle = handles::make(view.table, world, own, Kind::Tcp3(place), None, side)?;
     Ok(handle)
+}
+
+/// Binds a socket to an address (`tcp-socket.bind`). Bound already, or not in its first state:
+/// `InvalidState`. An address of another family, or that is none of a single host:
+/// `InvalidArgument`. The check says no: `AccessDenied`. The network's code is returned. The call
+/// is pending while its check is, and [`resume`](wasi_host::resume) continues it.
+pub fn bind<W: World>(
+    view: &mut WasiSocketsCtxView<'_>,
+    world: &mut W,
+    ids: &mut Ids,
+    socket: Handle,
+    addr: IpSocketAddress,
+) -> Result<Answer<()>, SocketError>
+    requires { (W.seen world.old).ended ≡ false }
+    ensures asked { AsksFor (bind_to ids.old socket addr (state_of view.old)) (W.seen world.old)
+        (W.seen world.new) (λ answer. (answer, state_of view.new)) (ends_as result) }
+    ensures kept { HostKept view.old view.new ids.old ids.new (W.seen world.old)
+        (W.seen world.new) }
+{
+    let place = handles::tcp3_socket(view.table, socket)?;
+    named(view.store.bind_tcp(world, *ids, place, addr))
 }
 
 /// The address that a socket is bound to (`tcp-socket.get-local-address`). Not bound, or

@@ -7,7 +7,7 @@ ghost use Rattle.socket_common.specs.Options.{largest_value, option_of, number_o
 ghost use Rattle.wasi_host.specs.Machine.{own_of};
 ghost use Rattle.wasi_host.specs.Views.{state_of, HostKept};
 ghost use Rattle.wasi_p3.specs.Stops.{ends_as};
-ghost use Rattle.wasi_p3.specs.Udp.{create, local_address, remote_address, address_family};
+ghost use Rattle.wasi_p3.specs.Udp.{create, bind_to, local_address, remote_address, address_family};
 ghost use Rattle.wasi_p3.specs.Udp.{disconnect, get_option, set_option};
 
 use crate::error::{SocketError, answered, named, told};
@@ -37,6 +37,27 @@ pub fn create<W: World>(
         view.store
             .create_udp(view.table, world, ids, view.ctx, family, Interface::P3),
     )
+}
+
+/// Binds a socket to an address (`udp-socket.bind`). Bound already: `InvalidState`. An address of
+/// another family: `InvalidArgument`. The check says no: `AccessDenied`. The network's code is
+/// returned. The call is pending while its check is, and [`resume`](wasi_host::resume) continues
+/// it.
+pub fn bind<W: World>(
+    view: &mut WasiSocketsCtxView<'_>,
+    world: &mut W,
+    ids: &mut Ids,
+    socket: Handle,
+    addr: IpSocketAddress,
+) -> Result<Answer<()>, SocketError>
+    requires { (W.seen world.old).ended ≡ false }
+    ensures asked { AsksFor (bind_to ids.old socket addr (state_of view.old)) (W.seen world.old)
+        (W.seen world.new) (λ answer. (answer, state_of view.new)) (ends_as result) }
+    ensures kept { HostKept view.old view.new ids.old ids.new (W.seen world.old)
+        (W.seen world.new) }
+{
+    let place = handles::udp3_socket(view.table, socket)?;
+    named(view.store.bind_udp(world, *ids, place, addr))
 }
 
 /// The address that a socket is bound to (`udp-socket.get-local-address`). Not bound:
@@ -143,7 +164,7 @@ pub fn get_option<W: World>(
 /// - 0 is `InvalidArgument`, and nothing is asked.
 /// - Sizes are brought into their range first.
 /// - A code that the network reports is returned.
-fn set_option<W: World>(
+pub fn set_option<W: World>(
     view: &mut WasiSocketsCtxView<'_>,
     world: &mut W,
     ids: &mut Ids,

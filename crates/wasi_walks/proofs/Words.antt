@@ -73,7 +73,7 @@ pub use Rattle.wasi_host.specs.Kinds.{HandleTable, has_no_child, input_of, is_ne
 pub use Rattle.wasi_host.specs.TcpCalls.{accept_answered, accept_at, start_listen_at, start_listen_by, with_records, shutdown_at, start_bind_at, start_bind_by, finish_at, finish_by, start_connect_at, start_connect_by}
 pub use Rattle.wasi_records.specs.Listening.{accept_listening, accept_record_asks, accepted_record, begin_listen_asks, closed_listening, give_up_asks, kept_accepted, listen_begun, listen_bound, listen_once, listen_polled, poll_begun, poll_listen_asks, poll_listening, with_listening}
 pub use Rattle.wasi_host.specs.Machine.{create_asks, create_handle, create_to, created_asks, handle_to, made_to, drop_taken, first_state, input_at, output_at, own_of, ready_on, side_at, socket_at, subscribe_on, turn_machine_asks, with_store, with_table}
-pub use Rattle.wasi_host.specs.Pending.{go_on, rebind_at, relisten_at, resume_call, resumed}
+pub use Rattle.wasi_host.specs.Pending.{go_on, relisten_at, resume_call, resumed}
 pub use Rattle.wasi_records.specs.Shutdowns.{shut_record, shut_streams}
 pub use Rattle.wasi_records.specs.Binding.{begin_bind_asks, bind_answer, bind_begun, bind_ended, bind_progress, left_of, poll_bind_asks, poll_binding}
 pub use Rattle.wasi_records.specs.InProgress.{is_bind, is_connect, is_listen, is_nothing}

@@ -223,6 +223,7 @@ MakesUdp _ = ⊥
 -- a bind of a UDP socket to this address
 abbrev pub IsUdpBindTo : IpSocketAddress → Step → Type 0
 IsUdpBindTo addr (step.Call ctx (guest.UdpStartBind socket network a)) = a ≡ addr
+IsUdpBindTo addr (step.Call ctx (guest.P3UdpBind socket a)) = a ≡ addr
 IsUdpBindTo addr _ = ⊥
 
 -- datagram streams that are made with a connect to this address
@@ -271,6 +272,7 @@ pub record SendsItem (before : List Entry) (op side : OpId) (addr : IpSocketAddr
 -- a bind of a TCP socket to this address
 abbrev pub IsBindTo : IpSocketAddress → Step → Type 0
 IsBindTo addr (step.Call ctx (guest.TcpStartBind socket network a)) = a ≡ addr
+IsBindTo addr (step.Call ctx (guest.P3TcpBind socket a)) = a ≡ addr
 IsBindTo addr _ = ⊥
 
 -- a connect to this address

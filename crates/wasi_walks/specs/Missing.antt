@@ -92,11 +92,11 @@ MissesStream m (blocking.Poll pollables) = MissesOneOf m pollables
 
 -- the call is a bind, a listen, a create or a connect of no socket, or a call on a stream or a pollable that isn't there
 abbrev pub IsOnNothing : Machine → StandingCall → Type 0
-IsOnNothing m (standing.Bind place) = tcp2_at m.store.records place ≡ None
+IsOnNothing m (standing.Bind place face) = tcp2_at m.store.records place ≡ None
 IsOnNothing m (standing.Listen place) = tcp2_at m.store.records place ≡ None
 IsOnNothing m (standing.DropOutput place) = ⊥
 IsOnNothing m (standing.UdpCreate place face) = udp2_at m.store.records place ≡ None
-IsOnNothing m (standing.UdpBind place) = open_at m.store.records place ≡ None
+IsOnNothing m (standing.UdpBind place face) = open_at m.store.records place ≡ None
 IsOnNothing m (standing.UdpConnect place handle) = (open_at m.store.records place ≡ None) ⊎ (udp_of (kind_at m.table handle) ≡ None)
 IsOnNothing m (standing.DropOutgoing place) = ⊥
 IsOnNothing m (standing.Blocking call) = MissesStream m call

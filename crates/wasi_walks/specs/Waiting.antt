@@ -128,14 +128,16 @@ abbrev pub IsPoll : Step → Type 0
 IsPoll (step.Poll n) = ⊤
 IsPoll _ = ⊥
 
--- the step may be pending under this number: the start of a bind, that of a listen, a create of a UDP socket, that of its streams,
+-- the step may be pending under this number: a bind or the start of one, that of a listen, a create of a UDP socket, that of its streams,
 -- the drop of an output or of an outgoing datagram stream, and a call that blocks, of a stream or for pollables, under their line's, and
 -- a poll under the one that it polls
 abbrev pub MayStand : Machine → ℕ → Step → ℕ → Type 0
 MayStand m line (step.Call ctx (guest.TcpStartBind socket network a)) n = n ≡ line
 MayStand m line (step.Call ctx (guest.TcpStartListen socket)) n = n ≡ line
 MayStand m line (step.Call ctx (guest.UdpCreate family)) n = n ≡ line
+MayStand m line (step.Call ctx (guest.P3TcpBind socket a)) n = n ≡ line
 MayStand m line (step.Call ctx (guest.P3UdpCreate family)) n = n ≡ line
+MayStand m line (step.Call ctx (guest.P3UdpBind socket a)) n = n ≡ line
 MayStand m line (step.Call ctx (guest.UdpStartBind socket network a)) n = n ≡ line
 MayStand m line (step.Call ctx (guest.UdpStream socket remote)) n = n ≡ line
 MayStand m line (step.Call ctx (guest.Drop handle)) n = (IsSome (output_at m handle) ⊎ IsSome (outgoing_at m handle)) × (n ≡ line)
@@ -215,11 +217,11 @@ IsUdpConnecting (Some op) = IsRestOfUdpConnect op
 IsUdpConnecting None = ⊥
 
 abbrev pub HoldsCall : Machine → StandingCall → Type 0
-HoldsCall m (standing.Bind place) = IfSome (tcp2_at m.store.records place) (λ r. IsBinding r.in_progress)
+HoldsCall m (standing.Bind place face) = IfSome (tcp2_at m.store.records place) (λ r. IsBinding r.in_progress)
 HoldsCall m (standing.Listen place) = IfSome (tcp2_at m.store.records place) (λ r. IsListening r.inner.state r.listening)
 HoldsCall m (standing.DropOutput place) = ⊤
 HoldsCall m (standing.UdpCreate place face) = IfSome (udp2_at m.store.records place) IsCreating
-HoldsCall m (standing.UdpBind place) = IfSome (open_at m.store.records place) (λ o. IsUdpBinding o.in_progress)
+HoldsCall m (standing.UdpBind place face) = IfSome (open_at m.store.records place) (λ o. IsUdpBinding o.in_progress)
 HoldsCall m (standing.UdpConnect place handle) = IfSome (open_at m.store.records place) (λ o. IsUdpConnecting o.connecting)
 HoldsCall m (standing.DropOutgoing place) = ⊤
 HoldsCall m (standing.Blocking call) = ⊤
@@ -256,10 +258,10 @@ UdpConnectWaits None entries = ⊥
 -- the call waits: the last ask of the bind, of the listen, of the create or of the connect was answered pending, or the output's
 -- writer waits, or a datagram of the stream isn't sent yet
 abbrev pub CallWaits : Machine → OpId → List Entry → StandingCall → Type 0
-CallWaits m own entries (standing.Bind place) = IsSomeAnd (tcp2_at m.store.records place) (λ r. BindWaits r.in_progress entries)
+CallWaits m own entries (standing.Bind place face) = IsSomeAnd (tcp2_at m.store.records place) (λ r. BindWaits r.in_progress entries)
 CallWaits m own entries (standing.Listen place) = IsSomeAnd (tcp2_at m.store.records place) (λ r. ListenWaits r.listening entries)
 CallWaits m own entries (standing.UdpCreate place face) = IsSomeAnd (udp2_at m.store.records place) (λ u. CreateWaits u entries)
-CallWaits m own entries (standing.UdpBind place) = IsSomeAnd (open_at m.store.records place) (λ o. UdpBindWaits o.in_progress entries)
+CallWaits m own entries (standing.UdpBind place face) = IsSomeAnd (open_at m.store.records place) (λ o. UdpBindWaits o.in_progress entries)
 CallWaits m own entries (standing.UdpConnect place handle) = IsSomeAnd (open_at m.store.records place) (λ o. UdpConnectWaits o.connecting entries)
 CallWaits m own entries (standing.DropOutgoing place) = IsSomeAnd (open_at m.store.records place) (λ o. (sends o.outgoing ≡ true) × (entries ≡ []))
 CallWaits m own entries (standing.Blocking call) = ⊤
@@ -304,13 +306,15 @@ pub data UdpConnectFails (op : Operation) (entries : List Entry) : ErrorCode →
 pub data CallFails (m : Machine) (entries : List Entry) : StandingCall → ErrorCode → Type 0 where
   CreateFailed : (place : ℕ) (face : Interface) (create : Create) (c : ErrorCode) → udp2_at m.store.records place ≡ Some (udp.Creating create) → EndsClosing create.operation.who (call.UdpWritable create.operation.who.side) (told.Code c) entries → CallFails m entries (standing.UdpCreate place face) c
   UdpConnectFailed : (place handle : ℕ) (o : OpenUdp) (op : Operation) (c : ErrorCode) → open_at m.store.records place ≡ Some o → o.connecting ≡ Some op → UdpConnectFails op entries c → CallFails m entries (standing.UdpConnect place handle) c
-  UdpBindFailed : (place : ℕ) (o : OpenUdp) (op : Operation) (c : ErrorCode) → open_at m.store.records place ≡ Some o → o.in_progress ≡ udp_doing.Binding op → UdpBindFails op entries c → CallFails m entries (standing.UdpBind place) c
-  BindFailed : (place : ℕ) (r : TcpRecord) (op : Operation) (c : ErrorCode) → tcp2_at m.store.records place ≡ Some r → r.in_progress ≡ Binding op → BindFails op entries c → CallFails m entries (standing.Bind place) c
+  UdpBindFailed : (place : ℕ) (face : Interface) (o : OpenUdp) (op : Operation) (c : ErrorCode) → open_at m.store.records place ≡ Some o → o.in_progress ≡ udp_doing.Binding op → UdpBindFails op entries c → CallFails m entries (standing.UdpBind place face) c
+  BindFailed : (place : ℕ) (face : Interface) (r : TcpRecord) (op : Operation) (c : ErrorCode) → tcp2_at m.store.records place ≡ Some r → r.in_progress ≡ Binding op → BindFails op entries c → CallFails m entries (standing.Bind place face) c
   ListenFailed : (place : ℕ) (r : TcpRecord) (op : Operation) (c : ErrorCode) → tcp2_at m.store.records place ≡ Some r → r.listening ≡ listening.Begins op → ListenEnds op entries c → CallFails m entries (standing.Listen place) c
 
 -- the word of a code that a pending call fails with: that of its interface
 abbrev pub word_for : StandingCall → ErrorCode → CodeWord
+word_for (standing.Bind place P3) c = p3_word c
 word_for (standing.UdpCreate place P3) c = p3_word c
+word_for (standing.UdpBind place P3) c = p3_word c
 word_for call c = word_of_code c
 
 -- A call is pending under this number, and failed with a code of this word.

@@ -200,7 +200,7 @@ module _ (side : OpId) (given : List ℕ) where
             put_kept es h place r (opened_by r c) g (follows_state r (opened_by r c) refl refl (λ x p. ap side_in e ∙ p))
             (λ held v a. opens_agree es held c r.streams f (subst (λ (t : TcpState). StreamsShape t r.streams) e (b.1 place r g).0) a) k
         moves es _ _ (BeginsConnect h place r x a bound at g d to known idle o) says makes b k = spends es _ h.own o (put_same es h place r _ g (follows_state r _ refl refl (λ x p. ap side_in d ∙ p)) refl k)
-        moves es _ _ (BeginsBind h place r x a at g d to idle o) says makes b k = spends es _ h.own o (put_same es h place r _ g (record { side = refl; lives = λ x v. v }) refl k)
+        moves es _ _ (BeginsBind h place r x a at g d to o) says makes b k = spends es _ h.own o (put_same es h place r _ g (record { side = refl; lives = λ x v. v }) refl k)
         moves es _ _ (BeginsWrite h place number r s half permit bytes at g e w within o) says makes b k =
             record { held = given; stands = begins es h place number r s half permit bytes g e w (subst (StreamsShape r.inner.state) e (b.1 place r g).0) b.0.1 k (is_same half.side side) refl (subst (λ (x : Own). Owes x k.held) o k.owes); owes = refl }
         moves es _ _ (BeginsListen h place r x p g d bound none to idle o) says makes b k = spends es _ h.own o (put_same es h place r _ g (follows_begun line h place r x g d b.0.1) refl k)
@@ -216,7 +216,7 @@ module _ (side : OpId) (given : List ℕ) where
               owes = i.owes;
             }
         moves es _ _ (UdpChanges h place o now g p keeps) says makes b k = put_udp_kept es h place (UdpRecord.Open o) (UdpRecord.Open now) g k
-        moves es _ _ (BeginsUdpBind h place o a at g to idle own) says makes b k = spends es _ h.own own (put_udp_kept es h place (UdpRecord.Open o) (UdpRecord.Open _) g k)
+        moves es _ _ (BeginsUdpBind h place o a at g to own) says makes b k = spends es _ h.own own (put_udp_kept es h place (UdpRecord.Open o) (UdpRecord.Open _) g k)
         moves es _ _ (BeginsUdpConnect h place o a at g to bound none own) says makes b k = owns es _ h.own Unused (ToConnect place) own (λ held p. p) (put_udp_kept es h place (UdpRecord.Open o) (UdpRecord.Open _) g k)
         moves es _ _ (BeginsSend h place part o out d bound at g e is known own) says makes b k = owns es _ h.own (Names part) (Names (part + 1)) own (λ held p. p) (put_udp_kept es h place (UdpRecord.Open o) (UdpRecord.Open _) g k)
         moves es _ _ (BeginsReceive h place part o inc bound at g e is own) says makes b k = owns es _ h.own (Names part) (Names (part + 1)) own (λ held p. p) (put_udp_kept es h place (UdpRecord.Open o) (UdpRecord.Open _) g k)

@@ -71,7 +71,7 @@ module _ (side : OpId) (line : ℕ) where
     moves_spent _ _ (walk.Reconnects h place r c now g e s t u) i = put_same h place r _ g refl refl i
     moves_spent _ _ (walk.Opens h place r c d g e n) i = put_same h place r _ g refl refl i
     moves_spent _ _ (walk.BeginsConnect h place r x a bound at g d to known idle own) i = put_used h place r _ g refl refl i
-    moves_spent _ _ (walk.BeginsBind h place r x a at g d to idle own) i = put_used h place r _ g refl refl i
+    moves_spent _ _ (walk.BeginsBind h place r x a at g d to own) i = put_used h place r _ g refl refl i
     moves_spent _ _ (walk.BeginsWrite h place n r s half permit bytes at g e w within own) i = put_used h place r _ g refl refl i
     moves_spent _ _ (walk.BeginsListen h place r x at g d bound none to idle own) i = spent_own h.own Own.Used _ (older_used line h.own) (put_bare h place r _ g refl refl i)
     moves_spent _ _ (walk.BeginsAccept h place n r l at g e a own) i =
@@ -84,7 +84,7 @@ module _ (side : OpId) (line : ℕ) where
         let idle = accepting_now r l accepting.Idle in
         spent_push h.own (tcp2_put h.machine.store.records place idle) (joined l new peer) (λ c. elim c [ inl q ↦ i.none place r g (inr (ap accept_name e ∙ (ap name_in a ∙ q))) | inr q ↦ absurd (cc) ]) (put_bare h place r idle g refl refl i)
     moves_spent _ _ (walk.UdpChanges h place o now g p keeps) i = spent_by h.own _ _ (put_was udp_sort tcp_sort (λ t. refl) h.machine.store.records place _) i
-    moves_spent _ _ (walk.BeginsUdpBind h place o a at g to idle own) i = spent_own h.own Own.Used _ (older_used line h.own) (spent_by h.own _ _ (put_was udp_sort tcp_sort (λ t. refl) h.machine.store.records place _) i)
+    moves_spent _ _ (walk.BeginsUdpBind h place o a at g to own) i = spent_own h.own Own.Used _ (older_used line h.own) (spent_by h.own _ _ (put_was udp_sort tcp_sort (λ t. refl) h.machine.store.records place _) i)
     moves_spent _ _ (walk.BeginsUdpConnect h place o a at g to bound none own) i = spent_own h.own (Own.ToConnect place) _ (grows_to line h.own Own.Unused (Own.ToConnect place) own (older_unused line (Own.ToConnect place))) (spent_by h.own _ _ (put_was udp_sort tcp_sort (λ t. refl) h.machine.store.records place _) i)
     moves_spent _ _ (walk.BeginsSend h place n o out d bound at g e is known own) i = spent_own h.own (Own.Names (n + 1)) _ (next_grows line n h.own own) (spent_by h.own _ _ (put_was udp_sort tcp_sort (λ t. refl) h.machine.store.records place _) i)
     moves_spent _ _ (walk.BeginsReceive h place n o inc bound at g e is own) i = spent_own h.own (Own.Names (n + 1)) _ (next_grows line n h.own own) (spent_by h.own _ _ (put_was udp_sort tcp_sort (λ t. refl) h.machine.store.records place _) i)

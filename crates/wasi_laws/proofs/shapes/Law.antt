@@ -137,7 +137,7 @@ module _ (contexts : List WasiSocketsCtx) (line : ℕ) (origin : Step) where
       let k = reconnected c now r.streams r.listening refl (λ t. refl) (subst (λ (x : TcpState). StreamsShape x r.streams × ListenerShape x r.listening) e (i place r g)) in
       put_shape h place (opened_by r c) (record { connection = now; is = refl; taken = refl; reader = λ half d. (let q : record { side = c.side } ≡ half = cc in ap (λ y. y.side) (sym q)); writer = refl }, k.1) i
   moves_shape _ _ (BeginsConnect h place r side a bound at g d to known idle own) i = put_shape h place _ (restates r _ (λ c e. let p : state.Default side ≡ state.Connected c = sym d ∙ e in absurd (cc)) (λ x e. let p : state.Default side ≡ state.Listening x = sym d ∙ e in absurd (cc)) (i place r g)) i
-  moves_shape _ _ (BeginsBind h place r side a at g d to idle own) i = put_shape h place _ (i place r g) i
+  moves_shape _ _ (BeginsBind h place r side a at g d to own) i = put_shape h place _ (i place r g) i
   moves_shape _ _ (BeginsWrite h place part r s half permit bytes at g e w within own) i = write_shape h place part r s half permit bytes g e w i
   moves_shape _ _ (BeginsListen h place r side at g d bound none to idle own) i =
       let k = restates r (state.Closed _) (λ c e. let p : state.Default side ≡ state.Connected c = sym d ∙ e in absurd (cc)) (λ x e. let p : state.Default side ≡ state.Listening x = sym d ∙ e in absurd (cc)) (i place r g) in put_shape h place _ (k.0, tt) i
@@ -149,7 +149,7 @@ module _ (contexts : List WasiSocketsCtx) (line : ℕ) (origin : Step) where
       let idle : TcpRecord = accepting_now r l _ in
       push_shape (tcp2_put h.machine.store.records place idle) (joined l new peer) (record { connection = _; is = refl; taken = refl; reader = λ half d. (let q : record { side = new } ≡ half = cc in ap (λ y. y.side) (sym q)); writer = refl }, tt) (put_shape h place idle (k.0, accepts_shape r l e k) i)
   moves_shape _ _ (UdpChanges h place o now g p keeps) i = udp_shape h place _ i
-  moves_shape _ _ (BeginsUdpBind h place o a at g to idle own) i = udp_shape h place _ i
+  moves_shape _ _ (BeginsUdpBind h place o a at g to own) i = udp_shape h place _ i
   moves_shape _ _ (BeginsUdpConnect h place o a at g to bound none own) i = udp_shape h place _ i
   moves_shape _ _ (BeginsSend h place part o out d bound at g e is known own) i = udp_shape h place _ i
   moves_shape _ _ (BeginsReceive h place part o inc bound at g e is own) i = udp_shape h place _ i

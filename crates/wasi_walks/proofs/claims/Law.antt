@@ -306,7 +306,7 @@ module _ (contexts : List WasiSocketsCtx) (line : ℕ) (origin : Step) where
   moves_named _ _ (Reconnects h place r c now g e s t u) n = put_inner h place r _ g refl refl (λ x p. ap side_in e ∙ (ap (λ (y : OpId). Some y) (sym s) ∙ p)) n
   moves_named _ _ (Opens h place r c d g e k) n = put_inner h place r _ g refl refl (λ x p. ap side_in e ∙ p) n
   moves_named _ _ (BeginsConnect h place r side a bound at g d to known idle own) n = put_spent h place r _ g refl refl (λ x p. ap side_in d ∙ p) n
-  moves_named _ _ (BeginsBind h place r side a at g d to idle own) n = put_spent h place r _ g refl refl (λ x p. p) n
+  moves_named _ _ (BeginsBind h place r side a at g d to own) n = put_spent h place r _ g refl refl (λ x p. p) n
   moves_named _ _ (BeginsWrite h place number r s half permit bytes at g e w within own) n = put_spent h place r _ g refl refl (λ x p. p) n
   moves_named _ _ (BeginsListen h place r side at g d bound none to idle own) n =
       let now = beginning_listen (own_of line) side r in
@@ -332,7 +332,7 @@ module _ (contexts : List WasiSocketsCtx) (line : ℕ) (origin : Step) where
       let j = push_named line mid (joined l new peer) h.own refl (λ x p. (let s : new ≡ x = cc in subst (λ (y : OpId). IsOlder line h.own y × Fresh mid y × FreshUdp mid y) s (n.older new place r g (inr name), taken_fresh h place r (accepting_now r l Accepting.Idle) new g name refl refl n, λ i v f q. n.udps.apart new place i r v g (put_was tcp_sort udp_sort (λ t. refl) h.machine.store.records place (accepting_now r l Accepting.Idle) i v f) (inr name) q))) (λ x p. p) (λ op p. absurd (cc)) (λ x o. o) k in
       record { one = j.one; apart = j.apart; older = j.older; named = j.named; held = j.held; udps = record { one = j.udps.one; apart = j.udps.apart; older = j.udps.older } }
   moves_named _ _ (UdpChanges h place o now g p keeps) n = put_udp_named line h place (UdpRecord.Open o) (UdpRecord.Open now) g p.side n
-  moves_named _ _ (BeginsUdpBind h place o a at g to idle own) n = put_udp_by line h place (UdpRecord.Open o) (UdpRecord.Open _) g refl n Used (older_used line h.own)
+  moves_named _ _ (BeginsUdpBind h place o a at g to own) n = put_udp_by line h place (UdpRecord.Open o) (UdpRecord.Open _) g refl n Used (older_used line h.own)
   moves_named _ _ (BeginsUdpConnect h place o a at g to bound none own) n = put_udp_by line h place (UdpRecord.Open o) (UdpRecord.Open _) g refl n (ToConnect place) (older_used line h.own)
   moves_named _ _ (BeginsSend h place part o out d bound at g e is known own) n = put_udp_by line h place (UdpRecord.Open o) (UdpRecord.Open _) g refl n (Names (part + 1)) (next_grows line part h.own own)
   moves_named _ _ (BeginsReceive h place part o inc bound at g e is own) n = put_udp_by line h place (UdpRecord.Open o) (UdpRecord.Open _) g refl n (Names (part + 1)) (next_grows line part h.own own)

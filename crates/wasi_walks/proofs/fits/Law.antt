@@ -37,7 +37,7 @@ use Rattle.wasi_udp.specs.Shape.{Socket as UdpSocket}
 use Rattle.wasi_walks.proofs.fits.UdpPolls.{LeavesCreate, create_left, create_fits}
 use Rattle.wasi_walks.proofs.fits.DatagramPolls.{LeavesConnect, datagram_left, received_left, udp_connect_leaves, wanted_left}
 use Rattle.wasi_walks.proofs.fits.TcpFits.{first_of, ended_fits, listened_fits, bound_fits, accepted_fits, joined_fits}
-use Rattle.wasi_walks.proofs.fits.UdpFits.{KeepsOpen, same_udp, same_open, no_open, stays_open, idle_keeps, plain_open, plain_fits, inner_fits, bound_udp, connected_udp, begun_send, sends_on, sent_udp, begun_receive, receives_on, received_udp}
+use Rattle.wasi_walks.proofs.fits.UdpFits.{KeepsOpen, same_udp, same_open, no_open, stays_open, plain_open, plain_fits, inner_fits, bound_udp, connected_udp, begun_send, sends_on, sent_udp, begun_receive, receives_on, received_udp}
 use Rattle.wasi_walks.proofs.walks.Moves.{ToConnect, with_records, SameSockets, Finds, put_udp, FoundUdp, udp_begun, begun_udp_bind, begun_udp_connect, sending_now, receiving_now, part_of, UdpChanges, BeginsUdpBind, StandsUdpBind, StandsUdpCreate, BeginsUdpConnect, StandsUdpConnect, StandsDropOutgoing, BeginsSend, BeginsReceive, UdpCreates, UdpBindsOn, UdpConnectsOn, SendsOn, ReceivesOn, GivesBack, without_record}
 use Rattle.wasi_records.specs.declared.records.Record.{Record}
 use Rattle.wasi_walks.proofs.Places.{push_found, push_new, push_still, push_was, put_found, put_stays, put_still, put_was, tcp_sort, udp_sort}
@@ -55,7 +55,7 @@ KeepsBind h r now = NoStart h ⊎ ((HasBinding r.in_progress → HasBinding now.
 -- one record changes
 module _ (h : Here) (place : ℕ) (r now : TcpRecord) (g : Found h place r) (k : KeepsBind h r now) where
   call_put : (c : Standing) → h.machine.store.standing ≡ Some c → (call : StandingCall) → c.call ≡ call → FitCall h.machine.store.records call → FitCall (tcp2_put h.machine.store.records place now) call
-  call_put c e (StandingCall.Bind n) q b = elim (put_stays tcp_sort h.machine.store.records place now n b.was b.at) [
+  call_put c e (StandingCall.Bind n face) q b = elim (put_stays tcp_sort h.machine.store.records place now n b.was b.at) [
     | inl p ↦ record { was = b.was; at = p; goes = b.goes }
     | inr p ↦ record { was = now; at = p.1; goes = goes (ap (tcp2_at h.machine.store.records) (sym p.0) ∙ b.at) }
   ]
@@ -77,7 +77,7 @@ module _ (h : Here) (place : ℕ) (r now : TcpRecord) (g : Found h place r) (k :
       goes at = let same : b.was ≡ r = cc in elim k [ inl quiet ↦ absurd (none quiet) | inr f ↦ f.1 (subst (λ (x : TcpRecord). HasListen x.listening) same b.goes) ]
   call_put c e (StandingCall.DropOutput n) q b = tt
   call_put c e (StandingCall.UdpCreate n face) q b = record { was = b.was; at = put_still tcp_sort udp_sort (λ t. refl) h.machine.store.records place r now n (UdpRecord.Creating b.was) g b.at }
-  call_put c e (StandingCall.UdpBind n) q b = record { was = b.was; at = put_still tcp_sort udp_sort (λ t. refl) h.machine.store.records place r now n (UdpRecord.Open b.was) g b.at; op = b.op; goes = b.goes }
+  call_put c e (StandingCall.UdpBind n face) q b = record { was = b.was; at = put_still tcp_sort udp_sort (λ t. refl) h.machine.store.records place r now n (UdpRecord.Open b.was) g b.at; op = b.op; goes = b.goes }
   call_put c e (StandingCall.UdpConnect n handle) q b = record { was = b.was; at = put_still tcp_sort udp_sort (λ t. refl) h.machine.store.records place r now n (UdpRecord.Open b.was) g b.at; op = b.op; goes = b.goes }
   call_put c e (StandingCall.DropOutgoing n) q b = tt
   call_put c e (StandingCall.Blocking call) q b = tt
@@ -91,11 +91,11 @@ module _ (h : Here) (place : ℕ) (r now : TcpRecord) (g : Found h place r) (k :
 
 -- the sockets that were there are there
 call_kept : (records now : List Record) → ((k : ℕ) (r : TcpRecord) → tcp2_at records k ≡ Some r → tcp2_at now k ≡ Some r) → ((k : ℕ) (u : UdpRecord) → udp2_at records k ≡ Some u → udp2_at now k ≡ Some u) → (call : StandingCall) → FitCall records call → FitCall now call
-call_kept records now t u (StandingCall.Bind n) b = record { was = b.was; at = t n b.was b.at; goes = b.goes }
+call_kept records now t u (StandingCall.Bind n face) b = record { was = b.was; at = t n b.was b.at; goes = b.goes }
 call_kept records now t u (StandingCall.Listen n) b = record { was = b.was; at = t n b.was b.at; goes = b.goes }
 call_kept records now t u (StandingCall.DropOutput n) b = tt
 call_kept records now t u (StandingCall.UdpCreate n face) b = record { was = b.was; at = u n (UdpRecord.Creating b.was) b.at }
-call_kept records now t u (StandingCall.UdpBind n) b = record { was = b.was; at = u n (UdpRecord.Open b.was) b.at; op = b.op; goes = b.goes }
+call_kept records now t u (StandingCall.UdpBind n face) b = record { was = b.was; at = u n (UdpRecord.Open b.was) b.at; op = b.op; goes = b.goes }
 call_kept records now t u (StandingCall.UdpConnect n handle) b = record { was = b.was; at = u n (UdpRecord.Open b.was) b.at; op = b.op; goes = b.goes }
 call_kept records now t u (StandingCall.DropOutgoing n) b = tt
 call_kept records now t u (StandingCall.Blocking call) b = tt
@@ -121,11 +121,11 @@ fewer_fit h place idle i = record {
 }
 
 call_stands : (records : List Record) (call : StandingCall) (r : TcpRecord) → tcp2_at records (call_place call) ≡ Some r → GoesOn call r → FitCall records call
-call_stands records (StandingCall.Bind n) r g k = record { was = r; at = g; goes = k }
+call_stands records (StandingCall.Bind n face) r g k = record { was = r; at = g; goes = k }
 call_stands records (StandingCall.Listen n) r g k = record { was = r; at = g; goes = k }
 call_stands records (StandingCall.DropOutput n) r g k = tt
 call_stands records (StandingCall.UdpCreate n face) r g k = absurd k
-call_stands records (StandingCall.UdpBind n) r g k = absurd k
+call_stands records (StandingCall.UdpBind n face) r g k = absurd k
 call_stands records (StandingCall.UdpConnect n handle) r g k = absurd k
 call_stands records (StandingCall.DropOutgoing n) r g k = absurd k
 call_stands records (StandingCall.Blocking call) r g k = absurd k
@@ -140,7 +140,7 @@ module _ (h : Here) (place : ℕ) (u now : UdpRecord) (g : FoundUdp h place u) (
   same_was n was at p o = let there : Some (UdpRecord.Open was) ≡ Some u = sym at ∙ (ap (udp2_at h.machine.store.records) p ∙ g) in same_open was o.was (same_udp (UdpRecord.Open was) u there ∙ o.from)
 
   udp_call_put : (c : Standing) → h.machine.store.standing ≡ Some c → (call : StandingCall) → c.call ≡ call → FitCall h.machine.store.records call → FitCall (udp2_put h.machine.store.records place now) call
-  udp_call_put c e (StandingCall.Bind n) q b = record { was = b.was; at = put_still udp_sort tcp_sort (λ t. refl) h.machine.store.records place u now n b.was g b.at; goes = b.goes }
+  udp_call_put c e (StandingCall.Bind n face) q b = record { was = b.was; at = put_still udp_sort tcp_sort (λ t. refl) h.machine.store.records place u now n b.was g b.at; goes = b.goes }
   udp_call_put c e (StandingCall.Listen n) q b = record { was = b.was; at = put_still udp_sort tcp_sort (λ t. refl) h.machine.store.records place u now n b.was g b.at; goes = b.goes }
   udp_call_put c e (StandingCall.DropOutput n) q b = tt
   udp_call_put c e (StandingCall.UdpCreate n face) q b = elim (put_stays udp_sort h.machine.store.records place now n (UdpRecord.Creating b.was) b.at) [
@@ -150,11 +150,11 @@ module _ (h : Here) (place : ℕ) (u now : UdpRecord) (g : FoundUdp h place u) (
       | inr o ↦ (let at : Some (UdpRecord.Creating b.was) ≡ Some u = sym b.at ∙ (ap (udp2_at h.machine.store.records) p.0 ∙ g) in absurd (no_open b.was o.was (same_udp (UdpRecord.Creating b.was) u at ∙ o.from)))
     ]
   ]
-  udp_call_put c e (StandingCall.UdpBind n) q b = elim (put_stays udp_sort h.machine.store.records place now n (UdpRecord.Open b.was) b.at) [
+  udp_call_put c e (StandingCall.UdpBind n face) q b = elim (put_stays udp_sort h.machine.store.records place now n (UdpRecord.Open b.was) b.at) [
     | inl p ↦ record { was = b.was; at = p; op = b.op; goes = b.goes }
     | inr p ↦ elim k [
-      | inl quiet ↦ absurd (none c e (StandingCall.UdpBind n) q quiet)
-      | inr o ↦ record { was = o.is; at = p.1 ∙ ap (λ (x : UdpRecord). Some x) o.to; op = b.op; goes = o.binds b.op (subst (λ (x : OpenUdp). x.in_progress ≡ UdpInProgress.Binding b.op) (same_was n b.was b.at p.0 o) b.goes) }
+      | inl quiet ↦ absurd (none c e (StandingCall.UdpBind n face) q quiet)
+      | inr o ↦ (let next = o.binds b.op (subst (λ (x : OpenUdp). x.in_progress ≡ UdpInProgress.Binding b.op) (same_was n b.was b.at p.0 o) b.goes) in record { was = o.is; at = p.1 ∙ ap (λ (x : UdpRecord). Some x) o.to; op = next.0; goes = next.1 })
     ]
   ]
   udp_call_put c e (StandingCall.UdpConnect n handle) q b = elim (put_stays udp_sort h.machine.store.records place now n (UdpRecord.Open b.was) b.at) [
@@ -266,7 +266,7 @@ module _ (contexts : List WasiSocketsCtx) (line : ℕ) (origin : Step) where
   moves_fit _ _ (Opens h place r c k g e n) i = put_fit h place r _ g (inr (λ b. absurd (no_binding r.in_progress k b), λ l. l)) (tt, (i.records place r g).1, tt) i
   moves_fit _ _ (BeginsConnect h place r side a bound at g d to known idle own) i =
       let k = put_fit h place r _ g (inr (λ b. b, λ l. l)) (first_of (own_of line) side r.inner.maker (wildcard r.inner.family) a bound, (i.records place r g).1, idle_binding r.in_progress idle _) i in record { records = k.records; udps = k.udps; stands = k.stands }
-  moves_fit _ _ (BeginsBind h place r side a at g d to idle own) i =
+  moves_fit _ _ (BeginsBind h place r side a at g d to own) i =
       let f = i.records place r g in
       let k = put_fit h place r (with_progress r (InProgress.Binding (begun_bind (own_of line) side r a))) g (inr (λ b. tt, λ l. l)) (f.0, f.1, (d, record { last = refl; left = binding.Unchecked a })) i in record { records = k.records; udps = k.udps; stands = k.stands }
   moves_fit _ _ (BeginsWrite h place n r s half permit bytes at g e w within own) i = write_fit h place r s (WriteState.Writing (new_job (own_of n) half.side bytes)) Used g i
@@ -289,17 +289,17 @@ module _ (contexts : List WasiSocketsCtx) (line : ℕ) (origin : Step) where
   moves_fit _ _ (Stands h ids call r quiet at g b) i = stood_fit h ids call (call_stands h.machine.store.records call r g b) i
   moves_fit _ _ (Unstands h over) i = record { records = i.records; udps = i.udps; stands = λ c p. absurd (cc) }
   moves_fit _ _ (UdpChanges h place o now g p keeps) i = put_udp_fit h place (UdpRecord.Open o) (UdpRecord.Open now) g (inr (plain_open o now p)) (plain_fits o now p (i.udps place (UdpRecord.Open o) g)) i
-  moves_fit _ _ (BeginsUdpBind h place o a at g to idle own) i =
+  moves_fit _ _ (BeginsUdpBind h place o a at g to own) i =
       let f = i.udps place (UdpRecord.Open o) g in
       let now : OpenUdp = with_udp_progress o (UdpInProgress.Binding (begun_udp_bind (own_of line) o a)) in
-      begun_udp_fit h place o now Used g (record { was = o; is = now; from = refl; to = refl; binds = λ op e. absurd (idle_keeps o.in_progress idle op e); connects = λ op e. (op, e) }) (record { bind = record { last = refl; left = udp.Unchecked a }; of_side = refl }, f.1, f.2, f.3) i
-  moves_fit _ _ (StandsUdpBind h ids place o op quiet at g e) i = stood_fit h ids (StandingCall.UdpBind place) (record { was = o; at = g; op = op; goes = e }) i
+      begun_udp_fit h place o now Used g (record { was = o; is = now; from = refl; to = refl; binds = λ op e. (begun_udp_bind (own_of line) o a, refl); connects = λ op e. (op, e) }) (record { bind = record { last = refl; left = udp.Unchecked a }; of_side = refl }, f.1, f.2, f.3) i
+  moves_fit _ _ (StandsUdpBind h ids place face o op quiet at g e) i = stood_fit h ids (StandingCall.UdpBind place face) (record { was = o; at = g; op = op; goes = e }) i
   moves_fit _ _ (StandsUdpCreate h ids place face create quiet m g) i = stood_fit h ids (StandingCall.UdpCreate place face) (record { was = create; at = g }) i
   moves_fit _ _ (BeginsUdpConnect h place o a at g to bound none own) i =
       let f = i.udps place (UdpRecord.Open o) g in
       let op = begun_udp_connect (own_of line) o a in
       let now : OpenUdp = record o { connecting = Some op } in
-      begun_udp_fit h place o now (ToConnect place) g (record { was = o; is = now; from = refl; to = refl; binds = λ x e. e; connects = λ x e. (op, refl) }) (f.0, record { connect = record { last = refl; left = binding.ConnectUnchecked o.inner.family a }; of_side = refl }, f.2, f.3) i
+      begun_udp_fit h place o now (ToConnect place) g (record { was = o; is = now; from = refl; to = refl; binds = λ x e. (x, e); connects = λ x e. (op, refl) }) (f.0, record { connect = record { last = refl; left = binding.ConnectUnchecked o.inner.family a }; of_side = refl }, f.2, f.3) i
   moves_fit _ _ (StandsUdpConnect h ids place handle o op quiet at under g e) i = stood_fit h ids (StandingCall.UdpConnect place handle) (record { was = o; at = g; op = op; goes = e }) i
   moves_fit _ _ (StandsDropOutgoing h ids place o quiet at g s) i = stood_fit h ids (StandingCall.DropOutgoing place) tt i
   moves_fit _ _ (BeginsSend h place n o out d bound at g e is known own) i =

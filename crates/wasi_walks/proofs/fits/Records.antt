@@ -112,11 +112,11 @@ FitUdp _ = ⊤
 
 -- where a bind, a listen, a create or a connect is pending, it is in progress
 abbrev pub FitCall : List Record → StandingCall → Type 0
-FitCall records (StandingCall.Bind place) = BindGoesOn records place
+FitCall records (StandingCall.Bind place face) = BindGoesOn records place
 FitCall records (StandingCall.Listen place) = ListenGoesOn records place
 FitCall records (StandingCall.DropOutput place) = ⊤
 FitCall records (StandingCall.UdpCreate place face) = UdpCreateGoesOn records place
-FitCall records (StandingCall.UdpBind place) = UdpBindGoesOn records place
+FitCall records (StandingCall.UdpBind place face) = UdpBindGoesOn records place
 FitCall records (StandingCall.UdpConnect place handle) = UdpConnectGoesOn records place
 FitCall records (StandingCall.DropOutgoing place) = ⊤
 FitCall records (StandingCall.Blocking call) = ⊤

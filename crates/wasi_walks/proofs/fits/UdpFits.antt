@@ -29,13 +29,13 @@ use Rattle.wasi_walks.proofs.walks.Moves.{IsUdpSettled, SettlesSend, UdpPlain, r
 use Rattle.wasi_walks.proofs.fits.DatagramPolls.{LeavesConnect}
 use Rattle.wasi_walks.proofs.fits.Records.{FitConnecting, FitReceiving, FitSending, FitUdp, FitUdpProgress, ReceiveOn, SendOn, UdpBindOn, UdpConnectOn}
 
--- it stays open, with the bind that was in progress, and with a connect where one was
+-- it stays open, with a bind in progress where one was, and with a connect likewise
 pub record KeepsOpen (u now : UdpRecord) : Type 0 where
   pub was : OpenUdp
   pub is : OpenUdp
   pub from : u ≡ UdpRecord.Open was
   pub to : now ≡ UdpRecord.Open is
-  pub binds : (op : Operation) → was.in_progress ≡ UdpInProgress.Binding op → is.in_progress ≡ UdpInProgress.Binding op
+  pub binds : (op : Operation) → was.in_progress ≡ UdpInProgress.Binding op → (next : Operation) × (is.in_progress ≡ UdpInProgress.Binding next)
   pub connects : (op : Operation) → was.connecting ≡ Some op → (next : Operation) × (is.connecting ≡ Some next)
 
 -- the same record is the same socket
@@ -52,13 +52,7 @@ no_open c o e = absurd (cc)
 
 -- what it is in the middle of is the same
 pub stays_open : (o now : OpenUdp) → now.in_progress ≡ o.in_progress → now.connecting ≡ o.connecting → KeepsOpen (UdpRecord.Open o) (UdpRecord.Open now)
-stays_open o now d c = record { was = o; is = now; from = refl; to = refl; binds = λ op e. d ∙ e; connects = λ op e. (op, c ∙ e) }
-
--- a socket in the middle of nothing isn't bound
-pub idle_keeps : (doing : UdpInProgress) → is_udp_idle doing ≡ true → (op : Operation) → doing ≡ UdpInProgress.Binding op → ⊥
-idle_keeps UdpInProgress.Nothing e op q = absurd (cc)
-idle_keeps UdpInProgress.Bound e op q = absurd (cc)
-idle_keeps (UdpInProgress.Binding x) e op q = absurd (cc)
+stays_open o now d c = record { was = o; is = now; from = refl; to = refl; binds = λ op e. (op, d ∙ e); connects = λ op e. (op, c ∙ e) }
 
 -- == what is no operation's own change
 -- the bind in progress stays, or none was
@@ -68,7 +62,7 @@ plain_binds old now (inr s) op e = absurd (subst IsUdpSettled e s.0)
 
 -- so it stays open
 pub plain_open : (o now : OpenUdp) → UdpPlain o now → KeepsOpen (UdpRecord.Open o) (UdpRecord.Open now)
-plain_open o now p = record { was = o; is = now; from = refl; to = refl; binds = plain_binds o.in_progress now.in_progress p.binds; connects = λ op e. (op, p.connects ∙ e) }
+plain_open o now p = record { was = o; is = now; from = refl; to = refl; binds = λ op e. (op, plain_binds o.in_progress now.in_progress p.binds op e); connects = λ op e. (op, p.connects ∙ e) }
 
 -- and what it is bound by fits
 plain_progress : (side : OpId) (old now : UdpInProgress) → (now ≡ old) ⊎ (IsUdpSettled old × IsUdpSettled now) → FitUdpProgress side old → FitUdpProgress side now

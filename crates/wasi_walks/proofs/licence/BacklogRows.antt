@@ -1,4 +1,5 @@
 -- The definitions on logs where a backlog is set: that of a run, which is licensed, and others, which are not.
+use Rattle.socket_common.specs.declared.setting.Setting.{Setting}
 use Rattle.wasi_walks.proofs.Words.{Call, Entry, Give, InProgress, IsBacklogSet, IsLicensed, Left, List, Machine, None, OpId, Reply}
 use Rattle.wasi_walks.proofs.Words.{SocketAddressFamily, Some, GuestCall, Step, TcpSetting, Told, [], ap, bind, entry, first_state, no_fields, number_fields}
 use Rattle.wasi_walks.proofs.Words.{own_of, polls, refl, run, ⊤, ◌++◌, ◌∷◌, ◌≡◌}
@@ -20,7 +21,7 @@ script = bind_script
     ∷ Step.Call 0 (GuestCall.TcpStartListen 2)
     ∷ Step.Call 0 (GuestCall.TcpFinishListen 2)
     ∷ Step.Call 0 (GuestCall.TcpSet 2 (TcpSetting.ListenBacklogSize 9))
-    ∷ Step.Call 0 (GuestCall.TcpSet 2 (TcpSetting.HopLimit 3))
+    ∷ Step.Call 0 (GuestCall.TcpSet 2 (TcpSetting.Option (Setting.HopLimit 3)))
     ∷ Step.Call 0 (GuestCall.TcpGet 2 opt.HopLimit)
     ∷ [])
 
@@ -82,7 +83,7 @@ by_a_bind h =
 by_another_set : IsLicensed allowed script (listens Told.Done ++ set_by (own_of 9) ∷ []) [] → ⊥
 by_another_set h =
     let may = h.each (listens Told.Done) (set_by (own_of 9)) [] refl in
-    at_line (IsBacklogSet 9) (Step.Call 0 (GuestCall.TcpSet 2 (TcpSetting.HopLimit 3))) may.1.origin may.1.at may.1.holds
+    at_line (IsBacklogSet 9) (Step.Call 0 (GuestCall.TcpSet 2 (TcpSetting.Option (Setting.HopLimit 3)))) may.1.origin may.1.at may.1.holds
 
 -- == another option than that of the line is asked for, or another value set
 another_option : IsLicensed allowed script (listens Told.Done ++ entry (own_of 10) (Call.GetOption (own_of 2) opt.SendBufferSize) (Told.Value 3) ∷ []) [] → ⊥
@@ -93,7 +94,7 @@ another_option h =
 another_value : IsLicensed allowed script (listens Told.Done ++ entry (own_of 9) (Call.SetOption (own_of 2) opt.HopLimit 4) Told.Done ∷ []) [] → ⊥
 another_value h =
     let may = h.each (listens Told.Done) (entry (own_of 9) (Call.SetOption (own_of 2) opt.HopLimit 4) Told.Done) [] refl in
-    let is : ◌≡◌ {A = ℕ} 4 3 = (at_line (IsSetTo opt.HopLimit 4) (Step.Call 0 (GuestCall.TcpSet 2 (TcpSetting.HopLimit 3))) may.1.origin may.1.at may.1.holds).1 in
+    let is : ◌≡◌ {A = ℕ} 4 3 = (at_line (IsSetTo opt.HopLimit 4) (Step.Call 0 (GuestCall.TcpSet 2 (TcpSetting.Option (Setting.HopLimit 3)))) may.1.origin may.1.at may.1.holds).1 in
     let same : false ≡ true = ap (λ (n : ℕ). n == 3) is in
     cc
 

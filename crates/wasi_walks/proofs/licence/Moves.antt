@@ -219,7 +219,7 @@ module _ (contexts : List WasiSocketsCtx) (steps : List Step) (line : ℕ) (orig
       } in
       spent es _ (put_fine es h place r (with_inner r (with_state r.inner (TcpState.Connecting op))) g refl (same_listening r.listening) (same_listen r (with_inner r (with_state r.inner (TcpState.Connecting op))) refl refl refl)
       (record_kept steps es r _ (record { keeps = record { maker = refl; family = refl; side = λ s p. e ∙ p; connected = λ c p. absurd (not_default side c (sym d ∙ p)) }; side = refl; streams = refl; listening = refl; binds = inl refl }) socket f) i)
-  moves_fine es _ _ (BeginsBind h place r side a at g d to idle o) b i =
+  moves_fine es _ _ (BeginsBind h place r side a at g d to o) b i =
       let f = i.fine.records place r g in
       let e : side_of r.inner ≡ Some side = ap side_in d in
       let begun : BindIsFine steps es (begun_bind (own_of line) side r a) = record {
@@ -296,9 +296,9 @@ module _ (contexts : List WasiSocketsCtx) (steps : List Step) (line : ℕ) (orig
   moves_fine es _ _ (Resumes h s e o) b i = resumes contexts steps line origin is_line es h s e o i
   moves_fine es _ _ (Unstands h over) b i = elsewhere es h _ refl refl refl i (state_unstands contexts steps es h.machine i.fine) i.names i.udp_names
   moves_fine es _ _ (UdpChanges h place o now g p keeps) b i = udp_changes contexts steps line origin is_line es h place o now g p i
-  moves_fine es _ _ (BeginsUdpBind h place o a at g to idle u) b i = begins_udp_bind contexts steps line origin is_line es h place o a at g to i
-  moves_fine es _ _ (StandsUdpBind h ids place o op quiet at g e) b i =
-      elsewhere es h _ refl refl refl i (state_stands contexts steps es h.machine (standing_as ids (StandingCall.UdpBind place)) (λ c. OfUdp (UdpRecord.Open o) g (i.udp_names place ids.line (UdpRecord.Open o) at g), tt, tt) i.fine) i.names i.udp_names
+  moves_fine es _ _ (BeginsUdpBind h place o a at g to u) b i = begins_udp_bind contexts steps line origin is_line es h place o a at g to i
+  moves_fine es _ _ (StandsUdpBind h ids place face o op quiet at g e) b i =
+      elsewhere es h _ refl refl refl i (state_stands contexts steps es h.machine (standing_as ids (StandingCall.UdpBind place face)) (λ c. OfUdp (UdpRecord.Open o) g (i.udp_names place ids.line (UdpRecord.Open o) at g), tt, tt) i.fine) i.names i.udp_names
   moves_fine es _ _ (StandsUdpCreate h ids place face create quiet m g) b i =
       let made : BeganBy steps create.operation.who.side (MakesUdpFor face) = subst (MakingStands steps) m i.making in
       elsewhere es h _ refl refl refl i (state_stands contexts steps es h.machine (standing_as ids (StandingCall.UdpCreate place face)) (λ c. absurd c, tt, record { found = UdpRecord.Creating create; at = g; made = made }) i.fine) i.names i.udp_names

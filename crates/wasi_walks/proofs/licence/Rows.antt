@@ -7,6 +7,7 @@ use Rattle.wasi_machine.specs.Machine.{first_ids}
 use Rattle.wasi_tcp.specs.declared.bind.BindStage.TheVariants.{Check}
 use Rattle.wasi_walks.proofs.licence.Longer.{licensed}
 use Rattle.wasi_walks.proofs.licence.Runs.{whole_licensed}
+use Rattle.wasi_host.specs.declared.kind.Interface.TheVariants.{P2}
 use Rattle.wasi_world.specs.declared.call.HandleKind.TheVariants as kind
 use Rattle.wasi_steps.specs.declared.reply.CodeWord.TheVariants as word
 use Rattle.wasi_host.specs.declared.kind.Kind.TheVariants as slot
@@ -113,7 +114,7 @@ abbrev stands_replies : List Reply
 stands_replies = Reply.Ok (number_fields 1) ∷ Reply.Ok (number_fields 2) ∷ Reply.Pending 3 ∷ Reply.Busy ∷ Reply.Busy ∷ []
 
 abbrev stands_end : Machine
-stands_end = with_socket 1 SocketAddressFamily.Ipv6 (InProgress.Binding (bind_operation (record { op = own_of 3; side = own_of 2; maker = 1 }) local_six Check)) (Some (standing_as (first_ids 3) (StandingCall.Bind 0)))
+stands_end = with_socket 1 SocketAddressFamily.Ipv6 (InProgress.Binding (bind_operation (record { op = own_of 3; side = own_of 2; maker = 1 }) local_six Check)) (Some (standing_as (first_ids 3) (StandingCall.Bind 0 P2)))
 
 stands_run : Left (run two_contexts [] first_state 1 stands_script) stands_log (Give (stands_replies, stands_end))
 unfolding bind polls

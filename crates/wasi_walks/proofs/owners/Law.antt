@@ -272,7 +272,7 @@ module _ (contexts : List WasiSocketsCtx) (line : ℕ) (origin : Step) where
   moves_owns _ _ (walk.Reconnects h place r c now g e s t u) i = put_owns h place r g _ (λ s. s) i
   moves_owns _ _ (walk.Opens h place r c d g e n) i = put_owns h place r g _ (λ s. refl) i
   moves_owns _ _ (walk.BeginsConnect h place r side a bound at g d to known idle own) i = put_owns h place r g _ (λ s. s) i
-  moves_owns _ _ (walk.BeginsBind h place r side a at g d to idle own) i = put_owns h place r g _ (λ s. s) i
+  moves_owns _ _ (walk.BeginsBind h place r side a at g d to own) i = put_owns h place r g _ (λ s. s) i
   moves_owns _ _ (walk.BeginsWrite h place n r s half permit bytes at g e w within own) i = put_owns h place r g _ (λ s. refl) i
   moves_owns _ _ (walk.BeginsListen h place r side at g d bound none to idle own) i = put_owns h place r g _ (λ s. s) i
   moves_owns _ _ (walk.BeginsAccept h place n r l at g e a own) i = put_owns h place r g _ (λ s. s) i
@@ -297,7 +297,7 @@ module _ (contexts : List WasiSocketsCtx) (line : ℕ) (origin : Step) where
   moves_owns _ _ (walk.CallsHandles h kind calls q) i = (i.0, tt)
   moves_owns _ _ (walk.RecallsCall h ids call e) i = (i.0, tt)
   moves_owns _ _ (walk.UdpChanges h place o now g p keeps) i = put_open h place o g now i
-  moves_owns _ _ (walk.BeginsUdpBind h place o a at g to idle own) i = put_open h place o g _ i
+  moves_owns _ _ (walk.BeginsUdpBind h place o a at g to own) i = put_open h place o g _ i
   moves_owns _ _ (walk.BeginsUdpConnect h place o a at g to bound none own) i = put_open h place o g _ i
   moves_owns _ _ (walk.BeginsSend h place n o out d bound at g e item known own) i = put_open h place o g _ i
   moves_owns _ _ (walk.BeginsReceive h place n o inc bound at g e is own) i = put_open h place o g _ i

@@ -128,7 +128,7 @@ moves_under _ _ (walk.RemembersStreams h c handle place remote is of o g none) i
 moves_under _ _ (walk.RecallsStreams h ids place handle e own) i = record { older = i.older; makes = subst (StandsUnder h.machine.table) e i.stands; stands = i.stands }
 moves_under _ _ (walk.Stands h ids call r quiet at g k) i = stands_so _ _ _ (Some (standing_as ids call)) (goes_under h.machine.table call r k) i
 moves_under _ _ (walk.Unstands h over) i = stands_so _ _ _ None tt i
-moves_under _ _ (walk.StandsUdpBind h ids place o op quiet at g e) i = stands_so _ _ _ (Some (standing_as ids (StandingCall.UdpBind place))) tt i
+moves_under _ _ (walk.StandsUdpBind h ids place face o op quiet at g e) i = stands_so _ _ _ (Some (standing_as ids (StandingCall.UdpBind place face))) tt i
 moves_under _ _ (walk.StandsUdpCreate h ids place face create quiet m g) i = stands_so _ _ _ (Some (standing_as ids (StandingCall.UdpCreate place face))) tt i
 moves_under _ _ (walk.StandsDropOutgoing h ids place o quiet at g e) i = stands_so _ _ _ (Some (standing_as ids (StandingCall.DropOutgoing place))) tt i
 moves_under _ _ (walk.StandsBlocking h ids call handles made its) i = stands_so _ _ _ (Some (standing_as ids (StandingCall.Blocking call))) tt i

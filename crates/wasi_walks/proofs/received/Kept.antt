@@ -103,7 +103,7 @@ module _ (contexts : List WasiSocketsCtx) (line : ℕ) (origin : Step) where
   moves_wanted _ _ (walk.Reconnects h place r c now g e s t u) i = put_tcp _ place _ i
   moves_wanted _ _ (walk.Opens h place r c d g e k) i = put_tcp _ place _ i
   moves_wanted _ _ (walk.BeginsConnect h place r x a bound at g d to known idle own) i = put_tcp _ place _ i
-  moves_wanted _ _ (walk.BeginsBind h place r x a at g d to idle own) i = put_tcp _ place _ i
+  moves_wanted _ _ (walk.BeginsBind h place r x a at g d to own) i = put_tcp _ place _ i
   moves_wanted _ _ (walk.BeginsWrite h place n r s half permit bytes at g e w within own) i = put_tcp _ place _ i
   moves_wanted _ _ (walk.BeginsListen h place r x at g d bound none to idle own) i = put_tcp _ place _ i
   moves_wanted _ _ (walk.BeginsAccept h place part r l at g e a own) i = put_tcp _ place _ i
@@ -111,7 +111,7 @@ module _ (contexts : List WasiSocketsCtx) (line : ℕ) (origin : Step) where
   moves_wanted _ _ (walk.Forgets h place r l c g e a) i = put_tcp _ place _ i
   moves_wanted _ _ (walk.Joins h c handle place r l new peer is of u g e a) i = push_tcp _ (joined l new peer) (put_tcp _ place _ i)
   moves_wanted _ _ (walk.UdpChanges h place o now g p keeps) i = put_udps _ place (UdpRecord.Open now) (plain_wanted o now p (i place (UdpRecord.Open o) g)) i
-  moves_wanted _ _ (walk.BeginsUdpBind h place o a at g to idle own) i = put_udps _ place (UdpRecord.Open _) (i place (UdpRecord.Open o) g) i
+  moves_wanted _ _ (walk.BeginsUdpBind h place o a at g to own) i = put_udps _ place (UdpRecord.Open _) (i place (UdpRecord.Open o) g) i
   moves_wanted _ _ (walk.BeginsUdpConnect h place o a at g to bound none own) i = put_udps _ place (UdpRecord.Open _) (i place (UdpRecord.Open o) g) i
   moves_wanted _ _ (walk.BeginsSend h place n o out d bound at g e is known own) i = put_udps _ place (UdpRecord.Open _) (i place (UdpRecord.Open o) g) i
   moves_wanted _ _ (walk.BeginsReceive h place n o inc bound at g e is own) i = put_udps _ place (UdpRecord.Open _) tt i

@@ -155,7 +155,7 @@ module _ (side : OpId) (from : ℕ) where
     moves_late es _ _ (walk.Reconnects h place r c now g e s t u) i = put_tcp side from es _ place _ i
     moves_late es _ _ (walk.Opens h place r c d g e k) i = put_tcp side from es _ place _ i
     moves_late es _ _ (walk.BeginsConnect h place r x a bound at g d to known idle own) i = put_tcp side from es _ place _ i
-    moves_late es _ _ (walk.BeginsBind h place r x a at g d to idle own) i = put_tcp side from es _ place _ i
+    moves_late es _ _ (walk.BeginsBind h place r x a at g d to own) i = put_tcp side from es _ place _ i
     moves_late es _ _ (walk.BeginsWrite h place n r s half permit bytes at g e w within own) i = put_tcp side from es _ place _ i
     moves_late es _ _ (walk.BeginsListen h place r x at g d bound none to idle own) i = put_tcp side from es _ place _ i
     moves_late es _ _ (walk.BeginsAccept h place part r l at g e a own) i = put_tcp side from es _ place _ i
@@ -163,7 +163,7 @@ module _ (side : OpId) (from : ℕ) where
     moves_late es _ _ (walk.Forgets h place r l c g e a) i = put_tcp side from es _ place _ i
     moves_late es _ _ (walk.Joins h c handle place r l new peer is of u g e a) i = push_tcp side from es _ (joined l new peer) (put_tcp side from es _ place _ i)
     moves_late es _ _ (walk.UdpChanges h place o now g p keeps) i = put_udps side from es _ place (UdpRecord.Open now) (plain_late side from es o now p (i.udps place (UdpRecord.Open o) g)) i
-    moves_late es _ _ (walk.BeginsUdpBind h place o a at g to idle own) i = put_udps side from es _ place (UdpRecord.Open _) (i.udps place (UdpRecord.Open o) g) i
+    moves_late es _ _ (walk.BeginsUdpBind h place o a at g to own) i = put_udps side from es _ place (UdpRecord.Open _) (i.udps place (UdpRecord.Open o) g) i
     moves_late es _ _ (walk.BeginsUdpConnect h place o a at g to bound none own) i = put_udps side from es _ place (UdpRecord.Open _) (i.udps place (UdpRecord.Open o) g) i
     moves_late es _ _ (walk.BeginsSend h place n o out d bound at g e is known own) i = put_udps side from es _ place (UdpRecord.Open _) (i.udps place (UdpRecord.Open o) g) i
     moves_late es _ _ (walk.BeginsReceive h place n o inc bound at g e is own) i = put_udps side from es _ place (UdpRecord.Open _) (λ q. begun_empty from es (part_of line n) side bound) i

@@ -202,7 +202,7 @@ module _ (contexts : List WasiSocketsCtx) (line : ℕ) (origin : Step) where
   moves_keep es _ _ (walk.Reconnects h place r c now g e s t u) b i = put_tcp es _ place _ (i.tcps place r g) i
   moves_keep es _ _ (walk.Opens h place r c d g e k) b i = let made : r.side ≡ Some c.side = b.1.named c.side place r g (ap side_in e) in put_tcp es _ place _ (with_these (opened_by r c) _ refl (made, made)) i
   moves_keep es _ _ (walk.BeginsConnect h place r side a bound at g d to known idle own) b i = put_tcp es _ place _ (i.tcps place r g) i
-  moves_keep es _ _ (walk.BeginsBind h place r side a at g d to idle own) b i = put_tcp es _ place _ (i.tcps place r g) i
+  moves_keep es _ _ (walk.BeginsBind h place r side a at g d to own) b i = put_tcp es _ place _ (i.tcps place r g) i
   moves_keep es _ _ (walk.BeginsWrite h place n r s half permit bytes at g e w within own) b i = write_keeps es h place n r s half permit bytes g e w i
   moves_keep es _ _ (walk.BeginsListen h place r side at g d bound none to idle own) b i = put_tcp es _ place _ (i.tcps place r g) i
   moves_keep es _ _ (walk.BeginsAccept h place part r l at g e a own) b i = put_tcp es _ place _ (i.tcps place r g) i
@@ -210,7 +210,7 @@ module _ (contexts : List WasiSocketsCtx) (line : ℕ) (origin : Step) where
   moves_keep es _ _ (walk.Forgets h place r l c g e a) b i = put_tcp es _ place _ (i.tcps place r g) i
   moves_keep es _ _ (walk.Joins h c handle place r l new peer is of u g e a) b i = push_tcp es _ (joined l new peer) (with_these (joined l new peer) _ refl (refl, refl)) (put_tcp es _ place _ (i.tcps place r g) i)
   moves_keep es _ _ (walk.UdpChanges h place o now g p keeps) b i = put_udps es _ place (UdpRecord.Open now) (plain_keeps es o now p (i.udps place (UdpRecord.Open o) g)) i
-  moves_keep es _ _ (walk.BeginsUdpBind h place o a at g to idle own) b i = let k = i.udps place (UdpRecord.Open o) g in
+  moves_keep es _ _ (walk.BeginsUdpBind h place o a at g to own) b i = let k = i.udps place (UdpRecord.Open o) g in
       put_udps es _ place (UdpRecord.Open _)
       (record { created = k.created; remote = k.remote; told = k.told; connects = k.connects; receiver = k.receiver }) i
   moves_keep es _ _ (walk.BeginsUdpConnect h place o a at g to bound none own) b i = let k = i.udps place

@@ -42,7 +42,7 @@ use Rattle.wasi_udp.specs.Send.{at_remote, send_start}
 use Rattle.wasi_records.specs.declared.udp.OpenUdp.{OpenUdp}
 use Rattle.wasi_records.specs.declared.udp.UdpRecord.{UdpRecord}
 use Rattle.wasi_records.specs.declared.udp.UdpInProgress.{UdpInProgress}
-use Rattle.wasi_records.specs.Udp.{is_udp_idle, udp_bind_progress, udp_create_left, with_udp_progress}
+use Rattle.wasi_records.specs.Udp.{udp_bind_progress, udp_create_left, with_udp_progress}
 use Rattle.wasi_host.specs.UdpCreates.{udp_side_at, with_create}
 use Rattle.wasi_udp.specs.Bind.{bind_operation as udp_bind_operation}
 use Rattle.wasi_udp.specs.Create.{Create}
@@ -87,7 +87,7 @@ HasListen _ = ⊥
 
 -- where a bind or a listen is to be pending, it is in progress
 abbrev pub GoesOn : StandingCall → TcpRecord → Type 0
-GoesOn (StandingCall.Bind place) r = HasBinding r.in_progress
+GoesOn (StandingCall.Bind place face) r = HasBinding r.in_progress
 GoesOn (StandingCall.Listen place) r = HasListen r.listening
 GoesOn (StandingCall.DropOutput place) r = ⊤
 GoesOn _ r = ⊥
@@ -433,7 +433,7 @@ pub data Move (line : ℕ) (origin : Step) : Here → Here → Type 0 where
   -- the line's own operation begins
   BeginsConnect : (h : Here) (place : ℕ) (r : TcpRecord) (side : OpId) (a : IpSocketAddress) (bound : Bool) → h.at ≡ Some (place, line) → Found h place r → r.inner.state ≡ TcpState.Default side → IsConnectTo a origin → (bound ≡ true → r.inner.bound ≡ true) → is_nothing r.in_progress ≡ true → h.own ≡ Unused
       → Move line origin h (record (put h place (with_inner r (with_state r.inner (TcpState.Connecting (connect_operation (record { op = own_of line; side = side; maker = r.inner.maker }) (wildcard r.inner.family) a (connect_first bound)))))) { own = Used })
-  BeginsBind : (h : Here) (place : ℕ) (r : TcpRecord) (side : OpId) (a : IpSocketAddress) → h.at ≡ Some (place, line) → Found h place r → r.inner.state ≡ TcpState.Default side → IsBindTo a origin → is_nothing r.in_progress ≡ true → h.own ≡ Unused
+  BeginsBind : (h : Here) (place : ℕ) (r : TcpRecord) (side : OpId) (a : IpSocketAddress) → h.at ≡ Some (place, line) → Found h place r → r.inner.state ≡ TcpState.Default side → IsBindTo a origin → h.own ≡ Unused
       → Move line origin h (record (put h place (with_progress r (InProgress.Binding (begun_bind (own_of line) side r a)))) { own = Used })
   BeginsWrite : (h : Here) (place n : ℕ) (r : TcpRecord) (s : Streams) (half : TcpSendStream) (permit : ℕ) (bytes : List ℕ) → h.at ≡ Some (place, n) → Found h place r → r.streams ≡ Some s → s.writer ≡ WriteState.Ready half permit → nat_lt permit (length bytes) ≡ false → h.own ≡ ToWrite half.side bytes
       → Move line origin h (record (put h place (with_writer r s (WriteState.Writing (new_job (own_of n) half.side bytes)))) { own = Used })
@@ -452,9 +452,9 @@ pub data Move (line : ℕ) (origin : Step) : Here → Here → Type 0 where
   Unstands : (h : Here) → TakesOver h → Move line origin h (record h { machine = record h.machine { store = record h.machine.store { standing = None } } })
   -- a UDP socket
   UdpChanges : (h : Here) (place : ℕ) (o now : OpenUdp) → FoundUdp h place (UdpRecord.Open o) → UdpPlain o now → KeepsStreams origin h place o now → Move line origin h (put_udp h place (UdpRecord.Open now))
-  BeginsUdpBind : (h : Here) (place : ℕ) (o : OpenUdp) (a : IpSocketAddress) → h.at ≡ Some (place, line) → FoundUdp h place (UdpRecord.Open o) → IsUdpBindTo a origin → is_udp_idle o.in_progress ≡ true → h.own ≡ Unused
+  BeginsUdpBind : (h : Here) (place : ℕ) (o : OpenUdp) (a : IpSocketAddress) → h.at ≡ Some (place, line) → FoundUdp h place (UdpRecord.Open o) → IsUdpBindTo a origin → h.own ≡ Unused
       → Move line origin h (record (put_udp h place (UdpRecord.Open (with_udp_progress o (UdpInProgress.Binding (begun_udp_bind (own_of line) o a))))) { own = Used })
-  StandsUdpBind : (h : Here) (ids : Ids) (place : ℕ) (o : OpenUdp) (op : Operation) → NoStart h → h.at ≡ Some (place, ids.line) → FoundUdp h place (UdpRecord.Open o) → o.in_progress ≡ UdpInProgress.Binding op → Move line origin h (record h { machine = record h.machine { store = record h.machine.store { standing = Some (standing_as ids (StandingCall.UdpBind place)) } } })
+  StandsUdpBind : (h : Here) (ids : Ids) (place : ℕ) (face : Interface) (o : OpenUdp) (op : Operation) → NoStart h → h.at ≡ Some (place, ids.line) → FoundUdp h place (UdpRecord.Open o) → o.in_progress ≡ UdpInProgress.Binding op → Move line origin h (record h { machine = record h.machine { store = record h.machine.store { standing = Some (standing_as ids (StandingCall.UdpBind place face)) } } })
   StandsUdpCreate : (h : Here) (ids : Ids) (place : ℕ) (face : Interface) (create : Create) → NoStart h → h.made ≡ Awaited face create.operation.who.side place → FoundUdp h place (UdpRecord.Creating create)
       → Move line origin h (record h { machine = record h.machine { store = record h.machine.store { standing = Some (standing_as ids (StandingCall.UdpCreate place face)) } } })
   -- the datagram streams of a UDP socket: what they are made under, and the connect that comes before, until it is over or pending

@@ -16,7 +16,7 @@ use Rattle.wasi_host.specs.Kinds.{kind_at}
 use Rattle.wasi_host.specs.Machine.{own_of, udp3_at}
 use Rattle.wasi_host.specs.Store.{Records}
 use Rattle.wasi_host.specs.UdpCalls.{with_open_udp}
-use Rattle.wasi_p3.specs.Lines.{of_udp, on_udp}
+use Rattle.wasi_p3.specs.Lines.{of_udp, on_udp, same_stop}
 use Rattle.wasi_p3.specs.Stops.{p3_stop}
 use Rattle.wasi_p3.specs.Udp.{disconnect, disconnect_of, get_option, local_address, set_option, staying}
 use Rattle.wasi_steps.specs.declared.step.Step.{Step}
@@ -43,7 +43,7 @@ module _ {contexts : List WasiSocketsCtx} {line : ℕ} {origin : Step} {law : La
       → ((place : ℕ) (o : OpenUdp) → FoundUdp (At line m place Unused) place (Open o) → Walks law (put_udp (At line m place Unused) place (Open o)) (λ done. put_udp (At line m place Unused) place (Open done.1)) (asked o))
       → Walks law (Starts m Unused) OverWith (of_udp s asked m)
   of_udp_walks m s asked named w =
-      on_named m (udp3_at m s) (λ place e. ReachesUdp _ s place named (udp3_record (kind_at m.table s) place e)) (λ place. on_udp place asked) (λ place. on_udp_walks m place asked (w place))
+      on_named same_stop m (udp3_at m s) (λ place e. ReachesUdp _ s place named (udp3_record (kind_at m.table s) place e)) (λ place. on_udp place asked) (λ place. on_udp_walks m place asked (w place))
 
   pub p3_udp_local_walks : (m : Machine) (s : ℕ) → Has (handles_of origin) s → Walks law (Starts m Unused) OverWith (local_address (own_of line) s m)
   p3_udp_local_walks m s named = of_udp_walks m s (udp_local_asks (own_of line)) named (λ place o g. udp_local_walks (udp_there g) refl o)

@@ -19,9 +19,9 @@ use Rattle.wasi_walks.proofs.Words.{Tcp2}
 use Rattle.wasi_host.specs.Store.{with_socket}
 use Rattle.wasi_host.specs.Options.{looked_at, set_backlog_at}
 use Rattle.wasi_p2.specs.Options.{record_asks}
-use Rattle.wasi_walks.proofs.walks.Moves.{Move, NoStartStands, IsSettled, Used, Unused, Here, put, Found, record_of, AStream, Reaches, Leaves, Spends, Changes, Stands, Made, Past, Marks}
+use Rattle.wasi_walks.proofs.walks.Moves.{Move, P2, NoStartStands, IsSettled, Used, Unused, Here, put, Found, record_of, AStream, Reaches, Leaves, Spends, Changes, Stands, Made, Past, Marks}
 use Rattle.wasi_walks.proofs.walks.Law.{Law, HasRecord, found, put_same, Walks, Given, give, and_then, and_given, by_if, move, gives, from, mark}
-use Rattle.wasi_walks.proofs.walks.Sockets.{WaitsSo, begun_bind_given, idled, connect_settles, set_walks, begin_bind_walks, begin_connect_walks, poll_connect_walks, FinishedSo, finished_of, local_walks, remote_walks, backlog_walks}
+use Rattle.wasi_walks.proofs.walks.Sockets.{BindsSo, WaitsSo, waits_so, begun_bind_given, idled, connect_settles, set_walks, begin_bind_walks, begin_connect_walks, poll_connect_walks, FinishedSo, finished_of, local_walks, remote_walks, backlog_walks}
 use Rattle.wasi_walks.proofs.walks.Streams.{shut_walks}
 use Rattle.wasi_walks.proofs.walks.Lines.{look, call, call_given}
 use Rattle.wasi_addr.specs.declared.p2.ErrorCode.{ErrorCode as P2Code}
@@ -29,7 +29,7 @@ use Rattle.wasi_addr.specs.declared.p2.ErrorCode.TheVariants.{NotInProgress}
 use Rattle.wasi_records.specs.Stops.{Code, StopOf, code_stop}
 use Rattle.wasi_records.specs.Sockets.{poll_connect_asks}
 use Rattle.wasi_host.specs.Block.{Call, Does, Read, last, need, goes_on, or_trap, ◌>>=◌, ◌>>◌}
-use Rattle.wasi_host.specs.Lines.{tcp_at, tcp_named, in_store, on_tcp, asked_of, done_by, finish_connect_of}
+use Rattle.wasi_host.specs.Lines.{tcp_at, tcp_named, in_store, same_stop, storing, on_tcp, asked_of, done_by, finish_connect_of}
 use Rattle.wasi_p2.specs.Tcp.{local_address, remote_address, finish_connect, make_streams}
 use Rattle.wasi_walks.proofs.walks.States.{OverWith, Between, socket_record, make_given, socket_kind, At, Starts, streams_are, Put, Over, there}
 
@@ -58,7 +58,7 @@ module _ {contexts : List WasiSocketsCtx} {line : ℕ} {origin : Step} {law : La
   start_by_walks : (m : Machine) (place : ℕ) (a : IpSocketAddress) (r : TcpRecord) (idle : Bool) → is_nothing r.in_progress ≡ idle → Found (At line m place Unused) place r → IsBindTo a origin → NoStartStands m.store.standing → Walks law (At line m place Unused) (Put line m place) (start_bind_by m.store (first_ids line) place a r idle)
   start_by_walks m place a r true e g to q =
       from (put_same (At line m place Unused) place r g)
-      (and_given (WaitsSo (StandingCall.Bind place)) (begun_bind_given place (own_of line) r a) (begin_bind_walks (there g) refl a to refl q r e) (λ begun w. answered_walks m (first_ids line) (StandingCall.Bind place) q begun (record { was = r; found = g }) w))
+      (and_given BindsSo (begun_bind_given (own_of line) r a) (begin_bind_walks (there g) refl a to refl q r) (λ begun w. answered_walks m (first_ids line) (StandingCall.Bind place P2) q begun (record { was = r; found = g }) (waits_so place P2 begun w)))
   start_by_walks m place a r false e g to q = gives _ (Spends _ refl)
 
   start_at_walks : (m : Machine) (place : ℕ) (a : IpSocketAddress) (o : Option TcpRecord) → tcp2_at m.store.records place ≡ o → IsBindTo a origin → NoStartStands m.store.standing → Walks law (At line m place Unused) (Put line m place) (start_bind_at m.store (first_ids line) place a o)
@@ -102,11 +102,11 @@ module _ {contexts : List WasiSocketsCtx} {line : ℕ} {origin : Step} {law : La
       look (λ r. last (Call seen (λ store. r) (λ store now. with_socket store place now) asked)) (tcp2_at m.store.records place) (gives _ (Spends _ refl))
       (λ r g. from (put_same (At line m place Unused) place r g) (call _ (w r (there g)) (λ e t. gives _ (Spends _ refl)) (λ a t. gives _ (Spends _ refl))))
 
-  pub on_named : {C A : Type 0} (m : Machine) (named : Option ℕ) → ((place : ℕ) → named ≡ Some place → Move line origin (Starts m Unused) (At line m place Unused)) → (does : ℕ → Does C Records A)
+  pub on_named : {C D A : Type 0} (seen : StopOf D → StopOf C) (m : Machine) (named : Option ℕ) → ((place : ℕ) → named ≡ Some place → Move line origin (Starts m Unused) (At line m place Unused)) → (does : ℕ → Does D Records A)
       → ((place : ℕ) → Walks law (At line m place Unused) (Put line m place) (does place m.store))
-      → Walks law (Starts m Unused) OverWith (or_trap (λ place. last (in_store (does place))) m named)
-  on_named m named reaches does w =
-      look (λ place. last (in_store (does place))) named (gives _ (Spends _ refl))
+      → Walks law (Starts m Unused) OverWith (or_trap (λ place. last (Call seen (λ x. x.store) storing (does place))) m named)
+  on_named seen m named reaches does w =
+      look (λ place. last (Call seen (λ x. x.store) storing (does place))) named (gives _ (Spends _ refl))
       (λ place e. move (reaches place e)
       (call _ (w place) (λ e t. gives _ (Leaves _)) (λ a t. gives _ (Leaves _))))
 
@@ -114,7 +114,7 @@ module _ {contexts : List WasiSocketsCtx} {line : ℕ} {origin : Step} {law : La
       → (does : ℕ → Does C Records A) → Has (handles_of origin) handle
       → ((place : ℕ) → Walks law (At line m place Unused) (Put line m place) (does place m.store))
       → Walks law (Starts m Unused) OverWith (or_trap (λ place. last (in_store (does place))) m named)
-  on_handle m handle named is does has w = on_named m named (λ place e. Reaches _ handle place has (is place e)) does w
+  on_handle m handle named is does has w = on_named same_stop m named (λ place e. Reaches _ handle place has (is place e)) does w
 
   -- == the addresses
   pub local_address_walks : (m : Machine) (s : ℕ) → Has (handles_of origin) s → Walks law (Starts m Unused) OverWith (local_address (own_of line) s m)

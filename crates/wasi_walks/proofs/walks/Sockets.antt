@@ -30,7 +30,7 @@ use Rattle.wasi_addr.specs.Clamp.{clamped_backlog}
 use Rattle.wasi_world.specs.declared.call.Opt.{Opt}
 use Rattle.wasi_walks.specs.Licence.{IsGetOf, IsSetTo}
 use Rattle.wasi_tcp.specs.Addresses.{usable_side, local_side, local_from, after_peer, peer_known, remote_in, still_connected}
-use Rattle.wasi_walks.proofs.walks.Moves.{IsConnecting, NoStart, IsSettled, GoesOn, Used, Unused, Names, part_of, Here, put, opened_by, Reconnects, Opens, BeginsConnect, OfSocket, Plain, Spends, Changes, BeginsBind, begun_bind, Unmade, record_of, new_accept, accepting_now, beginning_listen, joined, joining, BeginsListen, BeginsAccept, Unlistens, Forgets, Joins}
+use Rattle.wasi_walks.proofs.walks.Moves.{HasBinding, Interface, IsConnecting, NoStart, IsSettled, GoesOn, Used, Unused, Names, part_of, Here, put, opened_by, Reconnects, Opens, BeginsConnect, OfSocket, Plain, Spends, Changes, BeginsBind, begun_bind, Unmade, record_of, new_accept, accepting_now, beginning_listen, joined, joining, BeginsListen, BeginsAccept, Unlistens, Forgets, Joins}
 use Rattle.wasi_walks.proofs.walks.Law.{Law, HasRecord, owning, spent, put_put, Given, given_then, given_on, given_along, Walks, give, and_then, and_given, connect, by_if, move, gives, from, poll_bind, found, on, ask, learn, set, listen, await}
 use Rattle.std.specs.Prelude.{not, ◌+◌}
 use Rattle.wasi_walks.proofs.walks.Here.{MayBegin, after}
@@ -205,20 +205,31 @@ abbrev pub WaitsSo : StandingCall → Result (Answer (Unit {0})) ErrorCode × Tc
 WaitsSo call (Ok Pending, r) = GoesOn call r
 WaitsSo call _ = ⊤
 
-ended_so : (place : ℕ) (op : Operation) (r : TcpRecord) (ended : End × List Item) → WaitsSo (StandingCall.Bind place) (bind_ended op r ended)
-ended_so place op r (Waits, items) = tt
-ended_so place op r (Done given, items) = tt
-ended_so place op r (Refused c given, items) = tt
+-- and one that is done isn't any more
+abbrev pub BindsSo : Result (Answer (Unit {0})) ErrorCode × TcpRecord → Type 0
+BindsSo (Ok Pending, r) = HasBinding r.in_progress
+BindsSo (Ok (Ready done), r) = IsSettled r.in_progress
+BindsSo (Err c, r) = ⊤
 
-pub polled_given : (place : ℕ) (r : TcpRecord) (doing : InProgress) → Given (WaitsSo (StandingCall.Bind place)) (poll_binding r doing)
-polled_given place r (InProgress.Binding op) = given_then (WaitsSo (StandingCall.Bind place)) (bind_ended op r) (ended_so place op r) (poll_asks op)
-polled_given place r _ = tt
+pub waits_so : (place : ℕ) (face : Interface) (done : Result (Answer (Unit {0})) ErrorCode × TcpRecord) → BindsSo done → WaitsSo (StandingCall.Bind place face) done
+waits_so place face (Ok Pending, r) b = b
+waits_so place face (Ok (Ready done), r) b = tt
+waits_so place face (Err c, r) b = tt
 
-pub begun_bind_given : (place : ℕ) (op : OpId) (r : TcpRecord) (a : IpSocketAddress) → Given (WaitsSo (StandingCall.Bind place)) (begin_bind_asks op r a)
-begun_bind_given place op r a = given_on (WaitsSo (StandingCall.Bind place)) (bind_begun r) begun (bind_asks op r.inner a)
+ended_so : (op : Operation) (r : TcpRecord) (ended : End × List Item) → BindsSo (bind_ended op r ended)
+ended_so op r (Waits, items) = tt
+ended_so op r (Done given, items) = tt
+ended_so op r (Refused c given, items) = tt
+
+pub polled_given : (r : TcpRecord) (doing : InProgress) → Given BindsSo (poll_binding r doing)
+polled_given r (InProgress.Binding op) = given_then BindsSo (bind_ended op r) (ended_so op r) (poll_asks op)
+polled_given r _ = tt
+
+pub begun_bind_given : (op : OpId) (r : TcpRecord) (a : IpSocketAddress) → Given BindsSo (begin_bind_asks op r a)
+begun_bind_given op r a = given_on BindsSo (bind_begun r) begun (bind_asks op r.inner a)
   where
-    begun : (start : Result Operation ErrorCode × Socket) → Given (WaitsSo (StandingCall.Bind place)) (bind_begun r start)
-    begun (Ok o, socket) = polled_given place (record r { inner = socket; in_progress = InProgress.Binding o }) (InProgress.Binding o)
+    begun : (start : Result Operation ErrorCode × Socket) → Given BindsSo (bind_begun r start)
+    begun (Ok o, socket) = polled_given (record r { inner = socket; in_progress = InProgress.Binding o }) (InProgress.Binding o)
     begun (Err c, socket) = tt
 
 -- and so is a listen, whose address was reported
@@ -262,13 +273,13 @@ begun_listen_given place op r = given_on (WaitsSo (StandingCall.Listen place)) (
     by_bound now false = tt
 
 -- the tests of a bind
-module _ {contexts : List WasiSocketsCtx} {line : ℕ} {origin : Step} {law : Law contexts line origin} {h : Here} {place : ℕ} (here : HasRecord h place) (at : h.at ≡ Some (place, line)) (a : IpSocketAddress) (to : IsBindTo a origin) (free : h.own ≡ Unused) (r : TcpRecord) (idle : is_nothing r.in_progress ≡ true) where
+module _ {contexts : List WasiSocketsCtx} {line : ℕ} {origin : Step} {law : Law contexts line origin} {h : Here} {place : ℕ} (here : HasRecord h place) (at : h.at ≡ Some (place, line)) (a : IpSocketAddress) (to : IsBindTo a origin) (free : h.own ≡ Unused) (r : TcpRecord) where
   allowed_if : (socket : Socket) (side : OpId) (b : Bool) → socket.state ≡ TcpState.Default side
       → Walks law (put h place (with_inner r socket)) (Started h place r) (Give (if b then Ok (begun_bind (own_of line) side (with_inner r socket) a) else Err InvalidArgument, socket))
   allowed_if socket side true e =
       let now : TcpRecord = with_inner r socket in
       let begun : TcpRecord = with_progress now (InProgress.Binding (begun_bind (own_of line) side now a)) in
-      move (BeginsBind (put h place now) place now side a at (found here now) e to idle free) (from (ap (λ (x : Here). record x { own = Used }) (sym (put_put h place now begun))) (give _))
+      move (BeginsBind (put h place now) place now side a at (found here now) e to free) (from (ap (λ (x : Here). record x { own = Used }) (sym (put_put h place now begun))) (give _))
   allowed_if socket side false e = gives _ (Spends _ free)
 
   allowed : (socket : Socket) (s : TcpState) → socket.state ≡ s → Walks law (put h place (with_inner r socket)) (Started h place r) (Give (bind_allowed (own_of line) socket a s, socket))
@@ -346,15 +357,15 @@ module _ {contexts : List WasiSocketsCtx} {line : ℕ} {origin : Step} {law : La
   bound_walks r = by_if r.inner.bound (λ known. give _) (λ unknown. bound_in r r.inner.state refl)
 
   module _ (a : IpSocketAddress) (to : IsBindTo a origin) (free : h.own ≡ Unused) (quiet : NoStart h) where
-    bind_walks : (r : TcpRecord) → is_nothing r.in_progress ≡ true → Walks law (put h place r) (Started h place r) (bind_asks (own_of line) r.inner a)
-    bind_walks r idle = and_then (bound_walks r) (λ b. started here at a to free r idle b.1 b.0)
+    bind_walks : (r : TcpRecord) → Walks law (put h place r) (Started h place r) (bind_asks (own_of line) r.inner a)
+    bind_walks r = and_then (bound_walks r) (λ b. started here at a to free r b.1 b.0)
 
     begun_walks : (r : TcpRecord) (start : Result Operation ErrorCode × Socket) → Walks law (Started h place r start) (λ done. record (put h place done.1) { own = Used }) (bind_begun r start)
     begun_walks r (Ok op, socket) = poll_bind_walks (spent here) quiet (record r { inner = socket; in_progress = InProgress.Binding op })
     begun_walks r (Err c, socket) = give _
 
-    pub begin_bind_walks : (r : TcpRecord) → is_nothing r.in_progress ≡ true → Walks law (put h place r) (λ done. record (put h place done.1) { own = Used }) (begin_bind_asks (own_of line) r a)
-    begin_bind_walks r idle = and_then (bind_walks r idle) (begun_walks r)
+    pub begin_bind_walks : (r : TcpRecord) → Walks law (put h place r) (λ done. record (put h place done.1) { own = Used }) (begin_bind_asks (own_of line) r a)
+    begin_bind_walks r = and_then (bind_walks r) (begun_walks r)
 
   -- == a connect
   connect_if : (r : TcpRecord) (side : OpId) (a : IpSocketAddress) (bound able : Bool) (done : Unit {0}) → r.inner.state ≡ TcpState.Default side → IsConnectTo a origin → (bound ≡ true → r.inner.bound ≡ true) → is_nothing r.in_progress ≡ true → h.own ≡ Unused

@@ -2,7 +2,7 @@
 use Rattle.wasi_walks.proofs.Words.{Answer, Err, Give, InProgress, IsBacklogSet, List, Machine, None, Ok, Option, Records, Result, Some, Standing}
 use Rattle.wasi_walks.proofs.Words.{StandingCall, GuestCall, Step, Stop, TcpRecord, TcpSetting, TheBacklog, WasiSocketsCtx, asks_while, call_of, call_place}
 use Rattle.wasi_walks.proofs.Words.{chosen, context_at, false, get_option_asks, go_on, inl, is_bind}
-use Rattle.wasi_walks.proofs.Words.{is_guest_call, is_listen, kind_at, own_of, rebind_at, refl, relisten_at}
+use Rattle.wasi_walks.proofs.Words.{is_guest_call, is_listen, kind_at, own_of, refl, relisten_at}
 use Rattle.wasi_walks.proofs.Words.{resume_call, resumed, socket_at, step_asks, subst, sym, true, unstood}
 use Rattle.wasi_walks.proofs.Words.{watched_by, with_store, ℕ, ◌≡◌}
 use Rattle.wasi_world.specs.declared.ids.Ids.{Ids}
@@ -25,14 +25,14 @@ use Rattle.wasi_walks.proofs.walks.ListenSteps.{accept_on_walks, start_listen_at
 use Rattle.wasi_records.specs.Records.{tcp2_at, open_at, udp2_at}
 use Rattle.wasi_host.specs.declared.pending.Outcome.{Outcome}
 use Rattle.wasi_host.specs.Machine.{udp_socket_at, outgoing_at, lookup_number}
-use Rattle.wasi_host.specs.Pending.{gone_on, created_on, streams_on}
+use Rattle.wasi_host.specs.Pending.{gone_on, answered_on, handle_outcome, outcome_of, streams_on}
 use Rattle.wasi_host.specs.Standing.{allowed_answer, standing_as}
 use Rattle.wasi_steps.specs.Settings.{udp_opt, udp_chosen}
 use Rattle.wasi_walks.proofs.walks.Datagrams.{Streaming, stream_walks, streams_again}
 use Rattle.wasi_walks.proofs.walks.Receives.{receive_walks}
 use Rattle.wasi_walks.proofs.walks.Lookups.{next_address_walks, resolve_walks}
 use Rattle.wasi_walks.proofs.walks.Sends.{check_send_walks, drop_outgoing_walks, send_walks}
-use Rattle.wasi_walks.proofs.walks.Udp.{on_udp, udp_local_at_walks, udp_get_at_walks, udp_set_at_walks, start_udp_bind_walks, finish_udp_bind_walks, rebind_udp_walks, Polling, polled_walks, create_udp_walks}
+use Rattle.wasi_walks.proofs.walks.Udp.{on_udp, udp_local_at_walks, udp_get_at_walks, udp_set_at_walks, start_udp_bind_walks, finish_udp_bind_walks, Polling, polled_walks, create_udp_walks}
 use Rattle.wasi_walks.proofs.walks.P3Udp.{p3_disconnect_walks, p3_udp_get_walks, p3_udp_local_walks, p3_udp_set_walks}
 use Rattle.wasi_host.specs.BaseStops.{BaseStop}
 use Rattle.wasi_records.specs.declared.udp.UdpRecord.{UdpRecord}
@@ -47,6 +47,7 @@ use Rattle.wasi_host.specs.declared.polling.Look.TheVariants.{First}
 use Rattle.wasi_walks.proofs.walks.Polling.{block_walks, looks_begin, poll_asks_walks, ready_asks_walks}
 use Rattle.wasi_host.specs.Machine.{code_told, same_told}
 use Rattle.wasi_p3.specs.Tcp as p3
+use Rattle.wasi_walks.proofs.walks.Binds.{p3_bind_walks, p3_udp_bind_walks, rebind_walks, udp_rebind_walks}
 use Rattle.wasi_walks.proofs.walks.P3Steps.{p3_get_walks, p3_local_walks, p3_remote_walks, p3_set_walks}
 use Rattle.wasi_walks.proofs.walks.Moves.{AwaitsCreate, Interface, P2, P3, Recalled}
 use Rattle.wasi_walks.proofs.walks.Cancels.{cancel_walks}
@@ -96,12 +97,6 @@ dropped_so m (answer, store) = refl
 module _ {contexts : List WasiSocketsCtx} {line : ℕ} {origin : Step} {law : Law contexts line origin} where
   -- == a pending call continues
   module _ (ids : Ids) (m : Machine) (quiet : NoStartStands m.store.standing) where
-    rebind_walks : (place : ℕ) (o : Option TcpRecord) → tcp2_at m.store.records place ≡ o → Walks law (At ids.line m place Used) (Put ids.line m place) (rebind_at m.store ids place o)
-    rebind_walks place None g = give _
-    rebind_walks place (Some r) g =
-        from (put_same (At ids.line m place Used) place r g)
-        (and_given (WaitsSo (StandingCall.Bind place)) (polled_given place r r.in_progress) (poll_bind_walks (there g) quiet r) (λ done w. answered_walks m ids (StandingCall.Bind place) quiet done (there g) w))
-
     relisten_walks : (place : ℕ) (o : Option TcpRecord) → tcp2_at m.store.records place ≡ o → Walks law (At ids.line m place Used) (Put ids.line m place) (relisten_at m.store ids place o)
     relisten_walks place None g = give _
     relisten_walks place (Some r) g =
@@ -113,15 +108,19 @@ module _ {contexts : List WasiSocketsCtx} {line : ℕ} {origin : Step} {law : La
     gone_on_walks place (Ok answer, store) = gives _ (Leaves _)
     gone_on_walks place (Err why, store) = gives _ (Leaves _)
 
-    created_on_walks : (face : Interface) (done : Result (Answer ℕ) BaseStop × Machine) → Walks law (Over done.1) OverWith (Give (created_on face done))
-    created_on_walks face done = give _
+    answered_on_walks : {A : Type 0} (gives : Answer A → Answer Outcome) (face : Interface) (done : Result (Answer A) BaseStop × Machine) → Walks law (Over done.1) OverWith (Give (answered_on gives face done))
+    answered_on_walks gives face done = give _
+
+    -- of the record of a place
+    bound_on_walks : (face : Interface) (place : ℕ) (done : Result (Answer (Unit {0})) BaseStop × Records) → Walks law (Put ids.line m place done) OverWith (Give (answered_on outcome_of face (with_store m done)))
+    bound_on_walks face place done = gives _ (Leaves _)
 
     -- a call that makes no handle works on the record of its place
     go_on_walks : (call : StandingCall) → MakesNoHandle call → Walks law (At ids.line m (call_place call) Used) OverWith (go_on m ids call)
-    go_on_walks (StandingCall.Bind place) k = and_then (rebind_walks place (tcp2_at m.store.records place) refl) (gone_on_walks place)
+    go_on_walks (StandingCall.Bind place face) k = and_then (rebind_walks m ids quiet face place) (bound_on_walks face place)
     go_on_walks (StandingCall.Listen place) k = and_then (relisten_walks place (tcp2_at m.store.records place) refl) (gone_on_walks place)
     go_on_walks (StandingCall.DropOutput place) k = and_then (drop_output_walks ids place m quiet (tcp2_at m.store.records place) refl) (λ done. gone_on_walks place (allowed_answer done))
-    go_on_walks (StandingCall.UdpBind place) k = and_then (rebind_udp_walks ids m quiet place (open_at m.store.records place) refl) (gone_on_walks place)
+    go_on_walks (StandingCall.UdpBind place face) k = and_then (udp_rebind_walks m ids quiet face place) (bound_on_walks face place)
     go_on_walks (StandingCall.DropOutgoing place) k = drop_outgoing_walks ids m place quiet (λ done. gone_on (with_store m (allowed_answer done))) (dropped_so m)
     go_on_walks (StandingCall.UdpCreate place face) k = absurd k
     go_on_walks (StandingCall.UdpConnect place handle) k = absurd k
@@ -135,7 +134,7 @@ module _ {contexts : List WasiSocketsCtx} {line : ℕ} {origin : Step} {law : La
     streams_go_on place handle = and_then (streams_again ids m place handle quiet) streamed_walks
 
     create_goes_on : m.store.standing ≡ None → (place : ℕ) (face : Interface) → Walks law (Polling face m place (udp2_at m.store.records place)) OverWith (go_on m ids (StandingCall.UdpCreate place face))
-    create_goes_on idle place face = and_then (polled_walks face m place ids idle (udp2_at m.store.records place) refl) (created_on_walks face)
+    create_goes_on idle place face = and_then (polled_walks face m place ids idle (udp2_at m.store.records place) refl) (answered_on_walks handle_outcome face)
 
   resumed_walks : (done : Result (Answer Outcome) Stop × Machine) → Walks law (Over done.1) OverWith (Give (resumed done))
   resumed_walks (Ok answer, m) = give _
@@ -162,10 +161,10 @@ module _ {contexts : List WasiSocketsCtx} {line : ℕ} {origin : Step} {law : La
   taken_walks m ids (StandingCall.Blocking call) lets e = move (RecallsCall _ ids call e) (move (Unstands _ (takes_none m.store.standing ids (StandingCall.Blocking call) Unused e tt)) (move (Spends _ refl) (unblock_walks ids (record m { store = unstood m.store }) call lets)))
   taken_walks m ids (StandingCall.UdpConnect place handle) lets e = move (Resumes _ (standing_as ids (StandingCall.UdpConnect place handle)) e tt) (move (RecallsStreams _ ids place handle e refl) (move (Unstands _ (λ p k. ap (λ (x : ℕ). ToConnect x) (subst (λ (o : Option Standing). ConnectStands o p) e k))) (streams_go_on ids (record m { store = unstood m.store }) tt place handle)))
   taken_walks m ids (StandingCall.DropOutgoing place) lets e = move (Resumes _ (standing_as ids (StandingCall.DropOutgoing place)) e tt) (move (Unstands _ (takes_none m.store.standing ids (StandingCall.DropOutgoing place) Unused e tt)) (move (Spends _ refl) (go_on_walks ids (record m { store = unstood m.store }) tt (StandingCall.DropOutgoing place) tt)))
-  taken_walks m ids (StandingCall.Bind place) lets e = move (Resumes _ (standing_as ids (StandingCall.Bind place)) e tt) (move (Unstands _ (takes_none m.store.standing ids (StandingCall.Bind place) Unused e tt)) (move (Spends _ refl) (go_on_walks ids (record m { store = unstood m.store }) tt (StandingCall.Bind place) tt)))
+  taken_walks m ids (StandingCall.Bind place face) lets e = move (Resumes _ (standing_as ids (StandingCall.Bind place face)) e tt) (move (Unstands _ (takes_none m.store.standing ids (StandingCall.Bind place face) Unused e tt)) (move (Spends _ refl) (go_on_walks ids (record m { store = unstood m.store }) tt (StandingCall.Bind place face) tt)))
   taken_walks m ids (StandingCall.Listen place) lets e = move (Resumes _ (standing_as ids (StandingCall.Listen place)) e tt) (move (Unstands _ (takes_none m.store.standing ids (StandingCall.Listen place) Unused e tt)) (move (Spends _ refl) (go_on_walks ids (record m { store = unstood m.store }) tt (StandingCall.Listen place) tt)))
   taken_walks m ids (StandingCall.DropOutput place) lets e = move (Resumes _ (standing_as ids (StandingCall.DropOutput place)) e tt) (move (Unstands _ (takes_none m.store.standing ids (StandingCall.DropOutput place) Unused e tt)) (move (Spends _ refl) (go_on_walks ids (record m { store = unstood m.store }) tt (StandingCall.DropOutput place) tt)))
-  taken_walks m ids (StandingCall.UdpBind place) lets e = move (Resumes _ (standing_as ids (StandingCall.UdpBind place)) e tt) (move (Unstands _ (takes_none m.store.standing ids (StandingCall.UdpBind place) Unused e tt)) (move (Spends _ refl) (go_on_walks ids (record m { store = unstood m.store }) tt (StandingCall.UdpBind place) tt)))
+  taken_walks m ids (StandingCall.UdpBind place face) lets e = move (Resumes _ (standing_as ids (StandingCall.UdpBind place face)) e tt) (move (Unstands _ (takes_none m.store.standing ids (StandingCall.UdpBind place face) Unused e tt)) (move (Spends _ refl) (go_on_walks ids (record m { store = unstood m.store }) tt (StandingCall.UdpBind place face) tt)))
 
   pub resume_walks : (m : Machine) (n : ℕ) (o : Option Standing) → call_of m.store.standing n ≡ o → BeginsWrites law ⊎ ResumesSimply m.store.standing → Walks law (Starts m Unused) OverWith (resume_call m o)
   resume_walks m n None e lets = gives _ (Spends _ refl)
@@ -222,6 +221,7 @@ step_walks line (Step.Call c (GuestCall.TcpGet s option)) m b f = and_then (on_s
 step_walks line (Step.Call c (GuestCall.TcpSet s setting)) m b f = and_then (set_chosen_walks m s (socket_at m s) (chosen setting) (inl refl) (socket_record (kind_at m.table s)) (option_set c s setting) (backlog_set c s setting)) (λ done. give _)
 step_walks line (Step.Call c (GuestCall.TcpShutdown s how)) m b f = and_then (on_socket m s (socket_at m s) (inl refl) (socket_record (kind_at m.table s)) (λ place. shutdown_at_walks m place how (tcp2_at m.store.records place) refl)) (λ done. give _)
 step_walks {contexts} line (Step.Call c (GuestCall.P3TcpCreate family)) m b f = and_then (create p3.handle_told p3.code_told P3 (context_at contexts c) family (refl, refl, refl) refl refl refl) (λ done. give _)
+step_walks line (Step.Call c (GuestCall.P3TcpBind s a)) m b f = and_then (p3_bind_walks m s a (inl refl) refl (none_stands (f refl))) (λ done. give _)
 step_walks line (Step.Call c (GuestCall.P3TcpLocalAddress s)) m b f = and_then (p3_local_walks m s (inl refl)) (λ done. give _)
 step_walks line (Step.Call c (GuestCall.P3TcpRemoteAddress s)) m b f = and_then (p3_remote_walks m s (inl refl)) (λ done. give _)
 step_walks line (Step.Call c (GuestCall.P3TcpIsListening s)) m b f = gives _ (Spends _ refl)
@@ -229,6 +229,7 @@ step_walks line (Step.Call c (GuestCall.P3TcpAddressFamily s)) m b f = gives _ (
 step_walks line (Step.Call c (GuestCall.P3TcpGet s option)) m b f = and_then (p3_get_walks m s option (inl refl) refl) (λ done. give _)
 step_walks line (Step.Call c (GuestCall.P3TcpSet s setting)) m b f = and_then (p3_set_walks m s (chosen setting) (inl refl) (p3_option_set c s setting) (p3_backlog_set c s setting)) (λ done. give _)
 step_walks {contexts} line (Step.Call c (GuestCall.P3UdpCreate family)) m b f = and_then (and_then (create_udp_walks P3 m (context_at contexts c) family (refl, refl, refl) (f refl)) (λ done. give _)) (λ done. give _)
+step_walks line (Step.Call c (GuestCall.P3UdpBind s a)) m b f = and_then (p3_udp_bind_walks m s a (inl refl) refl (none_stands (f refl))) (λ done. give _)
 step_walks line (Step.Call c (GuestCall.P3UdpDisconnect s)) m b f = and_then (p3_disconnect_walks m s (inl refl) tt) (λ done. give _)
 step_walks line (Step.Call c (GuestCall.P3UdpLocalAddress s)) m b f = and_then (p3_udp_local_walks m s (inl refl)) (λ done. give _)
 step_walks line (Step.Call c (GuestCall.P3UdpRemoteAddress s)) m b f = gives _ (Spends _ refl)

@@ -18,7 +18,7 @@ use Rattle.wasi_records.specs.declared.udp.UdpInProgress.{UdpInProgress}
 use Rattle.wasi_records.specs.Datagrams.{has_streams}
 use Rattle.wasi_host.specs.Machine.{udp_socket_at}
 use Rattle.wasi_records.specs.Udp.{begin_udp_bind_asks, close_udp_asks, is_udp_bound, is_udp_idle, poll_create_asks, poll_udp_bind_asks, poll_udp_binding, udp_bind_begun, udp_bind_ended, udp_create_ended, udp_create_left, udp_local_asks, udp_side, with_udp_inner, with_udp_progress}
-use Rattle.wasi_host.specs.UdpCalls.{finish_udp_bind_at, finish_udp_bind_by, get_udp_option_at, rebind_udp_at, release_udp_at, set_udp_option_at, udp_left, start_udp_bind_at, start_udp_bind_by, start_udp_bind_unless, udp_call_answered, udp_local_at, udp_put_back}
+use Rattle.wasi_host.specs.UdpCalls.{finish_udp_bind_at, finish_udp_bind_by, get_udp_option_at, release_udp_at, set_udp_option_at, udp_left, start_udp_bind_at, start_udp_bind_by, start_udp_bind_unless, udp_call_answered, udp_local_at, udp_put_back}
 use Rattle.wasi_host.specs.UdpCreates.{create_answered, create_begun, create_so, create_udp, handle_made, mark_udp, poll_create_at, with_create}
 use Rattle.wasi_p2.specs.Options.{record_asks}
 use Rattle.wasi_p2.specs.Udp.{finish_udp_bind_on, start_udp_bind_asks}
@@ -31,7 +31,7 @@ use Rattle.wasi_udp.specs.Options.{get_option_asks, set_option_asks}
 use Rattle.wasi_udp.specs.Shape.{Socket}
 use Rattle.wasi_udp.specs.Socket.{asker_of, ask_bound, bound_asks, disconnect_in, local_where}
 use Rattle.wasi_walks.specs.Licence.{IsDisconnect, IsGetOf, IsSetTo, IsUdpBindTo}
-use Rattle.wasi_walks.proofs.walks.Moves.{Awaited, Begun, MakesUdpFor, udp_socket_of, StreamStays, AwaitsCreate, Here, put_udp, FoundUdp, IsOpenUdp, NoStart, NoStartStands, ReleasesUdp, CreatesUdp, udp_begun, part_of, udp_record_of, IsUdpSettled, ReachesUdp, Leaves, Spends, UdpChanges, BeginsUdpBind, StandsUdpBind, StandsUdpCreate, Used, Unused, GivesBack, OfUdp}
+use Rattle.wasi_walks.proofs.walks.Moves.{Awaited, Begun, P2, MakesUdpFor, udp_socket_of, StreamStays, AwaitsCreate, Here, put_udp, FoundUdp, IsOpenUdp, NoStart, NoStartStands, ReleasesUdp, CreatesUdp, udp_begun, part_of, udp_record_of, IsUdpSettled, ReachesUdp, Leaves, Spends, UdpChanges, BeginsUdpBind, StandsUdpBind, StandsUdpCreate, Used, Unused, GivesBack, OfUdp}
 use Rattle.wasi_walks.proofs.walks.Law.{Law, Walks, Given, given_then, given_on, given_along, give, and_then, and_so, and_given, by_if, move, gives, from}
 use Rattle.wasi_walks.proofs.walks.States.{At, Awaiting, Emptying, Over, OverWith, Put, Starts, none_stands, udp_record}
 use Rattle.wasi_walks.proofs.walks.UdpLaw.{HasUdp, udp_put_put, udp_put_same, udp_found, begin_create, mark_udp_walks, ask_udp, disconnect_udp, learn_udp, peer_udp, close_udp, poll_create_walks, poll_udp_bind_walks}
@@ -49,11 +49,13 @@ pub record HasUdpBind (doing : UdpInProgress) : Type 0 where
   pub op : Operation
   pub is : doing ≡ UdpInProgress.Binding op
 
+-- and one that is done isn't any more
 abbrev pub WaitsUdp : Result (Answer (Unit {0})) ErrorCode × OpenUdp → Type 0
 WaitsUdp (Ok Pending, o) = HasUdpBind o.in_progress
-WaitsUdp _ = ⊤
+WaitsUdp (Ok (Ready done), o) = IsUdpSettled o.in_progress
+WaitsUdp (Err c, o) = ⊤
 
-poll_given : (o : OpenUdp) (doing : UdpInProgress) → Given WaitsUdp (poll_udp_binding o doing)
+pub poll_given : (o : OpenUdp) (doing : UdpInProgress) → Given WaitsUdp (poll_udp_binding o doing)
 poll_given o (UdpInProgress.Binding op) = given_then WaitsUdp (udp_bind_ended op o) ended (poll_asks op)
   where
     ended : (e : End × List Item) → WaitsUdp (udp_bind_ended op o e)
@@ -67,7 +69,7 @@ begun_given : (o : OpenUdp) (begun : Result Operation ErrorCode × Socket) → G
 begun_given o (Ok op, socket) = poll_given (record o { inner = socket; in_progress = UdpInProgress.Binding op }) (UdpInProgress.Binding op)
 begun_given o (Err c, socket) = tt
 
-begin_given : (own : _) (o : OpenUdp) (a : IpSocketAddress) → Given WaitsUdp (begin_udp_bind_asks own o a)
+pub begin_given : (own : _) (o : OpenUdp) (a : IpSocketAddress) → Given WaitsUdp (begin_udp_bind_asks own o a)
 begin_given own o a = given_on WaitsUdp (udp_bind_begun o) (begun_given o) (bind_asks own o.inner a)
 
 -- and a create that is pending has its create in progress, for the same network socket
@@ -219,9 +221,9 @@ module _ {contexts : List WasiSocketsCtx} {line : ℕ} {origin : Step} {law : La
 
     -- a bind begins
     module _ (free : h.own ≡ Unused) (quiet : NoStart h) (a : IpSocketAddress) (to : IsUdpBindTo a origin) where
-      begun_walks : (o : OpenUdp) (idle : is_udp_idle o.in_progress ≡ true) (socket : Socket) (bound : Bool) → Walks law (put_udp h place (UdpRecord.Open (with_udp_inner o socket))) (λ done. record (put_udp h place (UdpRecord.Open done.1)) { own = Used }) (udp_bind_begun o (bind_start (own_of line) socket a bound, socket))
-      begun_walks o idle socket true = gives _ (Spends _ free)
-      begun_walks o idle socket false = by_family (is_of_family (ip_of a) socket.family)
+      begun_walks : (o : OpenUdp) (socket : Socket) (bound : Bool) → Walks law (put_udp h place (UdpRecord.Open (with_udp_inner o socket))) (λ done. record (put_udp h place (UdpRecord.Open done.1)) { own = Used }) (udp_bind_begun o (bind_start (own_of line) socket a bound, socket))
+      begun_walks o socket true = gives _ (Spends _ free)
+      begun_walks o socket false = by_family (is_of_family (ip_of a) socket.family)
         where
           by_family : (f : Bool) → Walks law (put_udp h place (UdpRecord.Open (with_udp_inner o socket))) (λ done. record (put_udp h place (UdpRecord.Open done.1)) { own = Used }) (udp_bind_begun o ((if f then Ok (bind_operation (asker_of (own_of line) socket) a UdpBindStage.Check) else Err InvalidArgument), socket))
           by_family false = gives _ (Spends _ free)
@@ -231,12 +233,12 @@ module _ {contexts : List WasiSocketsCtx} {line : ℕ} {origin : Step} {law : La
               let now : OpenUdp = with_udp_progress was (UdpInProgress.Binding op) in
               let busy : Here = record h { own = Used } in
               let there : HasUdp busy place = record { was = here.was; at = here.at } in
-              move (BeginsUdpBind _ place was a at (udp_found here (UdpRecord.Open was)) to idle free)
+              move (BeginsUdpBind _ place was a at (udp_found here (UdpRecord.Open was)) to free)
               (from (ap (λ (x : Here). record x { own = Used }) (sym (udp_put_put h place (UdpRecord.Open was) (UdpRecord.Open now))))
               (and_then (poll_udp_bind_walks there now op quiet refl) (λ ended. give _)))
 
-      pub begin_udp_walks : (o : OpenUdp) → is_udp_idle o.in_progress ≡ true → Walks law (put_udp h place (UdpRecord.Open o)) (λ done. record (put_udp h place (UdpRecord.Open done.1)) { own = Used }) (begin_udp_bind_asks (own_of line) o a)
-      begin_udp_walks o idle = and_so (λ b. (bind_start (own_of line) b.1 a b.0, b.1)) (udp_bind_begun o) (bound_walks o) (λ b. begun_walks o idle b.1 b.0)
+      pub begin_udp_walks : (o : OpenUdp) → Walks law (put_udp h place (UdpRecord.Open o)) (λ done. record (put_udp h place (UdpRecord.Open done.1)) { own = Used }) (begin_udp_bind_asks (own_of line) o a)
+      begin_udp_walks o = and_so (λ b. (bind_start (own_of line) b.1 a b.0, b.1)) (udp_bind_begun o) (bound_walks o) (λ b. begun_walks o b.1 b.0)
 
   -- == a bind that was begun is polled
   module _ {h : Here} {place : ℕ} (here : HasUdp h place) (quiet : NoStart h) where
@@ -278,8 +280,8 @@ module _ {contexts : List WasiSocketsCtx} {line : ℕ} {origin : Step} {law : La
   -- == a bind
   -- a call that may be pending was answered
   udp_answered_walks : (m : Machine) (ids : Ids) (place : ℕ) → NoStartStands m.store.standing → (done : Result (Answer (Unit {0})) ErrorCode × OpenUdp) → HasUdp (At ids.line m place Used) place → WaitsUdp done
-      → Walks law (put_udp (At ids.line m place Used) place (UdpRecord.Open done.1)) (Put ids.line m place) (Give (udp_call_answered m.store ids (StandingCall.UdpBind place) done))
-  udp_answered_walks m ids place q (Ok Pending, o) here w = gives _ (StandsUdpBind _ ids place o w.op q refl (udp_found here (UdpRecord.Open o)) w.is)
+      → Walks law (put_udp (At ids.line m place Used) place (UdpRecord.Open done.1)) (Put ids.line m place) (Give (udp_call_answered m.store ids (StandingCall.UdpBind place P2) done))
+  udp_answered_walks m ids place q (Ok Pending, o) here w = gives _ (StandsUdpBind _ ids place P2 o w.op q refl (udp_found here (UdpRecord.Open o)) w.is)
   udp_answered_walks m ids place q (Ok (Ready d), o) here w = give _
   udp_answered_walks m ids place q (Err c, o) here w = give _
 
@@ -291,7 +293,7 @@ module _ {contexts : List WasiSocketsCtx} {line : ℕ} {origin : Step} {law : La
       start_unless true = gives _ (Spends _ refl)
       start_unless false =
           from (udp_put_same (At line m place Unused) place (UdpRecord.Open o) g)
-          (and_given WaitsUdp (begin_given (own_of line) o a) (begin_udp_walks (udp_there g) refl refl q a to o e) (λ begun w. udp_answered_walks m (first_ids line) place q begun (record { was = UdpRecord.Open o; at = g }) w))
+          (and_given WaitsUdp (begin_given (own_of line) o a) (begin_udp_walks (udp_there g) refl refl q a to o) (λ begun w. udp_answered_walks m (first_ids line) place q begun (record { was = UdpRecord.Open o; at = g }) w))
   start_by m place a to q o g false e = gives _ (Spends _ refl)
 
   start_at : (m : Machine) (place : ℕ) (a : IpSocketAddress) → IsUdpBindTo a origin → NoStartStands m.store.standing → (o : Option OpenUdp) → open_at m.store.records place ≡ o → Walks law (At line m place Unused) (Put line m place) (start_udp_bind_at m.store (first_ids line) place a o)
@@ -313,14 +315,6 @@ module _ {contexts : List WasiSocketsCtx} {line : ℕ} {origin : Step} {law : La
   pub finish_udp_bind_walks : (m : Machine) (o : Option ℕ) → Walks law (Starts m Unused) (λ now. Over now) (Give (finish_udp_bind_on m o).1)
   finish_udp_bind_walks m None = gives _ (Spends _ refl)
   finish_udp_bind_walks m (Some place) = finish_at m place (open_at m.store.records place) refl
-
-  -- a bind that was pending is polled again
-  pub rebind_udp_walks : (ids : Ids) (m : Machine) → NoStartStands m.store.standing → (place : ℕ) (o : Option OpenUdp) → open_at m.store.records place ≡ o → Walks law (At ids.line m place Used) (Put ids.line m place) (rebind_udp_at m.store ids place o)
-  rebind_udp_walks ids m q place None e = give _
-  rebind_udp_walks ids m q place (Some o) e =
-      let g : FoundUdp (At ids.line m place Used) place (UdpRecord.Open o) = open_is (udp2_at m.store.records place) o e in
-      from (udp_put_same (At ids.line m place Used) place (UdpRecord.Open o) g)
-      (and_given WaitsUdp (poll_given o o.in_progress) (poll_bind_walks (udp_there g) q o) (λ done w. udp_answered_walks m ids place q done (record { was = UdpRecord.Open o; at = g }) w))
 
   -- == the end
   close_by : {h : Here} {place : ℕ} (here : HasUdp h place) → ReleasesUdp h place → (u : UdpRecord) → Walks law (put_udp h place u) (λ done. put_udp h place done.1) (close_udp_asks (own_of line) u)

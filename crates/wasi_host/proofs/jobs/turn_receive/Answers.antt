@@ -18,7 +18,7 @@ pub returns-in_err-turn_incoming-clause-asked : goal.returns-in_err-turn_incomin
 returns-in_err-turn_incoming-clause-asked g c = rw (open_found c.args.records.now.items c.args.place c.in-Some.socket c.in-Some.ensures.item) (asks_exit _ _ c.from_residual.ensures.1 c.in_err-turn_incoming.ensures.asked.err)
 
 pub returns-in_err-turn_incoming-clause-held : goal.returns-in_err-turn_incoming-clause-held
-returns-in_err-turn_incoming-clause-held g c = held_in-open c.args.records.now.items c.args.place c.in-Some.socket.now c.turn_incoming.new.self (open_found c.args.records.now.items c.args.place c.in-Some.socket c.in-Some.ensures.item)
+returns-in_err-turn_incoming-clause-held g c = held_in-open c.args.records.now.items c.args.place c.in-Some.socket.now c.turn_incoming.new.self (open_found c.args.records.now.items c.args.place c.in-Some.socket c.in-Some.ensures.item) c.turn_incoming.ensures.side
 
 pub returns-clause-asked : goal.returns-clause-asked
 returns-clause-asked g c = rw (open_found c.args.records.now.items c.args.place c.in-Some.socket c.in-Some.ensures.item) (asks_end _ c.in_ok-turn_incoming.ensures.asked.ok refl)
@@ -27,4 +27,4 @@ pub returns-clause-goes_on : goal.returns-clause-goes_on
 returns-clause-goes_on g c = c.receives.ensures ∙ ap receives_on (sym (open_put_there c.args.records.now.items c.args.place c.turn_incoming.new.self c.in-Some.socket.now (open_found c.args.records.now.items c.args.place c.in-Some.socket c.in-Some.ensures.item)))
 
 pub returns-clause-held : goal.returns-clause-held
-returns-clause-held g c = held_in-open c.args.records.now.items c.args.place c.in-Some.socket.now c.turn_incoming.new.self (open_found c.args.records.now.items c.args.place c.in-Some.socket c.in-Some.ensures.item)
+returns-clause-held g c = held_in-open c.args.records.now.items c.args.place c.in-Some.socket.now c.turn_incoming.new.self (open_found c.args.records.now.items c.args.place c.in-Some.socket c.in-Some.ensures.item) c.turn_incoming.ensures.side

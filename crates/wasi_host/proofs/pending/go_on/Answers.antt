@@ -2,20 +2,19 @@ use Rattle.std.proofs.Common.{refl}
 use Rattle.wasi_world.proofs.Walks.{asks_end}
 use Rattle.wasi_records.proofs.Hosts.{host_exit, host_passed}
 use Rattle.wasi_host.specs.BaseStops.{ends_as}
-use Rattle.wasi_host.proofs.Bases.{created_goes}
+use Rattle.wasi_host.specs.Pending.{handle_outcome, outcome_of}
+use Rattle.wasi_host.specs.Views.{state_of}
+use Rattle.wasi_host.proofs.Bases.{answered_goes, stored_goes}
 use Rattle.wasi_host.proofs.pending.go_on.Goals as goal
 
-pub returns-in_err-answer-in-Bind-clause-asked : goal.returns-in_err-answer-in-Bind-clause-asked
-returns-in_err-answer-in-Bind-clause-asked g c = rw c.in-Bind.is (host_passed _ _ c.from_residual.result c.from_residual.ensures.1 c.in_err-answer-in-Bind.ensures.asked (λ stop. refl))
-
-pub returns-in_ok-answer-in-Bind-clause-asked : goal.returns-in_ok-answer-in-Bind-clause-asked
-returns-in_ok-answer-in-Bind-clause-asked g c = rw c.in-Bind.is (asks_end _ c.in_ok-answer-in-Bind.ensures.asked.ok (rw c.of_nothing.ensures refl))
+pub returns-in-Bind-clause-asked : goal.returns-in-Bind-clause-asked
+returns-in-Bind-clause-asked g c = rw (c.in-Bind.is, c.of_bind.ensures) (stored_goes outcome_of c.in-Bind.interface (state_of c.args.view.now) (ends_as c.tcp_rebind-bound.result) c.tcp_rebind-bound.ensures.asked)
 
 pub returns-in_err-answer-in-Listen-clause-asked : goal.returns-in_err-answer-in-Listen-clause-asked
-returns-in_err-answer-in-Listen-clause-asked g c = rw c.in-Listen.is (host_passed _ _ c.from_residual-in_err-answer-in-Listen.result c.from_residual-in_err-answer-in-Listen.ensures.1 c.in_err-answer-in-Listen.ensures.asked (λ stop. refl))
+returns-in_err-answer-in-Listen-clause-asked g c = rw c.in-Listen.is (host_passed _ _ c.from_residual.result c.from_residual.ensures.1 c.in_err-answer-in-Listen.ensures.asked (λ stop. refl))
 
 pub returns-in_ok-answer-in-Listen-clause-asked : goal.returns-in_ok-answer-in-Listen-clause-asked
-returns-in_ok-answer-in-Listen-clause-asked g c = rw c.in-Listen.is (asks_end _ c.in_ok-answer-in-Listen.ensures.asked.ok (rw c.of_nothing-in-Listen.ensures refl))
+returns-in_ok-answer-in-Listen-clause-asked g c = rw c.in-Listen.is (asks_end _ c.in_ok-answer-in-Listen.ensures.asked.ok (rw c.of_nothing.ensures refl))
 
 pub returns-in_err-answer-in-DropOutput-clause-asked : goal.returns-in_err-answer-in-DropOutput-clause-asked
 returns-in_err-answer-in-DropOutput-clause-asked g c = rw c.in-DropOutput.is (host_exit _ c.from_residual-in_err-answer-in-DropOutput.result c.from_residual-in_err-answer-in-DropOutput.ensures.1 c.in_err-answer-in-DropOutput.ensures.asked.err)
@@ -24,13 +23,10 @@ pub returns-in_ok-answer-in-DropOutput-clause-asked : goal.returns-in_ok-answer-
 returns-in_ok-answer-in-DropOutput-clause-asked g c = rw c.in-DropOutput.is (asks_end _ c.in_ok-answer-in-DropOutput.ensures.asked.ok (rw c.of_nothing-in-DropOutput.ensures refl))
 
 pub returns-in-UdpCreate-clause-asked : goal.returns-in-UdpCreate-clause-asked
-returns-in-UdpCreate-clause-asked g c = rw (c.in-UdpCreate.is, c.of_create.ensures) (created_goes c.in-UdpCreate.interface (ends_as c.create_on-created.result) c.create_on-created.ensures.asked)
+returns-in-UdpCreate-clause-asked g c = rw (c.in-UdpCreate.is, c.of_create.ensures) (answered_goes handle_outcome c.in-UdpCreate.interface (ends_as c.create_on-created.result) c.create_on-created.ensures.asked)
 
-pub returns-in_err-answer-in-UdpBind-clause-asked : goal.returns-in_err-answer-in-UdpBind-clause-asked
-returns-in_err-answer-in-UdpBind-clause-asked g c = rw c.in-UdpBind.is (host_passed _ _ c.from_residual-in_err-answer-in-UdpBind.result c.from_residual-in_err-answer-in-UdpBind.ensures.1 c.in_err-answer-in-UdpBind.ensures.asked (λ stop. refl))
-
-pub returns-in_ok-answer-in-UdpBind-clause-asked : goal.returns-in_ok-answer-in-UdpBind-clause-asked
-returns-in_ok-answer-in-UdpBind-clause-asked g c = rw c.in-UdpBind.is (asks_end _ c.in_ok-answer-in-UdpBind.ensures.asked.ok (rw c.of_nothing-in-UdpBind.ensures refl))
+pub returns-in-UdpBind-clause-asked : goal.returns-in-UdpBind-clause-asked
+returns-in-UdpBind-clause-asked g c = rw (c.in-UdpBind.is, c.of_bind-in-UdpBind.ensures) (stored_goes outcome_of c.in-UdpBind.interface (state_of c.args.view.now) (ends_as c.rebind_udp-bound.result) c.rebind_udp-bound.ensures.asked)
 
 pub returns-in_err-answer-in-UdpConnect-clause-asked : goal.returns-in_err-answer-in-UdpConnect-clause-asked
 returns-in_err-answer-in-UdpConnect-clause-asked g c = rw c.in-UdpConnect.is (host_passed _ _ c.from_residual-in_err-answer-in-UdpConnect.result c.from_residual-in_err-answer-in-UdpConnect.ensures.1 c.in_err-answer-in-UdpConnect.ensures.asked (λ stop. refl))

@@ -24,6 +24,7 @@ loop-pollable-preserved g c =
             (look_goes c.args.look c.args.pollables.now c.loop-pollable.pollable-index _ _ _ c.loop-pollable-test.true i.reached _ w.look_at.new.ids w.in_ok-ready.ready
             (sym c.of.ensures ∙ none_of _ _ c.is_none.ensures w.if-is_none.true) w.in_ok-ready.ensures.names w.in_ok-ready.ensures.asked.ok);
         names = (let e = w.ids-is in let t = w.in_ok-ready.ensures.taken.one in let n = i.names in rw e (omega (arith, t, n)));
+        forth = (let e = w.ids-is in let t = w.in_ok-ready.ensures.taken.forth in let f = i.forth in rw e (omega (arith, t, f)));
         line = rw w.ids-is (w.in_ok-ready.ensures.taken.line ∙ i.line);
         sides = rw (w.world-is, w.view-is) (λ k. w.in_ok-ready.ensures.sides (i.sides k));
         view = rw w.view-is (view_then i.view w.in_ok-ready.ensures.view);
@@ -34,6 +35,7 @@ loop-pollable-preserved g c =
             (look_skips c.args.look c.args.pollables.now c.loop-pollable.pollable-index _ _ _ c.loop-pollable-test.true i.reached (some_of _ _ c.is_none.ensures w.if-is_none.false).0
             (sym c.of.ensures ∙ (some_of _ _ c.is_none.ensures w.if-is_none.false).1));
         names = (let n = i.names in rw w.ids-is (omega (arith, n)));
+        forth = (let f = i.forth in rw w.ids-is (omega (arith, f)));
         line = rw w.ids-is i.line;
         sides = rw (w.world-is, w.view-is) i.sides;
         view = rw w.view-is i.view;

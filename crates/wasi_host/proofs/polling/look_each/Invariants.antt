@@ -10,6 +10,7 @@ abbrev pub invariant-loop-pollable : goal.invariant-loop-pollable
 invariant-loop-pollable g l = record {
   reached : Reaches (look_each l.look l.pollables (state_of l.fn.view) l.fn.ids []) (look_each l.look (drop l.pollable-index l.pollables) (state_of l.view) l.ids l.found) (g.W.World.seen l.fn.world) (g.W.World.seen l.world);
   names : l.ids.next_part ≤ l.fn.ids.next_part + l.pollable-index;
+  forth : l.fn.ids.next_part ≤ l.ids.next_part;
   line : l.ids.line ≡ l.fn.ids.line;
   sides : KnowsSides (g.W.World.seen l.fn.world) l.fn.view.store.now → KnowsSides (g.W.World.seen l.world) l.view.store.now;
   view : SameView l.fn.view l.view;

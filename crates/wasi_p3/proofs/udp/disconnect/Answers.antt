@@ -29,7 +29,8 @@ pub returns-clause-kept : goal.returns-clause-kept
 returns-clause-kept g c = record {
   sides = knows_asked Any (outcome c.disconnect.result) _ _ (calm_disconnect _ c.in-Some.socket.now.inner)
       c.disconnect.ensures.asked (held_in-open c.args.view.now.store.now.records _ c.in-Some.socket.now
-      (with_udp_inner c.in-Some.socket.now c.disconnect.new.self) (sym c.in-Some.ensures.item));
+      (with_udp_inner c.in-Some.socket.now c.disconnect.new.self) (sym c.in-Some.ensures.item)
+      c.disconnect.ensures.side);
   view = record { context = refl; same_context = refl; same_table = refl; same_store = refl };
   ids = refl;
 }

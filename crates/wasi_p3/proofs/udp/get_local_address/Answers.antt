@@ -25,7 +25,7 @@ pub returns-clause-kept : goal.returns-clause-kept
 returns-clause-kept g c = record {
   sides = knows_asked Any (outcome c.local_address.result) _ _ (calm_udp_local _ c.in-Some.socket.now)
       c.local_address.ensures.asked (held_in-open c.args.view.now.store.now.records _ c.in-Some.socket.now
-      c.local_address.new.self (sym c.in-Some.ensures.item));
+      c.local_address.new.self (sym c.in-Some.ensures.item) c.local_address.ensures.side);
   view = record { context = refl; same_context = refl; same_table = refl; same_store = refl };
   ids = refl;
 }

@@ -30,7 +30,7 @@ returns-clause-kept g c = record {
   sides = knows_asked Any (outcome c.get_option.result) _ _
       (calm_udp_get _ c.in-Some.socket.now.inner c.args.option) c.get_option.ensures.asked
       (held_in-open c.args.view.now.store.now.records _ c.in-Some.socket.now c.in-Some.socket.now
-      (sym c.in-Some.ensures.item));
+      (sym c.in-Some.ensures.item) refl);
   view = record { context = refl; same_context = refl; same_table = refl; same_store = refl };
   ids = refl;
 }

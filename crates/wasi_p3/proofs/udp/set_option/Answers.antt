@@ -35,7 +35,7 @@ returns-clause-kept g c = record {
       (calm_udp_set _ c.in-Some.socket.now.inner (option_of c.args.setting) (number_of c.args.setting))
       c.set_option.ensures.asked
       (held_in-open c.args.view.now.store.now.records _ c.in-Some.socket.now c.in-Some.socket.now
-      (sym c.in-Some.ensures.item)));
+      (sym c.in-Some.ensures.item) refl));
   view = record { context = refl; same_context = refl; same_table = refl; same_store = refl };
   ids = refl;
 }

@@ -1,4 +1,4 @@
-use Rattle.std.proofs.Common.{sym, ap, ◌∙◌}
+use Rattle.std.proofs.Common.{refl, sym, ap, ◌∙◌}
 use Rattle.wasi_host.specs.Store.{Records}
 use Rattle.wasi_host.proofs.DatagramStores.{given_back, knows_back, knows_put, not_permitted}
 use Rattle.wasi_records.proofs.UdpLookups.{open_found}
@@ -18,4 +18,4 @@ returns-in_default-outgoing-clause-state c =
 pub returns-clause-sides : goal.returns-clause-sides
 returns-clause-sides c = λ s k.
     let store : Records = record { records = c.self.inside.records.items; jobs = c.self.inside.jobs.items; standing = c.self.inside.standing } in
-    knows_put store c.args.place c.in-Some.socket _ c.in-Some.ensures.item (rw (← c.self.view_is) at k)
+    knows_put store c.args.place c.in-Some.socket _ c.in-Some.ensures.item refl (rw (← c.self.view_is) at k)

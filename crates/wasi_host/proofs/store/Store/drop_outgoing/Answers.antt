@@ -1,4 +1,4 @@
-use Rattle.std.proofs.Common.{true, ap, sym, ◌∙◌}
+use Rattle.std.proofs.Common.{refl, true, ap, sym, ◌∙◌}
 use Rattle.wasi_world.specs.declared.outcome.Answer.TheVariants.{Pending}
 use Rattle.wasi_host.specs.declared.store.StandingCall.TheVariants.{DropOutgoing}
 use Rattle.wasi_host.specs.DatagramCalls.{drop_outgoing_by}
@@ -24,4 +24,4 @@ returns-then-sends-clause-dropped c =
 pub returns-clause-sides : goal.returns-clause-sides
 returns-clause-sides c = λ s k.
     let store : Records = record { records = c.self.inside.records.items; jobs = c.self.inside.jobs.items; standing = c.self.inside.standing } in
-    knows_put store c.args.place c.in-Some.socket _ c.in-Some.ensures.item (rw (← c.self.view_is) at k)
+    knows_put store c.args.place c.in-Some.socket _ c.in-Some.ensures.item refl (rw (← c.self.view_is) at k)

@@ -23,7 +23,7 @@ returns-clause-state c = rw (← c.self.view_is, open_found c.self.inside.record
 
 pub returns-clause-sides : goal.returns-clause-sides
 returns-clause-sides c = λ s k.
-    knows_same _ _ (held_in-open c.self.inside.records.items c.args.place c.in-Some.socket.now (record c.in-Some.socket.now { in_progress = Nothing }) (open_found c.self.inside.records.items c.args.place c.in-Some.socket c.in-Some.ensures.item)) (rw (← c.self.view_is) at k)
+    knows_same _ _ (held_in-open c.self.inside.records.items c.args.place c.in-Some.socket.now (record c.in-Some.socket.now { in_progress = Nothing }) (open_found c.self.inside.records.items c.args.place c.in-Some.socket c.in-Some.ensures.item) refl) (rw (← c.self.view_is) at k)
 
 pub returns-then-not-is_bound-clause-sides : goal.returns-then-not-is_bound-clause-sides
 returns-then-not-is_bound-clause-sides c = λ s k. knows_same _ _ (ap held_in (open_back c.self.inside.records.items c.args.place c.in-Some.socket c.in-Some.ensures.item)) (rw (← c.self.view_is) at k)

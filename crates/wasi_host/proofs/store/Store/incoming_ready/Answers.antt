@@ -27,7 +27,7 @@ returns-in_err-looked-clause-asked g c =
 pub returns-in_err-looked-clause-sides : goal.returns-in_err-looked-clause-sides
 returns-in_err-looked-clause-sides g c = λ k.
     let store : Records = record { records = c.self.inside.records.items; jobs = c.self.inside.jobs.items; standing = c.self.inside.standing } in
-    knows_same _ _ refl (knows_open store c.args.place c.in-Some.socket c.look_incoming-looked.new.self c.in-Some.ensures.item c.look_incoming-looked.ensures.none (rw (← c.self.view_is) at k))
+    knows_same _ _ refl (knows_open store c.args.place c.in-Some.socket c.look_incoming-looked.new.self c.in-Some.ensures.item c.look_incoming-looked.ensures.side c.look_incoming-looked.ensures.none (rw (← c.self.view_is) at k))
 
 pub returns-clause-asked : goal.returns-clause-asked
 returns-clause-asked g c =
@@ -40,4 +40,4 @@ returns-clause-asked g c =
 pub returns-clause-sides : goal.returns-clause-sides
 returns-clause-sides g c = λ k.
     let store : Records = record { records = c.self.inside.records.items; jobs = c.self.inside.jobs.items; standing = c.self.inside.standing } in
-    knows_same _ _ refl (knows_open store c.args.place c.in-Some.socket c.look_incoming-looked.new.self c.in-Some.ensures.item c.look_incoming-looked.ensures.none (rw (← c.self.view_is) at k))
+    knows_same _ _ refl (knows_open store c.args.place c.in-Some.socket c.look_incoming-looked.new.self c.in-Some.ensures.item c.look_incoming-looked.ensures.side c.look_incoming-looked.ensures.none (rw (← c.self.view_is) at k))

@@ -35,4 +35,4 @@ pub returns-clause-sides : goal.returns-clause-sides
 returns-clause-sides g c = λ k.
     let store : Records = record { records = c.self.inside.records.items; jobs = c.self.inside.jobs.items; standing = c.self.inside.standing } in
     let recs : c.if-not-before.self-inside.records.items ≡ open_put store.records c.args.place c.send_datagrams-sent.new.self = elim c.if-not-before.branch [ then-not-before w ↦ rw w.self-inside-is refl | else-not-before w ↦ rw w.self-inside-is refl ] in
-    knows_none store _ c.send_datagrams-sent.ensures.none (ap held_in recs ∙ held_in-open c.self.inside.records.items c.args.place c.in-Some.socket.now c.send_datagrams-sent.new.self (open_found c.self.inside.records.items c.args.place c.in-Some.socket c.in-Some.ensures.item)) (rw (← c.self.view_is) at k)
+    knows_none store _ c.send_datagrams-sent.ensures.none (ap held_in recs ∙ held_in-open c.self.inside.records.items c.args.place c.in-Some.socket.now c.send_datagrams-sent.new.self (open_found c.self.inside.records.items c.args.place c.in-Some.socket c.in-Some.ensures.item) c.send_datagrams-sent.ensures.side) (rw (← c.self.view_is) at k)

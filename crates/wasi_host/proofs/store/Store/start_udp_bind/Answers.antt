@@ -35,7 +35,7 @@ returns-in_err-answer-clause-asked g c =
 
 pub returns-in_err-answer-clause-sides : goal.returns-in_err-answer-clause-sides
 returns-in_err-answer-clause-sides g c = λ k.
-    knows_none _ _ c.begin_bind.ensures.none (held_in-open c.self.inside.records.items c.args.place c.in-Some.socket.now c.begin_bind.new.self (open_found c.self.inside.records.items c.args.place c.in-Some.socket c.in-Some.ensures.item)) (rw (← c.self.view_is) at k)
+    knows_none _ _ c.begin_bind.ensures.none (held_in-open c.self.inside.records.items c.args.place c.in-Some.socket.now c.begin_bind.new.self (open_found c.self.inside.records.items c.args.place c.in-Some.socket c.in-Some.ensures.item) c.begin_bind.ensures.side) (rw (← c.self.view_is) at k)
 
 pub returns-clause-asked : goal.returns-clause-asked
 returns-clause-asked g c =
@@ -50,7 +50,7 @@ returns-clause-sides g c = λ k.
     let store : Records = record { records = c.self.inside.records.items; jobs = c.self.inside.jobs.items; standing = c.self.inside.standing } in
     knows_stood (with_open_udp store c.args.place c.begin_bind.new.self) _ _ _ _ _ c.stand.ensures
     (knows_none store (with_open_udp store c.args.place c.begin_bind.new.self) c.begin_bind.ensures.none
-    (held_in-open c.self.inside.records.items c.args.place c.in-Some.socket.now c.begin_bind.new.self (open_found c.self.inside.records.items c.args.place c.in-Some.socket c.in-Some.ensures.item))
+    (held_in-open c.self.inside.records.items c.args.place c.in-Some.socket.now c.begin_bind.new.self (open_found c.self.inside.records.items c.args.place c.in-Some.socket c.in-Some.ensures.item) c.begin_bind.ensures.side)
     (rw (← c.self.view_is) at k))
 
 pub returns-then-not-is_nothing-clause-sides : goal.returns-then-not-is_nothing-clause-sides

@@ -1,12 +1,17 @@
-use Rattle.std.proofs.Common.{ap, sym, refl}
+use Rattle.std.proofs.Common.{Ok, ap, sym, ◌∙◌, refl}
+use Rattle.wasi_world.specs.declared.outcome.Answer.{Answer}
 use Rattle.wasi_world.specs.Asks.{Give}
-use Rattle.wasi_world.proofs.Walks.{asks_end, asks_given}
-use Rattle.wasi_host.specs.Standing.{allowed_answer}
+use Rattle.wasi_records.specs.declared.socket.TcpRecord.{TcpRecord}
+use Rattle.wasi_world.proofs.Walks.{asks_end, asks_given, asks_gives}
+use Rattle.wasi_tcp.specs.Shape.{Socket}
+use Rattle.wasi_tcp.specs.Socket.{side_of}
+use Rattle.wasi_host.specs.Binds.{bind_told}
 use Rattle.wasi_host.specs.Store.{Records, with_socket}
-use Rattle.wasi_records.proofs.Hosts.{host_refused}
 use Rattle.wasi_records.proofs.Lookups.{found_at, none_at}
-use Rattle.wasi_host.proofs.KnownSides.{knows_none, knows_stood}
 use Rattle.wasi_records.proofs.SideCounts.{held_in-set}
+use Rattle.wasi_host.proofs.Bases.{base_passed}
+use Rattle.wasi_host.proofs.Binds.{bound_listens, bound_socket}
+use Rattle.wasi_host.proofs.KnownSides.{knows_none, knows_stood}
 use Rattle.wasi_host.proofs.store.Store.tcp_rebind.Goals as goal
 
 pub returns-in_default-clause-asked : goal.returns-in_default-clause-asked
@@ -14,7 +19,7 @@ returns-in_default-clause-asked g c = rw (← c.self.view_is, none_at c.self.ins
 
 pub returns-in_err-answer-clause-asked : goal.returns-in_err-answer-clause-asked
 returns-in_err-answer-clause-asked g c = rw (← c.self.view_is, found_at c.self.inside.records.items c.args.place c.in-Some.record c.in-Some.ensures.item)
-    (host_refused _ _ c.from_residual.result c.from_residual.ensures.1 c.in_err-answer.ensures.asked (λ code. refl))
+    (base_passed _ c.poll_bind.result _ c.from_residual.result c.from_residual.ensures.1 c.in_err-answer.ensures.told (asks_gives (bind_told c.args.interface) c.poll_bind.ensures.asked) (λ code. refl))
 
 pub returns-in_err-answer-clause-sides : goal.returns-in_err-answer-clause-sides
 returns-in_err-answer-clause-sides g c = λ k.
@@ -24,12 +29,15 @@ returns-in_err-answer-clause-sides g c = λ k.
 
 pub returns-clause-asked : goal.returns-clause-asked
 returns-clause-asked g c = rw (← c.self.view_is, found_at c.self.inside.records.items c.args.place c.in-Some.record c.in-Some.ensures.item)
-    (asks_end _ c.in_ok-answer.ensures.asked.ok (ap (λ d. Give (allowed_answer d)) (sym c.stand.ensures)))
+    (asks_end _ (rw c.in_ok-answer.ensures.ok at (asks_gives (bind_told c.args.interface) c.poll_bind.ensures.asked)).ok
+    (ap (λ (d : Answer (Unit {0}) × Records). Give (Ok d.0, d.1)) (sym (rw c.leave_bound.ensures at c.stand.ensures))))
 
 pub returns-clause-sides : goal.returns-clause-sides
 returns-clause-sides g c = λ k.
     let store : Records = record { records = c.self.inside.records.items; jobs = c.self.inside.jobs.items; standing = c.self.inside.standing } in
-    knows_stood (with_socket store c.args.place c.poll_bind.new.self) _ _ _ _ _ c.stand.ensures
-    (knows_none store (with_socket store c.args.place c.poll_bind.new.self) c.poll_bind.ensures.none
-    (held_in-set c.self.inside.records.items c.args.place c.in-Some.record.now c.poll_bind.new.self (found_at c.self.inside.records.items c.args.place c.in-Some.record c.in-Some.ensures.item) c.poll_bind.ensures.side c.poll_bind.ensures.listening)
+    knows_stood (with_socket store c.args.place c.leave_bound.new.record) _ _ _ _ _ c.stand.ensures
+    (knows_none store (with_socket store c.args.place c.leave_bound.new.record) c.poll_bind.ensures.none
+    (held_in-set c.self.inside.records.items c.args.place c.in-Some.record.now c.leave_bound.new.record (found_at c.self.inside.records.items c.args.place c.in-Some.record c.in-Some.ensures.item)
+    (ap (λ (x : TcpRecord). side_of x.inner) c.leave_bound.ensures ∙ (ap (λ (s : Socket). side_of s) (bound_socket c.args.interface c.in_ok-answer.answer c.poll_bind.new.self) ∙ c.poll_bind.ensures.side))
+    (ap (λ (x : TcpRecord). x.listening) c.leave_bound.ensures ∙ (bound_listens c.args.interface c.in_ok-answer.answer c.poll_bind.new.self ∙ c.poll_bind.ensures.listening)))
     (rw (← c.self.view_is) at k))

@@ -23,11 +23,11 @@ returns-clause-asked g c =
 pub returns-in_err-addr-clause-sides : goal.returns-in_err-addr-clause-sides
 returns-in_err-addr-clause-sides g c = λ k.
     knows_asked Any _ _ _ (calm_udp_local c.args.op c.in-Some.socket.now) c.in_err-addr.ensures.asked
-    (held_in-open c.self.inside.records.items c.args.place c.in-Some.socket.now c.local_address.new.self (open_found c.self.inside.records.items c.args.place c.in-Some.socket c.in-Some.ensures.item))
+    (held_in-open c.self.inside.records.items c.args.place c.in-Some.socket.now c.local_address.new.self (open_found c.self.inside.records.items c.args.place c.in-Some.socket c.in-Some.ensures.item) c.local_address.ensures.side)
     (rw (← c.self.view_is) at k)
 
 pub returns-clause-sides : goal.returns-clause-sides
 returns-clause-sides g c = λ k.
     knows_calm Any _ _ (calm_udp_local c.args.op c.in-Some.socket.now) c.in_ok-addr.ensures.asked.ok
-    (held_in-open c.self.inside.records.items c.args.place c.in-Some.socket.now c.local_address.new.self (open_found c.self.inside.records.items c.args.place c.in-Some.socket c.in-Some.ensures.item))
+    (held_in-open c.self.inside.records.items c.args.place c.in-Some.socket.now c.local_address.new.self (open_found c.self.inside.records.items c.args.place c.in-Some.socket c.in-Some.ensures.item) c.local_address.ensures.side)
     (rw (← c.self.view_is) at k)

@@ -1,0 +1,26 @@
+-- What a bind that is done leaves, of each interface.
+use Rattle.std.specs.Prelude.{◌≡◌, refl}
+use Rattle.wasi_world.specs.declared.outcome.Answer.{Answer}
+use Rattle.wasi_world.specs.declared.outcome.Answer.TheVariants.{Ready, Pending}
+use Rattle.wasi_records.specs.declared.socket.TcpRecord.{TcpRecord}
+use Rattle.wasi_records.specs.declared.udp.OpenUdp.{OpenUdp}
+use Rattle.wasi_host.specs.declared.kind.Interface.{Interface}
+use Rattle.wasi_host.specs.declared.kind.Interface.TheVariants.{P2, P3}
+use Rattle.wasi_host.specs.Binds.{bound_as, udp_bound_as}
+
+-- the socket is the same, and listens as it did
+pub bound_socket : (face : Interface) (answer : Answer (Unit {0})) (r : TcpRecord) → (bound_as face answer r).inner ≡ r.inner
+bound_socket P2 answer r = refl
+bound_socket P3 (Ready done) r = refl
+bound_socket P3 Pending r = refl
+
+pub bound_listens : (face : Interface) (answer : Answer (Unit {0})) (r : TcpRecord) → (bound_as face answer r).listening ≡ r.listening
+bound_listens P2 answer r = refl
+bound_listens P3 (Ready done) r = refl
+bound_listens P3 Pending r = refl
+
+-- the same of a UDP socket
+pub udp_bound_side : (face : Interface) (answer : Answer (Unit {0})) (o : OpenUdp) → (udp_bound_as face answer o).inner.side ≡ o.inner.side
+udp_bound_side P2 answer o = refl
+udp_bound_side P3 (Ready done) o = refl
+udp_bound_side P3 Pending o = refl
