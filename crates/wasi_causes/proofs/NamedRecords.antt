@@ -157,7 +157,7 @@ fewer_in records place jobs i job l = kept_gone records place (job_place job) (�
 
 -- a call that comes to be pending is of a record that is there
 goes_in : (records : List Record) (call : StandingCall) (r : TcpRecord) → tcp2_at records (call_place call) ≡ Some r → GoesOn call r → CallIn records call
-goes_in records (StandingCall.Bind n) r g k place e = let same : n ≡ place = cc in subst (λ (x : ℕ). IsRecord (slice_get records x)) same (tcp_kept (slice_get records n) r g)
+goes_in records (StandingCall.Bind n face) r g k place e = let same : n ≡ place = cc in subst (λ (x : ℕ). IsRecord (slice_get records x)) same (tcp_kept (slice_get records n) r g)
 goes_in records (StandingCall.Listen n) r g k place e = let same : n ≡ place = cc in subst (λ (x : ℕ). IsRecord (slice_get records x)) same (tcp_kept (slice_get records n) r g)
 goes_in records (StandingCall.DropOutput n) r g k place e = let same : n ≡ place = cc in subst (λ (x : ℕ). IsRecord (slice_get records x)) same (tcp_kept (slice_get records n) r g)
 goes_in records _ r g k place e = absurd k
@@ -174,7 +174,7 @@ module _ (contexts : List WasiSocketsCtx) (line : ℕ) (origin : Step) where
   moves_in _ _ (walk.Reconnects h place r c now g e s t u) i = put_in h place _ i
   moves_in _ _ (walk.Opens h place r c d g e n) i = put_in h place _ i
   moves_in _ _ (walk.BeginsConnect h place r side a bound at g d to known idle own) i = put_in h place _ i
-  moves_in _ _ (walk.BeginsBind h place r side a at g d to idle own) i = put_in h place _ i
+  moves_in _ _ (walk.BeginsBind h place r side a at g d to own) i = put_in h place _ i
   moves_in _ _ (walk.BeginsWrite h place n r s half permit bytes at g e w within own) i = put_in h place _ i
   moves_in _ _ (walk.BeginsListen h place r side at g d bound none to idle own) i = put_in h place _ i
   moves_in _ _ (walk.BeginsAccept h place n r l at g e a own) i = put_in h place _ i
@@ -182,7 +182,7 @@ module _ (contexts : List WasiSocketsCtx) (line : ℕ) (origin : Step) where
   moves_in _ _ (walk.Forgets h place r l c g e a) i = put_in h place _ i
   moves_in _ _ (walk.CancelsBind h place r op q g e) i = put_in h place _ i
   moves_in _ _ (walk.UdpChanges h place o now g p keeps) i = put_udp_in h place (UdpRecord.Open now) i
-  moves_in _ _ (walk.BeginsUdpBind h place o a at g to idle own) i = put_udp_in h place _ i
+  moves_in _ _ (walk.BeginsUdpBind h place o a at g to own) i = put_udp_in h place _ i
   moves_in _ _ (walk.BeginsUdpConnect h place o a at g to bound none own) i = put_udp_in h place _ i
   moves_in _ _ (walk.BeginsSend h place n o out d bound at g e item known own) i = put_udp_in h place _ i
   moves_in _ _ (walk.BeginsReceive h place n o inc bound at g e is own) i = put_udp_in h place _ i
@@ -192,7 +192,7 @@ module _ (contexts : List WasiSocketsCtx) (line : ℕ) (origin : Step) where
   moves_in _ _ (walk.Finds h records same) i = same_in h records same i
   moves_in _ _ (walk.Unstands h over) i = (tt, i.1)
   moves_in _ _ (walk.Stands h ids call r quiet at g k) i = (goes_in h.machine.store.records call r g k, i.1)
-  moves_in _ _ (walk.StandsUdpBind h ids place o op quiet at g e) i = (udp_goes_in h.machine.store.records place (UdpRecord.Open o) g, i.1)
+  moves_in _ _ (walk.StandsUdpBind h ids place face o op quiet at g e) i = (udp_goes_in h.machine.store.records place (UdpRecord.Open o) g, i.1)
   moves_in _ _ (walk.StandsUdpCreate h ids place face create quiet made g) i = (udp_goes_in h.machine.store.records place (UdpRecord.Creating create) g, i.1)
   moves_in _ _ (walk.StandsUdpConnect h ids place handle o op quiet at made g e) i = (udp_goes_in h.machine.store.records place (UdpRecord.Open o) g, i.1)
   moves_in _ _ (walk.StandsDropOutgoing h ids place o quiet at g e) i = (udp_goes_in h.machine.store.records place (UdpRecord.Open o) g, i.1)

@@ -99,7 +99,7 @@ module _ (contexts : List WasiSocketsCtx) (line : ℕ) (origin : Step) (plain : 
   moves_none _ _ (Joins h c handle place r l new peer is of u g e a) i = (i.0, tt)
   moves_none _ _ (Unstands h over) i = (tt, i.1)
   moves_none _ _ (Stands h ids call r quiet at g k) i = (goes_none call r k, i.1)
-  moves_none _ _ (StandsUdpBind h ids place o op quiet at g e) i = (tt, i.1)
+  moves_none _ _ (StandsUdpBind h ids place face o op quiet at g e) i = (tt, i.1)
   moves_none _ _ (StandsUdpCreate h ids place face create quiet made g) i = (tt, i.1)
   moves_none _ _ (StandsDropOutgoing h ids place o quiet at g e) i = (tt, i.1)
   moves_none _ _ (RemembersStreams h c handle place remote is of o g none) i = absurd (plain (inl (subst IsUdpStream (sym is) tt)))
@@ -271,11 +271,11 @@ module _ (contexts : List WasiSocketsCtx) (m : Machine) (line : ℕ) (inputs : (
             let its : m.store.standing ≡ Some (standing_as s.ids (StandingCall.Blocking call)) = e ∙ ap (λ (c : StandingCall). Some (standing_as s.ids c)) is in
             let on : HasItsHandle m (StandingCall.Blocking call) = subst (λ (o : Option Standing). IfSome o (λ s. HasItsHandle m s.call)) its well in
             polled_blocking s.ids call its (by_line s e stands) on
-        by_call (StandingCall.Bind place) is = polled_other (no_blocking (StandingCall.Bind place) is (λ k. k)) stands well
+        by_call (StandingCall.Bind place face) is = polled_other (no_blocking (StandingCall.Bind place face) is (λ k. k)) stands well
         by_call (StandingCall.Listen place) is = polled_other (no_blocking (StandingCall.Listen place) is (λ k. k)) stands well
         by_call (StandingCall.DropOutput place) is = polled_other (no_blocking (StandingCall.DropOutput place) is (λ k. k)) stands well
         by_call (StandingCall.UdpCreate place face) is = polled_other (no_blocking (StandingCall.UdpCreate place face) is (λ k. k)) stands well
-        by_call (StandingCall.UdpBind place) is = polled_other (no_blocking (StandingCall.UdpBind place) is (λ k. k)) stands well
+        by_call (StandingCall.UdpBind place face) is = polled_other (no_blocking (StandingCall.UdpBind place face) is (λ k. k)) stands well
         by_call (StandingCall.UdpConnect place handle) is = polled_other (no_blocking (StandingCall.UdpConnect place handle) is (λ k. k)) stands well
         by_call (StandingCall.DropOutgoing place) is = polled_other (no_blocking (StandingCall.DropOutgoing place) is (λ k. k)) stands well
 

@@ -189,7 +189,7 @@ module _ (contexts : List WasiSocketsCtx) (line : ℕ) (origin : Step) where
   moves_go _ _ (walk.Opens h place r c d g e k) i = tcp_put h.machine.store.records i place _
   moves_go _ _ (walk.BeginsConnect h place r x a bound at g d to known idle own) i = tcp_put h.machine.store.records i
       place _
-  moves_go _ _ (walk.BeginsBind h place r x a at g d to idle own) i = tcp_put h.machine.store.records i place _
+  moves_go _ _ (walk.BeginsBind h place r x a at g d to own) i = tcp_put h.machine.store.records i place _
   moves_go _ _ (walk.BeginsWrite h place n r s half permit bytes at g e w within own) i = tcp_put
       h.machine.store.records i place _
   moves_go _ _ (walk.BeginsListen h place r x at g d bound none to idle own) i = tcp_put h.machine.store.records i place
@@ -201,7 +201,7 @@ module _ (contexts : List WasiSocketsCtx) (line : ℕ) (origin : Step) where
       (tcp_put h.machine.store.records i place _) (joined l new peer)
   moves_go _ _ (walk.UdpChanges h place o now g p keeps) i = udp_put h.machine.store.records i place
       (UdpRecord.Open now) (kept_goes _ _ p.receives (i place (UdpRecord.Open o) g))
-  moves_go _ _ (walk.BeginsUdpBind h place o a at g to idle own) i = udp_put h.machine.store.records i place _
+  moves_go _ _ (walk.BeginsUdpBind h place o a at g to own) i = udp_put h.machine.store.records i place _
       (i place (UdpRecord.Open o) g)
   moves_go _ _ (walk.BeginsUdpConnect h place o a at g to bound none own) i = udp_put h.machine.store.records i place _
       (i place (UdpRecord.Open o) g)

@@ -9,17 +9,17 @@ use Rattle.wasi_walks.proofs.walks.States.{stands_so as stands_under}
 use Rattle.wasi_causes.proofs.Words.{◌⊎◌, Answer, BindFailed, BindFails, BindWaits, Bool, CallFails, CallWaits, CodeWord, Done, End, EndsPending, Entry, Err, ErrorCode, Full, Give, IfSome, InProgress, InvalidState, IsBinding, IsListening, IsOnNothing, IsRestOfBind}
 use Rattle.wasi_causes.proofs.Words.{IsSome, IsSomeAnd, Item, List, ListenEnds, ListenFailed, ListenWaits, Listening, Machine, NoSuchHandle, None, Ok, OpId, Operation, Option, Pending, PendingCallsFit, Ready, Records, Refused, Reply, Result, Some}
 use Rattle.wasi_causes.proofs.Words.{Standing, StandingCall, Stop, TcpRecord, Waits, WasiSocketsCtx, [], allowed_answer, ap, bind, bind_ended, call_answered, call_of, call_place, closed_listening, entry, eq-eqb, false, go_on, if◌then◌else◌, inl}
-use Rattle.wasi_causes.proofs.Words.{inr, listen_ended, listen_polled, marks_in, no_fields, nothing_stands, name_of, number_fields, own_of, poll_begun, poll_binding, poll_listening, rebind_at, refl, relisten_at, resume_asks, resume_call, resumed}
+use Rattle.wasi_causes.proofs.Words.{inr, listen_ended, listen_polled, marks_in, no_fields, nothing_stands, name_of, number_fields, own_of, poll_begun, poll_binding, poll_listening, refl, relisten_at, resume_asks, resume_call, resumed}
 use Rattle.wasi_causes.proofs.Words.{resumed_reply, side_of, standing_as, stands_as, subst, sym, true, unstood, with_handle, with_socket, with_store, word_of_code, ℕ, ⊤, ◌++◌, ◌+◌, ◌==◌, ◌∙◌, ◌∷◌, ◌≡◌, ◌≢◌}
 use Rattle.wasi_world.specs.declared.ids.Ids.{Ids}
 use Rattle.wasi_causes.proofs.operations.Polls.{EndsFor, bind_ends as bind_polls, listen_ends as listen_polls}
 use Rattle.wasi_causes.proofs.streams.Halves.{OutputRow, outputs}
 use Rattle.wasi_causes.proofs.tables.Meets.{Rows, Meets, ends, onto, widen, granted, branch}
-use Rattle.wasi_causes.proofs.tables.Routes.{full_so, apart, code_word}
+use Rattle.wasi_causes.proofs.tables.Routes.{full_so, apart, calls, code_word, finds}
 use Rattle.wasi_causes.specs.Outcomes.{Outcome, Always}
 use Rattle.wasi_causes.specs.Failed.{left_failed}
 use Rattle.wasi_causes.specs.Udp.{GivesBy}
-use Rattle.wasi_host.specs.Pending.{gone_on, created_on, streams_on}
+use Rattle.wasi_host.specs.Pending.{answered_on, gone_on, handle_outcome, outcome_of, streams_on}
 use Rattle.wasi_causes.proofs.udp_streams.Makes.{makes_both, marks_of}
 use Rattle.wasi_causes.proofs.operations.ConnectPolls.{ConnectRow, udp_connect_gives}
 use Rattle.wasi_causes.proofs.operations.Marks.{poll_marks_none}
@@ -36,9 +36,12 @@ use Rattle.wasi_records.specs.Udp.{opened_udp, poll_create_asks, udp_create_ende
 use Rattle.wasi_host.specs.GivingBack.{given_back}
 use Rattle.wasi_records.specs.declared.records.Record.{Record}
 use Rattle.wasi_causes.proofs.GivenBack.{put_gone}
-use Rattle.wasi_host.specs.UdpCalls.{udp_left, with_udp, with_open_udp, udp_call_answered, rebind_udp_at}
+use Rattle.wasi_host.specs.UdpCalls.{udp_left, with_udp, with_open_udp, udp_call_answered}
 use Rattle.wasi_host.specs.UdpCreates.{create_answered, poll_create_at, create_so, create_on}
 use Rattle.wasi_host.specs.BaseStops.{BaseStop}
+use Rattle.wasi_host.specs.Binds.{Answered, bind_told, keeps, rebind_of, rebinds as tcp_rebinds, udp_bind_told, udp_rebind_of, udp_rebinds as its_rebinds}
+use Rattle.wasi_host.specs.Block.{Call, goes_on}
+use Rattle.wasi_host.specs.Standing.{stood}
 use Rattle.wasi_host.specs.Kinds.{udp_kind}
 use Rattle.wasi_host.specs.declared.kind.Interface.{Interface}
 use Rattle.wasi_host.specs.declared.kind.Interface.TheVariants.{P2, P3}
@@ -77,22 +80,20 @@ gives_none m after (StandingCall.UdpCreate place face) plain same = absurd plain
 gives_none m after (StandingCall.UdpConnect place handle) plain same = absurd plain
 gives_none m after (StandingCall.Blocking call) plain same = absurd plain
 gives_none m after (StandingCall.DropOutgoing place) plain same = (refl, same)
-gives_none m after (Bind place) plain same = (refl, same)
+gives_none m after (Bind place face) plain same = (refl, same)
 gives_none m after (Listen place) plain same = (refl, same)
 gives_none m after (DropOutput place) plain same = (refl, same)
-gives_none m after (StandingCall.UdpBind place) plain same = (refl, same)
+gives_none m after (StandingCall.UdpBind place face) plain same = (refl, same)
 
--- the words of its codes: those of 0.2, but for a create of 0.3
+-- the words of its codes: those of its interface
 may_word : (call : StandingCall) (code : ErrorCode) → IsCodeWord (word_for call code) ⊎ IsP3Word (word_for call code)
+may_word (Bind place P3) code = inr (record { code = code; is = refl })
+may_word (Bind place P2) code = inl (code_word code)
+may_word (StandingCall.UdpBind place P3) code = inr (record { code = code; is = refl })
+may_word (StandingCall.UdpBind place P2) code = inl (code_word code)
 may_word (StandingCall.UdpCreate place P3) code = inr (record { code = code; is = refl })
 may_word (StandingCall.UdpCreate place P2) code = inl (code_word code)
 may_word _ code = inl (code_word code)
-
-plain_word : (call : StandingCall) → IsOfNoCreate call → (code : ErrorCode) → word_for call code ≡ word_of_code code
-plain_word (StandingCall.UdpCreate place face) plain code = absurd plain
-plain_word (StandingCall.UdpConnect place handle) plain code = absurd plain
-plain_word (StandingCall.Blocking call) plain code = absurd plain
-plain_word _ plain code = refl
 
 the_same : {x y : Standing} → Some x ≡ Some y → x ≡ y
 the_same e = cc
@@ -161,12 +162,12 @@ module _ (contexts : List WasiSocketsCtx) (m : Machine) (line : ℕ) (ids : Ids)
     Due es (Ok (Ready given)) after = Unit {0}
     Due es (Err code) after = PendingCallsFit m → FailsSo es code after
 
-    pub answered_so : IsOfNoCreate call → (es : List Entry) (begun : Result (Answer (Unit {0})) ErrorCode × TcpRecord) → Due es begun.0 (record m { store = with_socket free (call_place call) begun.1 }) → CallRow es (call_answered free ids call begun)
-    answered_so plain es (Ok Pending, r) h = waits es (record m { store = record (with_socket free (call_place call) r) { standing = Some (standing_as ids call) } }) refl refl h
-    answered_so plain es (Ok (Ready given), r) h = let left : Machine = record m { store = with_socket free (call_place call) r } in done es left refl (gives_none m left call plain refl)
-    answered_so plain es (Err code, r) h =
+    pub answered_so : IsOfNoCreate call → ((code : ErrorCode) → word_for call code ≡ word_of_code code) → (es : List Entry) (begun : Result (Answer (Unit {0})) ErrorCode × TcpRecord) → Due es begun.0 (record m { store = with_socket free (call_place call) begun.1 }) → CallRow es (call_answered free ids call begun)
+    answered_so plain words es (Ok Pending, r) h = waits es (record m { store = record (with_socket free (call_place call) r) { standing = Some (standing_as ids call) } }) refl refl h
+    answered_so plain words es (Ok (Ready given), r) h = let left : Machine = record m { store = with_socket free (call_place call) r } in done es left refl (gives_none m left call plain refl)
+    answered_so plain words es (Err code, r) h =
         let left : Machine = record m { store = with_socket free (call_place call) r } in
-        subst (λ (w : CodeWord). Row es (reply.Err w, left)) (plain_word call plain code) (fails es left code refl refl h)
+        subst (λ (w : CodeWord). Row es (reply.Err w, left)) (words code) (fails es left code refl refl h)
 
     pub missing : IsOnNothing m call → Row [] (reply.Trap NoSuchHandle, nothing_stands m)
     missing nothing = (it_ends [] (reply.Trap NoSuchHandle) (nothing_stands m) (λ e. cc) refl, (rw (stands, eq-eqb n n refl) nothing, λ live. (refl, refl)))
@@ -187,7 +188,7 @@ module _ (contexts : List WasiSocketsCtx) (m : Machine) (line : ℕ) (ids : Ids)
 
       -- a pending listen is in progress
       unheld : {l : Listening} → r.listening ≡ l → (IsListening r.inner.state l → ⊥) → ListenRow [] (Err InvalidState, r)
-      unheld is none = answered_so (Listen place) stands (λ k. k) tt [] (Err InvalidState, r) (λ binds. absurd (none (subst (IsListening r.inner.state) is (listens_on binds))))
+      unheld is none = answered_so (Listen place) stands (λ k. k) tt (λ code. refl) [] (Err InvalidState, r) (λ binds. absurd (none (subst (IsListening r.inner.state) is (listens_on binds))))
 
       module _ (op : Operation) (is : r.listening ≡ listening.Begins op) where
         is_listen : PendingCallsFit m → IsListening r.inner.state (listening.Begins op)
@@ -197,13 +198,13 @@ module _ (contexts : List WasiSocketsCtx) (m : Machine) (line : ℕ) (ids : Ids)
         listen_waits es h = let k : ListenWaits r.listening es = rw is h in rw at k
 
         listen_ends : (es : List Entry) (end : End × List Item) → (IsListening r.inner.state (listening.Begins op) → EndsFor op (ListenEnds op) es end) → ListenRow es (listen_polled r (listen_ended op.who r.inner end))
-        listen_ends es (Waits, items) h = answered_so (Listen place) stands (λ k. k) tt es (listen_polled r (listen_ended op.who r.inner (Waits, items))) (λ binds. listen_waits es (h (is_listen binds)))
-        listen_ends es (Done given, items) h = answered_so (Listen place) stands (λ k. k) tt es (listen_polled r (listen_ended op.who r.inner (Done given, items))) tt
-        listen_ends es (Refused code given, items) h = answered_so (Listen place) stands (λ k. k) tt es (listen_polled r (listen_ended op.who r.inner (Refused code given, items))) (λ binds. (ListenFailed place r op code at is (h (is_listen binds)), refl))
+        listen_ends es (Waits, items) h = answered_so (Listen place) stands (λ k. k) tt (λ code. refl) es (listen_polled r (listen_ended op.who r.inner (Waits, items))) (λ binds. listen_waits es (h (is_listen binds)))
+        listen_ends es (Done given, items) h = answered_so (Listen place) stands (λ k. k) tt (λ code. refl) es (listen_polled r (listen_ended op.who r.inner (Done given, items))) tt
+        listen_ends es (Refused code given, items) h = answered_so (Listen place) stands (λ k. k) tt (λ code. refl) es (listen_polled r (listen_ended op.who r.inner (Refused code given, items))) (λ binds. (ListenFailed place r op code at is (h (is_listen binds)), refl))
 
         begun : Meets ListenRow [] (poll_begun r op)
         begun =
-            onto _ (branch (listen_over op) (λ over. ends (answered_so (Listen place) stands (λ k. k) tt [] (listen_polled r (Err InvalidState, (op, r.inner))) (λ binds. let going = (is_listen binds).2 in absurd (cc))))
+            onto _ (branch (listen_over op) (λ over. ends (answered_so (Listen place) stands (λ k. k) tt (λ code. refl) [] (listen_polled r (Err InvalidState, (op, r.inner))) (λ binds. let going = (is_listen binds).2 in absurd (cc))))
             (λ on. onto _ (widen listen_ends (granted (λ k. listen_polls op (k.0, k.1))))))
 
       relists_by : (l : Listening) → r.listening ≡ l → Meets ListenRow [] (poll_listening r l)
@@ -212,7 +213,7 @@ module _ (contexts : List WasiSocketsCtx) (m : Machine) (line : ℕ) (ids : Ids)
 
       -- a listen that was begun has taken the network socket
       by_other : (of : OpId) → side_of r.inner ≡ Some of → (l : Listening) → r.listening ≡ l → ListenRow [] (Err InvalidState, r)
-      by_other of side (listening.Begins op) is = answered_so (Listen place) stands (λ k. k) tt [] (Err InvalidState, r) (λ binds. let none = (is_listen op is binds).3 in absurd (cc))
+      by_other of side (listening.Begins op) is = answered_so (Listen place) stands (λ k. k) tt (λ code. refl) [] (Err InvalidState, r) (λ binds. let none = (is_listen op is binds).3 in absurd (cc))
       by_other of side _ is = unheld is (λ k. k)
 
       by_side : (o : Option OpId) → side_of r.inner ≡ o → Meets ListenRow [] (closed_listening r o)
@@ -224,38 +225,65 @@ module _ (contexts : List WasiSocketsCtx) (m : Machine) (line : ℕ) (ids : Ids)
     relists (Some r) at = onto _ (by_side r at (side_of r.inner) refl)
 
   -- == of a bind
-  module _ (place : ℕ) (stands : Under (Bind place)) where
-    module _ (r : TcpRecord) (at : tcp2_at m.store.records place ≡ Some r) where
-      abbrev BindRow : Rows (Result (Answer (Unit {0})) ErrorCode × TcpRecord)
-      BindRow es begun = CallRow es (call_answered free ids (Bind place) begun)
+  abbrev BoundRow : Interface → Rows (Result (Answer (Unit {0})) BaseStop × Records)
+  BoundRow face es done = GoneRow es (answered_on outcome_of face (with_store (nothing_stands m) done))
 
-      goes_on : PendingCallsFit m → IsBinding r.in_progress
-      goes_on binds = let k : IfSome (tcp2_at m.store.records place) (λ q. IsBinding q.in_progress) = rw stands at binds in rw at at k
+  module _ (place : ℕ) (face : Interface) (stands : Under (Bind place face)) where
+    abbrev bind_call : StandingCall
+    bind_call = Bind place face
+
+    -- a code is told by the word of its interface
+    bind_refused : (es : List Entry) (store : Records) (code : ErrorCode) → Row es (reply.Err (word_for bind_call code), record m { store = store }) → BoundRow face es (Err (Code code), store)
+    bind_refused es store code row = by_face face row
+      where
+        by_face : (f : Interface) → Row es (reply.Err (word_for (Bind place f) code), record m { store = store }) → BoundRow f es (Err (Code code), store)
+        by_face P2 row = row
+        by_face P3 row = row
+
+    abbrev BindDue : Rows (Answered × TcpRecord)
+    BindDue es begun = Due bind_call stands (λ k. k) es begun.0 (record m { store = with_socket free place begun.1 })
+
+    -- what a bind that is done leaves is no matter
+    bind_due : (es : List Entry) (begun : Answered × TcpRecord) → BindDue es begun → BindDue es (bind_told face begun)
+    bind_due es (Ok Pending, r) h = h
+    bind_due es (Ok (Ready given), r) h = tt
+    bind_due es (Err code, r) h = h
+
+    bind_kept : (es : List Entry) (answer : Answer (Unit {0})) (r : TcpRecord) → BindDue es (Ok answer, r) → BoundRow face es (let so = stood (with_socket free place r) ids bind_call answer in (Ok so.0, so.1))
+    bind_kept es Pending r h = waits bind_call stands (λ k. k) es (record m { store = record (with_socket free place r) { standing = Some (standing_as ids bind_call) } }) refl refl h
+    bind_kept es (Ready given) r h = let left : Machine = record m { store = with_socket free place r } in done bind_call stands (λ k. k) es left refl (gives_none m left bind_call tt refl)
+
+    module _ (r : TcpRecord) (at : tcp2_at m.store.records place ≡ Some r) where
+      binds_on : PendingCallsFit m → IsBinding r.in_progress
+      binds_on binds = let k : IfSome (tcp2_at m.store.records place) (λ q. IsBinding q.in_progress) = rw stands at binds in rw at at k
 
       module _ (op : Operation) (is : r.in_progress ≡ Binding op) where
         is_bind : PendingCallsFit m → IsRestOfBind op
-        is_bind binds = let k = goes_on binds in rw is at k
+        is_bind binds = let k = binds_on binds in rw is at k
 
-        bind_waits : (es : List Entry) → EndsPending op.who.id es → CallWaits m (own_of n) es (Bind place)
+        bind_waits : (es : List Entry) → EndsPending op.who.id es → CallWaits m (own_of n) es bind_call
         bind_waits es h = let k : BindWaits r.in_progress es = rw is h in rw at k
 
-        bind_ends : (es : List Entry) (end : End × List Item) → (IsRestOfBind op → EndsFor op (BindFails op) es end) → BindRow es (bind_ended op r end)
-        bind_ends es (Waits, items) h = answered_so (Bind place) stands (λ k. k) tt es (bind_ended op r (Waits, items)) (λ binds. bind_waits es (h (is_bind binds)))
-        bind_ends es (Done given, items) h = answered_so (Bind place) stands (λ k. k) tt es (bind_ended op r (Done given, items)) tt
-        bind_ends es (Refused code given, items) h = answered_so (Bind place) stands (λ k. k) tt es (bind_ended op r (Refused code given, items)) (λ binds. (BindFailed place r op code at is (h (is_bind binds)), refl))
+        bind_ends : (es : List Entry) (end : End × List Item) → (IsRestOfBind op → EndsFor op (BindFails op) es end) → BindDue es (bind_ended op r end)
+        bind_ends es (Waits, items) h = λ binds. bind_waits es (h (is_bind binds))
+        bind_ends es (Done given, items) h = tt
+        bind_ends es (Refused code given, items) h = λ binds. (BindFailed place face r op code at is (h (is_bind binds)), refl)
 
-      rebinds_by : (doing : InProgress) → r.in_progress ≡ doing → Meets BindRow [] (poll_binding r doing)
+      rebinds_by : (doing : InProgress) → r.in_progress ≡ doing → Meets BindDue [] (poll_binding r doing)
       rebinds_by (Binding op) is = onto _ (widen (bind_ends op is) (granted (bind_polls op)))
-      rebinds_by _ is = ends (answered_so (Bind place) stands (λ k. k) tt [] (Err InvalidState, r) (λ binds. let k = goes_on binds in absurd (rw is at k)))
+      rebinds_by _ is = ends (λ binds. let k = binds_on binds in absurd (rw is at k))
 
-    rebinds : (o : Option TcpRecord) → tcp2_at m.store.records place ≡ o → Meets CallRow [] (rebind_at free ids place o)
-    rebinds None at = ends (missing (Bind place) stands (λ k. k) at)
-    rebinds (Some r) at = onto _ (rebinds_by r at r.in_progress refl)
+    rebinds : Meets (BoundRow face) [] (rebind_of face ids place free)
+    rebinds =
+        finds (λ r. goes_on (Call Code (λ store. r) (λ store now. with_socket store place now) (tcp_rebinds face)) (keeps ids bind_call)) (tcp2_at m.store.records place) (missing bind_call stands (λ k. k))
+        (λ r at. calls {Mid = BindDue} _ (onto _ (widen bind_due (rebinds_by r at r.in_progress refl)))
+        (λ es code r h. ends (bind_refused es (with_socket free place r) code (fails bind_call stands (λ k. k) es (record m { store = with_socket free place r }) code refl refl h)))
+        (λ es answer r h. ends (bind_kept es answer r h)))
 
   -- == of a create of a UDP socket
   module _ (place : ℕ) (face : Interface) (stands : Under (StandingCall.UdpCreate place face)) where
     abbrev CreatedRow : Rows (Result (Answer ℕ) BaseStop × Machine)
-    CreatedRow es made = GoneRow es (created_on face made)
+    CreatedRow es made = GoneRow es (answered_on handle_outcome face made)
 
     abbrev MadeRow : Rows (Result (Answer (Unit {0})) BaseStop × Records)
     MadeRow es made = Meets CreatedRow es (create_so face ids place (nothing_stands m) made)
@@ -264,7 +292,7 @@ module _ (contexts : List WasiSocketsCtx) (m : Machine) (line : ℕ) (ids : Ids)
     refused_row : (es : List Entry) (after : Machine) (code : ErrorCode) → Row es (reply.Err (word_for (StandingCall.UdpCreate place face) code), after) → CreatedRow es (Err (Code code), after)
     refused_row es after code row = by_face face row
       where
-        by_face : (f : Interface) → Row es (reply.Err (word_for (StandingCall.UdpCreate place f) code), after) → GoneRow es (created_on f (Err (Code code), after))
+        by_face : (f : Interface) → Row es (reply.Err (word_for (StandingCall.UdpCreate place f) code), after) → GoneRow es (answered_on handle_outcome f (Err (Code code), after))
         by_face P2 row = row
         by_face P3 row = row
 
@@ -325,16 +353,30 @@ module _ (contexts : List WasiSocketsCtx) (m : Machine) (line : ℕ) (ids : Ids)
     recreates = chain {Mid = MadeRow} (recreates_at (udp2_at m.store.records place) refl) (λ es made k. k)
 
   -- == of a bind of a UDP socket
-  module _ (place : ℕ) (stands : Under (StandingCall.UdpBind place)) where
+  module _ (place : ℕ) (face : Interface) (stands : Under (StandingCall.UdpBind place face)) where
+    abbrev udp_bind_call : StandingCall
+    udp_bind_call = StandingCall.UdpBind place face
+
+    udp_bind_refused : (es : List Entry) (store : Records) (code : ErrorCode) → Row es (reply.Err (word_for udp_bind_call code), record m { store = store }) → BoundRow face es (Err (Code code), store)
+    udp_bind_refused es store code row = by_face face row
+      where
+        by_face : (f : Interface) → Row es (reply.Err (word_for (StandingCall.UdpBind place f) code), record m { store = store }) → BoundRow f es (Err (Code code), store)
+        by_face P2 row = row
+        by_face P3 row = row
+
+    abbrev UdpBindDue : Rows (Answered × OpenUdp)
+    UdpBindDue es begun = Due udp_bind_call stands (λ k. k) es begun.0 (record m { store = with_open_udp free place begun.1 })
+
+    udp_bind_due : (es : List Entry) (begun : Answered × OpenUdp) → UdpBindDue es begun → UdpBindDue es (udp_bind_told face begun)
+    udp_bind_due es (Ok Pending, o) h = h
+    udp_bind_due es (Ok (Ready given), o) h = tt
+    udp_bind_due es (Err code, o) h = h
+
+    udp_bind_kept : (es : List Entry) (answer : Answer (Unit {0})) (o : OpenUdp) → UdpBindDue es (Ok answer, o) → BoundRow face es (let so = stood (with_open_udp free place o) ids udp_bind_call answer in (Ok so.0, so.1))
+    udp_bind_kept es Pending o h = waits udp_bind_call stands (λ k. k) es (record m { store = record (with_open_udp free place o) { standing = Some (standing_as ids udp_bind_call) } }) refl refl h
+    udp_bind_kept es (Ready given) o h = done udp_bind_call stands (λ k. k) es (record m { store = with_open_udp free place o }) refl (refl, refl)
+
     module _ (o : OpenUdp) (at : open_at m.store.records place ≡ Some o) where
-      abbrev UdpBindRow : Rows (Result (Answer (Unit {0})) ErrorCode × OpenUdp)
-      UdpBindRow es begun = CallRow es (udp_call_answered free ids (StandingCall.UdpBind place) begun)
-
-      udp_answered_so : (es : List Entry) (begun : Result (Answer (Unit {0})) ErrorCode × OpenUdp) → Due (StandingCall.UdpBind place) stands (λ k. k) es begun.0 (record m { store = with_open_udp free place begun.1 }) → UdpBindRow es begun
-      udp_answered_so es (Ok Pending, now) h = waits (StandingCall.UdpBind place) stands (λ k. k) es (record m { store = record (with_open_udp free place now) { standing = Some (standing_as ids (StandingCall.UdpBind place)) } }) refl refl h
-      udp_answered_so es (Ok (Ready given), now) h = done (StandingCall.UdpBind place) stands (λ k. k) es (record m { store = with_open_udp free place now }) refl (refl, refl)
-      udp_answered_so es (Err code, now) h = fails (StandingCall.UdpBind place) stands (λ k. k) es (record m { store = with_open_udp free place now }) code refl refl h
-
       udp_goes_on : PendingCallsFit m → IsUdpBinding o.in_progress
       udp_goes_on fits = let k : IfSome (open_at m.store.records place) (λ q. IsUdpBinding q.in_progress) = rw stands at fits in rw at at k
 
@@ -342,21 +384,24 @@ module _ (contexts : List WasiSocketsCtx) (m : Machine) (line : ℕ) (ids : Ids)
         is_udp_bind : PendingCallsFit m → IsUdpBind op
         is_udp_bind fits = let k = udp_goes_on fits in rw is at k
 
-        udp_bind_waits : (es : List Entry) → EndsPending op.who.id es → CallWaits m (own_of n) es (StandingCall.UdpBind place)
+        udp_bind_waits : (es : List Entry) → EndsPending op.who.id es → CallWaits m (own_of n) es udp_bind_call
         udp_bind_waits es h = let k : UdpBindWaits o.in_progress es = rw is h in rw at k
 
-        udp_ended : (es : List Entry) (end : End × List Item) → (PendingCallsFit m → EndsFor op (UdpBindFails op) es end) → UdpBindRow es (udp_bind_ended op o end)
-        udp_ended es (Waits, items) h = udp_answered_so es (udp_bind_ended op o (Waits, items)) (λ fits. udp_bind_waits es (h fits))
-        udp_ended es (Done given, items) h = udp_answered_so es (udp_bind_ended op o (Done given, items)) tt
-        udp_ended es (Refused code given, items) h = udp_answered_so es (udp_bind_ended op o (Refused code given, items)) (λ fits. (UdpBindFailed place o op code at is (h fits), refl))
+        udp_ended : (es : List Entry) (end : End × List Item) → (PendingCallsFit m → EndsFor op (UdpBindFails op) es end) → UdpBindDue es (udp_bind_ended op o end)
+        udp_ended es (Waits, items) h = λ fits. udp_bind_waits es (h fits)
+        udp_ended es (Done given, items) h = tt
+        udp_ended es (Refused code given, items) h = λ fits. (UdpBindFailed place face o op code at is (h fits), refl)
 
-      udp_rebinds_by : (doing : UdpInProgress) → o.in_progress ≡ doing → Meets UdpBindRow [] (poll_udp_binding o doing)
+      udp_rebinds_by : (doing : UdpInProgress) → o.in_progress ≡ doing → Meets UdpBindDue [] (poll_udp_binding o doing)
       udp_rebinds_by (doing.Binding op) is = onto _ (widen (udp_ended op is) (granted (λ fits. udp_bind_ends op (is_udp_bind op is fits))))
-      udp_rebinds_by _ is = ends (udp_answered_so [] (Err InvalidState, o) (λ fits. let k = udp_goes_on fits in absurd (rw is at k)))
+      udp_rebinds_by _ is = ends (λ fits. let k = udp_goes_on fits in absurd (rw is at k))
 
-    udp_rebinds : (o : Option OpenUdp) → open_at m.store.records place ≡ o → Meets CallRow [] (rebind_udp_at free ids place o)
-    udp_rebinds None at = ends (missing (StandingCall.UdpBind place) stands (λ k. k) at)
-    udp_rebinds (Some o) at = onto _ (udp_rebinds_by o at o.in_progress refl)
+    udp_rebinds : Meets (BoundRow face) [] (udp_rebind_of face ids place free)
+    udp_rebinds =
+        finds (λ o. goes_on (Call Code (λ store. o) (λ store now. with_open_udp store place now) (its_rebinds face)) (keeps ids udp_bind_call)) (open_at m.store.records place) (missing udp_bind_call stands (λ k. k))
+        (λ o at. calls {Mid = UdpBindDue} _ (onto _ (widen udp_bind_due (udp_rebinds_by o at o.in_progress refl)))
+        (λ es code o h. ends (udp_bind_refused es (with_open_udp free place o) code (fails udp_bind_call stands (λ k. k) es (record m { store = with_open_udp free place o }) code refl refl h)))
+        (λ es answer o h. ends (udp_bind_kept es answer o h)))
 
   -- == of datagram streams
   module _ (place handle : ℕ) (stands : Under (StandingCall.UdpConnect place handle)) where
@@ -428,10 +473,10 @@ module _ (contexts : List WasiSocketsCtx) (m : Machine) (line : ℕ) (ids : Ids)
 
   -- == by what is pending
   goes_on_as : (call : StandingCall) → Under call → Meets GoneRow [] (go_on (nothing_stands m) ids call)
-  goes_on_as (Bind place) stands = onto _ (rebinds place stands (tcp2_at m.store.records place) refl)
+  goes_on_as (Bind place face) stands = onto _ (rebinds place face stands)
   goes_on_as (Listen place) stands = onto _ (relists place stands (tcp2_at m.store.records place) refl)
   goes_on_as (StandingCall.UdpCreate place face) stands = onto _ (recreates place face stands)
-  goes_on_as (StandingCall.UdpBind place) stands = onto _ (udp_rebinds place stands (open_at m.store.records place) refl)
+  goes_on_as (StandingCall.UdpBind place face) stands = onto _ (udp_rebinds place face stands)
   goes_on_as (StandingCall.UdpConnect place handle) stands = onto _ (remakes place handle stands)
   goes_on_as (StandingCall.DropOutgoing place) stands = ends (goes place stands (open_at m.store.records place) refl)
   goes_on_as (StandingCall.Blocking call) stands = blocked_goes_on contexts m line ids call stands

@@ -112,13 +112,13 @@ module _ (m : Machine) (f : Fit (Over m)) (i : Steady m.store.records) where
   binds_so r _ e k b = absurd b
 
   by_call : (call : StandingCall) → FitCall m.store.records call → HoldsCall m call
-  by_call (standing.Bind place) h = subst (λ (o : Option TcpRecord). IfSome o (λ r. IsBinding r.in_progress)) (sym h.at) (binds_so h.was h.was.in_progress refl (f.records place h.was h.at) h.goes)
+  by_call (standing.Bind place face) h = subst (λ (o : Option TcpRecord). IfSome o (λ r. IsBinding r.in_progress)) (sym h.at) (binds_so h.was h.was.in_progress refl (f.records place h.was h.at) h.goes)
   by_call (standing.Listen place) h =
       subst (λ (o : Option TcpRecord). IfSome o (λ r. IsListening r.inner.state r.listening)) (sym h.at)
       (listens_so h.was.inner.state h.was.listening (f.records place h.was h.at).1 (i place h.was h.at).2.1 h.goes)
   by_call (standing.DropOutput place) h = tt
   by_call (standing.UdpCreate place face) h = subst (λ (o : Option UdpRecord). IfSome o IsCreating) (sym h.at) (f.udps place (UdpRecord.Creating h.was) h.at)
-  by_call (standing.UdpBind place) h =
+  by_call (standing.UdpBind place face) h =
       let bind : IsUdpBinding (UdpInProgress.Binding h.op) = (subst (FitUdpProgress h.was.inner.side) h.goes (f.udps place (UdpRecord.Open h.was) h.at).0).bind in
       subst (λ (o : Option OpenUdp). IfSome o (λ q. IsUdpBinding q.in_progress)) (sym (ap open_of h.at)) (subst IsUdpBinding (sym h.goes) bind)
   by_call (standing.UdpConnect place handle) h =
@@ -192,11 +192,11 @@ module _ (m : Machine) (i : OwnedIn m) where
 -- a pending call is in progress in its record, if it is of one, and on its streams
 module _ (m : Machine) (f : Fit (Over m)) (well : PendingHandleIsLive m) where
   on_nothing : (call : StandingCall) → FitCall m.store.records call → HasItsHandle m call → IsOnNothing m call → ⊥
-  on_nothing (standing.Bind place) h its none = let at = h.at in cc
+  on_nothing (standing.Bind place face) h its none = let at = h.at in cc
   on_nothing (standing.Listen place) h its none = let at = h.at in cc
   on_nothing (standing.DropOutput place) h its none = none
   on_nothing (standing.UdpCreate place face) h its none = let at = h.at in cc
-  on_nothing (standing.UdpBind place) h its none = let at : open_at m.store.records place ≡ Some h.was = ap open_of h.at in cc
+  on_nothing (standing.UdpBind place face) h its none = let at : open_at m.store.records place ≡ Some h.was = ap open_of h.at in cc
   on_nothing (standing.UdpConnect place handle) h its (inl none) = let at : open_at m.store.records place ≡ Some h.was = ap open_of h.at in cc
   on_nothing (standing.UdpConnect place handle) h its (inr none) = cc
   on_nothing (standing.DropOutgoing place) h its none = none

@@ -165,7 +165,7 @@ module _ (contexts : List WasiSocketsCtx) (line : ℕ) (origin : Step) where
               (wildcard r.inner.family) a (connect_first bound))) r.listening side (ap side_in d) (i place r g).2.1,
         ),
       ) i
-  moves_steady _ _ (BeginsBind h place r side a at g d to idle own) i = put_steady h place _ (λ c. absurd (cc), (i place r g).1, (i place r g).2) i
+  moves_steady _ _ (BeginsBind h place r side a at g d to own) i = put_steady h place _ (λ c. absurd (cc), (i place r g).1, (i place r g).2) i
   moves_steady _ _ (BeginsWrite h place n r s half permit bytes at g e w within own) i = put_steady h place _ (i place r g) i
   moves_steady _ _ (BeginsListen h place r side at g d bound none to idle own) i = put_steady h place _ (λ k. tt, λ s e. absurd (cc), (tt, ((tt, (tt, tt)), refl, refl))) i
   moves_steady _ _ (BeginsAccept h place n r l at g e a own) i = put_steady h place _ (listens_on r l _ e (i place r g)) i
@@ -174,7 +174,7 @@ module _ (contexts : List WasiSocketsCtx) (line : ℕ) (origin : Step) where
   moves_steady _ _ (Joins h c handle place r l new peer is of u g e a) i =
       let k = put_steady h place (accepting_now r l accepting.Idle) (listens_on r l accepting.Idle e (i place r g)) i in push_steady (tcp2_put h.machine.store.records place (accepting_now r l accepting.Idle)) (joined l new peer) (λ c. absurd (cc), λ side d. absurd (cc), (tt, tt)) k
   moves_steady _ _ (UdpChanges h place o now g p keeps) i = put_udp_steady h place (UdpRecord.Open now) i
-  moves_steady _ _ (BeginsUdpBind h place o a at g to idle own) i = put_udp_steady h place _ i
+  moves_steady _ _ (BeginsUdpBind h place o a at g to own) i = put_udp_steady h place _ i
   moves_steady _ _ (BeginsUdpConnect h place o a at g to bound none own) i = put_udp_steady h place _ i
   moves_steady _ _ (BeginsSend h place n o out d bound at g e item known own) i = put_udp_steady h place _ i
   moves_steady _ _ (BeginsReceive h place n o inc bound at g e is own) i = put_udp_steady h place _ i

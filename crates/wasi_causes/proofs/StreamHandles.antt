@@ -69,7 +69,7 @@ module _ (contexts : List WasiSocketsCtx) (line : ℕ) (origin : Step) where
   moves_apart _ _ (walk.Reconnects h place r c now g e s t u) i = put_tcp h place r g _ i
   moves_apart _ _ (walk.Opens h place r c d g e n) i = put_tcp h place r g _ i
   moves_apart _ _ (walk.BeginsConnect h place r side a bound at g d to known idle own) i = put_tcp h place r g _ i
-  moves_apart _ _ (walk.BeginsBind h place r side a at g d to idle own) i = put_tcp h place r g _ i
+  moves_apart _ _ (walk.BeginsBind h place r side a at g d to own) i = put_tcp h place r g _ i
   moves_apart _ _ (walk.BeginsWrite h place n r s half permit bytes at g e w within own) i = put_tcp h place r g _ i
   moves_apart _ _ (walk.BeginsListen h place r side at g d bound none to idle own) i = put_tcp h place r g _ i
   moves_apart _ _ (walk.BeginsAccept h place n r l at g e a own) i = put_tcp h place r g _ i
@@ -90,13 +90,13 @@ module _ (contexts : List WasiSocketsCtx) (line : ℕ) (origin : Step) where
   moves_apart _ _ (walk.RecallsStreams h ids place handle e own) i = remade _ _ h.made (Made.ToStream ids.line handle place) _ (subst (StandsSo h.machine.table) e i.stands) i
   moves_apart _ _ (walk.Unstands h over) i = restood _ _ h.made _ None tt i
   moves_apart _ _ (walk.Stands h ids call r quiet at g k) i = restood _ _ h.made _ (Some (standing_as ids call)) (goes_so h.machine.table call r k) i
-  moves_apart _ _ (walk.StandsUdpBind h ids place o op quiet at g e) i = restood _ _ h.made _ (Some (standing_as ids (StandingCall.UdpBind place))) tt i
+  moves_apart _ _ (walk.StandsUdpBind h ids place face o op quiet at g e) i = restood _ _ h.made _ (Some (standing_as ids (StandingCall.UdpBind place face))) tt i
   moves_apart _ _ (walk.StandsUdpCreate h ids place face create quiet made g) i = restood _ _ h.made _ (Some (standing_as ids (StandingCall.UdpCreate place face))) tt i
   moves_apart _ _ (walk.StandsDropOutgoing h ids place o quiet at g e) i = restood _ _ h.made _ (Some (standing_as ids (StandingCall.DropOutgoing place))) tt i
   moves_apart _ _ (walk.StandsBlocking h ids call handles made its) i = restood _ _ h.made _ (Some (standing_as ids (StandingCall.Blocking call))) tt i
   moves_apart _ _ (walk.StandsUdpConnect h ids place handle o op quiet at made g e) i = restood _ _ h.made _ (Some (standing_as ids (StandingCall.UdpConnect place handle))) (subst (MadeSo h.machine.table) made i.makes) i
   moves_apart _ _ (walk.UdpChanges h place o now g p keeps) i = changed h place o now g (walk.keeps_incoming origin h place o.incoming now.incoming keeps.incoming) i
-  moves_apart _ _ (walk.BeginsUdpBind h place o a at g to idle own) i = put_open h place o _ g (λ e. e) i
+  moves_apart _ _ (walk.BeginsUdpBind h place o a at g to own) i = put_open h place o _ g (λ e. e) i
   moves_apart _ _ (walk.BeginsUdpConnect h place o a at g to bound none own) i = put_open h place o _ g (λ e. e) i
   moves_apart _ _ (walk.BeginsSend h place n o out d bound at g e item known own) i = put_open h place o _ g (λ e. e) i
   moves_apart _ _ (walk.BeginsReceive h place n o inc bound at g e is own) i = put_open h place o _ g (λ e. refl) i

@@ -210,7 +210,7 @@ module _ (contexts : List WasiSocketsCtx) (line : ℕ) (origin : Step) where
   moves_quiet _ _ (walk.Reconnects h place r c now g e s t u) i = put_tcp h place _ i
   moves_quiet _ _ (walk.Opens h place r c d g e n) i = put_tcp h place _ i
   moves_quiet _ _ (walk.BeginsConnect h place r side a bound at g d to known idle own) i = begun_tcp h place _ Used Unused own unused i
-  moves_quiet _ _ (walk.BeginsBind h place r side a at g d to idle own) i = begun_tcp h place _ Used Unused own unused i
+  moves_quiet _ _ (walk.BeginsBind h place r side a at g d to own) i = begun_tcp h place _ Used Unused own unused i
   moves_quiet _ _ (walk.BeginsWrite h place n r s half permit bytes at g e w within own) i = begun_tcp h place _ Used (Own.ToWrite half.side bytes) own (to_write half.side bytes) i
   moves_quiet _ _ (walk.BeginsListen h place r side at g d bound none to idle own) i = begun_tcp h place _ Used Unused own unused i
   moves_quiet _ _ (walk.BeginsAccept h place n r l at g e a own) i = begun_tcp h place _ (Own.Names (n + 1)) (Own.Names n) own (names n) i
@@ -228,7 +228,7 @@ module _ (contexts : List WasiSocketsCtx) (line : ℕ) (origin : Step) where
   moves_quiet _ _ (walk.RecallsCall h ids call e) i = (i.0, subst NoConnect (sym e) tt)
   moves_quiet _ _ (walk.Empties h handle kind e none) i = (i.0, tt)
   moves_quiet _ _ (walk.Stands h ids call r quiet at g k) i = restood h (standing_as ids call) quiet (goes_none call r k) i
-  moves_quiet _ _ (walk.StandsUdpBind h ids place o op quiet at g e) i = restood h (standing_as ids (StandingCall.UdpBind place)) quiet tt i
+  moves_quiet _ _ (walk.StandsUdpBind h ids place face o op quiet at g e) i = restood h (standing_as ids (StandingCall.UdpBind place face)) quiet tt i
   moves_quiet _ _ (walk.StandsUdpCreate h ids place face create quiet made g) i = restood h (standing_as ids (StandingCall.UdpCreate place face)) quiet tt i
   moves_quiet _ _ (walk.StandsDropOutgoing h ids place o quiet at g e) i = restood h (standing_as ids (StandingCall.DropOutgoing place)) quiet tt i
   moves_quiet _ _ (walk.StandsBlocking h ids call handles made its) i =
@@ -237,7 +237,7 @@ module _ (contexts : List WasiSocketsCtx) (line : ℕ) (origin : Step) where
       let now = Some (standing_as ids (StandingCall.UdpConnect place handle)) in (stands_now h.machine.store.records h.machine.store.standing now h.own (no_start h.machine.store.standing quiet) i.0, subst (λ (m : Made). CallsSo m now) (sym made) tt)
   moves_quiet _ _ (walk.Unstands h over) i = (record { quiet = i.0.quiet; goes = λ k o op at c. inr (elim (i.0.goes k o op at c) [ inl s ↦ over k s | inr e ↦ e ]) }, calls_so h.made None tt)
   moves_quiet _ _ (walk.UdpChanges h place o now g p keeps) i = changed h place o now g p.connects keeps.makes i
-  moves_quiet _ _ (walk.BeginsUdpBind h place o a at g to idle own) i = begun_udp h place o _ g refl (λ some. some) Used Unused own unused i
+  moves_quiet _ _ (walk.BeginsUdpBind h place o a at g to own) i = begun_udp h place o _ g refl (λ some. some) Used Unused own unused i
   moves_quiet _ _ (walk.BeginsUdpConnect h place o a at g to bound none own) i = begins h place o _ none own i
   moves_quiet _ _ (walk.BeginsSend h place n o out d bound at g e item known own) i = begun_udp h place o _ g refl (λ some. rw e (or_true (is_some o.incoming))) (Own.Names (n + 1)) (Own.Names n) own (names n) i
   moves_quiet _ _ (walk.BeginsReceive h place n o inc bound at g e is own) i = begun_udp h place o _ g refl (λ some. rw e refl) (Own.Names (n + 1)) (Own.Names n) own (names n) i

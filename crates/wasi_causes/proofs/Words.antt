@@ -28,7 +28,7 @@ pub use Rattle.wasi_walks.proofs.Words.{look_asks, look_in, machine_asks, make_a
 pub use Rattle.wasi_walks.proofs.Words.{new_record, new_socket, no_fields, number_fields, opened_receive, opened_send, output_at}
 pub use Rattle.wasi_walks.proofs.Words.{output_of, own_of, permitted, place_in, place_of, poll_asks, poll_begun, poll_binding, poll_listening}
 pub use Rattle.wasi_walks.proofs.Words.{polled_answer, polled_front, read_state_asks, reader_of, reader_ready_asks, reader_shutdown_asks, ready_end}
-pub use Rattle.wasi_walks.proofs.Words.{ready_on, rebind_at, refl, refuse_in, refused_after, refused_before, release_asks, release_at, relisten_at}
+pub use Rattle.wasi_walks.proofs.Words.{ready_on, refl, refuse_in, refused_after, refused_before, release_asks, release_at, relisten_at}
 pub use Rattle.wasi_walks.proofs.Words.{resume_call, resumed, resumed_reply, run, set_backlog_asks, set_backlog_in, set_chosen}
 pub use Rattle.wasi_walks.proofs.Words.{set_option_asks, set_where, shut_record, shut_streams, shutdown_at, side_at, side_of, side_up_asks, slice_get}
 pub use Rattle.wasi_walks.proofs.Words.{slice_set, socket_at, standing_as, start_bind_asks, start_bind_at, start_bind_by, start_bind_on}

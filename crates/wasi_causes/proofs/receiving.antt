@@ -2,6 +2,7 @@
 pub mod Along
 pub mod Polled
 pub mod Named
+pub mod Older
 pub mod Streams
 pub mod Polls
 pub mod Law

@@ -6,4 +6,5 @@ pub mod Tcp3
 pub mod P3Udp
 pub mod Udp
 pub mod UdpBinds
+pub mod P3Binds
 pub mod UdpCreates

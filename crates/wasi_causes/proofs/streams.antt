@@ -25,3 +25,4 @@ pub mod Turns
 pub mod Live
 pub mod TurnPolls
 pub mod ReadsInRuns
+pub mod MarksInRuns

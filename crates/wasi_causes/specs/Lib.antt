@@ -24,7 +24,9 @@ pub mod ShortLists
 pub mod MayAnswer
 pub mod Refusals
 pub mod P3Udp
+pub mod P3Binds
 pub mod NamedRecords
 pub mod TurnPolls
 pub mod HandedBytes
+pub mod Marks
 pub mod LookPolls

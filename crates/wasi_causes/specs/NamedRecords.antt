@@ -44,11 +44,11 @@ record_named _ = None
 
 -- and that of a pending call; one that blocks is on handles
 abbrev pub call_names : StandingCall → Option ℕ
-call_names (call.Bind place) = Some place
+call_names (call.Bind place face) = Some place
 call_names (call.Listen place) = Some place
 call_names (call.DropOutput place) = Some place
 call_names (call.UdpCreate place face) = Some place
-call_names (call.UdpBind place) = Some place
+call_names (call.UdpBind place face) = Some place
 call_names (call.UdpConnect place handle) = Some place
 call_names (call.DropOutgoing place) = Some place
 call_names (call.Blocking blocks) = None

@@ -82,6 +82,8 @@ use Rattle.wasi_records.specs.Names.{next_name}
 use Rattle.wasi_causes.specs.SendCauses.{ReceivesSome, SendsSome, UdpReceiveRefusal, UdpSendRefusal}
 use Rattle.wasi_causes.specs.StreamCauses.{HasNewStreams, MakesStreams, UdpStreamRefusal, StreamsStand}
 use Rattle.wasi_causes.specs.Datagrams.{IsUdpSend, IsUdpStream, HasUdpStreams, IsSpent, OfIncoming, OfOutgoing, LacksRoomForBoth, MadeBoth, PermitsSend, PendingHandleIsLive, LacksRoomForStreams, IsReceiving, WatchesDatagrams, WatchesIncoming, WatchesOutgoing, OutgoingWaits, IncomingGone, OutgoingGone}
+use Rattle.wasi_causes.specs.P3Binds as binds
+use Rattle.wasi_causes.specs.P3Binds.{BindStands, Binds, P3BindRefusal, P3UdpBindRefusal}
 use Rattle.wasi_causes.specs.P3Udp.{Disconnects, KnowsUdp3Bound, OfUdp3, P3DisconnectRefusal, P3UdpCreateRefusal, P3UdpGetRefusal, P3UdpLocalRefusal, P3UdpSetRefusal}
 use Rattle.wasi_host.specs.declared.kind.Interface.TheVariants.{P3}
 use Rattle.wasi_causes.specs.Udp.{OfUdp, RefusedOfUdp, HasUdpInProgress, HasNoUdpBind, KeepsNoRemote, WatchesUdp, udp_create_entry, writable_entry, with_udp_record, new_udp, UdpCreateRefusal, CreatesUdp, CreatesUdpFor, CreateStands, CreateStandsFor, KnowsUdpBound, UdpBindRefusal, BindsUdp, UdpBindStands, FinishesUdpBind, UdpLocalRefusal, TellsUdpLocal, TellsUdpRemote, UdpGetRefusal, GetsUdpOption, UdpSetRefusal, SetsUdpOption, udp_given_up, udp_left, GivesBy, IsPendingCreate}
@@ -279,6 +281,8 @@ Done contexts m line (step.Call c (guest.NetworkErrorCode e)) es fields after = 
 Done contexts m line (step.Call c (guest.P3TcpGet s option)) es fields after = OfTcp3 m s (λ place r. GetsOption (own_of line) option r fields es)
 Done contexts m line (step.Call c (guest.P3TcpSet s setting)) es fields after = (fields ≡ no_fields) × OfTcp3 m s (λ place r. SetsChosen m (own_of line) (chosen setting) place r es after)
 Done contexts m line (step.Call c (guest.P3UdpCreate family)) es fields after = CreatesUdpFor P3 m (own_of line) (context_at contexts c) family es fields after
+Done contexts m line (step.Call c (guest.P3TcpBind s a)) es fields after = OfTcp3 m s (λ place r. Binds m (own_of line) place r a es after)
+Done contexts m line (step.Call c (guest.P3UdpBind s a)) es fields after = OfUdp3 m s (λ place o. binds.BindsUdp m (own_of line) place o a es after)
 Done contexts m line (step.Call c (guest.P3UdpDisconnect s)) es fields after = OfUdp3 m s (λ place o. Disconnects m (own_of line) place o es after)
 Done contexts m line (step.Call c (guest.P3UdpLocalAddress s)) es fields after = OfUdp3 m s (λ place o. TellsUdpLocal m (own_of line) place o es fields after)
 Done contexts m line (step.Call c (guest.P3UdpRemoteAddress s)) es fields after = OfUdp3 m s (λ place o. TellsUdpRemote o fields)
@@ -325,6 +329,8 @@ Refused contexts m line (step.Call c (guest.P3TcpRemoteAddress s)) es w after = 
 Refused contexts m line (step.Call c (guest.P3TcpGet s option)) es w after = P3RefusedGet m (own_of line) s option es w after
 Refused contexts m line (step.Call c (guest.P3TcpSet s setting)) es w after = P3RefusedSet m (own_of line) s setting es w after
 Refused contexts m line (step.Call c (guest.P3UdpCreate family)) es w after = P3UdpCreateRefusal m (own_of line) (context_at contexts c) family es w after
+Refused contexts m line (step.Call c (guest.P3TcpBind s a)) es w after = P3BindRefusal m (own_of line) s a es w after
+Refused contexts m line (step.Call c (guest.P3UdpBind s a)) es w after = P3UdpBindRefusal m (own_of line) s a es w after
 Refused contexts m line (step.Call c (guest.P3UdpDisconnect s)) es w after = P3DisconnectRefusal m (own_of line) s es w after
 Refused contexts m line (step.Call c (guest.P3UdpLocalAddress s)) es w after = P3UdpLocalRefusal m (own_of line) s es w after × ((after ≡ m) ⊎ KnowsUdp3Bound m s after)
 Refused contexts m line (step.Call c (guest.P3UdpRemoteAddress s)) es w after = OfUdp3 m s (λ place o. o.inner.remote ≡ None)
@@ -359,6 +365,8 @@ Pends contexts m line (step.Call c (guest.TcpStartListen s)) es after = EndsPend
 Pends contexts m line (step.Call c (guest.Drop h)) es after = (after.table ≡ without_handle m.table h) × (OutputWaits m (own_of line) (output_at m h) es ⊎ OutgoingWaits m (outgoing_at m h) es)
 Pends contexts m line (step.Call c (guest.UdpCreate family)) es after = CreateStands m line (own_of line) (context_at contexts c) family es after
 Pends contexts m line (step.Call c (guest.P3UdpCreate family)) es after = CreateStandsFor P3 m line (own_of line) (context_at contexts c) family es after
+Pends contexts m line (step.Call c (guest.P3TcpBind s a)) es after = OfTcp3 m s (λ place r. BindStands m line place r a es after)
+Pends contexts m line (step.Call c (guest.P3UdpBind s a)) es after = OfUdp3 m s (λ place o. binds.UdpBindStands m line place o a es after)
 Pends contexts m line (step.Call c (guest.UdpStartBind s n a)) es after = OfUdp m s (λ place o. UdpBindStands m line (own_of line) place o a es after)
 Pends contexts m line (step.Call c (guest.UdpStream s remote)) es after = (after.table ≡ m.table) × OfUdp m s (λ place o. StreamsStand m line s place o remote es after)
 Pends contexts m line (step.Poll n) es after = (PendingCallsFit m → StandingWaits m (own_of n) es) × (after.table ≡ m.table) × ((BlockingCallStands m → ⊥) → after.store.standing ≡ m.store.standing)

@@ -28,7 +28,7 @@ use Rattle.wasi_steps.specs.declared.step.Step.{Step}
 use Rattle.wasi_steps.specs.declared.guest_call.GuestCall.TheVariants as guest
 use Rattle.wasi_steps.specs.declared.step.Step.TheVariants as step
 use Rattle.wasi_steps.specs.Reply.{received_values}
-use Rattle.wasi_walks.specs.Allowed.{entry}
+use Rattle.wasi_walks.specs.Allowed.{Has, entry}
 use Rattle.wasi_addr.specs.declared.address.SocketAddressFamily.{SocketAddressFamily}
 use Rattle.wasi_walks.specs.Licence.{IsRemote}
 use Rattle.wasi_walks.specs.Remotes.{HasRemote}
@@ -94,6 +94,39 @@ received side kept hand (e ∷ es) = received_at kept hand e ++ received side ke
 abbrev pub received_since : OpId → Option IpSocketAddress → List Entry → List IncomingDatagram
 received_since side kept entries = received side kept None entries
 
+-- == by which operations
+-- the operation whose datagram is received here
+abbrev pub served_if : Option IpSocketAddress → InHand → Verdict → List OpId
+served_if kept d Yes = if is_wanted kept d.datagram.remote_address then d.op ∷ [] else []
+served_if kept d _ = []
+
+abbrev pub served_at : Option IpSocketAddress → Option InHand → Entry → List OpId
+served_at kept None e = []
+served_at kept (Some d) e = served_if kept d (verdict_on d e.op e.call e.answer)
+
+-- one for each datagram that is received along the entries, in order
+abbrev pub served : OpId → Option IpSocketAddress → Option InHand → List Entry → List OpId
+served side kept hand [] = []
+served side kept hand (e ∷ es) = served_at kept hand e ++ served side kept (then_in_hand side hand e) es
+
+-- the operation asks the network socket for no datagram in these entries
+abbrev pub AsksNoMore : OpId → List Entry → OpId → Type 0
+AsksNoMore side [] op = ⊤
+AsksNoMore side (e ∷ es) op = (e.op ≡ op → e.call ≡ Recv side → ⊥) × AsksNoMore side es op
+
+-- What was told last is what is received: while a datagram is in hand the network socket is asked for no other one, and
+-- the operation that it was received by never asks again.
+abbrev pub EachByItsOwn : OpId → Option IpSocketAddress → Option InHand → List Entry → Type 0
+EachByItsOwn side kept hand [] = ⊤
+EachByItsOwn side kept hand (e ∷ es) =
+    (e.call ≡ Recv side → hand ≡ None) × ((op : OpId) → Has (served_at kept hand e) op → AsksNoMore side es op)
+    × EachByItsOwn side kept (then_in_hand side hand e) es
+
+-- none of them is there twice
+abbrev pub AreApart : List OpId → Type 0
+AreApart [] = ⊤
+AreApart (op ∷ ops) = (Has ops op → ⊥) × AreApart ops
+
 -- == handed out
 -- the fields of the datagrams, without the number of them
 abbrev pub without_count : List Field → List Field
@@ -113,6 +146,16 @@ handed_out handle _ _ = []
 -- the replies handed out these datagrams
 abbrev pub HandedOut : ℕ → List Step → List Reply → List IncomingDatagram → Type 0
 HandedOut handle steps replies datagrams = handed_out handle steps replies ≡ flat_map received_values datagrams
+
+-- These datagrams are the first that a stream received along a front of the entries, each by an operation of its own.
+pub record FrontByItsOwn (side : OpId) (kept : Option IpSocketAddress) (entries : List Entry)
+    (datagrams : List IncomingDatagram) : Type 0 where
+  pub during : List Entry
+  pub after : List Entry
+  pub cut : entries ≡ during ++ after
+  pub more : List IncomingDatagram
+  pub gave : received_since side kept during ≡ datagrams ++ more
+  pub each : EachByItsOwn side kept None during
 
 -- == a stream
 -- the one that has come, and waits to be taken
@@ -134,7 +177,7 @@ KeptThere front side kept = IfSome kept (λ a. IsRemote front side a)
 
 -- What the stream of the handle, which is of this network socket, received since its handle was marked is what the replies handed out on
 -- it, and then what waits. Each datagram that was told was in hand until its sender was answered for, and none is while no receive is in
--- progress.
+-- progress. Each is what the last `recv` of its operation reported, and no two are of one operation.
 pub record HasAllReceived (log : List Entry) (steps : List Step) (replies : List Reply) (handle : ℕ) (side : OpId) (stream : IncomingStream) : Type 0 where
   pub later : List Entry
   pub marked : MarkedBefore log handle side later
@@ -143,10 +186,12 @@ pub record HasAllReceived (log : List Entry) (steps : List Step) (replies : List
   pub gives : HandedOut handle steps replies handed
   pub all : received_since side stream.remote later ≡ handed ++ waiting stream.receiving
   pub one : NoneIsReplaced side None later
+  pub each : EachByItsOwn side stream.remote None later
+  pub apart : AreApart (served side stream.remote None later)
   pub over : is_receiving stream.receiving ≡ false → left_in_hand side None later ≡ None
 
 -- What the replies handed out on the handle is a front of what a stream of its network socket received since its handle was marked,
--- which kept the remote address of then, or none.
+-- which kept the remote address of then, or none: of what it received while it was live, each by an operation of its own.
 pub record HandsOutFront (log : List Entry) (steps : List Step) (replies : List Reply) (handle : ℕ) : Type 0 where
   pub side : OpId
   pub remote : Option IpSocketAddress
@@ -157,6 +202,7 @@ pub record HandsOutFront (log : List Entry) (steps : List Step) (replies : List 
   pub gives : HandedOut handle steps replies handed
   pub more : List IncomingDatagram
   pub front_of : received_since side remote later ≡ handed ++ more
+  pub while_live : FrontByItsOwn side remote later handed
 
 -- == which address it keeps
 -- the network socket's remote address: what was reported last since its create, of its family

@@ -194,7 +194,7 @@ pub record UdpBindStands (m : Machine) (line : ℕ) (own : OpId) (place : ℕ) (
   pub asked : entries ≡ udp_local_entry own o.inner local ∷ udp_check_entry own o.inner a told.Pending ∷ []
   pub table : after.table ≡ m.table
   pub records : after.store.records ≡ open_put m.store.records place (with_udp_progress o (doing.Binding (bind_operation (asker_of own o.inner) a stage.Check)))
-  pub stands : after.store.standing ≡ Some (standing_as (first_ids line) (standing.UdpBind place))
+  pub stands : after.store.standing ≡ Some (standing_as (first_ids line) (standing.UdpBind place P2))
 
 -- The finish of a bind: it was started, and nothing is in progress then.
 pub record FinishesUdpBind (m : Machine) (place : ℕ) (o : OpenUdp) (after : Machine) : Type 0 where

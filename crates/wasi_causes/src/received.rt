@@ -23,9 +23,10 @@ ghost use Rattle.wasi_causes.specs.ReceivedList.{KeepsLastRemote, handed_out};
 /// - `live`: after any script, what a live stream received is what the replies handed out on its
 ///   handle, in order, and then the datagram that waits, if there is one. None is left out, and
 ///   none is handed out twice. No datagram was received while the check of another one's sender was
-///   still open.
+///   still open. Each is what the last `recv` of its operation reported, and no operation received
+///   two.
 /// - `any`: what the replies handed out on any stream, also on one that was dropped, are the first
-///   datagrams that it received.
+///   datagrams that it received, each by an operation of its own.
 pub fn streams_hand_out_all_they_received()
     ensures live { (contexts : List WasiSocketsCtx) (steps : List Step) (log : List Entry)
         (replies : List Reply) (m : Machine) (handle place : ℕ)

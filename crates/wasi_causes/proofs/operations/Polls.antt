@@ -141,6 +141,7 @@ not_over {who} {es} {c} {given} {items} row = is_over who es (Refused c given, i
 -- a bind is never pending
 abbrev IsNoBind : Item → Type 0
 IsNoBind (UdpBind a) = ⊥
+IsNoBind (Bind a) = ⊥
 IsNoBind _ = ⊤
 
 no_bind : (who : Who) (item now : Item) (es : List Entry) → Holds who item es now → IsNoBind item
@@ -152,6 +153,10 @@ no_bind who _ _ _ (ConnectToldPending a) = tt
 pub bind_never_waits : (who : Who) (a : IpSocketAddress) (es : List Entry) (items : List Item) → Polled who (UdpBind a ∷ []) es (Waits, items) → ⊥
 bind_never_waits who a _ _ (GoesOn item items es fs end passed row) = is_over who fs end row
 bind_never_waits who a _ _ (Stays item now items es held) = no_bind who item now es held
+
+pub tcp_bind_never_waits : (who : Who) (a : IpSocketAddress) (es : List Entry) (items : List Item) → Polled who (Bind a ∷ []) es (Waits, items) → ⊥
+tcp_bind_never_waits who a _ _ (GoesOn item items es fs end passed row) = is_over who fs end row
+tcp_bind_never_waits who a _ _ (Stays item now items es held) = no_bind who item now es held
 
 all_more : (P Q : Item → Type 0) → ((item : Item) → P item → Q item) → (items : List Item) → AllOf P items → AllOf Q items
 all_more P Q more [] all = tt

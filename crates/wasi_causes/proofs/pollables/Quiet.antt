@@ -100,7 +100,7 @@ module _ (contexts : List WasiSocketsCtx) (line : ℕ) (origin : Step) (plain : 
   moves_none _ _ (Joins h c handle place r l new peer is of u g e a) i = (i.0, tt)
   moves_none _ _ (Unstands h over) i = (tt, i.1)
   moves_none _ _ (Stands h ids call r quiet at g k) i = (goes_none r call k, i.1)
-  moves_none _ _ (StandsUdpBind h ids place o op quiet at g e) i = (tt, i.1)
+  moves_none _ _ (StandsUdpBind h ids place face o op quiet at g e) i = (tt, i.1)
   moves_none _ _ (StandsUdpCreate h ids place face create quiet made g) i = (tt, i.1)
   moves_none _ _ (StandsDropOutgoing h ids place o quiet at g e) i = (tt, i.1)
   moves_none _ _ (RemembersStreams h c handle place remote is of o g none) i = (i.0, tt)

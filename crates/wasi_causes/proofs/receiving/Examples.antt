@@ -1,16 +1,18 @@
 -- A small log: of five datagrams the first is refused, the second comes from elsewhere, the third is checked twice, and the last waits
 -- for its check. So two are received.
-use Rattle.wasi_causes.proofs.Words.{Call, Entry, List, None, OpId, Some, Told, [], ap, entry, refl, ℕ, ◌≡◌, ◌∷◌, ◌++◌}
+use Rattle.wasi_causes.proofs.Words.{Call, Entry, List, None, OpId, Some, Told, [], ap, arith, entry, inl, inr, length, refl, sym, ℕ, ◌≡◌, ◌∙◌, ◌∷◌, ◌++◌}
 use Rattle.wasi_addr.specs.declared.address.IpSocketAddress.{IpSocketAddress}
 use Rattle.wasi_addr.specs.declared.address.IpSocketAddress.TheVariants.{Ipv4}
 use Rattle.wasi_addr.specs.declared.address.SocketAddrUse.TheVariants.{UdpReceive}
 use Rattle.wasi_world.specs.declared.datagram.IncomingDatagram.{IncomingDatagram}
+use Rattle.wasi_walks.specs.Allowed.{Has}
+use Rattle.wasi_steps.specs.declared.reply.Field.{Field}
 use Rattle.wasi_steps.specs.Reply.{datagram_values, received_values}
 use Rattle.wasi_steps.specs.declared.reply.Reply.{Reply}
 use Rattle.wasi_steps.specs.declared.guest_call.GuestCall.{GuestCall}
 use Rattle.wasi_steps.specs.declared.step.Step.{Step}
 use Rattle.std.specs.Prelude.{flat_map}
-use Rattle.wasi_causes.specs.ReceivedList.{HandedOut, NoneIsReplaced, handed_out, left_in_hand, received_since}
+use Rattle.wasi_causes.specs.ReceivedList.{AreApart, AsksNoMore, EachByItsOwn, HandedOut, NoneIsReplaced, handed_out, left_in_hand, received_since, served}
 
 abbrev at_port : ℕ → IpSocketAddress
 at_port port = Ipv4 (record { port = port; address = (192, 0, 2, 1) })
@@ -103,3 +105,52 @@ both_are_handed_out = refl
 -- with a script that goes on, so far
 pub so_far : handed_out 3 steps (Reply.Ok (datagram_values (datagram 3 70 ∷ [])) ∷ []) ≡ flat_map received_values (datagram 3 70 ∷ [])
 so_far = refl
+
+-- == by which operations
+-- each of the two was received by an operation of its own, and each is what that was told last
+pub by_two : served ours (Some (at_port 70)) None log ≡ of_line 4 ∷ of_line 6 ∷ []
+by_two = refl
+
+pub two_are_apart : AreApart (of_line 4 ∷ of_line 6 ∷ [])
+two_are_apart = ((λ h. elim h [ inl e ↦ (let p : 6 ≡ 4 = ap (λ (x : OpId). x.step) e in absurd (omega (arith, p))) | inr none ↦ none ]), ((λ h. h), tt))
+
+-- one operation that is told two, both allowed
+abbrev two_of_one : List Entry
+two_of_one = told ours (of_line 4) 1 70 ∷ checked (of_line 4) 70 Told.Yes ∷ told ours (of_line 4) 2 70 ∷ checked (of_line 4) 70 Told.Yes ∷ []
+
+pub both_are_received : received_since ours (Some (at_port 70)) two_of_one ≡ datagram 1 70 ∷ datagram 2 70 ∷ []
+both_are_received = refl
+
+pub not_two_of_one : EachByItsOwn ours (Some (at_port 70)) None two_of_one → ⊥
+not_two_of_one k = (k.2.1 (of_line 4) (inl refl)).0 refl refl
+
+pub not_apart : AreApart (served ours (Some (at_port 70)) None two_of_one) → ⊥
+not_apart k = k.0 (inl refl)
+
+-- two operations, one for each
+abbrev one_each : List Entry
+one_each = told ours (of_line 4) 1 70 ∷ checked (of_line 4) 70 Told.Yes ∷ told ours (of_line 5) 2 70 ∷ checked (of_line 5) 70 Told.Yes ∷ []
+
+none_of : (op : OpId) → of_line 4 ≡ op → of_line 5 ≡ op → ⊥
+none_of op e f = let p : 4 ≡ 5 = ap (λ (x : OpId). x.step) (e ∙ sym f) in absurd (omega (arith, p))
+
+by_four : (op : OpId) → Has (of_line 4 ∷ []) op → AsksNoMore ours (told ours (of_line 5) 2 70 ∷ checked (of_line 5) 70 Told.Yes ∷ []) op
+by_four op h = elim h [ inl e ↦ ((λ f c. none_of op e f), ((λ f c. absurd (cc)), tt)) | inr none ↦ absurd none ]
+
+pub each_by_its_own : EachByItsOwn ours (Some (at_port 70)) None one_each
+each_by_its_own = ((λ c. refl), (λ op h. absurd h), ((λ c. absurd (cc)), by_four, ((λ c. refl), (λ op h. absurd h), ((λ c. absurd (cc)), (λ op h. tt), tt))))
+
+-- one that is asked again by the same operation, whose first datagram is in hand
+pub not_asked_in_hand : EachByItsOwn ours (Some (at_port 70)) None (told ours (of_line 4) 1 70 ∷ entry (of_line 4) (Call.Recv ours) Told.Pending ∷ checked (of_line 4) 70 Told.Yes ∷ []) → ⊥
+not_asked_in_hand k = let p : Some _ ≡ None = k.2.0 refl in absurd (cc)
+
+-- a datagram that was refused, and another one of the same operation
+pub after_a_no : EachByItsOwn ours (Some (at_port 70)) None (told ours (of_line 4) 1 70 ∷ checked (of_line 4) 70 Told.No ∷ told ours (of_line 4) 2 70 ∷ checked (of_line 4) 70 Told.Yes ∷ [])
+after_a_no = ((λ c. refl), (λ op h. absurd h), ((λ c. absurd (cc)), (λ op h. absurd h), ((λ c. refl), (λ op h. absurd h), ((λ c. absurd (cc)), (λ op h. tt), tt))))
+
+-- == wrong replies
+-- the one datagram twice in a reply, where one was received
+pub not_handed_out_twice : (ds : List IncomingDatagram) → HandedOut 3 (Step.Call 0 (GuestCall.UdpReceive 3 8) ∷ []) (Reply.Ok (datagram_values (datagram 3 70 ∷ datagram 3 70 ∷ [])) ∷ []) ds → ds ≡ datagram 3 70 ∷ [] → ⊥
+not_handed_out_twice ds k e =
+    let p : flat_map received_values (datagram 3 70 ∷ datagram 3 70 ∷ []) ≡ flat_map received_values (datagram 3 70 ∷ []) = k ∙ ap (λ (xs : List IncomingDatagram). flat_map received_values xs) e in
+    absurd (let q = ap (λ (fields : List Field). length fields) p in omega (arith, q))

@@ -30,15 +30,19 @@ use Rattle.wasi_walks.proofs.received.Polls.{AreSilent, Elsewhere, IsApart}
 use Rattle.wasi_walks.proofs.received.Silent.{WritesApart, accept_silent, bind_silent, cancelled_silent, connect_silent, given_up_silent, listen_silent, new_silent, send_silent, turn_silent, udp_bind_silent, udp_connect_silent}
 use Rattle.wasi_walks.proofs.remotes.State.{OpenKeeps, WritesBy}
 use Rattle.wasi_walks.proofs.walks.Moves as walk
-use Rattle.wasi_walks.proofs.walks.Moves.{Interface, tcp_kind, Found, FoundUdp, HasNewStream, Held, Here, Marks, MarksNext, Move, StreamMoves, ToSend, ToStream, UdpPlain, joined, listen_after, part_of, put, put_udp, receive_op, receiving_in, send_op, sending_in, udp_begun}
+use Rattle.wasi_walks.proofs.walks.Moves.{Interface, tcp_kind, Found, FoundUdp, HasNewStream, Held, Here, MarksNext, Move, Names, StreamMoves, UdpPlain, joined, listen_after, part_of, put, put_udp, receive_op, receiving_in, send_op, sending_in, udp_begun}
 use Rattle.wasi_causes.proofs.Slots.{SlotOf, slot_of}
 use Rattle.wasi_causes.proofs.StreamsLive.{IsOther, tcp_other, udp_other}
 use Rattle.wasi_causes.proofs.StreamHandles.{apart_in, is_other, streams_law}
-use Rattle.wasi_causes.proofs.receiving.Along.{Along, HandName}
-use Rattle.wasi_causes.proofs.receiving.Named.{IsFirst, job_name, name_of_op, streams_name}
+use Rattle.wasi_walks.specs.Allowed.{Has}
+use Rattle.wasi_walks.proofs.Words.{◌≤◌}
+use Rattle.wasi_walks.proofs.walks.Here.{IsToCome, next_to_come, not_given}
+use Rattle.wasi_causes.proofs.receiving.Along.{Along, HandName, along_named}
+use Rattle.wasi_causes.proofs.receiving.Named.{GivesLater, IsFirst, job_name, name_of_op, streams_name}
 use Rattle.wasi_causes.proofs.receiving.Polled.{Exact, hand_of}
 use Rattle.wasi_causes.proofs.GivenBack.{open_stays}
-use Rattle.wasi_causes.proofs.receiving.Polls.{Mine, Rest, apart_of, begun_none, connecting_none, no_stream, not_first, polled_tcp, polled_udp, question_else, quietly, receives, same_open, udp_question_else}
+use Rattle.wasi_causes.proofs.receiving.Older.{question_else, udp_question_else}
+use Rattle.wasi_causes.proofs.receiving.Polls.{Mine, Rest, apart_of, begun_none, connecting_none, no_stream, not_first, polled_tcp, polled_udp, quietly, receives, same_open}
 use Rattle.wasi_causes.proofs.receiving.Streams.{Becomes, IsElse, IsFresh, Knows, StreamAt, StreamIs, fresh_with, put_at, stays_so, stream_more, stream_push, stream_push_tcp, stream_put, stream_put_tcp, stream_same, stream_stays, stream_with, stream_without, tcp_at}
 use Rattle.wasi_walks.proofs.Places.{put_finds, udp_sort}
 
@@ -90,8 +94,8 @@ module _ (handle : ℕ) (list : List IncomingDatagram) (contexts : List WasiSock
         by_move _ _ (walk.StreamGoes inc gone) e f = absurd (still_there es h b k o now g m live f)
 
     -- a receive begins, where the stream holds nothing
-    begins : (es : List Entry) (n : ℕ) (o : OpenUdp) (inc : IncomingStream) (bound : Bool) → o.incoming ≡ Some inc → inc.receiving ≡ Receiving.Nothing → Becomes handle list es (UdpRecord.Open o) (UdpRecord.Open (walk.receiving_now o inc (receive_start (part_of line n) o.inner bound)))
-    begins es n o inc bound e idle q stream is has k =
+    begins : (es : List Entry) (here : Here) (b : B es here) (n : ℕ) → here.own ≡ Names n → (o : OpenUdp) (inc : IncomingStream) (bound : Bool) → o.incoming ≡ Some inc → inc.receiving ≡ Receiving.Nothing → Becomes handle list es (UdpRecord.Open o) (UdpRecord.Open (walk.receiving_now o inc (receive_start (part_of line n) o.inner bound)))
+    begins es here b n own o inc bound e idle q stream is has k =
         let same : q ≡ o = sym (same_open o q is) in
         let its : stream ≡ inc = (let p : Some stream ≡ Some inc = sym has ∙ (ap (λ (x : OpenUdp). x.incoming) same ∙ e) in cc) in
         let first : Knows handle list es o stream = subst (λ (x : OpenUdp). Knows handle list es x stream) same k in
@@ -102,8 +106,14 @@ module _ (handle : ℕ) (list : List IncomingDatagram) (contexts : List WasiSock
           is = refl;
           stream = with_receiving inc (Receiving.InProgress (receive_start (part_of line n) o.inner bound));
           has = refl;
-          knows = subst (λ (hand : Option _). Along handle o.inner.side inc.remote es list hand) (sym (begun_none (part_of line n) bound)) none;
+          knows = subst (λ (hand : Option _). Along handle o.inner.side inc.remote es list hand (Some (part_of line n))) (sym (begun_none (part_of line n) bound)) (along_named handle o.inner.side inc.remote es list None None (part_of line n) new none);
         }
+      where
+        -- no `recv` is by the name that is given now
+        new : (e : Entry) → Has es e → e.op ≡ part_of line n → e.call ≡ Call.Recv o.inner.side → ⊥
+        new e h q c =
+            let first : GivesLater (Names n) = subst GivesLater own b.1.1.0.gives in
+            not_given line here.own e.op (b.1.1.1 e o.inner.side h c (subst (λ (x : OpId). 1 ≤ x.part) (sym q) first)) (subst (IsToCome line here.own) (sym q) (next_to_come line n here.own own))
 
     pub moves_exact : (es : List Entry) (h now : Here) → Move line origin h now → B es h → Inv es h → Inv es now
     moves_exact es _ _ (walk.Changes h place r now g p) b i = tcp es h place r now g i
@@ -113,7 +123,7 @@ module _ (handle : ℕ) (list : List IncomingDatagram) (contexts : List WasiSock
     moves_exact es _ _ (walk.Reconnects h place r c now g e s t u) b i = tcp es h place r _ g i
     moves_exact es _ _ (walk.Opens h place r c d g e k) b i = tcp es h place r _ g i
     moves_exact es _ _ (walk.BeginsConnect h place r x a bound at g d to known idle own) b i = tcp es h place r _ g i
-    moves_exact es _ _ (walk.BeginsBind h place r x a at g d to idle own) b i = tcp es h place r _ g i
+    moves_exact es _ _ (walk.BeginsBind h place r x a at g d to own) b i = tcp es h place r _ g i
     moves_exact es _ _ (walk.BeginsWrite h place n r s half permit bytes at g e w within own) b i = tcp es h place r _ g i
     moves_exact es _ _ (walk.BeginsListen h place r x at g d bound none to idle own) b i = tcp es h place r _ g i
     moves_exact es _ _ (walk.BeginsAccept h place n r l at g e a own) b i = tcp es h place r _ g i
@@ -122,10 +132,10 @@ module _ (handle : ℕ) (list : List IncomingDatagram) (contexts : List WasiSock
     moves_exact es _ _ (walk.Joins h c its place r l new peer is of u g e a) b i =
         (stream_push_tcp handle list es h.machine.table (tcp2_put h.machine.store.records place (walk.accepting_now r l accepting.Idle)) (joined l new peer) (tcp es h place r (walk.accepting_now r l accepting.Idle) g i).0, i.1)
     moves_exact es _ _ (walk.UdpChanges h place o now g p keeps) b i = udp es h place (UdpRecord.Open o) (UdpRecord.Open now) g (changes es h b place o now g p keeps.incoming (walk.UdpChanges h place o now g p keeps)) i
-    moves_exact es _ _ (walk.BeginsUdpBind h place o a at g to idle own) b i = udp_same es h place o _ g refl refl i
+    moves_exact es _ _ (walk.BeginsUdpBind h place o a at g to own) b i = udp_same es h place o _ g refl refl i
     moves_exact es _ _ (walk.BeginsUdpConnect h place o a at g to bound none own) b i = udp_same es h place o _ g refl refl i
     moves_exact es _ _ (walk.BeginsSend h place n o out d bound at g e is known own) b i = udp_same es h place o _ g refl refl i
-    moves_exact es _ _ (walk.BeginsReceive h place n o inc bound at g e is own) b i = udp es h place (UdpRecord.Open o) (UdpRecord.Open _) g (λ live. begins es n o inc bound e is.1) i
+    moves_exact es _ _ (walk.BeginsReceive h place n o inc bound at g e is own) b i = udp es h place (UdpRecord.Open o) (UdpRecord.Open _) g (λ live. begins es h b n own o inc bound e is.1) i
     moves_exact es _ _ (walk.CancelsBind h place r op q g e) b i = tcp es h place r _ g i
     moves_exact es _ _ (walk.CancelsUdpBind h place o op q g e) b i = udp_same es h place o _ g refl refl i
     moves_exact es _ _ (walk.CancelsUdpConnect h place o q g) b i = udp_same es h place o _ g refl refl i
@@ -153,7 +163,7 @@ module _ (handle : ℕ) (list : List IncomingDatagram) (contexts : List WasiSock
         (λ p s. udp_bind_silent s.socket.inner.side ⊤ (HandName (hand_of s.stream.receiving)) op.who op.left its.bind.left) i
     polls_exact es h _ _ (walk.UdpConnectsOn place o op q g e) b i =
         let its : UdpConnectOn o.inner.side op = subst (FitConnecting o.inner.side) e (b.0.0.0.udps place (UdpRecord.Open o) g).1 in
-        let first : IsFirst (Some op.who.id) = subst (λ (x : Option Operation). IsFirst (name_of_op x)) e (b.1.1.connects place (UdpRecord.Open o) g) in
+        let first : IsFirst (Some op.who.id) = subst (λ (x : Option Operation). IsFirst (name_of_op x)) e (b.1.1.0.connects place (UdpRecord.Open o) g) in
         polled_udp handle list contexts line origin es h place (UdpRecord.Open o) op (λ ended. UdpRecord.Open (udp_connect_left op o ended)) g (λ fs ended. connecting_none handle list contexts line origin es h b place o op g e fs (UdpRecord.Open (udp_connect_left op o ended)))
         (λ p s. udp_connect_silent s.socket.inner.side ⊤ (HandName (hand_of s.stream.receiving)) op.who (λ x. not_first handle list contexts line origin es h b p s op.who.id first) op.left its.connect.left) i
     polls_exact es h _ _ (walk.SendsOn place o out op left g e f s) b i =
@@ -197,6 +207,8 @@ module _ (handle : ℕ) (list : List IncomingDatagram) (contexts : List WasiSock
           all = sym (i.1 (omega (arith, its)));
           left = refl;
           one = tt;
+          each = tt;
+          free = tt;
         };
       }
 
@@ -247,7 +259,7 @@ module _ (handle : ℕ) (list : List IncomingDatagram) (contexts : List WasiSock
 
     -- a write is on a network socket of TCP, and has the first name of its line
     pub writer_apart : (es : List Entry) (h : Here) (b : B es h) (k : ℕ) (r : TcpRecord) (s : Streams) → Found h k r → r.streams ≡ Some s → (place : ℕ) (st : StreamAt handle list es h.machine.store.records place) → WritesApart st.socket.inner.side ⊤ (HandName (hand_of st.stream.receiving)) s.writer
-    writer_apart es h b k r s g e place st = by_writer s.writer (b.0.1.tcps k r g s e).1 (subst (λ (x : Option Streams). IsFirst (streams_name x)) e (b.1.1.writes k r g))
+    writer_apart es h b k r s g e place st = by_writer s.writer (b.0.1.tcps k r g s e).1 (subst (λ (x : Option Streams). IsFirst (streams_name x)) e (b.1.1.0.writes k r g))
       where
         apart : (job : Job) → r.side ≡ Some job.write.who.side → IsFirst (Some job.write.who.id) → IsApart st.socket.inner.side ⊤ (HandName (hand_of st.stream.receiving)) job.write.who
         apart job made first x = ((λ d. b.0.0.1.udps.apart job.write.who.side k place r (UdpRecord.Open st.socket) g st.at (inl made) (sym d)), (λ d. not_first handle list contexts line origin es h b place st job.write.who.id first d))

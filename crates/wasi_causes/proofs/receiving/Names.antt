@@ -64,7 +64,7 @@ module _ (contexts : List WasiSocketsCtx) (line : ℕ) (origin : Step) where
   moves_apart _ _ (walk.Reconnects h place r c now g e s t u) i = tcp_stays h place r _ g refl i
   moves_apart _ _ (walk.Opens h place r c d g e k) i = put_tcp line h.own h.machine.store.records place _ tt i
   moves_apart _ _ (walk.BeginsConnect h place r x a bound at g d to known idle own) i = tcp_used h place r _ g refl i
-  moves_apart _ _ (walk.BeginsBind h place r x a at g d to idle own) i = tcp_used h place r _ g refl i
+  moves_apart _ _ (walk.BeginsBind h place r x a at g d to own) i = tcp_used h place r _ g refl i
   moves_apart _ _ (walk.BeginsWrite h place n r s half permit bytes at g e w within own) i = used (put h place _) (put_tcp line h.own h.machine.store.records place _ refl i)
   moves_apart _ _ (walk.BeginsListen h place r x at g d bound none to idle own) i = tcp_used h place r _ g refl i
   moves_apart _ _ (walk.BeginsAccept h place n r l at g e a own) i = owns_apart line h.own (Names (n + 1)) _ (next_grows line n h.own own) (next_gives h.own n own i.gives) (tcp_stays h place r _ g refl i)
@@ -73,7 +73,7 @@ module _ (contexts : List WasiSocketsCtx) (line : ℕ) (origin : Step) where
   moves_apart _ _ (walk.Joins h c handle place r l new peer is of u g e a) i = push_tcp line h.own _ (joined l new peer) tt (tcp_stays h place r _ g refl i)
   moves_apart _ _ (walk.UdpChanges h place o now g p keeps) i =
       put_udps line h.own h.machine.store.records place (UdpRecord.Open o) (UdpRecord.Open now) g (kept_name (walk.receiving_in o.incoming) (walk.receiving_in now.incoming) p.receives) i (subst (λ (x : Option Operation). IsFirst (name_of_op x)) (sym p.connects) (i.connects place (UdpRecord.Open o) g))
-  moves_apart _ _ (walk.BeginsUdpBind h place o a at g to idle own) i = used (put_udp h place _) (udp_stays h place o _ g refl refl i)
+  moves_apart _ _ (walk.BeginsUdpBind h place o a at g to own) i = used (put_udp h place _) (udp_stays h place o _ g refl refl i)
   moves_apart _ _ (walk.BeginsUdpConnect h place o a at g to bound none own) i = connects (put_udp h place _) place (put_udps line h.own h.machine.store.records place (UdpRecord.Open o) (UdpRecord.Open _) g (inl refl) i refl)
   moves_apart _ _ (walk.RecallsStreams h ids place handle e own) i = connects h place i
   moves_apart _ _ (walk.EndsConnect h place own over) i = used h i

@@ -1,6 +1,5 @@
 -- What polls leave of the stream of a handle: those of its receives are exact, and all others do nothing to it.
-use Rattle.wasi_causes.proofs.Words.{Allows, Asks, Call, End, Entry, Item, List, None, OpId, Operation, Option, Some, Step, TcpRecord, WasiSocketsCtx, ap, arith, inl, inr, kind_at, poll_asks, refl, subst, sym, true, false, Bool, ℕ, ⊤, ◌∙◌, ◌≡◌, ◌⊎◌}
-use Rattle.wasi_addr.specs.declared.address.SocketAddrUse.TheVariants.{UdpReceive}
+use Rattle.wasi_causes.proofs.Words.{Allows, Asks, End, Entry, Item, List, None, OpId, Operation, Option, Some, Step, TcpRecord, WasiSocketsCtx, ap, arith, inl, inr, kind_at, poll_asks, refl, subst, sym, true, false, Bool, ℕ, ⊤, ◌∙◌, ◌≡◌, ◌⊎◌}
 use Rattle.wasi_udp.specs.Create.{Create}
 use Rattle.wasi_udp.specs.Receive.{receive_first, receive_left as left_of_receive, wanting}
 use Rattle.wasi_world.specs.declared.datagram.IncomingDatagram.{IncomingDatagram}
@@ -19,24 +18,14 @@ use Rattle.wasi_walks.proofs.fits.Records.{ReceiveOn}
 use Rattle.wasi_walks.proofs.received.Polls.{AreSilent, Elsewhere, IsApart, silent_poll}
 use Rattle.wasi_walks.proofs.received.Silent.{apart_silent}
 use Rattle.wasi_walks.proofs.remotes.State.{Keeps}
-use Rattle.wasi_walks.proofs.walks.Moves.{Found, FoundUdp, Here, IsQuestionOf, IsUdpQuestionOf, put, put_udp, receive_op, receiving_in}
+use Rattle.wasi_walks.proofs.walks.Moves.{Found, FoundUdp, Here, put, put_udp, receive_op, receiving_in}
 use Rattle.wasi_causes.proofs.StreamHandles.{StreamsApart, apart_here, apart_in, streams_law}
 use Rattle.wasi_causes.proofs.receiving.Along.{HandName}
 use Rattle.wasi_causes.proofs.receiving.Named.{NamesApart, name_of_op, receive_name}
+use Rattle.wasi_causes.proofs.receiving.Older.{AllOlder}
 use Rattle.wasi_causes.proofs.receiving.Polled.{Exact, hand_in, hand_of, poll_exact}
-use Rattle.wasi_causes.proofs.receiving.Streams.{Becomes, IsElse, IsFresh, Knows, StreamAt, StreamIs, at_other, at_silent, its_name, put_at, same_place, stream_along, tcp_at}
+use Rattle.wasi_causes.proofs.receiving.Streams.{Becomes, IsFresh, Knows, StreamAt, StreamIs, at_other, at_silent, its_name, put_at, same_place, stream_along, tcp_at}
 use Rattle.wasi_walks.proofs.Places.{put_finds, udp_sort}
-
--- no question does anything to a stream
-pub question_else : (line : ℕ) (origin : Step) (n : ℕ) (x : OpId) (c : Call) → IsQuestionOf line origin n x c → IsElse c
-question_else line origin n x (Call.Recv y) q = absurd q
-question_else line origin n x (Call.Check ctx a UdpReceive) q = absurd q
-question_else line origin n x _ q = tt
-
-pub udp_question_else : (line : ℕ) (origin : Step) (n : ℕ) (x : OpId) (c : Call) → IsUdpQuestionOf line origin n x c → IsElse c
-udp_question_else line origin n x (Call.Recv y) q = absurd q
-udp_question_else line origin n x (Call.Check ctx a UdpReceive) q = absurd q
-udp_question_else line origin n x _ q = tt
 
 -- a receive that begins has nothing in hand
 pub begun_none : (op : OpId) (bound : Bool) → hand_in op (left_of_receive None (receive_first bound)) ≡ None
@@ -49,7 +38,7 @@ same_open a b e = cc
 module _ (handle : ℕ) (list : List IncomingDatagram) (contexts : List WasiSocketsCtx) (line : ℕ) (origin : Step) where
   -- what the law rests on
   abbrev pub Rest : List Entry → Here → Type 0
-  Rest es h = (Base contexts line origin h × Keeps es h.machine.store.records) × ((streams_law contexts line origin).Inv es h × NamesApart line h.own h.machine.store.records)
+  Rest es h = (Base contexts line origin h × Keeps es h.machine.store.records) × ((streams_law contexts line origin).Inv es h × (NamesApart line h.own h.machine.store.records × AllOlder line h.own es))
 
   abbrev pub Mine : List Entry → Here → Type 0
   Mine es h = StreamIs handle list es h.machine.table h.machine.store.records × IsFresh handle list h.machine.table
@@ -68,7 +57,7 @@ module _ (handle : ℕ) (list : List IncomingDatagram) (contexts : List WasiSock
 
   -- which no line has first
   pub not_first : (es : List Entry) (h : Here) (b : Rest es h) (place : ℕ) (s : StreamAt handle list es h.machine.store.records place) (x : OpId) → x.part ≡ 0 → HandName (hand_of s.stream.receiving) x → ⊥
-  not_first es h b place s x first k = let l = (b.1.1.later place (UdpRecord.Open s.socket) x s.at (hand_named es h.machine.store.records place s x k)).0 in absurd (omega (arith, first, l))
+  not_first es h b place s x first k = let l = (b.1.1.0.later place (UdpRecord.Open s.socket) x s.at (hand_named es h.machine.store.records place s x k)).0 in absurd (omega (arith, first, l))
 
   -- == along a tree
   -- which does nothing to the stream
@@ -127,7 +116,7 @@ module _ (handle : ℕ) (list : List IncomingDatagram) (contexts : List WasiSock
       → IsApart s.socket.inner.side ⊤ (HandName (hand_of s.stream.receiving)) op.who
   receives_apart es h b k o inc op g e f its place s n x = (
     (λ d. other_side es h b k o place s g n (sym its.of_side ∙ d)),
-    (λ d. n (b.1.1.apart k place (UdpRecord.Open o) (UdpRecord.Open s.socket) op.who.id g s.at (ap (λ (i : Option IncomingStream). name_of_op (receiving_in i)) e ∙ ap (λ (r : Receiving). name_of_op (receive_op r)) f) (hand_named es h.machine.store.records place s op.who.id d))),
+    (λ d. n (b.1.1.0.apart k place (UdpRecord.Open o) (UdpRecord.Open s.socket) op.who.id g s.at (ap (λ (i : Option IncomingStream). name_of_op (receiving_in i)) e ∙ ap (λ (r : Receiving). name_of_op (receive_op r)) f) (hand_named es h.machine.store.records place s op.who.id d))),
   )
 
   pub receives : (es : List Entry) (h : Here) (b : Rest es h) (k : ℕ) (o : OpenUdp) (inc : IncomingStream) (op : Operation) → FoundUdp h k (UdpRecord.Open o) → o.incoming ≡ Some inc → inc.receiving ≡ Receiving.InProgress op → ReceiveOn o.inner.side op → Mine es h

@@ -30,7 +30,10 @@ use Rattle.wasi_walks.proofs.licence.Replies.{allows_both}
 use Rattle.wasi_walks.proofs.licence.State.{RemoteIs}
 use Rattle.wasi_walks.proofs.walks.States.{incoming_kind}
 use Rattle.wasi_walks.proofs.walks.Udp.{open_is}
-use Rattle.wasi_causes.specs.ReceivedList.{MarkedBefore, handed_by, left_in_hand, received, waiting, without_count}
+use Rattle.wasi_walks.proofs.walks.Here.{older_unused}
+use Rattle.wasi_walks.proofs.walks.Moves.{Names, Unused}
+use Rattle.wasi_causes.proofs.receiving.Older.{all_grow}
+use Rattle.wasi_causes.specs.ReceivedList.{FrontByItsOwn, MarkedBefore, handed_by, left_in_hand, received, waiting, without_count}
 use Rattle.wasi_causes.proofs.receiving.Along.{received_more}
 use Rattle.wasi_causes.proofs.receiving.Handed.{IsGiven, Leaves, receives_exact}
 use Rattle.wasi_causes.proofs.receiving.Lines.{RestBetween, line_exact, line_rest}
@@ -55,6 +58,7 @@ module _ (handle : ℕ) where
     pub reported : RemoteIs marked.front side kept
     pub more : List IncomingDatagram
     pub all : received side kept None later ≡ list ++ more
+    pub while_live : FrontByItsOwn side kept later list
 
   -- they are, or there are none
   abbrev pub Fronts : List IncomingDatagram → List Entry → Type 0
@@ -70,13 +74,14 @@ module _ (handle : ℕ) where
         later = k.later ++ fs;
         marked = record { front = m.front; op = m.op; parent = m.parent; told = m.told; cut = cut_more es fs m.front k.later _ m.cut };
         reported = k.reported;
+        while_live = (let w = k.while_live in record { during = w.during; after = w.after ++ fs; cut = ap (λ (xs : List Entry). xs ++ fs) w.cut ∙ append_assoc w.during w.after fs; more = w.more; gave = w.gave; each = w.each });
         more = k.more ++ received k.side k.kept (left_in_hand k.side None k.later) fs;
         all = received_more k.side k.kept None k.later fs ∙ (ap (λ (ds : List IncomingDatagram). ds ++ received k.side k.kept (left_in_hand k.side None k.later) fs) k.all ∙ append_assoc list k.more (received k.side k.kept (left_in_hand k.side None k.later) fs));
       })
 
   -- what is known of a live stream says it
   front_of : (list : List IncomingDatagram) (es : List Entry) (side : OpId) (kept : Option IpSocketAddress) (r : Receiving) → Exact handle side kept es list r → Front list es
-  front_of list es side kept r k = record { side = side; kept = kept; later = k.later; marked = k.marked; reported = k.reported; more = waiting r; all = k.all ∙ waiting_is list r }
+  front_of list es side kept r k = record { side = side; kept = kept; later = k.later; marked = k.marked; reported = k.reported; more = waiting r; all = k.all ∙ waiting_is list r; while_live = record { during = k.later; after = []; cut = sym (append-nil k.later); more = waiting r; gave = k.all ∙ waiting_is list r; each = k.each } }
 
   -- Before the line of this number.
   pub record StreamBetween (list : List IncomingDatagram) (line : ℕ) (es : List Entry) (m : Machine) : Type 0 where
@@ -147,7 +152,7 @@ module _ (handle : ℕ) where
           let stream : s.stream ≡ inc = (let p : Some s.stream ≡ Some inc = sym s.has ∙ (ap (λ (x : OpenUdp). x.incoming) (sym same) ∙ e) in cc) in
           let first : Exact handle o.inner.side s.stream.remote es list s.stream.receiving = subst (λ (x : OpenUdp). Exact handle x.inner.side s.stream.remote es list s.stream.receiving) (sym same) s.knows in
           let knows : Exact handle o.inner.side inc.remote es list inc.receiving = subst (λ (x : IncomingStream). Exact handle o.inner.side x.remote es list x.receiving) stream first in
-          allows_weaker Anything (λ fs done. Leaves handle list o inc fs done) (λ fs done. Says m.table fs (done.0, with_receive m.store place o done.1)) (λ fs done x. after fs done x) es (receive_datagrams_asks (first_ids line) most o (Some inc)) (receives_exact handle list o inc es (first_ids line) most knows)
+          allows_weaker Anything (λ fs done. Leaves handle list o inc fs done) (λ fs done. Says m.table fs (done.0, with_receive m.store place o done.1)) (λ fs done x. after fs done x) es (receive_datagrams_asks (first_ids line) most o (Some inc)) (receives_exact handle list o inc es (first_ids line) most knows (all_grow line Unused (Names 1) es (older_unused line (Names 1)) k.rest.older, omega arith))
         where
           at : udp2_at m.store.records place ≡ Some (UdpRecord.Open o)
           at = s.at ∙ ap (λ (x : OpenUdp). Some (UdpRecord.Open x)) (sym same)

@@ -15,6 +15,7 @@ use Rattle.wasi_walks.proofs.fits.Polls.{Anything}
 use Rattle.wasi_walks.proofs.licence.State.{RemoteIs}
 use Rattle.wasi_causes.specs.Datagrams.{OfIncoming}
 use Rattle.wasi_causes.specs.ReceivedList.{KeepsLastRemote, HandedOut, HandsOutFront, HasAllReceived, KeptThere, handed_by, handed_out}
+use Rattle.wasi_causes.proofs.receiving.Along.{are_apart}
 use Rattle.wasi_causes.proofs.receiving.Lines.{first_rest}
 use Rattle.wasi_causes.proofs.receiving.Polled.{Exact, none_over}
 use Rattle.wasi_causes.proofs.receiving.Replies.{Fronts, StreamBetween, Takes, line_takes, waiting_is}
@@ -101,6 +102,8 @@ module _ (handle : ℕ) where
               gives = k.gives;
               all = knows.all ∙ waiting_is k.list s.stream.receiving;
               one = knows.one;
+              each = knows.each;
+              apart = are_apart s.socket.inner.side s.stream.remote None knows.later knows.each;
               over = λ e. knows.left ∙ none_over s.stream.receiving e;
             };
           }
@@ -127,4 +130,4 @@ module _ (handle : ℕ) where
         where
           by_front : Fronts handle ended.list log → (handed_out handle steps replies ≡ []) ⊎ HandsOutFront log steps replies handle
           by_front (inl none) = inl (ended.gives ∙ ap (λ (ds : List IncomingDatagram). flat_map received_values ds) none)
-          by_front (inr f) = inr (record { side = f.side; remote = f.kept; later = f.later; marked = f.marked; kept = kept_there f.marked.front f.side f.kept f.reported; handed = ended.list; gives = ended.gives; more = f.more; front_of = f.all })
+          by_front (inr f) = inr (record { side = f.side; remote = f.kept; later = f.later; marked = f.marked; kept = kept_there f.marked.front f.side f.kept f.reported; handed = ended.list; gives = ended.gives; more = f.more; front_of = f.all; while_live = f.while_live })

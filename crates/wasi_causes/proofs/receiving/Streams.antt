@@ -21,9 +21,9 @@ use Rattle.wasi_walks.proofs.received.Handles.{was_or_new}
 use Rattle.wasi_walks.proofs.received.Polls.{Elsewhere, Spares}
 use Rattle.wasi_walks.proofs.walks.States.{incoming_kind}
 use Rattle.wasi_walks.proofs.walks.Moves.{SameSockets, receive_op}
-use Rattle.wasi_causes.proofs.receiving.Along.{HandName, along_quiet, along_silent, quiet}
+use Rattle.wasi_causes.proofs.receiving.Along.{HandName, along_quiet, along_silent, asks_other, quiet}
 use Rattle.wasi_causes.proofs.receiving.Named.{name_of_op}
-use Rattle.wasi_causes.proofs.receiving.Polled.{Exact, hand_in, hand_of, with_waiting}
+use Rattle.wasi_causes.proofs.receiving.Polled.{Exact, hand_in, hand_of, receiver_of, with_waiting}
 use Rattle.wasi_walks.proofs.Places.{push_still, put_stays, put_still, tcp_sort, udp_sort}
 
 -- two numbers are the same or not
@@ -80,7 +80,7 @@ module _ (handle : ℕ) (list : List IncomingDatagram) where
   pub stream_more : (es : List Entry) (op : OpId) (c : Call) (told : Told) (t : HandleTable) (records : List Record) → IsElse c → StreamIs es t records → StreamIs (es ++ entry op c told ∷ []) t records
   stream_more es op c told t records n k place e =
       let s = k place e in
-      record { socket = s.socket; at = s.at; stream = s.stream; has = s.has; knows = along_quiet handle s.socket.inner.side s.stream.remote es (entry op c told) (with_waiting list s.stream.receiving) (hand_of s.stream.receiving) (quiet s.socket.inner.side s.stream.remote (hand_of s.stream.receiving) op c told (spares_else s.socket.inner.side (HandName (hand_of s.stream.receiving)) op c n)) s.knows }
+      record { socket = s.socket; at = s.at; stream = s.stream; has = s.has; knows = along_quiet handle s.socket.inner.side s.stream.remote es (entry op c told) (with_waiting list s.stream.receiving) (hand_of s.stream.receiving) (receiver_of s.stream.receiving) (quiet s.socket.inner.side s.stream.remote (hand_of s.stream.receiving) op c told (spares_else s.socket.inner.side (HandName (hand_of s.stream.receiving)) op c n)) (asks_other handle s.socket.inner.side s.stream.remote (hand_of s.stream.receiving) (receiver_of s.stream.receiving) (HandName (hand_of s.stream.receiving)) op c told (spares_else s.socket.inner.side (HandName (hand_of s.stream.receiving)) op c n)) s.knows }
 
   -- along a tree, by the place of the stream
   pub stream_along : {A : Type 0} (t : HandleTable) (end : A → List Record) (es : List Entry) (asks : Asks A) → ((place : ℕ) → kind_at t handle ≡ Some (Incoming place) → Allows Anything (λ fs a. StreamAt fs (end a) place) es asks) → Allows Anything (λ fs a. StreamIs fs t (end a)) es asks
@@ -98,7 +98,7 @@ module _ (handle : ℕ) (list : List IncomingDatagram) where
   at_silent es records place asks s n =
       let side = s.socket.inner.side in
       allows_weaker Anything (λ fs a. Knows fs s.socket s.stream) (λ fs a. StreamAt fs records place) (λ fs a k. record { socket = s.socket; at = s.at; stream = s.stream; has = s.has; knows = k }) es asks
-      (along_silent handle side s.stream.remote es asks (with_waiting list s.stream.receiving) (hand_of s.stream.receiving) s.knows n)
+      (along_silent handle side s.stream.remote es asks (with_waiting list s.stream.receiving) (hand_of s.stream.receiving) (receiver_of s.stream.receiving) s.knows n)
 
   -- == records change
   -- what the stream's socket becomes, where it was this one

@@ -23,6 +23,7 @@ use Rattle.wasi_causes.proofs.tables.Routes.{Replied, Says, put_back, Names, her
 use Rattle.wasi_causes.specs.Outcomes.{Conflicts}
 use Rattle.wasi_causes.specs.Reached.{ListensLate, ListensLateAt}
 use Rattle.wasi_causes.specs.Polls.{ToldYes, ToldNo, BindToldCode, Polled, GoesOn, Stops, LocalToldYes, LocalToldNo, LocalToldCode, ListenToldCode}
+use Rattle.wasi_host.specs.declared.kind.Interface.TheVariants.{P2}
 use Rattle.wasi_host.specs.Store.{put_back as answer_put}
 use Rattle.wasi_records.specs.declared.tcp_listening.Listening.TheVariants as listening
 use Rattle.wasi_records.specs.declared.tcp_binding.InProgress.{InProgress as Doing}
@@ -254,7 +255,7 @@ module _ (contexts : List WasiSocketsCtx) (m : Machine) (line c handle : ℕ) wh
 
   module _ (network : ℕ) (a : IpSocketAddress) where
     -- == a bind
-    bind_said : (place : ℕ) (r : TcpRecord) (n : Names m handle place r) → is_nothing r.in_progress ≡ true → (es : List Entry) (ended : Result (Answer (Unit {0})) ErrorCode × TcpRecord) → BindRow m own handle place r n a es ended → (Replied contexts m line (step.Call c (guest.TcpStartBind handle network a)) (answer_reply line)) es (with_store m (call_answered m.store (first_ids line) (StandingCall.Bind place) ended))
+    bind_said : (place : ℕ) (r : TcpRecord) (n : Names m handle place r) → is_nothing r.in_progress ≡ true → (es : List Entry) (ended : Result (Answer (Unit {0})) ErrorCode × TcpRecord) → BindRow m own handle place r n a es ended → (Replied contexts m line (step.Call c (guest.TcpStartBind handle network a)) (answer_reply line)) es (with_store m (call_answered m.store (first_ids line) (StandingCall.Bind place P2) ended))
     bind_said place r n idle es (Ok Pending, now) h = (λ is. no_conflict n idle _ (λ e. cc), ((refl, refl), h))
     bind_said place r n idle es (Ok (Ready done), now) h = (λ is. no_conflict n idle _ (λ e. cc), (tt, tt))
     bind_said place r n idle es (Err code, now) h = (λ is. no_code n idle code, (inr (code_word code), (here n (Begins idle h.0), h.1)))

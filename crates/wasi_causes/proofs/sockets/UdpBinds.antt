@@ -12,6 +12,7 @@ use Rattle.wasi_records.specs.Binding.{left_of}
 use Rattle.wasi_records.specs.Records.{open_at, open_put}
 use Rattle.wasi_records.specs.Udp.{is_udp_idle, with_udp_progress, udp_bind_ended, udp_bind_begun, begin_udp_bind_asks}
 use Rattle.wasi_records.specs.Datagrams.{has_streams}
+use Rattle.wasi_host.specs.declared.kind.Interface.TheVariants.{P2}
 use Rattle.wasi_host.specs.UdpCalls.{udp_call_answered, start_udp_bind_by, start_udp_bind_unless, start_udp_bind_at}
 use Rattle.wasi_records.specs.declared.udp.OpenUdp.{OpenUdp}
 use Rattle.wasi_records.specs.declared.udp.UdpInProgress.{UdpInProgress}
@@ -109,7 +110,7 @@ module _ (contexts : List WasiSocketsCtx) (m : Machine) (line c handle network :
   no_conflict {place} {o} n idle said other = apart other (λ k. let busy : is_udp_idle o.in_progress ≡ false = rw (its_udp n) at k in cc)
 
   bind_said : (place : ℕ) (o : OpenUdp) (n : NamesUdp m handle place o) (idle : is_udp_idle o.in_progress ≡ true) (alone : has_streams o ≡ false) (es : List Entry) (begun : Result (Answer (Unit {0})) ErrorCode × OpenUdp) → UdpBindRow m own handle place o n a idle alone es begun
-      → Replied contexts m line (step.Call c (guest.UdpStartBind handle network a)) (answer_reply line) es (with_store m (udp_call_answered m.store (first_ids line) (StandingCall.UdpBind place) begun))
+      → Replied contexts m line (step.Call c (guest.UdpStartBind handle network a)) (answer_reply line) es (with_store m (udp_call_answered m.store (first_ids line) (StandingCall.UdpBind place P2) begun))
   bind_said place o n idle alone es (Ok Pending, now) h = (
     λ is. no_conflict n idle _ (λ e. cc),
     ((refl, refl), here_udp n (record { local = h.local; begins = h.begins; asked = h.asked; table = refl; records = ap (λ (x : OpenUdp). open_put m.store.records place x) h.now_is; stands = refl })),

@@ -54,9 +54,9 @@ module _ (m : Machine) where
   LeftRow its es store = let after : Machine = record m { store = store } in CancelsBy m es after its × (store.standing ≡ None)
 
   module _ (ids : Ids) where
-    bind_goes : (place : ℕ) (o : Option TcpRecord) → tcp2_at m.store.records place ≡ o → LeftRow (StandingCall.Bind place) [] (cancel_bind_at free place o)
-    bind_goes place None at = (λ r there. absurd (cc), refl)
-    bind_goes place (Some r) at = (λ q there. let its : r ≡ q = cc in (refl, ap (λ (x : TcpRecord). let after : Machine = record m { store = cancel_bind_at free place (Some x) } in after) its), refl)
+    bind_goes : (place : ℕ) (face : Interface) (o : Option TcpRecord) → tcp2_at m.store.records place ≡ o → LeftRow (StandingCall.Bind place face) [] (cancel_bind_at free place o)
+    bind_goes place face None at = (λ r there. absurd (cc), refl)
+    bind_goes place face (Some r) at = (λ q there. let its : r ≡ q = cc in (refl, ap (λ (x : TcpRecord). let after : Machine = record m { store = cancel_bind_at free place (Some x) } in after) its), refl)
 
     -- a listen that is pending has taken the network socket
     listen_closed : (place : ℕ) (r : TcpRecord) → tcp2_at m.store.records place ≡ Some r → Under ids (StandingCall.Listen place) → PendingCallsFit m → side_of r.inner ≡ None
@@ -91,9 +91,9 @@ module _ (m : Machine) where
     create_goes place face stands (Some (udp.Open o)) at = ends (λ create there. absurd (cc), refl)
     create_goes place face stands (Some (udp.Closed side)) at = ends (λ create there. absurd (cc), refl)
 
-    udp_bind_goes : (place : ℕ) (o : Option OpenUdp) → open_at m.store.records place ≡ o → LeftRow (StandingCall.UdpBind place) [] (cancel_udp_bind_at free place o)
-    udp_bind_goes place None at = (λ o there. absurd (cc), refl)
-    udp_bind_goes place (Some o) at = (λ q there. let its : o ≡ q = cc in (refl, ap (λ (x : OpenUdp). let after : Machine = record m { store = cancel_udp_bind_at free place (Some x) } in after) its), refl)
+    udp_bind_goes : (place : ℕ) (face : Interface) (o : Option OpenUdp) → open_at m.store.records place ≡ o → LeftRow (StandingCall.UdpBind place face) [] (cancel_udp_bind_at free place o)
+    udp_bind_goes place face None at = (λ o there. absurd (cc), refl)
+    udp_bind_goes place face (Some o) at = (λ q there. let its : o ≡ q = cc in (refl, ap (λ (x : OpenUdp). let after : Machine = record m { store = cancel_udp_bind_at free place (Some x) } in after) its), refl)
 
     connect_goes : (place handle : ℕ) (o : Option OpenUdp) → open_at m.store.records place ≡ o → LeftRow (StandingCall.UdpConnect place handle) [] (cancel_udp_connect_at free place o)
     connect_goes place handle None at = (λ o there. absurd (cc), refl)
@@ -104,11 +104,11 @@ module _ (m : Machine) where
     outgoing_goes place (Some o) at = (λ q there. let its : o ≡ q = cc in record { quiet = refl; left = ap (λ (x : OpenUdp). let after : Machine = record m { store = cancel_drop_outgoing_at free place (Some x) } in after) its; job = no_datagram place m.store.jobs }, refl)
 
     goes : (its : StandingCall) → Under ids its → Meets (LeftRow its) [] (cancel_on free its)
-    goes (StandingCall.Bind place) stands = ends (bind_goes place (tcp2_at m.store.records place) refl)
+    goes (StandingCall.Bind place face) stands = ends (bind_goes place face (tcp2_at m.store.records place) refl)
     goes (StandingCall.Listen place) stands = listen_goes place stands (tcp2_at m.store.records place) refl
     goes (StandingCall.DropOutput place) stands = ends ((refl, refl), refl)
     goes (StandingCall.UdpCreate place face) stands = create_goes place face stands (udp2_at m.store.records place) refl
-    goes (StandingCall.UdpBind place) stands = ends (udp_bind_goes place (open_at m.store.records place) refl)
+    goes (StandingCall.UdpBind place face) stands = ends (udp_bind_goes place face (open_at m.store.records place) refl)
     goes (StandingCall.UdpConnect place handle) stands = ends (connect_goes place handle (open_at m.store.records place) refl)
     goes (StandingCall.DropOutgoing place) stands = ends (outgoing_goes place (open_at m.store.records place) refl)
     goes (StandingCall.Blocking blocks) stands = ends ((refl, refl), refl)

@@ -33,11 +33,11 @@ use Rattle.wasi_causes.specs.Udp.{GivesBy}
 
 module _ (contexts : List WasiSocketsCtx) (steps : List Step) (log : List Entry) (replies : List Reply) (m : Machine)
     (w : Left (run contexts [] first_state 1 steps) log (Give (replies, m))) where
-  fine : (line : ℕ) × Fine contexts steps line log m
+  pub fine : (line : ℕ) × Fine contexts steps line log m
   fine = runs_fine contexts steps log replies m w
 
   -- == what the mark of an input says
-  side_of_half : (input place : ℕ) (r : TcpRecord) (s : Streams) (half : TcpReceiveStream) → kind_at m.table input ≡
+  pub side_of_half : (input place : ℕ) (r : TcpRecord) (s : Streams) (half : TcpReceiveStream) → kind_at m.table input ≡
       Some (Input place) → tcp2_at m.store.records place ≡ Some r → r.streams ≡ Some s → s.reader ≡ ReadState.Open half
       → IsSide log input half.side
   side_of_half input place r s half names at has is =
@@ -48,7 +48,7 @@ module _ (contexts : List WasiSocketsCtx) (steps : List Step) (log : List Entry)
       (ap (λ (x : TcpRecord). x.side) same ∙ reads) k.marked in
       record { op = mark.op; kind = mark.kind; parent = mark.parent; told = mark.told; mark = mark.mark }
 
-  input_kind : (k : Option Kind) (place : ℕ) → input_of k ≡ Some place → k ≡ Some (Input place)
+  pub input_kind : (k : Option Kind) (place : ℕ) → input_of k ≡ Some place → k ≡ Some (Input place)
   input_kind (Some (Input p)) place e = ap (λ (o : Option ℕ). by_place o) e
     where
       by_place : Option ℕ → Option Kind

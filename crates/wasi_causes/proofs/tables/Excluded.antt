@@ -62,6 +62,6 @@ ClosesBy after _ = ⊤
 closes : (m : Machine) (es : List Entry) (pending : StandingCall) (c : ErrorCode) → (why : CallFails m es pending c) → ClosesBy (left_failed m why) pending
 closes m es _ _ (CreateFailed place face create c at why) = gone_at m.store.records place (udp.Creating create) at
 closes m es _ _ (UdpConnectFailed place handle o op c at is why) = tt
-closes m es _ _ (UdpBindFailed place o op c at is why) = tt
-closes m es _ _ (BindFailed place r op c at is why) = tt
+closes m es _ _ (UdpBindFailed place face o op c at is why) = tt
+closes m es _ _ (BindFailed place face r op c at is why) = tt
 closes m es _ _ (ListenFailed place r op c at is why) = tt

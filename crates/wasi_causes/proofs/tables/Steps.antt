@@ -5,6 +5,7 @@ use Rattle.wasi_causes.proofs.Machine.{subscribe, ready}
 use Rattle.wasi_causes.proofs.Resumes.{poll}
 use Rattle.wasi_causes.proofs.sockets.Makes.{network, create, finish_connect_row, accept}
 use Rattle.wasi_causes.proofs.sockets.Questions.{get, set, local_address_row, remote_address_row, is_listens, family}
+use Rattle.wasi_causes.proofs.sockets.P3Binds.{p3_tcp_bind, p3_udp_bind}
 use Rattle.wasi_causes.proofs.sockets.P3Udp.{p3_udp_disconnect, p3_udp_family, p3_udp_get, p3_udp_local_address, p3_udp_remote_address, p3_udp_set}
 use Rattle.wasi_causes.proofs.sockets.Tcp3.{p3_address_family, p3_create, p3_get, p3_is_listening, p3_local_address, p3_remote_address, p3_set}
 use Rattle.wasi_causes.proofs.sockets.Starts.{finish_bind, finish_listen, start_bind, start_connect, start_listen}
@@ -101,6 +102,8 @@ module _ (contexts : List WasiSocketsCtx) (m : Machine) (line : ℕ) where
   rows (step.Call c (guest.P3TcpGet s option)) = p3_get contexts m line c s option
   rows (step.Call c (guest.P3TcpSet s setting)) = p3_set contexts m line c s setting
   rows (step.Call c (guest.P3UdpCreate family)) = p3_udp_create contexts m line c family
+  rows (step.Call c (guest.P3TcpBind s a)) = p3_tcp_bind contexts m line c s a
+  rows (step.Call c (guest.P3UdpBind s a)) = p3_udp_bind contexts m line c s a
   rows (step.Call c (guest.P3UdpDisconnect s)) = p3_udp_disconnect contexts m line c s
   rows (step.Call c (guest.P3UdpLocalAddress s)) = p3_udp_local_address contexts m line c s
   rows (step.Call c (guest.P3UdpRemoteAddress s)) = p3_udp_remote_address contexts m line c s
@@ -181,7 +184,9 @@ waits : (m : Machine) (line n : ℕ) (s : Step) → MayStand m line s n → MayW
 waits m line n (step.Call ctx (guest.TcpStartBind socket _ a)) h = h
 waits m line n (step.Call ctx (guest.TcpStartListen socket)) h = h
 waits m line n (step.Call ctx (guest.UdpCreate _)) h = h
+waits m line n (step.Call ctx (guest.P3TcpBind _ _)) h = h
 waits m line n (step.Call ctx (guest.P3UdpCreate _)) h = h
+waits m line n (step.Call ctx (guest.P3UdpBind _ _)) h = h
 waits m line n (step.Call ctx (guest.UdpStartBind socket _ a)) h = h
 waits m line n (step.Call ctx (guest.UdpStream socket remote)) h = h
 waits m line n (step.Call ctx (guest.Drop handle)) h = h.1

@@ -1,0 +1,56 @@
+-- Marks of handles in the logs of runs.
+use Rattle.std.specs.Prelude.{◌≡◌, ℕ, ◌+◌, List, [], ◌∷◌, ◌++◌, Option, Some}
+use Rattle.wasi_addr.specs.declared.address.ShutdownType.TheVariants.{Receive}
+use Rattle.wasi_world.specs.declared.call.Call.TheVariants.{Made, Read, Shutdown}
+use Rattle.wasi_world.specs.declared.call.Entry.{Entry}
+use Rattle.wasi_world.specs.declared.call.HandleKind.{HandleKind}
+use Rattle.wasi_world.specs.declared.call.HandleKind.TheVariants.{ErrorValue}
+use Rattle.wasi_world.specs.declared.call.Told.{Told}
+use Rattle.wasi_world.specs.declared.call.Told.TheVariants.{Code, Done}
+use Rattle.wasi_addr.specs.declared.code.ErrorCode.{ErrorCode}
+use Rattle.wasi_world.specs.declared.ids.OpId.{OpId}
+use Rattle.wasi_steps.specs.declared.reply.CodeWord.{CodeWord}
+use Rattle.wasi_steps.specs.declared.reply.Field.{Field}
+use Rattle.wasi_steps.specs.Reply.{triple_fields}
+use Rattle.wasi_walks.specs.Allowed.{IsSide, entry}
+use Rattle.wasi_walks.specs.Answered.{word_of_code}
+use Rattle.wasi_walks.specs.Licence.{marks_in}
+use Rattle.wasi_walks.specs.Listens.{accepted_marks}
+
+-- Two marks of the log, one after the other.
+pub record TwoMarks (log : List Entry) (first second : ℕ) : Type 0 where
+  pub front : List Entry
+  pub between : List Entry
+  pub back : List Entry
+  pub op : OpId
+  pub other : OpId
+  pub kind : HandleKind
+  pub name : HandleKind
+  pub parent : Option ℕ
+  pub above : Option ℕ
+  pub sock : Option OpId
+  pub side : Option OpId
+  pub told : Told
+  pub answer : Told
+  pub cut : log ≡ front ++ entry op (Made first kind parent sock) told ∷
+      (between ++ entry other (Made second name above side) answer ∷ back)
+
+-- An accept marked the three handles that follow those of the log: its socket's, its input's and its output's.
+pub record MarksThree (log : List Entry) (own : OpId) (listener : ℕ) (fields : List Field) (entries : List Entry)
+    : Type 0 where
+  pub side : OpId
+  pub front : List Entry
+  pub cut : entries ≡ front ++ accepted_marks own listener (marks_in log + 1) side
+  pub gives : fields ≡ triple_fields (marks_in log + 1) (marks_in log + 2) (marks_in log + 3)
+
+-- A read of the stream's network socket was answered with the code that the word is of; its half was shut, and the
+-- error marked, all with that network socket.
+pub record FailsOnItsSide (log : List Entry) (own : OpId) (stream : ℕ) (word : CodeWord) (entries : List Entry)
+    : Type 0 where
+  pub side : OpId
+  pub of_handle : IsSide log stream side
+  pub size : ℕ
+  pub code : ErrorCode
+  pub word_is : word ≡ word_of_code code
+  pub cut : entries ≡ entry own (Read side size) (Code code) ∷ entry own (Shutdown side Receive) Done
+      ∷ entry own (Made (marks_in log + 1) ErrorValue (Some stream) (Some side)) Done ∷ []

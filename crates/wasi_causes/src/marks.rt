@@ -1,0 +1,49 @@
+//! Marks of handles in the logs of runs: laws over the definitions of specs/. Each is a function
+//! that does nothing, whose contract is the law.
+
+ghost use Rattle.std.specs.Prelude.{ℕ, ◌<◌, List, []};
+ghost use Rattle.wasi_world.specs.declared.call.Entry.{Entry};
+ghost use Rattle.wasi_world.specs.declared.outcome.WasiSocketsCtx.{WasiSocketsCtx};
+ghost use Rattle.wasi_world.specs.Asks.{Asks, Give, Left};
+ghost use Rattle.wasi_host.specs.declared.machine.Machine.{Machine};
+ghost use Rattle.wasi_host.specs.Machine.{first_state, own_of};
+ghost use Rattle.wasi_machine.specs.Machine.{run};
+ghost use Rattle.wasi_steps.specs.declared.guest_call.GuestCall.{GuestCall};
+ghost use Rattle.wasi_steps.specs.declared.reply.CodeWord.{CodeWord};
+ghost use Rattle.wasi_steps.specs.declared.reply.Field.{Field};
+ghost use Rattle.wasi_steps.specs.declared.reply.Reply.{Reply};
+ghost use Rattle.wasi_steps.specs.declared.step.Step.{Step};
+ghost use Rattle.wasi_walks.specs.Answered.{Answered};
+ghost use Rattle.wasi_causes.specs.Marks.{FailsOnItsSide, MarksThree, TwoMarks};
+
+/// In a run no two marks have one handle, so the three of an accept are three.
+///
+/// - `rise`: at every point of a run, of two marks the later one has the greater handle.
+/// - `accepted`: an accept that is done marks the three handles that follow all that were marked,
+///   and its reply gives these.
+pub fn marks_have_handles_of_their_own()
+    ensures rise { (contexts : List WasiSocketsCtx) (steps : List Step) (log : List Entry)
+        (rest : Asks (List Reply × Machine)) (first second : ℕ)
+        → Left (run contexts [] first_state 1 steps) log rest → TwoMarks log first second
+        → first < second }
+    ensures accepted { (contexts : List WasiSocketsCtx) (steps : List Step) (log : List Entry)
+        (replies : List Reply) (m : Machine) (line ctx listener : ℕ) (fields : List Field)
+        (entries : List Entry) (after : Machine)
+        → Left (run contexts [] first_state 1 steps) log (Give (replies, m))
+        → Answered contexts m line (Step.Call ctx (GuestCall.TcpAccept listener)) entries
+        (Reply.Ok fields) after
+        → MarksThree log (own_of line) listener fields entries }
+{}
+
+/// In a run a `read` that fails asked for bytes of the network socket that the stream's handle was
+/// marked with, and got the code that its word is of; the half that it shut is of that network
+/// socket, and so is the error's mark.
+pub fn failed_reads_are_of_their_stream()
+    ensures { (contexts : List WasiSocketsCtx) (steps : List Step) (log : List Entry)
+        (replies : List Reply) (m : Machine) (line ctx stream len : ℕ) (entries : List Entry)
+        (word : CodeWord) (handle : ℕ) (after : Machine)
+        → Left (run contexts [] first_state 1 steps) log (Give (replies, m))
+        → Answered contexts m line (Step.Call ctx (GuestCall.Read stream len)) entries
+        (Reply.Failed word handle) after
+        → FailsOnItsSide log (own_of line) stream word entries }
+{}
