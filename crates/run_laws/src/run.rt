@@ -2,7 +2,7 @@
 
 ghost use Rattle.std.specs.Prelude.{◌≡◌, ◌<◌, ◌^◌, OnOk, length, false, true};
 ghost use Rattle.wasi_world.specs.Contexts.{AreNumbered};
-ghost use Rattle.wasi_records.specs.Closing.{IsFresh, HasClosedAll};
+ghost use Rattle.wasi_records.specs.Closing.{HasClosedAll, HasClosedEach, IsFresh};
 ghost use Rattle.wasi_run.specs.Causes.{DoneLines};
 ghost use Rattle.run_laws.specs.Composed.{RunsByLaws};
 
@@ -39,6 +39,8 @@ pub fn run_by_laws<W: World, S: Source, K: Sink>(
         (W.seen world.old) (W.seen world.new)) }
     ensures ended { (W.seen world.new).ended ≡ true }
     ensures closed { IsFresh (W.seen world.old) → HasClosedAll (W.seen world.new) }
+    ensures each { IsFresh (W.seen world.old)
+        → HasClosedEach (W.seen world.new) (W.closed world.new) }
     ensures contexts { contexts.new.items ≡ contexts.old.items }
 {
     run_script(alloc, world, contexts, limit, reader, writer)

@@ -1,8 +1,11 @@
 -- What a script's record says of the run of its lines, and of the closings after it.
 use Rattle.wasi_run.proofs.Words.{◌∙◌, refl, ap, sym, append-nil, ℕ, List, [], ◌∷◌, ◌++◌, ◌+◌, length, Some, Result, Ok, Err, false, ◌≡◌, OnOk, Entry, WasiSocketsCtx, Seen, Reading, Writing, Machine, HasRun, Step, RunError, Memory, LinesEnd, Met, Beyond, first_state, IsFresh, HasClosedAll, stays_open}
+use Rattle.std.specs.Prelude.{Option}
+use Rattle.wasi_world.specs.declared.ids.OpId.{OpId}
 use Rattle.wasi_run.specs.declared.run.RunEnd.{RunEnd}
 use Rattle.wasi_host.specs.KnownSides.{KnowsSides}
-use Rattle.wasi_records.specs.Sides.{ClosesAll}
+use Rattle.wasi_records.specs.Closing.{HasClosedEach}
+use Rattle.wasi_records.specs.Sides.{ClosesAll, no_socket}
 use Rattle.wasi_run.specs.Script.{RanOver, RanScript}
 use Rattle.wasi_run.specs.Causes.{BeginsRun, DoneLines}
 use Rattle.wasi_run.specs.Headline.{RunsLicensed}
@@ -89,5 +92,9 @@ module _ {contexts : List WasiSocketsCtx} {limit : ℕ} {before after : Reading}
   -- all network sockets are closed at the end
   pub has_closed : {w_new : Seen} → RanOver contexts limit before after k_old k_new w_old stopped last result → (KnowsSides stopped last.store → ClosesAll stopped w_new) → IsFresh w_old → HasClosedAll w_new
   has_closed h closes fresh =
-      let known : KnowsSides w_old first_state.store = record { count = empty_known w_old.log 0 fresh.log refl } in
+      let known : KnowsSides w_old first_state.store = record { count = empty_known w_old.log no_socket fresh.log refl } in
       record { count = (closes (h.ran.sides known)).count ((h.ran.began []).reached.passed.closings ∙ fresh.closings) }
+
+  -- each by its name
+  pub has_closed_each : {w_new : Seen} {closed : Option (List OpId)} → RanOver contexts limit before after k_old k_new w_old stopped last result → (KnowsSides stopped last.store → HasClosedEach w_new closed) → IsFresh w_old → HasClosedEach w_new closed
+  has_closed_each h closes fresh = closes (h.ran.sides (record { count = empty_known w_old.log no_socket fresh.log refl }))

@@ -36,7 +36,7 @@ module _ {contexts : List WasiSocketsCtx} {w_old w_new : Seen} {k : Writing} {fi
   one_hungry e h held =
       before_any (s ∷ []) (e, tt) (λ so_far. record { rest = _; reached = reaches_in (next_run contexts so_far line []) h.reached }) (rw add-zero h) (tt, refl) (same_none k) tt held
 
-one_ran : {contexts : List WasiSocketsCtx} {w_old w_new : Seen} {first state : Machine} {line : ℕ} {s : Step} {reply : Reply} → Stepped contexts first line s reply state w_old w_new → (so_far : List Reply) → Reaches (run contexts so_far first line (s ∷ [])) (Give (so_far ++ reply ∷ [], state)) w_old w_new
+pub one_ran : {contexts : List WasiSocketsCtx} {w_old w_new : Seen} {first state : Machine} {line : ℕ} {s : Step} {reply : Reply} → Stepped contexts first line s reply state w_old w_new → (so_far : List Reply) → Reaches (run contexts so_far first line (s ∷ [])) (Give (so_far ++ reply ∷ [], state)) w_old w_new
 one_ran {contexts} {w_old} {w_new} {first} {state} {line} {s} {reply} h so_far =
     let P : Asks (List Reply × Machine) → Type 0 = λ rest. Reaches (run contexts so_far first line (s ∷ [])) rest w_old w_new in
     subst P (either_way (is_trap reply) (so_far ++ reply ∷ [], state)) (reaches_on (next_run contexts so_far line []) h.asked)

@@ -23,7 +23,7 @@ if_false false x y h = refl
 reaches_none : (contexts : List WasiSocketsCtx) (first : Machine) (line : ℕ) (w : Seen) (so_far : List Reply) (more : List Step) → Reaches (run contexts so_far first line more) (run contexts (so_far ++ []) first (line + 0) more) w w
 reaches_none contexts first line w so_far more = rw (append-nil, add-zero) (reaches_all (run contexts so_far first line more) w)
 
-stretch_none : (contexts : List WasiSocketsCtx) (first : Machine) (line : ℕ) (w : Seen) → Stretch contexts first line [] [] first w w
+pub stretch_none : (contexts : List WasiSocketsCtx) (first : Machine) (line : ℕ) (w : Seen) → Stretch contexts first line [] [] first w w
 stretch_none contexts first line w = record { reached = reaches_none contexts first line w }
 
 -- One step was done, with this reply.
@@ -41,7 +41,7 @@ stretch_one {contexts} {first} {state} {line} {s} {reply} {old} {now} h e = reco
 numbered : (line : ℕ) (xs ys : List Step) → line + length xs + length ys ≡ line + length (xs ++ ys)
 numbered line xs ys = omega (arith, length-append xs ys)
 
-stretch_then : {contexts : List WasiSocketsCtx} {first mid last : Machine} {line : ℕ} {xs ys : List Step} {rs qs : List Reply} {s t u : Seen} → Stretch contexts first line xs rs mid s t → Stretch contexts mid (line + length xs) ys qs last t u → Stretch contexts first line (xs ++ ys) (rs ++ qs) last s u
+pub stretch_then : {contexts : List WasiSocketsCtx} {first mid last : Machine} {line : ℕ} {xs ys : List Step} {rs qs : List Reply} {s t u : Seen} → Stretch contexts first line xs rs mid s t → Stretch contexts mid (line + length xs) ys qs last t u → Stretch contexts first line (xs ++ ys) (rs ++ qs) last s u
 stretch_then {line = line} {xs} {ys} {rs} {qs} h k = record {
   reached = λ so_far more. rw (append_assoc xs ys more, ← append_assoc so_far rs qs, ← numbered line xs ys) (reaches_then (h.reached so_far (ys ++ more)) (k.reached (so_far ++ rs) more));
 }

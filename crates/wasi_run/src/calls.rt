@@ -11,7 +11,7 @@ ghost use Rattle.wasi_machine.specs.Machine.{without_code, first_ids, machine_as
 ghost use Rattle.wasi_machine.specs.Machine.{is_guest_call, asks_in, call_asks, context_at};
 ghost use Rattle.wasi_machine.specs.Machine.{context_for};
 
-use crate::settings::{set, set_p3, set_p3_udp, set_udp, udp_opt};
+use crate::settings::{set, set_p3, udp_opt, udp_setting};
 use std::alloc::{AllocError, Global};
 use wasi_addr::p2;
 use wasi_host::{Kind, Machine, SocketError, Store, WasiSocketsCtxView};
@@ -238,7 +238,7 @@ fn guest_call<W: World>(
             reply_of(alloc, told)
         }
         GuestCall::UdpSet { socket, setting } => {
-            let done = set_udp(view, world, ids, socket, setting);
+            let done = udp::set_option(view, world, ids, socket, udp_setting(setting));
             reply_of(alloc, done)
         }
         GuestCall::UdpStream { socket, remote } => {
@@ -375,6 +375,10 @@ fn guest_call<W: World>(
             let made = wasi_p3::tcp::create(view, world, ids, family);
             p3_reply(alloc, made)
         }
+        GuestCall::P3TcpBind { socket, addr } => {
+            let answer = wasi_p3::tcp::bind(view, world, ids, socket, addr);
+            p3_answer_reply(alloc, ids.line, answer)
+        }
         GuestCall::P3TcpLocalAddress { socket } => {
             let told = wasi_p3::tcp::get_local_address(view, world, ids, socket);
             p3_reply(alloc, told)
@@ -403,6 +407,10 @@ fn guest_call<W: World>(
             let answer = wasi_p3::udp::create(view, world, ids, family);
             p3_answer_reply(alloc, ids.line, answer)
         }
+        GuestCall::P3UdpBind { socket, addr } => {
+            let answer = wasi_p3::udp::bind(view, world, ids, socket, addr);
+            p3_answer_reply(alloc, ids.line, answer)
+        }
         GuestCall::P3UdpDisconnect { socket } => {
             let done = wasi_p3::udp::disconnect(view, world, ids, socket);
             p3_reply(alloc, done)
@@ -424,7 +432,7 @@ fn guest_call<W: World>(
             p3_reply(alloc, told)
         }
         GuestCall::P3UdpSet { socket, setting } => {
-            let done = set_p3_udp(view, world, ids, socket, setting);
+            let done = wasi_p3::udp::set_option(view, world, ids, socket, udp_setting(setting));
             p3_reply(alloc, done)
         }
         GuestCall::PollList { pollables } => {

@@ -7,15 +7,15 @@ pub mod counts;
 mod error;
 pub mod generate;
 pub mod lines;
+pub mod progress;
 pub mod run;
-pub mod session;
 mod settings;
 mod text_source;
 
 pub use counts::Counts;
 pub use error::RunError;
+pub use progress::Progress;
 pub use run::{RunEnd, run_script};
-pub use session::Session;
 pub use wasi_steps::{
     CodeWord, Field, GuestCall, Reply, ReplyFields, Step, TcpSetting, guest_call, parse, reply,
     setting, step,

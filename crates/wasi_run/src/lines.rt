@@ -7,7 +7,7 @@ ghost use Rattle.wasi_run.specs.Lines.{LeftAt, KeptOf};
 ghost use Rattle.wasi_run.specs.Ran.{LinesRan};
 
 use crate::error::RunError;
-use crate::session::Session;
+use crate::progress::Progress;
 use std::alloc::Global;
 use wasi_steps::parse::parse_step;
 use wasi_steps::reply::reply_text;
@@ -27,7 +27,7 @@ pub enum LinesEnd {
 /// Does the next line, and writes its reply.
 fn do_line<W: World, K: Sink>(
     alloc: Global,
-    session: &mut Session,
+    progress: &mut Progress,
     world: &mut W,
     contexts: &[WasiSocketsCtx],
     writer: &mut K,
@@ -35,16 +35,16 @@ fn do_line<W: World, K: Sink>(
 ) -> Result<LinesEnd, RunError>
     requires open { (W.seen world.old).ended ≡ false }
     requires few { length contexts.now < 2 ^ 32 }
-    requires numbers { session.old.lines + 1 < 2 ^ 32 }
+    requires numbers { progress.old.lines + 1 < 2 ^ 32 }
     ensures ran { LinesRan contexts.now (W.seen world.old) (W.seen world.new) (K.writing writer.old)
         (K.writing writer.new)
-        session.old.machine (session.old.lines + 1) (line.now ∷ []) result session.new.machine }
-    ensures count { result ≡ Ok LinesEnd.AllDone → session.new.lines ≡ session.old.lines + 1 }
+        progress.old.machine (progress.old.lines + 1) (line.now ∷ []) result progress.new.machine }
+    ensures count { result ≡ Ok LinesEnd.AllDone → progress.new.lines ≡ progress.old.lines + 1 }
 {
     let Some(step) = parse_step(alloc, line, contexts.len() as u32)? else {
-        return Err(RunError::BadStep(session.lines + 1));
+        return Err(RunError::BadStep(progress.lines + 1));
     };
-    let reply = session.step(alloc, world, contexts, step)?;
+    let reply = progress.step(alloc, world, contexts, step)?;
     let text = reply_text(alloc, &reply)?;
     let Ok(()) = write_all(writer, text.as_slice()) else {
         return Err(RunError::WriteFault);
@@ -58,7 +58,7 @@ fn do_line<W: World, K: Sink>(
 /// Does the whole lines from a place in the bytes on, and moves the place past them.
 fn do_lines<W: World, K: Sink>(
     alloc: Global,
-    session: &mut Session,
+    progress: &mut Progress,
     world: &mut W,
     contexts: &[WasiSocketsCtx],
     writer: &mut K,
@@ -68,16 +68,16 @@ fn do_lines<W: World, K: Sink>(
     requires open { (W.seen world.old).ended ≡ false }
     requires few { length contexts.now < 2 ^ 32 }
     requires within { at.old ≤ length bytes.now }
-    requires numbers { session.old.lines + length bytes.now < 2 ^ 32 + at.old }
+    requires numbers { progress.old.lines + length bytes.now < 2 ^ 32 + at.old }
     ensures ran { LinesRan contexts.now (W.seen world.old) (W.seen world.new) (K.writing writer.old)
         (K.writing writer.new)
-        session.old.machine (session.old.lines + 1) (lines_of (drop at.old bytes.now)) result session.new.machine }
+        progress.old.machine (progress.old.lines + 1) (lines_of (drop at.old bytes.now)) result progress.new.machine }
     ensures place { result ≡ Ok LinesEnd.AllDone
-        → LeftAt session.old.lines at.old bytes.now session.new.lines at.new }
+        → LeftAt progress.old.lines at.old bytes.now progress.new.lines at.new }
 {
     while let Some(end) = newline_at(&bytes[*at..]) {
         let line = &bytes[*at..*at + end];
-        let LinesEnd::AllDone = do_line(alloc, session, world, contexts, writer, line)? else {
+        let LinesEnd::AllDone = do_line(alloc, progress, world, contexts, writer, line)? else {
             return Ok(LinesEnd::Trapped);
         };
         *at += end + 1;
@@ -89,7 +89,7 @@ fn do_lines<W: World, K: Sink>(
 /// unfinished one.
 pub fn do_piece<W: World, K: Sink>(
     alloc: Global,
-    session: &mut Session,
+    progress: &mut Progress,
     world: &mut W,
     contexts: &[WasiSocketsCtx],
     writer: &mut K,
@@ -98,25 +98,25 @@ pub fn do_piece<W: World, K: Sink>(
 ) -> Result<LinesEnd, RunError>
     requires open { (W.seen world.old).ended ≡ false }
     requires few { length contexts.now < 2 ^ 32 }
-    requires numbers { session.old.lines + length piece.now < 2 ^ 32 }
+    requires numbers { progress.old.lines + length piece.now < 2 ^ 32 }
     ensures ran { LinesRan contexts.now (W.seen world.old) (W.seen world.new) (K.writing writer.old)
         (K.writing writer.new)
-        session.old.machine (session.old.lines + 1) (lines_from line.old.items piece.now) result session.new.machine }
+        progress.old.machine (progress.old.lines + 1) (lines_from line.old.items piece.now) result progress.new.machine }
     ensures kept { result ≡ Ok LinesEnd.AllDone
-        → KeptOf session.old.lines line.old.items piece.now session.new.lines line.new.items }
+        → KeptOf progress.old.lines line.old.items piece.now progress.new.lines line.new.items }
 {
     let Some(end) = newline_at(piece) else {
         line.extend_from_slice(piece)?;
         return Ok(LinesEnd::AllDone);
     };
     line.extend_from_slice(&piece[..end])?;
-    let LinesEnd::AllDone = do_line(alloc, session, world, contexts, writer, line.as_slice())?
+    let LinesEnd::AllDone = do_line(alloc, progress, world, contexts, writer, line.as_slice())?
     else {
         return Ok(LinesEnd::Trapped);
     };
     line.clear();
     let mut at = end + 1;
-    let LinesEnd::AllDone = do_lines(alloc, session, world, contexts, writer, &mut at, piece)?
+    let LinesEnd::AllDone = do_lines(alloc, progress, world, contexts, writer, &mut at, piece)?
     else {
         return Ok(LinesEnd::Trapped);
     };

@@ -3,7 +3,7 @@
 ghost use Rattle.std.specs.Prelude.{◌≡◌, ℕ, ◌<◌, ◌^◌, OnOk, length, false, true};
 ghost use Rattle.wasi_world.specs.Contexts.{AreNumbered};
 ghost use Rattle.wasi_host.specs.Machine.{first_state};
-ghost use Rattle.wasi_records.specs.Closing.{IsFresh, HasClosedAll};
+ghost use Rattle.wasi_records.specs.Closing.{HasClosedAll, HasClosedEach, IsFresh};
 ghost use Rattle.wasi_run.specs.Script.{RanOver, RanScript, Completes};
 ghost use Rattle.wasi_run.specs.Headline.{RunsLicensed};
 ghost use Rattle.wasi_run.specs.Causes.{BeginsRun, DoneLines, ReadsAll, StopsAtTrap};
@@ -12,7 +12,7 @@ ghost use Rattle.wasi_run.specs.Causes.{StopsAtWriteFault, StopsForMemory};
 
 use crate::error::RunError;
 use crate::lines::{LinesEnd, do_piece};
-use crate::session::Session;
+use crate::progress::Progress;
 use std::alloc::Global;
 use wasi_world::{WasiSocketsCtx, World};
 use world_io::{Sink, Source};
@@ -32,7 +32,7 @@ pub enum RunEnd {
 /// Reads pieces until the run stops, and does each line as soon as it is whole.
 fn run_lines<W: World, S: Source, K: Sink>(
     alloc: Global,
-    session: &mut Session,
+    progress: &mut Progress,
     world: &mut W,
     contexts: &[WasiSocketsCtx],
     limit: u32,
@@ -41,12 +41,12 @@ fn run_lines<W: World, S: Source, K: Sink>(
 ) -> Result<RunEnd, RunError>
     requires open { (W.seen world.old).ended ≡ false }
     requires few { length contexts.now < 2 ^ 32 }
-    requires machine { session.old.machine ≡ first_state }
-    requires lines { session.old.lines ≡ 0 }
+    requires machine { progress.old.machine ≡ first_state }
+    requires lines { progress.old.lines ≡ 0 }
     ensures { RanOver contexts.now limit
         (S.reading reader.old) (S.reading reader.new)
         (K.writing writer.old) (K.writing writer.new)
-        (W.seen world.old) (W.seen world.new) session.new.machine result }
+        (W.seen world.old) (W.seen world.new) progress.new.machine result }
 {
     let mut line = Vec::new(alloc);
     let mut taken = 0;
@@ -60,13 +60,13 @@ fn run_lines<W: World, S: Source, K: Sink>(
             if line.is_empty() {
                 return Ok(RunEnd::AllRead);
             }
-            return Err(RunError::BadStep(session.lines + 1));
+            return Err(RunError::BadStep(progress.lines + 1));
         }
         let within = count.min(limit as usize - taken);
         taken += count;
         let LinesEnd::AllDone = do_piece(
             alloc,
-            session,
+            progress,
             world,
             contexts,
             writer,
@@ -160,18 +160,20 @@ pub fn run_script<W: World, S: Source, K: Sink>(
     // What is left.
     ensures ended { (W.seen world.new).ended ≡ true }
     ensures closed { IsFresh (W.seen world.old) → HasClosedAll (W.seen world.new) }
+    ensures each { IsFresh (W.seen world.old)
+        → HasClosedEach (W.seen world.new) (W.closed world.new) }
     ensures contexts { contexts.new.items ≡ contexts.old.items }
 {
-    let mut session = Session::new(alloc);
+    let mut progress = Progress::new(alloc);
     let result = run_lines(
         alloc,
-        &mut session,
+        &mut progress,
         world,
         contexts.as_slice(),
         limit,
         reader,
         writer,
     );
-    session.finish(world);
+    progress.finish(world);
     result
 }

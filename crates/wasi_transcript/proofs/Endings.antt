@@ -7,7 +7,7 @@ use Rattle.wasi_host.specs.declared.machine.Machine.{Machine}
 use Rattle.wasi_records.specs.Closing.{AsksNothing, IsFresh, HasClosedAll}
 use Rattle.wasi_host.specs.Machine.{first_state}
 use Rattle.wasi_host.specs.KnownSides.{KnowsSides}
-use Rattle.wasi_records.specs.Sides.{ClosesAll}
+use Rattle.wasi_records.specs.Sides.{ClosesAll, no_socket}
 use Rattle.wasi_records.proofs.Closings.{empty_known}
 use Rattle.wasi_run.specs.declared.run.RunEnd.{RunEnd}
 use Rattle.wasi_run.specs.declared.run.RunEnd.TheVariants as end
@@ -79,7 +79,7 @@ module _ {contexts : List WasiSocketsCtx} {limit : ℕ} {s_old s_new : Reading} 
   -- all sockets are closed at the end
   pub closed_all : {result : Result RunEnd RunError} → LinesShown contexts limit s_old s_new k_old k_mid w_old w_mid last line result → (KnowsSides w_mid last.store → ClosesAll w_mid w_new) → IsFresh w_old → HasClosedAll w_new
   closed_all h closes fresh =
-      let known : KnowsSides w_old first_state.store = record { count = empty_known w_old.log 0 fresh.log refl } in
+      let known : KnowsSides w_old first_state.store = record { count = empty_known w_old.log no_socket fresh.log refl } in
       record { count = (closes (h.sides known)).count (h.closings ∙ fresh.closings) }
 
 module _ {contexts : List WasiSocketsCtx} {limit : ℕ} {s_old s_new : Reading} {k_old k_mid k_new : Writing} {w_old w_mid : Seen} {last : Machine} {line : List ℕ} where

@@ -15,7 +15,7 @@ use Rattle.wasi_host.specs.KnownSides.{KnowsSides}
 use Rattle.wasi_run.specs.declared.run.RunEnd.TheVariants as end
 use Rattle.wasi_run.specs.declared.error.RunError.{RunError}
 use Rattle.wasi_run.specs.declared.error.RunError.TheVariants.{Memory, BadStep, TooLong, ReadFault, WriteFault}
-use Rattle.wasi_run.specs.declared.session.Session.{Session}
+use Rattle.wasi_run.specs.declared.progress.Progress.{Progress}
 use Rattle.wasi_run.specs.Ran.{NoTrap}
 use Rattle.wasi_steps.specs.declared.reply.Reply.{Reply}
 use Rattle.wasi_steps.specs.declared.step.Step.{Step}
@@ -65,13 +65,13 @@ pub record Showing (contexts : List WasiSocketsCtx) (limit : ℕ) (s_old s_now :
   pub sides : KnowsSides w_old first_state.store → KnowsSides w_now machine.store
 
 -- Between two lines: what the reader holds is what is left, and no read failed.
-pub record Between (contexts : List WasiSocketsCtx) (limit : ℕ) (s_old s_now : Reading) (k_old k_now : Writing) (w_old w_now : Seen) (session : Session) (held : Held) : Type 0 where
-  pub showing : Showing contexts limit s_old s_now k_old k_now w_old w_now session.machine session.lines held.taken (lines_of held.held) (rest_of held.held)
+pub record Between (contexts : List WasiSocketsCtx) (limit : ℕ) (s_old s_now : Reading) (k_old k_now : Writing) (w_old w_now : Seen) (progress : Progress) (held : Held) : Type 0 where
+  pub showing : Showing contexts limit s_old s_now k_old k_now w_old w_now progress.machine progress.lines held.taken (lines_of held.held) (rest_of held.held)
   pub limit_is : held.limit ≡ limit
   pub faults : s_now.faults ≡ s_old.faults
 
-pub between_start : (contexts : List WasiSocketsCtx) (limit : ℕ) (s : Reading) (k : Writing) (w : Seen) (session : Session) (held : Held) → session.machine ≡ first_state → session.lines ≡ 0 → held ≡ record { limit = limit; taken = 0; held = [] } → Between contexts limit s s k k w w session held
-between_start contexts limit s k w session held machine lines is = rw is (record {
+pub between_start : (contexts : List WasiSocketsCtx) (limit : ℕ) (s : Reading) (k : Writing) (w : Seen) (progress : Progress) (held : Held) → progress.machine ≡ first_state → progress.lines ≡ 0 → held ≡ record { limit = limit; taken = 0; held = [] } → Between contexts limit s s k k w w progress held
+between_start contexts limit s k w progress held machine lines is = rw is (record {
   showing = record {
     text = [];
     gave = gave_none {old = s} {new = s} refl;
@@ -92,9 +92,9 @@ between_start contexts limit s k w session held machine lines is = rw is (record
   faults = refl;
 })
 
-module _ {contexts : List WasiSocketsCtx} {limit : ℕ} {s_old s_now s_new : Reading} {k_old k_now : Writing} {w_old w_now : Seen} {session : Session} {held new : Held} where
+module _ {contexts : List WasiSocketsCtx} {limit : ℕ} {s_old s_now s_new : Reading} {k_old k_now : Writing} {w_old w_now : Seen} {progress : Progress} {held new : Held} where
   -- more was read
-  pub read_more : {line : List ℕ} {result : _} → Between contexts limit s_old s_now k_old k_now w_old w_now session held → (r : Reads s_now s_new held new line result) → Showing contexts limit s_old s_new k_old k_now w_old w_now session.machine session.lines new.taken (lines_of (with_more held r.more)) (rest_of (with_more held r.more))
+  pub read_more : {line : List ℕ} {result : _} → Between contexts limit s_old s_now k_old k_now w_old w_now progress held → (r : Reads s_now s_new held new line result) → Showing contexts limit s_old s_new k_old k_now w_old w_now progress.machine progress.lines new.taken (lines_of (with_more held r.more)) (rest_of (with_more held r.more))
   read_more b r =
       let s = b.showing in
       let room : limit - length s.text ≡ held.limit - held.taken = omega (arith, b.limit_is, s.so_far) in record {
@@ -135,19 +135,19 @@ module _ {contexts : List WasiSocketsCtx} {limit : ℕ} {s_old s_now : Reading} 
     logged = logged_as (sym (append-nil (calls_in s.exchanges))) s.logged;
   }
 
-module _ {contexts : List WasiSocketsCtx} {limit : ℕ} {s_old s_now s_new : Reading} {k_old k_now : Writing} {w_old w_now : Seen} {session : Session} {held new : Held} {line : List ℕ} where
-  pub within_limit : {result : _} → Between contexts limit s_old s_now k_old k_now w_old w_now session held → Reads s_now s_new held new line result → new.taken ≤ limit + 1
+module _ {contexts : List WasiSocketsCtx} {limit : ℕ} {s_old s_now s_new : Reading} {k_old k_now : Writing} {w_old w_now : Seen} {progress : Progress} {held new : Held} {line : List ℕ} where
+  pub within_limit : {result : _} → Between contexts limit s_old s_now k_old k_now w_old w_now progress held → Reads s_now s_new held new line result → new.taken ≤ limit + 1
   within_limit b r = omega (arith, r.within, r.limit, b.limit_is)
 
   -- memory ran out in reading
-  pub starved_in_reading : (e : AllocError) → Between contexts limit s_old s_now k_old k_now w_old w_now session held → Reads s_now s_new held new line (Err e) → LinesShown contexts limit s_old s_new k_old k_now w_old w_now session.machine line (Err Memory)
+  pub starved_in_reading : (e : AllocError) → Between contexts limit s_old s_now k_old k_now w_old w_now progress held → Reads s_now s_new held new line (Err e) → LinesShown contexts limit s_old s_new k_old k_now w_old w_now progress.machine line (Err Memory)
   unfolding done_so_far
   starved_in_reading e b r =
       let s = read_more b r in
       record { done = done_so_far s (within_limit b r); stops = inl refl; written = exchanges_text s.exchanges; took = s.took; wrote = (refl, s.counts); closings = s.closings; sides = s.sides }
 
   -- all lines were done
-  pub read_all : Between contexts limit s_old s_now k_old k_now w_old w_now session held → Reads s_now s_new held new line (Ok next.End) → LinesShown contexts limit s_old s_new k_old k_now w_old w_now session.machine line (Ok end.AllRead)
+  pub read_all : Between contexts limit s_old s_now k_old k_now w_old w_now progress held → Reads s_now s_new held new line (Ok next.End) → LinesShown contexts limit s_old s_new k_old k_now w_old w_now progress.machine line (Ok end.AllRead)
   unfolding done_so_far
   read_all b r =
       let s = read_more b r in record {
@@ -161,7 +161,7 @@ module _ {contexts : List WasiSocketsCtx} {limit : ℕ} {s_old s_now s_new : Rea
       }
 
   -- the source gave its end inside a line
-  pub read_part : Between contexts limit s_old s_now k_old k_now w_old w_now session held → Reads s_now s_new held new line (Ok next.Unfinished) → LinesShown contexts limit s_old s_new k_old k_now w_old w_now session.machine line (Err (BadStep (session.lines + 1)))
+  pub read_part : Between contexts limit s_old s_now k_old k_now w_old w_now progress held → Reads s_now s_new held new line (Ok next.Unfinished) → LinesShown contexts limit s_old s_new k_old k_now w_old w_now progress.machine line (Err (BadStep (progress.lines + 1)))
   unfolding done_so_far
   read_part b r =
       let s = read_more b r in record {
@@ -175,7 +175,7 @@ module _ {contexts : List WasiSocketsCtx} {limit : ℕ} {s_old s_now s_new : Rea
       }
 
   -- the script is longer than the limit
-  pub read_long : Between contexts limit s_old s_now k_old k_now w_old w_now session held → Reads s_now s_new held new line (Ok next.TooLong) → LinesShown contexts limit s_old s_new k_old k_now w_old w_now session.machine line (Err TooLong)
+  pub read_long : Between contexts limit s_old s_now k_old k_now w_old w_now progress held → Reads s_now s_new held new line (Ok next.TooLong) → LinesShown contexts limit s_old s_new k_old k_now w_old w_now progress.machine line (Err TooLong)
   unfolding done_so_far
   read_long b r =
       let s = read_more b r in record {
@@ -189,7 +189,7 @@ module _ {contexts : List WasiSocketsCtx} {limit : ℕ} {s_old s_now s_new : Rea
       }
 
   -- a read failed
-  pub read_failed : Between contexts limit s_old s_now k_old k_now w_old w_now session held → Reads s_now s_new held new line (Ok next.Failed) → LinesShown contexts limit s_old s_new k_old k_now w_old w_now session.machine line (Err ReadFault)
+  pub read_failed : Between contexts limit s_old s_now k_old k_now w_old w_now progress held → Reads s_now s_new held new line (Ok next.Failed) → LinesShown contexts limit s_old s_new k_old k_now w_old w_now progress.machine line (Err ReadFault)
   unfolding done_so_far
   read_failed b r =
       let s = read_more b r in record {
@@ -203,20 +203,20 @@ module _ {contexts : List WasiSocketsCtx} {limit : ℕ} {s_old s_now s_new : Rea
       }
 
   -- a line was read: it is the first that is left
-  pub at_line : Between contexts limit s_old s_now k_old k_now w_old w_now session held → Reads s_now s_new held new line (Ok next.Whole) → Showing contexts limit s_old s_new k_old k_now w_old w_now session.machine session.lines new.taken (line ∷ lines_of new.held) (rest_of new.held)
+  pub at_line : Between contexts limit s_old s_now k_old k_now w_old w_now progress held → Reads s_now s_new held new line (Ok next.Whole) → Showing contexts limit s_old s_new k_old k_now w_old w_now progress.machine progress.lines new.taken (line ∷ lines_of new.held) (rest_of new.held)
   at_line b r = rw (r.found.0, r.found.1) at (read_more b r)
 
   -- its number fits
-  pub line_fits : limit < 2 ^ 32 → Between contexts limit s_old s_now k_old k_now w_old w_now session held → Reads s_now s_new held new line (Ok next.Whole) → session.lines + 1 < 2 ^ 32
+  pub line_fits : limit < 2 ^ 32 → Between contexts limit s_old s_now k_old k_now w_old w_now progress held → Reads s_now s_new held new line (Ok next.Whole) → progress.lines + 1 < 2 ^ 32
   line_fits fits b r =
       let s = at_line b r in
-      let f = few_lines limit session.lines s.text s.exchanges (line ∷ lines_of new.held) (rest_of new.held) s.count s.lines s.rest_is in omega (arith, f, fits)
+      let f = few_lines limit progress.lines s.text s.exchanges (line ∷ lines_of new.held) (rest_of new.held) s.count s.lines s.rest_is in omega (arith, f, fits)
 
   -- so does that of a line that isn't whole
-  pub part_fits : limit < 2 ^ 32 → Between contexts limit s_old s_now k_old k_now w_old w_now session held → Reads s_now s_new held new line (Ok next.Unfinished) → session.lines + 1 < 2 ^ 32
+  pub part_fits : limit < 2 ^ 32 → Between contexts limit s_old s_now k_old k_now w_old w_now progress held → Reads s_now s_new held new line (Ok next.Unfinished) → progress.lines + 1 < 2 ^ 32
   part_fits fits b r =
       let s = read_more b r in
-      let f = few_lines limit session.lines s.text s.exchanges (lines_of (with_more held r.more)) (rest_of (with_more held r.more)) s.count s.lines s.rest_is in
+      let f = few_lines limit progress.lines s.text s.exchanges (lines_of (with_more held r.more)) (rest_of (with_more held r.more)) s.count s.lines s.rest_is in
       let some = some_byte line r.found.2 in omega (arith, f, ap length r.found.1, some, fits)
 
 module _ {contexts : List WasiSocketsCtx} {limit : ℕ} {s_old s_now : Reading} {k_old k_now : Writing} {w_old w_now : Seen} {machine : Machine} {number taken : ℕ} {line rest : List ℕ} {more : List (List ℕ)} where

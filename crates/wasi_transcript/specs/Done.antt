@@ -6,7 +6,7 @@ use Rattle.wasi_world.specs.declared.outcome.WasiSocketsCtx.{WasiSocketsCtx}
 use Rattle.wasi_world.specs.Asks.{Asks, Left}
 use Rattle.wasi_world.specs.Seen.{Seen}
 use Rattle.wasi_steps.specs.declared.reply.Reply.{Reply}
-use Rattle.wasi_run.specs.declared.session.Session.{Session}
+use Rattle.wasi_run.specs.declared.progress.Progress.{Progress}
 use Rattle.wasi_steps.specs.declared.step.Step.{Step}
 use Rattle.wasi_machine.specs.Machine.{machine_asks}
 use Rattle.wasi_steps.specs.Reply.{is_trap}
@@ -27,9 +27,9 @@ pub record Exchanged (contexts : List WasiSocketsCtx) (m next : Machine) (number
   pub trap_is : is_trap exchange.reply ≡ trap
 
 -- The line is no step, and nothing happened.
-pub record IsNoStep (contexts : List WasiSocketsCtx) (s_old s_new : Session) (line : List ℕ) (old new : Seen) : Type 0 where
+pub record IsNoStep (contexts : List WasiSocketsCtx) (s_old s_new : Progress) (line : List ℕ) (old new : Seen) : Type 0 where
   pub none : step_of (length contexts) line ≡ None
-  pub session : s_new ≡ s_old
+  pub progress : s_new ≡ s_old
   pub same : new ≡ old
 
 -- Memory ran out; these calls were logged, the first that the line's step makes where it is a step.
@@ -40,7 +40,7 @@ pub record Starved (contexts : List WasiSocketsCtx) (m : Machine) (number : ℕ)
   pub first : calls ≡ [] ⊎ ((s : Step) × (step_of (length contexts) line ≡ Some s) × ((rest : Asks (Reply × Machine)) × Left (machine_asks contexts m number s) calls rest))
 
 -- what became of a line, by how it ended
-abbrev pub LineDone : List WasiSocketsCtx → Session → Session → List ℕ → Seen → Seen → Result LineEnd AllocError → Type 0
+abbrev pub LineDone : List WasiSocketsCtx → Progress → Progress → List ℕ → Seen → Seen → Result LineEnd AllocError → Type 0
 LineDone contexts s_old s_new line old new (Ok (Answered text)) = Exchanged contexts s_old.machine s_new.machine (s_old.lines + 1) line old new text.items false × (s_new.lines ≡ s_old.lines + 1)
 LineDone contexts s_old s_new line old new (Ok (Trapped text)) = Exchanged contexts s_old.machine s_new.machine (s_old.lines + 1) line old new text.items true × (s_new.lines ≡ s_old.lines + 1)
 LineDone contexts s_old s_new line old new (Ok NoStep) = IsNoStep contexts s_old s_new line old new

@@ -12,7 +12,7 @@ use std::alloc::{AllocError, Global};
 use std::fmt::Write;
 use wasi_run::parse::parse_step;
 use wasi_run::reply::reply_text;
-use wasi_run::{Reply, Session};
+use wasi_run::{Progress, Reply};
 use wasi_world::{Entry, WasiSocketsCtx};
 use world_scripted::ScriptedWorld;
 use world_text::EntryText;
@@ -80,25 +80,25 @@ pub fn no_step_text(alloc: Global, line: &[u8]) -> Result<Vec<u8>, AllocError>
 /// for what the step makes.
 pub fn do_line(
     alloc: Global,
-    session: &mut Session,
+    progress: &mut Progress,
     world: &mut ScriptedWorld,
     contexts: &[WasiSocketsCtx],
     line: &[u8],
 ) -> Result<LineEnd, AllocError>
     requires open { (seen_by world.old).ended ≡ false }
     requires few { length contexts.now < 2 ^ 32 }
-    requires numbers { session.old.lines + 1 < 2 ^ 32 }
-    ensures done { LineDone contexts.now session.old session.new line.now (seen_by world.old)
+    requires numbers { progress.old.lines + 1 < 2 ^ 32 }
+    ensures done { LineDone contexts.now progress.old progress.new line.now (seen_by world.old)
         (seen_by world.new) result }
-    ensures sides { KnowsSides (seen_by world.old) session.old.machine.store
-        → KnowsSides (seen_by world.new) session.new.machine.store }
+    ensures sides { KnowsSides (seen_by world.old) progress.old.machine.store
+        → KnowsSides (seen_by world.new) progress.new.machine.store }
     ensures open { (seen_by world.new).ended ≡ false }
 {
     let Some(step) = parse_step(alloc, line, contexts.len() as u32)? else {
         return Ok(LineEnd::NoStep);
     };
     let before = world.entries().len();
-    let reply = session.step(alloc, world, contexts, step)?;
+    let reply = progress.step(alloc, world, contexts, step)?;
     let text = answered_text(alloc, line, &world.entries()[before..], &reply)?;
     if reply.is_trap() {
         return Ok(LineEnd::Trapped(text));

@@ -14,7 +14,7 @@ use crate::exchange::{LineEnd, do_line, no_step_text};
 use crate::lines::{LineReader, NextLine};
 use std::alloc::{AllocError, Global};
 use std::fmt::Write;
-use wasi_run::{RunEnd, RunError, Session};
+use wasi_run::{Progress, RunEnd, RunError};
 use wasi_world::WasiSocketsCtx;
 use world_io::{Sink, Source, write_all};
 use world_scripted::ScriptedWorld;
@@ -68,7 +68,7 @@ fn put<K: Sink>(writer: &mut K, text: &[u8]) -> Result<(), RunError>
 /// `line` is then the last line that was read.
 fn show_lines<S: Source, K: Sink>(
     alloc: Global,
-    session: &mut Session,
+    progress: &mut Progress,
     world: &mut ScriptedWorld,
     contexts: &[WasiSocketsCtx],
     limit: u32,
@@ -78,12 +78,12 @@ fn show_lines<S: Source, K: Sink>(
 ) -> Result<Stop, RunError>
     requires open { (seen_by world.old).ended ≡ false }
     requires few { length contexts.now < 2 ^ 32 }
-    requires machine { session.old.machine ≡ first_state }
-    requires lines { session.old.lines ≡ 0 }
+    requires machine { progress.old.machine ≡ first_state }
+    requires lines { progress.old.lines ≡ 0 }
     ensures shown { LinesShown contexts.now limit
         (S.reading reader.old) (S.reading reader.new)
         (K.writing writer.old) (K.writing writer.new)
-        (seen_by world.old) (seen_by world.new) session.new.machine line.new.items (ended result) }
+        (seen_by world.old) (seen_by world.new) progress.new.machine line.new.items (ended result) }
     ensures halts { IfErr result IsHalt }
     ensures open { (seen_by world.new).ended ≡ false }
 {
@@ -92,17 +92,17 @@ fn show_lines<S: Source, K: Sink>(
         match lines.next(reader, line)? {
             NextLine::Whole => {}
             NextLine::End => return Ok(Stop::AllRead),
-            NextLine::Unfinished => return Ok(Stop::BadStep(session.lines + 1)),
+            NextLine::Unfinished => return Ok(Stop::BadStep(progress.lines + 1)),
             NextLine::TooLong => return Ok(Stop::TooLong),
             NextLine::Failed => return Ok(Stop::ReadFault),
         }
-        match do_line(alloc, session, world, contexts, line.as_slice())? {
+        match do_line(alloc, progress, world, contexts, line.as_slice())? {
             LineEnd::Answered(text) => put(writer, text.as_slice())?,
             LineEnd::Trapped(text) => {
                 put(writer, text.as_slice())?;
                 return Ok(Stop::Trapped);
             }
-            LineEnd::NoStep => return Ok(Stop::BadStep(session.lines + 1)),
+            LineEnd::NoStep => return Ok(Stop::BadStep(progress.lines + 1)),
         }
     }
 }
@@ -156,11 +156,11 @@ pub fn show_script<S: Source, K: Sink>(
     ensures ended { (seen_by world.new).ended ≡ true }
     ensures closed { IsFresh (seen_by world.old) → HasClosedAll (seen_by world.new) }
 {
-    let mut session = Session::new(alloc);
+    let mut progress = Progress::new(alloc);
     let mut line = Vec::new(alloc);
     let stop = show_lines(
         alloc,
-        &mut session,
+        &mut progress,
         world,
         contexts,
         limit,
@@ -168,7 +168,7 @@ pub fn show_script<S: Source, K: Sink>(
         writer,
         &mut line,
     );
-    session.finish(world);
+    progress.finish(world);
     let stop = stop?;
     let text = ending_text(alloc, stop, line.as_slice(), world.closed_after_end())?;
     put(writer, text.as_slice())?;

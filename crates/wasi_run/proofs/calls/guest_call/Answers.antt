@@ -81,7 +81,7 @@ pub returns-in-UdpGet-clause-asked : goal.returns-in-UdpGet-clause-asked
 returns-in-UdpGet-clause-asked g c = rw (c.in-UdpGet.is, ← c.udp_opt.ensures) (asks_answered (reply_of number_fields) _ _ c.get_option-told-in-UdpGet.ensures.asked c.reply_of-in-UdpGet.ensures)
 
 pub returns-in-UdpSet-clause-asked : goal.returns-in-UdpSet-clause-asked
-returns-in-UdpSet-clause-asked g c = rw c.in-UdpSet.is (asks_answered (reply_of no_values) _ _ c.set_udp-done.ensures.asked c.reply_of-in-UdpSet.ensures)
+returns-in-UdpSet-clause-asked g c = rw c.in-UdpSet.is (asks_answered (reply_of no_values) _ _ (rw (c.udp_setting.ensures.option, c.udp_setting.ensures.value) at c.set_option-done.ensures.asked) c.reply_of-in-UdpSet.ensures)
 
 pub returns-in-UdpStream-clause-asked : goal.returns-in-UdpStream-clause-asked
 returns-in-UdpStream-clause-asked g c = rw c.in-UdpStream.is (asks_answered (answer_reply_of pair_values c.args.ids.now.line) _ _ (rw c.requires.first at c.stream-answer.ensures.asked) (rw c.stream-answer.ensures.kept.ids at c.answer_reply-in-UdpStream.ensures))
@@ -179,6 +179,9 @@ returns-in-PipeContents-clause-asked g c = rw c.in-PipeContents.is (given_if (re
 pub returns-in-P3TcpCreate-clause-asked : goal.returns-in-P3TcpCreate-clause-asked
 returns-in-P3TcpCreate-clause-asked g c = rw c.in-P3TcpCreate.is (asks_answered (p3_reply number_fields) _ _ c.create-made.ensures.asked c.p3_reply.ensures)
 
+pub returns-in-P3TcpBind-clause-asked : goal.returns-in-P3TcpBind-clause-asked
+returns-in-P3TcpBind-clause-asked g c = rw c.in-P3TcpBind.is (asks_answered (p3_answer_reply no_values c.args.ids.now.line) _ _ (rw c.requires.first at c.bind-answer.ensures.asked) (rw c.bind-answer.ensures.kept.ids at c.p3_answer_reply.ensures))
+
 pub returns-in-P3TcpLocalAddress-clause-asked : goal.returns-in-P3TcpLocalAddress-clause-asked
 returns-in-P3TcpLocalAddress-clause-asked g c = rw c.in-P3TcpLocalAddress.is (asks_answered (p3_reply address_values) _ _ c.get_local_address-told.ensures.asked c.p3_reply-in-P3TcpLocalAddress.ensures)
 
@@ -198,7 +201,10 @@ pub returns-in-P3TcpSet-clause-asked : goal.returns-in-P3TcpSet-clause-asked
 returns-in-P3TcpSet-clause-asked g c = rw c.in-P3TcpSet.is (asks_answered (p3_reply no_values) _ _ c.set_p3-done.ensures.asked c.p3_reply-in-P3TcpSet.ensures)
 
 pub returns-in-P3UdpCreate-clause-asked : goal.returns-in-P3UdpCreate-clause-asked
-returns-in-P3UdpCreate-clause-asked g c = rw c.in-P3UdpCreate.is (asks_answered (p3_answer_reply number_fields c.args.ids.now.line) _ _ (rw c.requires.first at c.create-answer.ensures.asked) (rw c.create-answer.ensures.kept.ids at c.p3_answer_reply.ensures))
+returns-in-P3UdpCreate-clause-asked g c = rw c.in-P3UdpCreate.is (asks_answered (p3_answer_reply number_fields c.args.ids.now.line) _ _ (rw c.requires.first at c.create-answer.ensures.asked) (rw c.create-answer.ensures.kept.ids at c.p3_answer_reply-in-P3UdpCreate.ensures))
+
+pub returns-in-P3UdpBind-clause-asked : goal.returns-in-P3UdpBind-clause-asked
+returns-in-P3UdpBind-clause-asked g c = rw c.in-P3UdpBind.is (asks_answered (p3_answer_reply no_values c.args.ids.now.line) _ _ (rw c.requires.first at c.bind-answer-in-P3UdpBind.ensures.asked) (rw c.bind-answer-in-P3UdpBind.ensures.kept.ids at c.p3_answer_reply-in-P3UdpBind.ensures))
 
 pub returns-in-P3UdpDisconnect-clause-asked : goal.returns-in-P3UdpDisconnect-clause-asked
 returns-in-P3UdpDisconnect-clause-asked g c = rw c.in-P3UdpDisconnect.is (asks_answered (p3_reply no_values) _ _ c.disconnect-done.ensures.asked c.p3_reply-in-P3UdpDisconnect.ensures)
@@ -216,4 +222,4 @@ pub returns-in-P3UdpGet-clause-asked : goal.returns-in-P3UdpGet-clause-asked
 returns-in-P3UdpGet-clause-asked g c = rw (c.in-P3UdpGet.is, ← c.udp_opt-in-P3UdpGet.ensures) (asks_answered (p3_reply number_fields) _ _ c.get_option-told-in-P3UdpGet.ensures.asked c.p3_reply-in-P3UdpGet.ensures)
 
 pub returns-in-P3UdpSet-clause-asked : goal.returns-in-P3UdpSet-clause-asked
-returns-in-P3UdpSet-clause-asked g c = rw c.in-P3UdpSet.is (asks_answered (p3_reply no_values) _ _ c.set_p3_udp-done.ensures.asked c.p3_reply-in-P3UdpSet.ensures)
+returns-in-P3UdpSet-clause-asked g c = rw c.in-P3UdpSet.is (asks_answered (p3_reply no_values) _ _ (rw (c.udp_setting-in-P3UdpSet.ensures.option, c.udp_setting-in-P3UdpSet.ensures.value) at c.set_option-done-in-P3UdpSet.ensures.asked) c.p3_reply-in-P3UdpSet.ensures)

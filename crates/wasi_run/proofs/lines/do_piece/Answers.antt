@@ -10,7 +10,7 @@ use Rattle.wasi_run.proofs.lines.do_piece.Goals as goal
 use Rattle.wasi_run.proofs.lines.do_piece.Goals.{In-AllDone}
 
 -- the lines after the first, which was done
-others : (g : Over) (c : In-AllDone g) {w_new : Seen} {k_new : Writing} {outcome : Result LinesEnd RunError} {last : Machine} → LinesRan c.args.contexts.now (g.W.World.seen c.do_line.new.world) w_new (g.K.Sink.writing c.do_line.new.writer) k_new c.do_line.new.session.machine (c.do_line.new.session.lines + 1) (lines_of (drop (c.in-Some.end + 1) c.args.piece.now)) outcome last → LinesRan c.args.contexts.now (g.W.World.seen c.args.world.now) w_new (g.K.Sink.writing c.args.writer.now) k_new c.args.session.now.machine (c.args.session.now.lines + 1) (lines_from c.args.line.now.items c.args.piece.now) outcome last
+others : (g : Over) (c : In-AllDone g) {w_new : Seen} {k_new : Writing} {outcome : Result LinesEnd RunError} {last : Machine} → LinesRan c.args.contexts.now (g.W.World.seen c.do_line.new.world) w_new (g.K.Sink.writing c.do_line.new.writer) k_new c.do_line.new.progress.machine (c.do_line.new.progress.lines + 1) (lines_of (drop (c.in-Some.end + 1) c.args.piece.now)) outcome last → LinesRan c.args.contexts.now (g.W.World.seen c.args.world.now) w_new (g.K.Sink.writing c.args.writer.now) k_new c.args.progress.now.machine (c.args.progress.now.lines + 1) (lines_from c.args.line.now.items c.args.piece.now) outcome last
 others g c k =
     piece_then (piece_cut c.args.line.now.items c.args.piece.now c.in-Some.end c.in-Some.ensures) (rw (c.as_slice.ensures.value, c.in_ok-extend_from_slice-2.ensures.items, c.in_ok-do_line.was, c.in-AllDone.is) at c.do_line.ensures.ran) (ap (λ n. n + 1) (c.do_line.ensures.count (c.in_ok-do_line.was ∙ ap Ok c.in-AllDone.is))) k
 

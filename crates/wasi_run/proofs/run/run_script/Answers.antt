@@ -1,6 +1,6 @@
 use Rattle.wasi_run.proofs.Completes.{completes}
 use Rattle.wasi_run.proofs.CauseLaws.{reads_all, stops_at_trap, stops_at_bad_step, stops_too_long, stops_at_read_fault, stops_at_write_fault, stops_for_memory}
-use Rattle.wasi_run.proofs.Headline.{begins_run, runs_licensed, whole_at_ok, over_open, has_closed}
+use Rattle.wasi_run.proofs.Headline.{begins_run, runs_licensed, whole_at_ok, over_open, has_closed, has_closed_each}
 use Rattle.wasi_run.proofs.run.run_script.Goals as goal
 
 pub finish-requires : goal.finish-requires
@@ -44,3 +44,6 @@ returns-clause-memory g c = λ e. stops_for_memory (rw e at (returns-clause-ran 
 
 pub returns-clause-closed : goal.returns-clause-closed
 returns-clause-closed g c = has_closed c.run_lines-result.ensures c.finish.ensures.closed
+
+pub returns-clause-each : goal.returns-clause-each
+returns-clause-each g c = has_closed_each c.run_lines-result.ensures c.finish.ensures.each

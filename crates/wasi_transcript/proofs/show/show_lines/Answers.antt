@@ -107,7 +107,7 @@ pub overflow_add-result-in-NoStep : goal.overflow_add-result-in-NoStep
 overflow_add-result-in-NoStep g c =
     let k = rw c.in-NoStep.is at c.in_ok-text.ensures.done in
     let f = line_fits c.ranges.limit.fits c.lines.invariant.between (rw c.in-Whole.is at c.in_ok-next.ensures) in
-    let e = ap (λ s. s.lines) k.session in omega (arith, f, e)
+    let e = ap (λ s. s.lines) k.progress in omega (arith, f, e)
 
 pub returns-in-NoStep-clause-shown : goal.returns-in-NoStep-clause-shown
 returns-in-NoStep-clause-shown g c =
@@ -115,4 +115,4 @@ returns-in-NoStep-clause-shown g c =
     let s = at_line c.lines.invariant.between r in
     let w = within_limit c.lines.invariant.between r in
     let k = rw (c.in-NoStep.is, c.as_slice.ensures.value) at c.in_ok-text.ensures.done in
-    rw (k.session, k.same) (line_is_none s k.none w)
+    rw (k.progress, k.same) (line_is_none s k.none w)

@@ -6,7 +6,7 @@ use Rattle.wasi_transcript.proofs.show.show_lines.Given as goal
 abbrev pub invariant-lines : goal.invariant-lines
 invariant-lines g l = record {
   open_world : (seen_by l.world).ended ≡ false;
-  between : Between l.contexts l.fn.limit (g.S.Source.reading l.fn.reader) (g.S.Source.reading l.reader) (g.K.Sink.writing l.fn.writer) (g.K.Sink.writing l.writer) (seen_by l.fn.world) (seen_by l.world) l.session l.lines;
+  between : Between l.contexts l.fn.limit (g.S.Source.reading l.fn.reader) (g.S.Source.reading l.reader) (g.K.Sink.writing l.fn.writer) (g.K.Sink.writing l.writer) (seen_by l.fn.world) (seen_by l.world) l.progress l.lines;
 }
 
 abbrev pub decreases-lines : goal.decreases-lines

@@ -1,11 +1,12 @@
-//! A run, step by step: an embedder makes a guest's calls through a [`Session`], one after another.
+//! A run, step by step. It does no more than a step: whoever runs several ends with a trap, or out
+//! of memory.
 
 ghost use Rattle.std.specs.Prelude.{◌≡◌, ◌+◌, ◌<◌, ◌^◌, false, true};
 ghost use Rattle.wasi_world.specs.Asks.{AsksFor};
 ghost use Rattle.wasi_host.specs.Machine.{first_state};
 ghost use Rattle.wasi_host.specs.KnownSides.{KnowsSides};
 ghost use Rattle.wasi_records.specs.Sides.{ClosesAll};
-ghost use Rattle.wasi_records.specs.Closing.{AsksNothing};
+ghost use Rattle.wasi_records.specs.Closing.{AsksNothing, HasClosedEach};
 ghost use Rattle.wasi_machine.specs.Machine.{machine_asks};
 
 use crate::calls::do_step;
@@ -17,18 +18,18 @@ use wasi_world::{WasiSocketsCtx, World};
 /// The host's state behind a guest's calls, and how many steps it has done. Each step has the
 /// number of its line, counted from 1, which names the operations that it begins.
 #[derive(Drop)]
-pub struct Session {
+pub struct Progress {
     pub machine: Machine,
     pub lines: u32,
 }
 
-impl Session {
-    /// A session with no handle, before its first step. Takes no memory.
-    pub fn new(alloc: Global) -> Session
+impl Progress {
+    /// No handle, before the first step. Takes no memory.
+    pub fn new(alloc: Global) -> Progress
         ensures machine { result.machine ≡ first_state }
         ensures lines { result.lines ≡ 0 }
     {
-        Session {
+        Progress {
             machine: Machine::new(alloc),
             lines: 0,
         }
@@ -38,7 +39,7 @@ impl Session {
     /// makes and for its reply.
     ///
     /// After a trap, or out of memory, no more steps should be done, but
-    /// [`finish`](Session::finish) should.
+    /// [`finish`](Progress::finish) should.
     pub fn step<W: World>(
         &mut self,
         alloc: Global,
@@ -67,6 +68,8 @@ impl Session {
         ensures ended { (W.seen world.new).ended ≡ true }
         ensures closed { KnowsSides (W.seen world.old) self.machine.store
             → ClosesAll (W.seen world.old) (W.seen world.new) }
+        ensures each { KnowsSides (W.seen world.old) self.machine.store
+            → HasClosedEach (W.seen world.new) (W.closed world.new) }
     {
         world.end();
         self.machine.store.close_all(world);
