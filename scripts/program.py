@@ -1,10 +1,10 @@
 """Runs a program of this repository in the folder that it is called from.
 
-usage: program.py NAME CRATE MINUTES [WORD..]     (the wrappers ./transcripts, ./sockets and ./live call it)
+usage: program.py NAME CRATE MINUTES [WORD..]     (the wrappers at the top, such as ./sockets, call it)
 
 The proved program is run where it was built and is up to date. `--build` as the first word proves and builds it.
 Otherwise the program runs unproved, by `rt try`: no contract is checked, its output comes when it ends, and it may
-write 1 MiB at most. What has to answer while it runs is not run so.
+write 1 MiB at most. What has to answer while it runs is not run so, nor what writes a file.
 """
 
 import os
@@ -21,6 +21,8 @@ FILES = ("scenario.txt", "rules.txt", "log.txt")
 # What answers while it runs: a copy, and programs over sockets of this machine.
 STREAMING = {("sockets", "pump")}
 ALWAYS_STREAMING = {"live"}
+# What writes a file, which an unproved run would write elsewhere.
+WRITING = {("recorder", "record")}
 # The lines of `rt try` itself on standard error.
 OF_TRY = re.compile(r"(checked|races|interpreter|run)[=:].*|call=.*")
 ENDED = re.compile(r"^run=ended status=(\d+) ", re.M)
@@ -138,6 +140,8 @@ def main(name, crate, minutes, *words):
             return
     elif not built and answers_while_it_runs(name, words):
         stop(f"not proved here, and of no use unproved, since its output would come at its end; {builds}")
+    elif not built and (name, *words[:1]) in WRITING:
+        stop(f"not proved here, and of no use unproved, since the file that it writes would be lost; {builds}")
     elif not built:
         print(f"not proved here; {builds}", file=sys.stderr, flush=True)
         try_unproved(crate, words)

@@ -1,3 +1,4 @@
 pub mod Status
 pub mod Scenario
 pub mod Choices
+pub mod Reading

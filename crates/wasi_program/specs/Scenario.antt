@@ -1,12 +1,13 @@
 -- How a scenario is read from a source, and what it is in its grammar.
-use Rattle.std.specs.Prelude.{◌≡◌, ℕ, ◌+◌, ◌≤◌, ◌<◌, ◌^◌, ◌⊎◌, List, Ok, Err, length}
+use Rattle.std.specs.Prelude.{◌≡◌, ℕ, ◌<◌, ◌^◌, List, Ok, Err, length}
 use Rattle.wasi_world.specs.declared.outcome.WasiSocketsCtx.{WasiSocketsCtx}
 use Rattle.wasi_world.specs.Contexts.{AreNumbered}
 use Rattle.wasi_world.specs.Seen.{Plan}
-use Rattle.world_io.specs.Io.{Reading, Gave, HasEnded}
+use Rattle.world_io.specs.Io.{Reading}
 use Rattle.world_scripted.specs.declared.scripted.ScriptedWorld.{ScriptedWorld}
 use Rattle.world_scripted.specs.Scenario.{scenario_of}
 use Rattle.world_scripted.specs.Scripted.{seen_by, at_start}
+use Rattle.wasi_program.specs.Reading.{ReadWithin}
 use Rattle.wasi_program.specs.declared.scenario.Scenario.{Scenario}
 use Rattle.wasi_program.specs.declared.scenario.Scenario.TheVariants.{Planned, BadLine}
 
@@ -14,10 +15,9 @@ use Rattle.wasi_program.specs.declared.scenario.Scenario.TheVariants.{Planned, B
 abbrev pub most_scenario : ℕ
 most_scenario = 1048576
 
--- The scenario was read to its end, or to one byte past the most.
-pub record ReadScenario (before after : Reading) (text : List ℕ) : Type 0 where
-  pub gave : Gave before text after
-  pub whole : (HasEnded after × (length text ≤ most_scenario)) ⊎ (length text ≡ most_scenario + 1)
+-- the scenario was read to its end, or to one byte past the most
+abbrev pub ReadScenario : Reading → Reading → List ℕ → Type 0
+ReadScenario before after text = ReadWithin most_scenario before after text
 
 -- A world that goes by the scenario's plan, before its first call, and the scenario's contexts.
 pub record IsPlanned (text : List ℕ) (world : ScriptedWorld) (contexts : List WasiSocketsCtx) : Type 0 where

@@ -1,8 +1,9 @@
 //! What several programs share: how they end, what they do with `--help` and `--version`, where
-//! their scenario is, and how it is read.
+//! their scenario is, and how it and other inputs are read.
 #![tactic(auto)]
 
 pub mod choices;
+pub mod reading;
 pub mod scenario;
 pub mod status;
 

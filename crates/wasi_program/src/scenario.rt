@@ -4,6 +4,8 @@ ghost use Rattle.std.specs.Prelude.{◌≡◌, IfOk};
 ghost use Rattle.wasi_world.specs.Seen.{Rose};
 ghost use Rattle.wasi_program.specs.Scenario.{ReadScenario, IsParsed};
 
+pub use crate::reading::Unread;
+use crate::reading::read_within;
 use std::alloc::{AllocError, Global};
 use wasi_world::WasiSocketsCtx;
 use world_io::Source;
@@ -11,18 +13,6 @@ use world_scripted::{ScenarioError, ScriptedWorld};
 
 /// A scenario has at most so many bytes.
 const MOST_SCENARIO: usize = 1_048_576;
-
-/// How many bytes are read at a time.
-const PIECE_SIZE: usize = 4096;
-
-/// Why a scenario wasn't read.
-#[derive(Clone, Copy, Debug, PartialEq, Eq)]
-pub enum Unread {
-    /// A read failed.
-    Fault,
-    /// Memory ran out.
-    Memory(AllocError),
-}
 
 /// Reads a scenario to its end, or to one byte past the 1,048,576 that it may have. Takes memory
 /// for its bytes.
@@ -32,21 +22,7 @@ pub fn read_scenario<C: Source>(alloc: Global, scenario: &mut C) -> Result<Vec<u
     ensures fault { result ≡ Err Unread.Fault
         → Rose (C.reading scenario.old).faults (C.reading scenario.new).faults }
 {
-    let mut text = Vec::new(alloc);
-    let mut piece = [0u8; PIECE_SIZE];
-    'reading: while text.len() <= MOST_SCENARIO {
-        let room = (MOST_SCENARIO + 1 - text.len()).min(PIECE_SIZE);
-        let Ok(count) = scenario.read(&mut piece[..room]) else {
-            return Err(Unread::Fault);
-        };
-        if count == 0 {
-            return Ok(text);
-        }
-        let Ok(()) = text.extend_from_slice(&piece[..count]) else {
-            return Err(Unread::Memory(AllocError));
-        };
-    }
-    Ok(text)
+    read_within(alloc, scenario, MOST_SCENARIO)
 }
 
 /// What a scenario plans and its contexts, or the first line that isn't in its grammar.

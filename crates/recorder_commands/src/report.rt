@@ -1,0 +1,53 @@
+//! What a program prints on standard error when it stops at a log.
+
+ghost use Rattle.std.specs.Prelude.{◌≡◌};
+ghost use Rattle.std.specs.Process.{exit_status};
+
+use crate::log::log_path;
+use std::process::ExitCode;
+use std::rt::Files;
+use wasi_console::line_of;
+use world_io::FileSource;
+
+/// What a line of a log may be.
+const LOG_LINES: &str =
+    "`context yes yes yes`, an entry such as `3 0 bind 2 0 4 127 0 0 1 80 = done`, or the last line `end`, ended by a newline, in a file of at most 16777216 bytes";
+
+/// Prints that the log has this bad line. Returns the status as the program's.
+pub fn end_at_log_line<R: Eprint + Files>(rt: &R, number: u8, line: u32) -> ExitCode
+    ensures { exit_status result ≡ number }
+{
+    let path = log_path();
+    let printed = match line_of(FileSource::open(rt, path), u64::from(line)) {
+        Some(front) => eprintln!(rt;
+            "status {number} line {line}\nline {line} of {path} is `{front}`; expected {LOG_LINES}"
+        ),
+        None => eprintln!(rt;
+            "status {number} line {line}\nline {line} of {path} is not {LOG_LINES}"
+        ),
+    };
+    let _ = printed;
+    ExitCode::from(number)
+}
+
+/// Prints that the log at this path can't be read or written. Returns the status as the program's.
+pub fn end_without_log<R: Eprint>(rt: &R, number: u8, path: &str) -> ExitCode
+    ensures { exit_status result ≡ number }
+{
+    let printed = eprintln!(rt; "status {number}\n{path} can't be opened, read or written");
+    let _ = printed;
+    ExitCode::from(number)
+}
+
+/// Prints that the run isn't the recorded one from this entry on. Returns the status as the
+/// program's.
+pub fn end_at_difference<R: Eprint>(rt: &R, number: u8, place: u32) -> ExitCode
+    ensures { exit_status result ≡ number }
+{
+    let path = log_path();
+    let printed = eprintln!(rt;
+        "status {number} line {place}\nthe script doesn't ask next what {path} has as entry {place}, counted from 0, or one of the two ends there; nothing was written"
+    );
+    let _ = printed;
+    ExitCode::from(number)
+}
