@@ -1,7 +1,9 @@
 -- Datagrams that are received in turn: a datagram more, and how their list ends.
-use Rattle.std.proofs.Common.{◌≡◌, true, false, ◌==◌, ℕ, zero, suc, ◌+◌, ◌-◌, ◌<◌, ◌≤◌, List, [], ◌∷◌, ◌++◌, length, refl, sym, subst, arith}
-use Rattle.std.specs.Prelude.{Result, Ok, Err, OnErr}
+use Rattle.std.proofs.Common.{◌≡◌, true, false, ◌==◌, ℕ, zero, suc, ◌+◌, ◌-◌, ◌<◌, ◌≤◌, List, [], ◌∷◌, ◌++◌, length, min, Option, Some, None, refl, sym, ap, subst, inl, inr, arith}
+use Rattle.std.specs.Prelude.{Result, Ok, Err, OnErr, IsErrAnd}
+use Rattle.std.specs.declared.alloc.AllocError.{AllocError}
 use Rattle.std.proofs.lemmas.Bool.Decides.{nat_tests}
+use Rattle.wasi_addr.specs.declared.address.IpSocketAddress.{IpSocketAddress}
 use Rattle.wasi_addr.specs.declared.code.ErrorCode.{ErrorCode}
 use Rattle.wasi_world.specs.declared.datagram.IncomingDatagram.{IncomingDatagram}
 use Rattle.wasi_world.specs.declared.ids.Ids.{Ids}
@@ -10,14 +12,18 @@ use Rattle.wasi_world.specs.declared.outcome.Answer.TheVariants.{Ready, Pending}
 use Rattle.wasi_world.specs.declared.outcome.Refusal.{Refusal}
 use Rattle.wasi_world.specs.declared.outcome.Refusal.TheVariants as refusal
 use Rattle.wasi_world.specs.Seen.{Seen}
+use Rattle.wasi_world.specs.Operation.{Operation}
 use Rattle.wasi_world.specs.Asks.{Asks, Give, bind, Reaches, Started, outcome}
 use Rattle.wasi_world.proofs.Walks.{reaches_all, reaches_in, reaches_on, reaches_then}
 use Rattle.wasi_udp.specs.Shape.{Socket}
 use Rattle.wasi_records.specs.declared.datagrams.Incoming.{Incoming}
 use Rattle.wasi_records.specs.declared.datagrams.Receiving.{Receiving}
 use Rattle.wasi_records.specs.declared.datagrams.Receiving.TheVariants as receiving
+use Rattle.wasi_records.specs.declared.udp.OpenUdp.{OpenUdp}
+use Rattle.wasi_streams.specs.HostError.{of_refusal as error_of}
+use Rattle.wasi_records.specs.Stops.{SocketError, host_outcome}
 use Rattle.wasi_records.specs.Names.{RoseUpTo, next_name}
-use Rattle.wasi_records.specs.Receiving.{LosesTaken, fetch_names, receive_next_asks, receive_after, receive_all, received_told}
+use Rattle.wasi_records.specs.Receiving.{LosesTaken, StreamLost, StreamLoses, StaysPending, fetch_names, receive_next_asks, receive_after, receive_all, receive_settled, receive_wants, received_told}
 
 -- one place is gone, and so many are left
 one_less : (n i : ℕ) → i < n → n - i ≡ suc (n - (i + 1))
@@ -123,7 +129,7 @@ pub took_one : (first now next : Ids) (most rounds : ℕ) → first.next_part �
 took_one first now next most rounds forth part less kept more = record { kept = omega (arith, forth, kept); few = omega (arith, part, less, more) }
 
 -- == what is lost for lack of memory
-none_lost_yet : (most room : ℕ) (ids : Ids) (x : Socket × Incoming) (s : Seen) → LosesTaken most room ids x s s
+none_lost_yet : (most room : ℕ) (ids : Ids) (x : Socket × Incoming) (s : Seen) → LosesTaken most room ids x x s s
 none_lost_yet most room ids x s = record {
   lost = [];
   left = most;
@@ -133,12 +139,48 @@ none_lost_yet most room ids x s = record {
   seen = s;
   took = reaches_all (receive_all most room ids [] x) s;
   began = record { rest = receive_next_asks (next_name ids) x; reached = reaches_all (receive_next_asks (next_name ids) x) s };
+  stays = inl refl;
 }
 
-pub none_lost : {T : Type 0} (most room : ℕ) (ids : Ids) (x : Socket × Incoming) (s : Seen) (r : Result T Refusal) → OnErr (outcome r) (LosesTaken most room ids x s s)
+pub none_lost : {T : Type 0} (most room : ℕ) (ids : Ids) (x : Socket × Incoming) (s : Seen) (r : Result T Refusal) → OnErr (outcome r) (LosesTaken most room ids x x s s)
 none_lost most room ids x s (Ok t) = tt
 none_lost most room ids x s (Err (refusal.Code c)) = tt
 none_lost most room ids x s (Err (refusal.Memory e)) = none_lost_yet most room ids x s
 
-pub taken_lost : (most room left space : ℕ) (ids names : Ids) (lost : List IncomingDatagram) (x met : Socket × Incoming) (s t u : Seen) → Reaches (receive_all most room ids [] x) (receive_all left space names lost met) s t → Started (receive_next_asks (next_name names) met) t u → LosesTaken most room ids x s u
-taken_lost most room left space ids names lost x met s t u took began = record { lost = lost; left = left; space = space; names = names; met = met; seen = t; took = took; began = began }
+pub taken_lost : (most room left space : ℕ) (ids names : Ids) (lost : List IncomingDatagram) (x met now : Socket × Incoming) (s t u : Seen) → Reaches (receive_all most room ids [] x) (receive_all left space names lost met) s t → Started (receive_next_asks (next_name names) met) t u → StaysPending met.1 now.1
+    → LosesTaken most room ids x now s u
+taken_lost most room left space ids names lost x met now s t u took began stays = record { lost = lost; left = left; space = space; names = names; met = met; seen = t; took = took; began = began; stays = stays }
+
+-- the next one's receive is kept where memory ran out in its poll
+pub settled_stays : (op : Operation) (inc now : Incoming) (polled : Result (Answer (List ℕ × IpSocketAddress)) Refusal) (r : Result (Unit {0}) AllocError) → inc.receiving ≡ receiving.Nothing → r ≡ receive_wants polled → now ≡ receive_settled op inc polled → OnErr r (StaysPending inc now)
+settled_stays op inc now (Ok (Ready d)) r n w e = rw w tt
+settled_stays op inc now (Ok Pending) r n w e = rw w tt
+settled_stays op inc now (Err (refusal.Code c)) r n w e = rw w tt
+settled_stays op inc now (Err (refusal.Memory d)) r n w e = rw (w, e) (inr (n, refl, refl))
+
+-- so it is where memory ran out
+pub on_err : {T E A : Type 0} (r : Result T E) → A → OnErr r A
+on_err (Ok t) h = tt
+on_err (Err e) h = h
+
+pub err_then : {T E A B : Type 0} (r : Result T E) → (A → B) → OnErr r A → OnErr r B
+err_then (Ok t) f h = tt
+err_then (Err e) f h = f h
+
+-- so it is for the socket of the stream
+pub stream_lost : (T : Type 0) {U : Type 0} (s t : Seen) (most : ℕ) (ids : Ids) (old : OpenUdp) (stream left : Incoming) (inner : Socket) (x : Refusal) (r : Result U SocketError) → IsErrAnd r (λ y. y ≡ error_of x) → old.incoming ≡ Some stream
+    → OnErr (outcome {T = T} (Err x)) (LosesTaken (min most 16) 65536 ids (old.inner, stream) (inner, left) s t)
+    → OnErr (host_outcome r) (StreamLoses most ids old (record old { inner = inner; incoming = Some left }) old.incoming s t)
+stream_lost T s t most ids old stream left inner x (Ok y) h e l = absurd h
+stream_lost T {U} s t most ids old stream left inner (refusal.Code c) (Err y) h e l =
+    let P : SocketError → Type 0 = λ z. OnErr (host_outcome {T = U} (Err z)) (StreamLoses most ids old (record old { inner = inner; incoming = Some left }) old.incoming s t) in subst P (sym h) tt
+stream_lost T {U} s t most ids old stream left inner (refusal.Memory d) (Err y) h e l =
+    let now : OpenUdp = record old { inner = inner; incoming = Some left } in
+    let P : SocketError → Type 0 = λ z. OnErr (host_outcome {T = U} (Err z)) (StreamLoses most ids old now old.incoming s t) in
+    let lost : StreamLost most ids old now stream s t = record { left = left; loses = l; rest = refl } in
+    subst P (sym h) (subst (λ (i : Option Incoming). StreamLoses most ids old now i s t) (sym e) lost)
+
+-- and where nothing was asked
+pub nothing_lost : (most : ℕ) (ids : Ids) (o : OpenUdp) (inc : Option Incoming) (s : Seen) → o.incoming ≡ inc → StreamLoses most ids o o inc s s
+nothing_lost most ids o None s e = (refl, refl)
+nothing_lost most ids o (Some stream) s e = record { left = stream; loses = none_lost_yet (min most 16) 65536 ids (o.inner, stream) s; rest = ap (λ (i : Option Incoming). let now : OpenUdp = record o { incoming = i } in now) e }

@@ -9,7 +9,7 @@ ghost use Rattle.wasi_records.specs.Receiving.{would_receive, is_receiving, rece
 ghost use Rattle.wasi_records.specs.Receiving.{fetch_names, taken, receive_next_asks, receive_all};
 ghost use Rattle.wasi_records.specs.Receiving.{receive_datagrams_asks, look_incoming, look_names};
 ghost use Rattle.wasi_records.specs.Receiving.{turn_receiving, turn_incoming, receive_settled};
-ghost use Rattle.wasi_records.specs.Receiving.{LosesTaken, receive_wants};
+ghost use Rattle.wasi_records.specs.Receiving.{LosesTaken, StreamLoses, StaysPending, receive_wants};
 ghost use Rattle.wasi_records.specs.Sides.{MakesNone};
 
 use crate::datagrams::{Incoming, PendingReceive, Receiving};
@@ -52,7 +52,8 @@ impl Receiving {
 }
 
 impl Incoming {
-    /// Begins a receive and polls it once, where none was begun.
+    /// Begins a receive and polls it once, where none was begun. Out of memory it wasn't begun, or
+    /// it stays in progress.
     fn fetch<W: World>(
         &mut self,
         world: &mut W,
@@ -65,6 +66,7 @@ impl Incoming {
             (socket.old, self.old)) (W.seen world.old) (W.seen world.new)
             (λ done. (socket.new, self.new)) result }
         ensures names { ids.new ≡ fetch_names self.old.receiving ids.old }
+        ensures stays { OnErr result (StaysPending self.old self.new) }
         ensures none { MakesNone (W.seen world.old) (W.seen world.new) }
         ensures side { socket.new.side ≡ socket.old.side }
     {
@@ -125,6 +127,7 @@ impl Incoming {
             (W.seen world.old) (W.seen world.new) (λ answer. (answer, (socket.new, self.new)))
             (outcome result) }
         ensures names { ids.new ≡ fetch_names self.old.receiving ids.old }
+        ensures stays { OnErr (outcome result) (StaysPending self.old self.new) }
         ensures none { MakesNone (W.seen world.old) (W.seen world.new) }
         ensures side { socket.new.side ≡ socket.old.side }
     {
@@ -154,11 +157,11 @@ impl Incoming {
         ensures line { ids.new.line ≡ ids.old.line }
         ensures parts { RoseUpTo most ids.old ids.new }
         ensures lost { OnErr (outcome result) (LosesTaken most 65536 ids.old (socket.old, self.old)
-            (W.seen world.old) (W.seen world.new)) }
+            (socket.new, self.new) (W.seen world.old) (W.seen world.new)) }
         ensures none { MakesNone (W.seen world.old) (W.seen world.new) }
         ensures side { socket.new.side ≡ socket.old.side }
     {
-        // Room for the list comes first, so that no datagram is lost for want of it.
+        // Room for the list comes first, so that no datagram is taken where there is none for it.
         let mut datagrams = Vec::with_capacity(alloc, most as usize)?;
         let mut room = ROOM;
         for _ in 0..most {
@@ -217,8 +220,11 @@ impl OpenUdp {
 
     /// Takes datagrams from the incoming stream (`incoming-datagram-stream.receive`): at most this
     /// many, at most 16, and until their lengths, with one more for each, reach 65,536. A code is
-    /// returned where no datagram comes before it. Takes memory for as many datagrams as it may
-    /// hand out, before the first.
+    /// returned where no datagram comes before it.
+    ///
+    /// Takes memory for as many datagrams as it may hand out, before the first. Out of memory later
+    /// on, the datagrams that this call took are lost, and no others; the next one's receive wasn't
+    /// begun, or it stays in progress.
     pub fn receive_datagrams<W: World>(
         &mut self,
         alloc: Global,
@@ -233,6 +239,8 @@ impl OpenUdp {
             (host_outcome result) }
         ensures line { ids.new.line ≡ ids.old.line }
         ensures parts { RoseUpTo 16 ids.old ids.new }
+        ensures lost { OnErr (host_outcome result) (StreamLoses most ids.old self.old self.new
+            self.old.incoming (W.seen world.old) (W.seen world.new)) }
         ensures none { MakesNone (W.seen world.old) (W.seen world.new) }
         ensures side { self.new.inner.side ≡ self.old.inner.side }
     {

@@ -2,6 +2,7 @@ use Rattle.wasi_world.proofs.Walks.{asks_at, asks_exit, asks_then}
 use Rattle.wasi_records.specs.Names.{next_name}
 use Rattle.wasi_records.specs.Receiving.{fetch_asks}
 use Rattle.wasi_records.proofs.ReceiveCalms.{receive_begins_none, receive_makes_none}
+use Rattle.wasi_records.proofs.ReceiveLists.{settled_stays}
 use Rattle.wasi_records.proofs.Receives.{receive_polled}
 use Rattle.wasi_records.proofs.SideCounts.{none_then}
 use Rattle.wasi_records.proofs.datagrams.Incoming.fetch.Goals as goal
@@ -22,3 +23,6 @@ pub returns-in_ok-receive-in-Nothing-clause-none : goal.returns-in_ok-receive-in
 returns-in_ok-receive-in-Nothing-clause-none g c =
     none_then (receive_begins_none c.begin.result c.args.socket.now _ c.in_ok-receive-in-Nothing.ensures.asked)
     (receive_makes_none c.args.self.now c.in_ok-receive-in-Nothing.receive c.poll-polled.new.self c.poll-polled.result c.poll-polled.ensures.before (c.poll-polled.ensures.polled c.in_ok-receive-in-Nothing.ensures.going))
+
+pub returns-in_ok-receive-in-Nothing-clause-stays : goal.returns-in_ok-receive-in-Nothing-clause-stays
+returns-in_ok-receive-in-Nothing-clause-stays g c = settled_stays c.poll-polled.new.self c.args.self.now c.settle.new.self c.poll-polled.result c.settle.result c.in-Nothing.is c.settle.ensures.told c.settle.ensures.settled

@@ -78,7 +78,7 @@ pub returns-in_err-datagrams-clause-lost : goal.returns-in_err-datagrams-clause-
 returns-in_err-datagrams-clause-lost g c = none_lost _ _ _ _ _ c.from_residual.result
 
 pub returns-in-Err-Memory-clause-lost : goal.returns-in-Err-Memory-clause-lost
-returns-in-Err-Memory-clause-lost g c = taken_lost _ _ _ _ _ _ _ _ _ _ _ _ c.loop.invariant.reached (rw c.in-Err-Memory.field-0-is at c.in-Err-Memory.ensures.asked.err)
+returns-in-Err-Memory-clause-lost g c = taken_lost _ _ _ _ _ _ _ _ _ _ _ _ _ c.loop.invariant.reached (rw c.in-Err-Memory.field-0-is at c.in-Err-Memory.ensures.asked.err) (rw c.in-Err-Memory.field-0-is at c.in-Err-Memory.ensures.stays)
 
 pub returns-then-is_empty-clause-parts : goal.returns-then-is_empty-clause-parts
 returns-then-is_empty-clause-parts g c = took_one c.args.ids.now c.loop.ids c.receive_next.new.ids c.args.most c.loop.counter c.loop.invariant.forth c.loop.invariant.part c.loop-test.true (name_kept c.loop.self.receiving c.loop.ids c.receive_next.new.ids c.receive_next.ensures.names) (name_more c.loop.self.receiving c.loop.ids c.receive_next.new.ids c.receive_next.ensures.names)

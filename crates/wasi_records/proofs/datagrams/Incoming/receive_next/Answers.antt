@@ -1,4 +1,5 @@
 use Rattle.wasi_world.proofs.Walks.{asks_end, refused_exit}
+use Rattle.wasi_records.proofs.ReceiveLists.{on_err}
 use Rattle.wasi_records.proofs.Receives.{taken_as}
 use Rattle.wasi_records.proofs.datagrams.Incoming.receive_next.Goals as goal
 
@@ -10,3 +11,6 @@ returns-in-Ok-clause-asked g c = asks_end _ c.in_ok-fetch.ensures.asked.ok (take
 
 pub returns-in-Err-clause-asked : goal.returns-in-Err-clause-asked
 returns-in-Err-clause-asked g c = asks_end _ c.in_ok-fetch.ensures.asked.ok (taken_as c.fetch.new.socket c.fetch.new.self _ _ c.in-Err.ensures)
+
+pub returns-in_err-fetch-clause-stays : goal.returns-in_err-fetch-clause-stays
+returns-in_err-fetch-clause-stays g c = on_err _ c.in_err-fetch.ensures.stays
