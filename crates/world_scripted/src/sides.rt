@@ -1,13 +1,14 @@
 //! What a scripted world knows of its network sockets: what the defaults of `local`, `peer` and
 //! `get-option` go by.
 
-ghost use Rattle.std.specs.Prelude.{◌≡◌, OnOk, OnErr, None};
+ghost use Rattle.std.specs.Prelude.{◌≡◌, OnOk, OnErr, None, Some};
 ghost use Rattle.std.specs.HashMap.{IsUnchanged};
 ghost use Rattle.wasi_addr.specs.Address.{wildcard};
 ghost use Rattle.wasi_world.specs.declared.call.Told.{Told};
 ghost use Rattle.wasi_world.specs.Sides.{unset, value_of, with_value, new_side, chosen_port};
 ghost use Rattle.wasi_world.specs.Sides.{with_port, bound, bound_anyway, default_local, connected};
-ghost use Rattle.wasi_world.specs.Sides.{disconnected, handed, with_option, change, sides_after};
+ghost use Rattle.wasi_world.specs.Sides.{disconnected, handed, with_option, change, changed};
+ghost use Rattle.wasi_world.specs.Sides.{sides_after};
 ghost use Rattle.world_scripted.specs.Known.{known};
 
 use std::alloc::AllocError;
@@ -201,6 +202,53 @@ pub fn peer_of(sides: &Sides, sock: Sock) -> Option<IpSocketAddress>
     known(sides, sock).peer
 }
 
+/// A bind of the network socket, and what is known of it then.
+fn bind_change(sides: &Sides, sock: Sock, addr: IpSocketAddress) -> Option<(Sock, Side)>
+    ensures { result ≡ Some (sock, bound (known sides.now sock) addr) }
+{
+    Some((sock, bound(known(sides, sock), addr)))
+}
+
+/// A connect of the network socket, and what is known of it then.
+fn connect_change(sides: &Sides, sock: Sock, addr: IpSocketAddress) -> Option<(Sock, Side)>
+    ensures { result ≡ Some (sock, connected (known sides.now sock) addr) }
+{
+    Some((sock, connected(known(sides, sock), addr)))
+}
+
+/// A send of the network socket, which binds it, and what is known of it then.
+fn send_change(sides: &Sides, sock: Sock) -> Option<(Sock, Side)>
+    ensures { result ≡ Some (sock, bound_anyway (known sides.now sock)) }
+{
+    Some((sock, bound_anyway(known(sides, sock))))
+}
+
+/// The connection that a listener hands over, and what is known of it then.
+fn hand_change(
+    sides: &Sides,
+    op: OpId,
+    listener: Sock,
+    peer: IpSocketAddress,
+) -> Option<(Sock, Side)>
+    ensures { result ≡ Some (op, handed (known sides.now listener) peer) }
+{
+    Some((op, handed(known(sides, listener), peer)))
+}
+
+/// A disconnect of the network socket, and what is known of it then.
+fn disconnect_change(sides: &Sides, sock: Sock) -> Option<(Sock, Side)>
+    ensures { result ≡ Some (sock, disconnected (known sides.now sock)) }
+{
+    Some((sock, disconnected(known(sides, sock))))
+}
+
+/// An option of the network socket that is set, and what is known of it then.
+fn option_change(sides: &Sides, sock: Sock, option: Opt, value: u64) -> Option<(Sock, Side)>
+    ensures { result ≡ Some (sock, with_option (known sides.now sock) option value) }
+{
+    Some((sock, with_option(known(sides, sock), option, value)))
+}
+
 /// The network socket that a call changes once it is answered done, and what is known of that
 /// network socket then.
 fn change(sides: &Sides, op: OpId, call: &Call) -> Option<(Sock, Side)>
@@ -210,22 +258,32 @@ fn change(sides: &Sides, op: OpId, call: &Call) -> Option<(Sock, Side)>
         Call::TcpCreate { family, .. } | Call::UdpCreate { family, .. } => {
             Some((op, new_side(*family)))
         }
-        Call::Bind { sock, addr } | Call::UdpBind { sock, addr } => {
-            Some((*sock, bound(known(sides, *sock), *addr)))
-        }
+        Call::Bind { sock, addr } | Call::UdpBind { sock, addr } => bind_change(
+            sides, *sock, *addr,
+        ),
         Call::Connect { sock, addr } | Call::UdpConnect { sock, addr } => {
-            Some((*sock, connected(known(sides, *sock), *addr)))
+            connect_change(sides, *sock, *addr)
         }
-        Call::Send { sock, .. } => Some((*sock, bound_anyway(known(sides, *sock)))),
-        Call::Hand { sock, peer } => Some((op, handed(known(sides, *sock), *peer))),
-        Call::UdpDisconnect { sock } => Some((*sock, disconnected(known(sides, *sock)))),
+        Call::Send { sock, .. } => send_change(sides, *sock),
+        Call::Hand { sock, peer } => hand_change(sides, op, *sock, *peer),
+        Call::UdpDisconnect { sock } => disconnect_change(sides, *sock),
         Call::SetOption {
             sock,
             option,
             value,
-        } => Some((*sock, with_option(known(sides, *sock), *option, *value))),
+        } => option_change(sides, *sock, *option, *value),
         _ => None,
     }
+}
+
+/// Keeps what is known of a network socket; takes memory where it is new.
+fn put(sides: &mut Sides, sock: Sock, side: Side) -> Result<(), AllocError>
+    ensures ok { OnOk result ((other : OpId) → known sides.new other
+        ≡ changed (known sides.old) (Some (sock, side)) other) }
+    ensures err { OnErr result (IsUnchanged sides.old sides.new) }
+{
+    sides.insert((sock.step, sock.part), side)?;
+    Ok(())
 }
 
 /// Keeps what a call that is done changed; takes memory where its network socket is new.
@@ -237,8 +295,7 @@ fn keep_done(sides: &mut Sides, op: OpId, call: &Call) -> Result<(), AllocError>
     let Some((sock, side)) = change(sides, op, call) else {
         return Ok(());
     };
-    sides.insert((sock.step, sock.part), side)?;
-    Ok(())
+    put(sides, sock, side)
 }
 
 /// Keeps what an answered call changed; takes memory where its network socket is new.
