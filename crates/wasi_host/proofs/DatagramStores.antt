@@ -1,5 +1,6 @@
 -- The calls on the datagram streams of a UDP socket: what they make of the store, and the network sockets that it knows.
 use Rattle.std.specs.Borrow.{MutBor}
+use Rattle.std.specs.Prelude.{OnErr}
 use Rattle.std.specs.declared.alloc.AllocError.{AllocError}
 use Rattle.std.proofs.Common.{◌≡◌, ℕ, Bool, true, false, not, ◌&&◌, List, Option, Some, None, Result, Ok, Err, refl, sym, ap, subst, ◌∙◌}
 use Rattle.wasi_world.specs.declared.ids.Ids.{Ids}
@@ -9,13 +10,14 @@ use Rattle.wasi_world.specs.Asks.{Asks, Give, AsksFor}
 use Rattle.wasi_world.specs.Seen.{Seen}
 use Rattle.wasi_records.specs.declared.datagrams.Outgoing.{Outgoing}
 use Rattle.wasi_jobs.specs.declared.job.HostJob.{HostJob}
+use Rattle.wasi_jobs.specs.declared.job.HostJob.TheVariants.{Receive}
 use Rattle.wasi_records.specs.declared.records.Record.{Record}
 use Rattle.wasi_host.specs.declared.store.StandingCall.{StandingCall}
 use Rattle.wasi_records.specs.declared.udp.OpenUdp.{OpenUdp}
-use Rattle.wasi_host.specs.DatagramCalls.{check_send_by, incoming_looked, with_receive}
-use Rattle.wasi_records.specs.Stops.{Trap}
+use Rattle.wasi_host.specs.DatagramCalls.{StoreLost, StoreLoses, check_send_by, incoming_looked, with_receive}
+use Rattle.wasi_records.specs.Stops.{SocketError, Trap, host_outcome}
 use Rattle.wasi_host.specs.Jobs.{jobs_with, with_job}
-use Rattle.wasi_records.specs.Receiving.{receives}
+use Rattle.wasi_records.specs.Receiving.{StreamLoses, receives}
 use Rattle.wasi_records.specs.Records.{open_at, open_put}
 use Rattle.wasi_host.specs.KnownSides.{KnowsSides}
 use Rattle.wasi_records.specs.Sides.{MakesNone, held_in}
@@ -24,6 +26,7 @@ use Rattle.wasi_host.specs.Store.{Records}
 use Rattle.wasi_host.specs.UdpCalls.{with_open_udp}
 use Rattle.wasi_host.proofs.JobLists.{with_job_is}
 use Rattle.wasi_host.proofs.KnownSides.{knows_none, knows_same, knows_stood}
+use Rattle.wasi_records.proofs.ReceiveLists.{err_then, nothing_lost, on_err}
 use Rattle.wasi_records.proofs.UdpLookups.{open_found, open_back, held_in-open}
 
 -- == the network sockets
@@ -53,10 +56,10 @@ asks_as {S} {T} {asks} {s} {t} {r} e h = let P : S → Type 0 = λ z. AsksFor as
 
 -- a job that is noted, where one began
 pub job_noted : (store : Records) (place : ℕ) (now : OpenUdp) (job : HostJob) (b begins : Bool) (kept jobs : List HostJob) → jobs ≡ jobs_with kept job b → kept ≡ store.jobs → b ≡ begins
-    → with_job (with_open_udp store place now) job begins ≡ record { records = open_put store.records place now; jobs = jobs; standing = store.standing }
+    → with_job (with_open_udp store place now) job begins ≡ record { records = open_put store.records place now; jobs = jobs; standing = store.standing; beside = store.beside }
 job_noted store place now job b begins kept jobs h k e =
     with_job_is (with_open_udp store place now) job begins
-    ∙ ap (λ (l : List HostJob). let r : Records = record { records = open_put store.records place now; jobs = l; standing = store.standing } in r) (sym (h ∙ (ap (λ (l : List HostJob). jobs_with l job b) k ∙ ap (jobs_with store.jobs job) e)))
+    ∙ ap (λ (l : List HostJob). let r : Records = record { records = open_put store.records place now; jobs = l; standing = store.standing; beside = store.beside } in r) (sym (h ∙ (ap (λ (l : List HostJob). jobs_with l job b) k ∙ ap (jobs_with store.jobs job) e)))
 
 -- one began where none was before
 pub begins_now : (before now b : Bool) → before ≡ false → b ≡ now → b ≡ (not before && now)
@@ -76,3 +79,16 @@ not_permitted store place o (Some x) n = absurd (n x refl)
 -- a look at the incoming stream, and the receive that it began
 pub looked_so : (store after : Records) (place : ℕ) (o now : OpenUdp) (waits : Bool) → waits ≡ receives now.incoming → with_receive store place o now ≡ after → Give (incoming_looked store place o now) ≡ Give (Ok (not waits), after)
 looked_so store after place o now waits e h = rw (e, ← h) refl
+
+-- == what is lost for lack of memory
+no_job : (store : Records) (job : HostJob) (b : Bool) → with_job store job (not b && b) ≡ store
+no_job store job true = refl
+no_job store job false = refl
+
+-- where nothing was asked yet
+pub nothing_taken : {T : Type 0} (r : Result T SocketError) (most : ℕ) (ids : Ids) (place : ℕ) (store now : Records) (o : OpenUdp) (s : Seen) → now ≡ with_open_udp store place o → OnErr (host_outcome r) (StoreLoses most ids place store now (Some o) s s)
+nothing_taken r most ids place store now o s e = on_err (host_outcome r) (record { left = o; loses = nothing_lost most ids o o.incoming s refl; rest = e ∙ sym (no_job (with_open_udp store place o) (Receive place) (receives o.incoming)) })
+
+-- else what the stream lost
+pub taken_lost : {T : Type 0} (s t : Seen) (r : Result T SocketError) (most : ℕ) (ids : Ids) (place : ℕ) (store now : Records) (o left : OpenUdp) → with_receive store place o left ≡ now → OnErr (host_outcome r) (StreamLoses most ids o left o.incoming s t) → OnErr (host_outcome r) (StoreLoses most ids place store now (Some o) s t)
+taken_lost s t r most ids place store now o left e h = err_then (host_outcome r) (λ (l : StreamLoses most ids o left o.incoming s t). let lost : StoreLost most ids place store now o s t = record { left = left; loses = l; rest = sym e } in lost) h

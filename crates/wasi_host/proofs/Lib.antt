@@ -10,6 +10,7 @@ pub mod WriteRests
 pub mod Called
 pub mod Bases
 pub mod Binds
+pub mod Connects
 pub mod Cancels
 pub mod PollLists
 pub mod FoundMaps

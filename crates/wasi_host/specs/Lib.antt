@@ -5,6 +5,7 @@ pub mod Store
 pub mod Rows
 pub mod Making
 pub mod Standing
+pub mod Beside
 pub mod GivingBack
 pub mod TcpCalls
 pub mod Block
@@ -25,6 +26,7 @@ pub mod Cancel
 pub mod Pending
 pub mod UdpCalls
 pub mod Binds
+pub mod Connects
 pub mod UdpCreates
 pub mod DatagramCalls
 pub mod NameLookupCalls

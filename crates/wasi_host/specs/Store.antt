@@ -1,4 +1,4 @@
--- The records that handles name, and the pending call.
+-- The records that handles name, and the pending calls.
 use Rattle.std.specs.Prelude.{ℕ, List, [], Option, Some, None, Result, Ok, Err, slice_set}
 use Rattle.wasi_addr.specs.declared.code.ErrorCode.{ErrorCode}
 use Rattle.wasi_world.specs.declared.outcome.TrapKind.TheVariants.{NoSuchHandle}
@@ -9,6 +9,7 @@ use Rattle.wasi_streams.specs.StreamStop as stream
 use Rattle.wasi_jobs.specs.declared.job.HostJob.{HostJob}
 use Rattle.wasi_records.specs.declared.socket.TcpRecord.{TcpRecord}
 use Rattle.wasi_records.specs.declared.records.Record.{Record}
+use Rattle.wasi_host.specs.declared.beside.Beside.{Beside}
 use Rattle.wasi_host.specs.declared.store.Standing.{Standing}
 use Rattle.wasi_records.specs.Stops.{Stop, code_stop}
 use Rattle.wasi_records.specs.Records.{tcp2_put, tcp2_pushed}
@@ -18,9 +19,10 @@ pub record Records : Type 0 where
   pub records : List Record  -- by number
   pub jobs : List HostJob  -- in the order in which they began
   pub standing : Option Standing
+  pub beside : List Beside  -- in the order of their lines
 
 abbrev pub no_records : Records
-no_records = record { records = []; jobs = []; standing = None }
+no_records = record { records = []; jobs = []; standing = None; beside = [] }
 
 -- a record in place of the one of this number, by what a record it is
 abbrev pub with_stored : {T : Type 0} → (T → Record) → Records → ℕ → T → Records

@@ -1,12 +1,15 @@
 //! Giving pending calls up.
 
-ghost use Rattle.std.specs.Prelude.{◌≡◌, false};
+ghost use Rattle.std.specs.Prelude.{◌≡◌, false, OnErr};
 ghost use Rattle.wasi_world.specs.Asks.{AsksFor};
 ghost use Rattle.wasi_world.specs.Seen.{Seen};
 ghost use Rattle.wasi_host.specs.Cancel.{other_than_datagram, cancel_bind_at, cancel_udp_bind_at};
 ghost use Rattle.wasi_host.specs.Cancel.{cancel_listen_at, cancel_create_at, cancel_udp_connect_at};
 ghost use Rattle.wasi_host.specs.Cancel.{cancel_drop_outgoing_at, cancel_on, cancel_asks};
+ghost use Rattle.wasi_host.specs.Cancel.{listen_kept, uncancelled, cancel_left};
+ghost use Rattle.wasi_host.specs.Standing.{call_of};
 ghost use Rattle.wasi_records.specs.Records.{tcp2_at, udp2_at, open_at};
+ghost use Rattle.wasi_host.specs.Beside.{beside_cancelled, beside_of};
 ghost use Rattle.wasi_host.specs.KnownSides.{KnowsSides};
 ghost use Rattle.wasi_host.specs.Views.{SameView, state_of};
 
@@ -32,11 +35,15 @@ impl Store {
     }
 
     /// Gives up the listen of the TCP socket with this record number: its network socket is closed,
-    /// and the socket stays closed.
+    /// and the socket stays closed. Out of memory nothing was asked, and the record keeps the network
+    /// socket.
     fn cancel_listen<W: World>(&mut self, world: &mut W, place: RecordId) -> Result<(), AllocError>
         requires { (W.seen world.old).ended ≡ false }
         ensures asked { AsksFor (cancel_listen_at self.old place (tcp2_at self.old.records place))
             (W.seen world.old) (W.seen world.new) (λ done. self.new) result }
+        ensures left { OnErr result (self.new ≡ listen_kept self.old place
+            (tcp2_at self.old.records place)) }
+        ensures unasked { OnErr result (W.seen world.new ≡ W.seen world.old) }
         ensures sides { KnowsSides (W.seen world.old) self.old
             → KnowsSides (W.seen world.new) self.new }
     {
@@ -47,11 +54,14 @@ impl Store {
     }
 
     /// Gives up the create of the UDP socket with this record number: its network socket is closed
-    /// and its record given back. It had no handle.
+    /// and its record given back. It had no handle. Out of memory nothing was asked, and the record
+    /// keeps the create.
     fn cancel_create<W: World>(&mut self, world: &mut W, place: RecordId) -> Result<(), AllocError>
         requires { (W.seen world.old).ended ≡ false }
         ensures asked { AsksFor (cancel_create_at self.old place (udp2_at self.old.records place))
             (W.seen world.old) (W.seen world.new) (λ done. self.new) result }
+        ensures left { OnErr result (self.new ≡ self.old) }
+        ensures unasked { OnErr result (W.seen world.new ≡ W.seen world.old) }
         ensures sides { KnowsSides (W.seen world.old) self.old
             → KnowsSides (W.seen world.new) self.new }
     {
@@ -119,6 +129,8 @@ impl Store {
         requires { (W.seen world.old).ended ≡ false }
         ensures asked { AsksFor (cancel_on self.old call) (W.seen world.old) (W.seen world.new)
             (λ done. self.new) result }
+        ensures left { OnErr result (self.new ≡ uncancelled self.old call) }
+        ensures unasked { OnErr result (W.seen world.new ≡ W.seen world.old) }
         ensures sides { KnowsSides (W.seen world.old) self.old
             → KnowsSides (W.seen world.new) self.new }
     {
@@ -133,15 +145,31 @@ impl Store {
         }
         Ok(())
     }
+
+    /// Gives the call with this number up that stands beside others; `false` exactly where there is
+    /// none.
+    fn cancel_beside(&mut self, line: u32) -> bool
+        ensures { (result, self.new) ≡ beside_cancelled self.old line (beside_of self.old line) }
+    {
+        if self.find_beside(line).is_none() {
+            return false;
+        }
+        self.beside.remove(line);
+        true
+    }
 }
 
 /// Gives the pending call with this number up; `false` exactly where there is none.
 ///
-/// - A bind or a connect leaves its socket as it was.
+/// - A bind, or a connect of a UDP socket, leaves its socket as it was.
+/// - A connect of a TCP socket leaves it connecting for good.
 /// - A listen closes its network socket, and the socket stays closed.
 /// - A create closes its network socket.
 /// - The drop of an outgoing datagram stream loses its datagram.
 /// - The drop of an output, and a call that blocks, change nothing.
+///
+/// Out of memory, which takes an exclusive call, nothing was asked, so no network socket is closed
+/// and its record keeps it. The call isn't pending any more.
 pub fn cancel<W: World>(
     view: &mut WasiSocketsCtxView<'_>,
     world: &mut W,
@@ -150,12 +178,15 @@ pub fn cancel<W: World>(
     requires { (W.seen world.old).ended ≡ false }
     ensures asked { AsksFor (cancel_asks (state_of view.old) line) (W.seen world.old)
         (W.seen world.new) (λ cancelled. (cancelled, state_of view.new)) result }
+    ensures left { OnErr result (state_of view.new ≡ cancel_left (state_of view.old)
+        (call_of view.old.store.now.standing line)) }
+    ensures unasked { OnErr result (W.seen world.new ≡ W.seen world.old) }
     ensures sides { KnowsSides (W.seen world.old) view.old.store.now
         → KnowsSides (W.seen world.new) view.new.store.now }
     ensures view { SameView view.old view.new }
 {
     let Some(standing) = view.store.take(line) else {
-        return Ok(false);
+        return Ok(view.store.cancel_beside(line));
     };
     view.store.cancel(world, standing.call)?;
     Ok(true)

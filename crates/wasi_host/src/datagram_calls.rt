@@ -1,6 +1,6 @@
 //! The calls on the datagram streams of a UDP socket.
 
-ghost use Rattle.std.specs.Prelude.{◌≡◌, ◌+◌, ◌<◌, ◌^◌, false, IfOk, Ok};
+ghost use Rattle.std.specs.Prelude.{◌≡◌, ◌+◌, ◌<◌, ◌^◌, false, IfOk, Ok, OnErr};
 ghost use Rattle.wasi_world.specs.Asks.{AsksFor};
 ghost use Rattle.wasi_world.specs.Seen.{Seen};
 ghost use Rattle.wasi_host.specs.DatagramCalls.{start_streams_at, reconnect_udp_at, mark_streams};
@@ -8,7 +8,7 @@ ghost use Rattle.wasi_host.specs.DatagramCalls.{make_streams_asks, remake_stream
 ghost use Rattle.wasi_host.specs.DatagramCalls.{check_send_at, send_datagrams_at};
 ghost use Rattle.wasi_host.specs.DatagramCalls.{receive_datagrams_at, ready_incoming_at};
 ghost use Rattle.wasi_host.specs.DatagramCalls.{incoming_names, drop_incoming_at, drop_outgoing_at};
-ghost use Rattle.wasi_host.specs.DatagramCalls.{outgoing_ready};
+ghost use Rattle.wasi_host.specs.DatagramCalls.{outgoing_ready, StoreLoses};
 ghost use Rattle.wasi_records.specs.Listening.{TakesOne};
 ghost use Rattle.wasi_records.specs.Stops.{fault_outcome, host_outcome};
 ghost use Rattle.wasi_records.specs.Names.{RoseUpTo};
@@ -223,6 +223,9 @@ impl Store {
     /// (`receive`): at most this many, at most 16, and until their lengths, with one more for each,
     /// reach 65,536. A code is returned where no datagram comes before it, and dropped else. A
     /// receive that is in progress then is a job.
+    ///
+    /// Out of memory the datagrams that this call took are lost, and no others, and the socket is
+    /// otherwise as it was; the next one's receive wasn't begun, or it stays in progress.
     pub fn receive_datagrams<W: World>(
         &mut self,
         alloc: Global,
@@ -238,6 +241,8 @@ impl Store {
             (λ received. (received, self.new)) (host_outcome result) }
         ensures line { ids.new.line ≡ ids.old.line }
         ensures parts { RoseUpTo 16 ids.old ids.new }
+        ensures lost { OnErr (host_outcome result) (StoreLoses most ids.old place self.old self.new
+            (open_at self.old.records place) (W.seen world.old) (W.seen world.new)) }
         ensures sides { KnowsSides (W.seen world.old) self.old
             → KnowsSides (W.seen world.new) self.new }
     {

@@ -2,9 +2,11 @@
 //! they name, views of both, streams and pollables, jobs and pending calls.
 #![tactic(auto)]
 
+pub mod beside;
 mod binding;
 pub mod blocking;
 mod cancelling;
+mod connecting;
 mod datagram_calls;
 mod dropping;
 pub mod error;
@@ -25,6 +27,7 @@ mod tcp_calls;
 mod udp_calls;
 pub mod view;
 
+pub use beside::{Beside, BesideCall};
 pub use blocking::{
     BlockingCall, blocking_flush, blocking_read, blocking_skip, blocking_splice,
     blocking_write_and_flush, blocking_write_zeroes_and_flush,

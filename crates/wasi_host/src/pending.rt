@@ -1,18 +1,21 @@
 //! Pending calls, and how they continue.
 
-ghost use Rattle.std.specs.Prelude.{◌≡◌, IfNone, IsSome, Ok, false};
+ghost use Rattle.std.specs.Prelude.{◌≡◌, IfNone, IsSome, None, OnErr, Ok, false};
 ghost use Rattle.wasi_world.specs.Asks.{AsksFor};
 ghost use Rattle.wasi_records.specs.Records.{tcp2_at};
 ghost use Rattle.wasi_records.specs.Stops.{host_outcome};
 ghost use Rattle.wasi_host.specs.Pending.{outcome_of, handle_outcome, pair_outcome, places_outcome};
 ghost use Rattle.wasi_host.specs.Pending.{relisten_at, stop_told, blocked_told};
 ghost use Rattle.wasi_host.specs.Pending.{nothing_given, unblock_asks, go_on, resume_asks};
+ghost use Rattle.wasi_host.specs.Pending.{go_on_beside, resume_beside};
 ghost use Rattle.wasi_host.specs.Pending.{refused_as, answered_told};
 ghost use Rattle.wasi_host.specs.BaseStops.{ends_as};
+ghost use Rattle.wasi_host.specs.Beside.{beside_of};
 ghost use Rattle.wasi_host.specs.KnownSides.{KnowsSides};
 ghost use Rattle.wasi_host.specs.Standing.{call_of, unstood};
 ghost use Rattle.wasi_host.specs.Views.{SameView, state_of};
 
+use crate::beside::BesideCall;
 use crate::blocking::{
     BlockingCall, blocking_flush, blocking_read, blocking_skip, blocking_splice, finish_rest,
     write_rest,
@@ -93,16 +96,23 @@ impl Outcome {
 }
 
 impl Store {
-    /// Takes the pending call with this number out; `None` where there is none.
+    /// Takes the exclusive pending call out, if it has this number.
     pub(crate) fn take(&mut self, line: u32) -> Option<Standing>
         ensures taken { result ≡ call_of self.old.standing line }
         ensures some { IsSome result → self.new ≡ unstood self.old }
         ensures none { IfNone result (self.new ≡ self.old) }
     {
-        if !self.stands(line) {
+        if !self.is_exclusive(line) {
             return None;
         }
         self.standing.take()
+    }
+
+    /// From here on no exclusive call is pending.
+    fn forget_call(&mut self)
+        ensures { self.new ≡ unstood self.old }
+    {
+        self.standing = None;
     }
 
     /// Polls the listen of the TCP socket with this record number. If it is still pending it is
@@ -201,8 +211,8 @@ fn of_create(
     }
 }
 
-/// The outcome of a bind for this interface.
-fn of_bind(
+/// The outcome of a bind or a connect for this interface.
+fn of_start(
     interface: Interface,
     bound: Result<Answer<()>, StoreError>,
 ) -> Result<Answer<Outcome>, SocketError>
@@ -281,7 +291,7 @@ fn go_on<W: World>(
     match call {
         StandingCall::Bind { socket, interface } => {
             let bound = view.store.tcp_rebind(world, ids, socket, interface);
-            of_bind(interface, bound)
+            of_start(interface, bound)
         }
         StandingCall::Listen { socket } => {
             let answer = view.store.relisten(world, ids, socket)?;
@@ -299,7 +309,7 @@ fn go_on<W: World>(
         }
         StandingCall::UdpBind { socket, interface } => {
             let bound = view.store.rebind_udp(world, ids, socket, interface);
-            of_bind(interface, bound)
+            of_start(interface, bound)
         }
         StandingCall::UdpConnect { socket, handle } => {
             let answer = view
@@ -315,11 +325,59 @@ fn go_on<W: World>(
     }
 }
 
+/// Polls a call that stands beside others once, where it stands, under the operation names of the
+/// line that began it.
+fn go_on_beside<W: World>(
+    view: &mut WasiSocketsCtxView<'_>,
+    world: &mut W,
+    line: u32,
+    call: BesideCall,
+) -> Result<Answer<Outcome>, SocketError>
+    requires { (W.seen world.old).ended ≡ false }
+    ensures asked { AsksFor (go_on_beside (state_of view.old) line call) (W.seen world.old)
+        (W.seen world.new) (λ answer. (answer, state_of view.new)) (host_outcome result) }
+    ensures exclusive { view.new.store.now.standing ≡ view.old.store.now.standing }
+    ensures sides { KnowsSides (W.seen world.old) view.old.store.now
+        → KnowsSides (W.seen world.new) view.new.store.now }
+    ensures view { SameView view.old view.new }
+{
+    let connected = view.store.reconnect_tcp(world, line, call.socket());
+    of_start(Interface::P3, connected)
+}
+
+/// Polls the call with this number once that stands beside others; `None` exactly where there is
+/// none. If it is over it is taken out.
+fn resume_beside<W: World>(
+    view: &mut WasiSocketsCtxView<'_>,
+    world: &mut W,
+    line: u32,
+) -> Result<Option<Answer<Outcome>>, SocketError>
+    requires { (W.seen world.old).ended ≡ false }
+    ensures asked { AsksFor (resume_beside (state_of view.old) line
+        (beside_of view.old.store.now line)) (W.seen world.old) (W.seen world.new)
+        (λ answer. (answer, state_of view.new)) (host_outcome result) }
+    ensures exclusive { view.new.store.now.standing ≡ view.old.store.now.standing }
+    ensures sides { KnowsSides (W.seen world.old) view.old.store.now
+        → KnowsSides (W.seen world.new) view.new.store.now }
+    ensures view { SameView view.old view.new }
+{
+    let Some(beside) = view.store.find_beside(line) else {
+        return Ok(None);
+    };
+    let answer = go_on_beside(view, world, line, beside.call)?;
+    Ok(Some(answer))
+}
+
 /// Polls the pending call with this number once, under the operation names of the line that began
 /// it; `None` exactly where there is none. If it is still pending it is stored again.
 ///
+/// While an exclusive call of another number is pending, a call that stands beside others has to
+/// answer `busy` in place of this.
+///
 /// The error of a call of a stream is an [`Outcome`], and so is the code of a call of 0.3. A code
 /// that is an error is that of a bind, a listen, a create or a connect of 0.2.
+///
+/// Out of memory an exclusive call isn't pending any more.
 pub fn resume<W: World>(
     alloc: Global,
     view: &mut WasiSocketsCtxView<'_>,
@@ -329,13 +387,22 @@ pub fn resume<W: World>(
     requires { (W.seen world.old).ended ≡ false }
     ensures asked { AsksFor (resume_asks (state_of view.old) line) (W.seen world.old)
         (W.seen world.new) (λ answer. (answer, state_of view.new)) (host_outcome result) }
+    ensures gone { OnErr (host_outcome result)
+        (call_of view.new.store.now.standing line ≡ None) }
     ensures sides { KnowsSides (W.seen world.old) view.old.store.now
         → KnowsSides (W.seen world.new) view.new.store.now }
     ensures view { SameView view.old view.new }
 {
     let Some(standing) = view.store.take(line) else {
-        return Ok(None);
+        return resume_beside(view, world, line);
     };
-    let answer = go_on(alloc, view, world, standing.ids, standing.call)?;
-    Ok(Some(answer))
+    match go_on(alloc, view, world, standing.ids, standing.call) {
+        Ok(answer) => Ok(Some(answer)),
+        Err(SocketError::Code(code)) => Err(SocketError::Code(code)),
+        Err(SocketError::Trap(kind)) => Err(SocketError::Trap(kind)),
+        Err(SocketError::Memory(e)) => {
+            view.store.forget_call();
+            Err(SocketError::Memory(e))
+        }
+    }
 }

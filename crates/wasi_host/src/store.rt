@@ -1,4 +1,4 @@
-//! The records that handles name, and the pending call.
+//! The records that handles name, and the pending calls.
 
 ghost use Rattle.std.specs.Prelude.{◌≡◌, true, false, Ok, is_some, IfOk, OnErr, length};
 ghost use Rattle.std.specs.Prelude.{option_map};
@@ -7,6 +7,7 @@ ghost use Rattle.wasi_world.specs.Asks.{AsksFor, outcome};
 ghost use Rattle.wasi_records.specs.Records.{tcp2_at, stored_at};
 ghost use Rattle.wasi_records.specs.Stops.{host_outcome};
 ghost use Rattle.wasi_host.specs.Jobs.{write_at};
+ghost use Rattle.wasi_host.specs.Beside.{beside_of, stands_under};
 ghost use Rattle.wasi_host.specs.Standing.{exclusive_of, stands_as, stood};
 ghost use Rattle.wasi_host.specs.Making.{MakesTcp};
 ghost use Rattle.wasi_host.specs.Rows.{store_row};
@@ -16,6 +17,7 @@ ghost use Rattle.wasi_streams.specs.StreamStop.{stream_outcome};
 ghost use Rattle.wasi_tcp.specs.Reader.{read_state_asks};
 ghost use Rattle.wasi_tcp.specs.Writer.{check_write_asks, write_state_asks};
 
+use crate::beside::{Beside, BesideList};
 use crate::blocking::BlockingCall;
 use crate::handles;
 use crate::jobs::keep_job;
@@ -35,7 +37,7 @@ use wasi_world::{
     Answer, Handle, Ids, Octets, OpId, Refusal, Sock, TrapKind, WasiSocketsCtx, World,
 };
 
-/// A pending call, with what it needs to go on.
+/// An exclusive pending call, with what it needs to go on.
 #[derive(Drop)]
 pub enum StandingCall {
     /// Binds the TCP socket with this record number, for this interface; its record has the
@@ -80,7 +82,7 @@ pub enum StandingCall {
     Blocking(BlockingCall),
 }
 
-/// A pending call. While a call is pending every other guest call answers `busy`.
+/// An exclusive pending call. While it is pending every other guest call answers `busy`.
 #[derive(Drop)]
 pub struct Standing {
     /// The names of the line that began it. Its calls on the network have the line's own name, also
@@ -90,7 +92,8 @@ pub struct Standing {
     pub call: StandingCall,
 }
 
-/// The records by number, the background jobs in the order of making, and the pending call.
+/// The records by number, the background jobs in the order of making, the exclusive pending call,
+/// and the pending calls that stand beside others.
 ///
 /// A record is given back once nothing refers to it any more, so memory follows how many sockets,
 /// lookups and pipes there are, and not how many were made. Where no handle can be made, a lookup's
@@ -100,6 +103,7 @@ pub struct Store {
     pub(crate) records: RecordList,
     pub(crate) jobs: JobList,
     pub(crate) standing: Option<Standing>,
+    pub(crate) beside: BesideList,
 }
 
 impl Model for Store {
@@ -111,6 +115,7 @@ impl Model for Store {
       records = s.records.items;
       jobs = s.jobs.items;
       standing = s.standing;
+      beside = s.beside;
     } };
 }
 
@@ -128,6 +133,7 @@ impl Store {
             records: RecordList::new(alloc),
             jobs: JobList::new(alloc),
             standing: None,
+            beside: BesideList::new(alloc),
         }
     }
 
@@ -301,11 +307,12 @@ impl Store {
         close_sides(world, &self.records);
     }
 
-    /// The number of the pending call, that of the line that began it. Takes no memory.
+    /// The number of the exclusive pending call, that of the line that began it. Takes no memory.
     ///
-    /// While a call is pending every guest call has to answer `busy`. The caller has to see to
-    /// that: the calls of this crate and of `wasi_p2` don't test it, and one that becomes pending
-    /// replaces the one before.
+    /// While it is pending every guest call has to answer `busy`, and so has the resumption of a
+    /// call that [stands beside others](Store::stands_beside). The caller has to see to that: the
+    /// calls of this crate, of `wasi_p2` and of `wasi_p3` don't test it, and one that becomes the
+    /// exclusive call replaces the one before.
     pub fn exclusive(&self) -> Option<u32>
         ensures { result ≡ exclusive_of self.now.standing }
     {
@@ -315,8 +322,30 @@ impl Store {
         }
     }
 
-    /// Whether a call is pending under this number. Takes no memory.
+    /// Whether a call is pending under this number, be it exclusive or beside others. Takes no
+    /// memory.
     pub fn stands(&self, line: u32) -> bool
+        ensures { result ≡ stands_under self.now line }
+    {
+        self.is_exclusive(line) || self.stands_beside(line)
+    }
+
+    /// Whether the call with this number is pending and stands beside others. Takes no memory.
+    pub fn stands_beside(&self, line: u32) -> bool
+        ensures { result ≡ is_some (beside_of self.now line) }
+    {
+        self.find_beside(line).is_some()
+    }
+
+    /// The call with this number that is pending and stands beside others.
+    pub(crate) fn find_beside(&self, line: u32) -> Option<Beside>
+        ensures { result ≡ beside_of self.now line }
+    {
+        self.beside.get(line)
+    }
+
+    /// Whether the exclusive pending call has this number. Takes no memory.
+    pub fn is_exclusive(&self, line: u32) -> bool
         ensures { result ≡ stands_as self.now.standing line }
     {
         match &self.standing {
@@ -325,7 +354,8 @@ impl Store {
         }
     }
 
-    /// Keeps a call that is pending, under its line's number and with the names of its line.
+    /// Keeps an exclusive call that is pending, under its line's number and with the names of its
+    /// line.
     pub(crate) fn stand(&mut self, ids: Ids, call: StandingCall, answer: Answer<()>) -> Answer<()>
         ensures { (result, self.new) ≡ stood self.old ids call answer }
     {

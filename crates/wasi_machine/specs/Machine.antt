@@ -1,5 +1,5 @@
 -- The machine that does a script's steps: what each asks, returns and leaves, and the run of the steps.
-use Rattle.std.specs.Prelude.{◌≡◌, ℕ, ◌+◌, length, Bool, true, false, if◌then◌else◌, List, [], ◌∷◌, ◌++◌, Option, Some, None, is_some, Result, Ok, Err, slice_get}
+use Rattle.std.specs.Prelude.{◌≡◌, ℕ, ◌+◌, ◌&&◌, ◌||◌, not, length, Bool, true, false, if◌then◌else◌, List, [], ◌∷◌, ◌++◌, Option, Some, None, is_some, Result, Ok, Err, slice_get}
 use Rattle.wasi_addr.specs.declared.address.IpSocketAddress.{IpSocketAddress}
 use Rattle.wasi_addr.specs.declared.address.SocketAddressFamily.{SocketAddressFamily}
 use Rattle.wasi_addr.specs.declared.p2.ErrorCode.{ErrorCode as P2Code}
@@ -30,12 +30,15 @@ pub use Rattle.wasi_records.specs.Names.{first_ids}
 use Rattle.wasi_records.specs.InProgress.{is_bind, is_listen}
 use Rattle.wasi_host.specs.Pending.{resume_asks}
 use Rattle.wasi_host.specs.Polling.{block_by, poll_asks}
+use Rattle.wasi_host.specs.Standing.{stands_as}
+use Rattle.wasi_host.specs.Store.{Records}
 use Rattle.wasi_host.specs.declared.polling.Look.TheVariants.{First}
 use Rattle.wasi_host.specs.UdpCreates.{create_udp_asks}
 use Rattle.wasi_p2.specs.Tcp.{network_asks, start_bind_asks, finish_on, start_connect_asks, finish_connect, local_address, remote_address, is_listening, address_family, shutdown_on, start_listen_on, accept_asks}
 use Rattle.wasi_p2.specs.Options.{get_option_on, set_option_on, set_backlog_on}
 use Rattle.wasi_p2.specs.Lookup.{resolve_asks, next_address_on, error_code_on}
 use Rattle.wasi_p2.specs.Udp.{start_udp_bind_asks, finish_udp_bind_on, udp_local_on, udp_remote_on, udp_family_on, get_udp_option_on, set_udp_option_on, udp_stream_asks, check_send_on, send_datagrams_on, receive_datagrams_on}
+use Rattle.wasi_host.specs.Beside.{beside_of}
 use Rattle.wasi_host.specs.Block.{Does}
 use Rattle.wasi_p3.specs.Stops.{P3Stop}
 use Rattle.wasi_p3.specs.Tcp as p3
@@ -244,6 +247,7 @@ call_asks ctx m line (guest.BlockingFlush output) = bind (blocking_flush_asks m 
 call_asks ctx m line (guest.BlockingSplice output input len) = bind (blocking_splice_asks m (first_ids line) output input len) (λ done. Give (blocked_reply_of number_fields line done.0, done.1))
 call_asks ctx m line (guest.P3TcpCreate family) = bind (p3.create (own_of line) ctx family m) (λ done. Give (p3_reply number_fields done.0, done.1))
 call_asks ctx m line (guest.P3TcpBind s a) = bind (p3.bind_to (first_ids line) s a m) (λ done. Give (p3_answer_reply no_values line done.0, done.1))
+call_asks ctx m line (guest.P3TcpConnect s a) = bind (p3.connect_to line s a m) (λ done. Give (p3_answer_reply no_values line done.0, done.1))
 call_asks ctx m line (guest.P3TcpLocalAddress s) = bind (p3.local_address (own_of line) s m) (λ done. Give (p3_reply address_values done.0, done.1))
 call_asks ctx m line (guest.P3TcpRemoteAddress s) = bind (p3.remote_address (own_of line) s m) (λ done. Give (p3_reply address_values done.0, done.1))
 call_asks ctx m line (guest.P3TcpIsListening s) = Give (p3_reply truth_fields (p3.is_listening m s), m)
@@ -278,10 +282,19 @@ step_asks contexts m line s = asks_in (context_for contexts (context_of s)) m li
 abbrev pub is_guest_call : Step → Bool
 is_guest_call s = is_some (context_of s)
 
--- while a call is pending every guest call is busy
+-- a poll of a call that stands beside the exclusive one
+abbrev pub polls_beside : Records → Step → Bool
+polls_beside store (step.Poll n) = not (stands_as store.standing n) && is_some (beside_of store n)
+polls_beside store _ = false
+
+-- what has to wait for the exclusive call that is pending
+abbrev pub is_held_up : Records → Step → Bool
+is_held_up store s = is_guest_call s || polls_beside store s
+
+-- while it is pending every guest call is busy, and so is a poll of a call beside it
 abbrev pub asks_while : List WasiSocketsCtx → Machine → ℕ → Step → Option Standing → Asks (Reply × Machine)
 asks_while contexts m line s None = step_asks contexts m line s
-asks_while contexts m line s (Some standing) = if is_guest_call s then Give (reply.Busy, m) else step_asks contexts m line s
+asks_while contexts m line s (Some standing) = if is_held_up m.store s then Give (reply.Busy, m) else step_asks contexts m line s
 
 -- what a line asks, its reply, and the machine afterwards
 abbrev pub machine_asks : List WasiSocketsCtx → Machine → ℕ → Step → Asks (Reply × Machine)

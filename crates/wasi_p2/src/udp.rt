@@ -2,7 +2,7 @@
 //! `udp-create-socket`). Each tests its handles first: one that isn't live, or is of another kind,
 //! is the trap `NoSuchHandle`.
 
-ghost use Rattle.std.specs.Prelude.{◌≡◌, ◌+◌, ◌<◌, ◌≤◌, ◌^◌, IfOk, Ok, false};
+ghost use Rattle.std.specs.Prelude.{◌≡◌, ◌+◌, ◌<◌, ◌≤◌, ◌^◌, IfOk, OnErr, Ok, false};
 ghost use Rattle.wasi_world.specs.Asks.{AsksFor};
 ghost use Rattle.wasi_world.specs.Seen.{Seen};
 ghost use Rattle.socket_common.specs.Options.{largest_value, option_of, number_of};
@@ -15,7 +15,7 @@ ghost use Rattle.wasi_host.specs.Views.{SameView, state_of, HostKept};
 ghost use Rattle.wasi_p2.specs.Udp.{start_udp_bind_asks, finish_udp_bind_on, udp_local_on};
 ghost use Rattle.wasi_p2.specs.Udp.{udp_remote_on, udp_family_on, get_udp_option_on};
 ghost use Rattle.wasi_p2.specs.Udp.{set_udp_option_on, udp_stream_asks, check_send_on};
-ghost use Rattle.wasi_p2.specs.Udp.{send_datagrams_on, receive_datagrams_on};
+ghost use Rattle.wasi_p2.specs.Udp.{send_datagrams_on, receive_datagrams_on, ReceiveLoses};
 
 use crate::SocketError;
 use socket_common::Setting;
@@ -198,6 +198,9 @@ pub fn send<W: World>(
 ///
 /// - One that hasn't come yet ends the list, and is received in the background.
 /// - A code ends the list, too: it is returned where no datagram comes before it, and dropped else.
+///
+/// Out of memory the datagrams that this call took are lost, and no others, and the stream is
+/// otherwise as it was; the next one's receive wasn't begun, or it stays in progress.
 pub fn receive<W: World>(
     alloc: Global,
     view: &mut WasiSocketsCtxView<'_>,
@@ -216,6 +219,9 @@ pub fn receive<W: World>(
     ensures view { SameView view.old view.new }
     ensures line { ids.new.line ≡ ids.old.line }
     ensures parts { RoseUpTo 16 ids.old ids.new }
+    ensures lost { OnErr (host_outcome result) (ReceiveLoses max_results ids.old
+        (state_of view.old) (state_of view.new) (incoming_at (state_of view.old) this)
+        (W.seen world.old) (W.seen world.new)) }
 {
     let place = handles::incoming(view.table, this)?;
     view.store

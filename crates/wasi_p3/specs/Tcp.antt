@@ -19,6 +19,7 @@ use Rattle.wasi_host.specs.declared.machine.Machine.{Machine}
 use Rattle.wasi_host.specs.Machine.{create_to}
 use Rattle.wasi_host.specs.Binds.{bind_of}
 use Rattle.wasi_host.specs.Block.{Does, last, ◌>>=◌}
+use Rattle.wasi_host.specs.Connects.{connect_of}
 use Rattle.wasi_p3.specs.Lines.{of_tcp, in_base, inner_call, tcp_named, tcp_of, told_of}
 use Rattle.wasi_p3.specs.Stops.{P3Stop, p3_stop, trap_of}
 
@@ -38,6 +39,12 @@ abbrev pub bind_to : Ids → ℕ → IpSocketAddress → Does P3Code Machine (An
 bind_to ids socket a = do
   place ← tcp_named socket
   last (in_base (bind_of ids place a))
+
+-- == a connect
+abbrev pub connect_to : ℕ → ℕ → IpSocketAddress → Does P3Code Machine (Answer (Unit {0}))
+connect_to line socket a = do
+  place ← tcp_named socket
+  last (in_base (connect_of line place a))
 
 -- == what a socket says of itself
 abbrev pub local_address : OpId → ℕ → Does P3Code Machine IpSocketAddress

@@ -6,7 +6,7 @@ ghost use Rattle.wasi_world.specs.Asks.{AsksFor};
 ghost use Rattle.wasi_host.specs.Machine.{own_of};
 ghost use Rattle.wasi_host.specs.Views.{state_of, HostKept};
 ghost use Rattle.wasi_p3.specs.Stops.{ends_as};
-ghost use Rattle.wasi_p3.specs.Tcp.{create, bind_to, local_address};
+ghost use Rattle.wasi_p3.specs.Tcp.{create, bind_to, connect_to, local_address};
 ghost use Rattle.wasi_p3.specs.Tcp.{remote_address, is_listening, address_family};
 
 use crate::error::{SocketError, answered, named};
@@ -64,6 +64,32 @@ pub fn bind<W: World>(
 {
     let place = handles::tcp3_socket(view.table, socket)?;
     named(view.store.bind_tcp(world, *ids, place, addr))
+}
+
+/// Connects a socket to an address (`tcp-socket.connect`).
+///
+/// - Not in its first state: `InvalidState`.
+/// - An address of another family, or that is none of a single other host: `InvalidArgument`.
+/// - A check says no: `AccessDenied`. The network's code is returned. Either closes the socket.
+///
+/// The call is pending while the check or the network's connect is, beside other calls, and
+/// [`resume`](wasi_host::resume) continues it. A socket whose handle is dropped meanwhile is closed.
+pub fn connect<W: World>(
+    view: &mut WasiSocketsCtxView<'_>,
+    world: &mut W,
+    ids: &mut Ids,
+    socket: Handle,
+    addr: IpSocketAddress,
+) -> Result<Answer<()>, SocketError>
+    requires { (W.seen world.old).ended ≡ false }
+    ensures asked { AsksFor (connect_to ids.old.line socket addr (state_of view.old))
+        (W.seen world.old) (W.seen world.new) (λ answer. (answer, state_of view.new))
+        (ends_as result) }
+    ensures kept { HostKept view.old view.new ids.old ids.new (W.seen world.old)
+        (W.seen world.new) }
+{
+    let place = handles::tcp3_socket(view.table, socket)?;
+    named(view.store.connect_tcp(world, *ids, place, addr))
 }
 
 /// The address that a socket is bound to (`tcp-socket.get-local-address`). Not bound, or

@@ -21,5 +21,5 @@ pub use Rattle.wasi_steps.specs.Reply.{address_values, bytes_fields, datagram_va
 pub use Rattle.wasi_steps.specs.Reply.{truth_fields}
 pub use Rattle.wasi_steps.specs.declared.reply.Reply.{Reply}
 pub use Rattle.wasi_steps.specs.declared.step.Step.{Step}
-pub use Rattle.wasi_machine.specs.Machine.{answer_reply, answer_reply_of, asks_while, is_guest_call, machine_asks, reply_of, resumed_reply, run, step_asks}
+pub use Rattle.wasi_machine.specs.Machine.{answer_reply, answer_reply_of, asks_while, is_guest_call, is_held_up, machine_asks, reply_of, resumed_reply, run, step_asks}
 pub use Rattle.wasi_machine.specs.Machine.{stream_reply_of}

@@ -8,8 +8,8 @@ ghost use Rattle.wasi_records.specs.Stops.{fault_outcome, host_outcome};
 ghost use Rattle.wasi_host.specs.KnownSides.{KnowsSides};
 ghost use Rattle.wasi_host.specs.Views.{SameView, state_of};
 ghost use Rattle.wasi_machine.specs.Machine.{without_code, first_ids, machine_asks};
-ghost use Rattle.wasi_machine.specs.Machine.{is_guest_call, asks_in, call_asks, context_at};
-ghost use Rattle.wasi_machine.specs.Machine.{context_for};
+ghost use Rattle.wasi_machine.specs.Machine.{is_held_up, polls_beside, asks_in, call_asks};
+ghost use Rattle.wasi_machine.specs.Machine.{context_at, context_for};
 
 use crate::settings::{set, set_p3, udp_opt, udp_setting};
 use std::alloc::{AllocError, Global};
@@ -25,15 +25,27 @@ use wasi_streams::Fault;
 use wasi_table::Table;
 use wasi_world::{Ids, WasiSocketsCtx, World};
 
-/// Whether the step is a call of a guest while another call is pending.
-fn is_held_up(store: &Store, step: &Step) -> bool
-    ensures { result ≡ (is_some store.now.standing && is_guest_call step.now) }
+/// Whether the step polls a call that stands beside the exclusive one.
+fn polls_beside(store: &Store, step: &Step) -> bool
+    ensures { result ≡ polls_beside store.now step.now }
 {
-    store.exclusive().is_some() && step.context().is_some()
+    match step {
+        Step::Poll { line } => !store.is_exclusive(*line) && store.stands_beside(*line),
+        Step::Call { .. } | Step::Turn | Step::Cancel { .. } => false,
+    }
 }
 
-/// Does one step, the line with this number, and returns its reply. While a call is pending every
-/// other guest call answers `busy`. Takes memory for the reply.
+/// Whether the step has to wait for the exclusive call that is pending: it is a call of a guest, or
+/// polls a call beside it.
+fn is_held_up(store: &Store, step: &Step) -> bool
+    ensures { result ≡ (is_some store.now.standing && is_held_up store.now step.now) }
+{
+    store.exclusive().is_some() && (step.context().is_some() || polls_beside(store, step))
+}
+
+/// Does one step, the line with this number, and returns its reply. While an exclusive call is
+/// pending every other guest call answers `busy`, and so does a poll of a call beside it. Takes
+/// memory for the reply.
 pub fn do_step<W: World>(
     alloc: Global,
     machine: &mut Machine,
@@ -70,7 +82,7 @@ fn do_call<W: World>(
 ) -> Result<Reply, AllocError>
     requires open { (W.seen world.old).ended ≡ false }
     requires first { ids.old ≡ first_ids ids.old.line }
-    requires free { (is_some store.old.standing && is_guest_call step) ≡ false }
+    requires free { (is_some store.old.standing && is_held_up store.old step) ≡ false }
     ensures asked { AsksFor (asks_in ctx.old (record { table = table.old; store = store.old })
         ids.old.line step) (W.seen world.old) (W.seen world.new)
         (λ reply. (reply, record { table = table.new; store = store.new })) result }
@@ -91,7 +103,8 @@ fn call<W: World>(
 ) -> Result<Reply, AllocError>
     requires open { (W.seen world.old).ended ≡ false }
     requires first { ids.old ≡ first_ids ids.old.line }
-    requires free { (is_some view.old.store.now.standing && is_guest_call step) ≡ false }
+    requires free { (is_some view.old.store.now.standing && is_held_up view.old.store.now step)
+        ≡ false }
     ensures asked { AsksFor (asks_in view.old.ctx.now (state_of view.old) ids.old.line step)
         (W.seen world.old) (W.seen world.new) (λ reply. (reply, state_of view.new)) result }
     ensures sides { KnowsSides (W.seen world.old) view.old.store.now
@@ -377,6 +390,10 @@ fn guest_call<W: World>(
         }
         GuestCall::P3TcpBind { socket, addr } => {
             let answer = wasi_p3::tcp::bind(view, world, ids, socket, addr);
+            p3_answer_reply(alloc, ids.line, answer)
+        }
+        GuestCall::P3TcpConnect { socket, addr } => {
+            let answer = wasi_p3::tcp::connect(view, world, ids, socket, addr);
             p3_answer_reply(alloc, ids.line, answer)
         }
         GuestCall::P3TcpLocalAddress { socket } => {

@@ -270,6 +270,11 @@ pub enum GuestCall {
         socket: Handle,
         addr: IpSocketAddress,
     },
+    /// Connects the 0.3 socket to an address (`connect`).
+    P3TcpConnect {
+        socket: Handle,
+        addr: IpSocketAddress,
+    },
     /// The address that the 0.3 socket is bound to (`get-local-address`).
     P3TcpLocalAddress {
         socket: Handle,

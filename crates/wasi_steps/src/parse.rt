@@ -139,6 +139,10 @@ fn p3_arguments(fields: &mut Fields<'_>, word: &str, handle: u32) -> Option<Gues
             socket: handle,
             addr: fields.socket_address()?,
         }),
+        "p3-tcp-connect" => Some(GuestCall::P3TcpConnect {
+            socket: handle,
+            addr: fields.socket_address()?,
+        }),
         "p3-tcp-get" => Some(GuestCall::P3TcpGet {
             socket: handle,
             option: option(fields)?,

@@ -102,6 +102,7 @@ pub const STEP_FORMS: &str = "    0 network                               makes 
     0 drop H                                drops a handle
     0 p3-tcp-create F                       makes a TCP socket of 0.3; F is 4 or 6
     0 p3-tcp-bind S 4 a b c d port          binds it
+    0 p3-tcp-connect S 4 a b c d port       connects it
     0 p3-tcp-local-address S                its address
     0 p3-tcp-remote-address S               the address of its other end
     0 p3-tcp-is-listening S                 whether it listens: ok true or ok false

@@ -1,6 +1,17 @@
-use Rattle.std.proofs.Common.{refl}
-use Rattle.wasi_world.proofs.Walks.{asks_end, asks_exit}
+use Rattle.std.proofs.Common.{Bool, ap, refl, sym}
+use Rattle.wasi_world.specs.Asks.{Give}
+use Rattle.wasi_world.proofs.Walks.{asks_end, asks_exit, asks_given}
+use Rattle.wasi_records.proofs.ReceiveLists.{on_err}
+use Rattle.wasi_host.specs.Machine.{with_store}
+use Rattle.wasi_host.specs.Store.{Records}
+use Rattle.wasi_host.specs.Views.{state_of}
+use Rattle.wasi_host.specs.declared.machine.Machine.{Machine}
 use Rattle.wasi_host.proofs.cancelling.cancel.Goals as goal
+
+pub returns-in_default-clause-asked : goal.returns-in_default-clause-asked
+returns-in_default-clause-asked g c =
+    rw (← c.take.ensures.taken, c.in_default.is)
+    (asks_given _ _ refl (ap (λ (d : Bool × Records). Give (with_store (state_of c.args.view.now) d)) (sym (rw (rw c.in_default.is at c.take.ensures.none) at c.cancel_beside.ensures))))
 
 pub returns-in_err-cancel-clause-asked : goal.returns-in_err-cancel-clause-asked
 returns-in_err-cancel-clause-asked g c =
@@ -11,3 +22,11 @@ pub returns-clause-asked : goal.returns-clause-asked
 returns-clause-asked g c =
     rw (← c.take.ensures.taken, c.in-Some.is)
     (asks_end _ (rw (c.take.ensures.some (rw c.in-Some.is refl)) at c.in_ok-cancel.ensures.asked).ok refl)
+
+pub returns-in_err-cancel-clause-left : goal.returns-in_err-cancel-clause-left
+returns-in_err-cancel-clause-left g c =
+    rw (← c.take.ensures.taken, c.in-Some.is)
+    (on_err _ (ap (λ (store : Records). let m : Machine = record (state_of c.args.view.now) { store = store } in m) (rw (c.take.ensures.some (rw c.in-Some.is refl)) at c.in_err-cancel.ensures.left)))
+
+pub returns-in_err-cancel-clause-unasked : goal.returns-in_err-cancel-clause-unasked
+returns-in_err-cancel-clause-unasked g c = on_err _ c.in_err-cancel.ensures.unasked

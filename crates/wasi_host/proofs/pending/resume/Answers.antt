@@ -1,14 +1,50 @@
-use Rattle.std.proofs.Common.{refl}
+use Rattle.std.proofs.Common.{◌≡◌, ℕ, Option, None, Result, Err, ap, refl}
+use Rattle.std.specs.Prelude.{OnErr}
+use Rattle.wasi_streams.specs.declared.fault.HostError.TheVariants.{Code, Trap, Memory}
 use Rattle.wasi_world.proofs.Walks.{asks_end}
-use Rattle.wasi_records.proofs.Hosts.{host_passed}
+use Rattle.wasi_records.specs.Stops.{SocketError, host_outcome}
+use Rattle.wasi_records.proofs.Hosts.{host_exit, host_passed}
+use Rattle.wasi_records.proofs.ReceiveLists.{on_err}
+use Rattle.wasi_host.specs.Standing.{call_of}
+use Rattle.wasi_host.specs.Store.{Records}
+use Rattle.wasi_host.specs.declared.store.Standing.{Standing}
 use Rattle.wasi_host.proofs.pending.resume.Goals as goal
 
-pub returns-in_err-answer-clause-asked : goal.returns-in_err-answer-clause-asked
-returns-in_err-answer-clause-asked g c =
-    rw (← c.take.ensures.taken, c.in-Some.is)
-    (host_passed _ _ c.from_residual.result c.from_residual.ensures.1 (rw (c.take.ensures.some (rw c.in-Some.is refl)) at c.in_err-answer.ensures.asked) (λ stop. refl))
+pub returns-in_default-clause-asked : goal.returns-in_default-clause-asked
+returns-in_default-clause-asked g c =
+    rw (← c.take.ensures.taken, c.in_default.is)
+    (rw (rw c.in_default.is at c.take.ensures.none) at c.resume_beside.ensures.asked)
 
-pub returns-clause-asked : goal.returns-clause-asked
-returns-clause-asked g c =
+-- no exclusive call of this number was pending, and none came
+none_came : {T : Type 0} (r : Result T SocketError) (line : ℕ) (found now old before : Option Standing) → now ≡ old → old ≡ before → found ≡ call_of before line → found ≡ None
+    → OnErr (host_outcome r) (call_of now line ≡ None)
+none_came r line found now old before e same taken none =
+    let over : call_of now line ≡ None = rw (e, same, ← taken) none in on_err (host_outcome r) over
+
+pub returns-in_default-clause-gone : goal.returns-in_default-clause-gone
+returns-in_default-clause-gone g c =
+    none_came c.resume_beside.result c.args.line c.take.result _ _ _ c.resume_beside.ensures.exclusive
+    (ap (λ (s : Records). s.standing) (rw c.in_default.is at c.take.ensures.none)) c.take.ensures.taken c.in_default.is
+
+pub returns-in-Ok-clause-asked : goal.returns-in-Ok-clause-asked
+returns-in-Ok-clause-asked g c =
     rw (← c.take.ensures.taken, c.in-Some.is)
-    (asks_end _ (rw (c.take.ensures.some (rw c.in-Some.is refl)) at c.in_ok-answer.ensures.asked.ok) refl)
+    (asks_end _ (rw (c.take.ensures.some (rw c.in-Some.is refl)) at c.in-Ok.ensures.asked.ok) refl)
+
+pub returns-in-Err-Code-clause-asked : goal.returns-in-Err-Code-clause-asked
+returns-in-Err-Code-clause-asked g c =
+    rw (← c.take.ensures.taken, c.in-Some.is)
+    (host_passed _ _ (Err (Code c.in-Err-Code.code)) refl (rw (c.take.ensures.some (rw c.in-Some.is refl), c.in-Err-Code.field-0-is) at c.in-Err-Code.ensures.asked) (λ stop. refl))
+
+pub returns-in-Err-Trap-clause-asked : goal.returns-in-Err-Trap-clause-asked
+returns-in-Err-Trap-clause-asked g c =
+    rw (← c.take.ensures.taken, c.in-Some.is)
+    (host_passed _ _ (Err (Trap c.in-Err-Trap.kind)) refl (rw (c.take.ensures.some (rw c.in-Some.is refl), c.in-Err-Trap.field-0-is) at c.in-Err-Trap.ensures.asked) (λ stop. refl))
+
+pub returns-in-Err-Memory-clause-asked : goal.returns-in-Err-Memory-clause-asked
+returns-in-Err-Memory-clause-asked g c =
+    rw (← c.take.ensures.taken, c.in-Some.is)
+    (host_exit _ (Err (Memory c.in-Err-Memory.e)) refl (rw (c.take.ensures.some (rw c.in-Some.is refl), c.in-Err-Memory.field-0-is) at c.in-Err-Memory.ensures.asked.err))
+
+pub returns-in-Err-Memory-clause-gone : goal.returns-in-Err-Memory-clause-gone
+returns-in-Err-Memory-clause-gone g c = rw c.forget_call.ensures refl

@@ -182,6 +182,9 @@ returns-in-P3TcpCreate-clause-asked g c = rw c.in-P3TcpCreate.is (asks_answered 
 pub returns-in-P3TcpBind-clause-asked : goal.returns-in-P3TcpBind-clause-asked
 returns-in-P3TcpBind-clause-asked g c = rw c.in-P3TcpBind.is (asks_answered (p3_answer_reply no_values c.args.ids.now.line) _ _ (rw c.requires.first at c.bind-answer.ensures.asked) (rw c.bind-answer.ensures.kept.ids at c.p3_answer_reply.ensures))
 
+pub returns-in-P3TcpConnect-clause-asked : goal.returns-in-P3TcpConnect-clause-asked
+returns-in-P3TcpConnect-clause-asked g c = rw c.in-P3TcpConnect.is (asks_answered (p3_answer_reply no_values c.args.ids.now.line) _ _ c.connect-answer.ensures.asked (rw c.connect-answer.ensures.kept.ids at c.p3_answer_reply-in-P3TcpConnect.ensures))
+
 pub returns-in-P3TcpLocalAddress-clause-asked : goal.returns-in-P3TcpLocalAddress-clause-asked
 returns-in-P3TcpLocalAddress-clause-asked g c = rw c.in-P3TcpLocalAddress.is (asks_answered (p3_reply address_values) _ _ c.get_local_address-told.ensures.asked c.p3_reply-in-P3TcpLocalAddress.ensures)
 

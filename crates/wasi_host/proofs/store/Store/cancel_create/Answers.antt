@@ -1,4 +1,4 @@
-use Rattle.std.proofs.Common.{Some, ap, sym, ◌∙◌}
+use Rattle.std.proofs.Common.{Some, ap, refl, sym, ◌∙◌}
 use Rattle.wasi_world.specs.Asks.{Give}
 use Rattle.wasi_world.proofs.Walks.{asks_end, asks_exit}
 use Rattle.wasi_host.specs.GivingBack.{given_back}
@@ -6,6 +6,7 @@ use Rattle.wasi_host.specs.Store.{Records}
 use Rattle.wasi_records.specs.declared.records.Record.TheVariants.{Udp}
 use Rattle.wasi_records.specs.declared.udp.UdpRecord.{UdpRecord}
 use Rattle.wasi_records.specs.declared.udp.UdpRecord.TheVariants.{Closed}
+use Rattle.wasi_records.proofs.ReceiveLists.{on_err}
 use Rattle.wasi_host.proofs.GivenBack.{given_back_put, knows_cancelled}
 use Rattle.wasi_host.proofs.store.Store.cancel_create.Goals as goal
 
@@ -16,7 +17,7 @@ returns-in_err-cancel-clause-asked g c =
 
 pub returns-clause-asked : goal.returns-clause-asked
 returns-clause-asked g c =
-    let store : Records = record { records = c.self.inside.records.items; jobs = c.self.inside.jobs.items; standing = c.self.inside.standing } in
+    let store : Records = record { records = c.self.inside.records.items; jobs = c.self.inside.jobs.items; standing = c.self.inside.standing; beside = c.self.inside.beside } in
     let found = sym c.in-Some.ensures.item ∙ ap (λ (u : UdpRecord). Some u) c.in-Creating.is in
     let gone = c.give_back.ensures.state ∙ ap (given_back c.args.place) (sym c.self.view_is) in
     rw (← c.self.view_is, found, gone)
@@ -24,7 +25,13 @@ returns-clause-asked g c =
 
 pub returns-clause-sides : goal.returns-clause-sides
 returns-clause-sides g c = λ k.
-    let store : Records = record { records = c.self.inside.records.items; jobs = c.self.inside.jobs.items; standing = c.self.inside.standing } in
+    let store : Records = record { records = c.self.inside.records.items; jobs = c.self.inside.jobs.items; standing = c.self.inside.standing; beside = c.self.inside.beside } in
     let found = sym c.in-Some.ensures.item ∙ ap (λ (u : UdpRecord). Some u) c.in-Creating.is in
     let gone = c.give_back.ensures.state ∙ ap (given_back c.args.place) (sym c.self.view_is) in
     rw gone (knows_cancelled store c.args.place c.in-Creating.create found c.in_ok-cancel.ensures.closed (rw (← c.self.view_is) at k))
+
+pub returns-in_err-cancel-clause-left : goal.returns-in_err-cancel-clause-left
+returns-in_err-cancel-clause-left g c = on_err _ refl
+
+pub returns-in_err-cancel-clause-unasked : goal.returns-in_err-cancel-clause-unasked
+returns-in_err-cancel-clause-unasked g c = on_err _ c.in_err-cancel.ensures.unasked

@@ -15,17 +15,17 @@ returns-in_err-close-clause-asked g c = rw (← c.self.view_is, udp_at c.self.in
 
 pub returns-in_err-close-clause-sides : goal.returns-in_err-close-clause-sides
 returns-in_err-close-clause-sides g c = λ k.
-    let store : Records = record { records = c.self.inside.records.items; jobs = c.self.inside.jobs.items; standing = c.self.inside.standing } in
+    let store : Records = record { records = c.self.inside.records.items; jobs = c.self.inside.jobs.items; standing = c.self.inside.standing; beside = c.self.inside.beside } in
     knows_fewer store c.args.place c.in-Some.record.now c.close.new.self (udp_at c.self.inside.records.items c.args.place c.in-Some.record c.in-Some.ensures.item) c.close.ensures.held (rw (← c.self.view_is) at k)
 
 pub returns-clause-asked : goal.returns-clause-asked
 returns-clause-asked g c =
-    let store : Records = record { records = c.self.inside.records.items; jobs = c.self.inside.jobs.items; standing = c.self.inside.standing } in
+    let store : Records = record { records = c.self.inside.records.items; jobs = c.self.inside.jobs.items; standing = c.self.inside.standing; beside = c.self.inside.beside } in
     let found = udp_at c.self.inside.records.items c.args.place c.in-Some.record c.in-Some.ensures.item in
     let left = c.leave_udp.ensures.state c.close.new.self (udp_there store.records c.args.place c.in-Some.record.now c.close.new.self found) ∙ left_put store c.args.place c.close.new.self in
     rw (← c.self.view_is, found) (asks_end _ c.in_ok-close.ensures.asked.ok (ap (λ (now : Records). Give (tt, now)) (sym left)))
 
 pub returns-clause-sides : goal.returns-clause-sides
 returns-clause-sides g c = λ k.
-    let store : Records = record { records = c.self.inside.records.items; jobs = c.self.inside.jobs.items; standing = c.self.inside.standing } in
+    let store : Records = record { records = c.self.inside.records.items; jobs = c.self.inside.jobs.items; standing = c.self.inside.standing; beside = c.self.inside.beside } in
     c.leave_udp.ensures.sides _ (knows_fewer store c.args.place c.in-Some.record.now c.close.new.self (udp_at c.self.inside.records.items c.args.place c.in-Some.record c.in-Some.ensures.item) c.close.ensures.held (rw (← c.self.view_is) at k))

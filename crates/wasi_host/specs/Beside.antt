@@ -1,0 +1,62 @@
+-- The pending calls that stand beside others: in the order of their lines.
+use Rattle.std.specs.Prelude.{ℕ, ◌==◌, Bool, true, false, not, ◌||◌, List, [], ◌∷◌, ◌++◌, Option, Some, None, is_some, Result, Ok, Err}
+use Rattle.std.specs.List.{filter, find}
+use Rattle.wasi_world.specs.declared.outcome.Answer.{Answer}
+use Rattle.wasi_world.specs.declared.outcome.Answer.TheVariants.{Ready, Pending}
+use Rattle.wasi_world.specs.declared.outcome.Refusal.{Refusal}
+use Rattle.wasi_world.specs.declared.outcome.Refusal.TheVariants.{Code, Memory}
+use Rattle.wasi_host.specs.declared.beside.Beside.{Beside}
+use Rattle.wasi_host.specs.declared.beside.BesideCall.{BesideCall}
+use Rattle.wasi_host.specs.Standing.{stands_as}
+use Rattle.wasi_host.specs.Store.{Records}
+
+-- the call under this number, and the calls but that
+abbrev pub beside_in : List Beside → ℕ → Option Beside
+beside_in calls line = find (λ b. b.line == line) calls
+
+abbrev pub beside_without : List Beside → ℕ → List Beside
+beside_without calls line = filter (λ b. not (b.line == line)) calls
+
+-- == of the records
+abbrev pub beside_of : Records → ℕ → Option Beside
+beside_of store line = beside_in store.beside line
+
+abbrev pub unbeside : Records → ℕ → Records
+unbeside store line = record store { beside = beside_without store.beside line }
+
+-- a call of either kind is pending under this number
+abbrev pub stands_under : Records → ℕ → Bool
+stands_under store line = stands_as store.standing line || is_some (beside_of store line)
+
+abbrev pub beside_as : ℕ → BesideCall → Beside
+beside_as line call = record { line = line; call = call }
+
+-- a call that is pending once it began is the last of them: lines rise
+abbrev pub besided : {A E : Type 0} → Beside → Result (Answer A) E × Records → Result (Answer A) E × Records
+besided b (Ok Pending, store) = (Ok Pending, record store { beside = store.beside ++ b ∷ [] })
+besided b (Ok (Ready value), store) = (Ok (Ready value), store)
+besided b (Err stop, store) = (Err stop, store)
+
+-- one that is polled again keeps its place while it is pending, and else is over
+abbrev pub beside_polled : {A E : Type 0} → ℕ → Result (Answer A) E × Records → Result (Answer A) E × Records
+beside_polled line (Ok Pending, store) = (Ok Pending, store)
+beside_polled line (Ok (Ready value), store) = (Ok (Ready value), unbeside store line)
+beside_polled line (Err stop, store) = (Err stop, unbeside store line)
+
+-- one that is given up is over, and nothing is asked: the socket of a connect keeps connecting
+abbrev pub beside_cancelled : Records → ℕ → Option Beside → Bool × Records
+beside_cancelled store line None = (false, store)
+beside_cancelled store line (Some b) = (true, unbeside store line)
+
+-- == the same of what the code answers
+abbrev pub begun_beside : {A : Type 0} → List Beside → Beside → Result (Answer A) Refusal → List Beside
+begun_beside calls b (Ok Pending) = calls ++ b ∷ []
+begun_beside calls b (Ok (Ready value)) = calls
+begun_beside calls b (Err refusal) = calls
+
+-- out of memory, it stays
+abbrev pub polled_beside : {A : Type 0} → List Beside → ℕ → Result (Answer A) Refusal → List Beside
+polled_beside calls line (Ok Pending) = calls
+polled_beside calls line (Ok (Ready value)) = beside_without calls line
+polled_beside calls line (Err (Code c)) = beside_without calls line
+polled_beside calls line (Err (Memory e)) = calls
