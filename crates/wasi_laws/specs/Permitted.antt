@@ -13,7 +13,7 @@ use Rattle.wasi_steps.specs.declared.reply.Reply.{Reply}
 use Rattle.wasi_steps.specs.declared.step.Step.{Step}
 use Rattle.wasi_steps.specs.declared.guest_call.GuestCall.TheVariants as guest
 use Rattle.wasi_steps.specs.declared.step.Step.TheVariants as step
-use Rattle.wasi_machine.specs.Machine.{is_guest_call, machine_asks}
+use Rattle.wasi_machine.specs.Machine.{is_held_up, machine_asks}
 use Rattle.wasi_walks.specs.Answered.{Answered}
 use Rattle.wasi_laws.specs.Writes.{let_write, let_splice, let_blocking_write, let_blocking_splice, let_resumed}
 
@@ -30,10 +30,10 @@ permitted_when m side line (step.Call ctx (guest.BlockingSplice to from len)) en
 permitted_when m side line (step.Poll n) entries = let_resumed side m (call_of m.store.standing n) entries
 permitted_when m side line s entries = []
 
--- while a call is pending every guest call is busy
+-- while an exclusive call is pending every guest call is busy, and so is a poll of a call beside it
 abbrev pub permitted_in : Machine → OpId → ℕ → Option Standing → Step → List Entry → List ℕ
 permitted_in m side line None s entries = permitted_when m side line s entries
-permitted_in m side line (Some standing) s entries = if is_guest_call s then [] else permitted_when m side line s entries
+permitted_in m side line (Some standing) s entries = if is_held_up m.store s then [] else permitted_when m side line s entries
 
 -- the bytes that the machine lets a step write to a network socket, along these first entries of its line
 abbrev pub permitted_by : Machine → OpId → ℕ → Step → List Entry → List ℕ

@@ -101,7 +101,7 @@ pub use Rattle.wasi_steps.specs.declared.reply.Reply.{Reply}
 pub use Rattle.wasi_steps.specs.declared.setting.TcpSetting.{TcpSetting}
 pub use Rattle.wasi_steps.specs.declared.guest_call.GuestCall.{GuestCall}
 pub use Rattle.wasi_steps.specs.declared.step.Step.{Step}
-pub use Rattle.wasi_machine.specs.Machine.{HasRun, asks_while, context_at, context_in, first_ids, is_guest_call, machine_asks, resumed_reply, run}
+pub use Rattle.wasi_machine.specs.Machine.{HasRun, asks_while, context_at, context_in, first_ids, is_guest_call, is_held_up, machine_asks, resumed_reply, run}
 pub use Rattle.wasi_machine.specs.Machine.{set_chosen, step_asks}
 pub use Rattle.wasi_walks.specs.Licence.{BeganBy, Created, Handed, HandedNone, Has, HasWildcardYes, IsAdmitted, IsBacklogSet, IsBindTo, IsBoundSide}
 pub use Rattle.wasi_walks.specs.Licence.{IsConnectTo, IsLastLocal, IsLicensed, IsListenStep, IsMaker, IsMarkOf, IsMarkedWith, IsSide, IsTcpCreate}

@@ -278,6 +278,7 @@ IsBindTo addr _ = ⊥
 -- a connect to this address
 abbrev pub IsConnectTo : IpSocketAddress → Step → Type 0
 IsConnectTo addr (step.Call ctx (guest.TcpStartConnect socket network a)) = a ≡ addr
+IsConnectTo addr (step.Call ctx (guest.P3TcpConnect socket a)) = a ≡ addr
 IsConnectTo addr _ = ⊥
 
 -- a listen

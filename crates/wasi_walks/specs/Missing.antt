@@ -17,7 +17,10 @@ use Rattle.wasi_host.specs.declared.store.StandingCall.TheVariants as standing
 use Rattle.wasi_host.specs.Kinds.{kind_at, is_network, is_error, udp_of, watched_by, watch_of, place_in}
 use Rattle.wasi_host.specs.Machine.{lookup_number}
 use Rattle.wasi_records.specs.Records.{tcp2_at, udp2_at, open_at, input_pipe_at, output_pipe_at}
-use Rattle.wasi_host.specs.Standing.{call_of}
+use Rattle.wasi_host.specs.Standing.{call_of, stands_as}
+use Rattle.wasi_host.specs.declared.beside.BesideCall.{BesideCall}
+use Rattle.wasi_host.specs.declared.beside.BesideCall.TheVariants.{Connect}
+use Rattle.wasi_host.specs.Beside.{beside_of}
 use Rattle.wasi_host.specs.StreamCalls.{plain_input_at, plain_output_at}
 use Rattle.wasi_p3.specs.Lines as p3
 use Rattle.wasi_steps.specs.Steps.{Kind, HandleOf, ALine, ANetwork, ASocket, ASocket3, ADatagramSocket, ADatagramSocket3, AnInput, AnOutput, AnIncoming, AnOutgoing, ALookup, AnError, Watchable, APollable, Anything, SomePollables, Value, Values, written_of}
@@ -101,9 +104,20 @@ IsOnNothing m (standing.UdpConnect place handle) = (open_at m.store.records plac
 IsOnNothing m (standing.DropOutgoing place) = ⊥
 IsOnNothing m (standing.Blocking call) = MissesStream m call
 
--- the pending call under this number is a bind, a listen, a create or a connect of no socket, or a call on no stream or no pollable
+-- a call that stands beside others is a connect of no socket: that one was dropped
+abbrev pub IsOfNoSocket : Machine → BesideCall → Type 0
+IsOfNoSocket m (Connect place) = tcp2_at m.store.records place ≡ None
+
+abbrev pub BesideNothing : Machine → ℕ → Type 0
+BesideNothing m n = (stands_as m.store.standing n ≡ false) × IsSomeAnd (beside_of m.store n) (λ b. IsOfNoSocket m b.call)
+
+-- the exclusive call under this number is a bind, a listen, a create or a connect of no socket, or a call on no stream or no pollable
+abbrev pub ExclusiveOnNothing : Machine → ℕ → Type 0
+ExclusiveOnNothing m n = IsSomeAnd (call_of m.store.standing n) (λ s. IsOnNothing m s.call)
+
+-- the pending call under this number is of nothing
 abbrev pub StandsOnNothing : Machine → ℕ → Type 0
-StandsOnNothing m n = IsSomeAnd (call_of m.store.standing n) (λ s. IsOnNothing m s.call)
+StandsOnNothing m n = ExclusiveOnNothing m n ⊎ BesideNothing m n
 
 -- == traps
 -- an argument misses what it names: a handle that isn't live, or is of something else; or the call of a line that is on nothing

@@ -51,7 +51,9 @@ use Rattle.wasi_host.specs.Kinds.{kind_at, watch_of, place_in}
 use Rattle.wasi_records.specs.Datagrams.{sends}
 use Rattle.wasi_host.specs.Machine.{output_at, outgoing_at, watched_side}
 use Rattle.wasi_records.specs.InProgress.{is_nothing, is_connect}
-use Rattle.wasi_host.specs.Standing.{unstood}
+use Rattle.wasi_host.specs.Beside.{unbeside}
+use Rattle.wasi_host.specs.Standing.{call_of, unstood}
+use Rattle.wasi_host.specs.declared.store.Standing.{Standing}
 use Rattle.wasi_steps.specs.declared.reply.CodeWord.{CodeWord}
 use Rattle.wasi_steps.specs.declared.reply.Reply.{Reply}
 use Rattle.wasi_steps.specs.declared.reply.Reply.TheVariants as reply
@@ -128,14 +130,15 @@ abbrev pub IsPoll : Step → Type 0
 IsPoll (step.Poll n) = ⊤
 IsPoll _ = ⊥
 
--- the step may be pending under this number: a bind or the start of one, that of a listen, a create of a UDP socket, that of its streams,
--- the drop of an output or of an outgoing datagram stream, and a call that blocks, of a stream or for pollables, under their line's, and
--- a poll under the one that it polls
+-- the step may be pending under this number: a bind or the start of one, a connect of 0.3, the start of a listen, a create of a UDP
+-- socket, that of its streams, the drop of an output or of an outgoing datagram stream, and a call that blocks, of a stream or for
+-- pollables, under their line's, and a poll under the one that it polls
 abbrev pub MayStand : Machine → ℕ → Step → ℕ → Type 0
 MayStand m line (step.Call ctx (guest.TcpStartBind socket network a)) n = n ≡ line
 MayStand m line (step.Call ctx (guest.TcpStartListen socket)) n = n ≡ line
 MayStand m line (step.Call ctx (guest.UdpCreate family)) n = n ≡ line
 MayStand m line (step.Call ctx (guest.P3TcpBind socket a)) n = n ≡ line
+MayStand m line (step.Call ctx (guest.P3TcpConnect socket a)) n = n ≡ line
 MayStand m line (step.Call ctx (guest.P3UdpCreate family)) n = n ≡ line
 MayStand m line (step.Call ctx (guest.P3UdpBind socket a)) n = n ≡ line
 MayStand m line (step.Call ctx (guest.UdpStartBind socket network a)) n = n ≡ line
@@ -331,7 +334,15 @@ pub record StandingFails (m : Machine) (n : ℕ) (entries : List Entry) (word : 
 abbrev pub nothing_stands : Machine → Machine
 nothing_stands m = record m { store = unstood m.store }
 
--- a trap for lack of a handle leaves the machine, but a poll leaves nothing pending
+-- a call that stands beside others is over
+abbrev pub call_over : Machine → ℕ → Machine
+call_over m n = record m { store = unbeside m.store n }
+
+abbrev pub left_by : Machine → ℕ → Option Standing → Machine
+left_by m n (Some s) = nothing_stands m
+left_by m n None = call_over m n
+
+-- a trap for lack of a handle leaves the machine, but the call that a poll is of is over
 abbrev pub left_missing : Machine → Step → Machine
-left_missing m (step.Poll n) = nothing_stands m
+left_missing m (step.Poll n) = left_by m n (call_of m.store.standing n)
 left_missing m _ = m

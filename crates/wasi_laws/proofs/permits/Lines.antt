@@ -1,9 +1,9 @@
 -- What a line is let write: what its step may write at once, or what its calls of streams let begin.
 use Rattle.wasi_world.specs.declared.ids.Ids.{Ids}
 use Rattle.wasi_streams.specs.Streams.{zeros}
+use Rattle.wasi_host.specs.Beside.{beside_of}
 use Rattle.wasi_host.specs.Blocking.{Blocked}
 use Rattle.wasi_host.specs.CallStops.{Closed, Failed, Traps}
-use Rattle.wasi_records.specs.Stops.{Stop}
 use Rattle.wasi_host.specs.Pending.{blocked_outcome, nothing_given, resume_call, resumed}
 use Rattle.wasi_host.specs.Standing.{call_of, standing_as, unstood}
 use Rattle.wasi_host.specs.declared.blocking.BlockingCall.{BlockingCall}
@@ -12,22 +12,23 @@ use Rattle.wasi_host.specs.declared.pending.Outcome.{Outcome}
 use Rattle.wasi_host.specs.declared.pending.Outcome.TheVariants as outcome
 use Rattle.wasi_host.specs.declared.store.StandingCall.{StandingCall}
 use Rattle.wasi_host.specs.declared.store.StandingCall.TheVariants.{Blocking}
-use Rattle.wasi_world.specs.declared.outcome.Answer.{Answer}
 use Rattle.wasi_world.specs.declared.outcome.Answer.TheVariants.{Pending, Ready}
 use Rattle.wasi_steps.specs.declared.guest_call.GuestCall.TheVariants as guest
 use Rattle.wasi_steps.specs.declared.step.Step.TheVariants as step
 use Rattle.wasi_steps.specs.Reply.{no_values}
-use Rattle.wasi_machine.specs.Machine.{blocked_reply_of, first_ids, resumed_reply, stream_reply_of}
+use Rattle.wasi_steps.specs.declared.reply.Reply.TheVariants as reply
+use Rattle.wasi_machine.specs.Machine.{blocked_reply_of, first_ids, is_held_up, resumed_reply, step_asks, stream_reply_of}
 use Rattle.wasi_walks.proofs.Words.{handles_of}
 use Rattle.wasi_walks.proofs.walks.Blocking.{Recalled}
 use Rattle.wasi_walks.proofs.walks.Calls.{Calling}
+use Rattle.wasi_walks.proofs.walks.Connects.{resume_beside_walks}
 use Rattle.wasi_walks.proofs.walks.Law.{give, gives, move}
 use Rattle.wasi_walks.proofs.walks.Moves.{IsStreamCall, Names, RecallsCall, Unstands}
 use Rattle.wasi_walks.proofs.walks.States.{stands_so}
 use Rattle.wasi_walks.proofs.walks.Here.{NoStartStands, takes_none}
 use Rattle.wasi_walks.proofs.walks.Steps.{IsSimple, begun_calls, simple_walks}
 use Rattle.wasi_walks.proofs.walks.Writes.{let_write as let_own}
-use Rattle.wasi_laws.proofs.Words.{base_over, ◌+◌, permitted_by, true, false, if◌then◌else◌, ◌==◌, Asks, BaseBetween, Bool, Entry, Err, Give, List, Machine, None, Ok, OpId, Option, Over, Own, Reply, Result, Some, Spends, Standing, Starts, Step, ToConnect, ToWrite, Unused, Used, WasiSocketsCtx, [], ap, append-nil, asks_while, base_starts, bind, inl, inr, length, machine_asks, may_while, nat_lt, number_fields, own_of, permitted_in, refl, subst, sym, taken_in, ℕ, ◌++◌, ◌∙◌, ◌≡◌, arith}
+use Rattle.wasi_laws.proofs.Words.{base_over, ◌+◌, permitted_by, permitted_when, true, false, if◌then◌else◌, ◌==◌, Asks, BaseBetween, Bool, Entry, Err, Give, List, Machine, None, Ok, OpId, Option, Over, Own, Reply, Some, Spends, Standing, Starts, Step, ToConnect, ToWrite, Unused, Used, WasiSocketsCtx, [], ap, append-nil, asks_while, base_starts, bind, inl, inr, length, machine_asks, may_while, nat_lt, number_fields, own_of, permitted_in, refl, subst, sym, taken_in, ℕ, ◌++◌, ◌∙◌, ◌≡◌, arith}
 use Rattle.wasi_laws.proofs.shapes.Law.{Shaped}
 use Rattle.wasi_laws.proofs.shapes.Shape.{some_same}
 use Rattle.wasi_laws.proofs.permits.Agreeing.{Agreeing, agrees_over}
@@ -105,19 +106,20 @@ module _ (contexts : List WasiSocketsCtx) (side : OpId) where
         (lets_given side (λ bytes fs done. Ends contexts side line s bytes fs (resumed done)) (Ends contexts side line s) (blocked_outcome gives) (λ bytes fs done k. subst (λ (x : Machine). Holds contexts side line s bytes fs (Over x)) (sym (resumed_so gives done)) k) all es asks h)
 
     -- a pending call that writes after it asked
-    abbrev Resumes : Option Standing → Type 0
-    Resumes o = Gives contexts side line s given es (let_resumed side m o) (resume_call m o)
+    abbrev Resumes : ℕ → Option Standing → Type 0
+    Resumes n o = Gives contexts side line s given es (let_resumed side m o) (resume_call m n o)
 
-    missing : Resumes None
-    missing = let done : Result (Option (Answer Outcome)) Stop × Machine = (Ok None, m) in over contexts side line s given {asks = Give done} (gives _ (Spends _ refl)) es begins
+    -- one beside others, or none
+    missing : (n : ℕ) → Resumes n None
+    missing n = over contexts side line s given (resume_beside_walks m n (beside_of m.store n)) es begins
 
     -- it is resumed, where it has that number
-    found : (n : ℕ) (c : Standing) → m.store.standing ≡ Some c → Resumes (Some c) → Along (let_resumed side m (call_of m.store.standing n)) (bind (resume_call m (call_of m.store.standing n)) (λ done. Give (resumed_reply n done.0, done.1)))
-    found n c e h = replied (resumed_reply n) (let_resumed side m (call_of m.store.standing n)) (resume_call m (call_of m.store.standing n)) (by_number (call_of m.store.standing n) refl)
+    found : (n : ℕ) (c : Standing) → m.store.standing ≡ Some c → Resumes n (Some c) → Along (let_resumed side m (call_of m.store.standing n)) (bind (resume_call m n (call_of m.store.standing n)) (λ done. Give (resumed_reply n done.0, done.1)))
+    found n c e h = replied (resumed_reply n) (let_resumed side m (call_of m.store.standing n)) (resume_call m n (call_of m.store.standing n)) (by_number (call_of m.store.standing n) refl)
       where
-        by_number : (o : Option Standing) → call_of m.store.standing n ≡ o → Resumes o
-        by_number None q = missing
-        by_number (Some x) q = let its : c ≡ x = some_same c x (sym e ∙ (stands_so m.store.standing n x q).0) in subst (λ (y : Standing). Resumes (Some y)) its h
+        by_number : (o : Option Standing) → call_of m.store.standing n ≡ o → Resumes n o
+        by_number None q = missing n
+        by_number (Some x) q = let its : c ≡ x = some_same c x (sym e ∙ (stands_so m.store.standing n x q).0) in subst (λ (y : Standing). Resumes n (Some y)) its h
 
   module _ (line : ℕ) (given : List ℕ) (es : List Entry) (m : Machine) (i : LetSo line given es m) where
     -- a call that writes nothing is let write nothing
@@ -131,16 +133,31 @@ module _ (contexts : List WasiSocketsCtx) (side : OpId) where
     none_polled : (n : ℕ) (o : Option Standing) (gs : List Entry) → m.store.standing ≡ o → [] ≡ let_resumed side m (call_of o n) gs → [] ≡ let_resumed side m (call_of m.store.standing n) gs
     none_polled n o gs e h = subst (λ (x : Option Standing). [] ≡ let_resumed side m (call_of x n) gs) (sym e) h
 
+    -- it is busy, where it polls a call beside others; else it goes on
+    poll_held : (n : ℕ) (c : Standing) → Along line (step.Poll n) given es m i (permitted_when m side line (step.Poll n)) (step_asks contexts m line (step.Poll n)) → Along line (step.Poll n) given es m i (permitted_in m side line (Some c) (step.Poll n)) (asks_while contexts m line (step.Poll n) (Some c))
+    poll_held n c goes = by_test (is_held_up m.store (step.Poll n))
+      where
+        busy : Reply × Machine
+        busy = (reply.Busy, m)
+
+        by_test : (b : Bool) → Along line (step.Poll n) given es m i (λ gs. if b then [] else permitted_when m side line (step.Poll n) gs) (if b then Give busy else step_asks contexts m line (step.Poll n))
+        by_test true = over contexts side line (step.Poll n) given {asks = Give busy} (gives _ (Spends _ refl)) es (begins line (step.Poll n) given es m i)
+        by_test false = goes
+
+    none_held : (n : ℕ) (gs : List Entry) → [] ≡ let_resumed side m (call_of m.store.standing n) gs → (b : Bool) → [] ≡ (if b then [] else permitted_when m side line (step.Poll n) gs)
+    none_held n gs e true = refl
+    none_held n gs e false = e
+
     poll_lets : (n : ℕ) (ids : Ids) (call : StandingCall) → (let o = Some (standing_as ids call) in m.store.standing ≡ o → Along line (step.Poll n) given es m i (permitted_in m side line o (step.Poll n)) (asks_while contexts m line (step.Poll n) o))
     poll_lets n ids (Blocking (blocking.Write output rest)) e =
         let now : Machine = record m { store = unstood m.store } in
-        found line (step.Poll n) given es m i n _ e (unblocked line (step.Poll n) given es m i nothing_given (let_all side (own_of ids.line) output now rest) _ (all_lets contexts side line (step.Poll n) ids output given es None now rest (recalls line (step.Poll n) given es m i ids (blocking.Write output rest) e)))
+        poll_held n (standing_as ids (Blocking (blocking.Write output rest))) (found line (step.Poll n) given es m i n _ e (unblocked line (step.Poll n) given es m i nothing_given (let_all side (own_of ids.line) output now rest) _ (all_lets contexts side line (step.Poll n) ids output given es None now rest (recalls line (step.Poll n) given es m i ids (blocking.Write output rest) e))))
     poll_lets n ids (Blocking (blocking.Splice to from len)) e =
         let now : Machine = record m { store = unstood m.store } in
-        found line (step.Poll n) given es m i n _ e (unblocked line (step.Poll n) given es m i outcome.Count (let_blocking_splice side now (own_of ids.line) to from len) _ (blocking_splice_lets contexts side line (step.Poll n) ids to from len given es None now (recalls line (step.Poll n) given es m i ids (blocking.Splice to from len) e)))
-    poll_lets n ids call e = simple line (step.Poll n) given es m i (Some (standing_as ids call)) e tt (λ gs. none_polled n (Some (standing_as ids call)) gs e (none_resumed n ids call gs refl))
+        poll_held n (standing_as ids (Blocking (blocking.Splice to from len))) (found line (step.Poll n) given es m i n _ e (unblocked line (step.Poll n) given es m i outcome.Count (let_blocking_splice side now (own_of ids.line) to from len) _ (blocking_splice_lets contexts side line (step.Poll n) ids to from len given es None now (recalls line (step.Poll n) given es m i ids (blocking.Splice to from len) e))))
+    poll_lets n ids call e = simple line (step.Poll n) given es m i (Some (standing_as ids call)) e tt (λ gs. none_held n gs (none_polled n (Some (standing_as ids call)) gs e (none_resumed n ids call gs refl)) (is_held_up m.store (step.Poll n)))
 
-    -- while a call is pending every guest call is busy
+    -- while an exclusive call is pending every guest call is busy
     busy_lets : (s : Step) (c : Standing) → m.store.standing ≡ Some c → Along line s given es m i (permitted_in m side line (Some c) s) (asks_while contexts m line s (Some c))
     busy_lets (step.Poll n) c e = poll_lets n c.ids c.call e
     busy_lets s c e = simple line s given es m i (Some c) e tt (λ gs. refl)

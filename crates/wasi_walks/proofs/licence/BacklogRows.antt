@@ -41,7 +41,7 @@ sets = listens Told.Done
     ∷ [])
 
 abbrev listening : Machine
-listening = record { table = two_handles; store = record { records = rec.Tcp (listening_record 9 InProgress.Nothing) ∷ []; jobs = []; standing = None } }
+listening = record { table = two_handles; store = record { records = rec.Tcp (listening_record 9 InProgress.Nothing) ∷ []; jobs = []; standing = None; beside = [] } }
 
 abbrev done : Reply
 done = Reply.Ok no_fields

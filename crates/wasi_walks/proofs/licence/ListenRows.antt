@@ -75,6 +75,7 @@ accepted = record {
         ∷ [];
     jobs = [];
     standing = None;
+    beside = [];
   };
 }
 

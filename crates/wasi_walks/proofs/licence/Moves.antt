@@ -9,12 +9,12 @@ use Rattle.wasi_walks.proofs.Words.{new_job, new_streams, own_of, refl, side_in,
 use Rattle.wasi_walks.proofs.Words.{sym, true, wildcard, with_inner, with_listening, with_progress, with_state, with_writer, written_by, ℕ, ◌∙◌, ◌≡◌}
 use Rattle.wasi_walks.proofs.licence.ListenAsks.{Whole as WholeListen}
 use Rattle.wasi_walks.proofs.claims.Law.{Base, same_begun, fresh_to_come}
-use Rattle.wasi_walks.proofs.walks.Moves.{EndsConnect, Own, Past, ToStream, Used, CallsHandles, RecallsCall, ReachesHandle, StandsBlocking, CancelsBind, CancelsUdpBind, CancelsUdpConnect, GoesOn, RemembersStreams, RecallsStreams, BeginsUdpConnect, StandsUdpConnect, StandsDropOutgoing, Counts, SpendsNames, BeginsSend, BeginsReceive, closed_record, Here, put, Found, WriterMoves, Collects, LastsAfter, Closes, Plain, Move, Reaches, ReachesUdp, Leaves, Spends, Changes, ClosesReader, Writes, IsGone, opened_by, Reconnects, Opens, BeginsConnect, BeginsBind, BeginsWrite, begun_bind, Stands, Resumes, Unstands, UdpChanges, BeginsUdpBind, StandsUdpBind, StandsUdpCreate, Finds, Lists, Takes, BeginsListen, BeginsAccept, Unlistens, Forgets, Watches, Joins, accepting_now, begun_listen, beginning_listen, new_accept, joined, part_of}
+use Rattle.wasi_walks.proofs.walks.Moves.{EndsConnect, Own, Past, ToStream, Used, CallsHandles, RecallsCall, ReachesHandle, StandsBlocking, CancelsBind, CancelsUdpBind, CancelsUdpConnect, GoesOn, RemembersStreams, RecallsStreams, BeginsUdpConnect, StandsUdpConnect, StandsDropOutgoing, Counts, SpendsNames, BeginsSend, BeginsReceive, closed_record, Here, put, Found, WriterMoves, Collects, LastsAfter, Closes, Plain, Move, Reaches, ReachesUdp, Leaves, Spends, Changes, ClosesReader, Writes, IsGone, opened_by, Reconnects, Opens, BeginsConnect, BeginsBind, BeginsWrite, begun_bind, Stands, Resumes, Unstands, StandsBeside, EndsBeside, UdpChanges, BeginsUdpBind, StandsUdpBind, StandsUdpCreate, Finds, Lists, Takes, BeginsListen, BeginsAccept, Unlistens, Forgets, Watches, Joins, accepting_now, begun_listen, beginning_listen, new_accept, joined, part_of}
 use Rattle.std.specs.Prelude.{◌+◌}
 use Rattle.wasi_walks.proofs.walks.Here.{IsToCome, next_shrinks, next_to_come, shrinks_to}
 use Rattle.wasi_walks.proofs.licence.State.{ConnectIsFine, ConnectLeft, Unbound, Unchecked, ReadsOn, Whole, ToWrite, Names, BindIsFine, EndTold, ErrorTold, JobIsFine, WritesOn, StreamsAreFine, AcceptingIsFine, ListeningIsFine, SocketIsFine, RecordIsFine, IsHanded, Unarrived, AcceptingStands, ListeningStands, ListenerIsFine, MakesStreams, OfTcp, OfUdp, StreamsStand, CreateStands, name_in}
 use Rattle.wasi_walks.proofs.licence.Frames.{same_listening, listening_kept, listening_gone, Only, KeepsSide, record_kept}
-use Rattle.wasi_walks.proofs.licence.States.{state_taken, state_put, state_stands, state_unstands, state_jobs, state_renewed, state_joined}
+use Rattle.wasi_walks.proofs.licence.States.{state_taken, state_put, state_stands, state_unstands, state_beside, state_jobs, state_renewed, state_joined}
 use Rattle.wasi_walks.proofs.licence.WriteJobs.{shut_after}
 use Rattle.wasi_walks.proofs.licence.Line.{put_with, keeps_plain, seam, no_listen, part_names, ListenGoesOn, NotMarked, NamesMade, Licensed, MakingStands, KeepsListen, put_fine, owned, remade, spent, elsewhere}
 use Rattle.wasi_walks.proofs.licence.LookupMoves.{fewer_fine, records_fine}
@@ -295,6 +295,8 @@ module _ (contexts : List WasiSocketsCtx) (steps : List Step) (line : ℕ) (orig
   moves_fine es _ _ (Stands h ids call r quiet at g k) b i = elsewhere es h _ refl refl refl i (state_stands contexts steps es h.machine (standing_as ids call) (let none = no_streams_stand r h.machine.store.records ids.line call k in (λ o. OfTcp r g (i.names (call_place call) ids.line r at g), none.0, none.1)) i.fine) i.names i.udp_names
   moves_fine es _ _ (Resumes h s e o) b i = resumes contexts steps line origin is_line es h s e o i
   moves_fine es _ _ (Unstands h over) b i = elsewhere es h _ refl refl refl i (state_unstands contexts steps es h.machine i.fine) i.names i.udp_names
+  moves_fine es _ _ (StandsBeside h place r op at g s e) b i = elsewhere es h _ refl refl refl i (state_beside contexts steps es h.machine _ i.fine) i.names i.udp_names
+  moves_fine es _ _ (EndsBeside h n) b i = elsewhere es h _ refl refl refl i (state_beside contexts steps es h.machine _ i.fine) i.names i.udp_names
   moves_fine es _ _ (UdpChanges h place o now g p keeps) b i = udp_changes contexts steps line origin is_line es h place o now g p i
   moves_fine es _ _ (BeginsUdpBind h place o a at g to u) b i = begins_udp_bind contexts steps line origin is_line es h place o a at g to i
   moves_fine es _ _ (StandsUdpBind h ids place face o op quiet at g e) b i =

@@ -38,7 +38,7 @@ two_handles = record { next = 3; live = record { handle = 1; value = slot.Networ
 abbrev with_socket : ℕ → SocketAddressFamily → InProgress → Option Standing → Machine
 with_socket ctx f doing standing = record {
   table = two_handles;
-  store = record { records = rec.Tcp (with_progress (new_record (new_socket (own_of 2) ctx f)) doing) ∷ []; jobs = []; standing = standing };
+  store = record { records = rec.Tcp (with_progress (new_record (new_socket (own_of 2) ctx f)) doing) ∷ []; jobs = []; standing = standing; beside = [] };
 }
 
 -- == a bind
@@ -128,6 +128,6 @@ abbrev forbidden_script : List Step
 forbidden_script = Step.Call 0 GuestCall.Network ∷ Step.Call 0 (GuestCall.TcpCreate SocketAddressFamily.Ipv4) ∷ []
 
 forbidden_run : Left (run forbidden [] first_state 1 forbidden_script) (entry (own_of 1) (Call.Made 1 kind.Network None None) Told.Done ∷ [])
-    (Give (Reply.Ok (number_fields 1) ∷ Reply.Err word.AccessDenied ∷ [], record { table = record { next = 2; live = record { handle = 1; value = slot.Network; parent = None } ∷ [] }; store = record { records = []; jobs = []; standing = None } }))
+    (Give (Reply.Ok (number_fields 1) ∷ Reply.Err word.AccessDenied ∷ [], record { table = record { next = 2; live = record { handle = 1; value = slot.Network; parent = None } ∷ [] }; store = record { records = []; jobs = []; standing = None; beside = [] } }))
 unfolding bind
 forbidden_run = ((refl, refl, tt), refl)

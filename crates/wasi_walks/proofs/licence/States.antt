@@ -8,6 +8,7 @@ use Rattle.wasi_host.specs.Kinds.{name_of}
 use Rattle.wasi_records.specs.Udp.{udp_side}
 use Rattle.wasi_walks.specs.Licence.{IsMarkedAs}
 use Rattle.wasi_host.specs.UdpCalls.{with_udp}
+use Rattle.wasi_host.specs.declared.beside.Beside.{Beside}
 use Rattle.wasi_jobs.specs.declared.job.HostJob.{HostJob}
 use Rattle.wasi_records.specs.declared.records.Record.TheVariants.{Tcp, Udp}
 use Rattle.wasi_records.specs.declared.udp.UdpRecord.{UdpRecord}
@@ -162,6 +163,10 @@ module _ (contexts : List WasiSocketsCtx) (steps : List Step) where
   -- none is pending
   pub state_unstands : (es : List Entry) (m : Machine) → StateIsFine contexts steps es m → StateIsFine contexts steps es (record m { store = record m.store { standing = None } })
   state_unstands es m h = record { count = h.count; handles = h.handles; records = h.records; udp = h.udp; lookups = h.lookups; standing = λ d e. absurd (cc); accepts = h.accepts; one = h.one }
+
+  -- which calls stand beside others is nothing to it
+  pub state_beside : (es : List Entry) (m : Machine) (beside : List Beside) → StateIsFine contexts steps es m → StateIsFine contexts steps es (record m { store = record m.store { beside = beside } })
+  state_beside es m beside h = record { count = h.count; handles = h.handles; records = h.records; udp = h.udp; lookups = h.lookups; standing = h.standing; accepts = h.accepts; one = h.one }
 
   -- which writes are in progress is nothing to it
   pub state_jobs : (es : List Entry) (m : Machine) (jobs : List HostJob) → StateIsFine contexts steps es m → StateIsFine contexts steps es (record m { store = record m.store { jobs = jobs } })

@@ -59,7 +59,7 @@ piped = record {
         ∷ record { handle = 6; value = slot.PlainOutput plain_output.Closed; parent = None }
         ∷ [];
   };
-  store = record { records = rec.InputPipe [] ∷ rec.OutputPipe (record { held = 1 ∷ 2 ∷ []; capacity = 16 }) ∷ []; jobs = []; standing = None };
+  store = record { records = rec.InputPipe [] ∷ rec.OutputPipe (record { held = 1 ∷ 2 ∷ []; capacity = 16 }) ∷ []; jobs = []; standing = None; beside = [] };
 }
 
 pipe_run : Left (run allowed [] first_state 1 pipe_script) pipe_log (Give (pipe_replies, piped))
@@ -135,6 +135,7 @@ closed permit = record {
     records = rec.Tcp (record (new_record (new_socket its 0 SocketAddressFamily.Ipv4)) { inner = connection; streams = Some (record { reader = ReadState.Closed; writer = WriteState.Ready (record { side = its }) permit }) }) ∷ [];
     jobs = [];
     standing = None;
+    beside = [];
   };
 }
 

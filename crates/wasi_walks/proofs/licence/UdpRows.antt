@@ -41,7 +41,7 @@ udp_log = begins ++ (entry (own_of 3) (Call.Check 0 local_80 SocketAddrUse.UdpBi
 abbrev udp_end : Machine
 udp_end = record {
   table = record { next = 3; live = record { handle = 1; value = slot.Network; parent = None } ∷ record { handle = 2; value = slot.Udp2 0; parent = None } ∷ [] };
-  store = record { records = rec.Udp (opened_udp (new_socket (own_of 2) 0 SocketAddressFamily.Ipv4)) ∷ []; jobs = []; standing = None };
+  store = record { records = rec.Udp (opened_udp (new_socket (own_of 2) 0 SocketAddressFamily.Ipv4)) ∷ []; jobs = []; standing = None; beside = [] };
 }
 
 -- the machine makes these calls, and ends so
@@ -148,7 +148,7 @@ forbidden_create h =
 
 -- and the machine makes none there
 forbidden_run : Left (run no_datagrams [] first_state 1 (Step.Call 0 GuestCall.Network ∷ Step.Call 0 (GuestCall.UdpCreate SocketAddressFamily.Ipv4) ∷ [])) network
-    (Give (Reply.Ok (number_fields 1) ∷ Reply.Err word.AccessDenied ∷ [], record { table = record { next = 2; live = record { handle = 1; value = slot.Network; parent = None } ∷ [] }; store = record { records = []; jobs = []; standing = None } }))
+    (Give (Reply.Ok (number_fields 1) ∷ Reply.Err word.AccessDenied ∷ [], record { table = record { next = 2; live = record { handle = 1; value = slot.Network; parent = None } ∷ [] }; store = record { records = []; jobs = []; standing = None; beside = [] } }))
 unfolding bind
 forbidden_run = ((refl, refl, tt), refl)
 

@@ -10,7 +10,7 @@ use Rattle.wasi_walks.proofs.Words.{connect_operation, context_at, false, gone, 
 use Rattle.wasi_walks.proofs.Words.{listen_ended, listen_first, listen_operation, listen_polled, nat_lt, new_job, new_streams, own_of, place_in}
 use Rattle.wasi_walks.proofs.Words.{side_at, side_of, standing_as, true, wildcard, with_accept, with_inner, with_listening}
 use Rattle.wasi_walks.proofs.Words.{with_progress, with_reader, with_state, with_writer, without_handle, writer_side, ℕ, ⊤}
-use Rattle.wasi_walks.proofs.Words.{◌≡◌, ◌⊎◌}
+use Rattle.wasi_walks.proofs.Words.{◌≡◌, ◌⊎◌, ◌++◌, ◌∷◌, []}
 use Rattle.wasi_world.specs.declared.ids.Ids.{Ids}
 pub use Rattle.wasi_walks.proofs.walks.Here.{Interface, IsDropped, IsUdpDropped, P2, P3, tcp_kind, tcp_socket_of, udp_socket_of, KeepsJobs, IsRecord, job_place, keeps_incoming, StreamGoes, StreamIsMade, StreamIsTaken, StreamMoves, StreamStays, TakesFrom, ConnectIsOver, HasNewStream, KeepsStreams, MarksNext, TakesOver, one_stream, IsCreated, IsOpenUdp, NoStart, NoStartIn, NoStartStands, Releases, ReleasesUdp, CallKind, OfPollables, OfStreams, Found, FoundUdp, Here, Own, Names, ToConnect, ToWrite, Unused, Used, Made, Awaited, Calls, Emptied, Joined, Marked, Past, ToSend, ToStream, Unmade, part_of, put, put_udp, with_records, IsLeft, IsNumbered, OfTcp, OfUdp, OfLookup, OfUnnamed, OfInput, OfOutput, without_record, Numbered}
 use Rattle.wasi_records.specs.Records.{tcp2_at, tcp2_put, tcp2_pushed, udp2_at, lookup_at, input_pipe_at, output_pipe_at}
@@ -35,6 +35,8 @@ use Rattle.wasi_host.specs.declared.kind.Kind.TheVariants.{Tcp3, Udp2, Udp3, Pla
 use Rattle.wasi_host.specs.declared.kind.PlainInput.TheVariants as plain_input
 use Rattle.wasi_host.specs.declared.kind.PlainOutput.TheVariants as plain_output
 use Rattle.wasi_host.specs.Blocking.{blocking_handles}
+use Rattle.wasi_host.specs.Beside.{beside_as, unbeside}
+use Rattle.wasi_host.specs.declared.beside.BesideCall.TheVariants.{Connect}
 use Rattle.wasi_host.specs.Kinds.{has_no_child, udp_of, watched_by}
 use Rattle.wasi_udp.specs.Connect.{connect_start}
 use Rattle.wasi_udp.specs.Receive.{receive_start, wanting}
@@ -450,6 +452,10 @@ pub data Move (line : ℕ) (origin : Step) : Here → Here → Type 0 where
   Stands : (h : Here) (ids : Ids) (call : StandingCall) (r : TcpRecord) → NoStart h → h.at ≡ Some (call_place call, ids.line) → Found h (call_place call) r → GoesOn call r → Move line origin h (record h { machine = record h.machine { store = record h.machine.store { standing = Some (standing_as ids call) } } })
   Resumes : (h : Here) (s : Standing) → h.machine.store.standing ≡ Some s → IsOfHandle s.call → Move line origin h (record h { at = Some (call_place s.call, s.ids.line) })
   Unstands : (h : Here) → TakesOver h → Move line origin h (record h { machine = record h.machine { store = record h.machine.store { standing = None } } })
+  -- a call stands beside others, by the line that asks: its operation is in progress in its record; it is over, or given up
+  StandsBeside : (h : Here) (place : ℕ) (r : TcpRecord) (op : Operation) → h.at ≡ Some (place, line) → Found h place r → r.inner.state ≡ TcpState.Connecting op → op.who.id ≡ own_of line
+      → Move line origin h (record h { machine = record h.machine { store = record h.machine.store { beside = h.machine.store.beside ++ beside_as line (Connect place) ∷ [] } } })
+  EndsBeside : (h : Here) (n : ℕ) → Move line origin h (record h { machine = record h.machine { store = unbeside h.machine.store n } })
   -- a UDP socket
   UdpChanges : (h : Here) (place : ℕ) (o now : OpenUdp) → FoundUdp h place (UdpRecord.Open o) → UdpPlain o now → KeepsStreams origin h place o now → Move line origin h (put_udp h place (UdpRecord.Open now))
   BeginsUdpBind : (h : Here) (place : ℕ) (o : OpenUdp) (a : IpSocketAddress) → h.at ≡ Some (place, line) → FoundUdp h place (UdpRecord.Open o) → IsUdpBindTo a origin → h.own ≡ Unused

@@ -375,7 +375,7 @@ module _ {contexts : List WasiSocketsCtx} {line : ℕ} {origin : Step} {law : La
       move (BeginsConnect (put h place r) place r side a bound at (found here r) e to known idle free) (from (ap (λ (x : Here). record x { own = Used }) (sym (put_put h place r now))) (give _))
   connect_if r side a bound false done e to known idle free = gives _ (Spends _ free)
 
-  start_connect_walks : (r : TcpRecord) (a : IpSocketAddress) (s : TcpState) → r.inner.state ≡ s → IsConnectTo a origin → is_nothing r.in_progress ≡ true → h.own ≡ Unused → Walks law (put h place r) (Spent h place r) (start_connect_in (own_of line) r.inner a s)
+  pub start_connect_walks : (r : TcpRecord) (a : IpSocketAddress) (s : TcpState) → r.inner.state ≡ s → IsConnectTo a origin → is_nothing r.in_progress ≡ true → h.own ≡ Unused → Walks law (put h place r) (Spent h place r) (start_connect_in (own_of line) r.inner a s)
   start_connect_walks r a (TcpState.Default side) e to idle free =
       and_given (KnowsBound r.inner) (bound_given (own_of line) r.inner) (bound_walks r) (λ b k. connect_if (with_inner r b.1) side a b.0 (is_connectable b.1 a) tt (k.1 ∙ e) to k.0 idle free)
   start_connect_walks r a _ e to idle free = gives _ (Spends _ free)

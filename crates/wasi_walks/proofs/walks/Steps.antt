@@ -2,7 +2,7 @@
 use Rattle.wasi_walks.proofs.Words.{Answer, Err, Give, InProgress, IsBacklogSet, List, Machine, None, Ok, Option, Records, Result, Some, Standing}
 use Rattle.wasi_walks.proofs.Words.{StandingCall, GuestCall, Step, Stop, TcpRecord, TcpSetting, TheBacklog, WasiSocketsCtx, asks_while, call_of, call_place}
 use Rattle.wasi_walks.proofs.Words.{chosen, context_at, false, get_option_asks, go_on, inl, is_bind}
-use Rattle.wasi_walks.proofs.Words.{is_guest_call, is_listen, kind_at, own_of, refl, relisten_at}
+use Rattle.wasi_walks.proofs.Words.{is_guest_call, is_held_up, is_listen, kind_at, own_of, refl, relisten_at}
 use Rattle.wasi_walks.proofs.Words.{resume_call, resumed, socket_at, step_asks, subst, sym, true, unstood}
 use Rattle.wasi_walks.proofs.Words.{watched_by, with_store, ℕ, ◌≡◌}
 use Rattle.wasi_world.specs.declared.ids.Ids.{Ids}
@@ -48,6 +48,8 @@ use Rattle.wasi_walks.proofs.walks.Polling.{block_walks, looks_begin, poll_asks_
 use Rattle.wasi_host.specs.Machine.{code_told, same_told}
 use Rattle.wasi_p3.specs.Tcp as p3
 use Rattle.wasi_walks.proofs.walks.Binds.{p3_bind_walks, p3_udp_bind_walks, rebind_walks, udp_rebind_walks}
+use Rattle.wasi_host.specs.Beside.{beside_of}
+use Rattle.wasi_walks.proofs.walks.Connects.{p3_connect_walks, resume_beside_walks}
 use Rattle.wasi_walks.proofs.walks.P3Steps.{p3_get_walks, p3_local_walks, p3_remote_walks, p3_set_walks}
 use Rattle.wasi_walks.proofs.walks.Moves.{AwaitsCreate, Interface, P2, P3, Recalled}
 use Rattle.wasi_walks.proofs.walks.Cancels.{cancel_walks}
@@ -166,8 +168,8 @@ module _ {contexts : List WasiSocketsCtx} {line : ℕ} {origin : Step} {law : La
   taken_walks m ids (StandingCall.DropOutput place) lets e = move (Resumes _ (standing_as ids (StandingCall.DropOutput place)) e tt) (move (Unstands _ (takes_none m.store.standing ids (StandingCall.DropOutput place) Unused e tt)) (move (Spends _ refl) (go_on_walks ids (record m { store = unstood m.store }) tt (StandingCall.DropOutput place) tt)))
   taken_walks m ids (StandingCall.UdpBind place face) lets e = move (Resumes _ (standing_as ids (StandingCall.UdpBind place face)) e tt) (move (Unstands _ (takes_none m.store.standing ids (StandingCall.UdpBind place face) Unused e tt)) (move (Spends _ refl) (go_on_walks ids (record m { store = unstood m.store }) tt (StandingCall.UdpBind place face) tt)))
 
-  pub resume_walks : (m : Machine) (n : ℕ) (o : Option Standing) → call_of m.store.standing n ≡ o → BeginsWrites law ⊎ ResumesSimply m.store.standing → Walks law (Starts m Unused) OverWith (resume_call m o)
-  resume_walks m n None e lets = gives _ (Spends _ refl)
+  pub resume_walks : (m : Machine) (n : ℕ) (o : Option Standing) → call_of m.store.standing n ≡ o → BeginsWrites law ⊎ ResumesSimply m.store.standing → Walks law (Starts m Unused) OverWith (resume_call m n o)
+  resume_walks m n None e lets = resume_beside_walks m n (beside_of m.store n)
   resume_walks m n (Some s) e lets =
       let stands = (stands_so m.store.standing n s e).0 in
       and_then (taken_walks m s.ids s.call (elim lets [ inl begins ↦ inl begins | inr simple ↦ inr (subst ResumesSimply stands simple) ]) stands) resumed_walks
@@ -222,6 +224,7 @@ step_walks line (Step.Call c (GuestCall.TcpSet s setting)) m b f = and_then (set
 step_walks line (Step.Call c (GuestCall.TcpShutdown s how)) m b f = and_then (on_socket m s (socket_at m s) (inl refl) (socket_record (kind_at m.table s)) (λ place. shutdown_at_walks m place how (tcp2_at m.store.records place) refl)) (λ done. give _)
 step_walks {contexts} line (Step.Call c (GuestCall.P3TcpCreate family)) m b f = and_then (create p3.handle_told p3.code_told P3 (context_at contexts c) family (refl, refl, refl) refl refl refl) (λ done. give _)
 step_walks line (Step.Call c (GuestCall.P3TcpBind s a)) m b f = and_then (p3_bind_walks m s a (inl refl) refl (none_stands (f refl))) (λ done. give _)
+step_walks line (Step.Call c (GuestCall.P3TcpConnect s a)) m b f = and_then (p3_connect_walks m s a (inl refl) refl) (λ done. give _)
 step_walks line (Step.Call c (GuestCall.P3TcpLocalAddress s)) m b f = and_then (p3_local_walks m s (inl refl)) (λ done. give _)
 step_walks line (Step.Call c (GuestCall.P3TcpRemoteAddress s)) m b f = and_then (p3_remote_walks m s (inl refl)) (λ done. give _)
 step_walks line (Step.Call c (GuestCall.P3TcpIsListening s)) m b f = gives _ (Spends _ refl)
@@ -289,7 +292,7 @@ may_while m s None = may m s
 may_while m s (Some c) = Unused
 
 -- what is done while a call is pending
-goes_on : {contexts : List WasiSocketsCtx} (line : ℕ) (s : Step) {law : Law contexts line s} (m : Machine) (c : Standing) → m.store.standing ≡ Some c → BeginsWrites law ⊎ IsSimple (Some c) s → is_guest_call s ≡ false → Walks law (Starts m Unused) OverWith (step_asks contexts m line s)
+goes_on : {contexts : List WasiSocketsCtx} (line : ℕ) (s : Step) {law : Law contexts line s} (m : Machine) (c : Standing) → m.store.standing ≡ Some c → BeginsWrites law ⊎ IsSimple (Some c) s → is_held_up m.store s ≡ false → Walks law (Starts m Unused) OverWith (step_asks contexts m line s)
 goes_on line Step.Turn m c e b g = step_walks line Step.Turn m (inr tt) (λ guest. absurd (cc))
 goes_on line (Step.Cancel n) m c e b g = step_walks line (Step.Cancel n) m (inr tt) (λ guest. absurd (cc))
 goes_on line (Step.Poll n) m c e b g = step_walks line (Step.Poll n) m (elim b [ inl begins ↦ inl begins | inr simple ↦ inr (subst ResumesSimply (sym e) simple) ]) (λ guest. absurd (cc))
@@ -297,7 +300,7 @@ goes_on line _ m c e b g = absurd (cc)
 
 line_walks : {contexts : List WasiSocketsCtx} (line : ℕ) (s : Step) {law : Law contexts line s} (m : Machine) (standing : Option Standing) → BeginsWrites law ⊎ IsSimple standing s → m.store.standing ≡ standing → Walks law (Starts m (may_while m s standing)) OverWith (asks_while contexts m line s standing)
 line_walks line s m None b e = step_walks line s m (elim b [ inl begins ↦ inl begins | inr simple ↦ inr (subst (λ (o : Option Standing). IsSimpleAt o s) (sym e) simple) ]) (λ guest. e)
-line_walks line s m (Some c) b e = by_if (is_guest_call s) (λ busy. gives _ (Spends _ refl)) (λ other. goes_on line s m c e b other)
+line_walks line s m (Some c) b e = by_if (is_held_up m.store s) (λ busy. gives _ (Spends _ refl)) (λ other. goes_on line s m c e b other)
 
 -- a line, under a law that lets writes begin
 pub machine_walks : {contexts : List WasiSocketsCtx} (line : ℕ) (s : Step) {law : Law contexts line s} → BeginsWrites law → (m : Machine) (standing : Option Standing) → m.store.standing ≡ standing → Walks law (Starts m (may_while m s standing)) OverWith (asks_while contexts m line s standing)
