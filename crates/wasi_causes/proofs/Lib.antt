@@ -9,6 +9,8 @@ pub mod streams
 pub mod pollables
 pub mod Ending
 pub mod Machine
+pub mod Beside
+pub mod ConnectPolls
 pub mod Resumes
 pub mod Slots
 pub mod GivenBack

@@ -9,11 +9,12 @@ use Rattle.wasi_world.specs.declared.ids.Ids.{Ids}
 use Rattle.wasi_causes.proofs.Words.{Answered, CallFails, CodeWord, Entry, ErrorCode, Give, HoldsCall, IfSome}
 use Rattle.wasi_causes.proofs.Words.{IsListening, IsSomeAnd, Left, List, ListenFailed, Listening, Machine, None, Option}
 use Rattle.wasi_causes.proofs.Words.{Reply, Some, Standing, StandingCall, Step, TcpRecord, TcpState, WasiSocketsCtx}
-use Rattle.wasi_causes.proofs.Words.{[], ap, first_state, nothing_stands, putting, refl, run, subst, sym, ℕ}
+use Rattle.wasi_causes.proofs.Words.{[], ap, eq-eqb, first_state, inl, inr, stands_as, true, nothing_stands, putting, refl, run, subst, sym, ℕ}
 use Rattle.wasi_causes.proofs.Words.{◌∙◌, ◌≡◌}
+use Rattle.wasi_causes.proofs.Beside.{not_beside}
 use Rattle.wasi_causes.proofs.Runs.{fits, runs_bind}
 use Rattle.wasi_causes.proofs.Steady.{AsksToListen, runs_are_steady}
-use Rattle.wasi_causes.proofs.tables.Steps.{unheld}
+use Rattle.wasi_causes.proofs.tables.Steps.{its_own, other_free, unheld}
 use Rattle.wasi_causes.specs.Cancelled.{CancelsBy}
 use Rattle.wasi_causes.specs.Failed.{FailureLeaves, left_failed}
 use Rattle.wasi_causes.specs.Reached.{IsBeginning, IsClosedByListen, ListensNoMore}
@@ -51,6 +52,9 @@ module _ (contexts : List WasiSocketsCtx) (steps : List Step) (log : List Entry)
   failed_closed entries _ place same c (ListenFailed its r op _ at is ends) after left = let e : its ≡ place = cc in subst (λ k. IsClosedByListen after k × ListensNoMore after k) e (left_closed its r at (subst IsBeginning (sym is) tt) after left)
   failed_closed entries _ place same c _ after left = absurd (cc)
 
+  stands_its : (ids : Ids) (call : StandingCall) → m.store.standing ≡ Some (standing_as ids call) → stands_as m.store.standing ids.line ≡ true
+  stands_its ids call stands = ap (λ (o : Option Standing). stands_as o ids.line) stands ∙ eq-eqb ids.line ids.line refl
+
   same_call : (x y : Standing) → Some x ≡ Some y → x.call ≡ y.call
   same_call x y e = let same : x ≡ y = cc in ap (λ (s : Standing). s.call) same
 
@@ -59,7 +63,8 @@ module _ (contexts : List WasiSocketsCtx) (steps : List Step) (log : List Entry)
       → Answered contexts m line (step.Poll ids.line) entries (reply.Err word) after
       → IsClosedByListen after place × ListensNoMore after place
   fails_closed line place ids entries word after stands w =
-      let fails : FailureLeaves m ids.line entries word after = (unheld contexts m line (step.Poll ids.line) (λ h. let none = h.1 in cc) entries (reply.Err word) after w).1.1.0 (runs_bind contexts steps log replies m ran) in
+      let stood = stands_its ids (standing.Listen place) stands in
+      let fails : FailureLeaves m ids.line entries word after = elim (its_own contexts m line (step.Poll ids.line) entries (reply.Err word) after w (λ e. cc)).1.1.0 [ inl why ↦ why (runs_bind contexts steps log replies m ran) | inr beside ↦ absurd (not_beside m ids.line stood beside) ] in
       let same : fails.fails.call ≡ standing.Listen place = same_call (record { ids = fails.fails.ids; call = fails.fails.call }) (standing_as ids (standing.Listen place)) (sym fails.fails.stands ∙ stands) in
       failed_closed entries fails.fails.call place same fails.fails.code fails.fails.cause after fails.left
 
@@ -74,5 +79,5 @@ module _ (contexts : List WasiSocketsCtx) (steps : List Step) (log : List Entry)
     pub cancels_closed : Answered contexts m line (step.Cancel ids.line) entries (reply.Ok fields) after
         → IsClosedByListen after place × ListensNoMore after place
     cancels_closed w =
-        let gives : IsSomeAnd m.store.standing (λ s. CancelsBy m entries after s.call) = (unheld contexts m line (step.Cancel ids.line) (λ h. let none = h.1 in cc) entries (reply.Ok fields) after w).1.1.0 in
+        let gives : IsSomeAnd m.store.standing (λ s. CancelsBy m entries after s.call) = elim (unheld contexts m line (step.Cancel ids.line) (other_free contexts m line (step.Cancel ids.line) refl refl) entries (reply.Ok fields) after w).1.1 [ inl left ↦ left.0 | inr beside ↦ absurd (not_beside m ids.line (stands_its ids (standing.Listen place) stands) beside.0) ] in
         begun_at (tcp2_at m.store.records place) refl (subst (λ (o : Option Standing). IfSome o (λ s. HoldsCall m s.call)) stands (runs_bind contexts steps log replies m ran)) (subst (λ (o : Option Standing). IsSomeAnd o (λ s. CancelsBy m entries after s.call)) stands gives)

@@ -26,9 +26,13 @@ use Rattle.wasi_steps.specs.declared.guest_call.GuestCall.TheVariants as guest
 use Rattle.wasi_steps.specs.declared.step.Step.TheVariants as step
 use Rattle.wasi_host.specs.declared.polling.Look.TheVariants.{First}
 use Rattle.wasi_causes.proofs.pollables.Live.{block_live, list_live, ready_free}
-use Rattle.wasi_causes.proofs.pollables.Looks.{WatchedStay, missed_before, missed_one}
+use Rattle.wasi_causes.proofs.pollables.Looks.{WatchedStay, missed_before, missed_one, stay_same}
 use Rattle.wasi_causes.specs.PollableCalls.{AllPollables, BeginsToWait, ForNone, NoPollable}
 use Rattle.wasi_causes.proofs.streams.Kept.{PartsThere}
+use Rattle.wasi_causes.proofs.Beside.{one_of_three, polled_beside}
+use Rattle.wasi_causes.specs.P3Connects.{IsBeside}
+use Rattle.wasi_host.specs.Beside.{beside_of, stands_under}
+use Rattle.wasi_walks.specs.Waiting.{call_over}
 use Rattle.wasi_causes.proofs.streams.Live.{HasInput, begun_live, blocked_live, check_free, flush_free, free_well, read_free, skip_free, splice_free, splice_live, write_free}
 use Rattle.wasi_causes.proofs.streams.Missing.{missed_input, missed_output}
 use Rattle.wasi_causes.proofs.tables.Meets.{Meets, both, ends, met, onto, shifted, widen}
@@ -223,14 +227,19 @@ module _ (contexts : List WasiSocketsCtx) (m : Machine) (line : ℕ) (inputs : (
   -- a guest's call is its own only where nothing is pending
   nothing_pending : (s : Step) → IsSome (context_of s) → (IsHeldUp contexts m line s → ⊥) → (o : Option Standing) → m.store.standing ≡ o → m.store.standing ≡ None
   nothing_pending s guest free None e = e
-  nothing_pending s guest free (Some c) e = absurd (free (rw e refl, guest))
+  nothing_pending s guest free (Some c) e = absurd (free (rw e refl, inl guest))
 
   -- then a call of a guest leaves it well
   by_guest : (s : Step) (after : Machine) → IsSome (context_of s) → (MayPend s → ⊥) → (IsHeldUp contexts m line s → ⊥) → KeepsNone s after → PendingHandleIsLive after
   by_guest s after guest plain free none = of_none after after.store.standing (none (plain, subst NoStreamsStand (sym (nothing_pending s guest free m.store.standing refl)) tt))
 
   -- a call that blocks is continued by a poll
-  module _ (n : ℕ) (es : List Entry) (r : Reply) (after : Machine) (row : Outcome contexts m line (step.Poll n) es r after) where
+  module _ (n : ℕ) (es : List Entry) (r : Reply) (after : Machine) (free : IsHeldUp contexts m line (step.Poll n) → ⊥) (row : Outcome contexts m line (step.Poll n) es r after) where
+    -- a call beside others is polled only where no exclusive call is pending
+    none_exclusive : IsBeside m n → (o : Option Standing) → m.store.standing ≡ o → m.store.standing ≡ None
+    none_exclusive beside None e = e
+    none_exclusive beside (Some s) e = absurd (free (rw e refl, inr (polled_beside m n beside)))
+
     its_input : (call : BlockingCall) → HasItsHandle m (StandingCall.Blocking call) → HasInput (nothing_stands m) call
     its_input (blocking.Splice to from len) k = λ missing. k.0 (inr missing)
     its_input _ k = tt
@@ -280,19 +289,27 @@ module _ (contexts : List WasiSocketsCtx) (m : Machine) (line : ℕ) (inputs : (
         by_call (StandingCall.DropOutgoing place) is = polled_other (no_blocking (StandingCall.DropOutgoing place) is (λ k. k)) stands well
 
     polled_well : PendingHandleIsLive m → PendingHandleIsLive after
-    polled_well well = by_stands (stands_as m.store.standing n) refl
-      where
-        by_stands : (b : Bool) → stands_as m.store.standing n ≡ b → PendingHandleIsLive after
-        by_stands true e = polled_as m.store.standing refl e well
-        by_stands false e = let k = subst (λ (x : Reply). Outcome contexts m line (step.Poll n) es x after) (row.0.0.1 e) row in same_quiet m after k.1.1.1 well
+    polled_well well =
+        one_of_three m n (λ on. polled_as m.store.standing refl on well)
+        (λ off. let k = subst (λ (x : Reply). Outcome contexts m line (step.Poll n) es x after) (row.0.0.1 off) row in same_quiet m after k.1.1.1 well)
+        (λ beside. free_well after ((row.0.3 beside).exclusive ∙ none_exclusive beside m.store.standing refl))
 
-  -- a cancel leaves nothing pending, or all as it was
+  -- what is left of a machine where a call beside others is over
+  over_well : (n : ℕ) → PendingHandleIsLive m → PendingHandleIsLive (call_over m n)
+  over_well n well = same_well m (call_over m n) refl (record { streams = λ k h. h; inputs = λ k h. h; outputs = λ k h. h }) (stay_same m.store.records) refl well
+
+  -- a cancel leaves nothing pending, or all as it was, or the exclusive call
   cancelled_well : (n : ℕ) (es : List Entry) (r : Reply) (after : Machine) → Outcome contexts m line (step.Cancel n) es r after → PendingHandleIsLive m → PendingHandleIsLive after
-  cancelled_well n es r after row well = by_stands (stands_as m.store.standing n) refl
+  cancelled_well n es r after row well = by_under (stands_under m.store n) refl
     where
-      by_stands : (b : Bool) → stands_as m.store.standing n ≡ b → PendingHandleIsLive after
-      by_stands true e = let k = subst (λ (x : Reply). Outcome contexts m line (step.Cancel n) es x after) (row.0.1.1 e) row in free_well after k.1.1.1
-      by_stands false e = let k = subst (λ (x : Reply). Outcome contexts m line (step.Cancel n) es x after) (row.0.0.1 e) row in same_quiet m after k.1.1.1 well
+      by_under : (b : Bool) → stands_under m.store n ≡ b → PendingHandleIsLive after
+      by_under true e =
+          let k = subst (λ (x : Reply). Outcome contexts m line (step.Cancel n) es x after) (row.0.1.1 e) row in
+          elim k.1.1 [
+            | inl left ↦ free_well after left.1
+            | inr beside ↦ subst PendingHandleIsLive (sym beside.2) (over_well n well)
+          ]
+      by_under false e = let k = subst (λ (x : Reply). Outcome contexts m line (step.Cancel n) es x after) (row.0.0.1 e) row in same_quiet m after k.1.1.1 well
 
   -- and so does each step
   module _ (es : List Entry) (r : Reply) (after : Machine) where
@@ -314,7 +331,7 @@ module _ (contexts : List WasiSocketsCtx) (m : Machine) (line : ℕ) (inputs : (
     well_after : (s : Step) → (IsHeldUp contexts m line s → ⊥) → Answered contexts m line s es r after → Outcome contexts m line s es r after → KeepsNone s after → PendingHandleIsLive m → PendingHandleIsLive after
     well_after step.Turn free w row none well =
         same_well m after row.0.handles (record { streams = row.0.streams; inputs = λ k h. ap (λ o. is_some o) (row.0.pipes k).0 ∙ h; outputs = λ k h. ap (λ o. is_some o) (row.0.pipes k).1 ∙ h }) (turn_stays m after row.0.sockets row.0.opens row.0.streams) row.0.pending well
-    well_after (step.Poll n) free w row none well = polled_well n es r after row well
+    well_after (step.Poll n) free w row none well = polled_well n es r after free row well
     well_after (step.Cancel n) free w row none well = cancelled_well n es r after row well
     well_after (step.Call c (guest.UdpStream s remote)) free w row none well = row.0.1 (nothing_pending (step.Call c (guest.UdpStream s remote)) refl free m.store.standing refl)
     well_after (step.Call c (guest.Read input len)) free w row none well = free_well after (read_free contexts m (nothing_pending (step.Call c (guest.Read input len)) refl free m.store.standing refl) line c es r after input len w)

@@ -5,7 +5,13 @@ use Rattle.wasi_causes.specs.Blocking.{IsBlocking}
 use Rattle.wasi_causes.specs.Outcomes.{BlockedGoesOn}
 use Rattle.wasi_records.specs.Records.{tcp2_at, udp2_at, open_at, open_of}
 use Rattle.wasi_records.specs.declared.tcp_binding.InProgress.TheVariants.{Binding}
-use Rattle.wasi_walks.proofs.walks.States.{stands_so as stands_under}
+use Rattle.wasi_walks.proofs.walks.States.{stands_so as stands_under_it}
+use Rattle.wasi_host.specs.declared.beside.Beside.{Beside}
+use Rattle.wasi_host.specs.Beside.{beside_of, stands_under}
+use Rattle.wasi_host.specs.Pending.{resume_beside}
+use Rattle.wasi_causes.proofs.Beside.{exclusive_call, no_call, not_beside, not_both}
+use Rattle.wasi_causes.proofs.ConnectPolls.{resumes_beside}
+use Rattle.wasi_causes.specs.P3Connects.{BesidePolled, IsBeside}
 use Rattle.wasi_causes.proofs.Words.{◌⊎◌, Answer, BindFailed, BindFails, BindWaits, Bool, CallFails, CallWaits, CodeWord, Done, End, EndsPending, Entry, Err, ErrorCode, Full, Give, IfSome, InProgress, InvalidState, IsBinding, IsListening, IsOnNothing, IsRestOfBind}
 use Rattle.wasi_causes.proofs.Words.{IsSome, IsSomeAnd, Item, List, ListenEnds, ListenFailed, ListenWaits, Listening, Machine, NoSuchHandle, None, Ok, OpId, Operation, Option, Pending, PendingCallsFit, Ready, Records, Refused, Reply, Result, Some}
 use Rattle.wasi_causes.proofs.Words.{Standing, StandingCall, Stop, TcpRecord, Waits, WasiSocketsCtx, [], allowed_answer, ap, bind, bind_ended, call_answered, call_of, call_place, closed_listening, entry, eq-eqb, false, go_on, if◌then◌else◌, inl}
@@ -124,18 +130,24 @@ module _ (contexts : List WasiSocketsCtx) (m : Machine) (line : ℕ) (ids : Ids)
 
   -- == a call is pending
   module _ (call : StandingCall) (stands : Under call) (other_call : IsBlocking call → ⊥) where
-    pub stands_so : stands_as m.store.standing n ≡ false → ⊥
-    stands_so none = let same : stands_as m.store.standing n ≡ true = ap (λ (o : Option Standing). stands_as o n) stands ∙ eq-eqb n n refl in cc
+    its_on : stands_as m.store.standing n ≡ true
+    its_on = ap (λ (o : Option Standing). stands_as o n) stands ∙ eq-eqb n n refl
+
+    pub stands_so : stands_under m.store n ≡ false → ⊥
+    stands_so none = not_both (stands_under m.store n) (exclusive_call m n its_on) none
+
+    none_beside : (es : List Entry) (r : Reply) (after : Machine) → IsBeside m n → BesidePolled m n es r after
+    none_beside es r after beside = absurd (not_beside m n its_on beside)
 
     -- it is no call that blocks
     no_blocking : (es : List Entry) (r : Reply) (after : Machine) → BlockedGoesOn contexts m n es r after
     no_blocking es r after c other its on same short = let is : call ≡ StandingCall.Blocking its = ap (λ (s : Standing). s.call) (the_same (sym stands ∙ on)) in absurd (other_call (subst IsBlocking (sym is) tt))
 
     pub it_ends : (es : List Entry) (r : Reply) (after : Machine) → r ≢ reply.NoSuchCall → after.store.standing ≡ None → Always contexts m line (step.Poll n) es r after
-    it_ends es r after other none = (apart other stands_so, λ same. inr none, no_blocking es r after)
+    it_ends es r after other none = (apart other stands_so, λ same. inr none, no_blocking es r after, none_beside es r after)
 
     pub done : (es : List Entry) (after : Machine) → after.store.standing ≡ None → GivesBy m no_fields after call → Row es (reply.Ok no_fields, after)
-    done es after none gives = (it_ends es (reply.Ok no_fields) after (λ e. cc) none, (inl (inl tt), subst (λ (o : Option Standing). IsSomeAnd o (λ s. GivesBy m no_fields after s.call)) (sym stands) gives))
+    done es after none gives = (it_ends es (reply.Ok no_fields) after (λ e. cc) none, (inl (inl tt), inl (subst (λ (o : Option Standing). IsSomeAnd o (λ s. GivesBy m no_fields after s.call)) (sym stands) gives)))
 
     -- it failed with this code, and left this machine
     abbrev pub FailsSo : List Entry → ErrorCode → Machine → Type 0
@@ -147,14 +159,14 @@ module _ (contexts : List WasiSocketsCtx) (m : Machine) (line : ℕ) (ids : Ids)
       (
         may_word call code,
         (
-          λ fits. record { fails = record { ids = ids; call = call; code = code; stands = stands; number = refl; cause = (cause fits).0; word_is = refl }; left = (cause fits).1 },
+          inl (λ fits. record { fails = record { ids = ids; call = call; code = code; stands = stands; number = refl; cause = (cause fits).0; word_is = refl }; left = (cause fits).1 }),
           same,
         ),
       ),
     )
 
     pub waits : (es : List Entry) (after : Machine) → after.table ≡ m.table → after.store.standing ≡ Some (standing_as ids call) → (PendingCallsFit m → CallWaits m (own_of n) es call) → Row es (reply.Pending n, after)
-    waits es after same on cause = ((apart (λ e. cc) stands_so, λ same. inl refl, no_blocking es (reply.Pending n) after), ((refl, rw on refl), (λ binds. subst (λ (o : Option Standing). IsSomeAnd o (λ s. CallWaits m (own_of n) es s.call)) (sym stands) (cause binds), same, λ other. on ∙ sym stands)))
+    waits es after same on cause = ((apart (λ e. cc) stands_so, λ same. inl refl, no_blocking es (reply.Pending n) after, none_beside es (reply.Pending n) after), ((refl, inl (rw on refl)), (inl (λ binds. subst (λ (o : Option Standing). IsSomeAnd o (λ s. CallWaits m (own_of n) es s.call)) (sym stands) (cause binds)), same, λ other. on ∙ sym stands)))
 
     -- what is due for an answer that leaves this machine
     abbrev pub Due : List Entry → Result (Answer (Unit {0})) ErrorCode → Machine → Type 0
@@ -170,7 +182,7 @@ module _ (contexts : List WasiSocketsCtx) (m : Machine) (line : ℕ) (ids : Ids)
         subst (λ (w : CodeWord). Row es (reply.Err w, left)) (words code) (fails es left code refl refl h)
 
     pub missing : IsOnNothing m call → Row [] (reply.Trap NoSuchHandle, nothing_stands m)
-    missing nothing = (it_ends [] (reply.Trap NoSuchHandle) (nothing_stands m) (λ e. cc) refl, (rw (stands, eq-eqb n n refl) nothing, λ live. (refl, refl)))
+    missing nothing = (it_ends [] (reply.Trap NoSuchHandle) (nothing_stands m) (λ e. cc) refl, (inl (rw (stands, eq-eqb n n refl) nothing), λ live. (refl, rw (stands, eq-eqb n n refl) refl)))
 
   -- == of a drop
   of_output : (place : ℕ) → Under (DropOutput place) → (es : List Entry) (done : Answer (Unit {0}) × Records) → OutputRow free ids place es done → CallRow es (allowed_answer done)
@@ -335,7 +347,7 @@ module _ (contexts : List WasiSocketsCtx) (m : Machine) (line : ℕ) (ids : Ids)
       create_ended es (Done given, items) k =
           marks_udp face made_so place (opened_udp (made_by create)) there
           (λ full. (it_ends (StandingCall.UdpCreate place face) stands (λ k. k) es (reply.Trap Full) made_so (λ e. cc) refl, (tt, full_so m made_so es full refl k.0, inl (full, is_create))))
-          (it_ends (StandingCall.UdpCreate place face) stands (λ k. k) (es ++ mark ∷ []) (reply.Ok (number_fields m.table.next)) (record made_so { table = with_handle m.table (udp_kind face place) None }) (λ e. cc) refl, (inl (inr (inl (tt, tt))), gives_handle))
+          (it_ends (StandingCall.UdpCreate place face) stands (λ k. k) (es ++ mark ∷ []) (reply.Ok (number_fields m.table.next)) (record made_so { table = with_handle m.table (udp_kind face place) None }) (λ e. cc) refl, (inl (inr (inl (tt, tt))), inl gives_handle))
       create_ended es (Refused code given, items) k =
           let left : Machine = record m { store = given_back place (with_udp free place (udp.Closed create.operation.who.side)) } in
           ends (refused_row es left code (fails (StandingCall.UdpCreate place face) stands (λ k. k) es left code refl refl (λ fits. (CreateFailed place face create code at (k.1 fits), put_gone (nothing_stands m) place (Record.Udp (udp.Closed create.operation.who.side))))))
@@ -422,13 +434,13 @@ module _ (contexts : List WasiSocketsCtx) (m : Machine) (line : ℕ) (ids : Ids)
     marked : (es : List Entry) (store : Records) → store.standing ≡ None → marks_in es ≡ 0 → (its : Option ℕ) → udp_socket_at m handle ≡ its → Meets PairRow es (mark_streams (record m { store = store }) (own_of n) handle)
     marked es store over unmarked None names =
         subst (λ (o : Option ℕ). Meets PairRow es (mark_streams_of (record m { store = store }) (own_of n) handle o)) (sym names)
-        (ends (it_ends the_call stands (λ k. k) es (reply.Trap NoSuchHandle) (record m { store = store }) (λ e. cc) over, (rw (stands, eq-eqb n n refl) (inr names), λ live. absurd (lost_handle names live))))
+        (ends (it_ends the_call stands (λ k. k) es (reply.Trap NoSuchHandle) (record m { store = store }) (λ e. cc) over, (inl (rw (stands, eq-eqb n n refl) (inr names)), λ live. absurd (lost_handle names live))))
     marked es store over unmarked (Some its) names =
         let now : Machine = record m { store = store } in
         makes_both now (own_of n) handle its es names unmarked
         (λ fs table full next lacks. (it_ends the_call stands (λ k. k) fs (reply.Trap Full) (record now { table = table }) (λ e. cc) over, (tt, (full, next), inr (inl (subst (λ (o : Option Standing). IsSomeAnd o (λ s. LacksRoomForStreams m s.call)) (sym stands) (rw names lacks)))))) (
           it_ends the_call stands (λ k. k) (marks_of now (own_of n) handle its es) (reply.Ok (pair_fields m.table.next (m.table.next + 1))) (record now { table = with_both m.table its handle }) (λ e. cc) over,
-          (inl (inr (inr (inl (tt, (tt, tt))))), subst (λ (o : Option Standing). IsSomeAnd o (λ s. GivesBy m (pair_fields m.table.next (m.table.next + 1)) (record now { table = with_both m.table its handle }) s.call)) (sym stands) (refl, rw names refl)),
+          (inl (inr (inr (inl (tt, (tt, tt))))), inl (subst (λ (o : Option Standing). IsSomeAnd o (λ s. GivesBy m (pair_fields m.table.next (m.table.next + 1)) (record now { table = with_both m.table its handle }) s.call)) (sym stands) (refl, rw names refl))),
         )
 
     module _ (o : OpenUdp) (at : open_at m.store.records place ≡ Some o) where
@@ -498,9 +510,16 @@ module _ (contexts : List WasiSocketsCtx) (m : Machine) (line n : ℕ) where
   abbrev PolledRow : ℕ → Rows (Result (Option (Answer Given)) Stop × Machine)
   PolledRow k es done = Outcome contexts m line (step.Poll k) es (resumed_reply k done.0) done.1
 
-  by_call : (o : Option Standing) → call_of m.store.standing n ≡ o → Meets (PolledRow n) [] (resume_call m o)
-  by_call None e = let none = none_so m.store.standing e in ends (((λ same. none, λ k. refl), λ same. absurd (cc), λ c other its on same short. absurd (by_none none on same)), (inl tt, (refl, refl)))
-  by_call (Some s) e = let k = stands_under m.store.standing n s e in subst (λ (l : ℕ). Meets (PolledRow l) [] (resume_call m (Some s))) k.1 (onto _ (goes_on_as contexts m line s.ids s.call k.0))
+  -- no exclusive call has the number
+  by_beside : stands_as m.store.standing n ≡ false → (o : Option Beside) → beside_of m.store n ≡ o → Meets (PolledRow n) [] (resume_beside m n o)
+  by_beside none None e =
+      let nothing = no_call m n none e in
+      ends (((λ same. nothing, λ k. refl), λ same. absurd (cc), λ c other its on same short. absurd (by_none none on same), λ beside. absurd (let k : IsSome {T = Beside} None = rw e at beside.1 in cc)), (inl tt, (refl, refl)))
+  by_beside none (Some b) e = onto _ (resumes_beside contexts m line n none (λ es r after c other its on same short. absurd (by_none none on same)) b e)
+
+  by_call : (o : Option Standing) → call_of m.store.standing n ≡ o → Meets (PolledRow n) [] (resume_call m n o)
+  by_call None e = by_beside (none_so m.store.standing e) (beside_of m.store n) refl
+  by_call (Some s) e = let k = stands_under_it m.store.standing n s e in subst (λ (l : ℕ). Meets (PolledRow l) [] (resume_call m l (Some s))) k.1 (onto _ (goes_on_as contexts m line s.ids s.call k.0))
 
   abbrev Polled : Rows (Reply × Machine)
   Polled es done = Outcome contexts m line (step.Poll n) es done.0 done.1

@@ -6,6 +6,10 @@ use Rattle.wasi_host.specs.declared.kind.Kind.TheVariants.{Tcp3, Udp2, Udp3, Loo
 use Rattle.wasi_host.specs.Kinds.{lookup_of}
 use Rattle.wasi_host.specs.Machine.{lookup_number}
 use Rattle.wasi_walks.specs.Answered.{lookup_in}
+use Rattle.wasi_causes.proofs.Beside.{none_of, not_both}
+use Rattle.wasi_causes.proofs.Words.{eq-eqb, stands_as, ◌∙◌}
+use Rattle.wasi_walks.specs.Missing.{BesideNothing, ExclusiveOnNothing}
+use Rattle.wasi_walks.specs.Waiting.{call_over, left_by}
 use Rattle.wasi_causes.specs.Lookups.{found_lookup}
 use Rattle.wasi_records.specs.declared.udp.OpenUdp.{OpenUdp}
 use Rattle.wasi_records.specs.declared.udp.UdpRecord.{UdpRecord}
@@ -18,7 +22,7 @@ use Rattle.wasi_causes.proofs.Words.{FinishRefusal, Full, Give, HasChildren, Hol
 use Rattle.wasi_causes.proofs.Words.{IsOnNothing, IsSome, IsSomeAnd, Item, Kind, Left, List, Listening, Machine}
 use Rattle.wasi_causes.proofs.Words.{NoSuchHandle, None, NotPermitted, Option, Output}
 use Rattle.wasi_causes.proofs.Words.{Pollable, RefusedOf, Reply, Some, Standing, StandingCall}
-use Rattle.wasi_causes.proofs.Words.{PendingCallsFit, StandsOnNothing, Step, Tcp2, TcpRecord, TcpState, TrapKind, WasiSocketsCtx, Watched}
+use Rattle.wasi_causes.proofs.Words.{PendingCallsFit, Step, Tcp2, TcpRecord, TcpState, TrapKind, WasiSocketsCtx, Watched}
 use Rattle.wasi_causes.proofs.Words.{WatchesAccept, WatchesConnect, [], ap, call_of}
 use Rattle.wasi_causes.proofs.Words.{false, first_state}
 use Rattle.wasi_causes.proofs.Words.{if◌then◌else◌, inl, inr, is_connect, is_full, kind_at, machine_asks}
@@ -202,7 +206,7 @@ module _ (m : Machine) (f : Fit (Over m)) (well : PendingHandleIsLive m) where
   on_nothing (standing.DropOutgoing place) h its none = none
   on_nothing (standing.Blocking call) h its none = its.0 none
 
-  stands_on : (n : ℕ) → StandsOnNothing m n → ⊥
+  stands_on : (n : ℕ) → ExclusiveOnNothing m n → ⊥
   stands_on n k = by_standing m.store.standing refl k
     where
       by_standing : (o : Option Standing) → m.store.standing ≡ o → IsSomeAnd (call_of o n) (λ s. IsOnNothing m s.call) → ⊥
@@ -275,7 +279,7 @@ module _ (contexts : List WasiSocketsCtx) (steps : List Step) (es : List Entry) 
   pub runs_miss_no_lookup : (handle : ℕ) → found_lookup m handle ≡ None → lookup_number m handle ≡ None
   runs_miss_no_lookup = no_lookup_missing m run_holds.1
 
-  pub runs_stand_on_records : (n : ℕ) → StandsOnNothing m n → ⊥
+  pub runs_stand_on_records : (n : ℕ) → ExclusiveOnNothing m n → ⊥
   runs_stand_on_records = stands_on m fits run_well
 
   pub runs_may_finish : (place : ℕ) (r : TcpRecord) → tcp2_at m.store.records place ≡ Some r → is_connect r.in_progress ≡ true → MayFinish r.inner.state
@@ -291,14 +295,20 @@ module _ (contexts : List WasiSocketsCtx) (steps : List Step) (es : List Entry) 
   pub listens_refused_in_runs : (line ctx handle : ℕ) (entries : List Entry) (word : CodeWord) (after : Machine) → Answered contexts m line (step.Call ctx (guest.TcpStartListen handle)) entries (reply.Err word) after → RefusedListen m (own_of line) handle entries word after
   listens_refused_in_runs line ctx handle entries word after a = (its_own contexts m line (step.Call ctx (guest.TcpStartListen handle)) entries (reply.Err word) after a (λ e. cc)).1.1.0 (of_record m ListensLate runs_listen_late (socket_at m handle))
 
-  -- why a poll traps
-  abbrev PollTraps : TrapKind → Type 0
-  PollTraps kind = (kind ≡ Full) × (((is_full m.table ≡ true) × IsSomeAnd m.store.standing (λ s. IsPendingCreate s.call)) ⊎ (IsSomeAnd m.store.standing (λ s. LacksRoomForStreams m s.call) ⊎ StreamCallStands m))
+  -- why a poll traps: there is no room for what it gives, or the socket of a call beside others is gone
+  abbrev HasNoRoom : TrapKind → Type 0
+  HasNoRoom kind = (kind ≡ Full) × (((is_full m.table ≡ true) × IsSomeAnd m.store.standing (λ s. IsPendingCreate s.call)) ⊎ (IsSomeAnd m.store.standing (λ s. LacksRoomForStreams m s.call) ⊎ StreamCallStands m))
 
-  full_alone : (line n : ℕ) (entries : List Entry) (kind : TrapKind) (after : Machine) → Traps contexts m line (step.Poll n) entries kind after → PollTraps kind
-  full_alone line n entries NoSuchHandle after h = absurd (stands_on m fits run_well n h.0)
+  abbrev PollTraps : ℕ → List Entry → TrapKind → Machine → Type 0
+  PollTraps n entries kind after = HasNoRoom kind ⊎ ((kind ≡ NoSuchHandle) × BesideNothing m n × (entries ≡ []) × (after ≡ call_over m n))
+
+  full_alone : (line n : ℕ) (entries : List Entry) (kind : TrapKind) (after : Machine) → Traps contexts m line (step.Poll n) entries kind after → PollTraps n entries kind after
+  full_alone line n entries NoSuchHandle after h = elim h.0 [
+    | inl none ↦ absurd (stands_on m fits run_well n none)
+    | inr gone ↦ let left = h.1 run_well in inr (refl, gone, left.0, left.1 ∙ ap (λ (o : Option Standing). left_by m n o) (none_of m.store.standing n gone.0))
+  ]
   full_alone line n entries HasChildren after h = absurd h.0
-  full_alone line n entries Full after h = (refl, h.2)
+  full_alone line n entries Full after h = inl (refl, h.2)
   full_alone line n entries NotPermitted after h = elim h.0 [ inl w ↦ absurd w | inr s ↦ absurd s ]
   full_alone line n entries StreamsAlive after h = absurd h.0
   full_alone line n entries Capacity after h = absurd h.0
@@ -308,7 +318,7 @@ module _ (contexts : List WasiSocketsCtx) (steps : List Step) (es : List Entry) 
 
   -- a poll traps only where there is no room for the handle of a create, for those of datagram streams or for that of a stream's
   -- error
-  pub polls_trap : (line n : ℕ) (entries : List Entry) (kind : TrapKind) (after : Machine) → Answered contexts m line (step.Poll n) entries (reply.Trap kind) after → PollTraps kind
+  pub polls_trap : (line n : ℕ) (entries : List Entry) (kind : TrapKind) (after : Machine) → Answered contexts m line (step.Poll n) entries (reply.Trap kind) after → PollTraps n entries kind after
   polls_trap line n entries kind after a = full_alone line n entries kind after (its_own contexts m line (step.Poll n) entries (reply.Trap kind) after a (λ e. cc)).1
 
   -- a wait for several traps only where it is for none, or a handle of it is no pollable's
@@ -345,4 +355,7 @@ module _ (contexts : List WasiSocketsCtx) (steps : List Step) (es : List Entry) 
 
   pub waits_never_trap : (line : ℕ) (ids : Ids) (call : BlockingCall) → m.store.standing ≡ Some (standing_as ids (standing.Blocking call)) → (IsCallOfStream call → ⊥) → (entries : List Entry) (kind : TrapKind) (after : Machine)
       → Answered contexts m line (step.Poll ids.line) entries (reply.Trap kind) after → ⊥
-  waits_never_trap line ids call stands wait entries kind after a = let k = polls_trap line ids.line entries kind after a in waits_never_trap_by call wait (rw stands at k.1)
+  waits_never_trap line ids call stands wait entries kind after a = elim (polls_trap line ids.line entries kind after a) [
+    | inl k ↦ waits_never_trap_by call wait (rw stands at k.1)
+    | inr gone ↦ not_both (stands_as m.store.standing ids.line) (ap (λ (o : Option Standing). stands_as o ids.line) stands ∙ eq-eqb ids.line ids.line refl) gone.1.0
+  ]

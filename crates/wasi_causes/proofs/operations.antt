@@ -3,5 +3,6 @@ pub mod Accepts
 pub mod Marks
 pub mod Polls
 pub mod Checks
+pub mod ConnectEnds
 pub mod ConnectPolls
 pub mod DatagramPolls

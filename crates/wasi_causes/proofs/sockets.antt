@@ -7,4 +7,5 @@ pub mod P3Udp
 pub mod Udp
 pub mod UdpBinds
 pub mod P3Binds
+pub mod P3Connects
 pub mod UdpCreates

@@ -18,6 +18,7 @@ use Rattle.wasi_records.specs.declared.records.Record.TheVariants.{InputPipe, Ou
 use Rattle.wasi_host.specs.declared.store.StandingCall.TheVariants as standing
 use Rattle.wasi_host.specs.Kinds.{is_readable, kind_at, is_network, watched_by, with_handle, without_handle}
 use Rattle.wasi_host.specs.PlainStreams.{with_record_more}
+use Rattle.wasi_host.specs.Beside.{beside_of, stands_under}
 use Rattle.wasi_host.specs.Standing.{standing_as, stands_as}
 use Rattle.wasi_host.specs.StreamCalls.{plain_output_at}
 use Rattle.wasi_steps.specs.Reply.{bytes_fields}
@@ -49,7 +50,7 @@ use Rattle.wasi_walks.specs.Answered.{open_udp_at, outgoing_in, CheckFails, clos
 use Rattle.wasi_machine.specs.Machine.{first_ids, context_at}
 use Rattle.wasi_steps.specs.Replies.{kinds_of}
 use Rattle.wasi_steps.specs.Reply.{family_fields, no_fields, number_fields, triple_fields, truth_fields}
-use Rattle.wasi_walks.specs.Waiting.{IsPoll, IsUnready, left_missing, MayStand, OfWatched, OutputWaits, pollable_mark, StandingWaits, PendingCallsFit, WatchesAccept, WatchesConnect, WatchesIdle}
+use Rattle.wasi_walks.specs.Waiting.{call_over, IsPoll, IsUnready, left_missing, MayStand, OfWatched, OutputWaits, pollable_mark, StandingWaits, PendingCallsFit, WatchesAccept, WatchesConnect, WatchesIdle}
 use Rattle.wasi_causes.specs.GivenUp.{IsDrop, HasLiveChildren, HasNoStreams, IsGone, LooksOnce, shut_down, shutdown_entries, socket_given_up, without}
 use Rattle.wasi_world.specs.declared.call.Call.TheVariants as call
 use Rattle.wasi_world.specs.declared.call.Entry.{Entry}
@@ -82,6 +83,7 @@ use Rattle.wasi_records.specs.Names.{next_name}
 use Rattle.wasi_causes.specs.SendCauses.{ReceivesSome, SendsSome, UdpReceiveRefusal, UdpSendRefusal}
 use Rattle.wasi_causes.specs.StreamCauses.{HasNewStreams, MakesStreams, UdpStreamRefusal, StreamsStand}
 use Rattle.wasi_causes.specs.Datagrams.{IsUdpSend, IsUdpStream, HasUdpStreams, IsSpent, OfIncoming, OfOutgoing, LacksRoomForBoth, MadeBoth, PermitsSend, PendingHandleIsLive, LacksRoomForStreams, IsReceiving, WatchesDatagrams, WatchesIncoming, WatchesOutgoing, OutgoingWaits, IncomingGone, OutgoingGone}
+use Rattle.wasi_causes.specs.P3Connects.{BesideCancelled, BesidePolled, ConnectStands, Connects, IsBeside, P3ConnectRefusal}
 use Rattle.wasi_causes.specs.P3Binds as binds
 use Rattle.wasi_causes.specs.P3Binds.{BindStands, Binds, P3BindRefusal, P3UdpBindRefusal}
 use Rattle.wasi_causes.specs.P3Udp.{Disconnects, KnowsUdp3Bound, OfUdp3, P3DisconnectRefusal, P3UdpCreateRefusal, P3UdpGetRefusal, P3UdpLocalRefusal, P3UdpSetRefusal}
@@ -131,9 +133,10 @@ pub record Turns (m : Machine) (es : List Entry) (r : Reply) (after : Machine) :
 abbrev pub BlockedGoesOn : List WasiSocketsCtx → Machine → ℕ → List Entry → Reply → Machine → Type 0
 BlockedGoesOn contexts m n es r after = (c : ℕ) (ids : Ids) (call : BlockingCall) → m.store.standing ≡ Some (standing_as ids (standing.Blocking call)) → ids.line ≡ n → IsShort call → BlocksAs contexts (nothing_stands m) c ids call es r after
 
--- a cancel finds no call exactly where none is pending under its number, and is done exactly where one is
-abbrev pub Cancels : Machine → ℕ → Reply → Type 0
-Cancels m n r = ((r ≡ reply.NoSuchCall) ↔ (stands_as m.store.standing n ≡ false)) × ((r ≡ reply.Ok no_fields) ↔ (stands_as m.store.standing n ≡ true))
+-- a cancel finds no call exactly where none is pending under its number, and is done exactly where one is; of one that stands beside
+-- others it asks nothing, and the call is over
+abbrev pub Cancels : Machine → ℕ → List Entry → Reply → Machine → Type 0
+Cancels m n es r after = ((r ≡ reply.NoSuchCall) ↔ (stands_under m.store n ≡ false)) × ((r ≡ reply.Ok no_fields) ↔ (stands_under m.store n ≡ true)) × (IsBeside m n → (es ≡ []) × (after ≡ call_over m n))
 
 -- one reply comes of this and of nothing else; or some of these things stay
 abbrev pub Always : List WasiSocketsCtx → Machine → ℕ → Step → List Entry → Reply → Machine → Type 0
@@ -163,7 +166,7 @@ Always contexts m line (step.Call c (guest.BlockingFlush output)) es r after = m
 Always contexts m line (step.Call c (guest.BlockingSplice to from len)) es r after = m.store.standing ≡ None → BlocksAs contexts m c (first_ids line) (blocking.Splice to from len) es r after
 Always contexts m line (step.Call c (guest.Block pollable)) es r after = m.store.standing ≡ None → BlocksOn contexts m c (first_ids line) pollable First es r after
 Always contexts m line (step.Call c (guest.PollList pollables)) es r after = BeginsToWait m line pollables es r after
-Always contexts m line (step.Cancel n) es r after = Cancels m n r
+Always contexts m line (step.Cancel n) es r after = Cancels m n es r after
 Always contexts m line (step.Call c (guest.Ready p)) es r after = (WatchesIdle m p → ReadyAtOnce m es r after) × (WatchesUdp m p → ReadyAtOnce m es r after) × (WatchesPlain m p → ReadyAtOnce m es r after) × ((place : ℕ) → WatchesOutgoing m p place → (r ≡ reply.Ok (truth_fields (outgoing_ready (open_at m.store.records place)))) × Quiet m es after) × ((place : ℕ) → WatchesIncoming m p place → r ≡ reply.Ok (truth_fields false) → IsReceiving (open_at after.store.records place)) × ((place : ℕ) → WatchesLookup m p place → (r ≡ reply.Ok (truth_fields (lookup_ready (lookup_at m.store.records place)))) × Quiet m es after)
 Always contexts m line (step.Call c (guest.Drop h)) es r after = ((r ≡ reply.Trap HasChildren) ↔ HasLiveChildren m h) × AsksOnce line (kind_at m.table h) es
 Always contexts m line (step.Call c (guest.TcpShutdown s how)) es r after = (r ≡ reply.Err word.InvalidState) ↔ HasNoStreams (record_at m s)
@@ -190,7 +193,7 @@ Always contexts m line (step.Call c (guest.P3UdpAddressFamily s)) es r after = Q
 Always contexts m line (step.Call c (guest.P3UdpGet s option)) es r after = after ≡ m
 Always contexts m line (step.Call c (guest.P3UdpSet s setting)) es r after = after ≡ m
 Always contexts m line step.Turn es r after = Turns m es r after
-Always contexts m line (step.Poll n) es r after = ((r ≡ reply.NoSuchCall) ↔ (stands_as m.store.standing n ≡ false)) × (stands_as m.store.standing n ≡ true → (r ≡ reply.Pending n) ⊎ (after.store.standing ≡ None)) × BlockedGoesOn contexts m n es r after
+Always contexts m line (step.Poll n) es r after = ((r ≡ reply.NoSuchCall) ↔ (stands_under m.store n ≡ false)) × (stands_as m.store.standing n ≡ true → (r ≡ reply.Pending n) ⊎ (after.store.standing ≡ None)) × BlockedGoesOn contexts m n es r after × (IsBeside m n → BesidePolled m n es r after)
 Always contexts m line _ es r after = ⊤
 
 -- == done
@@ -258,7 +261,7 @@ Done contexts m line (step.Call c guest.Sink) es fields after = MakesPlain m lin
 Done contexts m line (step.Call c guest.ClosedIn) es fields after = MakesPlain m line (kind.PlainInput input.Closed) m.store es fields after
 Done contexts m line (step.Call c guest.ClosedOut) es fields after = MakesPlain m line (kind.PlainOutput output.Closed) m.store es fields after
 Done contexts m line (step.Call c (guest.PipeContents output)) es fields after = OfOutputPipe m output (λ place pipe. fields ≡ bytes_fields pipe.held)
-Done contexts m line (step.Cancel n) es fields after = IsSomeAnd m.store.standing (λ s. CancelsBy m es after s.call) × (after.store.standing ≡ None) × (after.table ≡ m.table)
+Done contexts m line (step.Cancel n) es fields after = (IsSomeAnd m.store.standing (λ s. CancelsBy m es after s.call) × (after.store.standing ≡ None) × (after.table ≡ m.table)) ⊎ BesideCancelled m n es after
 Done contexts m line (step.Call c (guest.Subscribe h)) es fields after = Subscribes m line h es fields after
 Done contexts m line (step.Call c (guest.Ready p)) es fields after = Looks m line p es fields
 Done contexts m line (step.Call c (guest.Drop h)) es fields after = (after.table ≡ without_handle m.table h) × Gone m line h (kind_at m.table h) es after
@@ -282,6 +285,7 @@ Done contexts m line (step.Call c (guest.P3TcpGet s option)) es fields after = O
 Done contexts m line (step.Call c (guest.P3TcpSet s setting)) es fields after = (fields ≡ no_fields) × OfTcp3 m s (λ place r. SetsChosen m (own_of line) (chosen setting) place r es after)
 Done contexts m line (step.Call c (guest.P3UdpCreate family)) es fields after = CreatesUdpFor P3 m (own_of line) (context_at contexts c) family es fields after
 Done contexts m line (step.Call c (guest.P3TcpBind s a)) es fields after = OfTcp3 m s (λ place r. Binds m (own_of line) place r a es after)
+Done contexts m line (step.Call c (guest.P3TcpConnect s a)) es fields after = OfTcp3 m s (λ place r. Connects m (own_of line) place r a es after)
 Done contexts m line (step.Call c (guest.P3UdpBind s a)) es fields after = OfUdp3 m s (λ place o. binds.BindsUdp m (own_of line) place o a es after)
 Done contexts m line (step.Call c (guest.P3UdpDisconnect s)) es fields after = OfUdp3 m s (λ place o. Disconnects m (own_of line) place o es after)
 Done contexts m line (step.Call c (guest.P3UdpLocalAddress s)) es fields after = OfUdp3 m s (λ place o. TellsUdpLocal m (own_of line) place o es fields after)
@@ -289,7 +293,7 @@ Done contexts m line (step.Call c (guest.P3UdpRemoteAddress s)) es fields after 
 Done contexts m line (step.Call c (guest.P3UdpAddressFamily s)) es fields after = OfUdp3 m s (λ place o. fields ≡ family_fields o.inner.family)
 Done contexts m line (step.Call c (guest.P3UdpGet s option)) es fields after = OfUdp3 m s (λ place o. GetsUdpOption (own_of line) (udp_opt option) o fields es)
 Done contexts m line (step.Call c (guest.P3UdpSet s setting)) es fields after = OfUdp3 m s (λ place o. SetsUdpOption (own_of line) setting o es)
-Done contexts m line (step.Poll n) es fields after = IsSomeAnd m.store.standing (λ s. GivesBy m fields after s.call)
+Done contexts m line (step.Poll n) es fields after = IsSomeAnd m.store.standing (λ s. GivesBy m fields after s.call) ⊎ (IsBeside m n × (fields ≡ no_fields))
 Done contexts m line s es fields after = ⊤
 
 -- == refused
@@ -330,13 +334,14 @@ Refused contexts m line (step.Call c (guest.P3TcpGet s option)) es w after = P3R
 Refused contexts m line (step.Call c (guest.P3TcpSet s setting)) es w after = P3RefusedSet m (own_of line) s setting es w after
 Refused contexts m line (step.Call c (guest.P3UdpCreate family)) es w after = P3UdpCreateRefusal m (own_of line) (context_at contexts c) family es w after
 Refused contexts m line (step.Call c (guest.P3TcpBind s a)) es w after = P3BindRefusal m (own_of line) s a es w after
+Refused contexts m line (step.Call c (guest.P3TcpConnect s a)) es w after = P3ConnectRefusal m (own_of line) s a es w after
 Refused contexts m line (step.Call c (guest.P3UdpBind s a)) es w after = P3UdpBindRefusal m (own_of line) s a es w after
 Refused contexts m line (step.Call c (guest.P3UdpDisconnect s)) es w after = P3DisconnectRefusal m (own_of line) s es w after
 Refused contexts m line (step.Call c (guest.P3UdpLocalAddress s)) es w after = P3UdpLocalRefusal m (own_of line) s es w after × ((after ≡ m) ⊎ KnowsUdp3Bound m s after)
 Refused contexts m line (step.Call c (guest.P3UdpRemoteAddress s)) es w after = OfUdp3 m s (λ place o. o.inner.remote ≡ None)
 Refused contexts m line (step.Call c (guest.P3UdpGet s option)) es w after = P3UdpGetRefusal m (own_of line) s (udp_opt option) es w
 Refused contexts m line (step.Call c (guest.P3UdpSet s setting)) es w after = P3UdpSetRefusal m (own_of line) s setting es w
-Refused contexts m line (step.Poll n) es w after = (PendingCallsFit m → FailureLeaves m n es w after) × (after.table ≡ m.table)
+Refused contexts m line (step.Poll n) es w after = ((PendingCallsFit m → FailureLeaves m n es w after) ⊎ IsBeside m n) × (after.table ≡ m.table)
 Refused contexts m line s es w after = ⊤
 
 -- == the ends of a stream's call
@@ -359,6 +364,12 @@ Fails m line (step.Poll n) es w handle after = StreamCallStands m
 Fails m line s es w handle after = ⊤
 
 -- == pending
+-- a call is pending under this number afterwards: a connect of 0.3 beside others, and that of a poll where it stood
+abbrev pub PendsUnder : Step → ℕ → Machine → Type 0
+PendsUnder (step.Call c (guest.P3TcpConnect s a)) n after = IsSome (beside_of after.store n)
+PendsUnder (step.Poll k) n after = IsSomeAnd after.store.standing (λ call. call.ids.line ≡ n) ⊎ IsSome (beside_of after.store n)
+PendsUnder s n after = IsSomeAnd after.store.standing (λ call. call.ids.line ≡ n)
+
 abbrev pub Pends : List WasiSocketsCtx → Machine → ℕ → Step → List Entry → Machine → Type 0
 Pends contexts m line (step.Call c (guest.TcpStartBind s n a)) es after = EndsPending (own_of line) es
 Pends contexts m line (step.Call c (guest.TcpStartListen s)) es after = EndsPending (own_of line) es
@@ -366,10 +377,11 @@ Pends contexts m line (step.Call c (guest.Drop h)) es after = (after.table ≡ w
 Pends contexts m line (step.Call c (guest.UdpCreate family)) es after = CreateStands m line (own_of line) (context_at contexts c) family es after
 Pends contexts m line (step.Call c (guest.P3UdpCreate family)) es after = CreateStandsFor P3 m line (own_of line) (context_at contexts c) family es after
 Pends contexts m line (step.Call c (guest.P3TcpBind s a)) es after = OfTcp3 m s (λ place r. BindStands m line place r a es after)
+Pends contexts m line (step.Call c (guest.P3TcpConnect s a)) es after = OfTcp3 m s (λ place r. ConnectStands m line place r a es after)
 Pends contexts m line (step.Call c (guest.P3UdpBind s a)) es after = OfUdp3 m s (λ place o. binds.UdpBindStands m line place o a es after)
 Pends contexts m line (step.Call c (guest.UdpStartBind s n a)) es after = OfUdp m s (λ place o. UdpBindStands m line (own_of line) place o a es after)
 Pends contexts m line (step.Call c (guest.UdpStream s remote)) es after = (after.table ≡ m.table) × OfUdp m s (λ place o. StreamsStand m line s place o remote es after)
-Pends contexts m line (step.Poll n) es after = (PendingCallsFit m → StandingWaits m (own_of n) es) × (after.table ≡ m.table) × ((BlockingCallStands m → ⊥) → after.store.standing ≡ m.store.standing)
+Pends contexts m line (step.Poll n) es after = ((PendingCallsFit m → StandingWaits m (own_of n) es) ⊎ IsBeside m n) × (after.table ≡ m.table) × ((BlockingCallStands m → ⊥) → after.store.standing ≡ m.store.standing)
 Pends contexts m line s es after = ⊤
 
 -- == traps
@@ -440,7 +452,7 @@ Replies contexts m line s es (reply.Err w) after = MayRefuse s w × Refused cont
 Replies contexts m line s es reply.Closed after = IsStreamCall s × Ends m line s es after
 Replies contexts m line s es (reply.Failed w handle) after = (IsStreamCall s × IsCodeWord w) × Fails m line s es w handle after
 Replies contexts m line s es (reply.Trap kind) after = Traps contexts m line s es kind after
-Replies contexts m line s es (reply.Pending n) after = (MayStand m line s n × IsSomeAnd after.store.standing (λ call. call.ids.line ≡ n)) × Pends contexts m line s es after
+Replies contexts m line s es (reply.Pending n) after = (MayStand m line s n × PendsUnder s n after) × Pends contexts m line s es after
 Replies contexts m line s es reply.NoSuchCall after = (IsPoll s ⊎ IsCancel s) × Quiet m es after
 Replies contexts m line s es _ after = ⊥
 

@@ -14,7 +14,9 @@ ghost use Rattle.wasi_host.specs.declared.blocking.BlockingCall.{BlockingCall};
 ghost use Rattle.wasi_host.specs.declared.machine.Machine.{Machine};
 ghost use Rattle.wasi_host.specs.declared.store.StandingCall.{StandingCall};
 ghost use Rattle.wasi_host.specs.Machine.{first_state};
-ghost use Rattle.wasi_host.specs.Standing.{standing_as, stands_as};
+ghost use Rattle.wasi_host.specs.Beside.{stands_under};
+ghost use Rattle.wasi_host.specs.Standing.{standing_as};
+ghost use Rattle.wasi_causes.specs.P3Connects.{BesideCancelled};
 ghost use Rattle.wasi_machine.specs.Machine.{first_ids, run};
 ghost use Rattle.wasi_steps.specs.declared.reply.CodeWord.{CodeWord};
 ghost use Rattle.wasi_steps.specs.declared.reply.Field.{Field};
@@ -147,17 +149,19 @@ pub fn pending_calls_have_their_streams()
 /// - `given_up`: a bind or a connect leaves its socket as it was, with none in progress. A listen
 ///   or a create closes its network socket, and leaves the socket closed or no handle. The drop of
 ///   an outgoing datagram stream loses its datagram. The drop of an output, a call of a stream and
-///   a wait for pollables leave all as it was.
-/// - `none_stands`: no call is pending after an `ok`, and the handles are unchanged.
+///   a wait for pollables leave all as it was. Or the call stands beside others: it is over, and
+///   nothing is asked.
+/// - `none_stands`: the exclusive call is pending no more after an `ok`, and the handles are
+///   unchanged.
 pub fn cancels_give_up_their_call()
     ensures none { (contexts : List WasiSocketsCtx) (m : Machine) (line n : ℕ)
         (entries : List Entry) (reply : Reply) (after : Machine)
         → Answered contexts m line (Step.Cancel n) entries reply after
-        → (reply ≡ Reply.NoSuchCall) ↔ (stands_as m.store.standing n ≡ false) }
+        → (reply ≡ Reply.NoSuchCall) ↔ (stands_under m.store n ≡ false) }
     ensures exactly { (contexts : List WasiSocketsCtx) (m : Machine) (line n : ℕ)
         (entries : List Entry) (reply : Reply) (after : Machine)
         → Answered contexts m line (Step.Cancel n) entries reply after
-        → (reply ≡ Reply.Ok no_fields) ↔ (stands_as m.store.standing n ≡ true) }
+        → (reply ≡ Reply.Ok no_fields) ↔ (stands_under m.store n ≡ true) }
     ensures stays { (contexts : List WasiSocketsCtx) (m : Machine) (line n : ℕ)
         (entries : List Entry) (after : Machine)
         → Answered contexts m line (Step.Cancel n) entries Reply.NoSuchCall after
@@ -165,9 +169,11 @@ pub fn cancels_give_up_their_call()
     ensures given_up { (contexts : List WasiSocketsCtx) (m : Machine) (line n : ℕ)
         (fields : List Field) (entries : List Entry) (after : Machine)
         → Answered contexts m line (Step.Cancel n) entries (Reply.Ok fields) after
-        → IsSomeAnd m.store.standing (λ s. CancelsBy m entries after s.call) }
+        → IsSomeAnd m.store.standing (λ s. CancelsBy m entries after s.call)
+        ⊎ BesideCancelled m n entries after }
     ensures none_stands { (contexts : List WasiSocketsCtx) (m : Machine) (line n : ℕ)
         (fields : List Field) (entries : List Entry) (after : Machine)
         → Answered contexts m line (Step.Cancel n) entries (Reply.Ok fields) after
-        → (after.store.standing ≡ None) × (after.table ≡ m.table) }
+        → ((after.store.standing ≡ None) × (after.table ≡ m.table))
+        ⊎ BesideCancelled m n entries after }
 {}

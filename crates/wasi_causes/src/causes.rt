@@ -25,7 +25,7 @@ ghost use Rattle.wasi_steps.specs.declared.reply.Reply.{Reply};
 ghost use Rattle.wasi_steps.specs.declared.guest_call.GuestCall.{GuestCall};
 ghost use Rattle.wasi_steps.specs.declared.step.Step.{Step};
 ghost use Rattle.wasi_walks.specs.Answered.{Answered, OfRecord, record_at, streams_in};
-ghost use Rattle.wasi_walks.specs.Missing.{IsWrite, MakesHandle, MissesHandle, StandsOnNothing};
+ghost use Rattle.wasi_walks.specs.Missing.{ExclusiveOnNothing, IsWrite, MakesHandle, MissesHandle};
 ghost use Rattle.wasi_causes.specs.Outcomes.{may_answer, EachMayAnswer, InputIsThere};
 ghost use Rattle.wasi_causes.specs.Outcomes.{IsBlockingWrite, LaterPartIsThere, Outcome};
 ghost use Rattle.wasi_causes.specs.PollableCalls.{IsEmptyWait, WatchedIsThere};
@@ -35,7 +35,7 @@ ghost use Rattle.wasi_causes.specs.Reached.{ListensLate, MayFinish, OfItsRecord}
 ghost use Rattle.wasi_causes.specs.GivenUp.{giving_back, GoesAtOnce, HasLiveChildren, IsDrop};
 ghost use Rattle.wasi_causes.specs.GivenUp.{IsDropped, IsGone, LooksOnce, socket_given_up, without};
 ghost use Rattle.wasi_walks.specs.Licence.{Has, marks_in};
-ghost use Rattle.wasi_machine.specs.Machine.{run};
+ghost use Rattle.wasi_machine.specs.Machine.{polls_beside, run};
 ghost use Rattle.wasi_steps.specs.Steps.{context_of};
 ghost use Rattle.wasi_host.specs.Machine.{first_state, own_of, socket_at};
 ghost use Rattle.wasi_records.specs.declared.name_lookup.Lookup.{Lookup};
@@ -74,15 +74,18 @@ pub fn answers_are_in_the_table()
         → Outcome contexts m line s entries reply after }
 {}
 
-/// While a call is pending every other call of a guest is `busy`.
+/// While an exclusive call is pending every other call of a guest is `busy`, and so is a poll of a
+/// call that stands beside others.
 ///
-/// - `exactly`: a step is `busy` exactly where a call is pending and the step is a guest's call.
+/// - `exactly`: a step is `busy` exactly where an exclusive call is pending, and the step is a
+///   guest's call or such a poll.
 /// - `stays`: nothing was asked then, and the machine is unchanged.
 pub fn busy_while_a_call_stands()
     ensures exactly { (contexts : List WasiSocketsCtx) (m : Machine) (line : ℕ) (s : Step)
         (entries : List Entry) (reply : Reply) (after : Machine)
         → Answered contexts m line s entries reply after
-        → (reply ≡ Reply.Busy) ↔ (IsSome m.store.standing × IsSome (context_of s)) }
+        → (reply ≡ Reply.Busy) ↔ (IsSome m.store.standing
+        × (IsSome (context_of s) ⊎ (polls_beside m.store s ≡ true))) }
     ensures stays { (contexts : List WasiSocketsCtx) (m : Machine) (line : ℕ) (s : Step)
         (entries : List Entry) (after : Machine)
         → Answered contexts m line s entries Reply.Busy after → (entries ≡ []) × (after ≡ m) }
@@ -94,7 +97,7 @@ pub fn busy_while_a_call_stands()
 /// - `kinds`: a step traps with one of the eight kinds below.
 /// - `no_such_handle`: a handle of the step isn't live, or is of another kind.
 /// - `no_such_handle_stays`: nothing was asked then, and the machine is unchanged, but that after a
-///   poll no call is pending.
+///   poll the call that it polls is over.
 /// - `has_children`: a drop traps with `HasChildren` exactly where its handle has a live child;
 ///   that is said where no call is pending.
 /// - `has_children_stays`, `only_drops`: nothing is asked then, the machine is unchanged, and no
@@ -177,8 +180,8 @@ pub fn traps_have_causes()
 /// - `missing`: a handle without a TCP socket isn't live, or is of another kind.
 /// - `inputs`: what an input reads from is there, the streams of a connection or a pipe.
 /// - `pollables`: what a pollable watches is there.
-/// - `stands`: what a pending call is on is there: its socket, its handle, its streams, or what its
-///   pollables watch.
+/// - `stands`: what the exclusive call is on is there: its socket, its handle, its streams, or what
+///   its pollables watch.
 /// - `connects`: a socket with a connect in progress is connecting, or was closed with a code, or
 ///   is connected with neither half taken.
 /// - `listens`: a socket in the state Default has no listener, and no listen in progress.
@@ -202,7 +205,7 @@ pub fn runs_keep_their_records()
     ensures stands { (contexts : List WasiSocketsCtx) (steps : List Step) (log : List Entry)
         (replies : List Reply) (m : Machine) (number : ℕ)
         → Left (run contexts [] first_state 1 steps) log (Give (replies, m))
-        → StandsOnNothing m number → ⊥ }
+        → ExclusiveOnNothing m number → ⊥ }
     ensures connects { (contexts : List WasiSocketsCtx) (steps : List Step) (log : List Entry)
         (replies : List Reply) (m : Machine) (place : ℕ) (r : TcpRecord)
         → Left (run contexts [] first_state 1 steps) log (Give (replies, m))

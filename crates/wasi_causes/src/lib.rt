@@ -13,6 +13,7 @@ pub mod marks;
 pub mod options;
 pub mod p3;
 pub mod p3_binds;
+pub mod p3_connects;
 pub mod p3_udp;
 pub mod pending_calls;
 pub mod readiness;

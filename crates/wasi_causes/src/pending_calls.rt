@@ -1,7 +1,7 @@
 //! Calls that may be pending: when, what a poll of one answers, and what every run keeps of it.
 
 ghost use Rattle.std.specs.Prelude.{◌≡◌, ◌↔◌, ◌⊎◌, ℕ, true, false, List, []};
-ghost use Rattle.std.specs.Prelude.{IsSomeAnd, None};
+ghost use Rattle.std.specs.Prelude.{IsSome, IsSomeAnd, None};
 ghost use Rattle.wasi_addr.specs.declared.address.IpSocketAddress.{IpSocketAddress};
 ghost use Rattle.wasi_world.specs.declared.call.Entry.{Entry};
 ghost use Rattle.wasi_world.specs.declared.outcome.TrapKind.{TrapKind};
@@ -21,10 +21,13 @@ ghost use Rattle.wasi_causes.specs.Datagrams.{LacksRoomForStreams};
 ghost use Rattle.wasi_causes.specs.Datagrams.{OutgoingWaits};
 ghost use Rattle.wasi_machine.specs.Machine.{run};
 ghost use Rattle.wasi_host.specs.Machine.{first_state, outgoing_at, output_at, own_of};
+ghost use Rattle.wasi_host.specs.Beside.{beside_of, stands_under};
 ghost use Rattle.wasi_host.specs.Standing.{stands_as};
+ghost use Rattle.wasi_walks.specs.Missing.{BesideNothing};
 ghost use Rattle.wasi_walks.specs.Waiting.{IsPoll, MayStand};
 ghost use Rattle.wasi_walks.specs.Waiting.{OutputWaits, StandingWaits};
-ghost use Rattle.wasi_walks.specs.Waiting.{PendingCallsFit};
+ghost use Rattle.wasi_walks.specs.Waiting.{PendingCallsFit, call_over};
+ghost use Rattle.wasi_causes.specs.P3Connects.{BesidePolled, IsBeside};
 ghost use Rattle.wasi_table.specs.Table.{is_full};
 
 /// What a poll of a pending call answers.
@@ -32,13 +35,17 @@ ghost use Rattle.wasi_table.specs.Table.{is_full};
 /// - `exactly`, `stays`: `no-such-call` exactly where no call is pending under its number; nothing
 ///   is asked then, and the machine is unchanged.
 /// - `only_polls`: no other step but a cancel answers that.
-/// - `ends`: a poll of a pending call leaves it pending, or leaves no call pending.
+/// - `ends`: a poll of the exclusive call leaves it pending, or leaves none pending.
+/// - `beside`: so does one of a call that stands beside others, unless it is busy, and leaves the
+///   handles and the exclusive call unchanged (`polls_of_connects` says which answer comes of what).
 /// - `refused`: a code is the one by which the bind, the listen, the create or the connect failed:
 ///   a check said no, or the network answered with it. A listen and a create closed their network
 ///   socket last; a connect that was answered asked for the remote address. The operation is in
-///   progress no more, a create's record is given back, and no call is pending.
-/// - `traps`: in a run a poll traps with `Full` alone: for the handle of a create, the two of
-///   datagram streams, or that of a stream's error.
+///   progress no more, a create's record is given back, and no exclusive call is pending. Or the
+///   call stands beside others.
+/// - `traps`: in a run a poll traps with `Full` alone, for the handle of a create, the two of
+///   datagram streams, or that of a stream's error; or with `NoSuchHandle`, where the socket of a
+///   call beside others was dropped.
 ///
 /// `refused` assumes `PendingCallsFit`: the pending call and the operation in its record are of one
 /// kind. Every run keeps that (`runs_keep_their_pending_calls`).
@@ -46,7 +53,7 @@ pub fn polls_find_their_call()
     ensures exactly { (contexts : List WasiSocketsCtx) (m : Machine) (line n : ℕ)
         (entries : List Entry) (reply : Reply) (after : Machine)
         → Answered contexts m line (Step.Poll n) entries reply after
-        → (reply ≡ Reply.NoSuchCall) ↔ (stands_as m.store.standing n ≡ false) }
+        → (reply ≡ Reply.NoSuchCall) ↔ (stands_under m.store n ≡ false) }
     ensures stays { (contexts : List WasiSocketsCtx) (m : Machine) (line n : ℕ)
         (entries : List Entry) (after : Machine)
         → Answered contexts m line (Step.Poll n) entries Reply.NoSuchCall after
@@ -59,31 +66,40 @@ pub fn polls_find_their_call()
         → stands_as m.store.standing n ≡ true
         → Answered contexts m line (Step.Poll n) entries reply after
         → (reply ≡ Reply.Pending n) ⊎ (after.store.standing ≡ None) }
+    ensures beside { (contexts : List WasiSocketsCtx) (m : Machine) (line n : ℕ)
+        (entries : List Entry) (reply : Reply) (after : Machine)
+        → IsBeside m n → (reply ≡ Reply.Busy → ⊥)
+        → Answered contexts m line (Step.Poll n) entries reply after
+        → BesidePolled m n entries reply after }
     ensures refused { (contexts : List WasiSocketsCtx) (m : Machine) (line n : ℕ)
         (entries : List Entry) (word : CodeWord) (after : Machine)
         → PendingCallsFit m → Answered contexts m line (Step.Poll n) entries (Reply.Err word) after
-        → FailureLeaves m n entries word after }
+        → FailureLeaves m n entries word after
+        ⊎ BesidePolled m n entries (Reply.Err word) after }
     ensures traps { (contexts : List WasiSocketsCtx) (steps : List Step) (log : List Entry)
         (replies : List Reply) (m : Machine) (line n : ℕ) (entries : List Entry) (kind : TrapKind)
         (after : Machine)
         → Left (run contexts [] first_state 1 steps) log (Give (replies, m))
         → Answered contexts m line (Step.Poll n) entries (Reply.Trap kind) after
-        → (kind ≡ TrapKind.Full)
+        → ((kind ≡ TrapKind.Full)
         × (((is_full m.table ≡ true) × IsSomeAnd m.store.standing (λ s. IsPendingCreate s.call))
-        ⊎ (IsSomeAnd m.store.standing (λ s. LacksRoomForStreams m s.call) ⊎ StreamCallStands m)) }
+        ⊎ (IsSomeAnd m.store.standing (λ s. LacksRoomForStreams m s.call) ⊎ StreamCallStands m)))
+        ⊎ ((kind ≡ TrapKind.NoSuchHandle) × BesideNothing m n × (entries ≡ [])
+        × (after ≡ call_over m n)) }
 {}
 
 /// When a step may be pending.
 ///
-/// - `step`: the start of a bind or of a listen, a create of a UDP socket or of its datagram
-///   streams, the drop of an output or of an outgoing datagram stream, and a call that blocks, all
-///   under their line's number; and a poll, under the number that it polls.
-/// - `stands`: a call is pending under that number then.
+/// - `step`: a bind or the start of one, a connect of 0.3, the start of a listen, a create of a UDP
+///   socket or of its datagram streams, the drop of an output or of an outgoing datagram stream,
+///   and a call that blocks, all under their line's number; and a poll, under the number that it
+///   polls.
+/// - `stands`: a call is pending under that number then: the exclusive call, or one beside others.
 /// - `told`, `listen`: the last call of a bind, or of a listen, was answered pending.
 /// - `output`: a drop waits for its output's write in progress, or its one look was answered
 ///   pending; or it waits for a datagram that isn't sent yet, and asks nothing.
 /// - `polled`: a poll is pending for the reason of the call that it polls; `blocking` and `waiting`
-///   say that of calls that block.
+///   say that of calls that block, and `p3_connects` of those that stand beside others.
 ///
 /// `polled` assumes `PendingCallsFit`: the pending call and the operation in its record are of one
 /// kind. Every run keeps that (`runs_keep_their_pending_calls`).
@@ -95,7 +111,8 @@ pub fn pending_where_told()
     ensures stands { (contexts : List WasiSocketsCtx) (m : Machine) (line : ℕ) (s : Step)
         (entries : List Entry) (number : ℕ) (after : Machine)
         → Answered contexts m line s entries (Reply.Pending number) after
-        → IsSomeAnd after.store.standing (λ call. call.ids.line ≡ number) }
+        → IsSomeAnd after.store.standing (λ call. call.ids.line ≡ number)
+        ⊎ IsSome (beside_of after.store number) }
     ensures told { (contexts : List WasiSocketsCtx) (m : Machine) (line ctx handle network : ℕ)
         (a : IpSocketAddress) (entries : List Entry) (number : ℕ) (after : Machine)
         → Answered contexts m line (Step.Call ctx (GuestCall.TcpStartBind handle network a)) entries
@@ -113,7 +130,8 @@ pub fn pending_where_told()
     ensures polled { (contexts : List WasiSocketsCtx) (m : Machine) (line n : ℕ)
         (entries : List Entry) (number : ℕ) (after : Machine)
         → PendingCallsFit m → Answered contexts m line (Step.Poll n) entries (Reply.Pending number)
-        after → StandingWaits m (own_of n) entries }
+        after → StandingWaits m (own_of n) entries
+        ⊎ BesidePolled m n entries (Reply.Pending n) after }
 {}
 
 /// After any script the pending call and the operation in its record fit.

@@ -30,6 +30,7 @@ ghost use Rattle.wasi_walks.specs.Answered.{Answered, open_udp_at};
 ghost use Rattle.wasi_causes.specs.Blocking.{StreamCallStands};
 ghost use Rattle.wasi_causes.specs.GivenUp.{without};
 ghost use Rattle.wasi_causes.specs.Datagrams.{LacksRoomForStreams};
+ghost use Rattle.wasi_causes.specs.P3Connects.{IsBeside};
 ghost use Rattle.wasi_causes.specs.Udp.{OfUdp, RefusedOfUdp, HasUdpInProgress, HasNoUdpBind};
 ghost use Rattle.wasi_causes.specs.Udp.{KeepsNoRemote, WatchesUdp, udp_create_entry};
 ghost use Rattle.wasi_causes.specs.Udp.{writable_entry, with_udp_record, new_udp, UdpCreateRefusal};
@@ -332,7 +333,7 @@ pub fn udp_drops_close()
 ///
 /// - `done`: one that is done gives the next handle, after a create of a UDP socket; the next two,
 ///   after datagram streams; the bytes or the number of a call of a stream; the places of a wait
-///   for pollables; and else nothing.
+///   for pollables; and else nothing, as a connect of 0.3.
 /// - `none`: one that is refused makes no handle.
 /// - `full`: it traps with `Full` where there is no room for the handle of a create, for the two of
 ///   datagram streams, or for that of a stream's error.
@@ -340,7 +341,8 @@ pub fn udp_polls_give_a_handle()
     ensures done { (contexts : List WasiSocketsCtx) (m : Machine) (line n : ℕ) (fields : List Field)
         (entries : List Entry) (after : Machine)
         → Answered contexts m line (Step.Poll n) entries (Reply.Ok fields) after
-        → IsSomeAnd m.store.standing (λ s. GivesBy m fields after s.call) }
+        → IsSomeAnd m.store.standing (λ s. GivesBy m fields after s.call)
+        ⊎ (IsBeside m n × (fields ≡ no_fields)) }
     ensures none { (contexts : List WasiSocketsCtx) (m : Machine) (line n : ℕ)
         (entries : List Entry) (word : CodeWord) (after : Machine)
         → Answered contexts m line (Step.Poll n) entries (Reply.Err word) after

@@ -297,6 +297,9 @@ module _ (op : Operation) where
   pub connect_ends : IsConnect op × AllOf IsAskOfConnect op.left → Meets (EndsFor (ClosedBy op)) [] (poll_asks op)
   connect_ends its = ends_for IsAskOfConnect connect_sorts its.1 (ClosedBy op) (λ es c k of. connect_broken es k.front k.last k.item c of k.its k.broke (at_end es c k CloseLast its.0.last))
 
+  pub connect_in_table : AllOf IsAskOfConnect op.left → Meets (Polled op.who op.left) [] (poll_asks op)
+  connect_in_table of = in_table IsAskOfConnect connect_sorts of
+
   pub connect_leaves : AllOf IsAskOfConnect op.left → (es : List Entry) → Gives (λ fs end. Keeps IsAskOfConnect end) es (poll_asks op)
   connect_leaves of = leaves IsAskOfConnect connect_sorts of connect_stays
 

@@ -1,4 +1,6 @@
 -- A wait for one pollable is answered as a `ready` is, and what a pending wait leaves.
+use Rattle.wasi_causes.proofs.Beside.{exclusive_call, not_beside}
+use Rattle.wasi_causes.proofs.Words.{inl, inr}
 use Rattle.wasi_causes.proofs.Words.{◌≡◌, ◌≢◌, ◌∙◌, ℕ, Bool, true, false, List, [], Option, None, Some, Result, Ok, Err, Answered, Code, Entry, Give, IsSomeAnd, Left, ◌↔◌, Machine, NoSuchHandle, Reply, Standing, StandingCall, Stop, Trap, TrapKind, WasiSocketsCtx, ap, asks_while, bind, eq-eqb, first_ids, no_fields, nothing_stands, ready_asks, refl, standing_as, stands_as, subst, sym, truth_fields, truth_reply}
 use Rattle.wasi_world.specs.declared.ids.Ids.{Ids}
 use Rattle.wasi_host.specs.declared.blocking.BlockingCall.{BlockingCall}
@@ -129,10 +131,11 @@ pub cancelled_so : (contexts : List WasiSocketsCtx) (m : Machine) (line : ℕ) (
     → Outcome contexts m line (step.Cancel ids.line) es r after → (r ≡ reply.Ok no_fields) × (es ≡ []) × (after ≡ nothing_stands m)
 cancelled_so contexts m line ids call stands es r after row =
     let its : stands_as m.store.standing ids.line ≡ true = ap (λ (o : Option Standing). stands_as o ids.line) stands ∙ eq-eqb ids.line ids.line refl in
-    let done : r ≡ reply.Ok no_fields = row.0.1.1 its in
-    let left = (subst (λ (x : Reply). Outcome contexts m line (step.Cancel ids.line) es x after) done row).1.1 in
-    let only : OnlyUnstands m es after = subst (λ (o : Option Standing). IsSomeAnd o (λ s. CancelsBy m es after s.call)) stands left.0 in
-    (done, only.0, only.1)
+    let done : r ≡ reply.Ok no_fields = row.0.1.1 (exclusive_call m ids.line its) in
+    elim (subst (λ (x : Reply). Outcome contexts m line (step.Cancel ids.line) es x after) done row).1.1 [
+      | inl left ↦ let only : OnlyUnstands m es after = subst (λ (o : Option Standing). IsSomeAnd o (λ s. CancelsBy m es after s.call)) stands left.0 in (done, only.0, only.1)
+      | inr beside ↦ absurd (not_beside m ids.line its beside.0)
+    ]
 
 -- == the traps of a wait for several
 pub for_none : (m : Machine) (line : ℕ) {es : List Entry} {r : Reply} {after : Machine} → BeginsToWait m line [] es r after → (r ≡ reply.Trap EmptyList) × (es ≡ []) × (after ≡ m)

@@ -29,7 +29,7 @@ module _ (contexts : List WasiSocketsCtx) (m : Machine) (line : ℕ) (ids : Ids)
         (pends_so contexts m line ids one stands es after (ap (λ (x : Machine). x.table) on.left ∙ on.keeps.table) (subst (λ (x : Machine). IsSomeAnd x.store.standing (λ call. call.ids.line ≡ ids.line)) (sym on.left) refl))
     said es (Err (Trap NoSuchHandle), after) k =
         its_answer contexts m line ids one stands es (reply.Trap NoSuchHandle) after (λ e. cc) (inr (ap (λ (x : Machine). x.store.standing) (k 0).3)) (λ c short. (k c).0 refl)
-        (rw (stands, eq-eqb ids.line ids.line refl) (missed_before m (nothing_stands m) (stay_same m.store.records) refl p (k 0).1), λ live. ((k 0).2, (k 0).3))
+        (inl (rw (stands, eq-eqb ids.line ids.line refl) (missed_before m (nothing_stands m) (stay_same m.store.records) refl p (k 0).1)), λ live. ((k 0).2, rw (stands, eq-eqb ids.line ids.line refl) (k 0).3))
     said es (Err _, after) k = absurd (k 0)
 
     block_goes_on : Meets (PolledRow contexts m line ids one stands) [] (unblock_asks (nothing_stands m) ids one)
@@ -50,7 +50,7 @@ module _ (contexts : List WasiSocketsCtx) (m : Machine) (line : ℕ) (ids : Ids)
     told es (Err (Trap NoSuchHandle), after) k =
         let missing = missed_one m (nothing_stands m) (stay_same m.store.records) refl ps k.1 in
         its_answer contexts m line ids several stands es (reply.Trap NoSuchHandle) after (λ e. cc) (inr k.2.standing) (λ c short. k.0)
-        (rw (stands, eq-eqb ids.line ids.line refl) missing, λ live. absurd (let its : HasItsHandle m (StandingCall.Blocking several) = rw stands at live in its.0 missing))
+        (inl (rw (stands, eq-eqb ids.line ids.line refl) missing), λ live. absurd (let its : HasItsHandle m (StandingCall.Blocking several) = rw stands at live in its.0 missing))
     told es (Err _, after) k = absurd k
 
     list_goes_on : Meets (PolledRow contexts m line ids several stands) [] (unblock_asks (nothing_stands m) ids several)

@@ -41,6 +41,8 @@ use Rattle.wasi_causes.proofs.pollables.Live.{ready_free}
 use Rattle.wasi_causes.proofs.pollables.Places.{same_ones, takes_so}
 use Rattle.wasi_causes.proofs.tables.Meets.{Meets, both, met, onto, shifted, widen}
 use Rattle.wasi_causes.proofs.tables.Parts.{by_left}
+use Rattle.wasi_causes.proofs.Beside.{one_of_three, polled_beside}
+use Rattle.wasi_host.specs.Beside.{stands_under}
 use Rattle.wasi_causes.proofs.tables.Steps.{Answers, IsBusy, IsHeldUp, IsItsOwn, answers}
 use Rattle.wasi_causes.specs.Blocking.{BlocksAs, IsShort}
 use Rattle.wasi_causes.specs.Outcomes.{Outcome}
@@ -223,7 +225,7 @@ module _ (contexts : List WasiSocketsCtx) (m : Machine) (line : ℕ) (fits : Acc
   nothing_pending : (s : Step) → IsSome (context_of s) → (IsHeldUp contexts m line s → ⊥) → (o : Option Standing) →
       m.store.standing ≡ o → m.store.standing ≡ None
   nothing_pending s guest free None e = e
-  nothing_pending s guest free (Some c) e = absurd (free (rw e refl, guest))
+  nothing_pending s guest free (Some c) e = absurd (free (rw e refl, inl guest))
 
   -- it looks at no pollable, and no wait is pending
   by_others : (s : Step) → (LooksAtPollables s → ⊥) → NoWaitStands m.store.standing → (es : List Entry) (r : Reply)
@@ -260,53 +262,56 @@ module _ (contexts : List WasiSocketsCtx) (m : Machine) (line : ℕ) (fits : Acc
   -- a cancel
   cancel_quiet : (n : ℕ) (es : List Entry) (r : Reply) (after : Machine) → Outcome contexts m line (step.Cancel n) es r
       after → Quiet after
-  cancel_quiet n es r after row = by_stands (stands_as m.store.standing n) refl
+  cancel_quiet n es r after row = by_under (stands_under m.store n) refl
     where
-      by_stands : (b : Bool) → stands_as m.store.standing n ≡ b → Quiet after
-      by_stands true e = let k = subst (λ (x : Reply). Outcome contexts m line (step.Cancel n) es x after) (row.0.1.1 e)
-          row in free_quiet after k.1.1.1
-      by_stands false e = let k = subst (λ (x : Reply). Outcome contexts m line (step.Cancel n) es x after)
+      by_under : (b : Bool) → stands_under m.store n ≡ b → Quiet after
+      by_under true e =
+          let k = subst (λ (x : Reply). Outcome contexts m line (step.Cancel n) es x after) (row.0.1.1 e) row in
+          elim k.1.1 [
+            | inl left ↦ free_quiet after left.1
+            | inr beside ↦ subst Quiet (sym beside.2) quiet
+          ]
+      by_under false e = let k = subst (λ (x : Reply). Outcome contexts m line (step.Cancel n) es x after)
           (row.0.0.1 e) row in subst Quiet (sym k.1.1.1) quiet
 
   -- a poll
   module _ (n : ℕ) (es : List Entry) (r : Reply) (after : Machine)
-      (w : Answered contexts m line (step.Poll n) es r after) (row : Outcome contexts m line (step.Poll n) es r after)
-    where
-      its_wait : (s : Standing) → m.store.standing ≡ Some s → (call : BlockingCall) → s.call ≡ StandingCall.Blocking call
-          → IsShort call
-          → (BlocksAs contexts (nothing_stands m) 0 s.ids call es r after → BeginsNone m
-          (waits_for (StandingCall.Blocking call)) → Quiet after) → Quiet after
-      its_wait s e call is short goes = by_stands (stands_as m.store.standing n) refl
-        where
-          stands : m.store.standing ≡ Some (standing_as s.ids (StandingCall.Blocking call))
-          stands = e ∙ ap (λ (c : StandingCall). Some (standing_as s.ids c)) is
+      (free : IsHeldUp contexts m line (step.Poll n) → ⊥) (w : Answered contexts m line (step.Poll n) es r after)
+      (row : Outcome contexts m line (step.Poll n) es r after) where
+    its_wait : (s : Standing) → m.store.standing ≡ Some s → (call : BlockingCall) → s.call ≡ StandingCall.Blocking call
+        → IsShort call
+        → (BlocksAs contexts (nothing_stands m) 0 s.ids call es r after → BeginsNone m
+        (waits_for (StandingCall.Blocking call)) → Quiet after) → Quiet after
+    its_wait s e call is short goes = one_of_three m n
+        (λ on. goes (row.0.2 0 s.ids call stands
+        (eqb-true s.ids.line n (ap (λ (o : Option Standing). stands_as o n) (sym e) ∙ on)) short) none)
+        (λ off. let k = subst (λ (x : Reply). Outcome contexts m line (step.Poll n) es x after) (row.0.0.1 off) row in
+        subst Quiet (sym k.1.1.1) quiet)
+        (λ beside. absurd (free (rw e refl, inr (polled_beside m n beside))))
+      where
+        stands : m.store.standing ≡ Some (standing_as s.ids (StandingCall.Blocking call))
+        stands = e ∙ ap (λ (c : StandingCall). Some (standing_as s.ids c)) is
 
-          none : BeginsNone m (waits_for (StandingCall.Blocking call))
-          none = subst (λ (o : Option Standing). IfSome o (λ s. BeginsNone m (waits_for s.call))) stands quiet
+        none : BeginsNone m (waits_for (StandingCall.Blocking call))
+        none = subst (λ (o : Option Standing). IfSome o (λ s. BeginsNone m (waits_for s.call))) stands quiet
 
-          by_stands : (b : Bool) → stands_as m.store.standing n ≡ b → Quiet after
-          by_stands true on = goes (row.0.2 0 s.ids call stands
-              (eqb-true s.ids.line n (ap (λ (o : Option Standing). stands_as o n) (sym e) ∙ on)) short) none
-          by_stands false off = let k = subst (λ (x : Reply). Outcome contexts m line (step.Poll n) es x after)
-              (row.0.0.1 off) row in subst Quiet (sym k.1.1.1) quiet
+    by_call : (s : Standing) → m.store.standing ≡ Some s → (call : StandingCall) → s.call ≡ call → Quiet after
+    by_call s e (StandingCall.Blocking (blocking.Block p)) is = its_wait s e (blocking.Block p) is tt
+        (λ k none. block_quiet contexts (nothing_stands m) 0 p fits refl s.ids {look = Later} none k)
+    by_call s e (StandingCall.Blocking (blocking.Poll ps)) is = its_wait s e (blocking.Poll ps) is tt
+        (λ k none. list_quiet (nothing_stands m) fits refl (first_ids s.ids.line) ps {look = Later} none k)
+    by_call s e _ is = by_others (step.Poll n) (λ k. k) (subst NoWaitStands (sym e) (subst IsNoWait (sym is) tt)) es r
+        after w
 
-      by_call : (s : Standing) → m.store.standing ≡ Some s → (call : StandingCall) → s.call ≡ call → Quiet after
-      by_call s e (StandingCall.Blocking (blocking.Block p)) is = its_wait s e (blocking.Block p) is tt
-          (λ k none. block_quiet contexts (nothing_stands m) 0 p fits refl s.ids {look = Later} none k)
-      by_call s e (StandingCall.Blocking (blocking.Poll ps)) is = its_wait s e (blocking.Poll ps) is tt
-          (λ k none. list_quiet (nothing_stands m) fits refl (first_ids s.ids.line) ps {look = Later} none k)
-      by_call s e _ is = by_others (step.Poll n) (λ k. k) (subst NoWaitStands (sym e) (subst IsNoWait (sym is) tt)) es r
-          after w
-
-      poll_quiet : (o : Option Standing) → m.store.standing ≡ o → Quiet after
-      poll_quiet None e = by_others (step.Poll n) (λ k. k) (subst NoWaitStands (sym e) tt) es r after w
-      poll_quiet (Some s) e = by_call s e s.call refl
+    poll_quiet : (o : Option Standing) → m.store.standing ≡ o → Quiet after
+    poll_quiet None e = by_others (step.Poll n) (λ k. k) (subst NoWaitStands (sym e) tt) es r after w
+    poll_quiet (Some s) e = by_call s e s.call refl
 
   module _ (es : List Entry) (r : Reply) (after : Machine) where
     quiet_after : (s : Step) → (IsHeldUp contexts m line s → ⊥) → Answered contexts m line s es r after → Outcome
         contexts m line s es r after → Quiet after
     quiet_after step.Turn free w row = turn_quiet es r after w row
-    quiet_after (step.Poll n) free w row = poll_quiet n es r after w row m.store.standing refl
+    quiet_after (step.Poll n) free w row = poll_quiet n es r after free w row m.store.standing refl
     quiet_after (step.Cancel n) free w row = cancel_quiet n es r after row
     quiet_after (step.Call c (guest.Ready p)) free w row = free_quiet after (ready_free contexts m line c p
         (nothing_pending (step.Call c (guest.Ready p)) refl free m.store.standing refl) es r after w)

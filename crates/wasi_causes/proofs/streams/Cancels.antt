@@ -18,7 +18,11 @@ use Rattle.wasi_records.specs.declared.udp.UdpRecord.TheVariants as udp
 use Rattle.wasi_records.specs.Records.{tcp2_at, udp2_at, open_at}
 use Rattle.wasi_machine.specs.Machine.{cancelled_reply}
 use Rattle.wasi_steps.specs.declared.step.Step.TheVariants as step
-use Rattle.wasi_walks.proofs.walks.States.{stands_so as stands_under}
+use Rattle.wasi_walks.proofs.walks.States.{stands_so as stands_under_it}
+use Rattle.wasi_host.specs.declared.beside.Beside.{Beside}
+use Rattle.wasi_host.specs.Beside.{beside_cancelled, beside_of, stands_under}
+use Rattle.wasi_causes.proofs.Beside.{beside_call, exclusive_call, is_beside, no_call, not_beside, not_both}
+use Rattle.wasi_causes.proofs.Words.{IsSome}
 use Rattle.wasi_walks.specs.Licence.{Has}
 use Rattle.wasi_causes.proofs.Ending.{listening_up}
 use Rattle.wasi_causes.proofs.tables.Meets.{Meets, Rows, asks, branch, ends, onto, told_so, widen}
@@ -125,12 +129,20 @@ module _ (contexts : List WasiSocketsCtx) (m : Machine) (line n : ℕ) where
   abbrev CancelRow : Rows (Bool × Machine)
   CancelRow es done = Outcome contexts m line (step.Cancel n) es (cancelled_reply done.0) done.1
 
-  by_call : (o : Option Standing) → call_of m.store.standing n ≡ o → Meets CancelRow [] (cancel_call m o)
-  by_call None e = let none = none_so m.store.standing e in ends (((λ same. none, λ k. refl), apart (λ e. cc) (λ k. absurd (cc))), (inr tt, (refl, refl)))
+  -- no exclusive call has the number
+  by_beside : stands_as m.store.standing n ≡ false → (o : Option Beside) → beside_of m.store n ≡ o → CancelRow [] (let done = beside_cancelled m.store n o in (done.0, record m { store = done.1 }))
+  by_beside other None e = let none = no_call m n other e in (((λ same. none, λ k. refl), apart (λ e. cc) (λ k. not_both (stands_under m.store n) k none), λ beside. absurd (let k : IsSome {T = Beside} None = rw e at beside.1 in cc)), (inr tt, (refl, refl)))
+  by_beside other (Some b) e =
+      let on = beside_call m n e in
+      ((apart (λ e. cc) (λ k. not_both (stands_under m.store n) on k), (λ e. on, λ e. refl), λ beside. (refl, refl)), (tt, inr (is_beside m n other e, refl, refl)))
+
+  by_call : (o : Option Standing) → call_of m.store.standing n ≡ o → Meets CancelRow [] (cancel_call m n o)
+  by_call None e = ends (by_beside (none_so m.store.standing e) (beside_of m.store n) refl)
   by_call (Some s) e =
-      let k = stands_under m.store.standing n s e in
+      let k = stands_under_it m.store.standing n s e in
       let same : stands_as m.store.standing n ≡ true = ap (λ (o : Option Standing). stands_as o n) k.0 ∙ eq-eqb s.ids.line n k.1 in
-      onto _ (widen (λ es store row. ((apart (λ e. cc) (λ other. absurd (cc)), (λ e. same, λ e. refl)), (tt, (subst (λ (o : Option Standing). IsSomeAnd o (λ t. CancelsBy m es (record m { store = store }) t.call)) (sym k.0) row.0, row.1, refl)))) (goes m s.ids s.call k.0))
+      let on = exclusive_call m n same in
+      onto _ (widen (λ es store row. ((apart (λ e. cc) (λ other. not_both (stands_under m.store n) on other), (λ e. on, λ e. refl), λ beside. absurd (not_beside m n same beside)), (tt, inl (subst (λ (o : Option Standing). IsSomeAnd o (λ t. CancelsBy m es (record m { store = store }) t.call)) (sym k.0) row.0, row.1, refl)))) (goes m s.ids s.call k.0))
 
   pub cancel : Meets (Says contexts m line (step.Cancel n)) [] (bind (cancel_asks m n) (λ done. Give (cancelled_reply done.0, done.1)))
   cancel = onto _ (by_call (call_of m.store.standing n) refl)

@@ -1,6 +1,8 @@
 -- A poll of a pending call that blocks, and of one of a stream.
 use Rattle.wasi_causes.proofs.Words.{◌≡◌, ◌≢◌, ◌∙◌, ℕ, Answer, List, [], Option, Some, None, Ok, Err, Pending, Ready, refl, sym, subst, ap, inl, inr, IsSomeAnd, Entry, Machine, CallStop, Reply, true, false, Result, Standing, StandingCall, Stop, WasiSocketsCtx, eq-eqb, no_fields, nothing_stands, number_fields, own_of, CallWaits, stands_as, standing_as}
 use Rattle.std.specs.Prelude.{◌⊎◌}
+use Rattle.wasi_host.specs.Beside.{stands_under}
+use Rattle.wasi_causes.proofs.Beside.{exclusive_call, not_beside, not_both}
 use Rattle.wasi_world.specs.declared.ids.Ids.{Ids}
 use Rattle.wasi_host.specs.declared.blocking.BlockingCall.{BlockingCall}
 use Rattle.wasi_host.specs.declared.blocking.BlockingCall.TheVariants as blocking
@@ -57,10 +59,10 @@ module _ (contexts : List WasiSocketsCtx) (m : Machine) (line : ℕ) (ids : Ids)
   like (blocking.Poll pollables) fields g = inr (g.0, g.1, g.2)
 
   pub gives_so : (es : List Entry) (fields : List Field) (after : Machine) → GivesOf call fields → after.table ≡ m.table → Replies contexts m line (step.Poll n) es (reply.Ok fields) after
-  gives_so es fields after g same = (like call fields g, its_call (λ s. GivesBy m fields after s.call) (g, same))
+  gives_so es fields after g same = (like call fields g, inl (its_call (λ s. GivesBy m fields after s.call) (g, same)))
 
   pub pends_so : (es : List Entry) (after : Machine) → after.table ≡ m.table → IsSomeAnd after.store.standing (λ c. c.ids.line ≡ n) → Replies contexts m line (step.Poll n) es (reply.Pending n) after
-  pends_so es after same on = ((refl, on), (λ fits. its_call (λ s. CallWaits m (own_of n) es s.call) tt, same, λ other. absurd (other blocking_stands)))
+  pends_so es after same on = ((refl, inl on), (inl (λ fits. its_call (λ s. CallWaits m (own_of n) es s.call) tt), same, λ other. absurd (other blocking_stands)))
 
   -- == of a stream
   module _ (of : IsCallOfStream call) where
@@ -76,8 +78,8 @@ module _ (contexts : List WasiSocketsCtx) (m : Machine) (line : ℕ) (ids : Ids)
       table = refl;
       gives = λ es fields after g same. gives_so es fields after g same;
       pends = λ es now mid same. pends_so es (waiting mid ids now) same refl;
-      misses = λ missing. rw (stands, eq-eqb n n refl) missing;
-      quiet = λ live. (refl, refl);
+      misses = λ missing. inl (rw (stands, eq-eqb n n refl) missing);
+      quiet = λ live. (refl, rw (stands, eq-eqb n n refl) refl);
     }
 
     -- of a call that gives nothing
@@ -106,12 +108,15 @@ module _ (contexts : List WasiSocketsCtx) (m : Machine) (line : ℕ) (ids : Ids)
       let same_call : call ≡ its = the_call (ap (λ (s : Standing). s.call) one) in
       subst (λ (i : Ids). IsShort its → BlocksAs contexts (nothing_stands m) c i its es r after) same_ids (subst (λ (b : BlockingCall). IsShort b → BlocksAs contexts (nothing_stands m) c ids b es r after) same_call (so c))
 
-  stands_so : stands_as m.store.standing n ≡ false → ⊥
-  stands_so none = let same : stands_as m.store.standing n ≡ true = ap (λ (o : Option Standing). stands_as o n) stands ∙ eq-eqb n n refl in cc
+  its_on : stands_as m.store.standing n ≡ true
+  its_on = ap (λ (o : Option Standing). stands_as o n) stands ∙ eq-eqb n n refl
+
+  stands_so : stands_under m.store n ≡ false → ⊥
+  stands_so none = not_both (stands_under m.store n) (exclusive_call m n its_on) none
 
   -- what it leaves pending
   pub its_answer : (es : List Entry) (r : Reply) (after : Machine) → r ≢ reply.NoSuchCall → (r ≡ reply.Pending n) ⊎ (after.store.standing ≡ None) → ((c : ℕ) → IsShort call → BlocksAs contexts (nothing_stands m) c ids call es r after) → Replies contexts m line (step.Poll n) es r after → Outcome contexts m line (step.Poll n) es r after
-  its_answer es r after other left so row = ((apart other stands_so, λ same. left, goes_on es r after so), row)
+  its_answer es r after other left so row = ((apart other stands_so, λ same. left, goes_on es r after so, λ beside. absurd (not_beside m n its_on beside)), row)
 
   polled : {A : Type 0} (fields : A → List Field) (gives : A → Given) → ((value : A) → outcome_reply n (Ready (gives value)) ≡ reply.Ok (fields value)) → (es : List Entry) (given : Result (Answer A) CallStop) (after : Machine) → Continues fields es (given, after) → Settled (nothing_stands m) es (given, after) → PolledRow es (blocked_outcome gives (given, after))
   polled fields gives same es (Ok (Ready value)) after k free = subst (λ (r : Reply). Outcome contexts m line (step.Poll n) es r after) (sym (same value)) (its_answer es (reply.Ok (fields value)) after (λ e. cc) (inr free) k.0 k.1)

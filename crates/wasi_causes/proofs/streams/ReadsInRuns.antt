@@ -23,7 +23,9 @@ use Rattle.wasi_walks.specs.Allowed.{IsSide}
 use Rattle.wasi_walks.specs.Answered.{ReadsTold}
 use Rattle.wasi_walks.specs.Licence.{IsMarkedWith, handles_of, step_at}
 use Rattle.wasi_causes.proofs.streams.Read.{ends_by_read}
-use Rattle.wasi_causes.proofs.tables.Steps.{busy_exactly, its_own, unheld, while_free}
+use Rattle.wasi_causes.proofs.Beside.{one_of_three}
+use Rattle.wasi_causes.proofs.tables.Steps.{busy_exactly, its_own, while_free}
+use Rattle.wasi_causes.specs.P3Connects.{IsOver, OverDone, OverGone, OverRefused}
 use Rattle.wasi_causes.specs.Blocking.{EndsByRead, GivesOf}
 use Rattle.wasi_causes.specs.HandedBytes.{HandsOutBytes, LastReadTold}
 use Rattle.wasi_causes.specs.HandedBytes as handed
@@ -118,7 +120,7 @@ module _ (contexts : List WasiSocketsCtx) (steps : List Step) (log : List Entry)
           e))
       by_standing (Some s) e = absurd (let busy =
           (busy_exactly contexts m line (step.Call ctx (guest.BlockingRead input len)) es
-          (reply.Ok (bytes_fields (b ∷ bytes))) after a).1 (rw e refl, refl) in cc)
+          (reply.Ok (bytes_fields (b ∷ bytes))) after a).1 (rw e refl, inl refl) in cc)
 
   -- a poll of it
   module _ (line n ctx input len b : ℕ) (bytes : List ℕ)
@@ -126,8 +128,7 @@ module _ (contexts : List WasiSocketsCtx) (steps : List Step) (log : List Entry)
       (after : Machine) (a : Answered contexts m line (step.Poll n) es (reply.Ok (bytes_fields (b ∷ bytes))) after)
     where
       row : Outcome contexts m line (step.Poll n) es (reply.Ok (bytes_fields (b ∷ bytes))) after
-      row = unheld contexts m line (step.Poll n) (λ h. let none = h.1 in cc) es (reply.Ok (bytes_fields (b ∷ bytes)))
-          after a
+      row = its_own contexts m line (step.Poll n) es (reply.Ok (bytes_fields (b ∷ bytes))) after a (λ e. cc)
 
       -- what is pending is a read
       is_read : (call : BlockingCall) → GivesOf call (bytes_fields (b ∷ bytes)) → (i : ℕ) × (l : ℕ) ×
@@ -169,6 +170,20 @@ module _ (contexts : List WasiSocketsCtx) (steps : List Step) (log : List Entry)
       by_call s e same (StandingCall.UdpConnect place handle) is k = absurd (let f = k.0 in cc)
       by_call s e same _ is k = absurd (let f = k.0 in cc)
 
+      -- it is the exclusive call
+      none_over : (said : Reply) → IsOver said → said ≡ reply.Ok (bytes_fields (b ∷ bytes)) → ⊥
+      none_over _ OverDone e = cc
+      none_over _ (OverRefused code) e = cc
+      none_over _ OverGone e = cc
+
+      none_other : stands_as m.store.standing n ≡ false → ⊥
+      none_other other = one_of_three m n (λ on. let off = other in cc) (λ none. let k = row.0.0.1 none in cc)
+          (λ beside. elim (row.0.3 beside).ends [
+            | inl waits ↦ (let k = waits.0 in cc)
+            | inr over ↦ none_over (reply.Ok
+                (bytes_fields (b ∷ bytes))) over.0 refl
+          ])
+
       by_stands : (o : Option Standing) → m.store.standing ≡ o → IsSomeAnd o
           (λ s. GivesBy m (bytes_fields (b ∷ bytes)) after s.call) → HandsOutBytes log (own_of n) input (b ∷ bytes) es
       by_stands None e k = absurd k
@@ -176,8 +191,7 @@ module _ (contexts : List WasiSocketsCtx) (steps : List Step) (log : List Entry)
         where
           by_line : (x : Bool) → (s.ids.line == n) ≡ x → HandsOutBytes log (own_of n) input (b ∷ bytes) es
           by_line true same = by_call s e (eqb-true s.ids.line n same) s.call refl k
-          by_line false other = absurd
-              (let none = row.0.0.1 (ap (λ (o : Option Standing). stands_as o n) e ∙ other) in cc)
+          by_line false other = absurd (none_other (ap (λ (o : Option Standing). stands_as o n) e ∙ other))
 
       pub polled_so : HandsOutBytes log (own_of n) input (b ∷ bytes) es
-      polled_so = by_stands m.store.standing refl row.1.1
+      polled_so = elim row.1.1 [ inl gives ↦ by_stands m.store.standing refl gives | inr beside ↦ absurd (let none = beside.1 in cc) ]

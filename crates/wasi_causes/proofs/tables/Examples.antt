@@ -17,9 +17,9 @@ Never line s r = may_answer line s r → ⊥
 of_no_step : (line : ℕ) (s : Step) → Never line s reply.Cancelled × Never line s reply.Dropped
 of_no_step line s = (λ h. h, λ h. h)
 
--- a poll answers for the call that it polls, and is no guest call
-of_no_poll : Never 7 (step.Poll 3) (reply.Pending 7) × Never 7 (step.Poll 3) reply.Busy × Never 7 (step.Poll 3) (reply.Ok (field.True ∷ [])) × Never 7 (step.Poll 3) (reply.Trap NotPermitted)
-of_no_poll = (λ h. absurd (let e : 7 ≡ 3 = h in cc), λ h. absurd (cc), λ h. elim h [ inl g ↦ elim g [ inl k ↦ k | inr k ↦ elim k [ inl j ↦ j.0 | inr j ↦ elim j [ inl i ↦ i.0 | inr i ↦ elim i [ inl l ↦ l.0 | inr l ↦ l ] ] ] ] | inr g ↦ absurd (let e = g.2 in cc) ], λ h. elim h [ inl w ↦ w | inr s ↦ s ])
+-- a poll answers for the call that it polls
+of_no_poll : Never 7 (step.Poll 3) (reply.Pending 7) × Never 7 (step.Poll 3) (reply.Ok (field.True ∷ [])) × Never 7 (step.Poll 3) (reply.Trap NotPermitted)
+of_no_poll = (λ h. absurd (let e : 7 ≡ 3 = h in cc), λ h. elim h [ inl g ↦ elim g [ inl k ↦ k | inr k ↦ elim k [ inl j ↦ j.0 | inr j ↦ elim j [ inl i ↦ i.0 | inr i ↦ elim i [ inl l ↦ l.0 | inr l ↦ l ] ] ] ] | inr g ↦ absurd (let e = g.2 in cc) ], λ h. elim h [ inl w ↦ w | inr s ↦ s ])
 
 -- a cancel is never pending, traps for nothing, gives nothing but that it is done, and ends no stream
 of_no_cancel : (n : ℕ) → Never 7 (step.Cancel 3) (reply.Pending n) × Never 7 (step.Cancel 3) (reply.Trap NoSuchHandle) × Never 7 (step.Cancel 3) (reply.Ok (field.Number n ∷ [])) × Never 7 (step.Cancel 3) reply.Closed

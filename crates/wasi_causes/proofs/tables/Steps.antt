@@ -6,6 +6,7 @@ use Rattle.wasi_causes.proofs.Resumes.{poll}
 use Rattle.wasi_causes.proofs.sockets.Makes.{network, create, finish_connect_row, accept}
 use Rattle.wasi_causes.proofs.sockets.Questions.{get, set, local_address_row, remote_address_row, is_listens, family}
 use Rattle.wasi_causes.proofs.sockets.P3Binds.{p3_tcp_bind, p3_udp_bind}
+use Rattle.wasi_causes.proofs.sockets.P3Connects.{p3_tcp_connect}
 use Rattle.wasi_causes.proofs.sockets.P3Udp.{p3_udp_disconnect, p3_udp_family, p3_udp_get, p3_udp_local_address, p3_udp_remote_address, p3_udp_set}
 use Rattle.wasi_causes.proofs.sockets.Tcp3.{p3_address_family, p3_create, p3_get, p3_is_listening, p3_local_address, p3_remote_address, p3_set}
 use Rattle.wasi_causes.proofs.sockets.Starts.{finish_bind, finish_listen, start_bind, start_connect, start_listen}
@@ -26,9 +27,17 @@ use Rattle.wasi_causes.proofs.streams.Splices.{skip, splice, write_zeroes}
 use Rattle.wasi_causes.proofs.streams.BlockingSteps.{blocking_flush, blocking_read, blocking_skip, blocking_splice, blocking_write, blocking_zeroes}
 use Rattle.wasi_causes.proofs.tables.Meets.{Meets, ends, widen, branch, met, chain, shifted}
 use Rattle.wasi_causes.proofs.tables.Routes.{Says}
-use Rattle.wasi_causes.specs.Outcomes.{LaterPartIsThere, Outcome, Quiet, IsStreamCall, MayRefuse, MayMiss, MayTrap, MayWait, may_answer, EachMayAnswer, LeavesMissing, Looks, Traps}
+use Rattle.wasi_causes.specs.Outcomes.{LaterPartIsThere, Outcome, PendsUnder, Quiet, IsStreamCall, MayRefuse, MayMiss, MayTrap, MayWait, may_answer, EachMayAnswer, LeavesMissing, Looks, Traps}
 use Rattle.wasi_causes.specs.Datagrams.{PendingHandleIsLive}
 use Rattle.wasi_walks.specs.Waiting.{IsPoll, left_missing}
+use Rattle.std.specs.Prelude.{◌||◌, ◌&&◌, not, IsSomeAnd}
+use Rattle.wasi_host.specs.Beside.{beside_of, stands_under}
+use Rattle.wasi_host.specs.Standing.{standing_as, stands_as}
+use Rattle.wasi_host.specs.declared.store.StandingCall.{StandingCall}
+use Rattle.wasi_world.specs.declared.ids.Ids.{Ids}
+use Rattle.wasi_causes.proofs.Beside.{polls_itself}
+use Rattle.wasi_host.specs.Store.{Records}
+use Rattle.wasi_machine.specs.Machine.{is_held_up, polls_beside}
 use Rattle.wasi_steps.specs.Steps.{context_of}
 use Rattle.wasi_steps.specs.declared.reply.Field.TheVariants as field
 use Rattle.wasi_steps.specs.declared.reply.Reply.TheVariants as reply
@@ -103,6 +112,7 @@ module _ (contexts : List WasiSocketsCtx) (m : Machine) (line : ℕ) where
   rows (step.Call c (guest.P3TcpSet s setting)) = p3_set contexts m line c s setting
   rows (step.Call c (guest.P3UdpCreate family)) = p3_udp_create contexts m line c family
   rows (step.Call c (guest.P3TcpBind s a)) = p3_tcp_bind contexts m line c s a
+  rows (step.Call c (guest.P3TcpConnect s a)) = p3_tcp_connect contexts m line c s a
   rows (step.Call c (guest.P3UdpBind s a)) = p3_udp_bind contexts m line c s a
   rows (step.Call c (guest.P3UdpDisconnect s)) = p3_udp_disconnect contexts m line c s
   rows (step.Call c (guest.P3UdpLocalAddress s)) = p3_udp_local_address contexts m line c s
@@ -113,24 +123,40 @@ module _ (contexts : List WasiSocketsCtx) (m : Machine) (line : ℕ) where
   rows step.Turn = turn m contexts line
   rows (step.Poll n) = poll contexts m line n
 
-  -- a call is pending, and the step is a call of a guest
+  -- an exclusive call is pending, and the step is a call of a guest, or polls a call beside others
   abbrev pub IsHeldUp : Step → Type 0
-  IsHeldUp s = IsSome m.store.standing × IsSome (context_of s)
+  IsHeldUp s = IsSome m.store.standing × (IsSome (context_of s) ⊎ (polls_beside m.store s ≡ true))
 
   -- A step is busy while it is held up; else its answer is its own.
   pub data Answers (s : Step) : List Entry → Reply → Machine → Type 0 where
     IsBusy : IsHeldUp s → Answers s [] reply.Busy m
     IsItsOwn : (es : List Entry) (r : Reply) (after : Machine) → (IsHeldUp s → ⊥) → Outcome contexts m line s es r after → Answers s es r after
 
-  its_context : (o : Option ℕ) (guest : Bool) → is_some o ≡ guest → guest ≡ true → IsSome o
-  its_context None guest e its = absurd (cc)
-  its_context (Some c) guest e its = refl
+  held_by : (o : Option ℕ) (beside : Bool) → (is_some o || beside) ≡ true → IsSome o ⊎ (beside ≡ true)
+  held_by None beside e = inr e
+  held_by (Some c) beside e = inl refl
+
+  not_held : (o : Option ℕ) (beside : Bool) → (is_some o || beside) ≡ false → IsSome o ⊎ (beside ≡ true) → ⊥
+  not_held None beside e (inl guest) = absurd (cc)
+  not_held None beside e (inr polls) = absurd (cc)
+  not_held (Some c) beside e held = absurd (cc)
+
+  -- what is no call of a guest and polls no call beside others isn't held up
+  pub other_free : (s : Step) → context_of s ≡ None → polls_beside m.store s ≡ false → IsHeldUp s → ⊥
+  other_free s none beside h = elim h.1 [ inl guest ↦ (let k : IsSome {T = ℕ} None = rw none at guest in cc) | inr polls ↦ (cc) ]
+
+  -- so is a poll of the exclusive call
+  pub itself_free : (n : ℕ) → stands_as m.store.standing n ≡ true → IsHeldUp (step.Poll n) → ⊥
+  itself_free n stands = other_free (step.Poll n) refl (rw stands refl)
+
+  pub own_free : (ids : Ids) (call : StandingCall) → m.store.standing ≡ Some (standing_as ids call) → IsHeldUp (step.Poll ids.line) → ⊥
+  own_free ids call stands = other_free (step.Poll ids.line) refl (polls_itself m ids call stands)
 
   pub by_standing : (s : Step) (o : Option Standing) → m.store.standing ≡ o → Meets (λ es done. Answers s es done.0 done.1) [] (asks_while contexts m line s o)
   by_standing s None e = widen (λ es done row. IsItsOwn es done.0 done.1 (λ h. let stands : IsSome {T = Standing} None = rw e at h.0 in cc) row) (rows s)
   by_standing s (Some call) e =
-      branch (is_guest_call s) (λ guest. ends (IsBusy (rw e refl, its_context (context_of s) (is_guest_call s) refl guest)))
-      (λ other. widen (λ es done row. IsItsOwn es done.0 done.1 (λ h. let its = h.1 in cc) row) (rows s))
+      branch (is_held_up m.store s) (λ held. ends (IsBusy (rw e refl, held_by (context_of s) (polls_beside m.store s) held)))
+      (λ other. widen (λ es done row. IsItsOwn es done.0 done.1 (λ h. not_held (context_of s) (polls_beside m.store s) other h.1) row) (rows s))
 
   pub answers : (s : Step) (es : List Entry) (r : Reply) (after : Machine) → Answered contexts m line s es r after → Answers s es r after
   answers s es r after w = met {a = (r, after)} (by_standing s m.store.standing refl) w
@@ -185,6 +211,7 @@ waits m line n (step.Call ctx (guest.TcpStartBind socket _ a)) h = h
 waits m line n (step.Call ctx (guest.TcpStartListen socket)) h = h
 waits m line n (step.Call ctx (guest.UdpCreate _)) h = h
 waits m line n (step.Call ctx (guest.P3TcpBind _ _)) h = h
+waits m line n (step.Call ctx (guest.P3TcpConnect _ _)) h = h
 waits m line n (step.Call ctx (guest.P3UdpCreate _)) h = h
 waits m line n (step.Call ctx (guest.P3UdpBind _ _)) h = h
 waits m line n (step.Call ctx (guest.UdpStartBind socket _ a)) h = h
@@ -201,9 +228,24 @@ waits m line n (step.Call ctx (guest.PollList pollables)) h = h
 waits m line n (step.Poll call) h = h
 waits m line n _ h = absurd h
 
+-- a call is pending under this number: the exclusive call, or one beside others
+pub pends_under : (s : Step) (n : ℕ) (after : Machine) → PendsUnder s n after → IsSomeAnd after.store.standing (λ call. call.ids.line ≡ n) ⊎ IsSome (beside_of after.store n)
+pends_under (step.Call c (guest.P3TcpConnect socket a)) n after h = inr h
+pends_under (step.Poll k) n after h = h
+pends_under _ n after h = inl h
+
 some_is : (o : Option ℕ) → IsSome o → is_some o ≡ true
 some_is None h = absurd (cc)
 some_is (Some n) h = refl
+
+-- a poll of a call beside others is a poll
+polls : (store : Records) (s : Step) → polls_beside store s ≡ true → IsPoll s
+polls store (step.Poll n) e = tt
+polls store _ e = absurd (cc)
+
+either_stands : (a b : Bool) → (not a && b) ≡ true → (a || b) ≡ false → ⊥
+either_stands true b on off = cc
+either_stands false b on off = cc
 
 module _ (contexts : List WasiSocketsCtx) (m : Machine) (line : ℕ) where
   traps : (s : Step) (es : List Entry) (kind : TrapKind) (after : Machine) → Traps contexts m line s es kind after → MayTrap s kind
@@ -217,6 +259,19 @@ module _ (contexts : List WasiSocketsCtx) (m : Machine) (line : ℕ) where
   traps s es trap.EmptyList after h = h.0
   traps s es _ after h = absurd h
 
+  busy_may : (s : Step) → IsSome (context_of s) ⊎ (polls_beside m.store s ≡ true) → (is_guest_call s ≡ true) ⊎ IsPoll s
+  busy_may s (inl guest) = inl (some_is (context_of s) guest)
+  busy_may s (inr beside) = inr (polls m.store s beside)
+
+  -- a poll finds no call exactly where none is pending under its number; one that is busy finds one beside others
+  pub polls_exactly : (n : ℕ) (es : List Entry) (r : Reply) (after : Machine) → Answered contexts m line (step.Poll n) es r after → (r ≡ reply.NoSuchCall) ↔ (stands_under m.store n ≡ false)
+  polls_exactly n es r after w =
+      of_either contexts m line (step.Poll n) (λ es r after. (r ≡ reply.NoSuchCall) ↔ (stands_under m.store n ≡ false)) (λ held. (λ e. absurd (cc), λ none. absurd (is_there held.1 none))) (λ es r after free row. row.0.0) es r after (answers contexts m line (step.Poll n) es r after w)
+    where
+      is_there : IsSome {T = ℕ} None ⊎ (polls_beside m.store (step.Poll n) ≡ true) → stands_under m.store n ≡ false → ⊥
+      is_there (inl guest) none = cc
+      is_there (inr beside) none = either_stands (stands_as m.store.standing n) (is_some (beside_of m.store n)) beside none
+
   by_row : (s : Step) (es : List Entry) (r : Reply) (after : Machine) → Outcome contexts m line s es r after → may_answer line s r
   by_row s es (reply.Ok fields) after row = row.1.0
   by_row s es (reply.Err w) after row = row.1.0
@@ -228,7 +283,7 @@ module _ (contexts : List WasiSocketsCtx) (m : Machine) (line : ℕ) where
   by_row s es _ after row = absurd row.1
 
   may : {s : Step} {es : List Entry} {r : Reply} {after : Machine} → Answers contexts m line s es r after → may_answer line s r
-  may {s} (IsBusy held) = some_is (context_of s) held.1
+  may {s} (IsBusy held) = busy_may s held.1
   may {s} (IsItsOwn es r after free row) = by_row s es r after row
 
   pub may_be : (s : Step) (es : List Entry) (r : Reply) (after : Machine) → Answered contexts m line s es r after → may_answer line s r
